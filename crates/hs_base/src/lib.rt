@@ -1,0 +1,27 @@
+//! What every other crate of HeapSafe stands on.
+//!
+//! - [`Items`] is the list of public types: contracts see it as a list.
+//! - [`Texts`], [`Source`] and [`Sink`] are the outside of a run: where C texts and input come from, and where
+//!   output goes to. Each keeps a count of its faults. There are three families of implementations: in memory with
+//!   planned failures ([`MemTexts`], [`MemSource`], [`MemSink`]), in memory without any ([`SureTexts`],
+//!   [`SureSource`], [`SureSink`]), and the real files and streams ([`FileTexts`], [`StdSource`], [`StdSink`]).
+//! - [`End`] says how a run ends, with [`TrapKind`], [`BadFree`], [`Holder`] and the rest of its parts.
+//!
+//! `specs/` has the definitions that several crates speak of: objects, states, access, freeing, placement, cost,
+//! events, ends, and how a finished trace is cut by the limits.
+#![tactic(auto)]
+
+mod ends;
+mod items;
+mod memory;
+mod outside;
+mod plan;
+mod real;
+mod sure;
+
+pub use ends::{BadFree, End, Holder, IntKind, Leak, Limits, Line, Reason, TrapKind};
+pub use items::{Items, NoMemory};
+pub use memory::{MemSink, MemSource, MemTexts};
+pub use outside::{Failed, Sink, Source, Texts};
+pub use real::{FileTexts, StdSink, StdSource};
+pub use sure::{SureSink, SureSource, SureTexts};

@@ -1,0 +1,145 @@
+//! The real files and streams. This is the trusted edge: nothing is told of what they hold, give or take.
+
+ghost use Rattle.std.specs.Prelude.{◌≡◌, ◌≤◌, ℕ, None, IfOk, length};
+
+use crate::outside::{Failed, Sink, Source, Texts};
+use std::fs::File;
+use std::io::{Read, Seek, SeekFrom, Write};
+use std::rt::Files;
+
+/// Files by path. Each piece opens the file, goes to the place and reads.
+#[derive(Drop)]
+pub struct FileTexts<R: Files + Drop> {
+    files: R,
+    faults: u64,
+}
+
+impl<R: Files + Drop> FileTexts<R> {
+    /// The files that this runtime opens.
+    pub fn new(files: R) -> FileTexts<R>
+        ensures { result.faults ≡ 0 }
+    {
+        FileTexts { files, faults: 0 }
+    }
+}
+
+/// Reads from a place of a file.
+fn read_at<R: Files>(files: &R, name: &str, place: u64, buffer: &mut [u8]) -> std::io::Result<usize>
+    ensures { IfOk result (λ n. n ≤ length buffer.new) }
+{
+    let mut file = File::open(files, name)?;
+    file.seek(SeekFrom::Start(place))?;
+    file.read(buffer)
+}
+
+impl<R: Files + Drop> Texts for FileTexts<R> {
+    ghost texts = { λ _. None };
+
+    ghost faults = { λ s. s.faults };
+
+    fn piece(&mut self, name: &str, place: u64, buffer: &mut [u8]) -> Result<usize, Failed> {
+        match read_at(&self.files, name, place, buffer) {
+            Ok(n) => Ok(n),
+            Err(_) => {
+                self.faults += 1;
+                Err(Failed)
+            }
+        }
+    }
+}
+
+/// A reader, as standard input, read a chunk at a time.
+#[derive(Drop)]
+pub struct StdSource<R: Read + Drop> {
+    reader: R,
+    chunk: [u8; 4096],
+    next: usize,
+    end: usize,
+    faults: u64,
+    ghost inside: { end ≤ 4096 },
+}
+
+impl<R: Read + Drop> StdSource<R> {
+    /// What this reader gives.
+    pub fn new(reader: R) -> StdSource<R>
+        ensures { result.faults ≡ 0 }
+    {
+        StdSource {
+            reader,
+            chunk: [0; 4096],
+            next: 0,
+            end: 0,
+            faults: 0,
+        }
+    }
+}
+
+impl<R: Read + Drop> Source for StdSource<R> {
+    ghost left = { λ _. None };
+
+    ghost faults = { λ s. s.faults };
+
+    fn next(&mut self) -> Result<Option<u8>, Failed> {
+        if self.next >= self.end {
+            match self.reader.read(&mut self.chunk) {
+                Ok(n) => {
+                    self.next = 0;
+                    self.end = n;
+                }
+                Err(_) => {
+                    self.faults += 1;
+                    return Err(Failed);
+                }
+            }
+        }
+        if self.next < self.end {
+            let byte = self.chunk[self.next];
+            self.next += 1;
+            Ok(Some(byte))
+        } else {
+            Ok(None)
+        }
+    }
+}
+
+/// A writer, as standard output or error, flushed at each call. A write that takes nothing is a fault.
+#[derive(Drop)]
+pub struct StdSink<W: Write + Drop> {
+    writer: W,
+    faults: u64,
+}
+
+impl<W: Write + Drop> StdSink<W> {
+    /// Writes to this writer.
+    pub fn new(writer: W) -> StdSink<W>
+        ensures { result.faults ≡ 0 }
+    {
+        StdSink { writer, faults: 0 }
+    }
+
+    /// Writes and flushes.
+    fn write(&mut self, bytes: &[u8]) -> std::io::Result<usize>
+        ensures bound { IfOk result (λ n. n ≤ length bytes.now) }
+        ensures faults { self.new.faults ≡ self.old.faults }
+    {
+        let n = self.writer.write(bytes)?;
+        self.writer.flush()?;
+        Ok(n)
+    }
+}
+
+impl<W: Write + Drop> Sink for StdSink<W> {
+    ghost taken = { λ _. None };
+
+    ghost faults = { λ s. s.faults };
+
+    fn put(&mut self, bytes: &[u8]) -> Result<usize, Failed> {
+        match self.write(bytes) {
+            Ok(n) if n > 0 => Ok(n),
+            _ => {
+                self.faults += 1;
+                Err(Failed)
+            }
+        }
+    }
+}
