@@ -1,2 +1,12 @@
 pub mod Outside
 pub mod Plan
+pub mod Numbers
+pub mod Object
+pub mod State
+pub mod Trace
+pub mod Access
+pub mod Freeing
+pub mod Place
+pub mod Cost
+pub mod Cut
+pub mod Runs

@@ -1,5 +1,5 @@
 -- What texts, a source and a sink do at a call, where their bytes are told, and when their counts of faults rise.
-use Rattle.std.specs.Prelude.{◌≡◌, ◌<◌, ◌≤◌, ◌↔◌, ℕ, ◌+◌, List, [], ◌∷◌, ◌++◌, Bool, cond, Option, Some, None, Result, Ok, Err, length, take, drop, unwrap_or}
+use Rattle.std.specs.Prelude.{◌≡◌, ◌≤◌, ◌↔◌, ℕ, ◌+◌, List, [], ◌∷◌, ◌++◌, cond, Option, Some, None, Result, Ok, Err, length, take, drop, unwrap_or}
 use Rattle.std.specs.Str.{bytes_eq}
 use Rattle.hs_base.specs.declared.outside.Failed.{Failed}
 

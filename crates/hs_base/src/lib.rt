@@ -18,6 +18,7 @@ mod outside;
 mod plan;
 mod real;
 mod sure;
+mod values;
 
 pub use ends::{BadFree, End, Holder, IntKind, Leak, Limits, Line, Reason, TrapKind};
 pub use items::{Items, NoMemory};
@@ -25,3 +26,4 @@ pub use memory::{MemSink, MemSource, MemTexts};
 pub use outside::{Failed, Sink, Source, Texts};
 pub use real::{FileTexts, StdSink, StdSource};
 pub use sure::{SureSink, SureSource, SureTexts};
+pub use values::{Pointer, Value};

@@ -1,0 +1,33 @@
+-- Runs of a machine whose step sees the trace so far. The meaning, the counted meaning, the meaning of flat code and
+-- the machine itself are such machines.
+use Rattle.std.specs.Prelude.{ℕ, zero, suc, List, [], ◌++◌, Option, Some, None}
+
+-- what one step leads to: some events and the state after them, or an end; before is the state that a cut at the first
+-- of the events keeps
+pub data Next (S E X : Type 0) : Type 0 where
+  Goes : (before : S) (events : List E) (after : S) → Next S E X
+  Stops : (before : S) (end : X) → Next S E X
+
+-- a run so far: its trace, its end where it has ended, and its state
+pub record Ran (S E X : Type 0) : Type 0 where
+  pub trace : List E
+  pub ended : Option X
+  pub state : S
+
+module _ {S E X : Type 0} where
+  abbrev pub fresh : S → Ran S E X
+  fresh s = record { trace = []; ended = None; state = s }
+
+  abbrev pub led : List E → Next S E X → Ran S E X
+  led trace (Goes before events after) = record { trace = trace ++ events; ended = None; state = after }
+  led trace (Stops before end) = record { trace = trace; ended = Some end; state = before }
+
+  -- one step more; an ended run stays as it is
+  abbrev pub moved : (List E → S → Next S E X) → Ran S E X → Option X → Ran S E X
+  moved step r (Some end) = r
+  moved step r None = led r.trace (step r.trace r.state)
+
+  -- the run after so many steps
+  unfoldable pub after : (List E → S → Next S E X) → S → ℕ → Ran S E X
+  after step s zero = fresh s
+  after step s (suc k) = let r = after step s k in moved step r r.ended
