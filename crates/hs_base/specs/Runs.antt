@@ -1,6 +1,6 @@
 -- Runs of a machine whose step sees the trace so far. The meaning, the counted meaning, the meaning of flat code and
 -- the machine itself are such machines.
-use Rattle.std.specs.Prelude.{ℕ, zero, suc, List, [], ◌++◌, Option, Some, None}
+use Rattle.std.specs.Prelude.{ℕ, zero, suc, Bool, cond, List, [], ◌∷◌, ◌++◌, Option, Some, None}
 
 -- what one step leads to: some events and the state after them, or an end; before is the state that a cut at the first
 -- of the events keeps
@@ -27,7 +27,14 @@ module _ {S E X : Type 0} where
   moved step r (Some end) = r
   moved step r None = led r.trace (step r.trace r.state)
 
-  -- the run after so many steps
-  unfoldable pub after : (List E → S → Next S E X) → S → ℕ → Ran S E X
-  after step s zero = fresh s
-  after step s (suc k) = let r = after step s k in moved step r r.ended
+  -- a run after so many steps more
+  unfoldable pub after : (List E → S → Next S E X) → Ran S E X → ℕ → Ran S E X
+  after step r zero = r
+  after step r (suc k) = let so_far = after step r k in moved step so_far so_far.ended
+
+  -- a step that stops before its first event where that does not fit: the run that tests each event as it comes
+  abbrev pub tested : (List E → E → Bool) → (E → X) → List E → Next S E X → Next S E X
+  tested fits refused trace (Goes before [] after) = Goes before [] after
+  tested fits refused trace (Goes before (e ∷ events) after) =
+      cond (fits trace e) (Goes before (e ∷ events) after) (Stops before (refused e))
+  tested fits refused trace (Stops before end) = Stops before end

@@ -1,0 +1,32 @@
+-- Runs, one step after another.
+use Rattle.std.proofs.Common.{◌≡◌, ℕ, zero, suc, ◌+◌, ◌-◌, ◌<◌, ◌≤◌, List, [], ◌∷◌, ◌++◌, Option, Some, None, refl, sym, ap, ◌∙◌, subst, arith, ⊎_elim}
+use Rattle.std.proofs.lemmas.Bool.{cases_lt}
+use Rattle.hs_base.specs.Runs.{Next, Goes, Stops, Ran, fresh, led, moved, after}
+
+module _ {S E X : Type 0} (step : List E → S → Next S E X) where
+  pub after_zero : (r : Ran S E X) → after step r 0 ≡ r
+  unfolding after
+  after_zero r = refl
+
+  pub after_more : (r : Ran S E X) (k : ℕ) → after step r (k + 1) ≡ moved step (after step r k) (after step r k).ended
+  unfolding after
+  after_more r k = let e : k + 1 ≡ suc k = omega arith in rw e
+
+  pub moved_stays : (r : Ran S E X) (e : X) → r.ended ≡ Some e → moved step r r.ended ≡ r
+  moved_stays r e h = rw h
+
+  -- an ended run stays as it is
+  pub after_stays : (r : Ran S E X) (e : X) (j k : ℕ) → (after step r j).ended ≡ Some e → after step r (j + k) ≡ after step r j
+  unfolding after
+  after_stays r e j zero h = let i : j + 0 ≡ j = omega arith in rw i
+  after_stays r e j (suc k) h =
+      let i : j + suc k ≡ j + k + 1 = omega arith in
+      rw (i, after_more r (j + k), after_stays r e j k h) (moved_stays (after step r j) e h)
+
+  -- so two ends of one run are the same
+  pub one_end : (r : Ran S E X) (d e : X) (j k : ℕ) → (after step r j).ended ≡ Some d → (after step r k).ended ≡ Some e → after step r j ≡ after step r k
+  one_end r d e j k h i =
+      ⊎_elim
+      (λ lt. let n : j + (k - j) ≡ k = omega arith in sym (after_stays r d j (k - j) h) ∙ ap (after step r) n)
+      (λ le. let n : k + (j - k) ≡ j = omega arith in sym (ap (after step r) n) ∙ after_stays r e k (j - k) i)
+      (cases_lt j k)
