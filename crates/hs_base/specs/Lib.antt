@@ -10,3 +10,4 @@ pub mod Place
 pub mod Cost
 pub mod Cut
 pub mod Runs
+pub mod PutAll

@@ -14,6 +14,7 @@
 mod ends;
 mod items;
 mod memory;
+mod output;
 mod outside;
 mod plan;
 mod real;
@@ -23,6 +24,7 @@ mod values;
 pub use ends::{BadFree, End, Holder, IntKind, Leak, Limits, Line, Reason, TrapKind};
 pub use items::{Items, NoMemory};
 pub use memory::{MemSink, MemSource, MemTexts};
+pub use output::put_all;
 pub use outside::{Failed, Sink, Source, Texts};
 pub use real::{FileTexts, StdSink, StdSource};
 pub use sure::{SureSink, SureSource, SureTexts};
