@@ -1,6 +1,7 @@
 pub mod Outside
 pub mod Plan
 pub mod Numbers
+pub mod Arithmetic
 pub mod Object
 pub mod State
 pub mod Trace

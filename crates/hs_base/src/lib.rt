@@ -14,6 +14,7 @@
 mod ends;
 mod items;
 mod memory;
+mod numbers;
 mod output;
 mod outside;
 mod plan;

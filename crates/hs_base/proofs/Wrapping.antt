@@ -1,0 +1,162 @@
+-- Conversion to a kind: numbers that differ by a multiple of two to the kind's width are converted alike.
+use Rattle.std.proofs.Common.{◌≡◌, ℕ, ◌+◌, ◌-◌, ◌*◌, ◌/◌, ◌%◌, ◌^◌, ◌<◌, ◌≤◌, Bool, true, false, cond, refl, sym, ap, subst, ◌∙◌, arith, lit≤, suc}
+use Rattle.std.specs.Prelude.{ℤ, pos, negsuc, ◌+ℤ◌, ◌-ℤ◌, ◌*ℤ◌, unsigned_abs, nat_lt, FitsSigned}
+use Rattle.std.specs.Int.{Width, w8, w16, w32, w64, w128, int_rem_euclid, int_wrap, cast_signed, cast_unsigned}
+use Rattle.std.proofs.lemmas.Int.{ints, int_rem_euclid_is}
+use Rattle.std.proofs.lemmas.Nat.{pow_pos, pow-add, div-add-mod'}
+use Rattle.std.proofs.Math.Nat.{mul-le-mul_left, mod-lt}
+use borrow.Author.Differences.{up, down, same_in, same_out, sum_is_lem, neg_is, product_is}
+use mir.Val.{bits, hbits}
+use Rattle.hs_base.specs.declared.ends.IntKind.{IntKind}
+use Rattle.hs_base.specs.declared.ends.IntKind.TheVariants.{I8, U8, I16, U16, I32, U32, I64, U64}
+use Rattle.hs_base.specs.Numbers.{low_bits, wrapped}
+use Rattle.hs_base.specs.Arithmetic.{width_in_bits}
+
+-- a and b differ by a multiple of m
+pub record IsCongruent (m : ℕ) (a b : ℤ) : Type 0 where
+  pub left : ℕ
+  pub right : ℕ
+  pub same : a +ℤ pos (left * m) ≡ b +ℤ pos (right * m)
+
+pub congruent_refl : (m : ℕ) (a : ℤ) → IsCongruent m a a
+congruent_refl m a = record { left = 0; right = 0; same = refl }
+
+pub congruent_sym : {m : ℕ} {a b : ℤ} → IsCongruent m a b → IsCongruent m b a
+congruent_sym c = record { left = c.right; right = c.left; same = sym c.same }
+
+pub congruent_trans : {m : ℕ} {a b c : ℤ} → IsCongruent m a b → IsCongruent m b c → IsCongruent m a c
+congruent_trans p q = record { left = p.left + q.left; right = p.right + q.right; same = omega (arith, same_in, same_out, sum_is_lem, p.same, q.same) }
+
+pub congruent_sum : {m : ℕ} {a b c d : ℤ} → IsCongruent m a b → IsCongruent m c d → IsCongruent m (a +ℤ c) (b +ℤ d)
+congruent_sum p q = record { left = p.left + q.left; right = p.right + q.right; same = omega (arith, same_in, same_out, sum_is_lem, p.same, q.same) }
+
+pub congruent_difference : {m : ℕ} {a b c d : ℤ} → IsCongruent m a b → IsCongruent m c d → IsCongruent m (a -ℤ c) (b -ℤ d)
+congruent_difference p q = record { left = p.left + q.right; right = p.right + q.left; same = omega (arith, same_in, same_out, sum_is_lem, neg_is, p.same, q.same) }
+
+-- a factor on the right
+scaled : {m : ℕ} {a b : ℤ} (c : ℤ) → IsCongruent m a b → IsCongruent m (a *ℤ c) (b *ℤ c)
+scaled {m} {a} {b} c p =
+    let sum : up a + p.left * m + down b ≡ up b + p.right * m + down a = omega (arith, same_out, sum_is_lem, p.same) in
+    let above = ap (λ x. x * up c) sum in
+    let below = ap (λ x. x * down c) sum in
+    record { left = p.left * up c + p.right * down c; right = p.right * up c + p.left * down c; same = omega (arith, same_in, sum_is_lem, product_is) }
+
+times_comm : (a b : ℤ) → a *ℤ b ≡ b *ℤ a
+times_comm a b = omega (arith, same_in, product_is)
+
+pub congruent_product : {m : ℕ} {a b c d : ℤ} → IsCongruent m a b → IsCongruent m c d → IsCongruent m (a *ℤ c) (b *ℤ d)
+congruent_product {m} {a} {b} {c} {d} p q =
+    congruent_trans (scaled c p) (subst (λ x. IsCongruent m x (b *ℤ d)) (times_comm c b) (subst (λ x. IsCongruent m (c *ℤ b) x) (times_comm d b) (scaled b q)))
+
+-- a multiple of a multiple is a multiple
+pub congruent_narrower : (c m : ℕ) {a b : ℤ} → IsCongruent (c * m) a b → IsCongruent m a b
+congruent_narrower c m p = record { left = p.left * c; right = p.right * c; same = omega (arith, same_in, same_out, sum_is_lem, p.same) }
+
+pub congruent_fewer_bits : (n m : ℕ) {a b : ℤ} → n ≤ m → IsCongruent (2 ^ m) a b → IsCongruent (2 ^ n) a b
+congruent_fewer_bits n m {a} {b} h p =
+    let split : m - n + n ≡ m = omega arith in
+    let power : 2 ^ (m - n) * 2 ^ n ≡ 2 ^ m = sym (pow-add 2 (m - n) n) ∙ ap (λ e. 2 ^ e) split in
+    congruent_narrower (2 ^ (m - n)) (2 ^ n) (subst (λ x. IsCongruent x a b) (sym power) p)
+
+-- ---- remainders
+
+pub congruent_rem : (m : ℕ) → 0 < m → (a : ℤ) → IsCongruent m (pos (unsigned_abs (int_rem_euclid a (pos m)))) a
+congruent_rem m p (pos a) = record { left = a / m; right = 0; same = omega (arith, same_in, sum_is_lem, div-add-mod' a m) }
+congruent_rem m p (negsuc a) =
+    let small = mod-lt a p in
+    record { left = 0; right = a / m + 1; same = omega (arith, same_in, sum_is_lem, div-add-mod' a m) }
+
+pub rem_same : (m : ℕ) → 0 < m → (a b : ℤ) → IsCongruent m a b → int_rem_euclid a (pos m) ≡ int_rem_euclid b (pos m)
+rem_same m some a b p =
+    let t = down a + down b in
+    let far : t * 1 ≤ t * m = mul-le-mul_left t some in
+    let n = up a + (p.left + t) * m - down a in
+    let from : (z : ℤ) (i : ℕ) → z +ℤ pos ((i + t) * m) ≡ pos n → int_rem_euclid z (pos m) ≡ pos (n % m) = λ z i h. int_rem_euclid_is z (pos m) m (i + t) n some refl h in
+    from a p.left (omega (arith, ints)) ∙ sym (from b p.right (omega (arith, ints, p.same)))
+
+-- ---- low bits
+
+pub low_bits_same : (n : ℕ) (a b : ℤ) → IsCongruent (2 ^ n) a b → low_bits n a ≡ low_bits n b
+low_bits_same n a b p = ap unsigned_abs (rem_same (2 ^ n) (pow_pos n) a b p)
+
+pub congruent_low_bits : (n : ℕ) (a : ℤ) → IsCongruent (2 ^ n) (pos (low_bits n a)) a
+congruent_low_bits n a = congruent_rem (2 ^ n) (pow_pos n) a
+
+pub low_bits_lt : (n : ℕ) (a : ℤ) → low_bits n a < 2 ^ n
+low_bits_lt n (pos a) = mod-lt a (pow_pos n)
+low_bits_lt n (negsuc a) = let some = pow_pos n in omega arith
+
+fits_twice : (w : Width) (n : ℕ) → n < 2 ^ hbits w → n < 2 ^ bits w
+fits_twice w8 n h = omega arith
+fits_twice w16 n h = omega arith
+fits_twice w32 n h = omega arith
+fits_twice w64 n h = omega arith
+fits_twice w128 n h = omega arith
+
+-- the bits n, read as a signed number, and n
+pub congruent_cast : (w : Width) (n : ℕ) → n < 2 ^ bits w → IsCongruent (2 ^ bits w) (cast_signed w n) (pos n)
+congruent_cast w n h = by (nat_lt n (2 ^ hbits w))
+  where
+    by : (t : Bool) → IsCongruent (2 ^ bits w) (cond t (pos n) (negsuc (2 ^ bits w - suc n))) (pos n)
+    by true = congruent_refl _ _
+    by false = record { left = 1; right = 0; same = omega (arith, same_in, sum_is_lem) }
+
+-- a number that fits a signed type, and its bits
+pub congruent_bits : (w : Width) (z : ℤ) → FitsSigned w z → IsCongruent (2 ^ bits w) (pos (cast_unsigned w z)) z
+congruent_bits w (pos n) f = congruent_refl _ _
+congruent_bits w (negsuc n) f = let fits : n < 2 ^ bits w = fits_twice w n f.sfits in record { left = 0; right = 1; same = omega (arith, same_in, sum_is_lem) }
+
+-- what is left of a number at a signed type
+pub congruent_int_wrap : (w : Width) (z : ℤ) → IsCongruent (2 ^ bits w) (int_wrap w z) z
+unfolding int_wrap
+congruent_int_wrap w z = congruent_trans (congruent_cast w _ (low_bits_lt (bits w) z)) (congruent_low_bits (bits w) z)
+
+-- ---- kinds
+
+pub width_in_bits_le : (k : IntKind) → width_in_bits k ≤ 128
+width_in_bits_le I8 = lit≤ tt
+width_in_bits_le U8 = lit≤ tt
+width_in_bits_le I16 = lit≤ tt
+width_in_bits_le U16 = lit≤ tt
+width_in_bits_le I32 = lit≤ tt
+width_in_bits_le U32 = lit≤ tt
+width_in_bits_le I64 = lit≤ tt
+width_in_bits_le U64 = lit≤ tt
+
+pub congruent_wrapped : (k : IntKind) (n : ℤ) → IsCongruent (2 ^ width_in_bits k) (wrapped k n) n
+congruent_wrapped I8 n = congruent_int_wrap w8 n
+congruent_wrapped U8 n = congruent_low_bits 8 n
+congruent_wrapped I16 n = congruent_int_wrap w16 n
+congruent_wrapped U16 n = congruent_low_bits 16 n
+congruent_wrapped I32 n = congruent_int_wrap w32 n
+congruent_wrapped U32 n = congruent_low_bits 32 n
+congruent_wrapped I64 n = congruent_int_wrap w64 n
+congruent_wrapped U64 n = congruent_low_bits 64 n
+
+int_wrap_same : (w : Width) (a b : ℤ) → IsCongruent (2 ^ bits w) a b → int_wrap w a ≡ int_wrap w b
+unfolding int_wrap
+int_wrap_same w a b p = ap (cast_signed w) (low_bits_same (bits w) a b p)
+
+pub wrapped_same : (k : IntKind) (a b : ℤ) → IsCongruent (2 ^ width_in_bits k) a b → wrapped k a ≡ wrapped k b
+wrapped_same I8 a b p = int_wrap_same w8 a b p
+wrapped_same U8 a b p = ap pos (low_bits_same 8 a b p)
+wrapped_same I16 a b p = int_wrap_same w16 a b p
+wrapped_same U16 a b p = ap pos (low_bits_same 16 a b p)
+wrapped_same I32 a b p = int_wrap_same w32 a b p
+wrapped_same U32 a b p = ap pos (low_bits_same 32 a b p)
+wrapped_same I64 a b p = int_wrap_same w64 a b p
+wrapped_same U64 a b p = ap pos (low_bits_same 64 a b p)
+
+-- what is left of a number in 128 bits converts as the number does
+pub wrapped_wide : (k : IntKind) (z : ℤ) → wrapped k (int_wrap w128 z) ≡ wrapped k z
+wrapped_wide k z = wrapped_same k (int_wrap w128 z) z (congruent_fewer_bits (width_in_bits k) 128 (width_in_bits_le k) (congruent_int_wrap w128 z))
+
+-- a sum, a difference and a product of numbers and of what they convert to
+pub wrapped_sum : (k : IntKind) (a b : ℤ) → wrapped k (a +ℤ b) ≡ wrapped k (wrapped k a +ℤ wrapped k b)
+wrapped_sum k a b = wrapped_same k _ _ (congruent_sym (congruent_sum (congruent_wrapped k a) (congruent_wrapped k b)))
+
+pub wrapped_difference : (k : IntKind) (a b : ℤ) → wrapped k (a -ℤ b) ≡ wrapped k (wrapped k a -ℤ wrapped k b)
+wrapped_difference k a b = wrapped_same k _ _ (congruent_sym (congruent_difference (congruent_wrapped k a) (congruent_wrapped k b)))
+
+pub wrapped_product : (k : IntKind) (a b : ℤ) → wrapped k (a *ℤ b) ≡ wrapped k (wrapped k a *ℤ wrapped k b)
+wrapped_product k a b = wrapped_same k _ _ (congruent_sym (congruent_product (congruent_wrapped k a) (congruent_wrapped k b)))

@@ -1,0 +1,16 @@
+-- A product that wrapped in 128 bits converts as the exact product does.
+use Rattle.std.proofs.Common.{ap, ◌∙◌}
+use Rattle.std.specs.Prelude.{◌*ℤ◌}
+use Rattle.std.specs.Int.{w128}
+use Rattle.std.proofs.lemmas.Int.{to_z-of_z, wrapping_mul_is}
+use Rattle.hs_base.specs.Numbers.{wrapped}
+use Rattle.hs_base.proofs.Wrapping.{wrapped_wide, wrapped_product}
+use Rattle.hs_base.proofs.ends.IntKind.mul.Goals as goal
+
+pub returns-clause-value : goal.returns-clause-value
+returns-clause-value c =
+    let k = c.args.self in
+    let a = c.args.a in
+    let b = c.args.b in
+    to_z-of_z w128 c.wrap.result (record { sfits = c.wrap.type_inv }) ∙ c.wrap.ensures.value
+    ∙ ap (λ z. wrapped k z) (wrapping_mul_is w128 a b c.ranges.a c.ranges.b) ∙ wrapped_wide k (a *ℤ b) ∙ wrapped_product k a b
