@@ -45,10 +45,12 @@ IsStatement regs size point (Lib name r args) =
 IsStatement regs size point (Return None) = Unit {0}
 IsStatement regs size point (Return (Some a)) = IsAtom regs a
 
--- a function's statements are sound, and it has one
+-- a function's statements are sound, it has one, and its lists are short
 pub record IsFunction (func : Func) : Type 0 where
   pub params : func.params ≤ length func.regs
   pub some : 0 < length func.body
+  pub registers : length func.regs < 2 ^ 32
+  pub points : length func.body < 2 ^ 32
   pub line : 1 ≤ func.line
   pub statements : (point : ℕ) (stm : Stm) → slice_get func.body point ≡ Some stm → IsStatement (length func.regs) (length func.body) point stm.kind × (1 ≤ stm.line)
 

@@ -1,6 +1,7 @@
 -- Runs, one step after another.
 use Rattle.std.proofs.Common.{◌≡◌, ℕ, zero, suc, ◌+◌, ◌-◌, ◌<◌, ◌≤◌, List, [], ◌∷◌, ◌++◌, Option, Some, None, refl, sym, ap, ◌∙◌, subst, arith, ⊎_elim}
 use Rattle.std.proofs.lemmas.Bool.{cases_lt}
+use Rattle.std.proofs.lemmas.List.{append-nil, append_assoc}
 use Rattle.hs_base.specs.Runs.{Next, Goes, Stops, Ran, fresh, led, moved, after}
 
 module _ {S E X : Type 0} (step : List E → S → Next S E X) where
@@ -30,3 +31,20 @@ module _ {S E X : Type 0} (step : List E → S → Next S E X) where
       (λ lt. let n : j + (k - j) ≡ k = omega arith in sym (after_stays r d j (k - j) h) ∙ ap (after step r) n)
       (λ le. let n : k + (j - k) ≡ j = omega arith in sym (ap (after step r) n) ∙ after_stays r e k (j - k) i)
       (cases_lt j k)
+
+  led_grows : (trace : List E) (n : Next S E X) → (more : List E) × ((led trace n).trace ≡ trace ++ more)
+  led_grows trace (Goes before events after) = (events, refl)
+  led_grows trace (Stops before end) = ([], sym (append-nil trace))
+
+  moved_grows : (r : Ran S E X) (o : Option X) → (more : List E) × ((moved step r o).trace ≡ r.trace ++ more)
+  moved_grows r (Some e) = ([], sym (append-nil r.trace))
+  moved_grows r None = led_grows r.trace (step r.trace r.state)
+
+  -- a trace is only added to
+  pub after_grows : (r : Ran S E X) (k : ℕ) → (more : List E) × ((after step r k).trace ≡ r.trace ++ more)
+  unfolding after
+  after_grows r zero = ([], sym (append-nil r.trace))
+  after_grows r (suc k) =
+      let so_far = after_grows r k in
+      let next = moved_grows (after step r k) (after step r k).ended in
+      (so_far.0 ++ next.0, next.1 ∙ ap (λ t. t ++ next.0) so_far.1 ∙ append_assoc r.trace so_far.0 next.0)

@@ -6,6 +6,7 @@ use Rattle.hs_base.specs.declared.ends.IntKind.TheVariants.{I32}
 use Rattle.hs_base.specs.declared.values.Value.{Value}
 use Rattle.hs_base.specs.declared.values.Value.TheVariants as value
 use Rattle.hs_base.specs.Numbers.{wrapped, low_bits}
+use Rattle.hs_base.specs.Arithmetic.{sum_of, difference_of, product_of}
 use Rattle.hs_base.specs.State.{State, Frame}
 use Rattle.hs_base.specs.Trace.{Event, Out, Enter, Ending, Exit, Spent, Dangling}
 use Rattle.hs_base.specs.Cost.{call_cost}
@@ -79,14 +80,10 @@ with_step (suc n) s next = next (record s { steps = n })
 
 -- Integers (C99 6.3.1.3, 6.5.5, 6.5.6, 6.5.8, 6.5.9; signed results wrap)
 
-abbrev pub exact : BinOp → ℤ → ℤ → ℤ
-exact Add a b = a +ℤ b
-exact Sub a b = a -ℤ b
-exact Mul a b = a *ℤ b
-
--- both operands and the result are converted to the kind
 abbrev pub arithmetic : BinOp → IntKind → ℤ → ℤ → ℤ
-arithmetic op k a b = wrapped k (exact op (wrapped k a) (wrapped k b))
+arithmetic Add k a b = sum_of k a b
+arithmetic Sub k a b = difference_of k a b
+arithmetic Mul k a b = product_of k a b
 
 abbrev pub truth : Bool → ℤ
 truth true = pos 1
