@@ -1,5 +1,5 @@
 -- Which cores are sound: what each statement names exists, only loops go back, and no path leads past a body's end.
-use Rattle.std.specs.Prelude.{◌≡◌, ◌<◌, ◌≤◌, ◌+◌, ◌^◌, ℕ, pos, neg_ℤ, ◌≤ℤ◌, ◌<ℤ◌, List, Option, Some, None, length, slice_get, All, Bool, IfSome, unwrap_or, position, count_by, codes}
+use Rattle.std.specs.Prelude.{◌≡◌, ◌<◌, ◌≤◌, ◌+◌, ◌^◌, ℕ, pos, neg_ℤ, ◌≤ℤ◌, ◌<ℤ◌, List, [], ◌∷◌, Option, Some, None, length, slice_get, All, Bool, IfSome, cond,  count_by, codes}
 use Rattle.std.specs.Str.{bytes_eq}
 use Rattle.core_tree.specs.declared.Atom.{Atom}
 use Rattle.core_tree.specs.declared.Atom.TheVariants.{Reg, Int}
@@ -58,8 +58,12 @@ pub record IsFunction (func : Func) : Type 0 where
 abbrev pub is_main : Func → Bool
 is_main func = bytes_eq func.name (codes "main")
 
+abbrev pub first_main : List Func → ℕ
+first_main [] = 0
+first_main (func ∷ funcs) = cond (is_main func) 0 (first_main funcs + 1)
+
 abbrev pub main_of : Core → ℕ
-main_of core = unwrap_or (position is_main core.funcs) 0
+main_of core = first_main core.funcs
 
 -- each function is sound, and exactly one is named main, which has no parameters
 pub record IsSound (core : Core) : Type 0 where

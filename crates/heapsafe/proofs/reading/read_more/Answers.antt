@@ -1,4 +1,4 @@
-use Rattle.std.proofs.Common.{ℕ, arith, vec_len, refl}
+use Rattle.std.proofs.Common.{refl}
 use Rattle.heapsafe.proofs.Pieces.{more}
 use Rattle.heapsafe.proofs.reading.read_more.Goals as goal
 

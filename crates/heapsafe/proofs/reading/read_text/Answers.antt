@@ -1,4 +1,4 @@
-use Rattle.std.proofs.Common.{ℕ, ◌≤◌, ◌<◌, length, arith, ap, sym, ◌∙◌, vec_len, refl}
+use Rattle.std.proofs.Common.{length, arith, ap, ◌∙◌}
 use Rattle.heapsafe.proofs.Pieces.{not_longer}
 use Rattle.heapsafe.proofs.reading.read_text.Goals as goal
 

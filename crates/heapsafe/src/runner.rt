@@ -1,0 +1,128 @@
+//! The runner: makes a core's statements one after another, over registers that are taken before the first.
+
+ghost use Rattle.std.specs.Prelude.{◌≡◌, ◌≢◌, ◌+◌, ◌<◌, ◌≤◌, ◌^◌, ℕ, List, [], ◌∷◌, IfOk, Some, None, MatchBool, length, slice_get};
+ghost use Rattle.hs_base.specs.Numbers.{low_bits};
+ghost use Rattle.core_tree.specs.Sound.{IsSound};
+ghost use Rattle.object_meaning.specs.Meaning.{act, step, put_byte, number_of, arithmetic, compared, truth, lib};
+ghost use Rattle.heapsafe.specs.Running.{Leads, Seen, Counted, Shrinks, RunAnswers, RunCounts, IsAlone, with_input};
+
+mod machine;
+
+use core_tree::{Atom, BinOp, CmpOp, Core, LibName, StmKind};
+use hs_base::{End, IntKind, Limits, NoMemory, Sink, Value, put_all};
+use machine::{Machine, number};
+use std::alloc::Global;
+
+/// What a statement leads to.
+#[derive(Clone, Copy, Debug, PartialEq, Eq)]
+pub(crate) enum Led {
+    /// The run goes on.
+    On,
+    /// The run has ended.
+    Ended(End),
+    /// The output failed.
+    OutputFault,
+}
+
+/// The result of an operation on two integers.
+fn arithmetic(op: BinOp, kind: IntKind, a: i128, b: i128) -> i128
+    ensures { result ≡ arithmetic op kind a b }
+{
+    match op {
+        BinOp::Add => kind.add(a, b),
+        BinOp::Sub => kind.sub(a, b),
+        BinOp::Mul => kind.mul(a, b),
+    }
+}
+
+/// Says whether a comparison holds.
+fn compared(op: CmpOp, a: i128, b: i128) -> bool
+    ensures { result ≡ compared op a b }
+{
+    match op {
+        CmpOp::Eq => a == b,
+        CmpOp::Ne => a != b,
+        CmpOp::Lt => a < b,
+        CmpOp::Gt => a > b,
+        CmpOp::Le => a <= b,
+        CmpOp::Ge => a >= b,
+    }
+}
+
+/// The number for a truth.
+fn truth(holds: bool) -> i128
+    ensures { result ≡ truth holds }
+{
+    if holds { 1 } else { 0 }
+}
+
+/// A statement that reads and writes no byte.
+fn act_alone(machine: &mut Machine, kind: &StmKind) -> Result<(), End>
+    requires point { machine.old.running.point + 1 < 2 ^ 64 }
+    requires alone { IsAlone kind.now }
+    ensures { (left : List ℕ) → Leads left (act kind.now (with_input left machine.old)) machine.old machine.new result }
+{
+    match kind {
+        StmKind::Set(r, a) => {
+            let value = machine.value(a);
+            machine.write(*r, value);
+            Ok(())
+        }
+        StmKind::Bin(op, kind, r, a, b) => {
+            let value = arithmetic(*op, *kind, machine.number(a), machine.number(b));
+            machine.write(*r, Value::Number(value));
+            Ok(())
+        }
+        StmKind::Cmp(op, r, a, b) => {
+            let holds = compared(*op, machine.number(a), machine.number(b));
+            machine.write(*r, Value::Number(truth(holds)));
+            Ok(())
+        }
+        StmKind::Jump(to) => {
+            machine.go_to(*to);
+            Ok(())
+        }
+        StmKind::Zero(a, to) => {
+            if machine.number(a) == 0 {
+                machine.go_to(*to);
+            } else {
+                machine.go_on();
+            }
+            Ok(())
+        }
+        StmKind::Loop(to) => {
+            if !machine.take_step() {
+                return Err(End::Spent);
+            }
+            machine.go_to(*to);
+            Ok(())
+        }
+        StmKind::Return(None) => Err(End::Exit(0)),
+        StmKind::Return(Some(a)) => Err(End::Exit(low_byte(machine.number(a)))),
+        StmKind::Lib(..) => unreachable!(),
+    }
+}
+
+/// The low byte of a number.
+fn low_byte(n: i128) -> u8
+    ensures { result ≡ low_bits 8 n }
+{
+    n.rem_euclid(256) as u8
+}
+
+/// Writes the low byte of a number, which a register takes too.
+fn act_put<O: Sink>(machine: &mut Machine, r: Option<u32>, n: i128, out: &mut O) -> Led
+    requires point { machine.old.running.point + 1 < 2 ^ 64 }
+    requires faults { O.faults out.old + 1 < 2 ^ 64 }
+    ensures told { (left taken : List ℕ) → O.taken out.old ≡ Some taken → Seen (put_byte r n (with_input left machine.old)) left taken result machine.new (O.taken out.new) }
+    ensures faults { Counted result (O.faults out.old) (O.faults out.new) }
+{
+    let byte = low_byte(n);
+    match put_all(out, &[byte]) {
+        Ok(()) => {
+            machine.write_to(r, Value::Number(i128::from(byte)));
+            Led::On
+        }
+        Err(_) => Led::OutputFault,
+    }
+}
