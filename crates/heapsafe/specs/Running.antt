@@ -1,5 +1,5 @@
 -- What a statement and a run lead to, as the runner's callers see it.
-use Rattle.std.specs.Prelude.{◌≡◌, ◌<◌, ◌+◌, ℕ, List, [], ◌∷◌, ◌++◌, Option, Some, None, Result, Ok, Err}
+use Rattle.std.specs.Prelude.{◌≡◌, ◌<◌, ◌+◌, ℕ, List, [], ◌∷◌, ◌++◌, Option, Some, None, Result, Ok, Err, IsSome}
 use Rattle.hs_base.specs.declared.ends.End.{End}
 use Rattle.hs_base.specs.declared.ends.End.TheVariants as end
 use Rattle.hs_base.specs.State.{State}
@@ -9,7 +9,7 @@ use Rattle.hs_base.specs.Runs as runs
 use Rattle.core_tree.specs.declared.Core.{Core}
 use Rattle.core_tree.specs.declared.StmKind.{StmKind}
 use Rattle.core_tree.specs.declared.StmKind.TheVariants.{Lib}
-use Rattle.object_meaning.specs.Meaning.{Next, meaning, enough}
+use Rattle.object_meaning.specs.Meaning.{Next, statement_at, meaning, enough}
 use Rattle.heapsafe.specs.declared.runner.Led.{Led}
 use Rattle.heapsafe.specs.declared.runner.Led.TheVariants.{On, Ended, OutputFault}
 
@@ -52,6 +52,17 @@ Counted _ before after = after ≡ before
 abbrev pub Shrinks : Core → State → Led → State → Type 0
 Shrinks core old On new = enough core new < enough core old
 Shrinks core old _ new = Unit {0}
+
+-- where the run goes on, the running frame is at its next point, and nothing else but registers has changed
+abbrev pub GoesOn : Led → State → State → Type 0
+GoesOn On old new =
+    (new.running.func ≡ old.running.func) × (new.running.point ≡ old.running.point + 1) × (new.waiting ≡ old.waiting) × (new.steps ≡ old.steps)
+GoesOn _ old new = Unit {0}
+
+-- where the run goes on it is at a statement
+abbrev pub StandsOn : Core → Led → State → Type 0
+StandsOn core On new = IsSome (statement_at core new.running)
+StandsOn core _ new = Unit {0}
 
 abbrev pub end_in : Option Ending → Option End
 end_in None = None

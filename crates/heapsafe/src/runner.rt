@@ -1,10 +1,11 @@
 //! The runner: makes a core's statements one after another, over registers that are taken before the first.
 
-ghost use Rattle.std.specs.Prelude.{◌≡◌, ◌≢◌, ◌+◌, ◌<◌, ◌≤◌, ◌^◌, ℕ, List, [], ◌∷◌, IfOk, Some, None, MatchBool, length, slice_get};
-ghost use Rattle.hs_base.specs.Numbers.{low_bits};
-ghost use Rattle.core_tree.specs.Sound.{IsSound};
-ghost use Rattle.object_meaning.specs.Meaning.{act, step, put_byte, number_of, arithmetic, compared, truth, lib};
-ghost use Rattle.heapsafe.specs.Running.{Leads, Seen, Counted, Shrinks, RunAnswers, RunCounts, IsAlone, with_input};
+ghost use Rattle.std.specs.Prelude.{IsSome, ◌≡◌, ◌≢◌, ◌+◌, ◌<◌, ◌≤◌, ◌^◌, ℕ, List, [], ◌∷◌, IfOk, Some, None, MatchBool, length, map};
+ghost use Rattle.hs_base.specs.Numbers.{low_bits, wrapped};
+ghost use Rattle.hs_base.specs.Trace.{Event};
+ghost use Rattle.core_tree.specs.Sound.{HasArguments, IsSound};
+ghost use Rattle.object_meaning.specs.Meaning.{act, statement_at, step, put_byte, number_of, arithmetic, compared, truth, lib};
+ghost use Rattle.heapsafe.specs.Running.{Leads, Seen, Counted, Shrinks, RunAnswers, RunCounts, GoesOn, StandsOn, IsAlone, with_input};
 
 mod machine;
 
@@ -116,6 +117,7 @@ fn act_put<O: Sink>(machine: &mut Machine, r: Option<u32>, n: i128, out: &mut O)
     requires faults { O.faults out.old + 1 < 2 ^ 64 }
     ensures told { (left taken : List ℕ) → O.taken out.old ≡ Some taken → Seen (put_byte r n (with_input left machine.old)) left taken result machine.new (O.taken out.new) }
     ensures faults { Counted result (O.faults out.old) (O.faults out.new) }
+    ensures goes_on { GoesOn result machine.old machine.new }
 {
     let byte = low_byte(n);
     match put_all(out, &[byte]) {
@@ -124,5 +126,55 @@ fn act_put<O: Sink>(machine: &mut Machine, r: Option<u32>, n: i128, out: &mut O)
             Led::On
         }
         Err(_) => Led::OutputFault,
+    }
+}
+
+/// Calls a built-in function, whose answer a register takes.
+fn act_lib<O: Sink>(
+    machine: &mut Machine,
+    name: LibName,
+    r: Option<u32>,
+    args: &[Atom],
+    out: &mut O,
+) -> Led
+    requires arguments { HasArguments name args.now }
+    requires point { machine.old.running.point + 1 < 2 ^ 64 }
+    requires faults { O.faults out.old + 1 < 2 ^ 64 }
+    ensures told { (left taken : List ℕ) → O.taken out.old ≡ Some taken → Seen (lib name r (map (number_of machine.old) args.now) (with_input left machine.old)) left taken result machine.new (O.taken out.new) }
+    ensures faults { Counted result (O.faults out.old) (O.faults out.new) }
+    ensures goes_on { GoesOn result machine.old machine.new }
+{
+    let [argument] = args else { unreachable!() };
+    match name {
+        LibName::Putchar => act_put(machine, r, int(machine.number(argument)), out),
+    }
+}
+
+/// A number as an `int`.
+fn int(n: i128) -> i128
+    ensures { result ≡ wrapped IntKind.I32 n }
+{
+    IntKind::I32.wrap(n)
+}
+
+/// One statement of a sound core.
+fn one_step<O: Sink>(machine: &mut Machine, core: &Core, out: &mut O) -> Led
+    requires sound { IsSound core.now }
+    requires stands { IsSome (statement_at core.now machine.old.running) }
+    requires faults { O.faults out.old + 1 < 2 ^ 64 }
+    ensures told { (left taken : List ℕ) (trace : List Event) → O.taken out.old ≡ Some taken → Seen (step core.now trace (with_input left machine.old)) left taken result machine.new (O.taken out.new) }
+    ensures faults { Counted result (O.faults out.old) (O.faults out.new) }
+    ensures shrinks { Shrinks core.now machine.old result machine.new }
+    ensures stands { StandsOn core.now result machine.new }
+{
+    let Some(stm) = machine.statement(core) else {
+        unreachable!()
+    };
+    match &stm.kind {
+        StmKind::Lib(name, r, args) => act_lib(machine, *name, *r, args.as_slice(), out),
+        kind => match act_alone(machine, kind) {
+            Ok(()) => Led::On,
+            Err(end) => Led::Ended(end),
+        },
     }
 }

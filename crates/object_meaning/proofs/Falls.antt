@@ -78,7 +78,7 @@ pub sound_at : (core : Core) → IsSound core → (f point : ℕ) (o : Option Fu
 sound_at core sound f point None stm e h = absurd (cc)
 sound_at core sound f point (Some func) stm e h = (length func.regs, ((sound.functions f func e).statements point stm h).0)
 
-at_falls : (core : Core) → IsSound core → (s : State) (o : Option Stm) → statement_at core s.running ≡ o → Falls core s (act_at o s)
+pub at_falls : (core : Core) → IsSound core → (s : State) (o : Option Stm) → statement_at core s.running ≡ o → Falls core s (act_at o s)
 at_falls core sound s None h = tt
 at_falls core sound s (Some stm) h =
     let at = sound_at core sound s.running.func s.running.point (slice_get core.funcs s.running.func) stm refl h in

@@ -35,7 +35,7 @@ module _ (core : Core) (s : State) (func : Func) (here : slice_get core.funcs s.
       let stm : Stm = get_or other.body point (record { line = 0; kind = Jump 0 }) in
       (stm, slice_get-get_or other.body point (record { line = 0; kind = Jump 0 }) (subst (λ (f : Func). point < length f.body) (sym same) h))
 
-  goes_to : (point : ℕ) → point < length func.body → Stands core (record s.running { point = point })
+  pub goes_to : (point : ℕ) → point < length func.body → Stands core (record s.running { point = point })
   goes_to point h = at_stands point (slice_get core.funcs s.running.func) here h
 
   branch_stays : (b : Bool) (l : ℕ) → l < length func.body → s.running.point + 1 < length func.body → Stays core (branch b l s)
