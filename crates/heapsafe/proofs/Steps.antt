@@ -9,7 +9,9 @@ use Rattle.hs_base.specs.declared.ends.IntKind.TheVariants.{I32}
 use Rattle.hs_base.specs.declared.ends.End.{End}
 use Rattle.hs_base.specs.Numbers.{wrapped}
 use Rattle.hs_base.specs.State.{State}
-use Rattle.hs_base.specs.Trace.{Event, Ending}
+use Rattle.hs_base.specs.declared.ends.End.TheVariants as end
+use Rattle.hs_base.specs.Trace as trace
+use Rattle.hs_base.specs.Trace.{Event, Ending, end_of}
 use Rattle.hs_base.specs.Runs as runs
 use Rattle.core_tree.specs.declared.Atom.{Atom}
 use Rattle.core_tree.specs.declared.LibName.{LibName}
@@ -25,7 +27,7 @@ use Rattle.object_meaning.proofs.Falls.{Falls, within, at_falls}
 use Rattle.object_meaning.proofs.Stands.{Stands, Stays, stays_at, goes_to, in_function}
 use Rattle.heapsafe.specs.declared.runner.Led.{Led}
 use Rattle.heapsafe.specs.declared.runner.Led.TheVariants.{On, Ended, OutputFault}
-use Rattle.heapsafe.specs.Running.{with_input, Leads, Seen, Shrinks, GoesOn, StandsOn}
+use Rattle.heapsafe.specs.Running.{with_input, Leads, Seen, Shrinks, GoesOn, StandsOn, EndsWell, RunCounts}
 
 -- a number of a register as an int
 pub int_is : (n m k : ℤ) → SFits w128 n → k ≡ wrapped I32 (to_z w128 (of_z w128 n)) → n ≡ m → k ≡ wrapped I32 m
@@ -71,7 +73,7 @@ pub shrinks_on : (core : Core) (old new : State) (stm : Stm) → Some stm ≡ st
 shrinks_on core old new stm here On h =
     let lt = within (slice_get core.funcs old.running.func) old.running.point stm (sym here) in
     rw (h.0, h.1, h.2, h.3) (omega arith)
-shrinks_on core old new stm here (Ended e) h = tt
+shrinks_on core old new stm here (Ended e) h = absurd h
 shrinks_on core old new stm here OutputFault h = tt
 
 -- a call of a built-in function in a sound core
@@ -86,9 +88,44 @@ stands_on core sound old new stm name r args here is On h =
     let f = lib_statement core sound old stm name r args here is in
     let next = goes_to core old f.0 f.1 (old.running.point + 1) f.2.3 in
     some_is (statement_at core new.running) next.0 (rw (h.0, h.1) next.1)
-stands_on core sound old new stm name r args here is (Ended e) h = tt
+stands_on core sound old new stm name r args here is (Ended e) h = absurd h
 stands_on core sound old new stm name r args here is OutputFault h = tt
 
 -- and it has its arguments
 pub has_arguments : (core : Core) → IsSound core → (old : State) (stm : Stm) (name : LibName) (r : Option ℕ) (args : List Atom) → Some stm ≡ statement_at core old.running → stm.kind ≡ Lib name r args → HasArguments name args
 has_arguments core sound old stm name r args here is = (lib_statement core sound old stm name r args here is).2.2
+
+-- no statement ends by a failure of the output
+well_is : (d e : End) → Some d ≡ Some e → EndsWell (Ended d) → EndsWell (Ended e)
+well_is d e h well = let same : d ≡ e = cc in subst (λ (x : End). EndsWell (Ended x)) same well
+
+well_end : (ending : Ending) (e : End) → end_of ending ≡ Some e → EndsWell (Ended e)
+well_end (trace.Exit code) e h = well_is (end.Exit code) e h tt
+well_end (trace.Trap kind line) e h = well_is (end.Trap kind line) e h tt
+well_end (trace.BadFree reason line holder) e h = well_is (end.BadFree (record { reason = reason; line = line }) holder) e h tt
+well_end (trace.Escape func local line) e h = well_is (end.Escape func local line) e h tt
+well_end trace.Spent e h = well_is end.Spent e h tt
+well_end trace.Dangling e h = absurd (cc)
+well_end (trace.OutOfHeap line) e h = well_is (end.OutOfHeap line) e h tt
+well_end (trace.OutOfStack line) e h = well_is (end.OutOfStack line) e h tt
+
+pub well_alone : (next : Next) (left : List ℕ) (old new : State) (e : End) → Leads left next old new (Err e) → EndsWell (Ended e)
+well_alone (runs.Goes before events after) left old new e h = absurd h
+well_alone (runs.Stops before d) left old new e h = well_end d e h
+
+pub well_on : (led : Led) (old new : State) → GoesOn led old new → EndsWell led
+well_on On old new h = tt
+well_on (Ended e) old new h = absurd h
+well_on OutputFault old new h = tt
+
+-- where a run ended its count of faults stays
+pub run_counts : (e : End) (before after : ℕ) → EndsWell (Ended e) → after ≡ before → RunCounts e before after
+run_counts (end.Exit code) before after well h = h
+run_counts (end.Trap kind line) before after well h = h
+run_counts (end.BadFree why holder) before after well h = h
+run_counts (end.Escape func local line) before after well h = h
+run_counts end.Spent before after well h = h
+run_counts (end.OutOfHeap line) before after well h = h
+run_counts (end.OutOfStack line) before after well h = h
+run_counts end.InputFault before after well h = h
+run_counts end.OutputFault before after well h = absurd well

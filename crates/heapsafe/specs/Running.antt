@@ -2,6 +2,7 @@
 use Rattle.std.specs.Prelude.{◌≡◌, ◌<◌, ◌+◌, ℕ, List, [], ◌∷◌, ◌++◌, Option, Some, None, Result, Ok, Err, IsSome}
 use Rattle.hs_base.specs.declared.ends.End.{End}
 use Rattle.hs_base.specs.declared.ends.End.TheVariants as end
+use Rattle.hs_base.specs.declared.ends.Limits.{Limits}
 use Rattle.hs_base.specs.State.{State}
 use Rattle.hs_base.specs.Trace.{Event, Out, In, New, Gone, Enter, Leave, Ending, bytes_out, end_of}
 use Rattle.hs_base.specs.Cut.{Room, Cut, cut, ending_of}
@@ -9,7 +10,7 @@ use Rattle.hs_base.specs.Runs as runs
 use Rattle.core_tree.specs.declared.Core.{Core}
 use Rattle.core_tree.specs.declared.StmKind.{StmKind}
 use Rattle.core_tree.specs.declared.StmKind.TheVariants.{Lib}
-use Rattle.object_meaning.specs.Meaning.{Next, statement_at, meaning, enough}
+use Rattle.object_meaning.specs.Meaning.{Next, statement_at, begun, meaning, enough}
 use Rattle.heapsafe.specs.declared.runner.Led.{Led}
 use Rattle.heapsafe.specs.declared.runner.Led.TheVariants.{On, Ended, OutputFault}
 
@@ -57,7 +58,13 @@ Shrinks core old _ new = Unit {0}
 abbrev pub GoesOn : Led → State → State → Type 0
 GoesOn On old new =
     (new.running.func ≡ old.running.func) × (new.running.point ≡ old.running.point + 1) × (new.waiting ≡ old.waiting) × (new.steps ≡ old.steps)
-GoesOn _ old new = Unit {0}
+GoesOn (Ended e) old new = ⊥
+GoesOn OutputFault old new = Unit {0}
+
+-- a failure of the output is no end of its own
+abbrev pub EndsWell : Led → Type 0
+EndsWell (Ended end.OutputFault) = ⊥
+EndsWell _ = Unit {0}
 
 -- where the run goes on it is at a statement
 abbrev pub StandsOn : Core → Led → State → Type 0
@@ -80,3 +87,12 @@ RunAnswers core input n room taken e taken' =
 abbrev pub RunCounts : End → ℕ → ℕ → Type 0
 RunCounts end.OutputFault before after = after ≡ before + 1
 RunCounts _ before after = after ≡ before
+
+abbrev pub room_of : Limits → Room
+room_of limits = record { heap = limits.heap; stack = limits.stack }
+
+-- the first call of main was made, or the run has ended there
+abbrev pub Begins : Core → List ℕ → ℕ → Room → State → Result Unit End → Type 0
+Begins core input n room new (Ok u) =
+    ((begun core input n).ended ≡ None) × ((begun core input n).state ≡ with_input input new) × (cut room (begun core input n).trace ≡ record { kept = (begun core input n).trace; refused = None }) × (bytes_out (begun core input n).trace ≡ [])
+Begins core input n room new (Err e) = (taken : List ℕ) → RunAnswers core input n room taken e (Some taken)

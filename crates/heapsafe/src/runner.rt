@@ -1,11 +1,13 @@
 //! The runner: makes a core's statements one after another, over registers that are taken before the first.
 
-ghost use Rattle.std.specs.Prelude.{IsSome, ◌≡◌, ◌≢◌, ◌+◌, ◌<◌, ◌≤◌, ◌^◌, ℕ, List, [], ◌∷◌, IfOk, Some, None, MatchBool, length, map};
+ghost use Rattle.std.specs.Prelude.{IsSome, ◌≡◌, ◌≢◌, ◌+◌, ◌<◌, ◌≤◌, ◌^◌, ℕ, List, [], ◌∷◌, IfOk, IfErr, OnOk, OnErr, Ok, Some, None, MatchBool, length, map};
 ghost use Rattle.hs_base.specs.Numbers.{low_bits, wrapped};
 ghost use Rattle.hs_base.specs.Trace.{Event};
+ghost use Rattle.hs_base.specs.Cost.{call_cost};
+ghost use Rattle.hs_base.specs.Cut.{Room};
 ghost use Rattle.core_tree.specs.Sound.{HasArguments, IsSound};
-ghost use Rattle.object_meaning.specs.Meaning.{act, statement_at, step, put_byte, number_of, arithmetic, compared, truth, lib};
-ghost use Rattle.heapsafe.specs.Running.{Leads, Seen, Counted, Shrinks, RunAnswers, RunCounts, GoesOn, StandsOn, IsAlone, with_input};
+ghost use Rattle.object_meaning.specs.Meaning.{start, act, statement_at, step, put_byte, number_of, arithmetic, compared, truth, lib};
+ghost use Rattle.heapsafe.specs.Running.{Leads, Seen, Counted, Shrinks, RunAnswers, RunCounts, GoesOn, StandsOn, EndsWell, Begins, room_of, IsAlone, with_input};
 
 mod machine;
 
@@ -166,6 +168,7 @@ fn one_step<O: Sink>(machine: &mut Machine, core: &Core, out: &mut O) -> Led
     ensures faults { Counted result (O.faults out.old) (O.faults out.new) }
     ensures shrinks { Shrinks core.now machine.old result machine.new }
     ensures stands { StandsOn core.now result machine.new }
+    ensures well { EndsWell result }
 {
     let Some(stm) = machine.statement(core) else {
         unreachable!()
@@ -176,5 +179,71 @@ fn one_step<O: Sink>(machine: &mut Machine, core: &Core, out: &mut O) -> Led
             Ok(()) => Led::On,
             Err(end) => Led::Ended(end),
         },
+    }
+}
+
+/// What a call of the function costs on the stack, in bytes, where it has so many registers and no memory locals.
+fn call_cost(registers: usize) -> u64
+    requires { registers < 2 ^ 32 }
+    ensures { result ≡ call_cost registers [] }
+{
+    16 + (8 * registers as u64 + 15) / 16 * 16
+}
+
+/// Makes the first call of main: takes a step, and tries its cost against the stack.
+fn begin(machine: &mut Machine, core: &Core, limits: Limits) -> Result<(), End>
+    requires sound { IsSound core.now }
+    requires first { machine.old ≡ start core.now [] machine.old.steps }
+    ensures told { (input : List ℕ) → Begins core.now input machine.old.steps (room_of limits) machine.new result }
+    ensures well { IfErr result (λ e. EndsWell (Led.Ended e)) }
+    ensures stands { OnOk result (IsSome (statement_at core.now machine.new.running)) }
+{
+    let Some(main) = core.funcs.get(machine.func()) else {
+        unreachable!()
+    };
+    if !machine.take_step() {
+        return Err(End::Spent);
+    }
+    if call_cost(main.regs.len()) > u64::from(limits.stack) {
+        return Err(End::OutOfStack(main.line));
+    }
+    Ok(())
+}
+
+/// Makes statements until the run ends.
+fn end_of_run<O: Sink>(machine: &mut Machine, core: &Core, out: &mut O) -> End
+    requires sound { IsSound core.now }
+    requires stands { IsSome (statement_at core.now machine.old.running) }
+    requires faults { O.faults out.old + 1 < 2 ^ 64 }
+    ensures told { (input taken : List ℕ) (n : ℕ) (room : Room) → O.taken out.old ≡ Some taken → Begins core.now input n room machine.old (Ok tt) → RunAnswers core.now input n room taken result (O.taken out.new) }
+    ensures faults { RunCounts result (O.faults out.old) (O.faults out.new) }
+{
+    'statements: loop {
+        match one_step(machine, core, out) {
+            Led::On => {}
+            Led::Ended(end) => return end,
+            Led::OutputFault => return End::OutputFault,
+        }
+    }
+}
+
+/// Runs a sound core from its first statement to its end. An error leaves the output as it was.
+pub(crate) fn run<O: Sink>(
+    alloc: Global,
+    core: &Core,
+    out: &mut O,
+    steps: u64,
+    limits: Limits,
+) -> Result<End, NoMemory>
+    requires sound { IsSound core.now }
+    requires faults { O.faults out.old + 1 < 2 ^ 64 }
+    ensures told { IfOk result (λ end. (input taken : List ℕ) → O.taken out.old ≡ Some taken → RunAnswers core.now input steps (room_of limits) taken end (O.taken out.new)) }
+    ensures faults { IfOk result (λ end. RunCounts end (O.faults out.old) (O.faults out.new)) }
+    ensures err { OnErr result (out.new ≡ out.old) }
+{
+    let mut machine = Machine::start(alloc, core, steps)?;
+    match begin(&mut machine, core, limits) {
+        Ok(()) => Ok(end_of_run(&mut machine, core, out)),
+        Err(end) => Ok(end),
     }
 }

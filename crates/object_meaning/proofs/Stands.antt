@@ -75,7 +75,7 @@ stays_at core sound s stm h =
     let f = in_function core s.running (slice_get core.funcs s.running.func) stm refl h in
     act_stays core s f.0 f.1 stm.kind ((sound.functions s.running.func f.0 f.1).statements s.running.point stm f.2).0
 
-is_there : (funcs : List Func) (f : ℕ) → f < length funcs → slice_get funcs f ≢ None
+pub is_there : (funcs : List Func) (f : ℕ) → f < length funcs → slice_get funcs f ≢ None
 is_there [] f h e = absurd (omega arith)
 is_there (func ∷ funcs) zero h e = cc
 is_there (func ∷ funcs) (suc f) h e = is_there funcs f (omega arith) e
@@ -96,7 +96,7 @@ counts_rest : (b : Bool) (n : ℕ) → 0 < cond b 1 0 + n → b ≡ false → 0 
 counts_rest true n h e = absurd (cc)
 counts_rest false n h e = omega (arith, h)
 
-main_within : (funcs : List Func) → 0 < count_by is_main funcs → first_main funcs < length funcs
+pub main_within : (funcs : List Func) → 0 < count_by is_main funcs → first_main funcs < length funcs
 main_within [] h = h
 main_within (func ∷ funcs) h =
     within_by (is_main func) funcs (first_main funcs) (λ e. main_within funcs (counts_rest (is_main func) (count_by is_main funcs) (subst (λ k. 0 < k) (sum_by-cons (λ x. cond (is_main x) 1 0) func funcs) h) e))

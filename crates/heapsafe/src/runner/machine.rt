@@ -66,6 +66,13 @@ impl Machine {
         })
     }
 
+    /// The number of the running function.
+    pub(crate) fn func(&self) -> usize
+        ensures { result ≡ self.now.running.func }
+    {
+        self.func
+    }
+
     /// The statement that the run is at.
     pub(crate) fn statement<'a>(&self, core: &'a Core) -> Option<&'a Stm>
         ensures is { option_copied result ≡ statement_at core.now self.now.running }
