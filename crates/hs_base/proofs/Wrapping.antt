@@ -1,16 +1,18 @@
 -- Conversion to a kind: numbers that differ by a multiple of two to the kind's width are converted alike.
-use Rattle.std.proofs.Common.{◌≡◌, ℕ, ◌+◌, ◌-◌, ◌*◌, ◌/◌, ◌%◌, ◌^◌, ◌<◌, ◌≤◌, Bool, true, false, cond, refl, sym, ap, subst, ◌∙◌, arith, lit≤, suc}
-use Rattle.std.specs.Prelude.{ℤ, pos, negsuc, ◌+ℤ◌, ◌-ℤ◌, ◌*ℤ◌, unsigned_abs, nat_lt, FitsSigned}
+use Rattle.std.proofs.Common.{◌≡◌, ℕ, ◌+◌, ◌-◌, ◌*◌, ◌/◌, ◌%◌, ◌^◌, ◌<◌, ◌≤◌, Bool, true, false, cond, refl, sym, ap, subst, ◌∙◌, arith, lit≤, suc, ⊎_elim}
+use Rattle.std.specs.Prelude.{ℤ, pos, negsuc, ◌+ℤ◌, ◌-ℤ◌, ◌*ℤ◌, neg_ℤ, unsigned_abs, nat_lt, FitsSigned}
 use Rattle.std.specs.Int.{Width, w8, w16, w32, w64, w128, int_rem_euclid, int_wrap, cast_signed, cast_unsigned}
 use Rattle.std.proofs.lemmas.Int.{ints, int_rem_euclid_is}
 use Rattle.std.proofs.lemmas.Nat.{pow_pos, pow-add, div-add-mod'}
-use Rattle.std.proofs.Math.Nat.{mul-le-mul_left, mod-lt}
+use Rattle.std.proofs.Math.Nat.{mul-le-mul_left, mul-le-mul_right, mod-lt}
+use Rattle.std.proofs.Math.Arith.{digits_mod}
+use Rattle.std.proofs.lemmas.Bool.{cases_lt}
 use borrow.Author.Differences.{up, down, same_in, same_out, sum_is_lem, neg_is, product_is}
 use mir.Val.{bits, hbits}
 use Rattle.hs_base.specs.declared.ends.IntKind.{IntKind}
 use Rattle.hs_base.specs.declared.ends.IntKind.TheVariants.{I8, U8, I16, U16, I32, U32, I64, U64}
 use Rattle.hs_base.specs.Numbers.{low_bits, wrapped}
-use Rattle.hs_base.specs.Arithmetic.{width_in_bits}
+use Rattle.hs_base.specs.Arithmetic.{width_in_bits, bits_of, complement_of}
 
 -- a and b differ by a multiple of m
 pub record IsCongruent (m : ℕ) (a b : ℤ) : Type 0 where
@@ -33,6 +35,9 @@ congruent_sum p q = record { left = p.left + q.left; right = p.right + q.right; 
 pub congruent_difference : {m : ℕ} {a b c d : ℤ} → IsCongruent m a b → IsCongruent m c d → IsCongruent m (a -ℤ c) (b -ℤ d)
 congruent_difference p q = record { left = p.left + q.right; right = p.right + q.left; same = omega (arith, same_in, same_out, sum_is_lem, neg_is, p.same, q.same) }
 
+pub congruent_negation : {m : ℕ} {a b : ℤ} → IsCongruent m a b → IsCongruent m (neg_ℤ a) (neg_ℤ b)
+congruent_negation p = record { left = p.right; right = p.left; same = omega (arith, same_in, same_out, sum_is_lem, neg_is, p.same) }
+
 -- a factor on the right
 scaled : {m : ℕ} {a b : ℤ} (c : ℤ) → IsCongruent m a b → IsCongruent m (a *ℤ c) (b *ℤ c)
 scaled {m} {a} {b} c p =
@@ -52,11 +57,11 @@ congruent_product {m} {a} {b} {c} {d} p q =
 pub congruent_narrower : (c m : ℕ) {a b : ℤ} → IsCongruent (c * m) a b → IsCongruent m a b
 congruent_narrower c m p = record { left = p.left * c; right = p.right * c; same = omega (arith, same_in, same_out, sum_is_lem, p.same) }
 
+two_powers : (n m : ℕ) → n ≤ m → 2 ^ (m - n) * 2 ^ n ≡ 2 ^ m
+two_powers n m h = let split : m - n + n ≡ m = omega arith in sym (pow-add 2 (m - n) n) ∙ ap (λ e. 2 ^ e) split
+
 pub congruent_fewer_bits : (n m : ℕ) {a b : ℤ} → n ≤ m → IsCongruent (2 ^ m) a b → IsCongruent (2 ^ n) a b
-congruent_fewer_bits n m {a} {b} h p =
-    let split : m - n + n ≡ m = omega arith in
-    let power : 2 ^ (m - n) * 2 ^ n ≡ 2 ^ m = sym (pow-add 2 (m - n) n) ∙ ap (λ e. 2 ^ e) split in
-    congruent_narrower (2 ^ (m - n)) (2 ^ n) (subst (λ x. IsCongruent x a b) (sym power) p)
+congruent_fewer_bits n m {a} {b} h p = congruent_narrower (2 ^ (m - n)) (2 ^ n) (subst (λ x. IsCongruent x a b) (sym (two_powers n m h)) p)
 
 -- ---- remainders
 
@@ -151,6 +156,9 @@ wrapped_same U64 a b p = ap pos (low_bits_same 64 a b p)
 pub wrapped_wide : (k : IntKind) (z : ℤ) → wrapped k (int_wrap w128 z) ≡ wrapped k z
 wrapped_wide k z = wrapped_same k (int_wrap w128 z) z (congruent_fewer_bits (width_in_bits k) 128 (width_in_bits_le k) (congruent_int_wrap w128 z))
 
+pub wrapped_negation : (k : IntKind) (a : ℤ) → wrapped k (neg_ℤ a) ≡ wrapped k (neg_ℤ (wrapped k a))
+wrapped_negation k a = wrapped_same k _ _ (congruent_sym (congruent_negation (congruent_wrapped k a)))
+
 -- a sum, a difference and a product of numbers and of what they convert to
 pub wrapped_sum : (k : IntKind) (a b : ℤ) → wrapped k (a +ℤ b) ≡ wrapped k (wrapped k a +ℤ wrapped k b)
 wrapped_sum k a b = wrapped_same k _ _ (congruent_sym (congruent_sum (congruent_wrapped k a) (congruent_wrapped k b)))
@@ -160,3 +168,58 @@ wrapped_difference k a b = wrapped_same k _ _ (congruent_sym (congruent_differen
 
 pub wrapped_product : (k : IntKind) (a b : ℤ) → wrapped k (a *ℤ b) ≡ wrapped k (wrapped k a *ℤ wrapped k b)
 wrapped_product k a b = wrapped_same k _ _ (congruent_sym (congruent_product (congruent_wrapped k a) (congruent_wrapped k b)))
+
+-- ---- bits
+
+pub bits_lt : (z : ℤ) → FitsSigned w128 z → cast_unsigned w128 z < 2 ^ 128
+bits_lt (pos n) f = fits_twice w128 n f.sfits
+bits_lt (negsuc n) f = omega arith
+
+-- the low bits of a number are those of its 128 bits
+pub low_bits_from : (n : ℕ) → n ≤ 128 → (z : ℤ) → FitsSigned w128 z → cast_unsigned w128 z % 2 ^ n ≡ low_bits n z
+low_bits_from n h z f = low_bits_same n (pos (cast_unsigned w128 z)) z (congruent_fewer_bits n 128 h (congruent_bits w128 z f))
+
+-- bits that are read as a signed number convert as their low bits do
+pub wrapped_cast : (k : IntKind) (m : ℕ) → m < 2 ^ 128 → wrapped k (cast_signed w128 m) ≡ wrapped k (pos (m % 2 ^ width_in_bits k))
+wrapped_cast k m h =
+    wrapped_same k (cast_signed w128 m) (pos m) (congruent_fewer_bits (width_in_bits k) 128 (width_in_bits_le k) (congruent_cast w128 m h))
+    ∙ wrapped_same k (pos m) (pos (m % 2 ^ width_in_bits k)) (congruent_sym (congruent_low_bits (width_in_bits k) (pos m)))
+
+-- an operation on bits that keeps its low bits to the low bits of its operands
+module _ (op : ℕ → ℕ → ℕ) (fits : (n a b : ℕ) → a < 2 ^ n → b < 2 ^ n → op a b < 2 ^ n) (low : (a b n : ℕ) → op a b % 2 ^ n ≡ op (a % 2 ^ n) (b % 2 ^ n)) where
+  pub wrapped_bitwise : (k : IntKind) (a b : ℤ) → FitsSigned w128 a → FitsSigned w128 b → wrapped k (cast_signed w128 (op (cast_unsigned w128 a) (cast_unsigned w128 b))) ≡ wrapped k (pos (op (bits_of k a) (bits_of k b)))
+  wrapped_bitwise k a b f g =
+      let n = width_in_bits k in
+      wrapped_cast k (op (cast_unsigned w128 a) (cast_unsigned w128 b)) (fits 128 _ _ (bits_lt a f) (bits_lt b g))
+      ∙ ap (λ m. wrapped k (pos m)) (low (cast_unsigned w128 a) (cast_unsigned w128 b) n ∙ (λ i. op (low_bits_from n (width_in_bits_le k) a f i) (low_bits_from n (width_in_bits_le k) b g i)))
+
+-- all bits turned, of a number with more bits: its low bits are turned too
+turned : (p m x : ℕ) → 0 < m → x < p * m → (p * m - 1 - x) % m ≡ m - 1 - x % m
+turned p m x some h =
+    let split = div-add-mod' x m in
+    let small = mod-lt x some in
+    let more : x / m < p = ⊎_elim (λ l. l) (λ l. absurd (omega (arith, mul-le-mul_right m l))) (cases_lt (x / m) p) in
+    let j = p - suc (x / m) in
+    let sum : p ≡ suc (x / m) + j = omega arith in
+    let times = ap (λ y. y * m) sum in
+    let is : p * m - 1 - x ≡ j * m + (m - 1 - x % m) = omega arith in
+    ap (λ y. y % m) is ∙ digits_mod j (omega arith)
+
+pub wrapped_complement : (k : IntKind) (a : ℤ) → FitsSigned w128 a → wrapped k (cast_signed w128 (2 ^ 128 - 1 - cast_unsigned w128 a)) ≡ complement_of k a
+wrapped_complement k a f =
+    let n = width_in_bits k in
+    let x = cast_unsigned w128 a in
+    let small : x < 2 ^ 128 = bits_lt a f in
+    let narrow : n ≤ 128 = width_in_bits_le k in
+    let power : 2 ^ (128 - n) * 2 ^ n ≡ 2 ^ 128 = two_powers n 128 narrow in
+    wrapped_cast k (2 ^ 128 - 1 - x) (omega arith)
+    ∙ ap (λ m. wrapped k (pos m)) (ap (λ y. (y - 1 - x) % 2 ^ n) (sym power) ∙ turned (2 ^ (128 - n)) (2 ^ n) x (pow_pos n) (subst (λ y. x < y) (sym power) small) ∙ ap (λ y. 2 ^ n - 1 - y) (low_bits_from n narrow a f))
+
+-- a shift to the left that loses what 128 bits do not hold
+pub wrapped_shifted : (k : IntKind) (a : ℤ) (places : ℕ) → FitsSigned w128 a → wrapped k (cast_signed w128 (cast_unsigned w128 a * 2 ^ places % 2 ^ 128)) ≡ wrapped k (wrapped k a *ℤ pos (2 ^ places))
+wrapped_shifted k a places f =
+    let y = cast_unsigned w128 a * 2 ^ places in
+    let factor = pos (2 ^ places) in
+    wrapped_same k _ _ (congruent_trans (congruent_fewer_bits (width_in_bits k) 128 (width_in_bits_le k)
+    (congruent_trans (congruent_cast w128 (y % 2 ^ 128) (mod-lt y (pow_pos 128))) (congruent_trans (congruent_low_bits 128 (pos y)) (congruent_product (congruent_bits w128 a f) (congruent_refl (2 ^ 128) factor)))))
+    (congruent_product (congruent_sym (congruent_wrapped k a)) (congruent_refl (2 ^ width_in_bits k) factor)))

@@ -1,8 +1,8 @@
 //! Integer arithmetic of each kind: the operands are converted to the kind first and the result last (C99 6.3.1.3).
 //! A value may come in as any number.
-ghost use Rattle.std.specs.Prelude.{◌≡◌, ◌≤◌, ◌<◌, ◌^◌, ◌↔◌, IsTrue};
+ghost use Rattle.std.specs.Prelude.{◌≡◌, ◌≤◌, ◌<◌, ◌^◌, ◌↔◌, IsTrue, IfSome};
 ghost use Rattle.hs_base.specs.Numbers.{is_signed, width, wrapped, low_bits};
-ghost use Rattle.hs_base.specs.Arithmetic.{IsInRange, difference_of, greatest, least, product_of, sum_of, width_in_bits};
+ghost use Rattle.hs_base.specs.Arithmetic.{IsInRange, and_of, complement_of, difference_of, greatest, least, left_shift_of, negation_of, or_of, places_of, product_of, quotient_of, remainder_of, right_shift_of, sum_of, width_in_bits, xor_of};
 
 use crate::IntKind;
 
@@ -88,6 +88,22 @@ impl IntKind {
         self.wrap(n) == n
     }
 
+    /// The number with its sign changed (C99 6.5.3.3). The least number of a signed kind stays as it is.
+    pub fn negate(self, a: i128) -> i128
+        ensures value { result ≡ negation_of self a }
+        ensures in_range { IsInRange self result }
+    {
+        self.wrap(a.wrapping_neg())
+    }
+
+    /// The number with each bit changed (C99 6.5.3.3).
+    pub fn complement(self, a: i128) -> i128
+        ensures value { result ≡ complement_of self a }
+        ensures in_range { IsInRange self result }
+    {
+        self.wrap(!a)
+    }
+
     /// The sum (C99 6.5.6).
     pub fn add(self, a: i128, b: i128) -> i128
         ensures value { result ≡ sum_of self a b }
@@ -110,6 +126,92 @@ impl IntKind {
         ensures in_range { IsInRange self result }
     {
         self.wrap(a.wrapping_mul(b))
+    }
+
+    /// The quotient, rounded toward zero (C99 6.5.5), or `None` where the divisor converts to 0. The least number
+    /// divided by -1 gives itself.
+    pub fn divide(self, a: i128, b: i128) -> Option<i128>
+        ensures value { result ≡ quotient_of self a b }
+        ensures in_range { IfSome result (IsInRange self) }
+    {
+        let divisor = self.wrap(b);
+        if divisor == 0 {
+            None
+        } else {
+            Some(self.wrap(self.wrap(a) / divisor))
+        }
+    }
+
+    /// The remainder, which has the sign of the dividend (C99 6.5.5), or `None` where the divisor converts to 0.
+    pub fn remainder(self, a: i128, b: i128) -> Option<i128>
+        ensures value { result ≡ remainder_of self a b }
+        ensures in_range { IfSome result (IsInRange self) }
+    {
+        let divisor = self.wrap(b);
+        if divisor == 0 {
+            None
+        } else {
+            Some(self.wrap(self.wrap(a) % divisor))
+        }
+    }
+
+    /// The bits that both numbers have (C99 6.5.10).
+    pub fn and(self, a: i128, b: i128) -> i128
+        ensures value { result ≡ and_of self a b }
+        ensures in_range { IsInRange self result }
+    {
+        self.wrap(a & b)
+    }
+
+    /// The bits that one number has alone (C99 6.5.11).
+    pub fn xor(self, a: i128, b: i128) -> i128
+        ensures value { result ≡ xor_of self a b }
+        ensures in_range { IsInRange self result }
+    {
+        self.wrap(a ^ b)
+    }
+
+    /// The bits that one number or both have (C99 6.5.12).
+    pub fn or(self, a: i128, b: i128) -> i128
+        ensures value { result ≡ or_of self a b }
+        ensures in_range { IsInRange self result }
+    {
+        self.wrap(a | b)
+    }
+
+    /// The number times two to the count (C99 6.5.7), or `None` where the count is below 0 or not below the width.
+    pub fn shift_left(self, a: i128, count: i128) -> Option<i128>
+        ensures value { result ≡ left_shift_of self a count }
+        ensures in_range { IfSome result (IsInRange self) }
+    {
+        match self.places(count) {
+            Some(places) => Some(self.wrap(a << places)),
+            None => None,
+        }
+    }
+
+    /// The number divided by two to the count and rounded down (C99 6.5.7 leaves open how a negative number is
+    /// shifted: its sign bit comes in), or `None` where the count is below 0 or not below the width.
+    pub fn shift_right(self, a: i128, count: i128) -> Option<i128>
+        ensures value { result ≡ right_shift_of self a count }
+        ensures in_range { IfSome result (IsInRange self) }
+    {
+        match self.places(count) {
+            Some(places) => Some(self.wrap(self.wrap(a) >> places)),
+            None => None,
+        }
+    }
+
+    /// By how many places a count shifts, or `None` where it is below 0 or not below the width.
+    fn places(self, count: i128) -> Option<u32>
+        ensures value { result ≡ places_of self count }
+        ensures bound { IfSome result (λ n. n < 64) }
+    {
+        if 0 <= count && count < self.bits() as i128 {
+            Some(count as u32)
+        } else {
+            None
+        }
     }
 }
 
