@@ -223,3 +223,6 @@ fn lowest_bits(n: i128, count: u32) -> u64
 {
     (n.cast_unsigned() & ((1 << count) - 1)) as u64
 }
+
+#[cfg(test)]
+mod tests;
