@@ -1,6 +1,6 @@
 //! Complaints, and the source line below one.
 
-ghost use Rattle.std.specs.Prelude.{◌≡◌, ◌+◌, ◌<◌, ◌^◌, option_copied};
+ghost use Rattle.std.specs.Prelude.{◌≡◌, ◌++◌, ◌+◌, ◌<◌, ◌^◌, option_copied};
 ghost use Rattle.hs_base.specs.Outside.{CountsFaults};
 ghost use Rattle.hs_base.specs.PutAll.{PutsAll};
 ghost use Rattle.bad_free_report.specs.Report.{complaint, complaint_at, heading, source_line, shown_part, whole_line};
@@ -45,15 +45,41 @@ pub fn complain<E: Sink>(err: &mut E, name: &str, words: &[u8]) -> Result<(), Fa
     put_parts(err, &[name.as_bytes(), b": ", words, b"\n"])
 }
 
-/// Writes `NAME:LINE: WORDS` and a line feed.
-fn put_heading<E: Sink>(err: &mut E, name: &str, line: Line, words: &[u8]) -> Result<(), Failed>
+/// Writes `NAME:LINE: ` with a label and words behind it, and a line feed.
+fn put_heading<'a, E: Sink>(
+    err: &mut E,
+    name: &'a str,
+    line: Line,
+    label: &'a [u8],
+    words: &'a [u8],
+) -> Result<(), Failed>
     requires { E.faults err.old + 1 < 2 ^ 64 }
-    ensures bytes { PutsAll (E.taken err.old) (E.taken err.new) (heading name.now line words.now) result }
+    ensures bytes { PutsAll (E.taken err.old) (E.taken err.new) (heading name.now line (label.now ++ words.now)) result }
     ensures cause { CountsFaults (E.faults err.old) (E.faults err.new) result }
 {
     let mut digits = Buffer::new();
     let number = digits.format(line).as_bytes();
-    put_parts(err, &[name.as_bytes(), b":", number, b": ", words, b"\n"])
+    put_parts(
+        err,
+        &[name.as_bytes(), b":", number, b": ", label, words, b"\n"],
+    )
+}
+
+/// What [`complain_at`] does, with words that begin with a label, as `trap: `.
+pub fn complain_labelled<E: Sink>(
+    err: &mut E,
+    name: &str,
+    line: Line,
+    label: &[u8],
+    words: &[u8],
+    text: &[u8],
+) -> Result<(), Failed>
+    requires { E.faults err.old + 1 < 2 ^ 64 }
+    ensures bytes { PutsAll (E.taken err.old) (E.taken err.new) (complaint_at name.now line (label.now ++ words.now) text.now) result }
+    ensures cause { CountsFaults (E.faults err.old) (E.faults err.new) result }
+{
+    put_heading(err, name, line, label, words)?;
+    put_source_line(err, line, text)
 }
 
 /// Writes `NAME:LINE: WORDS` and a line feed, and below it two spaces, the text's line of that number, and a line feed.
@@ -71,6 +97,5 @@ pub fn complain_at<E: Sink>(
     ensures bytes { PutsAll (E.taken err.old) (E.taken err.new) (complaint_at name.now line words.now text.now) result }
     ensures cause { CountsFaults (E.faults err.old) (E.faults err.new) result }
 {
-    put_heading(err, name, line, words)?;
-    put_source_line(err, line, text)
+    complain_labelled(err, name, line, b"", words, text)
 }
