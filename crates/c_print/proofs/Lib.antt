@@ -1,0 +1,4 @@
+pub mod Widths
+pub mod Fronts
+pub mod Convs
+pub mod Parts

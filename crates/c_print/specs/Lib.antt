@@ -1,0 +1,3 @@
+pub mod Length
+pub mod Item
+pub mod Format
