@@ -2,3 +2,4 @@ pub mod Widths
 pub mod Fronts
 pub mod Convs
 pub mod Parts
+pub mod Pieces

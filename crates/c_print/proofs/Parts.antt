@@ -1,16 +1,18 @@
 -- An item has one reading.
-use Rattle.std.proofs.Common.{◌≡◌, ◌≢◌, ◌≤◌, ◌<◌, ◌^◌, ℕ, Bool, true, false, cond, ◌&&◌, List, [], ◌∷◌, ◌++◌, nat_eq, get_or, length, refl, sym, ap, ◌∙◌, subst, ⊎_elim, codes, arith, rules}
+use Rattle.std.proofs.Common.{◌≡◌, ◌≢◌, ◌≤◌, ◌<◌, ◌^◌, ℕ, Bool, true, false, cond, ◌&&◌, List, [], ◌∷◌, ◌++◌, nat_eq, get_or, length, length-append, refl, sym, ap, ◌∙◌, subst, ⊎_elim, codes, arith, rules}
 use Rattle.std.specs.List.{list_all}
 use Rattle.std.specs.Char.{is_ascii_digit}
 use Rattle.std.specs.Fmt.{decimal}
+use Rattle.std.specs.Str.Parse.{digits_value}
 use Rattle.std.proofs.lemmas.Bool.{ne_eqb, and_parts, cases_eq, cases_Bool}
 use Rattle.std.proofs.lemmas.Fmt.{digits_decimal, first_decimal}
 use Rattle.std.proofs.lemmas.Bool.Decides.{nat_tests}
 use Rattle.hs_base.specs.declared.ends.IntKind.{IntKind}
 use Rattle.c_print.specs.Item.{is_flag, StartsOutside, width_bytes, ReadsConversion, ReadsItem}
-use Rattle.c_print.proofs.Widths.{all_digits, width_bytes_some}
+use Rattle.c_print.proofs.Widths.{all_digits, width_bytes_some, value_width_bytes}
 use Rattle.c_print.proofs.Fronts.{one_front}
-use Rattle.c_print.proofs.Convs.{starts_outside}
+use Rattle.c_print.specs.Length.{length_bytes, is_one_of}
+use Rattle.c_print.proofs.Convs.{starts_outside, one_conversion}
 
 pub width_digits : (width : ℕ) → width ≤ 4095 → list_all is_ascii_digit (width_bytes width) ≡ true
 width_digits width small = ⊎_elim
@@ -59,3 +61,74 @@ item_parts bytes flags after digits behind left zeros width conv kind rest whole
     let inner = one_front is_ascii_digit (width_bytes width) digits item.behind behind (outer.1 ∙ between)
         (width_digits width item.width_fits) only_digits digits_end digits_stop in
     record { flags_are = outer.0; digits_are = sym inner.0; behind_is = inner.1 }
+
+-- where the flags and the width of an item end
+pub item_ends : (bytes : List ℕ) (left zeros : Bool) (width conv : ℕ) (kind : IntKind) (rest : List ℕ) →
+    (item : ReadsItem bytes left zeros width conv kind rest) →
+    StartsOutside is_flag (width_bytes width ++ item.behind) × StartsOutside is_ascii_digit item.behind
+item_ends bytes left zeros width conv kind rest item = (
+  flags_end (width_bytes width) item.behind (width_digits width item.width_fits) (width_front width item.width_fits)
+      (starts_outside is_flag refl refl refl flag_low item.behind conv kind rest item.conversion),
+  starts_outside is_ascii_digit refl refl refl digit_low item.behind conv kind rest item.conversion,
+)
+
+-- what two readings of an item agree in
+pub record SameItem (left zeros : Bool) (width conv : ℕ) (kind : IntKind) (rest : List ℕ)
+    (left' zeros' : Bool) (width' conv' : ℕ) (kind' : IntKind) (rest' : List ℕ) : Type 0 where
+  pub same_left : left ≡ left'
+  pub same_zeros : zeros ≡ zeros'
+  pub same_width : width ≡ width'
+  pub same_conv : conv ≡ conv'
+  pub same_kind : kind ≡ kind'
+  pub same_rest : rest ≡ rest'
+
+pub one_item : (bytes : List ℕ) (left zeros : Bool) (width conv : ℕ) (kind : IntKind) (rest : List ℕ)
+    (left' zeros' : Bool) (width' conv' : ℕ) (kind' : IntKind) (rest' : List ℕ) →
+    ReadsItem bytes left zeros width conv kind rest → ReadsItem bytes left' zeros' width' conv' kind' rest' →
+    SameItem left zeros width conv kind rest left' zeros' width' conv' kind' rest'
+one_item bytes left zeros width conv kind rest left' zeros' width' conv' kind' rest' one other =
+    let ends = item_ends bytes left' zeros' width' conv' kind' rest' other in
+    let parts = item_parts bytes other.flags (width_bytes width' ++ other.behind) (width_bytes width') other.behind
+        left zeros width conv kind rest other.written refl other.only_flags ends.0 (width_digits width' other.width_fits) ends.1 one in
+    let behind = one_conversion other.behind conv conv' kind kind' rest rest'
+        (subst (λ l. ReadsConversion l conv kind rest) parts.behind_is one.conversion) other.conversion in
+    record {
+      same_left = one.left_is ∙ ap (λ flags. is_one_of flags 45) parts.flags_are ∙ sym other.left_is;
+      same_zeros = one.zeros_is ∙ ap (λ flags. is_one_of flags 48) parts.flags_are ∙ sym other.zeros_is;
+      same_width = sym (value_width_bytes width one.width_fits) ∙ ap (digits_value 10) (sym parts.digits_are) ∙ value_width_bytes width' other.width_fits;
+      same_conv = behind.0;
+      same_kind = behind.1;
+      same_rest = behind.2;
+    }
+
+-- an item does not begin with a percent sign
+abbrev is_percent : ℕ → Bool
+is_percent b = nat_eq b 37
+
+flag_is_no_percent : (b : ℕ) → is_flag b ≡ true → is_percent b ≡ false
+flag_is_no_percent b flag = grind (arith, nat_tests)
+
+digit_is_no_percent : (b : ℕ) → is_ascii_digit b ≡ true → is_percent b ≡ false
+digit_is_no_percent b digit = grind (arith, nat_tests)
+
+letter_is_no_percent : (b : ℕ) → 88 ≤ b → is_percent b ≡ false
+letter_is_no_percent b high = grind (arith, nat_tests)
+
+starts_in : (test : ℕ → Bool) → ((b : ℕ) → test b ≡ true → is_percent b ≡ false) → (front behind : List ℕ) →
+    list_all test front ≡ true → StartsOutside is_percent behind → StartsOutside is_percent (front ++ behind)
+starts_in test outside_percent [] behind all outside = outside
+starts_in test outside_percent (b ∷ front) behind all outside = outside_percent b (and_parts (test b) (list_all test front) all).0
+
+pub item_is_no_percent : (bytes : List ℕ) (left zeros : Bool) (width conv : ℕ) (kind : IntKind) (rest : List ℕ) →
+    ReadsItem bytes left zeros width conv kind rest → StartsOutside is_percent bytes
+item_is_no_percent bytes left zeros width conv kind rest item =
+    subst (StartsOutside is_percent) (sym item.written) (starts_in is_flag flag_is_no_percent item.flags (width_bytes width ++ item.behind) item.only_flags
+    (starts_in is_ascii_digit digit_is_no_percent (width_bytes width) item.behind (width_digits width item.width_fits)
+    (starts_outside is_percent refl refl refl letter_is_no_percent item.behind conv kind rest item.conversion)))
+
+pub item_is_longer : (bytes : List ℕ) (left zeros : Bool) (width conv : ℕ) (kind : IntKind) (rest : List ℕ) →
+    ReadsItem bytes left zeros width conv kind rest → length rest < length bytes
+item_is_longer bytes left zeros width conv kind rest item =
+    let l = item.conversion.length in
+    omega (arith, ap length item.written, ap length item.conversion.written, length-append item.flags (width_bytes width ++ item.behind),
+        length-append (width_bytes width) item.behind, length-append (length_bytes l) (conv ∷ rest))

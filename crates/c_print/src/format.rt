@@ -1,6 +1,6 @@
 //! Reading a whole format.
 
-ghost use Rattle.std.specs.Prelude.{◌≡◌, ℕ, List, Err, IfOk};
+ghost use Rattle.std.specs.Prelude.{◌≡◌, ◌≢◌, ◌∷◌, ℕ, List, Err, IfOk, MatchOption};
 ghost use Rattle.c_print.specs.declared.piece.Piece.{Piece};
 ghost use Rattle.c_print.specs.Format.{ReadsPiece, IsFormat};
 
@@ -9,6 +9,16 @@ use crate::piece::{FormatError, Piece};
 use crate::plain::read_plain;
 use hs_base::Items;
 use std::alloc::Global;
+
+/// The bytes behind a percent sign at the front.
+fn after_percent(bytes: &[u8]) -> Option<&[u8]>
+    ensures { MatchOption result ((item : List ℕ) → bytes.now ≢ 37 ∷ item) (λ item. bytes.now ≡ 37 ∷ item.now) }
+{
+    match bytes {
+        [b'%', item @ ..] => Some(item),
+        _ => None,
+    }
+}
 
 /// The piece at the front, and the bytes behind it.
 fn read_piece(alloc: Global, bytes: &[u8]) -> Result<(Piece, &[u8]), FormatError>
@@ -19,9 +29,9 @@ fn read_piece(alloc: Global, bytes: &[u8]) -> Result<(Piece, &[u8]), FormatError
     if text.len() > 0 {
         return Ok((Piece::Plain(text), rest));
     }
-    match bytes {
-        [b'%', item @ ..] => read_item(item).ok_or(FormatError::Bad),
-        _ => Err(FormatError::Bad),
+    match after_percent(bytes) {
+        Some(item) => read_item(item).ok_or(FormatError::Bad),
+        None => Err(FormatError::Bad),
     }
 }
 
