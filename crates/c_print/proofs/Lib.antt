@@ -3,3 +3,5 @@ pub mod Fronts
 pub mod Convs
 pub mod Parts
 pub mod Pieces
+pub mod Puts
+pub mod Fields

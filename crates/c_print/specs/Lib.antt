@@ -1,3 +1,5 @@
 pub mod Length
 pub mod Item
 pub mod Format
+pub mod Print
+pub mod Filled

@@ -11,9 +11,11 @@
 mod format;
 mod item;
 mod length;
+mod numeral;
 mod piece;
 mod plain;
-
+mod print;
 
 pub use format::read_format;
 pub use piece::{FormatError, Piece};
+pub use print::{put_number, put_repeated};
