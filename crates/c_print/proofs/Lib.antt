@@ -5,3 +5,4 @@ pub mod Parts
 pub mod Pieces
 pub mod Puts
 pub mod Fields
+pub mod Numerals
