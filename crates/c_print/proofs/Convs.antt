@@ -1,14 +1,13 @@
 -- Lengths and conversions.
-use Rattle.std.proofs.Common.{◌≡◌, ◌≢◌, ◌≤◌, ℕ, Bool, true, false, cond, ◌||◌, List, [], ◌∷◌, ◌++◌, nat_eq, nat_le, Option, Some, None, refl, sym, ap, ◌∙◌, subst, ◌⊎◌, ⊎_elim, codes, arith, rules}
-use Rattle.std.specs.List.{list_any, list_all}
-use Rattle.std.specs.Char.{is_ascii_digit}
+use Rattle.std.proofs.Common.{◌≡◌, ◌≢◌, ◌≤◌, ℕ, Bool, true, false, cond, List, [], ◌∷◌, ◌++◌, nat_eq, nat_le, Some, None, refl, sym, ap, ◌∙◌, subst, ⊎_elim, codes, arith}
+use Rattle.std.specs.List.{list_all}
 use Rattle.std.proofs.lemmas.List.{append_cancel_left}
 use Rattle.std.proofs.lemmas.Bool.{eqb-true, leb-true, ne_eqb, or_cases, and_parts, false≢true}
 use Rattle.hs_base.specs.declared.ends.IntKind.{IntKind}
 use Rattle.c_print.specs.declared.length.Length.{Length}
 use Rattle.c_print.specs.declared.length.Length.TheVariants.{Absent, Hh, H, L, Ll, Z}
 use Rattle.c_print.specs.Length.{length_bytes, signed_kind, unsigned_kind, byte_kind, is_one_of, kind_of}
-use Rattle.c_print.specs.Item.{is_flag, StartsOutside, ReadsConversion}
+use Rattle.c_print.specs.Item.{StartsOutside, ReadsConversion}
 
 one_of_bound : (low : ℕ) (bytes : List ℕ) (b : ℕ) → list_all (nat_le low) bytes ≡ true → is_one_of bytes b ≡ true → low ≤ b
 one_of_bound low [] b high found = absurd (false≢true found)
@@ -71,7 +70,7 @@ one_conversion bytes conv conv' kind kind' rest rest' one other =
     let second = length_at_is other.length conv' rest' (conv_is_not other.length conv' kind' other.kind_is) in
     let same : one.length ≡ other.length = sym first ∙ ap length_at (sym one.written ∙ other.written) ∙ second in
     let behind : length_bytes other.length ++ conv ∷ rest ≡ length_bytes other.length ++ conv' ∷ rest' =
-        ap (λ l. length_bytes l ++ conv ∷ rest) (sym same) ∙ sym one.written ∙ other.written in
+    ap (λ l. length_bytes l ++ conv ∷ rest) (sym same) ∙ sym one.written ∙ other.written in
     let tails = append_cancel_left (length_bytes other.length) _ _ behind in
     let conv_same : conv ≡ conv' = cc in
     let kinds : Some kind ≡ Some kind' = sym one.kind_is ∙ (λ i. kind_of (same i) (conv_same i)) ∙ other.kind_is in
@@ -83,10 +82,10 @@ pub starts_outside : (test : ℕ → Bool) → (test 104 ≡ false) → (test 10
     ReadsConversion bytes conv kind rest → StartsOutside test bytes
 starts_outside test h l z high bytes conv kind rest reads =
     subst (StartsOutside test) (sym reads.written) (by_length reads.length (high conv (conv_is_letter reads.length conv kind reads.kind_is))) where
-  by_length : (length : Length) → test conv ≡ false → StartsOutside test (length_bytes length ++ conv ∷ rest)
-  by_length Absent is = is
-  by_length Hh is = h
-  by_length H is = h
-  by_length L is = l
-  by_length Ll is = l
-  by_length Z is = z
+      by_length : (length : Length) → test conv ≡ false → StartsOutside test (length_bytes length ++ conv ∷ rest)
+      by_length Absent is = is
+      by_length Hh is = h
+      by_length H is = h
+      by_length L is = l
+      by_length Ll is = l
+      by_length Z is = z

@@ -1,5 +1,5 @@
 -- The three ways to fill a field.
-use Rattle.std.proofs.Common.{◌≡◌, ◌+◌, ◌-◌, ℕ, Bool, true, false, cond, List, [], ◌++◌, length, replicate, refl, sym, ap, ◌∙◌, append-nil}
+use Rattle.std.proofs.Common.{◌≡◌, ◌+◌, ◌-◌, ℕ, Bool, true, false, List, ◌++◌, length, replicate, sym, ap, ◌∙◌, append-nil}
 use Rattle.c_print.specs.Print.{field}
 use Rattle.c_print.specs.Filled.{filled}
 

@@ -1,12 +1,11 @@
 -- The digits of a numeral, from the last to the first.
-use Rattle.std.proofs.Common.{◌≡◌, ◌≢◌, ◌≤◌, ◌<◌, ◌+◌, ◌-◌, ◌/◌, ◌%◌, ◌^◌, ℕ, zero, suc, Bool, true, false, cond, List, [], ◌∷◌, ◌++◌, map, drop, length, set, nat_eq, refl, sym, ap, ◌∙◌, subst, ◌⊎◌, ⊎_elim, append_assoc, arith}
+use Rattle.std.proofs.Common.{◌≡◌, ◌≢◌, ◌≤◌, ◌<◌, ◌+◌, ◌-◌, ◌/◌, ◌%◌, ◌^◌, ℕ, Bool, cond, List, [], ◌∷◌, ◌++◌, map, drop, length, set, refl, sym, ap, ◌∙◌, subst, ◌⊎◌, ⊎_elim, append_assoc, arith}
 use Rattle.std.specs.Fmt.{decimal, digit_glyph}
-use Rattle.std.specs.List.{AllByRecursion}
 use Rattle.std.specs.Int.Digits.{digits_of, AllBelowBase}
 use Rattle.std.proofs.lemmas.Bool.{ne_eqb, cases_eq, lt-ltb}
 use Rattle.std.proofs.lemmas.List.{map-append, drop-set, drop_all}
 use Rattle.std.proofs.Math.Nat.{div-eq_of_lt, mod-eq_of_lt}
-use Rattle.std.proofs.lemmas.Int.Digits.{digits_of_step, length-digits_of_step, length-digits_of-le, all_below_base_digits_of}
+use Rattle.std.proofs.lemmas.Int.Digits.{digits_of_step, length-digits_of-le, all_below_base_digits_of}
 use Rattle.std.proofs.lemmas.Fmt.{decimal-digits_of, decimal_digit}
 use Rattle.c_print.specs.Print.{numeral_digits, numeral}
 
@@ -20,9 +19,9 @@ some_digits base n some = ap (λ none. cond none (0 ∷ []) (digits_of base n)) 
 last_digit : (base n : ℕ) → 2 ≤ base → numeral_digits base n ≡ digits_of base (n / base) ++ (n % base ∷ [])
 last_digit base n low = ⊎_elim
     (λ none.
-      let high : n / base ≡ 0 = div-eq_of_lt (omega arith) in
-      let end : n % base ≡ 0 = mod-eq_of_lt (omega arith) ∙ none in
-      ap (numeral_digits base) none ∙ sym (λ i. digits_of base (high i) ++ (end i ∷ [])))
+    let high : n / base ≡ 0 = div-eq_of_lt (omega arith) in
+    let end : n % base ≡ 0 = mod-eq_of_lt (omega arith) ∙ none in
+    ap (numeral_digits base) none ∙ sym (λ i. digits_of base (high i) ++ (end i ∷ [])))
     (λ some. some_digits base n some ∙ digits_of_step base n low (omega arith))
     (cases_eq n 0)
 
@@ -43,10 +42,10 @@ more_written base capital left start buffer low some room within =
     let glyph = digit_glyph capital in
     let at : start - 1 + 1 ≡ start = omega arith in
     ap (λ end. map glyph (digits_of base (left / base)) ++ end)
-        (drop-set buffer (start - 1) (glyph (left % base)) (omega arith) ∙ ap (λ n. glyph (left % base) ∷ drop n buffer) at)
+    (drop-set buffer (start - 1) (glyph (left % base)) (omega arith) ∙ ap (λ n. glyph (left % base) ∷ drop n buffer) at)
     ∙ sym (append_assoc (map glyph (digits_of base (left / base))) (glyph (left % base) ∷ []) (drop start buffer))
     ∙ ap (λ front. front ++ drop start buffer)
-        (sym (map-append glyph (digits_of base (left / base)) (left % base ∷ [])) ∙ ap (map glyph) (sym (digits_of_step base left low some)))
+    (sym (map-append glyph (digits_of base (left / base)) (left % base ∷ [])) ∙ ap (map glyph) (sym (digits_of_step base left low some)))
 
 -- a number of 64 bits has at most 22 digits in these bases
 pub room_at_first : (base n : ℕ) → (base ≡ 8) ⊎ (base ≡ 16) → n < 2 ^ 64 → length (digits_of base (n / base)) ≤ 21
@@ -58,19 +57,20 @@ room_at_first base n is small = ⊎_elim
 pub base_is_some : (base : ℕ) → (base ≡ 8) ⊎ (base ≡ 16) → 2 ≤ base
 base_is_some base is = ⊎_elim (λ e. omega arith) (λ e. omega arith) is
 
--- small decimal digits
-glyph_of_digit : (d : ℕ) → d < 10 → digit_glyph false d ≡ 48 + d
-glyph_of_digit d small = ap (λ low. cond low (48 + d) (87 + d)) (lt-ltb d 10 small)
+-- decimal digits are not letters
+glyph_of_digit : (capital : Bool) (d : ℕ) → d < 10 → digit_glyph capital d ≡ 48 + d
+glyph_of_digit capital d small = ap (λ low. cond low (48 + d) (cond capital (55 + d) (87 + d))) (lt-ltb d 10 small)
 
-glyphs_of_digits : (ds : List ℕ) → AllBelowBase 10 ds → map (digit_glyph false) ds ≡ map (λ d. 48 + d) ds
-glyphs_of_digits [] all = refl
-glyphs_of_digits (d ∷ ds) all = let here = glyph_of_digit d all.0 in let later = glyphs_of_digits ds all.1 in λ i. here i ∷ later i
+glyphs_of_digits : (capital : Bool) (ds : List ℕ) → AllBelowBase 10 ds → map (digit_glyph capital) ds ≡ map (λ d. 48 + d) ds
+glyphs_of_digits capital [] all = refl
+glyphs_of_digits capital (d ∷ ds) all =
+    let here = glyph_of_digit capital d all.0 in let later = glyphs_of_digits capital ds all.1 in λ i. here i ∷ later i
 
 -- the numeral in base 10
-pub decimal_is : (n : ℕ) → n < 2 ^ 64 → decimal n ≡ numeral 10 false n
+pub decimal_is : (capital : Bool) (n : ℕ) → n < 2 ^ 64 → decimal n ≡ numeral 10 capital n
 unfolding numeral
-decimal_is n small = ⊎_elim
-    (λ none. ap decimal none ∙ decimal_digit 0 (omega arith) ∙ ap (λ m. map (digit_glyph false) (numeral_digits 10 m)) (sym none))
-    (λ some. decimal-digits_of n (omega arith) small ∙ sym (glyphs_of_digits (digits_of 10 n) (all_below_base_digits_of 10 n (omega arith)))
-        ∙ ap (map (digit_glyph false)) (sym (some_digits 10 n some)))
+decimal_is capital n small = ⊎_elim
+    (λ none. ap decimal none ∙ decimal_digit 0 (omega arith) ∙ ap (λ m. map (digit_glyph capital) (numeral_digits 10 m)) (sym none))
+    (λ some. decimal-digits_of n (omega arith) small ∙ sym (glyphs_of_digits capital (digits_of 10 n) (all_below_base_digits_of 10 n (omega arith)))
+    ∙ ap (map (digit_glyph capital)) (sym (some_digits 10 n some)))
     (cases_eq n 0)

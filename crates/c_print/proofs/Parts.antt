@@ -1,10 +1,9 @@
 -- An item has one reading.
-use Rattle.std.proofs.Common.{◌≡◌, ◌≢◌, ◌≤◌, ◌<◌, ◌^◌, ℕ, Bool, true, false, cond, ◌&&◌, List, [], ◌∷◌, ◌++◌, nat_eq, get_or, length, length-append, refl, sym, ap, ◌∙◌, subst, ⊎_elim, codes, arith, rules}
+use Rattle.std.proofs.Common.{◌≡◌, ◌≢◌, ◌≤◌, ◌<◌, ℕ, Bool, true, false, List, [], ◌∷◌, ◌++◌, nat_eq, get_or, length, length-append, refl, sym, ap, ◌∙◌, subst, ⊎_elim, arith}
 use Rattle.std.specs.List.{list_all}
 use Rattle.std.specs.Char.{is_ascii_digit}
-use Rattle.std.specs.Fmt.{decimal}
 use Rattle.std.specs.Str.Parse.{digits_value}
-use Rattle.std.proofs.lemmas.Bool.{ne_eqb, and_parts, cases_eq, cases_Bool}
+use Rattle.std.proofs.lemmas.Bool.{and_parts, cases_eq}
 use Rattle.std.proofs.lemmas.Fmt.{digits_decimal, first_decimal}
 use Rattle.std.proofs.lemmas.Bool.Decides.{nat_tests}
 use Rattle.hs_base.specs.declared.ends.IntKind.{IntKind}
@@ -57,9 +56,9 @@ item_parts bytes flags after digits behind left zeros width conv kind rest whole
     let digits_end = starts_outside is_ascii_digit refl refl refl digit_low item.behind conv kind rest item.conversion in
     let no_flags = starts_outside is_flag refl refl refl flag_low item.behind conv kind rest item.conversion in
     let outer = one_front is_flag item.flags flags (width_bytes width ++ item.behind) after (sym item.written ∙ whole)
-        item.only_flags only_flags (flags_end (width_bytes width) item.behind (width_digits width item.width_fits) (width_front width item.width_fits) no_flags) flags_stop in
+    item.only_flags only_flags (flags_end (width_bytes width) item.behind (width_digits width item.width_fits) (width_front width item.width_fits) no_flags) flags_stop in
     let inner = one_front is_ascii_digit (width_bytes width) digits item.behind behind (outer.1 ∙ between)
-        (width_digits width item.width_fits) only_digits digits_end digits_stop in
+    (width_digits width item.width_fits) only_digits digits_end digits_stop in
     record { flags_are = outer.0; digits_are = sym inner.0; behind_is = inner.1 }
 
 -- where the flags and the width of an item end
@@ -89,9 +88,9 @@ pub one_item : (bytes : List ℕ) (left zeros : Bool) (width conv : ℕ) (kind :
 one_item bytes left zeros width conv kind rest left' zeros' width' conv' kind' rest' one other =
     let ends = item_ends bytes left' zeros' width' conv' kind' rest' other in
     let parts = item_parts bytes other.flags (width_bytes width' ++ other.behind) (width_bytes width') other.behind
-        left zeros width conv kind rest other.written refl other.only_flags ends.0 (width_digits width' other.width_fits) ends.1 one in
+    left zeros width conv kind rest other.written refl other.only_flags ends.0 (width_digits width' other.width_fits) ends.1 one in
     let behind = one_conversion other.behind conv conv' kind kind' rest rest'
-        (subst (λ l. ReadsConversion l conv kind rest) parts.behind_is one.conversion) other.conversion in
+    (subst (λ l. ReadsConversion l conv kind rest) parts.behind_is one.conversion) other.conversion in
     record {
       same_left = one.left_is ∙ ap (λ flags. is_one_of flags 45) parts.flags_are ∙ sym other.left_is;
       same_zeros = one.zeros_is ∙ ap (λ flags. is_one_of flags 48) parts.flags_are ∙ sym other.zeros_is;
@@ -130,5 +129,11 @@ pub item_is_longer : (bytes : List ℕ) (left zeros : Bool) (width conv : ℕ) (
     ReadsItem bytes left zeros width conv kind rest → length rest < length bytes
 item_is_longer bytes left zeros width conv kind rest item =
     let l = item.conversion.length in
-    omega (arith, ap length item.written, ap length item.conversion.written, length-append item.flags (width_bytes width ++ item.behind),
-        length-append (width_bytes width) item.behind, length-append (length_bytes l) (conv ∷ rest))
+    omega (
+      arith,
+      ap length item.written,
+      ap length item.conversion.written,
+      length-append item.flags (width_bytes width ++ item.behind),
+      length-append (width_bytes width) item.behind,
+      length-append (length_bytes l) (conv ∷ rest),
+    )

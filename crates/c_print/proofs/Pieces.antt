@@ -1,12 +1,12 @@
 -- The piece at the front of a format.
-use Rattle.std.proofs.Common.{◌≡◌, ◌≢◌, ◌<◌, ◌≤◌, ℕ, suc, nat_eq, Bool, true, false, cond, List, [], ◌∷◌, ◌++◌, length, length-append, drop, refl, sym, ap, ◌∙◌, subst, append_assoc, arith, rules}
+use Rattle.std.proofs.Common.{◌≡◌, ◌≢◌, ◌<◌, ◌≤◌, ℕ, suc, nat_eq, Bool, true, false, cond, List, [], ◌∷◌, ◌++◌, length, length-append, drop, refl, sym, ap, ◌∙◌, subst, append_assoc, arith}
 use Rattle.std.specs.List.{All, flat_map}
 use Rattle.std.proofs.lemmas.List.Concat.{flat_map-cons}
 use Rattle.hs_base.specs.declared.ends.IntKind.{IntKind}
 use Rattle.c_print.specs.declared.piece.Piece.{Piece}
 use Rattle.c_print.specs.declared.piece.Piece.TheVariants.{Plain, Item}
 use Rattle.c_print.specs.Item.{ReadsItem, StartsOutside}
-use Rattle.c_print.proofs.Parts.{one_item, SameItem, item_is_no_percent, item_is_longer}
+use Rattle.c_print.proofs.Parts.{one_item, item_is_no_percent, item_is_longer}
 use Rattle.std.proofs.lemmas.Bool.{eqb-true, eqb-false, true≢false}
 use Rattle.c_print.specs.Format.{plain_byte, GoesOnPlain, ReadsPlain, ReadsPiece, ReadsPieces, IsFormat}
 
@@ -23,7 +23,7 @@ begins_plain bytes (b ∷ text) rest some reads = (
 -- no piece stands in front of bytes that do not begin with a plain byte and, behind a percent sign, with no item
 pub no_piece : (bytes : List ℕ) → ¬ GoesOnPlain bytes →
     ((item : List ℕ) → bytes ≡ 37 ∷ item → (left zeros : Bool) (width conv : ℕ) (kind : IntKind) (rest : List ℕ) →
-        ¬ ReadsItem item left zeros width conv kind rest) →
+    ¬ ReadsItem item left zeros width conv kind rest) →
     (piece : Piece) (rest : List ℕ) → ¬ ReadsPiece bytes piece rest
 no_piece bytes not_plain not_item (Plain text) rest reads = not_plain (begins_plain bytes text rest reads.0 reads.1)
 no_piece bytes not_plain not_item (Item left zeros width conv kind) rest reads =
@@ -70,7 +70,7 @@ one_plain bytes (b ∷ text) [] rest rest' one other =
 one_plain bytes (b ∷ text) (c ∷ text') rest rest' one other =
     let same = one_plain_byte b c _ _ (sym (plain_written bytes b text rest one) ∙ plain_written bytes c text' rest' other) in
     let more = one_plain (flat_map plain_byte text ++ rest) text text' rest rest' (plain_behind b text rest one.no_zero one.longest)
-        (subst (λ l. ReadsPlain l text' rest') (sym same.1) (plain_behind c text' rest' other.no_zero other.longest)) in
+    (subst (λ l. ReadsPlain l text' rest') (sym same.1) (plain_behind c text' rest' other.no_zero other.longest)) in
     ((λ i. same.0 i ∷ more.0 i), more.1)
 
 -- plain text and an item do not begin alike
@@ -78,11 +78,12 @@ plain_or_item : (item : List ℕ) (left zeros : Bool) (width conv : ℕ) (kind :
     ReadsItem item left zeros width conv kind rest → ¬ GoesOnPlain (37 ∷ item)
 plain_or_item item left zeros width conv kind rest reads plain =
     by_test (nat_eq plain.0 37) refl plain.3 where
-  outside : (l : List ℕ) → item ≡ 37 ∷ l → ⊥
-  outside l is = true≢false (subst (StartsOutside (λ b. nat_eq b 37)) is (item_is_no_percent item left zeros width conv kind rest reads))
-  by_test : (test : Bool) → nat_eq plain.0 37 ≡ test → 37 ∷ item ≡ cond test (37 ∷ 37 ∷ []) (plain.0 ∷ []) ++ plain.1 → ⊥
-  by_test true is e = outside plain.1 (cc)
-  by_test false is e = let same : 37 ≡ plain.0 = cc in eqb-false plain.0 37 is (sym same)
+      outside : (l : List ℕ) → item ≡ 37 ∷ l → ⊥
+      outside l is = true≢false (subst (StartsOutside (λ b. nat_eq b 37)) is (item_is_no_percent item left zeros width conv kind rest reads))
+
+      by_test : (test : Bool) → nat_eq plain.0 37 ≡ test → 37 ∷ item ≡ cond test (37 ∷ 37 ∷ []) (plain.0 ∷ []) ++ plain.1 → ⊥
+      by_test true is e = outside plain.1 (cc)
+      by_test false is e = let same : 37 ≡ plain.0 = cc in eqb-false plain.0 37 is (sym same)
 
 -- there is one piece at the front
 pub one_piece : (bytes : List ℕ) (piece piece' : Piece) (rest rest' : List ℕ) →
@@ -96,7 +97,7 @@ one_piece bytes (Item left zeros width conv kind) (Plain text) rest rest' one ot
 one_piece bytes (Item left zeros width conv kind) (Item left' zeros' width' conv' kind') rest rest' one other =
     let items : one.0 ≡ other.0 = ap (drop 1) (sym one.1 ∙ other.1) in
     let same = one_item other.0 left zeros width conv kind rest left' zeros' width' conv' kind' rest'
-        (subst (λ l. ReadsItem l left zeros width conv kind rest) items one.2) other.2 in
+    (subst (λ l. ReadsItem l left zeros width conv kind rest) items one.2) other.2 in
     ((λ i. Item (same.same_left i) (same.same_zeros i) (same.same_width i) (same.same_conv i) (same.same_kind i)), same.same_rest)
 
 plain_byte_some : (b : ℕ) → 0 < length (plain_byte b)
@@ -109,8 +110,13 @@ plain_byte_some b = by_test (nat_eq b 37) where
 pub piece_is_longer : (bytes : List ℕ) (piece : Piece) (rest : List ℕ) → ReadsPiece bytes piece rest → length rest < length bytes
 piece_is_longer bytes (Plain []) rest reads = absurd (reads.0 refl)
 piece_is_longer bytes (Plain (b ∷ text)) rest reads =
-    omega (arith, ap length (plain_written bytes b text rest reads.1), length-append (plain_byte b) (flat_map plain_byte text ++ rest),
-        length-append (flat_map plain_byte text) rest, plain_byte_some b)
+    omega (
+      arith,
+      ap length (plain_written bytes b text rest reads.1),
+      length-append (plain_byte b) (flat_map plain_byte text ++ rest),
+      length-append (flat_map plain_byte text) rest,
+      plain_byte_some b,
+    )
 piece_is_longer bytes (Item left zeros width conv kind) rest reads =
     omega (arith, ap length reads.1, item_is_longer reads.0 left zeros width conv kind rest reads.2)
 

@@ -1,5 +1,5 @@
 -- What a sink has taken after several writes.
-use Rattle.std.proofs.Common.{◌≡◌, ℕ, List, [], ◌++◌, Option, Some, Result, Ok, Err, IsErr, refl, sym, ap, ◌∙◌, append_assoc, append-nil}
+use Rattle.std.proofs.Common.{◌≡◌, ℕ, List, [], ◌++◌, Option, Some, Result, Ok, Err, IsErr, sym, ap, ◌∙◌, append_assoc, append-nil}
 use Rattle.hs_base.specs.declared.outside.Failed.{Failed}
 use Rattle.hs_base.specs.PutAll.{PutsAll}
 
@@ -20,8 +20,7 @@ pub broke : (T U : Type 0) (before between after : Option (List ℕ)) (x y z who
     IsErr result → Took before between x → PutsAll {T = T} between after y (Err e) → x ++ (y ++ z) ≡ whole → PutsAll before after whole result
 broke T U before between after x y z whole e (Ok value) is_err first second parts = absurd (cc)
 broke T U before between after x y z whole e (Err f) is_err first second parts = λ taken told.
-    let last = second (taken ++ x) (first taken told) in
-    (
+    let last = second (taken ++ x) (first taken told) in (
       x ++ last.0,
       last.1 ++ z,
       append_assoc x last.0 (last.1 ++ z) ∙ ap (λ l. x ++ l) (sym (append_assoc last.0 last.1 z) ∙ ap (λ l. l ++ z) last.2) ∙ parts,

@@ -1,11 +1,11 @@
 -- The digits of a width.
-use Rattle.std.proofs.Common.{◌≡◌, ◌≢◌, ◌≤◌, ◌<◌, ◌+◌, ◌*◌, ◌-◌, ◌^◌, ℕ, Bool, true, cond, List, [], ◌∷◌, nat_eq, length, get_or, take, refl, sym, ap, ◌∙◌, arith}
+use Rattle.std.proofs.Common.{◌≡◌, ◌≢◌, ◌≤◌, ◌<◌, ◌+◌, ◌*◌, ◌-◌, ℕ, true, cond, List, [], ◌∷◌, length, get_or, take, refl, sym, ap, ◌∙◌, arith}
 use Rattle.std.specs.List.{list_all}
 use Rattle.std.specs.Char.{is_ascii_digit}
 use Rattle.std.specs.Fmt.{decimal}
 use Rattle.std.specs.Str.Parse.{digits_value}
 use Rattle.std.proofs.Common.{rules}
-use Rattle.std.proofs.lemmas.Bool.{ne_eqb, eq-eqb, cases_eq}
+use Rattle.std.proofs.lemmas.Bool.{ne_eqb, cases_eq}
 use Rattle.std.proofs.lemmas.Int.Digits.{digits_value_more}
 use Rattle.std.proofs.lemmas.Fmt.{decimal-digits_value, digits_value-decimal, decimal_digit}
 use Rattle.std.proofs.lemmas.Str.{digit_value_digit}
@@ -30,7 +30,7 @@ width_bytes_value [] digits front small = refl
 width_bytes_value (d ∷ ds) digits front small =
     let value = digits_value 10 (d ∷ ds) in
     let again : decimal value ≡ d ∷ ds =
-        decimal-digits_value all_digits (d ∷ ds) digits (omega arith) (λ zero. absurd (front zero)) (omega arith) in
+    decimal-digits_value all_digits (d ∷ ds) digits (omega arith) (λ zero. absurd (front zero)) (omega arith) in
     let some : value ≢ 0 = λ none. front (ap (λ bytes. get_or bytes 0 0) (sym again ∙ ap decimal none ∙ decimal_digit 0 (omega arith))) in
     sym again ∙ sym (width_bytes_some value some)
 

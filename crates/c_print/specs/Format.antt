@@ -1,5 +1,5 @@
 -- The bytes that spell the pieces of a format (C99 7.19.6.1, narrowed to integers, characters and strings).
-use Rattle.std.specs.Prelude.{◌≡◌, ◌≢◌, ℕ, Bool, cond, List, [], ◌∷◌, ◌++◌, All, nat_eq}
+use Rattle.std.specs.Prelude.{◌≡◌, ◌≢◌, ℕ, cond, List, [], ◌∷◌, ◌++◌, All, nat_eq}
 use Rattle.std.specs.List.{flat_map}
 use Rattle.c_print.specs.declared.piece.Piece.{Piece}
 use Rattle.c_print.specs.declared.piece.Piece.TheVariants.{Plain, Item}

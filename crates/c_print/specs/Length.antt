@@ -1,5 +1,5 @@
 -- Lengths of an item, and the kinds of integers that they give with a conversion (C99 7.19.6.1 paragraphs 7 and 8).
-use Rattle.std.specs.Prelude.{ℕ, Bool, cond, List, [], ◌∷◌, Option, Some, None, nat_eq, codes}
+use Rattle.std.specs.Prelude.{ℕ, Bool, cond, List, [], Option, Some, None, nat_eq, codes}
 use Rattle.std.specs.List.{list_any}
 use Rattle.hs_base.specs.declared.ends.IntKind.{IntKind}
 use Rattle.hs_base.specs.declared.ends.IntKind.TheVariants.{I8, U8, I16, U16, I32, U32, I64, U64}

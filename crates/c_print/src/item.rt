@@ -19,14 +19,20 @@ const WIDEST: u32 = 4095;
 fn flags_len(bytes: &[u8]) -> usize
     ensures { result ≡ prefix_len is_flag bytes.now }
 {
-    bytes.iter().take_while(|byte| matches!(**byte, b'-' | b'0')).count()
+    bytes
+        .iter()
+        .take_while(|byte| matches!(**byte, b'-' | b'0'))
+        .count()
 }
 
 /// How many digits stand at the front.
 fn digits_len(bytes: &[u8]) -> usize
     ensures { result ≡ prefix_len is_ascii_digit bytes.now }
 {
-    bytes.iter().take_while(|byte| byte.is_ascii_digit()).count()
+    bytes
+        .iter()
+        .take_while(|byte| byte.is_ascii_digit())
+        .count()
 }
 
 /// The flags at the front, and the bytes behind them.
@@ -99,5 +105,14 @@ pub(crate) fn read_item(bytes: &[u8]) -> Option<(Piece, &[u8])>
     if zeros && is_text(conv) {
         return None;
     }
-    Some((Piece::Item { left, zeros, width, conv, kind }, rest))
+    Some((
+        Piece::Item {
+            left,
+            zeros,
+            width,
+            conv,
+            kind,
+        },
+        rest,
+    ))
 }

@@ -10,6 +10,7 @@
 
 mod format;
 mod item;
+mod laws;
 mod length;
 mod numeral;
 mod piece;
@@ -17,5 +18,6 @@ mod plain;
 mod print;
 
 pub use format::read_format;
+pub use laws::one_format;
 pub use piece::{FormatError, Piece};
 pub use print::{put_number, put_repeated};

@@ -21,7 +21,12 @@ fn glyph(capital: bool, digit: u64) -> u8
 }
 
 /// Writes a number in base 8 or 16 at the end of the buffer, and answers where it starts.
-pub(crate) fn write_numeral(number: u64, base: u64, capital: bool, buffer: &mut [u8; LONGEST]) -> usize
+pub(crate) fn write_numeral(
+    number: u64,
+    base: u64,
+    capital: bool,
+    buffer: &mut [u8; LONGEST],
+) -> usize
     requires { (base ≡ 8) ⊎ (base ≡ 16) }
     ensures within { result ≤ 22 }
     ensures written { drop result buffer.new ≡ numeral base capital number }

@@ -1,6 +1,6 @@
 //! Writing an item's number.
 
-ghost use Rattle.std.specs.Prelude.{◌≡◌, ◌+◌, ◌-◌, ◌<◌, ◌^◌, ◌⊎◌, ◌++◌, ◌∷◌, [], ℕ, List, IfOk, length, replicate, unsigned_abs};
+ghost use Rattle.std.specs.Prelude.{◌≡◌, ◌+◌, ◌-◌, ◌<◌, ◌^◌, ◌⊎◌, ◌++◌, ◌∷◌, [], ℕ, List, false, IfOk, length, replicate, unsigned_abs};
 ghost use Rattle.std.specs.Int.{is_negative};
 ghost use Rattle.std.specs.Fmt.{sign_text};
 ghost use Rattle.hs_base.specs.Outside.{CountsFaults};
@@ -30,6 +30,13 @@ pub fn put_repeated<O: Sink>(out: &mut O, byte: u8, count: u32) -> Result<(), Fa
     Ok(())
 }
 
+/// The sign of a number.
+fn sign_of(value: i128) -> &'static [u8]
+    ensures { result.now ≡ sign_text (is_negative value) }
+{
+    if value < 0 { b"-" } else { b"" }
+}
+
 /// How an item stands in its width.
 #[derive(Clone, Copy)]
 struct Field {
@@ -55,11 +62,23 @@ impl Field {
     {
         let fill = self.width.saturating_sub(len);
         if self.left {
-            Fills { before: 0, zeros: 0, after: fill }
+            Fills {
+                before: 0,
+                zeros: 0,
+                after: fill,
+            }
         } else if self.zeros {
-            Fills { before: 0, zeros: fill, after: 0 }
+            Fills {
+                before: 0,
+                zeros: fill,
+                after: 0,
+            }
         } else {
-            Fills { before: fill, zeros: 0, after: 0 }
+            Fills {
+                before: fill,
+                zeros: 0,
+                after: 0,
+            }
         }
     }
 
@@ -81,10 +100,32 @@ impl Field {
         Ok(len.max(self.width))
     }
 
-    /// Writes a number in a base.
-    fn put_numeral<O: Sink>(self, out: &mut O, base: u64, capital: bool, value: i128) -> Result<u32, Failed>
+    /// Writes a number in base 10.
+    #[tactic(auto, using(crate::proofs::Numerals::decimal_is))]
+    fn put_decimal<O: Sink>(self, out: &mut O, value: i128) -> Result<u32, Failed>
         requires count { O.faults out.old + 1 < 2 ^ 64 }
-        requires base { (base ≡ 8) ⊎ ((base ≡ 10) ⊎ (base ≡ 16)) }
+        requires fits { unsigned_abs value < 2 ^ 64 }
+        ensures bytes { PutsAll (O.taken out.old) (O.taken out.new)
+            (field self.left self.zeros self.width (sign_text (is_negative value)) (numeral 10 false (unsigned_abs value))) result }
+        ensures len { IfOk result (λ n. n ≡ length (field self.left self.zeros self.width
+            (sign_text (is_negative value)) (numeral 10 false (unsigned_abs value)))) }
+        ensures cause { CountsFaults (O.faults out.old) (O.faults out.new) result }
+    {
+        let mut buffer = Buffer::new();
+        let digits = buffer.format(value.unsigned_abs() as u64).as_bytes();
+        self.put(out, sign_of(value), digits)
+    }
+
+    /// Writes a number in base 8 or 16.
+    fn put_numeral<O: Sink>(
+        self,
+        out: &mut O,
+        base: u64,
+        capital: bool,
+        value: i128,
+    ) -> Result<u32, Failed>
+        requires count { O.faults out.old + 1 < 2 ^ 64 }
+        requires base { (base ≡ 8) ⊎ (base ≡ 16) }
         requires fits { unsigned_abs value < 2 ^ 64 }
         ensures bytes { PutsAll (O.taken out.old) (O.taken out.new)
             (field self.left self.zeros self.width (sign_text (is_negative value)) (numeral base capital (unsigned_abs value))) result }
@@ -92,20 +133,15 @@ impl Field {
             (sign_text (is_negative value)) (numeral base capital (unsigned_abs value)))) }
         ensures cause { CountsFaults (O.faults out.old) (O.faults out.new) result }
     {
-        let sign: &[u8] = if value < 0 { b"-" } else { b"" };
-        let number = value.unsigned_abs() as u64;
-        if base == 10 {
-            self.put(out, sign, Buffer::new().format(number).as_bytes())
-        } else {
-            let mut buffer = [0; LONGEST];
-            let start = write_numeral(number, base, capital, &mut buffer);
-            self.put(out, sign, &buffer[start..])
-        }
+        let mut buffer = [0; LONGEST];
+        let start = write_numeral(value.unsigned_abs() as u64, base, capital, &mut buffer);
+        self.put(out, sign_of(value), &buffer[start..])
     }
 }
 
 /// Writes the bytes of an item with its number, and answers how many they are. After a failure, which is the last call
 /// on the sink, a part of them was taken.
+#[tactic(auto, unfolding(crate::specs::Print::item_bytes))]
 pub fn put_number<O: Sink>(out: &mut O, piece: &Piece, value: i128) -> Result<u32, Failed>
     requires count { O.faults out.old + 1 < 2 ^ 64 }
     requires number { TakesNumber piece.now value }
@@ -113,15 +149,26 @@ pub fn put_number<O: Sink>(out: &mut O, piece: &Piece, value: i128) -> Result<u3
     ensures len { IfOk result (λ n. n ≡ length (item_bytes piece.now value)) }
     ensures cause { CountsFaults (O.faults out.old) (O.faults out.new) result }
 {
-    let Piece::Item { left, zeros, width, conv, .. } = piece else {
+    let Piece::Item {
+        left,
+        zeros,
+        width,
+        conv,
+        ..
+    } = piece
+    else {
         unreachable!();
     };
-    let field = Field { left: *left, zeros: *zeros, width: *width };
+    let field = Field {
+        left: *left,
+        zeros: *zeros,
+        width: *width,
+    };
     match *conv {
         b'c' => field.put(out, b"", &[value as u8]),
         b'o' => field.put_numeral(out, 8, false, value),
         b'x' => field.put_numeral(out, 16, false, value),
         b'X' => field.put_numeral(out, 16, true, value),
-        _ => field.put_numeral(out, 10, false, value),
+        _ => field.put_decimal(out, value),
     }
 }

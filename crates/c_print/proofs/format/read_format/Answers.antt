@@ -1,9 +1,9 @@
-use Rattle.std.proofs.Common.{◌≡◌, ◌≢◌, ◌∷◌, ◌++◌, ◌<◌, ◌≤◌, ℕ, Bool, List, [], Result, Err, refl, sym, ap, ◌∙◌, subst, arith, length, ◌==◌}
+use Rattle.std.proofs.Common.{◌≡◌, List, Err, sym, ap, ◌∙◌, subst, length, ◌==◌}
 use Rattle.std.proofs.lemmas.Bool.{both_ways}
 use Rattle.std.proofs.lemmas.Result.{err_from_is_err_and}
 use Rattle.c_print.specs.declared.piece.Piece.{Piece}
 use Rattle.c_print.specs.declared.piece.FormatError.TheVariants as error
-use Rattle.c_print.specs.Format.{ReadsPiece, ReadsPieces, IsFormat}
+use Rattle.c_print.specs.Format.{ReadsPieces}
 use Rattle.c_print.proofs.Pieces.{piece_is_longer, reads_more, reads_no_more}
 use Rattle.c_print.proofs.format.read_format.Goals as goal
 

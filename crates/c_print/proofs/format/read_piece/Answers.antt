@@ -1,7 +1,6 @@
-use Rattle.std.proofs.Common.{◌≡◌, ◌≢◌, ◌∷◌, ◌++◌, ℕ, Bool, List, [], Err, is_ok, ◌≤◌, refl, sym, ap, ◌∙◌, subst, arith, length}
+use Rattle.std.proofs.Common.{◌≡◌, ◌∷◌, ℕ, Bool, List, is_ok, ◌≤◌, sym, ap, ◌∙◌, subst}
 use Rattle.hs_base.specs.declared.ends.IntKind.{IntKind}
 use Rattle.c_print.specs.Item.{ReadsItem}
-use Rattle.c_print.specs.Format.{GoesOnPlain, ReadsPlain, ReadsPiece}
 use Rattle.c_print.proofs.Pieces.{no_piece, no_plain}
 use Rattle.c_print.proofs.format.read_piece.Goals as goal
 

@@ -1,11 +1,8 @@
-use Rattle.std.proofs.Common.{rules, arith, refl, sym, ap, ◌∙◌, subst, ◌≡◌, ◌≢◌, ◌≤◌, ◌∷◌, ◌++◌, ◌&&◌, ℕ, Bool, List, true, false, IsNone, [], codes}
-use Rattle.std.specs.List.{list_all}
-use Rattle.std.specs.Char.{is_ascii_digit}
+use Rattle.std.proofs.Common.{refl, sym, ap, ◌∙◌, subst, ◌≡◌, ◌&&◌, true, codes}
 use Rattle.std.proofs.lemmas.Bool.{both_ways}
-use Rattle.hs_base.specs.declared.ends.IntKind.{IntKind}
 use Rattle.c_print.specs.Length.{is_one_of}
-use Rattle.c_print.specs.Item.{is_flag, StartsOutside, width_bytes, ReadsConversion, ReadsItem}
-use Rattle.c_print.proofs.Parts.{HasParts, item_parts}
+use Rattle.c_print.specs.Item.{ReadsConversion}
+use Rattle.c_print.proofs.Parts.{item_parts}
 use Rattle.c_print.proofs.Convs.{one_conversion}
 use Rattle.c_print.proofs.item.read_item.Goals as goal
 
@@ -29,7 +26,7 @@ returns-then-is_text-clause-none c is left zeros width conv kind rest item =
     let digits = c.split_digits.ensures in
     let parts = item_parts _ _ _ _ _ left zeros width conv kind rest flags.whole digits.whole flags.front flags.longest digits.front digits.longest item in
     let same = one_conversion _ _ conv _ kind _ rest c.in_ok-conv.ensures.some
-        (subst (λ bytes. ReadsConversion bytes conv kind rest) parts.behind_is item.conversion) in
+    (subst (λ bytes. ReadsConversion bytes conv kind rest) parts.behind_is item.conversion) in
     let is_zeros : zeros ≡ true = item.zeros_is ∙ ap (λ bytes. is_one_of bytes 48) parts.flags_are ∙ sym c.contains-zeros.ensures.value ∙ c.if-zeros.true in
     let is_text : is_one_of (codes "cs") conv ≡ true = ap (is_one_of (codes "cs")) (sym same.0) ∙ sym c.is_text.ensures ∙ c.if-is_text.true in
     both_ways (zeros && is_one_of (codes "cs") conv) item.no_zeros_in_text (ap (λ z. z && is_one_of (codes "cs") conv) is_zeros ∙ is_text)

@@ -1,6 +1,6 @@
-use Rattle.std.proofs.Common.{sym, ap, ◌∙◌, ◌≡◌, ℕ, List, true, take, drop, length, ◌≤◌, subst}
+use Rattle.std.proofs.Common.{sym, ap, ◌∙◌, take, drop, length, ◌≤◌, subst}
 use Rattle.std.proofs.lemmas.List.Sums.{prefix_len-le-length}
-use Rattle.std.specs.List.{list_all, prefix_len}
+use Rattle.std.specs.List.{list_all}
 use Rattle.std.specs.Char.{is_ascii_digit}
 use Rattle.c_print.specs.Item.{StartsOutside}
 use Rattle.c_print.proofs.Fronts.{front_passes, rest_starts_outside}

@@ -1,6 +1,4 @@
-use Rattle.std.proofs.Common.{arith, sym, ap, ◌∙◌, ◌≡◌, ◌≢◌, ◌≤◌, ◌<◌, ◌+◌, ◌*◌, ◌-◌, ℕ, List, subst, take, take_all, length, true, get_or, rules}
-use Rattle.std.specs.List.{list_all}
-use Rattle.std.specs.Char.{is_ascii_digit}
+use Rattle.std.proofs.Common.{arith, sym, ap, ◌∙◌, ◌≡◌, ◌+◌, take_all}
 use Rattle.std.specs.Str.Parse.{digits_value}
 use Rattle.std.proofs.lemmas.Str.Parse.{digits_value-take-le}
 use Rattle.c_print.specs.Item.{width_bytes}
@@ -26,9 +24,8 @@ pub returns : goal.returns
 returns c =
     let digits = c.args.digits.now in
     let value : c.loop-digit.width ≡ digits_value 10 digits =
-        c.loop-digit.invariant.value ∙ ap (digits_value 10) (take_all c.loop-digit.digit-index digits c.loop-digit-test.false) in
-    let fits = c.loop-digit.invariant.fits in
-    (
+    c.loop-digit.invariant.value ∙ ap (digits_value 10) (take_all c.loop-digit.digit-index digits c.loop-digit-test.false) in
+    let fits = c.loop-digit.invariant.fits in (
       fits,
       width_bytes_value digits c.requires.digits c.requires.no_leading_zero (omega arith) ∙ ap width_bytes (sym value),
     )

@@ -1,9 +1,8 @@
-use Rattle.std.proofs.Common.{◌≡◌, ◌≤◌, ◌<◌, ◌+◌, ◌-◌, ◌/◌, ◌%◌, ℕ, List, ◌++◌, map, drop, length, set, refl, sym, ap, ◌∙◌, arith}
+use Rattle.std.proofs.Common.{◌-◌, ◌/◌, ◌++◌, map, drop, set, ap, ◌∙◌, arith}
 use Rattle.std.specs.Fmt.{digit_glyph}
 use Rattle.std.specs.Int.Digits.{digits_of}
 use Rattle.std.proofs.lemmas.List.{length-set}
 use Rattle.std.proofs.lemmas.Int.Digits.{length-digits_of_step}
-use Rattle.c_print.specs.Print.{numeral}
 use Rattle.c_print.proofs.Numerals.{last_written, more_written, room_at_first, base_is_some}
 use Rattle.c_print.proofs.numeral.write_numeral.Goals as goal
 

@@ -1,7 +1,6 @@
-use Rattle.std.proofs.Common.{◌≡◌, ◌+◌, ◌-◌, ◌≤◌, ◌<◌, ℕ, List, ◌++◌, Option, Some, Result, replicate, take, min, append_assoc, refl, sym, ap, ◌∙◌, subst, arith, rules}
+use Rattle.std.proofs.Common.{◌≡◌, ◌-◌, ◌≤◌, ℕ, ◌++◌, Some, replicate, take, append_assoc, sym, ap, ◌∙◌, arith, rules}
 use Rattle.std.proofs.lemmas.List.{take-replicate, replicate-append-replicate}
-use Rattle.hs_base.specs.PutAll.{PutsAll}
-use Rattle.c_print.proofs.Puts.{Took, took_then, broke}
+use Rattle.c_print.proofs.Puts.{took_then, broke}
 use Rattle.c_print.proofs.print.put_repeated.Goals as goal
 
 -- all but `left` bytes, and the next of them

@@ -1,4 +1,4 @@
-use Rattle.std.proofs.Common.{◌≡◌, ◌-◌, ◌≤◌, ◌++◌, ℕ, replicate}
+use Rattle.std.proofs.Common.{◌≡◌, ◌-◌, ◌≤◌, replicate}
 use Rattle.c_print.proofs.Puts.{Took}
 use Rattle.c_print.proofs.print.put_repeated.Given as goal
 

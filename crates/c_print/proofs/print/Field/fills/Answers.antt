@@ -1,4 +1,4 @@
-use Rattle.std.proofs.Common.{◌≡◌, ◌+◌, ◌-◌, ℕ, Bool, true, false, List, ◌++◌, length, ap, ◌∙◌}
+use Rattle.std.proofs.Common.{false, ap, ◌∙◌}
 use Rattle.c_print.specs.Print.{field}
 use Rattle.c_print.proofs.Fields.{field_left, field_zeros, field_spaces}
 use Rattle.c_print.proofs.print.Field.fills.Goals as goal

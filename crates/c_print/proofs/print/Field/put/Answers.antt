@@ -1,8 +1,5 @@
-use Rattle.std.proofs.Common.{◌≡◌, ◌+◌, ℕ, List, [], ◌++◌, Option, Some, Result, length, replicate, refl, sym, ap, ◌∙◌, append_assoc, append-nil}
-use Rattle.hs_base.specs.PutAll.{PutsAll}
-use Rattle.c_print.specs.Print.{field}
-use Rattle.c_print.specs.Filled.{filled}
-use Rattle.c_print.proofs.Puts.{Took, took_none, took_then, broke}
+use Rattle.std.proofs.Common.{◌≡◌, ℕ, List, [], ◌++◌, Some, replicate, refl, sym, ap, ◌∙◌, append_assoc, append-nil}
+use Rattle.c_print.proofs.Puts.{took_none, took_then, broke}
 use Rattle.c_print.proofs.print.Field.put.Goals as goal
 
 -- the parts of a field, split behind one of them
