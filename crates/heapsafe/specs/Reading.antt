@@ -1,5 +1,5 @@
 -- Reading a text.
-use Rattle.std.specs.Prelude.{◌≡◌, ◌<◌, ◌≤◌, ℕ, List, length, take, Bool, true, false, Option, Some, Result, Ok, Err}
+use Rattle.std.specs.Prelude.{◌≡◌, ◌<◌, ◌≤◌, ◌+◌, ℕ, List, length, take, Bool, true, false, Option, Some, Result, Ok, Err}
 use Rattle.heapsafe.specs.declared.reading.ReadError.{ReadError}
 use Rattle.heapsafe.specs.declared.reading.ReadError.TheVariants.{Fault, TooLong, NoMemory}
 
@@ -25,5 +25,5 @@ ReadsMore text front false = front ≡ text
 
 -- the count of the texts rises, by one, exactly with a fault
 abbrev pub ReadCounts : {T : Type 0} → ℕ → ℕ → Result T ReadError → Type 0
-ReadCounts before after (Err Fault) = Unit {0}
+ReadCounts before after (Err Fault) = after ≡ before + 1
 ReadCounts before after _ = after ≡ before

@@ -1,7 +1,6 @@
--- The code's command as the definition has it.
-use Rattle.heapsafe.specs.declared.words.Command as code
-use Rattle.heapsafe.specs.declared.words.Command.TheVariants as variant
+-- The code's words as the definition has them.
+use Rattle.heapsafe.specs.declared.words.Run as code
 use Rattle.heapsafe.specs.Words.{Command, Run}
 
-abbrev pub command_shown : code.Command → Command
-command_shown (variant.Run file steps) = Run file.now steps
+abbrev pub command_shown : code.Run → Command
+command_shown r = Run r.file.now r.steps

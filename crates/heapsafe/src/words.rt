@@ -5,10 +5,11 @@ ghost use Rattle.std.specs.Option.{option_map};
 ghost use Rattle.heapsafe.specs.Words.{command_of, plain, limited, run_with, steps_in, number_in, is_file};
 ghost use Rattle.heapsafe.specs.WordsShown.{command_shown};
 
-/// What the words ask for.
-pub(crate) enum Command<'a> {
-    /// Compiles and runs a file, with at most so many steps.
-    Run { file: &'a str, steps: u64 },
+/// What the words ask for: to compile and run a file, with at most so many steps.
+#[derive(Clone, Copy)]
+pub(crate) struct Run<'a> {
+    pub(crate) file: &'a str,
+    pub(crate) steps: u64,
 }
 
 /// How many steps a run may make where the words do not say.
@@ -17,31 +18,31 @@ const DEFAULT_STEPS: u64 = 100_000_000;
 /// How many steps a run may make at most.
 const MOST_STEPS: u64 = 1_000_000_000;
 
-impl<'a> Command<'a> {
+impl<'a> Run<'a> {
     /// Reads the words: `run FILE` or `run FILE --steps N`.
-    pub(crate) fn read(words: &[&'a str]) -> Option<Command<'a>>
+    pub(crate) fn read(words: &[&'a str]) -> Option<Run<'a>>
         ensures { option_map command_shown result ≡ command_of (map (λ w. w.now) words.now) }
     {
         match words {
-            [command, file] => Command::plain(command, file),
-            [command, file, option, number] => Command::limited(command, file, option, number),
+            [command, file] => Run::plain(command, file),
+            [command, file, option, number] => Run::limited(command, file, option, number),
             [] | [_] | [_, _, _] | [_, _, _, _, _, ..] => None,
         }
     }
 
     /// `run FILE`.
-    fn plain(command: &str, file: &'a str) -> Option<Command<'a>>
+    fn plain(command: &str, file: &'a str) -> Option<Run<'a>>
         ensures { option_map command_shown result ≡ plain command.now file.now }
     {
         if command == "run" {
-            Command::run(file, DEFAULT_STEPS)
+            Run::new(file, DEFAULT_STEPS)
         } else {
             None
         }
     }
 
     /// `run FILE --steps N`.
-    fn limited(command: &str, file: &'a str, option: &str, number: &str) -> Option<Command<'a>>
+    fn limited(command: &str, file: &'a str, option: &str, number: &str) -> Option<Run<'a>>
         ensures { option_map command_shown result ≡ limited command.now file.now option.now number.now }
     {
         if command != "run" {
@@ -50,15 +51,15 @@ impl<'a> Command<'a> {
         if option != "--steps" {
             return None;
         }
-        Command::run(file, steps(number)?)
+        Run::new(file, steps(number)?)
     }
 
     /// A run of a file, if that can be its name.
-    fn run(file: &'a str, steps: u64) -> Option<Command<'a>>
+    fn new(file: &'a str, steps: u64) -> Option<Run<'a>>
         ensures { option_map command_shown result ≡ run_with file.now (Some steps) }
     {
         if is_file(file) {
-            Some(Command::Run { file, steps })
+            Some(Run { file, steps })
         } else {
             None
         }

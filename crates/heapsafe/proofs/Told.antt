@@ -1,0 +1,108 @@
+-- Answers, from what was said and what the run did.
+use Rattle.std.proofs.Common.{◌≡◌, ◌≢◌, ◌⊎◌, ℕ, ◌+◌, ◌<◌, ◌≤◌, List, [], ◌∷◌, ◌++◌, Option, Some, None, inl, inr, refl, sym, ap, ◌∙◌, subst, arith, ⊎_elim}
+use Rattle.std.specs.Prelude.{MatchBool, Result, Ok, Err, length}
+use Rattle.std.proofs.lemmas.Bool.{lt-ltb, le-ltb}
+use Rattle.std.proofs.lemmas.List.{append-nil}
+use Rattle.hs_base.specs.declared.ends.End.{End}
+use Rattle.hs_base.specs.declared.ends.End.TheVariants as end
+use Rattle.hs_base.specs.Trace.{bytes_out}
+use Rattle.hs_base.specs.Cut.{Room, cut, ending_of}
+use Rattle.core_tree.specs.declared.Core.{Core}
+use Rattle.object_meaning.specs.Meaning.{meaning}
+use Rattle.bad_free_report.specs.Report.{end_report}
+use Rattle.heapsafe.specs.Running.{RunAnswers, RunCounts, end_in}
+use Rattle.heapsafe.specs.declared.reading.ReadError.{ReadError}
+use Rattle.heapsafe.specs.declared.reading.ReadError.TheVariants.{Fault, TooLong, NoMemory}
+use Rattle.heapsafe.specs.Words.{Command}
+use Rattle.heapsafe.specs.Form.{IsBuilt}
+use Rattle.heapsafe.specs.Reading.{Reads, ReadCounts, most_bytes}
+use Rattle.heapsafe.specs.Answer.{Shown, AnswersRun, AnswersText, AnswersFile, AnswersCommand, usage, status_of, default_room, no_memory, text_too_long, not_built}
+use Rattle.heapsafe.specs.Saying.{Says, Gives, Faults, unread}
+
+-- what was said is the answer's, where no write failed
+pub gives : (Is : Shown → Type 0) (s : Shown) (o e : List ℕ) (out err err' : Option (List ℕ)) (f f' result : ℕ) → (Is s ⊎ (s ≡ no_memory)) → out ≡ Some (o ++ s.out) → err ≡ Some e → f' ≡ f → Says err err' f f' s.err s.status result → Gives Is o e out err' result
+gives Is s o e out err err' f f' result is took told same said =
+    ⊎_elim
+    (λ h. record { shown = s; is = is; out_took = took; err_took = h.2 e told; status = h.1 })
+    (λ h. absurd (omega (arith, same, h.0)))
+    said
+
+-- an answer that writes nothing to the output
+pub gives_said : (Is : Shown → Type 0) (s : Shown) (o e : List ℕ) (out err err' : Option (List ℕ)) (f f' result : ℕ) → (Is s ⊎ (s ≡ no_memory)) → s.out ≡ [] → out ≡ Some o → err ≡ Some e → f' ≡ f → Says err err' f f' s.err s.status result → Gives Is o e out err' result
+gives_said Is s o e out err err' f f' result is none took told same said =
+    gives Is s o e out err err' f f' result is (took ∙ ap Some (sym (ap (λ b. o ++ b) none ∙ append-nil o))) told same said
+
+-- a run that did not end by a failure of the output
+pub run_told : (core : Core) (input : List ℕ) (n : ℕ) (room : Room) (taken : List ℕ) (e : End) (taken' : Option (List ℕ)) → e ≢ end.OutputFault → RunAnswers core input n room taken e taken' → (end_in (ending_of (cut room (meaning core input n).trace).refused (meaning core input n).ended) ≡ Some e) × (taken' ≡ Some (taken ++ bytes_out (cut room (meaning core input n).trace).kept))
+run_told core input n room taken (end.Exit code) taken' ne h = h
+run_told core input n room taken (end.Trap kind line) taken' ne h = h
+run_told core input n room taken (end.BadFree why holder) taken' ne h = h
+run_told core input n room taken (end.Escape func local line) taken' ne h = h
+run_told core input n room taken end.Spent taken' ne h = h
+run_told core input n room taken (end.OutOfHeap line) taken' ne h = h
+run_told core input n room taken (end.OutOfStack line) taken' ne h = h
+run_told core input n room taken end.InputFault taken' ne h = h
+run_told core input n room taken end.OutputFault taken' ne h = absurd (ne refl)
+
+pub run_counted : (e : End) (before after : ℕ) → e ≢ end.OutputFault → RunCounts e before after → after ≡ before
+run_counted (end.Exit code) before after ne h = h
+run_counted (end.Trap kind line) before after ne h = h
+run_counted (end.BadFree why holder) before after ne h = h
+run_counted (end.Escape func local line) before after ne h = h
+run_counted end.Spent before after ne h = h
+run_counted (end.OutOfHeap line) before after ne h = h
+run_counted (end.OutOfStack line) before after ne h = h
+run_counted end.InputFault before after ne h = h
+run_counted end.OutputFault before after ne h = absurd (ne refl)
+
+pub gives_run : (file text : List ℕ) (core : Core) (input : List ℕ) (steps : ℕ) (e : End) (o t : List ℕ) (out err err' : Option (List ℕ)) (f f' result : ℕ) → e ≢ end.OutputFault → RunAnswers core input steps default_room o e out → err ≡ Some t → f' ≡ f → Says err err' f f' (end_report core file text e) (status_of e) result → Gives (AnswersRun file text core input steps) o t out err' result
+gives_run file text core input steps e o t out err err' f f' result ne ran told same said =
+    let r = run_told core input steps default_room o e out ne ran in
+    let s : Shown = record { out = bytes_out (cut default_room (meaning core input steps).trace).kept; err = end_report core file text e; status = status_of e } in
+    gives (AnswersRun file text core input steps) s o t out err err' f f' result (inl (e, r.0, refl)) r.1 told same said
+
+-- faults: those of the error stream alone
+pub said_faults : (t o e e' result : ℕ) (err err' : Option (List ℕ)) (bytes : List ℕ) (status : ℕ) → Says err err' e e' bytes status result → Faults t t o o e e' result
+said_faults t o e e' result err err' bytes status said =
+    ⊎_elim
+    (λ h. inl (refl, refl, h.0))
+    (λ h. inr (inl (omega arith, omega arith, omega (arith, h.0), inr (omega (arith, h.0)), h.1)))
+    said
+
+-- a text that is too long
+too_long_is : (file text input : List ℕ) (steps : ℕ) (a : Shown) → most_bytes < length text → a ≡ text_too_long file → AnswersFile file text input steps a
+too_long_is file text input steps a long is =
+    subst (λ b. MatchBool b (a ≡ text_too_long file) (AnswersText file text input steps a)) (sym (lt-ltb most_bytes (length text) long)) is
+
+-- a text that was not read
+pub unread_is : (error : ReadError) (file text input : List ℕ) (steps before after : ℕ) → Reads text (Err error) → ReadCounts {T = List ℕ} before after (Err error) → after ≡ before → AnswersFile file text input steps (unread error file) ⊎ (unread error file ≡ no_memory)
+unread_is Fault file text input steps before after reads counts same = absurd (omega (arith, counts, same))
+unread_is TooLong file text input steps before after reads counts same =
+    inl (too_long_is file text input steps (text_too_long file) reads refl)
+unread_is NoMemory file text input steps before after reads counts same = inr refl
+
+pub unread_out : (error : ReadError) (file : List ℕ) → (unread error file).out ≡ []
+unread_out Fault file = refl
+unread_out TooLong file = refl
+unread_out NoMemory file = refl
+
+-- a text that is not too long
+pub short_is : (file text input : List ℕ) (steps : ℕ) (a : Shown) → length text ≤ most_bytes → AnswersText file text input steps a → AnswersFile file text input steps a
+short_is file text input steps a short is =
+    subst (λ b. MatchBool b (a ≡ text_too_long file) (AnswersText file text input steps a)) (sym (le-ltb most_bytes (length text) short)) is
+
+-- a text without a core
+pub none_is : (file text read input : List ℕ) (steps : ℕ) (a : Shown) → (read ≡ text) × (length text ≤ most_bytes) → ((core : Core) → IsBuilt read core → ⊥) → a ≡ not_built file → AnswersFile file text input steps a
+none_is file text read input steps a same none is =
+    short_is file text input steps a same.1 (record { built = λ core b. absurd (none core (subst (λ t. IsBuilt t core) (sym same.0) b)); unbuilt = λ h. is })
+
+-- the same in other words
+pub says_as : (r s : Shown) → r ≡ s → (err err' : Option (List ℕ)) (f f' result : ℕ) → Says err err' f f' r.err r.status result → Says err err' f f' s.err s.status result
+says_as r s e err err' f f' result h = subst (λ (x : Shown). Says err err' f f' x.err x.status result) e h
+
+pub usage_is : (command : Option Command) (told : List ℕ → List ℕ) (input : List ℕ) → None ≡ command → AnswersCommand command told input usage
+usage_is command told input e = subst (λ (c : Option Command). AnswersCommand c told input usage) e refl
+
+pub gives_as : (command other : Option Command) (told : List ℕ → List ℕ) (input o e : List ℕ) (out err : Option (List ℕ)) (result : ℕ) → command ≡ other → Gives (AnswersCommand command told input) o e out err result → Gives (AnswersCommand other told input) o e out err result
+gives_as command other told input o e out err result same h =
+    subst (λ (c : Option Command). Gives (AnswersCommand c told input) o e out err result) same h

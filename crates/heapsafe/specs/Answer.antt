@@ -1,0 +1,76 @@
+-- What the program writes and answers for its words.
+use Rattle.std.specs.Prelude.{◌≡◌, ◌⊎◌, ℕ, nat_lt, List, [], length, Option, Some, None, MatchBool, codes}
+use Rattle.hs_base.specs.declared.ends.End.{End}
+use Rattle.hs_base.specs.declared.ends.End.TheVariants as end
+use Rattle.hs_base.specs.Trace.{bytes_out}
+use Rattle.hs_base.specs.Cut.{Room, cut, ending_of}
+use Rattle.core_tree.specs.declared.Core.{Core}
+use Rattle.object_meaning.specs.Meaning.{meaning}
+use Rattle.bad_free_report.specs.Report.{complaint, end_report}
+use Rattle.heapsafe.specs.Words.{Command, Run, command_of}
+use Rattle.heapsafe.specs.Reading.{most_bytes}
+use Rattle.heapsafe.specs.Running.{end_in}
+use Rattle.heapsafe.specs.Form.{IsBuilt}
+
+-- the bytes on the two streams, and the status
+pub record Shown : Type 0 where
+  pub out : List ℕ
+  pub err : List ℕ
+  pub status : ℕ
+
+-- an answer that is not of a run: one line on the error stream
+abbrev pub refusal : List ℕ → List ℕ → ℕ → Shown
+refusal name words status = record { out = []; err = complaint name words; status = status }
+
+abbrev pub usage : Shown
+usage = refusal (codes "heapsafe") (codes "bad command line") 120
+
+abbrev pub text_too_long : List ℕ → Shown
+text_too_long file = refusal file (codes "text too long") 122
+
+abbrev pub no_memory : Shown
+no_memory = refusal (codes "heapsafe") (codes "no memory") 134
+
+abbrev pub not_built : List ℕ → Shown
+not_built file = refusal file (codes "not built") 135
+
+-- the status of a run's end
+abbrev pub status_of : End → ℕ
+status_of (end.Exit code) = code
+status_of (end.Trap kind line) = 128
+status_of (end.BadFree why holder) = 126
+status_of (end.Escape func local line) = 127
+status_of end.Spent = 131
+status_of (end.OutOfHeap line) = 129
+status_of (end.OutOfStack line) = 130
+status_of end.InputFault = 132
+status_of end.OutputFault = 133
+
+-- the heap and the stack of a run, in bytes
+abbrev pub default_room : Room
+default_room = record { heap = 16777216; stack = 1048576 }
+
+-- a run writes what the meaning writes, cut by the heap and the stack, and reports and answers its end
+abbrev pub AnswersRun : List ℕ → List ℕ → Core → List ℕ → ℕ → Shown → Type 0
+AnswersRun file text core input steps a =
+    let run = meaning core input steps in
+    let kept = cut default_room run.trace in
+    (e : End) × (end_in (ending_of kept.refused run.ended) ≡ Some e) × (a ≡ record { out = bytes_out kept.kept; err = end_report core file text e; status = status_of e })
+
+-- a text that has a core is run, and one that has none is not built
+pub record AnswersText (file text input : List ℕ) (steps : ℕ) (a : Shown) : Type 0 where
+  pub built : (core : Core) → IsBuilt text core → AnswersRun file text core input steps a
+  pub unbuilt : ((core : Core) → IsBuilt text core → ⊥) → a ≡ not_built file
+
+-- a text that is too long is refused as such
+abbrev pub AnswersFile : List ℕ → List ℕ → List ℕ → ℕ → Shown → Type 0
+AnswersFile file text input steps a =
+    MatchBool (nat_lt most_bytes (length text)) (a ≡ text_too_long file) (AnswersText file text input steps a)
+
+abbrev pub AnswersCommand : Option Command → (List ℕ → List ℕ) → List ℕ → Shown → Type 0
+AnswersCommand None texts input a = a ≡ usage
+AnswersCommand (Some (Run file steps)) texts input a = AnswersFile file (texts file) input steps a
+
+-- the answer for these words, where each name has this text and this input is left
+abbrev pub Answers : List (List ℕ) → (List ℕ → List ℕ) → List ℕ → Shown → Type 0
+Answers words texts input a = AnswersCommand (command_of words) texts input a

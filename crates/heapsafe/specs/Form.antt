@@ -1,0 +1,7 @@
+-- Which texts are built so far, and their cores.
+use Rattle.std.specs.Prelude.{ℕ, List}
+use Rattle.core_tree.specs.declared.Core.{Core}
+
+-- no text yet
+abbrev pub IsBuilt : List ℕ → Core → Type 0
+IsBuilt text core = ⊥

@@ -1,0 +1,63 @@
+-- What is said of an answer, and what a fault of the outside leads to.
+use Rattle.std.specs.Prelude.{◌≡◌, ◌⊎◌, ◌<◌, ◌≤◌, ◌+◌, ℕ, List, ◌++◌, Option, Some, codes}
+use Rattle.bad_free_report.specs.Report.{complaint}
+use Rattle.heapsafe.specs.declared.refusal.Refusal.{Refusal}
+use Rattle.heapsafe.specs.declared.refusal.Refusal.TheVariants.{Usage, TextFault, TextTooLong, NoMemory, NotBuilt, OutputFault}
+use Rattle.heapsafe.specs.Answer.{Shown, refusal, text_too_long, no_memory}
+use Rattle.heapsafe.specs.declared.reading.ReadError.{ReadError}
+use Rattle.heapsafe.specs.declared.reading.ReadError.TheVariants.{Fault, TooLong}
+use Rattle.heapsafe.specs.declared.reading.ReadError.TheVariants as reading
+
+abbrev pub name_of : Refusal → List ℕ
+name_of Usage = codes "heapsafe"
+name_of (TextFault file) = file.now
+name_of (TextTooLong file) = file.now
+name_of NoMemory = codes "heapsafe"
+name_of (NotBuilt file) = file.now
+name_of OutputFault = codes "heapsafe"
+
+abbrev pub words_of : Refusal → List ℕ
+words_of Usage = codes "bad command line"
+words_of (TextFault file) = codes "cannot read"
+words_of (TextTooLong file) = codes "text too long"
+words_of NoMemory = codes "no memory"
+words_of (NotBuilt file) = codes "not built"
+words_of OutputFault = codes "output fault"
+
+abbrev pub status_in : Refusal → ℕ
+status_in Usage = 120
+status_in (TextFault file) = 121
+status_in (TextTooLong file) = 122
+status_in NoMemory = 134
+status_in (NotBuilt file) = 135
+status_in OutputFault = 133
+
+abbrev pub shown_of : Refusal → Shown
+shown_of r = refusal (name_of r) (words_of r) (status_in r)
+
+-- what is said where a text was not read
+abbrev pub unread : ReadError → List ℕ → Shown
+unread Fault file = refusal file (codes "cannot read") 121
+unread TooLong file = text_too_long file
+unread reading.NoMemory file = no_memory
+
+-- the error stream took these bytes and the status is this one, or a write to it failed and the status is 133
+abbrev pub Says : Option (List ℕ) → Option (List ℕ) → ℕ → ℕ → List ℕ → ℕ → ℕ → Type 0
+Says taken taken' faults faults' bytes status result =
+    ((faults' ≡ faults) × (result ≡ status) × ((t : List ℕ) → taken ≡ Some t → taken' ≡ Some (t ++ bytes)))
+    ⊎ ((faults' ≡ faults + 1) × (result ≡ 133))
+
+-- the streams took the bytes of an answer that is as said, or of one for want of memory, and the status is its own
+pub record Gives (Is : Shown → Type 0) (o e : List ℕ) (out err : Option (List ℕ)) (result : ℕ) : Type 0 where
+  pub shown : Shown
+  pub is : Is shown ⊎ (shown ≡ no_memory)
+  pub out_took : out ≡ Some (o ++ shown.out)
+  pub err_took : err ≡ Some (e ++ shown.err)
+  pub status : result ≡ shown.status
+
+-- no count rose; or one of the output or of the error stream did, and the status is 133; or that of the texts alone, and
+-- it is 121
+abbrev pub Faults : ℕ → ℕ → ℕ → ℕ → ℕ → ℕ → ℕ → Type 0
+Faults t t' o o' e e' result =
+    ((t' ≡ t) × (o' ≡ o) × (e' ≡ e)) ⊎ ((t ≤ t') × (o ≤ o') × (e ≤ e') × ((o < o') ⊎ (e < e')) × (result ≡ 133))
+    ⊎ ((t < t') × (o' ≡ o) × (e' ≡ e) × (result ≡ 121))

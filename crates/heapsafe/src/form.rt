@@ -1,0 +1,29 @@
+//! The core of a text, for the texts that are built so far.
+
+ghost use Rattle.std.specs.Prelude.{◌≡◌, IfOk};
+ghost use Rattle.core_tree.specs.declared.Core.{Core};
+ghost use Rattle.core_tree.specs.Sound.{IsSound};
+ghost use Rattle.heapsafe.specs.Form.{IsBuilt};
+ghost use Rattle.heapsafe.specs.declared.form.FormError.TheVariants.{NotBuilt};
+
+use core_tree::Core;
+use std::alloc::Global;
+use thiserror::Error;
+
+/// Why a text has no core.
+#[derive(Clone, Copy, Debug, PartialEq, Eq, Error)]
+pub(crate) enum FormError {
+    #[error("not built")]
+    NotBuilt,
+    #[error("no memory")]
+    NoMemory,
+}
+
+/// The core of a text.
+pub(crate) fn core_of(_alloc: Global, _text: &[u8]) -> Result<Core, FormError>
+    ensures core { IfOk result (λ core. IsBuilt _text.now core) }
+    ensures sound { IfOk result (λ core. IsSound core) }
+    ensures none { result ≡ Err NotBuilt → (core : Core) → IsBuilt _text.now core → ⊥ }
+{
+    Err(FormError::NotBuilt)
+}

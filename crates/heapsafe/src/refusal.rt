@@ -1,0 +1,78 @@
+//! Answers that are not of a run: each has a line on the error stream and a status.
+
+ghost use Rattle.std.specs.Prelude.{◌≡◌, ◌+◌, ◌<◌, ◌^◌};
+ghost use Rattle.heapsafe.specs.Saying.{Says, name_of, words_of, status_in, shown_of};
+
+use bad_free_report::complain;
+use hs_base::Sink;
+
+/// Why nothing was run, or why a run gave up.
+#[derive(Clone, Copy)]
+pub(crate) enum Refusal<'a> {
+    /// The words are not taken.
+    Usage,
+    /// The text could not be read.
+    TextFault(&'a str),
+    /// The text has more bytes than a text may have.
+    TextTooLong(&'a str),
+    /// Memory was wanted and there was none.
+    NoMemory,
+    /// The text is of a form that is not built.
+    NotBuilt(&'a str),
+    /// The output failed.
+    OutputFault,
+}
+
+impl<'a> Refusal<'a> {
+    /// The name that the line begins with.
+    fn name(&self) -> &'a str
+        ensures { result.now ≡ name_of self.now }
+    {
+        match self {
+            Refusal::TextFault(file) | Refusal::TextTooLong(file) | Refusal::NotBuilt(file) => file,
+            Refusal::Usage | Refusal::NoMemory | Refusal::OutputFault => "heapsafe",
+        }
+    }
+
+    /// What the line says.
+    fn words(&self) -> &'static [u8]
+        ensures { result.now ≡ words_of self.now }
+    {
+        match self {
+            Refusal::Usage => b"bad command line",
+            Refusal::TextFault(_) => b"cannot read",
+            Refusal::TextTooLong(_) => b"text too long",
+            Refusal::NoMemory => b"no memory",
+            Refusal::NotBuilt(_) => b"not built",
+            Refusal::OutputFault => b"output fault",
+        }
+    }
+
+    /// The status.
+    fn status(&self) -> u8
+        ensures { result ≡ status_in self.now }
+    {
+        match self {
+            Refusal::Usage => 120,
+            Refusal::TextFault(_) => 121,
+            Refusal::TextTooLong(_) => 122,
+            Refusal::OutputFault => 133,
+            Refusal::NoMemory => 134,
+            Refusal::NotBuilt(_) => 135,
+        }
+    }
+}
+
+/// The status where a write to the error stream failed.
+pub(crate) const OUTPUT_FAULT: u8 = 133;
+
+/// Writes the line of a refusal and answers its status, or that of a failed write.
+pub(crate) fn refuse<E: Sink>(err: &mut E, refusal: Refusal<'_>) -> u8
+    requires { E.faults err.old + 1 < 2 ^ 64 }
+    ensures says { Says (E.taken err.old) (E.taken err.new) (E.faults err.old) (E.faults err.new) (shown_of refusal.entry).err (shown_of refusal.entry).status result }
+{
+    match complain(err, refusal.name(), refusal.words()) {
+        Ok(()) => refusal.status(),
+        Err(_) => OUTPUT_FAULT,
+    }
+}
