@@ -1,10 +1,10 @@
 -- Conversion to a kind: numbers that differ by a multiple of two to the kind's width are converted alike.
 use Rattle.std.proofs.Common.{◌≡◌, ℕ, ◌+◌, ◌-◌, ◌*◌, ◌/◌, ◌%◌, ◌^◌, ◌<◌, ◌≤◌, Bool, true, false, cond, refl, sym, ap, subst, ◌∙◌, arith, lit≤, suc, ⊎_elim}
-use Rattle.std.specs.Prelude.{ℤ, pos, negsuc, ◌+ℤ◌, ◌-ℤ◌, ◌*ℤ◌, neg_ℤ, unsigned_abs, nat_lt, FitsSigned}
+use Rattle.std.specs.Prelude.{ℤ, pos, negsuc, ◌+ℤ◌, ◌-ℤ◌, ◌*ℤ◌, neg_ℤ, unsigned_abs, nat_lt, FitsSigned, ◌≤ℤ◌, ◌<ℤ◌}
 use Rattle.std.specs.Int.{Width, w8, w16, w32, w64, w128, int_rem_euclid, int_wrap, cast_signed, cast_unsigned}
-use Rattle.std.proofs.lemmas.Int.{ints, int_rem_euclid_is}
+use Rattle.std.proofs.lemmas.Int.{ints, int_rem_euclid_is, int_wrap_fits, SFits-int_wrap}
 use Rattle.std.proofs.lemmas.Nat.{pow_pos, pow-add, div-add-mod'}
-use Rattle.std.proofs.Math.Nat.{mul-le-mul_left, mul-le-mul_right, mod-lt}
+use Rattle.std.proofs.Math.Nat.{mul-le-mul_left, mul-le-mul_right, mod-lt, mod-eq_of_lt}
 use Rattle.std.proofs.Math.Arith.{digits_mod}
 use Rattle.std.proofs.lemmas.Bool.{cases_lt}
 use borrow.Author.Differences.{up, down, same_in, same_out, sum_is_lem, neg_is, product_is}
@@ -12,7 +12,7 @@ use mir.Val.{bits, hbits}
 use Rattle.hs_base.specs.declared.ends.IntKind.{IntKind}
 use Rattle.hs_base.specs.declared.ends.IntKind.TheVariants.{I8, U8, I16, U16, I32, U32, I64, U64}
 use Rattle.hs_base.specs.Numbers.{low_bits, wrapped}
-use Rattle.hs_base.specs.Arithmetic.{width_in_bits, bits_of, complement_of}
+use Rattle.hs_base.specs.Arithmetic.{width_in_bits, bits_of, complement_of, IsInRange}
 
 -- a and b differ by a multiple of m
 pub record IsCongruent (m : ℕ) (a b : ℤ) : Type 0 where
@@ -156,6 +156,10 @@ wrapped_same U64 a b p = ap pos (low_bits_same 64 a b p)
 pub wrapped_wide : (k : IntKind) (z : ℤ) → wrapped k (int_wrap w128 z) ≡ wrapped k z
 wrapped_wide k z = wrapped_same k (int_wrap w128 z) z (congruent_fewer_bits (width_in_bits k) 128 (width_in_bits_le k) (congruent_int_wrap w128 z))
 
+-- to convert twice is to convert once
+pub wrapped_again : (k : IntKind) (n : ℤ) → wrapped k (wrapped k n) ≡ wrapped k n
+wrapped_again k n = wrapped_same k (wrapped k n) n (congruent_wrapped k n)
+
 pub wrapped_negation : (k : IntKind) (a : ℤ) → wrapped k (neg_ℤ a) ≡ wrapped k (neg_ℤ (wrapped k a))
 wrapped_negation k a = wrapped_same k _ _ (congruent_sym (congruent_negation (congruent_wrapped k a)))
 
@@ -168,6 +172,34 @@ wrapped_difference k a b = wrapped_same k _ _ (congruent_sym (congruent_differen
 
 pub wrapped_product : (k : IntKind) (a b : ℤ) → wrapped k (a *ℤ b) ≡ wrapped k (wrapped k a *ℤ wrapped k b)
 wrapped_product k a b = wrapped_same k _ _ (congruent_sym (congruent_product (congruent_wrapped k a) (congruent_wrapped k b)))
+
+-- ---- ranges
+
+-- a conversion gives a number of the kind
+pub in_range_wrapped : (k : IntKind) (n : ℤ) → IsInRange k (wrapped k n)
+in_range_wrapped I8 n = let f = SFits-int_wrap w8 n in (omega (arith, ints), omega (arith, ints))
+in_range_wrapped U8 n = let f = low_bits_lt 8 n in (omega (arith, ints), omega (arith, ints))
+in_range_wrapped I16 n = let f = SFits-int_wrap w16 n in (omega (arith, ints), omega (arith, ints))
+in_range_wrapped U16 n = let f = low_bits_lt 16 n in (omega (arith, ints), omega (arith, ints))
+in_range_wrapped I32 n = let f = SFits-int_wrap w32 n in (omega (arith, ints), omega (arith, ints))
+in_range_wrapped U32 n = let f = low_bits_lt 32 n in (omega (arith, ints), omega (arith, ints))
+in_range_wrapped I64 n = let f = SFits-int_wrap w64 n in (omega (arith, ints), omega (arith, ints))
+in_range_wrapped U64 n = let f = low_bits_lt 64 n in (omega (arith, ints), omega (arith, ints))
+
+low_bits_small : (n : ℕ) (z : ℤ) → pos 0 ≤ℤ z → z <ℤ pos (2 ^ n) → pos (low_bits n z) ≡ z
+low_bits_small n (pos m) h small = let p : m < 2 ^ n = omega (arith, ints) in ap pos (mod-eq_of_lt p)
+low_bits_small n (negsuc m) h small = absurd (omega (arith, ints))
+
+-- and a number of the kind stays as it is
+pub wrapped_in_range : (k : IntKind) (n : ℤ) → IsInRange k n → wrapped k n ≡ n
+wrapped_in_range I8 n h = int_wrap_fits w8 n (omega (arith, ints, h.0, h.1))
+wrapped_in_range U8 n h = low_bits_small 8 n h.0 (omega (arith, ints, h.0, h.1))
+wrapped_in_range I16 n h = int_wrap_fits w16 n (omega (arith, ints, h.0, h.1))
+wrapped_in_range U16 n h = low_bits_small 16 n h.0 (omega (arith, ints, h.0, h.1))
+wrapped_in_range I32 n h = int_wrap_fits w32 n (omega (arith, ints, h.0, h.1))
+wrapped_in_range U32 n h = low_bits_small 32 n h.0 (omega (arith, ints, h.0, h.1))
+wrapped_in_range I64 n h = int_wrap_fits w64 n (omega (arith, ints, h.0, h.1))
+wrapped_in_range U64 n h = low_bits_small 64 n h.0 (omega (arith, ints, h.0, h.1))
 
 -- ---- bits
 

@@ -145,6 +145,10 @@ impl IntKind {
     /// The remainder, which has the sign of the dividend (C99 6.5.5), or `None` where the divisor converts to 0.
     pub fn remainder(self, a: i128, b: i128) -> Option<i128>
         ensures value { result ≡ remainder_of self a b }
+
+        // The quotient times the divisor, plus the remainder, is the dividend.
+        ensures whole { IfSome result (λ r. IfSome (quotient_of self a b)
+            (λ q. sum_of self (product_of self q b) r ≡ wrapped self a)) }
         ensures in_range { IfSome result (IsInRange self) }
     {
         let divisor = self.wrap(b);
