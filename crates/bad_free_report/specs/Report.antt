@@ -38,6 +38,7 @@ abbrev pub shown_line : Option (List ℕ) → List ℕ
 shown_line None = []
 shown_line (Some part) = codes "  " ++ (part ++ codes "\n")
 
+-- what is written of a text's line of that number, from 1
 abbrev pub source_line : List ℕ → ℕ → List ℕ
 source_line text line = shown_line (shown_part (whole_line text line))
 
@@ -81,25 +82,29 @@ abbrev pub name_or_dash : Option (List ℕ) → List ℕ
 name_or_dash None = codes "-"
 name_or_dash (Some name) = name
 
--- the names in a core, by number; a core has no statics and no memory locals yet
+-- a function's name, by its number
 abbrev pub func_name : Core → ℕ → List ℕ
 func_name core f = name_or_dash (option_map (λ (func : Func). func.name) (slice_get core.funcs f))
 
+-- the name of a function's register, which a local or a named parameter has
 abbrev pub register_name : Core → ℕ → ℕ → Option (List ℕ)
 register_name core f r =
     option_and_then (λ (reg : Reg). reg.name) (option_and_then (λ (func : Func). slice_get func.regs r) (slice_get core.funcs f))
 
+-- the name of a static; a core has no statics yet
 unfoldable pub static_name : Core → ℕ → List ℕ
 static_name core index = codes "-"
 
+-- the name of a function's memory local; a function has no memory locals yet
 unfoldable pub local_name : Core → ℕ → ℕ → List ℕ
 local_name core f index = codes "-"
 
--- where the first pointer stands that holds a freed object; a register without a name is a value of its function
+-- a register that holds a freed object; one without a name is a value of its function
 abbrev pub register_text : Option (List ℕ) → List ℕ → List ℕ
 register_text None func = codes "held by a value of " ++ (func ++ codes "\n")
 register_text (Some name) func = codes "held by local " ++ (name ++ (codes " of " ++ (func ++ codes "\n")))
 
+-- where the first pointer stands that holds a freed object
 abbrev pub holder_text : Core → Holder → List ℕ
 holder_text core (Global index offset) =
     codes "held by global " ++ (static_name core index ++ (codes " at " ++ (decimal offset ++ codes "\n")))
@@ -116,6 +121,7 @@ holder_line core Held None = []
 holder_line core Again holder = []
 holder_line core NotStart holder = []
 
+-- a bad free, with its source line and its first holder
 abbrev pub bad_free_text : Core → List ℕ → List ℕ → WrongFree → Option Holder → List ℕ
 bad_free_text core name text free holder =
     complaint_at name free.line (codes "bad free: " ++ reason_words free.reason) text ++ holder_line core free.reason holder
