@@ -1,0 +1,13 @@
+//! The tokens of a C text (C99 6.4, narrowed to the language of HeapSafe).
+//!
+//! [`lex`] takes the bytes of a text and gives its tokens, each with its spelling, its kind and the line of its first
+//! byte. A text that has a place where nothing begins that may stand there is refused by [`LexError::Bad`], with the
+//! kind and the line of the first such place.
+//!
+//! The contract of `lex` is the definition `Tokens` of `specs/`: a text is gaps and tokens in turn, each the longest at
+//! its place.
+#![tactic(auto)]
+
+mod token;
+
+pub use token::{LexError, LexKind, Token, TokenKind};
