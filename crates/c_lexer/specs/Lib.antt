@@ -1,1 +1,10 @@
+pub mod Bytes
+pub mod Gaps
+pub mod Literals
+pub mod Names
+pub mod Numbers
+pub mod Pieces
+pub mod Readers
+pub mod Signs
+pub mod Tokens
 pub mod Words

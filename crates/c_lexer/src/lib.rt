@@ -8,6 +8,15 @@
 //! its place.
 #![tactic(auto)]
 
+mod bytes;
+mod gap;
+mod literal;
+mod name;
+mod number;
+mod piece;
+mod place;
+mod sign;
 mod token;
+mod words;
 
 pub use token::{LexError, LexKind, Token, TokenKind};

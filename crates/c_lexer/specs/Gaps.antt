@@ -1,0 +1,38 @@
+-- Comments (C99 6.4.9) and the accepted include lines (C99 6.10.2).
+use Rattle.std.specs.Prelude.{ℕ, suc, ◌+◌, Bool, true, false, not, ◌==◌, ◌&&◌, if◌then◌else◌, List, [], ◌∷◌, length, drop, nat_eq, Option, Some, None, option_map, codes}
+use Rattle.std.specs.List.{list_any, starts_with}
+use Rattle.c_lexer.specs.Bytes.{is_blank}
+
+-- whether a byte stays on its line: every byte but byte 10
+abbrev pub is_on_line : ℕ → Bool
+is_on_line b = not (b == 10)
+
+-- how many bytes stand up to and with the first `*/`, where there is one. The flag says whether a `*` stands right
+-- before the text.
+unfoldable pub comment_end : Bool → List ℕ → Option ℕ
+comment_end star [] = None
+comment_end star (b ∷ w) = if star && b == 47 then Some 1 else option_map suc (comment_end (b == 42) w)
+
+-- the headers that may be included
+abbrev pub headers : List (List ℕ)
+headers = codes "<stdio.h>" ∷ codes "<stdlib.h>" ∷ codes "<string.h>" ∷ codes "<stddef.h>" ∷ codes "<limits.h>" ∷ []
+
+-- how many bytes the word has that the text begins with, of some words
+abbrev pub front_of : List (List ℕ) → List ℕ → Option ℕ
+front_of [] text = None
+front_of (word ∷ words) text = if starts_with nat_eq text word then Some (length word) else front_of words text
+
+-- how many bytes the text has up to the end of a header, behind any number of blanks
+unfoldable pub header_end : List ℕ → Option ℕ
+header_end [] = None
+header_end (b ∷ w) = if is_blank b then option_map suc (header_end w) else front_of headers (b ∷ w)
+
+-- how many bytes the text has up to the end of a header, where it begins with the word `include`
+unfoldable pub word_end : List ℕ → Option ℕ
+word_end text =
+  if starts_with nat_eq text (codes "include") then option_map (λ n. 7 + n) (header_end (drop 7 text)) else None
+
+-- how many bytes an accepted include line has behind its `#`: blanks, `include`, blanks, and a header
+unfoldable pub include_end : List ℕ → Option ℕ
+include_end [] = None
+include_end (b ∷ w) = if is_blank b then option_map suc (include_end w) else word_end (b ∷ w)

@@ -1,0 +1,70 @@
+-- The longest piece at the front of a text, computed. `Longest` says what it is; this is how it is found.
+use Rattle.std.specs.Prelude.{ℕ, ◌+◌, Bool, false, ◌==◌, ◌&&◌, nat_le, if◌then◌else◌, List, [], ◌∷◌, length, take, drop, Option, Some, None}
+use Rattle.std.specs.List.{prefix_len}
+use Rattle.c_lexer.specs.Bytes.{is_name_byte, is_number_byte, class_of}
+use Rattle.c_lexer.specs.Names.{name_kind}
+use Rattle.c_lexer.specs.Gaps.{is_on_line, comment_end, include_end}
+use Rattle.c_lexer.specs.Signs.{is_double_sign, is_triple_sign}
+use Rattle.c_lexer.specs.Pieces.{number_kind, literal_end, literal_kind}
+use Rattle.c_lexer.specs.declared.bytes.ByteClass.{ByteClass}
+use Rattle.c_lexer.specs.declared.bytes.ByteClass.TheVariants.{Space, Letter, Digit, Quote, Hash, Slash, Mark, Other}
+use Rattle.c_lexer.specs.declared.token.TokenKind.TheVariants.{Sign}
+use Rattle.c_lexer.specs.declared.token.LexKind.TheVariants.{BadByte, OpenComment, Literal, Directive}
+use Rattle.c_lexer.specs.declared.piece.PieceKind.{PieceKind}
+use Rattle.c_lexer.specs.declared.piece.PieceKind.TheVariants.{Gap, Token, Refused}
+use Rattle.c_lexer.specs.declared.piece.Piece.{Piece}
+
+abbrev pub piece : PieceKind → ℕ → Piece
+piece kind len = record { kind = kind; len = len }
+
+-- the longest sign at the front of a text whose first byte is a sign
+unfoldable pub sign_length : List ℕ → ℕ
+sign_length text =
+  if nat_le 3 (length text) && is_triple_sign (take 3 text) then 3 else
+  if nat_le 2 (length text) && is_double_sign (take 2 text) then 2 else 1
+
+abbrev pub name_piece : List ℕ → Piece
+name_piece text =
+  let n = prefix_len is_name_byte text in piece (Token (name_kind (take n text))) n
+
+abbrev pub number_piece : List ℕ → Piece
+number_piece text =
+  let n = prefix_len is_number_byte text in piece (number_kind (take n text)) n
+
+-- with a first byte before it: the piece up to an end, or that byte alone
+abbrev pub piece_to : Option ℕ → PieceKind → PieceKind → Piece
+piece_to None kind other = piece other 1
+piece_to (Some end) kind other = piece kind (1 + end)
+
+abbrev pub literal_piece : ℕ → List ℕ → Piece
+literal_piece quote rest = piece_to (literal_end quote rest) (Token (literal_kind quote)) (Refused Literal)
+
+abbrev pub hash_piece : Bool → List ℕ → Piece
+hash_piece fresh rest =
+  piece_to (if fresh then include_end rest else None) Gap (Refused (if fresh then Directive else BadByte))
+
+abbrev pub block_piece : Option ℕ → List ℕ → Piece
+block_piece None rest = piece (Refused OpenComment) (2 + length rest)
+block_piece (Some end) rest = piece Gap (2 + end)
+
+-- a `/` and the rest
+abbrev pub slash_piece : ℕ → List ℕ → Piece
+slash_piece b [] = piece (Token Sign) 1
+slash_piece b (c ∷ w) =
+  if c == 47 then piece Gap (2 + prefix_len is_on_line w) else
+  if c == 42 then block_piece (comment_end false w) w else piece (Token Sign) (sign_length (b ∷ c ∷ w))
+
+abbrev pub piece_by : Bool → ByteClass → ℕ → List ℕ → Piece
+piece_by fresh Space b rest = piece Gap 1
+piece_by fresh Letter b rest = name_piece (b ∷ rest)
+piece_by fresh Digit b rest = number_piece (b ∷ rest)
+piece_by fresh Quote b rest = literal_piece b rest
+piece_by fresh Hash b rest = hash_piece fresh rest
+piece_by fresh Slash b rest = slash_piece b rest
+piece_by fresh Mark b rest = piece (Token Sign) (sign_length (b ∷ rest))
+piece_by fresh Other b rest = piece (Refused BadByte) 1
+
+-- the piece at the front of a text that is not empty
+unfoldable pub piece_at : Bool → List ℕ → Piece
+piece_at fresh [] = piece Gap 0
+piece_at fresh (b ∷ rest) = piece_by fresh (class_of b) b rest
