@@ -1,6 +1,6 @@
 -- Comments (C99 6.4.9) and the accepted include lines (C99 6.10.2).
-use Rattle.std.specs.Prelude.{ℕ, suc, ◌+◌, Bool, true, false, not, ◌==◌, ◌&&◌, if◌then◌else◌, List, [], ◌∷◌, length, drop, nat_eq, Option, Some, None, option_map, codes}
-use Rattle.std.specs.List.{list_any, starts_with}
+use Rattle.std.specs.Prelude.{ℕ, suc, ◌+◌, Bool, not, ◌==◌, ◌&&◌, if◌then◌else◌, List, [], ◌∷◌, length, drop, nat_eq, Option, Some, None, option_map, codes}
+use Rattle.std.specs.List.{prefix_len, starts_with}
 use Rattle.c_lexer.specs.Bytes.{is_blank}
 
 -- whether a byte stays on its line: every byte but byte 10
@@ -22,17 +22,23 @@ abbrev pub front_of : List (List ℕ) → List ℕ → Option ℕ
 front_of [] text = None
 front_of (word ∷ words) text = if starts_with nat_eq text word then Some (length word) else front_of words text
 
--- how many bytes the text has up to the end of a header, behind any number of blanks
-unfoldable pub header_end : List ℕ → Option ℕ
-header_end [] = None
-header_end (b ∷ w) = if is_blank b then option_map suc (header_end w) else front_of headers (b ∷ w)
+-- how many bytes of space and byte 9 stand at the front of a text
+abbrev pub blanks : List ℕ → ℕ
+blanks text = prefix_len is_blank text
 
--- how many bytes the text has up to the end of a header, where it begins with the word `include`
+-- how many bytes a text has up to an end that is found behind its blanks
+abbrev pub behind_blanks : (List ℕ → Option ℕ) → List ℕ → Option ℕ
+behind_blanks end_of text = option_map (λ end. blanks text + end) (end_of (drop (blanks text) text))
+
+-- how many bytes a text has up to the end of a header, behind any number of blanks
+unfoldable pub header_end : List ℕ → Option ℕ
+header_end text = behind_blanks (front_of headers) text
+
+-- how many bytes a text that begins with `include` has up to the end of the header behind it
 unfoldable pub word_end : List ℕ → Option ℕ
 word_end text =
-  if starts_with nat_eq text (codes "include") then option_map (λ n. 7 + n) (header_end (drop 7 text)) else None
+  if starts_with nat_eq text (codes "include") then option_map (λ end. 7 + end) (header_end (drop 7 text)) else None
 
 -- how many bytes an accepted include line has behind its `#`: blanks, `include`, blanks, and a header
 unfoldable pub include_end : List ℕ → Option ℕ
-include_end [] = None
-include_end (b ∷ w) = if is_blank b then option_map suc (include_end w) else word_end (b ∷ w)
+include_end text = behind_blanks word_end text

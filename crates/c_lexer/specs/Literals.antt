@@ -16,8 +16,7 @@ simple_value b =
 
 -- the length of a hexadecimal escape behind its backslash, with this many digits: at least one is needed
 abbrev pub hexadecimal_length : ℕ → ℕ
-hexadecimal_length zero = 0
-hexadecimal_length (suc digits) = suc (suc digits)
+hexadecimal_length digits = if digits == 0 then 0 else 1 + digits
 
 -- how many bytes the longest escape has that stands behind a backslash, 0 where none does: one byte, one to three
 -- octal digits, or `x` and all hexadecimal digits that follow
@@ -35,16 +34,17 @@ escape_value (b ∷ w) =
   if is_simple_escape b then simple_value b else
   if is_octal_digit b then digits_value 8 (b ∷ w) else digits_value 16 w
 
+-- the length of an escape of this length that stands behind a backslash, with the backslash, 0 where its value is
+-- greater than 255
+abbrev pub escaped_length : List ℕ → ℕ → ℕ
+escaped_length w n = if not (n == 0) && nat_le (escape_value (take n w)) 255 then 1 + n else 0
+
 -- how many bytes the longest character at the front of a text has, 0 where none does: an escape of a value of at most
 -- 255, or a byte other than the quote, the backslash and byte 10
 unfoldable pub character_length : ℕ → List ℕ → ℕ
 character_length quote [] = 0
 character_length quote (b ∷ w) =
-  if b == 92 then escaped_length (escape_length w) w else if b == quote || b == 10 then 0 else 1
-  where
-    escaped_length : ℕ → List ℕ → ℕ
-    escaped_length zero w = 0
-    escaped_length (suc n) w = if nat_le (escape_value (take (suc n) w)) 255 then suc (suc n) else 0
+  if b == 92 then escaped_length w (escape_length w) else if b == quote || b == 10 then 0 else 1
 
 -- the first byte of a text is this closing quote
 abbrev pub begins_with : ℕ → List ℕ → Bool
@@ -55,7 +55,7 @@ begins_with quote (b ∷ w) = b == quote
 unfoldable pub constant_end : List ℕ → Option ℕ
 constant_end text =
   let n = character_length 39 text in
-  if not (n == 0) && begins_with 39 (drop n text) then Some (n + 1) else None
+  if not (n == 0) && begins_with 39 (drop n text) then Some (1 + n) else None
 
 -- how many bytes a string literal has behind its opening quote: characters in turn, each the longest at its place, and
 -- the closing quote. The first `inner` bytes of the text belong to a character that began before it.
