@@ -49,7 +49,7 @@ block_piece (Some end) rest = piece Gap (2 + end)
 
 -- a `/` and the rest
 abbrev pub slash_piece : ℕ → List ℕ → Piece
-slash_piece b [] = piece (Token Sign) 1
+slash_piece b [] = piece (Token Sign) (sign_length (b ∷ []))
 slash_piece b (c ∷ w) =
   if c == 47 then piece Gap (2 + prefix_len is_on_line w) else
   if c == 42 then block_piece (comment_end false w) w else piece (Token Sign) (sign_length (b ∷ c ∷ w))
