@@ -1,5 +1,5 @@
 -- The longest piece at the front of a text, computed. `Longest` says what it is; this is how it is found.
-use Rattle.std.specs.Prelude.{ℕ, ◌+◌, Bool, false, ◌==◌, ◌&&◌, nat_le, if◌then◌else◌, List, [], ◌∷◌, length, take, drop, Option, Some, None}
+use Rattle.std.specs.Prelude.{◌≡◌, ⊤, ℕ, zero, suc, ◌+◌, ◌-◌, ◌++◌, Bool, false, ◌==◌, ◌&&◌, nat_le, if◌then◌else◌, List, [], ◌∷◌, length, take, drop, Option, Some, None}
 use Rattle.std.specs.List.{prefix_len}
 use Rattle.c_lexer.specs.Bytes.{is_name_byte, is_number_byte, class_of}
 use Rattle.c_lexer.specs.Names.{name_kind}
@@ -13,6 +13,11 @@ use Rattle.c_lexer.specs.declared.token.LexKind.TheVariants.{BadByte, OpenCommen
 use Rattle.c_lexer.specs.declared.piece.PieceKind.{PieceKind}
 use Rattle.c_lexer.specs.declared.piece.PieceKind.TheVariants.{Gap, Token, Refused}
 use Rattle.c_lexer.specs.declared.piece.Piece.{Piece}
+use Rattle.c_lexer.specs.declared.place.Place.{Place}
+use Rattle.c_lexer.specs.declared.token.Token.{Token as TextToken}
+use Rattle.c_lexer.specs.declared.token.LexError.{LexError}
+use Rattle.c_lexer.specs.declared.token.LexError.TheVariants.{Bad as BadPlace, NoMemory}
+use Rattle.c_lexer.specs.Tokens.{next_place}
 
 abbrev pub piece : PieceKind → ℕ → Piece
 piece kind len = record { kind = kind; len = len }
@@ -68,3 +73,22 @@ piece_by fresh Other b rest = piece (Refused BadByte) 1
 unfoldable pub piece_at : Bool → List ℕ → Piece
 piece_at fresh [] = piece Gap 0
 piece_at fresh (b ∷ rest) = piece_by fresh (class_of b) b rest
+
+-- the pieces of a text, from a place on. The first `inner` bytes belong to a piece that began before.
+unfoldable pub pieces_from : Place → ℕ → List ℕ → List Piece
+pieces_from place inner [] = []
+pieces_from place (suc inner) (b ∷ w) = pieces_from (next_place place b) inner w
+pieces_from place zero (b ∷ w) =
+  piece_at place.fresh (b ∷ w) ∷ pieces_from (next_place place b) ((piece_at place.fresh (b ∷ w)).len - 1) w
+
+-- a piece of this kind, with this line and these bytes, makes these tokens of those before it
+abbrev pub TakesPiece : PieceKind → ℕ → List ℕ → List TextToken → List TextToken → Type 0
+TakesPiece Gap line bytes before after = after ≡ before
+TakesPiece (Token kind) line bytes before after =
+  after ≡ before ++ record { line = line; kind = kind; bytes = bytes } ∷ []
+TakesPiece (Refused kind) line bytes before after = ⊥
+
+-- the error is that of a piece of this kind with this line, or want of memory
+abbrev pub RefusesPiece : PieceKind → ℕ → LexError → Type 0
+RefusesPiece kind line NoMemory = ⊤
+RefusesPiece kind line (BadPlace found at) = (kind ≡ Refused found) × (line ≡ at)

@@ -1,7 +1,7 @@
 -- The tokens of a text, or its first bad place (C99 5.1.1.2 and 6.4).
-use Rattle.std.specs.Prelude.{◌≡◌, ℕ, ◌+◌, ◌==◌, Bool, true, ◌||◌, ◌&&◌, if◌then◌else◌, List, [], ◌∷◌, take, drop, Result, Ok, Err, ⊤}
+use Rattle.std.specs.Prelude.{◌≡◌, ℕ, ◌+◌, ◌≤◌, ◌==◌, Bool, true, ◌||◌, ◌&&◌, if◌then◌else◌, List, [], ◌∷◌, take, drop, Result, Ok, Err, ⊤}
 use Rattle.c_lexer.specs.Bytes.{is_space}
-use Rattle.c_lexer.specs.Pieces.{Longest}
+use Rattle.c_lexer.specs.Pieces.{Longest, IsToken}
 use Rattle.c_lexer.specs.declared.place.Place.{Place}
 use Rattle.c_lexer.specs.declared.piece.PieceKind.{PieceKind}
 use Rattle.c_lexer.specs.declared.piece.PieceKind.TheVariants.{Gap, Token, Refused}
@@ -67,6 +67,10 @@ HasBadPlace text kind line = HasAnswer text (Err (BadPlace kind line))
 abbrev pub IsRefused : List ℕ → LexError → Type 0
 IsRefused text (BadPlace kind line) = HasBadPlace text kind line
 IsRefused text NoMemory = ⊤
+
+-- a token has the form of its kind, and its line is at least 1
+abbrev pub IsLexed : TextToken → Type 0
+IsLexed token = IsToken token.kind token.bytes × (1 ≤ token.line)
 
 -- every text has exactly one answer
 abbrev pub OneAnswer : Type 0

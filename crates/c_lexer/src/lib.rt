@@ -10,6 +10,7 @@
 
 mod bytes;
 mod gap;
+mod lexer;
 mod literal;
 mod name;
 mod number;
@@ -19,4 +20,5 @@ mod sign;
 mod token;
 mod words;
 
+pub use lexer::lex;
 pub use token::{LexError, LexKind, Token, TokenKind};
