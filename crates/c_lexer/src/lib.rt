@@ -20,5 +20,8 @@ mod sign;
 mod token;
 mod words;
 
+#[cfg(test)]
+mod tests;
+
 pub use lexer::lex;
 pub use token::{LexError, LexKind, Token, TokenKind};
