@@ -1,3 +1,5 @@
 pub mod Digits
 pub mod Ends
 pub mod Held
+pub mod Fronts
+pub mod Kept
