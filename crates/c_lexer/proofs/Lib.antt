@@ -3,3 +3,4 @@ pub mod Ends
 pub mod Held
 pub mod Fronts
 pub mod Kept
+pub mod LongestPieces
