@@ -1,6 +1,6 @@
 -- The piece that is read at the front of a text is the longest there is.
 use Rattle.std.proofs.Common.{◌≡◌, ◌≢◌, ℕ, zero, suc, ◌+◌, ◌-◌, ◌<◌, ◌≤◌, Bool, true, false, not, cond, ◌&&◌, List, [], ◌∷◌, ◌++◌, length, take, drop, lit<, inl, inr, refl, ap, subst, sym, ◌∙◌, arith}
-use Rattle.std.proofs.lemmas.List.{length-take-le, take-append-drop, append-nil, take_all}
+use Rattle.std.proofs.lemmas.List.{length-take-le, take-append-drop, take-take, append-nil, take_all}
 use Rattle.std.proofs.lemmas.Bool.{ne_eqb, eq-eqb, eqb-true, eqb-false, or_cases, or_from, or_left, or_right, and_parts, and_from, and_left, leb-true, le-leb, lt-leb, cond-true, cond-false, false_from_ne_true, false≢true}
 use Rattle.std.proofs.lemmas.Slice.Eq.{bytes_eq-Decides}
 use Rattle.std.specs.Prelude.{Option, Some, None, option_map, ◌==◌, ◌||◌, nat_le, bytes_eq}
@@ -179,3 +179,127 @@ module _ (b : ℕ) (t : List ℕ) (single : is_single_sign (b ∷ []) ≡ true) 
     by true h d k = three_bytes h
     by false h true k = two_bytes h k
     by false h false k = one_byte h k
+
+-- Pieces up to an end that a reader finds.
+
+module _ (f : List ℕ → Option ℕ) (ends : Ends f) where
+  -- the reader finds the same end where nothing follows it
+  pub end_kept : (t : List ℕ) (n : ℕ) → f t ≡ Some n → f (take n t) ≡ Some n
+  end_kept t n e = ap f (sym (append-nil (take n t))) ∙ ends.kept t n [] e
+
+  -- and in every longer front
+  pub end_longer : (t : List ℕ) (n m : ℕ) → f t ≡ Some n → n ≤ m → f (take m t) ≡ Some n
+  end_longer t n m e le =
+    let parts : take n t ++ drop n (take m t) ≡ take m t = ap (λ u. u ++ drop n (take m t)) (sym (take-take n m t le)) ∙ take-append-drop n (take m t) in
+    ap f (sym parts) ∙ ends.kept t n (drop n (take m t)) e
+
+  pub ends_here : (kind : PieceKind) (t : List ℕ) (n : ℕ) → f t ≡ Some n → ends_at (f (take n t)) (length (take n t)) kind ≡ Some kind
+  ends_here kind t n e = rw (end_kept t n e) (cond-true (n == length (take n t)) (Some kind) None (eq-eqb n (length (take n t)) (sym (length-take-le n t (ends.within t n e)))))
+
+  pub ends_beyond : (kind : PieceKind) (t : List ℕ) (m : ℕ) → m ≤ length t → ((n : ℕ) → f t ≡ Some n → n < m) → ends_at (f (take m t)) (length (take m t)) kind ≡ None
+  ends_beyond kind t m le before = by (f (take m t)) refl where
+    -- an end at m in the front is an end at m in the text
+    whole : (k : ℕ) → f (take m t) ≡ Some k → k ≡ length (take m t) → ⊥
+    whole k e is =
+      let same : k ≡ m = is ∙ length-take-le m t le in
+      let all : take k (take m t) ≡ take m t = take_all k (take m t) (omega (arith, is)) in
+      let found : f t ≡ Some k = ap f (sym (ap (λ u. u ++ drop m t) all ∙ take-append-drop m t)) ∙ ends.kept (take m t) k (drop m t) e in
+      let h = before k found in omega (arith, h, same)
+    at : (k : ℕ) → f (take m t) ≡ Some k → (c : Bool) → (k == length (take m t)) ≡ c → cond c (Some kind) None ≡ None
+    at k e true h = absurd (whole k e (eqb-true k (length (take m t)) h))
+    at k e false h = refl
+    by : (o : Option ℕ) → f (take m t) ≡ o → ends_at o (length (take m t)) kind ≡ None
+    by None e = refl
+    by (Some k) e = at k e (k == length (take m t)) refl
+
+some_here : (m n : ℕ) → Some m ≡ Some n → m ≡ n
+some_here m n e = cc
+
+-- Each class of first bytes.
+
+-- the piece is the longest of its class, with the first byte apart
+pub record LongestBy (fresh : Bool) (c : ByteClass) (b : ℕ) (t : List ℕ) (p : Piece) : Type 0 where
+  pub rest : ℕ
+  pub long : p.len ≡ suc rest
+  pub within : rest ≤ length t
+  pub formed : kind_by fresh c b (take rest t) ≡ Some p.kind
+  pub longest : (m : ℕ) → rest < m → m ≤ length t → kind_by fresh c b (take m t) ≡ None
+
+pub longest_from : (fresh : Bool) (b : ℕ) (t : List ℕ) (p : Piece) → LongestBy fresh (class_of b) b t p → Longest fresh (b ∷ t) p
+unfolding kind_of
+longest_from fresh b t p h = record {
+  some = omega (arith, h.long);
+  within = omega (arith, h.long, h.within);
+  formed = rw h.long h.formed;
+  longest = over } where
+  over : (m : ℕ) → p.len < m → m ≤ suc (length t) → kind_of fresh (take m (b ∷ t)) ≡ None
+  over zero lt le = absurd (omega (arith, lt))
+  over (suc m) lt le = h.longest m (omega (arith, h.long, lt)) (omega (arith, le))
+
+not_empty : (t : List ℕ) (m : ℕ) → 0 < m → m ≤ length t → is_empty (take m t) ≡ false
+not_empty t zero some le = absurd (omega (arith, some))
+not_empty [] (suc m) some le = absurd (omega (arith, le))
+not_empty (b ∷ w) (suc m) some le = refl
+
+space_longest : (fresh : Bool) (b : ℕ) (t : List ℕ) → LongestBy fresh Space b t (piece Gap 1)
+space_longest fresh b t = record { rest = 0; long = refl; within = omega arith; formed = refl; longest = λ m lt le. rw (not_empty t m lt le) refl }
+
+other_longest : (fresh : Bool) (b : ℕ) (t : List ℕ) → LongestBy fresh Other b t (piece (Refused BadByte) 1)
+other_longest fresh b t = record { rest = 0; long = refl; within = omega arith; formed = refl; longest = λ m lt le. rw (not_empty t m lt le) refl }
+
+-- a run of bytes that pass a test
+run_longest : (fresh : Bool) (c : ByteClass) (p : ℕ → Bool) (kind : List ℕ → PieceKind) (b : ℕ) (t : List ℕ) → p b ≡ true → ((w : List ℕ) → kind_by fresh c b w ≡ cond (list_all p w) (Some (kind (b ∷ w))) None) → LongestBy fresh c b t (piece (kind (take (prefix_len p (b ∷ t)) (b ∷ t))) (prefix_len p (b ∷ t)))
+run_longest fresh c p kind b t first is = record {
+  rest = prefix_len p t;
+  long = long;
+  within = prefix_len_within p t;
+  formed = is (take (prefix_len p t) t) ∙ (cond-true (list_all p (take (prefix_len p t) t)) _ None (prefix_len_all p t) ∙ ap (λ n. Some (kind (take n (b ∷ t)))) (sym long));
+  longest = λ m lt le. is (take m t) ∙ cond-false (list_all p (take m t)) _ None (prefix_len_more p t m lt le) } where
+  long : prefix_len p (b ∷ t) ≡ suc (prefix_len p t)
+  long = rw first (omega arith)
+
+letter_longest : (fresh : Bool) (b : ℕ) (t : List ℕ) → class_of b ≡ Letter → LongestBy fresh Letter b t (name_piece (b ∷ t))
+letter_longest fresh b t e = run_longest fresh Letter is_name_byte (λ w. Token (name_kind w)) b t (letter_is b e) (λ w. refl)
+
+digit_longest : (fresh : Bool) (b : ℕ) (t : List ℕ) → class_of b ≡ Digit → LongestBy fresh Digit b t (number_piece (b ∷ t))
+digit_longest fresh b t e = run_longest fresh Digit is_number_byte number_kind b t (digit_is b e) (λ w. refl)
+
+-- a first byte alone, or a piece up to an end
+to_longest : (fresh : Bool) (c : ByteClass) (b : ℕ) (t : List ℕ) (f : List ℕ → Option ℕ) (kind other : PieceKind) → Ends f → kind_by fresh c b [] ≡ Some other → ((w : List ℕ) → is_empty w ≡ false → kind_by fresh c b w ≡ ends_at (f w) (length w) kind) → LongestBy fresh c b t (piece_to (f t) kind other)
+to_longest fresh c b t f kind other ends alone is = by (f t) refl where
+  by : (o : Option ℕ) → f t ≡ o → LongestBy fresh c b t (piece_to o kind other)
+  by None e = record {
+    rest = 0; long = refl; within = omega arith; formed = alone;
+    longest = λ m lt le. is (take m t) (not_empty t m lt le) ∙ ends_beyond f ends kind t m le (λ n h. absurd (apart n (sym e ∙ h))) } where
+    apart : (n : ℕ) → None ≡ Some n → ⊥
+    apart n h = cc
+  by (Some n) e = record {
+    rest = n; long = omega arith; within = ends.within t n e;
+    formed = is (take n t) (not_empty t n (ends.some t n e) (ends.within t n e)) ∙ ends_here f ends kind t n e;
+    longest = λ m lt le. is (take m t) (not_empty t m (omega (arith, lt)) le) ∙ ends_beyond f ends kind t m le (λ k h. omega (arith, lt, some_here n k (sym e ∙ h))) }
+
+quote_longest : (fresh : Bool) (b : ℕ) (t : List ℕ) → LongestBy fresh Quote b t (literal_piece b t)
+quote_longest fresh b t = to_longest fresh Quote b t (literal_end b) (Token (literal_kind b)) (Refused Literal) (literal_ends b) refl is where
+  is : (w : List ℕ) → is_empty w ≡ false → quote_kind b w ≡ ends_at (literal_end b w) (length w) (Token (literal_kind b))
+  is [] e = absurd (cc)
+  is (c ∷ w) e = refl
+
+hash_longest : (fresh : Bool) (b : ℕ) (t : List ℕ) → LongestBy fresh Hash b t (hash_piece fresh t)
+hash_longest true b t = to_longest true Hash b t include_end Gap (Refused Directive) include_ends refl is where
+  is : (w : List ℕ) → is_empty w ≡ false → hash_kind true w ≡ ends_at (include_end w) (length w) Gap
+  is [] e = absurd (cc)
+  is (c ∷ w) e = refl
+hash_longest false b t = record { rest = 0; long = refl; within = omega arith; formed = refl; longest = over t } where
+  over : (t : List ℕ) (m : ℕ) → 0 < m → m ≤ length t → hash_kind false (take m t) ≡ None
+  over t zero lt le = absurd (omega (arith, lt))
+  over [] (suc m) lt le = absurd (omega (arith, le))
+  over (c ∷ w) (suc m) lt le = refl
+
+mark_longest : (fresh : Bool) (b : ℕ) (t : List ℕ) → class_of b ≡ Mark → LongestBy fresh Mark b t (piece (Token Sign) (sign_length (b ∷ t)))
+mark_longest fresh b t e = by (sign_length (b ∷ t)) (sign_longest b t (or_left (is_mark b) (b == 47) (mark_is b e))) where
+  by : (n : ℕ) → LongestSign (b ∷ t) n → LongestBy fresh Mark b t (piece (Token Sign) n)
+  by zero h = absurd (omega (arith, h.some))
+  by (suc n) h = record {
+    rest = n; long = refl; within = omega (arith, h.within);
+    formed = cond-true (is_sign (b ∷ take n t)) (Some (Token Sign)) None h.sign;
+    longest = λ m lt le. cond-false (is_sign (b ∷ take m t)) (Some (Token Sign)) None (h.longest (suc m) (omega (arith, lt)) (omega (arith, le))) }
