@@ -1,6 +1,7 @@
 -- The piece that is read at the front of a text is the longest there is.
 use Rattle.std.proofs.Common.{◌≡◌, ◌≢◌, ℕ, zero, suc, ◌+◌, ◌-◌, ◌<◌, ◌≤◌, Bool, true, false, not, cond, ◌&&◌, List, [], ◌∷◌, ◌++◌, length, take, drop, lit<, inl, inr, refl, ap, subst, sym, ◌∙◌, arith}
 use Rattle.std.proofs.lemmas.List.{length-take-le, take-append-drop, take-take, append-nil, take_all}
+use Rattle.std.proofs.Math.Seq.{take-length}
 use Rattle.std.proofs.lemmas.Bool.{ne_eqb, eq-eqb, eqb-true, eqb-false, or_cases, or_from, or_left, or_right, and_parts, and_from, and_left, leb-true, le-leb, lt-leb, cond-true, cond-false, false_from_ne_true, false≢true}
 use Rattle.std.proofs.lemmas.Slice.Eq.{bytes_eq-Decides}
 use Rattle.std.specs.Prelude.{Option, Some, None, option_map, ◌==◌, ◌||◌, nat_le, bytes_eq}
@@ -303,3 +304,95 @@ mark_longest fresh b t e = by (sign_length (b ∷ t)) (sign_longest b t (or_left
     rest = n; long = refl; within = omega (arith, h.within);
     formed = cond-true (is_sign (b ∷ take n t)) (Some (Token Sign)) None h.sign;
     longest = λ m lt le. cond-false (is_sign (b ∷ take m t)) (Some (Token Sign)) None (h.longest (suc m) (omega (arith, lt)) (omega (arith, le))) }
+
+-- A `/` and what follows.
+
+slash_line : (c : ℕ) (w : List ℕ) → (c == 47) ≡ true → slash_kind (c ∷ w) ≡ cond (list_all is_on_line w) (Some Gap) None
+slash_line c w e = rw e refl
+
+slash_block : (c : ℕ) (w : List ℕ) → (c == 47) ≡ false → (c == 42) ≡ true → slash_kind (c ∷ w) ≡ block_kind (comment_end false w) (length w)
+slash_block c w e h = rw (e, h) refl
+
+slash_sign : (c : ℕ) (w : List ℕ) → (c == 47) ≡ false → (c == 42) ≡ false → slash_kind (c ∷ w) ≡ cond (is_sign (47 ∷ c ∷ w)) (Some (Token Sign)) None
+slash_sign c w e h = rw (e, h) refl
+
+block_at : (o : Option ℕ) (n long : ℕ) → o ≡ Some n → block_kind o long ≡ cond (n == long) (Some Gap) None
+block_at o n long e = rw e refl
+
+line_longest : (fresh : Bool) (c : ℕ) (w : List ℕ) → (c == 47) ≡ true → LongestBy fresh Slash 47 (c ∷ w) (piece Gap (2 + prefix_len is_on_line w))
+line_longest fresh c w e = record {
+  rest = suc (prefix_len is_on_line w);
+  long = omega arith;
+  within = let h = prefix_len_within is_on_line w in omega (arith, h);
+  formed = slash_line c (take (prefix_len is_on_line w) w) e ∙ cond-true (list_all is_on_line (take (prefix_len is_on_line w) w)) (Some Gap) None (prefix_len_all is_on_line w);
+  longest = over } where
+  over : (m : ℕ) → suc (prefix_len is_on_line w) < m → m ≤ suc (length w) → slash_kind (take m (c ∷ w)) ≡ None
+  over zero lt le = absurd (omega (arith, lt))
+  over (suc m) lt le = slash_line c (take m w) e ∙ cond-false (list_all is_on_line (take m w)) (Some Gap) None (prefix_len_more is_on_line w m (omega (arith, lt)) (omega (arith, le)))
+
+block_longest : (fresh : Bool) (c : ℕ) (w : List ℕ) → (c == 47) ≡ false → (c == 42) ≡ true → LongestBy fresh Slash 47 (c ∷ w) (block_piece (comment_end false w) w)
+block_longest fresh c w e h = by (comment_end false w) refl where
+  at : (n m : ℕ) → comment_end false w ≡ Some n → n ≤ m → m ≤ length w → slash_kind (c ∷ take m w) ≡ cond (n == m) (Some Gap) None
+  at n m found le within =
+    slash_block c (take m w) e h
+    ∙ (block_at (comment_end false (take m w)) n (length (take m w)) (end_longer (comment_end false) (comment_ends false) w n m found le)
+    ∙ ap (λ k. cond (n == k) (Some Gap) None) (length-take-le m w within))
+  over : (n : ℕ) → comment_end false w ≡ Some n → (m : ℕ) → suc n < m → m ≤ suc (length w) → slash_kind (take m (c ∷ w)) ≡ None
+  over n found zero lt le = absurd (omega (arith, lt))
+  over n found (suc m) lt le = at n m found (omega (arith, lt)) (omega (arith, le)) ∙ cond-false (n == m) (Some Gap) None (ne_eqb n m (omega (arith, lt)))
+  open_kind : (o : Option ℕ) → o ≡ None → block_kind o (length w) ≡ Some (Refused OpenComment)
+  open_kind o none = rw none refl
+  by : (o : Option ℕ) → comment_end false w ≡ o → LongestBy fresh Slash 47 (c ∷ w) (block_piece o w)
+  by None found = record {
+    rest = suc (length w); long = omega arith; within = omega arith;
+    formed = ap (λ u. slash_kind (c ∷ u)) (take-length w) ∙ (slash_block c w e h ∙ open_kind (comment_end false w) found);
+    longest = λ m lt le. absurd (omega (arith, lt, le)) }
+  by (Some n) found = let within = (comment_ends false).within w n found in record {
+    rest = suc n; long = omega arith; within = omega (arith, within);
+    formed = at n n found (omega arith) within ∙ cond-true (n == n) (Some Gap) None (eq-eqb n n refl);
+    longest = over n found }
+
+division_longest : (fresh : Bool) (c : ℕ) (w : List ℕ) → (c == 47) ≡ false → (c == 42) ≡ false → LongestBy fresh Slash 47 (c ∷ w) (piece (Token Sign) (sign_length (47 ∷ c ∷ w)))
+division_longest fresh c w e h = by (sign_length (47 ∷ c ∷ w)) (sign_longest 47 (c ∷ w) (or_right (is_mark 47) true refl)) where
+  formed : (n : ℕ) → LongestSign (47 ∷ c ∷ w) (suc n) → slash_kind (take n (c ∷ w)) ≡ Some (Token Sign)
+  formed zero s = refl
+  formed (suc n) s = slash_sign c (take n w) e h ∙ cond-true (is_sign (47 ∷ c ∷ take n w)) (Some (Token Sign)) None s.sign
+  over : (n : ℕ) → LongestSign (47 ∷ c ∷ w) (suc n) → (m : ℕ) → n < m → m ≤ suc (length w) → slash_kind (take m (c ∷ w)) ≡ None
+  over n s zero lt le = absurd (omega (arith, lt))
+  over n s (suc m) lt le = slash_sign c (take m w) e h ∙ cond-false (is_sign (47 ∷ c ∷ take m w)) (Some (Token Sign)) None (s.longest (suc (suc m)) (omega (arith, lt)) (omega (arith, le)))
+  by : (n : ℕ) → LongestSign (47 ∷ c ∷ w) n → LongestBy fresh Slash 47 (c ∷ w) (piece (Token Sign) n)
+  by zero s = absurd (omega (arith, s.some))
+  by (suc n) s = record { rest = n; long = refl; within = omega (arith, s.within); formed = formed n s; longest = over n s }
+
+slash_alone : (fresh : Bool) → LongestBy fresh Slash 47 [] (piece (Token Sign) (sign_length (47 ∷ [])))
+slash_alone fresh = by (sign_length (47 ∷ [])) (sign_longest 47 [] (or_right (is_mark 47) true refl)) where
+  by : (n : ℕ) → LongestSign (47 ∷ []) n → LongestBy fresh Slash 47 [] (piece (Token Sign) n)
+  by zero s = absurd (omega (arith, s.some))
+  by (suc n) s = record { rest = n; long = refl; within = omega (arith, s.within); formed = formed n; longest = λ m lt le. absurd (omega (arith, lt, le)) } where
+    formed : (n : ℕ) → slash_kind (take n []) ≡ Some (Token Sign)
+    formed zero = refl
+    formed (suc n) = refl
+
+slash_longest : (fresh : Bool) (t : List ℕ) → LongestBy fresh Slash 47 t (slash_piece 47 t)
+slash_longest fresh [] = slash_alone fresh
+slash_longest fresh (c ∷ w) = by (c == 47) refl (c == 42) refl where
+  by : (x : Bool) → (c == 47) ≡ x → (y : Bool) → (c == 42) ≡ y → LongestBy fresh Slash 47 (c ∷ w) (cond x (piece Gap (2 + prefix_len is_on_line w)) (cond y (block_piece (comment_end false w) w) (piece (Token Sign) (sign_length (47 ∷ c ∷ w)))))
+  by true e y h = line_longest fresh c w e
+  by false e true h = block_longest fresh c w e h
+  by false e false h = division_longest fresh c w e h
+
+class_longest : (fresh : Bool) (c : ByteClass) (b : ℕ) (t : List ℕ) → class_of b ≡ c → LongestBy fresh c b t (piece_by fresh c b t)
+class_longest fresh Space b t e = space_longest fresh b t
+class_longest fresh Letter b t e = letter_longest fresh b t e
+class_longest fresh Digit b t e = digit_longest fresh b t e
+class_longest fresh Quote b t e = quote_longest fresh b t
+class_longest fresh Hash b t e = hash_longest fresh b t
+class_longest fresh Slash b t e = let P : ℕ → Type 0 = λ n. LongestBy fresh Slash n t (slash_piece n t) in subst P (sym (slash_is b e)) (slash_longest fresh t)
+class_longest fresh Mark b t e = mark_longest fresh b t e
+class_longest fresh Other b t e = other_longest fresh b t
+
+-- the piece that is read is the longest
+pub piece_at_longest : (fresh : Bool) (text : List ℕ) → 0 < length text → Longest fresh text (piece_at fresh text)
+unfolding piece_at
+piece_at_longest fresh [] some = absurd (omega (arith, some))
+piece_at_longest fresh (b ∷ t) some = longest_from fresh b t _ (class_longest fresh (class_of b) b t refl)
