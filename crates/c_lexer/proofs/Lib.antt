@@ -4,3 +4,4 @@ pub mod Held
 pub mod Fronts
 pub mod Kept
 pub mod LongestPieces
+pub mod Cuts
