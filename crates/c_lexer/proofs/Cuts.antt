@@ -92,7 +92,7 @@ rest_pieces place b w zero some le = absurd (omega (arith, some))
 rest_pieces place b w (suc n) some le = let e : suc n - 1 ≡ n = omega arith in rw e (pieces_skip n (next_place place b) w (omega (arith, le)))
 
 -- the answer from a place on, by the piece there
-answer_step : (place : Place) (text : List ℕ) (x : Piece) → 0 < length text → x ≡ piece_at place.fresh text → answer_from place text ≡ answer_with x.kind place.line (take x.len text) (answer_from (behind place (take x.len text)) (drop x.len text))
+pub answer_step : (place : Place) (text : List ℕ) (x : Piece) → 0 < length text → x ≡ piece_at place.fresh text → answer_from place text ≡ answer_with x.kind place.line (take x.len text) (answer_from (behind place (take x.len text)) (drop x.len text))
 unfolding pieces_from
 answer_step place [] x some e = absurd (omega (arith, some))
 answer_step place (b ∷ w) x some e = subst P (sym e) at where

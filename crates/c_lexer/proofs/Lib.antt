@@ -5,3 +5,4 @@ pub mod Fronts
 pub mod Kept
 pub mod LongestPieces
 pub mod Cuts
+pub mod Loop

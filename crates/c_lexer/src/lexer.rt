@@ -62,7 +62,7 @@ pub fn lex(alloc: Global, text: &[u8]) -> Result<Items<Token>, LexError>
         let rest = &text[at..];
         let piece = piece_at(place.fresh, rest);
         let bytes = &rest[..piece.len];
-        take_piece(alloc, &mut tokens, place.line, piece.kind, bytes)?;
+        take_piece(alloc, &mut tokens, place.line as Line, piece.kind, bytes)?;
         place = behind(place, bytes);
         at += piece.len;
     }
