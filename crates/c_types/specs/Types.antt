@@ -1,0 +1,59 @@
+-- C types without where they lie in memory.
+use Rattle.std.specs.Prelude.{ℕ, List, [], ◌∷◌}
+use Rattle.c_types.specs.declared.types.IntType.{IntType}
+use Rattle.c_types.specs.declared.types.IntType.TheVariants as i
+use Rattle.c_types.specs.declared.types.CType.{CType, Row_of-CType, end_of-CType, more_of-CType}
+use Rattle.c_types.specs.declared.types.CType.TheVariants as c
+use Rattle.c_types.specs.declared.types.Signature.{Signature}
+
+-- the size of an integer type in bytes
+abbrev pub width_of : IntType → ℕ
+width_of i.Char = 1
+width_of i.SChar = 1
+width_of i.UChar = 1
+width_of i.Short = 2
+width_of i.UShort = 2
+width_of i.Int = 4
+width_of i.UInt = 4
+width_of i.Long = 4
+width_of i.ULong = 4
+width_of i.LongLong = 8
+width_of i.ULongLong = 8
+
+mutual
+  pub data PlainType : Type 0 where
+    Void : PlainType
+    Int : (int : IntType) → PlainType
+    Pointer : (target : PlainType) → PlainType
+    Array : (element : PlainType) (length : ℕ) → PlainType
+    Struct : (tag : ℕ) → PlainType
+    Union : (tag : ℕ) → PlainType
+    Function : (answer : PlainType) (params : PlainTypes) → PlainType
+
+  pub data PlainTypes : Type 0 where
+    none : PlainTypes
+    first : (type : PlainType) (rest : PlainTypes) → PlainTypes
+
+abbrev mutual
+  -- the type as plain data
+  pub plain : CType → PlainType
+  plain c.Void = Void
+  plain (c.Int int) = Int int
+  plain (c.Pointer' p target) = Pointer (plain target)
+  plain (c.Array' p element length) = Array (plain element) length
+  plain (c.Struct tag) = Struct tag
+  plain (c.Union tag) = Union tag
+  plain (c.Function' p answer shape params) = Function (plain answer) (plain_row params)
+
+  pub plain_row : {n : _} → Row_of-CType n → PlainTypes
+  plain_row end_of-CType = none
+  plain_row (more_of-CType type rest) = first (plain type) (plain_row rest)
+
+-- the types of a list, in order
+abbrev pub plain_list : List CType → PlainTypes
+plain_list [] = none
+plain_list (type ∷ rest) = first (plain type) (plain_list rest)
+
+-- the type of functions with that result and those parameters
+abbrev pub plain_signature : Signature → PlainType
+plain_signature signature = Function (plain signature.result) (plain_list signature.params.items)

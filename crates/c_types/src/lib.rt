@@ -1,0 +1,6 @@
+//! C types.
+#![tactic(auto)]
+
+mod types;
+
+pub use types::{CType, IntType, Signature};
