@@ -1,5 +1,5 @@
 -- A type of another variant is another type as plain data.
-use Rattle.std.proofs.Common.{◌≡◌, ◌≢◌, ℕ, suc, List, [], ◌∷◌, Box, Global, refl, map, ap, ◌∙◌, rules, IsTrue, false, ◌↔◌, ◌+◌, ◌<◌, zero, length, take, get_or, arith}
+use Rattle.std.proofs.Common.{◌≡◌, ◌≢◌, ℕ, suc, List, [], ◌∷◌, ◌++◌, Box, Global, refl, map, ap, ◌∙◌, rules, IsTrue, false, ◌↔◌, ◌+◌, ◌<◌, zero, length, take, get_or, arith}
 use Rattle.c_types.specs.declared.types.IntType.{IntType}
 use Rattle.c_types.specs.declared.types.CType.{CType, Row_of-CType, end_of-CType, more_of-CType, items-the_row-CType, the_lemmas}
 use Rattle.c_types.specs.declared.types.CType.TheVariants as c
@@ -107,3 +107,18 @@ plain_list-take (a ∷ xs) (b ∷ ys) (suc i) x y xi yi h l p e =
     let tails : plain_list (take i xs) ≡ plain_list (take i ys) = cc in
     let more : plain_list (take (suc i) xs) ≡ plain_list (take (suc i) ys) = plain_list-take xs ys i x y xi yi (omega arith) (omega arith) p tails in
     ap (λ t. first t (plain_list (take (suc i) xs))) heads ∙ ap (first (plain b)) more
+
+-- one more copy
+pub plain_list-push :
+  (xs ys : List CType) (k : ℕ) (x y : CType) → y ≡ get_or ys k y → k < length ys → plain x ≡ plain y →
+  plain_list xs ≡ plain_list (take k ys) → plain_list (xs ++ x ∷ []) ≡ plain_list (take (suc k) ys)
+plain_list-push [] [] k x y i h p e = absurd (omega arith)
+plain_list-push (a ∷ xs) [] k x y i h p e = absurd (omega arith)
+plain_list-push [] (b ∷ ys) zero x y i h p e = ap (λ t. first t none) (p ∙ ap plain i)
+plain_list-push [] (b ∷ ys) (suc k) x y i h p e = cc
+plain_list-push (a ∷ xs) (b ∷ ys) zero x y i h p e = cc
+plain_list-push (a ∷ xs) (b ∷ ys) (suc k) x y i h p e =
+    let heads : plain a ≡ plain b = cc in
+    let tails : plain_list xs ≡ plain_list (take k ys) = cc in
+    let more : plain_list (xs ++ x ∷ []) ≡ plain_list (take (suc k) ys) = plain_list-push xs ys k x y i (omega arith) p tails in
+    ap (λ t. first t (plain_list (xs ++ x ∷ []))) heads ∙ ap (first (plain b)) more

@@ -1,9 +1,10 @@
 //! C types, and their names as plain data.
 
-ghost use Rattle.std.specs.Prelude.{IsTrue, ◌↔◌, ◌≡◌, ◌+◌, ◌<◌, ◌^◌};
+ghost use Rattle.std.specs.Prelude.{IfOk, IsTrue, ◌↔◌, ◌≡◌, ◌+◌, ◌<◌, ◌^◌};
 ghost use Rattle.c_types.specs.Types.{width_of, plain, plain_signature, plain_list};
 
-use hs_base::IntKind;
+use hs_base::{IntKind, NoMemory};
+use std::alloc::Global;
 
 /// A number of a tag, counted from 0 in the order of making.
 pub type TagId = u32;
@@ -56,6 +57,51 @@ impl IntType {
             IntType::Int | IntType::UInt | IntType::Long | IntType::ULong => 4,
             IntType::LongLong | IntType::ULongLong => 8,
         }
+    }
+}
+
+impl CType {
+    /// A copy of the type.
+    #[cycle(copy)]
+    pub fn try_clone(&self, alloc: Global) -> Result<CType, NoMemory>
+        ensures { IfOk result (λ copy. plain copy ≡ plain self.now) }
+    {
+        match self {
+            CType::Void => Ok(CType::Void),
+            CType::Int(int) => Ok(CType::Int(*int)),
+            CType::Pointer(target) => {
+                let copy = target.try_clone(alloc)?;
+                Ok(CType::Pointer(Box::new(alloc, copy)?))
+            }
+            CType::Array(element, length) => {
+                let copy = element.try_clone(alloc)?;
+                Ok(CType::Array(Box::new(alloc, copy)?, *length))
+            }
+            CType::Struct(tag) => Ok(CType::Struct(*tag)),
+            CType::Union(tag) => Ok(CType::Union(*tag)),
+            CType::Function(signature) => {
+                let copy = signature.try_clone(alloc)?;
+                Ok(CType::Function(Box::new(alloc, copy)?))
+            }
+        }
+    }
+}
+
+impl Signature {
+    /// A copy of the signature.
+    #[cycle(copy)]
+    pub fn try_clone(&self, alloc: Global) -> Result<Signature, NoMemory>
+        ensures { IfOk result (λ copy. plain_signature copy ≡ plain_signature self.now) }
+    {
+        let answer = self.result.try_clone(alloc)?;
+        let mut params = Vec::new(alloc);
+        for param in &self.params {
+            params.push(param.try_clone(alloc)?)?;
+        }
+        Ok(Signature {
+            result: answer,
+            params,
+        })
     }
 }
 
