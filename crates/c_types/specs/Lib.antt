@@ -1,1 +1,4 @@
 pub mod Types
+pub mod Layouts
+pub mod TagTable
+pub mod Codes

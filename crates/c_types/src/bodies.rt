@@ -1,0 +1,69 @@
+//! Members, and where they stand in their struct or union.
+
+use crate::layouts::MAX_SIZE;
+use crate::sizes::{align_of, size_of};
+use crate::tags::{TagError, Tags};
+use crate::types::{CType, TagId};
+use hs_base::Items;
+use std::alloc::Global;
+
+/// A member of a struct or union: its name, its type, and its offset in bytes.
+#[derive(Drop)]
+pub struct Member {
+    pub name: Items<u8>,
+    pub ty: CType,
+    pub offset: u32,
+}
+
+/// The members of a completed tag, with its size and alignment.
+#[derive(Drop)]
+pub(crate) struct Body {
+    pub(crate) tag: TagId,
+    pub(crate) is_union: bool,
+    pub(crate) members: Vec<Member>,
+    pub(crate) size: u32,
+    pub(crate) align: u32,
+}
+
+/// The members of a completed tag, or `None` where it is incomplete.
+pub fn members(tags: &Tags, tag: TagId) -> Option<&[Member]> {
+    match tags.body(tag) {
+        Some((_, body)) => Some(body.members.as_slice()),
+        None => None,
+    }
+}
+
+/// Places members: a union's at 0, a struct's each after the one before it.
+pub(crate) fn place_members(
+    alloc: Global,
+    tags: &Tags,
+    tag: TagId,
+    is_union: bool,
+    members: Items<(Items<u8>, CType)>,
+) -> Result<Body, TagError> {
+    let mut placed = Vec::new(alloc);
+    let mut end: u32 = 0;
+    let mut align: u32 = 1;
+    for (name, ty) in members.into_vec() {
+        let size = size_of(tags, &ty).unwrap();
+        let member_align = align_of(tags, &ty).unwrap();
+        let offset = if is_union {
+            0
+        } else {
+            end.next_multiple_of(member_align)
+        };
+        end = end.max(offset + size);
+        if end > MAX_SIZE {
+            return Err(TagError::TooLarge);
+        }
+        align = align.max(member_align);
+        placed.push(Member { name, ty, offset })?;
+    }
+    Ok(Body {
+        tag,
+        is_union,
+        members: placed,
+        size: end.next_multiple_of(align),
+        align,
+    })
+}
