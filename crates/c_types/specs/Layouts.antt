@@ -15,6 +15,10 @@ number_layout width = record { size = width; align = width; slots = [] }
 abbrev pub pointer_layout : Layout
 pointer_layout = record { size = 4; align = 4; slots = 0 ∷ [] }
 
+-- the layout of nothing
+abbrev pub no_layout : Layout
+no_layout = record { size = 0; align = 1; slots = [] }
+
 -- slots that are moved up
 abbrev pub moved : ℕ → List ℕ → List ℕ
 moved by slots = map (λ slot. by + slot) slots

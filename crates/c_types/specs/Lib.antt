@@ -2,3 +2,4 @@ pub mod Types
 pub mod Layouts
 pub mod TagTable
 pub mod Codes
+pub mod Bodies

@@ -1,13 +1,14 @@
 -- Tags in the order of making, and the completed ones in the order of completion.
-use Rattle.std.specs.Prelude.{◌≡◌, ◌==◌, ◌&&◌, ℕ, Bool, true, false, not, cond, List, [], ◌∷◌, ◌++◌, map, fold, find, zip, nat_lt, slice_get, unwrap_or, Option, Some, None, Result, Ok, Err, option_map}
-use Rattle.std.specs.Option.{option_map_or}
+use Rattle.std.specs.Prelude.{◌≡◌, ◌==◌, ◌&&◌, ℕ, Bool, true, false, not, cond, List, [], ◌∷◌, ◌++◌, map, fold, find, zip, nat_lt, slice_get, unwrap_or, Option, Some, None, Result, Ok, Err, option_map, IsSome}
+use Rattle.std.specs.Option.{option_map_or, option_or}
 use Rattle.c_types.specs.declared.layouts.Layout.{Layout}
 use Rattle.c_types.specs.declared.tags.TagInfo.{TagInfo}
 use Rattle.c_types.specs.declared.tags.TagError.{TagError}
 use Rattle.c_types.specs.declared.tags.TagError.TheVariants.{PointerInUnion, TooLarge}
 use Rattle.c_types.specs.declared.bodies.Member.{Member}
 use Rattle.c_types.specs.Types.{PlainType, plain}
-use Rattle.c_types.specs.Layouts.{Known, number_layout, layout_of, placed, members_layout, keeps_union_rule}
+use Rattle.c_types.specs.declared.types.CType.{CType}
+use Rattle.c_types.specs.Layouts.{Known, ArraysFit, no_layout, layout_of, placed, members_layout, keeps_union_rule}
 
 -- a tag with its members, each a name and a type
 pub record CompletedTag : Type 0 where
@@ -19,6 +20,14 @@ pub record TagTable : Type 0 where
   pub made : List TagInfo
   pub completed : List CompletedTag
 
+abbrev pub no_tags : TagTable
+no_tags = record { made = []; completed = [] }
+
+-- one more tag, which is incomplete
+abbrev pub with_tag : TagTable → Bool → List ℕ → TagTable
+with_tag table is_union name =
+    record { made = table.made ++ (record { is_union = is_union; name = name }) ∷ []; completed = table.completed }
+
 -- a member with its offset
 pub record PlainMember : Type 0 where
   pub name : List ℕ
@@ -27,18 +36,14 @@ pub record PlainMember : Type 0 where
 
 -- the layout of a member; each member of a completed tag has one
 abbrev pub member_layout : Known → List ℕ × PlainType → Layout
-member_layout known m = unwrap_or (layout_of known m.1) (number_layout 0)
+member_layout known m = unwrap_or (layout_of known m.1) no_layout
 
 abbrev pub tag_layout : Known → CompletedTag → Layout
 tag_layout known new = members_layout new.is_union (map (member_layout known) new.members)
 
-abbrev pub or_else : Option Layout → Option Layout → Option Layout
-or_else (Some l) other = Some l
-or_else None other = other
-
 -- what was known stays, and the new tag has the layout of its members
 abbrev pub learn : Known → CompletedTag → Known
-learn known new = λ tag. or_else (known tag) (cond (tag == new.tag) (Some (tag_layout known new)) None)
+learn known new = λ tag. option_or (known tag) (cond (new.tag == tag) (Some (tag_layout known new)) None)
 
 -- the layouts of completed tags, each by those before it
 abbrev pub known : List CompletedTag → Known
@@ -57,6 +62,16 @@ abbrev pub placed_members : Known → CompletedTag → List PlainMember
 placed_members known tag =
     map (λ p. record { name = p.0.0; type = p.0.1; offset = p.1.0 })
     (zip tag.members (placed tag.is_union (map (member_layout known) tag.members)).members)
+
+abbrev pub IsIncomplete : TagTable → ℕ → Type 0
+IsIncomplete table tag = known table.completed tag ≡ None
+
+-- a type with a size, inside which no array is too large
+abbrev pub IsSizedIn : TagTable → PlainType → Type 0
+IsSizedIn table type = IsSome (layout_in table type) × ArraysFit (known table.completed) type
+
+abbrev pub plain_pair : List ℕ × CType → List ℕ × PlainType
+plain_pair m = (m.0, plain m.1)
 
 -- the members of a completed tag with their offsets
 abbrev pub members_in : TagTable → ℕ → Option (List PlainMember)

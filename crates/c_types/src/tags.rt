@@ -1,10 +1,16 @@
 //! Structs and unions by their tags.
 
+ghost use Rattle.std.specs.Prelude.{◌≡◌, ◌≢◌, ◌+◌, ◌<◌, ◌^◌, ◌∷◌, ◌++◌, [], length, map, take, slice_get, option_copied, All, IfOk, IfErr, IfSome, IfNone, OnErr, MatchOption};
+ghost use Rattle.c_types.specs.Types.{plain};
+ghost use Rattle.c_types.specs.TagTable.{TagTable, completion, known, IsIncomplete, IsSizedIn, plain_pair, no_tags, with_tag};
+ghost use Rattle.c_types.specs.Bodies.{IsBodyOf, IsPlaced, KeepsRule, completed_tag};
+
 use crate::bodies::{Body, place_members};
 use crate::types::{CType, TagId};
 use crate::unions::keeps_union_rule;
 use hs_base::{Items, NoMemory};
 use std::alloc::{AllocFailed, Global};
+use std::marker::Model;
 use thiserror::Error;
 
 /// What is known of a tag from its making on: whether it is a union, and its name, empty where it has none.
@@ -56,9 +62,26 @@ pub struct Tags {
     completed: Vec<TagId>,
 }
 
+impl Model for Tags {
+    ghost use Rattle.c_types.specs.TagTable.{TagTable};
+    ghost use Rattle.c_types.specs.Codes.{table_code};
+
+    ghost Value = { TagTable };
+
+    ghost coded = { table_code };
+
+    ghost use Rattle.c_types.specs.Bodies.{table_of, IsConsistent};
+
+    ghost view = { table_of };
+
+    ghost invariant = { IsConsistent };
+}
+
 impl Tags {
     /// No tags.
-    pub fn new(alloc: Global) -> Result<Tags, NoMemory> {
+    pub fn new(alloc: Global) -> Result<Tags, NoMemory>
+        ensures { IfOk result (λ tags. tags ≡ no_tags) }
+    {
         Ok(Tags {
             alloc,
             made: Vec::new(alloc),
@@ -68,7 +91,12 @@ impl Tags {
     }
 
     /// Makes a tag, which is incomplete. An empty name stands for none. An error changes nothing.
-    pub fn make(&mut self, is_union: bool, name: Items<u8>) -> Result<TagId, NoMemory> {
+    pub fn make(&mut self, is_union: bool, name: Items<u8>) -> Result<TagId, NoMemory>
+        requires { length self.old.made + 1 < 2 ^ 32 }
+        ensures number { IfOk result (λ tag. tag ≡ length self.old.made) }
+        ensures ok { IfOk result (λ _. self.new ≡ with_tag self.old is_union name) }
+        ensures err { OnErr result (self.new ≡ self.old) }
+    {
         let tag = self.made.len() as u32;
         let info = TagInfo { is_union, name };
         self.made.push(Made { info, place: None })?;
@@ -76,7 +104,9 @@ impl Tags {
     }
 
     /// What a tag was made with, or `None` where it was not made.
-    pub fn info(&self, tag: TagId) -> Option<&TagInfo> {
+    pub fn info(&self, tag: TagId) -> Option<&TagInfo>
+        ensures { option_copied result ≡ slice_get self.now.made tag }
+    {
         match self.made.get(tag as usize) {
             Some(made) => Some(&made.info),
             None => None,
@@ -84,12 +114,17 @@ impl Tags {
     }
 
     /// The completed tags in the order of completion.
-    pub fn completed(&self) -> &[TagId] {
+    pub fn completed(&self) -> &[TagId]
+        ensures { result.now ≡ map (λ done. done.tag) self.now.completed }
+    {
         self.completed.as_slice()
     }
 
     /// The body of a completed tag, and its place in the order of completion.
-    pub(crate) fn body(&self, tag: TagId) -> Option<(usize, &Body)> {
+    pub(crate) fn body(&self, tag: TagId) -> Option<(usize, &Body)>
+        ensures none { IfNone result (known self.now.completed tag ≡ None) }
+        ensures some { IfSome result (λ r. IsBodyOf self.now.completed tag r.0 r.1.now) }
+    {
         let made = self.made.get(tag as usize)?;
         let place = made.place?;
         Some((place, &self.bodies[place]))
