@@ -1,6 +1,6 @@
 //! Structs and unions by their tags.
 
-ghost use Rattle.std.specs.Prelude.{◌≡◌, ◌≢◌, ◌+◌, ◌<◌, ◌^◌, ◌∷◌, ◌++◌, [], length, map, take, slice_get, option_copied, All, IfOk, IfErr, IfSome, IfNone, OnErr, MatchOption};
+ghost use Rattle.std.specs.Prelude.{◌≡◌, ◌≢◌, ◌+◌, ◌<◌, ◌^◌, ◌∷◌, ◌++◌, [], length, map, take, slice_get, option_copied, All, IfOk, IfErr, IfSome, IfNone, OnErr, MatchOption, option_and_then};
 ghost use Rattle.c_types.specs.Types.{plain};
 ghost use Rattle.c_types.specs.TagTable.{TagTable, completion, known, IsIncomplete, IsSizedIn, plain_pair, no_tags, with_tag};
 ghost use Rattle.c_types.specs.Bodies.{IsBodyOf, IsPlaced, KeepsRule, completed_tag};
@@ -51,6 +51,16 @@ impl<T: Drop> From<AllocFailed<T>> for TagError {
 pub(crate) struct Made {
     info: TagInfo,
     place: Option<usize>,
+}
+
+/// Where the body of a tag stands, if it has one.
+fn place_of(made: &[Made], tag: TagId) -> Option<usize>
+    ensures { result ≡ option_and_then (λ (m : Made). m.place) (slice_get made.now tag) }
+{
+    match made.get(tag as usize) {
+        Some(made) => made.place,
+        None => None,
+    }
 }
 
 /// The tags of structs and unions, numbered from 0 in the order of making, and the members of the completed ones.
@@ -125,9 +135,10 @@ impl Tags {
         ensures none { IfNone result (known self.now.completed tag ≡ None) }
         ensures some { IfSome result (λ r. IsBodyOf self.now.completed tag r.0 r.1.now) }
     {
-        let made = self.made.get(tag as usize)?;
-        let place = made.place?;
-        Some((place, &self.bodies[place]))
+        match place_of(&self.made, tag) {
+            Some(place) => Some((place, &self.bodies[place])),
+            None => None,
+        }
     }
 
     /// Completes a tag that was made, with members that each have a size.
