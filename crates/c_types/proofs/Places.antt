@@ -15,9 +15,16 @@ after known bs = fold learn known (map completed_tag bs)
 abbrev pub has_tag : ℕ → CompletedTag → Bool
 has_tag tag done = done.tag == tag
 
-pub stays_known : (k : Known) (bs : List Body) (tag : ℕ) (l : Layout) → k tag ≡ Some l → after k bs tag ≡ Some l
+pub stays_known : (k : Known) (ds : List CompletedTag) (tag : ℕ) (l : Layout) → k tag ≡ Some l → fold learn k ds tag ≡ Some l
 stays_known k [] tag l e = e
-stays_known k (b ∷ bs) tag l e = stays_known (learn k (completed_tag b)) bs tag l (rw e refl)
+stays_known k (d ∷ ds) tag l e = stays_known (learn k d) ds tag l (rw e refl)
+
+-- what is known after the first tags stays known
+pub known_after_first : (k : Known) (ds : List CompletedTag) (n tag : ℕ) (l : Layout) → fold learn k (take n ds) tag ≡ Some l → fold learn k ds tag ≡ Some l
+known_after_first k [] zero tag l e = e
+known_after_first k [] (suc n) tag l e = e
+known_after_first k (d ∷ ds) zero tag l e = stays_known k (d ∷ ds) tag l e
+known_after_first k (d ∷ ds) (suc n) tag l e = known_after_first (learn k d) ds n tag l e
 
 other_learnt : (k : Known) (b : CompletedTag) (tag : ℕ) → k tag ≡ None → (b.tag == tag) ≡ false → learn k b tag ≡ None
 other_learnt k b tag e n = rw (e, n) refl
@@ -73,7 +80,7 @@ place_at k (x ∷ xs) tag p b e h i =
           subst (λ (y : Body). IsAt k (x ∷ xs) tag 0 y) (sym same)
           (record {
             stands = refl;
-            found = stays_known (learn k (completed_tag x)) xs tag (tag_layout k (completed_tag x)) (new_learnt k (completed_tag x) tag e q);
+            found = stays_known (learn k (completed_tag x)) (map completed_tag xs) tag (tag_layout k (completed_tag x)) (new_learnt k (completed_tag x) tag e q);
             first = rw q refl;
           }))
       | false ↦ λ q.
@@ -110,3 +117,24 @@ body_at bs tag p b h a i =
 pub map-tag-completed : (bs : List Body) → map (λ (b : Body). b.tag) bs ≡ map (λ (done : CompletedTag). done.tag) (map completed_tag bs)
 map-tag-completed [] = refl
 map-tag-completed (b ∷ bs) = ap (λ ts. b.tag ∷ ts) (map-tag-completed bs)
+
+learnt_some : (k : Known) (d : CompletedTag) (tag : ℕ) → (d.tag == tag) ≡ true → (l : Layout) × (learn k d tag ≡ Some l)
+learnt_some k d tag q =
+    elim (k tag) as (λ o. k tag ≡ o → (l : Layout) × (learn k d tag ≡ Some l)) [
+      None ↦ λ e. (tag_layout k d, new_learnt k d tag e q)
+      | Some l ↦ λ e. (l, rw e refl)
+    ]
+    refl
+
+-- a tag of which nothing is known was not completed
+pub not_found : (k : Known) (ds : List CompletedTag) (tag : ℕ) → fold learn k ds tag ≡ None → find (has_tag tag) ds ≡ None
+not_found k [] tag e = refl
+not_found k (d ∷ ds) tag e =
+    elim (d.tag == tag) as (λ t. (d.tag == tag) ≡ t → find (has_tag tag) (d ∷ ds) ≡ None) [
+      true ↦ λ q.
+        let r = learnt_some k d tag q in
+        let stays : fold learn (learn k d) ds tag ≡ Some r.0 = stays_known (learn k d) ds tag r.0 r.1 in
+        cc
+      | false ↦ λ q. rw q (not_found (learn k d) ds tag e)
+    ]
+    refl

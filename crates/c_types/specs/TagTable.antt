@@ -1,5 +1,5 @@
 -- Tags in the order of making, and the completed ones in the order of completion.
-use Rattle.std.specs.Prelude.{◌≡◌, ◌==◌, ◌&&◌, ℕ, Bool, true, false, not, cond, List, [], ◌∷◌, ◌++◌, map, fold, find, zip, nat_lt, slice_get, unwrap_or, Option, Some, None, Result, Ok, Err, option_map, IsSome}
+use Rattle.std.specs.Prelude.{◌≡◌, ◌==◌, ◌<◌, ◌&&◌, ℕ, Bool, true, false, not, cond, List, [], ◌∷◌, ◌++◌, map, fold, find, zip, nat_lt, slice_get, unwrap_or, Option, Some, None, Result, Ok, Err, option_map, IsSome}
 use Rattle.std.specs.Option.{option_map_or, option_or}
 use Rattle.c_types.specs.declared.layouts.Layout.{Layout}
 use Rattle.c_types.specs.declared.tags.TagInfo.{TagInfo}
@@ -80,6 +80,15 @@ members_in table tag =
 
 abbrev pub plain_member : Member → PlainMember
 plain_member m = record { name = m.name; type = plain m.ty; offset = m.offset }
+
+abbrev pub new_tag : ℕ → Bool → List (List ℕ × CType) → CompletedTag
+new_tag tag is_union members = record { tag = tag; is_union = is_union; members = map plain_pair members }
+
+-- a struct that is too large is refused as such
+pub record IsTooLarge (table : TagTable) (new : CompletedTag) (given : TagError) : Type 0 where
+  pub is_struct : new.is_union ≡ false
+  pub size : 268435456 < (tag_layout (known table.completed) new).size
+  pub error : given ≡ TooLarge
 
 -- why a tag is not completed with these members
 abbrev pub refusal : Known → CompletedTag → Option TagError

@@ -1,5 +1,10 @@
 //! Members, and where they stand in their struct or union.
 
+ghost use Rattle.std.specs.Prelude.{◌≡◌, ◌≢◌, ◌<◌, map, option_map, All, IfOk, IfErr};
+ghost use Rattle.c_types.specs.Types.{plain};
+ghost use Rattle.c_types.specs.TagTable.{known, members_in, plain_member, tag_layout, new_tag, IsSizedIn, IsTooLarge};
+ghost use Rattle.c_types.specs.Bodies.{IsPlaced, completed_tag};
+
 use crate::layouts::MAX_SIZE;
 use crate::sizes::{align_of, size_of};
 use crate::tags::{TagError, Tags};
@@ -26,7 +31,9 @@ pub(crate) struct Body {
 }
 
 /// The members of a completed tag, or `None` where it is incomplete.
-pub fn members(tags: &Tags, tag: TagId) -> Option<&[Member]> {
+pub fn members(tags: &Tags, tag: TagId) -> Option<&[Member]>
+    ensures { option_map (λ list. map plain_member list.now) result ≡ members_in tags.now tag }
+{
     match tags.body(tag) {
         Some((_, body)) => Some(body.members.as_slice()),
         None => None,
@@ -40,7 +47,12 @@ pub(crate) fn place_members(
     tag: TagId,
     is_union: bool,
     members: Items<(Items<u8>, CType)>,
-) -> Result<Body, TagError> {
+) -> Result<Body, TagError>
+    requires { All (λ m. IsSizedIn tags.now (plain m.1)) members }
+    ensures body { IfOk result (λ body. completed_tag body ≡ new_tag tag is_union members) }
+    ensures placed { IfOk result (IsPlaced (known tags.now.completed)) }
+    ensures refused { IfErr result (λ e. e ≢ TagError.NoMemory → IsTooLarge tags.now (new_tag tag is_union members) e) }
+{
     let mut placed = Vec::new(alloc);
     let mut end: u32 = 0;
     let mut align: u32 = 1;
