@@ -3,3 +3,4 @@ pub mod Layouts
 pub mod TagTable
 pub mod Codes
 pub mod Bodies
+pub mod Placing

@@ -1,6 +1,7 @@
 //! Structs and unions by their tags.
 
 ghost use Rattle.std.specs.Prelude.{◌≡◌, ◌≢◌, ◌+◌, ◌<◌, ◌^◌, ◌∷◌, ◌++◌, [], length, map, take, slice_get, option_copied, All, IfOk, IfErr, IfSome, IfNone, OnErr, MatchOption, option_and_then};
+ghost use Rattle.c_types.specs.declared.tags.TagError.TheVariants.{NoMemory};
 ghost use Rattle.c_types.specs.Types.{plain};
 ghost use Rattle.c_types.specs.TagTable.{TagTable, completion, known, IsIncomplete, IsSizedIn, plain_pair, no_tags, with_tag};
 ghost use Rattle.c_types.specs.Bodies.{IsBodyOf, IsPlaced, KeepsRule, completed_tag};
@@ -35,12 +36,16 @@ pub enum TagError {
 }
 
 impl From<NoMemory> for TagError {
+    ghost from_gives = { λ _ e. e ≡ NoMemory };
+
     fn from(_: NoMemory) -> TagError {
         TagError::NoMemory
     }
 }
 
 impl<T: Drop> From<AllocFailed<T>> for TagError {
+    ghost from_gives = { λ _ e. e ≡ NoMemory };
+
     fn from(_: AllocFailed<T>) -> TagError {
         TagError::NoMemory
     }
