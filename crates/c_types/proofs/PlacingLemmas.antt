@@ -1,5 +1,5 @@
 -- One more member is placed.
-use Rattle.std.proofs.Common.{◌≡◌, ◌⊎◌, ◌≤◌, ◌<◌, ◌+◌, ℕ, suc, zero, Bool, true, false, List, [], ◌∷◌, ◌++◌, Option, Some, None, option_map, unwrap_or, map, fold, take, max, refl, ap, sym, ◌∙◌, IsSome, IfSome, arith, subst, ⊎_elim, inl, inr}
+use Rattle.std.proofs.Common.{◌≡◌, ◌⊎◌, ◌≤◌, ◌<◌, ◌+◌, ℕ, suc, zero, Bool, true, false, List, [], ◌∷◌, ◌++◌, Option, Some, None, option_map, unwrap_or, map, fold, take, max, refl, ap, sym, ◌∙◌, IsSome, IfSome, All, length, get_or, length-append, arith, subst, ⊎_elim, inl, inr}
 use Rattle.std.specs.List.{AllByRecursion}
 use Rattle.std.specs.Int.{next_multiple_of}
 use Rattle.std.proofs.lemmas.List.{map-append}
@@ -9,9 +9,11 @@ use Rattle.c_types.specs.declared.layouts.Layout.{Layout}
 use Rattle.c_types.specs.declared.bodies.Body.{Body}
 use Rattle.c_types.specs.declared.bodies.Placing.{Placing}
 use Rattle.c_types.specs.declared.bodies.Member.{Member}
+use Rattle.c_types.specs.declared.types.CType.{CType}
+use Rattle.c_types.specs.declared.tags.TagError.{TagError}
 use Rattle.c_types.specs.Types.{PlainType, plain}
 use Rattle.c_types.specs.Layouts.{Known, Placed, layout_of, no_layout, place, placed, offset_after, none_placed}
-use Rattle.c_types.specs.TagTable.{member_layout}
+use Rattle.c_types.specs.TagTable.{TagTable, member_layout, known, plain_pair, new_tag, tag_layout, IsTooLarge}
 use Rattle.c_types.specs.Bodies.{IsAlignment, IsSized, IsPlaced, completed_tag}
 use Rattle.c_types.specs.Placing.{IsPlacedSoFar, IsPastLimit, pairs, placed_by}
 
@@ -66,3 +68,46 @@ so_far_push k u p q m h s items at end align aligned limit =
 pub some_is : (P : ℕ → Type 0) (o : Option ℕ) (n : ℕ) → o ≡ Some n → IfSome o P → P n
 some_is P None n e h = cc
 some_is P (Some m) n e h = let same : m ≡ n = cc in subst P same h
+
+get_middle : {X : Type 0} (ys : List X) (x : X) (zs : List X) → x ≡ get_or (ys ++ x ∷ zs) (length ys) x
+get_middle [] x zs = refl
+get_middle (y ∷ ys) x zs = get_middle ys x zs
+
+pub all_middle : {X : Type 0} (P : X → Type 0) (xs ys : List X) (x : X) (zs : List X) → All P xs → xs ≡ ys ++ x ∷ zs → P x
+all_middle P xs ys x zs a e =
+    let there : All P (ys ++ x ∷ zs) = subst (λ l. All P l) e a in
+    let below : length ys < length (ys ++ x ∷ zs) = omega (arith, length-append ys (x ∷ zs)) in
+    subst P (sym (get_middle ys x zs)) (there (length ys) x below)
+
+end_grows : (u : Bool) (p : Placed) (ms : List Layout) → p.end ≤ (fold (place u) p ms).end
+end_grows u p [] = omega arith
+end_grows u p (m ∷ ms) =
+    let more : max p.end (offset_after u p m + m.size) ≤ (fold (place u) (place u p m) ms).end = end_grows u (place u p m) ms in
+    omega arith
+
+fold_append : (u : Bool) (p : Placed) (xs ys : List Layout) → fold (place u) p (xs ++ ys) ≡ fold (place u) (fold (place u) p xs) ys
+fold_append u p [] ys = refl
+fold_append u p (x ∷ xs) ys = fold_append u (place u p x) xs ys
+
+end_of_more : (k : Known) (u : Bool) (xs ys : List (List ℕ × PlainType)) → (placed_by k u xs).end ≤ (placed_by k u (xs ++ ys)).end
+end_of_more k u xs ys =
+    rw (map-append (member_layout k) xs ys, fold_append u none_placed (map (member_layout k) xs) (map (member_layout k) ys))
+    (end_grows u (placed_by k u xs) (map (member_layout k) ys))
+
+pub round_up_le : (n align : ℕ) → n ≤ next_multiple_of n align
+round_up_le n align = omega arith
+
+pub too_large :
+  (table : TagTable) (tag : ℕ) (u : Bool) (all ys : List (List ℕ × CType)) (x : List ℕ × CType) (zs : List (List ℕ × CType)) (e : TagError) →
+  all ≡ (ys ++ x ∷ []) ++ zs → IsPastLimit (known table.completed) u (map plain_pair (ys ++ x ∷ [])) e → IsTooLarge table (new_tag tag u all) e
+too_large table tag u all ys x zs e is h =
+    let k = known table.completed in
+    let front = map plain_pair (ys ++ x ∷ []) in
+    let more : (placed_by k u front).end ≤ (placed_by k u (map plain_pair all)).end =
+      rw (is, map-append plain_pair (ys ++ x ∷ []) zs) (end_of_more k u front (map plain_pair zs)) in
+    let past = h.end in
+    record {
+      is_struct = h.is_struct;
+      size = (let rounded = round_up_le (placed_by k u (map plain_pair all)).end (placed_by k u (map plain_pair all)).align in omega arith);
+      error = h.error;
+    }
