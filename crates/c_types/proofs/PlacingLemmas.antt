@@ -12,9 +12,9 @@ use Rattle.c_types.specs.declared.bodies.Member.{Member}
 use Rattle.c_types.specs.declared.types.CType.{CType}
 use Rattle.c_types.specs.declared.tags.TagError.{TagError}
 use Rattle.c_types.specs.Types.{PlainType, plain}
-use Rattle.c_types.specs.Layouts.{Known, Placed, layout_of, no_layout, place, placed, offset_after, none_placed}
+use Rattle.c_types.specs.Layouts.{IsAlignment, Known, Placed, layout_of, no_layout, place, placed, offset_after, none_placed}
 use Rattle.c_types.specs.TagTable.{TagTable, member_layout, known, plain_pair, new_tag, tag_layout, IsTooLarge}
-use Rattle.c_types.specs.Bodies.{IsAlignment, IsSized, IsPlaced, completed_tag}
+use Rattle.c_types.specs.Bodies.{IsSized, IsPlaced, completed_tag}
 use Rattle.c_types.specs.Placing.{IsPlacedSoFar, IsPastLimit, pairs, placed_by}
 
 pub unwrap_map : {X : Type 0} (f : X → ℕ) (o : Option X) (d : X) (n : ℕ) → option_map f o ≡ Some n → f (unwrap_or o d) ≡ n
@@ -36,7 +36,7 @@ pub sized_push : (P : Member → Type 0) (ms : List Member) (m : Member) → All
 sized_push P [] m a h = (h, tt)
 sized_push P (x ∷ xs) m a h = (a.0, sized_push P xs m a.1 h)
 
-max_is : (a b : ℕ) → (max a b ≡ a) ⊎ (max a b ≡ b)
+pub max_is : (a b : ℕ) → (max a b ≡ a) ⊎ (max a b ≡ b)
 max_is a b = ⊎_elim (λ h. inr (omega arith)) (λ h. inl (omega arith)) (cases_lt a b)
 
 pub max_aligned : (a b : ℕ) → IsAlignment a → IsAlignment b → IsAlignment (max a b)

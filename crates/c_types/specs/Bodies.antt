@@ -1,12 +1,12 @@
 -- What `Tags` keeps: the bodies of the completed tags, with sizes, alignments and offsets as their layouts have them.
-use Rattle.std.specs.Prelude.{◌≡◌, ◌==◌, ◌≤◌, ◌+◌, ◌⊎◌, ℕ, suc, Bool, List, [], ◌∷◌, map, fold, cond, find, take, IsTrue, IsSome, Option, Some, None, option_map, option_and_then, slice_get, Vec}
+use Rattle.std.specs.Prelude.{◌≡◌, ◌==◌, ◌≤◌, ◌+◌, ℕ, suc, Bool, List, [], ◌∷◌, map, fold, cond, find, take, IsTrue, IsSome, Option, Some, None, option_map, option_and_then, slice_get, Vec}
 use Rattle.std.specs.List.{AllByRecursion}
 use Rattle.c_types.specs.declared.bodies.Body.{Body}
 use Rattle.c_types.specs.declared.bodies.Member.{Member}
 use Rattle.c_types.specs.declared.tags.Made.{Made}
 use Rattle.c_types.specs.declared.tags.Tags.TheInside.{Inside}
 use Rattle.c_types.specs.Types.{PlainType, plain}
-use Rattle.c_types.specs.Layouts.{Known, ArraysFit, layout_of, placed, keeps_union_rule}
+use Rattle.c_types.specs.Layouts.{Known, IsAlignment, ArraysFit, layout_of, placed, keeps_union_rule}
 use Rattle.c_types.specs.TagTable.{CompletedTag, TagTable, member_layout, tag_layout, learn, known}
 
 abbrev pub completed_tag : Body → CompletedTag
@@ -14,9 +14,6 @@ completed_tag b = record { tag = b.tag; is_union = b.is_union; members = map (λ
 
 abbrev pub table_of : Inside → TagTable
 table_of t = record { made = map (λ (m : Made). m.info) t.made.items; completed = map completed_tag t.bodies.items }
-
-abbrev pub IsAlignment : ℕ → Type 0
-IsAlignment n = (n ≡ 1) ⊎ (n ≡ 2) ⊎ (n ≡ 4) ⊎ (n ≡ 8)
 
 -- a type with a size that is not too large
 abbrev pub IsSized : Known → PlainType → Type 0

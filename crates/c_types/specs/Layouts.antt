@@ -1,5 +1,5 @@
 -- Size, alignment and pointer slots of a type (C99 6.2.5, 6.7.2.1).
-use Rattle.std.specs.Prelude.{◌≡◌, ◌==◌, ◌≤◌, ◌+◌, ◌*◌, ◌||◌, ℕ, Bool, true, false, List, [], ◌∷◌, ◌++◌, map, fold, filter, max, nat_le, Option, Some, None, option_map, IfSome}
+use Rattle.std.specs.Prelude.{◌≡◌, ◌==◌, ◌≤◌, ◌+◌, ◌*◌, ◌%◌, ◌||◌, ◌⊎◌, ℕ, Bool, true, false, List, [], ◌∷◌, ◌++◌, map, fold, filter, max, nat_le, Option, Some, None, option_map, IfSome}
 use Rattle.std.specs.List.{flat_map, range_with_len, list_any, list_all}
 use Rattle.std.specs.Int.{next_multiple_of}
 use Rattle.c_types.specs.declared.layouts.Layout.{Layout}
@@ -95,3 +95,19 @@ members_layout is_union members =
 abbrev pub keeps_union_rule : List Layout → Bool
 keeps_union_rule members =
     list_all (λ m. list_all (λ slot. list_all (λ other. nat_le other.size slot || has_slot slot other) members) m.slots) members
+
+-- a number of bytes that divides the addresses of a type
+abbrev pub IsAlignment : ℕ → Type 0
+IsAlignment n = (n ≡ 1) ⊎ (n ≡ 2) ⊎ (n ≡ 4) ⊎ (n ≡ 8)
+
+-- ascending multiples of 4, none below low, each of which ends at or before high
+abbrev pub AreSlots : ℕ → ℕ → List ℕ → Type 0
+AreSlots low high [] = Unit {0}
+AreSlots low high (slot ∷ slots) = (low ≤ slot) × (slot + 4 ≤ high) × (slot % 4 ≡ 0) × AreSlots (slot + 4) high slots
+
+-- what holds of each layout of a type
+pub record IsSound (l : Layout) : Type 0 where
+  pub aligned : IsAlignment l.align
+  pub whole : l.size % l.align ≡ 0
+  pub slots : AreSlots 0 l.size l.slots
+  pub pointers : (l.slots ≡ []) ⊎ (l.align % 4 ≡ 0)

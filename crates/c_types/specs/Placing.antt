@@ -6,9 +6,9 @@ use Rattle.c_types.specs.declared.bodies.Member.{Member}
 use Rattle.c_types.specs.declared.tags.TagError.{TagError}
 use Rattle.c_types.specs.declared.tags.TagError.TheVariants.{TooLarge}
 use Rattle.c_types.specs.Types.{PlainType, plain}
-use Rattle.c_types.specs.Layouts.{Known, Placed, placed}
+use Rattle.c_types.specs.Layouts.{IsAlignment, Known, Placed, placed}
 use Rattle.c_types.specs.TagTable.{member_layout}
-use Rattle.c_types.specs.Bodies.{IsAlignment, IsSized}
+use Rattle.c_types.specs.Bodies.{IsSized}
 
 abbrev pub pairs_of : List Member → List (List ℕ × PlainType)
 pairs_of members = map (λ (m : Member). (m.name, plain m.ty)) members

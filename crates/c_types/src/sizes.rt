@@ -2,9 +2,8 @@
 
 ghost use Rattle.std.specs.Prelude.{◌≡◌, ◌≤◌, IfSome};
 ghost use Rattle.c_types.specs.Types.{plain};
-ghost use Rattle.c_types.specs.Layouts.{ArraysFit};
+ghost use Rattle.c_types.specs.Layouts.{IsAlignment, ArraysFit};
 ghost use Rattle.c_types.specs.TagTable.{known, size_in, align_in};
-ghost use Rattle.c_types.specs.Bodies.{IsAlignment};
 
 use crate::tags::Tags;
 use crate::types::CType;

@@ -1,5 +1,6 @@
 use Rattle.std.proofs.Common.{◌≡◌, ap, sym, ◌∙◌}
 use Rattle.c_types.proofs.Places.{map-tag-completed}
+use Rattle.c_types.proofs.Sound.{slots_moved_if}
 use Rattle.c_types.proofs.tags.Tags.completed.Goals as goal
 
 pub returns : goal.returns
