@@ -13,7 +13,7 @@ use Rattle.c_types.specs.Bodies.{IsSized, IsPlaced, completed_tag}
 abbrev pub Extends : Known → Known → Type 0
 Extends k more = (tag : ℕ) (l : Layout) → k tag ≡ Some l → more tag ≡ Some l
 
-some_array : (o : Option Layout) (n : ℕ) (l : Layout) → option_map (array_layout n) o ≡ Some l → (e : Layout) × (o ≡ Some e) × (array_layout n e ≡ l)
+pub some_array : (o : Option Layout) (n : ℕ) (l : Layout) → option_map (array_layout n) o ≡ Some l → (e : Layout) × (o ≡ Some e) × (array_layout n e ≡ l)
 some_array None n l h = cc
 some_array (Some e) n l h = (e, refl, (let same : array_layout n e ≡ l = cc in same))
 
