@@ -101,6 +101,24 @@ laid_at k [] p b a h i = absurd (omega arith)
 laid_at k (x ∷ xs) zero b a h i = subst (λ (y : Body). IsPlaced k y × KeepsRule k y) (sym i) a.0
 laid_at k (x ∷ xs) (suc p) b a h i = laid_at (learn k (completed_tag x)) xs p b a.1 (omega arith) i
 
+take_zero : {X : Type 0} (xs : List X) → take 0 xs ≡ []
+take_zero [] = refl
+take_zero (x ∷ xs) = refl
+
+pub place_before :
+  (k : Known) (bs : List Body) (tag p n : ℕ) (l : Layout) → k tag ≡ None → place_in tag bs ≡ Some p → fold learn k (take n (map completed_tag bs)) tag ≡ Some l → p < n
+place_before k bs tag p zero l e h g = let none : k tag ≡ Some l = (let q = take_zero (map completed_tag bs) in rw q at g) in cc
+place_before k [] tag p (suc n) l e h g = cc
+place_before k (b ∷ bs) tag p (suc n) l e h g =
+    elim (b.tag == tag) as (λ t. (b.tag == tag) ≡ t → p < suc n) [
+      true ↦ λ q. let here : Some 0 ≡ Some p = rw q at h in let zero_is : 0 ≡ p = cc in omega arith
+      | false ↦ λ q.
+        let r = next_some (place_in tag bs) p (rw q at h) in
+        let ih : r.0 < n = place_before (learn k (completed_tag b)) bs tag r.0 n l (other_learnt k (completed_tag b) tag e q) r.2 g in
+        omega (arith, r.1)
+    ]
+    refl
+
 pub body_at :
   (bs : List Body) (tag p : ℕ) (b : Body) → place_in tag bs ≡ Some p → AllLaid (λ tag. None) bs → b ≡ get_or bs p b → IsBodyOf (map completed_tag bs) tag p b
 body_at bs tag p b h a i =
@@ -112,6 +130,7 @@ body_at bs tag p b h a i =
       first = at.first;
       placed = rw take-map laid.0;
       rule = rw take-map laid.1;
+      before = λ n l e. place_before (λ tag. None) bs tag p n l refl h e;
     }
 
 pub map-tag-completed : (bs : List Body) → map (λ (b : Body). b.tag) bs ≡ map (λ (done : CompletedTag). done.tag) (map completed_tag bs)

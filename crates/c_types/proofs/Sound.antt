@@ -80,11 +80,11 @@ array_slots size ss q h a (suc n) =
     slots_append (a * size) (a * size + size) ((a + suc n) * size) _ _ (omega arith) (omega arith) (slots_within (a * size + 0) (a * size) _ _ _ (omega arith) (omega arith) here)
     (slots_within ((a + 1) * size) (a * size + size) ((a + 1 + n) * size) ((a + suc n) * size) _ (omega arith) (omega arith) rest)
 
-flat_map_none : {X : Type 0} (f : X → List ℕ) (xs : List X) → ((x : X) → f x ≡ []) → flat_map f xs ≡ []
+pub flat_map_none : {X : Type 0} (f : X → List ℕ) (xs : List X) → ((x : X) → f x ≡ []) → flat_map f xs ≡ []
 flat_map_none f [] e = refl
 flat_map_none f (x ∷ xs) e = rw (e x, flat_map_none f xs e) refl
 
-none_moved : (by : ℕ) (ss : List ℕ) → ss ≡ [] → moved by ss ≡ []
+pub none_moved : (by : ℕ) (ss : List ℕ) → ss ≡ [] → moved by ss ≡ []
 none_moved by ss e = rw e refl
 
 pub flat_map_push : {X : Type 0} (f : X → List ℕ) (xs : List X) (x : X) → flat_map f (xs ++ x ∷ []) ≡ flat_map f xs ++ f x

@@ -1,6 +1,7 @@
 -- What `Tags` keeps: the bodies of the completed tags, with sizes, alignments and offsets as their layouts have them.
-use Rattle.std.specs.Prelude.{◌≡◌, ◌==◌, ◌≤◌, ◌+◌, ℕ, suc, Bool, List, [], ◌∷◌, map, fold, cond, find, take, IsTrue, IsSome, Option, Some, None, option_map, option_and_then, slice_get, Vec}
+use Rattle.std.specs.Prelude.{◌≡◌, ◌==◌, ◌≤◌, ◌<◌, ◌+◌, ℕ, suc, Bool, List, [], ◌∷◌, map, fold, cond, find, take, IsTrue, IsSome, Option, Some, None, option_map, option_and_then, slice_get, Vec}
 use Rattle.std.specs.List.{AllByRecursion}
+use Rattle.c_types.specs.declared.layouts.Layout.{Layout}
 use Rattle.c_types.specs.declared.bodies.Body.{Body}
 use Rattle.c_types.specs.declared.bodies.Member.{Member}
 use Rattle.c_types.specs.declared.tags.Made.{Made}
@@ -54,3 +55,4 @@ pub record IsBodyOf (completed : List CompletedTag) (tag place : ℕ) (b : Body)
   pub first : find (λ (done : CompletedTag). done.tag == tag) completed ≡ Some (completed_tag b)
   pub placed : IsPlaced (known (take place completed)) b
   pub rule : KeepsRule (known (take place completed)) b
+  pub before : (n : ℕ) (l : Layout) → known (take n completed) tag ≡ Some l → place < n

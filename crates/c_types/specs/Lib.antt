@@ -4,3 +4,4 @@ pub mod TagTable
 pub mod Codes
 pub mod Bodies
 pub mod Placing
+pub mod Slots

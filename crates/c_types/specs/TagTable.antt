@@ -34,9 +34,12 @@ pub record PlainMember : Type 0 where
   pub type : PlainType
   pub offset : ℕ
 
+abbrev pub layout_or : Known → PlainType → Layout
+layout_or known type = unwrap_or (layout_of known type) no_layout
+
 -- the layout of a member; each member of a completed tag has one
 abbrev pub member_layout : Known → List ℕ × PlainType → Layout
-member_layout known m = unwrap_or (layout_of known m.1) no_layout
+member_layout known m = layout_or known m.1
 
 abbrev pub tag_layout : Known → CompletedTag → Layout
 tag_layout known new = members_layout new.is_union (map (member_layout known) new.members)

@@ -1,5 +1,13 @@
 //! The layout of a type: its size, its alignment and the list of its slots.
 
+ghost use Rattle.std.specs.Prelude.{◌≡◌, ◌≤◌, ◌<◌, ◌+◌, ◌-◌, ◌*◌, ◌^◌, ◌++◌, Some, length, drop, slice_get, slice_range, All, IfOk};
+ghost use Rattle.std.specs.List.{flat_map, range_with_len};
+ghost use Rattle.c_types.specs.Types.{plain};
+ghost use Rattle.c_types.specs.Layouts.{moved, IsSound};
+ghost use Rattle.c_types.specs.TagTable.{known, layout_in, layout_or, tag_layout, IsSizedIn};
+ghost use Rattle.c_types.specs.Bodies.{IsSized, IsPlaced, KeepsRule, completed_tag};
+ghost use Rattle.c_types.specs.Slots.{first_known};
+
 use crate::bodies::Body;
 use crate::layouts::Layout;
 use crate::sizes::{align_of, size_of};
@@ -9,8 +17,12 @@ use crate::unions::largest_member;
 use hs_base::{Items, NoMemory};
 use std::alloc::Global;
 
-/// The layout of a type that has a size.
-pub fn layout(alloc: Global, tags: &Tags, ty: &CType) -> Result<Layout, NoMemory> {
+/// The layout of a type that has a size. It takes memory for each slot.
+pub fn layout(alloc: Global, tags: &Tags, ty: &CType) -> Result<Layout, NoMemory>
+    requires { IsSizedIn tags.now (plain ty.now) }
+    ensures value { IfOk result (λ layout. layout_in tags.now (plain ty.now) ≡ Some layout) }
+    ensures sound { IfOk result IsSound }
+{
     let size = size_of(tags, ty).unwrap();
     let align = align_of(tags, ty).unwrap();
     let slots = slots_of(alloc, tags, ty)?;
@@ -22,7 +34,10 @@ pub fn layout(alloc: Global, tags: &Tags, ty: &CType) -> Result<Layout, NoMemory
 }
 
 /// The slots of a type that has a size.
-pub(crate) fn slots_of(alloc: Global, tags: &Tags, ty: &CType) -> Result<Vec<u32>, NoMemory> {
+pub(crate) fn slots_of(alloc: Global, tags: &Tags, ty: &CType) -> Result<Vec<u32>, NoMemory>
+    requires { IsSizedIn tags.now (plain ty.now) }
+    ensures { IfOk result (λ slots. slots.items ≡ (layout_or (known tags.now.completed) (plain ty.now)).slots) }
+{
     let mut slots = Vec::new(alloc);
     add_slots(tags, tags.completed().len(), ty, 0, &mut slots)?;
     Ok(slots)
@@ -36,7 +51,12 @@ fn add_slots(
     ty: &CType,
     offset: u32,
     slots: &mut Vec<u32>,
-) -> Result<(), NoMemory> {
+) -> Result<(), NoMemory>
+    requires sized { IsSized (first_known tags.now first) (plain ty.now) }
+    requires room { offset + (layout_or (first_known tags.now first) (plain ty.now)).size ≤ 268435456 }
+    ensures { IfOk result (λ _.
+        slots.new.items ≡ slots.old.items ++ moved offset (layout_or (first_known tags.now first) (plain ty.now)).slots) }
+{
     match ty {
         CType::Void | CType::Int(_) | CType::Function(_) => Ok(()),
         CType::Pointer(_) => {
@@ -44,7 +64,13 @@ fn add_slots(
             Ok(())
         }
         CType::Array(element, length) => {
-            add_array_slots(tags, first, element, *length, offset, slots)
+            if *length == 0 {
+                return Ok(());
+            }
+            let start = slots.len();
+            add_slots(tags, first, element, offset, slots)?;
+            let size = size_of(tags, element).unwrap();
+            repeat_slots(slots, start, *length, size)
         }
         CType::Struct(tag) | CType::Union(tag) => {
             let (place, body) = tags.body(*tag).unwrap();
@@ -53,42 +79,8 @@ fn add_slots(
     }
 }
 
-/// Adds the slots of an array's elements.
-#[cycle(slots)]
-fn add_array_slots(
-    tags: &Tags,
-    first: usize,
-    element: &CType,
-    length: u32,
-    offset: u32,
-    slots: &mut Vec<u32>,
-) -> Result<(), NoMemory> {
-    if length == 0 {
-        return Ok(());
-    }
-    let start = slots.len();
-    add_slots(tags, first, element, offset, slots)?;
-    let end = slots.len();
-    if start == end {
-        return Ok(());
-    }
-    let size = size_of(tags, element).unwrap();
-    for k in 1..length {
-        repeat_slots(slots, start, end, k * size)?;
-    }
-    Ok(())
-}
-
-/// Adds the slots in a range once more, moved up.
-fn repeat_slots(slots: &mut Vec<u32>, start: usize, end: usize, by: u32) -> Result<(), NoMemory> {
-    for place in start..end {
-        let slot = slots[place] + by;
-        slots.push(slot)?;
-    }
-    Ok(())
-}
-
-/// Adds the slots of a struct or union. A union has those of its largest member, by the union rule.
+/// Adds the slots of a struct or union that stands at an offset and was completed after the first tags. A union has
+/// the slots of its largest member, by the union rule.
 #[cycle(slots)]
 fn add_body_slots(
     tags: &Tags,
@@ -96,7 +88,14 @@ fn add_body_slots(
     body: &Body,
     offset: u32,
     slots: &mut Vec<u32>,
-) -> Result<(), NoMemory> {
+) -> Result<(), NoMemory>
+    requires stands { slice_get tags.now.completed first ≡ Some (completed_tag body.now) }
+    requires placed { IsPlaced (first_known tags.now first) body.now }
+    requires rule { KeepsRule (first_known tags.now first) body.now }
+    requires room { offset + body.now.size ≤ 268435456 }
+    ensures { IfOk result (λ _.
+        slots.new.items ≡ slots.old.items ++ moved offset (tag_layout (first_known tags.now first) (completed_tag body.now)).slots) }
+{
     if body.is_union {
         return match largest_member(tags, &body.members) {
             Some(largest) => add_slots(tags, first, &largest.ty, offset, slots),
@@ -105,6 +104,44 @@ fn add_body_slots(
     }
     for member in &body.members {
         add_slots(tags, first, &member.ty, offset + member.offset, slots)?;
+    }
+    Ok(())
+}
+
+/// The list from a place on is the slots of the first element of an array. Adds those of the others.
+fn repeat_slots(
+    slots: &mut Vec<u32>,
+    start: usize,
+    count: u32,
+    size: u32,
+) -> Result<(), NoMemory>
+    requires start { start ≤ length slots.old.items }
+    requires some { 0 < count }
+    requires room { count * size < 2 ^ 32 }
+    requires fits { All (λ slot. slot + count * size < 2 ^ 32) (drop start slots.old.items) }
+    ensures { IfOk result (λ _. slots.new.items ≡
+        slots.old.items ++ flat_map (λ k. moved (k * size) (drop start slots.old.items)) (range_with_len 1 (count - 1))) }
+{
+    let end = slots.len();
+    if start == end {
+        return Ok(());
+    }
+    for k in 1..count {
+        copy_slots(slots, start, end, k * size)?;
+    }
+    Ok(())
+}
+
+/// Adds the slots in a range once more, moved up.
+fn copy_slots(slots: &mut Vec<u32>, start: usize, end: usize, by: u32) -> Result<(), NoMemory>
+    requires start { start ≤ end }
+    requires end { end ≤ length slots.old.items }
+    requires fits { All (λ slot. slot + by < 2 ^ 32) (slice_range slots.old.items start end) }
+    ensures { IfOk result (λ _. slots.new.items ≡ slots.old.items ++ moved by (slice_range slots.old.items start end)) }
+{
+    for place in start..end {
+        let slot = by + slots[place];
+        slots.push(slot)?;
     }
     Ok(())
 }

@@ -8,7 +8,7 @@ ghost use Rattle.c_types.specs.Bodies.{IsBodyOf, IsPlaced, KeepsRule, completed_
 
 use crate::bodies::{Body, place_members};
 use crate::types::{CType, TagId};
-use crate::unions::keeps_union_rule;
+use crate::unions::follows_union_rule;
 use hs_base::{Items, NoMemory};
 use std::alloc::{AllocFailed, Global};
 use std::marker::Model;
@@ -155,7 +155,7 @@ impl Tags {
         let is_union = self.made[tag as usize].info.is_union;
         // A union is never too large, since none of its members is.
         let body = place_members(self.alloc, self, tag, is_union, members)?;
-        if is_union && !keeps_union_rule(self.alloc, self, &body.members)? {
+        if is_union && !follows_union_rule(self.alloc, self, &body.members)? {
             return Err(TagError::PointerInUnion);
         }
         self.keep(body)
