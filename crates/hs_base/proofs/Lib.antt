@@ -1,3 +1,4 @@
 pub mod Running
 pub mod Wrapping
 pub mod Quotients
+pub mod Words

@@ -12,6 +12,7 @@
 #![tactic(auto)]
 
 mod ends;
+mod flat_bytes;
 mod items;
 mod memory;
 mod numbers;
@@ -19,14 +20,17 @@ mod output;
 mod outside;
 mod plan;
 mod real;
+mod steps;
 mod sure;
 mod values;
 
 pub use ends::{BadFree, End, Holder, IntKind, Leak, Limits, Line, Reason, TrapKind};
+pub use flat_bytes::FlatBytes;
 pub use items::{Items, NoMemory};
 pub use memory::{MemSink, MemSource, MemTexts};
 pub use output::put_all;
 pub use outside::{Failed, Sink, Source, Texts};
 pub use real::{FileTexts, StdSink, StdSource};
+pub use steps::Steps;
 pub use sure::{SureSink, SureSource, SureTexts};
 pub use values::{Pointer, Value};
