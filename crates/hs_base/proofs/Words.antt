@@ -1,10 +1,10 @@
 -- Words in a list of bytes: what is read, what is written, and what is read after a write.
-use Rattle.std.proofs.Common.{◌≡◌, ◌≢◌, ◌≤◌, ◌<◌, ◌+◌, ◌-◌, ◌*◌, ◌/◌, ◌%◌, ◌^◌, ℕ, zero, suc, List, [], ◌∷◌, ◌++◌, length, length-append, get_or, take, drop, set, refl, sym, ap, ◌∙◌, subst, append_assoc, arith, length-take, length-drop, drop-cons, add-one}
+use Rattle.std.proofs.Common.{◌≡◌, ◌≤◌, ◌<◌, ◌+◌, ◌-◌, ◌*◌, ◌/◌, ◌%◌, ◌^◌, ℕ, zero, suc, List, ◌∷◌, ◌++◌, length, length-append, get_or, take, drop, set, refl, sym, ap, ◌∙◌, subst, append_assoc, arith, length-take, length-drop, drop-cons, add-one}
 use Rattle.std.specs.Int.{byte_at, bytes_low_first}
 use Rattle.std.proofs.Math.Nat.{div-lt_iff_lt-mul, pow-suc, div-div-eq-div-mul}
 use Rattle.std.proofs.lemmas.List.{set_split, drop-drop, drop_at, take_at, drop-append-le, take-append-le, take-append-drop}
 use borrow.Rule.Slice.PartMut.{put_mid}
-use Rattle.hs_base.specs.Access.{little_endian, bytes_of, overlaid}
+use Rattle.hs_base.specs.Access.{little_endian, bytes_of}
 use Rattle.hs_base.specs.Bytes.{part, word, put_word}
 
 -- Reading
@@ -78,7 +78,7 @@ bytes_from : (i n value : ℕ) → bytes_low_first i n value ≡ bytes_of n (val
 bytes_from i zero value = refl
 bytes_from i (suc n) value =
     let tail : bytes_low_first (suc i) n value ≡ bytes_of n (value / 256 ^ i / 256) =
-        bytes_from (suc i) n value ∙ ap (λ d. bytes_of n (value / d)) (pow-suc 256 i) ∙ ap (bytes_of n) (sym (div-div-eq-div-mul value (256 ^ i) 256)) in
+    bytes_from (suc i) n value ∙ ap (λ d. bytes_of n (value / d)) (pow-suc 256 i) ∙ ap (bytes_of n) (sym (div-div-eq-div-mul value (256 ^ i) 256)) in
     λ k. byte_is i value k ∷ tail k
 
 pub bytes_are : (n value : ℕ) → bytes_low_first 0 n value ≡ bytes_of n value
@@ -112,8 +112,14 @@ pub length-put_word : (bytes : List ℕ) (addr width value : ℕ) → addr + wid
 length-put_word bytes addr width value inside =
     let new = bytes_of width value in
     ap length (put_word_is bytes addr width value)
-    ∙ omega (arith, length-append (take addr bytes) (new ++ drop (addr + width) bytes), length-append new (drop (addr + width) bytes),
-        length-bytes_of width value, length-take addr bytes, length-drop (addr + width) bytes)
+    ∙ omega (
+      arith,
+      length-append (take addr bytes) (new ++ drop (addr + width) bytes),
+      length-append new (drop (addr + width) bytes),
+      length-bytes_of width value,
+      length-take addr bytes,
+      length-drop (addr + width) bytes,
+    )
 
 -- the part that was written
 pub part_same : (bytes : List ℕ) (addr width value : ℕ) → addr + width ≤ length bytes →
@@ -133,7 +139,7 @@ part_inside bytes addr width value from n inside low high =
     let rest = drop (addr + width) bytes in
     let place : addr + (from - addr) ≡ from = omega arith in
     let first : drop addr (take addr bytes ++ (new ++ rest)) ≡ new ++ rest =
-        drop_at (take addr bytes) (new ++ rest) addr (omega (arith, length-take addr bytes)) in
+    drop_at (take addr bytes) (new ++ rest) addr (omega (arith, length-take addr bytes)) in
     let len = length-bytes_of width value in
     ap (λ l. take n (drop from l)) (put_word_is bytes addr width value)
     ∙ ap (λ m. take n (drop m (take addr bytes ++ (new ++ rest)))) (sym place)
@@ -167,7 +173,7 @@ part_past bytes addr width value from n inside past =
     let front = take addr bytes ++ new in
     let place : addr + width + (from - (addr + width)) ≡ from = omega arith in
     let first : drop (addr + width) (front ++ rest) ≡ rest =
-        drop_at front rest (addr + width) (omega (arith, length-append (take addr bytes) new, length-take addr bytes, length-bytes_of width value)) in
+    drop_at front rest (addr + width) (omega (arith, length-append (take addr bytes) new, length-take addr bytes, length-bytes_of width value)) in
     ap (λ l. take n (drop from l)) (put_word_is bytes addr width value ∙ sym (append_assoc (take addr bytes) new rest))
     ∙ ap (λ m. take n (drop m (front ++ rest))) (sym place)
     ∙ ap (take n) (sym (drop-drop (from - (addr + width)) (addr + width) (front ++ rest)))

@@ -20,7 +20,12 @@ fn load(bytes: &[u8], at: usize, width: u32) -> u64
     match width {
         1 => u64::from(bytes[at]),
         2 => u64::from(u16::from_le_bytes([bytes[at], bytes[at + 1]])),
-        4 => u64::from(u32::from_le_bytes([bytes[at], bytes[at + 1], bytes[at + 2], bytes[at + 3]])),
+        4 => u64::from(u32::from_le_bytes([
+            bytes[at],
+            bytes[at + 1],
+            bytes[at + 2],
+            bytes[at + 3],
+        ])),
         _ => u64::from_le_bytes([
             bytes[at],
             bytes[at + 1],

@@ -1,4 +1,4 @@
-use Rattle.std.proofs.Common.{◌≡◌, ◌+◌, ◌*◌, ◌<◌, ◌≤◌, ◌^◌, ℕ, List, length, get_or, sym, ap, ◌∙◌, subst, arith, rules}
+use Rattle.std.proofs.Common.{◌≡◌, ◌*◌, ◌<◌, ◌^◌, ℕ, sym, ap, ◌∙◌, subst, arith}
 use Rattle.hs_base.specs.Bytes.{word}
 use Rattle.hs_base.proofs.Words.{word_1, word_2, word_4, word_8, word_bound}
 use Rattle.hs_base.proofs.flat_bytes.load.Goals as goal
@@ -47,4 +47,3 @@ returns-in_default-clause-bound c =
     let value = c.from_le_bytes-in_default.ensures ∙ sym (word_8 c.args.bytes.now c.args.at (omega arith)) in
     let bound = word_bound c.args.bytes.now (λ i. (c.type_inv.bytes i).fits) c.args.at 8 (omega arith) in
     bounded c.args.width 8 _ wide (omega arith)
-

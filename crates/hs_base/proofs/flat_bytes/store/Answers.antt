@@ -1,4 +1,4 @@
-use Rattle.std.proofs.Common.{◌≡◌, ◌+◌, ◌-◌, ◌*◌, ◌<◌, ◌≤◌, ℕ, List, length, set, ◌^◌, subst, sym, ap, ◌∙◌, arith, rules}
+use Rattle.std.proofs.Common.{◌≡◌, ◌*◌, ◌<◌, ◌^◌, subst, sym, ap, ◌∙◌, arith}
 use Rattle.hs_base.specs.Bytes.{put_word}
 use Rattle.hs_base.proofs.Words.{stored, stored_byte, bytes_are}
 use Rattle.hs_base.proofs.flat_bytes.store.Goals as goal
@@ -26,4 +26,3 @@ returns-in_default c =
     stored c.args.bytes.now c.args.at _ c.copy_from_slice-in_default.new.self 8 c.args.value (omega arith)
     (c.copy_from_slice-in_default.ensures.after ∙ c.to_le_bytes-in_default.ensures ∙ bytes_are 8 c.args.value)
     ∙ ap (λ width. put_word c.args.bytes.now c.args.at width c.args.value) (sym wide)
-
