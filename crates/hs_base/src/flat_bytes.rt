@@ -101,9 +101,85 @@ impl FlatBytes {
         requires inside { addr + width ≤ length self.old }
         requires fits { value < 2 ^ (8 * width) }
         ensures value { self.new ≡ put_word self.old addr width value }
+        ensures len { length self.new ≡ length self.old }
         ensures step { steps.new ≡ steps.old + 1 }
     {
         steps.tick();
         store(self.bytes.as_mut_slice(), addr as usize, width, value)
+    }
+}
+
+#[cfg(test)]
+mod tests {
+    use super::*;
+    use std::marker::Brand;
+    use std::process::Abort;
+    use std::sync::ledger::Blank;
+    use std::test::Fail;
+
+    // Each byte of a memory of 16 bytes, of which some are those of a value and all others 0.
+    fn reads_bytes<L: Ledger, R: Abort>(
+        rt: &R,
+        memory: &FlatBytes,
+        addr: u32,
+        width: u32,
+        value: u64,
+        steps: &mut Steps<L>,
+    )
+        requires memory { length memory.now ≡ 16 }
+        requires addr { addr ≤ 16 }
+        requires width { width ≤ 8 }
+    {
+        for place in 0..16 {
+            let byte = memory.read(place, 1, steps);
+            let want = if place < addr || place >= addr + width {
+                0
+            } else {
+                value >> (8 * (place - addr)) & 0xff
+            };
+            assert_eq!(rt; byte, want, "{width} bytes at {addr}, the byte at {place}");
+        }
+    }
+
+    // Writes a value at every address of a memory of 16 bytes, and reads it and each byte.
+    fn writes_then_reads<L: Ledger, R: Abort>(
+        rt: &R,
+        alloc: Global,
+        width: u32,
+        value: u64,
+        steps: &mut Steps<L>,
+    ) -> Result<(), NoMemory>
+        requires width { (width ≡ 1) ⊎ ((width ≡ 2) ⊎ ((width ≡ 4) ⊎ (width ≡ 8))) }
+        requires fits { value < 2 ^ (8 * width) }
+    {
+        for addr in 0..17 - width {
+            let mut memory = FlatBytes::new(alloc, 16)?;
+            memory.write(addr, width, value, steps);
+            assert_eq!(rt;
+                memory.read(addr, width, steps),
+                value,
+                "{width} bytes at {addr}"
+            );
+            reads_bytes(rt, &memory, addr, width, value, steps);
+        }
+        Ok(())
+    }
+
+    fn all_widths<L: Ledger, R: Abort>(rt: &R, alloc: Global, blank: Blank) -> Result<(), NoMemory>
+        requires name { blank.name ≡ L.name }
+        requires parts { blank.parts ≡ L.parts }
+        requires some { 0 < blank.parts }
+    {
+        let mut steps = Steps::<L>::new(blank);
+        writes_then_reads(rt, alloc, 1, 0x81, &mut steps)?;
+        writes_then_reads(rt, alloc, 2, 0x8182, &mut steps)?;
+        writes_then_reads(rt, alloc, 4, 0x8182_8384, &mut steps)?;
+        writes_then_reads(rt, alloc, 8, 0x8182_8384_8586_8788, &mut steps)
+    }
+
+    #[test]
+    fn every_width_at_every_address(rt: HostRuntime) -> Result<(), Fail> {
+        all_widths::<Brand, _>(&rt, rt.alloc(), Blank::new(1))?;
+        Ok(())
     }
 }
