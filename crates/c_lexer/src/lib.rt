@@ -24,4 +24,6 @@ mod words;
 mod tests;
 
 pub use lexer::lex;
+mod token;
+
 pub use token::{LexError, LexKind, Token, TokenKind};
