@@ -4,13 +4,14 @@ use Rattle.std.proofs.lemmas.Bool.{cases_order}
 use Rattle.std.specs.Prelude.{Option, Some, None, Result, Ok, Err}
 use Rattle.c_lexer.specs.Pieces.{kind_of, Longest}
 use Rattle.c_lexer.specs.Readers.{piece_at, pieces_from}
-use Rattle.c_lexer.specs.Tokens.{first_place, next_place, behind, IsCut, with_token, answer_with, answer_of, HasAnswer, OneAnswer}
+use Rattle.c_lexer.specs.Tokens.{first_place, next_place, behind, IsCut, with_token, answer_with, answer_of, HasAnswer, HasTokens, IsRefused, IsOnlyAnswer, OneAnswer}
 use Rattle.c_lexer.specs.declared.place.Place.{Place}
 use Rattle.c_lexer.specs.declared.piece.PieceKind.{PieceKind}
 use Rattle.c_lexer.specs.declared.piece.PieceKind.TheVariants.{Gap, Token, Refused}
 use Rattle.c_lexer.specs.declared.piece.Piece.{Piece}
 use Rattle.c_lexer.specs.declared.token.Token.{Token as TextToken}
 use Rattle.c_lexer.specs.declared.token.LexError.{LexError}
+use Rattle.c_lexer.specs.declared.token.LexError.TheVariants.{Bad as BadPlace, NoMemory}
 use Rattle.c_lexer.proofs.LongestPieces.{piece_at_longest}
 
 -- One longest piece.
@@ -23,9 +24,10 @@ not_longer fresh text p q a b lt = none_some (kind_of fresh (take q.len text)) q
 
 same_length : (fresh : Bool) (text : List ℕ) (p q : Piece) → Longest fresh text p → Longest fresh text q → p.len ≡ q.len
 same_length fresh text p q a b = elim (cases_order p.len q.len) [
-  inl e ↦ e
+  | inl e ↦ e
   | inr (inl lt) ↦ absurd (not_longer fresh text p q a b lt)
-  | inr (inr lt) ↦ absurd (not_longer fresh text q p b a lt) ]
+  | inr (inr lt) ↦ absurd (not_longer fresh text q p b a lt)
+]
 
 same_piece : (k k' : PieceKind) (n n' : ℕ) → k ≡ k' → n ≡ n' → let p : Piece = record { kind = k; len = n } in let q : Piece = record { kind = k'; len = n' } in p ≡ q
 same_piece k k' n n' e h = rw (e, h) refl
@@ -35,8 +37,8 @@ one_kind o k k' e h = cc
 
 pub longest_one : (fresh : Bool) (text : List ℕ) (p q : Piece) → Longest fresh text p → Longest fresh text q → p ≡ q
 longest_one fresh text p q a b =
-  let long = same_length fresh text p q a b in
-  same_piece p.kind q.kind p.len q.len (one_kind (kind_of fresh (take p.len text)) p.kind q.kind a.formed (ap (λ n. kind_of fresh (take n text)) long ∙ b.formed)) long
+    let long = same_length fresh text p q a b in
+    same_piece p.kind q.kind p.len q.len (one_kind (kind_of fresh (take p.len text)) p.kind q.kind a.formed (ap (λ n. kind_of fresh (take n text)) long ∙ b.formed)) long
 
 -- One cut.
 
@@ -45,9 +47,9 @@ cut_one place text [] [] a b = refl
 cut_one place text [] (y ∷ ys) a b = let h : length text ≡ 0 = ap length a in absurd (omega (arith, h, b.0.some, b.0.within))
 cut_one place text (x ∷ xs) [] a b = let h : length text ≡ 0 = ap length b in absurd (omega (arith, h, a.0.some, a.0.within))
 cut_one place text (x ∷ xs) (y ∷ ys) a b =
-  let e : x ≡ y = longest_one place.fresh text x y a.0 b.0 in
-  let P : Piece → Type 0 = λ p. IsCut (behind place (take p.len text)) (drop p.len text) ys in
-  ap (λ p. p ∷ xs) e ∙ ap (λ l. y ∷ l) (cut_one (behind place (take x.len text)) (drop x.len text) xs ys a.1 (subst P (sym e) b.1))
+    let e : x ≡ y = longest_one place.fresh text x y a.0 b.0 in
+    let P : Piece → Type 0 = λ p. IsCut (behind place (take p.len text)) (drop p.len text) ys in
+    ap (λ p. p ∷ xs) e ∙ ap (λ l. y ∷ l) (cut_one (behind place (take x.len text)) (drop x.len text) xs ys a.1 (subst P (sym e) b.1))
 
 -- The pieces that are read are the cut.
 
@@ -59,6 +61,7 @@ pieces_cut (suc k) place (b ∷ w) h = pieces_cut k (next_place place b) w (omeg
 pieces_cut zero place (b ∷ w) h = (longest, by (piece_at place.fresh (b ∷ w)).len longest.some longest.within (λ n le. pieces_cut n (next_place place b) w le)) where
   longest : Longest place.fresh (b ∷ w) (piece_at place.fresh (b ∷ w))
   longest = piece_at_longest place.fresh (b ∷ w) (omega arith)
+
   by : (n : ℕ) → 0 < n → n ≤ suc (length w) → ((k : ℕ) → k ≤ length w → IsCut (behind (next_place place b) (take k w)) (drop k w) (pieces_from (next_place place b) k w)) → IsCut (behind place (take n (b ∷ w))) (drop n (b ∷ w)) (pieces_from (next_place place b) (n - 1) w)
   by zero some le ih = absurd (omega (arith, some))
   by (suc n) some le ih = let e : suc n - 1 ≡ n = omega arith in rw e (ih n (omega (arith, le)))
@@ -77,6 +80,17 @@ pub one_answer : OneAnswer
 one_answer text = (answer_from first_place text, has_answer text, only) where
   only : (other : Result (List TextToken) LexError) → HasAnswer text other → other ≡ answer_from first_place text
   only other h = sym h.2 ∙ ap (answer_of first_place text) (cut_one first_place text h.0 (pieces_from first_place 0 text) h.1 (text_cut text))
+
+-- an answer of the text is the only one
+pub only_answer : (text : List ℕ) (answer other : Result (List TextToken) LexError) → HasAnswer text answer → HasAnswer text other → answer ≡ other
+only_answer text answer other a b = sym a.2 ∙ (ap (answer_of first_place text) (cut_one first_place text a.0 b.0 a.1 b.1) ∙ b.2)
+
+pub ok_only : (text : List ℕ) (tokens : List TextToken) → HasTokens text tokens → IsOnlyAnswer text (Ok tokens)
+ok_only text tokens h answer has = inl (only_answer text (Ok tokens) answer h has)
+
+pub err_only : (text : List ℕ) (error : LexError) → IsRefused text error → IsOnlyAnswer text (Err error)
+err_only text NoMemory h answer has = inr refl
+err_only text (BadPlace kind line) h answer has = inl (only_answer text (Err (BadPlace kind line)) answer h has)
 
 -- The loop over a text.
 
@@ -98,9 +112,12 @@ answer_step place [] x some e = absurd (omega (arith, some))
 answer_step place (b ∷ w) x some e = subst P (sym e) at where
   p : Piece
   p = piece_at place.fresh (b ∷ w)
+
   P : Piece → Type 0
   P x = answer_from place (b ∷ w) ≡ answer_with x.kind place.line (take x.len (b ∷ w)) (answer_from (behind place (take x.len (b ∷ w))) (drop x.len (b ∷ w)))
+
   longest : Longest place.fresh (b ∷ w) (piece_at place.fresh (b ∷ w))
   longest = piece_at_longest place.fresh (b ∷ w) (omega arith)
+
   at : P (piece_at place.fresh (b ∷ w))
   at = ap (λ xs. answer_of place (b ∷ w) (piece_at place.fresh (b ∷ w) ∷ xs)) (rest_pieces place b w (piece_at place.fresh (b ∷ w)).len longest.some longest.within)

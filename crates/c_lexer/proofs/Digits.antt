@@ -31,12 +31,12 @@ grows base a (x ∷ xs) h = le_times a base (digit_value x) _ h (grows base (a *
 pub digits_value_front : (base : ℕ) (xs : List ℕ) (i : ℕ) → 0 < base → digits_value base (take i xs) ≤ digits_value base xs
 unfolding digits_value
 digits_value_front base xs i h =
-  let whole : fold (step base) 0 xs ≡ fold (step base) (fold (step base) 0 (take i xs)) (drop i xs) = ap (fold (step base) 0) (sym (take-append-drop i xs)) ∙ fold-append (step base) 0 (take i xs) (drop i xs) in
-  omega (arith, grows base (fold (step base) 0 (take i xs)) (drop i xs) h, whole)
+    let whole : fold (step base) 0 xs ≡ fold (step base) (fold (step base) 0 (take i xs)) (drop i xs) = ap (fold (step base) 0) (sym (take-append-drop i xs)) ∙ fold-append (step base) 0 (take i xs) (drop i xs) in
+    omega (arith, grows base (fold (step base) 0 (take i xs)) (drop i xs) h, whole)
 
 -- where a front of the digits is too great, so are all
 pub digits_value_over : (base : ℕ) (xs : List ℕ) (i limit : ℕ) → 0 < base → i < length xs → (digits_value base (take i xs) * base + digit_value (get_or xs i 0) < limit → ⊥) → digits_value base xs < limit → ⊥
 digits_value_over base xs i limit h k over below =
-  over (omega (arith, digits_value_more base xs i k, digits_value_front base xs (i + 1) h, below))
+    over (omega (arith, digits_value_more base xs i k, digits_value_front base xs (i + 1) h, below))
 
 pub ruleset digit_steps = (digits_value_none, digits_value_more)

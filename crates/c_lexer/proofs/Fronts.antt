@@ -56,8 +56,8 @@ drop_front xs zero n rest h k = let e : n - 0 ≡ n = omega arith in rw e refl
 drop_front xs (suc m) zero rest h k = absurd (omega (arith, h))
 drop_front [] (suc m) (suc n) rest h k = absurd (omega (arith, k))
 drop_front (x ∷ xs) (suc m) (suc n) rest h k =
-  let e : suc n - suc m ≡ n - m = omega arith in
-  rw e (drop_front xs m n rest (omega (arith, h)) (omega (arith, k)))
+    let e : suc n - suc m ≡ n - m = omega arith in
+    rw e (drop_front xs m n rest (omega (arith, h)) (omega (arith, k)))
 
 -- a shorter front of a front
 pub take_front : (xs : List ℕ) (m n : ℕ) (rest : List ℕ) → m ≤ n → n ≤ length xs → take m (take n xs ++ rest) ≡ take m xs

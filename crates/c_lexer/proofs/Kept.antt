@@ -96,9 +96,9 @@ escaped_kept w u n some lt same = by (not (escape_length w == 0) && nat_le (esca
   by : (c : Bool) → (not (escape_length w == 0) && nat_le (escape_value (take (escape_length w) w)) 255) ≡ c → 0 < cond c (1 + escape_length w) 0 → cond c (1 + escape_length w) 0 < suc n → escaped_length u (escape_length u) ≡ escaped_length w (escape_length w)
   by false e some lt = absurd (omega (arith, some))
   by true e some lt =
-    let zero_not : escape_length w ≡ 0 → ⊥ = eqb-false (escape_length w) 0 (not-true (escape_length w == 0) ((and_parts (not (escape_length w == 0)) _ e).0)) in
-    let p = same (omega (arith, zero_not)) (omega (arith, lt)) in
-    rw (p.0, p.1) refl
+      let zero_not : escape_length w ≡ 0 → ⊥ = eqb-false (escape_length w) 0 (not-true (escape_length w == 0) ((and_parts (not (escape_length w == 0)) _ e).0)) in
+      let p = same (omega (arith, zero_not)) (omega (arith, lt)) in
+      rw (p.0, p.1) refl
 
 pub character_kept : (q : ℕ) (t : List ℕ) (n : ℕ) (rest : List ℕ) → 0 < character_length q t → character_length q t < n → n ≤ length t → character_length q (take n t ++ rest) ≡ character_length q t
 unfolding character_length
@@ -131,8 +131,8 @@ string_within zero (b ∷ w) n e = by (b == 34) (character_length 34 (b ∷ w) =
   by true d e ih = let h = some_of 1 n e in omega (arith, h)
   by false true e ih = absurd (cc)
   by false false e ih =
-    let p = map_suc_some (string_end (character_length 34 (b ∷ w) - 1) w) n e in
-    let h = ih (character_length 34 (b ∷ w) - 1) p.0 p.1.0 in omega (arith, p.1.1, h)
+      let p = map_suc_some (string_end (character_length 34 (b ∷ w) - 1) w) n e in
+      let h = ih (character_length 34 (b ∷ w) - 1) p.0 p.1.0 in omega (arith, p.1.1, h)
 
 string_kept : (k : ℕ) (t : List ℕ) (n : ℕ) (rest : List ℕ) → string_end k t ≡ Some n → string_end k (take n t ++ rest) ≡ Some n
 unfolding string_end
@@ -143,12 +143,12 @@ string_kept zero (b ∷ w) n rest e = by (b == 34) refl (character_length 34 (b 
   by true quote d zero_length e ih = rw (← some_of 1 n e, quote) refl
   by false quote true zero_length e ih = absurd (cc)
   by false quote false zero_length e ih =
-    let p = map_suc_some (string_end (character_length 34 (b ∷ w) - 1) w) n e in
-    let some : 0 < character_length 34 (b ∷ w) = omega (arith, eqb-false (character_length 34 (b ∷ w)) 0 zero_length) in
-    let inner = string_inner (character_length 34 (b ∷ w) - 1) w p.0 p.1.0 in
-    let within = string_within (character_length 34 (b ∷ w) - 1) w p.0 p.1.0 in
-    let here : character_length 34 (b ∷ (take p.0 w ++ rest)) ≡ character_length 34 (b ∷ w) = character_kept 34 (b ∷ w) (suc p.0) rest some (omega (arith, inner)) (omega (arith, within)) in
-    rw (p.1.1, quote, here, zero_length, ih (character_length 34 (b ∷ w) - 1) p.0 p.1.0) refl
+      let p = map_suc_some (string_end (character_length 34 (b ∷ w) - 1) w) n e in
+      let some : 0 < character_length 34 (b ∷ w) = omega (arith, eqb-false (character_length 34 (b ∷ w)) 0 zero_length) in
+      let inner = string_inner (character_length 34 (b ∷ w) - 1) w p.0 p.1.0 in
+      let within = string_within (character_length 34 (b ∷ w) - 1) w p.0 p.1.0 in
+      let here : character_length 34 (b ∷ (take p.0 w ++ rest)) ≡ character_length 34 (b ∷ w) = character_kept 34 (b ∷ w) (suc p.0) rest some (omega (arith, inner)) (omega (arith, within)) in
+      rw (p.1.1, quote, here, zero_length, ih (character_length 34 (b ∷ w) - 1) p.0 p.1.0) refl
 
 pub string_ends : Ends (string_end 0)
 string_ends = record { some = λ t n e. string_inner 0 t n e; within = string_within 0; kept = string_kept 0 }
@@ -174,9 +174,9 @@ constant_of t n e = by (not (character_length 39 t == 0) && begins_with 39 (drop
   by : (c : Bool) → (not (character_length 39 t == 0) && begins_with 39 (drop (character_length 39 t) t)) ≡ c → cond c (Some (1 + character_length 39 t)) None ≡ Some n → (n ≡ suc (character_length 39 t)) × ((character_length 39 t == 0) ≡ false) × (begins_with 39 (drop (character_length 39 t) t) ≡ true)
   by false h e = absurd (cc)
   by true h e =
-    let p = and_parts (not (character_length 39 t == 0)) _ h in
-    let s = some_of (1 + character_length 39 t) n e in
-    (omega (arith, s), not-true (character_length 39 t == 0) p.0, p.1)
+      let p = and_parts (not (character_length 39 t == 0)) _ h in
+      let s = some_of (1 + character_length 39 t) n e in
+      (omega (arith, s), not-true (character_length 39 t == 0) p.0, p.1)
 
 constant_from : (t : List ℕ) (n : ℕ) → character_length 39 t ≡ n → (n == 0) ≡ false → begins_with 39 (drop n t) ≡ true → constant_end t ≡ Some (suc n)
 unfolding constant_end
@@ -184,17 +184,18 @@ constant_from t n e some closes = let s : 1 + n ≡ suc n = omega arith in rw (e
 
 constant_kept : (t : List ℕ) (n : ℕ) (rest : List ℕ) → constant_end t ≡ Some n → constant_end (take n t ++ rest) ≡ Some n
 constant_kept t n rest e =
-  let p = constant_of t n e in
-  let closes = begins_some 39 t (character_length 39 t) p.2 in
-  let some : 0 < character_length 39 t = omega (arith, eqb-false (character_length 39 t) 0 p.1) in
-  let same = character_kept 39 t (suc (character_length 39 t)) rest some (omega arith) (omega (arith, closes)) in
-  rw p.0 (constant_from (take (suc (character_length 39 t)) t ++ rest) (character_length 39 t) same p.1 (begins_front 39 t (character_length 39 t) rest p.2))
+    let p = constant_of t n e in
+    let closes = begins_some 39 t (character_length 39 t) p.2 in
+    let some : 0 < character_length 39 t = omega (arith, eqb-false (character_length 39 t) 0 p.1) in
+    let same = character_kept 39 t (suc (character_length 39 t)) rest some (omega arith) (omega (arith, closes)) in
+    rw p.0 (constant_from (take (suc (character_length 39 t)) t ++ rest) (character_length 39 t) same p.1 (begins_front 39 t (character_length 39 t) rest p.2))
 
 pub constant_ends : Ends constant_end
 constant_ends = record {
   some = λ t n e. let p = constant_of t n e in omega (arith, p.0);
   within = λ t n e. let p = constant_of t n e in let h = begins_some 39 t (character_length 39 t) p.2 in omega (arith, p.0, h);
-  kept = constant_kept }
+  kept = constant_kept;
+}
 
 pub literal_ends : (quote : ℕ) → Ends (literal_end quote)
 literal_ends quote = by (quote == 39) where
@@ -212,17 +213,20 @@ blanks_end : (f : List ℕ → Option ℕ) → Ends f → Ends (behind_blanks f)
 blanks_end f ends = record { some = some; within = within; kept = kept } where
   some : (t : List ℕ) (n : ℕ) → behind_blanks f t ≡ Some n → 0 < n
   some t n e = let p = map_some (blanks t) (f (drop (blanks t) t)) n e in let h = ends.some (drop (blanks t) t) p.0 p.1.0 in omega (arith, p.1.1, h)
+
   within : (t : List ℕ) (n : ℕ) → behind_blanks f t ≡ Some n → n ≤ length t
   within t n e =
-    let p = map_some (blanks t) (f (drop (blanks t) t)) n e in
-    let h = rw length-drop at (ends.within (drop (blanks t) t) p.0 p.1.0) in
-    omega (arith, p.1.1, h, prefix_len_within is_blank t)
+      let p = map_some (blanks t) (f (drop (blanks t) t)) n e in
+      let h = rw length-drop at (ends.within (drop (blanks t) t) p.0 p.1.0) in
+      omega (arith, p.1.1, h, prefix_len_within is_blank t)
+
   kept_at : (t : List ℕ) (n m : ℕ) (rest : List ℕ) → f (drop (blanks t) t) ≡ Some m → n ≡ blanks t + m → n ≤ length t → behind_blanks f (take n t ++ rest) ≡ Some n
   kept_at t n m rest e is long =
-    let h = ends.some (drop (blanks t) t) m e in
-    let same : blanks (take n t ++ rest) ≡ blanks t = prefix_len_kept is_blank t n rest (omega (arith, is, h)) long in
-    let left : n - blanks t ≡ m = omega (arith, is) in
-    rw (same, drop_front t (blanks t) n rest (omega (arith, is)) long, left, ends.kept (drop (blanks t) t) m rest e) (ap Some (sym is))
+      let h = ends.some (drop (blanks t) t) m e in
+      let same : blanks (take n t ++ rest) ≡ blanks t = prefix_len_kept is_blank t n rest (omega (arith, is, h)) long in
+      let left : n - blanks t ≡ m = omega (arith, is) in
+      rw (same, drop_front t (blanks t) n rest (omega (arith, is)) long, left, ends.kept (drop (blanks t) t) m rest e) (ap Some (sym is))
+
   kept : (t : List ℕ) (n : ℕ) (rest : List ℕ) → behind_blanks f t ≡ Some n → behind_blanks f (take n t ++ rest) ≡ Some n
   kept t n rest e = let p = map_some (blanks t) (f (drop (blanks t) t)) n e in kept_at t n p.0 rest p.1.0 p.1.1 (within t n e)
 
@@ -259,26 +263,35 @@ found_of all (word ∷ words) own t n e = by (starts_with nat_eq t word) refl e 
 
 header_own : AllOwn headers headers
 unfolding AllOwn
-header_own =
-  (record { some = lit< tt; found = λ rest. refl },
-  (record { some = lit< tt; found = λ rest. refl },
-  (record { some = lit< tt; found = λ rest. refl },
-  (record { some = lit< tt; found = λ rest. refl },
-  (record { some = lit< tt; found = λ rest. refl }, tt)))))
+header_own = (
+  record { some = lit< tt; found = λ rest. refl },
+  (
+    record { some = lit< tt; found = λ rest. refl },
+    (
+      record { some = lit< tt; found = λ rest. refl },
+      (
+        record { some = lit< tt; found = λ rest. refl },
+        (record { some = lit< tt; found = λ rest. refl }, tt),
+      ),
+    ),
+  ),
+)
 
 headers_end : Ends (front_of headers)
 headers_end = record { some = some; within = within; kept = kept } where
   some : (t : List ℕ) (n : ℕ) → front_of headers t ≡ Some n → 0 < n
   some t n e = let p = found_of headers headers header_own t n e in rw p.long p.own.some
+
   within : (t : List ℕ) (n : ℕ) → front_of headers t ≡ Some n → n ≤ length t
   within t n e =
-    let p = found_of headers headers header_own t n e in
-    let h = ap length p.front ∙ length-append p.word (drop n t) in omega (arith, p.long, h)
+      let p = found_of headers headers header_own t n e in
+      let h = ap length p.front ∙ length-append p.word (drop n t) in omega (arith, p.long, h)
+
   kept : (t : List ℕ) (n : ℕ) (rest : List ℕ) → front_of headers t ≡ Some n → front_of headers (take n t ++ rest) ≡ Some n
   kept t n rest e =
-    let p = found_of headers headers header_own t n e in
-    let front : take n t ≡ p.word = ap (take n) p.front ∙ take_at p.word (drop n t) n (sym p.long) in
-    ap (λ u. front_of headers (u ++ rest)) front ∙ (p.own.found rest ∙ ap Some (sym p.long))
+      let p = found_of headers headers header_own t n e in
+      let front : take n t ≡ p.word = ap (take n) p.front ∙ take_at p.word (drop n t) n (sym p.long) in
+      ap (λ u. front_of headers (u ++ rest)) front ∙ (p.own.found rest ∙ ap Some (sym p.long))
 
 header_ends : Ends header_end
 unfolding header_end
@@ -300,21 +313,24 @@ word_ends : Ends word_end
 word_ends = record { some = some; within = within; kept = kept } where
   some : (t : List ℕ) (n : ℕ) → word_end t ≡ Some n → 0 < n
   some t n e = let p = word_of_end t n e in omega (arith, p.1.1.1)
+
   within : (t : List ℕ) (n : ℕ) → word_end t ≡ Some n → n ≤ length t
   within t n e =
-    let p = word_of_end t n e in
-    let h = header_ends.within (drop 7 t) p.1.0 p.1.1.0 in
-    let whole = ap length (begins_is t (codes "include") p.0) ∙ length-append (codes "include") (drop 7 t) in
-    omega (arith, p.1.1.1, h, whole)
+      let p = word_of_end t n e in
+      let h = header_ends.within (drop 7 t) p.1.0 p.1.1.0 in
+      let whole = ap length (begins_is t (codes "include") p.0) ∙ length-append (codes "include") (drop 7 t) in
+      omega (arith, p.1.1.1, h, whole)
+
   kept_at : (t : List ℕ) (m : ℕ) (rest : List ℕ) → starts_with nat_eq t (codes "include") ≡ true → header_end (drop 7 t) ≡ Some m → word_end (take (7 + m) t ++ rest) ≡ Some (7 + m)
   kept_at t m rest h e =
-    let front : take (7 + m) t ≡ codes "include" ++ take m (drop 7 t) = ap (take (7 + m)) (begins_is t (codes "include") h) ∙ take-append-add (codes "include") (drop 7 t) m in
-    ap (λ u. word_end (u ++ rest)) front ∙ word_from (take m (drop 7 t) ++ rest) m (header_ends.kept (drop 7 t) m rest e)
+      let front : take (7 + m) t ≡ codes "include" ++ take m (drop 7 t) = ap (take (7 + m)) (begins_is t (codes "include") h) ∙ take-append-add (codes "include") (drop 7 t) m in
+      ap (λ u. word_end (u ++ rest)) front ∙ word_from (take m (drop 7 t) ++ rest) m (header_ends.kept (drop 7 t) m rest e)
+
   kept : (t : List ℕ) (n : ℕ) (rest : List ℕ) → word_end t ≡ Some n → word_end (take n t ++ rest) ≡ Some n
   kept t n rest e =
-    let p = word_of_end t n e in
-    let P : ℕ → Type 0 = λ k. word_end (take k t ++ rest) ≡ Some k in
-    subst P (sym p.1.1.1) (kept_at t p.1.0 rest p.0 p.1.1.0)
+      let p = word_of_end t n e in
+      let P : ℕ → Type 0 = λ k. word_end (take k t ++ rest) ≡ Some k in
+      subst P (sym p.1.1.1) (kept_at t p.1.0 rest p.0 p.1.1.0)
 
 pub include_ends : Ends include_end
 unfolding include_end

@@ -101,7 +101,7 @@ among_long : (n : ℕ) (words : List (List ℕ)) → AllLong n words → (w : Li
 unfolding AllLong
 among_long n [] all w e = absurd (cc)
 among_long n (word ∷ words) all w e =
-  elim (or_cases (bytes_eq w word) _ e) [ inl h ↦ ap length ((bytes_eq-Decides w word).0 h) ∙ all.0 | inr h ↦ among_long n words all.1 w h ]
+    elim (or_cases (bytes_eq w word) _ e) [ inl h ↦ ap length ((bytes_eq-Decides w word).0 h) ∙ all.0 | inr h ↦ among_long n words all.1 w h ]
 
 single_long : (w : List ℕ) → is_single_sign w ≡ true → length w ≡ 1
 single_long [] e = absurd (cc)
@@ -118,7 +118,7 @@ triple_long w e = among_long 3 triple_signs (refl, (refl, tt)) w e
 
 no_sign : (w : List ℕ) → length w ≢ 1 → (is_double_sign w ≡ true → ⊥) → (is_triple_sign w ≡ true → ⊥) → is_sign w ≡ false
 no_sign w single double triple =
-  or_from _ _ (or_from _ _ (false_from_ne_true _ (λ h. single (single_long w h))) (false_from_ne_true _ double)) (false_from_ne_true _ triple)
+    or_from _ _ (or_from _ _ (false_from_ne_true _ (λ h. single (single_long w h))) (false_from_ne_true _ double)) (false_from_ne_true _ triple)
 
 sign_single : (w : List ℕ) → is_single_sign w ≡ true → is_sign w ≡ true
 sign_single w e = or_left (is_single_sign w || is_double_sign w) (is_triple_sign w) (or_left (is_single_sign w) (is_double_sign w) e)
@@ -154,24 +154,24 @@ module _ (b : ℕ) (t : List ℕ) (single : is_single_sign (b ∷ []) ≡ true) 
   one_byte is3 is2 = record { some = lit< tt; within = omega arith; sign = sign_single (b ∷ []) single; longest = over } where
     over : (m : ℕ) → 1 < m → m ≤ length (b ∷ t) → is_sign (take m (b ∷ t)) ≡ false
     over m lt le = no_sign _ (single_not m lt le)
-      (λ h. let e = double_here m le h in let long = rw e at le in false≢true (sym is2 ∙ and_from _ _ (le-leb 2 _ long) (rw e at h)))
-      (λ h. let e = triple_here m le h in let long = rw e at le in false≢true (sym is3 ∙ and_from _ _ (le-leb 3 _ long) (rw e at h)))
+        (λ h. let e = double_here m le h in let long = rw e at le in false≢true (sym is2 ∙ and_from _ _ (le-leb 2 _ long) (rw e at h)))
+        (λ h. let e = triple_here m le h in let long = rw e at le in false≢true (sym is3 ∙ and_from _ _ (le-leb 3 _ long) (rw e at h)))
 
   two_bytes : (nat_le 3 (length text) && is_triple_sign (take 3 text)) ≡ false → (nat_le 2 (length text) && is_double_sign (take 2 text)) ≡ true → LongestSign text 2
   unfolding text
   two_bytes is3 is2 = record { some = lit< tt; within = leb-true 2 (length text) (and_parts (nat_le 2 (length text)) (is_double_sign (take 2 text)) is2).0; sign = sign_double (take 2 text) (and_parts (nat_le 2 (length text)) (is_double_sign (take 2 text)) is2).1; longest = over } where
     over : (m : ℕ) → 2 < m → m ≤ length (b ∷ t) → is_sign (take m (b ∷ t)) ≡ false
     over m lt le = no_sign _ (single_not m (omega (arith, lt)) le)
-      (λ h. let e = double_here m le h in omega (arith, e, lt))
-      (λ h. let e = triple_here m le h in let long = rw e at le in false≢true (sym is3 ∙ and_from _ _ (le-leb 3 _ long) (rw e at h)))
+        (λ h. let e = double_here m le h in omega (arith, e, lt))
+        (λ h. let e = triple_here m le h in let long = rw e at le in false≢true (sym is3 ∙ and_from _ _ (le-leb 3 _ long) (rw e at h)))
 
   three_bytes : (nat_le 3 (length text) && is_triple_sign (take 3 text)) ≡ true → LongestSign text 3
   unfolding text
   three_bytes is3 = record { some = lit< tt; within = leb-true 3 (length text) (and_parts (nat_le 3 (length text)) (is_triple_sign (take 3 text)) is3).0; sign = sign_triple (take 3 text) (and_parts (nat_le 3 (length text)) (is_triple_sign (take 3 text)) is3).1; longest = over } where
     over : (m : ℕ) → 3 < m → m ≤ length (b ∷ t) → is_sign (take m (b ∷ t)) ≡ false
     over m lt le = no_sign _ (single_not m (omega (arith, lt)) le)
-      (λ h. let e = double_here m le h in omega (arith, e, lt))
-      (λ h. let e = triple_here m le h in omega (arith, e, lt))
+        (λ h. let e = double_here m le h in omega (arith, e, lt))
+        (λ h. let e = triple_here m le h in omega (arith, e, lt))
 
   pub sign_longest : LongestSign (b ∷ t) (sign_length (b ∷ t))
   unfolding sign_length text
@@ -191,8 +191,8 @@ module _ (f : List ℕ → Option ℕ) (ends : Ends f) where
   -- and in every longer front
   pub end_longer : (t : List ℕ) (n m : ℕ) → f t ≡ Some n → n ≤ m → f (take m t) ≡ Some n
   end_longer t n m e le =
-    let parts : take n t ++ drop n (take m t) ≡ take m t = ap (λ u. u ++ drop n (take m t)) (sym (take-take n m t le)) ∙ take-append-drop n (take m t) in
-    ap f (sym parts) ∙ ends.kept t n (drop n (take m t)) e
+      let parts : take n t ++ drop n (take m t) ≡ take m t = ap (λ u. u ++ drop n (take m t)) (sym (take-take n m t le)) ∙ take-append-drop n (take m t) in
+      ap f (sym parts) ∙ ends.kept t n (drop n (take m t)) e
 
   pub ends_here : (kind : PieceKind) (t : List ℕ) (n : ℕ) → f t ≡ Some n → ends_at (f (take n t)) (length (take n t)) kind ≡ Some kind
   ends_here kind t n e = rw (end_kept t n e) (cond-true (n == length (take n t)) (Some kind) None (eq-eqb n (length (take n t)) (sym (length-take-le n t (ends.within t n e)))))
@@ -202,13 +202,15 @@ module _ (f : List ℕ → Option ℕ) (ends : Ends f) where
     -- an end at m in the front is an end at m in the text
     whole : (k : ℕ) → f (take m t) ≡ Some k → k ≡ length (take m t) → ⊥
     whole k e is =
-      let same : k ≡ m = is ∙ length-take-le m t le in
-      let all : take k (take m t) ≡ take m t = take_all k (take m t) (omega (arith, is)) in
-      let found : f t ≡ Some k = ap f (sym (ap (λ u. u ++ drop m t) all ∙ take-append-drop m t)) ∙ ends.kept (take m t) k (drop m t) e in
-      let h = before k found in omega (arith, h, same)
+        let same : k ≡ m = is ∙ length-take-le m t le in
+        let all : take k (take m t) ≡ take m t = take_all k (take m t) (omega (arith, is)) in
+        let found : f t ≡ Some k = ap f (sym (ap (λ u. u ++ drop m t) all ∙ take-append-drop m t)) ∙ ends.kept (take m t) k (drop m t) e in
+        let h = before k found in omega (arith, h, same)
+
     at : (k : ℕ) → f (take m t) ≡ Some k → (c : Bool) → (k == length (take m t)) ≡ c → cond c (Some kind) None ≡ None
     at k e true h = absurd (whole k e (eqb-true k (length (take m t)) h))
     at k e false h = refl
+
     by : (o : Option ℕ) → f (take m t) ≡ o → ends_at o (length (take m t)) kind ≡ None
     by None e = refl
     by (Some k) e = at k e (k == length (take m t)) refl
@@ -232,7 +234,8 @@ longest_from fresh b t p h = record {
   some = omega (arith, h.long);
   within = omega (arith, h.long, h.within);
   formed = rw h.long h.formed;
-  longest = over } where
+  longest = over;
+} where
   over : (m : ℕ) → p.len < m → m ≤ suc (length t) → kind_of fresh (take m (b ∷ t)) ≡ None
   over zero lt le = absurd (omega (arith, lt))
   over (suc m) lt le = h.longest m (omega (arith, h.long, lt)) (omega (arith, le))
@@ -255,7 +258,8 @@ run_longest fresh c p kind b t first is = record {
   long = long;
   within = prefix_len_within p t;
   formed = is (take (prefix_len p t) t) ∙ (cond-true (list_all p (take (prefix_len p t) t)) _ None (prefix_len_all p t) ∙ ap (λ n. Some (kind (take n (b ∷ t)))) (sym long));
-  longest = λ m lt le. is (take m t) ∙ cond-false (list_all p (take m t)) _ None (prefix_len_more p t m lt le) } where
+  longest = λ m lt le. is (take m t) ∙ cond-false (list_all p (take m t)) _ None (prefix_len_more p t m lt le);
+} where
   long : prefix_len p (b ∷ t) ≡ suc (prefix_len p t)
   long = rw first (omega arith)
 
@@ -270,14 +274,21 @@ to_longest : (fresh : Bool) (c : ByteClass) (b : ℕ) (t : List ℕ) (f : List �
 to_longest fresh c b t f kind other ends alone is = by (f t) refl where
   by : (o : Option ℕ) → f t ≡ o → LongestBy fresh c b t (piece_to o kind other)
   by None e = record {
-    rest = 0; long = refl; within = omega arith; formed = alone;
-    longest = λ m lt le. is (take m t) (not_empty t m lt le) ∙ ends_beyond f ends kind t m le (λ n h. absurd (apart n (sym e ∙ h))) } where
+    rest = 0;
+    long = refl;
+    within = omega arith;
+    formed = alone;
+    longest = λ m lt le. is (take m t) (not_empty t m lt le) ∙ ends_beyond f ends kind t m le (λ n h. absurd (apart n (sym e ∙ h)));
+  } where
     apart : (n : ℕ) → None ≡ Some n → ⊥
     apart n h = cc
   by (Some n) e = record {
-    rest = n; long = omega arith; within = ends.within t n e;
+    rest = n;
+    long = omega arith;
+    within = ends.within t n e;
     formed = is (take n t) (not_empty t n (ends.some t n e) (ends.within t n e)) ∙ ends_here f ends kind t n e;
-    longest = λ m lt le. is (take m t) (not_empty t m (omega (arith, lt)) le) ∙ ends_beyond f ends kind t m le (λ k h. omega (arith, lt, some_here n k (sym e ∙ h))) }
+    longest = λ m lt le. is (take m t) (not_empty t m (omega (arith, lt)) le) ∙ ends_beyond f ends kind t m le (λ k h. omega (arith, lt, some_here n k (sym e ∙ h)));
+  }
 
 quote_longest : (fresh : Bool) (b : ℕ) (t : List ℕ) → LongestBy fresh Quote b t (literal_piece b t)
 quote_longest fresh b t = to_longest fresh Quote b t (literal_end b) (Token (literal_kind b)) (Refused Literal) (literal_ends b) refl is where
@@ -301,9 +312,12 @@ mark_longest fresh b t e = by (sign_length (b ∷ t)) (sign_longest b t (or_left
   by : (n : ℕ) → LongestSign (b ∷ t) n → LongestBy fresh Mark b t (piece (Token Sign) n)
   by zero h = absurd (omega (arith, h.some))
   by (suc n) h = record {
-    rest = n; long = refl; within = omega (arith, h.within);
+    rest = n;
+    long = refl;
+    within = omega (arith, h.within);
     formed = cond-true (is_sign (b ∷ take n t)) (Some (Token Sign)) None h.sign;
-    longest = λ m lt le. cond-false (is_sign (b ∷ take m t)) (Some (Token Sign)) None (h.longest (suc m) (omega (arith, lt)) (omega (arith, le))) }
+    longest = λ m lt le. cond-false (is_sign (b ∷ take m t)) (Some (Token Sign)) None (h.longest (suc m) (omega (arith, lt)) (omega (arith, le)));
+  }
 
 -- A `/` and what follows.
 
@@ -325,7 +339,8 @@ line_longest fresh c w e = record {
   long = omega arith;
   within = let h = prefix_len_within is_on_line w in omega (arith, h);
   formed = slash_line c (take (prefix_len is_on_line w) w) e ∙ cond-true (list_all is_on_line (take (prefix_len is_on_line w) w)) (Some Gap) None (prefix_len_all is_on_line w);
-  longest = over } where
+  longest = over;
+} where
   over : (m : ℕ) → suc (prefix_len is_on_line w) < m → m ≤ suc (length w) → slash_kind (take m (c ∷ w)) ≡ None
   over zero lt le = absurd (omega (arith, lt))
   over (suc m) lt le = slash_line c (take m w) e ∙ cond-false (list_all is_on_line (take m w)) (Some Gap) None (prefix_len_more is_on_line w m (omega (arith, lt)) (omega (arith, le)))
@@ -334,32 +349,43 @@ block_longest : (fresh : Bool) (c : ℕ) (w : List ℕ) → (c == 47) ≡ false 
 block_longest fresh c w e h = by (comment_end false w) refl where
   at : (n m : ℕ) → comment_end false w ≡ Some n → n ≤ m → m ≤ length w → slash_kind (c ∷ take m w) ≡ cond (n == m) (Some Gap) None
   at n m found le within =
-    slash_block c (take m w) e h
-    ∙ (block_at (comment_end false (take m w)) n (length (take m w)) (end_longer (comment_end false) (comment_ends false) w n m found le)
-    ∙ ap (λ k. cond (n == k) (Some Gap) None) (length-take-le m w within))
+      slash_block c (take m w) e h
+      ∙ (block_at (comment_end false (take m w)) n (length (take m w)) (end_longer (comment_end false) (comment_ends false) w n m found le)
+      ∙ ap (λ k. cond (n == k) (Some Gap) None) (length-take-le m w within))
+
   over : (n : ℕ) → comment_end false w ≡ Some n → (m : ℕ) → suc n < m → m ≤ suc (length w) → slash_kind (take m (c ∷ w)) ≡ None
   over n found zero lt le = absurd (omega (arith, lt))
   over n found (suc m) lt le = at n m found (omega (arith, lt)) (omega (arith, le)) ∙ cond-false (n == m) (Some Gap) None (ne_eqb n m (omega (arith, lt)))
+
   open_kind : (o : Option ℕ) → o ≡ None → block_kind o (length w) ≡ Some (Refused OpenComment)
   open_kind o none = rw none refl
+
   by : (o : Option ℕ) → comment_end false w ≡ o → LongestBy fresh Slash 47 (c ∷ w) (block_piece o w)
   by None found = record {
-    rest = suc (length w); long = omega arith; within = omega arith;
+    rest = suc (length w);
+    long = omega arith;
+    within = omega arith;
     formed = ap (λ u. slash_kind (c ∷ u)) (take-length w) ∙ (slash_block c w e h ∙ open_kind (comment_end false w) found);
-    longest = λ m lt le. absurd (omega (arith, lt, le)) }
+    longest = λ m lt le. absurd (omega (arith, lt, le));
+  }
   by (Some n) found = let within = (comment_ends false).within w n found in record {
-    rest = suc n; long = omega arith; within = omega (arith, within);
+    rest = suc n;
+    long = omega arith;
+    within = omega (arith, within);
     formed = at n n found (omega arith) within ∙ cond-true (n == n) (Some Gap) None (eq-eqb n n refl);
-    longest = over n found }
+    longest = over n found;
+  }
 
 division_longest : (fresh : Bool) (c : ℕ) (w : List ℕ) → (c == 47) ≡ false → (c == 42) ≡ false → LongestBy fresh Slash 47 (c ∷ w) (piece (Token Sign) (sign_length (47 ∷ c ∷ w)))
 division_longest fresh c w e h = by (sign_length (47 ∷ c ∷ w)) (sign_longest 47 (c ∷ w) (or_right (is_mark 47) true refl)) where
   formed : (n : ℕ) → LongestSign (47 ∷ c ∷ w) (suc n) → slash_kind (take n (c ∷ w)) ≡ Some (Token Sign)
   formed zero s = refl
   formed (suc n) s = slash_sign c (take n w) e h ∙ cond-true (is_sign (47 ∷ c ∷ take n w)) (Some (Token Sign)) None s.sign
+
   over : (n : ℕ) → LongestSign (47 ∷ c ∷ w) (suc n) → (m : ℕ) → n < m → m ≤ suc (length w) → slash_kind (take m (c ∷ w)) ≡ None
   over n s zero lt le = absurd (omega (arith, lt))
   over n s (suc m) lt le = slash_sign c (take m w) e h ∙ cond-false (is_sign (47 ∷ c ∷ take m w)) (Some (Token Sign)) None (s.longest (suc (suc m)) (omega (arith, lt)) (omega (arith, le)))
+
   by : (n : ℕ) → LongestSign (47 ∷ c ∷ w) n → LongestBy fresh Slash 47 (c ∷ w) (piece (Token Sign) n)
   by zero s = absurd (omega (arith, s.some))
   by (suc n) s = record { rest = n; long = refl; within = omega (arith, s.within); formed = formed n s; longest = over n s }

@@ -50,29 +50,29 @@ taken (Refused kind) line bytes before after e rest = absurd e
 
 pub goes_on : (text : List ℕ) (place : Place) (at : ℕ) (before after : List TextToken) (x : Piece) → AtText text place at before → at < length text → x ≡ piece_at place.fresh (drop at text) → TakesPiece x.kind place.line (take x.len (drop at text)) before after → AtText text (behind place (take x.len (drop at text))) (at + x.len) after
 goes_on text place at before after x reached lt e takes =
-  let here = answer_step place (drop at text) x (let h = length-drop at text in omega (arith, h, lt)) e in
-  let further : answer_from (behind place (take x.len (drop at text))) (drop (at + x.len) text) ≡ answer_from (behind place (take x.len (drop at text))) (drop x.len (drop at text)) =
+    let here = answer_step place (drop at text) x (let h = length-drop at text in omega (arith, h, lt)) e in
+    let further : answer_from (behind place (take x.len (drop at text))) (drop (at + x.len) text) ≡ answer_from (behind place (take x.len (drop at text))) (drop x.len (drop at text)) =
     ap (answer_from (behind place (take x.len (drop at text)))) (sym (drop-drop x.len at text)) in
-  ap (prepended after) further
-  ∙ (taken x.kind place.line (take x.len (drop at text)) before after takes _
-  ∙ (ap (prepended before) (sym here) ∙ reached))
+    ap (prepended after) further
+    ∙ (taken x.kind place.line (take x.len (drop at text)) before after takes _
+    ∙ (ap (prepended before) (sym here) ∙ reached))
 
 pub ends : (text : List ℕ) (place : Place) (at : ℕ) (made : List TextToken) → AtText text place at made → length text ≤ at → HasTokens text made
 unfolding pieces_from
 ends text place at made reached le =
-  let last : answer_from place (drop at text) ≡ Ok [] = ap (answer_from place) (drop_all at text le) in
-  let all : answer_from first_place text ≡ Ok made = sym reached ∙ (ap (prepended made) last ∙ ap Ok (append-nil made)) in
-  (pieces_from first_place 0 text, text_cut text, all)
+    let last : answer_from place (drop at text) ≡ Ok [] = ap (answer_from place) (drop_all at text le) in
+    let all : answer_from first_place text ≡ Ok made = sym reached ∙ (ap (prepended made) last ∙ ap Ok (append-nil made)) in
+    (pieces_from first_place 0 text, text_cut text, all)
 
 pub refuses : (text : List ℕ) (place : Place) (at : ℕ) (made : List TextToken) (x : Piece) (error : LexError) → AtText text place at made → at < length text → x ≡ piece_at place.fresh (drop at text) → RefusesPiece x.kind place.line error → IsRefused text error
 refuses text place at made x NoMemory reached lt e cause = tt
 refuses text place at made x (BadPlace kind line) reached lt e cause =
-  let here = answer_step place (drop at text) x (let h = length-drop at text in omega (arith, h, lt)) e in
-  let rest = answer_from (behind place (take x.len (drop at text))) (drop x.len (drop at text)) in
-  let bad : answer_with x.kind place.line (take x.len (drop at text)) rest ≡ Err (BadPlace kind line) =
+    let here = answer_step place (drop at text) x (let h = length-drop at text in omega (arith, h, lt)) e in
+    let rest = answer_from (behind place (take x.len (drop at text))) (drop x.len (drop at text)) in
+    let bad : answer_with x.kind place.line (take x.len (drop at text)) rest ≡ Err (BadPlace kind line) =
     ap (λ k. answer_with k place.line (take x.len (drop at text)) rest) cause.0 ∙ ap (λ n. Err (BadPlace kind n)) cause.1 in
-  let all : answer_from first_place text ≡ Err (BadPlace kind line) = sym reached ∙ ap (prepended made) (here ∙ bad) in
-  (pieces_from first_place 0 text, text_cut text, all)
+    let all : answer_from first_place text ≡ Err (BadPlace kind line) = sym reached ∙ ap (prepended made) (here ∙ bad) in
+    (pieces_from first_place 0 text, text_cut text, all)
 
 -- Forms.
 
@@ -84,6 +84,7 @@ hash_gap true (c ∷ w) kind e = by (include_end (c ∷ w)) e where
   at : (b : Bool) → cond b (Some Gap) None ≡ Some (Token kind) → ⊥
   at true e = cc
   at false e = cc
+
   by : (o : Option ℕ) → ends_at o (suc (length w)) Gap ≡ Some (Token kind) → ⊥
   by None e = cc
   by (Some n) e = at (n == suc (length w)) e
@@ -120,17 +121,19 @@ lexed_of place text [] tokens line cut e = subst (All IsLexed) (ok_of [] tokens 
   ok_of : (a b : List TextToken) → let x : Result (List TextToken) LexError = Ok a in x ≡ Ok b → a ≡ b
   ok_of a b e = cc
 lexed_of place text (x ∷ xs) tokens line cut e =
-  by x.kind cut.0.formed (answer_of (behind place (take x.len text)) (drop x.len text) xs) e
+    by x.kind cut.0.formed (answer_of (behind place (take x.len text)) (drop x.len text) xs) e
     (λ later h. lexed_of (behind place (take x.len text)) (drop x.len text) xs later (let g = behind_line place (take x.len text) in omega (arith, g, line)) cut.1 h) where
-  token : TokenKind → TextToken
-  token kind = record { line = place.line; kind = kind; bytes = take x.len text }
-  with : (kind : TokenKind) → kind_of place.fresh (take x.len text) ≡ Some (Token kind) → (rest : Result (List TextToken) LexError) → with_token (token kind) rest ≡ Ok tokens → ((later : List TextToken) → rest ≡ Ok later → All IsLexed later) → All IsLexed tokens
-  with kind form (Ok later) e ih = subst (All IsLexed) (let h : token kind ∷ later ≡ tokens = cc in h) (All-cons IsLexed (token kind) later (token_form place.fresh (take x.len text) kind form, line) (ih later refl))
-  with kind form (Err error) e ih = absurd (cc)
-  by : (kind : PieceKind) → kind_of place.fresh (take x.len text) ≡ Some kind → (rest : Result (List TextToken) LexError) → answer_with kind place.line (take x.len text) rest ≡ Ok tokens → ((later : List TextToken) → rest ≡ Ok later → All IsLexed later) → All IsLexed tokens
-  by Gap form rest e ih = ih tokens e
-  by (Token kind) form rest e ih = with kind form rest e ih
-  by (Refused kind) form rest e ih = absurd (cc)
+      token : TokenKind → TextToken
+      token kind = record { line = place.line; kind = kind; bytes = take x.len text }
+
+      with : (kind : TokenKind) → kind_of place.fresh (take x.len text) ≡ Some (Token kind) → (rest : Result (List TextToken) LexError) → with_token (token kind) rest ≡ Ok tokens → ((later : List TextToken) → rest ≡ Ok later → All IsLexed later) → All IsLexed tokens
+      with kind form (Ok later) e ih = subst (All IsLexed) (let h : token kind ∷ later ≡ tokens = cc in h) (All-cons IsLexed (token kind) later (token_form place.fresh (take x.len text) kind form, line) (ih later refl))
+      with kind form (Err error) e ih = absurd (cc)
+
+      by : (kind : PieceKind) → kind_of place.fresh (take x.len text) ≡ Some kind → (rest : Result (List TextToken) LexError) → answer_with kind place.line (take x.len text) rest ≡ Ok tokens → ((later : List TextToken) → rest ≡ Ok later → All IsLexed later) → All IsLexed tokens
+      by Gap form rest e ih = ih tokens e
+      by (Token kind) form rest e ih = with kind form rest e ih
+      by (Refused kind) form rest e ih = absurd (cc)
 
 pub forms_of : (text : List ℕ) (tokens : List TextToken) → HasTokens text tokens → All IsLexed tokens
 forms_of text tokens h = lexed_of first_place text h.0 tokens (omega arith) h.1 h.2
@@ -147,14 +150,15 @@ pub record Here (text : List ℕ) (fresh : Bool) (at : ℕ) (x : Piece) : Type 0
 
 pub here : (text : List ℕ) (fresh : Bool) (at : ℕ) (x : Piece) → at < length text → x ≡ piece_at fresh (take (length text - at) (drop at text)) → Here text fresh at x
 here text fresh at x lt e =
-  let left = length-drop at text in
-  let is : x ≡ piece_at fresh (drop at text) = e ∙ ap (piece_at fresh) (take_rest text at) in
-  let P : Piece → Type 0 = λ p. Longest fresh (drop at text) p in
-  let longest = subst P (sym is) (piece_at_longest fresh (drop at text) (omega (arith, left, lt))) in
-  let bytes : take x.len (take (length text - at) (drop at text)) ≡ take x.len (drop at text) = ap (take x.len) (take_rest text at) in
-  record {
-    is = is;
-    some = longest.some;
-    within = let h = longest.within in omega (arith, left, lt, h);
-    bytes = bytes;
-    long = ap length bytes ∙ length-take-le x.len (drop at text) longest.within }
+    let left = length-drop at text in
+    let is : x ≡ piece_at fresh (drop at text) = e ∙ ap (piece_at fresh) (take_rest text at) in
+    let P : Piece → Type 0 = λ p. Longest fresh (drop at text) p in
+    let longest = subst P (sym is) (piece_at_longest fresh (drop at text) (omega (arith, left, lt))) in
+    let bytes : take x.len (take (length text - at) (drop at text)) ≡ take x.len (drop at text) = ap (take x.len) (take_rest text at) in
+    record {
+      is = is;
+      some = longest.some;
+      within = let h = longest.within in omega (arith, left, lt, h);
+      bytes = bytes;
+      long = ap length bytes ∙ length-take-le x.len (drop at text) longest.within;
+    }

@@ -51,10 +51,10 @@ is_mark b = list_any (λ c. c == b) (codes "[](){}.&*+-~!%<>^|?:;=,")
 -- what a piece of a text is by its first byte
 unfoldable pub class_of : ℕ → ByteClass
 class_of b =
-  if is_space b then Space else
-  if is_letter b then Letter else
-  if is_digit b then Digit else
-  if b == 39 || b == 34 then Quote else
-  if b == 35 then Hash else
-  if b == 47 then Slash else
-  if is_mark b then Mark else Other
+    if is_space b then Space else
+    if is_letter b then Letter else
+    if is_digit b then Digit else
+    if b == 39 || b == 34 then Quote else
+    if b == 35 then Hash else
+    if b == 47 then Slash else
+    if is_mark b then Mark else Other

@@ -37,7 +37,7 @@ header_end text = behind_blanks (front_of headers) text
 -- how many bytes a text that begins with `include` has up to the end of the header behind it
 unfoldable pub word_end : List ℕ → Option ℕ
 word_end text =
-  if starts_with nat_eq text (codes "include") then option_map (λ end. 7 + end) (header_end (drop 7 text)) else None
+    if starts_with nat_eq text (codes "include") then option_map (λ end. 7 + end) (header_end (drop 7 text)) else None
 
 -- how many bytes an accepted include line has behind its `#`: blanks, `include`, blanks, and a header
 unfoldable pub include_end : List ℕ → Option ℕ

@@ -11,8 +11,8 @@ is_simple_escape b = list_any (λ c. c == b) (codes "'\"?\\abfnrtv")
 -- the value of a simple escape: a 7, b 8, f 12, n 10, r 13, t 9, v 11, and else the byte itself
 unfoldable pub simple_value : ℕ → ℕ
 simple_value b =
-  if b == 97 then 7 else if b == 98 then 8 else if b == 102 then 12 else if b == 110 then 10 else
-  if b == 114 then 13 else if b == 116 then 9 else if b == 118 then 11 else b
+    if b == 97 then 7 else if b == 98 then 8 else if b == 102 then 12 else if b == 110 then 10 else
+    if b == 114 then 13 else if b == 116 then 9 else if b == 118 then 11 else b
 
 -- the length of a hexadecimal escape behind its backslash, with this many digits: at least one is needed
 abbrev pub hexadecimal_length : ℕ → ℕ
@@ -23,16 +23,16 @@ hexadecimal_length digits = if digits == 0 then 0 else 1 + digits
 unfoldable pub escape_length : List ℕ → ℕ
 escape_length [] = 0
 escape_length (b ∷ w) =
-  if is_simple_escape b then 1 else
-  if is_octal_digit b then 1 + min 2 (prefix_len is_octal_digit w) else
-  if b == 120 then hexadecimal_length (prefix_len is_hexadecimal_digit w) else 0
+    if is_simple_escape b then 1 else
+    if is_octal_digit b then 1 + min 2 (prefix_len is_octal_digit w) else
+    if b == 120 then hexadecimal_length (prefix_len is_hexadecimal_digit w) else 0
 
 -- the value of an escape, without its backslash
 unfoldable pub escape_value : List ℕ → ℕ
 escape_value [] = 0
 escape_value (b ∷ w) =
-  if is_simple_escape b then simple_value b else
-  if is_octal_digit b then digits_value 8 (b ∷ w) else digits_value 16 w
+    if is_simple_escape b then simple_value b else
+    if is_octal_digit b then digits_value 8 (b ∷ w) else digits_value 16 w
 
 -- the length of an escape of this length that stands behind a backslash, with the backslash, 0 where its value is
 -- greater than 255
@@ -44,7 +44,7 @@ escaped_length w n = if not (n == 0) && nat_le (escape_value (take n w)) 255 the
 unfoldable pub character_length : ℕ → List ℕ → ℕ
 character_length quote [] = 0
 character_length quote (b ∷ w) =
-  if b == 92 then escaped_length w (escape_length w) else if b == quote || b == 10 then 0 else 1
+    if b == 92 then escaped_length w (escape_length w) else if b == quote || b == 10 then 0 else 1
 
 -- the first byte of a text is this closing quote
 abbrev pub begins_with : ℕ → List ℕ → Bool
@@ -54,8 +54,8 @@ begins_with quote (b ∷ w) = b == quote
 -- how many bytes a character constant has behind its opening quote: one character and the closing quote
 unfoldable pub constant_end : List ℕ → Option ℕ
 constant_end text =
-  let n = character_length 39 text in
-  if not (n == 0) && begins_with 39 (drop n text) then Some (1 + n) else None
+    let n = character_length 39 text in
+    if not (n == 0) && begins_with 39 (drop n text) then Some (1 + n) else None
 
 -- how many bytes a string literal has behind its opening quote: characters in turn, each the longest at its place, and
 -- the closing quote. The first `inner` bytes of the text belong to a character that began before it.
@@ -63,6 +63,6 @@ unfoldable pub string_end : ℕ → List ℕ → Option ℕ
 string_end inner [] = None
 string_end (suc inner) (b ∷ w) = option_map suc (string_end inner w)
 string_end zero (b ∷ w) =
-  if b == 34 then Some 1 else
-  if character_length 34 (b ∷ w) == 0 then None else
-  option_map suc (string_end (character_length 34 (b ∷ w) - 1) w)
+    if b == 34 then Some 1 else
+    if character_length 34 (b ∷ w) == 0 then None else
+    option_map suc (string_end (character_length 34 (b ∷ w) - 1) w)

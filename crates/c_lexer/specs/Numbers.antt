@@ -68,9 +68,9 @@ unfoldable pub suffix_of : List ℕ → Option Suffix
 suffix_of [] = Some Plain
 suffix_of (a ∷ []) = if is_u a then Some U else if is_l a then Some L else None
 suffix_of (a ∷ b ∷ []) =
-  if (is_u a && is_l b) || (is_l a && is_u b) then Some Ul else if is_l a && a == b then Some Ll else None
+    if (is_u a && is_l b) || (is_l a && is_u b) then Some Ul else if is_l a && a == b then Some Ll else None
 suffix_of (a ∷ b ∷ c ∷ []) =
-  if (is_u a && is_l b && b == c) || (is_l a && a == b && is_u c) then Some Ull else None
+    if (is_u a && is_l b && b == c) || (is_l a && a == b && is_u c) then Some Ull else None
 suffix_of (a ∷ b ∷ c ∷ d ∷ w) = None
 
 -- the suffix of a number, where it has the form of one: at least one digit, and a suffix

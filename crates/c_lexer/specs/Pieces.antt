@@ -60,9 +60,9 @@ block_kind (Some end) length = ends_at (Some end) length Gap
 abbrev pub slash_kind : List ℕ → Option PieceKind
 slash_kind [] = Some (Token Sign)
 slash_kind (b ∷ w) =
-  if b == 47 then (if list_all is_on_line w then Some Gap else None) else
-  if b == 42 then block_kind (comment_end false w) (length w) else
-  if is_sign (47 ∷ b ∷ w) then Some (Token Sign) else None
+    if b == 47 then (if list_all is_on_line w then Some Gap else None) else
+    if b == 42 then block_kind (comment_end false w) (length w) else
+    if is_sign (47 ∷ b ∷ w) then Some (Token Sign) else None
 
 -- the kind of a piece, by the class of its first byte and what follows
 abbrev pub kind_by : Bool → ByteClass → ℕ → List ℕ → Option PieceKind

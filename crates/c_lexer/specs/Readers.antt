@@ -25,16 +25,16 @@ piece kind len = record { kind = kind; len = len }
 -- the longest sign at the front of a text whose first byte is a sign
 unfoldable pub sign_length : List ℕ → ℕ
 sign_length text =
-  if nat_le 3 (length text) && is_triple_sign (take 3 text) then 3 else
-  if nat_le 2 (length text) && is_double_sign (take 2 text) then 2 else 1
+    if nat_le 3 (length text) && is_triple_sign (take 3 text) then 3 else
+    if nat_le 2 (length text) && is_double_sign (take 2 text) then 2 else 1
 
 abbrev pub name_piece : List ℕ → Piece
 name_piece text =
-  let n = prefix_len is_name_byte text in piece (Token (name_kind (take n text))) n
+    let n = prefix_len is_name_byte text in piece (Token (name_kind (take n text))) n
 
 abbrev pub number_piece : List ℕ → Piece
 number_piece text =
-  let n = prefix_len is_number_byte text in piece (number_kind (take n text)) n
+    let n = prefix_len is_number_byte text in piece (number_kind (take n text)) n
 
 -- with a first byte before it: the piece up to an end, or that byte alone
 abbrev pub piece_to : Option ℕ → PieceKind → PieceKind → Piece
@@ -46,7 +46,7 @@ literal_piece quote rest = piece_to (literal_end quote rest) (Token (literal_kin
 
 abbrev pub hash_piece : Bool → List ℕ → Piece
 hash_piece fresh rest =
-  piece_to (if fresh then include_end rest else None) Gap (Refused (if fresh then Directive else BadByte))
+    piece_to (if fresh then include_end rest else None) Gap (Refused (if fresh then Directive else BadByte))
 
 abbrev pub block_piece : Option ℕ → List ℕ → Piece
 block_piece None rest = piece (Refused OpenComment) (2 + length rest)
@@ -56,8 +56,8 @@ block_piece (Some end) rest = piece Gap (2 + end)
 abbrev pub slash_piece : ℕ → List ℕ → Piece
 slash_piece b [] = piece (Token Sign) (sign_length (b ∷ []))
 slash_piece b (c ∷ w) =
-  if c == 47 then piece Gap (2 + prefix_len is_on_line w) else
-  if c == 42 then block_piece (comment_end false w) w else piece (Token Sign) (sign_length (b ∷ c ∷ w))
+    if c == 47 then piece Gap (2 + prefix_len is_on_line w) else
+    if c == 42 then block_piece (comment_end false w) w else piece (Token Sign) (sign_length (b ∷ c ∷ w))
 
 abbrev pub piece_by : Bool → ByteClass → ℕ → List ℕ → Piece
 piece_by fresh Space b rest = piece Gap 1
@@ -79,13 +79,13 @@ unfoldable pub pieces_from : Place → ℕ → List ℕ → List Piece
 pieces_from place inner [] = []
 pieces_from place (suc inner) (b ∷ w) = pieces_from (next_place place b) inner w
 pieces_from place zero (b ∷ w) =
-  piece_at place.fresh (b ∷ w) ∷ pieces_from (next_place place b) ((piece_at place.fresh (b ∷ w)).len - 1) w
+    piece_at place.fresh (b ∷ w) ∷ pieces_from (next_place place b) ((piece_at place.fresh (b ∷ w)).len - 1) w
 
 -- a piece of this kind, with this line and these bytes, makes these tokens of those before it
 abbrev pub TakesPiece : PieceKind → ℕ → List ℕ → List TextToken → List TextToken → Type 0
 TakesPiece Gap line bytes before after = after ≡ before
 TakesPiece (Token kind) line bytes before after =
-  after ≡ before ++ record { line = line; kind = kind; bytes = bytes } ∷ []
+    after ≡ before ++ record { line = line; kind = kind; bytes = bytes } ∷ []
 TakesPiece (Refused kind) line bytes before after = ⊥
 
 -- the error is that of a piece of this kind with this line, or want of memory

@@ -12,9 +12,9 @@ is_single_sign (a ∷ b ∷ w) = false
 -- the signs of two bytes
 abbrev pub double_signs : List (List ℕ)
 double_signs =
-  codes "->" ∷ codes "++" ∷ codes "--" ∷ codes "<<" ∷ codes ">>" ∷ codes "<=" ∷ codes ">=" ∷ codes "==" ∷
-  codes "!=" ∷ codes "&&" ∷ codes "||" ∷ codes "*=" ∷ codes "/=" ∷ codes "%=" ∷ codes "+=" ∷ codes "-=" ∷
-  codes "&=" ∷ codes "^=" ∷ codes "|=" ∷ []
+    codes "->" ∷ codes "++" ∷ codes "--" ∷ codes "<<" ∷ codes ">>" ∷ codes "<=" ∷ codes ">=" ∷ codes "==" ∷
+    codes "!=" ∷ codes "&&" ∷ codes "||" ∷ codes "*=" ∷ codes "/=" ∷ codes "%=" ∷ codes "+=" ∷ codes "-=" ∷
+    codes "&=" ∷ codes "^=" ∷ codes "|=" ∷ []
 
 -- the signs of three bytes
 abbrev pub triple_signs : List (List ℕ)

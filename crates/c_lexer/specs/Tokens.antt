@@ -1,5 +1,5 @@
 -- The tokens of a text, or its first bad place (C99 5.1.1.2 and 6.4).
-use Rattle.std.specs.Prelude.{◌≡◌, ℕ, ◌+◌, ◌≤◌, ◌==◌, Bool, true, ◌||◌, ◌&&◌, if◌then◌else◌, List, [], ◌∷◌, take, drop, Result, Ok, Err, ⊤}
+use Rattle.std.specs.Prelude.{◌≡◌, ℕ, ◌+◌, ◌≤◌, ◌==◌, Bool, true, ◌||◌, ◌&&◌, if◌then◌else◌, List, [], ◌∷◌, take, drop, Result, Ok, Err, ◌⊎◌, ⊤}
 use Rattle.c_lexer.specs.Bytes.{is_space}
 use Rattle.c_lexer.specs.Pieces.{Longest, IsToken}
 use Rattle.c_lexer.specs.declared.place.Place.{Place}
@@ -19,7 +19,8 @@ first_place = record { line = 1; fresh = true }
 unfoldable pub next_place : Place → ℕ → Place
 next_place place b = record {
   line = if b == 10 then place.line + 1 else place.line;
-  fresh = b == 10 || (place.fresh && is_space b) }
+  fresh = b == 10 || (place.fresh && is_space b);
+}
 
 -- the place behind some bytes
 abbrev pub behind : Place → List ℕ → Place
@@ -30,8 +31,8 @@ behind place (b ∷ w) = behind (next_place place b) w
 abbrev pub IsCut : Place → List ℕ → List Piece → Type 0
 IsCut place text [] = text ≡ []
 IsCut place text (piece ∷ pieces) =
-  Longest place.fresh text piece
-  × IsCut (behind place (take piece.len text)) (drop piece.len text) pieces
+    Longest place.fresh text piece
+    × IsCut (behind place (take piece.len text)) (drop piece.len text) pieces
 
 -- one token more in front
 abbrev pub with_token : TextToken → Result (List TextToken) LexError → Result (List TextToken) LexError
@@ -48,8 +49,8 @@ answer_with (Refused kind) line bytes rest = Err (BadPlace kind line)
 abbrev pub answer_of : Place → List ℕ → List Piece → Result (List TextToken) LexError
 answer_of place text [] = Ok []
 answer_of place text (piece ∷ pieces) =
-  answer_with piece.kind place.line (take piece.len text)
-  (answer_of (behind place (take piece.len text)) (drop piece.len text) pieces)
+    answer_with piece.kind place.line (take piece.len text)
+    (answer_of (behind place (take piece.len text)) (drop piece.len text) pieces)
 
 -- the text has this answer: its tokens, or its first bad place
 abbrev pub HasAnswer : List ℕ → Result (List TextToken) LexError → Type 0
@@ -72,8 +73,13 @@ IsRefused text NoMemory = ⊤
 abbrev pub IsLexed : TextToken → Type 0
 IsLexed token = IsToken token.kind token.bytes × (1 ≤ token.line)
 
+-- whatever answer the text has, it is this one, unless memory was wanting
+abbrev pub IsOnlyAnswer : List ℕ → Result (List TextToken) LexError → Type 0
+IsOnlyAnswer text found =
+    (answer : Result (List TextToken) LexError) → HasAnswer text answer → (found ≡ answer) ⊎ (found ≡ Err NoMemory)
+
 -- every text has exactly one answer
 abbrev pub OneAnswer : Type 0
 OneAnswer =
-  (text : List ℕ) → (answer : Result (List TextToken) LexError) × HasAnswer text answer
-  × ((other : Result (List TextToken) LexError) → HasAnswer text other → other ≡ answer)
+    (text : List ℕ) → (answer : Result (List TextToken) LexError) × HasAnswer text answer
+    × ((other : Result (List TextToken) LexError) → HasAnswer text other → other ≡ answer)

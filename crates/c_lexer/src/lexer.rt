@@ -1,7 +1,7 @@
 //! The tokens of a whole text.
 
 ghost use Rattle.std.specs.Prelude.{◌≡◌, ◌<◌, ◌^◌, [], ◌∷◌, ◌++◌, length, All, IfOk, IfErr};
-ghost use Rattle.c_lexer.specs.Tokens.{HasTokens, IsRefused, IsLexed};
+ghost use Rattle.c_lexer.specs.Tokens.{HasTokens, IsRefused, IsLexed, IsOnlyAnswer};
 ghost use Rattle.c_lexer.specs.Readers.{TakesPiece, RefusesPiece};
 
 use crate::piece::{PieceKind, piece_at};
@@ -45,12 +45,18 @@ fn take_piece(
     }
 }
 
-/// The tokens of a text, or its first bad place.
+/// The tokens of a text (C99 6.4): each with its kind, its spelling and the line of its first byte.
+///
+/// # Errors
+///
+/// [`LexError::Bad`] exactly where the text has a place at which nothing begins that may stand there, with the kind and
+/// the line of the first such place. [`LexError::NoMemory`] only for want of memory.
 pub fn lex(alloc: Global, text: &[u8]) -> Result<Items<Token>, LexError>
     requires { length text.now < 2 ^ 32 }
     ensures tokens { IfOk result (HasTokens text.now) }
     ensures forms { IfOk result (All IsLexed) }
     ensures refused { IfErr result (IsRefused text.now) }
+    ensures exact { IsOnlyAnswer text.now result }
 {
     let mut tokens = Items::new(alloc);
     let mut place = Place {

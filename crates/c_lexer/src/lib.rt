@@ -10,6 +10,7 @@
 
 mod bytes;
 mod gap;
+mod laws;
 mod lexer;
 mod literal;
 mod name;
@@ -17,12 +18,12 @@ mod number;
 mod piece;
 mod place;
 mod sign;
+#[cfg(test)]
+mod tests;
 mod token;
 mod words;
 
-#[cfg(test)]
-mod tests;
-
+pub use laws::every_text_has_one_answer;
 pub use lexer::lex;
 mod token;
 

@@ -21,7 +21,9 @@ fn octal_count(text: &[u8]) -> usize
     ensures count { result ≡ prefix_len is_octal_digit text.now }
     ensures bound { result ≤ length text.now }
 {
-    text.iter().take_while(|byte| is_octal_digit(**byte)).count()
+    text.iter()
+        .take_while(|byte| is_octal_digit(**byte))
+        .count()
 }
 
 /// How many hexadecimal digits a text begins with.
@@ -29,7 +31,9 @@ fn hexadecimal_count(text: &[u8]) -> usize
     ensures count { result ≡ prefix_len is_hexadecimal_digit text.now }
     ensures bound { result ≤ length text.now }
 {
-    text.iter().take_while(|byte| is_hexadecimal_digit(**byte)).count()
+    text.iter()
+        .take_while(|byte| is_hexadecimal_digit(**byte))
+        .count()
 }
 
 /// How many bytes the longest escape has that stands behind a backslash, 0 where none does.
@@ -100,7 +104,11 @@ fn character_length(quote: u8, text: &[u8]) -> usize
         [] => 0,
         [b'\\', escape @ ..] => {
             let n = escape_length(escape);
-            if n != 0 && is_byte_escape(&escape[..n]) { 1 + n } else { 0 }
+            if n != 0 && is_byte_escape(&escape[..n]) {
+                1 + n
+            } else {
+                0
+            }
         }
         [first, ..] if *first == quote || *first == b'\n' => 0,
         _ => 1,

@@ -65,7 +65,7 @@ impl Base {
     /// How many digits of this base a text begins with.
     fn digit_count(self, text: &[u8]) -> usize
         ensures count { result ≡ prefix_len (is_digit_of self) text.now }
-    ensures bound { result ≤ length text.now }
+        ensures bound { result ≤ length text.now }
     {
         text.iter().take_while(|byte| self.is_digit(**byte)).count()
     }

@@ -46,7 +46,9 @@ fn number_length(text: &[u8]) -> usize
     ensures count { result ≡ prefix_len is_number_byte text.now }
     ensures bound { result ≤ length text.now }
 {
-    text.iter().take_while(|byte| is_number_byte(**byte)).count()
+    text.iter()
+        .take_while(|byte| is_number_byte(**byte))
+        .count()
 }
 
 /// The name or keyword that a text begins with.
@@ -89,7 +91,11 @@ fn literal_piece(quote: u8, rest: &[u8]) -> Piece
 {
     match literal_end(quote, rest) {
         Some(end) => Piece {
-            kind: PieceKind::Token(if quote == b'\'' { TokenKind::Char } else { TokenKind::Str }),
+            kind: PieceKind::Token(if quote == b'\'' {
+                TokenKind::Char
+            } else {
+                TokenKind::Str
+            }),
             len: 1 + end,
         },
         None => Piece {

@@ -54,7 +54,10 @@ fn the_longest_token_wins(rt: HostRuntime) -> Result<(), Fail> {
         (b"", b""),
         (b"a+++b", b"na\np++\np+\nnb\n"),
         (b"x->y--->z", b"nx\np->\nny\np--\np->\nnz\n"),
-        (b"a<<=b>>=c<<d<=e", b"na\np<<=\nnb\np>>=\nnc\np<<\nnd\np<=\nne\n"),
+        (
+            b"a<<=b>>=c<<d<=e",
+            b"na\np<<=\nnb\np>>=\nnc\np<<\nnd\np<=\nne\n",
+        ),
         (b"...", b"p.\np.\np.\n"),
         (b"a-- > b===c", b"na\np--\np>\nnb\np==\np=\nnc\n"),
         (
@@ -65,10 +68,22 @@ fn the_longest_token_wins(rt: HostRuntime) -> Result<(), Fail> {
             b"->++ -- << >> <= >= == != && || *= /= %= += -= &= ^= |= <<= >>=",
             b"p->\np++\np--\np<<\np>>\np<=\np>=\np==\np!=\np&&\np||\np*=\np/=\np%=\np+=\np-=\np&=\np^=\np|=\np<<=\np>>=\n",
         ),
-        (b"int intx _Bool __delay_frees whil while1", b"kint\nnintx\nk_Bool\nk__delay_frees\nnwhil\nnwhile1\n"),
-        (b"a/b//c\nd/*e*/f/=g/**/h/*/*/", b"na\np/\nnb\nnd\nnf\np/=\nng\nnh\n"),
-        (b"0 007 10 0x0F 0XaBu 1ull 1uL 1LU 1llU 2U 3l", b"i0\ni007\ni10\ni0x0F\ni0XaBu\ni1ull\ni1uL\ni1LU\ni1llU\ni2U\ni3l\n"),
-        (b"18446744073709551615u 9223372036854775807 0xffffffffffffffff", b"i18446744073709551615u\ni9223372036854775807\ni0xffffffffffffffff\n"),
+        (
+            b"int intx _Bool __delay_frees whil while1",
+            b"kint\nnintx\nk_Bool\nk__delay_frees\nnwhil\nnwhile1\n",
+        ),
+        (
+            b"a/b//c\nd/*e*/f/=g/**/h/*/*/",
+            b"na\np/\nnb\nnd\nnf\np/=\nng\nnh\n",
+        ),
+        (
+            b"0 007 10 0x0F 0XaBu 1ull 1uL 1LU 1llU 2U 3l",
+            b"i0\ni007\ni10\ni0x0F\ni0XaBu\ni1ull\ni1uL\ni1LU\ni1llU\ni2U\ni3l\n",
+        ),
+        (
+            b"18446744073709551615u 9223372036854775807 0xffffffffffffffff",
+            b"i18446744073709551615u\ni9223372036854775807\ni0xffffffffffffffff\n",
+        ),
     ];
     for (text, expected) in cases {
         assert!(rt; gives(rt.alloc(), text, expected)?, "tokens of {:?}", text);
@@ -79,10 +94,19 @@ fn the_longest_token_wins(rt: HostRuntime) -> Result<(), Fail> {
 #[test]
 fn literals_have_their_characters(rt: HostRuntime) -> Result<(), Fail> {
     let cases: [(&[u8], &[u8]); 9] = [
-        (b"'a' '\"' '\\'' '\\\\' '\\n' '\\0' '\\377'", b"c'a'\nc'\"'\nc'\\''\nc'\\\\'\nc'\\n'\nc'\\0'\nc'\\377'\n"),
+        (
+            b"'a' '\"' '\\'' '\\\\' '\\n' '\\0' '\\377'",
+            b"c'a'\nc'\"'\nc'\\''\nc'\\\\'\nc'\\n'\nc'\\0'\nc'\\377'\n",
+        ),
         (b"'\\xff' '\\x0000041'", b"c'\\xff'\nc'\\x0000041'\n"),
-        (b"\"\" \"'\" \"\\\"\" \"a\\\\\"", b"s\"\"\ns\"'\"\ns\"\\\"\"\ns\"a\\\\\"\n"),
-        (b"\"\\1234\\x41g\\?\\a\\b\\f\\r\\t\\v\"", b"s\"\\1234\\x41g\\?\\a\\b\\f\\r\\t\\v\"\n"),
+        (
+            b"\"\" \"'\" \"\\\"\" \"a\\\\\"",
+            b"s\"\"\ns\"'\"\ns\"\\\"\"\ns\"a\\\\\"\n",
+        ),
+        (
+            b"\"\\1234\\x41g\\?\\a\\b\\f\\r\\t\\v\"",
+            b"s\"\\1234\\x41g\\?\\a\\b\\f\\r\\t\\v\"\n",
+        ),
         (b"\"a\"\"b\"", b"s\"a\"\ns\"b\"\n"),
         (b"\"\x00\x80\xff\t\r\"", b"s\"\x00\x80\xff\t\r\"\n"),
         (b"'\x80'", b"c'\x80'\n"),
@@ -161,10 +185,18 @@ fn bad_places_are_refused(rt: HostRuntime) {
         (b"a #include <stdio.h>", LexKind::BadByte, 1),
         (b"/* x */ #include <stdio.h>", LexKind::BadByte, 1),
         (b"/* x\n*/ #include <stdio.h>", LexKind::BadByte, 2),
-        (b"#include <stdio.h> #include <stdio.h>", LexKind::BadByte, 1),
+        (
+            b"#include <stdio.h> #include <stdio.h>",
+            LexKind::BadByte,
+            1,
+        ),
     ];
     for (text, kind, line) in cases {
-        assert!(rt; refuses(rt.alloc(), text, kind, line), "refusal of {:?}", text);
+        assert!(rt;
+            refuses(rt.alloc(), text, kind, line),
+            "refusal of {:?}",
+            text
+        );
     }
 }
 

@@ -6,7 +6,8 @@ abbrev pub invariant-loop-at : goal.invariant-loop-at
 invariant-loop-at l = record {
   reached : AtText l.text l.place l.at l.tokens;
   within : l.at ≤ length l.text;
-  line : l.place.line ≤ l.at + 1 }
+  line : l.place.line ≤ l.at + 1;
+}
 
 abbrev pub decreases-loop-at : goal.decreases-loop-at
 decreases-loop-at l = length l.text - l.at

@@ -6,4 +6,5 @@ abbrev pub invariant-loop-byte : goal.invariant-loop-byte
 invariant-loop-byte l = record {
   place : behind l.here (drop l.byte-index l.bytes) ≡ behind l.fn.place l.bytes;
   low : l.fn.place.line ≤ l.here.line;
-  high : l.here.line ≤ l.fn.place.line + l.byte-index }
+  high : l.here.line ≤ l.fn.place.line + l.byte-index;
+}
