@@ -25,6 +25,4 @@ mod words;
 
 pub use laws::every_text_has_one_answer;
 pub use lexer::lex;
-mod token;
-
 pub use token::{LexError, LexKind, Token, TokenKind};
