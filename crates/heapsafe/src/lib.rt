@@ -158,3 +158,6 @@ pub fn heapsafe<T: Texts, I: Source, O: Sink, E: Sink>(
     };
     run_file(alloc, file, steps, texts, out, err)
 }
+
+#[cfg(test)]
+mod tests;

@@ -34,3 +34,6 @@ pub use real::{FileTexts, StdSink, StdSource};
 pub use steps::Steps;
 pub use sure::{SureSink, SureSource, SureTexts};
 pub use values::{Pointer, Value};
+
+#[cfg(test)]
+mod tests;

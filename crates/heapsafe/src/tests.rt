@@ -1,0 +1,94 @@
+//! The answers that are not of a run. Each row has the words, whether the text's first call fails, and then the error
+//! stream and the status.
+
+use crate::heapsafe;
+use hs_base::{Items, MemSink, MemTexts, SureSource};
+use std::alloc::Global;
+use std::test::Fail;
+
+/// Bytes as a list.
+fn bytes(alloc: Global, text: &[u8]) -> Result<Items<u8>, Fail> {
+    Ok(Items::from(Vec::from_slice(alloc, text)?))
+}
+
+/// The file a.c with this text. Its first call fails where that is said.
+fn texts(alloc: Global, text: &[u8], fails: bool) -> Result<MemTexts, Fail> {
+    let mut texts = Items::new(alloc);
+    texts.push((bytes(alloc, b"a.c")?, bytes(alloc, text)?))?;
+    let mut calls = Items::new(alloc);
+    if fails {
+        calls.push(1)?;
+    }
+    Ok(MemTexts::new(texts, calls))
+}
+
+#[test]
+fn refusals(rt: HostRuntime) -> Result<(), Fail> {
+    let alloc = rt.alloc();
+    let rows: [(&[&str], bool, &[u8], u8); 6] = [
+        (&["run"], false, b"heapsafe: bad command line\n", 120),
+        (
+            &["run", "a.c", "--steps", "0"],
+            false,
+            b"heapsafe: bad command line\n",
+            120,
+        ),
+        (
+            &["run", "-a.c"],
+            false,
+            b"heapsafe: bad command line\n",
+            120,
+        ),
+        (&["run", "a.c"], true, b"a.c: cannot read\n", 121),
+        (&["run", "b.c"], false, b"b.c: cannot read\n", 121),
+        (&["run", "a.c"], false, b"a.c: not built\n", 135),
+    ];
+    for (words, fails, said, status) in rows {
+        let mut texts = texts(alloc, b"int i;", fails)?;
+        let mut input = SureSource::new(Items::new(alloc));
+        let mut out = MemSink::new(alloc, 7, Items::new(alloc));
+        let mut err = MemSink::new(alloc, 7, Items::new(alloc));
+        let answer = heapsafe(alloc, words, &mut texts, &mut input, &mut out, &mut err);
+        assert_eq!(rt; answer, status);
+        assert_eq!(rt; out.bytes(), b"".as_slice());
+        assert_eq!(rt; err.bytes(), said);
+    }
+    Ok(())
+}
+
+#[test]
+fn longest_text(rt: HostRuntime) -> Result<(), Fail> {
+    let alloc = rt.alloc();
+    for (size, status) in [(1_048_576, 135), (1_048_577, 122)] {
+        let spaces = vec![in alloc; b' '; size]?;
+        let mut texts = texts(alloc, spaces.as_slice(), false)?;
+        let mut input = SureSource::new(Items::new(alloc));
+        let mut out = MemSink::new(alloc, 100, Items::new(alloc));
+        let mut err = MemSink::new(alloc, 100, Items::new(alloc));
+        let answer = heapsafe(
+            alloc,
+            &["run", "a.c"],
+            &mut texts,
+            &mut input,
+            &mut out,
+            &mut err,
+        );
+        assert_eq!(rt; answer, status);
+    }
+    Ok(())
+}
+
+#[test]
+fn failing_error_stream(rt: HostRuntime) -> Result<(), Fail> {
+    let alloc = rt.alloc();
+    let mut texts = texts(alloc, b"", false)?;
+    let mut input = SureSource::new(Items::new(alloc));
+    let mut out = MemSink::new(alloc, 7, Items::new(alloc));
+    let mut calls = Items::new(alloc);
+    calls.push(2)?;
+    let mut err = MemSink::new(alloc, 4, calls);
+    let answer = heapsafe(alloc, &[], &mut texts, &mut input, &mut out, &mut err);
+    assert_eq!(rt; answer, 133);
+    assert_eq!(rt; err.bytes(), b"heap".as_slice());
+    Ok(())
+}
