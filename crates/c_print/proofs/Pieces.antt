@@ -2,13 +2,14 @@
 use Rattle.std.proofs.Common.{◌≡◌, ◌≢◌, ◌<◌, ◌≤◌, ℕ, suc, nat_eq, Bool, true, false, cond, List, [], ◌∷◌, ◌++◌, length, length-append, drop, refl, sym, ap, ◌∙◌, subst, append_assoc, arith}
 use Rattle.std.specs.List.{All, flat_map}
 use Rattle.std.proofs.lemmas.List.Concat.{flat_map-cons}
+use Rattle.std.proofs.lemmas.List.Elements.{All-nil, All-cons}
 use Rattle.hs_base.specs.declared.ends.IntKind.{IntKind}
 use Rattle.c_print.specs.declared.piece.Piece.{Piece}
 use Rattle.c_print.specs.declared.piece.Piece.TheVariants.{Plain, Item}
 use Rattle.c_print.specs.Item.{ReadsItem, StartsOutside}
 use Rattle.c_print.proofs.Parts.{one_item, item_is_no_percent, item_is_longer}
 use Rattle.std.proofs.lemmas.Bool.{eqb-true, eqb-false, true≢false}
-use Rattle.c_print.specs.Format.{plain_byte, GoesOnPlain, ReadsPlain, ReadsPiece, ReadsPieces, IsFormat}
+use Rattle.c_print.specs.Format.{plain_byte, GoesOnPlain, ReadsPlain, ReadsPiece, ReadsPieces, IsFormat, IsGiven}
 
 -- plain text begins with a plain byte
 pub begins_plain : (bytes text rest : List ℕ) → text ≢ [] → ReadsPlain bytes text rest → GoesOnPlain bytes
@@ -146,3 +147,14 @@ one_format bytes (p ∷ pieces) (q ∷ others) one other =
     let same = one_piece bytes p q one.0 other.0 one.1 other.1 in
     let more = one_format one.0 pieces others one.2 (subst (λ l. ReadsPieces l others []) (sym same.1) other.2) in
     (λ i. same.0 i ∷ more i)
+
+-- each piece of a format is as formats have them
+given : (bytes : List ℕ) (piece : Piece) (rest : List ℕ) → ReadsPiece bytes piece rest → IsGiven piece
+given bytes (Plain text) rest reads = (reads.0, reads.1.no_zero)
+given bytes (Item left zeros width conv kind) rest reads =
+    ((reads.2.conversion.length, reads.2.conversion.kind_is), reads.2.width_fits, reads.2.no_zeros_in_text)
+
+pub all_given : (bytes : List ℕ) (pieces : List Piece) (rest : List ℕ) → ReadsPieces bytes pieces rest → All IsGiven pieces
+all_given bytes [] rest reads = All-nil IsGiven
+all_given bytes (piece ∷ pieces) rest reads =
+    All-cons IsGiven piece pieces (given bytes piece reads.0 reads.1) (all_given reads.0 pieces rest reads.2)

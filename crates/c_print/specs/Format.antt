@@ -1,8 +1,9 @@
 -- The bytes that spell the pieces of a format (C99 7.19.6.1, narrowed to integers, characters and strings).
-use Rattle.std.specs.Prelude.{◌≡◌, ◌≢◌, ℕ, cond, List, [], ◌∷◌, ◌++◌, All, nat_eq}
+use Rattle.std.specs.Prelude.{◌≡◌, ◌≢◌, ℕ, cond, List, [], ◌∷◌, ◌++◌, All, nat_eq, ◌≤◌, ◌&&◌, codes, false}
 use Rattle.std.specs.List.{flat_map}
 use Rattle.c_print.specs.declared.piece.Piece.{Piece}
 use Rattle.c_print.specs.declared.piece.Piece.TheVariants.{Plain, Item}
+use Rattle.c_print.specs.Length.{is_one_of, HasKind}
 use Rattle.c_print.specs.Item.{ReadsItem}
 
 -- a percent sign is written twice, every other byte once
@@ -34,3 +35,9 @@ ReadsPieces bytes (piece ∷ pieces) rest =
 -- the pieces spell all of the bytes
 abbrev pub IsFormat : List ℕ → List Piece → Type 0
 IsFormat bytes pieces = ReadsPieces bytes pieces []
+
+-- what holds of each piece of a format
+abbrev pub IsGiven : Piece → Type 0
+IsGiven (Plain text) = (text ≢ []) × All (λ b. b ≢ 0) text
+IsGiven (Item left zeros width conv kind) =
+    HasKind conv kind × (width ≤ 4095) × (zeros && is_one_of (codes "cs") conv ≡ false)

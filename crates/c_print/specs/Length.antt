@@ -1,5 +1,5 @@
 -- Lengths of an item, and the kinds of integers that they give with a conversion (C99 7.19.6.1 paragraphs 7 and 8).
-use Rattle.std.specs.Prelude.{ℕ, Bool, cond, List, [], Option, Some, None, nat_eq, codes}
+use Rattle.std.specs.Prelude.{◌≡◌, ℕ, Bool, cond, List, [], Option, Some, None, nat_eq, codes}
 use Rattle.std.specs.List.{list_any}
 use Rattle.hs_base.specs.declared.ends.IntKind.{IntKind}
 use Rattle.hs_base.specs.declared.ends.IntKind.TheVariants.{I8, U8, I16, U16, I32, U32, I64, U64}
@@ -45,3 +45,7 @@ is_one_of bytes b = list_any (λ c. nat_eq c b) bytes
 abbrev pub kind_of : Length → ℕ → Option IntKind
 kind_of length conv =
     cond (is_one_of (codes "di") conv) (signed_kind length) (cond (is_one_of (codes "ouxX") conv) (unsigned_kind length) (cond (is_one_of (codes "cs") conv) (byte_kind length) None))
+
+-- a conversion has this kind with one of its lengths
+abbrev pub HasKind : ℕ → IntKind → Type 0
+HasKind conv kind = (length : Length) × (kind_of length conv ≡ Some kind)

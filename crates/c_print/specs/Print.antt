@@ -1,14 +1,12 @@
 -- The bytes that an item prints of a number (C99 7.19.6.1 paragraphs 6 and 8).
-use Rattle.std.specs.Prelude.{◌≡◌, ◌≢◌, ◌-◌, ◌+◌, ℕ, ℤ, Bool, cond, List, [], ◌∷◌, ◌++◌, Some, nat_eq, map, length, replicate, unsigned_abs, codes, FitsSigned}
-use Rattle.std.specs.Int.{FitsUnsigned, is_negative, w8, w16, w32, w64}
+use Rattle.std.specs.Prelude.{◌≢◌, ◌-◌, ◌+◌, ℕ, ℤ, Bool, cond, List, [], ◌∷◌, ◌++◌, nat_eq, map, length, replicate, unsigned_abs, codes}
+use Rattle.std.specs.Int.{is_negative}
 use Rattle.std.specs.Int.Digits.{digits_of}
 use Rattle.std.specs.Fmt.{digit_glyph, sign_text}
-use Rattle.hs_base.specs.declared.ends.IntKind.{IntKind}
-use Rattle.hs_base.specs.declared.ends.IntKind.TheVariants.{I8, U8, I16, U16, I32, U32, I64, U64}
-use Rattle.c_print.specs.declared.length.Length.{Length}
+use Rattle.hs_base.specs.Arithmetic.{IsInRange}
 use Rattle.c_print.specs.declared.piece.Piece.{Piece}
 use Rattle.c_print.specs.declared.piece.Piece.TheVariants.{Plain, Item}
-use Rattle.c_print.specs.Length.{is_one_of, kind_of}
+use Rattle.c_print.specs.Length.{is_one_of, HasKind}
 
 -- the digits of a number in a base, the highest first; zero has one digit
 abbrev pub numeral_digits : ℕ → ℕ → List ℕ
@@ -34,19 +32,7 @@ item_bytes (Plain text) n = text
 item_bytes (Item left zeros width conv kind) n =
     cond (nat_eq conv 99) (field left zeros width [] (unsigned_abs n ∷ [])) (field left zeros width (sign_text (is_negative n)) (numeral (base_of conv) (nat_eq conv 88) (unsigned_abs n)))
 
--- the numbers of a kind
-abbrev pub InKind : IntKind → ℤ → Type 0
-InKind I8 n = FitsSigned w8 n
-InKind U8 n = FitsUnsigned w8 n
-InKind I16 n = FitsSigned w16 n
-InKind U16 n = FitsUnsigned w16 n
-InKind I32 n = FitsSigned w32 n
-InKind U32 n = FitsUnsigned w32 n
-InKind I64 n = FitsSigned w64 n
-InKind U64 n = FitsUnsigned w64 n
-
--- an item, as a format has it, that prints a number, and a number of its kind
+-- an item that prints a number, and a number of its kind
 abbrev pub TakesNumber : Piece → ℤ → Type 0
 TakesNumber (Plain text) n = ⊥
-TakesNumber (Item left zeros width conv kind) n =
-    ((length : Length) × (kind_of length conv ≡ Some kind)) × (conv ≢ 115) × InKind kind n
+TakesNumber (Item left zeros width conv kind) n = HasKind conv kind × (conv ≢ 115) × IsInRange kind n

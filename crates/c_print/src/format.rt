@@ -1,8 +1,8 @@
 //! Reading a whole format.
 
-ghost use Rattle.std.specs.Prelude.{◌≡◌, ◌≢◌, ◌∷◌, ℕ, List, Err, IfOk, MatchOption};
+ghost use Rattle.std.specs.Prelude.{◌≡◌, ◌≢◌, ◌∷◌, ℕ, List, Err, IfOk, MatchOption, All};
 ghost use Rattle.c_print.specs.declared.piece.Piece.{Piece};
-ghost use Rattle.c_print.specs.Format.{ReadsPiece, IsFormat};
+ghost use Rattle.c_print.specs.Format.{ReadsPiece, IsFormat, IsGiven};
 
 use crate::item::read_item;
 use crate::piece::{FormatError, Piece};
@@ -39,6 +39,7 @@ fn read_piece(alloc: Global, bytes: &[u8]) -> Result<(Piece, &[u8]), FormatError
 /// no pieces do.
 pub fn read_format(alloc: Global, bytes: &[u8]) -> Result<Items<Piece>, FormatError>
     ensures pieces { IfOk result (λ pieces. IsFormat bytes.now pieces) }
+    ensures given { IfOk result (All IsGiven) }
     ensures bad { result ≡ Err FormatError.Bad → (pieces : List Piece) → ¬ IsFormat bytes.now pieces }
 {
     let mut pieces = Items::new(alloc);

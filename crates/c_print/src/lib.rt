@@ -21,3 +21,6 @@ pub use format::read_format;
 pub use laws::one_format;
 pub use piece::{FormatError, Piece};
 pub use print::{put_number, put_repeated};
+
+#[cfg(test)]
+mod tests;

@@ -4,7 +4,7 @@ use Rattle.std.proofs.lemmas.Result.{err_from_is_err_and}
 use Rattle.c_print.specs.declared.piece.Piece.{Piece}
 use Rattle.c_print.specs.declared.piece.FormatError.TheVariants as error
 use Rattle.c_print.specs.Format.{ReadsPieces}
-use Rattle.c_print.proofs.Pieces.{piece_is_longer, reads_more, reads_no_more}
+use Rattle.c_print.proofs.Pieces.{all_given, piece_is_longer, reads_more, reads_no_more}
 use Rattle.c_print.proofs.format.read_format.Goals as goal
 
 pub returns-in_err-piece-clause-bad : goal.returns-in_err-piece-clause-bad
@@ -23,3 +23,6 @@ loop-rest-preserved c =
     subst (λ (l : List Piece). ReadsPieces c.args.bytes.now l c.in_ok-piece.after.now) (sym c.in_ok-push.ensures.ok)
     (reads_more c.args.bytes.now c.loop-rest.pieces c.loop-rest.rest.now c.in_ok-piece.piece c.in_ok-piece.after.now
     c.loop-rest.invariant c.in_ok-piece.ensures.piece)
+
+pub returns-clause-given : goal.returns-clause-given
+returns-clause-given c = all_given c.args.bytes.now c.loop-rest.pieces c.loop-rest.rest.now c.loop-rest.invariant
