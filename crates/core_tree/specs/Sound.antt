@@ -1,5 +1,5 @@
 -- Which cores are sound: what each statement names exists, only loops go back, and no path leads past a body's end.
-use Rattle.std.specs.Prelude.{◌≡◌, ◌<◌, ◌≤◌, ◌+◌, ◌^◌, ℕ, pos, neg_ℤ, ◌≤ℤ◌, ◌<ℤ◌, List, [], ◌∷◌, Option, Some, None, length, slice_get, All, Bool, IfSome, cond,  count_by, codes}
+use Rattle.std.specs.Prelude.{◌≡◌, ◌<◌, ◌≤◌, ◌+◌, ◌^◌, ℕ, pos, neg_ℤ, ◌≤ℤ◌, ◌<ℤ◌, List, [], ◌∷◌, Option, Some, None, length, slice_get, All, Bool, IfSome, cond, count_by, codes}
 use Rattle.std.specs.Str.{bytes_eq}
 use Rattle.core_tree.specs.declared.Atom.{Atom}
 use Rattle.core_tree.specs.declared.Atom.TheVariants.{Reg, Int}

@@ -49,7 +49,7 @@ more core input n room bytes old new k trace taken' kept (runs.Goes before event
   kept = cut_more room trace events kept h.0;
   run = rw (after_more (step core) (begun core input n) k, run, is) (ap (λ (t : State). let r : Run = record { trace = trace ++ events; ended = None; state = t } in r) h.2);
 }
-more core input n room bytes old new k trace taken' kept (runs.Stops before e) is run h = absurd h
+more core input n room bytes old new k trace taken' kept (runs.Stops before events after e) is run h = absurd h
 
 pub reached_more : (core : Core) (input : List ℕ) (n : ℕ) (room : Room) (bytes : List ℕ) (old new : State) (taken_old taken' : Option (List ℕ)) → Reached core input n room bytes old taken_old → ((left taken : List ℕ) (trace : List Event) → taken_old ≡ Some taken → Seen (step core trace (with_input left old)) left taken On new taken') → Reached core input n room bytes new taken'
 reached_more core input n room bytes old new taken_old taken' r h =
@@ -75,11 +75,11 @@ answered core input n room bytes e d trace taken' is ended kept same t =
 
 ends : (core : Core) → IsSound core → (input : List ℕ) (n : ℕ) (room : Room) (bytes : List ℕ) (old new : State) (k : ℕ) (trace : List Event) (e : End) (taken' : Option (List ℕ)) → cut room trace ≡ whole trace → (next : Next) → step core trace (with_input input old) ≡ next → runs.after (step core) (begun core input n) k ≡ record { trace = trace; ended = None; state = with_input input old } → Seen next input (bytes ++ bytes_out trace) (Ended e) new taken' → RunAnswers core input n room bytes e taken'
 ends core sound input n room bytes old new k trace e taken' kept (runs.Goes before events after) is run h = absurd h
-ends core sound input n room bytes old new k trace e taken' kept (runs.Stops before d) is run h =
-    let last : Run = record { trace = trace; ended = Some d; state = before } in
+ends core sound input n room bytes old new k trace e taken' kept (runs.Stops before events after d) is run h =
+    let last : Run = record { trace = trace ++ events; ended = Some d; state = after } in
     let end_is : runs.after (step core) (begun core input n) (k + 1) ≡ last = rw (after_more (step core) (begun core input n) k, run, is) refl in
     let all : meaning core input n ≡ last = meaning_is core sound input n (k + 1) d (ap (λ (r : Run). r.ended) end_is) ∙ end_is in
-    answered core input n room bytes e d trace taken' (ap (λ (r : Run). r.trace) all) (ap (λ (r : Run). r.ended) all) kept h.0 h.1
+    answered core input n room bytes e d (trace ++ events) taken' (ap (λ (r : Run). r.trace) all) (ap (λ (r : Run). r.ended) all) (cut_more room trace events kept h.0) h.1 (rw (bytes_out-append trace events, ← append_assoc bytes (bytes_out trace) (bytes_out events)) h.2)
 
 pub reached_end : (core : Core) → IsSound core → (input : List ℕ) (n : ℕ) (room : Room) (bytes : List ℕ) (old new : State) (e : End) (taken_old taken' : Option (List ℕ)) → Reached core input n room bytes old taken_old → ((left taken : List ℕ) (trace : List Event) → taken_old ≡ Some taken → Seen (step core trace (with_input left old)) left taken (Ended e) new taken') → RunAnswers core input n room bytes e taken'
 reached_end core sound input n room bytes old new e taken_old taken' r h =

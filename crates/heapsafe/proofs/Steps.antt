@@ -43,15 +43,15 @@ step_is core trace s stm kind h e = ap (λ o. act_at o s) (sym h) ∙ ap (λ k. 
 
 pub seen_on : (next : Next) (old new : State) (left taken : List ℕ) → Leads left next old new (Ok tt) → Seen next left taken On new (Some taken)
 seen_on (runs.Goes before events after) old new left taken h = rw h.0 (tt, ap Some (sym (append-nil taken)), h.1)
-seen_on (runs.Stops before e) old new left taken h = absurd h
+seen_on (runs.Stops before events after e) old new left taken h = absurd h
 
 pub seen_end : (next : Next) (old new : State) (left taken : List ℕ) (e : End) → Leads left next old new (Err e) → Seen next left taken (Ended e) new (Some taken)
 seen_end (runs.Goes before events after) old new left taken e h = absurd h
-seen_end (runs.Stops before d) old new left taken e h = (h, refl)
+seen_end (runs.Stops before events after d) old new left taken e h = rw h.0 (tt, h.1, ap Some (sym (append-nil taken)))
 
 leads_shrinks : (core : Core) (next : Next) (old new : State) → Falls core (with_input [] old) next → Leads [] next old new (Ok tt) → enough core new < enough core old
 leads_shrinks core (runs.Goes before events after) old new f h = rw h.1 at f
-leads_shrinks core (runs.Stops before e) old new f h = absurd h
+leads_shrinks core (runs.Stops before events after e) old new f h = absurd h
 
 pub shrinks_alone : (core : Core) → IsSound core → (old new : State) (stm : Stm) → Some stm ≡ statement_at core old.running → Leads [] (act stm.kind (with_input [] old)) old new (Ok tt) → enough core new < enough core old
 shrinks_alone core sound old new stm here h =
@@ -63,7 +63,7 @@ some_is {A = A} o a e = subst (λ (p : Option A). IsSome p) (sym e) refl
 leads_stands : (core : Core) (next : Next) (old new : State) → Stays core next → Leads [] next old new (Ok tt) → IsSome (statement_at core new.running)
 leads_stands core (runs.Goes before events after) old new f h =
     let at : statement_at core new.running ≡ Some f.0 = ap (λ (t : State). statement_at core t.running) (sym h.1) ∙ f.1 in some_is (statement_at core new.running) f.0 at
-leads_stands core (runs.Stops before e) old new f h = absurd h
+leads_stands core (runs.Stops before events after e) old new f h = absurd h
 
 pub stands_alone : (core : Core) → IsSound core → (old new : State) (stm : Stm) → Some stm ≡ statement_at core old.running → Leads [] (act stm.kind (with_input [] old)) old new (Ok tt) → IsSome (statement_at core new.running)
 stands_alone core sound old new stm here h =
@@ -111,7 +111,7 @@ well_end (trace.OutOfStack line) e h = well_is (end.OutOfStack line) e h tt
 
 pub well_alone : (next : Next) (left : List ℕ) (old new : State) (e : End) → Leads left next old new (Err e) → EndsWell (Ended e)
 well_alone (runs.Goes before events after) left old new e h = absurd h
-well_alone (runs.Stops before d) left old new e h = well_end d e h
+well_alone (runs.Stops before events after d) left old new e h = well_end d e h.1
 
 pub well_on : (led : Led) (old new : State) → GoesOn led old new → EndsWell led
 well_on On old new h = tt

@@ -26,8 +26,8 @@ IsAlone _ = Unit {0}
 abbrev pub Leads : List ℕ → Next → State → State → Result Unit End → Type 0
 Leads left (runs.Goes before events after) old new (Ok u) = (events ≡ []) × (after ≡ with_input left new)
 Leads left (runs.Goes before events after) old new (Err e) = ⊥
-Leads left (runs.Stops before ending) old new (Ok u) = ⊥
-Leads left (runs.Stops before ending) old new (Err e) = end_of ending ≡ Some e
+Leads left (runs.Stops before events after ending) old new (Ok u) = ⊥
+Leads left (runs.Stops before events after ending) old new (Err e) = (events ≡ []) × (end_of ending ≡ Some e)
 
 -- events that write, and do nothing else
 abbrev pub OnlyOut : List Event → Type 0
@@ -40,8 +40,9 @@ abbrev pub Seen : Next → List ℕ → List ℕ → Led → State → Option (L
 Seen (runs.Goes before events after) left taken On new taken' =
     OnlyOut events × (taken' ≡ Some (taken ++ bytes_out events)) × (after ≡ with_input left new)
 Seen (runs.Goes before events after) left taken (Ended e) new taken' = ⊥
-Seen (runs.Stops before ending) left taken On new taken' = ⊥
-Seen (runs.Stops before ending) left taken (Ended e) new taken' = (end_of ending ≡ Some e) × (taken' ≡ Some taken)
+Seen (runs.Stops before events after ending) left taken On new taken' = ⊥
+Seen (runs.Stops before events after ending) left taken (Ended e) new taken' =
+    OnlyOut events × (end_of ending ≡ Some e) × (taken' ≡ Some (taken ++ bytes_out events))
 Seen next left taken OutputFault new taken' = Unit {0}
 
 -- the count of faults of the output, before and after

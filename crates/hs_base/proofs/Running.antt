@@ -34,7 +34,7 @@ module _ {S E X : Type 0} (step : List E → S → Next S E X) where
 
   led_grows : (trace : List E) (n : Next S E X) → (more : List E) × ((led trace n).trace ≡ trace ++ more)
   led_grows trace (Goes before events after) = (events, refl)
-  led_grows trace (Stops before end) = ([], sym (append-nil trace))
+  led_grows trace (Stops before events after end) = (events, refl)
 
   moved_grows : (r : Ran S E X) (o : Option X) → (more : List E) × ((moved step r o).trace ≡ r.trace ++ more)
   moved_grows r (Some e) = ([], sym (append-nil r.trace))

@@ -1,6 +1,6 @@
 //! Lists that contracts see as lists.
 
-ghost use Rattle.std.specs.Prelude.{◌≡◌, ◌++◌, ◌∷◌, [], ◌<◌, ◌+◌, ◌^◌, length, IfOk, IfSome, OnErr, option_copied, slice_get};
+ghost use Rattle.std.specs.Prelude.{◌≡◌, ◌++◌, ◌∷◌, [], ◌<◌, ◌+◌, ◌^◌, length, IfOk, IfSome, OnErr, IsTrue, ◌↔◌, option_copied, slice_get};
 
 use std::alloc::{AllocError, AllocFailed, Global};
 use std::marker::Model;
@@ -52,6 +52,13 @@ impl<T> Items<T> {
         ensures { result ≡ length self.now }
     {
         self.list.len()
+    }
+
+    /// Says whether there is none.
+    pub fn is_empty(&self) -> bool
+        ensures { IsTrue result ↔ (self.now ≡ []) }
+    {
+        self.list.is_empty()
     }
 
     /// The items.

@@ -5,7 +5,10 @@
 //!   output goes to. Each keeps a count of its faults. There are three families of implementations: in memory with
 //!   planned failures ([`MemTexts`], [`MemSource`], [`MemSink`]), in memory without any ([`SureTexts`],
 //!   [`SureSource`], [`SureSink`]), and the real files and streams ([`FileTexts`], [`StdSource`], [`StdSink`]).
+//!   [`put_all`] writes a whole slice to a sink.
 //! - [`End`] says how a run ends, with [`TrapKind`], [`BadFree`], [`Holder`] and the rest of its parts.
+//! - [`IntKind`] is a kind of integer, with its range and its arithmetic.
+//! - [`FlatBytes`] is memory as a list of bytes, each read and write of which is one step of a counter, [`Steps`].
 //!
 //! `specs/` has the definitions that several crates speak of: objects, states, access, freeing, placement, cost,
 //! events, ends, and how a finished trace is cut by the limits.

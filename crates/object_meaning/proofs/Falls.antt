@@ -22,7 +22,7 @@ use Rattle.object_meaning.specs.Meaning.{Next, Run, goes, stops, value_of, numbe
 -- where the run goes on, less is left
 abbrev pub Falls : Core → State → Next → Type 0
 Falls core s (runs.Goes before events t) = enough core t < enough core s
-Falls core s (runs.Stops before e) = Unit {0}
+Falls core s (runs.Stops before events after e) = Unit {0}
 
 pub within : (o : Option Func) (point : ℕ) (stm : Stm) → statement_in o point ≡ Some stm → point < body_length o
 within None point stm h = absurd (cc)
@@ -94,7 +94,7 @@ Left core total k None s = enough core s + k ≤ total
 
 left_next : (core : Core) (total k : ℕ) (trace : List Event) (s : State) (n : Next) → enough core s + k ≤ total → Falls core s n → Left core total (suc k) (runs.led trace n).ended (runs.led trace n).state
 left_next core total k trace s (runs.Goes before events t) h f = omega arith
-left_next core total k trace s (runs.Stops before e) h f = tt
+left_next core total k trace s (runs.Stops before events after e) h f = tt
 
 left_moved : (core : Core) → IsSound core → (total k : ℕ) (r : Run) (o : Option Ending) → r.ended ≡ o → Left core total k o r.state → Left core total (suc k) (runs.moved (step core) r o).ended (runs.moved (step core) r o).state
 left_moved core sound total k r (Some e) i h = subst (λ (o : Option Ending). Left core total (suc k) o r.state) (sym i) tt

@@ -25,7 +25,7 @@ Stands core frame = (stm : Stm) × (statement_at core frame ≡ Some stm)
 -- where the run goes on it is at a statement, and where it ends that is not for want of one
 abbrev pub Stays : Core → Next → Type 0
 Stays core (runs.Goes before events after) = Stands core after.running
-Stays core (runs.Stops before ending) = ending ≢ Dangling
+Stays core (runs.Stops before events after ending) = ending ≢ Dangling
 
 module _ (core : Core) (s : State) (func : Func) (here : slice_get core.funcs s.running.func ≡ Some func) where
   at_stands : (point : ℕ) (o : Option Func) → o ≡ Some func → point < length func.body → (stm : Stm) × (statement_in o point ≡ Some stm)
@@ -119,7 +119,7 @@ Going core (Some e) s = e ≢ Dangling
 
 going_next : (core : Core) (trace : List Event) (n : Next) → Stays core n → Going core (runs.led trace n).ended (runs.led trace n).state
 going_next core trace (runs.Goes before events after) h = h
-going_next core trace (runs.Stops before e) h = h
+going_next core trace (runs.Stops before events after e) h = h
 
 step_stays_at : (core : Core) → IsSound core → (trace : List Event) (s : State) → Stands core s.running → Stays core (step core trace s)
 step_stays_at core sound trace s here =

@@ -33,12 +33,12 @@ Next = runs.Next State Event Ending
 abbrev pub Run : Type 0
 Run = runs.Ran State Event Ending
 
--- a statement that goes on with these events; a cut before the first of them keeps the state before
+-- a statement that goes on with these events; a cut at the first of them keeps the state before
 abbrev pub goes : State → List Event → State → Next
 goes before events after = runs.Goes before events after
 
 abbrev pub stops : State → Ending → Next
-stops before ending = runs.Stops before ending
+stops s ending = runs.Stops s [] s ending
 
 -- Registers and operands
 
