@@ -1,11 +1,11 @@
 -- The digits of a numeral, from the last to the first.
-use Rattle.std.proofs.Common.{◌≡◌, ◌≢◌, ◌≤◌, ◌<◌, ◌+◌, ◌-◌, ◌/◌, ◌%◌, ◌^◌, ℕ, Bool, cond, List, [], ◌∷◌, ◌++◌, map, drop, length, set, refl, sym, ap, ◌∙◌, subst, ◌⊎◌, ⊎_elim, append_assoc, arith}
+use Rattle.std.proofs.Common.{◌≡◌, ◌≢◌, ◌≤◌, ◌<◌, ◌+◌, ◌-◌, ◌/◌, ◌%◌, ◌*◌, ◌^◌, ℕ, Bool, cond, List, [], ◌∷◌, ◌++◌, map, drop, length, set, refl, sym, ap, ◌∙◌, subst, ◌⊎◌, ⊎_elim, append_assoc, arith, get_or}
 use Rattle.std.specs.Fmt.{decimal, digit_glyph}
-use Rattle.std.specs.Int.Digits.{digits_of, AllBelowBase}
+use Rattle.std.specs.Int.Digits.{digits_of, number_from_digits, AllBelowBase}
 use Rattle.std.proofs.lemmas.Bool.{ne_eqb, cases_eq, lt-ltb}
 use Rattle.std.proofs.lemmas.List.{map-append, drop-set, drop_all}
 use Rattle.std.proofs.Math.Nat.{div-eq_of_lt, mod-eq_of_lt}
-use Rattle.std.proofs.lemmas.Int.Digits.{digits_of_step, length-digits_of-le, all_below_base_digits_of}
+use Rattle.std.proofs.lemmas.Int.Digits.{digits_of_step, length-digits_of-le, all_below_base_digits_of, number_digits_of, first_digits_of}
 use Rattle.std.proofs.lemmas.Fmt.{decimal-digits_of, decimal_digit}
 use Rattle.c_print.specs.Print.{numeral_digits, numeral}
 
@@ -74,3 +74,26 @@ decimal_is capital n small = ⊎_elim
     (λ some. decimal-digits_of n (omega arith) small ∙ sym (glyphs_of_digits capital (digits_of 10 n) (all_below_base_digits_of 10 n (omega arith)))
     ∙ ap (map (digit_glyph capital)) (sym (some_digits 10 n some)))
     (cases_eq n 0)
+
+-- what the digits of a numeral are
+zero_stands : (base : ℕ) → 0 * base + 0 ≡ 0
+zero_stands base = omega arith
+
+zero_below : (base : ℕ) → 2 ≤ base → AllBelowBase base (0 ∷ [])
+zero_below base low = (omega arith, tt)
+
+pub numeral_value : (base n : ℕ) → 2 ≤ base → number_from_digits base (numeral_digits base n) ≡ n
+numeral_value base n low = ⊎_elim
+    (λ none. ap (λ m. number_from_digits base (numeral_digits base m)) none ∙ zero_stands base ∙ sym none)
+    (λ some. ap (number_from_digits base) (some_digits base n some) ∙ number_digits_of base n low)
+    (cases_eq n 0)
+
+pub numeral_below_base : (base n : ℕ) → 2 ≤ base → AllBelowBase base (numeral_digits base n)
+numeral_below_base base n low = ⊎_elim
+    (λ none. let P : ℕ → Type 0 = λ m. AllBelowBase base (numeral_digits base m) in subst P (sym none) (zero_below base low))
+    (λ some. subst (AllBelowBase base) (sym (some_digits base n some)) (all_below_base_digits_of base n low))
+    (cases_eq n 0)
+
+pub numeral_first : (base n : ℕ) → 2 ≤ base → 0 < n → 0 < get_or (numeral_digits base n) 0 0
+numeral_first base n low some =
+    subst (λ ds. 0 < get_or ds 0 0) (sym (some_digits base n (λ none. omega arith))) (first_digits_of base n low some)

@@ -1,10 +1,19 @@
-//! A law of the definitions.
+//! Laws of the definitions.
 
-ghost use Rattle.std.specs.Prelude.{◌≡◌, ℕ, List};
+ghost use Rattle.std.specs.Prelude.{◌≡◌, ◌≤◌, ◌<◌, ℕ, List, slice_index};
+ghost use Rattle.std.specs.Int.Digits.{number_from_digits, AllBelowBase};
 ghost use Rattle.c_print.specs.declared.piece.Piece.{Piece};
 ghost use Rattle.c_print.specs.Format.{IsFormat};
+ghost use Rattle.c_print.specs.Print.{numeral_digits};
 
 /// At most one list of pieces spells the bytes of a format.
 pub fn one_format()
     ensures { (bytes : List ℕ) (one other : List Piece) → IsFormat bytes one → IsFormat bytes other → one ≡ other }
+{}
+
+/// The digits of a numeral stand for its number, each is below the base, and the first is 0 for the number 0 alone.
+pub fn numeral_of_its_number()
+    ensures value { (base n : ℕ) → 2 ≤ base → number_from_digits base (numeral_digits base n) ≡ n }
+    ensures digits { (base n : ℕ) → 2 ≤ base → AllBelowBase base (numeral_digits base n) }
+    ensures first { (base n : ℕ) → 2 ≤ base → 0 < n → 0 < slice_index (numeral_digits base n) 0 }
 {}
