@@ -1,0 +1,67 @@
+-- Members with their layouts, whatever is known besides.
+use Rattle.std.proofs.Common.{◌≡◌, ℕ, suc, zero, List, [], ◌∷◌, Option, Some, None, option_map, unwrap_or, map, fold, take, refl, ap, sym, ◌∙◌, IsSome}
+use Rattle.std.specs.List.{AllByRecursion, zip}
+use Rattle.c_types.specs.declared.layouts.Layout.{Layout}
+use Rattle.c_types.specs.declared.bodies.Body.{Body}
+use Rattle.c_types.specs.declared.bodies.Member.{Member}
+use Rattle.c_types.specs.Types.{PlainType, Void, Int, Pointer, Array, Struct, Union, Function, plain}
+use Rattle.c_types.specs.Layouts.{Known, ArraysFit, array_layout, layout_of, no_layout}
+use Rattle.c_types.specs.TagTable.{CompletedTag, PlainMember, member_layout, plain_member, placed_members}
+use Rattle.c_types.specs.Bodies.{IsSized, IsPlaced, completed_tag}
+
+-- more is known
+abbrev pub Extends : Known → Known → Type 0
+Extends k more = (tag : ℕ) (l : Layout) → k tag ≡ Some l → more tag ≡ Some l
+
+pub some_array : (o : Option Layout) (n : ℕ) (l : Layout) → option_map (array_layout n) o ≡ Some l → (e : Layout) × (o ≡ Some e) × (array_layout n e ≡ l)
+some_array None n l h = cc
+some_array (Some e) n l h = (e, refl, (let same : array_layout n e ≡ l = cc in same))
+
+pub layout_stays : (k more : Known) → Extends k more → (type : PlainType) (l : Layout) → layout_of k type ≡ Some l → layout_of more type ≡ Some l
+layout_stays k more x Void l e = cc
+layout_stays k more x (Int int) l e = e
+layout_stays k more x (Pointer target) l e = e
+layout_stays k more x (Array element n) l e =
+    let r = some_array (layout_of k element) n l e in
+    rw (layout_stays k more x element r.0 r.1) (ap Some r.2)
+layout_stays k more x (Struct tag) l e = x tag l e
+layout_stays k more x (Union tag) l e = x tag l e
+layout_stays k more x (Function answer params) l e = cc
+
+pub sized_stays : (k more : Known) → Extends k more → (type : PlainType) → IsSome (layout_of k type) → layout_of k type ≡ layout_of more type
+sized_stays k more x type s =
+    elim (layout_of k type) as (λ o. IsSome o → layout_of k type ≡ o → layout_of k type ≡ layout_of more type) [
+      | None ↦ λ h e. cc
+      | Some l ↦ λ h e. e ∙ sym (layout_stays k more x type l e)
+    ]
+    s
+    refl
+
+abbrev pub pairs : List Member → List (List ℕ × PlainType)
+pairs ms = map (λ m. (m.name, plain m.ty)) ms
+
+pub members_stay :
+    (k more : Known) → Extends k more → (ms : List Member) → AllByRecursion (λ (m : Member). IsSized k (plain m.ty)) ms →
+    map (member_layout k) (pairs ms) ≡ map (member_layout more) (pairs ms)
+members_stay k more x [] s = refl
+members_stay k more x (m ∷ ms) s =
+    let here : layout_of k (plain m.ty) ≡ layout_of more (plain m.ty) = sized_stays k more x (plain m.ty) s.0.0 in
+    let rest = members_stay k more x ms s.1 in
+    rw (here, rest) refl
+
+pub zip_members :
+    (ms : List Member) (ps : List (ℕ × Layout)) → map (λ (m : Member). m.offset) ms ≡ map (λ p. p.0) ps →
+    map plain_member ms ≡ map (λ (p : (List ℕ × PlainType) × (ℕ × Layout)). record { name = p.0.0; type = p.0.1; offset = p.1.0 }) (zip (pairs ms) ps)
+zip_members [] [] e = refl
+zip_members [] (p ∷ ps) e = cc
+zip_members (m ∷ ms) [] e = cc
+zip_members (m ∷ ms) (p ∷ ps) e =
+    let here : m.offset ≡ p.0 = cc in
+    let others : map (λ (m : Member). m.offset) ms ≡ map (λ (p : ℕ × Layout). p.0) ps = cc in
+    rw (here, zip_members ms ps others) refl
+
+-- the members of a body, as they stand by all that is known
+pub body_members :
+    (k more : Known) → Extends k more → (b : Body) → IsPlaced k b → map plain_member b.members.items ≡ placed_members more (completed_tag b)
+body_members k more x b h =
+    rw (← members_stay k more x b.members.items h.sized) (zip_members b.members.items _ h.offsets)

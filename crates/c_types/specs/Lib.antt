@@ -1,0 +1,7 @@
+pub mod Types
+pub mod Layouts
+pub mod TagTable
+pub mod Codes
+pub mod Bodies
+pub mod Placing
+pub mod Slots
