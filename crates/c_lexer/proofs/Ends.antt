@@ -1,7 +1,7 @@
 -- Readers that look for an end: what they answer for a whole text, from what they answer further on.
-use Rattle.std.proofs.Common.{◌≡◌, ◌≢◌, ℕ, zero, suc, ◌+◌, ◌-◌, ◌<◌, ◌≤◌, Bool, true, false, cond, ◌&&◌, List, [], ◌∷◌, length, get_or, drop, refl, ap, subst, sym, ◌∙◌, arith}
+use Rattle.std.proofs.Common.{◌≡◌, ◌≢◌, ℕ, zero, suc, ◌+◌, ◌-◌, ◌<◌, ◌≤◌, Bool, true, false, ◌&&◌, List, [], ◌∷◌, length, get_or, drop, refl, ap, sym, ◌∙◌, arith}
 use Rattle.std.proofs.lemmas.List.{drop_more, drop-drop, length-drop, drop_all}
-use Rattle.std.proofs.lemmas.Bool.{ne_eqb, and_left, and_right}
+use Rattle.std.proofs.lemmas.Bool.{ne_eqb}
 use Rattle.std.specs.Prelude.{Option, Some, None, option_map, ◌==◌}
 use Rattle.c_lexer.specs.Gaps.{comment_end}
 use Rattle.c_lexer.specs.Literals.{character_length, string_end}
@@ -33,7 +33,7 @@ string_end_skip zero t h = shifted_none (string_end 0 t)
 string_end_skip (suc k) [] h = absurd (omega arith)
 string_end_skip (suc k) (b ∷ w) h = ap (option_map suc) (string_end_skip k w (omega arith)) ∙ shifted_suc k (string_end 0 (drop k w))
 
-string_end_quote : (b : ℕ) (w : List ℕ) → b ≡ 34 → string_end 0 (b ∷ w) ≡ Some 1
+pub string_end_quote : (b : ℕ) (w : List ℕ) → b ≡ 34 → string_end 0 (b ∷ w) ≡ Some 1
 unfolding string_end
 string_end_quote b w e = rw e refl
 
@@ -41,7 +41,7 @@ string_end_wrong : (b : ℕ) (w : List ℕ) → b ≢ 34 → 0 ≡ character_len
 unfolding string_end
 string_end_wrong b w ne e = rw (ne_eqb b 34 ne, ← e) refl
 
-string_end_character : (b : ℕ) (w : List ℕ) (n : ℕ) → b ≢ 34 → suc n ≡ character_length 34 (b ∷ w) → n ≤ length w → string_end 0 (b ∷ w) ≡ shifted (suc n) (string_end 0 (drop n w))
+pub string_end_character : (b : ℕ) (w : List ℕ) (n : ℕ) → b ≢ 34 → suc n ≡ character_length 34 (b ∷ w) → n ≤ length w → string_end 0 (b ∷ w) ≡ shifted (suc n) (string_end 0 (drop n w))
 unfolding string_end
 string_end_character b w n ne e h =
     let some : suc n ≢ 0 = omega arith in

@@ -6,3 +6,9 @@ pub mod Kept
 pub mod LongestPieces
 pub mod Cuts
 pub mod Loop
+pub mod WrittenTokens
+pub mod CharacterLengths
+pub mod LiteralLaws
+pub mod Constants
+pub mod Values
+pub mod TokenForms

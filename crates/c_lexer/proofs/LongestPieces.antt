@@ -1,10 +1,10 @@
 -- The piece that is read at the front of a text is the longest there is.
-use Rattle.std.proofs.Common.{◌≡◌, ◌≢◌, ℕ, zero, suc, ◌+◌, ◌-◌, ◌<◌, ◌≤◌, Bool, true, false, not, cond, ◌&&◌, List, [], ◌∷◌, ◌++◌, length, take, drop, lit<, inl, inr, refl, ap, subst, sym, ◌∙◌, arith}
+use Rattle.std.proofs.Common.{◌≡◌, ◌≢◌, ℕ, zero, suc, ◌+◌, ◌<◌, ◌≤◌, Bool, true, false, cond, ◌&&◌, List, [], ◌∷◌, ◌++◌, length, take, drop, lit<, inl, inr, refl, ap, subst, sym, ◌∙◌, arith}
 use Rattle.std.proofs.lemmas.List.{length-take-le, take-append-drop, take-take, append-nil, take_all}
 use Rattle.std.proofs.Math.Seq.{take-length}
-use Rattle.std.proofs.lemmas.Bool.{ne_eqb, eq-eqb, eqb-true, eqb-false, or_cases, or_from, or_left, or_right, and_parts, and_from, and_left, leb-true, le-leb, lt-leb, cond-true, cond-false, false_from_ne_true, false≢true}
+use Rattle.std.proofs.lemmas.Bool.{ne_eqb, eq-eqb, eqb-true, or_cases, or_from, or_left, or_right, and_parts, and_from, leb-true, le-leb, cond-true, cond-false, false_from_ne_true, false≢true}
 use Rattle.std.proofs.lemmas.Slice.Eq.{bytes_eq-Decides}
-use Rattle.std.specs.Prelude.{Option, Some, None, option_map, ◌==◌, ◌||◌, nat_le, bytes_eq}
+use Rattle.std.specs.Prelude.{Option, Some, None, ◌==◌, ◌||◌, nat_le, bytes_eq}
 use Rattle.std.specs.List.{prefix_len, list_all, list_any}
 use Rattle.c_lexer.specs.Bytes.{is_space, is_letter, is_digit, is_name_byte, is_number_byte, is_mark, class_of}
 use Rattle.c_lexer.specs.Names.{name_kind}
@@ -245,7 +245,7 @@ not_empty t zero some le = absurd (omega (arith, some))
 not_empty [] (suc m) some le = absurd (omega (arith, le))
 not_empty (b ∷ w) (suc m) some le = refl
 
-space_longest : (fresh : Bool) (b : ℕ) (t : List ℕ) → LongestBy fresh Space b t (piece Gap 1)
+pub space_longest : (fresh : Bool) (b : ℕ) (t : List ℕ) → LongestBy fresh Space b t (piece Gap 1)
 space_longest fresh b t = record { rest = 0; long = refl; within = omega arith; formed = refl; longest = λ m lt le. rw (not_empty t m lt le) refl }
 
 other_longest : (fresh : Bool) (b : ℕ) (t : List ℕ) → LongestBy fresh Other b t (piece (Refused BadByte) 1)

@@ -1,14 +1,14 @@
 -- What the loop over a text keeps: the tokens made so far, in front of the answer from the place on, are the answer.
-use Rattle.std.proofs.Common.{◌≡◌, ℕ, zero, suc, ◌+◌, ◌-◌, ◌<◌, ◌≤◌, Bool, true, false, cond, ◌||◌, ◌&&◌, List, [], ◌∷◌, ◌++◌, length, take, drop, refl, ap, subst, sym, ◌∙◌, arith}
+use Rattle.std.proofs.Common.{◌≡◌, ℕ, suc, ◌+◌, ◌-◌, ◌<◌, ◌≤◌, Bool, true, false, cond, List, [], ◌∷◌, ◌++◌, length, take, drop, refl, ap, subst, sym, ◌∙◌, arith}
 use Rattle.std.proofs.lemmas.List.{drop-drop, drop_all, append_assoc, append-nil, length-drop, length-take-le, take_rest}
 use Rattle.std.proofs.lemmas.List.Elements.{All-cons}
-use Rattle.std.specs.List.{All, list_all}
+use Rattle.std.specs.List.{All}
 use Rattle.std.specs.Prelude.{Option, Some, None, Result, Ok, Err, ◌==◌}
 use Rattle.c_lexer.specs.Bytes.{class_of}
 use Rattle.c_lexer.specs.Gaps.{include_end}
 use Rattle.c_lexer.specs.Pieces.{ends_at, hash_kind, kind_by, kind_of, Longest, IsToken}
 use Rattle.c_lexer.specs.Readers.{piece_at, pieces_from, TakesPiece, RefusesPiece}
-use Rattle.c_lexer.specs.Tokens.{first_place, next_place, behind, IsCut, with_token, answer_with, answer_of, HasAnswer, HasTokens, HasBadPlace, IsRefused, IsLexed}
+use Rattle.c_lexer.specs.Tokens.{first_place, next_place, behind, IsCut, with_token, answer_with, answer_of, HasTokens, IsRefused, IsLexed}
 use Rattle.c_lexer.specs.declared.bytes.ByteClass.{ByteClass}
 use Rattle.c_lexer.specs.declared.bytes.ByteClass.TheVariants.{Space, Letter, Digit, Quote, Hash, Slash, Mark, Other}
 use Rattle.c_lexer.specs.declared.place.Place.{Place}
@@ -17,7 +17,6 @@ use Rattle.c_lexer.specs.declared.piece.PieceKind.TheVariants.{Gap, Token, Refus
 use Rattle.c_lexer.specs.declared.piece.Piece.{Piece}
 use Rattle.c_lexer.specs.declared.token.Token.{Token as TextToken}
 use Rattle.c_lexer.specs.declared.token.TokenKind.{TokenKind}
-use Rattle.c_lexer.specs.declared.token.LexKind.{LexKind}
 use Rattle.c_lexer.specs.declared.token.LexError.{LexError}
 use Rattle.c_lexer.specs.declared.token.LexError.TheVariants.{Bad as BadPlace, NoMemory}
 use Rattle.c_lexer.proofs.LongestPieces.{piece_at_longest}

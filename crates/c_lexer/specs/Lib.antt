@@ -1,4 +1,5 @@
 pub mod Bytes
+pub mod Characters
 pub mod Gaps
 pub mod Literals
 pub mod Names
@@ -8,3 +9,4 @@ pub mod Readers
 pub mod Signs
 pub mod Tokens
 pub mod Words
+pub mod Written

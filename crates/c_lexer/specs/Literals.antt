@@ -66,3 +66,23 @@ string_end zero (b ∷ w) =
     if b == 34 then Some 1 else
     if character_length 34 (b ∷ w) == 0 then None else
     option_map suc (string_end (character_length 34 (b ∷ w) - 1) w)
+
+-- the value of a character
+abbrev pub character_value : List ℕ → ℕ
+character_value [] = 0
+character_value (b ∷ w) = if b == 92 then escape_value w else b
+
+-- the values of the characters that stand in turn at the front of a text, each the longest at its place. The first
+-- `inner` bytes of the text belong to a character that began before it.
+unfoldable pub values_from : ℕ → ℕ → List ℕ → List ℕ
+values_from quote inner [] = []
+values_from quote (suc inner) (b ∷ w) = values_from quote inner w
+values_from quote zero (b ∷ w) =
+    if character_length quote (b ∷ w) == 0 then [] else
+    character_value (take (character_length quote (b ∷ w)) (b ∷ w))
+    ∷ values_from quote (character_length quote (b ∷ w) - 1) w
+
+-- the values of the characters of a literal: those behind its opening quote
+abbrev pub literal_values : List ℕ → List ℕ
+literal_values [] = []
+literal_values (quote ∷ w) = values_from quote 0 w

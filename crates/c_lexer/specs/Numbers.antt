@@ -1,7 +1,7 @@
 -- Integer constants (C99 6.4.4.1). A digit and the longest run of letters, digits, `_` and `.` behind it are read as
 -- one piece (6.4.8); this is its form.
-use Rattle.std.specs.Prelude.{ℕ, ◌+◌, ◌*◌, ◌-◌, ◌^◌, Bool, true, false, ◌==◌, ◌||◌, ◌&&◌, nat_le, if◌then◌else◌, List, [], ◌∷◌, take, drop, length, fold, Option, Some, None}
-use Rattle.std.specs.List.{list_any, prefix_len, take_while}
+use Rattle.std.specs.Prelude.{ℕ, ◌+◌, ◌*◌, ◌-◌, ◌^◌, Bool, ◌==◌, ◌||◌, ◌&&◌, nat_le, if◌then◌else◌, List, [], ◌∷◌, length, take, drop, fold, Option, Some, None}
+use Rattle.std.specs.List.{list_any, prefix_len}
 use Rattle.c_lexer.specs.Bytes.{is_digit, is_octal_digit, is_hexadecimal_digit, digit_value}
 use Rattle.c_lexer.specs.declared.number.Base.{Base}
 use Rattle.c_lexer.specs.declared.number.Base.TheVariants.{Octal, Decimal, Hexadecimal}
@@ -24,6 +24,7 @@ prefix_length Octal = 0
 prefix_length Decimal = 0
 prefix_length Hexadecimal = 2
 
+-- the value of the digits `10`
 abbrev pub radix : Base → ℕ
 radix Octal = 8
 radix Decimal = 10
@@ -39,12 +40,15 @@ is_digit_of Hexadecimal b = is_hexadecimal_digit b
 abbrev pub behind_prefix : List ℕ → List ℕ
 behind_prefix w = drop (prefix_length (base_of w)) w
 
+-- how many digits a number has
 abbrev pub digit_count : List ℕ → ℕ
 digit_count w = prefix_len (is_digit_of (base_of w)) (behind_prefix w)
 
+-- the digits of a number
 abbrev pub digits_of : List ℕ → List ℕ
 digits_of w = take (digit_count w) (behind_prefix w)
 
+-- what stands behind the digits of a number
 abbrev pub behind_digits : List ℕ → List ℕ
 behind_digits w = drop (digit_count w) (behind_prefix w)
 
@@ -56,9 +60,11 @@ digits_value base digits = fold (λ value d. value * base + digit_value d) 0 dig
 abbrev pub number_value : List ℕ → ℕ
 number_value w = digits_value (radix (base_of w)) (digits_of w)
 
+-- a `u` of a suffix
 abbrev pub is_u : ℕ → Bool
 is_u b = b == 117 || b == 85
 
+-- an `l` of a suffix
 abbrev pub is_l : ℕ → Bool
 is_l b = b == 108 || b == 76
 
@@ -75,7 +81,7 @@ suffix_of (a ∷ b ∷ c ∷ d ∷ w) = None
 
 -- the suffix of a number, where it has the form of one: at least one digit, and a suffix
 abbrev pub form_of : List ℕ → Option Suffix
-form_of w = if digit_count w == 0 then None else suffix_of (behind_digits w)
+form_of w = if length (digits_of w) == 0 then None else suffix_of (behind_digits w)
 
 -- a type that a number may have
 pub data NumberType : Type 0 where
@@ -113,6 +119,7 @@ other_types Ul = UnsignedLong ∷ UnsignedLongLong ∷ []
 other_types Ll = LongLong ∷ UnsignedLongLong ∷ []
 other_types Ull = UnsignedLongLong ∷ []
 
+-- the types of a number by its base and suffix, in order
 abbrev pub types_of : Base → Suffix → List NumberType
 types_of Octal suffix = other_types suffix
 types_of Decimal suffix = decimal_types suffix

@@ -1,5 +1,5 @@
 -- The pieces of a text: gaps, tokens, and what is neither (C99 6.4).
-use Rattle.std.specs.Prelude.{◌≡◌, ℕ, ◌<◌, ◌≤◌, ◌==◌, Bool, true, false, ◌&&◌, if◌then◌else◌, List, [], ◌∷◌, length, take, drop, Option, Some, None}
+use Rattle.std.specs.Prelude.{◌≡◌, ℕ, ◌<◌, ◌≤◌, ◌==◌, Bool, true, false, if◌then◌else◌, List, [], ◌∷◌, length, take, Option, Some, None}
 use Rattle.std.specs.List.{list_all}
 use Rattle.c_lexer.specs.Bytes.{is_name_byte, is_number_byte, class_of}
 use Rattle.c_lexer.specs.Names.{name_kind}
@@ -17,6 +17,7 @@ use Rattle.c_lexer.specs.declared.piece.PieceKind.{PieceKind}
 use Rattle.c_lexer.specs.declared.piece.PieceKind.TheVariants.{Gap, Token, Refused}
 use Rattle.c_lexer.specs.declared.piece.Piece.{Piece}
 
+-- whether there are no bytes
 abbrev pub is_empty : List ℕ → Bool
 is_empty [] = true
 is_empty (b ∷ w) = false
@@ -31,6 +32,7 @@ abbrev pub number_kind_by : Option Suffix → List ℕ → PieceKind
 number_kind_by None w = Refused BadNumber
 number_kind_by (Some suffix) w = if is_held (base_of w) suffix (number_value w) then Token Int else Refused LiteralTooWide
 
+-- the same, by its form
 abbrev pub number_kind : List ℕ → PieceKind
 number_kind w = number_kind_by (form_of w) w
 
@@ -38,6 +40,7 @@ number_kind w = number_kind_by (form_of w) w
 abbrev pub literal_end : ℕ → List ℕ → Option ℕ
 literal_end quote text = if quote == 39 then constant_end text else string_end 0 text
 
+-- what a literal is by its quote
 abbrev pub literal_kind : ℕ → TokenKind
 literal_kind quote = if quote == 39 then Char else Str
 
@@ -81,7 +84,7 @@ unfoldable pub kind_of : Bool → List ℕ → Option PieceKind
 kind_of fresh [] = None
 kind_of fresh (b ∷ w) = kind_by fresh (class_of b) b w
 
--- the piece is the longest at the front of the text
+-- the piece is the longest at the front of the text: it is within, it is formed, and no longer front is
 pub record Longest (fresh : Bool) (text : List ℕ) (piece : Piece) : Type 0 where
   pub some : 0 < piece.len
   pub within : piece.len ≤ length text

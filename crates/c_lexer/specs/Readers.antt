@@ -1,5 +1,5 @@
 -- The longest piece at the front of a text, computed. `Longest` says what it is; this is how it is found.
-use Rattle.std.specs.Prelude.{◌≡◌, ⊤, ℕ, zero, suc, ◌+◌, ◌-◌, ◌++◌, Bool, false, ◌==◌, ◌&&◌, nat_le, if◌then◌else◌, List, [], ◌∷◌, length, take, drop, Option, Some, None}
+use Rattle.std.specs.Prelude.{◌≡◌, ⊤, ℕ, zero, suc, ◌+◌, ◌-◌, ◌++◌, Bool, false, ◌==◌, ◌&&◌, nat_le, if◌then◌else◌, List, [], ◌∷◌, length, take, Option, Some, None}
 use Rattle.std.specs.List.{prefix_len}
 use Rattle.c_lexer.specs.Bytes.{is_name_byte, is_number_byte, class_of}
 use Rattle.c_lexer.specs.Names.{name_kind}
@@ -19,6 +19,7 @@ use Rattle.c_lexer.specs.declared.token.LexError.{LexError}
 use Rattle.c_lexer.specs.declared.token.LexError.TheVariants.{Bad as BadPlace, NoMemory}
 use Rattle.c_lexer.specs.Tokens.{next_place}
 
+-- a piece of a kind and a length
 abbrev pub piece : PieceKind → ℕ → Piece
 piece kind len = record { kind = kind; len = len }
 
@@ -28,10 +29,12 @@ sign_length text =
     if nat_le 3 (length text) && is_triple_sign (take 3 text) then 3 else
     if nat_le 2 (length text) && is_double_sign (take 2 text) then 2 else 1
 
+-- the name or keyword at the front of a text
 abbrev pub name_piece : List ℕ → Piece
 name_piece text =
     let n = prefix_len is_name_byte text in piece (Token (name_kind (take n text))) n
 
+-- the number at the front of a text, or what does not have the form of one
 abbrev pub number_piece : List ℕ → Piece
 number_piece text =
     let n = prefix_len is_number_byte text in piece (number_kind (take n text)) n
@@ -41,13 +44,16 @@ abbrev pub piece_to : Option ℕ → PieceKind → PieceKind → Piece
 piece_to None kind other = piece other 1
 piece_to (Some end) kind other = piece kind (1 + end)
 
+-- behind a quote: the literal, or the quote alone
 abbrev pub literal_piece : ℕ → List ℕ → Piece
 literal_piece quote rest = piece_to (literal_end quote rest) (Token (literal_kind quote)) (Refused Literal)
 
+-- behind a `#`: an include line, or the `#` alone
 abbrev pub hash_piece : Bool → List ℕ → Piece
 hash_piece fresh rest =
     piece_to (if fresh then include_end rest else None) Gap (Refused (if fresh then Directive else BadByte))
 
+-- behind `/*`: the comment, or all of the text
 abbrev pub block_piece : Option ℕ → List ℕ → Piece
 block_piece None rest = piece (Refused OpenComment) (2 + length rest)
 block_piece (Some end) rest = piece Gap (2 + end)
@@ -59,6 +65,7 @@ slash_piece b (c ∷ w) =
     if c == 47 then piece Gap (2 + prefix_len is_on_line w) else
     if c == 42 then block_piece (comment_end false w) w else piece (Token Sign) (sign_length (b ∷ c ∷ w))
 
+-- the piece at the front of a text, by the class of its first byte and the rest
 abbrev pub piece_by : Bool → ByteClass → ℕ → List ℕ → Piece
 piece_by fresh Space b rest = piece Gap 1
 piece_by fresh Letter b rest = name_piece (b ∷ rest)

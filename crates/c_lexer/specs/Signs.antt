@@ -20,9 +20,11 @@ double_signs =
 abbrev pub triple_signs : List (List ℕ)
 triple_signs = codes "<<=" ∷ codes ">>=" ∷ []
 
+-- whether these bytes are a sign of two bytes
 unfoldable pub is_double_sign : List ℕ → Bool
 is_double_sign w = list_any (bytes_eq w) double_signs
 
+-- whether these bytes are a sign of three bytes
 unfoldable pub is_triple_sign : List ℕ → Bool
 is_triple_sign w = list_any (bytes_eq w) triple_signs
 

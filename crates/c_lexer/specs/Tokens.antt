@@ -1,5 +1,5 @@
 -- The tokens of a text, or its first bad place (C99 5.1.1.2 and 6.4).
-use Rattle.std.specs.Prelude.{◌≡◌, ℕ, ◌+◌, ◌≤◌, ◌==◌, Bool, true, ◌||◌, ◌&&◌, if◌then◌else◌, List, [], ◌∷◌, take, drop, Result, Ok, Err, ◌⊎◌, ⊤}
+use Rattle.std.specs.Prelude.{◌≡◌, ℕ, ◌+◌, ◌≤◌, ◌==◌, true, ◌||◌, ◌&&◌, if◌then◌else◌, List, [], ◌∷◌, take, drop, Result, Ok, Err, ◌⊎◌, ⊤}
 use Rattle.c_lexer.specs.Bytes.{is_space}
 use Rattle.c_lexer.specs.Pieces.{Longest, IsToken}
 use Rattle.c_lexer.specs.declared.place.Place.{Place}
@@ -45,7 +45,8 @@ answer_with Gap line bytes rest = rest
 answer_with (Token kind) line bytes rest = with_token (record { line = line; kind = kind; bytes = bytes }) rest
 answer_with (Refused kind) line bytes rest = Err (BadPlace kind line)
 
--- the tokens of a text that is cut into these pieces, each with the line of its first byte, or the first bad piece
+-- the tokens of a text that is cut into these pieces, each with the line of its first byte, or the first piece that is
+-- refused
 abbrev pub answer_of : Place → List ℕ → List Piece → Result (List TextToken) LexError
 answer_of place text [] = Ok []
 answer_of place text (piece ∷ pieces) =

@@ -1,8 +1,23 @@
 //! Laws of the definitions, each the contract of a function that does nothing.
 
+ghost use Rattle.c_lexer.specs.Characters.{StringsAreCharacters, ConstantsAreCharacters};
 ghost use Rattle.c_lexer.specs.Tokens.{OneAnswer};
+ghost use Rattle.c_lexer.specs.Written.{WrittenIsRead};
 
 /// Every text has exactly one answer: its tokens, or its first bad place.
 pub fn every_text_has_one_answer()
     ensures { OneAnswer }
+{}
+
+/// Tokens that are written one after another, each with a space or byte 10 behind it, are read again with their kinds
+/// and spellings.
+pub fn written_tokens_are_read_again()
+    ensures { WrittenIsRead }
+{}
+
+/// A string literal is characters in turn, each the longest at its place, between its quotes; a character constant is
+/// one such character (C99 6.4.4.4 and 6.4.5).
+pub fn literals_are_characters()
+    ensures strings { StringsAreCharacters }
+    ensures constants { ConstantsAreCharacters }
 {}

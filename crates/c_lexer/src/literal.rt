@@ -1,12 +1,14 @@
 //! Character constants and string literals (C99 6.4.4.4 and 6.4.5).
 
-ghost use Rattle.std.specs.Prelude.{◌≡◌, ◌<◌, ◌≤◌, ◌^◌, length, nat_le, SomeIff, IfSome};
+ghost use Rattle.std.specs.Prelude.{◌≡◌, ◌<◌, ◌≤◌, ◌^◌, length, take, nat_le, SomeIff, IfSome, IfOk};
 ghost use Rattle.std.specs.List.{prefix_len};
 ghost use Rattle.c_lexer.specs.Bytes.{is_octal_digit, is_hexadecimal_digit};
-ghost use Rattle.c_lexer.specs.Literals.{is_simple_escape, simple_value, escape_length, escape_value, character_length, constant_end, string_end};
+ghost use Rattle.c_lexer.specs.Literals.{is_simple_escape, simple_value, escape_length, escape_value, character_length, character_value, constant_end, string_end, values_from, literal_values};
 
 use crate::bytes::{is_hexadecimal_digit, is_octal_digit};
 use crate::number::digits_value;
+use hs_base::{Items, NoMemory};
+use std::alloc::{AllocError, Global};
 
 /// Whether a byte behind a backslash is an escape by itself.
 #[tactic(auto, unfolding(crate::specs::Literals::is_simple_escape))]
@@ -99,6 +101,7 @@ fn is_byte_escape(escape: &[u8]) -> bool
 fn character_length(quote: u8, text: &[u8]) -> usize
     ensures length { result ≡ character_length quote text.now }
     ensures bound { result ≤ length text.now }
+    ensures fits { character_value (take result text.now) < 256 }
 {
     match text {
         [] => 0,
@@ -146,4 +149,43 @@ pub(crate) fn string_end(text: &[u8]) -> Option<usize>
         at += n;
     }
     None
+}
+
+/// The value of a character.
+fn character_value(character: &[u8]) -> u8
+    requires { character_value character.now < 256 }
+    ensures { result ≡ character_value character.now }
+{
+    match character {
+        [] => 0,
+        [b'\\', escape @ ..] => escape_value(escape).unwrap() as u8,
+        [first, ..] => *first,
+    }
+}
+
+/// The values of the characters that a text begins with.
+fn values_from(alloc: Global, quote: u8, text: &[u8]) -> Result<Vec<u8>, AllocError>
+    ensures { IfOk result (λ values. values.items ≡ values_from quote 0 text.now) }
+{
+    let mut values = Vec::new(alloc);
+    let mut at = 0;
+    while at < text.len() {
+        let n = character_length(quote, &text[at..]);
+        if n == 0 {
+            return Ok(values);
+        }
+        values.push(character_value(&text[at..at + n]))?;
+        at += n;
+    }
+    Ok(values)
+}
+
+/// The values of the characters of a character constant or a string literal, one byte each, without a zero behind them.
+pub fn literal_values(alloc: Global, bytes: &[u8]) -> Result<Items<u8>, NoMemory>
+    ensures { IfOk result (λ values. values ≡ literal_values bytes.now) }
+{
+    match bytes {
+        [] => Ok(Items::new(alloc)),
+        [quote, rest @ ..] => Ok(Items::from(values_from(alloc, *quote, rest)?)),
+    }
 }

@@ -1,10 +1,10 @@
 //! Integer constants (C99 6.4.4.1).
 
-ghost use Rattle.std.specs.Prelude.{◌≡◌, ◌+◌, ◌*◌, ◌^◌, ◌<◌, ◌≤◌, length, SomeIff, Some};
+ghost use Rattle.std.specs.Prelude.{◌≡◌, ◌+◌, ◌*◌, ◌^◌, ◌<◌, ◌≤◌, length, SomeIff, Some, IsTrue};
 ghost use Rattle.std.specs.List.{prefix_len};
-ghost use Rattle.c_lexer.specs.Numbers.{base_of, prefix_length, radix, is_digit_of, digits_value, suffix_of, is_held};
+ghost use Rattle.c_lexer.specs.Numbers.{base_of, prefix_length, radix, is_digit_of, digits_value, digits_of, behind_digits, suffix_of, form_of, number_value, is_held};
 ghost use Rattle.c_lexer.specs.Bytes.{digit_value, is_hexadecimal_digit};
-ghost use Rattle.c_lexer.specs.Pieces.{number_kind};
+ghost use Rattle.c_lexer.specs.Pieces.{number_kind, IsToken};
 
 use crate::bytes::{is_digit, is_hexadecimal_digit, is_octal_digit};
 use crate::piece::PieceKind;
@@ -27,6 +27,14 @@ pub enum Suffix {
     Ul,
     Ll,
     Ull,
+}
+
+/// An integer constant, read.
+#[derive(Clone, Copy, Debug, PartialEq, Eq)]
+pub struct Number {
+    pub base: Base,
+    pub suffix: Suffix,
+    pub value: u64,
 }
 
 impl Base {
@@ -161,21 +169,61 @@ fn has_type(base: Base, suffix: Suffix, digits: &[u8]) -> bool
     }
 }
 
+/// The parts of a number: its base, its digits, and what stands behind them.
+#[derive(Clone, Copy)]
+struct Parts<'a> {
+    base: Base,
+    digits: &'a [u8],
+    suffix: &'a [u8],
+}
+
+/// Takes a number apart.
+fn parts_of(number: &[u8]) -> Parts<'_>
+    ensures base { result.base ≡ base_of number.now }
+    ensures digits { result.digits.now ≡ digits_of number.now }
+    ensures suffix { result.suffix.now ≡ behind_digits number.now }
+{
+    let base = base_of(number);
+    let behind_prefix = &number[base.prefix_length()..];
+    let (digits, suffix) = behind_prefix.split_at(base.digit_count(behind_prefix));
+    Parts {
+        base,
+        digits,
+        suffix,
+    }
+}
+
 /// What a digit and the run of letters, digits, underscores and points behind it are.
 pub(crate) fn number_kind(run: &[u8]) -> PieceKind
     ensures { result ≡ number_kind run.now }
 {
-    let base = base_of(run);
-    let behind_prefix = &run[base.prefix_length()..];
-    let count = base.digit_count(behind_prefix);
-    if count == 0 {
+    let parts = parts_of(run);
+    if parts.digits.is_empty() {
         return PieceKind::Refused(LexKind::BadNumber);
     }
-    match suffix_of(&behind_prefix[count..]) {
+    match suffix_of(parts.suffix) {
         None => PieceKind::Refused(LexKind::BadNumber),
-        Some(suffix) if has_type(base, suffix, &behind_prefix[..count]) => {
+        Some(suffix) if has_type(parts.base, suffix, parts.digits) => {
             PieceKind::Token(TokenKind::Int)
         }
         Some(_) => PieceKind::Refused(LexKind::LiteralTooWide),
+    }
+}
+
+/// The base, the suffix and the value of an integer constant. A type of the list of C99 6.4.4.1 holds the value.
+pub fn read_number(bytes: &[u8]) -> Number
+    requires { IsToken TokenKind.Int bytes.now }
+    ensures base { result.base ≡ base_of bytes.now }
+    ensures suffix { form_of bytes.now ≡ Some result.suffix }
+    ensures value { result.value ≡ number_value bytes.now }
+    ensures held { IsTrue (is_held result.base result.suffix result.value) }
+{
+    let parts = parts_of(bytes);
+    let suffix = suffix_of(parts.suffix).unwrap();
+    let value = digits_value(parts.base.radix(), parts.digits).unwrap();
+    Number {
+        base: parts.base,
+        suffix,
+        value,
     }
 }

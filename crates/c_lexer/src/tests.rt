@@ -1,6 +1,6 @@
 //! Texts with their tokens and their refusals, by C99 6.4 and the tables of signs, escapes and types.
 
-use crate::{LexError, LexKind, Token, TokenKind, lex};
+use crate::{Base, LexError, LexKind, Suffix, Token, TokenKind, lex, literal_values, read_number};
 use std::alloc::Global;
 use std::test::Fail;
 
@@ -209,5 +209,47 @@ fn tokens_have_the_line_of_their_first_byte(rt: HostRuntime) -> Result<(), Fail>
         assert_eq!(rt; token.line, line);
     }
     assert_eq!(rt; LexKind::OpenComment.word(), "open comment");
+    Ok(())
+}
+
+#[test]
+fn numbers_have_their_values(rt: HostRuntime) -> Result<(), Fail> {
+    let tokens = lex(rt.alloc(), b"0 017 0x1Fu 42ull 18446744073709551615u")?;
+    let values = [0, 15, 31, 42, 18446744073709551615];
+    assert_eq!(rt; tokens.len(), values.len());
+    for (token, value) in tokens.as_slice().iter().zip(values) {
+        if token.kind == TokenKind::Int {
+            let number = read_number(token.bytes.as_slice());
+            assert_eq!(rt; number.value, value);
+        }
+    }
+    let last = lex(rt.alloc(), b"0xfLU")?;
+    for token in last.as_slice() {
+        if token.kind == TokenKind::Int {
+            let number = read_number(token.bytes.as_slice());
+            assert_eq!(rt; number.base, Base::Hexadecimal);
+            assert_eq!(rt; number.suffix, Suffix::Ul);
+        }
+    }
+    Ok(())
+}
+
+#[test]
+fn literals_have_their_values(rt: HostRuntime) -> Result<(), Fail> {
+    let cases: [(&[u8], &[u8]); 6] = [
+        (b"'a'", b"a"),
+        (b"'\xff'", b"\xff"),
+        (b"\"\"", b""),
+        (
+            b"\"a'\\n\\a\\b\\f\\r\\t\\v\\?\\\\\\\"\"",
+            b"a'\n\x07\x08\x0c\r\t\x0b?\\\"",
+        ),
+        (b"\"\\1234\\0\\x41g\"", b"S4\x00Ag"),
+        (b"\"\\x0000041\x80\"", b"A\x80"),
+    ];
+    for (literal, expected) in cases {
+        let values = literal_values(rt.alloc(), literal)?;
+        assert_eq!(rt; values.as_slice(), expected, "of {:?}", literal);
+    }
     Ok(())
 }

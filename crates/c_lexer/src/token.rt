@@ -1,6 +1,6 @@
 //! Tokens, and why a text has none.
 
-ghost use Rattle.std.specs.Prelude.{◌≡◌};
+ghost use Rattle.std.specs.Prelude.{◌≡◌, Some};
 ghost use Rattle.c_lexer.specs.Words.{word_of};
 
 use hs_base::{Items, Line, NoMemory};
@@ -68,6 +68,8 @@ impl LexKind {
 }
 
 impl fmt::Display for LexKind {
+    ghost output = { λ kind. Some (word_of kind) };
+
     fn fmt<W: fmt::Write>(&self, f: &mut fmt::Formatter<W>) -> fmt::Result {
         f.write_str(self.word())
     }

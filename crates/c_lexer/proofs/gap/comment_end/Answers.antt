@@ -1,6 +1,5 @@
-use Rattle.std.proofs.Common.{length, false, ◌≤◌, get_or, arith}
+use Rattle.std.proofs.Common.{get_or, arith}
 use Rattle.std.proofs.lemmas.Bool.{ne_eqb, and_left, and_right}
-use Rattle.std.specs.Prelude.{◌==◌}
 use Rattle.c_lexer.proofs.Ends.{comment_closes, comment_ends, comment_goes_on}
 use Rattle.c_lexer.proofs.gap.comment_end.Goals as goal
 use Rattle.c_lexer.proofs.gap.comment_end.Goals.{else-star-via-then-star+else-byte-eq47, else-star-via-else-star}

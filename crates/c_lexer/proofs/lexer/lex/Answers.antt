@@ -1,9 +1,9 @@
-use Rattle.std.proofs.Common.{◌≡◌, ◌+◌, ◌-◌, ◌<◌, ◌≤◌, List, length, take, drop, sym, subst, ap, ◌∙◌, arith}
+use Rattle.std.proofs.Common.{◌≡◌, ◌+◌, take, drop, sym, subst, ap, ◌∙◌, arith}
 use Rattle.std.proofs.lemmas.Result.{err_from_is_err_and}
 use Rattle.c_lexer.specs.Tokens.{behind}
 use Rattle.c_lexer.specs.declared.place.Place.{Place}
 use Rattle.c_lexer.proofs.Cuts.{ok_only, err_only}
-use Rattle.c_lexer.proofs.Loop.{AtText, at_start, goes_on, ends, refuses, forms_of, Here, here}
+use Rattle.c_lexer.proofs.Loop.{AtText, goes_on, ends, refuses, forms_of, here}
 use Rattle.c_lexer.proofs.lexer.lex.Goals as goal
 
 pub slice_bounds-bytes-end : goal.slice_bounds-bytes-end

@@ -1,4 +1,4 @@
-use Rattle.std.proofs.Common.{◌≡◌, ◌*◌, ◌+◌, ◌<◌, ◌^◌, arith}
+use Rattle.std.proofs.Common.{◌^◌, arith}
 use Rattle.c_lexer.proofs.Digits.{digits_value_over}
 use Rattle.c_lexer.proofs.number.digits_value.Goals as goal
 
