@@ -1,20 +1,19 @@
 -- The members of a body and their layouts.
-use Rattle.std.proofs.Common.{◌≡◌, ◌⊎◌, ◌≤◌, ◌<◌, ◌+◌, ◌==◌, ◌||◌, ℕ, suc, zero, Bool, true, false, List, [], ◌∷◌, ◌++◌, Option, Some, None, map, fold, take, filter, max, length, get_or, slice_get, refl, ap, sym, subst, ◌∙◌, arith, ⊎_elim, inl, inr, append_assoc, append-nil, IsTrue, IsSomeAnd}
+use Rattle.std.proofs.Common.{◌≡◌, ◌≤◌, ◌<◌, ◌+◌, ◌||◌, ℕ, suc, zero, Bool, true, false, List, [], ◌∷◌, ◌++◌, Some, map, fold, take, filter, max, length, get_or, slice_get, refl, ap, sym, subst, ◌∙◌, arith, append_assoc, append-nil, IsSomeAnd}
 use Rattle.std.specs.List.{AllByRecursion, All, flat_map, range_with_len, list_any, list_all}
-use Rattle.std.specs.Prelude.{nat_lt, nat_le}
+use Rattle.std.specs.Prelude.{nat_le}
 use Rattle.std.specs.Int.{next_multiple_of}
-use Rattle.std.proofs.lemmas.Bool.{eqb-true, eq-eqb, leb-true, le-leb}
 use Rattle.std.proofs.lemmas.List.{map-append, take_more}
 use Rattle.std.proofs.lemmas.List.Folds.{flat_map-map}
 use Rattle.c_types.specs.declared.layouts.Layout.{Layout}
 use Rattle.c_types.specs.declared.bodies.Body.{Body}
 use Rattle.c_types.specs.declared.bodies.Member.{Member}
-use Rattle.c_types.specs.Types.{PlainType, plain}
-use Rattle.c_types.specs.Layouts.{Known, Placed, AreSlots, IsSound, ArraysFit, moved, place, placed, none_placed, offset_after, has_slot, member_slots, keeps_union_rule}
+use Rattle.c_types.specs.Types.{plain}
+use Rattle.c_types.specs.Layouts.{Known, Placed, IsSound, moved, place, placed, none_placed, offset_after, has_slot, member_slots}
 use Rattle.c_types.specs.TagTable.{TagTable, CompletedTag, known, layout_or, member_layout, tag_layout, IsSizedIn}
 use Rattle.c_types.specs.Bodies.{IsSized, IsPlaced, KeepsRule, completed_tag}
-use Rattle.c_types.specs.Slots.{first_known, depth, deepest, deepest_member, member_size, IsLargest}
-use Rattle.c_types.proofs.Filtered.{contains, filtered, same_bool, passes_all, all_passes, passes_at, any_at, or_holds}
+use Rattle.c_types.specs.Slots.{first_known, depth, deepest, deepest_member, IsLargest}
+use Rattle.c_types.proofs.Filtered.{contains, filtered, same_bool, passes_all, passes_at, any_at, or_holds}
 use Rattle.c_types.proofs.ListLemmas.{first_sized, first_layout, moved_both}
 use Rattle.c_types.proofs.Sound.{AllSound, known_sound, rounded_le, slot_within, flat_map_push, some_passes, member_layouts_sound}
 use Rattle.c_types.proofs.MemberLemmas.{pairs}

@@ -1,10 +1,9 @@
 -- Slots are known by which offsets they contain.
-use Rattle.std.proofs.Common.{◌≡◌, ◌⊎◌, ◌≤◌, ◌<◌, ◌+◌, ◌==◌, ◌&&◌, ◌||◌, ℕ, suc, zero, Bool, true, false, List, [], ◌∷◌, filter, map, length, get_or, refl, ap, sym, subst, ◌∙◌, arith, ⊎_elim, inl, inr, cond}
-use Rattle.std.specs.List.{AllByRecursion, range_with_len, list_any, list_all, take_while}
-use Rattle.std.specs.Prelude.{nat_lt, nat_le}
+use Rattle.std.proofs.Common.{◌≡◌, ◌≤◌, ◌<◌, ◌+◌, ◌==◌, ◌&&◌, ◌||◌, ℕ, suc, zero, Bool, true, false, List, [], ◌∷◌, filter, length, get_or, refl, ap, sym, ◌∙◌, arith}
+use Rattle.std.specs.List.{AllByRecursion, range_with_len, list_any, list_all}
+use Rattle.std.specs.Prelude.{nat_le}
 use Rattle.std.proofs.lemmas.Bool.{eqb-true, eq-eqb, leb-true}
 use Rattle.c_types.specs.Layouts.{AreSlots}
-use Rattle.c_types.proofs.Sound.{slots_within}
 
 abbrev pub contains : ℕ → List ℕ → Bool
 contains o ss = list_any (λ slot. slot == o) ss

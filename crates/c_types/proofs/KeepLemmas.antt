@@ -1,16 +1,15 @@
 -- One more body.
-use Rattle.std.proofs.Common.{◌≡◌, ◌≢◌, ◌==◌, ◌<◌, ◌≤◌, ◌+◌, ℕ, zero, suc, Bool, true, false, cond, List, [], ◌∷◌, ◌++◌, Option, Some, None, option_map, length, take, map, fold, set, refl, ap, sym, ◌∙◌, arith, slice_get, get_or, subst, ◌⊎◌, ⊎_elim}
+use Rattle.std.proofs.Common.{◌≡◌, ◌≢◌, ◌==◌, ◌<◌, ℕ, zero, suc, Bool, true, false, cond, List, [], ◌∷◌, ◌++◌, Option, Some, None, option_map, length, map, set, refl, ap, sym, ◌∙◌, arith, slice_get, get_or, subst, ⊎_elim}
 use Rattle.std.specs.List.{find}
 use Rattle.std.specs.Option.{option_or, option_and_then}
-use Rattle.std.proofs.lemmas.Bool.{eqb-true, eq-eqb}
+use Rattle.std.proofs.lemmas.Bool.{eq-eqb}
 use Rattle.std.proofs.lemmas.Bool.Decides.{eqb_tells}
 use Rattle.std.proofs.lemmas.List.{map-append}
-use Rattle.c_types.specs.declared.layouts.Layout.{Layout}
 use Rattle.c_types.specs.declared.bodies.Body.{Body}
 use Rattle.c_types.specs.declared.tags.Made.{Made}
 use Rattle.c_types.specs.declared.tags.TagInfo.{TagInfo}
 use Rattle.c_types.specs.Layouts.{Known}
-use Rattle.c_types.specs.TagTable.{CompletedTag, TagTable, learn, known, tag_layout}
+use Rattle.c_types.specs.TagTable.{CompletedTag, TagTable, learn, known}
 use Rattle.c_types.specs.declared.tags.Tags.TheInside.{Inside}
 use Rattle.c_types.specs.Bodies.{completed_tag, table_of, place_in, IsPlaced, KeepsRule, AllLaid}
 use Rattle.c_types.proofs.Places.{after, has_tag, not_found}

@@ -1,6 +1,6 @@
 -- What the list of the slots of a type is made of.
-use Rattle.std.proofs.Common.{◌≡◌, ◌⊎◌, ◌≤◌, ◌<◌, ◌+◌, ◌-◌, ◌*◌, ◌^◌, ℕ, suc, zero, Bool, true, false, List, [], ◌∷◌, ◌++◌, Option, Some, None, option_map, unwrap_or, map, take, drop, length, get_or, refl, ap, sym, subst, ◌∙◌, arith, ⊎_elim, inl, inr, IfNone, append-nil, append_assoc, take_all, IsSome, IfSome, slice_get}
-use Rattle.std.specs.List.{AllByRecursion, flat_map, range_with_len, All}
+use Rattle.std.proofs.Common.{◌≡◌, ◌⊎◌, ◌≤◌, ◌<◌, ◌+◌, ◌-◌, ◌*◌, ℕ, suc, zero, List, [], ◌∷◌, ◌++◌, Option, Some, None, option_map, unwrap_or, map, take, drop, length, get_or, refl, ap, sym, subst, ◌∙◌, arith, inl, inr, IfNone, append_assoc, take_all, IsSome, IfSome}
+use Rattle.std.specs.List.{flat_map, range_with_len, All}
 use Rattle.std.proofs.lemmas.List.{map-append}
 use Rattle.c_types.specs.declared.layouts.Layout.{Layout}
 use Rattle.c_types.specs.declared.types.CType.{CType}
@@ -12,8 +12,8 @@ use Rattle.c_types.specs.Layouts.{Known, AreSlots, IsSound, ArraysFit, array_lay
 use Rattle.c_types.specs.TagTable.{TagTable, CompletedTag, known, layout_or, size_in, tag_layout}
 use Rattle.c_types.proofs.PlacingLemmas.{unwrap_map}
 use Rattle.c_types.specs.Bodies.{IsSized, IsBodyOf, completed_tag}
-use Rattle.c_types.specs.Slots.{first_known, depth, deepest, deepest_member}
-use Rattle.c_types.proofs.MemberLemmas.{Extends, layout_stays, sized_stays, some_array}
+use Rattle.c_types.specs.Slots.{first_known, depth}
+use Rattle.c_types.proofs.MemberLemmas.{Extends, layout_stays, sized_stays}
 use Rattle.c_types.proofs.Places.{known_after_first}
 use Rattle.c_types.proofs.Sound.{layout_sound, known_sound}
 use Rattle.c_types.proofs.SlotLemmas.{repeats}

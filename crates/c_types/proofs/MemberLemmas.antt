@@ -1,12 +1,12 @@
 -- Members with their layouts, whatever is known besides.
-use Rattle.std.proofs.Common.{◌≡◌, ℕ, suc, zero, List, [], ◌∷◌, Option, Some, None, option_map, unwrap_or, map, fold, take, refl, ap, sym, ◌∙◌, IsSome}
+use Rattle.std.proofs.Common.{◌≡◌, ℕ, List, [], ◌∷◌, Option, Some, None, option_map, map, refl, ap, sym, ◌∙◌, IsSome}
 use Rattle.std.specs.List.{AllByRecursion, zip}
 use Rattle.c_types.specs.declared.layouts.Layout.{Layout}
 use Rattle.c_types.specs.declared.bodies.Body.{Body}
 use Rattle.c_types.specs.declared.bodies.Member.{Member}
 use Rattle.c_types.specs.Types.{PlainType, Void, Int, Pointer, Array, Struct, Union, Function, plain}
-use Rattle.c_types.specs.Layouts.{Known, ArraysFit, array_layout, layout_of, no_layout}
-use Rattle.c_types.specs.TagTable.{CompletedTag, PlainMember, member_layout, plain_member, placed_members}
+use Rattle.c_types.specs.Layouts.{Known, array_layout, layout_of}
+use Rattle.c_types.specs.TagTable.{member_layout, plain_member, placed_members}
 use Rattle.c_types.specs.Bodies.{IsSized, IsPlaced, completed_tag}
 
 -- more is known

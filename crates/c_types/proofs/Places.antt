@@ -1,7 +1,6 @@
 -- Where the body of a tag stands, and what is known of the tag.
-use Rattle.std.proofs.Common.{◌≡◌, ◌≢◌, ◌==◌, ◌<◌, ◌≤◌, ◌+◌, ℕ, zero, suc, Bool, true, false, cond, List, [], ◌∷◌, ◌++◌, Option, Some, None, option_map, length, take, map, fold, refl, ap, sym, ◌∙◌, arith, slice_get, get_or, subst}
+use Rattle.std.proofs.Common.{◌≡◌, ◌==◌, ◌<◌, ℕ, zero, suc, Bool, true, false, List, [], ◌∷◌, Option, Some, None, option_map, length, take, map, fold, refl, ap, sym, arith, slice_get, get_or, subst}
 use Rattle.std.specs.List.{find, take-map}
-use Rattle.std.specs.Option.{option_or}
 use Rattle.c_types.specs.declared.layouts.Layout.{Layout}
 use Rattle.c_types.specs.declared.bodies.Body.{Body}
 use Rattle.c_types.specs.Layouts.{Known}

@@ -1,20 +1,19 @@
 -- One more member is placed.
-use Rattle.std.proofs.Common.{◌≡◌, ◌⊎◌, ◌≤◌, ◌<◌, ◌+◌, ℕ, suc, zero, Bool, true, false, List, [], ◌∷◌, ◌++◌, Option, Some, None, option_map, unwrap_or, map, fold, take, max, refl, ap, sym, ◌∙◌, IsSome, IfSome, All, length, get_or, length-append, arith, subst, ⊎_elim, inl, inr}
+use Rattle.std.proofs.Common.{◌≡◌, ◌⊎◌, ◌≤◌, ◌<◌, ◌+◌, ℕ, Bool, true, false, List, [], ◌∷◌, ◌++◌, Option, Some, None, option_map, unwrap_or, map, fold, max, refl, sym, IfSome, All, length, get_or, length-append, arith, subst, ⊎_elim, inl, inr}
 use Rattle.std.specs.List.{AllByRecursion}
 use Rattle.std.specs.Int.{next_multiple_of}
 use Rattle.std.proofs.lemmas.List.{map-append}
 use Rattle.std.proofs.lemmas.Bool.{cases_lt}
 use Rattle.std.proofs.lemmas.List.Sums.{fold_push}
 use Rattle.c_types.specs.declared.layouts.Layout.{Layout}
-use Rattle.c_types.specs.declared.bodies.Body.{Body}
 use Rattle.c_types.specs.declared.bodies.Placing.{Placing}
 use Rattle.c_types.specs.declared.bodies.Member.{Member}
 use Rattle.c_types.specs.declared.types.CType.{CType}
 use Rattle.c_types.specs.declared.tags.TagError.{TagError}
 use Rattle.c_types.specs.Types.{PlainType, plain}
-use Rattle.c_types.specs.Layouts.{IsAlignment, Known, Placed, layout_of, no_layout, place, placed, offset_after, none_placed}
-use Rattle.c_types.specs.TagTable.{TagTable, member_layout, known, plain_pair, new_tag, tag_layout, IsTooLarge}
-use Rattle.c_types.specs.Bodies.{IsSized, IsPlaced, completed_tag}
+use Rattle.c_types.specs.Layouts.{IsAlignment, Known, Placed, place, offset_after, none_placed}
+use Rattle.c_types.specs.TagTable.{TagTable, member_layout, known, plain_pair, new_tag, IsTooLarge}
+use Rattle.c_types.specs.Bodies.{IsSized}
 use Rattle.c_types.specs.Placing.{IsPlacedSoFar, IsPastLimit, pairs, placed_by}
 
 pub unwrap_map : {X : Type 0} (f : X → ℕ) (o : Option X) (d : X) (n : ℕ) → option_map f o ≡ Some n → f (unwrap_or o d) ≡ n

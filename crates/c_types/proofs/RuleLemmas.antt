@@ -1,9 +1,9 @@
 -- The union rule, told by the fronts of the largest member's slots.
-use Rattle.std.proofs.Common.{◌≡◌, ◌⊎◌, ◌≤◌, ◌<◌, ◌+◌, ◌==◌, ◌&&◌, ◌||◌, ℕ, suc, zero, Bool, true, false, cond, List, [], ◌∷◌, filter, map, take, length, get_or, refl, ap, sym, subst, ◌∙◌, arith, ⊎_elim, inl, inr}
-use Rattle.std.specs.List.{AllByRecursion, range_with_len, list_any, list_all, take_while, prefix_len}
+use Rattle.std.proofs.Common.{◌≡◌, ◌≤◌, ◌<◌, ◌+◌, ◌==◌, ◌&&◌, ◌||◌, ℕ, suc, Bool, true, false, List, [], ◌∷◌, map, take, length, get_or, refl, ap, sym, subst, ◌∙◌, arith, ⊎_elim}
+use Rattle.std.specs.List.{AllByRecursion, take_while, prefix_len}
 use Rattle.std.specs.Prelude.{nat_lt, nat_le}
 use Rattle.std.proofs.lemmas.List.{take_more}
-use Rattle.std.proofs.lemmas.Bool.{eqb-true, eq-eqb, leb-true, le-leb, ltb-true, ltb-false, lt-ltb, cases_lt}
+use Rattle.std.proofs.lemmas.Bool.{eqb-true, eq-eqb, le-leb, ltb-true, ltb-false, lt-ltb, cases_lt}
 use Rattle.c_types.specs.declared.layouts.Layout.{Layout}
 use Rattle.c_types.specs.declared.bodies.Body.{Body}
 use Rattle.c_types.specs.declared.bodies.Member.{Member}
@@ -12,7 +12,7 @@ use Rattle.c_types.specs.TagTable.{layout_or, member_layout}
 use Rattle.c_types.specs.Bodies.{IsPlaced, completed_tag}
 use Rattle.c_types.specs.Slots.{member_size, IsLargest}
 use Rattle.c_types.specs.Layouts.{Known, AreSlots, IsSound, has_slot, keeps_union_rule}
-use Rattle.c_types.proofs.Sound.{AllSound, all_push, member_sound, slots_within, slot_within}
+use Rattle.c_types.proofs.Sound.{AllSound, all_push, member_sound, slot_within}
 use Rattle.c_types.proofs.Filtered.{contains, filtered, same_bool, not_below, passes_all, all_passes, passes_at, or_first, or_other, or_holds}
 use Rattle.c_types.proofs.BodyLemmas.{Fits, all_at, slot_passes, member_passes, layouts_of, layouts_len, layout_at, member_layouts, members_inside}
 

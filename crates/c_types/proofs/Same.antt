@@ -1,11 +1,11 @@
 -- A type of another variant is another type as plain data.
-use Rattle.std.proofs.Common.{◌≡◌, ◌≢◌, ℕ, suc, List, [], ◌∷◌, ◌++◌, Box, Global, refl, map, ap, ◌∙◌, rules, IsTrue, false, ◌↔◌, ◌+◌, ◌<◌, zero, length, take, get_or, arith}
+use Rattle.std.proofs.Common.{◌≡◌, ℕ, suc, List, [], ◌∷◌, ◌++◌, Box, Global, refl, ap, ◌∙◌, rules, IsTrue, false, ◌↔◌, ◌<◌, zero, length, take, get_or, arith}
 use Rattle.c_types.specs.declared.types.IntType.{IntType}
 use Rattle.c_types.specs.declared.types.CType.{CType, Row_of-CType, end_of-CType, more_of-CType, items-the_row-CType, the_lemmas}
 use Rattle.c_types.specs.declared.types.CType.TheVariants as c
 use Rattle.c_types.specs.declared.types.CType.TheBlock.{hidden-the_row-CType-0}
 use Rattle.c_types.specs.declared.types.Signature.{Signature}
-use Rattle.c_types.specs.Types.{PlainType, PlainTypes, Void, Int, Pointer, Array, Struct, Union, Function, none, first, plain, plain_row, plain_list, plain_signature}
+use Rattle.c_types.specs.Types.{PlainType, Void, Int, Pointer, Array, Struct, Union, Function, none, first, plain, plain_row, plain_list, plain_signature}
 
 abbrev boxed : {T : Type 0} → Box (Unit {0}) Global → T → Box T Global
 boxed p a = record { ptr = p.ptr; alloc = p.alloc; value = a }

@@ -1,8 +1,7 @@
 -- Lists of slots as they grow.
-use Rattle.std.proofs.Common.{◌≡◌, ◌≤◌, ◌<◌, ◌+◌, ◌-◌, ◌*◌, ◌^◌, ℕ, suc, zero, List, [], ◌∷◌, ◌++◌, map, take, drop, length, get_or, refl, ap, sym, subst, ◌∙◌, append-nil, append_assoc, add-zero, add-one, arith, length-drop, length-take, take_all}
+use Rattle.std.proofs.Common.{◌≡◌, ◌≤◌, ◌<◌, ◌+◌, ◌-◌, ◌*◌, ℕ, suc, zero, List, [], ◌∷◌, ◌++◌, take, drop, length, get_or, refl, ap, sym, subst, ◌∙◌, append-nil, append_assoc, add-zero, arith, length-drop, length-take, take_all}
 use Rattle.std.specs.List.{flat_map, range_with_len, All, slice_range}
 use Rattle.std.proofs.lemmas.List.{get_or_append_left, map-append, take_more, get_or-take, get_or-drop, drop_all, drop-append-le, take-append-le}
-use Rattle.std.proofs.lemmas.Grind.{flat_map-append}
 use Rattle.c_types.specs.Layouts.{moved}
 use Rattle.c_types.proofs.Sound.{flat_map_none, none_moved, flat_map_push}
 

@@ -1,5 +1,5 @@
 -- Each layout of a type is sound.
-use Rattle.std.proofs.Common.{◌≡◌, ◌⊎◌, ◌≤◌, ◌<◌, ◌+◌, ◌*◌, ◌%◌, ◌==◌, ℕ, suc, zero, Bool, true, false, cond, List, [], ◌∷◌, ◌++◌, Option, Some, None, option_map, unwrap_or, map, fold, filter, max, refl, ap, sym, ◌∙◌, append-nil, arith, subst, ⊎_elim, inl, inr}
+use Rattle.std.proofs.Common.{◌≡◌, ◌⊎◌, ◌≤◌, ◌+◌, ◌*◌, ◌%◌, ◌==◌, ℕ, suc, zero, Bool, true, false, List, [], ◌∷◌, ◌++◌, Some, None, unwrap_or, map, fold, filter, max, refl, ap, sym, ◌∙◌, append-nil, arith, subst, ⊎_elim, inl, inr}
 use Rattle.std.proofs.Math.Nat.{mod_self, max_comm, mul-zero, zero-mod}
 use Rattle.std.proofs.lemmas.Nat.{mul-mod_second}
 use Rattle.c_types.proofs.PlacingLemmas.{max_is, max_aligned}
@@ -7,14 +7,13 @@ use Rattle.std.proofs.lemmas.Grind.{flat_map-append}
 use Rattle.std.proofs.lemmas.Bool.{eqb-true}
 use Rattle.std.specs.List.{AllByRecursion, flat_map, range_with_len, list_any}
 use Rattle.std.specs.Int.{next_multiple_of}
-use Rattle.std.specs.Option.{option_or}
 use Rattle.c_types.specs.declared.layouts.Layout.{Layout}
 use Rattle.c_types.specs.declared.types.IntType.{IntType}
 use Rattle.c_types.specs.declared.types.IntType.TheVariants as i
 use Rattle.c_types.specs.TagTable.{CompletedTag, learn, known, tag_layout, member_layout}
 use Rattle.c_types.proofs.MemberLemmas.{some_array}
 use Rattle.c_types.specs.Types.{PlainType, Void, Int, Pointer, Array, Struct, Union, Function, width_of}
-use Rattle.c_types.specs.Layouts.{Known, Placed, IsAlignment, AreSlots, IsSound, moved, array_layout, number_layout, no_layout, pointer_layout, layout_of, place, placed, offset_after, none_placed, member_slots, members_layout, has_slot}
+use Rattle.c_types.specs.Layouts.{Known, Placed, IsAlignment, AreSlots, IsSound, moved, array_layout, number_layout, no_layout, pointer_layout, layout_of, place, placed, none_placed, members_layout, has_slot}
 
 pub slots_within : (low more high less : ℕ) (ss : List ℕ) → more ≤ low → high ≤ less → AreSlots low high ss → AreSlots more less ss
 slots_within low more high less [] a b h = tt

@@ -1,8 +1,8 @@
 -- The largest member of a union, and the union rule by it.
-use Rattle.std.proofs.Common.{◌≡◌, ◌⊎◌, ◌≤◌, ◌<◌, ◌+◌, ℕ, suc, zero, Bool, true, false, List, [], ◌∷◌, ◌++◌, Option, Some, None, map, take, length, get_or, refl, ap, sym, subst, ◌∙◌, arith, ⊎_elim, add-one, IsSomeAnd, take_all}
+use Rattle.std.proofs.Common.{◌≡◌, ◌≤◌, ◌<◌, ◌+◌, ℕ, suc, zero, List, [], ◌∷◌, Some, None, take, length, get_or, refl, ap, sym, ◌∙◌, arith, IsSomeAnd, take_all}
 use Rattle.std.specs.List.{AllByRecursion, slice_get}
 use Rattle.std.proofs.lemmas.List.{take_more}
-use Rattle.std.proofs.lemmas.Option.{slice_get-get_or, slice_get_read, slice_get_within, get_or_from_slice_get}
+use Rattle.std.proofs.lemmas.Option.{slice_get_read}
 use Rattle.c_types.specs.declared.bodies.Member.{Member}
 use Rattle.c_types.specs.Layouts.{Known}
 use Rattle.c_types.specs.Slots.{member_size, IsLargest}

@@ -1,5 +1,5 @@
 -- What `Tags` keeps: the bodies of the completed tags, with sizes, alignments and offsets as their layouts have them.
-use Rattle.std.specs.Prelude.{◌≡◌, ◌==◌, ◌≤◌, ◌<◌, ◌+◌, ℕ, suc, Bool, List, [], ◌∷◌, map, fold, cond, find, take, IsTrue, IsSome, Option, Some, None, option_map, option_and_then, slice_get, Vec}
+use Rattle.std.specs.Prelude.{◌≡◌, ◌==◌, ◌≤◌, ◌<◌, ℕ, suc, List, [], ◌∷◌, map, cond, find, take, IsTrue, IsSome, Option, Some, None, option_map, option_and_then, slice_get}
 use Rattle.std.specs.List.{AllByRecursion}
 use Rattle.c_types.specs.declared.layouts.Layout.{Layout}
 use Rattle.c_types.specs.declared.bodies.Body.{Body}

@@ -1,5 +1,5 @@
 -- Members while they are placed one after another.
-use Rattle.std.specs.Prelude.{◌≡◌, ◌≤◌, ◌<◌, ℕ, Bool, true, false, List, map}
+use Rattle.std.specs.Prelude.{◌≡◌, ◌≤◌, ◌<◌, ℕ, Bool, false, List, map}
 use Rattle.std.specs.List.{AllByRecursion}
 use Rattle.c_types.specs.declared.bodies.Placing.{Placing}
 use Rattle.c_types.specs.declared.bodies.Member.{Member}

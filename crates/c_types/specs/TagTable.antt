@@ -1,5 +1,5 @@
 -- Tags in the order of making, and the completed ones in the order of completion.
-use Rattle.std.specs.Prelude.{◌≡◌, ◌==◌, ◌<◌, ◌&&◌, ℕ, Bool, true, false, not, cond, List, [], ◌∷◌, ◌++◌, map, fold, find, zip, nat_lt, slice_get, unwrap_or, Option, Some, None, Result, Ok, Err, option_map, IsSome}
+use Rattle.std.specs.Prelude.{◌≡◌, ◌==◌, ◌<◌, ◌&&◌, ℕ, Bool, false, not, cond, List, [], ◌∷◌, ◌++◌, map, fold, find, zip, nat_lt, slice_get, unwrap_or, Option, Some, None, Result, Ok, Err, option_map, IsSome}
 use Rattle.std.specs.Option.{option_map_or, option_or}
 use Rattle.c_types.specs.declared.layouts.Layout.{Layout}
 use Rattle.c_types.specs.declared.tags.TagInfo.{TagInfo}

@@ -1,4 +1,4 @@
-use Rattle.std.proofs.Common.{rules, arith, ◌≡◌, ap, sym, ◌∙◌, map, Some, None, refl, option_map}
+use Rattle.std.proofs.Common.{◌≡◌, ap, map, Some, None, refl}
 use Rattle.c_types.specs.TagTable.{known, plain_member, placed_members}
 use Rattle.c_types.specs.Bodies.{completed_tag}
 use Rattle.c_types.proofs.MemberLemmas.{body_members}

@@ -1,4 +1,4 @@
-use Rattle.std.proofs.Common.{rules, arith, ◌≡◌, ap, sym, ◌∙◌, map, refl, subst, [], ◌∷◌, ◌++◌, append_assoc, length, List, ℕ}
+use Rattle.std.proofs.Common.{sym, ◌∙◌, map, [], ◌∷◌, ◌++◌, append_assoc, List, ℕ}
 use Rattle.c_types.specs.declared.types.CType.{CType}
 use Rattle.std.specs.Vec.Iter.{into_iter_items}
 use Rattle.c_types.specs.Types.{plain}

@@ -1,4 +1,4 @@
-use Rattle.std.proofs.Common.{◌≡◌, ◌++◌, length, map, ℕ}
+use Rattle.std.proofs.Common.{◌≡◌, ◌++◌, length, map}
 use Rattle.std.specs.Vec.Iter.{into_iter_items, into_iter_len}
 use Rattle.c_types.specs.TagTable.{known, plain_pair}
 use Rattle.c_types.specs.Placing.{IsPlacedSoFar, pairs}

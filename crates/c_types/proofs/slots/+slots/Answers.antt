@@ -1,4 +1,4 @@
-use Rattle.std.proofs.Common.{rules, arith, ◌≡◌, ◌<◌, ◌≤◌, ◌+◌, ◌*◌, ◌-◌, ◌++◌, ℕ, length, get_or, ap, sym, ◌∙◌, refl, drop, take, take_all, IsSomeAnd, slice_get}
+use Rattle.std.proofs.Common.{arith, ◌≡◌, ◌<◌, ◌+◌, ◌*◌, ◌-◌, ◌++◌, ap, sym, ◌∙◌, refl, drop, take, take_all, IsSomeAnd, slice_get}
 use Rattle.c_types.specs.declared.layouts.Layout.{Layout}
 use Rattle.c_types.specs.Types.{plain, Array}
 use Rattle.c_types.specs.TagTable.{known, layout_or}
@@ -8,7 +8,7 @@ use Rattle.std.specs.List.{flat_map}
 use Rattle.c_types.proofs.BodyLemmas.{members_sized, some_within, largest_case, member_case, more_members, struct_slots, member_part}
 use Rattle.c_types.specs.Bodies.{IsBodyOf}
 use Rattle.std.proofs.lemmas.Result.{IfOk-weaker}
-use Rattle.c_types.proofs.ListLemmas.{array_case, array_fits, array_is, array_list, element_sized, element_room, element_size, first_sized, first_layout, size_some, slots_fit, first_sound, tag_known, tag_depth, body_some, some_of, body_is, body_measure}
+use Rattle.c_types.proofs.ListLemmas.{array_case, array_fits, array_is, array_list, element_sized, element_room, element_size, first_sized, size_some, slots_fit, first_sound, tag_known, tag_depth, body_some, some_of, body_is, body_measure}
 use Rattle.c_types.proofs.SlotLemmas.{repeats}
 use Rattle.c_types.proofs.slots.+slots.Goals as goal
 

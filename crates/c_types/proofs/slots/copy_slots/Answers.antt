@@ -1,4 +1,4 @@
-use Rattle.std.proofs.Common.{rules, arith, ◌≡◌, ◌<◌, ◌+◌, ◌++◌, ℕ, length, get_or, ap, sym, ◌∙◌, refl, Fits, w32}
+use Rattle.std.proofs.Common.{arith, ◌≡◌, ◌<◌, length, get_or, ap, ◌∙◌, refl}
 use Rattle.std.proofs.lemmas.List.{get_or_append_left}
 use Rattle.c_types.proofs.SlotLemmas.{copy_more, range_fits}
 use Rattle.c_types.proofs.slots.copy_slots.Goals as goal

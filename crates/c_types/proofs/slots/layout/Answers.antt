@@ -1,8 +1,6 @@
-use Rattle.std.proofs.Common.{rules, arith, ◌≡◌, ap, sym, ◌∙◌, refl, subst, Some}
-use Rattle.c_types.specs.declared.layouts.Layout.{Layout}
+use Rattle.std.proofs.Common.{sym, ◌∙◌}
 use Rattle.c_types.specs.Types.{plain}
-use Rattle.c_types.specs.Layouts.{IsSound}
-use Rattle.c_types.specs.TagTable.{known, layout_in}
+use Rattle.c_types.specs.TagTable.{known}
 use Rattle.c_types.proofs.ListLemmas.{layout_parts}
 use Rattle.c_types.proofs.Sound.{layout_sound, known_sound}
 use Rattle.c_types.proofs.slots.layout.Goals as goal

@@ -1,5 +1,5 @@
-use Rattle.std.proofs.Common.{rules, arith, ◌≡◌, ◌<◌, ◌≤◌, ◌+◌, ◌-◌, ◌++◌, ℕ, length, get_or, ap, sym, ◌∙◌, refl}
-use Rattle.c_types.proofs.SlotLemmas.{repeat_more, none_repeated, repeats}
+use Rattle.std.proofs.Common.{arith, ◌≡◌, ◌-◌, refl}
+use Rattle.c_types.proofs.SlotLemmas.{repeat_more, none_repeated}
 use Rattle.c_types.proofs.slots.repeat_slots.Goals as goal
 
 pub returns-then-start-end : goal.returns-then-start-end

@@ -1,4 +1,4 @@
-use Rattle.std.proofs.Common.{◌≡◌, ◌++◌, ◌-◌, ◌*◌, take, drop}
+use Rattle.std.proofs.Common.{◌≡◌, ◌++◌, ◌-◌, ◌*◌, drop}
 use Rattle.std.specs.List.{flat_map, range_with_len}
 use Rattle.c_types.specs.Layouts.{moved}
 use Rattle.c_types.proofs.slots.repeat_slots.Given as goal

@@ -1,8 +1,7 @@
-use Rattle.std.proofs.Common.{rules, arith, ◌≡◌, ◌≤◌, ◌+◌, ◌++◌, ap, sym, ◌∙◌, refl, take, length}
+use Rattle.std.proofs.Common.{arith, ◌++◌, ap, ◌∙◌}
 use Rattle.c_types.specs.Types.{plain}
 use Rattle.c_types.specs.Layouts.{moved}
 use Rattle.c_types.specs.TagTable.{known, layout_or}
-use Rattle.c_types.specs.Slots.{first_known}
 use Rattle.c_types.proofs.ListLemmas.{all_tags, moved_zero}
 use Rattle.c_types.proofs.slots.slots_of.Goals as goal
 

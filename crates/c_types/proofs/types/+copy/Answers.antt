@@ -1,5 +1,5 @@
-use Rattle.std.proofs.Common.{rules, arith, add-one, ◌≡◌, ◌<◌, length, ap, sym, ◌∙◌}
-use Rattle.c_types.specs.Types.{plain, plain_signature, plain_list, Function}
+use Rattle.std.proofs.Common.{add-one, ◌<◌, length, ap, sym, ◌∙◌}
+use Rattle.c_types.specs.Types.{plain, plain_signature}
 use Rattle.c_types.proofs.Same.{plain-function, plain_list-push}
 use Rattle.c_types.proofs.types.+copy.Goals as goal
 

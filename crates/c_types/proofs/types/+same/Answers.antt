@@ -1,5 +1,5 @@
-use Rattle.std.proofs.Common.{rules, arith, add-one, IsTrue, ◌↔◌, ◌≡◌, ◌+◌, ◌<◌, ◌^◌, ℕ, ◌-◌, ◌*◌, ◌≤◌, length, Bool, true, false, nat_eq, nat_lt, List, [], ◌∷◌, ◌++◌, slice_index_or, Bor, MutBor, ◌∙◌, sym, ap}
-use Rattle.c_types.specs.Types.{width_of, plain, plain_signature, plain_list}
+use Rattle.std.proofs.Common.{add-one, IsTrue, ◌∙◌, sym, ap}
+use Rattle.c_types.specs.Types.{plain}
 use Rattle.c_types.proofs.Same.{not_void, not_int, not_pointer, not_array, not_struct, not_union, never, length-plain_list, plain-function, plain_list-at, plain_list-take}
 use Rattle.c_types.proofs.types.+same.Goals as goal
 

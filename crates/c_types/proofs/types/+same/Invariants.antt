@@ -1,4 +1,4 @@
-use Rattle.std.proofs.Common.{◌≡◌, length, take}
+use Rattle.std.proofs.Common.{◌≡◌, take}
 use Rattle.c_types.specs.Types.{plain_list}
 use Rattle.c_types.proofs.types.+same.Given as goal
 

@@ -1,4 +1,4 @@
-use Rattle.std.proofs.Common.{rules, arith, ◌≡◌, ◌≤◌, ◌<◌, List, IsTrue, ap, sym, ◌∙◌, refl, take, take_all, length, get_or, ℕ, IsSomeAnd, slice_get, subst}
+use Rattle.std.proofs.Common.{◌≡◌, ◌≤◌, ◌<◌, List, IsTrue, ap, sym, ◌∙◌, take, take_all, length, get_or, IsSomeAnd, slice_get, subst}
 use Rattle.std.specs.List.{AllByRecursion}
 use Rattle.c_types.specs.declared.bodies.Member.{Member}
 use Rattle.c_types.specs.declared.layouts.Layout.{Layout}

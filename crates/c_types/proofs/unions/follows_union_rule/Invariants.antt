@@ -1,6 +1,5 @@
-use Rattle.std.proofs.Common.{◌≡◌, take}
+use Rattle.std.proofs.Common.{take}
 use Rattle.std.specs.List.{AllByRecursion}
-use Rattle.c_types.specs.declared.bodies.Member.{Member}
 use Rattle.c_types.specs.TagTable.{known}
 use Rattle.c_types.proofs.RuleLemmas.{IsFrontMember}
 use Rattle.c_types.proofs.unions.follows_union_rule.Given as goal

@@ -1,9 +1,9 @@
-use Rattle.std.proofs.Common.{rules, arith, ◌≡◌, ap, sym, ◌∙◌, refl}
+use Rattle.std.proofs.Common.{sym, ◌∙◌}
 use Rattle.c_types.specs.Types.{plain}
 use Rattle.c_types.specs.Layouts.{layout_of, no_layout}
 use Rattle.c_types.specs.TagTable.{known}
 use Rattle.c_types.proofs.PlacingLemmas.{unwrap_map}
-use Rattle.c_types.proofs.UnionLemmas.{IsLargestSoFar, larger_found, none_larger, largest_is}
+use Rattle.c_types.proofs.UnionLemmas.{larger_found, none_larger, largest_is}
 use Rattle.c_types.proofs.unions.largest_member.Goals as goal
 use Rattle.c_types.proofs.unions.largest_member.Goals.{then-size-greatest, else-size-greatest}
 

@@ -1,7 +1,7 @@
-use Rattle.std.proofs.Common.{rules, arith, ◌≡◌, ap, sym, ◌∙◌, map, Some, None, refl, option_map, unwrap_or, subst, max, ◌+◌}
+use Rattle.std.proofs.Common.{◌≡◌, ap, sym, ◌∙◌, subst, max, ◌+◌}
 use Rattle.std.specs.Int.{next_multiple_of}
 use Rattle.c_types.specs.Types.{plain}
-use Rattle.c_types.specs.Layouts.{IsAlignment, layout_of, no_layout, offset_after}
+use Rattle.c_types.specs.Layouts.{IsAlignment, layout_of, no_layout}
 use Rattle.c_types.specs.TagTable.{known, member_layout}
 use Rattle.c_types.specs.Placing.{pairs, placed_by}
 use Rattle.c_types.proofs.PlacingLemmas.{so_far_push, unwrap_map, union_offset, struct_offset, some_is}

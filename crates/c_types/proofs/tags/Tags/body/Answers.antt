@@ -1,7 +1,5 @@
-use Rattle.std.proofs.Common.{rules, arith, ◌≡◌, ◌<◌, ℕ, Option, Some, None, slice_get, take, map, length, ap, sym, ◌∙◌, refl, subst}
-use Rattle.std.specs.List.{take-map}
-use Rattle.c_types.specs.TagTable.{CompletedTag, known}
-use Rattle.c_types.specs.Bodies.{IsBodyOf, place_in, completed_tag}
+use Rattle.std.proofs.Common.{rules, ◌≡◌, ◌<◌, Some, None, length, refl}
+use Rattle.c_types.specs.Bodies.{place_in}
 use Rattle.c_types.proofs.Places.{known_none, place_below, body_at}
 use Rattle.c_types.proofs.tags.Tags.body.Goals as goal
 

@@ -1,6 +1,5 @@
-use Rattle.std.proofs.Common.{◌≡◌, ap, sym, ◌∙◌}
+use Rattle.std.proofs.Common.{◌∙◌}
 use Rattle.c_types.proofs.Places.{map-tag-completed}
-use Rattle.c_types.proofs.KeepLemmas
 use Rattle.c_types.proofs.tags.Tags.completed.Goals as goal
 
 pub returns : goal.returns

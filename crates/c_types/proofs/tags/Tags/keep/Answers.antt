@@ -1,8 +1,7 @@
-use Rattle.std.proofs.Common.{rules, arith, ◌≡◌, ◌<◌, ◌++◌, ◌∷◌, [], ap, sym, ◌∙◌, refl, ℕ, Some, None, map, length, subst, List}
-use Rattle.c_types.specs.declared.bodies.Body.{Body}
+use Rattle.std.proofs.Common.{arith, ◌≡◌, ◌<◌, ◌++◌, ◌∷◌, [], ap, ◌∙◌, refl, Some, None, map, length}
 use Rattle.c_types.specs.declared.tags.Made.{Made}
 use Rattle.c_types.specs.TagTable.{known}
-use Rattle.c_types.specs.Bodies.{completed_tag, place_in, AllLaid, IsPlaced, KeepsRule}
+use Rattle.c_types.specs.Bodies.{completed_tag, IsPlaced, KeepsRule}
 use Rattle.c_types.proofs.KeepLemmas.{laid_push, unknown_place, places_push, tags_push, set_info, made_below, table_of_parts, completed_push}
 use Rattle.c_types.proofs.tags.Tags.keep.Goals as goal
 
