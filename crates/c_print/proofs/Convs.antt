@@ -1,12 +1,15 @@
 -- Lengths and conversions.
-use Rattle.std.proofs.Common.{◌≡◌, ◌≢◌, ◌≤◌, ℕ, Bool, true, false, cond, List, [], ◌∷◌, ◌++◌, nat_eq, nat_le, Some, None, refl, sym, ap, ◌∙◌, subst, ⊎_elim, codes, arith}
-use Rattle.std.specs.List.{list_all}
+use Rattle.std.proofs.Common.{◌≡◌, ◌≢◌, ◌≤◌, ℕ, Bool, true, false, cond, List, [], ◌∷◌, ◌++◌, ◌&&◌, take, length, nat_eq, nat_le, Some, None, refl, sym, ap, ◌∙◌, subst, ⊎_elim, codes, arith}
+use Rattle.std.specs.List.{list_all, starts_with}
+use Rattle.std.specs.Option.{unwrap_or}
+use lib.Pointwise.{pointwise}
 use Rattle.std.proofs.lemmas.List.{append_cancel_left}
 use Rattle.std.proofs.lemmas.Bool.{eqb-true, leb-true, ne_eqb, or_cases, and_parts, false≢true}
 use Rattle.hs_base.specs.declared.ends.IntKind.{IntKind}
 use Rattle.c_print.specs.declared.length.Length.{Length}
 use Rattle.c_print.specs.declared.length.Length.TheVariants.{Absent, Hh, H, L, Ll, Z}
 use Rattle.c_print.specs.Length.{length_bytes, signed_kind, unsigned_kind, byte_kind, is_one_of, kind_of}
+use Rattle.c_print.specs.Pieces.{length_at}
 use Rattle.c_print.specs.Item.{StartsOutside, ReadsConversion}
 
 one_of_bound : (low : ℕ) (bytes : List ℕ) (b : ℕ) → list_all (nat_le low) bytes ≡ true → is_one_of bytes b ≡ true → low ≤ b
@@ -41,23 +44,27 @@ conv_is_not length conv kind is = (
   is_none : None ≡ Some kind → ⊥
   is_none e = cc
 
+-- a byte that is not its first starts no text
+not_starts : (a conv : ℕ) (more rest : List ℕ) → conv ≢ a → starts_with nat_eq (conv ∷ rest) (a ∷ more) ≡ false
+not_starts a conv more rest other = ap (λ here. here && pointwise nat_eq more (take (length more) rest)) (ne_eqb a conv (λ e. other (sym e)))
+
+abbrev first_of_these : Bool → Bool → Bool → Bool → Bool → Length
+first_of_these hh h ll l z =
+    unwrap_or (cond hh (Some Hh) (cond h (Some H) (cond ll (Some Ll) (cond l (Some L) (cond z (Some Z) None))))) Absent
+
 -- the length at the front, where a conversion follows it
-abbrev length_from : ℕ → ℕ → Length
-length_from a b =
-    cond (nat_eq a 104) (cond (nat_eq b 104) Hh H) (cond (nat_eq a 108) (cond (nat_eq b 108) Ll L) (cond (nat_eq a 122) Z Absent))
-
-abbrev length_at : List ℕ → Length
-length_at [] = Absent
-length_at (a ∷ []) = length_from a 0
-length_at (a ∷ b ∷ bytes) = length_from a b
-
-length_at_is : (length : Length) (conv : ℕ) (rest : List ℕ) → (conv ≢ 104) × (conv ≢ 108) × (conv ≢ 122) →
+pub length_at_is : (length : Length) (conv : ℕ) (rest : List ℕ) → (conv ≢ 104) × (conv ≢ 108) × (conv ≢ 122) →
     length_at (length_bytes length ++ conv ∷ rest) ≡ length
-length_at_is Absent conv [] not = rw (ne_eqb conv 104 not.0, ne_eqb conv 108 not.1, ne_eqb conv 122 not.2) refl
-length_at_is Absent conv (b ∷ rest) not = rw (ne_eqb conv 104 not.0, ne_eqb conv 108 not.1, ne_eqb conv 122 not.2) refl
+length_at_is Absent conv rest not =
+    let hh = not_starts 104 conv (codes "h") rest not.0 in
+    let h = not_starts 104 conv [] rest not.0 in
+    let ll = not_starts 108 conv (codes "l") rest not.1 in
+    let l = not_starts 108 conv [] rest not.1 in
+    let z = not_starts 122 conv [] rest not.2 in
+    λ i. first_of_these (hh i) (h i) (ll i) (l i) (z i)
 length_at_is Hh conv rest not = refl
-length_at_is H conv rest not = rw (ne_eqb conv 104 not.0) refl
-length_at_is L conv rest not = rw (ne_eqb conv 108 not.1) refl
+length_at_is H conv rest not = let hh = not_starts 104 conv [] rest not.0 in λ i. first_of_these (hh i) true false false false
+length_at_is L conv rest not = let ll = not_starts 108 conv [] rest not.1 in λ i. first_of_these false false (ll i) true false
 length_at_is Ll conv rest not = refl
 length_at_is Z conv rest not = refl
 

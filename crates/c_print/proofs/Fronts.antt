@@ -1,7 +1,8 @@
 -- The longest front of a list that passes a test.
 use Rattle.std.proofs.Common.{◌≡◌, ℕ, Bool, true, false, cond, ◌&&◌, ◌+◌, suc, List, [], ◌∷◌, ◌++◌, take, drop, refl, sym, ap, ◌∙◌, subst, arith}
 use Rattle.std.proofs.lemmas.Bool.{both_ways, and_parts}
-use Rattle.std.specs.List.{list_all, prefix_len}
+use Rattle.std.specs.List.{list_all, prefix_len, take_while}
+use Rattle.std.proofs.lemmas.List.{take-append-drop}
 use Rattle.c_print.specs.Item.{StartsOutside}
 
 module _ (test : ℕ → Bool) where
@@ -43,3 +44,10 @@ module _ (test : ℕ → Bool) where
       let more = one_front a b r s tail (and_parts (test c) (list_all test a) p).1 (and_parts (test d) (list_all test b) q).1 x y in
       let front = more.0 in
       (cc, more.1)
+
+  -- and it is what is taken
+  pub take_while_front : (bytes front behind : List ℕ) → bytes ≡ front ++ behind → list_all test front ≡ true →
+      StartsOutside test behind → take_while test bytes ≡ front
+  take_while_front bytes front behind whole passes outside =
+      (one_front (take_while test bytes) front (drop (prefix_len test bytes) bytes) behind
+      (take-append-drop (prefix_len test bytes) bytes ∙ whole) (front_passes bytes) passes (rest_starts_outside bytes) outside).0

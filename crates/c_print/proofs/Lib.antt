@@ -6,3 +6,4 @@ pub mod Pieces
 pub mod Puts
 pub mod Fields
 pub mod Numerals
+pub mod Functions

@@ -45,7 +45,7 @@ one_plain_byte b c bytes rest same = by_tests (nat_eq b 37) (nat_eq c 37) refl r
   by_tests false true x y e = let is : b ≡ 37 = cc in absurd (eqb-false b 37 x is)
   by_tests false false x y e = (cc, cc)
 
-plain_behind : (b : ℕ) (text rest : List ℕ) → All (λ c. c ≢ 0) (b ∷ text) → ¬ GoesOnPlain rest →
+pub plain_behind : (b : ℕ) (text rest : List ℕ) → All (λ c. c ≢ 0) (b ∷ text) → ¬ GoesOnPlain rest →
     ReadsPlain (flat_map plain_byte text ++ rest) text rest
 plain_behind b text rest no_zero longest = record {
   written = refl;
@@ -53,12 +53,12 @@ plain_behind b text rest no_zero longest = record {
   longest = longest;
 }
 
-plain_written : (bytes : List ℕ) (b : ℕ) (text rest : List ℕ) → ReadsPlain bytes (b ∷ text) rest →
+pub plain_written : (bytes : List ℕ) (b : ℕ) (text rest : List ℕ) → ReadsPlain bytes (b ∷ text) rest →
     bytes ≡ plain_byte b ++ (flat_map plain_byte text ++ rest)
 plain_written bytes b text rest reads = reads.written ∙ ap (λ front. front ++ rest) (flat_map-cons plain_byte b text)
     ∙ append_assoc (plain_byte b) (flat_map plain_byte text) rest
 
-some_bytes : (b : ℕ) (text : List ℕ) → b ∷ text ≢ []
+pub some_bytes : (b : ℕ) (text : List ℕ) → b ∷ text ≢ []
 some_bytes b text e = cc
 
 one_plain : (bytes text text' rest rest' : List ℕ) → ReadsPlain bytes text rest → ReadsPlain bytes text' rest' →
@@ -101,7 +101,7 @@ one_piece bytes (Item left zeros width conv kind) (Item left' zeros' width' conv
     (subst (λ l. ReadsItem l left zeros width conv kind rest) items one.2) other.2 in
     ((λ i. Item (same.same_left i) (same.same_zeros i) (same.same_width i) (same.same_conv i) (same.same_kind i)), same.same_rest)
 
-plain_byte_some : (b : ℕ) → 0 < length (plain_byte b)
+pub plain_byte_some : (b : ℕ) → 0 < length (plain_byte b)
 plain_byte_some b = by_test (nat_eq b 37) where
   by_test : (test : Bool) → 0 < length (cond test (37 ∷ 37 ∷ []) (b ∷ []))
   by_test true = omega arith

@@ -3,3 +3,4 @@ pub mod Item
 pub mod Format
 pub mod Print
 pub mod Filled
+pub mod Pieces

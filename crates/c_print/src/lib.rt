@@ -18,7 +18,7 @@ mod plain;
 mod print;
 
 pub use format::read_format;
-pub use laws::{numeral_of_its_number, one_format};
+pub use laws::{numeral_of_its_number, one_format, pieces_of_format};
 pub use piece::{FormatError, Piece};
 pub use print::{put_number, put_repeated};
 
