@@ -3,6 +3,7 @@
 ghost use Rattle.std.specs.Prelude.{◌≡◌, ◌≢◌, ◌∷◌, ℕ, List, Err, IfOk, MatchOption, All};
 ghost use Rattle.c_print.specs.declared.piece.Piece.{Piece};
 ghost use Rattle.c_print.specs.Format.{ReadsPiece, IsFormat, IsGiven};
+ghost use Rattle.c_print.specs.Pieces.{pieces_of};
 
 use crate::item::read_item;
 use crate::piece::{FormatError, Piece};
@@ -35,10 +36,11 @@ fn read_piece(alloc: Global, bytes: &[u8]) -> Result<(Piece, &[u8]), FormatError
     }
 }
 
-/// The pieces of a format. They are the only ones that spell its bytes, and [`FormatError::Bad`] comes exactly where
-/// no pieces do.
+/// The pieces of a format. They are the only ones that spell its bytes, those that `pieces_of` reads from the left, and
+/// [`FormatError::Bad`] comes exactly where no pieces do.
 pub fn read_format(alloc: Global, bytes: &[u8]) -> Result<Items<Piece>, FormatError>
     ensures pieces { IfOk result (λ pieces. IsFormat bytes.now pieces) }
+    ensures read { IfOk result (λ pieces. pieces ≡ pieces_of bytes.now) }
     ensures given { IfOk result (All IsGiven) }
     ensures bad { result ≡ Err FormatError.Bad → (pieces : List Piece) → ¬ IsFormat bytes.now pieces }
 {

@@ -1,9 +1,11 @@
-use Rattle.std.proofs.Common.{◌≡◌, List, Err, sym, ap, ◌∙◌, subst, length, ◌==◌}
-use Rattle.std.proofs.lemmas.Bool.{both_ways}
+use Rattle.std.proofs.Common.{◌≡◌, List, [], Err, sym, ap, ◌∙◌, subst, length, ◌==◌}
+use Rattle.std.proofs.lemmas.Bool.{both_ways, eqb-true}
+use Rattle.std.proofs.lemmas.List.{nil_from_length}
 use Rattle.std.proofs.lemmas.Result.{err_from_is_err_and}
 use Rattle.c_print.specs.declared.piece.Piece.{Piece}
 use Rattle.c_print.specs.declared.piece.FormatError.TheVariants as error
 use Rattle.c_print.specs.Format.{ReadsPieces}
+use Rattle.c_print.proofs.Functions.{pieces_of_format}
 use Rattle.c_print.proofs.Pieces.{all_given, piece_is_longer, reads_more, reads_no_more}
 use Rattle.c_print.proofs.format.read_format.Goals as goal
 
@@ -26,3 +28,8 @@ loop-rest-preserved c =
 
 pub returns-clause-given : goal.returns-clause-given
 returns-clause-given c = all_given c.args.bytes.now c.loop-rest.pieces c.loop-rest.rest.now c.loop-rest.invariant
+
+pub returns-clause-read : goal.returns-clause-read
+returns-clause-read c =
+    let empty : c.loop-rest.rest.now ≡ [] = nil_from_length c.loop-rest.rest.now (eqb-true (length c.loop-rest.rest.now) 0 (sym c.is_empty.ensures ∙ c.loop-rest-test.false)) in
+    sym (pieces_of_format c.args.bytes.now c.loop-rest.pieces (subst (ReadsPieces c.args.bytes.now c.loop-rest.pieces) empty c.loop-rest.invariant))
