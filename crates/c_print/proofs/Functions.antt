@@ -1,5 +1,5 @@
 -- The pieces of a format are what the function gives.
-use Rattle.std.proofs.Common.{◌≡◌, ◌≢◌, ◌<◌, ◌≤◌, ℕ, zero, suc, nat_eq, Bool, true, false, cond, List, [], ◌∷◌, ◌++◌, length, length-append, get_or, drop, refl, sym, ap, ◌∙◌, subst, arith}
+use Rattle.std.proofs.Common.{◌≡◌, ◌<◌, ◌≤◌, ℕ, zero, suc, nat_eq, Bool, true, false, cond, List, [], ◌∷◌, ◌++◌, length, length-append, drop, refl, sym, ap, ◌∙◌, arith}
 use Rattle.std.specs.List.{flat_map, take_while}
 use Rattle.std.specs.Option.{unwrap_or}
 use Rattle.std.specs.Char.{is_ascii_digit}
@@ -9,11 +9,10 @@ use Rattle.hs_base.specs.declared.ends.IntKind.{IntKind}
 use Rattle.hs_base.specs.declared.ends.IntKind.TheVariants.{I32}
 use Rattle.c_print.specs.declared.piece.Piece.{Piece}
 use Rattle.c_print.specs.declared.piece.Piece.TheVariants.{Plain, Item}
-use Rattle.c_print.specs.declared.length.Length.{Length}
 use Rattle.c_print.specs.Length.{length_bytes}
 use Rattle.c_print.specs.Item.{is_flag, StartsOutside, width_bytes, ReadsItem}
 use Rattle.c_print.specs.Format.{plain_byte, GoesOnPlain, ReadsPieces, IsFormat}
-use Rattle.c_print.specs.Pieces.{length_at, item_of, item_at, piece_at, join, pieces_from, pieces_of}
+use Rattle.c_print.specs.Pieces.{length_at, item_of, item_at, join, pieces_from, pieces_of}
 use Rattle.c_print.proofs.Widths.{value_width_bytes}
 use Rattle.c_print.proofs.Fronts.{take_while_front}
 use Rattle.c_print.proofs.Convs.{conv_is_not, length_at_is}

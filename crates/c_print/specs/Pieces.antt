@@ -1,5 +1,5 @@
 -- The pieces of a format as a function of its bytes (C99 7.19.6.1). What it gives of other bytes means nothing.
-use Rattle.std.specs.Prelude.{ℕ, zero, suc, ◌==◌, nat_eq, cond, List, [], ◌∷◌, ◌++◌, length, slice_index, drop, take_while, find, unwrap_or}
+use Rattle.std.specs.Prelude.{ℕ, suc, ◌==◌, nat_eq, cond, List, [], ◌∷◌, ◌++◌, length, slice_index, drop, take_while, find, unwrap_or}
 use Rattle.std.specs.List.{starts_with}
 use Rattle.std.specs.Char.{is_ascii_digit}
 use Rattle.std.specs.Str.Parse.{digits_value}
@@ -15,7 +15,7 @@ use Rattle.c_print.specs.Item.{is_flag}
 abbrev pub length_at : List ℕ → Length
 length_at bytes = unwrap_or (find (λ l. starts_with nat_eq bytes (length_bytes l)) (Hh ∷ H ∷ Ll ∷ L ∷ Z ∷ [])) Absent
 
--- an item and what stands behind it, given its flags, its digits, its length, and the bytes from its conversion on
+-- an item of these flags (45 is a minus sign, 48 a zero), digits and length, its conversion in front of the bytes, and what stands behind it
 abbrev pub item_of : List ℕ → List ℕ → Length → List ℕ → Piece × List ℕ
 item_of flags digits l bytes =
     let conv = slice_index bytes 0 in
