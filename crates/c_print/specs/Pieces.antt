@@ -41,11 +41,11 @@ abbrev pub join : Piece → List Piece → List Piece
 join (Plain text) (Plain more ∷ pieces) = Plain (text ++ more) ∷ pieces
 join piece pieces = piece ∷ pieces
 
--- the pieces of so many bytes at most, read from the left
+-- so many plain bytes and items at most, read from the left
 abbrev pub pieces_from : ℕ → List ℕ → List Piece
 pieces_from (suc n) (b ∷ rest) = let front = piece_at b rest in join front.0 (pieces_from n front.1)
 pieces_from n bytes = []
 
--- the pieces of a format
+-- the pieces of a format: it has no more plain bytes and items than bytes
 unfoldable pub pieces_of : List ℕ → List Piece
 pieces_of bytes = pieces_from (length bytes) bytes
