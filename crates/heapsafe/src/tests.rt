@@ -1,6 +1,8 @@
 //! The answers that are not of a run. Each row has the words, whether the text's first call fails, and then the error
 //! stream and the status.
 
+ghost use Rattle.std.specs.Prelude.{◌≡◌, IfOk};
+
 use crate::heapsafe;
 use hs_base::{Items, MemSink, MemTexts, SureSource};
 use std::alloc::Global;
@@ -12,7 +14,9 @@ fn bytes(alloc: Global, text: &[u8]) -> Result<Items<u8>, Fail> {
 }
 
 /// The file a.c with this text. Its first call fails where that is said.
-fn texts(alloc: Global, text: &[u8], fails: bool) -> Result<MemTexts, Fail> {
+fn texts(alloc: Global, text: &[u8], fails: bool) -> Result<MemTexts, Fail>
+    ensures { IfOk result (λ texts. texts.plan.faults ≡ 0) }
+{
     let mut texts = Items::new(alloc);
     texts.push((bytes(alloc, b"a.c")?, bytes(alloc, text)?))?;
     let mut calls = Items::new(alloc);
