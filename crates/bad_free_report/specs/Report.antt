@@ -11,9 +11,9 @@ use Rattle.hs_base.specs.declared.ends.Holder.TheVariants.{Global, Memory, Block
 use Rattle.hs_base.specs.declared.ends.BadFree.{BadFree as WrongFree}
 use Rattle.hs_base.specs.declared.ends.End.{End}
 use Rattle.hs_base.specs.declared.ends.End.TheVariants.{Exit, Trap, BadFree, Escape, Spent, OutOfHeap, OutOfStack, InputFault, OutputFault}
-use Rattle.core_tree.specs.declared.Core.{Core}
-use Rattle.core_tree.specs.declared.Func.{Func}
-use Rattle.core_tree.specs.declared.Reg.{Reg}
+use Rattle.first_core.specs.declared.Core.{Core}
+use Rattle.first_core.specs.declared.Func.{Func}
+use Rattle.first_core.specs.declared.Reg.{Reg}
 
 -- a text's line of that number, from 1, with the byte 10 that ends it; a line behind the last byte has none
 unfoldable pub whole_line : List ℕ → ℕ → List ℕ

@@ -3,7 +3,7 @@
 ghost use Rattle.std.specs.Prelude.{◌≡◌, option_copied};
 ghost use Rattle.bad_free_report.specs.Report.{func_name, local_name, register_name, static_name};
 
-use core_tree::Core;
+use first_core::Core;
 
 /// The name of a function.
 pub(crate) fn func_name(core: &Core, func: u32) -> &[u8]

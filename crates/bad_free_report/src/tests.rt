@@ -1,5 +1,5 @@
 use crate::{complain, complain_at, complain_labelled, leak_line, report};
-use core_tree::{Core, Func, Reg};
+use first_core::{Core, Func, Reg};
 use hs_base::{BadFree, End, Holder, Items, Leak, Line, MemSink, Reason, TrapKind};
 use std::alloc::Global;
 use std::process::Abort;

@@ -12,12 +12,12 @@ use Rattle.hs_base.specs.Cost.{call_cost}
 use Rattle.hs_base.specs.Cut.{Room, Cut, fits, cut_from, cut, ending_of}
 use Rattle.hs_base.specs.Runs as runs
 use Rattle.hs_base.proofs.Running.{after_zero, after_stays, after_grows}
-use Rattle.core_tree.specs.declared.Func.{Func}
-use Rattle.core_tree.specs.declared.Stm.{Stm}
-use Rattle.core_tree.specs.declared.Core.{Core}
-use Rattle.core_tree.specs.Sound.{IsSound, main_of}
-use Rattle.object_meaning.specs.Meaning.{Next, Run, start, new_frame, step, begun, first_call, enter, meaning, enough, statement_at}
-use Rattle.object_meaning.proofs.Stands.{begins, is_there, main_within}
+use Rattle.first_core.specs.declared.Func.{Func}
+use Rattle.first_core.specs.declared.Stm.{Stm}
+use Rattle.first_core.specs.declared.Core.{Core}
+use Rattle.first_core.specs.Sound.{IsSound, main_of}
+use Rattle.first_meaning.specs.Meaning.{Next, Run, start, new_frame, step, begun, first_call, enter, meaning, enough, statement_at}
+use Rattle.first_meaning.proofs.Stands.{begins, is_there, main_within}
 use Rattle.heapsafe.specs.Running.{with_input, room_of, Begins, RunAnswers, end_in}
 
 first_refused : (room : Room) (e : Event) (more : List Event) → fits room [] e ≡ false → cut room (e ∷ more) ≡ record { kept = []; refused = Some e }

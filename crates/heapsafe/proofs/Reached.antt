@@ -8,10 +8,10 @@ use Rattle.hs_base.specs.Trace.{Event, Ending, bytes_out, end_of}
 use Rattle.hs_base.specs.Cut.{Room, Cut, cut, ending_of}
 use Rattle.hs_base.specs.Runs as runs
 use Rattle.hs_base.proofs.Running.{after_zero, after_more}
-use Rattle.core_tree.specs.declared.Core.{Core}
-use Rattle.core_tree.specs.Sound.{IsSound}
-use Rattle.object_meaning.specs.Meaning.{Next, Run, step, begun, meaning}
-use Rattle.object_meaning.proofs.Falls.{meaning_is}
+use Rattle.first_core.specs.declared.Core.{Core}
+use Rattle.first_core.specs.Sound.{IsSound}
+use Rattle.first_meaning.specs.Meaning.{Next, Run, step, begun, meaning}
+use Rattle.first_meaning.proofs.Falls.{meaning_is}
 use Rattle.heapsafe.specs.declared.runner.Led.{Led}
 use Rattle.heapsafe.specs.declared.runner.Led.TheVariants.{On, Ended, OutputFault}
 use Rattle.heapsafe.specs.Running.{with_input, OnlyOut, Seen, Begins, RunAnswers, end_in}

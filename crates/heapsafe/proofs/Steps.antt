@@ -13,18 +13,18 @@ use Rattle.hs_base.specs.declared.ends.End.TheVariants as end
 use Rattle.hs_base.specs.Trace as trace
 use Rattle.hs_base.specs.Trace.{Event, Ending, end_of}
 use Rattle.hs_base.specs.Runs as runs
-use Rattle.core_tree.specs.declared.Atom.{Atom}
-use Rattle.core_tree.specs.declared.LibName.{LibName}
-use Rattle.core_tree.specs.declared.LibName.TheVariants.{Putchar}
-use Rattle.core_tree.specs.declared.StmKind.{StmKind}
-use Rattle.core_tree.specs.declared.StmKind.TheVariants.{Lib}
-use Rattle.core_tree.specs.declared.Stm.{Stm}
-use Rattle.core_tree.specs.declared.Func.{Func}
-use Rattle.core_tree.specs.declared.Core.{Core}
-use Rattle.core_tree.specs.Sound.{IsSound, IsStatement, HasArguments}
-use Rattle.object_meaning.specs.Meaning.{Next, number_of, put_byte, lib, act, act_at, step, statement_at, enough, body_length}
-use Rattle.object_meaning.proofs.Falls.{Falls, within, at_falls}
-use Rattle.object_meaning.proofs.Stands.{Stands, Stays, stays_at, goes_to, in_function}
+use Rattle.first_core.specs.declared.Atom.{Atom}
+use Rattle.first_core.specs.declared.LibName.{LibName}
+use Rattle.first_core.specs.declared.LibName.TheVariants.{Putchar}
+use Rattle.first_core.specs.declared.StmKind.{StmKind}
+use Rattle.first_core.specs.declared.StmKind.TheVariants.{Lib}
+use Rattle.first_core.specs.declared.Stm.{Stm}
+use Rattle.first_core.specs.declared.Func.{Func}
+use Rattle.first_core.specs.declared.Core.{Core}
+use Rattle.first_core.specs.Sound.{IsSound, IsStatement, HasArguments}
+use Rattle.first_meaning.specs.Meaning.{Next, number_of, put_byte, lib, act, act_at, step, statement_at, enough, body_length}
+use Rattle.first_meaning.proofs.Falls.{Falls, within, at_falls}
+use Rattle.first_meaning.proofs.Stands.{Stands, Stays, stays_at, goes_to, in_function}
 use Rattle.heapsafe.specs.declared.runner.Led.{Led}
 use Rattle.heapsafe.specs.declared.runner.Led.TheVariants.{On, Ended, OutputFault}
 use Rattle.heapsafe.specs.Running.{with_input, Leads, Seen, Shrinks, GoesOn, StandsOn, EndsWell, RunCounts}

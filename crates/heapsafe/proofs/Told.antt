@@ -7,8 +7,8 @@ use Rattle.hs_base.specs.declared.ends.End.{End}
 use Rattle.hs_base.specs.declared.ends.End.TheVariants as end
 use Rattle.hs_base.specs.Trace.{bytes_out}
 use Rattle.hs_base.specs.Cut.{Room, cut, ending_of}
-use Rattle.core_tree.specs.declared.Core.{Core}
-use Rattle.object_meaning.specs.Meaning.{meaning}
+use Rattle.first_core.specs.declared.Core.{Core}
+use Rattle.first_meaning.specs.Meaning.{meaning}
 use Rattle.bad_free_report.specs.Report.{end_report}
 use Rattle.heapsafe.specs.Running.{RunAnswers, RunCounts, end_in}
 use Rattle.heapsafe.specs.declared.reading.ReadError.{ReadError}

@@ -4,8 +4,8 @@ use Rattle.hs_base.specs.declared.ends.End.{End}
 use Rattle.hs_base.specs.declared.ends.End.TheVariants as end
 use Rattle.hs_base.specs.Trace.{bytes_out}
 use Rattle.hs_base.specs.Cut.{Room, cut, ending_of}
-use Rattle.core_tree.specs.declared.Core.{Core}
-use Rattle.object_meaning.specs.Meaning.{meaning}
+use Rattle.first_core.specs.declared.Core.{Core}
+use Rattle.first_meaning.specs.Meaning.{meaning}
 use Rattle.bad_free_report.specs.Report.{complaint, end_report}
 use Rattle.heapsafe.specs.Words.{Command, Run, command_of}
 use Rattle.heapsafe.specs.Reading.{most_bytes}

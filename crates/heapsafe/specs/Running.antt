@@ -7,10 +7,10 @@ use Rattle.hs_base.specs.State.{State}
 use Rattle.hs_base.specs.Trace.{Event, Out, In, New, Gone, Enter, Leave, Ending, bytes_out, end_of}
 use Rattle.hs_base.specs.Cut.{Room, Cut, cut, ending_of}
 use Rattle.hs_base.specs.Runs as runs
-use Rattle.core_tree.specs.declared.Core.{Core}
-use Rattle.core_tree.specs.declared.StmKind.{StmKind}
-use Rattle.core_tree.specs.declared.StmKind.TheVariants.{Lib}
-use Rattle.object_meaning.specs.Meaning.{Next, statement_at, begun, meaning, enough}
+use Rattle.first_core.specs.declared.Core.{Core}
+use Rattle.first_core.specs.declared.StmKind.{StmKind}
+use Rattle.first_core.specs.declared.StmKind.TheVariants.{Lib}
+use Rattle.first_meaning.specs.Meaning.{Next, statement_at, begun, meaning, enough}
 use Rattle.heapsafe.specs.declared.runner.Led.{Led}
 use Rattle.heapsafe.specs.declared.runner.Led.TheVariants.{On, Ended, OutputFault}
 

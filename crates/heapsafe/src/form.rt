@@ -1,12 +1,12 @@
 //! The core of a text, for the texts that are built so far.
 
 ghost use Rattle.std.specs.Prelude.{◌≡◌, IfOk};
-ghost use Rattle.core_tree.specs.declared.Core.{Core};
-ghost use Rattle.core_tree.specs.Sound.{IsSound};
+ghost use Rattle.first_core.specs.declared.Core.{Core};
+ghost use Rattle.first_core.specs.Sound.{IsSound};
 ghost use Rattle.heapsafe.specs.Form.{IsBuilt};
 ghost use Rattle.heapsafe.specs.declared.form.FormError.TheVariants.{NotBuilt};
 
-use core_tree::Core;
+use first_core::Core;
 use std::alloc::Global;
 use thiserror::Error;
 

@@ -6,7 +6,7 @@
 #![tactic(auto)]
 
 ghost use Rattle.std.specs.Prelude.{◌≡◌, ◌≢◌, ◌+◌, ◌<◌, ◌^◌, ℕ, List, Some, None, MatchBool, map};
-ghost use Rattle.core_tree.specs.Sound.{IsSound};
+ghost use Rattle.first_core.specs.Sound.{IsSound};
 ghost use Rattle.heapsafe.specs.Words.{command_of};
 ghost use Rattle.bad_free_report.specs.Report.{end_report};
 ghost use Rattle.heapsafe.specs.Answer.{Answers, AnswersRun, AnswersFile, status_of};
@@ -19,7 +19,7 @@ mod runner;
 mod words;
 
 use bad_free_report::report;
-use core_tree::Core;
+use first_core::Core;
 use form::{FormError, core_of};
 use hs_base::{End, Limits, Sink, Source, Texts};
 use reading::{ReadError, read_text};

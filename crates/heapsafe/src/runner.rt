@@ -5,13 +5,13 @@ ghost use Rattle.hs_base.specs.Numbers.{low_bits, wrapped};
 ghost use Rattle.hs_base.specs.Trace.{Event};
 ghost use Rattle.hs_base.specs.Cost.{call_cost};
 ghost use Rattle.hs_base.specs.Cut.{Room};
-ghost use Rattle.core_tree.specs.Sound.{HasArguments, IsSound};
-ghost use Rattle.object_meaning.specs.Meaning.{start, act, statement_at, step, put_byte, number_of, arithmetic, compared, truth, lib};
+ghost use Rattle.first_core.specs.Sound.{HasArguments, IsSound};
+ghost use Rattle.first_meaning.specs.Meaning.{start, act, statement_at, step, put_byte, number_of, arithmetic, compared, truth, lib};
 ghost use Rattle.heapsafe.specs.Running.{Leads, Seen, Counted, Shrinks, RunAnswers, RunCounts, GoesOn, StandsOn, EndsWell, Begins, room_of, IsAlone, with_input};
 
 mod machine;
 
-use core_tree::{Atom, BinOp, CmpOp, Core, LibName, StmKind};
+use first_core::{Atom, BinOp, CmpOp, Core, LibName, StmKind};
 use hs_base::{End, IntKind, Limits, NoMemory, Sink, Value, put_all};
 use machine::{Machine, number};
 use std::alloc::Global;

@@ -1,7 +1,7 @@
 use Rattle.std.proofs.Common.{ℕ, ◌≡◌, [], inl, inr, refl, sym, ap, ◌∙◌, subst}
 use Rattle.heapsafe.specs.Answer.{AnswersFile, no_memory, not_built}
 use Rattle.std.specs.Prelude.{Err}
-use Rattle.core_tree.specs.declared.Core.{Core}
+use Rattle.first_core.specs.declared.Core.{Core}
 use Rattle.heapsafe.specs.Form.{IsBuilt}
 use Rattle.heapsafe.specs.Saying.{shown_of, unread}
 use Rattle.heapsafe.proofs.Told.{gives_said, says_as, unread_is, unread_out, none_is}

@@ -1,10 +1,10 @@
 //! The state of a run.
 
 ghost use Rattle.std.specs.Prelude.{◌≡◌, ℕ, [], ◌+◌, ◌<◌, ◌^◌, length, IfOk, IfSome, IsTrue, false, option_copied, Some, OnErr};
-ghost use Rattle.core_tree.specs.Sound.{is_main, main_of};
-ghost use Rattle.object_meaning.specs.Meaning.{value_of, number_in, number_of, at_point, onward, write, write_to, statement_in, statement_at, start};
+ghost use Rattle.first_core.specs.Sound.{is_main, main_of};
+ghost use Rattle.first_meaning.specs.Meaning.{value_of, number_in, number_of, at_point, onward, write, write_to, statement_in, statement_at, start};
 
-use core_tree::{Atom, Core, Func, Stm};
+use first_core::{Atom, Core, Func, Stm};
 use hs_base::{NoMemory, Value};
 use std::alloc::Global;
 use std::marker::Model;

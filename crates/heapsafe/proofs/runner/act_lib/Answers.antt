@@ -2,8 +2,8 @@ use Rattle.std.proofs.Common.{ℕ, ℤ, refl, rules, arith, ◌≡◌, length}
 use mir.Syntax.{w128}
 use mir.Val.{SFits}
 use Rattle.std.proofs.lemmas.Int.{to_z-of_z}
-use Rattle.core_tree.specs.declared.Atom.TheVariants.{Reg}
-use Rattle.object_meaning.specs.Meaning.{number_of}
+use Rattle.first_core.specs.declared.Atom.TheVariants.{Reg}
+use Rattle.first_meaning.specs.Meaning.{number_of}
 use Rattle.heapsafe.specs.Running.{with_input}
 use Rattle.heapsafe.proofs.Steps.{lib_one, int_is}
 use Rattle.heapsafe.proofs.runner.act_lib.Goals as goal

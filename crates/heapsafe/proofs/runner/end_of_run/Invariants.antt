@@ -1,6 +1,6 @@
 use Rattle.std.proofs.Common.{◌≡◌, ℕ, List, Some, Ok, IsSome}
 use Rattle.hs_base.specs.Cut.{Room}
-use Rattle.object_meaning.specs.Meaning.{enough, statement_at}
+use Rattle.first_meaning.specs.Meaning.{enough, statement_at}
 use Rattle.heapsafe.specs.Running.{Begins}
 use Rattle.heapsafe.proofs.Reached.{Reached}
 use Rattle.heapsafe.proofs.runner.end_of_run.Given as goal

@@ -1,5 +1,5 @@
 use Rattle.std.proofs.Common.{ℕ, [], refl}
-use Rattle.core_tree.specs.declared.StmKind.TheVariants.{Lib}
+use Rattle.first_core.specs.declared.StmKind.TheVariants.{Lib}
 use Rattle.heapsafe.specs.Running.{with_input}
 use Rattle.heapsafe.proofs.Steps.{step_is, seen_on, seen_end, well_alone, shrinks_alone, shrinks_on, stands_alone, stands_on, has_arguments}
 use Rattle.heapsafe.proofs.runner.one_step.Goals as goal

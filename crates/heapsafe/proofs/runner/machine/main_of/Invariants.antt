@@ -1,5 +1,5 @@
 use Rattle.std.proofs.Common.{◌≡◌, ◌+◌, drop}
-use Rattle.core_tree.specs.Sound.{first_main}
+use Rattle.first_core.specs.Sound.{first_main}
 use Rattle.heapsafe.proofs.runner.machine.main_of.Given as goal
 
 abbrev pub invariant-loop-func : goal.invariant-loop-func

@@ -1,8 +1,9 @@
-//! The core language: what a C text is elaborated to, and what the object meaning speaks of.
+//! The core language of the first texts: `int main(void)` with int locals. It stands beside the whole core language until
+//! the elaboration of every text takes its place.
 //!
 //! A function's body is a list of statements, and a point is an index into it. A statement works on registers, which are
 //! numbered within their function, and on constants. Only [`StmKind::Loop`] goes back. `specs/Sound.antt` says which
-//! cores are sound; the meaning of a statement stands in the crate `object_meaning`.
+//! cores are sound; the meaning of a statement stands in the crate `first_meaning`.
 #![tactic(auto)]
 
 use hs_base::{IntKind, Items, Line};

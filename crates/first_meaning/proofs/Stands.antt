@@ -7,16 +7,16 @@ use Rattle.std.proofs.lemmas.List.Sums.{sum_by-cons}
 use Rattle.hs_base.specs.State.{State, Frame}
 use Rattle.hs_base.specs.Trace.{Event, Ending, Exit, Spent, Dangling}
 use Rattle.hs_base.specs.Runs as runs
-use Rattle.core_tree.specs.declared.Atom.{Atom}
-use Rattle.core_tree.specs.declared.LibName.{LibName}
-use Rattle.core_tree.specs.declared.LibName.TheVariants.{Putchar}
-use Rattle.core_tree.specs.declared.StmKind.{StmKind}
-use Rattle.core_tree.specs.declared.StmKind.TheVariants.{Set, Bin, Cmp, Jump, Zero, Loop, Lib, Return}
-use Rattle.core_tree.specs.declared.Stm.{Stm}
-use Rattle.core_tree.specs.declared.Func.{Func}
-use Rattle.core_tree.specs.declared.Core.{Core}
-use Rattle.core_tree.specs.Sound.{IsSound, IsFunction, IsStatement, HasArguments, is_main, first_main, main_of}
-use Rattle.object_meaning.specs.Meaning.{Next, Run, goes, stops, value_of, number_of, at_point, onward, with_step, branch, put_byte, lib, returned, act, act_at, step, statement_in, statement_at, start, new_frame, begun, first_call, meaning, enough}
+use Rattle.first_core.specs.declared.Atom.{Atom}
+use Rattle.first_core.specs.declared.LibName.{LibName}
+use Rattle.first_core.specs.declared.LibName.TheVariants.{Putchar}
+use Rattle.first_core.specs.declared.StmKind.{StmKind}
+use Rattle.first_core.specs.declared.StmKind.TheVariants.{Set, Bin, Cmp, Jump, Zero, Loop, Lib, Return}
+use Rattle.first_core.specs.declared.Stm.{Stm}
+use Rattle.first_core.specs.declared.Func.{Func}
+use Rattle.first_core.specs.declared.Core.{Core}
+use Rattle.first_core.specs.Sound.{IsSound, IsFunction, IsStatement, HasArguments, is_main, first_main, main_of}
+use Rattle.first_meaning.specs.Meaning.{Next, Run, goes, stops, value_of, number_of, at_point, onward, with_step, branch, put_byte, lib, returned, act, act_at, step, statement_in, statement_at, start, new_frame, begun, first_call, meaning, enough}
 
 -- a frame is at a statement
 abbrev pub Stands : Core → Frame → Type 0

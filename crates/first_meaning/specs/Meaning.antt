@@ -11,21 +11,21 @@ use Rattle.hs_base.specs.State.{State, Frame}
 use Rattle.hs_base.specs.Trace.{Event, Out, Enter, Ending, Exit, Spent, Dangling}
 use Rattle.hs_base.specs.Cost.{call_cost}
 use Rattle.hs_base.specs.Runs as runs
-use Rattle.core_tree.specs.declared.Atom.{Atom}
-use Rattle.core_tree.specs.declared.Atom.TheVariants.{Reg, Int}
-use Rattle.core_tree.specs.declared.BinOp.{BinOp}
-use Rattle.core_tree.specs.declared.BinOp.TheVariants.{Add, Sub, Mul}
-use Rattle.core_tree.specs.declared.CmpOp.{CmpOp}
-use Rattle.core_tree.specs.declared.CmpOp.TheVariants.{Eq, Ne, Lt, Gt, Le, Ge}
-use Rattle.core_tree.specs.declared.LibName.{LibName}
-use Rattle.core_tree.specs.declared.LibName.TheVariants.{Putchar}
-use Rattle.core_tree.specs.declared.StmKind.{StmKind}
-use Rattle.core_tree.specs.declared.StmKind.TheVariants.{Set, Bin, Cmp, Jump, Zero, Loop, Lib, Return}
-use Rattle.core_tree.specs.declared.Stm.{Stm}
-use Rattle.core_tree.specs.declared.Func.{Func}
-use Rattle.core_tree.specs.declared.Core.{Core}
-use Rattle.core_tree.specs.declared.Reg as reg
-use Rattle.core_tree.specs.Sound.{main_of}
+use Rattle.first_core.specs.declared.Atom.{Atom}
+use Rattle.first_core.specs.declared.Atom.TheVariants.{Reg, Int}
+use Rattle.first_core.specs.declared.BinOp.{BinOp}
+use Rattle.first_core.specs.declared.BinOp.TheVariants.{Add, Sub, Mul}
+use Rattle.first_core.specs.declared.CmpOp.{CmpOp}
+use Rattle.first_core.specs.declared.CmpOp.TheVariants.{Eq, Ne, Lt, Gt, Le, Ge}
+use Rattle.first_core.specs.declared.LibName.{LibName}
+use Rattle.first_core.specs.declared.LibName.TheVariants.{Putchar}
+use Rattle.first_core.specs.declared.StmKind.{StmKind}
+use Rattle.first_core.specs.declared.StmKind.TheVariants.{Set, Bin, Cmp, Jump, Zero, Loop, Lib, Return}
+use Rattle.first_core.specs.declared.Stm.{Stm}
+use Rattle.first_core.specs.declared.Func.{Func}
+use Rattle.first_core.specs.declared.Core.{Core}
+use Rattle.first_core.specs.declared.Reg as reg
+use Rattle.first_core.specs.Sound.{main_of}
 
 abbrev pub Next : Type 0
 Next = runs.Next State Event Ending

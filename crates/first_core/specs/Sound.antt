@@ -1,15 +1,15 @@
 -- Which cores are sound: what each statement names exists, only loops go back, and no path leads past a body's end.
 use Rattle.std.specs.Prelude.{◌≡◌, ◌<◌, ◌≤◌, ◌+◌, ◌^◌, ℕ, pos, neg_ℤ, ◌≤ℤ◌, ◌<ℤ◌, List, [], ◌∷◌, Option, Some, None, length, slice_get, All, Bool, IfSome, cond, count_by, codes}
 use Rattle.std.specs.Str.{bytes_eq}
-use Rattle.core_tree.specs.declared.Atom.{Atom}
-use Rattle.core_tree.specs.declared.Atom.TheVariants.{Reg, Int}
-use Rattle.core_tree.specs.declared.StmKind.{StmKind}
-use Rattle.core_tree.specs.declared.StmKind.TheVariants.{Set, Bin, Cmp, Jump, Zero, Loop, Lib, Return}
-use Rattle.core_tree.specs.declared.LibName.{LibName}
-use Rattle.core_tree.specs.declared.LibName.TheVariants.{Putchar}
-use Rattle.core_tree.specs.declared.Stm.{Stm}
-use Rattle.core_tree.specs.declared.Func.{Func}
-use Rattle.core_tree.specs.declared.Core.{Core}
+use Rattle.first_core.specs.declared.Atom.{Atom}
+use Rattle.first_core.specs.declared.Atom.TheVariants.{Reg, Int}
+use Rattle.first_core.specs.declared.StmKind.{StmKind}
+use Rattle.first_core.specs.declared.StmKind.TheVariants.{Set, Bin, Cmp, Jump, Zero, Loop, Lib, Return}
+use Rattle.first_core.specs.declared.LibName.{LibName}
+use Rattle.first_core.specs.declared.LibName.TheVariants.{Putchar}
+use Rattle.first_core.specs.declared.Stm.{Stm}
+use Rattle.first_core.specs.declared.Func.{Func}
+use Rattle.first_core.specs.declared.Core.{Core}
 
 -- an operand's register exists, or its number is one that a register can hold
 abbrev pub IsAtom : ℕ → Atom → Type 0

@@ -1,6 +1,6 @@
 //! What holds of every run.
 
-ghost use Rattle.object_meaning.specs.Laws.{RunsEnd};
+ghost use Rattle.first_meaning.specs.Laws.{RunsEnd};
 
 /// The meaning of a sound core has ended, for every input and number of steps.
 pub fn run_ends()

@@ -1,9 +1,9 @@
 -- Laws of runs.
 use Rattle.std.specs.Prelude.{◌≡◌, ◌≢◌, ℕ, List, Some}
 use Rattle.hs_base.specs.Trace.{Ending, Dangling}
-use Rattle.core_tree.specs.declared.Core.{Core}
-use Rattle.core_tree.specs.Sound.{IsSound}
-use Rattle.object_meaning.specs.Meaning.{meaning}
+use Rattle.first_core.specs.declared.Core.{Core}
+use Rattle.first_core.specs.Sound.{IsSound}
+use Rattle.first_meaning.specs.Meaning.{meaning}
 
 -- the run of a sound core has ended, and not by reading a pointer to a dead object or for want of a statement
 abbrev pub RunsEnd : Type 0

@@ -8,16 +8,16 @@ use Rattle.hs_base.specs.State.{State, Frame}
 use Rattle.hs_base.specs.Trace.{Event, Ending}
 use Rattle.hs_base.specs.Runs as runs
 use Rattle.hs_base.proofs.Running.{after_more, after_stays, one_end}
-use Rattle.core_tree.specs.declared.Atom.{Atom}
-use Rattle.core_tree.specs.declared.LibName.{LibName}
-use Rattle.core_tree.specs.declared.LibName.TheVariants.{Putchar}
-use Rattle.core_tree.specs.declared.StmKind.{StmKind}
-use Rattle.core_tree.specs.declared.StmKind.TheVariants.{Set, Bin, Cmp, Jump, Zero, Loop, Lib, Return}
-use Rattle.core_tree.specs.declared.Stm.{Stm}
-use Rattle.core_tree.specs.declared.Func.{Func}
-use Rattle.core_tree.specs.declared.Core.{Core}
-use Rattle.core_tree.specs.Sound.{IsSound, IsFunction, IsStatement, IsAhead}
-use Rattle.object_meaning.specs.Meaning.{Next, Run, goes, stops, value_of, number_of, at_point, onward, write, with_step, is_zero, branch, put_byte, lib, returned, act, act_at, step, statement_in, statement_at, begun, meaning, body_length, code_left, size, enough}
+use Rattle.first_core.specs.declared.Atom.{Atom}
+use Rattle.first_core.specs.declared.LibName.{LibName}
+use Rattle.first_core.specs.declared.LibName.TheVariants.{Putchar}
+use Rattle.first_core.specs.declared.StmKind.{StmKind}
+use Rattle.first_core.specs.declared.StmKind.TheVariants.{Set, Bin, Cmp, Jump, Zero, Loop, Lib, Return}
+use Rattle.first_core.specs.declared.Stm.{Stm}
+use Rattle.first_core.specs.declared.Func.{Func}
+use Rattle.first_core.specs.declared.Core.{Core}
+use Rattle.first_core.specs.Sound.{IsSound, IsFunction, IsStatement, IsAhead}
+use Rattle.first_meaning.specs.Meaning.{Next, Run, goes, stops, value_of, number_of, at_point, onward, write, with_step, is_zero, branch, put_byte, lib, returned, act, act_at, step, statement_in, statement_at, begun, meaning, body_length, code_left, size, enough}
 
 -- where the run goes on, less is left
 abbrev pub Falls : Core → State → Next → Type 0
