@@ -16,8 +16,13 @@ use Rattle.heapsafe.specs.declared.reading.ReadError.TheVariants.{Fault, TooLong
 use Rattle.heapsafe.specs.Words.{Command}
 use Rattle.heapsafe.specs.Form.{IsBuilt}
 use Rattle.heapsafe.specs.Reading.{Reads, ReadCounts, most_bytes}
-use Rattle.heapsafe.specs.Answer.{Shown, AnswersRun, AnswersText, AnswersFile, AnswersCommand, usage, status_of, default_room, no_memory, text_too_long, not_built}
-use Rattle.heapsafe.specs.Saying.{Says, Gives, Faults, unread}
+use Rattle.heapsafe.specs.Answer.{Shown, AnswersRun, AnswersTokens, AnswersText, AnswersFile, AnswersCommand, usage, status_of, default_room, no_memory, text_too_long, not_built, bad_place}
+use Rattle.heapsafe.specs.Saying.{Says, Gives, Faults, unread, untokened}
+use Rattle.c_lexer.specs.declared.token.Token.{Token}
+use Rattle.c_lexer.specs.declared.token.LexKind.{LexKind}
+use Rattle.c_lexer.specs.declared.token.LexError.{LexError}
+use Rattle.c_lexer.specs.declared.token.LexError.TheVariants as lex
+use Rattle.c_lexer.specs.Tokens.{IsOnlyAnswer}
 
 -- what was said is the answer's, where no write failed
 pub gives : (Is : Shown → Type 0) (s : Shown) (o e : List ℕ) (out err err' : Option (List ℕ)) (f f' result : ℕ) → (Is s ⊎ (s ≡ no_memory)) → out ≡ Some (o ++ s.out) → err ≡ Some e → f' ≡ f → Says err err' f f' s.err s.status result → Gives Is o e out err' result
@@ -91,10 +96,77 @@ pub short_is : (file text input : List ℕ) (steps : ℕ) (a : Shown) → length
 short_is file text input steps a short is =
     subst (λ b. MatchBool b (a ≡ text_too_long file) (AnswersText file text input steps a)) (sym (le-ltb most_bytes (length text) short)) is
 
--- a text without a core
-pub none_is : (file text read input : List ℕ) (steps : ℕ) (a : Shown) → (read ≡ text) × (length text ≤ most_bytes) → ((core : Core) → IsBuilt read core → ⊥) → a ≡ not_built file → AnswersFile file text input steps a
-none_is file text read input steps a same none is =
-    short_is file text input steps a same.1 (record { built = λ core b. absurd (none core (subst (λ t. IsBuilt t core) (sym same.0) b)); unbuilt = λ h. is })
+-- a text with these tokens, without a core
+pub none_is : (file text : List ℕ) (tokens : List Token) (input : List ℕ) (steps : ℕ) → ((core : Core) → IsBuilt text tokens core → ⊥) → AnswersTokens file text tokens input steps (not_built file)
+none_is file text tokens input steps none = record { built = λ core b. absurd (none core b); unbuilt = λ h. refl }
+
+-- a text with these tokens and this core alone
+run_is : (file text : List ℕ) (tokens : List Token) (core : Core) (input : List ℕ) (steps : ℕ) (a : Shown) → IsBuilt text tokens core → ((other : Core) → IsBuilt text tokens other → other ≡ core) → AnswersRun file text core input steps a → AnswersTokens file text tokens input steps a
+run_is file text tokens core input steps a is only ran =
+    record { built = λ other b. subst (λ (x : Core). AnswersRun file text x input steps a) (sym (only other b)) ran; unbuilt = λ none. absurd (none core is) }
+
+-- an answer of one sort that is one of another
+pub gives_more : (Is Is' : Shown → Type 0) → ((s : Shown) → Is s → Is' s) → (o e : List ℕ) (out err : Option (List ℕ)) (result : ℕ) → Gives Is o e out err result → Gives Is' o e out err result
+gives_more Is Is' more o e out err result g =
+    record { shown = g.shown; is = ⊎_elim (λ h. inl (more g.shown h)) (λ h. inr h) g.is; out_took = g.out_took; err_took = g.err_took; status = g.status }
+
+pub gives_tokens : (file text : List ℕ) (tokens : List Token) (core : Core) (input : List ℕ) (steps : ℕ) (o e : List ℕ) (out err : Option (List ℕ)) (result : ℕ) → IsBuilt text tokens core → ((other : Core) → IsBuilt text tokens other → other ≡ core) → Gives (AnswersRun file text core input steps) o e out err result → Gives (AnswersTokens file text tokens input steps) o e out err result
+gives_tokens file text tokens core input steps o e out err result is only g =
+    gives_more (AnswersRun file text core input steps) (AnswersTokens file text tokens input steps) (λ s ran. run_is file text tokens core input steps s is only ran) o e out err result g
+
+-- an answer of the lexer that is another
+abbrev given : List Token → Result (List Token) LexError
+given tokens = Ok tokens
+
+abbrev refused : LexError → Result (List Token) LexError
+refused error = Err error
+
+ok_is : (tokens others : List Token) → given tokens ≡ given others → others ≡ tokens
+ok_is tokens others e = cc
+
+bad_is : (kind kind' : LexKind) (line line' : ℕ) → refused (lex.Bad kind line) ≡ refused (lex.Bad kind' line') → (kind ≡ kind') × (line ≡ line')
+bad_is kind kind' line line' e = (cc, cc)
+
+-- a text that has these tokens
+tokens_is : (file text : List ℕ) (tokens : List Token) (input : List ℕ) (steps : ℕ) (a : Shown) → IsOnlyAnswer text (Ok tokens) → AnswersTokens file text tokens input steps a → AnswersText file text input steps a
+tokens_is file text tokens input steps a only is = record {
+  refused = λ kind line bad. ⊎_elim (λ (h : given tokens ≡ refused (lex.Bad kind line)). absurd cc) (λ (h : given tokens ≡ refused lex.NoMemory). absurd cc) (only (Err (lex.Bad kind line)) bad);
+  lexed = λ others has. ⊎_elim (λ h. subst (λ ts. AnswersTokens file text ts input steps a) (sym (ok_is tokens others h)) is) (λ (h : given tokens ≡ refused lex.NoMemory). absurd cc) (only (Ok others) has);
+}
+
+-- a text that has no tokens
+pub untokened_is : (error : LexError) (file text input : List ℕ) (steps : ℕ) → IsOnlyAnswer text (Err error) → AnswersText file text input steps (untokened error file text) ⊎ (untokened error file text ≡ no_memory)
+untokened_is (lex.Bad kind line) file text input steps only = inl (record {
+  refused = λ kind' line' bad. ⊎_elim
+      (λ h. let same = bad_is kind kind' line line' h in ap (λ (k : LexKind). bad_place file text k line) same.0 ∙ ap (λ l. bad_place file text kind' l) same.1)
+      (λ (h : refused (lex.Bad kind line) ≡ refused lex.NoMemory). absurd cc)
+      (only (Err (lex.Bad kind' line')) bad);
+  lexed = λ tokens has. ⊎_elim (λ (h : refused (lex.Bad kind line) ≡ given tokens). absurd cc) (λ (h : refused (lex.Bad kind line) ≡ refused lex.NoMemory). absurd cc) (only (Ok tokens) has);
+})
+untokened_is lex.NoMemory file text input steps only = inr refl
+
+pub untokened_out : (error : LexError) (file text : List ℕ) → (untokened error file text).out ≡ []
+untokened_out (lex.Bad kind line) file text = refl
+untokened_out lex.NoMemory file text = refl
+
+-- a text that was read and is refused for its tokens
+pub untokened_file : (error : LexError) (file told read input : List ℕ) (steps : ℕ) → (read ≡ told) × (length told ≤ most_bytes) → IsOnlyAnswer read (Err error) → AnswersFile file told input steps (untokened error file read) ⊎ (untokened error file read ≡ no_memory)
+untokened_file error file told read input steps same only =
+    ⊎_elim
+    (λ h. inl (short_is file told input steps (untokened error file read) same.1 (subst (λ t. AnswersText file t input steps (untokened error file read)) same.0 h)))
+    (λ h. inr h)
+    (untokened_is error file read input steps only)
+
+-- a text that was read and has tokens
+pub gives_file : (file told read : List ℕ) (tokens : List Token) (input : List ℕ) (steps : ℕ) (o e : List ℕ) (out err : Option (List ℕ)) (result : ℕ) → (read ≡ told) × (length told ≤ most_bytes) → IsOnlyAnswer read (Ok tokens) → Gives (AnswersTokens file read tokens input steps) o e out err result → Gives (AnswersFile file told input steps) o e out err result
+gives_file file told read tokens input steps o e out err result same only g =
+    gives_more (AnswersTokens file read tokens input steps) (AnswersFile file told input steps)
+    (λ s is. short_is file told input steps s same.1 (subst (λ t. AnswersText file t input steps s) same.0 (tokens_is file read tokens input steps s only is)))
+    o e out err result g
+
+-- the count of the texts stayed
+pub faults_as : (t t' o o' e e' result : ℕ) → t' ≡ t → Faults t t o o' e e' result → Faults t t' o o' e e' result
+faults_as t t' o o' e e' result same h = subst (λ n. Faults t n o o' e e' result) (sym same) h
 
 -- the same in other words
 pub says_as : (r s : Shown) → r ≡ s → (err err' : Option (List ℕ)) (f f' result : ℕ) → Says err err' f f' r.err r.status result → Says err err' f f' s.err s.status result

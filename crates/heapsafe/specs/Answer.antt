@@ -1,12 +1,16 @@
 -- What the program writes and answers for its words.
-use Rattle.std.specs.Prelude.{◌≡◌, ◌⊎◌, ℕ, nat_lt, List, [], length, Option, Some, None, MatchBool, codes}
+use Rattle.std.specs.Prelude.{◌≡◌, ◌⊎◌, ◌++◌, ℕ, nat_lt, List, [], length, Option, Some, None, MatchBool, codes}
 use Rattle.hs_base.specs.declared.ends.End.{End}
 use Rattle.hs_base.specs.declared.ends.End.TheVariants as end
 use Rattle.hs_base.specs.Trace.{bytes_out}
 use Rattle.hs_base.specs.Cut.{Room, cut, ending_of}
 use Rattle.first_core.specs.declared.Core.{Core}
 use Rattle.first_meaning.specs.Meaning.{meaning}
-use Rattle.bad_free_report.specs.Report.{complaint, end_report}
+use Rattle.bad_free_report.specs.Report.{complaint, complaint_at, end_report}
+use Rattle.c_lexer.specs.declared.token.Token.{Token}
+use Rattle.c_lexer.specs.declared.token.LexKind.{LexKind}
+use Rattle.c_lexer.specs.Words.{word_of}
+use Rattle.c_lexer.specs.Tokens.{HasTokens, HasBadPlace}
 use Rattle.heapsafe.specs.Words.{Command, Run, command_of}
 use Rattle.heapsafe.specs.Reading.{most_bytes}
 use Rattle.heapsafe.specs.Running.{end_in}
@@ -22,6 +26,10 @@ pub record Shown : Type 0 where
 abbrev pub refusal : List ℕ → List ℕ → ℕ → Shown
 refusal name words status = record { out = []; err = complaint name words; status = status }
 
+-- the same, of a line of the text, which is shown below it
+abbrev pub refusal_at : List ℕ → List ℕ → ℕ → List ℕ → ℕ → Shown
+refusal_at file text line words status = record { out = []; err = complaint_at file line words text; status = status }
+
 abbrev pub usage : Shown
 usage = refusal (codes "heapsafe") (codes "bad command line") 120
 
@@ -30,6 +38,9 @@ text_too_long file = refusal file (codes "text too long") 122
 
 abbrev pub no_memory : Shown
 no_memory = refusal (codes "heapsafe") (codes "no memory") 134
+
+abbrev pub bad_place : List ℕ → List ℕ → LexKind → ℕ → Shown
+bad_place file text kind line = refusal_at file text line (codes "lex: " ++ word_of kind) 123
 
 abbrev pub not_built : List ℕ → Shown
 not_built file = refusal file (codes "not built") 135
@@ -57,10 +68,15 @@ AnswersRun file text core input steps a =
     let kept = cut default_room run.trace in
     (e : End) × (end_in (ending_of kept.refused run.ended) ≡ Some e) × (a ≡ record { out = bytes_out kept.kept; err = end_report core file text e; status = status_of e })
 
--- a text that has a core is run, and one that has none is not built
+-- a text with these tokens that has a core is run, and one that has none is not built
+pub record AnswersTokens (file text : List ℕ) (tokens : List Token) (input : List ℕ) (steps : ℕ) (a : Shown) : Type 0 where
+  pub built : (core : Core) → IsBuilt text tokens core → AnswersRun file text core input steps a
+  pub unbuilt : ((core : Core) → IsBuilt text tokens core → ⊥) → a ≡ not_built file
+
+-- a text without tokens is refused, by its first bad place
 pub record AnswersText (file text input : List ℕ) (steps : ℕ) (a : Shown) : Type 0 where
-  pub built : (core : Core) → IsBuilt text core → AnswersRun file text core input steps a
-  pub unbuilt : ((core : Core) → IsBuilt text core → ⊥) → a ≡ not_built file
+  pub refused : (kind : LexKind) (line : ℕ) → HasBadPlace text kind line → a ≡ bad_place file text kind line
+  pub lexed : (tokens : List Token) → HasTokens text tokens → AnswersTokens file text tokens input steps a
 
 -- a text that is too long is refused as such
 abbrev pub AnswersFile : List ℕ → List ℕ → List ℕ → ℕ → Shown → Type 0

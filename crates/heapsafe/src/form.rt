@@ -6,6 +6,7 @@ ghost use Rattle.first_core.specs.Sound.{IsSound};
 ghost use Rattle.heapsafe.specs.Form.{IsBuilt};
 ghost use Rattle.heapsafe.specs.declared.form.FormError.TheVariants.{NotBuilt};
 
+use c_lexer::Token;
 use first_core::Core;
 use std::alloc::Global;
 use thiserror::Error;
@@ -19,11 +20,12 @@ pub(crate) enum FormError {
     NoMemory,
 }
 
-/// The core of a text.
-pub(crate) fn core_of(_alloc: Global, _text: &[u8]) -> Result<Core, FormError>
-    ensures core { IfOk result (λ core. IsBuilt _text.now core) }
+/// The core of a text with these tokens.
+pub(crate) fn core_of(_alloc: Global, _text: &[u8], _tokens: &[Token]) -> Result<Core, FormError>
+    ensures core { IfOk result (λ core. (other : Core) → IsBuilt _text.now _tokens.now other → other ≡ core) }
+    ensures built { IfOk result (λ core. IsBuilt _text.now _tokens.now core) }
     ensures sound { IfOk result (λ core. IsSound core) }
-    ensures none { result ≡ Err NotBuilt → (core : Core) → IsBuilt _text.now core → ⊥ }
+    ensures none { result ≡ Err NotBuilt → (core : Core) → IsBuilt _text.now _tokens.now core → ⊥ }
 {
     Err(FormError::NotBuilt)
 }

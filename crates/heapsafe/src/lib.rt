@@ -9,7 +9,7 @@ ghost use Rattle.std.specs.Prelude.{◌≡◌, ◌≢◌, ◌+◌, ◌<◌, ◌^
 ghost use Rattle.first_core.specs.Sound.{IsSound};
 ghost use Rattle.heapsafe.specs.Words.{command_of};
 ghost use Rattle.bad_free_report.specs.Report.{end_report};
-ghost use Rattle.heapsafe.specs.Answer.{Answers, AnswersRun, AnswersFile, status_of};
+ghost use Rattle.heapsafe.specs.Answer.{Answers, AnswersRun, AnswersTokens, AnswersFile, status_of};
 ghost use Rattle.heapsafe.specs.Saying.{Says, Gives, Faults, shown_of, unread};
 
 mod form;
@@ -19,11 +19,12 @@ mod runner;
 mod words;
 
 use bad_free_report::report;
+use c_lexer::{Token, lex};
 use first_core::Core;
 use form::{FormError, core_of};
 use hs_base::{End, Limits, Sink, Source, Texts};
 use reading::{ReadError, read_text};
-use refusal::{OUTPUT_FAULT, Refusal, refuse};
+use refusal::{OUTPUT_FAULT, Refusal, refuse, refuse_text};
 use runner::run;
 use std::alloc::Global;
 use words::Run;
@@ -107,6 +108,28 @@ fn reading_refusal(error: ReadError, file: &str) -> Refusal<'_>
     }
 }
 
+/// Runs the core of a text with these tokens, where it is of a form that is built.
+fn run_tokens<O: Sink, E: Sink>(
+    alloc: Global,
+    file: &str,
+    text: &[u8],
+    tokens: &[Token],
+    steps: u64,
+    out: &mut O,
+    err: &mut E,
+) -> u8
+    requires out { O.faults out.old + 1 < 2 ^ 64 }
+    requires err { E.faults err.old + 1 < 2 ^ 64 }
+    ensures exact { (input o e : List ℕ) → O.taken out.old ≡ Some o → E.taken err.old ≡ Some e → O.faults out.new ≡ O.faults out.old → E.faults err.new ≡ E.faults err.old → Gives (AnswersTokens file.now text.now tokens.now input steps) o e (O.taken out.new) (E.taken err.new) result }
+    ensures faults { (t : ℕ) → Faults t t (O.faults out.old) (O.faults out.new) (E.faults err.old) (E.faults err.new) result }
+{
+    match core_of(alloc, text, tokens) {
+        Ok(core) => run_core(alloc, &core, file, text, steps, out, err),
+        Err(FormError::NotBuilt) => refuse(err, Refusal::NotBuilt(file)),
+        Err(FormError::NoMemory) => refuse(err, Refusal::NoMemory),
+    }
+}
+
 /// Reads a text, and runs its core.
 fn run_file<T: Texts, O: Sink, E: Sink>(
     alloc: Global,
@@ -126,10 +149,10 @@ fn run_file<T: Texts, O: Sink, E: Sink>(
         Ok(text) => text,
         Err(error) => return refuse(err, reading_refusal(error, file)),
     };
-    match core_of(alloc, text.as_slice()) {
-        Ok(core) => run_core(alloc, &core, file, text.as_slice(), steps, out, err),
-        Err(FormError::NotBuilt) => refuse(err, Refusal::NotBuilt(file)),
-        Err(FormError::NoMemory) => refuse(err, Refusal::NoMemory),
+    let text = text.as_slice();
+    match lex(alloc, text) {
+        Ok(tokens) => run_tokens(alloc, file, text, tokens.as_slice(), steps, out, err),
+        Err(error) => refuse_text(err, error, file, text),
     }
 }
 

@@ -1,8 +1,8 @@
 //! Reading a text, a piece at a time.
 
-ghost use Rattle.std.specs.Prelude.{◌≡◌, ◌+◌, ◌<◌, ◌^◌, List, ℕ, Some, IfOk, IfErr, ◌≢◌, IsTrue, false, vec_len};
+ghost use Rattle.std.specs.Prelude.{◌≡◌, ◌+◌, ◌<◌, ◌≤◌, ◌^◌, List, ℕ, length, Some, IfOk, IfErr, ◌≢◌, IsTrue, false, vec_len};
 ghost use Rattle.heapsafe.specs.declared.reading.ReadError.TheVariants.{Fault, NoMemory, TooLong};
-ghost use Rattle.heapsafe.specs.Reading.{IsFront, Reads, ReadsMore, ReadCounts};
+ghost use Rattle.heapsafe.specs.Reading.{most_bytes, IsFront, Reads, ReadsMore, ReadCounts};
 
 use hs_base::{Failed, Items, Texts};
 use std::alloc::{AllocError, Global};
@@ -62,6 +62,7 @@ pub(crate) fn read_text<T: Texts>(
 ) -> Result<Items<u8>, ReadError>
     requires { T.faults texts.old + 1 < 2 ^ 64 }
     ensures bytes { (told : List ℕ → List ℕ) → T.texts texts.old ≡ Some told → Reads (told name.now) result }
+    ensures short { IfOk result (λ read. length read ≤ most_bytes) }
     ensures keeps { T.texts texts.new ≡ T.texts texts.old }
     ensures cause { ReadCounts (T.faults texts.old) (T.faults texts.new) result }
 {

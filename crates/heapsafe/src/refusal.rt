@@ -1,10 +1,12 @@
 //! Answers that are not of a run: each has a line on the error stream and a status.
 
-ghost use Rattle.std.specs.Prelude.{◌≡◌, ◌+◌, ◌<◌, ◌^◌};
-ghost use Rattle.heapsafe.specs.Saying.{Says, name_of, words_of, status_in, shown_of};
+ghost use Rattle.std.specs.Prelude.{◌≡◌, ◌+◌, ◌<◌, ◌^◌, ◌++◌};
+ghost use Rattle.heapsafe.specs.Answer.{refusal_at};
+ghost use Rattle.heapsafe.specs.Saying.{Says, name_of, words_of, status_in, shown_of, untokened};
 
-use bad_free_report::complain;
-use hs_base::Sink;
+use bad_free_report::{complain, complain_labelled};
+use c_lexer::LexError;
+use hs_base::{Line, Sink};
 
 /// Why nothing was run, or why a run gave up.
 #[derive(Clone, Copy)]
@@ -74,5 +76,38 @@ pub(crate) fn refuse<E: Sink>(err: &mut E, refusal: Refusal<'_>) -> u8
     match complain(err, refusal.name(), refusal.words()) {
         Ok(()) => refusal.status(),
         Err(_) => OUTPUT_FAULT,
+    }
+}
+
+/// Writes the line of a refusal that names a line of the text, with that line below it, and answers this status, or that
+/// of a failed write.
+fn refuse_at<E: Sink>(
+    err: &mut E,
+    file: &str,
+    text: &[u8],
+    line: Line,
+    label: &[u8],
+    words: &[u8],
+    status: u8,
+) -> u8
+    requires { E.faults err.old + 1 < 2 ^ 64 }
+    ensures says { Says (E.taken err.old) (E.taken err.new) (E.faults err.old) (E.faults err.new) (refusal_at file.now text.now line (label.now ++ words.now) status).err status result }
+{
+    match complain_labelled(err, file, line, label, words, text) {
+        Ok(()) => status,
+        Err(_) => OUTPUT_FAULT,
+    }
+}
+
+/// Says why a text has no tokens, and answers the status of that.
+pub(crate) fn refuse_text<E: Sink>(err: &mut E, error: LexError, file: &str, text: &[u8]) -> u8
+    requires { E.faults err.old + 1 < 2 ^ 64 }
+    ensures says { Says (E.taken err.old) (E.taken err.new) (E.faults err.old) (E.faults err.new) (untokened error file.now text.now).err (untokened error file.now text.now).status result }
+{
+    match error {
+        LexError::Bad { kind, line } => {
+            refuse_at(err, file, text, line, b"lex: ", kind.word().as_bytes(), 123)
+        }
+        LexError::NoMemory => refuse(err, Refusal::NoMemory),
     }
 }

@@ -60,6 +60,46 @@ fn refusals(rt: HostRuntime) -> Result<(), Fail> {
     Ok(())
 }
 
+/// Texts without tokens: each with what is said, which shows the line of the first bad place.
+#[test]
+fn texts_without_tokens(rt: HostRuntime) -> Result<(), Fail> {
+    let alloc = rt.alloc();
+    let rows: [(&[u8], &[u8]); 8] = [
+        (
+            b"int x = 1 @ 2;",
+            b"a.c:1: lex: bad byte\n  int x = 1 @ 2;\n",
+        ),
+        (b"/* x", b"a.c:1: lex: open comment\n  /* x\n"),
+        (b"char c = 'a", b"a.c:1: lex: literal\n  char c = 'a\n"),
+        (b"int x = 1.5;", b"a.c:1: lex: bad number\n  int x = 1.5;\n"),
+        (
+            b"int x = 18446744073709551616;",
+            b"a.c:1: lex: literal too wide\n  int x = 18446744073709551616;\n",
+        ),
+        (b"#define X 1", b"a.c:1: lex: directive\n  #define X 1\n"),
+        (b"\n\n  1 $ 2\r\n@", b"a.c:3: lex: bad byte\n    1 $ 2\n"),
+        (b"/* \n */ '\n", b"a.c:2: lex: literal\n   */ '\n"),
+    ];
+    for (text, said) in rows {
+        let mut texts = texts(alloc, text, false)?;
+        let mut input = SureSource::new(Items::new(alloc));
+        let mut out = MemSink::new(alloc, 100, Items::new(alloc));
+        let mut err = MemSink::new(alloc, 100, Items::new(alloc));
+        let answer = heapsafe(
+            alloc,
+            &["run", "a.c"],
+            &mut texts,
+            &mut input,
+            &mut out,
+            &mut err,
+        );
+        assert_eq!(rt; answer, 123);
+        assert_eq!(rt; out.bytes(), b"".as_slice());
+        assert_eq!(rt; err.bytes(), said);
+    }
+    Ok(())
+}
+
 #[test]
 fn longest_text(rt: HostRuntime) -> Result<(), Fail> {
     let alloc = rt.alloc();
