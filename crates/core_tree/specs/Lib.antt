@@ -1,0 +1,5 @@
+pub mod Statements
+pub mod Lives
+pub mod Sorts
+pub mod LayoutsOfTypes
+pub mod Sound
