@@ -1,0 +1,11 @@
+-- Laws of runs.
+use Rattle.std.specs.Prelude.{◌≡◌, ◌≢◌, ℕ, List, Some}
+use Rattle.hs_base.specs.Trace.{Ending, Dangling}
+use Rattle.core_tree.specs.declared.program.Core.{Core}
+use Rattle.core_tree.specs.Sound.{IsSound}
+use Rattle.object_meaning.specs.Meaning.{meaning}
+
+-- the run of a sound core has ended, and not by reading a pointer to a dead object or for want of a statement
+abbrev pub RunsEnd : Type 0
+RunsEnd =
+    (core : Core) → IsSound core → (input : List ℕ) (n : ℕ) → (ending : Ending) × ((meaning core input n).ended ≡ Some ending) × (ending ≢ Dangling)

@@ -1,0 +1,12 @@
+//! The object meaning: what a core does, over named objects (C99 5.1.2.3, for the C profile).
+//!
+//! `specs/Meaning.antt` says what each statement does to a state (`act`), and what a run is: a trace of events, an end and
+//! a last state (`meaning`). The other modules of `specs/` have what the statements do: integers and pointers, reading and
+//! writing objects, new objects, scopes and the check at their end, calls and the end of memory locals, built-in functions
+//! and printf. Whether an object may be freed is decided by its holders (`specs/Holding.antt`): all pointers are read anew
+//! at each check. There are no addresses, no counts, and no limits of heap or stack.
+#![tactic(auto)]
+
+mod laws;
+
+pub use laws::run_ends;
