@@ -1,0 +1,9 @@
+pub mod WordNumbers
+pub mod ExprSound
+pub mod ExprComplete
+pub mod StmtSound
+pub mod StmtLoop
+pub mod ItemLoop
+pub mod ProgramSound
+pub mod StmtComplete
+pub mod ProgramComplete
