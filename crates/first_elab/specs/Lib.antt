@@ -1,0 +1,4 @@
+pub mod Registers
+pub mod Code
+pub mod Elaborated
+pub mod Allowed
