@@ -5,7 +5,8 @@
 //! words, texts and input; and that a status for a failure of the outside comes only where the outside failed.
 #![tactic(auto)]
 
-ghost use Rattle.std.specs.Prelude.{◌≡◌, ◌≢◌, ◌+◌, ◌<◌, ◌^◌, ℕ, List, Some, None, MatchBool, map};
+ghost use Rattle.std.specs.Prelude.{◌≡◌, ◌≢◌, ◌+◌, ◌<◌, ◌^◌, ℕ, List, Some, None, MatchBool, map, All};
+ghost use Rattle.c_lexer.specs.Tokens.{IsLexed};
 ghost use Rattle.first_core.specs.Sound.{IsSound};
 ghost use Rattle.heapsafe.specs.Words.{command_of};
 ghost use Rattle.bad_free_report.specs.Report.{end_report};
@@ -21,7 +22,8 @@ mod words;
 use bad_free_report::report;
 use c_lexer::{Token, lex};
 use first_core::Core;
-use form::{FormError, core_of};
+use first_form::FormError;
+use form::core_of;
 use hs_base::{End, Limits, Sink, Source, Texts};
 use reading::{ReadError, read_text};
 use refusal::{OUTPUT_FAULT, Refusal, refuse, refuse_text};
@@ -118,6 +120,7 @@ fn run_tokens<O: Sink, E: Sink>(
     out: &mut O,
     err: &mut E,
 ) -> u8
+    requires lexed { All IsLexed tokens.now }
     requires out { O.faults out.old + 1 < 2 ^ 64 }
     requires err { E.faults err.old + 1 < 2 ^ 64 }
     ensures exact { (input o e : List ℕ) → O.taken out.old ≡ Some o → E.taken err.old ≡ Some e → O.faults out.new ≡ O.faults out.old → E.faults err.new ≡ E.faults err.old → Gives (AnswersTokens file.now text.now tokens.now input steps) o e (O.taken out.new) (E.taken err.new) result }

@@ -11,3 +11,7 @@ returns-in-Err-NotBuilt-clause-exact g c = λ input o e h i same_out same_err.
 pub returns-in-Err-NoMemory-clause-exact : goal.returns-in-Err-NoMemory-clause-exact
 returns-in-Err-NoMemory-clause-exact g c = λ input o e h i same_out same_err.
     gives_said (AnswersTokens c.args.file.now c.args.text.now c.args.tokens.now input c.args.steps) no_memory o e _ _ _ _ _ _ (inr refl) refl h i same_err c.refuse-in-Err-NoMemory.ensures.says
+
+pub returns-in-Ok-clause-exact : goal.returns-in-Ok-clause-exact
+returns-in-Ok-clause-exact g c = λ input o e h i same_out same_err.
+    gives_tokens c.args.file.now c.args.text.now c.args.tokens.now c.in-Ok.core input c.args.steps o e _ _ _ c.in-Ok.ensures.built c.in-Ok.ensures.core (c.run_core.ensures.exact input o e h i same_out same_err)
