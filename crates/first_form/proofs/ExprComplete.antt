@@ -11,7 +11,7 @@ use Rattle.first_form.specs.Words.{word_of, number_of}
 use Rattle.first_form.specs.Leaves.{is_declared, is_number, is_char}
 use Rattle.first_form.specs.Spelling.{Then, Spells, level, level_of, line_of, depth, Allowed}
 use Rattle.first_form.specs.Reading.{◌>>=◌, Reader, after, operator_by, operator_at, leaf_by, paren_at, operand_by, operand_at, more_by, more, binary_at, compared_by, compared_at, level_at, read}
-use Rattle.first_form.specs.Laws.{Loose, Ends}
+use Rattle.first_form.proofs.Laws.{Loose, Ends}
 use Rattle.first_form.proofs.ExprSound.{left_same, left_sum, read_takes}
 
 pub after_again : (w : Word) (ts rest : List Token) → Then w ts rest → after w ts ≡ Some rest

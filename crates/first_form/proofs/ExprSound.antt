@@ -11,7 +11,7 @@ use Rattle.first_form.specs.Words.{word_of, number_of}
 use Rattle.first_form.specs.Leaves.{is_declared, is_number, is_char}
 use Rattle.first_form.specs.Spelling.{Then, level, level_of, left_level, line_of, depth}
 use Rattle.first_form.specs.Reading.{◌>>=◌, Reader, after, operator_by, operator_at, leaf_by, paren_at, operand_by, operand_at, more_by, more, binary_at, compared_by, compared_at, level_at, read}
-use Rattle.first_form.specs.Laws.{Took}
+use Rattle.first_form.proofs.Laws.{Took}
 use Rattle.first_form.proofs.WordNumbers.{same_word}
 
 pub none_some : {A B : Type 0} {x : A} → None ≡ Some x → B

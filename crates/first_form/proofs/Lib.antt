@@ -1,3 +1,4 @@
+pub mod Laws
 pub mod WordNumbers
 pub mod ExprSound
 pub mod ExprComplete

@@ -13,7 +13,7 @@ use Rattle.first_form.specs.Leaves.{is_declared, is_taken, is_main}
 use Rattle.first_form.specs.Spelling.{Then, Begins, Spelled, SpellsInit, AllowedInit, init_depth, SpellsStmt, AllowedStmt, stmt_depth, ends_open, SpellsItem, SpellsItems, AllowedItems, items_depth, SpellsProgram, IsProgram, IsOnlyProgram, IsRefused}
 use Rattle.first_form.specs.Reading.{◌>>=◌, after, read}
 use Rattle.first_form.specs.ReadingStatements.{stmt, new_name, new_name_at, init_by, local_at, item_by, item_at, names_after, items_by, items, main_by, main_at, head_at, line_at, end_by, program_at}
-use Rattle.first_form.specs.Laws.{NoElse}
+use Rattle.first_form.proofs.Laws.{NoElse}
 use Rattle.first_form.specs.Gives.{MayGive}
 use Rattle.first_form.proofs.ExprSound.{some_same, none_some}
 use Rattle.first_form.proofs.ExprComplete.{after_again}

@@ -10,7 +10,7 @@ use Rattle.first_form.specs.Leaves.{is_declared, is_putchar}
 use Rattle.first_form.specs.Spelling.{Then, Spells, SpellsStmt, SpellsStmts, Allowed, AllowedStmt, AllowedStmts, depth, stmt_depth, stmts_depth, ends_open}
 use Rattle.first_form.specs.Reading.{◌>>=◌, Reader, after, read}
 use Rattle.first_form.specs.ReadingStatements.{value_at, condition_at, return_at, stmts_by, stmts, block_at, else_by, if_at, while_at, assign_at, call_at, named_by, stmt_by, stmt}
-use Rattle.first_form.specs.Laws.{Ends, NoElse}
+use Rattle.first_form.proofs.Laws.{Ends, NoElse}
 use Rattle.first_form.proofs.ExprComplete.{after_again, ends_then, highest, read_again}
 use Rattle.first_form.proofs.StmtSound.{stmt_shorter}
 

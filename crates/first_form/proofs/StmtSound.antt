@@ -11,7 +11,7 @@ use Rattle.first_form.specs.Leaves.{is_declared, is_putchar}
 use Rattle.first_form.specs.Spelling.{Then, Spells, SpellsStmt, SpellsStmts, depth, ends_open}
 use Rattle.first_form.specs.Reading.{Reader, after, read}
 use Rattle.first_form.specs.ReadingStatements.{value_at, condition_at, return_at, stmts_by, stmts, block_at, else_by, if_at, while_at, assign_at, call_at, named_by, stmt_by, stmt_at, stmt}
-use Rattle.first_form.specs.Laws.{Took, TookStmt, TookStmts, NoElse}
+use Rattle.first_form.proofs.Laws.{Took, TookStmt, TookStmts, NoElse}
 use Rattle.first_form.proofs.ExprSound.{none_some, some_same, bind_some, guard_some, after_takes, read_takes}
 use Rattle.first_form.proofs.ExprComplete.{some_depth}
 

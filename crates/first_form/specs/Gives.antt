@@ -1,4 +1,4 @@
--- What a reader of the code returns, against what reading gives.
+-- What a function of the code returns, against what the pure reader gives.
 use Rattle.std.specs.Prelude.{◌≡◌, Option, Some, None, Result, Ok, Err}
 use Rattle.first_form.specs.declared.error.FormError.{FormError}
 use Rattle.first_form.specs.declared.error.FormError.TheVariants.{NotBuilt, NoMemory}

@@ -5,4 +5,3 @@ pub mod Spelling
 pub mod Reading
 pub mod ReadingStatements
 pub mod Gives
-pub mod Laws

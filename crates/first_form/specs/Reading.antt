@@ -1,4 +1,4 @@
--- Reading tokens from left to right. The laws compare what is read with what is spelled.
+-- Reading tokens from left to right. No reader of a contract has to believe it: the proofs compare it with what is spelled.
 use Rattle.std.specs.Prelude.{ℕ, zero, suc, cond, nat_lt, nat_eq, List, [], ◌∷◌, Option, Some, None}
 use Rattle.c_lexer.specs.declared.token.Token.{Token}
 use Rattle.first_form.specs.declared.tree.BinaryOp.{BinaryOp}

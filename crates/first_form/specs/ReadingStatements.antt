@@ -1,4 +1,4 @@
--- Reading statements and texts from left to right.
+-- Reading statements and texts from left to right, in the same way.
 use Rattle.std.specs.Prelude.{ℕ, zero, suc, ◌-◌, cond, List, [], ◌∷◌, ◌++◌, ◌||◌, length, Option, Some, None}
 use Rattle.c_lexer.specs.declared.token.Token.{Token}
 use Rattle.first_form.specs.declared.word.Word.{Word}

@@ -1,4 +1,4 @@
--- Reading in the grammar's words.
+-- What readers take, in the words of the grammar.
 use Rattle.std.specs.Prelude.{◌≡◌, ◌<◌, ◌≤◌, ℕ, Bool, true, false, List, [], ◌∷◌, None}
 use Rattle.c_lexer.specs.declared.token.Token.{Token}
 use Rattle.first_form.specs.declared.word.Word.{Word}
