@@ -1,6 +1,6 @@
 -- Tests that only grow: where one stays below a bound, it grew by at least one number each time before.
 use Rattle.std.proofs.Common.{◌≡◌, ◌⊎◌, ◌≤◌, ◌<◌, ◌+◌, ℕ, zero, suc, Bool, true, false, cond, refl, sym, ◌∙◌, subst, arith, inl, inr, ⊎_elim}
-use Rattle.std.proofs.lemmas.Bool.{cases_Bool, cases_lt, cases_eq}
+use Rattle.std.proofs.lemmas.Bool.{cases_lt}
 
 -- how many numbers below a bound pass
 unfoldable pub passing : (ℕ → Bool) → ℕ → ℕ

@@ -1,2 +1,4 @@
 mod Counting
 pub mod Paths
+mod Joining
+pub mod TypeLayouts

@@ -1,7 +1,7 @@
 -- The bounded test of liveness says whether a path exists.
-use Rattle.std.proofs.Common.{◌≡◌, ◌⊎◌, ◌≤◌, ◌<◌, ◌+◌, ◌&&◌, ◌||◌, ◌↔◌, ℕ, zero, suc, Bool, true, false, not, List, [], ◌∷◌, ◌++◌, Some, None, Option, length, slice_get, slice_index_or, All, Contains, IsTrue, refl, sym, ◌∙◌, ap, subst, arith, inl, inr, ⊎_elim}
+use Rattle.std.proofs.Common.{◌≡◌, ◌⊎◌, ◌≤◌, ◌<◌, ◌&&◌, ◌||◌, ◌↔◌, ℕ, zero, suc, Bool, true, false, not, List, [], ◌∷◌, ◌++◌, None, length, slice_get, slice_index_or, All, Contains, IsTrue, refl, sym, ◌∙◌, arith, inl, inr, ⊎_elim}
 use Rattle.std.specs.List.{list_any}
-use Rattle.std.proofs.lemmas.Bool.{cases_Bool, cases_lt, or_cases, and_parts, not-true, true≢false}
+use Rattle.std.proofs.lemmas.Bool.{cases_lt, or_cases, and_parts, not-true}
 use Rattle.core_tree.specs.declared.statements.Stm.{Stm}
 use Rattle.core_tree.specs.Statements.{reads_at, writes_at, edges_at}
 use Rattle.core_tree.specs.Lives.{IsPath, IsLive, live_within, is_live}

@@ -3,3 +3,5 @@ pub mod Lives
 pub mod Sorts
 pub mod LayoutsOfTypes
 pub mod Sound
+pub mod Listing
+pub mod Parts

@@ -1,7 +1,8 @@
 -- What a statement writes, which operands it reads, and where the run goes on behind it.
-use Rattle.std.specs.Prelude.{◌==◌, ◌+◌, ℕ, Bool, false, List, [], ◌∷◌, Option, Some, None, slice_get}
+use Rattle.std.specs.Prelude.{◌==◌, ◌+◌, ℕ, Bool, false, cond, List, [], ◌∷◌, ◌++◌, Option, Some, None, slice_get}
 use Rattle.std.specs.List.{list_any}
 use Rattle.std.specs.Option.{option_map_or}
+use Rattle.core_tree.specs.declared.flow.Edges.{Edges}
 use Rattle.core_tree.specs.declared.statements.Atom.{Atom}
 use Rattle.core_tree.specs.declared.statements.Atom.TheVariants.{Reg, Int, Null, Static, Mem}
 use Rattle.core_tree.specs.declared.statements.LibName.{LibName}
@@ -48,6 +49,10 @@ written (Return a) = None
 abbrev pub given : Option Atom → List Atom
 given None = []
 given (Some a) = a ∷ []
+
+abbrev pub given_target : Option ℕ → List ℕ
+given_target None = []
+given_target (Some l) = l ∷ []
 
 -- the operands of a statement, in order
 abbrev pub operands : StmKind → List Atom
@@ -112,6 +117,10 @@ edges (Loop l) point = l ∷ []
 edges (Lib name r args) point = edges_of_lib name point
 edges (Return a) point = []
 edges kind point = (point + 1) ∷ []
+
+-- the same, from where a statement goes as the program says it
+abbrev pub leads_to : Edges → ℕ → List ℕ
+leads_to where_to point = cond where_to.next ((point + 1) ∷ []) [] ++ given_target where_to.target
 
 -- the same for the statement at a point of a body, which is none outside of it
 abbrev pub reads_at : List Stm → ℕ → ℕ → Bool

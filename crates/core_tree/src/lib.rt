@@ -6,13 +6,22 @@
 //!
 //! A point, a register, a memory local, a static and a function are each a `u32` that counts from 0 in its list.
 //! `specs/Statements.antt` says what a statement writes, reads and leads to, and `specs/Lives.antt` which registers are
-//! live after a point.
+//! live after a point. [`list`] gives the text of `specs/Listing.antt`.
 #![tactic(auto)]
 
+mod flow;
 mod laws;
+mod listing;
 mod program;
 mod statements;
+mod text;
+mod words;
 
-pub use laws::live_by_paths;
+pub use flow::Edges;
+pub use laws::{layouts_of_types, live_by_paths};
+pub use listing::list;
 pub use program::{Core, Func, Mem, Reg, Start, Static};
 pub use statements::{Atom, BinOp, CmpOp, LibName, Stm, StmKind, UnOp};
+
+#[cfg(test)]
+mod tests;
