@@ -21,6 +21,7 @@ use Rattle.object_meaning.specs.Values.{number, address}
 
 -- Integers
 
+-- an operation on one integer of a kind
 abbrev pub on_one : UnOp → IntKind → ℤ → ℤ
 on_one un.Neg k a = negation_of k a
 on_one un.Not k a = complement_of k a
@@ -30,6 +31,7 @@ abbrev pub or_traps : TrapKind → Option ℤ → Result Value Refusal
 or_traps kind None = Err (Trapped kind)
 or_traps kind (Some n) = Ok (number n)
 
+-- an operation on two integers of a kind; the count of a shift is taken as it is
 abbrev pub on_two : BinOp → IntKind → ℤ → ℤ → Result Value Refusal
 on_two bin.Add k a b = Ok (number (sum_of k a b))
 on_two bin.Sub k a b = Ok (number (difference_of k a b))
@@ -47,10 +49,12 @@ abbrev pub truth : Bool → Value
 truth true = number (pos 1)
 truth false = number (pos 0)
 
+-- is it 0?
 abbrev pub is_zero : ℤ → Bool
 is_zero (pos zero) = true
 is_zero _ = false
 
+-- does a comparison hold of two integers?
 abbrev pub compared : CmpOp → ℤ → ℤ → Bool
 compared cmp.Eq a b = int_le a b && int_le b a
 compared cmp.Ne a b = int_lt a b || int_lt b a
@@ -61,6 +65,7 @@ compared cmp.Ge a b = int_le b a
 
 -- Pointers: one stays within its object, from its start to one past its end
 
+-- an offset of an object of that size
 abbrev pub within_object : ℕ → ℕ → ℤ → Result Value Refusal
 within_object birth size (pos offset) =
     cond (nat_le offset size) (Ok (address (pointer.At birth offset))) (Err (Trapped trap.Range))
@@ -84,6 +89,7 @@ abbrev pub difference : Pointer → Pointer → ℤ → Result Value Refusal
 difference p q element =
     and_then (offsets p q) (λ both. Ok (number (wrapped I32 (int_div (pos both.0 -ℤ pos both.1) element))))
 
+-- two pointers are equal where both are null, or both have the same object and offset
 abbrev pub same_pointer : Pointer → Pointer → Bool
 same_pointer pointer.Null pointer.Null = true
 same_pointer pointer.Null (pointer.At c other) = false

@@ -37,6 +37,7 @@ put_line r text s = goes s (map Out (text ++ 10 ∷ [])) (write s r (number (pos
 abbrev pub filled : ℕ → Option ℕ → Pointer → Result (List Object) Refusal → State → Next
 filled line r p done s = if_done line s done (λ objects. goes s [] (write (with_objects s objects) r (address p)))
 
+-- what each built-in function does with its arguments; a register takes its answer
 abbrev pub call_lib : ℕ → LibName → Option ℕ → List Value → State → Next
 call_lib line lib.Exit r values s = stops s (Exit (byte_in (number_at values 0)))
 call_lib line lib.Abort r values s = stops s (Trap trap.Abort line)

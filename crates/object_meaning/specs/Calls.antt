@@ -19,10 +19,12 @@ use Rattle.object_meaning.specs.Holding.{statement_at, answer_register, inside_o
 
 -- Calls
 
+-- the registers of a function that may not be there
 abbrev pub registers_of : Option Func → List Reg
 registers_of None = []
 registers_of (Some func) = func.regs
 
+-- its memory locals
 abbrev pub locals_of : Option Func → List Mem
 locals_of None = []
 locals_of (Some func) = func.mems
@@ -45,6 +47,7 @@ abbrev pub with_locals : Core → State → State
 with_locals core s =
     let f = s.running.func in with_objects s (s.objects ++ local_objects f (locals_of (slice_get core.funcs f)))
 
+-- a call: its Enter, and then its memory locals; the frame that calls waits at its call
 abbrev pub call : Core → ℕ → ℕ → List Value → State → Next
 call core line f arguments s =
     let t : State = record s { running = new_frame core f arguments (length s.objects); waiting = s.running ∷ s.waiting } in

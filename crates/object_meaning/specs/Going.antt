@@ -7,6 +7,7 @@ use Rattle.hs_base.specs.State.{Frame, State}
 use Rattle.hs_base.specs.Trace.{Event, Ending, Trap, Spent, Dangling}
 use Rattle.hs_base.specs.Runs as runs
 
+-- what a statement leads to
 abbrev pub Next : Type 0
 Next = runs.Next State Event Ending
 
@@ -18,6 +19,7 @@ goes before events after = runs.Goes before events after
 abbrev pub stops_after : State → List Event → State → Ending → Next
 stops_after before events after ending = runs.Stops before events after ending
 
+-- one that ends it without events
 abbrev pub stops : State → Ending → Next
 stops s ending = runs.Stops s [] s ending
 
@@ -25,6 +27,7 @@ stops s ending = runs.Stops s [] s ending
 abbrev pub at_point : State → ℕ → State
 at_point s l = record s { running = record s.running { point = l } }
 
+-- the running frame comes to its next point
 abbrev pub onward : State → State
 onward s = at_point s (s.running.point + 1)
 
@@ -33,6 +36,7 @@ abbrev pub with_register : Option ℕ → Value → Frame → Frame
 with_register None v frame = frame
 with_register (Some r) v frame = record frame { regs = slice_set frame.regs r v }
 
+-- a register of the running frame takes a value
 abbrev pub put : State → Option ℕ → Value → State
 put s r v = record s { running = with_register r v s.running }
 
@@ -40,6 +44,7 @@ put s r v = record s { running = with_register r v s.running }
 abbrev pub write : State → Option ℕ → Value → State
 write s r v = onward (put s r v)
 
+-- other objects in place of those of a state
 abbrev pub with_objects : State → List Object → State
 with_objects s objects = record s { objects = objects }
 

@@ -13,6 +13,7 @@ use Rattle.core_tree.specs.Statements.{written}
 use Rattle.object_meaning.specs.Values.{pointer_in}
 use Rattle.core_tree.specs.Lives.{is_live}
 
+-- is it one of these births?
 abbrev pub is_among : List ℕ → ℕ → Bool
 is_among births birth = list_any (λ b. nat_eq b birth) births
 
@@ -33,6 +34,7 @@ inside_one birth o =
 abbrev pub counted_inside : List ℕ → ℕ → ℕ × Object → List Holder
 counted_inside left birth o = cond (is_dead o.1.standing || is_among left o.0) [] (inside_one birth o.1)
 
+-- those of all objects, by birth
 abbrev pub inside_objects : List ℕ → ℕ → List Object → List Holder
 inside_objects left birth objects = flat_map (counted_inside left birth) (enumerate_from 0 objects)
 
@@ -43,6 +45,7 @@ abbrev pub statement_in : Option Func → ℕ → Option Stm
 statement_in None point = None
 statement_in (Some func) point = slice_get func.body point
 
+-- the same by the number of its function
 abbrev pub statement_at : Core → Frame → Option Stm
 statement_at core frame = statement_in (slice_get core.funcs frame.func) frame.point
 
@@ -51,6 +54,7 @@ abbrev pub answer_register : Option Stm → Option ℕ
 answer_register None = None
 answer_register (Some stm) = written stm.kind
 
+-- is a register the one that takes the answer?
 abbrev pub takes_answer : Option ℕ → ℕ → Bool
 takes_answer None r = false
 takes_answer (Some answer) r = nat_eq answer r
@@ -60,6 +64,7 @@ abbrev pub is_live_in : Option Func → ℕ → ℕ → Bool
 is_live_in None point r = false
 is_live_in (Some func) point r = is_live func.body point r
 
+-- the same by the number of its function
 abbrev pub is_live_at : Core → Frame → ℕ → Bool
 is_live_at core frame r = is_live_in (slice_get core.funcs frame.func) frame.point r
 
@@ -68,10 +73,11 @@ abbrev pub in_registers : (ℕ → Bool) → ℕ → Frame → List Holder
 in_registers counts birth frame =
     map (λ at. holder.Register frame.func at.0) (filter (λ at. counts at.0 && is_pointer_to birth (pointer_in at.1)) (enumerate_from 0 frame.regs))
 
--- those that count: in the running frame where they are live, in a waiting frame where they are live and take no answer
+-- those that count in the running frame: where they are live
 abbrev pub in_running : Core → ℕ → Frame → List Holder
 in_running core birth frame = in_registers (is_live_at core frame) birth frame
 
+-- those that count in a waiting frame: where they are live, and the answer of its call is not to come there
 abbrev pub in_waiting : Core → ℕ → Frame → List Holder
 in_waiting core birth frame =
     let answer = answer_register (statement_at core frame) in
@@ -87,10 +93,12 @@ abbrev pub holders : Core → State → ℕ → List ℕ → List Holder
 holders core s birth left =
     inside_objects left birth s.objects ++ in_all_waiting core birth s.waiting ++ in_running core birth s.running
 
+-- is there a holder?
 abbrev pub is_some_held : List Holder → Bool
 is_some_held [] = false
 is_some_held (first ∷ rest) = true
 
+-- the first holder
 abbrev pub first_of : List Holder → Option Holder
 first_of [] = None
 first_of (first ∷ rest) = Some first

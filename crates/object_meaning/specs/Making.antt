@@ -24,6 +24,7 @@ heap_object line size element = blank (Heap line) size (array_layout (size / ele
 abbrev pub with_new : ℕ → ℕ → Layout → State → State
 with_new line size element s = record s { objects = s.objects ++ heap_object line size element ∷ [] }
 
+-- a memory local of a function, with its number
 abbrev pub local_object : ℕ → ℕ × Mem → Object
 local_object func mem = blank (Local func mem.0) mem.1.layout.size mem.1.layout.slots
 
@@ -50,5 +51,6 @@ static_object static =
       standing = Live;
     }
 
+-- the statics, in their order
 abbrev pub static_objects : List program.Static → List Object
 static_objects statics = map static_object (enumerate_from 0 statics)

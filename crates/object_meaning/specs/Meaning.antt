@@ -31,6 +31,7 @@ use Rattle.object_meaning.specs.Printing.{printed, print}
 use Rattle.object_meaning.specs.Builtins.{call_lib}
 use Rattle.object_meaning.specs.Calls.{call, give_back, new_frame, with_locals, cost_of}
 
+-- a run so far
 abbrev pub Run : Type 0
 Run = runs.Ran State Event Ending
 
@@ -39,6 +40,7 @@ abbrev pub branch : Bool → ℕ → State → Next
 branch true l s = goes s [] (at_point s l)
 branch false l s = goes s [] (onward s)
 
+-- is it the null pointer?
 abbrev pub is_null : Pointer → Bool
 is_null pointer.Null = true
 is_null (pointer.At birth offset) = false
@@ -109,6 +111,7 @@ abbrev pub act_at : Core → Option Stm → State → Next
 act_at core None s = stops s Dangling
 act_at core (Some stm) s = unless_reads_stale (list_any (holds_stale s.objects) (values_of s (operands stm.kind))) core stm s
 
+-- the statement that the running frame is at
 abbrev pub step : Core → List Event → State → Next
 step core trace s = act_at core (statement_at core s.running) s
 
@@ -120,6 +123,7 @@ start core input n =
     let statics = static_objects core.statics in
     record { objects = statics; running = new_frame core (main_of core) [] (length statics); waiting = []; queue = []; scopes = 0; input = input; steps = n }
 
+-- the line of the definition of a function that may not be there
 abbrev pub line_of : Option Func → ℕ
 line_of None = 0
 line_of (Some func) = func.line
@@ -130,9 +134,11 @@ first_call core input n =
     let main = slice_get core.funcs (main_of core) in
     with_step n (start core input n) (λ t. goes t (Enter (cost_of main) (line_of main) ∷ []) (with_locals core t))
 
+-- the run once main was called, or where there is no step for that
 abbrev pub begun : Core → List ℕ → ℕ → Run
 begun core input n = runs.led [] (first_call core input n)
 
+-- how many statements a function has
 abbrev pub body_length : Option Func → ℕ
 body_length None = 0
 body_length (Some func) = length func.body

@@ -11,6 +11,7 @@ use Rattle.hs_base.specs.Access.{Refusal, ReadsDead, if_so, and_then, access_int
 use Rattle.hs_base.specs.Object.{Object, object_at}
 use Rattle.object_meaning.specs.Values.{number, address, is_stale}
 
+-- the integer of a kind at a pointer
 abbrev pub loaded : List Object → IntKind → Pointer → Result Value Refusal
 loaded objects k p =
     and_then (access_integer objects p (width k)) (λ at. Ok (number (integer_at k (object_at objects at.birth) at.offset)))
@@ -19,14 +20,17 @@ loaded objects k p =
 abbrev pub unless_stale : List Object → Pointer → Result Value Refusal
 unless_stale objects p = if_so (is_stale objects p) ReadsDead (Ok (address p))
 
+-- the pointer at a pointer
 abbrev pub loaded_pointer : List Object → Pointer → Result Value Refusal
 loaded_pointer objects p =
     and_then (access_pointer objects p) (λ at. unless_stale objects (access.pointer_at (object_at objects at.birth) at.offset))
 
+-- the objects with an integer of a kind at a pointer
 abbrev pub stored : List Object → IntKind → Pointer → ℤ → Result (List Object) Refusal
 stored objects k p n =
     and_then (access_integer objects p (width k)) (λ at. Ok (with_object objects at.birth (with_integer k (object_at objects at.birth) at.offset n)))
 
+-- the objects with a pointer at a pointer
 abbrev pub stored_pointer : List Object → Pointer → Pointer → Result (List Object) Refusal
 stored_pointer objects p q =
     and_then (access_pointer objects p) (λ at. Ok (with_object objects at.birth (with_pointer (object_at objects at.birth) at.offset q)))

@@ -23,9 +23,11 @@ decided core None before events s = goes before (events ++ map Gone s.queue) (on
 decided core (Some birth) before events s =
     stops_after before events s (BadFree reason.Held (line_of_free (object_at s.objects birth).standing) (first_of (holders core s birth s.queue)))
 
+-- the check: the first of the queue that is held decides
 abbrev pub checked : Core → State → List Event → State → Next
 checked core before events s = decided core (first_held (is_held core s) s.queue) before events s
 
+-- a scope is opened
 abbrev pub enter : State → Next
 enter s = goes s [] (onward (record s { scopes = s.scopes + 1 }))
 

@@ -6,6 +6,7 @@ use Rattle.hs_base.specs.declared.values.Pointer.TheVariants as pointer
 use Rattle.hs_base.specs.Access.{Refusal, Trapped, access_integer, and_then}
 use Rattle.hs_base.specs.Object.{Object, object_at}
 
+-- a pointer so many bytes behind another, which may leave the object
 abbrev pub behind : Pointer → ℕ → Pointer
 behind pointer.Null i = pointer.Null
 behind (pointer.At birth offset) i = pointer.At birth (offset + i)
@@ -20,6 +21,7 @@ abbrev pub room_at : List Object → Pointer → ℕ
 room_at objects pointer.Null = 1
 room_at objects (pointer.At birth offset) = (object_at objects birth).size + 1
 
+-- a byte and those behind it, up to the first zero
 abbrev pub with_byte : ℕ → Result (List ℕ) Refusal → Result (List ℕ) Refusal
 with_byte byte rest = cond (nat_eq byte 0) (Ok []) (and_then rest (λ bytes. Ok (byte ∷ bytes)))
 
@@ -29,6 +31,7 @@ string_from objects p i zero = Err (Trapped trap.Bounds)
 string_from objects p i (suc most) =
     and_then (byte_behind objects p i) (λ byte. with_byte byte (string_from objects p (i + 1) most))
 
+-- the bytes at a pointer up to the first zero
 abbrev pub string_at : List Object → Pointer → Result (List ℕ) Refusal
 string_at objects p = string_from objects p 0 (room_at objects p)
 
@@ -43,5 +46,6 @@ order_from objects p q i zero = Err (Trapped trap.Bounds)
 order_from objects p q i (suc most) =
     and_then (byte_behind objects p i) (λ a. and_then (byte_behind objects q i) (λ b. byte_order a b (order_from objects p q (i + 1) most)))
 
+-- the order of two strings: below 0, 0 or above 0 as -1, 0 or 1
 abbrev pub order_of : List Object → Pointer → Pointer → Result ℤ Refusal
 order_of objects p q = order_from objects p q 0 (room_at objects p)

@@ -11,9 +11,11 @@ use Rattle.core_tree.specs.declared.program.Reg.{Reg}
 use Rattle.core_tree.specs.declared.statements.Atom.{Atom}
 use Rattle.core_tree.specs.declared.statements.Atom.TheVariants as atom
 
+-- an integer as a value
 abbrev pub number : ℤ → Value
 number n = value.Number n
 
+-- a pointer as a value
 abbrev pub address : Pointer → Value
 address p = value.Pointer p
 
@@ -33,25 +35,29 @@ value_of frame atom.Null = address pointer.Null
 value_of frame (atom.Static k) = address (start_of k)
 value_of frame (atom.Mem k) = address (start_of (frame.first_local + k))
 
--- an integer, and a pointer; no sound core asks for one of a value of the other sort
+-- an integer; no sound core asks for that of a pointer
 abbrev pub number_in : Value → ℤ
 number_in (value.Number n) = n
 number_in (value.Pointer p) = pos 0
 
+-- a pointer; no sound core asks for that of an integer
 abbrev pub pointer_in : Value → Pointer
 pointer_in (value.Number n) = pointer.Null
 pointer_in (value.Pointer p) = p
 
+-- the integer that an operand stands for
 abbrev pub number_of : State → Atom → ℤ
 number_of s a = number_in (value_of s.running a)
 
+-- the pointer that an operand stands for
 abbrev pub pointer_of : State → Atom → Pointer
 pointer_of s a = pointer_in (value_of s.running a)
 
--- the arguments of a built-in function; no sound core leaves one out
+-- an integer among the arguments of a built-in function; no sound core leaves an argument out
 abbrev pub number_at : List Value → ℕ → ℤ
 number_at values k = number_in (slice_index_or values k (number (pos 0)))
 
+-- a pointer among them
 abbrev pub pointer_at : List Value → ℕ → Pointer
 pointer_at values k = pointer_in (slice_index_or values k (number (pos 0)))
 
@@ -69,5 +75,6 @@ abbrev pub is_stale : List Object → Pointer → Bool
 is_stale objects pointer.Null = false
 is_stale objects (pointer.At birth offset) = is_dead (object_at objects birth).standing
 
+-- is it a pointer to a dead object?
 abbrev pub holds_stale : List Object → Value → Bool
 holds_stale objects v = is_stale objects (pointer_in v)
