@@ -1,0 +1,14 @@
+pub mod Words
+pub mod Operators
+pub mod Forms
+pub mod Tree
+pub mod Places
+pub mod Grammar
+pub mod Spelling
+pub mod Depth
+pub mod Scopes
+pub mod Allowed
+pub mod HasTree
+pub mod Canonical
+pub mod View
+pub mod StatementView

@@ -1,0 +1,266 @@
+//! Expressions, made of their parts.
+#![tactic(auto, unfolding(crate::specs::View::expr_tree))]
+
+ghost use Rattle.std.specs.Prelude.{◌≡◌, IfOk};
+ghost use Rattle.c_tree.specs.Forms as form;
+ghost use Rattle.c_tree.specs.Tree.{Leaf, At, Node, none, ◌▹◌};
+ghost use Rattle.c_tree.specs.Words as word;
+ghost use Rattle.c_tree.specs.View.{name_leaf, literal_leaves};
+ghost use Rattle.c_tree.specs.StatementView.{trees, expr_view, typename_view};
+
+use crate::operator::{AssignOp, BinaryOp, UnaryOp};
+use crate::tree::{Expr, ExprKind, TypeName};
+use hs_base::{Items, Line, NoMemory};
+use std::alloc::Global;
+
+impl Expr {
+    /// A name.
+    pub fn name(line: Line, name: Items<u8>) -> Expr
+        ensures { expr_view result ≡ Node form.Name (At line ▹ name_leaf name ▹ none) }
+    {
+        Expr {
+            line,
+            kind: ExprKind::Name(name),
+        }
+    }
+
+    /// An integer constant, by its spelling.
+    pub fn int(line: Line, spelling: Items<u8>) -> Expr
+        ensures { expr_view result ≡ Node form.Int (At line ▹ Leaf (word.Int spelling) ▹ none) }
+    {
+        Expr {
+            line,
+            kind: ExprKind::Int(spelling),
+        }
+    }
+
+    /// A character constant, by its spelling.
+    pub fn char(line: Line, spelling: Items<u8>) -> Expr
+        ensures { expr_view result ≡ Node form.Char (At line ▹ Leaf (word.Char spelling) ▹ none) }
+    {
+        Expr {
+            line,
+            kind: ExprKind::Char(spelling),
+        }
+    }
+
+    /// String literals one behind another, by their spellings.
+    pub fn str(line: Line, spellings: Items<Items<u8>>) -> Expr
+        ensures { expr_view result ≡ Node form.Str (At line ▹ Node form.Strings (literal_leaves spellings) ▹ none) }
+    {
+        Expr {
+            line,
+            kind: ExprKind::Str(spellings),
+        }
+    }
+
+    /// `(inner)`
+    pub fn paren(alloc: Global, line: Line, inner: Expr) -> Result<Expr, NoMemory>
+        ensures { IfOk result (λ e. expr_view e ≡ Node form.Paren (At line ▹ expr_view inner ▹ none)) }
+    {
+        Ok(Expr {
+            line,
+            kind: ExprKind::Paren(Box::new(alloc, inner)?),
+        })
+    }
+
+    /// `array[index]`
+    pub fn index(alloc: Global, line: Line, array: Expr, index: Expr) -> Result<Expr, NoMemory>
+        ensures { IfOk result (λ e. expr_view e ≡ Node form.Index (At line ▹ expr_view array ▹ expr_view index ▹ none)) }
+    {
+        Ok(Expr {
+            line,
+            kind: ExprKind::Index(Box::new(alloc, array)?, Box::new(alloc, index)?),
+        })
+    }
+
+    /// `callee(arguments)`
+    #[tactic(auto, using(crate::proofs::Views::call_tree))]
+    pub fn call(
+        alloc: Global,
+        line: Line,
+        callee: Expr,
+        arguments: Vec<Expr>,
+    ) -> Result<Expr, NoMemory>
+        ensures { IfOk result (λ e. expr_view e ≡ Node form.Call (At line ▹ expr_view callee ▹ Node form.Arguments (trees expr_view arguments.items) ▹ none)) }
+    {
+        Ok(Expr {
+            line,
+            kind: ExprKind::Call(Box::new(alloc, callee)?, arguments),
+        })
+    }
+
+    /// `whole.name`
+    pub fn dot(alloc: Global, line: Line, whole: Expr, name: Items<u8>) -> Result<Expr, NoMemory>
+        ensures { IfOk result (λ e. expr_view e ≡ Node form.Dot (At line ▹ expr_view whole ▹ name_leaf name ▹ none)) }
+    {
+        Ok(Expr {
+            line,
+            kind: ExprKind::Dot(Box::new(alloc, whole)?, name),
+        })
+    }
+
+    /// `pointer->name`
+    pub fn arrow(
+        alloc: Global,
+        line: Line,
+        pointer: Expr,
+        name: Items<u8>,
+    ) -> Result<Expr, NoMemory>
+        ensures { IfOk result (λ e. expr_view e ≡ Node form.Arrow (At line ▹ expr_view pointer ▹ name_leaf name ▹ none)) }
+    {
+        Ok(Expr {
+            line,
+            kind: ExprKind::Arrow(Box::new(alloc, pointer)?, name),
+        })
+    }
+
+    /// `operand++`
+    pub fn post_inc(alloc: Global, line: Line, operand: Expr) -> Result<Expr, NoMemory>
+        ensures { IfOk result (λ e. expr_view e ≡ Node form.PostInc (At line ▹ expr_view operand ▹ none)) }
+    {
+        Ok(Expr {
+            line,
+            kind: ExprKind::PostInc(Box::new(alloc, operand)?),
+        })
+    }
+
+    /// `operand--`
+    pub fn post_dec(alloc: Global, line: Line, operand: Expr) -> Result<Expr, NoMemory>
+        ensures { IfOk result (λ e. expr_view e ≡ Node form.PostDec (At line ▹ expr_view operand ▹ none)) }
+    {
+        Ok(Expr {
+            line,
+            kind: ExprKind::PostDec(Box::new(alloc, operand)?),
+        })
+    }
+
+    /// `++operand`
+    pub fn pre_inc(alloc: Global, line: Line, operand: Expr) -> Result<Expr, NoMemory>
+        ensures { IfOk result (λ e. expr_view e ≡ Node form.PreInc (At line ▹ expr_view operand ▹ none)) }
+    {
+        Ok(Expr {
+            line,
+            kind: ExprKind::PreInc(Box::new(alloc, operand)?),
+        })
+    }
+
+    /// `--operand`
+    pub fn pre_dec(alloc: Global, line: Line, operand: Expr) -> Result<Expr, NoMemory>
+        ensures { IfOk result (λ e. expr_view e ≡ Node form.PreDec (At line ▹ expr_view operand ▹ none)) }
+    {
+        Ok(Expr {
+            line,
+            kind: ExprKind::PreDec(Box::new(alloc, operand)?),
+        })
+    }
+
+    /// `sizeof operand`
+    pub fn sizeof_expr(alloc: Global, line: Line, operand: Expr) -> Result<Expr, NoMemory>
+        ensures { IfOk result (λ e. expr_view e ≡ Node form.SizeofExpr (At line ▹ expr_view operand ▹ none)) }
+    {
+        Ok(Expr {
+            line,
+            kind: ExprKind::SizeofExpr(Box::new(alloc, operand)?),
+        })
+    }
+
+    /// An operator before its operand.
+    pub fn unary(alloc: Global, line: Line, op: UnaryOp, operand: Expr) -> Result<Expr, NoMemory>
+        ensures { IfOk result (λ e. expr_view e ≡ Node (form.Unary op) (At line ▹ expr_view operand ▹ none)) }
+    {
+        Ok(Expr {
+            line,
+            kind: ExprKind::Unary(op, Box::new(alloc, operand)?),
+        })
+    }
+
+    /// `sizeof(typename)`
+    #[tactic(auto, using(crate::proofs::Views::sizeof_type_tree))]
+    pub fn sizeof_type(alloc: Global, line: Line, typename: TypeName) -> Result<Expr, NoMemory>
+        ensures { IfOk result (λ e. expr_view e ≡ Node form.SizeofType (At line ▹ typename_view typename ▹ none)) }
+    {
+        Ok(Expr {
+            line,
+            kind: ExprKind::SizeofType(Box::new(alloc, typename)?),
+        })
+    }
+
+    /// `(typename)operand`
+    #[tactic(auto, using(crate::proofs::Views::cast_tree))]
+    pub fn cast(
+        alloc: Global,
+        line: Line,
+        typename: TypeName,
+        operand: Expr,
+    ) -> Result<Expr, NoMemory>
+        ensures { IfOk result (λ e. expr_view e ≡ Node form.Cast (At line ▹ typename_view typename ▹ expr_view operand ▹ none)) }
+    {
+        Ok(Expr {
+            line,
+            kind: ExprKind::Cast(Box::new(alloc, typename)?, Box::new(alloc, operand)?),
+        })
+    }
+
+    /// An operator between two operands.
+    pub fn binary(
+        alloc: Global,
+        line: Line,
+        op: BinaryOp,
+        left: Expr,
+        right: Expr,
+    ) -> Result<Expr, NoMemory>
+        ensures { IfOk result (λ e. expr_view e ≡ Node (form.Binary op) (At line ▹ expr_view left ▹ expr_view right ▹ none)) }
+    {
+        Ok(Expr {
+            line,
+            kind: ExprKind::Binary(op, Box::new(alloc, left)?, Box::new(alloc, right)?),
+        })
+    }
+
+    /// `test ? yes : no`
+    pub fn cond(
+        alloc: Global,
+        line: Line,
+        test: Expr,
+        yes: Expr,
+        no: Expr,
+    ) -> Result<Expr, NoMemory>
+        ensures { IfOk result (λ e. expr_view e ≡ Node form.Cond (At line ▹ expr_view test ▹ expr_view yes ▹ expr_view no ▹ none)) }
+    {
+        Ok(Expr {
+            line,
+            kind: ExprKind::Cond(
+                Box::new(alloc, test)?,
+                Box::new(alloc, yes)?,
+                Box::new(alloc, no)?,
+            ),
+        })
+    }
+
+    /// An assignment.
+    pub fn assign(
+        alloc: Global,
+        line: Line,
+        op: AssignOp,
+        left: Expr,
+        right: Expr,
+    ) -> Result<Expr, NoMemory>
+        ensures { IfOk result (λ e. expr_view e ≡ Node (form.Assign op) (At line ▹ expr_view left ▹ expr_view right ▹ none)) }
+    {
+        Ok(Expr {
+            line,
+            kind: ExprKind::Assign(op, Box::new(alloc, left)?, Box::new(alloc, right)?),
+        })
+    }
+
+    /// `left, right`
+    pub fn comma(alloc: Global, line: Line, left: Expr, right: Expr) -> Result<Expr, NoMemory>
+        ensures { IfOk result (λ e. expr_view e ≡ Node form.Comma (At line ▹ expr_view left ▹ expr_view right ▹ none)) }
+    {
+        Ok(Expr {
+            line,
+            kind: ExprKind::Comma(Box::new(alloc, left)?, Box::new(alloc, right)?),
+        })
+    }
+}
