@@ -6,3 +6,4 @@ pub mod ExprTexts
 pub mod ListTexts
 pub mod StmtTexts
 pub mod NameTexts
+pub mod Rereading

@@ -10,5 +10,6 @@ pub mod Scopes
 pub mod Allowed
 pub mod HasTree
 pub mod Canonical
+pub mod Reread
 pub mod View
 pub mod StatementView

@@ -76,8 +76,8 @@ has_typedef (Leaf word ▹ rest) = word_is_typedef word || has_typedef rest
 has_typedef (tree ▹ rest) = has_typedef rest
 
 -- how a node changes the scope, given the one behind its parts: statements with parts of their own, blocks, bodies and
--- parameter lists are scopes; specs with `typedef` say that their declaration is one of typedef names; a declarator's name, a
--- parameter's and an enumerator's is declared at the end
+-- parameter lists are scopes; specs with `typedef` say that their declaration is one of typedef names; the names of a
+-- declarator, of a parameter and of an enumerator are declared at its end
 unfoldable pub left : Form → Trees → Scope → Scope → Scope
 left f.Body parts before inner = before
 left f.Block parts before inner = before
