@@ -1,0 +1,4 @@
+pub mod Examples
+pub mod NumberedNames
+pub mod SameTypes
+pub mod ScopeLemmas

@@ -1,0 +1,14 @@
+pub mod IntegerTypes
+pub mod Constants
+pub mod Named
+pub mod ScopeList
+pub mod BuiltIns
+pub mod Codes
+pub mod Held
+pub mod Refusals
+pub mod Typed
+pub mod TypeRules
+pub mod PlaceRules
+pub mod Callees
+pub mod TypeNames
+pub mod Expressions
