@@ -1,0 +1,10 @@
+pub mod Declared
+pub mod sound
+pub mod complete
+pub mod TokenWords
+pub mod Steps
+pub mod Parts
+pub mod Unary
+pub mod Grown
+pub mod Typedefs
+pub mod Consts

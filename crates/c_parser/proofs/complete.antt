@@ -1,0 +1,16 @@
+pub mod Reads
+pub mod Operators
+pub mod Begins
+pub mod Starts
+pub mod TypeStarts
+pub mod Chains
+pub mod Climbs
+pub mod Levels
+pub mod Lists
+pub mod Counts
+pub mod Tags
+pub mod Specs
+pub mod Parts
+pub mod Statements
+pub mod Firsts
+pub mod Names

@@ -1,0 +1,493 @@
+-- Unary expressions, casts, operators, conditions, assignments and commas are read again.
+use Rattle.std.proofs.Common.{◌≡◌, ℕ, zero, suc, ◌+◌, ◌<◌, ◌≤◌, Bool, true, false, inl, inr, List, [], ◌∷◌, ◌++◌, drop, Option, Some, None, refl, sym, ap, ◌∙◌, subst, arith, ⊎_elim}
+use Rattle.std.specs.Prelude.{max, if◌then◌else◌, ◌&&◌, not, ⊤, nat_lt, nat_le, ◌-◌}
+use Rattle.std.proofs.lemmas.Bool.{cases_lt, le-leb, lt-leb, false≢true, true≢false, and_from}
+use Rattle.c_lexer.specs.declared.token.Token.{Token}
+use Rattle.c_tree.specs.declared.operator.UnaryOp.{UnaryOp}
+use Rattle.c_tree.specs.declared.operator.BinaryOp.{BinaryOp}
+use Rattle.c_tree.specs.declared.operator.BinaryOp.TheVariants as b
+use Rattle.c_tree.specs.declared.operator.AssignOp.{AssignOp}
+use Rattle.c_tree.specs.declared.word.Keyword.TheVariants as k
+use Rattle.c_tree.specs.declared.word.Sign.{Sign}
+use Rattle.c_tree.specs.declared.word.Sign.TheVariants as s
+use Rattle.c_tree.specs.Words.{Word, Key, Mark, Name, Int, Char, Str, Other}
+use Rattle.c_tree.specs.Forms.{Form}
+use Rattle.c_tree.specs.Forms as f
+use Rattle.c_tree.specs.Places.{Place, Expression}
+use Rattle.c_tree.specs.Places as p
+use Rattle.c_tree.specs.Tree.{Tree, Trees, Leaf, At, Node, none, ◌▹◌, count}
+use Rattle.c_tree.specs.Grammar.{Item, Says, Here, Part, rows, some, shape, home, form_home}
+use Rattle.c_tree.specs.Operators.{operand_level, binary_level, unary_sign, binary_sign, assign_sign}
+use Rattle.c_tree.specs.Spelling.{Piece, Said, Line, spell, spell_all, filled, Spells}
+use Rattle.c_tree.specs.Scopes.{Scope, is_scope, places, after}
+use Rattle.c_tree.specs.Allowed.{Takes, IsExpression, Allowed, AllAllowed}
+use Rattle.c_tree.specs.Depth.{depth, greatest_depth, weight, is_of_declarator}
+use Rattle.c_tree.proofs.Spelled.{spells_split}
+use Rattle.c_parser.specs.declared.kind.Kind.{Kind}
+use Rattle.c_parser.specs.declared.kind.Kind.TheVariants as kinds
+use Rattle.c_parser.specs.State.{State, kind_at, line_at, skip, first_kind, kind_of_word, kind_is_key, kind_is_mark, keyword_number, sign_number, at_mark, at_key, starts_type, opens_type}
+use Rattle.c_parser.specs.Reading.{◌>>=◌, Reader, fixed, grown}
+use Rattle.c_parser.specs.Expressions as e
+use Rattle.c_parser.proofs.sound.Back.{IsNamed}
+use Rattle.c_parser.proofs.sound.Took.{Took, Sound}
+use Rattle.c_parser.proofs.sound.Nodes.{plain, depth_flat, IsExprForm, IsGrownForm, looser, placed}
+use Rattle.c_parser.proofs.sound.Expressions.{grows, primary_took, binary_took, cast_took, assign_took, cond_took, unary_form, unary_op_form, paren_form, cast_form, sizeof_expr_form, sizeof_type_form, binary_form, assign_form, cond_form, comma_form}
+use Rattle.c_parser.proofs.complete.Reads.{Follow, Follows, Complete, Reads, said_kind, said_first, stops, sign_stops, is_str}
+use Rattle.c_parser.proofs.complete.Operators as ops
+use Rattle.c_parser.proofs.complete.Begins.{Sort, Outside, Token_, Prefix, Grown, expr_sort, outside_not, grown_of, none_not, one_not, no_word_expr, middle_prefix, middle_binary, is_cond, is_assign, is_comma, top_level, expr_weighs}
+use Rattle.c_parser.proofs.complete.Starts.{GrownSplit, grown_split, expr_inj, is_expr, word_after_line, line_scope, Begins, begins}
+use Rattle.c_parser.proofs.complete.TypeStarts.{typename_start, word_allowed}
+use Rattle.c_parser.proofs.complete.Chains as c
+use Rattle.c_parser.proofs.complete.Climbs as climb
+
+-- the level of a tree, and its begin
+pub expr_level : (level : ℕ) (tree : Tree) → Takes (Expression level) tree → (l : ℕ) × (home tree ≡ Expression l) × (l ≤ level)
+unfolding Takes
+expr_level level tree h = is_expr level (home tree) h
+
+pub level_takes : (level l : ℕ) (tree : Tree) → home tree ≡ Expression l → l ≤ level → Takes (Expression level) tree
+unfolding Takes
+level_takes level l tree e le = subst (IsExpression level) (sym e) le
+
+rest_two : (l : ℕ) (middle rest : List Token) → Spells [] middle rest → stops l (first_kind rest) ≡ true → stops 2 (first_kind middle) ≡ true
+unfolding Spells
+rest_two l middle rest sp h = ap (λ ws. stops 2 (first_kind ws)) sp ∙ ops.stops_two l (first_kind rest) h
+
+rest_one : (l : ℕ) (middle rest : List Token) → Spells [] middle rest → stops l (first_kind rest) ≡ true → stops 1 (first_kind middle) ≡ true
+rest_one l middle rest sp h = ops.stops_tighter 1 2 (first_kind middle) (omega arith) (rest_two l middle rest sp h)
+
+at_key_kind : (state : State) → kind_at state ≡ kinds.Key k.Sizeof → at_key k.Sizeof state ≡ true
+unfolding keyword_number
+at_key_kind state h = ap (kind_is_key k.Sizeof) h
+
+open_kind : (state : State) → kind_at state ≡ kinds.Mark s.LeftParen → at_mark s.LeftParen state ≡ true
+unfolding sign_number
+open_kind state h = ap (kind_is_mark s.LeftParen) h
+
+no_zero : (a l : ℕ) → Expression zero ≡ Expression (suc l) → ⊥
+no_zero a l h = let x = expr_inj zero (suc l) h in absurd (omega (arith, x))
+
+no_line_expr : (l : ℕ) → home (At 0) ≡ Expression l → ⊥
+no_line_expr l h = cc
+
+zero_two : zero + 2 ≡ 2
+zero_two = omega arith
+
+suc_two : (n : ℕ) → suc n + 2 ≡ suc (n + 2)
+suc_two n = omega arith
+
+op_level : (op : BinaryOp) (l : ℕ) → form_home (f.Binary op) ≡ Expression l → binary_level op ≡ l
+unfolding form_home
+op_level op l h = expr_inj (binary_level op) l h
+
+-- the sign of an operator of this level stops what is tighter
+sign_next : (op : BinaryOp) (n : ℕ) (more : Trees) (middle rest : List Token) → operand_level op ≡ n + 2 → Spells (filled (drop 2 (shape (f.Binary op) zero)) (spell_all more)) middle rest → stops (n + 2) (first_kind middle) ≡ true
+unfolding shape
+sign_next op n more middle rest same sp =
+    ap (stops (n + 2)) (said_kind (Mark (binary_sign op)) tt (filled (Part (Expression (operand_level op)) ∷ []) (spell_all more)) middle rest sp) ∙ ops.binary_sign_stops op (n + 2) (omega (arith, same))
+
+twelve : 12 ≡ 10 + 2
+twelve = refl
+
+question_kind : (more : Trees) (middle rest : List Token) → Spells (filled (drop 2 (shape f.Cond zero)) (spell_all more)) middle rest → first_kind middle ≡ kinds.Mark s.Question
+unfolding shape
+question_kind more middle rest sp = said_kind (Mark s.Question) tt (filled (Part (Expression 15) ∷ Says (Mark s.Colon) ∷ Part (Expression 13) ∷ []) (spell_all more)) middle rest sp
+
+question_stops : stops (10 + 2) (kinds.Mark s.Question) ≡ true
+unfolding sign_stops
+question_stops = refl
+
+question_mark : (kind : Kind) → kind ≡ kinds.Mark s.Question → kind_is_mark s.Question kind ≡ true
+unfolding sign_number
+question_mark kind h = ap (kind_is_mark s.Question) h
+
+cond_follows : (more : Trees) (rest : List Token) → stops 13 (first_kind rest) ≡ true → Follows (drop 2 (shape f.Cond zero)) more rest
+unfolding shape Follow sign_stops e.binary_op e.assign_op spell_all
+cond_follows none rest stop = (tt, tt)
+cond_follows (a ▹ none) rest stop = (tt, ((λ middle g. climb.close_stops 15 s.Colon [] middle rest refl g), (tt, tt)))
+cond_follows (a ▹ b ▹ more) rest stop = (tt, ((λ middle g. climb.close_stops 15 s.Colon (spell b ++ []) middle rest refl g), (tt, ((λ middle g. climb.rest_stops 13 13 middle rest g (omega arith) stop), tt))))
+
+assign_kind : (op : AssignOp) (more : Trees) (middle rest : List Token) → Spells (filled (drop 2 (shape (f.Assign op) zero)) (spell_all more)) middle rest → first_kind middle ≡ kinds.Mark (assign_sign op)
+unfolding shape
+assign_kind op more middle rest sp = said_kind (Mark (assign_sign op)) tt (filled (Part (Expression 14) ∷ []) (spell_all more)) middle rest sp
+
+assign_follows : (op : AssignOp) (more : Trees) (rest : List Token) → stops 14 (first_kind rest) ≡ true → Follows (drop 2 (shape (f.Assign op) zero)) more rest
+unfolding shape Follow
+assign_follows op none rest stop = (tt, tt)
+assign_follows op (a ▹ more) rest stop = (tt, ((λ middle g. climb.rest_stops 14 14 middle rest g (omega arith) stop), tt))
+
+unary_tree : (tree : Tree) (l : ℕ) → home tree ≡ Expression l → l ≤ 1 → e.is_unary tree ≡ true
+unary_tree (Leaf word) l h le = absurd (no_word_expr word l h)
+unary_tree (At line) l h le = absurd (cc)
+unary_tree (Node form parts) l h le = ap e.is_unary_place h ∙ le-leb l 1 le
+
+comma_kind : (more : Trees) (middle rest : List Token) → Spells (filled (drop 2 (shape f.Comma zero)) (spell_all more)) middle rest → first_kind middle ≡ kinds.Mark s.Comma
+unfolding shape
+comma_kind more middle rest sp = said_kind (Mark s.Comma) tt (filled (Part (Expression 14) ∷ []) (spell_all more)) middle rest sp
+
+comma_stops : (more : Trees) (middle rest : List Token) → Spells (filled (drop 2 (shape f.Comma zero)) (spell_all more)) middle rest → stops 14 (first_kind middle) ≡ true
+unfolding sign_stops
+comma_stops more middle rest sp = ap (stops 14) (comma_kind more middle rest sp)
+
+comma_mark : (more : Trees) (middle rest : List Token) → Spells (filled (drop 2 (shape f.Comma zero)) (spell_all more)) middle rest → kind_is_mark s.Comma (first_kind middle) ≡ true
+unfolding sign_number
+comma_mark more middle rest sp = ap (kind_is_mark s.Comma) (comma_kind more middle rest sp)
+
+comma_follows : (more : Trees) (rest : List Token) → stops 14 (first_kind rest) ≡ true → Follows (drop 2 (shape f.Comma zero)) more rest
+unfolding shape Follow
+comma_follows none rest stop = (tt, tt)
+comma_follows (a ▹ more) rest stop = (tt, ((λ middle g. climb.rest_stops 14 14 middle rest g (omega arith) stop), tt))
+
+top_tree : (tree : Tree) (l : ℕ) → home tree ≡ Expression l → l ≤ 15
+top_tree (Leaf word) l h = absurd (no_word_expr word l h)
+top_tree (At line) l h = absurd (cc)
+top_tree (Node form parts) l h = top_level form l h
+
+pub tree_depth : (tree : Tree) (l : ℕ) → home tree ≡ Expression l → 0 < depth tree
+tree_depth (Leaf word) l e = absurd (no_word_expr word l e)
+tree_depth (At line) l e = absurd (cc)
+tree_depth (Node form parts) l e =
+    let w = expr_weighs form l e in
+    let d = depth_flat form parts w.0 in
+    let one = w.1 in
+    omega (arith, d, one)
+
+module _ (inner : Place → Reader) (room : ℕ) (deeper : (place : Place) → Sound room place (inner place)) (again : (place : Place) → Complete room place (inner place)) (room_left : 0 < room) where
+  -- Postfix
+
+  postfix_reads : (l : ℕ) (tree : Tree) (state : State) (rest : List Token) → Takes (Expression 0) tree → Allowed tree state.scope → depth tree < suc room → Spells (spell tree) state.words rest → stops l (first_kind rest) ≡ true → Reads (e.postfix_at inner room) state tree rest
+  postfix_reads l tree state rest h al deep sp stop =
+      let f = climb.postfix_front inner room deeper again room_left tree state rest h al deep sp (ops.no_str l (first_kind rest) stop) in
+      by f.out f.fuel f.goes f.words f.enough
+    where
+      by : (out : State) (fuel : ℕ) → e.postfix_at inner room state ≡ e.postfix_from inner room fuel (line_at state) tree out → out.words ≡ rest → suc room ≤ fuel + depth tree → Reads (e.postfix_at inner room) state tree rest
+      by out zero goes same enough = absurd (omega (arith, enough, deep))
+      by out (suc n) goes same enough =
+          (out, goes ∙ ap (λ o. e.postfix_by inner room (e.postfix_from inner room n (line_at state)) (line_at state) tree o out) (ap (λ ws. e.of_mark e.postfix_op (first_kind ws)) same ∙ ops.no_postfix l (first_kind rest) stop), same)
+
+  -- Unary
+
+  low_unary : (l : ℕ) (tree : Tree) (state : State) (rest : List Token) → Takes (Expression 0) tree → Allowed tree state.scope → depth tree < suc room → Spells (spell tree) state.words rest → stops l (first_kind rest) ≡ true → Reads (e.unary_at inner room) state tree rest
+  low_unary l tree state rest h al deep sp stop =
+      let v = expr_level 0 tree h in
+      let z = (begins tree v.0 state rest v.1 al sp).zero v.2 in
+      let r = postfix_reads l tree state rest h al deep sp stop in
+      (r.0, ap (λ o. e.unary_by inner room o state) z.0 ∙ ap (λ b. if b then e.sizeof_at inner room state else e.postfix_at inner room state) z.1 ∙ r.1, r.2)
+
+  high_unary : (form : Form) (x a : Tree) (more : Trees) (l m : ℕ) (state : State) (rest : List Token) → expr_sort form ≡ Prefix → form_home form ≡ Expression (suc l) → suc l ≤ 1 → Allowed (Node form (x ▹ a ▹ more)) state.scope → depth (Node form (x ▹ a ▹ more)) < suc room → Spells (spell (Node form (x ▹ a ▹ more))) state.words rest → stops m (first_kind rest) ≡ true → Reads (e.unary_at inner room) state (Node form (x ▹ a ▹ more)) rest
+  unfolding form_home shape Allowed AllAllowed spell spell_all e.unary_op Follow Takes weight sign_stops e.binary_op e.assign_op
+  high_unary f.Paren x a more l m state rest h at le al deep sp stop = absurd (no_zero 0 l at)
+  high_unary f.PreInc x a more l m state rest h at le al deep sp stop =
+      let w = word_after_line (Mark s.PlusPlus) x (spell a ++ []) state rest al.1.0 tt sp in
+      let r = c.whole_again inner room deeper again room_left 1 f.PreInc (unary_op_form s.PlusPlus f.PreInc refl) state (x ▹ a ▹ more) rest al deep sp (tt, ((λ middle g. rest_one m middle rest g stop), tt)) in
+      (r.0, ap (λ kind. e.unary_by inner room (e.of_mark e.unary_op kind) state) w.0 ∙ r.1, r.2)
+  high_unary f.PreDec x a more l m state rest h at le al deep sp stop =
+      let w = word_after_line (Mark s.MinusMinus) x (spell a ++ []) state rest al.1.0 tt sp in
+      let r = c.whole_again inner room deeper again room_left 1 f.PreDec (unary_op_form s.MinusMinus f.PreDec refl) state (x ▹ a ▹ more) rest al deep sp (tt, ((λ middle g. rest_one m middle rest g stop), tt)) in
+      (r.0, ap (λ kind. e.unary_by inner room (e.of_mark e.unary_op kind) state) w.0 ∙ r.1, r.2)
+  high_unary (f.Unary op) x a more l m state rest h at le al deep sp stop =
+      let w = word_after_line (Mark (unary_sign op)) x (spell a ++ []) state rest al.1.0 tt sp in
+      let r = c.whole_again inner room deeper again room_left 1 (f.Unary op) (unary_form op) state (x ▹ a ▹ more) rest al deep sp (tt, ((λ middle g. rest_two m middle rest g stop), tt)) in
+      (r.0, ap (λ kind. e.unary_by inner room (e.of_mark e.unary_op kind) state) w.0 ∙ ap (λ o. e.unary_by inner room o state) (ops.unary_sign_op op) ∙ r.1, r.2)
+  high_unary f.SizeofExpr x a more l m state rest h at le al deep sp stop =
+      let w = word_after_line (Key k.Sizeof) x (spell a ++ []) state rest al.1.0 tt sp in
+      let inside = said_first (Key k.Sizeof) tt (spell a ++ []) state rest w.1 in
+      let split = spells_split (spell a) [] (skip state).words rest inside.1 in
+      let v = expr_level 1 a al.1.2.0 in
+      let start = (begins a v.0 (skip state) split.0 v.1 (word_allowed x a state.scope al.1.0 al.1.2.1) split.1).opens v.2 in
+      let r = c.whole_again inner room deeper again room_left 1 f.SizeofExpr sizeof_expr_form state (x ▹ a ▹ more) rest al deep sp (tt, ((λ middle g. rest_one m middle rest g stop), tt)) in
+      (r.0, ap (λ kind. e.unary_by inner room (e.of_mark e.unary_op kind) state) w.0 ∙ ap (λ b. if b then e.sizeof_at inner room state else e.postfix_at inner room state) (at_key_kind state w.0) ∙ ap (λ b. if b then fixed inner f.SizeofType state else fixed inner f.SizeofExpr state) start ∙ r.1, r.2)
+  high_unary f.SizeofType x a more l m state rest h at le al deep sp stop =
+      let tail = filled (Says (Mark s.RightParen) ∷ []) (spell_all more) in
+      let w = word_after_line (Key k.Sizeof) x (Said (Mark s.LeftParen) ∷ (spell a ++ tail)) state rest al.1.0 tt sp in
+      let inside = said_first (Key k.Sizeof) tt (Said (Mark s.LeftParen) ∷ (spell a ++ tail)) state rest w.1 in
+      let opened = said_first (Mark s.LeftParen) tt (spell a ++ tail) (skip state) rest inside.1 in
+      let split = spells_split (spell a) tail (skip (skip state)).words rest opened.1 in
+      let typed = typename_start a (skip (skip state)) split.0 al.1.2.0 (word_allowed x a state.scope al.1.0 al.1.2.1) split.1 in
+      let start = and_from (at_mark s.LeftParen (skip state)) (starts_type (skip (skip state))) (open_kind (skip state) (said_kind (Mark s.LeftParen) tt (spell a ++ tail) (skip state).words rest inside.1)) typed in
+      let r = c.whole_again inner room deeper again room_left 1 f.SizeofType sizeof_type_form state (x ▹ a ▹ more) rest al deep sp (tt, (tt, ((λ middle g. said_kind (Mark s.RightParen) tt [] middle rest g), (tt, tt)))) in
+      (r.0, ap (λ kind. e.unary_by inner room (e.of_mark e.unary_op kind) state) w.0 ∙ ap (λ b. if b then e.sizeof_at inner room state else e.postfix_at inner room state) (at_key_kind state w.0) ∙ ap (λ b. if b then fixed inner f.SizeofType state else fixed inner f.SizeofExpr state) start ∙ r.1, r.2)
+  high_unary f.Cast x a more l m state rest h at le al deep sp stop = let e2 = expr_inj 2 (suc l) at in absurd (omega (arith, e2, le))
+  high_unary _ x a more l m state rest h at le al deep sp stop = absurd (cc)
+
+  unary_reads : (m : ℕ) (tree : Tree) (state : State) (rest : List Token) → Takes (Expression 1) tree → Allowed tree state.scope → depth tree < suc room → Spells (spell tree) state.words rest → stops m (first_kind rest) ≡ true → Reads (e.unary_at inner room) state tree rest
+  unfolding Allowed
+  unary_reads m tree state rest h al deep sp stop = let v = expr_level 1 tree h in by tree v.0 v.1 v.2 al deep sp where
+    by : (tree : Tree) (l : ℕ) → home tree ≡ Expression l → l ≤ 1 → Allowed tree state.scope → depth tree < suc room → Spells (spell tree) state.words rest → Reads (e.unary_at inner room) state tree rest
+    by tree zero e le al deep sp = low_unary m tree state rest (level_takes 0 0 tree e (omega arith)) al deep sp stop
+    by (Leaf word) (suc l) e le al deep sp = absurd (no_word_expr word (suc l) e)
+    by (At line) (suc l) e le al deep sp = absurd (cc)
+    by (Node form none) (suc l) e le al deep sp = absurd (none_not form (suc l) state.scope e al.1)
+    by (Node form (x ▹ none)) (suc l) e le al deep sp = absurd (one_not form (suc l) x state.scope e al.1)
+    by (Node form (x ▹ a ▹ more)) (suc l) e le al deep sp = high_unary form x a more l m state rest (middle_prefix form (suc l) e (omega arith) (omega (arith, le))) e le al deep sp stop
+
+  -- Casts
+
+  cast_form_reads : (form : Form) (x a : Tree) (more : Trees) (m : ℕ) (state : State) (rest : List Token) → expr_sort form ≡ Prefix → form_home form ≡ Expression 2 → Allowed (Node form (x ▹ a ▹ more)) state.scope → depth (Node form (x ▹ a ▹ more)) < suc room → Spells (spell (Node form (x ▹ a ▹ more))) state.words rest → stops m (first_kind rest) ≡ true → Reads (e.cast_at inner room) state (Node form (x ▹ a ▹ more)) rest
+  unfolding form_home shape Allowed AllAllowed spell spell_all Follow Takes
+  cast_form_reads f.Paren x a more m state rest h at al deep sp stop = absurd (cc)
+  cast_form_reads f.PreInc x a more m state rest h at al deep sp stop = let z = expr_inj 1 2 at in absurd (omega (arith, z))
+  cast_form_reads f.PreDec x a more m state rest h at al deep sp stop = let z = expr_inj 1 2 at in absurd (omega (arith, z))
+  cast_form_reads (f.Unary op) x a more m state rest h at al deep sp stop = let z = expr_inj 1 2 at in absurd (omega (arith, z))
+  cast_form_reads f.SizeofExpr x a more m state rest h at al deep sp stop = let z = expr_inj 1 2 at in absurd (omega (arith, z))
+  cast_form_reads f.SizeofType x a more m state rest h at al deep sp stop = let z = expr_inj 1 2 at in absurd (omega (arith, z))
+  cast_form_reads f.Cast x a none m state rest h at al deep sp stop = absurd al.1.2.2
+  cast_form_reads f.Cast x a (b ▹ more) m state rest h at al deep sp stop =
+      let tail = filled (Says (Mark s.RightParen) ∷ Part (Expression 2) ∷ []) (spell_all (b ▹ more)) in
+      let w = word_after_line (Mark s.LeftParen) x (spell a ++ tail) state rest al.1.0 tt sp in
+      let opened = said_first (Mark s.LeftParen) tt (spell a ++ tail) state rest w.1 in
+      let split = spells_split (spell a) tail (skip state).words rest opened.1 in
+      let typed = typename_start a (skip state) split.0 al.1.2.0 (word_allowed x a state.scope al.1.0 al.1.2.1) split.1 in
+      let start = and_from (at_mark s.LeftParen state) (starts_type (skip state)) (open_kind state w.0) typed in
+      let r = c.whole_again inner room deeper again room_left 2 f.Cast cast_form state (x ▹ a ▹ b ▹ more) rest al deep sp (tt, ((λ middle g. said_kind (Mark s.RightParen) tt (spell b ++ []) middle rest g), (tt, ((λ middle g. rest_two m middle rest g stop), tt)))) in
+      (r.0, ap (λ t. if t then fixed inner f.Cast state else e.unary_at inner room state) start ∙ r.1, r.2)
+  cast_form_reads _ x a more m state rest h at al deep sp stop = absurd (cc)
+
+  cast_reads : (m : ℕ) (tree : Tree) (state : State) (rest : List Token) → Takes (Expression 2) tree → Allowed tree state.scope → depth tree < suc room → Spells (spell tree) state.words rest → stops m (first_kind rest) ≡ true → Reads (e.cast_at inner room) state tree rest
+  unfolding Allowed
+  cast_reads m tree state rest h al deep sp stop = let v = expr_level 2 tree h in ⊎_elim (high tree v.0 v.1 v.2 al deep sp) (low v.0 v.1) (cases_lt 1 v.0) where
+    low : (l : ℕ) → home tree ≡ Expression l → l ≤ 1 → Reads (e.cast_at inner room) state tree rest
+    low l g le =
+        let r = unary_reads m tree state rest (level_takes 1 l tree g le) al deep sp stop in
+        (r.0, ap (λ t. if t then fixed inner f.Cast state else e.unary_at inner room state) ((begins tree l state rest g al sp).opens le) ∙ r.1, r.2)
+
+    high : (tree : Tree) (l : ℕ) → home tree ≡ Expression l → l ≤ 2 → Allowed tree state.scope → depth tree < suc room → Spells (spell tree) state.words rest → 1 < l → Reads (e.cast_at inner room) state tree rest
+    high (Leaf word) l e le al deep sp lt = absurd (no_word_expr word l e)
+    high (At line) l e le al deep sp lt = absurd (cc)
+    high (Node form none) l e le al deep sp lt = absurd (none_not form l state.scope e al.1)
+    high (Node form (x ▹ none)) l e le al deep sp lt = absurd (one_not form l x state.scope e al.1)
+    high (Node form (x ▹ a ▹ more)) l e le al deep sp lt =
+        let two : l ≡ 2 = omega (arith, le, lt) in
+        cast_form_reads form x a more m state rest (middle_prefix form l e (omega (arith, lt)) le) (e ∙ ap Expression two) al deep sp stop
+
+  -- Operators
+
+  abbrev BinaryFront : ℕ → State → Tree → List Token → Type 0
+  BinaryFront n state tree rest = c.Front inner room deeper again room_left (e.binary_at inner room (suc n)) (λ fuel. e.binary_from inner room fuel (n + 2)) (suc (n + 2)) state tree rest
+
+  abbrev BinaryReads : ℕ → Type 0
+  BinaryReads n = (tree : Tree) (state : State) (rest : List Token) → Takes (Expression (n + 2)) tree → Allowed tree state.scope → depth tree < suc room → Spells (spell tree) state.words rest → stops (n + 2) (first_kind rest) ≡ true → Reads (e.binary_at inner room n) state tree rest
+
+  expr_depth : (tree : Tree) (l : ℕ) → home tree ≡ Expression l → 0 < depth tree
+  expr_depth (Leaf word) l e = absurd (no_word_expr word l e)
+  expr_depth (At line) l e = absurd (cc)
+  expr_depth (Node form parts) l e =
+      let w = expr_weighs form l e in
+      let d = depth_flat form parts w.0 in
+      let one = w.1 in
+      omega (arith, d, one)
+
+  binary_below : (n : ℕ) → BinaryReads n → (tree : Tree) (l : ℕ) (state : State) (rest : List Token) → home tree ≡ Expression l → l ≤ n + 2 → Allowed tree state.scope → depth tree < suc room → Spells (spell tree) state.words rest → stops (n + 2) (first_kind rest) ≡ true → BinaryFront n state tree rest
+  binary_below n reads tree l state rest g le al deep sp stop =
+      let r = reads tree state rest (level_takes (n + 2) l tree g le) al deep sp stop in
+      let some = expr_depth tree l g in
+      let took = binary_took inner room deeper room_left n state (tree, r.0) r.1 in
+      record {
+        out = r.0;
+        fuel = room;
+        goes = ap (λ o. o >>= (λ (x : Tree × State). e.binary_from inner room room (n + 2) (line_at state) x.0 x.1)) r.1;
+        words = r.2;
+        enough = omega (arith, some);
+        took = looser (suc room) (suc room) (n + 2) (suc (n + 2)) state tree r.0 took took.deep (omega arith);
+      }
+
+  binary_next : (op : BinaryOp) (n : ℕ) (more : Trees) (state out : State) (a : Tree) (rest : List Token) → operand_level op ≡ n + 2 → Spells (filled (drop 2 (shape (f.Binary op) zero)) (spell_all more)) out.words rest → (k : ℕ) → e.binary_from inner room (suc k) (n + 2) (line_at state) a out ≡ (grown room inner (f.Binary op) (line_at state) a out >>= (λ (y : Tree × State). e.binary_from inner room k (n + 2) (line_at state) y.0 y.1))
+  unfolding shape
+  binary_next op n more state out a rest same sp k =
+      let kind = said_kind (Mark (binary_sign op)) tt (filled (Part (Expression (operand_level op)) ∷ []) (spell_all more)) out.words rest sp in
+      ap (λ kind. e.binary_by inner room (e.binary_from inner room k (n + 2) (line_at state)) (line_at state) a (e.at_level (n + 2) (e.of_mark e.binary_op kind)) out) kind
+      ∙ ap (λ o. e.binary_by inner room (e.binary_from inner room k (n + 2) (line_at state)) (line_at state) a o out) (ops.yes_binary op (n + 2) same)
+
+  binary_follows : (op : BinaryOp) (n : ℕ) (more : Trees) (rest : List Token) → operand_level op ≡ n + 2 → stops (n + 2) (first_kind rest) ≡ true → Follows (drop 2 (shape (f.Binary op) zero)) more rest
+  unfolding shape Follow
+  binary_follows op n none rest same stop = (tt, tt)
+  binary_follows op n (b ▹ more) rest same stop = (tt, ((λ middle g. climb.rest_stops (operand_level op) (n + 2) middle rest g (omega (arith, same)) stop), tt))
+
+  binary_grown : (n : ℕ) (op : BinaryOp) (x a : Tree) (more : Trees) (state : State) (rest : List Token) → operand_level op ≡ n + 2 → ((mid : List Token) → Takes (Expression (suc (n + 2))) a → Allowed a state.scope → depth a < suc room → Spells (spell a) state.words mid → stops (n + 2) (first_kind mid) ≡ true → BinaryFront n state a mid) → stops (n + 2) (first_kind rest) ≡ true → Allowed (Node (f.Binary op) (x ▹ a ▹ more)) state.scope → depth (Node (f.Binary op) (x ▹ a ▹ more)) < suc room → Spells (spell (Node (f.Binary op) (x ▹ a ▹ more))) state.words rest → BinaryFront n state (Node (f.Binary op) (x ▹ a ▹ more)) rest
+  binary_grown n op x a more state rest same ih stop al deep sp =
+      let facts = subst (λ l. IsGrownForm (f.Binary op) l l) (ap suc same) (binary_form op) in
+      let split = grown_split (f.Binary op) (suc (n + 2)) (suc (n + 2)) x a more state rest facts al sp in
+      let long = c.left_depth (f.Binary op) (suc (n + 2)) x a more facts.whole in
+      let f0 = ih split.middle split.stands split.allowed (omega (arith, deep, long)) split.spelled (sign_next op n more split.middle rest same split.last) in
+      climb.grown_step inner room deeper again room_left (e.binary_at inner room (suc n)) (λ fuel. e.binary_from inner room fuel (n + 2)) (f.Binary op) (suc (n + 2)) x a more state rest facts split deep f0 (binary_next op n more state f0.out a rest same (subst (λ ws. Spells (filled (drop 2 (shape (f.Binary op) zero)) (spell_all more)) ws rest) (sym f0.words) split.last)) (binary_follows op n more rest same stop)
+
+  binary_front : (n : ℕ) → n ≤ 9 → BinaryReads n → (tree : Tree) (state : State) (rest : List Token) → Takes (Expression (suc (n + 2))) tree → Allowed tree state.scope → depth tree < suc room → Spells (spell tree) state.words rest → stops (n + 2) (first_kind rest) ≡ true → BinaryFront n state tree rest
+  unfolding Allowed
+  binary_front n few reads (Leaf word) state rest h al deep sp stop = let v = expr_level (suc (n + 2)) (Leaf word) h in absurd (no_word_expr word v.0 v.1)
+  binary_front n few reads (At line) state rest h al deep sp stop = let v = expr_level (suc (n + 2)) (At line) h in absurd (no_line_expr v.0 v.1)
+  binary_front n few reads (Node form none) state rest h al deep sp stop = let v = expr_level (suc (n + 2)) (Node form none) h in absurd (none_not form v.0 state.scope v.1 al.1)
+  binary_front n few reads (Node form (x ▹ none)) state rest h al deep sp stop = let v = expr_level (suc (n + 2)) (Node form (x ▹ none)) h in absurd (one_not form v.0 x state.scope v.1 al.1)
+  binary_front n few reads (Node form (x ▹ a ▹ more)) state rest h al deep sp stop =
+      let v = expr_level (suc (n + 2)) (Node form (x ▹ a ▹ more)) h in
+      ⊎_elim (here (λ mid g al2 d2 sp2 stop2. binary_front n few reads a state mid g al2 d2 sp2 stop2) v.0 v.1 v.2) (λ le. binary_below n reads (Node form (x ▹ a ▹ more)) v.0 state rest v.1 le al deep sp stop) (cases_lt (n + 2) v.0)
+    where
+      here : ((mid : List Token) → Takes (Expression (suc (n + 2))) a → Allowed a state.scope → depth a < suc room → Spells (spell a) state.words mid → stops (n + 2) (first_kind mid) ≡ true → BinaryFront n state a mid) → (l : ℕ) → form_home form ≡ Expression l → l ≤ suc (n + 2) → n + 2 < l → BinaryFront n state (Node form (x ▹ a ▹ more)) rest
+      here ih l e le lt =
+          let op = middle_binary form l e (omega (arith, lt)) (omega (arith, le, few)) in
+          let P : Form → Type 0 = λ g. Allowed (Node g (x ▹ a ▹ more)) state.scope → depth (Node g (x ▹ a ▹ more)) < suc room → Spells (spell (Node g (x ▹ a ▹ more))) state.words rest → BinaryFront n state (Node g (x ▹ a ▹ more)) rest in
+          let same = op_level op.0 l (sym (ap form_home op.1) ∙ e) in
+          subst P (sym op.1) (binary_grown n op.0 x a more state rest (omega (arith, same, le, lt)) ih stop) al deep sp
+
+  binary_reads : (n : ℕ) → n ≤ 10 → BinaryReads n
+  binary_reads zero few tree state rest h al deep sp stop = cast_reads (zero + 2) tree state rest (subst (λ l. Takes (Expression l) tree) zero_two h) al deep sp stop
+  binary_reads (suc n) few tree state rest h al deep sp stop =
+      let front = binary_front n (omega (arith, few)) (binary_reads n (omega (arith, few))) tree state rest (subst (λ l. Takes (Expression l) tree) (suc_two n) h) al deep sp (ops.stops_tighter (n + 2) (suc n + 2) (first_kind rest) (omega arith) stop) in
+      by front.out front.fuel front.goes front.words front.enough
+    where
+      by : (out : State) (fuel : ℕ) → e.binary_at inner room (suc n) state ≡ e.binary_from inner room fuel (n + 2) (line_at state) tree out → out.words ≡ rest → suc room ≤ fuel + depth tree → Reads (e.binary_at inner room (suc n)) state tree rest
+      by out zero goes same enough = absurd (omega (arith, enough, deep))
+      by out (suc k) goes same enough =
+          (out, goes ∙ ap (λ o. e.binary_by inner room (e.binary_from inner room k (n + 2) (line_at state)) (line_at state) tree o out) (ap (λ ws. e.at_level (n + 2) (e.of_mark e.binary_op (first_kind ws))) same ∙ ops.no_binary (n + 2) (first_kind rest) (subst (λ l. stops l (first_kind rest) ≡ true) (suc_two n) stop)), same)
+
+  -- Conditions
+
+  cond_node : (x a : Tree) (more : Trees) (state : State) (rest : List Token) → Allowed (Node f.Cond (x ▹ a ▹ more)) state.scope → depth (Node f.Cond (x ▹ a ▹ more)) < suc room → Spells (spell (Node f.Cond (x ▹ a ▹ more))) state.words rest → stops 13 (first_kind rest) ≡ true → Reads (e.cond_at inner room) state (Node f.Cond (x ▹ a ▹ more)) rest
+  unfolding is_scope
+  cond_node x a more state rest al deep sp stop =
+      let split = grown_split f.Cond 12 13 x a more state rest cond_form al sp in
+      let long = c.left_depth f.Cond 13 x a more cond_form.whole in
+      let inside = c.parts_depth x a more room (c.expr_deep f.Cond 13 room (x ▹ a ▹ more) cond_form.whole deep) in
+      let question = question_kind more split.middle rest split.last in
+      let first = binary_reads 10 (omega arith) a state split.middle (subst (λ l. Takes (Expression l) a) twelve split.stands) split.allowed (omega (arith, deep, long)) split.spelled (ap (λ kind. stops (10 + 2) kind) question ∙ question_stops) in
+      let took = binary_took inner room deeper room_left 10 state (a, first.0) first.1 in
+      let r = c.grown_again inner room deeper again room_left f.Cond 12 13 (line_at state) first.0 a more rest cond_form inside.0 inside.1 (subst (λ sc. AllAllowed more (places (drop 2 (shape f.Cond zero))) sc) (sym took.scope) split.behind) (subst (λ ws. Spells (filled (drop 2 (shape f.Cond zero)) (spell_all more)) ws rest) (sym first.2) split.last) (cond_follows more rest stop) in
+      let whole : e.cond_at inner room state ≡ Some (Node f.Cond (At (line_at state) ▹ a ▹ more), r.0) =
+      ap (λ o. o >>= (λ (y : Tree × State). if at_mark s.Question y.1 then grown room inner f.Cond (line_at state) y.0 y.1 else Some y)) first.1
+      ∙ ap (λ b. if b then grown room inner f.Cond (line_at state) a first.0 else Some (a, first.0)) (ap (λ ws. kind_is_mark s.Question (first_kind ws)) first.2 ∙ question_mark (first_kind split.middle) question)
+      ∙ r.1 in
+      (r.0, whole ∙ ap (λ y. Some (Node f.Cond (y ▹ a ▹ more), r.0)) (ap At split.here ∙ sym split.is), r.2)
+
+  cond_reads : (tree : Tree) (state : State) (rest : List Token) → Takes (Expression 13) tree → Allowed tree state.scope → depth tree < suc room → Spells (spell tree) state.words rest → stops 13 (first_kind rest) ≡ true → Reads (e.cond_at inner room) state tree rest
+  unfolding Allowed
+  cond_reads tree state rest h al deep sp stop = let v = expr_level 13 tree h in ⊎_elim (high tree v.0 v.1 v.2 al deep sp) (low v.0 v.1) (cases_lt 12 v.0) where
+    low : (l : ℕ) → home tree ≡ Expression l → l ≤ 12 → Reads (e.cond_at inner room) state tree rest
+    low l g le =
+        let r = binary_reads 10 (omega arith) tree state rest (level_takes (10 + 2) l tree g (omega (arith, le))) al deep sp (ops.stops_tighter (10 + 2) 13 (first_kind rest) (omega arith) stop) in
+        (r.0, ap (λ o. o >>= (λ (y : Tree × State). if at_mark s.Question y.1 then grown room inner f.Cond (line_at state) y.0 y.1 else Some y)) r.1 ∙ ap (λ b. if b then grown room inner f.Cond (line_at state) tree r.0 else Some (tree, r.0)) (ap (λ ws. kind_is_mark s.Question (first_kind ws)) r.2 ∙ ops.no_question (first_kind rest) stop), r.2)
+
+    high : (tree : Tree) (l : ℕ) → home tree ≡ Expression l → l ≤ 13 → Allowed tree state.scope → depth tree < suc room → Spells (spell tree) state.words rest → 12 < l → Reads (e.cond_at inner room) state tree rest
+    high (Leaf word) l g le al deep sp lt = absurd (no_word_expr word l g)
+    high (At line) l g le al deep sp lt = absurd (cc)
+    high (Node form none) l g le al deep sp lt = absurd (none_not form l state.scope g al.1)
+    high (Node form (x ▹ none)) l g le al deep sp lt = absurd (one_not form l x state.scope g al.1)
+    high (Node form (x ▹ a ▹ more)) l g le al deep sp lt =
+        let P : Form → Type 0 = λ q. Allowed (Node q (x ▹ a ▹ more)) state.scope → depth (Node q (x ▹ a ▹ more)) < suc room → Spells (spell (Node q (x ▹ a ▹ more))) state.words rest → Reads (e.cond_at inner room) state (Node q (x ▹ a ▹ more)) rest in
+        subst P (sym (is_cond form l g (omega (arith, le, lt)))) (λ al2 d2 sp2. cond_node x a more state rest al2 d2 sp2 stop) al deep sp
+
+  -- Assignments
+
+  assign_node : (op : AssignOp) (x a : Tree) (more : Trees) (state : State) (rest : List Token) → Allowed (Node (f.Assign op) (x ▹ a ▹ more)) state.scope → depth (Node (f.Assign op) (x ▹ a ▹ more)) < suc room → Spells (spell (Node (f.Assign op) (x ▹ a ▹ more))) state.words rest → stops 14 (first_kind rest) ≡ true → Reads (e.assign_at inner room) state (Node (f.Assign op) (x ▹ a ▹ more)) rest
+  unfolding is_scope
+  assign_node op x a more state rest al deep sp stop =
+      let facts = assign_form op in
+      let split = grown_split (f.Assign op) 1 14 x a more state rest facts al sp in
+      let long = c.left_depth (f.Assign op) 14 x a more facts.whole in
+      let inside = c.parts_depth x a more room (c.expr_deep (f.Assign op) 14 room (x ▹ a ▹ more) facts.whole deep) in
+      let sign = assign_kind op more split.middle rest split.last in
+      let v = expr_level 1 a split.stands in
+      let first = cond_reads a state split.middle (level_takes 13 v.0 a v.1 (let le = v.2 in omega (arith, le))) split.allowed (omega (arith, deep, long)) split.spelled (ap (stops 13) sign ∙ ops.assign_sign_stops op) in
+      let took = cond_took inner room deeper room_left state (a, first.0) first.1 in
+      let r = c.grown_again inner room deeper again room_left (f.Assign op) 1 14 (line_at state) first.0 a more rest facts inside.0 inside.1 (subst (λ sc. AllAllowed more (places (drop 2 (shape (f.Assign op) zero))) sc) (sym took.scope) split.behind) (subst (λ ws. Spells (filled (drop 2 (shape (f.Assign op) zero)) (spell_all more)) ws rest) (sym first.2) split.last) (assign_follows op more rest stop) in
+      let whole : e.assign_at inner room state ≡ Some (Node (f.Assign op) (At (line_at state) ▹ a ▹ more), r.0) =
+      ap (λ o. o >>= (λ (y : Tree × State). e.assign_by inner room (line_at state) y.0 (e.of_mark e.assign_op (kind_at y.1)) y.1)) first.1
+      ∙ ap (λ kind. e.assign_by inner room (line_at state) a (e.of_mark e.assign_op kind) first.0) (ap first_kind first.2 ∙ sign)
+      ∙ ap (λ o. e.assign_by inner room (line_at state) a o first.0) (ops.assign_sign_op op)
+      ∙ ap (λ b. if b then grown room inner (f.Assign op) (line_at state) a first.0 else None) (unary_tree a v.0 v.1 v.2)
+      ∙ r.1 in
+      (r.0, whole ∙ ap (λ y. Some (Node (f.Assign op) (y ▹ a ▹ more), r.0)) (ap At split.here ∙ sym split.is), r.2)
+
+  assign_reads : (tree : Tree) (state : State) (rest : List Token) → Takes (Expression 14) tree → Allowed tree state.scope → depth tree < suc room → Spells (spell tree) state.words rest → stops 14 (first_kind rest) ≡ true → Reads (e.assign_at inner room) state tree rest
+  unfolding Allowed
+  assign_reads tree state rest h al deep sp stop = let v = expr_level 14 tree h in ⊎_elim (high tree v.0 v.1 v.2 al deep sp) (low v.0 v.1) (cases_lt 13 v.0) where
+    low : (l : ℕ) → home tree ≡ Expression l → l ≤ 13 → Reads (e.assign_at inner room) state tree rest
+    low l g le =
+        let r = cond_reads tree state rest (level_takes 13 l tree g le) al deep sp (ops.stops_tighter 13 14 (first_kind rest) (omega arith) stop) in
+        (r.0, ap (λ o. o >>= (λ (y : Tree × State). e.assign_by inner room (line_at state) y.0 (e.of_mark e.assign_op (kind_at y.1)) y.1)) r.1 ∙ ap (λ o. e.assign_by inner room (line_at state) tree o r.0) (ap (λ ws. e.of_mark e.assign_op (first_kind ws)) r.2 ∙ ops.no_assign (first_kind rest) stop), r.2)
+
+    high : (tree : Tree) (l : ℕ) → home tree ≡ Expression l → l ≤ 14 → Allowed tree state.scope → depth tree < suc room → Spells (spell tree) state.words rest → 13 < l → Reads (e.assign_at inner room) state tree rest
+    high (Leaf word) l g le al deep sp lt = absurd (no_word_expr word l g)
+    high (At line) l g le al deep sp lt = absurd (cc)
+    high (Node form none) l g le al deep sp lt = absurd (none_not form l state.scope g al.1)
+    high (Node form (x ▹ none)) l g le al deep sp lt = absurd (one_not form l x state.scope g al.1)
+    high (Node form (x ▹ a ▹ more)) l g le al deep sp lt =
+        let P : Form → Type 0 = λ q. Allowed (Node q (x ▹ a ▹ more)) state.scope → depth (Node q (x ▹ a ▹ more)) < suc room → Spells (spell (Node q (x ▹ a ▹ more))) state.words rest → Reads (e.assign_at inner room) state (Node q (x ▹ a ▹ more)) rest in
+        let op = is_assign form l g (omega (arith, le, lt)) in
+        subst P (sym op.1) (λ al2 d2 sp2. assign_node op.0 x a more state rest al2 d2 sp2 stop) al deep sp
+
+  -- Commas
+
+  abbrev CommaFront : State → Tree → List Token → Type 0
+  CommaFront state tree rest = c.Front inner room deeper again room_left (e.comma_at inner room) (e.comma_from inner room) 15 state tree rest
+
+  comma_below : (tree : Tree) (l : ℕ) (state : State) (rest : List Token) → home tree ≡ Expression l → l ≤ 14 → Allowed tree state.scope → depth tree < suc room → Spells (spell tree) state.words rest → stops 14 (first_kind rest) ≡ true → CommaFront state tree rest
+  comma_below tree l state rest g le al deep sp stop =
+      let r = assign_reads tree state rest (level_takes 14 l tree g le) al deep sp stop in
+      let some = expr_depth tree l g in
+      let took = assign_took inner room deeper room_left state (tree, r.0) r.1 in
+      record {
+        out = r.0;
+        fuel = room;
+        goes = ap (λ o. o >>= (λ (x : Tree × State). e.comma_from inner room room (line_at state) x.0 x.1)) r.1;
+        words = r.2;
+        enough = omega (arith, some);
+        took = looser (suc room) (suc room) 14 15 state tree r.0 took took.deep (omega arith);
+      }
+
+  comma_next : (more : Trees) (state out : State) (a : Tree) (rest : List Token) → Spells (filled (drop 2 (shape f.Comma zero)) (spell_all more)) out.words rest → (k : ℕ) → e.comma_from inner room (suc k) (line_at state) a out ≡ (grown room inner f.Comma (line_at state) a out >>= (λ (y : Tree × State). e.comma_from inner room k (line_at state) y.0 y.1))
+  comma_next more state out a rest sp k =
+      ap (λ b. e.comma_by inner room (e.comma_from inner room k (line_at state)) (line_at state) a b out) (comma_mark more out.words rest sp)
+
+  comma_grown : (x a : Tree) (more : Trees) (state : State) (rest : List Token) → ((mid : List Token) → Takes (Expression 15) a → Allowed a state.scope → depth a < suc room → Spells (spell a) state.words mid → stops 14 (first_kind mid) ≡ true → CommaFront state a mid) → stops 14 (first_kind rest) ≡ true → Allowed (Node f.Comma (x ▹ a ▹ more)) state.scope → depth (Node f.Comma (x ▹ a ▹ more)) < suc room → Spells (spell (Node f.Comma (x ▹ a ▹ more))) state.words rest → CommaFront state (Node f.Comma (x ▹ a ▹ more)) rest
+  comma_grown x a more state rest ih stop al deep sp =
+      let split = grown_split f.Comma 15 15 x a more state rest comma_form al sp in
+      let long = c.left_depth f.Comma 15 x a more comma_form.whole in
+      let f0 = ih split.middle split.stands split.allowed (omega (arith, deep, long)) split.spelled (comma_stops more split.middle rest split.last) in
+      climb.grown_step inner room deeper again room_left (e.comma_at inner room) (e.comma_from inner room) f.Comma 15 x a more state rest comma_form split deep f0 (comma_next more state f0.out a rest (subst (λ ws. Spells (filled (drop 2 (shape f.Comma zero)) (spell_all more)) ws rest) (sym f0.words) split.last)) (comma_follows more rest stop)
+
+  comma_front : (tree : Tree) (state : State) (rest : List Token) → Takes (Expression 15) tree → Allowed tree state.scope → depth tree < suc room → Spells (spell tree) state.words rest → stops 14 (first_kind rest) ≡ true → CommaFront state tree rest
+  unfolding Allowed
+  comma_front (Leaf word) state rest h al deep sp stop = let v = expr_level 15 (Leaf word) h in absurd (no_word_expr word v.0 v.1)
+  comma_front (At line) state rest h al deep sp stop = let v = expr_level 15 (At line) h in absurd (no_line_expr v.0 v.1)
+  comma_front (Node form none) state rest h al deep sp stop = let v = expr_level 15 (Node form none) h in absurd (none_not form v.0 state.scope v.1 al.1)
+  comma_front (Node form (x ▹ none)) state rest h al deep sp stop = let v = expr_level 15 (Node form (x ▹ none)) h in absurd (one_not form v.0 x state.scope v.1 al.1)
+  comma_front (Node form (x ▹ a ▹ more)) state rest h al deep sp stop =
+      let v = expr_level 15 (Node form (x ▹ a ▹ more)) h in
+      ⊎_elim (here (λ mid g al2 d2 sp2 stop2. comma_front a state mid g al2 d2 sp2 stop2) v.0 v.1 v.2) (λ le. comma_below (Node form (x ▹ a ▹ more)) v.0 state rest v.1 le al deep sp stop) (cases_lt 14 v.0)
+    where
+      here : ((mid : List Token) → Takes (Expression 15) a → Allowed a state.scope → depth a < suc room → Spells (spell a) state.words mid → stops 14 (first_kind mid) ≡ true → CommaFront state a mid) → (l : ℕ) → form_home form ≡ Expression l → l ≤ 15 → 14 < l → CommaFront state (Node form (x ▹ a ▹ more)) rest
+      here ih l g le lt =
+          let P : Form → Type 0 = λ q. Allowed (Node q (x ▹ a ▹ more)) state.scope → depth (Node q (x ▹ a ▹ more)) < suc room → Spells (spell (Node q (x ▹ a ▹ more))) state.words rest → CommaFront state (Node q (x ▹ a ▹ more)) rest in
+          subst P (sym (is_comma form l g (omega (arith, le, lt)))) (comma_grown x a more state rest ih stop) al deep sp
+
+  comma_reads : (tree : Tree) (state : State) (rest : List Token) → Takes (Expression 15) tree → Allowed tree state.scope → depth tree < suc room → Spells (spell tree) state.words rest → stops 15 (first_kind rest) ≡ true → Reads (e.comma_at inner room) state tree rest
+  comma_reads tree state rest h al deep sp stop =
+      let front = comma_front tree state rest h al deep sp (ops.stops_tighter 14 15 (first_kind rest) (omega arith) stop) in
+      by front.out front.fuel front.goes front.words front.enough
+    where
+      by : (out : State) (fuel : ℕ) → e.comma_at inner room state ≡ e.comma_from inner room fuel (line_at state) tree out → out.words ≡ rest → suc room ≤ fuel + depth tree → Reads (e.comma_at inner room) state tree rest
+      by out zero goes same enough = absurd (omega (arith, enough, deep))
+      by out (suc n) goes same enough =
+          (out, goes ∙ ap (λ b. e.comma_by inner room (e.comma_from inner room n (line_at state)) (line_at state) tree b out) (ap (λ ws. kind_is_mark s.Comma (first_kind ws)) same ∙ ops.no_comma (first_kind rest) stop), same)
+
+  -- All levels
+
+  loose_reads : (n level : ℕ) (tree : Tree) (state : State) (rest : List Token) → level ≡ n + 13 → Takes (Expression level) tree → Allowed tree state.scope → depth tree < suc room → Spells (spell tree) state.words rest → stops level (first_kind rest) ≡ true → Reads (e.loose_at inner room n) state tree rest
+  loose_reads zero level tree state rest same h al deep sp stop = let v = expr_level level tree h in cond_reads tree state rest (level_takes 13 v.0 tree v.1 (let le = v.2 in omega (arith, le, same))) al deep sp (ops.stops_tighter 13 level (first_kind rest) (omega (arith, same)) stop)
+  loose_reads (suc zero) level tree state rest same h al deep sp stop = let v = expr_level level tree h in assign_reads tree state rest (level_takes 14 v.0 tree v.1 (let le = v.2 in omega (arith, le, same))) al deep sp (ops.stops_tighter 14 level (first_kind rest) (omega (arith, same)) stop)
+  loose_reads (suc (suc n)) level tree state rest same h al deep sp stop = let v = expr_level level tree h in comma_reads tree state rest (level_takes 15 v.0 tree v.1 (top_tree tree v.0 v.1)) al deep sp (ops.stops_tighter 15 level (first_kind rest) (omega (arith, same)) stop)
+
+  pub expression_reads : (level : ℕ) → Complete (suc room) (Expression level) (e.expression_at inner room level)
+  unfolding Follow
+  expression_reads zero state tree rest h al deep sp stop = postfix_reads 0 tree state rest h al deep sp stop
+  expression_reads (suc zero) state tree rest h al deep sp stop = unary_reads 1 tree state rest h al deep sp stop
+  expression_reads (suc (suc n)) state tree rest h al deep sp stop = ⊎_elim high low (cases_lt 10 n) where
+    high : 10 < n → Reads (e.expression_at inner room (suc (suc n))) state tree rest
+    high lt =
+        let r = loose_reads (n - 11) (suc (suc n)) tree state rest (omega (arith, lt)) h al deep sp stop in
+        (r.0, ap (λ b. if b then e.binary_at inner room n state else e.loose_at inner room (n - 11) state) (lt-leb n 10 lt) ∙ r.1, r.2)
+
+    low : n ≤ 10 → Reads (e.expression_at inner room (suc (suc n))) state tree rest
+    low le =
+        let v = expr_level (suc (suc n)) tree h in
+        let r = binary_reads n le tree state rest (level_takes (n + 2) v.0 tree v.1 (let k2 = v.2 in omega (arith, k2))) al deep sp (ops.stops_tighter (n + 2) (suc (suc n)) (first_kind rest) (omega arith) stop) in
+        (r.0, ap (λ b. if b then e.binary_at inner room n state else e.loose_at inner room (n - 11) state) (le-leb n 10 le) ∙ r.1, r.2)
