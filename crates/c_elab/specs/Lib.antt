@@ -1,0 +1,16 @@
+pub mod Context
+pub mod Conversions
+pub mod Operations
+pub mod Calls
+pub mod Reallocates
+pub mod Rules
+pub mod Expressions
+pub mod Addressed
+pub mod Locals
+pub mod Declarators
+pub mod Initializers
+pub mod Declarations
+pub mod Statements
+pub mod Externals
+pub mod Resolving
+pub mod Elaboration
