@@ -8,7 +8,7 @@ use Rattle.c_types.specs.Types.{PlainType, PlainTypes, Void, Int, Pointer, Funct
 use Rattle.c_types.specs.TagTable.{TagTable}
 use Rattle.c_print.specs.declared.piece.Piece.{Piece}
 use Rattle.c_print.specs.declared.piece.Piece.TheVariants as p
-use Rattle.c_print.specs.Length as length
+use Rattle.c_print.specs.Length as lengths
 use Rattle.c_print.specs.Length.{length_bytes, is_one_of}
 use Rattle.c_print.specs.Item.{is_flag}
 use Rattle.c_print.specs.Pieces.{length_at, pieces_of}
