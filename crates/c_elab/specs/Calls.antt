@@ -1,5 +1,5 @@
 -- Calls: the statement of a function that is called, and the layouts of the elements that it makes (C99 6.5.2.2, 7.20.3).
-use Rattle.std.specs.Prelude.{ℕ, ◌+◌, pos, Bool, true, false, cond, map, length, List, [], ◌∷◌, ◌++◌, slice_get, slice_index_or, drop, Option, Some, None, unwrap_or, Result, Ok, Err}
+use Rattle.std.specs.Prelude.{ℕ, map, length, List, [], ◌∷◌, ◌++◌, slice_get, slice_index_or, drop, Option, Some, None, unwrap_or}
 use Rattle.c_types.specs.declared.layouts.Layout.{Layout}
 use Rattle.c_types.specs.Types.{PlainType, PlainTypes, Void, Int, Pointer, none, first}
 use Rattle.c_types.specs.Layouts.{number_layout}
@@ -17,7 +17,7 @@ use Rattle.c_decls.specs.Named as n
 use Rattle.c_decls.specs.Named.{PlainNamed}
 use Rattle.c_decls.specs.Typed.{PlainTyped}
 use Rattle.c_elab.specs.Context.{Code, Context, emit, integer_by, pointer_by}
-use Rattle.c_elab.specs.Conversions.{Found, Spot, Value, Empty, Unknown, found_as, atom_in, convert}
+use Rattle.c_elab.specs.Conversions.{Found, Spot, Value, Empty, atom_in, convert}
 
 -- the layout of the elements of an object whose address is wanted as a type: that of what this points to; void and what
 -- is incomplete have the layout of a byte

@@ -1,5 +1,5 @@
 -- What is known while a text is elaborated.
-use Rattle.std.specs.Prelude.{ℕ, ◌+◌, ◌*◌, ℤ, Bool, List, [], ◌∷◌, ◌++◌, max, Option, None, Ok}
+use Rattle.std.specs.Prelude.{ℕ, ◌+◌, ◌*◌, ℤ, List, [], ◌∷◌, ◌++◌, max, Option, None, Ok}
 use Rattle.c_types.specs.Types.{PlainType, Void}
 use Rattle.c_types.specs.TagTable.{TagTable, no_tags}
 use Rattle.c_types.specs.declared.layouts.Layout.{Layout}

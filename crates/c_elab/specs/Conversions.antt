@@ -1,5 +1,5 @@
 -- Values: how places are read, and how values are converted and tested (C99 6.3).
-use Rattle.std.specs.Prelude.{ℕ, ◌+◌, ◌*◌, ℤ, pos, neg_ℤ, Bool, ◌&&◌, int_le, cond, List, Option, Some, None, option_map, unwrap_or, Result, Ok, Err}
+use Rattle.std.specs.Prelude.{ℕ, ℤ, Bool, ◌&&◌, int_le, cond, unwrap_or, Ok}
 use Rattle.hs_base.specs.declared.ends.IntKind.{IntKind}
 use Rattle.hs_base.specs.Numbers.{wrapped}
 use Rattle.hs_base.specs.Arithmetic.{least, greatest}
@@ -10,9 +10,9 @@ use Rattle.core_tree.specs.declared.statements.Atom.{Atom}
 use Rattle.core_tree.specs.declared.statements.Atom.TheVariants as atom
 use Rattle.core_tree.specs.declared.statements.StmKind.TheVariants.{Set, Conv, Load, Loadp, Store, Storep, Test}
 use Rattle.c_tree.specs.Forms as f
-use Rattle.c_tree.specs.Tree.{Tree, Leaf, At, Node, none, ◌▹◌}
-use Rattle.c_decls.specs.Refusals.{Checked, then, refused, unless}
-use Rattle.c_decls.specs.Typed.{PlainTyped, Operand, Number, PointerTo, Neither, operand, read, is_null_constant}
+use Rattle.c_tree.specs.Tree.{Tree, At, Node, none, ◌▹◌}
+use Rattle.c_decls.specs.Refusals.{then}
+use Rattle.c_decls.specs.Typed.{PlainTyped, Operand, Number, PointerTo, operand, read}
 use Rattle.c_decls.specs.Expressions.{line_of}
 use Rattle.c_elab.specs.Context.{Code, Context, With, emit, integer_by, pointer_by}
 

@@ -1,6 +1,5 @@
 -- Declarations: local names, and file-scope names without a body (C99 6.7, 6.9.2).
-use Rattle.std.specs.Prelude.{ℕ, ◌+◌, pos, Bool, true, false, not, ◌&&◌, ◌||◌, cond, nat_lt, length, is_some, List, [], ◌∷◌, ◌++◌, Option, Some, None, slice_get, slice_set, unwrap_or, Ok}
-use Rattle.std.specs.Option.{option_map}
+use Rattle.std.specs.Prelude.{ℕ, pos, Bool, true, false, cond, nat_lt, length, is_some, List, [], ◌∷◌, ◌++◌, Option, Some, None, slice_get, slice_set, unwrap_or, Ok}
 use Rattle.c_types.specs.Types.{PlainType, Pointer}
 use Rattle.c_types.specs.Layouts.{no_layout}
 use Rattle.c_types.specs.TagTable.{layout_in}
@@ -8,7 +7,6 @@ use Rattle.core_tree.specs.declared.program.Start.{Start}
 use Rattle.core_tree.specs.declared.statements.Atom.{Atom}
 use Rattle.core_tree.specs.declared.statements.Atom.TheVariants as atom
 use Rattle.core_tree.specs.declared.statements.StmKind.TheVariants.{Set, Clear}
-use Rattle.c_tree.specs.declared.operator.RecordSort.{RecordSort}
 use Rattle.c_tree.specs.declared.word.Keyword.{Keyword}
 use Rattle.c_tree.specs.declared.word.Keyword.TheVariants as k
 use Rattle.c_tree.specs.Words as w
@@ -21,14 +19,14 @@ use Rattle.c_decls.specs.Named.{PlainNamed}
 use Rattle.c_decls.specs.ScopeList.{named_in, innermost, tag_name}
 use Rattle.c_decls.specs.Refusals.{Checked, refused, then, unless}
 use Rattle.c_decls.specs.Typed.{is_function, has_no_size}
-use Rattle.c_decls.specs.TypeNames.{many, has, tag_named, with_layers}
+use Rattle.c_decls.specs.TypeNames.{has, tag_named}
 use Rattle.c_decls.specs.Expressions.{line_of}
-use Rattle.c_elab.specs.Context.{Context, With, Variable, Declared, asked, told, emit}
-use Rattle.c_elab.specs.Conversions.{Spot, Local, Memory, Value, Empty, size_or_zero}
+use Rattle.c_elab.specs.Context.{Context, With, Variable, asked, emit}
+use Rattle.c_elab.specs.Conversions.{Spot, Local, Memory, size_or_zero}
 use Rattle.c_elab.specs.Rules.{with_static}
 use Rattle.c_elab.specs.Locals.{is_twice, declared_as, with_local}
 use Rattle.c_elab.specs.Declarators.{specs, layers, with_type}
-use Rattle.c_elab.specs.Initializers.{Target, InRegister, InMemory, InStatic, Filled, initialize, surplus, no_start, trimmed, with_init_layers}
+use Rattle.c_elab.specs.Initializers.{Target, InRegister, InMemory, InStatic, initialize, surplus, no_start, trimmed, with_init_layers}
 
 -- specs
 

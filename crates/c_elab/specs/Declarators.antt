@@ -1,5 +1,5 @@
 -- Specs, tags with braces, and the layers of declarators (C99 6.7.2, 6.7.5), outside expressions.
-use Rattle.std.specs.Prelude.{ℕ, ◌+◌, ℤ, pos, ◌+ℤ◌, Bool, true, false, not, ◌&&◌, ◌||◌, cond, bytes_eq, map, length, reverse, is_some, is_none, List, [], ◌∷◌, ◌++◌, Option, Some, None, slice_get, Result, Ok, Err}
+use Rattle.std.specs.Prelude.{ℕ, ℤ, pos, ◌+ℤ◌, Bool, false, ◌||◌, bytes_eq, length, reverse, is_some, List, [], ◌∷◌, ◌++◌, Option, Some, None, Result, Ok, Err}
 use Rattle.std.specs.List.{list_any}
 use Rattle.hs_base.specs.declared.ends.IntKind.TheVariants.{I32}
 use Rattle.hs_base.specs.Numbers.{wrapped}
@@ -22,7 +22,7 @@ use Rattle.c_decls.specs.Named as n
 use Rattle.c_decls.specs.Named.{PlainNamed}
 use Rattle.c_decls.specs.ScopeList.{named_in, innermost, with_name, tag_name}
 use Rattle.c_decls.specs.Refusals.{Checked, refused, then, unless}
-use Rattle.c_decls.specs.Typed.{PlainTyped, is_void, is_record, is_function, has_no_size}
+use Rattle.c_decls.specs.Typed.{is_void, is_record, is_function, has_no_size}
 use Rattle.c_decls.specs.TypeNames as names
 use Rattle.c_decls.specs.TypeNames.{Layer, PointerTo, ArrayOf, FunctionOf, word_type, record_type, is_union, with_new_tag, special_type, array_length, with_layers, with_param_layers, adjusted}
 use Rattle.c_decls.specs.Expressions.{line_of, typed, wanted, constant_from}

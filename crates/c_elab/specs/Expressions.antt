@@ -20,7 +20,7 @@ use Rattle.c_decls.specs.Callees.{Callee, Takes, Prints, NoFunction, named, call
 use Rattle.c_decls.specs.TypeNames as names
 use Rattle.c_decls.specs.Expressions.{line_of, int_constant, char_constant, joined, string, literal, first_literal, typed, typename}
 use Rattle.c_elab.specs.Context.{Context, With, asked, told, new_label}
-use Rattle.c_elab.specs.Conversions.{Found, Value, Empty, Unknown, found_as, valued_as, atom_of, atom_in, valued}
+use Rattle.c_elab.specs.Conversions.{Found, Value, Unknown, found_as, valued_as, atom_in, valued}
 use Rattle.c_elab.specs.Calls.{Argument, types_of, first_type, rest_types, argument_from, call_named}
 use Rattle.c_elab.specs.Rules.{constant_found, name_found, is_inner, with_literal, literal_found, indexed, dotted, pointed, applied, left_operand, between, cast_to, and_then, and_ended, or_else, or_ended, choose, type_ahead, choose_first, chosen, record_assigned, scalar_assigned, old_value, changed_by, stepped}
 

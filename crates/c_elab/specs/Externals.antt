@@ -1,9 +1,8 @@
 -- External declarations and texts (C99 6.9).
-use Rattle.std.specs.Prelude.{ℕ, ◌+◌, pos, Bool, true, false, not, ◌&&◌, cond, nat_lt, length, is_some, is_none, List, [], ◌∷◌, ◌++◌, Option, Some, None, slice_get, slice_set, Ok, codes}
+use Rattle.std.specs.Prelude.{ℕ, ◌+◌, pos, Bool, true, false, not, ◌&&◌, cond, nat_lt, length, is_some, List, [], ◌∷◌, ◌++◌, Option, Some, None, slice_get, slice_set, Ok, codes}
 use Rattle.std.specs.List.{sum_by}
 use Rattle.c_types.specs.declared.types.IntType.TheVariants as i
-use Rattle.c_types.specs.Types.{PlainType, PlainTypes, Void, Int, Pointer, Function, none, first}
-use Rattle.c_types.specs.TagTable.{TagTable}
+use Rattle.c_types.specs.Types.{PlainType, Void, Int, Pointer, Function, none}
 use Rattle.core_tree.specs.declared.statements.Atom.{Atom}
 use Rattle.core_tree.specs.declared.statements.Atom.TheVariants as atom
 use Rattle.core_tree.specs.declared.statements.StmKind.TheVariants.{Return}
@@ -15,13 +14,13 @@ use Rattle.c_tree.specs.Scopes.{name_of}
 use Rattle.c_decls.specs.declared.refusal.TypeKind.TheVariants.{Undeclared, DeclaredTwice, Operands, NoMain, LeftOut, ProgramTooLong}
 use Rattle.c_decls.specs.Named as n
 use Rattle.c_decls.specs.Named.{PlainNamed}
-use Rattle.c_decls.specs.ScopeList.{ScopeList, named_in}
+use Rattle.c_decls.specs.ScopeList.{named_in}
 use Rattle.c_decls.specs.Refusals.{Checked, refused, then, unless}
 use Rattle.c_decls.specs.Typed.{same, is_function}
 use Rattle.c_decls.specs.TypeNames.{with_layers}
 use Rattle.c_decls.specs.PlaceRules.{length_of}
 use Rattle.c_decls.specs.Expressions.{line_of}
-use Rattle.c_elab.specs.Context.{Piece, Does, Here, Running, running_at, no_code, Declared, Walked, Context, With, emit}
+use Rattle.c_elab.specs.Context.{Piece, Does, Here, running_at, no_code, Declared, Context, emit}
 use Rattle.c_elab.specs.Addressed.{addressed_in}
 use Rattle.c_elab.specs.Declarators.{specs, layers}
 use Rattle.c_elab.specs.Declarations.{function_number, declared_function, declaration}

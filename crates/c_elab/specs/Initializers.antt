@@ -1,17 +1,17 @@
 -- Initializers (C99 6.7.8).
-use Rattle.std.specs.Prelude.{ℕ, zero, suc, ◌+◌, ◌*◌, ◌-◌, ◌/◌, ◌%◌, ◌==◌, min, ℤ, pos, Bool, true, false, not, ◌&&◌, ◌||◌, cond, map, length, take, reverse, replicate, unsigned_abs, List, [], ◌∷◌, ◌++◌, Option, Some, None, unwrap_or, Ok, Err}
-use Rattle.hs_base.specs.Numbers.{wrapped, low_bits}
+use Rattle.std.specs.Prelude.{ℕ, zero, suc, ◌+◌, ◌*◌, ◌-◌, ◌/◌, ◌%◌, ◌==◌, min, pos, Bool, true, false, not, ◌&&◌, cond, map, length, take, reverse, replicate, unsigned_abs, List, [], ◌∷◌, ◌++◌, Option, Some, None, Ok}
+use Rattle.hs_base.specs.Numbers.{low_bits}
 use Rattle.c_types.specs.declared.types.IntType.{IntType}
 use Rattle.c_types.specs.declared.types.IntType.TheVariants as i
-use Rattle.c_types.specs.Types.{PlainType, Void, Int, Pointer, Array, Struct, Union, kind_of, width_of}
+use Rattle.c_types.specs.Types.{PlainType, Void, Int, Array, Struct, Union, width_of}
 use Rattle.c_types.specs.TagTable.{TagTable, PlainMember, members_in}
 use Rattle.core_tree.specs.declared.program.Start.{Start}
 use Rattle.core_tree.specs.declared.statements.Atom.{Atom}
 use Rattle.core_tree.specs.declared.statements.Atom.TheVariants as atom
 use Rattle.core_tree.specs.declared.statements.StmKind.TheVariants.{Off, Copy}
 use Rattle.c_tree.specs.Forms as f
-use Rattle.c_tree.specs.Tree.{Tree, Trees, Leaf, At, Node, none, ◌▹◌, count}
-use Rattle.c_decls.specs.declared.refusal.TypeKind.TheVariants.{Assignment, Incomplete, NotConstant, Operands}
+use Rattle.c_tree.specs.Tree.{Tree, Trees, At, Node, none, ◌▹◌, count}
+use Rattle.c_decls.specs.declared.refusal.TypeKind.TheVariants.{Assignment, NotConstant, Operands}
 use Rattle.c_decls.specs.Refusals.{Checked, refused, then, unless}
 use Rattle.c_decls.specs.declared.typed.Folded.{Folded}
 use Rattle.c_decls.specs.declared.typed.Folded.TheVariants.{Is}
@@ -20,7 +20,7 @@ use Rattle.c_decls.specs.TypeNames.{Layer, ArrayOf, layered}
 use Rattle.c_decls.specs.PlaceRules.{converts}
 use Rattle.c_decls.specs.Expressions.{line_of, joined}
 use Rattle.c_elab.specs.Context.{Code, Context, With, emit, pointer_by}
-use Rattle.c_elab.specs.Conversions.{Found, Spot, Local, Memory, Fixed, Unknown, Nowhere, Inside, atom_in, valued, convert, write, size_or_zero}
+use Rattle.c_elab.specs.Conversions.{Found, Local, Memory, Fixed, Unknown, Nowhere, Inside, atom_in, valued, convert, write, size_or_zero}
 use Rattle.c_elab.specs.Reallocates.{opened, closed}
 use Rattle.c_elab.specs.Rules.{with_literal}
 use Rattle.c_elab.specs.Expressions.{found}
@@ -220,19 +220,19 @@ unfoldable mutual
 
 -- lengths
 
--- the length that an initializer gives to an array of a type
-abbrev text_length : PlainType → Option (List ℕ) → Option ℕ
-text_length element None = None
-text_length element (Some bytes) = cond (is_character element) (Some (length bytes + 1)) None
+-- the length that an initializer gives to an array: so many as stand in its braces, or the bytes of a string with its zero
+abbrev text_length : Option (List ℕ) → Option ℕ
+text_length None = None
+text_length (Some bytes) = Some (length bytes + 1)
 
-abbrev pub given_length : PlainType → Trees → Option ℕ
-given_length element (Node f.InitExpr (At line ▹ e ▹ none) ▹ none) = text_length element (text e)
-given_length element (Node (f.InitList trailing) (At line ▹ Node f.Inits inits ▹ none) ▹ none) = Some (count inits)
-given_length element inits = None
+abbrev pub given_length : Trees → Option ℕ
+given_length (Node f.InitExpr (At line ▹ e ▹ none) ▹ none) = text_length (text e)
+given_length (Node (f.InitList trailing) (At line ▹ Node f.Inits inits ▹ none) ▹ none) = Some (count inits)
+given_length inits = None
 
 -- a type with layers, whose array next to the name may take its length from the initializer
 abbrev pub with_init_layers : TagTable → List Layer → Trees → PlainType → Checked PlainType
 with_init_layers tags [] inits type = Ok type
-with_init_layers tags (ArrayOf line None ∷ []) inits type = layered tags (ArrayOf line (given_length type inits)) type
+with_init_layers tags (ArrayOf line None ∷ []) inits type = layered tags (ArrayOf line (given_length inits)) type
 with_init_layers tags (layer ∷ layers) inits type =
     then (layered tags layer type) (λ inner. with_init_layers tags layers inits inner)

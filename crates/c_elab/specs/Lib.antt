@@ -14,3 +14,4 @@ pub mod Statements
 pub mod Externals
 pub mod Resolving
 pub mod Elaboration
+pub mod Built

@@ -1,14 +1,12 @@
 -- The operators: what they do with operands that are in hand (C99 6.5).
-use Rattle.std.specs.Prelude.{ℕ, ◌+◌, ◌*◌, ◌/◌, ◌%◌, ◌-◌, ◌==◌, nat_le, ℤ, pos, neg_ℤ, ◌+ℤ◌, ◌*ℤ◌, Bool, true, false, ◌&&◌, ◌||◌, int_le, cond, bytes_eq, List, [], ◌∷◌, length, slice_get, Option, Some, None, option_map, unwrap_or, Result, Ok, Err}
+use Rattle.std.specs.Prelude.{ℕ, ◌+◌, ◌/◌, ◌%◌, ◌==◌, ℤ, pos, neg_ℤ, ◌+ℤ◌, ◌*ℤ◌, Bool, true, false, ◌&&◌, int_le, cond, bytes_eq, List, length, slice_get, Option, Some, None, option_map, unwrap_or}
 use Rattle.std.specs.List.{find}
 use Rattle.std.specs.Ordering.{int_eq}
 use Rattle.c_types.specs.declared.types.IntType.{IntType}
-use Rattle.c_types.specs.declared.types.IntType.TheVariants as i
-use Rattle.c_types.specs.Types.{PlainType, Int, Pointer, Struct, Union, kind_of}
+use Rattle.c_types.specs.Types.{PlainType, Struct, Union, kind_of}
 use Rattle.c_types.specs.TagTable.{TagTable, PlainMember, members_in}
 use Rattle.core_tree.specs.declared.statements.Atom.{Atom}
 use Rattle.core_tree.specs.declared.statements.Atom.TheVariants as atom
-use Rattle.core_tree.specs.declared.statements.UnOp.{UnOp}
 use Rattle.core_tree.specs.declared.statements.UnOp.TheVariants as un
 use Rattle.core_tree.specs.declared.statements.BinOp.{BinOp}
 use Rattle.core_tree.specs.declared.statements.BinOp.TheVariants as bin
@@ -22,12 +20,12 @@ use Rattle.c_tree.specs.declared.operator.AssignOp.TheVariants as a
 use Rattle.c_tree.specs.declared.operator.UnaryOp.{UnaryOp}
 use Rattle.c_tree.specs.declared.operator.UnaryOp.TheVariants as u
 use Rattle.c_decls.specs.IntegerTypes.{promoted, common_type}
-use Rattle.c_decls.specs.Typed.{PlainTyped, Operand, Number, PointerTo, Neither, operand}
+use Rattle.c_decls.specs.Typed.{PlainTyped, Operand, Number, PointerTo, operand}
 use Rattle.c_decls.specs.TypeRules.{result_type}
 use Rattle.c_decls.specs.declared.typed.Folded.{Folded}
 use Rattle.c_decls.specs.declared.typed.Folded.TheVariants.{Is}
 use Rattle.c_elab.specs.Context.{Code, Context, Variable, integer_by, pointer_by}
-use Rattle.c_elab.specs.Conversions.{Found, Fixed, Unknown, Nowhere, Inside, convert, convert_integer, write, atom_in, size_or_zero, forget}
+use Rattle.c_elab.specs.Conversions.{Found, Fixed, Unknown, Nowhere, Inside, convert_integer, atom_in, size_or_zero, forget}
 
 -- how an operator on integers works: on operands of their common type, on operands that are promoted each by itself, or
 -- by comparing operands of their common type; `&&` and `||` do none of these

@@ -1,6 +1,6 @@
 -- Which expressions reallocate: those with a call of `realloc` outside the operands of `sizeof`. They open a scope of their
 -- own for objects that are freed.
-use Rattle.std.specs.Prelude.{ℕ, Bool, true, false, ◌||◌, List, Option, Some, None, slice_get, cond}
+use Rattle.std.specs.Prelude.{Bool, true, false, ◌||◌, Option, Some, cond}
 use Rattle.core_tree.specs.declared.statements.StmKind.TheVariants.{Enter, Leave}
 use Rattle.c_tree.specs.Words as w
 use Rattle.c_tree.specs.Forms as f

@@ -1,7 +1,5 @@
 -- The numbers of the core: labels become points, and registers, statics and functions get their places in its lists.
-use Rattle.std.specs.Prelude.{ℕ, true, false, ◌+◌, ◌*◌, ◌/◌, ◌%◌, ◌==◌, nat_eq, cond, map, length, replicate, List, [], ◌∷◌, ◌++◌, Option, Some, None, option_map, slice_get, unwrap_or}
-use Rattle.c_types.specs.declared.types.IntType.TheVariants as i
-use Rattle.c_types.specs.declared.layouts.Layout.{Layout}
+use Rattle.std.specs.Prelude.{ℕ, true, false, ◌+◌, ◌/◌, ◌%◌, ◌==◌, nat_eq, cond, map, length, replicate, List, [], ◌∷◌, ◌++◌, Option, Some, None, option_map, slice_get, unwrap_or}
 use Rattle.c_types.specs.Layouts.{array_layout, number_layout}
 use Rattle.core_tree.specs.declared.program.Core.{Core}
 use Rattle.core_tree.specs.declared.program.Static.{Static}

@@ -1,8 +1,7 @@
 -- The rules of the forms of expressions, on parts that are elaborated (C99 6.5).
-use Rattle.std.specs.Prelude.{ℕ, ◌+◌, ◌*◌, ◌<◌, nat_lt, ℤ, pos, Bool, true, false, ◌&&◌, cond, length, is_some, List, [], ◌∷◌, ◌++◌, Option, Some, None, option_map, Result, Ok, Err}
+use Rattle.std.specs.Prelude.{ℕ, ◌+◌, nat_lt, pos, Bool, true, false, ◌&&◌, cond, length, is_some, List, [], ◌∷◌, ◌++◌, Option, Some, None, Ok, Err}
 use Rattle.hs_base.specs.Place.{block_size}
-use Rattle.c_types.specs.declared.types.IntType.TheVariants as i
-use Rattle.c_types.specs.Types.{PlainType, PlainTypes, Void, Int, Pointer}
+use Rattle.c_types.specs.Types.{PlainType, Void, Int, Pointer}
 use Rattle.core_tree.specs.declared.statements.Atom.{Atom}
 use Rattle.core_tree.specs.declared.statements.Atom.TheVariants as atom
 use Rattle.core_tree.specs.declared.statements.CmpOp.TheVariants as cmp
@@ -12,10 +11,9 @@ use Rattle.c_tree.specs.declared.operator.BinaryOp.TheVariants as b
 use Rattle.c_tree.specs.declared.operator.UnaryOp.{UnaryOp}
 use Rattle.c_tree.specs.declared.operator.UnaryOp.TheVariants as u
 use Rattle.c_tree.specs.declared.operator.AssignOp.{AssignOp}
-use Rattle.c_tree.specs.Forms as f
-use Rattle.c_tree.specs.Tree.{Tree, Trees, At, Node, none, ◌▹◌}
+use Rattle.c_tree.specs.Tree.{Tree}
 use Rattle.c_decls.specs.declared.refusal.TypeKind.TheVariants.{StaticTooLarge}
-use Rattle.c_decls.specs.Refusals.{Checked, refused, then, unless}
+use Rattle.c_decls.specs.Refusals.{Checked, then, unless}
 use Rattle.c_decls.specs.ScopeList.{found_from}
 use Rattle.c_decls.specs.Named as n
 use Rattle.c_decls.specs.Named.{PlainNamed}
@@ -27,8 +25,8 @@ use Rattle.c_decls.specs.PlaceRules.{assigned, cast, choice, changed, dot, arrow
 use Rattle.c_decls.specs.TypeNames as names
 use Rattle.c_decls.specs.Expressions as types
 use Rattle.c_elab.specs.Context.{Code, Context, With, asked, emit, here, new_label, with_labels, integer_by, pointer_by, literal_object, file_variable, local_register}
-use Rattle.c_elab.specs.Conversions.{Found, Spot, Local, Memory, Value, Empty, Fixed, Unknown, Nowhere, Inside, found_as, valued_as, atom_of, atom_in, read_spot, valued_from, convert, forget, tested_value, write, size_or_zero}
-use Rattle.c_elab.specs.Operations.{operator_of, on_integers, before_integer, combined, changed_to, fixed_sum, moved_by, offset_of, member_address, move_pointer}
+use Rattle.c_elab.specs.Conversions.{Found, Spot, Local, Memory, Value, Empty, Fixed, Unknown, Nowhere, Inside, found_as, valued_as, atom_in, read_spot, valued_from, convert, forget, tested_value, write, size_or_zero}
+use Rattle.c_elab.specs.Operations.{operator_of, before_integer, combined, changed_to, fixed_sum, moved_by, offset_of, member_address}
 
 -- a register in hand is written again
 abbrev pub set_again : ℕ → Atom → Atom → Context → Context

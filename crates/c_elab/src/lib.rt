@@ -11,8 +11,9 @@
 //!   `specs/Declarations.antt` local and file-scope names.
 //! - `specs/Addressed.antt` says which locals are objects in memory because their address is taken.
 //! - `specs/Statements.antt` has the statements, and `specs/Externals.antt` functions and texts.
+//! - `specs/Built.antt` says which texts declare types alone, beside a small `main`.
 //!
-//! The kinds of refusals are those of `c_decls`.
+//! `proofs/Rows.antt` has texts whose core or refusal was worked out by hand. The kinds of refusals are those of `c_decls`.
 #![tactic(auto)]
 
 pub use c_decls::{TypeError, TypeKind};
