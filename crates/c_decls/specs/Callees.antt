@@ -138,7 +138,7 @@ abbrev pub is_item : List ℕ → Bool
 is_item bytes =
     let conversion = slice_index (behind_length bytes) 0 in
     nat_le (digits_value 10 (digits_at bytes)) 4095
-    && is_some (length.kind_of (length_at (behind_digits bytes)) conversion)
+    && is_some (lengths.kind_of (length_at (behind_digits bytes)) conversion)
     && not (is_one_of (take_while is_flag bytes) 48 && is_one_of (codes "cs") conversion)
 
 -- so many bytes at most have the form of a format: no byte is 0, and behind a percent sign stands another or an item
