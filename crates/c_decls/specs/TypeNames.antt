@@ -158,16 +158,27 @@ layered tags (ArrayOf line length) type = unless (is_function type) LeftOut line
 layered tags (FunctionOf line params) type =
     unless (is_array type || is_function type || is_record type) LeftOut line (Ok (Function type params))
 
+-- a function layer stands next to the name alone: with another layer behind it, it is refused itself
+abbrev next_to_name : Layer → List Layer → Checked PlainType → Checked PlainType
+next_to_name (FunctionOf line params) (next ∷ layers) answer = then answer (λ type. refused LeftOut line)
+next_to_name layer layers answer = answer
+
+-- a type with one layer more, behind which these are left
+abbrev pub layered_before : TagTable → Layer → List Layer → PlainType → Checked PlainType
+layered_before tags layer layers type = next_to_name layer layers (layered tags layer type)
+
 -- a type with layers, from the specs towards the name
 abbrev pub with_layers : TagTable → List Layer → PlainType → Checked PlainType
 with_layers tags [] type = Ok type
-with_layers tags (layer ∷ layers) type = then (layered tags layer type) (λ inner. with_layers tags layers inner)
+with_layers tags (layer ∷ layers) type =
+    then (layered_before tags layer layers type) (λ inner. with_layers tags layers inner)
 
 -- the same for a parameter, whose array next to the name needs no length
 abbrev pub with_param_layers : TagTable → List Layer → PlainType → Checked PlainType
 with_param_layers tags [] type = Ok type
 with_param_layers tags (ArrayOf line None ∷ []) type = layered tags (ArrayOf line (Some 1)) type
-with_param_layers tags (layer ∷ layers) type = then (layered tags layer type) (λ inner. with_param_layers tags layers inner)
+with_param_layers tags (layer ∷ layers) type =
+    then (layered_before tags layer layers type) (λ inner. with_param_layers tags layers inner)
 
 -- a parameter of array type is a pointer (C99 6.7.5.3)
 abbrev pub adjusted : PlainType → PlainType

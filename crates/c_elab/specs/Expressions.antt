@@ -22,7 +22,8 @@ use Rattle.c_decls.specs.Expressions.{line_of, int_constant, char_constant, join
 use Rattle.c_elab.specs.Context.{Context, With, asked, told, new_label}
 use Rattle.c_elab.specs.Conversions.{Found, Value, Unknown, found_as, valued_as, atom_in, valued}
 use Rattle.c_elab.specs.Calls.{Argument, types_of, first_type, rest_types, argument_from, call_named}
-use Rattle.c_elab.specs.Rules.{constant_found, name_found, is_inner, with_literal, literal_found, indexed, dotted, pointed, applied, left_operand, between, cast_to, and_then, and_ended, or_else, or_ended, choose, type_ahead, choose_first, chosen, record_assigned, scalar_assigned, old_value, changed_by, stepped}
+use Rattle.c_elab.specs.Rules.{constant_found, name_found, is_inner, with_literal, literal_found, indexed, dotted, pointed, applied, left_operand, between, cast_to, and_then, and_ended, or_else, or_ended, choose, type_ahead, choose_first, chosen}
+use Rattle.c_elab.specs.Assignments.{record_assigned, scalar_assigned, old_value, changed_by, stepped}
 
 -- a name (C99 6.5.1)
 abbrev name_answer : ℕ → List ℕ → Option PlainNamed → Context → With Found

@@ -16,7 +16,7 @@ use Rattle.c_decls.specs.Refusals.{Checked, refused, then, unless}
 use Rattle.c_decls.specs.declared.typed.Folded.{Folded}
 use Rattle.c_decls.specs.declared.typed.Folded.TheVariants.{Is}
 use Rattle.c_decls.specs.Typed.{PlainTyped, same, is_record, is_null_constant}
-use Rattle.c_decls.specs.TypeNames.{Layer, ArrayOf, layered}
+use Rattle.c_decls.specs.TypeNames.{Layer, ArrayOf, layered, layered_before}
 use Rattle.c_decls.specs.PlaceRules.{converts}
 use Rattle.c_decls.specs.Expressions.{line_of, joined}
 use Rattle.c_elab.specs.Context.{Code, Context, With, emit, pointer_by}
@@ -235,4 +235,4 @@ abbrev pub with_init_layers : TagTable → List Layer → Trees → PlainType �
 with_init_layers tags [] inits type = Ok type
 with_init_layers tags (ArrayOf line None ∷ []) inits type = layered tags (ArrayOf line (given_length inits)) type
 with_init_layers tags (layer ∷ layers) inits type =
-    then (layered tags layer type) (λ inner. with_init_layers tags layers inits inner)
+    then (layered_before tags layer layers type) (λ inner. with_init_layers tags layers inits inner)

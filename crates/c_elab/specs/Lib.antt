@@ -4,6 +4,7 @@ pub mod Operations
 pub mod Calls
 pub mod Reallocates
 pub mod Rules
+pub mod Assignments
 pub mod Expressions
 pub mod Addressed
 pub mod Locals

@@ -5,12 +5,11 @@ use Rattle.c_types.specs.Types.{PlainType, Void, Int, Pointer}
 use Rattle.core_tree.specs.declared.statements.Atom.{Atom}
 use Rattle.core_tree.specs.declared.statements.Atom.TheVariants as atom
 use Rattle.core_tree.specs.declared.statements.CmpOp.TheVariants as cmp
-use Rattle.core_tree.specs.declared.statements.StmKind.TheVariants.{Set, Cmp, Copy, Zero, Jump}
+use Rattle.core_tree.specs.declared.statements.StmKind.TheVariants.{Set, Cmp, Zero, Jump}
 use Rattle.c_tree.specs.declared.operator.BinaryOp.{BinaryOp}
 use Rattle.c_tree.specs.declared.operator.BinaryOp.TheVariants as b
 use Rattle.c_tree.specs.declared.operator.UnaryOp.{UnaryOp}
 use Rattle.c_tree.specs.declared.operator.UnaryOp.TheVariants as u
-use Rattle.c_tree.specs.declared.operator.AssignOp.{AssignOp}
 use Rattle.c_tree.specs.Tree.{Tree}
 use Rattle.c_decls.specs.declared.refusal.TypeKind.TheVariants.{StaticTooLarge}
 use Rattle.c_decls.specs.Refusals.{Checked, then, unless}
@@ -19,14 +18,14 @@ use Rattle.c_decls.specs.Named as n
 use Rattle.c_decls.specs.Named.{PlainNamed}
 use Rattle.c_decls.specs.declared.typed.Folded.{Folded}
 use Rattle.c_decls.specs.declared.typed.Folded.TheVariants.{Is}
-use Rattle.c_decls.specs.Typed.{PlainTyped, Operand, Number, PointerTo, operand, int, is_null_constant}
+use Rattle.c_decls.specs.Typed.{PlainTyped, Operand, Number, PointerTo, operand, is_null_constant}
 use Rattle.c_decls.specs.TypeRules.{unary, binary}
-use Rattle.c_decls.specs.PlaceRules.{assigned, cast, choice, changed, dot, arrow, element}
+use Rattle.c_decls.specs.PlaceRules.{cast, choice, dot, arrow, element}
 use Rattle.c_decls.specs.TypeNames as names
 use Rattle.c_decls.specs.Expressions as types
 use Rattle.c_elab.specs.Context.{Code, Context, With, asked, emit, here, new_label, with_labels, integer_by, pointer_by, literal_object, file_variable, local_register}
-use Rattle.c_elab.specs.Conversions.{Found, Spot, Local, Memory, Value, Empty, Fixed, Unknown, Nowhere, Inside, found_as, valued_as, atom_in, read_spot, valued_from, convert, forget, tested_value, write, size_or_zero}
-use Rattle.c_elab.specs.Operations.{operator_of, before_integer, combined, changed_to, fixed_sum, moved_by, offset_of, member_address}
+use Rattle.c_elab.specs.Conversions.{Found, Spot, Local, Memory, Value, Empty, Fixed, Unknown, Nowhere, Inside, found_as, valued_as, atom_in, convert, forget, tested_value}
+use Rattle.c_elab.specs.Operations.{before_integer, combined, fixed_sum, moved_by, offset_of, member_address}
 
 -- a register in hand is written again
 abbrev pub set_again : ℕ → Atom → Atom → Context → Context
@@ -260,46 +259,3 @@ choice_found typed a = found_as typed (choice_spot typed.type a) Unknown
 abbrev pub chosen : ℕ → ℕ → Code → Atom → Found → Found → Context × Found → With Found
 chosen line end before t test x d =
     then (choice line test.typed x.typed d.1.typed) (λ typed. let v = choose_last line before typed.type t d in Ok (here end v.0, choice_found typed v.1))
-
--- assignments
-
--- `=` to a struct or a union: `copy a b n` (C99 6.5.16.1)
-abbrev pub record_assigned : ℕ → ℕ → Found → Context × Found → With Found
-record_assigned line right target d =
-    then (assigned line right d.0.tags target.typed d.1.typed) (λ typed. Ok (emit line (Copy (atom_in target) (atom_in d.1) (pos (size_or_zero d.0 typed.type))) d.0, found_as typed Empty Unknown))
-
--- `=` to a scalar: V of the right side, C, the write; the answer is the converted value
-abbrev set_to : ℕ → Code → PlainTyped → Found → Context × Found → Context × Found
-set_to line before typed target d =
-    let v = convert line before typed.type d.1.typed (atom_in d.1) d.0 in
-    (write line typed.type target.spot v.1 v.0, valued_as typed v.1)
-
-abbrev pub scalar_assigned : ℕ → Code → Tree → Found → Context × Found → With Found
-scalar_assigned line before tree target d =
-    then (assigned line (types.line_of tree) d.0.tags target.typed d.1.typed) (λ typed. then (valued_from tree d.0 d.1) (λ v. Ok (set_to line before typed target v)))
-
--- what a place that is read and written holds
-abbrev pub old_value : ℕ → Context × Found → Context × Atom
-old_value line d = read_spot line d.1.typed.type d.1.spot d.0
-
--- `l OP= r`, once both sides are in hand: the operation, C back, the write (C99 6.5.16.2)
-abbrev change_place : ℕ → BinaryOp → PlainTyped → Found → Atom → PlainTyped → Atom → Context → Context × Atom
-change_place line op typed target old e y c =
-    let v = changed_to line op typed.type old e y c in (write line typed.type target.spot v.1 v.0, v.1)
-
--- the answer of `l OP= r`, `++l` and `--l` is the converted value, that of `l++` and `l--` the old one
-abbrev changed_answer : Bool → PlainTyped → Atom → Context × Atom → Context × Found
-changed_answer true typed old v = (v.0, valued_as typed old)
-changed_answer false typed old v = (v.0, valued_as typed v.1)
-
-abbrev pub changed_by : ℕ → AssignOp → Bool → Found → Atom → Context × Found → With Found
-changed_by line op keeps_old target old d =
-    then (changed line op d.0.tags target.typed d.1.typed) (λ typed. Ok (changed_answer keeps_old typed old (change_place line (operator_of op) typed target old d.1.typed (atom_in d.1) d.0)))
-
--- `++` and `--`: as `+= 1` and `-= 1` (C99 6.5.2.4, 6.5.3.1)
-abbrev one_found : Found
-one_found = valued_as int (atom.Int (pos 1))
-
-abbrev pub stepped : ℕ → AssignOp → Bool → Context × Found → With Found
-stepped line op keeps_old d =
-    let old = old_value line d in changed_by line op keeps_old d.1 old.1 (old.0, one_found)
