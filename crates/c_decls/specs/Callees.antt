@@ -120,16 +120,16 @@ called line tags other = no_function line tags (named line other)
 -- formats of `printf` (C99 7.19.6.1, narrowed)
 
 -- what stands behind the flags, and behind the digits behind them
-abbrev behind_flags : List ℕ → List ℕ
+abbrev pub behind_flags : List ℕ → List ℕ
 behind_flags bytes = drop (length (take_while is_flag bytes)) bytes
 
-abbrev digits_at : List ℕ → List ℕ
+abbrev pub digits_at : List ℕ → List ℕ
 digits_at bytes = take_while is_ascii_digit (behind_flags bytes)
 
-abbrev behind_digits : List ℕ → List ℕ
+abbrev pub behind_digits : List ℕ → List ℕ
 behind_digits bytes = drop (length (digits_at bytes)) (behind_flags bytes)
 
-abbrev behind_length : List ℕ → List ℕ
+abbrev pub behind_length : List ℕ → List ℕ
 behind_length bytes = drop (length (length_bytes (length_at (behind_digits bytes)))) (behind_digits bytes)
 
 -- an item has its form behind its percent sign: a width of at most 4095, a length and a conversion that go together, and

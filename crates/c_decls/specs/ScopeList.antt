@@ -12,6 +12,10 @@ pub record ScopeList : Type 0 where
   pub file : Table
   pub inner : List Table
 
+-- a file scope without names
+abbrev pub no_scopes : ScopeList
+no_scopes = record { file = []; inner = [] }
+
 -- what a scope declares a name as
 abbrev pub named_in : List ℕ → Table → Option PlainNamed
 named_in name [] = None

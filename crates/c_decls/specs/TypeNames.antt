@@ -37,27 +37,27 @@ many test (tree ▹ rest) = many test rest
 abbrev pub has : (Keyword → Bool) → Trees → Bool
 has test words = nat_lt 0 (many test words)
 
-abbrev is_void_word : Keyword → Bool
+abbrev pub is_void_word : Keyword → Bool
 is_void_word k.Void = true
 is_void_word _ = false
 
-abbrev is_char : Keyword → Bool
+abbrev pub is_char : Keyword → Bool
 is_char k.Char = true
 is_char _ = false
 
-abbrev is_short : Keyword → Bool
+abbrev pub is_short : Keyword → Bool
 is_short k.Short = true
 is_short _ = false
 
-abbrev is_long : Keyword → Bool
+abbrev pub is_long : Keyword → Bool
 is_long k.Long = true
 is_long _ = false
 
-abbrev is_signed_word : Keyword → Bool
+abbrev pub is_signed_word : Keyword → Bool
 is_signed_word k.Signed = true
 is_signed_word _ = false
 
-abbrev is_unsigned_word : Keyword → Bool
+abbrev pub is_unsigned_word : Keyword → Bool
 is_unsigned_word k.Unsigned = true
 is_unsigned_word _ = false
 
@@ -93,10 +93,11 @@ same_sort line r.Struct context (Struct tag) = Ok (context, Struct tag)
 same_sort line r.Union context (Union tag) = Ok (context, Union tag)
 same_sort line sort context _ = refused DeclaredTwice line
 
--- a struct or a union by its name
+-- a struct or a union by its name; under the name of a tag nothing else is declared
 abbrev pub tag_named : ℕ → RecordSort → List ℕ → Context → Option PlainNamed → Checked (Context × PlainType)
+tag_named line sort name context None = Ok (with_new_tag sort name context)
 tag_named line sort name context (Some (n.Tag type)) = same_sort line sort context type
-tag_named line sort name context _ = Ok (with_new_tag sort name context)
+tag_named line sort name context (Some other) = refused DeclaredTwice line
 
 -- an enum by its name: its type is int
 abbrev pub enum_named : ℕ → Context → Option PlainNamed → Checked (Context × PlainType)

@@ -34,6 +34,10 @@ pub use constant::Constant;
 pub use integers::{common_type, number_type, promoted};
 pub use named::{Named, tag_name};
 pub use refusal::{TypeError, TypeKind};
-pub use rules::{address, binary, unary};
+pub use rules::{address, binary, chosen, immovable, result_type, unary, value_unless};
+pub use scope::Scope;
 pub use scopes::{DeclError, Scopes};
-pub use typed::{Folded, Typed};
+pub use typed::{
+    Folded, Operand, Typed, has_no_size, is_array, is_function, is_record, is_same, is_scalar,
+    is_void, operand_of, refused,
+};

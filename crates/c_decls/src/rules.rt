@@ -29,7 +29,7 @@ fn folded_of(calculated: Option<Constant>) -> Folded
 }
 
 /// What is chosen by a constant: an operand that is not constant decides, whether it is evaluated or not (C99 6.6).
-pub(crate) fn chosen(test: Folded, then_it: Folded, else_it: Folded) -> Folded
+pub fn chosen(test: Folded, then_it: Folded, else_it: Folded) -> Folded
     ensures { result ≡ rules.chosen test then_it else_it }
 {
     match (test, then_it, else_it) {
@@ -75,7 +75,7 @@ fn calculated(op: BinaryOp, x: Constant, y: Constant) -> Option<Constant>
 }
 
 /// The type of an operator's result on integers.
-fn result_type(op: BinaryOp, s: IntType, t: IntType) -> IntType
+pub fn result_type(op: BinaryOp, s: IntType, t: IntType) -> IntType
     ensures { result ≡ rules.result_type op s t }
 {
     match op {
@@ -122,7 +122,7 @@ fn on_integers(op: BinaryOp, s: IntType, t: IntType, first: Folded, second: Fold
 }
 
 /// Why a pointer to a type does not move: the type is void, or it has no size (C99 6.5.6).
-pub(crate) fn immovable(tags: &Tags, target: &CType) -> Option<TypeKind>
+pub fn immovable(tags: &Tags, target: &CType) -> Option<TypeKind>
     ensures { result ≡ rules.immovable tags.now (plain target.now) }
 {
     if is_void(target) {
@@ -135,7 +135,7 @@ pub(crate) fn immovable(tags: &Tags, target: &CType) -> Option<TypeKind>
 }
 
 /// A value of a type, unless there is a reason against it.
-pub(crate) fn value_unless(bar: Option<TypeKind>, line: Line, ty: CType) -> Result<Typed, TypeError>
+pub fn value_unless(bar: Option<TypeKind>, line: Line, ty: CType) -> Result<Typed, TypeError>
     ensures { Answers plain_typed result (rules.barred bar line (Ok (value (plain ty)))) }
 {
     match bar {

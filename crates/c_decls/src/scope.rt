@@ -12,7 +12,7 @@ use std::marker::Model;
 
 /// The names of one scope, in order of declaration.
 #[derive(Drop)]
-pub(crate) struct Scope {
+pub struct Scope {
     names: IndexMap<Vec<u8>, Named>,
 }
 
@@ -31,7 +31,7 @@ impl Model for Scope {
 
 impl Scope {
     /// A scope without names.
-    pub(crate) fn new(alloc: Global) -> Scope
+    pub fn new(alloc: Global) -> Scope
         ensures { result ≡ [] }
     {
         Scope {

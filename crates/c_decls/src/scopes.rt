@@ -2,8 +2,10 @@
 
 ghost use Rattle.std.specs.Prelude.{◌≡◌, ◌↔◌, ◌<◌, ◌^◌, length, IsTrue, Err, option_map, IfOk, IfErr, OnOk, OnErr};
 ghost use Rattle.c_decls.specs.Named.{plain_named};
-ghost use Rattle.c_decls.specs.ScopeList.{named_in, innermost, found, with_name, after_declaration, entered, left, IsTwice};
+ghost use Rattle.c_decls.specs.ScopeList.{no_scopes, named_in, innermost, found, with_name, after_declaration, entered, left, IsTwice};
 ghost use Rattle.c_decls.specs.BuiltIns.{first_scopes, all_differ, numbered_from};
+
+mod kept;
 
 use crate::built_in::BuiltIn;
 use crate::named::{Named, is_same_again};
@@ -94,6 +96,17 @@ impl Scopes {
         })
     }
 
+    /// A file scope without names. It takes no memory.
+    pub fn none(alloc: Global) -> Scopes
+        ensures { result ≡ no_scopes }
+    {
+        Scopes {
+            alloc,
+            file: Scope::new(alloc),
+            inner: Vec::new(alloc),
+        }
+    }
+
     /// Opens a scope inside the others. An error changes nothing.
     pub fn enter(&mut self) -> Result<(), NoMemory>
         ensures ok { OnOk result (self.new ≡ entered self.old) }
@@ -103,9 +116,8 @@ impl Scopes {
         Ok(())
     }
 
-    /// Closes the innermost scope and forgets its names.
+    /// Closes the innermost scope and forgets its names. The file scope stays.
     pub fn leave(&mut self)
-        requires { 0 < length self.old.inner }
         ensures { self.new ≡ left self.old }
     {
         let _ = self.inner.pop();

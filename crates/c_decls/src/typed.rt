@@ -33,7 +33,7 @@ pub struct Typed {
 }
 
 /// A refusal at a line.
-pub(crate) fn refused<T>(kind: TypeKind, line: Line) -> Result<T, TypeError>
+pub fn refused<T>(kind: TypeKind, line: Line) -> Result<T, TypeError>
     ensures { result ≡ Err (TypeError.Bad kind line) }
 {
     Err(TypeError::Bad { kind, line })
@@ -137,14 +137,14 @@ fn record_kind(tags: &Tags, ty: &CType) -> TypeKind
 }
 
 /// Whether no object can be of a type: it is incomplete, void or a function.
-pub(crate) fn has_no_size(tags: &Tags, ty: &CType) -> bool
+pub fn has_no_size(tags: &Tags, ty: &CType) -> bool
     ensures { result ≡ has_no_size tags.now (plain ty.now) }
 {
     align_of(tags, ty).is_none()
 }
 
 /// Whether a type is void.
-pub(crate) fn is_void(ty: &CType) -> bool
+pub fn is_void(ty: &CType) -> bool
     ensures { result ≡ is_void (plain ty.now) }
 {
     match ty {
@@ -159,7 +159,7 @@ pub(crate) fn is_void(ty: &CType) -> bool
 }
 
 /// Whether a type is a struct or a union.
-pub(crate) fn is_record(ty: &CType) -> bool
+pub fn is_record(ty: &CType) -> bool
     ensures { result ≡ is_record (plain ty.now) }
 {
     match ty {
@@ -170,7 +170,7 @@ pub(crate) fn is_record(ty: &CType) -> bool
 }
 
 /// Whether a type is an array.
-pub(crate) fn is_array(ty: &CType) -> bool
+pub fn is_array(ty: &CType) -> bool
     ensures { result ≡ is_array (plain ty.now) }
 {
     match ty {
@@ -185,7 +185,7 @@ pub(crate) fn is_array(ty: &CType) -> bool
 }
 
 /// Whether a type is that of functions.
-pub(crate) fn is_function(ty: &CType) -> bool
+pub fn is_function(ty: &CType) -> bool
     ensures { result ≡ is_function (plain ty.now) }
 {
     match ty {
@@ -200,7 +200,7 @@ pub(crate) fn is_function(ty: &CType) -> bool
 }
 
 /// Whether a type is an integer or a pointer (C99 6.2.5).
-pub(crate) fn is_scalar(ty: &CType) -> bool
+pub fn is_scalar(ty: &CType) -> bool
     ensures { result ≡ is_scalar (plain ty.now) }
 {
     match ty {
@@ -222,14 +222,14 @@ fn is_zero(ty: &CType, folded: Folded) -> bool
 
 /// How an operator sees the type of a value.
 #[derive(Clone, Copy)]
-pub(crate) enum Operand<'a> {
+pub enum Operand<'a> {
     Number(IntType),
     PointerTo(&'a CType),
     Neither,
 }
 
 /// How an operator sees a type.
-pub(crate) fn operand_of(ty: &CType) -> Operand<'_>
+pub fn operand_of(ty: &CType) -> Operand<'_>
     ensures { plain_operand result ≡ operand (plain ty.now) }
 {
     match ty {
@@ -244,7 +244,7 @@ pub(crate) fn operand_of(ty: &CType) -> Operand<'_>
 }
 
 /// Whether two types are the same.
-pub(crate) fn is_same(a: &CType, b: &CType) -> bool
+pub fn is_same(a: &CType, b: &CType) -> bool
     ensures { result ≡ same (plain a.now) (plain b.now) }
 {
     same_type(a, b)
