@@ -1,4 +1,4 @@
-pub mod Declared
+pub mod Logs
 pub mod sound
 pub mod complete
 pub mod TokenWords
@@ -8,3 +8,7 @@ pub mod Unary
 pub mod Grown
 pub mod Typedefs
 pub mod Consts
+pub mod Functions
+pub mod Texts
+pub mod Loops
+pub mod Scoping

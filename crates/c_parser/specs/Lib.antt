@@ -12,3 +12,5 @@ pub mod Signs
 pub mod Held
 pub mod Tallies
 pub mod Sorts
+pub mod Told
+pub mod Pieces

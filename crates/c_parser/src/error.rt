@@ -56,3 +56,14 @@ impl<T: Drop> From<AllocFailed<T>> for ReadError {
         ReadError::NoMemory
     }
 }
+
+impl From<NoMemory> for ParseError {
+    ghost use Rattle.std.specs.Prelude.{◌≡◌};
+    ghost use Rattle.c_parser.specs.declared.error.ParseError.TheVariants.{NoMemory};
+
+    ghost from_gives = { λ _ e. e ≡ NoMemory };
+
+    fn from(_: NoMemory) -> ParseError {
+        ParseError::NoMemory
+    }
+}

@@ -55,7 +55,8 @@ impl<'a> DeepBase<'a> {
     /// With suffixes behind.
     pub fn with_suffixes(self, suffixes: DeepSuffixes) -> DeepDeclarator<'a>
         requires { self.layers + suffixes.layers < 2 ^ 64 }
-        ensures { declarator_tree result.tree ≡ Node form.Direct (base_tree self.entry.tree ▹ Node form.Suffixes (trees suffix_view suffixes.list.items) ▹ none) }
+        ensures tree { declarator_tree result.tree ≡ Node form.Direct (base_tree self.entry.tree ▹ Node form.Suffixes (trees suffix_view suffixes.list.items) ▹ none) }
+        ensures layers { result.layers ≡ self.entry.layers + suffixes.layers }
     {
         let is_function = if self.is_name {
             suffixes.is_function

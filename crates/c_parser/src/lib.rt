@@ -2,23 +2,36 @@
 //!
 //! `specs/` has a reader on lists, `read_unit` (`specs/Rooms.antt`), which takes tokens from left to right: by the room that
 //! is left for depth, by the place where a tree is wanted, and by the first words. The laws say that what it reads is a tree
-//! of the grammar of `c_tree` ([`laws::trees_are_read`], [`laws::texts_are_read`]).
+//! of the grammar of `c_tree` ([`laws::trees_are_read`], [`laws::texts_are_read`]), and that the tree of a text's tokens is
+//! the one that it reads; where it stops, the tokens go wrong ([`laws::trees_of_texts_are_read`]). The canonical text of a tree
+//! is read as that tree, but for lines ([`laws::trees_are_read_again`]).
 //!
-//! In code there are the parts that readers are made of: the word of a token, a reader over tokens with the names that are
-//! declared, operators by their signs, counts of the words of specs, layers of declarators, and lists with their depth. The
-//! readers themselves come next.
+//! In code there are the readers of expressions, specs and declarators: each function gives what the definition of its part
+//! reads, with how deep the tree is. They stand on the word of a token, a reader over tokens, the names that are declared
+//! with a look-up and scopes of near constant time, counts of the words of specs, and nodes of trees with their depth. Lists
+//! are read by loops. Statements and whole texts come next.
 #![tactic(auto)]
 
+mod declarator;
+mod declared;
 mod deep;
 mod error;
+mod expression;
+mod function;
 mod kind;
 mod known;
 pub mod laws;
 mod layers;
+mod levels;
 mod lists;
+mod nodes;
+mod operand;
 mod operators;
+mod postfix;
 mod reader;
+mod specifiers;
 mod strings;
+mod tags;
 mod tally;
 mod words;
 

@@ -1,11 +1,13 @@
 //! Tokens from left to right, and the names that are declared.
 
-ghost use Rattle.std.specs.Prelude.{◌≡◌, ◌<◌, ◌+◌, ◌^◌, ◌-◌, ◌&&◌, not, if◌then◌else◌, length, take, IfOk};
+ghost use Rattle.std.specs.Prelude.{◌≡◌, ◌<◌, ◌+◌, ◌^◌, ◌-◌, ◌&&◌, not, length, take, IfOk};
 ghost use Rattle.c_parser.specs.Declarators.{leading_consts, past_consts, maybe_name_at};
-ghost use Rattle.c_parser.specs.Reading.{goes_on_inside};
+ghost use Rattle.c_parser.specs.Reading.{goes_on_inside, nothing_read, parts_of};
+ghost use Rattle.c_tree.specs.Grammar.{closed};
+ghost use Rattle.c_tree.specs.Tree.{none};
 ghost use Rattle.c_tree.specs.declared.word.Sign.TheVariants as sign;
 ghost use Rattle.c_tree.specs.declared.word.Keyword.TheVariants as keyword;
-ghost use Rattle.c_parser.specs.Rooms.{less};
+ghost use Rattle.c_parser.specs.Rooms.{less, start_of};
 ghost use Rattle.c_tree.specs.View.{maybe_name};
 ghost use Rattle.c_parser.specs.State as state;
 ghost use Rattle.c_parser.specs.Expressions as spec;
@@ -13,56 +15,43 @@ ghost use Rattle.c_parser.specs.Gives.{Passes, Reads};
 ghost use Rattle.c_tree.specs.View.{name_leaf};
 ghost use Rattle.c_tree.specs.Words.{Key, Mark};
 ghost use Rattle.c_tree.specs.Scopes as scopes;
-ghost use Rattle.c_parser.specs.Names.{known_names, name_now};
+ghost use Rattle.c_parser.specs.Names.{name_now, oldest};
 
+use crate::declared::{Entry, Named, Names, copied, declare_all};
 use crate::error::ReadError;
 use crate::kind::{Kind, is_key, is_mark, is_name, is_spec_key};
 use crate::known::kind_of;
-use c_lexer::{Token, TokenKind};
+use c_lexer::Token;
 use c_tree::{Keyword, Sign};
 use hs_base::{Items, Line, NoMemory};
 use std::alloc::Global;
 use std::marker::Model;
 
-/// A name that is declared, and whether it is a typedef name.
-#[derive(Clone, Copy, Debug, Drop)]
-pub struct Named<'a> {
-    pub name: &'a [u8],
-    pub is_type: bool,
-}
-
 /// The tokens that are left, and what is declared before them.
 #[derive(Drop)]
 pub struct Reader<'a> {
     words: &'a [Token],
-    /// What is declared, the latest last.
-    names: Vec<Named<'a>>,
+    /// What the next token is.
+    next: Kind,
+    /// What is declared.
+    names: Names<'a>,
     /// Whether a declaration of typedef names is being read.
     typedef: bool,
-    /// The parameters next to the name that was read last.
-    params: Vec<Named<'a>>,
+    /// The parameters next to the name that was read last, the latest last.
+    params: Vec<Entry<'a>>,
 }
 
-/// What is declared outside of a scope.
-#[derive(Drop)]
-pub struct Outer<'a> {
-    names: Vec<Named<'a>>,
+/// How many names are declared outside of a scope, and whether a declaration of typedef names is being read there.
+#[derive(Clone, Copy, Debug, Drop)]
+pub struct Outer {
+    count: usize,
     typedef: bool,
-}
-
-impl<'a> Model for Outer<'a> {
-    ghost use Rattle.c_tree.specs.Scopes.{Scope};
-    ghost use Rattle.c_parser.specs.Names.{known_names};
-
-    ghost Value = { Scope };
-
-    ghost view = { λ o. record { names = known_names o.names.items; typedef = o.typedef } };
 }
 
 /// Parameters that are kept.
 #[derive(Drop)]
 pub struct Params<'a> {
-    names: Vec<Named<'a>>,
+    names: Vec<Entry<'a>>,
 }
 
 impl<'a> Model for Params<'a> {
@@ -75,61 +64,41 @@ impl<'a> Model for Params<'a> {
     ghost view = { λ o. known_names o.names.items };
 }
 
-/// Says whether the latest declaration of a name is a typedef.
-fn is_type(names: &[Named], name: &[u8]) -> bool
-    ensures { result ≡ scopes.is_type (known_names names.now) name.now }
+/// What the first of some tokens is.
+fn first_kind(words: &[Token]) -> Kind
+    ensures { result ≡ state.first_kind words.now }
 {
-    let mut latest = false;
-    for named in names.iter() {
-        if named.name == name {
-            latest = named.is_type;
-        }
+    match words {
+        [] => Kind::End,
+        [token, ..] => kind_of(token),
     }
-    latest
-}
-
-/// The names behind so many.
-#[tactic(auto, using(crate::proofs::Declared::names_slice, crate::proofs::Declared::names_end))]
-fn behind<'b, 'a>(names: &'b [Named<'a>], outer: usize) -> &'b [Named<'a>]
-    ensures { known_names result.now ≡ take (length names.now - outer) (known_names names.now) }
-{
-    if outer < names.len() {
-        &names[outer..]
-    } else {
-        &names[names.len()..]
-    }
-}
-
-/// The same names.
-fn copy<'a>(alloc: Global, names: &[Named<'a>]) -> Result<Vec<Named<'a>>, NoMemory>
-    ensures { IfOk result (λ v. known_names v.items ≡ known_names names.now) }
-{
-    let mut all = Vec::new(alloc);
-    for named in names.iter() {
-        all.push(*named)?;
-    }
-    Ok(all)
 }
 
 impl<'a> Model for Reader<'a> {
-    ghost use Rattle.c_parser.specs.State.{State};
+    ghost use Rattle.std.specs.Prelude.{◌≡◌};
+    ghost use Rattle.c_parser.specs.State.{State, first_kind};
     ghost use Rattle.c_parser.specs.Names.{known_names};
 
     ghost Value = { State };
 
-    ghost view = { λ r. record { words = r.words.now; scope = record { names = known_names r.names.items; typedef = r.typedef }; params = known_names r.params.items } };
+    ghost view = { λ r. record { words = r.words.now; scope = record { names = r.names; typedef = r.typedef }; params = known_names r.params.items } };
+
+    ghost invariant = { λ r. r.next ≡ first_kind r.words.now };
 }
 
 impl<'a> Reader<'a> {
-    /// Where a text begins.
-    pub fn new(alloc: Global, words: &'a [Token]) -> Result<Reader<'a>, NoMemory> {
-        let mut names = Vec::new(alloc);
-        names.push(Named {
+    /// A reader at the first of some tokens: of the built-in names `size_t` is a type.
+    pub fn new(alloc: Global, words: &'a [Token]) -> Result<Reader<'a>, NoMemory>
+        ensures { IfOk result (λ reader. reader ≡ start_of words.now) }
+    {
+        let mut names = Names::new(alloc);
+        names.declare(Named {
             name: b"size_t",
             is_type: true,
         })?;
         Ok(Reader {
             words,
+            next: first_kind(words),
             names,
             typedef: false,
             params: Vec::new(alloc),
@@ -140,10 +109,7 @@ impl<'a> Reader<'a> {
     pub fn kind(&self) -> Kind
         ensures { result ≡ state.kind_at self.now }
     {
-        match self.words {
-            [] => Kind::End,
-            [token, ..] => kind_of(token),
-        }
+        self.next
     }
 
     /// What the token behind the next one is.
@@ -189,7 +155,7 @@ impl<'a> Reader<'a> {
     /// How many tokens are left.
     pub fn left(&self) -> usize
         ensures count { result ≡ state.left_at self.now }
-        ensures small { result + 1 < 2 ^ 64 }
+        ensures small { result + 1000 < 2 ^ 64 }
     {
         self.words.len()
     }
@@ -199,6 +165,7 @@ impl<'a> Reader<'a> {
         ensures { self.new ≡ state.skip self.old }
     {
         if let [_, rest @ ..] = self.words {
+            self.next = first_kind(rest);
             self.words = rest;
         }
     }
@@ -253,7 +220,7 @@ impl<'a> Reader<'a> {
     pub fn is_type(&self) -> bool
         ensures { result ≡ scopes.is_type self.now.scope.names (state.bytes_at self.now) }
     {
-        is_type(self.names.as_slice(), self.bytes())
+        self.names.is_type(self.bytes())
     }
 
     /// Says whether a declaration of typedef names is being read.
@@ -271,33 +238,33 @@ impl<'a> Reader<'a> {
     }
 
     /// Declares a name, where there is one.
-    #[tactic(auto, using(crate::proofs::Declared::known_behind))]
     pub fn declare(&mut self, name: Option<&'a [u8]>, is_type: bool) -> Result<(), NoMemory>
         ensures { IfOk result (λ _. self.new ≡ state.declaring (name_now name.entry) is_type self.old) }
     {
         if let Some(name) = name {
-            self.names.push(Named { name, is_type })?;
+            self.names.declare(Named { name, is_type })?;
         }
         Ok(())
     }
 
-    /// What is declared here, for the end of a scope.
-    pub fn enter(&self, alloc: Global) -> Result<Outer<'a>, NoMemory>
-        ensures { IfOk result (λ o. o ≡ self.now.scope) }
+    /// Begins a scope.
+    pub fn enter(&self) -> Outer
+        ensures count { result.count ≡ length self.now.scope.names }
+        ensures typedef { result.typedef ≡ self.now.scope.typedef }
     {
-        Ok(Outer {
-            names: copy(alloc, self.names.as_slice())?,
+        Outer {
+            count: self.names.len(),
             typedef: self.typedef,
-        })
+        }
     }
 
-    /// Ends a scope.
-    pub fn leave(&mut self, outer: Outer<'a>)
-        ensures { self.new ≡ record { words = self.old.words; scope = outer.entry; params = self.old.params } }
+    /// Ends a scope: what was declared in it holds no longer.
+    pub fn leave(&mut self, outer: Outer) -> Result<(), NoMemory>
+        ensures { IfOk result (λ _. self.new ≡ record { words = self.old.words; scope = record { names = oldest outer.count self.old.scope.names; typedef = outer.typedef }; params = self.old.params }) }
     {
-        let Outer { names, typedef } = outer;
-        self.names = names;
-        self.typedef = typedef;
+        self.names.cut(outer.count)?;
+        self.typedef = outer.typedef;
+        Ok(())
     }
 
     /// How the next token is spelled.
@@ -330,7 +297,7 @@ impl<'a> Reader<'a> {
             [] => false,
             [token, ..] => match kind_of(token) {
                 Kind::Key(keyword) => is_spec_key(keyword),
-                Kind::Name => is_type(self.names.as_slice(), token.bytes.as_slice()),
+                Kind::Name => self.names.is_type(token.bytes.as_slice()),
                 _ => false,
             },
         }
@@ -390,30 +357,33 @@ impl<'a> Reader<'a> {
     pub fn params(&self, alloc: Global) -> Result<Params<'a>, NoMemory>
         ensures { IfOk result (λ p. p ≡ self.now.params) }
     {
-        Ok(Params {
-            names: copy(alloc, self.params.as_slice())?,
-        })
+        let names = copied(alloc, self.params.as_slice())?;
+        Ok(Params { names })
     }
 
-    /// Keeps these parameters, but for those of the first suffix behind a name.
-    pub fn keep_params(&mut self, first: bool, held: Params<'a>)
-        ensures { self.new ≡ (if first then self.old else record { words = self.old.words; scope = self.old.scope; params = held.entry }) }
+    /// With parameters that were kept.
+    pub fn keep_params(&mut self, held: Params<'a>)
+        ensures { self.new ≡ record { words = self.old.words; scope = self.old.scope; params = held.entry } }
     {
-        if !first {
-            let Params { names } = held;
-            self.params = names;
-        }
+        let Params { names } = held;
+        self.params = names;
     }
 
     /// Ends a parameter list, whose names are kept.
-    #[tactic(auto, using(crate::proofs::Declared::known_length))]
-    pub fn leave_params(&mut self, alloc: Global, outer: Outer<'a>) -> Result<(), NoMemory>
-        ensures { IfOk result (λ _. self.new ≡ record { words = self.old.words; scope = outer.entry; params = take (length self.old.scope.names - length outer.entry.names) self.old.scope.names }) }
+    pub fn leave_params(&mut self, alloc: Global, outer: Outer) -> Result<(), NoMemory>
+        ensures { IfOk result (λ _. self.new ≡ record { words = self.old.words; scope = record { names = oldest outer.count self.old.scope.names; typedef = outer.typedef }; params = take (length self.old.scope.names - outer.count) self.old.scope.names }) }
     {
-        let Outer { names, typedef } = outer;
-        self.params = copy(alloc, behind(self.names.as_slice(), names.len()))?;
-        self.names = names;
-        self.typedef = typedef;
+        self.params = self.names.behind(alloc, outer.count)?;
+        self.names.cut(outer.count)?;
+        self.typedef = outer.typedef;
+        Ok(())
+    }
+
+    /// Begins a body: the parameters are declared.
+    pub fn declare_params(&mut self) -> Result<(), NoMemory>
+        ensures { IfOk result (λ _. self.new ≡ state.in_body self.old) }
+    {
+        declare_all(&mut self.names, self.params.as_slice())?;
         Ok(())
     }
 
@@ -451,7 +421,9 @@ impl<'a> Reader<'a> {
     }
 
     /// Passes a closing brace, behind a comma or not.
-    pub fn closing(&mut self, trailing: bool) -> Result<(), ReadError> {
+    pub fn closing(&mut self, trailing: bool) -> Result<(), ReadError>
+        ensures { Reads (λ _. none) result self.new (parts_of (λ place. nothing_read) (closed trailing) self.old) }
+    {
         if trailing {
             self.mark(Sign::Comma)?;
         }

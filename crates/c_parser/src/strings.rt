@@ -1,11 +1,14 @@
 //! String literals one behind another.
 
-ghost use Rattle.std.specs.Prelude.{◌≡◌, ◌∷◌, []};
+ghost use Rattle.std.specs.Prelude.{◌≡◌, IfOk};
 ghost use Rattle.c_tree.specs.Forms as form;
-ghost use Rattle.c_tree.specs.Tree.{Node, none};
+ghost use Rattle.c_tree.specs.Tree.{Leaf, Node};
 ghost use Rattle.c_tree.specs.View.{literal_leaves};
+ghost use Rattle.c_tree.specs.Words.{Str};
 ghost use Rattle.c_parser.specs.Expressions as spec;
 ghost use Rattle.c_parser.specs.Gives.{Reads};
+ghost use Rattle.c_parser.specs.Pieces.{is_literal as spec_is_literal};
+ghost use Rattle.c_parser.specs.Reading.{snoc};
 
 use crate::error::ReadError;
 use crate::kind::Kind;
@@ -14,34 +17,39 @@ use hs_base::{Items, NoMemory};
 use std::alloc::Global;
 
 /// String literals, by their spellings.
+#[tactic(auto, using(crate::proofs::Loops::strings_go_on, crate::proofs::Loops::strings_end))]
 pub fn strings(alloc: Global, reader: &mut Reader) -> Result<Items<Items<u8>>, ReadError>
     ensures { Reads (λ x. Node form.Strings (literal_leaves x)) result reader.new (spec.strings_at reader.old) }
 {
-    let turns = reader.left();
-    strings_more(alloc, reader, turns + 1, Items::new(alloc))
+    let mut list = Items::new(alloc);
+    let mut turns = reader.left() + 1;
+    'literals: while turns > 0 {
+        if !is_literal(reader.kind()) {
+            return Ok(list);
+        }
+        let spelling = reader.spelling(alloc)?;
+        push(&mut list, spelling)?;
+        reader.skip();
+        turns -= 1;
+    }
+    Err(ReadError::Syntax)
 }
 
-/// The rest of some string literals.
-#[tactic(auto, using(crate::proofs::Steps::strings_step, crate::proofs::Parts::leaves_behind, crate::proofs::TokenWords::str_words))]
-fn strings_more(
-    alloc: Global,
-    reader: &mut Reader,
-    turns: usize,
-    list: Items<Items<u8>>,
-) -> Result<Items<Items<u8>>, ReadError>
-    ensures { Reads (λ x. Node form.Strings (literal_leaves x)) result reader.new (spec.strings_from turns (literal_leaves list) reader.old) }
+/// Puts a string literal behind others.
+#[tactic(auto, using(crate::proofs::Parts::leaves_behind))]
+fn push(list: &mut Items<Items<u8>>, literal: Items<u8>) -> Result<(), NoMemory>
+    ensures { IfOk result (λ _. literal_leaves list.new ≡ snoc (literal_leaves list.old) (Leaf (Str literal))) }
 {
-    if turns == 0 {
-        return Err(ReadError::Syntax);
-    }
-    match reader.kind() {
-        Kind::Str => {
-            let mut list = list;
-            let spelling = reader.spelling(alloc)?;
-            list.push(spelling)?;
-            reader.skip();
-            strings_more(alloc, reader, turns - 1, list)
-        }
-        _ => Ok(list),
+    list.push(literal)?;
+    Ok(())
+}
+
+/// Says whether a token is a string literal.
+fn is_literal(kind: Kind) -> bool
+    ensures { result ≡ spec_is_literal kind }
+{
+    match kind {
+        Kind::Str => true,
+        _ => false,
     }
 }

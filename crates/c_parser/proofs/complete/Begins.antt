@@ -1,39 +1,26 @@
 -- How expressions begin.
-use Rattle.std.proofs.Common.{inl, inr, ◌⊎◌, ⊎_elim, ◌≡◌, ℕ, zero, suc, ◌+◌, ◌<◌, ◌≤◌, Bool, true, false, List, [], ◌∷◌, ◌++◌, drop, Option, Some, None, refl, sym, ap, ◌∙◌, subst, arith}
-use Rattle.std.specs.Prelude.{if◌then◌else◌, ◌&&◌, not, ⊤}
-use Rattle.std.proofs.lemmas.Bool.{cases_lt, and_left, and_right, false≢true, true≢false}
-use Rattle.c_lexer.specs.declared.token.Token.{Token}
-use Rattle.c_tree.specs.declared.operator.UnaryOp.{UnaryOp}
-use Rattle.c_tree.specs.declared.operator.UnaryOp.TheVariants as u
+use Rattle.std.proofs.Common.{inl, inr, ◌⊎◌, ⊎_elim, ◌≡◌, ℕ, ◌<◌, ◌≤◌, false, List, ◌∷◌, refl, ap, subst, arith}
+use Rattle.std.proofs.lemmas.Bool.{cases_lt}
 use Rattle.c_tree.specs.declared.operator.BinaryOp.{BinaryOp}
 use Rattle.c_tree.specs.declared.operator.BinaryOp.TheVariants as o
 use Rattle.c_tree.specs.declared.operator.AssignOp.{AssignOp}
 use Rattle.c_tree.specs.declared.word.Keyword.{Keyword}
 use Rattle.c_tree.specs.declared.word.Keyword.TheVariants as k
-use Rattle.c_tree.specs.declared.word.Sign.{Sign}
 use Rattle.c_tree.specs.declared.word.Sign.TheVariants as s
-use Rattle.c_tree.specs.Words.{Word, Key, Mark, Name, Int, Char, Str, Other}
+use Rattle.c_tree.specs.Words.{Word, Key, Name, Int, Char, Str}
 use Rattle.c_tree.specs.Forms.{Form}
 use Rattle.c_tree.specs.Forms as f
 use Rattle.c_tree.specs.Places.{Place, Expression}
 use Rattle.c_tree.specs.Places as p
-use Rattle.c_tree.specs.Tree.{Tree, Trees, Leaf, At, Node, none, ◌▹◌, count}
-use Rattle.c_tree.specs.Grammar.{Item, Says, Here, Part, shape, home, form_home, word_home, keyword_home}
-use Rattle.c_tree.specs.Operators.{unary_sign, operand_level, binary_level}
+use Rattle.c_tree.specs.Tree.{Tree, Trees, Leaf, Node, none, ◌▹◌}
+use Rattle.c_tree.specs.Grammar.{shape, home, form_home, word_home, keyword_home}
+use Rattle.c_tree.specs.Operators.{operand_level, binary_level}
 use Rattle.c_tree.specs.Depth.{weight, is_of_declarator}
-use Rattle.c_tree.specs.Spelling.{Piece, Said, Line, spell, spell_all, filled, Spells}
-use Rattle.c_tree.specs.Scopes.{Scope, is_type, is_scope, places, after, after_all, name_of}
-use Rattle.c_tree.specs.Allowed.{Takes, IsExpression, Allowed, AllAllowed, obeys}
-use Rattle.c_tree.proofs.Spelled.{spells_split}
-use Rattle.c_parser.specs.declared.kind.Kind.{Kind}
-use Rattle.c_parser.specs.declared.kind.Kind.TheVariants as kinds
-use Rattle.c_parser.specs.State.{State, kind_at, bytes_at, skip, first_kind, first_bytes, kind_of_word, at_mark, at_key, starts_by, starts_type, opens_type, kind_is_mark, kind_is_key, keyword_number, sign_number, is_spec_key}
+use Rattle.c_tree.specs.Scopes.{Scope, places}
+use Rattle.c_tree.specs.Allowed.{AllAllowed}
 use Rattle.c_parser.specs.Expressions as e
-use Rattle.c_parser.proofs.sound.Options.{none_some}
 use Rattle.c_parser.proofs.sound.Nodes.{IsGrownForm}
 use Rattle.c_parser.proofs.sound.Expressions.{binary_form, assign_form, cond_form, comma_form, postfix_op_form}
-use Rattle.c_parser.proofs.sound.Declarators.{no_line, no_word_line}
-use Rattle.c_parser.proofs.complete.Reads.{said_kind, said_first, line_first}
 
 -- Sorts of forms
 

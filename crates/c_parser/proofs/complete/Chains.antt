@@ -1,31 +1,29 @@
 -- Expressions that are read again, by what they are made of.
-use Rattle.std.proofs.Common.{◌≡◌, ℕ, zero, suc, ◌+◌, ◌<◌, ◌≤◌, Bool, true, false, List, [], ◌∷◌, ◌++◌, drop, length, Option, Some, None, refl, sym, ap, ◌∙◌, subst, arith}
-use Rattle.std.specs.Prelude.{max, if◌then◌else◌, ◌&&◌, not, ⊤, nat_lt}
-use Rattle.std.proofs.lemmas.Bool.{lt-ltb, false≢true, true≢false, not-true}
+use Rattle.std.proofs.Common.{◌≡◌, ℕ, zero, suc, ◌+◌, ◌<◌, ◌≤◌, true, false, List, [], ◌∷◌, ◌++◌, drop, length, Some, None, refl, sym, ap, ◌∙◌, subst, arith}
+use Rattle.std.specs.Prelude.{if◌then◌else◌, not}
+use Rattle.std.proofs.lemmas.Bool.{lt-ltb, true≢false, not-true}
 use Rattle.c_lexer.specs.declared.token.Token.{Token}
-use Rattle.c_tree.specs.declared.word.Sign.TheVariants as s
-use Rattle.c_tree.specs.Words.{Word, Key, Mark, Name, Int, Char, Str, Other}
+use Rattle.c_tree.specs.Words.{Word, Name, Int, Char, Str}
 use Rattle.c_tree.specs.Forms.{Form}
 use Rattle.c_tree.specs.Forms as f
 use Rattle.c_tree.specs.Places.{Place, Expression}
 use Rattle.c_tree.specs.Places as p
 use Rattle.c_tree.specs.Tree.{Tree, Trees, Leaf, At, Node, none, ◌▹◌, count}
-use Rattle.c_tree.specs.Grammar.{Item, Says, Here, Part, rows, some, shape, home, form_home}
-use Rattle.c_tree.specs.Spelling.{Piece, Said, Line, spell, spell_all, filled, Spells}
-use Rattle.c_tree.specs.Scopes.{Scope, is_type, is_scope, places, after, after_all, name_of, name_among}
-use Rattle.c_tree.specs.Allowed.{Takes, IsExpression, Allowed, AllAllowed, obeys, is_type_name}
-use Rattle.c_tree.specs.Depth.{depth, greatest_depth, weight, layers, below}
+use Rattle.c_tree.specs.Grammar.{rows, some, shape, form_home}
+use Rattle.c_tree.specs.Spelling.{Said, spell, spell_all, filled, Spells}
+use Rattle.c_tree.specs.Scopes.{Scope, is_type, is_scope, places, after, name_of, name_among}
+use Rattle.c_tree.specs.Allowed.{Takes, Allowed, AllAllowed, obeys, is_type_name}
+use Rattle.c_tree.specs.Depth.{depth, greatest_depth}
 use Rattle.c_tree.proofs.Spelled.{spells_split}
 use Rattle.c_parser.specs.declared.kind.Kind.{Kind}
 use Rattle.c_parser.specs.declared.kind.Kind.TheVariants as kinds
-use Rattle.c_parser.specs.State.{State, kind_at, word_at, bytes_at, line_at, left_at, skip, first_kind, first_word, behind_first, kind_of_word}
+use Rattle.c_parser.specs.State.{State, kind_at, word_at, bytes_at, line_at, left_at, skip, first_kind, first_word, behind_first}
 use Rattle.c_parser.specs.Reading.{◌>>=◌, Reader, parts_of, in_front, node, fixed, grown, token_node, snoc, joined}
 use Rattle.c_parser.specs.Expressions as e
 use Rattle.c_parser.proofs.sound.Back.{IsNamed, word_back}
-use Rattle.c_parser.proofs.sound.Took.{Took, Sound, AllSound, all_sound}
+use Rattle.c_parser.proofs.sound.Took.{Took, Sound, all_sound}
 use Rattle.c_parser.proofs.sound.Nodes.{IsExprForm, IsGrownForm, plain, depth_flat}
-use Rattle.c_parser.proofs.sound.Expressions.{grows, whole}
-use Rattle.c_parser.proofs.complete.Reads.{Follow, Follows, Complete, AllComplete, all_complete, Reads, PartsReads, parts_again, fixed_again, said_kind, said_first, line_first, is_str}
+use Rattle.c_parser.proofs.complete.Reads.{Follows, all_complete, Reads, parts_again, fixed_again, said_kind, is_str, AllAgain, all_read}
 use Rattle.c_parser.proofs.complete.Begins.{is_name, is_int, is_char, is_str_leaf, is_strings}
 use Rattle.c_parser.proofs.complete.Starts.{token_split, said_bytes, strings_kind}
 
@@ -113,17 +111,43 @@ pub parts_depth : (x a : Tree) (more : Trees) (room : ℕ) → greatest_depth (x
 unfolding greatest_depth
 parts_depth x a more room h = (omega (arith, h), omega (arith, h))
 
-module _ (inner : Place → Reader) (room : ℕ) (deeper : (place : Place) → Sound room place (inner place)) (again : (place : Place) → Complete room place (inner place)) (room_left : 0 < room) where
+-- behind its first part an expression has parts that are read with less room
+grown_read : (form : Form) (level : ℕ) → form_home form ≡ Expression level → all_read (drop 2 (shape form zero)) ≡ true
+unfolding form_home shape
+grown_read f.Name level h = refl
+grown_read f.Int level h = refl
+grown_read f.Char level h = refl
+grown_read f.Str level h = refl
+grown_read f.Paren level h = refl
+grown_read f.Index level h = refl
+grown_read f.Call level h = refl
+grown_read f.Dot level h = refl
+grown_read f.Arrow level h = refl
+grown_read f.PostInc level h = refl
+grown_read f.PostDec level h = refl
+grown_read f.PreInc level h = refl
+grown_read f.PreDec level h = refl
+grown_read (f.Unary op) level h = refl
+grown_read f.SizeofExpr level h = refl
+grown_read f.SizeofType level h = refl
+grown_read f.Cast level h = refl
+grown_read (f.Binary op) level h = refl
+grown_read f.Cond level h = refl
+grown_read (f.Assign op) level h = refl
+grown_read f.Comma level h = refl
+grown_read _ level h = absurd (cc)
+
+module _ (inner : Place → Reader) (room : ℕ) (deeper : (place : Place) → Sound room place (inner place)) (again : AllAgain room inner) (room_left : 0 < room) where
   -- a form with its parts inside
-  pub whole_again : (level : ℕ) (form : Form) → IsExprForm form level → (state : State) (parts : Trees) (rest : List Token) → Allowed (Node form parts) state.scope → depth (Node form parts) < suc room → Spells (spell (Node form parts)) state.words rest → Follows (shape form zero) parts rest → Reads (fixed inner form) state (Node form parts) rest
-  whole_again level form facts state parts rest al deep sp fo =
-      fixed_again room inner form facts.shaped (all_sound room inner deeper (shape form zero)) (all_complete room inner again (shape form zero)) state parts rest al (expr_deep form level room parts facts deep) sp fo
+  pub whole_again : (level : ℕ) (form : Form) → IsExprForm form level → all_read (shape form zero) ≡ true → (state : State) (parts : Trees) (rest : List Token) → Allowed (Node form parts) state.scope → depth (Node form parts) < suc room → Spells (spell (Node form parts)) state.words rest → Follows (shape form zero) parts rest → Reads (fixed inner form) state (Node form parts) rest
+  whole_again level form facts inside state parts rest al deep sp fo =
+      fixed_again room inner form facts.shaped (all_sound room inner deeper (shape form zero)) (all_complete room inner again (shape form zero) inside) state parts rest al (expr_deep form level room parts facts deep) sp fo
 
   -- a form that grows behind its left part
   pub grown_again : (form : Form) (front level line : ℕ) (middle : State) (a : Tree) (more : Trees) (rest : List Token) → IsGrownForm form front level → depth a < room → greatest_depth more < room → AllAllowed more (places (drop 2 (shape form zero))) middle.scope → Spells (filled (drop 2 (shape form zero)) (spell_all more)) middle.words rest → Follows (drop 2 (shape form zero)) more rest → (out : State) × (grown room inner form line a middle ≡ Some (Node form (At line ▹ a ▹ more), out)) × (out.words ≡ rest)
   grown_again form front level line middle a more rest facts da dm al sp fo =
       let items = drop 2 (shape form zero) in
-      let r = parts_again room inner items (all_sound room inner deeper items) (all_complete room inner again items) middle more rest al dm sp fo in
+      let r = parts_again room inner items (all_sound room inner deeper items) (all_complete room inner again items (grown_read form level facts.whole.home)) middle more rest al dm sp fo in
       (r.0, ap (λ b. if b then node form (in_front (At line) (in_front a (parts_of inner items middle))) else None) (lt-ltb (depth a) room da) ∙ ap (λ o. node form (in_front (At line) (in_front a o))) r.1, r.2)
 
   -- A chain: a tree was read as the left part of what may follow

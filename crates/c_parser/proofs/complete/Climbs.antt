@@ -1,39 +1,29 @@
 -- Expressions are read again, level by level.
-use Rattle.std.proofs.Common.{◌≡◌, ℕ, zero, suc, ◌+◌, ◌<◌, ◌≤◌, Bool, true, false, inl, inr, List, [], ◌∷◌, ◌++◌, drop, Option, Some, None, refl, sym, ap, ◌∙◌, subst, arith}
-use Rattle.std.specs.Prelude.{max, if◌then◌else◌, ◌&&◌, not, ⊤, nat_lt, nat_le, ◌-◌}
-use Rattle.std.proofs.lemmas.Bool.{cases_lt, le-leb, lt-leb, false≢true, true≢false}
+use Rattle.std.proofs.Common.{◌≡◌, ℕ, zero, suc, ◌+◌, ◌<◌, ◌≤◌, true, false, List, [], ◌∷◌, ◌++◌, drop, Some, refl, sym, ap, ◌∙◌, subst, arith}
 use Rattle.c_lexer.specs.declared.token.Token.{Token}
-use Rattle.c_tree.specs.declared.operator.UnaryOp.{UnaryOp}
-use Rattle.c_tree.specs.declared.operator.BinaryOp.{BinaryOp}
-use Rattle.c_tree.specs.declared.operator.AssignOp.{AssignOp}
-use Rattle.c_tree.specs.declared.word.Keyword.TheVariants as k
 use Rattle.c_tree.specs.declared.word.Sign.{Sign}
 use Rattle.c_tree.specs.declared.word.Sign.TheVariants as s
-use Rattle.c_tree.specs.Words.{Word, Key, Mark, Name, Int, Char, Str, Other}
+use Rattle.c_tree.specs.Words.{Mark}
 use Rattle.c_tree.specs.Forms.{Form}
 use Rattle.c_tree.specs.Forms as f
 use Rattle.c_tree.specs.Places.{Place, Expression}
-use Rattle.c_tree.specs.Places as p
-use Rattle.c_tree.specs.Tree.{Tree, Trees, Leaf, At, Node, none, ◌▹◌, count}
-use Rattle.c_tree.specs.Grammar.{Item, Says, Here, Part, rows, some, shape, home, form_home}
-use Rattle.c_tree.specs.Operators.{operand_level, binary_level, unary_sign, binary_sign, assign_sign}
-use Rattle.c_tree.specs.Spelling.{Piece, Said, Line, spell, spell_all, filled, Spells}
-use Rattle.c_tree.specs.Scopes.{Scope, is_scope, places, after}
-use Rattle.c_tree.specs.Allowed.{Takes, IsExpression, Allowed, AllAllowed}
+use Rattle.c_tree.specs.Tree.{Tree, Trees, Leaf, At, Node, none, ◌▹◌}
+use Rattle.c_tree.specs.Grammar.{Item, Says, shape, home, form_home}
+use Rattle.c_tree.specs.Operators.{operand_level}
+use Rattle.c_tree.specs.Spelling.{Piece, Said, spell, spell_all, filled, Spells}
+use Rattle.c_tree.specs.Scopes.{is_scope, places}
+use Rattle.c_tree.specs.Allowed.{Takes, Allowed, AllAllowed}
 use Rattle.c_tree.specs.Depth.{depth, greatest_depth, weight, is_of_declarator}
-use Rattle.c_parser.specs.declared.kind.Kind.{Kind}
-use Rattle.c_parser.specs.declared.kind.Kind.TheVariants as kinds
-use Rattle.c_parser.specs.State.{State, kind_at, line_at, skip, first_kind, kind_of_word, at_mark, at_key, opens_type}
-use Rattle.c_parser.specs.Reading.{◌>>=◌, Reader, fixed, grown}
+use Rattle.c_parser.specs.State.{State, line_at, first_kind}
+use Rattle.c_parser.specs.Reading.{◌>>=◌, Reader, grown}
 use Rattle.c_parser.specs.Expressions as e
-use Rattle.c_parser.proofs.sound.Back.{IsNamed}
-use Rattle.c_parser.proofs.sound.Took.{Took, Sound}
-use Rattle.c_parser.proofs.sound.Nodes.{plain, depth_flat, IsExprForm, IsGrownForm, looser, placed}
-use Rattle.c_parser.proofs.sound.Expressions.{grows, primary_took, binary_took, cast_took, assign_took, cond_took, unary_form, unary_op_form, paren_form, cast_form, sizeof_expr_form, sizeof_type_form, int_form, char_form, str_form, postfix_op_form, binary_form, assign_form, cond_form, comma_form}
-use Rattle.c_parser.proofs.complete.Reads.{Follow, Follows, Complete, Reads, said_kind, stops, sign_stops, is_str}
+use Rattle.c_parser.proofs.sound.Took.{Sound}
+use Rattle.c_parser.proofs.sound.Nodes.{plain, depth_flat, IsExprForm, IsGrownForm}
+use Rattle.c_parser.proofs.sound.Expressions.{grows, primary_took, paren_form, int_form, char_form, str_form, postfix_op_form}
+use Rattle.c_parser.proofs.complete.Reads.{Follow, Follows, Reads, said_kind, stops, sign_stops, is_str, AllAgain}
 use Rattle.c_parser.proofs.complete.Operators as ops
-use Rattle.c_parser.proofs.complete.Begins.{Sort, Outside, Token_, Prefix, Grown, expr_sort, outside_not, grown_of, none_not, one_not, no_word_expr}
-use Rattle.c_parser.proofs.complete.Starts.{GrownSplit, grown_split, expr_inj, is_expr, word_after_line, Begins, begins}
+use Rattle.c_parser.proofs.complete.Begins.{Sort, Outside, Token_, Prefix, Grown, expr_sort, outside_not, none_not, one_not, no_word_expr}
+use Rattle.c_parser.proofs.complete.Starts.{GrownSplit, grown_split, expr_inj, is_expr, word_after_line}
 use Rattle.c_parser.proofs.complete.Chains as c
 
 -- Behind a part stands a sign
@@ -95,7 +85,7 @@ postfix_of _ l h at le = absurd (cc)
 postfix_facts : (form : Form) → IsPostfix form → IsGrownForm form 0 0
 postfix_facts form post = postfix_op_form post.sign form post.op
 
-module _ (inner : Place → Reader) (room : ℕ) (deeper : (place : Place) → Sound room place (inner place)) (again : (place : Place) → Complete room place (inner place)) (room_left : 0 < room) where
+module _ (inner : Place → Reader) (room : ℕ) (deeper : (place : Place) → Sound room place (inner place)) (again : AllAgain room inner) (room_left : 0 < room) where
   abbrev PostfixFront : State → Tree → List Token → Type 0
   PostfixFront state tree rest = c.Front inner room deeper again room_left (e.postfix_at inner room) (e.postfix_from inner room) 0 state tree rest
 
@@ -166,7 +156,7 @@ module _ (inner : Place → Reader) (room : ℕ) (deeper : (place : Place) → S
   paren_reads : (x a : Tree) (more : Trees) (state : State) (rest : List Token) → Allowed (Node f.Paren (x ▹ a ▹ more)) state.scope → depth (Node f.Paren (x ▹ a ▹ more)) < suc room → Spells (spell (Node f.Paren (x ▹ a ▹ more))) state.words rest → Reads (e.primary_at inner room) state (Node f.Paren (x ▹ a ▹ more)) rest
   unfolding shape Follow sign_stops e.binary_op e.assign_op spell Allowed AllAllowed
   paren_reads x a more state rest al deep sp =
-      let r = c.whole_again inner room deeper again room_left 0 f.Paren paren_form state (x ▹ a ▹ more) rest al deep sp (tt, ((λ middle g. close_stops 15 s.RightParen [] middle rest refl g), (tt, tt))) in
+      let r = c.whole_again inner room deeper again room_left 0 f.Paren paren_form refl state (x ▹ a ▹ more) rest al deep sp (tt, ((λ middle g. close_stops 15 s.RightParen [] middle rest refl g), (tt, tt))) in
       let w = word_after_line (Mark s.LeftParen) x (spell a ++ filled (Says (Mark s.RightParen) ∷ []) (spell_all more)) state rest al.1.0 tt sp in
       (r.0, ap (λ kind. e.primary_by inner room kind state) w.0 ∙ r.1, r.2)
 

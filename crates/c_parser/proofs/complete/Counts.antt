@@ -1,8 +1,8 @@
 -- Specs that are words of one type have no type word before a typedef name, and some at their end.
-use Rattle.std.proofs.Common.{◌≡◌, ℕ, zero, suc, ◌+◌, ◌<◌, ◌≤◌, Bool, true, false, refl, sym, ap, ◌∙◌, subst, arith}
+use Rattle.std.proofs.Common.{◌≡◌, ◌+◌, ◌<◌, Bool, true, false, refl, sym, ap, subst, arith}
 use Rattle.std.specs.Prelude.{if◌then◌else◌, ◌&&◌, ◌||◌, not, ◌==◌, nat_le}
-use Rattle.std.proofs.lemmas.Bool.{and_parts, eqb-true, leb-true, eq-eqb, ne_eqb, false≢true, true≢false}
-use Rattle.c_tree.specs.Allowed.{Tally, are_specs, is_one_type, is_integer_type, tally, with_part}
+use Rattle.std.proofs.lemmas.Bool.{and_parts, eqb-true, leb-true, eq-eqb, ne_eqb}
+use Rattle.c_tree.specs.Allowed.{Tally, are_specs, is_one_type, is_integer_type, tally}
 use Rattle.c_tree.specs.Tree.{Tree, Trees, none, ◌▹◌}
 use Rattle.c_parser.specs.Reading.{snoc, joined}
 use Rattle.c_parser.specs.Declarators as d

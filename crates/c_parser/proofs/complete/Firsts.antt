@@ -1,30 +1,29 @@
 -- How declarators, names of declarations and statements begin.
-use Rattle.std.proofs.Common.{append_assoc, ◌≡◌, ℕ, zero, suc, Bool, true, false, List, [], ◌∷◌, ◌++◌, replicate, Option, Some, None, refl, sym, ap, ◌∙◌, subst}
-use Rattle.std.specs.Prelude.{if◌then◌else◌, ⊤, ◌&&◌, not, IsSome, is_some}
-use Rattle.std.proofs.lemmas.Bool.{false≢true, true≢false}
+use Rattle.std.proofs.Common.{append_assoc, ◌≡◌, ℕ, Bool, true, false, List, [], ◌∷◌, ◌++◌, replicate, Option, Some, None, refl, sym, ap, ◌∙◌, subst}
+use Rattle.std.specs.Prelude.{if◌then◌else◌, IsSome, is_some}
+use Rattle.std.proofs.lemmas.Bool.{false≢true}
 use Rattle.c_lexer.specs.declared.token.Token.{Token}
 use Rattle.c_tree.specs.declared.word.Keyword.{Keyword}
 use Rattle.c_tree.specs.declared.word.Keyword.TheVariants as k
-use Rattle.c_tree.specs.declared.word.Sign.{Sign}
 use Rattle.c_tree.specs.declared.word.Sign.TheVariants as s
-use Rattle.c_tree.specs.Words.{Word, Key, Mark, Name, Int, Char, Str, Other}
+use Rattle.c_tree.specs.Words.{Word, Key, Mark, Name}
 use Rattle.c_tree.specs.Forms.{Form}
 use Rattle.c_tree.specs.Forms as f
 use Rattle.c_tree.specs.Places.{Place, Expression}
 use Rattle.c_tree.specs.Places as p
 use Rattle.c_tree.specs.Tree.{Tree, Trees, Leaf, At, Node, none, ◌▹◌, count}
-use Rattle.c_tree.specs.Grammar.{Item, Says, Here, Part, key, mark, expr, shape, home, form_home, word_home, keyword_home}
-use Rattle.c_tree.specs.Spelling.{Piece, Said, Line, spell, spell_all, filled, Spells}
-use Rattle.c_tree.specs.Scopes.{Scope, is_scope, places, after, name_of, name_among, first_name, leads_to_name}
+use Rattle.c_tree.specs.Grammar.{Item, Says, Here, Part, key, shape, home, form_home, keyword_home}
+use Rattle.c_tree.specs.Spelling.{Piece, Said, spell, spell_all, filled, Spells}
+use Rattle.c_tree.specs.Scopes.{Scope, is_scope, places, name_of, name_among, first_name, leads_to_name}
 use Rattle.c_tree.specs.Allowed.{Takes, IsDeclarator, IsBase, Allowed, AllAllowed}
 use Rattle.c_tree.proofs.Spelled.{spells_split}
 use Rattle.c_parser.specs.declared.kind.Kind.{Kind}
 use Rattle.c_parser.specs.declared.kind.Kind.TheVariants as kinds
 use Rattle.c_parser.specs.State.{State, first_kind, kind_of_word, kind_is_mark, kind_is_key, keyword_number, sign_number, starts_by, starts_type, is_spec_key}
 use Rattle.c_parser.proofs.sound.Back.{IsNamed}
-use Rattle.c_parser.proofs.complete.Reads.{said_kind, line_first, is_line, specs_stop}
+use Rattle.c_parser.proofs.complete.Reads.{said_kind, line_first, is_line}
 use Rattle.c_parser.proofs.complete.Starts.{word_after_line, line_scope, begins_expr, begins}
-use Rattle.c_parser.proofs.complete.Levels.{expr_level}
+use Rattle.c_parser.proofs.complete.Unary.{expr_level}
 
 line_and_word : (word : Word) (items : List Item) (parts : Trees) (state : State) (rest : List Token) → IsNamed word → AllAllowed parts (p.Line ∷ places items) state.scope → Spells (filled (Here ∷ Says word ∷ items) (spell_all parts)) state.words rest → first_kind state.words ≡ kind_of_word word
 unfolding AllAllowed spell_all
@@ -148,15 +147,15 @@ first_of word x pieces more ws rest h n sp =
     let a = line_first l.0 (Said word ∷ (pieces ++ more)) ws rest (subst (λ y. Spells ((spell y ++ Said word ∷ pieces) ++ more) ws rest) l.1 sp) in
     said_kind word n (pieces ++ more) ws rest a.1
 
-base_first : (base : Tree) (scope : Scope) (pieces : List Piece) (ws rest : List Token) → IsBase (home base) → IsSome (name_of base) → Allowed base scope → Spells (spell base ++ pieces) ws rest → specs_stop (first_kind ws) ≡ true
-unfolding name_of leads_to_name spell Allowed AllAllowed shape spell_all specs_stop keyword_home form_home
-base_first (Leaf (Name bytes)) scope pieces ws rest h named al sp = ap specs_stop (said_kind (Name bytes) tt pieces ws rest sp)
-base_first (Leaf word) scope pieces ws rest h named al sp = absurd (false≢true named)
-base_first (At line) scope pieces ws rest h named al sp = absurd h
-base_first (Node f.Parens none) scope pieces ws rest h named al sp = absurd al.1
-base_first (Node f.Parens (x ▹ more)) scope pieces ws rest h named al sp = ap specs_stop (first_of (Mark s.LeftParen) x (filled (Part p.PointerLayer ∷ Says (Mark s.RightParen) ∷ []) (spell_all more)) pieces ws rest al.1.0 tt sp)
-base_first (Node f.Nothing parts) scope pieces ws rest h named al sp = absurd (false≢true named)
-base_first (Node form parts) scope pieces ws rest h named al sp = absurd h
+base_first : (base : Tree) (scope : Scope) (pieces : List Piece) (ws rest : List Token) → IsBase (home base) → IsSome (name_of base) → Allowed base scope → Spells (spell base ++ pieces) ws rest → (Is : Kind → Type 0) → Is kinds.Name → Is (kinds.Mark s.LeftParen) → Is (first_kind ws)
+unfolding name_of leads_to_name spell Allowed AllAllowed shape spell_all keyword_home form_home
+base_first (Leaf (Name bytes)) scope pieces ws rest h named al sp Is name paren = subst Is (sym (said_kind (Name bytes) tt pieces ws rest sp)) name
+base_first (Leaf word) scope pieces ws rest h named al sp Is name paren = absurd (false≢true named)
+base_first (At line) scope pieces ws rest h named al sp Is name paren = absurd h
+base_first (Node f.Parens none) scope pieces ws rest h named al sp Is name paren = absurd al.1
+base_first (Node f.Parens (x ▹ more)) scope pieces ws rest h named al sp Is name paren = subst Is (sym (first_of (Mark s.LeftParen) x (filled (Part p.PointerLayer ∷ Says (Mark s.RightParen) ∷ []) (spell_all more)) pieces ws rest al.1.0 tt sp)) paren
+base_first (Node f.Nothing parts) scope pieces ws rest h named al sp Is name paren = absurd (false≢true named)
+base_first (Node form parts) scope pieces ws rest h named al sp Is name paren = absurd h
 
 no_key_suffixes : (keyword : Keyword) → keyword_home keyword ≡ p.Suffixes → ⊥
 unfolding keyword_home
@@ -179,16 +178,16 @@ first_some : (a b : Option (List ℕ)) → b ≡ None → IsSome (first_name a (
 first_some (Some x) b e h = refl
 first_some None b e h = absurd (false≢true (sym (ap (λ o. is_some (first_name o None)) e) ∙ h))
 
-pub declarator_first : (tree : Tree) (scope : Scope) (pieces : List Piece) (ws rest : List Token) → IsDeclarator (home tree) → IsSome (name_of tree) → Allowed tree scope → Spells (spell tree ++ pieces) ws rest → specs_stop (first_kind ws) ≡ true
-unfolding name_of leads_to_name spell Allowed AllAllowed shape spell_all specs_stop keyword_home form_home Takes
-declarator_first (Leaf (Key keyword)) scope pieces ws rest h named al sp = absurd (false≢true named)
-declarator_first (Leaf word) scope pieces ws rest h named al sp = absurd h
-declarator_first (At line) scope pieces ws rest h named al sp = absurd h
-declarator_first (Node (f.Pointer consts) none) scope pieces ws rest h named al sp = absurd (false≢true named)
-declarator_first (Node (f.Pointer consts) (x ▹ more)) scope pieces ws rest h named al sp = ap specs_stop (first_of (Mark s.Star) x (filled (replicate consts (key k.Const) ++ Part p.AnyDeclarator ∷ []) (spell_all more)) pieces ws rest al.1.0 tt sp)
-declarator_first (Node f.Direct none) scope pieces ws rest h named al sp = absurd al.1
-declarator_first (Node f.Direct (base ▹ none)) scope pieces ws rest h named al sp = absurd al.1.2
-declarator_first (Node f.Direct (base ▹ suffixes ▹ a ▹ more)) scope pieces ws rest h named al sp = absurd al.1.2.2
-declarator_first (Node f.Direct (base ▹ suffixes ▹ none)) scope pieces ws rest h named al sp =
-    base_first base scope ((spell suffixes ++ []) ++ pieces) ws rest al.1.0 (first_some (name_of base) (name_of suffixes) (suffixes_no_name suffixes al.1.2.0) named) al.1.1 (subst (λ l. Spells l ws rest) (append_assoc (spell base) (spell suffixes ++ []) pieces) sp)
-declarator_first (Node form parts) scope pieces ws rest h named al sp = absurd h
+pub declarator_first : (tree : Tree) (scope : Scope) (pieces : List Piece) (ws rest : List Token) → IsDeclarator (home tree) → IsSome (name_of tree) → Allowed tree scope → Spells (spell tree ++ pieces) ws rest → (Is : Kind → Type 0) → Is kinds.Name → Is (kinds.Mark s.LeftParen) → Is (kinds.Mark s.Star) → Is (first_kind ws)
+unfolding name_of leads_to_name spell Allowed AllAllowed shape spell_all keyword_home form_home Takes
+declarator_first (Leaf (Key keyword)) scope pieces ws rest h named al sp Is name paren star = absurd (false≢true named)
+declarator_first (Leaf word) scope pieces ws rest h named al sp Is name paren star = absurd h
+declarator_first (At line) scope pieces ws rest h named al sp Is name paren star = absurd h
+declarator_first (Node (f.Pointer consts) none) scope pieces ws rest h named al sp Is name paren star = absurd (false≢true named)
+declarator_first (Node (f.Pointer consts) (x ▹ more)) scope pieces ws rest h named al sp Is name paren star = subst Is (sym (first_of (Mark s.Star) x (filled (replicate consts (key k.Const) ++ Part p.AnyDeclarator ∷ []) (spell_all more)) pieces ws rest al.1.0 tt sp)) star
+declarator_first (Node f.Direct none) scope pieces ws rest h named al sp Is name paren star = absurd al.1
+declarator_first (Node f.Direct (base ▹ none)) scope pieces ws rest h named al sp Is name paren star = absurd al.1.2
+declarator_first (Node f.Direct (base ▹ suffixes ▹ a ▹ more)) scope pieces ws rest h named al sp Is name paren star = absurd al.1.2.2
+declarator_first (Node f.Direct (base ▹ suffixes ▹ none)) scope pieces ws rest h named al sp Is name paren star =
+    base_first base scope ((spell suffixes ++ []) ++ pieces) ws rest al.1.0 (first_some (name_of base) (name_of suffixes) (suffixes_no_name suffixes al.1.2.0) named) al.1.1 (subst (λ l. Spells l ws rest) (append_assoc (spell base) (spell suffixes ++ []) pieces) sp) Is name paren
+declarator_first (Node form parts) scope pieces ws rest h named al sp Is name paren star = absurd h

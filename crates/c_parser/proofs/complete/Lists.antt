@@ -1,17 +1,17 @@
 -- Lists are read again.
-use Rattle.std.proofs.Common.{◌≡◌, ℕ, zero, suc, ◌+◌, ◌<◌, ◌≤◌, Bool, true, false, List, [], ◌∷◌, ◌++◌, length, Option, Some, None, refl, sym, ap, ◌∙◌, subst, arith}
-use Rattle.std.specs.Prelude.{if◌then◌else◌, ⊤, max}
+use Rattle.std.proofs.Common.{◌≡◌, ℕ, zero, suc, ◌+◌, ◌<◌, ◌≤◌, Bool, true, false, List, [], ◌∷◌, ◌++◌, length, Some, refl, sym, ap, ◌∙◌, subst, arith}
+use Rattle.std.specs.Prelude.{if◌then◌else◌}
 use Rattle.c_lexer.specs.declared.token.Token.{Token}
 use Rattle.c_tree.specs.declared.word.Sign.TheVariants as s
 use Rattle.c_tree.specs.Words.{Word, Mark}
 use Rattle.c_tree.specs.Forms.{Form}
 use Rattle.c_tree.specs.Places.{Place}
-use Rattle.c_tree.specs.Tree.{Tree, Trees, Leaf, At, Node, none, ◌▹◌, count}
-use Rattle.c_tree.specs.Grammar.{Item, Says, Here, Part, mark, rows, behind_commas, commas}
+use Rattle.c_tree.specs.Tree.{Tree, Trees, Node, none, ◌▹◌, count}
+use Rattle.c_tree.specs.Grammar.{rows, behind_commas, commas}
 use Rattle.c_tree.specs.Spelling.{Piece, Said, Line, spell, spell_all, filled, Spells}
 use Rattle.c_tree.specs.Scopes.{Scope, is_scope, places, after}
 use Rattle.c_tree.specs.Allowed.{Takes, Allowed, AllAllowed}
-use Rattle.c_tree.specs.Depth.{depth, greatest_depth}
+use Rattle.c_tree.specs.Depth.{greatest_depth}
 use Rattle.c_tree.proofs.Spelled.{spells_split}
 use Rattle.c_parser.specs.declared.kind.Kind.TheVariants as kinds
 use Rattle.c_parser.specs.State.{State, first_kind, skip}
@@ -38,7 +38,7 @@ joined_none none = refl
 joined_none (first ▹ more) = ap (λ x. first ▹ x) (joined_none more)
 
 -- as many words as commas
-behind_long : (place : Place) (trees : Trees) (scope : Scope) (ws rest : List Token) → AllAllowed trees (places (behind_commas place (count trees))) scope → Spells (filled (behind_commas place (count trees)) (spell_all trees)) ws rest → count trees + length rest ≤ length ws
+pub behind_long : (place : Place) (trees : Trees) (scope : Scope) (ws rest : List Token) → AllAllowed trees (places (behind_commas place (count trees))) scope → Spells (filled (behind_commas place (count trees)) (spell_all trees)) ws rest → count trees + length rest ≤ length ws
 unfolding Spells spell_all AllAllowed
 behind_long place none scope ws rest al sp = let e = ap length sp in omega (arith, e)
 behind_long place (tree ▹ trees) scope [] rest al sp = absurd sp
@@ -56,7 +56,7 @@ module _ (bound : ℕ) (place : Place) (item : Reader) (more : State → Bool) (
     (at_end : (tree : Tree) → Follow place tree rest)
     (stops_here : (state : State) → state.words ≡ rest → more state ≡ false)
     (goes : (state : State) (tree : Tree) (pieces : List Piece) (scope : Scope) → Takes place tree → Allowed tree scope → Spells (Said (Mark s.Comma) ∷ (spell tree ++ pieces)) state.words rest → more state ≡ true) where
-  commas_again : (trees : Trees) (tree : Tree) (turns : ℕ) (done : Trees) (state : State) → Takes place tree → Allowed tree state.scope → AllAllowed trees (places (behind_commas place (count trees))) (if is_scope place then state.scope else after tree state.scope) → greatest_depth (tree ▹ trees) < bound → Spells (spell tree ++ filled (behind_commas place (count trees)) (spell_all trees)) state.words rest → count trees < turns → Reads (commas_from item more form turns done) state (Node form (joined done (tree ▹ trees))) rest
+  pub commas_again : (trees : Trees) (tree : Tree) (turns : ℕ) (done : Trees) (state : State) → Takes place tree → Allowed tree state.scope → AllAllowed trees (places (behind_commas place (count trees))) (if is_scope place then state.scope else after tree state.scope) → greatest_depth (tree ▹ trees) < bound → Spells (spell tree ++ filled (behind_commas place (count trees)) (spell_all trees)) state.words rest → count trees < turns → Reads (commas_from item more form turns done) state (Node form (joined done (tree ▹ trees))) rest
   unfolding AllAllowed spell_all Spells
   commas_again trees tree zero done state takes al all deep sp lt = absurd (omega (arith, lt))
   commas_again none tree (suc turns) done state takes al all deep sp lt =
@@ -96,7 +96,7 @@ module _ (bound : ℕ) (place : Place) (item : Reader) (stops : State → Bool) 
     (stops_here : (state : State) → state.words ≡ rest → stops state ≡ true)
     (goes : (state : State) (tree : Tree) (pieces : List Piece) → Takes place tree → Allowed tree state.scope → Spells (spell tree ++ pieces) state.words rest → (stops state ≡ false))
     (long : (tree : Tree) (scope : Scope) (ws middle : List Token) → Takes place tree → Allowed tree scope → Spells (spell tree) ws middle → length middle < length ws) where
-  list_long : (trees : Trees) (scope : Scope) (ws : List Token) → AllAllowed trees (places (rows place (count trees))) scope → Spells (filled (rows place (count trees)) (spell_all trees)) ws rest → count trees ≤ length ws
+  pub list_long : (trees : Trees) (scope : Scope) (ws : List Token) → AllAllowed trees (places (rows place (count trees))) scope → Spells (filled (rows place (count trees)) (spell_all trees)) ws rest → count trees ≤ length ws
   unfolding AllAllowed spell_all
   list_long none scope ws al sp = omega arith
   list_long (tree ▹ trees) scope ws al sp =

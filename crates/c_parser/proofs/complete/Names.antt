@@ -1,24 +1,24 @@
 -- Declarations in blocks, and blocks, are read again.
-use Rattle.std.proofs.Common.{append_assoc, ◌≡◌, ℕ, zero, suc, ◌+◌, ◌<◌, ◌≤◌, Bool, true, false, List, [], ◌∷◌, ◌++◌, length, Option, Some, None, refl, sym, ap, ◌∙◌, subst, arith}
-use Rattle.std.specs.Prelude.{if◌then◌else◌, ⊤, max, ◌&&◌, not, IsSome}
-use Rattle.std.proofs.lemmas.Bool.{false≢true, true≢false, and_right}
+use Rattle.std.proofs.Common.{append_assoc, ◌≡◌, true, List, [], ◌∷◌, ◌++◌, refl, ap, subst}
 use Rattle.c_lexer.specs.declared.token.Token.{Token}
 use Rattle.c_tree.specs.declared.word.Keyword.{Keyword}
 use Rattle.c_tree.specs.declared.word.Keyword.TheVariants as k
 use Rattle.c_tree.specs.declared.word.Sign.TheVariants as s
-use Rattle.c_tree.specs.Words.{Word, Key, Mark, Name}
+use Rattle.c_tree.specs.Words.{Key, Mark}
 use Rattle.c_tree.specs.Forms.{Form}
 use Rattle.c_tree.specs.Forms as f
 use Rattle.c_tree.specs.Places.{Place, Expression}
 use Rattle.c_tree.specs.Places as p
-use Rattle.c_tree.specs.Tree.{Tree, Trees, Leaf, At, Node, none, ◌▹◌, count}
-use Rattle.c_tree.specs.Grammar.{Item, Says, Here, Part, mark, rows, behind_commas, shape, home, form_home, keyword_home}
-use Rattle.c_tree.specs.Spelling.{Piece, Said, Line, spell, spell_all, filled, Spells}
-use Rattle.c_tree.specs.Scopes.{Scope, is_scope, places, after}
+use Rattle.c_tree.specs.Tree.{Tree, Trees, Leaf, Node, none, ◌▹◌, count}
+use Rattle.c_tree.specs.Grammar.{behind_commas, shape, home, form_home, keyword_home}
+use Rattle.c_tree.specs.Spelling.{Piece, Said, spell, spell_all, filled, Spells}
+use Rattle.c_tree.specs.Scopes.{Scope}
 use Rattle.c_tree.specs.Allowed.{Takes, Allowed, AllAllowed}
 use Rattle.c_parser.proofs.complete.Reads.{said_kind, specs_stop}
 use Rattle.c_parser.proofs.complete.Firsts.{declarator_first}
-use Rattle.c_parser.specs.State.{State, first_kind}
+use Rattle.c_parser.specs.declared.kind.Kind.{Kind}
+use Rattle.c_parser.specs.declared.kind.Kind.TheVariants as kinds
+use Rattle.c_parser.specs.State.{first_kind}
 
 key_not_declared : (keyword : Keyword) → keyword_home keyword ≡ p.Declared → ⊥
 unfolding keyword_home
@@ -50,21 +50,21 @@ is_entry (Leaf (Key keyword)) h = absurd (key_not_entry keyword h)
 is_entry (Node form parts) h = (parts, ap (λ x. Node x parts) (form_entry form h))
 is_entry _ h = absurd (cc)
 
-declared_parts : (parts : Trees) (scope : Scope) (pieces : List Piece) (ws rest : List Token) → Allowed (Node f.Declared parts) scope → Spells (spell (Node f.Declared parts) ++ pieces) ws rest → specs_stop (first_kind ws) ≡ true
+pub declared_parts : (parts : Trees) (scope : Scope) (pieces : List Piece) (ws rest : List Token) → Allowed (Node f.Declared parts) scope → Spells (spell (Node f.Declared parts) ++ pieces) ws rest → (Is : Kind → Type 0) → Is kinds.Name → Is (kinds.Mark s.LeftParen) → Is (kinds.Mark s.Star) → Is (first_kind ws)
 unfolding Allowed AllAllowed shape spell spell_all Takes
-declared_parts none scope pieces ws rest al sp = absurd al.1
-declared_parts (a ▹ b ▹ more) scope pieces ws rest al sp = absurd al.1.2
-declared_parts (a ▹ none) scope pieces ws rest al sp = declarator_first a scope ([] ++ pieces) ws rest al.1.0.0 al.1.0.1 al.1.1 (subst (λ l. Spells l ws rest) (append_assoc (spell a) [] pieces) sp)
+declared_parts none scope pieces ws rest al sp Is name paren star = absurd al.1
+declared_parts (a ▹ b ▹ more) scope pieces ws rest al sp Is name paren star = absurd al.1.2
+declared_parts (a ▹ none) scope pieces ws rest al sp Is name paren star = declarator_first a scope ([] ++ pieces) ws rest al.1.0.0 al.1.0.1 al.1.1 (subst (λ l. Spells l ws rest) (append_assoc (spell a) [] pieces) sp) Is name paren star
 
-entry_parts : (parts : Trees) (scope : Scope) (pieces : List Piece) (ws rest : List Token) → Allowed (Node f.Entry parts) scope → Spells (spell (Node f.Entry parts) ++ pieces) ws rest → specs_stop (first_kind ws) ≡ true
+pub entry_parts : (parts : Trees) (scope : Scope) (pieces : List Piece) (ws rest : List Token) → Allowed (Node f.Entry parts) scope → Spells (spell (Node f.Entry parts) ++ pieces) ws rest → (Is : Kind → Type 0) → Is kinds.Name → Is (kinds.Mark s.LeftParen) → Is (kinds.Mark s.Star) → Is (first_kind ws)
 unfolding Allowed AllAllowed shape spell spell_all Takes
-entry_parts none scope pieces ws rest al sp = absurd al.1
-entry_parts (a ▹ none) scope pieces ws rest al sp = absurd al.1.2
-entry_parts (a ▹ i ▹ b ▹ more) scope pieces ws rest al sp = absurd al.1.2.2
-entry_parts (a ▹ i ▹ none) scope pieces ws rest al sp =
+entry_parts none scope pieces ws rest al sp Is name paren star = absurd al.1
+entry_parts (a ▹ none) scope pieces ws rest al sp Is name paren star = absurd al.1.2
+entry_parts (a ▹ i ▹ b ▹ more) scope pieces ws rest al sp Is name paren star = absurd al.1.2.2
+entry_parts (a ▹ i ▹ none) scope pieces ws rest al sp Is name paren star =
     let d = is_declared a al.1.0 in
     let spelled = subst (λ l. Spells l ws rest) (append_assoc (spell a) (spell i ++ []) pieces) sp in
-    declared_parts d.0 scope ((spell i ++ []) ++ pieces) ws rest (subst (λ t. Allowed t scope) d.1 al.1.1) (subst (λ t. Spells (spell t ++ ((spell i ++ []) ++ pieces)) ws rest) d.1 spelled)
+    declared_parts d.0 scope ((spell i ++ []) ++ pieces) ws rest (subst (λ t. Allowed t scope) d.1 al.1.1) (subst (λ t. Spells (spell t ++ ((spell i ++ []) ++ pieces)) ws rest) d.1 spelled) Is name paren star
 
 -- the names of a declaration, before its `;`, do not go on its specs
 pub names_first : (parts : Trees) (scope : Scope) (pieces : List Piece) (ws rest : List Token) → Allowed (Node f.Names parts) scope → Spells (spell (Node f.Names parts) ++ Said (Mark s.Semicolon) ∷ pieces) ws rest → specs_stop (first_kind ws) ≡ true
@@ -74,4 +74,4 @@ names_first (a ▹ more) scope pieces ws rest al sp =
     let d = is_entry a al.1.0 in
     let tail = filled (behind_commas p.Entry (count more)) (spell_all more) in
     let spelled = subst (λ l. Spells l ws rest) (append_assoc (spell a) tail (Said (Mark s.Semicolon) ∷ pieces)) sp in
-    entry_parts d.0 scope (tail ++ Said (Mark s.Semicolon) ∷ pieces) ws rest (subst (λ t. Allowed t scope) d.1 al.1.1) (subst (λ t. Spells (spell t ++ (tail ++ Said (Mark s.Semicolon) ∷ pieces)) ws rest) d.1 spelled)
+    entry_parts d.0 scope (tail ++ Said (Mark s.Semicolon) ∷ pieces) ws rest (subst (λ t. Allowed t scope) d.1 al.1.1) (subst (λ t. Spells (spell t ++ (tail ++ Said (Mark s.Semicolon) ∷ pieces)) ws rest) d.1 spelled) (λ kind. specs_stop kind ≡ true) refl refl refl

@@ -1,39 +1,35 @@
--- Parameters, members, enumerators, initializers and names of declarations are read again, given that declarators are.
-use Rattle.std.proofs.Common.{◌≡◌, ℕ, zero, suc, ◌+◌, ◌<◌, ◌≤◌, Bool, true, false, inl, inr, List, [], ◌∷◌, ◌++◌, length, take, Option, Some, None, refl, sym, ap, ◌∙◌, subst, arith, ⊎_elim}
-use Rattle.std.specs.Prelude.{if◌then◌else◌, ⊤, max, ◌&&◌, ◌||◌, not}
-use Rattle.std.proofs.lemmas.Bool.{and_from, and_right, and_left, false≢true, true≢false, cases_lt}
+-- Expressions where there is room, and arguments, are read again.
+use Rattle.std.proofs.Common.{◌≡◌, ℕ, zero, suc, ◌<◌, ◌≤◌, true, false, List, [], ◌∷◌, ◌++◌, length, Some, refl, ap, ◌∙◌, arith, ⊎_elim}
+use Rattle.std.specs.Prelude.{if◌then◌else◌}
+use Rattle.std.proofs.lemmas.Bool.{false≢true, cases_lt}
 use Rattle.c_lexer.specs.declared.token.Token.{Token}
 use Rattle.c_tree.specs.declared.word.Sign.{Sign}
 use Rattle.c_tree.specs.declared.word.Sign.TheVariants as s
-use Rattle.c_tree.specs.Words.{Word, Key, Mark, Name}
+use Rattle.c_tree.specs.Words.{Mark}
 use Rattle.c_tree.specs.Forms.{Form}
 use Rattle.c_tree.specs.Forms as f
 use Rattle.c_tree.specs.Places.{Place, Expression}
 use Rattle.c_tree.specs.Places as p
-use Rattle.c_tree.specs.Tree.{Tree, Trees, Leaf, At, Node, none, ◌▹◌, count}
-use Rattle.c_tree.specs.Grammar.{Item, Says, Here, Part, mark, closed, rows, commas, behind_commas, shape, home, form_home}
-use Rattle.c_tree.specs.Spelling.{Piece, Said, Line, spell, spell_all, filled, Spells}
-use Rattle.c_tree.specs.Scopes.{Scope, is_scope, places, after}
+use Rattle.c_tree.specs.Tree.{Tree, Trees, Node, none, ◌▹◌, count}
+use Rattle.c_tree.specs.Grammar.{commas, behind_commas, shape, form_home}
+use Rattle.c_tree.specs.Spelling.{Piece, Said, spell, spell_all, filled, Spells}
+use Rattle.c_tree.specs.Scopes.{places}
 use Rattle.c_tree.specs.Allowed.{Takes, Allowed, AllAllowed}
-use Rattle.c_tree.specs.Depth.{depth, greatest_depth, weight, is_of_declarator}
+use Rattle.c_tree.specs.Depth.{greatest_depth, weight, is_of_declarator}
 use Rattle.c_tree.proofs.Spelled.{spells_split}
 use Rattle.c_parser.specs.declared.kind.Kind.{Kind}
 use Rattle.c_parser.specs.declared.kind.Kind.TheVariants as kinds
-use Rattle.c_parser.specs.State.{State, left_at, skip, first_kind, behind_first, at_mark, kind_is_mark, sign_number}
-use Rattle.c_parser.specs.Reading.{◌>>=◌, Reader, parts_of, fixed, node, optional_part, guarded, goes_on, goes_on_inside, commas_from, joined}
+use Rattle.c_parser.specs.State.{State, left_at, first_kind, at_mark, kind_is_mark, sign_number}
+use Rattle.c_parser.specs.Reading.{Reader, guarded, goes_on, commas_from}
 use Rattle.c_parser.specs.Expressions as e
-use Rattle.c_parser.specs.Declarators as d
-use Rattle.c_parser.proofs.sound.Took.{Sound, AllSound, all_sound}
-use Rattle.c_parser.proofs.sound.Nodes.{depth_flat}
-use Rattle.c_parser.proofs.sound.Layers.{IsSort}
-use Rattle.c_parser.proofs.sound.Expressions.{guarded_some}
+use Rattle.c_parser.proofs.sound.Took.{Sound}
 use Rattle.c_parser.proofs.sound.Declarations as sound
-use Rattle.c_parser.proofs.complete.Reads.{Follow, Follows, Complete, AllComplete, all_complete, Reads, PartsReads, parts_again, fixed_again, said_kind, said_first, stops, sign_stops}
+use Rattle.c_parser.proofs.complete.Reads.{Follow, Complete, Reads, said_kind, stops, sign_stops, AllAgain}
 use Rattle.c_parser.proofs.complete.Lists as lists
 use Rattle.c_parser.proofs.complete.Levels as levels
+use Rattle.c_parser.proofs.complete.Unary as unary
 use Rattle.c_parser.proofs.complete.Starts.{begins, begins_expr}
-use Rattle.c_parser.proofs.complete.Tags.{name_again}
-use Rattle.c_parser.proofs.complete.Specs.{plain_specs_reads, specs_reads}
+use Rattle.c_parser.proofs.complete.Nodes.{AgainAt, of_form, light_depth}
 
 -- an end that begins with a sign has a token
 pub end_some : (sign : Sign) (ws : List Token) → first_kind ws ≡ kinds.Mark sign → 0 < length ws
@@ -59,7 +55,7 @@ no_close _ h = refl
 
 pub expr_begins : (level : ℕ) (tree : Tree) (state : State) (rest : List Token) → Takes (Expression level) tree → Allowed tree state.scope → Spells (spell tree) state.words rest → begins_expr (first_kind state.words) ≡ true
 expr_begins level tree state rest h al sp =
-    let v = levels.expr_level level tree h in
+    let v = unary.expr_level level tree h in
     (begins tree v.0 state rest v.1 al sp).kind
 
 argument_begins : (tree : Tree) (trees : Trees) (state : State) (rest : List Token) → AllAllowed (tree ▹ trees) (places (commas (Expression 14) (suc (count trees)))) state.scope → Spells (spell tree ++ filled (behind_commas (Expression 14) (count trees)) (spell_all trees)) state.words rest → at_mark s.RightParen state ≡ false
@@ -68,7 +64,7 @@ argument_begins tree trees state rest al sp =
     let a = spells_split (spell tree) (filled (behind_commas (Expression 14) (count trees)) (spell_all trees)) state.words rest sp in
     no_close (first_kind state.words) (expr_begins 14 tree state a.0 al.0 al.1 a.1)
 
-module _ (inner : Place → Reader) (room : ℕ) (deeper : (place : Place) → Sound room place (inner place)) (again : (place : Place) → Complete room place (inner place)) where
+module _ (inner : Place → Reader) (room : ℕ) (deeper : (place : Place) → Sound room place (inner place)) (again : AllAgain room inner) where
   -- an expression where there is room
   pub expr_reads : (level : ℕ) → Complete (suc room) (Expression level) (guarded room (e.expression_at inner room level))
   expr_reads level state tree rest h al deep sp fo = ⊎_elim some none_left (cases_lt 0 room) where
@@ -78,7 +74,7 @@ module _ (inner : Place → Reader) (room : ℕ) (deeper : (place : Place) → S
         (r.0, guarded_is room (e.expression_at inner room level) state lt ∙ r.1, r.2)
 
     none_left : room ≤ 0 → Reads (guarded room (e.expression_at inner room level)) state tree rest
-    none_left le = let v = levels.expr_level level tree h in let n = levels.tree_depth tree v.0 v.1 in absurd (omega (arith, le, deep, n))
+    none_left le = let v = unary.expr_level level tree h in let n = unary.tree_depth tree v.0 v.1 in absurd (omega (arith, le, deep, n))
 
   -- Arguments
 
@@ -100,3 +96,16 @@ module _ (inner : Place → Reader) (room : ℕ) (deeper : (place : Place) → S
   arguments_parts (tree ▹ trees) state rest al deep sp fo =
       let r = lists.commas_reads (suc room) (Expression 14) (e.argument_at inner room) goes_on f.Arguments rest (sound.argument_sound inner room deeper) argument_reads argument_follows (argument_ends rest fo) (λ st h. ap (λ ws. kind_is_mark s.Comma (first_kind ws)) h ∙ no_comma_at (first_kind rest) fo) (λ st t pieces sc takes al2 g. comma_goes st (spell t ++ pieces) rest g) (tree ▹ trees) state (end_some s.RightParen rest fo) al.1 (omega arith) deep sp in
       (r.0, ap (λ b. if b then Some (Node f.Arguments none, state) else commas_from (e.argument_at inner room) goes_on f.Arguments (left_at state) none state) (argument_begins tree trees state rest al.1 sp) ∙ r.1, r.2)
+
+  only_arguments : (form : Form) → form_home form ≡ p.Arguments → form ≡ f.Arguments
+  unfolding form_home
+  only_arguments f.Arguments h = refl
+  only_arguments _ h = absurd (cc)
+
+  arguments_node : AgainAt (suc room) p.Arguments f.Arguments (e.arguments_at inner room)
+  unfolding Follow is_of_declarator weight form_home
+  arguments_node state parts rest al deep sp fo = arguments_parts parts state rest al (light_depth f.Arguments parts (suc room) refl refl deep) sp fo
+
+  pub arguments_reads : Complete (suc room) p.Arguments (e.arguments_at inner room)
+  unfolding Takes
+  arguments_reads = of_form (suc room) p.Arguments f.Arguments (e.arguments_at inner room) refl (λ t h. h) only_arguments arguments_node

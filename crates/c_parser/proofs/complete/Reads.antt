@@ -1,9 +1,8 @@
 -- What it is to read a tree again, and that words and parts in turn are read again.
-use Rattle.std.proofs.Common.{◌≡◌, ℕ, zero, suc, ◌+◌, ◌<◌, ◌≤◌, Bool, true, false, List, [], ◌∷◌, ◌++◌, Option, Some, None, refl, sym, ap, ◌∙◌, subst, arith}
-use Rattle.std.specs.Prelude.{max, if◌then◌else◌, ⊤, ◌&&◌, ◌||◌, not, nat_le, nat_eq}
-use Rattle.std.proofs.lemmas.Bool.{eq-eqb, true≢false, false≢true}
+use Rattle.std.proofs.Common.{◌≡◌, ℕ, zero, ◌<◌, Bool, true, false, List, [], ◌∷◌, Option, Some, None, refl, sym, ap, ◌∙◌, subst, arith}
+use Rattle.std.specs.Prelude.{if◌then◌else◌, ⊤, ◌&&◌, ◌||◌, not, nat_le}
+use Rattle.std.proofs.lemmas.Bool.{and_parts, eq-eqb}
 use Rattle.c_lexer.specs.declared.token.Token.{Token}
-use Rattle.c_tree.specs.declared.word.Keyword.{Keyword}
 use Rattle.c_tree.specs.declared.word.Keyword.TheVariants as k
 use Rattle.c_tree.specs.declared.word.Sign.{Sign}
 use Rattle.c_tree.specs.declared.word.Sign.TheVariants as s
@@ -14,22 +13,20 @@ use Rattle.c_tree.specs.Forms.{Form}
 use Rattle.c_tree.specs.Places.{Place, Expression}
 use Rattle.c_tree.specs.Places as p
 use Rattle.c_tree.specs.Tree.{Tree, Trees, Leaf, At, Node, none, ◌▹◌, count}
-use Rattle.c_tree.specs.Grammar.{Item, Says, Here, Part, shape, home, form_home, word_home, keyword_home}
+use Rattle.c_tree.specs.Grammar.{Item, Says, Here, Part, shape}
 use Rattle.c_tree.specs.Operators.{operand_level}
 use Rattle.c_tree.specs.Spelling.{Piece, Said, Line, spell, spell_all, filled, Spells, IsWord}
-use Rattle.c_tree.specs.Scopes.{Scope, is_scope, places, after, after_all}
+use Rattle.c_tree.specs.Scopes.{is_scope, places, after}
 use Rattle.c_tree.specs.Allowed.{Takes, Allowed, AllAllowed, ends_open}
 use Rattle.c_tree.specs.Depth.{depth, greatest_depth}
 use Rattle.c_tree.proofs.Spelled.{spells_split}
 use Rattle.c_parser.specs.declared.kind.Kind.{Kind}
 use Rattle.c_parser.specs.declared.kind.Kind.TheVariants as kinds
-use Rattle.c_parser.specs.Known.{word_of}
-use Rattle.c_parser.specs.State.{State, first_kind, first_line, behind_first, kind_of_word, kind_is_key, kind_is_mark, keyword_number, sign_number, at_word, past, line_at, skip, is_spec_key}
+use Rattle.c_parser.specs.State.{State, first_kind, first_line, behind_first, kind_of_word, kind_is_key, kind_is_mark, keyword_number, sign_number, at_word, past, skip, is_spec_key}
 use Rattle.c_parser.specs.Reading.{◌>>=◌, Reader, parts_of, in_front, node, fixed}
 use Rattle.c_parser.specs.Expressions.{binary_op, assign_op}
-use Rattle.c_parser.specs.Laws.{behind}
 use Rattle.c_parser.proofs.sound.Back.{IsNamed, word_back}
-use Rattle.c_parser.proofs.sound.Took.{Sound, AllSound}
+use Rattle.c_parser.proofs.sound.Took.{AllSound}
 use Rattle.c_parser.proofs.sound.Declarators.{no_line, no_word_line}
 
 -- What cannot continue a tree of a place
@@ -164,11 +161,47 @@ AllComplete bound part (Says word ∷ items) = AllComplete bound part items
 AllComplete bound part (Here ∷ items) = AllComplete bound part items
 AllComplete bound part (Part place ∷ items) = Complete bound place (part place) × AllComplete bound part items
 
-pub all_complete : (bound : ℕ) (part : Place → Reader) → ((place : Place) → Complete bound place (part place)) → (items : List Item) → AllComplete bound part items
-all_complete bound part each [] = tt
-all_complete bound part each (Says word ∷ items) = all_complete bound part each items
-all_complete bound part each (Here ∷ items) = all_complete bound part each items
-all_complete bound part each (Part place ∷ items) = (each place, all_complete bound part each items)
+-- the places of parts that are read with less room
+abbrev pub is_read : Place → Bool
+is_read (Expression level) = true
+is_read p.Arguments = true
+is_read p.Name = true
+is_read p.Typename = true
+is_read p.Specs = true
+is_read p.Names = true
+is_read p.MaybeName = true
+is_read p.Members = true
+is_read p.Enumerators = true
+is_read p.Declarator = true
+is_read p.Abstract = true
+is_read p.AnyDeclarator = true
+is_read p.Params = true
+is_read p.MaybeLength = true
+is_read p.Inits = true
+is_read p.Items = true
+is_read p.Statement = true
+is_read p.Branch = true
+is_read p.ForStart = true
+is_read p.MaybeExpr = true
+is_read _ = false
+
+abbrev pub all_read : List Item → Bool
+all_read [] = true
+all_read (Says word ∷ items) = all_read items
+all_read (Here ∷ items) = all_read items
+all_read (Part place ∷ items) = is_read place && all_read items
+
+-- readers of less room read each tree of these places again
+abbrev pub AllAgain : ℕ → (Place → Reader) → Type 0
+AllAgain bound part = (place : Place) → is_read place ≡ true → Complete bound place (part place)
+
+pub all_complete : (bound : ℕ) (part : Place → Reader) → AllAgain bound part → (items : List Item) → all_read items ≡ true → AllComplete bound part items
+all_complete bound part each [] h = tt
+all_complete bound part each (Says word ∷ items) h = all_complete bound part each items h
+all_complete bound part each (Here ∷ items) h = all_complete bound part each items h
+all_complete bound part each (Part place ∷ items) h =
+    let a = and_parts (is_read place) (all_read items) h in
+    (each place a.0, all_complete bound part each items a.1)
 
 -- a keyword or a sign
 abbrev pub IsFixed : Word → Type 0

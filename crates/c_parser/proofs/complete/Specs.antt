@@ -1,44 +1,43 @@
 -- Specs are read again.
-use Rattle.std.proofs.Common.{◌≡◌, ℕ, zero, suc, ◌+◌, ◌<◌, ◌≤◌, Bool, true, false, List, [], ◌∷◌, ◌++◌, length, take, Option, Some, None, refl, sym, ap, ◌∙◌, subst, arith}
-use Rattle.std.specs.Prelude.{if◌then◌else◌, ⊤, max, ◌&&◌, ◌||◌, not, ◌==◌, nat_le}
-use Rattle.std.proofs.lemmas.Bool.{and_from, and_right, false≢true, true≢false, eq-eqb}
+use Rattle.std.proofs.Common.{◌≡◌, ℕ, zero, suc, ◌<◌, ◌≤◌, Bool, true, false, List, [], ◌∷◌, ◌++◌, length, take, Some, None, refl, sym, ap, ◌∙◌, subst, arith}
+use Rattle.std.specs.Prelude.{if◌then◌else◌, ◌&&◌, ◌||◌, not, ◌==◌}
+use Rattle.std.proofs.lemmas.Bool.{and_from, false≢true, eq-eqb}
 use Rattle.c_lexer.specs.declared.token.Token.{Token}
 use Rattle.c_tree.specs.declared.operator.RecordSort.{RecordSort}
 use Rattle.c_tree.specs.declared.operator.RecordSort.TheVariants as r
 use Rattle.c_tree.specs.declared.word.Keyword.{Keyword}
 use Rattle.c_tree.specs.declared.word.Keyword.TheVariants as k
 use Rattle.c_tree.specs.declared.word.Sign.TheVariants as s
-use Rattle.c_tree.specs.Words.{Word, Key, Mark, Name, Int, Char, Str, Other}
+use Rattle.c_tree.specs.Words.{Word, Key, Name}
 use Rattle.c_tree.specs.Forms.{Form}
 use Rattle.c_tree.specs.Forms as f
 use Rattle.c_tree.specs.Places.{Place}
 use Rattle.c_tree.specs.Places as p
 use Rattle.c_tree.specs.Tree.{Tree, Trees, Leaf, At, Node, none, ◌▹◌, count}
-use Rattle.c_tree.specs.Grammar.{Item, Says, Here, Part, key, mark, closed, rows, here_rows, shape, home, form_home, word_home, keyword_home}
+use Rattle.c_tree.specs.Grammar.{Part, mark, closed, rows, shape, home, form_home, word_home, keyword_home}
 use Rattle.c_tree.specs.Operators.{record_word}
-use Rattle.c_tree.specs.Spelling.{Piece, Said, Line, spell, spell_all, filled, Spells}
+use Rattle.c_tree.specs.Spelling.{Said, spell, spell_all, filled, Spells}
 use Rattle.c_tree.specs.Scopes.{Scope, is_type, is_scope, places, after, left, name_of, name_among}
 use Rattle.c_parser.specs.Laws.{behind}
 use Rattle.c_parser.proofs.sound.Nodes.{depth_flat}
-use Rattle.c_tree.specs.Allowed.{Tally, no_words, with_keyword, with_word, with_part, tally, are_specs, storage_of, Takes, Allowed, AllAllowed, obeys, is_type_name}
+use Rattle.c_tree.specs.Allowed.{Tally, no_words, with_keyword, with_part, tally, are_specs, storage_of, Takes, Allowed, AllAllowed, obeys, is_type_name}
 use Rattle.c_tree.specs.Depth.{depth, greatest_depth, weight, is_of_declarator}
 use Rattle.c_tree.proofs.Spelled.{spells_split}
 use Rattle.c_parser.specs.declared.kind.Kind.{Kind}
 use Rattle.c_parser.specs.declared.kind.Kind.TheVariants as kinds
-use Rattle.c_parser.specs.declared.kind.SpecStart.{SpecStart}
 use Rattle.c_parser.specs.declared.kind.SpecStart.TheVariants as starts
-use Rattle.c_parser.specs.State.{State, kind_at, word_at, bytes_at, line_at, left_at, skip, first_kind, first_bytes, kind_is_mark, is_spec_key, starts_by, starts_type, sign_number}
+use Rattle.c_parser.specs.State.{State, kind_at, word_at, bytes_at, line_at, left_at, skip, first_kind, kind_is_mark, is_spec_key, starts_by, sign_number}
 use Rattle.c_parser.specs.Reading.{◌>>=◌, Reader, parts_of, fixed, joined, snoc, ending}
 use Rattle.c_parser.specs.Declarators as d
 use Rattle.c_parser.proofs.sound.Took.{Sound}
 use Rattle.c_parser.proofs.sound.Tallies.{Within, tally_snoc}
 use Rattle.c_parser.proofs.sound.Specs.{record_took, enum_took}
-use Rattle.c_parser.proofs.complete.Reads.{Follow, Complete, Reads, said_kind, line_first, is_line, specs_stop, greatest_first}
+use Rattle.c_parser.proofs.complete.Reads.{Follow, Complete, Reads, said_kind, line_first, is_line, specs_stop, greatest_first, AllAgain}
 use Rattle.c_parser.proofs.complete.Begins.{is_name}
 use Rattle.c_parser.proofs.complete.Starts.{word_after_line, said_bytes, line_scope}
 use Rattle.c_parser.proofs.complete.TypeStarts.{word_starts, is_specs_node}
 use Rattle.c_parser.proofs.complete.Chains.{said_word, joined_snoc}
-use Rattle.c_parser.proofs.complete.Lists.{said_shorter, spells_shorter, joined_none}
+use Rattle.c_parser.proofs.complete.Lists.{said_shorter, joined_none}
 use Rattle.c_parser.proofs.complete.Counts.{joined_within, none_before, some_at_end}
 use Rattle.c_parser.proofs.complete.Tags.{tag_only, record_body, enum_body}
 
@@ -166,7 +165,7 @@ named_scope : (a : Tree) (scope : Scope) → home a ≡ p.Name → scope ≡ aft
 unfolding after shape left is_scope
 named_scope a scope h = let n = is_name a h in ap (λ y. after (Node f.TypedefName (y ▹ none)) scope) (sym n.1)
 
-module _ (inner : Place → Reader) (room : ℕ) (deeper : (place : Place) → Sound room place (inner place)) (again : (place : Place) → Complete room place (inner place)) where
+module _ (inner : Place → Reader) (room : ℕ) (deeper : (place : Place) → Sound room place (inner place)) (again : AllAgain room inner) where
   -- one word more: what is read with it in front
   abbrev Step : ℕ → Bool → Tally → Trees → Tree → State → List Token → Type 0
   Step turns plain t parts w state middle = (out : State) × (d.specs_from inner room (suc turns) plain t parts state ≡ d.specs_from inner room turns plain (with_part w t) (snoc parts w) out) × (out.words ≡ middle) × (out.scope ≡ after w state.scope)

@@ -1,28 +1,27 @@
 -- No expression begins as a type does.
-use Rattle.std.proofs.Common.{◌≡◌, ℕ, zero, suc, ◌+◌, ◌<◌, ◌≤◌, Bool, true, false, List, [], ◌∷◌, ◌++◌, drop, Option, Some, None, refl, sym, ap, ◌∙◌, subst, arith}
-use Rattle.std.specs.Prelude.{if◌then◌else◌, ◌&&◌, not, ⊤}
-use Rattle.std.proofs.lemmas.Bool.{and_left, and_right, false≢true, true≢false, not-true}
+use Rattle.std.proofs.Common.{◌≡◌, ℕ, zero, ◌<◌, ◌≤◌, Bool, true, false, List, [], ◌∷◌, ◌++◌, drop, None, refl, sym, ap, ◌∙◌, subst, arith}
+use Rattle.std.specs.Prelude.{◌&&◌, not}
+use Rattle.std.proofs.lemmas.Bool.{not-true}
 use Rattle.c_lexer.specs.declared.token.Token.{Token}
 use Rattle.c_tree.specs.declared.operator.UnaryOp.{UnaryOp}
 use Rattle.c_tree.specs.declared.operator.UnaryOp.TheVariants as u
 use Rattle.c_tree.specs.declared.word.Keyword.TheVariants as k
-use Rattle.c_tree.specs.declared.word.Sign.{Sign}
 use Rattle.c_tree.specs.declared.word.Sign.TheVariants as s
-use Rattle.c_tree.specs.Words.{Word, Key, Mark, Name, Int, Char, Str, Other, word_bytes}
+use Rattle.c_tree.specs.Words.{Word, Key, Mark, Name, Int, Char, Str, word_bytes}
 use Rattle.c_tree.specs.Forms.{Form}
 use Rattle.c_tree.specs.Forms as f
 use Rattle.c_tree.specs.Places.{Place, Expression}
 use Rattle.c_tree.specs.Places as p
 use Rattle.c_tree.specs.Tree.{Tree, Trees, Leaf, At, Node, none, ◌▹◌, count}
-use Rattle.c_tree.specs.Grammar.{Item, Says, Here, Part, rows, shape, home, form_home, word_home, keyword_home}
+use Rattle.c_tree.specs.Grammar.{Item, Says, Here, Part, rows, shape, home, form_home}
 use Rattle.c_tree.specs.Operators.{unary_sign}
-use Rattle.c_tree.specs.Spelling.{Piece, Said, Line, spell, spell_all, filled, Spells}
-use Rattle.c_tree.specs.Scopes.{Scope, is_type, is_scope, places, after, after_all, name_of, name_among}
+use Rattle.c_tree.specs.Spelling.{Piece, Said, spell, spell_all, filled, Spells}
+use Rattle.c_tree.specs.Scopes.{Scope, is_type, is_scope, places, after, name_of, name_among}
 use Rattle.c_tree.specs.Allowed.{Takes, IsExpression, Allowed, AllAllowed, obeys, is_type_name}
 use Rattle.c_tree.proofs.Spelled.{spells_split}
 use Rattle.c_parser.specs.declared.kind.Kind.{Kind}
 use Rattle.c_parser.specs.declared.kind.Kind.TheVariants as kinds
-use Rattle.c_parser.specs.State.{State, kind_at, bytes_at, line_at, skip, first_kind, first_line, first_bytes, kind_of_word, at_mark, at_key, past, starts_by, starts_type, opens_type, kind_is_mark, kind_is_key, keyword_number, sign_number, is_spec_key}
+use Rattle.c_parser.specs.State.{State, kind_at, bytes_at, line_at, skip, first_kind, first_bytes, kind_of_word, at_key, starts_by, starts_type, opens_type, kind_is_mark, kind_is_key, keyword_number, sign_number, is_spec_key}
 use Rattle.c_parser.specs.Expressions as e
 use Rattle.c_parser.proofs.sound.Nodes.{IsGrownForm}
 use Rattle.c_parser.proofs.complete.Reads.{said_kind, said_first, line_first, is_line}

@@ -1,35 +1,33 @@
 -- Tags are read again.
-use Rattle.std.proofs.Common.{◌≡◌, ℕ, zero, suc, ◌+◌, ◌<◌, ◌≤◌, Bool, true, false, List, [], ◌∷◌, ◌++◌, length, take, Option, Some, None, refl, sym, ap, ◌∙◌, subst, arith}
-use Rattle.std.specs.Prelude.{if◌then◌else◌, ⊤, max, ◌&&◌, ◌||◌, not}
-use Rattle.std.proofs.lemmas.Bool.{and_from, and_right, false≢true, true≢false}
+use Rattle.std.proofs.Common.{◌≡◌, ℕ, zero, suc, ◌<◌, Bool, true, false, List, [], ◌∷◌, ◌++◌, take, Some, refl, sym, ap, ◌∙◌, subst, arith}
+use Rattle.std.specs.Prelude.{if◌then◌else◌, ◌&&◌, ◌||◌, not}
+use Rattle.std.proofs.lemmas.Bool.{and_from, and_right}
 use Rattle.c_lexer.specs.declared.token.Token.{Token}
 use Rattle.c_tree.specs.declared.operator.RecordSort.{RecordSort}
 use Rattle.c_tree.specs.declared.word.Keyword.{Keyword}
 use Rattle.c_tree.specs.declared.word.Keyword.TheVariants as k
 use Rattle.c_tree.specs.declared.word.Sign.TheVariants as s
-use Rattle.c_tree.specs.Words.{Word, Key, Mark, Name}
+use Rattle.c_tree.specs.Words.{Key, Mark, Name}
 use Rattle.c_tree.specs.Forms.{Form}
 use Rattle.c_tree.specs.Forms as f
 use Rattle.c_tree.specs.Places.{Place}
 use Rattle.c_tree.specs.Places as p
-use Rattle.c_tree.specs.Tree.{Tree, Trees, Leaf, At, Node, none, ◌▹◌, count}
-use Rattle.c_tree.specs.Grammar.{Item, Says, Here, Part, key, mark, closed, shape, home, form_home, keyword_home}
+use Rattle.c_tree.specs.Tree.{Tree, Trees, Leaf, Node, none, ◌▹◌}
+use Rattle.c_tree.specs.Grammar.{Here, Part, key, closed, shape, home, form_home, keyword_home}
 use Rattle.c_tree.specs.Operators.{record_word}
-use Rattle.c_tree.specs.Spelling.{Piece, Said, Line, spell, spell_all, filled, Spells}
-use Rattle.c_tree.specs.Scopes.{Scope, is_scope, places, after, after_all}
+use Rattle.c_tree.specs.Spelling.{Piece, Said, spell, spell_all, filled, Spells}
+use Rattle.c_tree.specs.Scopes.{Scope, is_scope, places, after}
 use Rattle.c_tree.specs.Allowed.{Takes, Allowed, AllAllowed}
 use Rattle.c_tree.specs.Depth.{depth, greatest_depth, weight, is_of_declarator}
 use Rattle.c_tree.proofs.Spelled.{spells_split}
-use Rattle.c_parser.specs.declared.kind.Kind.{Kind}
-use Rattle.c_parser.specs.declared.kind.Kind.TheVariants as kinds
-use Rattle.c_parser.specs.State.{State, kind_at, word_at, skip, past, first_kind, behind_first, kind_is_name, kind_is_mark, at_mark, at_name, sign_number}
-use Rattle.c_parser.specs.Reading.{◌>>=◌, Reader, parts_of, node, fixed, joined, nothing_read, ending_by, ending}
+use Rattle.c_parser.specs.State.{State, skip, past, first_kind, behind_first, kind_is_name, kind_is_mark, at_mark, at_name, sign_number}
+use Rattle.c_parser.specs.Reading.{◌>>=◌, Reader, parts_of, fixed, ending_by, ending}
 use Rattle.c_parser.specs.Expressions as e
 use Rattle.c_parser.specs.Declarators as d
 use Rattle.c_parser.proofs.sound.Took.{Sound, AllSound, all_sound, filled_both}
 use Rattle.c_parser.proofs.sound.Nodes.{depth_flat}
 use Rattle.c_parser.proofs.sound.Expressions.{name_took}
-use Rattle.c_parser.proofs.complete.Reads.{Follow, Follows, Complete, AllComplete, all_complete, Reads, PartsReads, parts_again, fixed_again, said_kind, said_first, line_first, is_line, ends_list}
+use Rattle.c_parser.proofs.complete.Reads.{Follow, Follows, Complete, AllComplete, all_complete, Reads, parts_again, fixed_again, said_kind, said_first, ends_list, AllAgain}
 use Rattle.c_parser.proofs.complete.Begins.{is_name}
 use Rattle.c_parser.proofs.complete.Starts.{word_after_line}
 use Rattle.c_parser.proofs.complete.Chains.{said_word}
@@ -120,7 +118,7 @@ closing form parts false state rest h =
     let b = said_first (Mark s.RightBrace) tt [] state rest h in
     (skip state, ap (λ t. ending_by form parts t state) (ap (kind_is_mark s.Comma) (said_kind (Mark s.RightBrace) tt [] state.words rest h)) ∙ ap (λ o. (o >>= (λ last. Some (none, last))) >>= (λ (y : Trees × State). Some (Node (form false) parts, y.1))) b.0, b.1)
 
-module _ (inner : Place → Reader) (room : ℕ) (deeper : (place : Place) → Sound room place (inner place)) (again : (place : Place) → Complete room place (inner place)) where
+module _ (inner : Place → Reader) (room : ℕ) (deeper : (place : Place) → Sound room place (inner place)) (again : AllAgain room inner) where
   -- `struct s` or `enum e` alone
   pub tag_only : (form : Form) (keyword : Keyword) (x a : Tree) (state : State) (rest : List Token) → ((n : ℕ) → shape form n ≡ Here ∷ key keyword ∷ Part p.Name ∷ []) → Allowed (Node form (x ▹ a ▹ none)) state.scope → greatest_depth (x ▹ a ▹ none) < suc room → Spells (spell (Node form (x ▹ a ▹ none))) state.words rest → kind_is_mark s.LeftBrace (first_kind rest) ≡ false → (d.tag_names_only inner room state ≡ true) × Reads (fixed d.name_part form) state (Node form (x ▹ a ▹ none)) rest
   unfolding Allowed AllAllowed spell spell_all Takes Follow
@@ -150,7 +148,7 @@ module _ (inner : Place → Reader) (room : ℕ) (deeper : (place : Place) → S
       let next = said_first (Key (record_word sort)) tt (spell m ++ Said (Mark s.LeftBrace) ∷ tail) state rest w.1 in
       let seen = maybe_seen m (after x state.scope) tail (skip state) rest al.1.2.0 (out_of_line x m state.scope al.1.2.1) next.1 in
       let n = depth_flat (f.RecordBody sort) (x ▹ m ▹ b ▹ none) refl in
-      (seen, fixed_again room inner (f.RecordBody sort) (λ n. refl) (all_sound room inner deeper (shape (f.RecordBody sort) zero)) (all_complete room inner again (shape (f.RecordBody sort) zero)) state (x ▹ m ▹ b ▹ none) rest al (omega (arith, n, deep)) sp (tt, ((λ middle g. said_kind (Mark s.LeftBrace) tt tail middle rest g), (tt, ((λ middle g. said_kind (Mark s.RightBrace) tt [] middle rest g), (tt, tt))))))
+      (seen, fixed_again room inner (f.RecordBody sort) (λ n. refl) (all_sound room inner deeper (shape (f.RecordBody sort) zero)) (all_complete room inner again (shape (f.RecordBody sort) zero) refl) state (x ▹ m ▹ b ▹ none) rest al (omega (arith, n, deep)) sp (tt, ((λ middle g. said_kind (Mark s.LeftBrace) tt tail middle rest g), (tt, ((λ middle g. said_kind (Mark s.RightBrace) tt [] middle rest g), (tt, tt))))))
 
   pub enum_body : (trailing : Bool) (parts : Trees) (state : State) (rest : List Token) → Allowed (Node (f.EnumBody trailing) parts) state.scope → depth (Node (f.EnumBody trailing) parts) < suc room → Spells (spell (Node (f.EnumBody trailing) parts)) state.words rest → (d.tag_names_only inner room state ≡ false) × Reads (λ st. ending f.EnumBody (parts_of inner (take 5 (shape (f.EnumBody false) zero)) st)) state (Node (f.EnumBody trailing) parts) rest
   unfolding Allowed AllAllowed shape spell spell_all Takes Follow is_of_declarator weight Spells
@@ -169,6 +167,6 @@ module _ (inner : Place → Reader) (room : ℕ) (deeper : (place : Place) → S
       let places_are = enum_places trailing x m b state.scope al.1 in
       let joins = filled_both items (closed trailing) (x ▹ m ▹ b ▹ none) none state.scope places_are in
       let split = spells_split (filled items (spell_all (x ▹ m ▹ b ▹ none))) last state.words rest (subst (λ l. Spells l state.words rest) joins sp) in
-      let front = parts_again room inner items (all_sound room inner deeper items) (all_complete room inner again items) state (x ▹ m ▹ b ▹ none) split.0 places_are (omega (arith, n, deep)) split.1 (tt, ((λ middle g. said_kind (Mark s.LeftBrace) tt (spell b ++ []) middle split.0 g), (tt, ((λ middle g. subst (λ ws. ends_list ws ≡ true) (sym g) (closed_ends trailing split.0 rest split.2)), tt)))) in
+      let front = parts_again room inner items (all_sound room inner deeper items) (all_complete room inner again items refl) state (x ▹ m ▹ b ▹ none) split.0 places_are (omega (arith, n, deep)) split.1 (tt, ((λ middle g. said_kind (Mark s.LeftBrace) tt (spell b ++ []) middle split.0 g), (tt, ((λ middle g. subst (λ ws. ends_list ws ≡ true) (sym g) (closed_ends trailing split.0 rest split.2)), tt)))) in
       let close = closing f.EnumBody (x ▹ m ▹ b ▹ none) trailing front.0 rest (subst (λ ws. Spells last ws rest) (sym front.2) split.2) in
       (seen, (close.0, ap (ending f.EnumBody) front.1 ∙ close.1, close.2))

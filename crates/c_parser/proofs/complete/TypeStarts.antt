@@ -1,6 +1,6 @@
 -- Specs and names of types begin as a type does.
-use Rattle.std.proofs.Common.{◌≡◌, ℕ, zero, suc, ◌+◌, ◌<◌, ◌≤◌, Bool, true, false, List, [], ◌∷◌, ◌++◌, refl, sym, ap, ◌∙◌, subst, arith}
-use Rattle.std.specs.Prelude.{if◌then◌else◌, ⊤}
+use Rattle.std.proofs.Common.{◌≡◌, true, List, [], ◌∷◌, ◌++◌, refl, ap, ◌∙◌, subst}
+use Rattle.std.specs.Prelude.{if◌then◌else◌}
 use Rattle.std.proofs.lemmas.Bool.{false≢true}
 use Rattle.c_lexer.specs.declared.token.Token.{Token}
 use Rattle.c_tree.specs.declared.operator.RecordSort.{RecordSort}
@@ -8,21 +8,19 @@ use Rattle.c_tree.specs.declared.operator.RecordSort.TheVariants as r
 use Rattle.c_tree.specs.declared.word.Keyword.{Keyword}
 use Rattle.c_tree.specs.declared.word.Keyword.TheVariants as k
 use Rattle.c_tree.specs.declared.word.Sign.TheVariants as s
-use Rattle.c_tree.specs.Words.{Word, Key, Mark, Name, Int, Char, Str, Other}
+use Rattle.c_tree.specs.Words.{Word, Key, Name}
 use Rattle.c_tree.specs.Forms.{Form}
 use Rattle.c_tree.specs.Forms as f
 use Rattle.c_tree.specs.Places.{Place, Expression}
 use Rattle.c_tree.specs.Places as p
 use Rattle.c_tree.specs.Tree.{Tree, Trees, Leaf, At, Node, none, ◌▹◌, count}
-use Rattle.c_tree.specs.Grammar.{Item, Says, Here, Part, key, mark, closed, rows, shape, home, form_home, word_home, keyword_home}
+use Rattle.c_tree.specs.Grammar.{Part, mark, closed, rows, shape, home, form_home, word_home, keyword_home}
 use Rattle.c_tree.specs.Operators.{record_word}
-use Rattle.c_tree.specs.Spelling.{Piece, Said, Line, spell, spell_all, filled, Spells}
-use Rattle.c_tree.specs.Scopes.{Scope, is_type, is_scope, places, after, name_of, name_among}
+use Rattle.c_tree.specs.Spelling.{Piece, Said, spell, spell_all, filled, Spells}
+use Rattle.c_tree.specs.Scopes.{Scope, is_type, is_scope, after, name_of, name_among}
 use Rattle.c_tree.specs.Allowed.{Takes, Allowed, AllAllowed, obeys, is_type_name, are_specs, tally, no_words}
 use Rattle.c_tree.proofs.Spelled.{spells_split}
-use Rattle.c_parser.specs.declared.kind.Kind.{Kind}
-use Rattle.c_parser.specs.declared.kind.Kind.TheVariants as kinds
-use Rattle.c_parser.specs.State.{State, kind_at, bytes_at, starts_by, starts_type, is_spec_key}
+use Rattle.c_parser.specs.State.{State, starts_by, starts_type, is_spec_key}
 use Rattle.c_parser.proofs.complete.Reads.{said_kind, line_first, is_line}
 use Rattle.c_parser.proofs.complete.Begins.{is_name}
 use Rattle.c_parser.proofs.complete.Starts.{said_bytes, word_after_line, line_scope}

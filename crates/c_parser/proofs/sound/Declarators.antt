@@ -190,8 +190,8 @@ record DirectSuffixes (start : State) (first : Bool) (x : Tree × State) : Type 
   keeps : first ≡ true → KeepsParams (suffix_params (Node f.Suffixes parts ▹ none)) start x.1
   stays : first ≡ false → x.1.params ≡ start.params
 
-record BaseTook (sort : Place) (state : State) (x : Tree × State) : Type 0 where
-  took : Layered p.Base state x.0 x.1
+pub record BaseTook (sort : Place) (state : State) (x : Tree × State) : Type 0 where
+  pub took : Layered p.Base state x.0 x.1
   named : Named sort (name_of x.0)
   keeps : d.is_leaf x.0 ≡ false → KeepsParams (params_of x.0) state x.1
 
@@ -238,7 +238,7 @@ direct_keeps (Node form parts) suffixes state middle rest is flag inside behind 
     subst (λ o. KeepsParams o state rest) (sym (params_direct form parts suffixes)) (keeps_same (params_of (Node form parts)) state middle rest (stays refl) (inside refl))
 
 module _ (inner : Place → Reader) (room : ℕ) (deeper : (place : Place) → Sound room place (inner place)) where
-  array_took : (state : State) (x : Tree × State) → fixed inner f.ArraySuffix state ≡ Some x → SuffixTook state x
+  pub array_took : (state : State) (x : Tree × State) → fixed inner f.ArraySuffix state ≡ Some x → SuffixTook state x
   unfolding shape form_home Takes is_scope Also obeys left suffix_params
   array_took state x h =
       let a = node_some f.ArraySuffix (parts_of inner (shape f.ArraySuffix zero) state) x h in
@@ -270,7 +270,7 @@ module _ (inner : Place → Reader) (room : ℕ) (deeper : (place : Place) → S
         keeps = λ more. list_params state y.1 c.1 took.scope (ap (λ (sc : Scope). sc.typedef) (sym took.scope) ∙ took.flag refl);
       })
 
-  function_took : (state : State) (x : Tree × State) → d.function_suffix_at inner room state ≡ Some x → SuffixTook state x
+  pub function_took : (state : State) (x : Tree × State) → d.function_suffix_at inner room state ≡ Some x → SuffixTook state x
   function_took state x h = elim (either (d.is_void_list state) (fixed inner f.VoidSuffix state >>= (λ (y : Tree × State). Some (y.0, with_new_params state y.1))) (fixed inner f.FunctionSuffix state >>= (λ (y : Tree × State). Some (y.0, with_new_params state y.1))) x h) [
     | inl a ↦
         let b = bind_some (fixed inner f.VoidSuffix state) (λ (y : Tree × State). Some (y.0, with_new_params state y.1)) x a.1 in
@@ -390,7 +390,7 @@ module _ (inner : Place → Reader) (room : ℕ) (deeper : (place : Place) → S
   ]
   base_by_took sort i _ state x h g = nothing_took sort i state x g
 
-  base_took : (sort : Place) → IsSort sort → (state : State) (x : Tree × State) → d.base_at inner room sort state ≡ Some x → BaseTook sort state x
+  pub base_took : (sort : Place) → IsSort sort → (state : State) (x : Tree × State) → d.base_at inner room sort state ≡ Some x → BaseTook sort state x
   base_took sort i state x h = base_by_took sort i (kind_at state) state x refl h
 
   -- Whole declarators

@@ -44,7 +44,7 @@ pub record ExternalTook (bound : ℕ) (start : State) (tree : Tree) (rest : Stat
   pub ends : EndsWithWord (spell tree)
 
 -- the scope of a body
-body_scope : (o : Option Trees) (before state : State) → is_some o ≡ true → KeepsParams o before state → state.scope.typedef ≡ before.scope.typedef → with_params o state.scope ≡ (in_body state).scope
+pub body_scope : (o : Option Trees) (before state : State) → is_some o ≡ true → KeepsParams o before state → state.scope.typedef ≡ before.scope.typedef → with_params o state.scope ≡ (in_body state).scope
 body_scope None before state e h flag = absurd (false≢true e)
 body_scope (Some parts) before state e h flag = subst (λ t. AreParams t parts state.params) (sym flag) h state.scope.names
 

@@ -237,7 +237,7 @@ module _ (inner : Place → Reader) (room : ℕ) (deeper : (place : Place) → S
   item_of state tree rest h =
       record { stands = subst IsItem (sym h.stands) tt; allowed = h.allowed; spelled = h.spelled; deep = h.deep; scope = h.scope; flag = h.flag; opens = tt; also = tt }
 
-  item_took : Sound (suc room) p.Item (t.item_at inner room)
+  pub item_took : Sound (suc room) p.Item (t.item_at inner room)
   item_took state x h = elim (either (starts_type state) (guarded room (t.local_at inner room) state) (guarded room (t.statement_at inner room) state) x h) [
     | inl a ↦
         let b = guarded_some room (t.local_at inner room) state x a.1 in
@@ -261,7 +261,7 @@ module _ (inner : Place → Reader) (room : ℕ) (deeper : (place : Place) → S
   maybe_expr_took state x h =
       light_optional (suc room) p.MaybeExpr f.MaybeExpr (t.expr_part inner room) (omega arith) (record { plain = refl; light = refl; lines = refl; single = refl; stands = λ parts. refl; outside = refl; wordless = refl; also = λ state parts rest. tt }) (record { plain = refl; light = refl; lines = refl; single = refl; stands = λ parts. refl; outside = refl; wordless = refl; also = λ state parts rest. tt }) refl refl (all_sound (suc room) (t.expr_part inner room) (part_took inner room deeper) (shape f.MaybeExpr (suc zero))) (t.has_expr state) state x h
 
-  for_names_took : (place : Place) → Sound (suc room) place (t.for_names_part inner room place)
+  pub for_names_took : (place : Place) → Sound (suc room) place (t.for_names_part inner room place)
   for_names_took p.Specs state x h = specs_took inner room deeper state x h
   for_names_took p.SomeNames state x h = some_names_took inner room deeper state x h
   for_names_took p.MaybeExpr state x h = maybe_expr_took state x h

@@ -1,5 +1,3 @@
-use Rattle.c_parser.proofs.complete.Names as names
-use Rattle.c_parser.proofs.complete.Firsts as firsts
 use Rattle.c_parser.proofs.sound.Words.{word_of_is}
 use Rattle.c_parser.proofs.laws.each_token_is_its_word.Goals as goal
 

@@ -1,0 +1,322 @@
+//! Reading expressions (C99 6.5).
+//!
+//! Each function gives what the definition of its name in `specs/Expressions.antt` reads. `room` is how deep the tree may
+//! be; `turns` is how often a chain may still grow, which each growth takes from `room`.
+
+ghost use Rattle.std.specs.Prelude.{◌≡◌, ◌<◌, ◌≤◌, IfOk};
+ghost use Rattle.c_tree.specs.Forms as form;
+ghost use Rattle.c_tree.specs.Places.{Expression};
+ghost use Rattle.c_tree.specs.StatementView.{expr_view};
+ghost use Rattle.c_parser.specs.Expressions as spec;
+ghost use Rattle.c_parser.specs.Gives.{Reads};
+ghost use Rattle.c_parser.specs.Reading.{grown};
+ghost use Rattle.c_parser.specs.Rooms.{less, read};
+ghost use Rattle.c_parser.specs.Signs.{is_unary_kind as unary_kind};
+
+use crate::deep::DeepExpr;
+use crate::error::ReadError;
+use crate::levels::{ASSIGNMENT, COMMA, CONDITION};
+use crate::operand::{cast, unary};
+use crate::operators::{assign, assign_sign, binary, binary_sign, operand_level};
+use crate::postfix::postfix;
+use crate::reader::Reader;
+use c_tree::{AssignOp, BinaryOp, Expr, ExprKind, Sign};
+use std::alloc::Global;
+
+/// An expression of at most a level.
+#[cycle(grammar)]
+#[tactic(auto, using(crate::proofs::Steps::guarded_step))]
+pub fn expression(
+    alloc: Global,
+    reader: &mut Reader,
+    room: usize,
+    level: usize,
+) -> Result<DeepExpr, ReadError>
+    requires room { room < 401 }
+    requires level { level < 16 }
+    ensures value { Reads (λ x. expr_view x.tree) result reader.new (read room (Expression level) reader.old) }
+    ensures deep { IfOk result (λ x. x.depth ≤ room) }
+{
+    if room == 0 {
+        return Err(ReadError::Syntax);
+    }
+    leveled(alloc, reader, room, level)
+}
+
+/// The same, where there is room.
+#[cycle(grammar)]
+#[tactic(auto, using(crate::proofs::Steps::expression_step))]
+fn leveled(
+    alloc: Global,
+    reader: &mut Reader,
+    room: usize,
+    level: usize,
+) -> Result<DeepExpr, ReadError>
+    requires room { room < 401 }
+    requires some { 0 < room }
+    requires level { level < 16 }
+    ensures value { Reads (λ x. expr_view x.tree) result reader.new (spec.expression_at (less room) room level reader.old) }
+    ensures deep { IfOk result (λ x. x.depth ≤ room) }
+{
+    if level == 0 {
+        return postfix(alloc, reader, room);
+    }
+    if level == 1 {
+        return unary(alloc, reader, room);
+    }
+    let looser = level - 2;
+    if looser <= 10 {
+        return operation(alloc, reader, room, looser);
+    }
+    loose(alloc, reader, room, looser - 11)
+}
+
+/// An expression so much looser than a condition.
+#[cycle(grammar)]
+#[tactic(auto, using(crate::proofs::Steps::loose_step))]
+fn loose(
+    alloc: Global,
+    reader: &mut Reader,
+    room: usize,
+    looser: usize,
+) -> Result<DeepExpr, ReadError>
+    requires room { room < 401 }
+    requires some { 0 < room }
+    requires level { looser < 16 }
+    ensures value { Reads (λ x. expr_view x.tree) result reader.new (spec.loose_at (less room) room looser reader.old) }
+    ensures deep { IfOk result (λ x. x.depth ≤ room) }
+{
+    if looser == 0 {
+        return condition(alloc, reader, room);
+    }
+    if looser == 1 {
+        return assignment(alloc, reader, room);
+    }
+    comma(alloc, reader, room)
+}
+
+/// Expressions with commas between them.
+#[cycle(grammar)]
+#[tactic(auto, using(crate::proofs::Steps::comma_from_step))]
+fn comma(alloc: Global, reader: &mut Reader, room: usize) -> Result<DeepExpr, ReadError>
+    requires room { room < 401 }
+    requires some { 0 < room }
+    ensures value { Reads (λ x. expr_view x.tree) result reader.new (spec.comma_at (less room) room reader.old) }
+    ensures deep { IfOk result (λ x. x.depth ≤ room) }
+{
+    let line = reader.line();
+    let mut left = assignment(alloc, reader, room)?;
+    let mut turns = room;
+    'commas: while turns > 0 {
+        if !reader.is_mark(Sign::Comma) {
+            return Ok(left);
+        }
+        left = grow_comma(alloc, reader, room, line, left)?;
+        turns -= 1;
+    }
+    Err(ReadError::Syntax)
+}
+
+/// An expression behind a comma.
+#[cycle(grammar)]
+#[tactic(auto, using(crate::proofs::Steps::less_step, crate::proofs::Steps::guarded_step), unfolding(c_tree::specs::Grammar::shape))]
+fn grow_comma(
+    alloc: Global,
+    reader: &mut Reader,
+    room: usize,
+    line: u32,
+    left: DeepExpr,
+) -> Result<DeepExpr, ReadError>
+    requires room { room < 401 }
+    requires some { 0 < room }
+    ensures value { Reads (λ x. expr_view x.tree) result reader.new (grown room (less room) form.Comma line (expr_view left.tree) reader.old) }
+    ensures deep { IfOk result (λ x. x.depth ≤ room) }
+{
+    if left.depth >= room {
+        return Err(ReadError::Syntax);
+    }
+    reader.mark(Sign::Comma)?;
+    let right = expression(alloc, reader, room - 1, ASSIGNMENT)?;
+    Ok(DeepExpr::comma(alloc, line, left, right)?)
+}
+
+/// An assignment, or a condition.
+#[cycle(grammar)]
+fn assignment(alloc: Global, reader: &mut Reader, room: usize) -> Result<DeepExpr, ReadError>
+    requires room { room < 401 }
+    requires some { 0 < room }
+    ensures value { Reads (λ x. expr_view x.tree) result reader.new (spec.assign_at (less room) room reader.old) }
+    ensures deep { IfOk result (λ x. x.depth ≤ room) }
+{
+    let line = reader.line();
+    let left = condition(alloc, reader, room)?;
+    let Some(op) = assign(reader.kind()) else {
+        return Ok(left);
+    };
+    if !is_unary(&left.tree) {
+        return Err(ReadError::Syntax);
+    }
+    grow_assignment(alloc, reader, room, line, left, op)
+}
+
+/// What is assigned.
+#[cycle(grammar)]
+#[tactic(auto, using(crate::proofs::Steps::less_step, crate::proofs::Steps::guarded_step), unfolding(c_tree::specs::Grammar::shape))]
+fn grow_assignment(
+    alloc: Global,
+    reader: &mut Reader,
+    room: usize,
+    line: u32,
+    left: DeepExpr,
+    op: AssignOp,
+) -> Result<DeepExpr, ReadError>
+    requires room { room < 401 }
+    requires some { 0 < room }
+    ensures value { Reads (λ x. expr_view x.tree) result reader.new (grown room (less room) (form.Assign op) line (expr_view left.tree) reader.old) }
+    ensures deep { IfOk result (λ x. x.depth ≤ room) }
+{
+    if left.depth >= room {
+        return Err(ReadError::Syntax);
+    }
+    reader.mark(assign_sign(op))?;
+    let right = expression(alloc, reader, room - 1, ASSIGNMENT)?;
+    Ok(DeepExpr::assign(alloc, line, op, left, right)?)
+}
+
+/// A condition with its two values, or an operation.
+#[cycle(grammar)]
+fn condition(alloc: Global, reader: &mut Reader, room: usize) -> Result<DeepExpr, ReadError>
+    requires room { room < 401 }
+    requires some { 0 < room }
+    ensures value { Reads (λ x. expr_view x.tree) result reader.new (spec.cond_at (less room) room reader.old) }
+    ensures deep { IfOk result (λ x. x.depth ≤ room) }
+{
+    let line = reader.line();
+    let left = operation(alloc, reader, room, 10)?;
+    if !reader.is_mark(Sign::Question) {
+        return Ok(left);
+    }
+    grow_condition(alloc, reader, room, line, left)
+}
+
+/// The two values of a condition.
+#[cycle(grammar)]
+#[tactic(auto, using(crate::proofs::Steps::less_step, crate::proofs::Steps::guarded_step), unfolding(c_tree::specs::Grammar::shape))]
+fn grow_condition(
+    alloc: Global,
+    reader: &mut Reader,
+    room: usize,
+    line: u32,
+    left: DeepExpr,
+) -> Result<DeepExpr, ReadError>
+    requires room { room < 401 }
+    requires some { 0 < room }
+    ensures value { Reads (λ x. expr_view x.tree) result reader.new (grown room (less room) form.Cond line (expr_view left.tree) reader.old) }
+    ensures deep { IfOk result (λ x. x.depth ≤ room) }
+{
+    if left.depth >= room {
+        return Err(ReadError::Syntax);
+    }
+    reader.mark(Sign::Question)?;
+    let yes = expression(alloc, reader, room - 1, COMMA)?;
+    reader.mark(Sign::Colon)?;
+    let no = expression(alloc, reader, room - 1, CONDITION)?;
+    Ok(DeepExpr::cond(alloc, line, left, yes, no)?)
+}
+
+/// Operators between two operands, so many levels looser than a cast.
+#[cycle(grammar)]
+#[tactic(auto, using(crate::proofs::Steps::binary_step, crate::proofs::Steps::binary_from_step))]
+fn operation(
+    alloc: Global,
+    reader: &mut Reader,
+    room: usize,
+    looser: usize,
+) -> Result<DeepExpr, ReadError>
+    requires room { room < 401 }
+    requires some { 0 < room }
+    requires level { looser ≤ 10 }
+    ensures value { Reads (λ x. expr_view x.tree) result reader.new (spec.binary_at (less room) room looser reader.old) }
+    ensures deep { IfOk result (λ x. x.depth ≤ room) }
+{
+    if looser == 0 {
+        return cast(alloc, reader, room);
+    }
+    operators(alloc, reader, room, looser)
+}
+
+/// The operators of one level, from left to right.
+#[cycle(grammar)]
+#[tactic(auto, using(crate::proofs::Steps::binary_step, crate::proofs::Steps::binary_from_step))]
+fn operators(
+    alloc: Global,
+    reader: &mut Reader,
+    room: usize,
+    looser: usize,
+) -> Result<DeepExpr, ReadError>
+    requires room { room < 401 }
+    requires some { 0 < room }
+    requires looser { 0 < looser }
+    requires level { looser ≤ 10 }
+    ensures value { Reads (λ x. expr_view x.tree) result reader.new (spec.binary_at (less room) room looser reader.old) }
+    ensures deep { IfOk result (λ x. x.depth ≤ room) }
+{
+    let line = reader.line();
+    let level = looser - 1 + 2;
+    let mut left = operation(alloc, reader, room, looser - 1)?;
+    let mut turns = room;
+    'operators: while turns > 0 {
+        let Some(op) = binary(reader.kind(), level) else {
+            return Ok(left);
+        };
+        left = grow_operation(alloc, reader, room, line, left, op)?;
+        turns -= 1;
+    }
+    Err(ReadError::Syntax)
+}
+
+/// An operator and its right operand.
+#[cycle(grammar)]
+#[tactic(auto, using(crate::proofs::Steps::less_step, crate::proofs::Steps::guarded_step), unfolding(c_tree::specs::Grammar::shape))]
+fn grow_operation(
+    alloc: Global,
+    reader: &mut Reader,
+    room: usize,
+    line: u32,
+    left: DeepExpr,
+    op: BinaryOp,
+) -> Result<DeepExpr, ReadError>
+    requires room { room < 401 }
+    requires some { 0 < room }
+    ensures value { Reads (λ x. expr_view x.tree) result reader.new (grown room (less room) (form.Binary op) line (expr_view left.tree) reader.old) }
+    ensures deep { IfOk result (λ x. x.depth ≤ room) }
+{
+    if left.depth >= room {
+        return Err(ReadError::Syntax);
+    }
+    reader.mark(binary_sign(op))?;
+    let right = expression(alloc, reader, room - 1, operand_level(op))?;
+    Ok(DeepExpr::binary(alloc, line, op, left, right)?)
+}
+
+/// Says whether an expression is a unary one, or tighter.
+#[tactic(auto, using(crate::proofs::Unary::kind_is_unary))]
+fn is_unary(e: &Expr) -> bool
+    ensures { result ≡ spec.is_unary (expr_view e.now) }
+{
+    is_unary_kind(&e.kind)
+}
+
+/// The same, without the line.
+fn is_unary_kind(kind: &ExprKind) -> bool
+    ensures { result ≡ unary_kind kind.now }
+{
+    match kind {
+        ExprKind::Cast(_, _)
+        | ExprKind::Binary(_, _, _)
+        | ExprKind::Cond(_, _, _)
+        | ExprKind::Assign(_, _, _)
+        | ExprKind::Comma(_, _) => false,
+        _ => true,
+    }
+}

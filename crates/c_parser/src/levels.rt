@@ -1,0 +1,13 @@
+//! Levels of expressions.
+
+/// The level of a unary expression, and of a cast.
+pub const UNARY: usize = 1;
+
+pub const CAST: usize = 2;
+
+/// The level of a constant expression, which is a condition, of an assignment and of an expression.
+pub const CONDITION: usize = 13;
+
+pub const ASSIGNMENT: usize = 14;
+
+pub const COMMA: usize = 15;
