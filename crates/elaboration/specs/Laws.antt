@@ -1,0 +1,39 @@
+-- Parts of what makes a core sound, each said of every core that a text has.
+use Rattle.std.specs.Prelude.{◌≡◌, ℕ, List, Option, Some, slice_get, ◌<◌, ◌≤◌, length, All}
+use Rattle.std.specs.List.{sum_by}
+use Rattle.hs_base.specs.Place.{block_size}
+use Rattle.core_tree.specs.declared.program.Core.{Core}
+use Rattle.core_tree.specs.declared.program.Func.{Func}
+use Rattle.core_tree.specs.declared.program.Static.{Static}
+use Rattle.core_tree.specs.declared.statements.Atom.{Atom}
+use Rattle.core_tree.specs.declared.statements.Stm.{Stm}
+use Rattle.core_tree.specs.declared.statements.StmKind.TheVariants.{Call}
+use Rattle.core_tree.specs.Statements.{edges}
+use Rattle.core_tree.specs.Sound.{EachFunc, EachStatement, LeadsOn, HasScopes, code_size, IsShort}
+
+-- how control flows through a function
+pub record HasFlow (func : Func) : Type 0 where
+  -- it has a statement
+  pub some : 0 < length func.body
+  -- no edge leads past the last statement
+  pub inside : EachStatement func.body (λ point stm. All (λ next. next < length func.body) (edges stm.kind point))
+  -- only a loop goes back
+  pub ahead : EachStatement func.body (λ point stm. LeadsOn point stm.kind)
+  -- scopes are opened and closed in the same way on all paths
+  pub scopes : HasScopes func.body
+
+-- how large a core is
+pub record HasSizes (core : Core) : Type 0 where
+  -- the blocks of the statics sum to at most so many bytes
+  pub static_bytes : sum_by (λ (static : Static). block_size static.layout.size) core.statics ≤ 67108864
+  -- the statements of all functions and their operands are at most so many together
+  pub code : sum_by code_size core.funcs ≤ 268435456
+  -- these lists are shorter than 2 to the 32
+  pub short_statics : IsShort core.statics
+  pub short_funcs : IsShort core.funcs
+  pub short_bodies : EachFunc core (λ func. IsShort func.body)
+
+-- each call of a function names a function that is there
+abbrev pub CallsInside : Core → Func → Type 0
+CallsInside core func =
+    (point : ℕ) (stm : Stm) (f : ℕ) (r : Option ℕ) (args : List Atom) → slice_get func.body point ≡ Some stm → stm.kind ≡ Call f r args → f < length core.funcs

@@ -1,0 +1,40 @@
+//! Laws of the definitions.
+
+ghost use Rattle.std.specs.Prelude.{◌≡◌, Ok, count_by};
+ghost use Rattle.c_types.specs.Types.{PlainType};
+ghost use Rattle.c_types.specs.TagTable.{TagTable};
+ghost use Rattle.c_decls.specs.Expressions.{typed};
+ghost use Rattle.elaboration.specs.Context.{Context, asked};
+ghost use Rattle.elaboration.specs.Conversions.{Found};
+ghost use Rattle.elaboration.specs.Expressions.{found};
+ghost use Rattle.core_tree.specs.declared.program.Core.{Core};
+ghost use Rattle.core_tree.specs.Sound.{EachFunc, is_main};
+ghost use Rattle.c_tree.specs.Tree.{Tree, Trees};
+ghost use Rattle.elaboration.specs.Elaboration.{elaborated};
+ghost use Rattle.elaboration.specs.Laws.{CallsInside, HasFlow, HasSizes};
+
+/// In each function of the core of a text every edge leads to a statement, only a loop goes back, and scopes are opened
+/// and closed in the same way on all paths.
+pub fn control_flows()
+    ensures { (unit : Trees) (core : Core) (tags : TagTable) → elaborated unit ≡ Ok (core, tags) → EachFunc core HasFlow }
+{}
+
+/// The core of a text keeps the bounds on its statics and on its code, and so its lists are short.
+pub fn sizes_are_kept()
+    ensures { (unit : Trees) (core : Core) (tags : TagTable) → elaborated unit ≡ Ok (core, tags) → HasSizes core }
+{}
+
+/// An expression that is elaborated has the type, and the tags behind it, that its types alone give it (C99 6.5).
+pub fn types_agree()
+    ensures { (tree : Tree) (wanted : PlainType) (c : Context) (d : Context × Found) → found tree wanted c ≡ Ok d → typed tree (asked c) ≡ Ok (asked d.0, d.1.typed) }
+{}
+
+/// Exactly one function of the core of a text is named `main` (C99 5.1.2.2.1).
+pub fn one_main()
+    ensures { (unit : Trees) (core : Core) (tags : TagTable) → elaborated unit ≡ Ok (core, tags) → count_by is_main core.funcs ≡ 1 }
+{}
+
+/// Each call of the core of a text names one of its functions (C99 6.5.2.2).
+pub fn calls_are_inside()
+    ensures { (unit : Trees) (core : Core) (tags : TagTable) → elaborated unit ≡ Ok (core, tags) → EachFunc core (CallsInside core) }
+{}
