@@ -1,0 +1,6 @@
+pub mod Turns
+pub mod Walked
+pub mod LayerLists
+pub mod SpecTypes
+pub mod Calls
+pub mod FormatLemmas

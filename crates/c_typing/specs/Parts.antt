@@ -1,0 +1,15 @@
+-- Lists that are walked over in turn.
+use Rattle.std.specs.Prelude.{Bool, true, false, List, ◌++◌, Ok}
+use Rattle.c_tree.specs.declared.operator.AssignOp.{AssignOp}
+use Rattle.c_tree.specs.declared.operator.AssignOp.TheVariants as a
+use Rattle.c_decls.specs.Refusals.{Checked, then}
+use Rattle.c_decls.specs.TypeNames.{Context}
+
+-- a list behind another one
+abbrev pub behind : {A : Type 0} → List A → Checked (Context × List A) → Checked (Context × List A)
+behind before answer = then answer (λ more. Ok (more.0, before ++ more.1))
+
+-- whether an operator is `=`
+abbrev pub is_plain : AssignOp → Bool
+is_plain a.Plain = true
+is_plain _ = false

@@ -1,0 +1,99 @@
+//! The members of structs and unions (C99 6.5.2.3).
+
+ghost use Rattle.std.specs.Prelude.{◌≡◌, option_map, option_copied, bytes_eq, map};
+ghost use Rattle.std.specs.List.{find};
+ghost use Rattle.c_types.specs.Types.{plain};
+ghost use Rattle.c_types.specs.TagTable.{PlainMember, plain_member, members_in};
+ghost use Rattle.c_decls.specs.Refusals.{Meets};
+ghost use Rattle.c_decls.specs.Typed.{plain_typed, operand};
+ghost use Rattle.c_decls.specs.PlaceRules as rules;
+
+use c_decls::{Operand, TypeError, TypeKind, Typed, operand_of, refused};
+use c_types::{CType, Member, TagId, Tags, members};
+use hs_base::Line;
+use std::alloc::Global;
+
+/// The first member of that name.
+fn first_named<'a>(list: &'a [Member], name: &[u8]) -> Option<&'a Member>
+    ensures { option_copied result ≡ find (λ (m : Member). bytes_eq name.now m.name) list.now }
+{
+    list.iter().find(|m| name == m.name.as_slice())
+}
+
+/// The member of that name.
+fn named<'a>(list: &'a [Member], name: &[u8]) -> Option<&'a Member>
+    ensures { option_map (λ m. plain_member m.now) result ≡
+        find (λ (m : PlainMember). bytes_eq name.now m.name) (map plain_member list.now) }
+{
+    first_named(list, name)
+}
+
+/// The member of that name of a struct or union, as a place.
+fn member_among(
+    alloc: Global,
+    line: Line,
+    name: &[u8],
+    tags: &Tags,
+    tag: TagId,
+) -> Result<Typed, TypeError>
+    ensures { Meets plain_typed result (rules.member_among line name.now (members_in tags.now tag)) }
+{
+    let Some(list) = members(tags, tag) else {
+        return refused(TypeKind::Incomplete, line);
+    };
+    match named(list, name) {
+        Some(member) => Ok(Typed::place(member.ty.try_clone(alloc)?)),
+        None => refused(TypeKind::NoMember, line),
+    }
+}
+
+/// The member of that name of a type.
+fn member_of(
+    alloc: Global,
+    line: Line,
+    name: &[u8],
+    tags: &Tags,
+    ty: &CType,
+) -> Result<Typed, TypeError>
+    ensures { Meets plain_typed result (rules.member_of line name.now tags.now (plain ty.now)) }
+{
+    match ty {
+        CType::Struct(tag) => member_among(alloc, line, name, tags, *tag),
+        CType::Union(tag) => member_among(alloc, line, name, tags, *tag),
+        CType::Void | CType::Int(_) | CType::Pointer(_) | CType::Array(_, _) | CType::Function(_) =>
+            refused(TypeKind::Operands, line),
+    }
+}
+
+/// `e.name` on a place.
+pub fn dot(
+    alloc: Global,
+    line: Line,
+    name: &[u8],
+    tags: &Tags,
+    e: &Typed,
+) -> Result<Typed, TypeError>
+    ensures { Meets plain_typed result (rules.dot line name.now tags.now (plain_typed e.now)) }
+{
+    if e.is_place {
+        member_of(alloc, line, name, tags, &e.ty)
+    } else {
+        refused(TypeKind::Operands, line)
+    }
+}
+
+/// `e->name` on a value.
+pub fn arrow(
+    alloc: Global,
+    line: Line,
+    name: &[u8],
+    tags: &Tags,
+    e: &Typed,
+) -> Result<Typed, TypeError>
+    ensures { Meets plain_typed result (rules.arrow line name.now tags.now (plain_typed e.now)) }
+{
+    match operand_of(&e.ty) {
+        Operand::PointerTo(target) => member_of(alloc, line, name, tags, target),
+        Operand::Number(_) | Operand::Neither => refused(TypeKind::Operands, line),
+    }
+}
