@@ -1,0 +1,3 @@
+pub mod ListRules
+pub mod Lines
+pub mod Twice

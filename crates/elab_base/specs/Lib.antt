@@ -1,0 +1,5 @@
+pub mod PlainPieces
+pub mod Marks
+pub mod Stored
+pub mod PlainFound
+pub mod MaybeNames

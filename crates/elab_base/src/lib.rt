@@ -1,0 +1,29 @@
+//! What elaboration keeps while it walks over the tree of a text, and the steps that change it.
+//!
+//! [`Elaborator`] is that state: contracts see it as the `Context` of the definition, and each method as one of its words.
+//! A method answers [`hs_base::NoMemory`] where there is no memory, or a refusal of the definition; after an error nothing
+//! is said of the state. Where the definition forgets code, [`Elaborator::forget`] cuts it back to a [`Mark`].
+#![tactic(auto)]
+
+mod code;
+mod conversions;
+mod elaborator;
+mod found;
+mod locals;
+mod names;
+mod numbers;
+mod pieces;
+mod running;
+mod sizes;
+mod statics;
+mod switches;
+
+pub use code::{Code, Mark};
+pub use conversions::code_line;
+pub use elaborator::{Elaborator, Parts};
+pub use found::{Fixed, Found, Spot};
+pub use names::{Declared, Variable, Walked};
+pub use numbers::fit;
+pub use pieces::{Piece, Pieces};
+pub use running::{Cases, Running};
+pub use sizes::{layout_in, size_in};

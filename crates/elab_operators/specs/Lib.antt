@@ -1,0 +1,2 @@
+pub mod PlainWorking
+pub mod PlainArguments

@@ -1,0 +1,5 @@
+pub mod Growth
+pub mod Cuts
+pub mod Tested
+pub mod Assigned
+pub mod Grown

@@ -1,0 +1,152 @@
+//! Assignments, and what reads a place and writes it (C99 6.5.2.4, 6.5.3.1, 6.5.16).
+
+ghost use Rattle.std.specs.Prelude.{◌≡◌, IfOk, Ok};
+ghost use Rattle.c_types.specs.Types.{plain};
+ghost use Rattle.c_tree.specs.StatementView.{expr_view};
+ghost use Rattle.c_decls.specs.Expressions.{line_of};
+ghost use Rattle.c_decls.specs.PlaceRules.{held_place};
+ghost use Rattle.c_decls.specs.Refusals.{Meets, then};
+ghost use Rattle.c_decls.specs.Typed.{plain_typed};
+ghost use Rattle.elab_base.specs.Marks.{cut, mark_of};
+ghost use Rattle.elab_base.specs.PlainFound.{plain_spot, plain_found};
+ghost use Rattle.elab_rules.specs.Behind.{Behind};
+ghost use Rattle.elaboration.specs.Context.{Code};
+ghost use Rattle.elaboration.specs.Conversions.{Unknown, found_as, atom_of};
+ghost use Rattle.elaboration.specs.Assignments.{record_assigned, set_to, scalar_assigned, old_value, change_place, changed_by, stepped};
+
+use crate::copies::copied;
+use c_decls::{TypeError, Typed};
+use c_tree::{AssignOp, BinaryOp, Expr};
+use c_typing::{assigned, changed, held_place};
+use core_tree::{Atom, StmKind};
+use elab_base::{Elaborator, Fixed, Found, Mark, Spot};
+use elab_operators::{changed_to, operator_of};
+use hs_base::{Line, NoMemory};
+
+/// `=` to a struct or a union (C99 6.5.16.1).
+pub fn record_assigned(
+    state: &mut Elaborator,
+    line: Line,
+    right: Line,
+    target: Found,
+    e: Found,
+) -> Result<Found, TypeError>
+    ensures { Meets (λ whole. (state.new, plain_found whole)) result (record_assigned line right (plain_found target) (state.old, plain_found e)) }
+{
+    let (to, from) = (target.atom(), e.atom());
+    let typed = assigned(line, right, state.tags(), target.typed, e.typed)?;
+    let size = i128::from(state.size_or_zero(&typed.ty)?);
+    state.emit(line, StmKind::Copy(to, from, size))?;
+    Ok(Found {
+        typed,
+        spot: Spot::Empty,
+        fixed: Fixed::Unknown,
+    })
+}
+
+/// Writes a converted value to a scalar.
+fn set_to(
+    state: &mut Elaborator,
+    line: Line,
+    before: Mark,
+    typed: Typed,
+    spot: Spot,
+    value: &Found,
+) -> Result<Found, NoMemory>
+    ensures { IfOk result (λ whole. (state.new, plain_found whole) ≡ set_to line (cut before state.old.code) (plain_typed typed) (found_as (plain_typed typed) (plain_spot spot) Unknown) (state.old, plain_found value.now)) }
+{
+    let converted = state.convert(line, before, &typed.ty, &value.typed.ty, value.atom())?;
+    state.write(line, &typed.ty, spot, converted)?;
+    Ok(Found::valued(typed, converted))
+}
+
+/// `=` to a scalar: the answer is the converted value (C99 6.5.16.1). The mark stands in front of the right side's code,
+/// which has grown since.
+#[tactic(auto, using(elab_base::proofs::Lines::line_of_expr))]
+pub fn scalar_assigned(
+    state: &mut Elaborator,
+    line: Line,
+    before: Mark,
+    tree: &Expr,
+    target: Found,
+    e: Found,
+) -> Result<Found, TypeError>
+    ensures { (code : Code) → mark_of code ≡ before → Behind code.pieces state.old.code.pieces → Meets (λ whole. (state.new, plain_found whole)) result (scalar_assigned line code (expr_view tree.now) (plain_found target) (state.old, plain_found e)) }
+{
+    let spot = target.spot;
+    let copy = copied(state.alloc(), &e.typed)?;
+    let typed = assigned(line, tree.line, state.tags(), target.typed, copy)?;
+    let value = state.valued_from(tree, e)?;
+    Ok(set_to(state, line, before, typed, spot, &value)?)
+}
+
+/// What a place that is read and written holds must be a value (C99 6.3.2.1).
+#[tactic(auto, using(elab_base::proofs::Lines::line_of_expr))]
+pub fn changing(state: &Elaborator, tree: &Expr, found: Found) -> Result<Found, TypeError>
+    ensures { Meets (λ same. plain_found same) result (then (held_place (line_of (expr_view tree.now)) state.now.tags (plain_typed found.typed)) (λ _. Ok (plain_found found))) }
+{
+    let Found { typed, spot, fixed } = found;
+    let typed = held_place(tree.line, state.tags(), typed)?;
+    Ok(Found { typed, spot, fixed })
+}
+
+/// What a place that is read and written holds.
+pub fn old_value(state: &mut Elaborator, line: Line, place: &Found) -> Result<Atom, NoMemory>
+    ensures { IfOk result (λ a. (state.new, a) ≡ old_value line (state.old, plain_found place.now)) }
+{
+    state.read_spot(line, &place.typed.ty, place.spot)
+}
+
+/// `l OP= r` once both sides are in hand: the operation, the conversion back and the write (C99 6.5.16.2).
+fn change_place(
+    state: &mut Elaborator,
+    line: Line,
+    op: BinaryOp,
+    typed: &Typed,
+    spot: Spot,
+    old: Atom,
+    y: &Found,
+) -> Result<Atom, NoMemory>
+    ensures { IfOk result (λ a. (state.new, a) ≡ change_place line op (plain_typed typed.now) (found_as (plain_typed typed.now) (plain_spot spot) Unknown) old (plain_typed y.now.typed) (atom_of (plain_spot y.now.spot)) state.old) }
+{
+    let value = changed_to(state, line, op, &typed.ty, old, &y.typed.ty, y.atom())?;
+    state.write(line, &typed.ty, spot, value)?;
+    Ok(value)
+}
+
+/// `l OP= r`: the answer is the converted value, or the old one where it is kept.
+pub fn changed_by(
+    state: &mut Elaborator,
+    line: Line,
+    op: AssignOp,
+    keeps_old: bool,
+    target: Found,
+    old: Atom,
+    y: Found,
+) -> Result<Found, TypeError>
+    ensures { Meets (λ whole. (state.new, plain_found whole)) result (changed_by line op keeps_old (plain_found target) old (state.old, plain_found y)) }
+{
+    let spot = target.spot;
+    let typed = changed(line, op, state.tags(), target.typed, &y.typed)?;
+    let value = change_place(state, line, operator_of(op), &typed, spot, old, &y)?;
+    if keeps_old {
+        Ok(Found::valued(typed, old))
+    } else {
+        Ok(Found::valued(typed, value))
+    }
+}
+
+/// `++` and `--`: as `+= 1` and `-= 1` (C99 6.5.2.4, 6.5.3.1).
+pub fn stepped(
+    state: &mut Elaborator,
+    line: Line,
+    op: AssignOp,
+    keeps_old: bool,
+    target: Found,
+) -> Result<Found, TypeError>
+    ensures { Meets (λ whole. (state.new, plain_found whole)) result (stepped line op keeps_old (state.old, plain_found target)) }
+{
+    let old = old_value(state, line, &target)?;
+    let one = Found::valued(Typed::int(), Atom::Int(1));
+    changed_by(state, line, op, keeps_old, target, old, one)
+}

@@ -1,0 +1,18 @@
+//! The rules of the forms of expressions, on parts that are elaborated (C99 6.5).
+//!
+//! Each function checks the types of the parts, adds the code that the definition of elaboration gives for the form, and
+//! answers what the whole is; or it refuses at the line of the form. The parts come from the walk over the tree.
+#![tactic(auto)]
+
+mod assignments;
+mod branches;
+mod copies;
+mod names;
+mod operators;
+mod places;
+
+pub use assignments::{changed_by, changing, old_value, record_assigned, scalar_assigned, stepped};
+pub use branches::{and_ended, and_then, choose_first, chosen, or_else, or_ended, tested_value};
+pub use names::{address_of, constant_found, literal_found, name_found};
+pub use operators::{applied, between, cast_to};
+pub use places::{dotted, indexed, pointed};

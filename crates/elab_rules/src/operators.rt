@@ -1,0 +1,128 @@
+//! Operators before a value and between two, and casts (C99 6.5.3 to 6.5.12).
+
+ghost use Rattle.std.specs.Prelude.{◌≡◌, IfOk};
+ghost use Rattle.c_types.specs.Types.{plain};
+ghost use Rattle.c_tree.specs.StatementView.{expr_view};
+ghost use Rattle.c_decls.specs.Refusals.{Meets};
+ghost use Rattle.c_decls.specs.Typed.{plain_typed};
+ghost use Rattle.elab_base.specs.Marks.{cut};
+ghost use Rattle.elab_base.specs.PlainFound.{plain_found};
+ghost use Rattle.elab_rules.specs.Negated.{negated};
+ghost use Rattle.elaboration.specs.Rules.{applied, between, cast_to, cast_fixed};
+
+use crate::branches::tested_atom;
+use c_decls::{Operand, TypeError, binary, operand_of, unary};
+use c_tree::{BinaryOp, Expr, UnaryOp};
+use c_types::CType;
+use c_typing::cast;
+use core_tree::{Atom, CmpOp, StmKind};
+use elab_base::{Elaborator, Fixed, Found, Mark, Spot};
+use elab_operators::{before_integer, combined, fixed_sum};
+use hs_base::{Line, NoMemory};
+
+/// `!`: whether a value is 0 or null (C99 6.5.3.3).
+fn negated(
+    state: &mut Elaborator,
+    line: Line,
+    tree: &Expr,
+    ty: &CType,
+    value: Atom,
+) -> Result<Atom, NoMemory>
+    ensures { IfOk result (λ a. (state.new, a) ≡ negated line (expr_view tree.now) (plain ty.now) value state.old) }
+{
+    let truth = tested_atom(state, tree, ty, value)?;
+    let to = state.take_integer()?;
+    state.emit(line, StmKind::Cmp(CmpOp::Eq, to, truth, Atom::Int(0)))?;
+    Ok(Atom::Reg(to))
+}
+
+/// An operator before a value: `*` gives the place at a pointer (C99 6.5.3).
+pub fn applied(
+    state: &mut Elaborator,
+    line: Line,
+    op: UnaryOp,
+    tree: &Expr,
+    e: Found,
+) -> Result<Found, TypeError>
+    ensures { Meets (λ whole. (state.new, plain_found whole)) result (applied line op (expr_view tree.now) state.old (plain_found e)) }
+{
+    let value = e.atom();
+    let ty = e.typed.ty.try_clone(state.alloc())?;
+    let typed = unary(line, op, e.typed)?;
+    if let UnaryOp::Deref = op {
+        return Ok(Found {
+            typed,
+            spot: Spot::Memory(value),
+            fixed: e.fixed,
+        });
+    }
+    if let UnaryOp::Not = op {
+        return Ok(Found::valued(typed, negated(state, line, tree, &ty, value)?));
+    }
+    match operand_of(&ty) {
+        Operand::Number(int) => {
+            Ok(Found::valued(typed, before_integer(state, line, op, int, value)?))
+        }
+        // No other operator takes a pointer, so none comes here.
+        Operand::PointerTo(_) | Operand::Neither => Err(TypeError::NoMemory),
+    }
+}
+
+/// An operator between two values; the mark stands in front of the right one's code.
+pub fn between(
+    state: &mut Elaborator,
+    line: Line,
+    op: BinaryOp,
+    before: Mark,
+    x: Found,
+    y: Found,
+) -> Result<Found, TypeError>
+    ensures { Meets (λ whole. (state.new, plain_found whole)) result (between line op (cut before state.old.code) state.old (plain_found x) (plain_found y)) }
+{
+    let alloc = state.alloc();
+    let fixed = fixed_sum(state, op, &x, &y)?;
+    let (left, right) = (x.atom(), y.atom());
+    let left_type = x.typed.ty.try_clone(alloc)?;
+    let right_type = y.typed.ty.try_clone(alloc)?;
+    let typed = binary(line, op, state.tags(), x.typed, y.typed)?;
+    let value = combined(
+        state,
+        line,
+        op,
+        before,
+        &left_type,
+        left,
+        &right_type,
+        right,
+    )?;
+    Ok(Found {
+        typed,
+        spot: Spot::Value(value),
+        fixed,
+    })
+}
+
+/// A cast: a null pointer constant that is cast is null; the mark stands in front of the operand's code.
+pub fn cast_to(
+    state: &mut Elaborator,
+    line: Line,
+    ty: CType,
+    before: Mark,
+    e: Found,
+) -> Result<Found, TypeError>
+    ensures { Meets (λ whole. (state.new, plain_found whole)) result (cast_to line (plain ty) (cut before state.old.code) state.old (plain_found e)) }
+{
+    let copy = ty.try_clone(state.alloc())?;
+    let typed = cast(line, copy, &e.typed)?;
+    let value = state.convert(line, before, &ty, &e.typed.ty, e.atom())?;
+    let fixed = if e.typed.is_null_constant() {
+        Fixed::Nowhere
+    } else {
+        e.fixed
+    };
+    Ok(Found {
+        typed,
+        spot: Spot::Value(value),
+        fixed,
+    })
+}
