@@ -1,0 +1,9 @@
+pub mod Ands
+pub mod Held
+pub mod Silent
+pub mod Ending
+pub mod Bytes
+pub mod Growing
+pub mod Printfs
+pub mod Steps
+pub mod Reached

@@ -1,0 +1,253 @@
+-- How far a run has come.
+use Rattle.std.proofs.Common.{◌≡◌, ◌≢◌, ℕ, zero, suc, ◌+◌, List, [], ◌∷◌, ◌++◌, Option, Some, None, Ok, Err, refl, sym, ap, ◌∙◌, arith, append_assoc}
+use Rattle.std.proofs.lemmas.List.{append-nil}
+use Rattle.hs_base.specs.declared.ends.End.{End}
+use Rattle.hs_base.specs.declared.ends.End.TheVariants as end
+use Rattle.hs_base.specs.State.{State}
+use Rattle.hs_base.specs.Trace.{Event, Out, In, New, Gone, Enter, Leave, Ending, bytes_out, bytes_in, end_of}
+use Rattle.hs_base.specs.Trace as meant
+use Rattle.hs_base.specs.Runs as runs
+use Rattle.hs_base.proofs.Running.{after_zero, after_more, after_stays}
+use Rattle.core_tree.specs.declared.program.Core.{Core}
+use Rattle.core_tree.specs.Sound.{IsSound}
+use Rattle.object_meaning.specs.Going.{Next}
+use Rattle.object_meaning.specs.Meaning.{Run, step, begun, meaning, enough}
+use Rattle.object_meaning.proofs.Falls.{meaning_is, ends}
+use Rattle.object_meaning.proofs.Forward.{all_forward}
+use Rattle.meaning_run.specs.declared.halt.Halt.{Halt}
+use Rattle.meaning_run.specs.declared.halt.Halt.TheVariants as halt
+use Rattle.meaning_run.specs.Leading.{with_input, AsksByte, events_of, PutsPart, SeenEnd, Seen}
+use Rattle.meaning_run.specs.Meant.{end_in, StopsAtIn, Stopped, Whole, MeanAnswers, Begins, answer_of}
+
+pub out_append : (a b : List Event) → bytes_out (a ++ b) ≡ bytes_out a ++ bytes_out b
+out_append [] b = refl
+out_append (Out byte ∷ a) b = ap (λ bs. byte ∷ bs) (out_append a b)
+out_append (In byte ∷ a) b = out_append a b
+out_append (New birth size line ∷ a) b = out_append a b
+out_append (Gone birth ∷ a) b = out_append a b
+out_append (Enter cost line ∷ a) b = out_append a b
+out_append (Leave ∷ a) b = out_append a b
+
+pub in_append : (a b : List Event) → bytes_in (a ++ b) ≡ bytes_in a ++ bytes_in b
+in_append [] b = refl
+in_append (Out byte ∷ a) b = in_append a b
+in_append (In (Some byte) ∷ a) b = ap (λ bs. byte ∷ bs) (in_append a b)
+in_append (In None ∷ a) b = in_append a b
+in_append (New birth size line ∷ a) b = in_append a b
+in_append (Gone birth ∷ a) b = in_append a b
+in_append (Enter cost line ∷ a) b = in_append a b
+in_append (Leave ∷ a) b = in_append a b
+
+-- A trace is only added to
+
+led_more : (trace : List Event) (n : Next) → (runs.led trace n).trace ≡ trace ++ events_of n
+led_more trace (runs.Goes before events after) = refl
+led_more trace (runs.Stops before events after e) = refl
+
+module _ (core : Core) where
+  moved_more : (r : Run) (o : Option Ending) → (more : List Event) × ((runs.moved (step core) r o).trace ≡ r.trace ++ more)
+  moved_more r (Some e) = ([], sym (append-nil r.trace))
+  moved_more r None = (events_of (step core r.trace r.state), led_more r.trace (step core r.trace r.state))
+
+  grows : (r : Run) (k j : ℕ) → (more : List Event) × ((runs.after (step core) r (k + j)).trace ≡ (runs.after (step core) r k).trace ++ more)
+  grows r k zero = let e : k + 0 ≡ k = omega arith in ([], rw e (sym (append-nil (runs.after (step core) r k).trace)))
+  grows r k (suc j) =
+      let e : k + suc j ≡ k + j + 1 = omega arith in
+      let so_far = grows r k j in
+      let next = moved_more (runs.after (step core) r (k + j)) (runs.after (step core) r (k + j)).ended in
+      (so_far.0 ++ next.0, rw (e, after_more (step core) r (k + j)) (next.1 ∙ ap (λ t. t ++ next.0) so_far.1 ∙ append_assoc (runs.after (step core) r k).trace so_far.0 next.0))
+
+module _ (core : Core) (sound : IsSound core) (input : List ℕ) (n : ℕ) where
+  -- what is made so far stands at the front of the whole trace
+  in_front : (k : ℕ) → (more : List Event) × ((meaning core input n).trace ≡ (runs.after (step core) (begun core input n) k).trace ++ more)
+  in_front k =
+      let r = begun core input n in
+      let total = enough core r.state in
+      let ended = ends core (all_forward core sound) input n in
+      let stays = after_stays (step core) r ended.0 total k ended.1 in
+      let more = grows core r k total in
+      let e : k + total ≡ total + k = omega arith in
+      (more.0, sym (ap (λ (x : Run). x.trace) (ap (runs.after (step core) r) e ∙ stays)) ∙ more.1)
+
+-- after k statements the run is at this state, with these bytes left and these taken
+pub record Reached (core : Core) (input : List ℕ) (n : ℕ) (bytes : List ℕ) (now : State) (left' taken' : Option (List ℕ)) : Type 0 where
+  pub k : ℕ
+  pub left : List ℕ
+  pub trace : List Event
+  pub is_left : left' ≡ Some left
+  pub is_taken : taken' ≡ Some (bytes ++ bytes_out trace)
+  pub is_read : bytes_in trace ++ left ≡ input
+  pub run : runs.after (step core) (begun core input n) k ≡ record { trace = trace; ended = None; state = with_input left now }
+
+run_is : (r : Run) (s : State) → r.ended ≡ None → r.state ≡ s → r ≡ record { trace = r.trace; ended = None; state = s }
+run_is r s e h =
+    ap (λ (o : Option Ending). let x : Run = record { trace = r.trace; ended = o; state = r.state } in x) e
+    ∙ ap (λ (t : State). let x : Run = record { trace = r.trace; ended = None; state = t } in x) h
+
+pub reached_first : (core : Core) (input : List ℕ) (n : ℕ) (bytes : List ℕ) (now : State) (left' taken' : Option (List ℕ)) → Begins core input n now → left' ≡ Some input → taken' ≡ Some bytes → Reached core input n bytes now left' taken'
+reached_first core input n bytes now left' taken' h left taken =
+    let r = begun core input n in
+    record {
+      k = 0;
+      left = input;
+      trace = r.trace;
+      is_left = left;
+      is_taken = taken ∙ ap Some (sym (ap (λ b. bytes ++ b) h.writes ∙ append-nil bytes));
+      is_read = ap (λ b. b ++ input) h.reads;
+      run = after_zero (step core) r ∙ run_is r (with_input input now) h.goes h.state;
+    }
+
+module _ (core : Core) (input : List ℕ) (n : ℕ) (bytes : List ℕ) (old new : State) (k : ℕ) (left : List ℕ) (trace : List Event) (left' taken' : Option (List ℕ)) (is_read : bytes_in trace ++ left ≡ input) (run : runs.after (step core) (begun core input n) k ≡ record { trace = trace; ended = None; state = with_input left old }) where
+  next_run : (next : Next) → step core trace (with_input left old) ≡ next → runs.after (step core) (begun core input n) (k + 1) ≡ runs.led trace next
+  next_run next is = rw (after_more (step core) (begun core input n) k, run, is) refl
+
+  reads_more : (events : List Event) (rest : List ℕ) → bytes_in events ++ rest ≡ left → bytes_in (trace ++ events) ++ rest ≡ input
+  reads_more events rest e =
+      ap (λ b. b ++ rest) (in_append trace events) ∙ append_assoc (bytes_in trace) (bytes_in events) rest ∙ ap (λ b. bytes_in trace ++ b) e ∙ is_read
+
+  writes_more : (events : List Event) → taken' ≡ Some ((bytes ++ bytes_out trace) ++ bytes_out events) → taken' ≡ Some (bytes ++ bytes_out (trace ++ events))
+  writes_more events e = rw (out_append trace events, ← append_assoc bytes (bytes_out trace) (bytes_out events)) e
+
+  pub more : (next : Next) → step core trace (with_input left old) ≡ next → Seen next left (bytes ++ bytes_out trace) (Ok tt) new left' taken' → Reached core input n bytes new left' taken'
+  more (runs.Goes before events after) is h = record {
+    k = k + 1;
+    left = after.input;
+    trace = trace ++ events;
+    is_left = h.1;
+    is_taken = writes_more events h.2;
+    is_read = reads_more events after.input h.0;
+    run = next_run (runs.Goes before events after) is ∙ ap (λ (t : State). let r : Run = record { trace = trace ++ events; ended = None; state = t } in r) h.3;
+  }
+  more (runs.Stops before events after e) is h = absurd h
+
+  module _ (sound : IsSound core) where
+    -- the run so far and the events of the next statement stand at the front of the whole trace
+    front : (next : Next) → step core trace (with_input left old) ≡ next → (rest : List Event) × ((meaning core input n).trace ≡ (trace ++ events_of next) ++ rest)
+    front next is =
+        let f = in_front core sound input n (k + 1) in
+        (f.0, f.1 ∙ ap (λ t. t ++ f.0) (ap (λ (r : Run). r.trace) (next_run next is) ∙ led_more trace next))
+
+    pub stopped : (next : Next) → step core trace (with_input left old) ≡ next → left' ≡ Some left → taken' ≡ Some (bytes ++ bytes_out trace) → Stopped (meaning core input n).trace input bytes left' taken'
+    stopped next is l t =
+        let f = front next is in
+        record {
+          before = trace;
+          rest = events_of next ++ f.0;
+          is = f.1 ∙ append_assoc trace (events_of next) f.0;
+          is_taken = t;
+          left = left;
+          is_left = l;
+          is_read = is_read;
+        }
+
+    pub asked : (next : Next) → step core trace (with_input left old) ≡ next → AsksByte next → left' ≡ Some left → taken' ≡ Some (bytes ++ bytes_out trace) → StopsAtIn (meaning core input n).trace input bytes left' taken'
+    asked (runs.Goes before [] after) is asks l t = absurd asks
+    asked (runs.Goes before (In byte ∷ events) after) is asks l t =
+        let f = front (runs.Goes before (In byte ∷ events) after) is in
+        record {
+          before = trace;
+          byte = byte;
+          rest = events ++ f.0;
+          is = f.1 ∙ append_assoc trace (In byte ∷ events) f.0;
+          is_taken = t;
+          left = left;
+          is_left = l;
+          is_read = is_read;
+        }
+    asked (runs.Goes before (Out byte ∷ events) after) is asks l t = absurd asks
+    asked (runs.Goes before (New birth size line ∷ events) after) is asks l t = absurd asks
+    asked (runs.Goes before (Gone birth ∷ events) after) is asks l t = absurd asks
+    asked (runs.Goes before (Enter cost line ∷ events) after) is asks l t = absurd asks
+    asked (runs.Goes before (Leave ∷ events) after) is asks l t = absurd asks
+    asked (runs.Stops before events after e) is asks l t = absurd asks
+
+    pub put_part : (next : Next) → step core trace (with_input left old) ≡ next → PutsPart next (bytes ++ bytes_out trace) taken' → left' ≡ Some left → Stopped (meaning core input n).trace input bytes left' taken'
+    put_part next is p l =
+        let f = front next is in
+        record {
+          before = trace ++ p.put;
+          rest = p.rest ++ f.0;
+          is = f.1 ∙ ap (λ es. (trace ++ es) ++ f.0) p.events ∙ ap (λ t. t ++ f.0) (sym (append_assoc trace p.put p.rest)) ∙ append_assoc (trace ++ p.put) p.rest f.0;
+          is_taken = writes_more p.put p.is_taken;
+          left = left;
+          is_left = l;
+          is_read = reads_more p.put left (ap (λ b. b ++ left) p.reads);
+        }
+
+    pub whole : (next : Next) → step core trace (with_input left old) ≡ next → (h : Halt) (e : End) (d : Ending) → end_of d ≡ Some e → (before : State) (events : List Event) (after : State) → next ≡ runs.Stops before events after d → bytes_in events ≡ [] → left' ≡ Some left → taken' ≡ Some ((bytes ++ bytes_out trace) ++ bytes_out events) → Whole core input n bytes e left' taken'
+    whole next is h e d same before events after stops none l t =
+        let last : Run = record { trace = trace ++ events; ended = Some d; state = after } in
+        let end_is : runs.after (step core) (begun core input n) (k + 1) ≡ last = next_run (runs.Stops before events after d) (is ∙ stops) in
+        let all : meaning core input n ≡ last = meaning_is core (all_forward core sound) input n (k + 1) d (ap (λ (r : Run). r.ended) end_is) ∙ end_is in
+        record {
+          end = ap (λ (r : Run). end_in r.ended) all ∙ same;
+          is_taken = rw all (writes_more events t);
+          left = left;
+          is_left = l;
+          is_read = rw all (reads_more events left (ap (λ b. b ++ left) none));
+        }
+
+module _ (core : Core) (input : List ℕ) (n : ℕ) (bytes : List ℕ) (old new : State) (left_old taken_old left' taken' : Option (List ℕ)) (r : Reached core input n bytes old left_old taken_old) where
+  pub reached_more : ((left taken : List ℕ) (trace : List Event) → left_old ≡ Some left → taken_old ≡ Some taken → Seen (step core trace (with_input left old)) left taken (Ok tt) new left' taken') → Reached core input n bytes new left' taken'
+  reached_more h =
+      more core input n bytes old new r.k r.left r.trace left' taken' r.is_read r.run (step core r.trace (with_input r.left old)) refl (h r.left (bytes ++ bytes_out r.trace) r.trace r.is_left r.is_taken)
+
+  module _ (sound : IsSound core) where
+    -- an end of the meaning
+    ended : (next : Next) → step core r.trace (with_input r.left old) ≡ next → (h : Halt) (e : End) (d : Ending) → end_of d ≡ Some e → (before : State) (events : List Event) (after : State) → next ≡ runs.Stops before events after d → bytes_in events ≡ [] → left' ≡ Some r.left → taken' ≡ Some ((bytes ++ bytes_out r.trace) ++ bytes_out events) → Whole core input n bytes e left' taken'
+    ended next is = whole core input n bytes old new r.k r.left r.trace left' taken' r.is_read r.run sound next is
+
+    answered : (next : Next) → step core r.trace (with_input r.left old) ≡ next → (h : Halt) → h ≢ halt.Dangling → SeenEnd next r.left (bytes ++ bytes_out r.trace) h left' taken' → MeanAnswers core input n bytes (answer_of h) left' taken'
+    answered next is halt.NoMemory alive e = stopped core input n bytes old new r.k r.left r.trace left' taken' r.is_read r.run sound next is e.0 e.1
+    answered next is halt.InputFault alive e = asked core input n bytes old new r.k r.left r.trace left' taken' r.is_read r.run sound next is e.0 e.1 e.2
+    answered next is halt.OutputFault alive e = put_part core input n bytes old new r.k r.left r.trace left' taken' r.is_read r.run sound next is e.0 e.1
+    answered next is halt.Dangling alive e = absurd (alive refl)
+    answered (runs.Goes before events after) is (halt.Exit code) alive e = absurd e
+    answered (runs.Goes before events after) is (halt.Trap kind line) alive e = absurd e
+    answered (runs.Goes before events after) is (halt.BadFree why holder) alive e = absurd e
+    answered (runs.Goes before events after) is (halt.Escape func local line) alive e = absurd e
+    answered (runs.Goes before events after) is halt.Spent alive e = absurd e
+    answered (runs.Stops before events after d) is (halt.Exit code) alive e =
+        ended (runs.Stops before events after d) is (halt.Exit code) (end.Exit code) d (ap end_of e.0) before events after refl e.1 e.2 e.3
+    answered (runs.Stops before events after d) is (halt.Trap kind line) alive e =
+        ended (runs.Stops before events after d) is (halt.Trap kind line) (end.Trap kind line) d (ap end_of e.0) before events after refl e.1 e.2 e.3
+    answered (runs.Stops before events after d) is (halt.BadFree why holder) alive e =
+        ended (runs.Stops before events after d) is (halt.BadFree why holder) (end.BadFree why holder) d (ap end_of e.0) before events after refl e.1 e.2 e.3
+    answered (runs.Stops before events after d) is (halt.Escape func local line) alive e =
+        ended (runs.Stops before events after d) is (halt.Escape func local line) (end.Escape func local line) d (ap end_of e.0) before events after refl e.1 e.2 e.3
+    answered (runs.Stops before events after d) is halt.Spent alive e =
+        ended (runs.Stops before events after d) is halt.Spent end.Spent d (ap end_of e.0) before events after refl e.1 e.2 e.3
+
+    pub reached_end : (h : Halt) → h ≢ halt.Dangling → ((left taken : List ℕ) (trace : List Event) → left_old ≡ Some left → taken_old ≡ Some taken → Seen (step core trace (with_input left old)) left taken (Err h) new left' taken') → MeanAnswers core input n bytes (answer_of h) left' taken'
+    reached_end h alive seen =
+        answered (step core r.trace (with_input r.left old)) refl h alive (seen r.left (bytes ++ bytes_out r.trace) r.trace r.is_left r.is_taken)
+
+-- Before the first statement
+
+-- with alive step the run ends at once
+pub spent : (core : Core) (input bytes : List ℕ) (n : ℕ) (left' taken' : Option (List ℕ)) → n ≡ 0 → left' ≡ Some input → taken' ≡ Some bytes → MeanAnswers core input n bytes (Ok end.Spent) left' taken'
+spent core input bytes n left' taken' none l t =
+    let r = begun core input 0 in
+    let k = enough core r.state in
+    let zero_k : 0 + k ≡ k = omega arith in
+    let ended : (runs.after (step core) r 0).ended ≡ Some meant.Spent = ap (λ (x : Run). x.ended) (after_zero (step core) r) in
+    let same : meaning core input 0 ≡ r = ap (runs.after (step core) r) (sym zero_k) ∙ after_stays (step core) r meant.Spent 0 k ended ∙ after_zero (step core) r in
+    rw none (record {
+      end = ap (λ (x : Run). end_in x.ended) same;
+      is_taken = t ∙ ap Some (sym (ap (λ (x : Run). bytes ++ bytes_out x.trace) same ∙ append-nil bytes));
+      left = input;
+      is_left = l;
+      is_read = ap (λ (x : Run). bytes_in x.trace ++ input) same;
+    })
+
+-- nothing was written or read
+pub nothing : (core : Core) (input bytes : List ℕ) (n : ℕ) (left' taken' : Option (List ℕ)) → left' ≡ Some input → taken' ≡ Some bytes → Stopped (meaning core input n).trace input bytes left' taken'
+nothing core input bytes n left' taken' l t = record {
+  before = [];
+  rest = (meaning core input n).trace;
+  is = refl;
+  is_taken = t ∙ ap Some (sym (append-nil bytes));
+  left = input;
+  is_left = l;
+  is_read = refl;
+}

@@ -1,0 +1,208 @@
+//! Runs: the first call of main, one statement after another, and the end.
+
+ghost use Rattle.std.specs.Prelude.{◌≡◌, ◌≢◌, ◌+◌, ◌<◌, ◌≤◌, ◌^◌, ℕ, List, [], All, IfOk, Some};
+ghost use Rattle.hs_base.specs.Trace.{Event};
+ghost use Rattle.core_tree.specs.Sound.{IsSound, HasNumbers, element_layouts, is_main, main_of};
+ghost use Rattle.object_meaning.specs.Meaning.{act, step};
+ghost use Rattle.object_meaning.proofs.Frames.{Good};
+ghost use Rattle.meaning_state.specs.Making.{IsElement};
+ghost use Rattle.meaning_run.specs.Leading.{Alone, Moves, Seen, Counted, with_input};
+ghost use Rattle.meaning_run.specs.Groups.{IsAlone, IsOf};
+ghost use Rattle.meaning_run.specs.Meant.{MeanAnswers, MeanCounts, HasNoLimit, Begins, answer_of};
+
+use crate::halt::Halt;
+use crate::machine::Machine;
+use core_tree::{Core, Func, StmKind};
+use hs_base::{End, Line, NoMemory, Sink, Source};
+use std::alloc::Global;
+
+/// Says whether a function is named main.
+fn is_main(func: &Func) -> bool
+    ensures { result ≡ is_main func.now }
+{
+    func.name.as_slice() == b"main".as_slice()
+}
+
+/// The number of the function named main.
+fn main_of(core: &Core) -> usize
+    ensures { result ≡ main_of core.now }
+{
+    let mut place = 0;
+    for func in core.funcs.as_slice() {
+        if is_main(func) {
+            return place;
+        }
+        place += 1;
+    }
+    place
+}
+
+/// What a statement works on.
+#[derive(Clone, Copy, Debug, PartialEq, Eq)]
+enum Group {
+    Values,
+    Memory,
+    Heap,
+    Jump,
+    Outside,
+}
+
+/// What a statement works on.
+fn group_of(kind: &StmKind) -> Group
+    ensures { IsOf result kind.now }
+{
+    match kind {
+        StmKind::Set(..)
+        | StmKind::Conv(..)
+        | StmKind::Un(..)
+        | StmKind::Bin(..)
+        | StmKind::Cmp(..)
+        | StmKind::Add(..)
+        | StmKind::Sub(..)
+        | StmKind::Off(..)
+        | StmKind::Diff(..)
+        | StmKind::Pcmp(..)
+        | StmKind::Test(..) => Group::Values,
+        StmKind::Load(..)
+        | StmKind::Loadp(..)
+        | StmKind::Store(..)
+        | StmKind::Storep(..)
+        | StmKind::Copy(..)
+        | StmKind::Clear(..) => Group::Memory,
+        StmKind::Malloc(..)
+        | StmKind::Calloc(..)
+        | StmKind::Realloc(..)
+        | StmKind::Free(..)
+        | StmKind::Enter
+        | StmKind::Leave => Group::Heap,
+        StmKind::Jump(..)
+        | StmKind::Zero(..)
+        | StmKind::Case(..)
+        | StmKind::Loop(..)
+        | StmKind::Call(..)
+        | StmKind::Return(..) => Group::Jump,
+        StmKind::Lib(..) | StmKind::Printf(..) => Group::Outside,
+    }
+}
+
+/// A statement that calls no built-in function and no printf.
+fn act_alone(
+    machine: &mut Machine,
+    alloc: Global,
+    core: &Core,
+    line: Line,
+    kind: &StmKind,
+) -> Result<(), Halt>
+    requires point { machine.old.running.point + 1 < 2 ^ 64 }
+    requires alone { IsAlone kind.now }
+    requires numbers { HasNumbers kind.now }
+    requires elements { All IsElement (element_layouts kind.now) }
+    ensures { (left : List ℕ) → Alone left (act core.now line kind.now (with_input left machine.old)) machine.new result }
+{
+    match group_of(kind) {
+        Group::Values => machine.act_values(line, kind),
+        Group::Memory => machine.act_memory(alloc, line, kind),
+        Group::Heap => machine.act_heap(alloc, core, line, kind),
+        Group::Jump => machine.act_jump(alloc, core, line, kind),
+        Group::Outside => unreachable!(),
+    }
+}
+
+/// One statement of a sound core.
+fn one_step<I: Source, O: Sink>(
+    machine: &mut Machine,
+    alloc: Global,
+    core: &Core,
+    input: &mut I,
+    out: &mut O,
+) -> Result<(), Halt>
+    requires sound { IsSound core.now }
+    requires good { Good core.now machine.old }
+    requires input { I.faults input.old + 1 < 2 ^ 64 }
+    requires out { O.faults out.old + 1 < 2 ^ 64 }
+    ensures told { (left taken : List ℕ) (trace : List Event) → I.left input.old ≡ Some left → O.taken out.old ≡ Some taken → Seen (step core.now trace (with_input left machine.old)) left taken result machine.new (I.left input.new) (O.taken out.new) }
+    ensures faults { Counted result (I.faults input.old) (I.faults input.new) (O.faults out.old) (O.faults out.new) }
+    ensures moves { (left : List ℕ) × Moves (step core.now [] (with_input left machine.old)) machine.new result }
+{
+    let Some(stm) = machine.statement(core) else {
+        unreachable!()
+    };
+    match &stm.kind {
+        StmKind::Lib(name, r, args) => {
+            machine.act_lib(alloc, stm.line, *name, *r, args.as_slice(), input, out)
+        }
+        StmKind::Printf(r, k, args) => {
+            machine.act_printf(alloc, core, stm.line, *r, *k, args.as_slice(), out)
+        }
+        kind => act_alone(machine, alloc, core, stm.line, kind),
+    }
+}
+
+/// What an evaluation answers where the run stops.
+fn answer(halt: Halt) -> Result<End, NoMemory>
+    requires { halt ≢ Halt.Dangling }
+    ensures { result ≡ answer_of halt }
+{
+    match halt {
+        Halt::Exit(code) => Ok(End::Exit(code)),
+        Halt::Trap(kind, line) => Ok(End::Trap(kind, line)),
+        Halt::BadFree(why, holder) => Ok(End::BadFree(why, holder)),
+        Halt::Escape { func, local, line } => Ok(End::Escape { func, local, line }),
+        Halt::Spent => Ok(End::Spent),
+        Halt::Dangling => unreachable!(),
+        Halt::InputFault => Ok(End::InputFault),
+        Halt::OutputFault => Ok(End::OutputFault),
+        Halt::NoMemory => Err(NoMemory),
+    }
+}
+
+/// Makes statements until the run ends.
+fn end_of_run<I: Source, O: Sink>(
+    machine: &mut Machine,
+    alloc: Global,
+    core: &Core,
+    input: &mut I,
+    out: &mut O,
+) -> Result<End, NoMemory>
+    requires sound { IsSound core.now }
+    requires good { Good core.now machine.old }
+    requires input { I.faults input.old + 1 < 2 ^ 64 }
+    requires out { O.faults out.old + 1 < 2 ^ 64 }
+    ensures told { (left taken : List ℕ) (n : ℕ) → I.left input.old ≡ Some left → O.taken out.old ≡ Some taken → Begins core.now left n machine.old → MeanAnswers core.now left n taken result (I.left input.new) (O.taken out.new) }
+    ensures faults { MeanCounts result (I.faults input.old) (I.faults input.new) (O.faults out.old) (O.faults out.new) }
+    ensures limits { IfOk result HasNoLimit }
+{
+    'statements: loop {
+        match one_step(machine, alloc, core, input, out) {
+            Ok(()) => {}
+            Err(halt) => return answer(halt),
+        }
+    }
+}
+
+/// Evaluates the object meaning of a sound core with at most so many steps (C99 5.1.2.3). Where input and output are told,
+/// it writes exactly the bytes of the meaning, takes exactly the bytes that the meaning reads, and answers its end. All
+/// output is put before a byte of input is asked for and before the run ends. It ends by a fault of the input or the output
+/// exactly where that object failed in this call. There are no limits of heap and stack; all pointers are read anew at each
+/// check. After want of memory the output has a prefix.
+pub fn mean<I: Source, O: Sink>(
+    alloc: Global,
+    core: &Core,
+    input: &mut I,
+    out: &mut O,
+    budget: u64,
+) -> Result<End, NoMemory>
+    requires sound { IsSound core.now }
+    requires budget { budget ≤ 1000000000 }
+    requires input { I.faults input.old + 1 < 2 ^ 64 }
+    requires out { O.faults out.old + 1 < 2 ^ 64 }
+    ensures told { (left taken : List ℕ) → I.left input.old ≡ Some left → O.taken out.old ≡ Some taken → MeanAnswers core.now left budget taken result (I.left input.new) (O.taken out.new) }
+    ensures faults { MeanCounts result (I.faults input.old) (I.faults input.new) (O.faults out.old) (O.faults out.new) }
+    ensures limits { IfOk result HasNoLimit }
+{
+    if budget == 0 {
+        return Ok(End::Spent);
+    }
+    let mut machine = Machine::start(alloc, core, main_of(core), budget - 1)?;
+    end_of_run(&mut machine, alloc, core, input, out)
+}

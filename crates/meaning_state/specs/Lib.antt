@@ -1,0 +1,6 @@
+pub mod Refusing
+pub mod Kinds
+pub mod Reaching
+pub mod Making
+pub mod Living
+pub mod Printing
