@@ -1,0 +1,66 @@
+-- What the words of the command line ask for.
+use Rattle.std.specs.Prelude.{◌≡◌, ⊤, ℕ, cond, nat_eq, List, length, Option, Some, None, option_and_then, Result, Ok, Err, codes}
+use Rattle.std.specs.Str.{bytes_eq}
+use Rattle.clap.specs.Words.{Row, Text, first_of, fault_of, subcommand_of}
+use Rattle.command_words.specs.CommandSet.{command_set}
+use Rattle.command_words.specs.Numbers.{is_file, number_in, within}
+use Rattle.command_words.specs.declared.command.Command as code
+use Rattle.command_words.specs.declared.command.Task as code_task
+use Rattle.command_words.specs.declared.command.Task.TheVariants as tasks
+use Rattle.command_words.specs.declared.error.WordsError.{WordsError}
+use Rattle.command_words.specs.declared.error.WordsError.TheVariants.{Usage, NoMemory}
+
+-- what is done with a text: it is run with at most so many steps, or its canonical spelling is written
+pub data Task : Type 0 where
+  Run : (steps : ℕ) → Task
+  Print : Task
+
+pub record Command : Type 0 where
+  pub file : List ℕ
+  pub task : Task
+
+abbrev pub most_steps : ℕ
+most_steps = 1000000000
+
+abbrev pub default_steps : ℕ
+default_steps = 100000000
+
+-- the greatest number of steps: the value of the option, or the default
+abbrev pub steps_in : Option Text → Option ℕ
+steps_in None = Some default_steps
+steps_in (Some word) = within 1 most_steps (number_in word)
+
+-- a task with a file
+abbrev pub with_file : Text → Task → Option Command
+with_file file task = cond (is_file file) (Some (record { file = file; task = task })) None
+
+-- what a command asks for, by the values of its arguments
+abbrev pub run_in : List Row → Option Command
+run_in rows =
+    option_and_then (λ file. option_and_then (λ steps. with_file file (Run steps)) (steps_in (first_of (codes "steps") rows))) (first_of (codes "FILE") rows)
+
+abbrev pub print_in : List Row → Option Command
+print_in rows = option_and_then (λ file. with_file file Print) (first_of (codes "FILE") rows)
+
+abbrev pub asked : Text → List Row → Option Command
+asked name rows =
+    cond (bytes_eq name (codes "run")) (run_in rows) (cond (bytes_eq name (codes "print")) (print_in rows) None)
+
+-- words in which `clap` finds no fault ask for what their command and its values say; all other words are not taken
+abbrev pub command_of : List Text → Option Command
+command_of words =
+    cond (nat_eq (length (fault_of command_set words)) 0) (option_and_then (λ p. asked p.0 p.1) (subcommand_of command_set words)) None
+
+-- the code's command as the definition has it
+abbrev pub task_shown : code_task.Task → Task
+task_shown (tasks.Run steps) = Run steps
+task_shown tasks.Print = Print
+
+abbrev pub command_shown : code.Command → Command
+command_shown command = record { file = command.file.now; task = task_shown command.task }
+
+-- the words ask for this, or are not taken; of want of memory nothing is said
+abbrev pub IsRead : Option Command → Result code.Command WordsError → Type 0
+IsRead wanted (Ok command) = wanted ≡ Some (command_shown command)
+IsRead wanted (Err Usage) = wanted ≡ None
+IsRead wanted (Err NoMemory) = ⊤

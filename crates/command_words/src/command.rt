@@ -1,0 +1,104 @@
+//! What the words of the command line ask for.
+
+ghost use Rattle.std.specs.Prelude.{◌≡◌, map, option_map};
+ghost use Rattle.clap.specs.Words.{first_of, found_of, rows_of};
+ghost use Rattle.command_words.specs.Commands.{command_of, command_shown, task_shown, asked, run_in, print_in, with_file, IsRead};
+
+use crate::error::WordsError;
+use crate::set::command_set;
+use crate::values::{is_file, steps};
+use clap::ArgMatches;
+use clap::error::ErrorKind;
+use std::alloc::Global;
+
+/// A file, and what is done with it.
+#[derive(Clone, Copy)]
+pub struct Command<'a> {
+    pub file: &'a str,
+    pub task: Task,
+}
+
+/// What is done with a text.
+#[derive(Clone, Copy)]
+pub enum Task {
+    /// It is compiled and run, with at most so many steps.
+    Run { steps: u64 },
+    /// Its canonical spelling is written.
+    Print,
+}
+
+/// What is done with a file, if the word can be its name.
+fn with_file<'a>(file: &'a str, task: Task) -> Result<Command<'a>, WordsError>
+    ensures { IsRead (with_file file.entry.now (task_shown task)) result }
+{
+    if is_file(file) {
+        Ok(Command { file, task })
+    } else {
+        Err(WordsError::Usage)
+    }
+}
+
+/// The value of an argument, if it has one.
+fn value_of<'a>(found: &ArgMatches<'a>, id: &str) -> Option<&'a str>
+    ensures { option_map (λ w. w.now) result ≡ first_of id.now (rows_of (found_of found.now)) }
+{
+    found.get_str(id)
+}
+
+/// `run`, by the values of its arguments.
+fn run<'a>(found: &ArgMatches<'a>) -> Result<Command<'a>, WordsError>
+    ensures { IsRead (run_in (rows_of (found_of found.now))) result }
+{
+    let Some(file) = value_of(found, "FILE") else {
+        return Err(WordsError::Usage);
+    };
+    match steps(value_of(found, "steps")) {
+        Some(steps) => with_file(file, Task::Run { steps }),
+        None => Err(WordsError::Usage),
+    }
+}
+
+/// `print`, by the values of its arguments.
+fn print<'a>(found: &ArgMatches<'a>) -> Result<Command<'a>, WordsError>
+    ensures { IsRead (print_in (rows_of (found_of found.now))) result }
+{
+    match value_of(found, "FILE") {
+        Some(file) => with_file(file, Task::Print),
+        None => Err(WordsError::Usage),
+    }
+}
+
+/// What a command asks for.
+fn asked<'a>(name: &str, found: &ArgMatches<'a>) -> Result<Command<'a>, WordsError>
+    ensures { IsRead (asked name.now (rows_of (found_of found.now))) result }
+{
+    if name == "run" {
+        return run(found);
+    }
+    if name == "print" {
+        return print(found);
+    }
+    Err(WordsError::Usage)
+}
+
+/// Reads the words behind the program's name.
+///
+/// # Errors
+///
+/// [`WordsError::Usage`] exactly where the words are not taken, but for want of memory, which is
+/// [`WordsError::NoMemory`].
+pub fn read<'a>(alloc: Global, words: &'a [&'a str]) -> Result<Command<'a>, WordsError>
+    ensures { IsRead (command_of (map (λ w. w.now) words.entry.now)) result }
+{
+    let set = command_set(alloc)?;
+    match set.try_get_matches_from(words) {
+        Ok(matches) => match matches.subcommand() {
+            Some((name, found)) => asked(name, found),
+            None => Err(WordsError::Usage),
+        },
+        Err(error) => match error.kind() {
+            ErrorKind::OutOfMemory => Err(WordsError::NoMemory),
+            _ => Err(WordsError::Usage),
+        },
+    }
+}

@@ -1,0 +1,16 @@
+//! The words of the command line: `run FILE [--steps N]` and `print FILE`.
+//!
+//! [`read`] gives what the words ask for. They are read by `clap` for the one set of commands that
+//! `specs/CommandSet.antt` has; then the values have rules of their own (`specs/Commands.antt`): a file's name is not empty
+//! and does not begin with a dash, and a number is 1 to 18 decimal digits and within its limits.
+#![tactic(auto)]
+
+mod command;
+mod error;
+mod set;
+#[cfg(test)]
+mod tests;
+mod values;
+
+pub use command::{Command, Task, read};
+pub use error::WordsError;

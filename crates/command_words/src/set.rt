@@ -1,0 +1,41 @@
+//! The commands and options, as `clap` builds them.
+
+ghost use Rattle.std.specs.Prelude.{◌≡◌, false, IfOk};
+ghost use Rattle.clap.specs.Words.{app_of, rule_of};
+ghost use Rattle.command_words.specs.CommandSet.{command_set, file, option};
+
+use clap::{Arg, Command};
+use std::alloc::{AllocError, Global};
+
+/// The argument for a file.
+fn file<'a>(alloc: Global) -> Arg<'a>
+    ensures rule { rule_of result ≡ file }
+    ensures local { result.global ≡ false }
+{
+    Arg::new(alloc, "FILE").required(true)
+}
+
+/// An option with a value.
+fn option<'a>(alloc: Global, name: &'a str) -> Arg<'a>
+    ensures rule { rule_of result ≡ option name.entry.now }
+    ensures local { result.global ≡ false }
+{
+    Arg::new(alloc, name).long(name)
+}
+
+/// All commands. (In one function: a part of a command is no value that a clause can speak of.)
+pub(crate) fn command_set<'a>(alloc: Global) -> Result<Command<'a>, AllocError>
+    ensures { IfOk result (λ c. app_of c ≡ command_set) }
+{
+    let steps = option(alloc, "steps");
+    let run = Command::new(alloc, "run").arg(file(alloc))?.arg(steps)?;
+    let print = Command::new(alloc, "print").arg(file(alloc))?;
+    Command::new(alloc, "heapsafe")
+        .no_binary_name(true)
+        .disable_help_flag(true)
+        .disable_version_flag(true)
+        .disable_help_subcommand(true)
+        .subcommand_required(true)
+        .subcommand(run)?
+        .subcommand(print)
+}

@@ -1,0 +1,80 @@
+//! Words that are taken, and words that are not.
+
+use crate::command::{Command, Task, read};
+use crate::error::WordsError;
+use std::test::Fail;
+
+/// A command as a file with a number of steps, 0 for `print`.
+fn shown<'a>(read: Result<Command<'a>, WordsError>) -> Option<(&'a str, u64)> {
+    match read {
+        Ok(
+            Command {
+                file,
+                task: Task::Run { steps },
+            },
+        ) => Some((file, steps)),
+        Ok(
+            Command {
+                file,
+                task: Task::Print,
+            },
+        ) => Some((file, 0)),
+        Err(_) => None,
+    }
+}
+
+/// Options stand before or after the file, with a blank or `=`; leading zeros are allowed; behind `--` stands a file.
+#[test]
+fn words_that_are_taken(rt: HostRuntime) -> Result<(), Fail> {
+    let rows: [(&[&str], &str, u64); 9] = [
+        (&["run", "a.c"], "a.c", 100_000_000),
+        (&["run", "a.c", "--steps", "5"], "a.c", 5),
+        (&["run", "--steps", "5", "a.c"], "a.c", 5),
+        (&["run", "--steps=007", "a.c"], "a.c", 7),
+        (&["run", "a.c", "--steps=1000000000"], "a.c", 1_000_000_000),
+        (&["run", "--", "a.c"], "a.c", 100_000_000),
+        (&["run", "a.c", "--"], "a.c", 100_000_000),
+        (&["print", "run"], "run", 0),
+        (&["print", "--", "a.c"], "a.c", 0),
+    ];
+    for (words, file, number) in rows {
+        assert_eq!(rt; shown(read(rt.alloc(), words)), Some((file, number)));
+    }
+    Ok(())
+}
+
+/// A missing or second file, a name with a dash in front, a word before the command, an option twice, shortened, unknown or
+/// without its value, and a number out of its limits.
+#[test]
+fn words_that_are_not_taken(rt: HostRuntime) -> Result<(), Fail> {
+    let rows: [&[&str]; 24] = [
+        &[],
+        &["run"],
+        &["print"],
+        &["a.c"],
+        &["help"],
+        &["--help"],
+        &["run", "--help"],
+        &["--version"],
+        &["run", ""],
+        &["run", "-"],
+        &["run", "--", "-a.c"],
+        &["run", "-a.c"],
+        &["run", "a.c", "b.c"],
+        &["run", "a.c", "--", "--steps"],
+        &["a.c", "run"],
+        &["run", "a.c", "--steps"],
+        &["run", "a.c", "--steps="],
+        &["run", "a.c", "--steps", "0"],
+        &["run", "a.c", "--steps", "1000000001"],
+        &["run", "a.c", "--steps", "+5"],
+        &["run", "a.c", "--steps", "0000000000000000005"],
+        &["run", "a.c", "--steps", "5", "--steps", "5"],
+        &["run", "a.c", "--step", "5"],
+        &["print", "a.c", "--steps", "5"],
+    ];
+    for words in rows {
+        assert!(rt; matches!(read(rt.alloc(), words), Err(WordsError::Usage)));
+    }
+    Ok(())
+}
