@@ -2,7 +2,7 @@
 """front.py [COMMAND]: does the time of the front end grow linearly?
 
 Runs `./heapsafe COMMAND FILE` (COMMAND is `print` where none is given) on generated texts of 512 KiB and of twice that, and
-prints, for each kind of text, the ratio of the two times and the greatest memory per byte of the longer text. Each time is the
+prints, for each kind of text, the ratio of the two processor times and the greatest memory per byte of the longer text. Each time is the
 least of three runs, less that of a text of a few bytes. A ratio of 2 is linear."""
 
 import os
@@ -10,7 +10,6 @@ import resource
 import subprocess
 import sys
 import tempfile
-import time
 
 TOP = os.path.join(os.path.dirname(os.path.abspath(__file__)), "..")
 PROGRAM = os.path.join(TOP, "heapsafe")
@@ -54,11 +53,10 @@ KINDS = [functions, list_of_values, deep, comments, strings]
 
 
 def run(command, path):
-    """The time of one run in seconds, and the memory in bytes."""
-    before = time.monotonic()
+    """The processor time of one run in seconds, and the memory in bytes."""
     child = subprocess.Popen([PROGRAM, command, path], stdout=subprocess.DEVNULL, stderr=subprocess.PIPE)
     _, status, used = os.wait4(child.pid, 0)
-    took = time.monotonic() - before
+    took = used.ru_utime + used.ru_stime
     words = child.stderr.read().decode("latin-1")
     child.returncode = os.waitstatus_to_exitcode(status)
     return took, used.ru_maxrss * 1024, words

@@ -23,6 +23,7 @@ def content(name, otherwise=b""):
 def main():
     names = sorted(name[:-2] for name in os.listdir(HERE) if name.endswith(".c"))
     wrong = 0
+    subprocess.run([PROGRAM], capture_output=True)  # the program is built here, where it is missing, and says so
     for name in names:
         ran = subprocess.run([PROGRAM, "run", os.path.join(HERE, name + ".c")], input=content(name + ".in"), capture_output=True)
         wanted = (content(name + ".out"), b"", int(content(name + ".status", b"0")))
