@@ -97,7 +97,6 @@ fn loose(
 
 /// Expressions with commas between them.
 #[cycle(grammar)]
-#[tactic(auto, using(crate::proofs::Steps::comma_from_step))]
 fn comma(alloc: Global, reader: &mut Reader, room: usize) -> Result<DeepExpr, ReadError>
     requires room { room < 401 }
     requires some { 0 < room }
@@ -105,13 +104,33 @@ fn comma(alloc: Global, reader: &mut Reader, room: usize) -> Result<DeepExpr, Re
     ensures deep { IfOk result (λ x. x.depth ≤ room) }
 {
     let line = reader.line();
-    let mut left = assignment(alloc, reader, room)?;
+    let left = assignment(alloc, reader, room)?;
+    commas(alloc, reader, room, line, left)
+}
+
+/// The expressions behind commas.
+#[cycle(grammar)]
+#[tactic(auto, using(crate::proofs::Steps::comma_from_step))]
+fn commas(
+    alloc: Global,
+    reader: &mut Reader,
+    room: usize,
+    line: u32,
+    left: DeepExpr,
+) -> Result<DeepExpr, ReadError>
+    requires room { room < 401 }
+    requires some { 0 < room }
+    requires fits { left.depth ≤ room }
+    ensures value { Reads (λ x. expr_view x.tree) result reader.new (spec.comma_from (less room) room room line (expr_view left.tree) reader.old) }
+    ensures deep { IfOk result (λ x. x.depth ≤ room) }
+{
+    let mut whole = left;
     let mut turns = room;
     'commas: while turns > 0 {
         if !reader.is_mark(Sign::Comma) {
-            return Ok(left);
+            return Ok(whole);
         }
-        left = grow_comma(alloc, reader, room, line, left)?;
+        whole = grow_comma(alloc, reader, room, line, whole)?;
         turns -= 1;
     }
     Err(ReadError::Syntax)
@@ -226,7 +245,7 @@ fn grow_condition(
 
 /// Operators between two operands, so many levels looser than a cast.
 #[cycle(grammar)]
-#[tactic(auto, using(crate::proofs::Steps::binary_step, crate::proofs::Steps::binary_from_step))]
+#[tactic(auto, using(crate::proofs::Steps::binary_step))]
 fn operation(
     alloc: Global,
     reader: &mut Reader,
@@ -242,34 +261,35 @@ fn operation(
     if looser == 0 {
         return cast(alloc, reader, room);
     }
-    operators(alloc, reader, room, looser)
+    let line = reader.line();
+    let left = operation(alloc, reader, room, looser - 1)?;
+    operators(alloc, reader, room, looser - 1 + 2, line, left)
 }
 
 /// The operators of one level, from left to right.
 #[cycle(grammar)]
-#[tactic(auto, using(crate::proofs::Steps::binary_step, crate::proofs::Steps::binary_from_step))]
+#[tactic(auto, using(crate::proofs::Steps::binary_from_step))]
 fn operators(
     alloc: Global,
     reader: &mut Reader,
     room: usize,
-    looser: usize,
+    level: usize,
+    line: u32,
+    left: DeepExpr,
 ) -> Result<DeepExpr, ReadError>
     requires room { room < 401 }
     requires some { 0 < room }
-    requires looser { 0 < looser }
-    requires level { looser ≤ 10 }
-    ensures value { Reads (λ x. expr_view x.tree) result reader.new (spec.binary_at (less room) room looser reader.old) }
+    requires fits { left.depth ≤ room }
+    ensures value { Reads (λ x. expr_view x.tree) result reader.new (spec.binary_from (less room) room room level line (expr_view left.tree) reader.old) }
     ensures deep { IfOk result (λ x. x.depth ≤ room) }
 {
-    let line = reader.line();
-    let level = looser - 1 + 2;
-    let mut left = operation(alloc, reader, room, looser - 1)?;
+    let mut whole = left;
     let mut turns = room;
     'operators: while turns > 0 {
         let Some(op) = binary(reader.kind(), level) else {
-            return Ok(left);
+            return Ok(whole);
         };
-        left = grow_operation(alloc, reader, room, line, left, op)?;
+        whole = grow_operation(alloc, reader, room, line, whole, op)?;
         turns -= 1;
     }
     Err(ReadError::Syntax)

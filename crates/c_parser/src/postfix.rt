@@ -27,7 +27,6 @@ use std::alloc::Global;
 
 /// A primary expression and what stands behind it.
 #[cycle(grammar)]
-#[tactic(auto, using(crate::proofs::Steps::postfix_from_step))]
 pub fn postfix(alloc: Global, reader: &mut Reader, room: usize) -> Result<DeepExpr, ReadError>
     requires room { room < 401 }
     requires some { 0 < room }
@@ -35,13 +34,33 @@ pub fn postfix(alloc: Global, reader: &mut Reader, room: usize) -> Result<DeepEx
     ensures deep { IfOk result (λ x. x.depth ≤ room) }
 {
     let line = reader.line();
-    let mut left = primary(alloc, reader, room)?;
+    let left = primary(alloc, reader, room)?;
+    postfixes(alloc, reader, room, line, left)
+}
+
+/// What stands behind a primary expression.
+#[cycle(grammar)]
+#[tactic(auto, using(crate::proofs::Steps::postfix_from_step))]
+fn postfixes(
+    alloc: Global,
+    reader: &mut Reader,
+    room: usize,
+    line: u32,
+    left: DeepExpr,
+) -> Result<DeepExpr, ReadError>
+    requires room { room < 401 }
+    requires some { 0 < room }
+    requires fits { left.depth ≤ room }
+    ensures value { Reads (λ x. expr_view x.tree) result reader.new (spec.postfix_from (less room) room room line (expr_view left.tree) reader.old) }
+    ensures deep { IfOk result (λ x. x.depth ≤ room) }
+{
+    let mut whole = left;
     let mut turns = room;
     'postfixes: while turns > 0 {
         let Some(postfix) = behind_operand(reader.kind()) else {
-            return Ok(left);
+            return Ok(whole);
         };
-        left = grow_postfix(alloc, reader, room, line, left, postfix)?;
+        whole = grow_postfix(alloc, reader, room, line, whole, postfix)?;
         turns -= 1;
     }
     Err(ReadError::Syntax)

@@ -9,7 +9,7 @@ use Rattle.c_tree.specs.StatementView.{trees, expr_view, suffix_view, param_view
 use Rattle.c_tree.specs.Tree.{At, none, ◌▹◌}
 use Rattle.c_tree.specs.View.{spec_tree, declarator_tree, enumerator_tree}
 use Rattle.c_parser.specs.Declarators.{suffixes_from, param_at, specs_from, member_at, declarator_at, member_names_at, enumerator_at}
-use Rattle.c_parser.specs.Expressions.{comma_from, comma_at, binary_from, binary_at, postfix_from, postfix_at, argument_at}
+use Rattle.c_parser.specs.Expressions.{comma_from, binary_from, postfix_from, argument_at}
 use Rattle.c_parser.specs.Reading.{commas_from, list_from, goes_on, goes_on_inside}
 use Rattle.c_parser.specs.Rooms.{less, read}
 use Rattle.c_parser.specs.State.{at_mark, left_at, line_at}
@@ -44,10 +44,16 @@ abbrev pub decreases-expression::grow_condition : goal.decreases-expression::gro
 decreases-expression::grow_condition l = l.room * 1000 + 5
 
 abbrev pub decreases-expression::operation : goal.decreases-expression::operation
-decreases-expression::operation l = l.room * 1000 + 33 + 2 * l.looser
+decreases-expression::operation l = l.room * 1000 + 33 + l.looser
 
 abbrev pub decreases-expression::operators : goal.decreases-expression::operators
-decreases-expression::operators l = l.room * 1000 + 32 + 2 * l.looser
+decreases-expression::operators l = l.room * 1000 + 6
+
+abbrev pub decreases-expression::commas : goal.decreases-expression::commas
+decreases-expression::commas l = l.room * 1000 + 6
+
+abbrev pub decreases-postfix::postfixes : goal.decreases-postfix::postfixes
+decreases-postfix::postfixes l = l.room * 1000 + 11
 
 abbrev pub decreases-expression::grow_operation : goal.decreases-expression::grow_operation
 decreases-expression::grow_operation l = l.room * 1000 + 5
@@ -199,26 +205,26 @@ decreases-tags::enumerator l = l.room * 1000 + 480
 abbrev pub decreases-tags::maybe_value : goal.decreases-tags::maybe_value
 decreases-tags::maybe_value l = l.room * 1000 + 200
 
-abbrev pub invariant-expression::comma-commas : goal.invariant-expression::comma-commas
-invariant-expression::comma-commas l =
-    (comma_from (less l.room) l.room l.turns l.line (expr_view l.left.tree) l.reader ≡ comma_at (less l.room) l.room l.fn.reader) × (l.left.depth ≤ l.room)
+abbrev pub invariant-expression::commas-commas : goal.invariant-expression::commas-commas
+invariant-expression::commas-commas l =
+    (comma_from (less l.room) l.room l.turns l.line (expr_view l.whole.tree) l.reader ≡ comma_from (less l.room) l.room l.room l.line (expr_view l.fn.left.tree) l.fn.reader) × (l.whole.depth ≤ l.room)
 
-abbrev pub decreases-expression::comma-commas : goal.decreases-expression::comma-commas
-decreases-expression::comma-commas l = l.turns
+abbrev pub decreases-expression::commas-commas : goal.decreases-expression::commas-commas
+decreases-expression::commas-commas l = l.turns
 
 abbrev pub invariant-expression::operators-operators : goal.invariant-expression::operators-operators
 invariant-expression::operators-operators l =
-    (binary_from (less l.room) l.room l.turns l.level l.line (expr_view l.left.tree) l.reader ≡ binary_at (less l.room) l.room l.fn.looser l.fn.reader) × (l.left.depth ≤ l.room)
+    (binary_from (less l.room) l.room l.turns l.level l.line (expr_view l.whole.tree) l.reader ≡ binary_from (less l.room) l.room l.room l.level l.line (expr_view l.fn.left.tree) l.fn.reader) × (l.whole.depth ≤ l.room)
 
 abbrev pub decreases-expression::operators-operators : goal.decreases-expression::operators-operators
 decreases-expression::operators-operators l = l.turns
 
-abbrev pub invariant-postfix::postfix-postfixes : goal.invariant-postfix::postfix-postfixes
-invariant-postfix::postfix-postfixes l =
-    (postfix_from (less l.room) l.room l.turns l.line (expr_view l.left.tree) l.reader ≡ postfix_at (less l.room) l.room l.fn.reader) × (l.left.depth ≤ l.room)
+abbrev pub invariant-postfix::postfixes-postfixes : goal.invariant-postfix::postfixes-postfixes
+invariant-postfix::postfixes-postfixes l =
+    (postfix_from (less l.room) l.room l.turns l.line (expr_view l.whole.tree) l.reader ≡ postfix_from (less l.room) l.room l.room l.line (expr_view l.fn.left.tree) l.fn.reader) × (l.whole.depth ≤ l.room)
 
-abbrev pub decreases-postfix::postfix-postfixes : goal.decreases-postfix::postfix-postfixes
-decreases-postfix::postfix-postfixes l = l.turns
+abbrev pub decreases-postfix::postfixes-postfixes : goal.decreases-postfix::postfixes-postfixes
+decreases-postfix::postfixes-postfixes l = l.turns
 
 abbrev pub invariant-postfix::some_arguments-arguments : goal.invariant-postfix::some_arguments-arguments
 invariant-postfix::some_arguments-arguments l =
