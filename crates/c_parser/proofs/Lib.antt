@@ -12,3 +12,4 @@ pub mod Functions
 pub mod Texts
 pub mod Loops
 pub mod Scoping
+mod Parsing

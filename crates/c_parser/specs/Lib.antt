@@ -13,4 +13,5 @@ pub mod Held
 pub mod Tallies
 pub mod Sorts
 pub mod Told
+pub mod Parses
 pub mod Pieces

@@ -6,10 +6,8 @@
 //! the one that it reads; where it stops, the tokens go wrong ([`laws::trees_of_texts_are_read`]). The canonical text of a tree
 //! is read as that tree, but for lines ([`laws::trees_are_read_again`]).
 //!
-//! In code there are the readers of expressions, specs and declarators: each function gives what the definition of its part
-//! reads, with how deep the tree is. They stand on the word of a token, a reader over tokens, the names that are declared
-//! with a look-up and scopes of near constant time, counts of the words of specs, and nodes of trees with their depth. Lists
-//! are read by loops. Statements and whole texts come next.
+//! [`parse`] reads in the same order in code: each function gives what the definition of its part reads. Lists are read by
+//! loops, so a text of any length takes no more of the stack than its depth asks for.
 #![tactic(auto)]
 
 mod declarator;
@@ -17,6 +15,7 @@ mod declared;
 mod deep;
 mod error;
 mod expression;
+mod external;
 mod function;
 mod kind;
 mod known;
@@ -24,15 +23,22 @@ pub mod laws;
 mod layers;
 mod levels;
 mod lists;
+mod names;
 mod nodes;
 mod operand;
 mod operators;
+mod pieces;
 mod postfix;
 mod reader;
 mod specifiers;
+mod statement;
 mod strings;
 mod tags;
 mod tally;
+#[cfg(test)]
+mod tests;
+mod unit;
 mod words;
 
 pub use error::ParseError;
+pub use unit::parse;

@@ -1,0 +1,84 @@
+//! Reading a text (C99 6.9).
+
+ghost use Rattle.std.specs.Prelude.{◌≡◌, Some, IfOk, IfErr};
+ghost use Rattle.c_tree.specs.Depth.{most};
+ghost use Rattle.c_tree.specs.Tree.{none};
+ghost use Rattle.c_tree.specs.StatementView.{trees, decl_view, unit_view};
+ghost use Rattle.c_parser.specs.Reading.{snoc};
+ghost use Rattle.c_parser.specs.Parses.{IsOnlyTree, IsRefused};
+ghost use Rattle.c_parser.specs.Rooms.{less, Whole, text_from};
+ghost use Rattle.c_parser.specs.Statements.{external_at};
+ghost use Rattle.c_parser.specs.Told.{IsMissing, IsStopped};
+
+use crate::error::{ParseError, ReadError};
+use crate::external::external;
+use crate::reader::Reader;
+use c_lexer::Token;
+use c_tree::{Decl, Unit};
+use hs_base::{Items, NoMemory};
+use std::alloc::Global;
+
+/// How deep a tree may be.
+const DEPTH: usize = 400;
+
+/// The tree of the tokens of a text.
+///
+/// # Errors
+///
+/// [`ParseError::Syntax`] exactly where the tokens have no tree, with the line of the first token of the first external
+/// declaration that has none. [`ParseError::NoMemory`] only for want of memory.
+pub fn parse(alloc: Global, tokens: &[Token]) -> Result<Unit, ParseError>
+    ensures tree { IfOk result (λ unit. IsOnlyTree tokens.now (unit_view unit)) }
+    ensures refused { IfErr result (IsRefused tokens.now) }
+{
+    let mut reader = Reader::new(alloc, tokens)?;
+    match externals(alloc, &mut reader, tokens.len() + 1) {
+        Ok(decls) => Ok(Unit { decls }),
+        Err(error) => Err(error),
+    }
+}
+
+/// External declarations up to the end of the text, at most so many.
+#[tactic(auto, using(crate::proofs::Texts::text_step))]
+fn externals(alloc: Global, reader: &mut Reader, turns: usize) -> Result<Items<Decl>, ParseError>
+    ensures tree { IfOk result (λ list. text_from turns none reader.old ≡ Whole (trees decl_view list)) }
+    ensures stopped { IfErr result (IsStopped (text_from turns none reader.old)) }
+{
+    let mut list = Items::new(alloc);
+    let mut left = turns;
+    'all: while left > 0 {
+        if reader.left() == 0 {
+            return Ok(list);
+        }
+        match next(alloc, reader) {
+            Ok(decl) => push(&mut list, decl)?,
+            Err(error) => return Err(error),
+        }
+        left -= 1;
+    }
+    Err(ParseError::Syntax {
+        line: reader.line(),
+    })
+}
+
+/// The next external declaration.
+fn next(alloc: Global, reader: &mut Reader) -> Result<Decl, ParseError>
+    ensures tree { IfOk result (λ decl. external_at (less most) most reader.old ≡ Some (decl_view decl, reader.new)) }
+    ensures stopped { IfErr result (IsMissing reader.old) }
+{
+    let line = reader.line();
+    match external(alloc, reader, DEPTH) {
+        Ok(decl) => Ok(decl),
+        Err(ReadError::Syntax) => Err(ParseError::Syntax { line }),
+        Err(ReadError::NoMemory) => Err(ParseError::NoMemory),
+    }
+}
+
+/// Puts a declaration behind others.
+#[tactic(auto, using(crate::proofs::Parts::trees_behind))]
+fn push(list: &mut Items<Decl>, decl: Decl) -> Result<(), NoMemory>
+    ensures { IfOk result (λ _. trees decl_view list.new ≡ snoc (trees decl_view list.old) (decl_view decl)) }
+{
+    list.push(decl)?;
+    Ok(())
+}
