@@ -13,10 +13,10 @@ use Rattle.bad_free_report.specs.Report.{end_report}
 use Rattle.heapsafe.specs.Running.{RunAnswers, RunCounts, end_in}
 use Rattle.heapsafe.specs.declared.reading.ReadError.{ReadError}
 use Rattle.heapsafe.specs.declared.reading.ReadError.TheVariants.{Fault, TooLong, NoMemory}
-use Rattle.heapsafe.specs.Words.{Command}
+use Rattle.command_words.specs.Commands.{Command, Task}
 use Rattle.heapsafe.specs.Form.{IsBuilt}
 use Rattle.heapsafe.specs.Reading.{Reads, ReadCounts, most_bytes}
-use Rattle.heapsafe.specs.Answer.{Shown, AnswersRun, AnswersTokens, AnswersText, AnswersFile, AnswersCommand, usage, status_of, default_room, no_memory, text_too_long, not_built, bad_place}
+use Rattle.heapsafe.specs.Answer.{Shown, AnswersRun, AnswersTree, AnswersTokens, AnswersText, AnswersFile, AnswersCommand, usage, status_of, default_room, no_memory, text_too_long, not_built, bad_place}
 use Rattle.heapsafe.specs.Saying.{Says, Gives, Faults, unread, untokened}
 use Rattle.c_lexer.specs.declared.token.Token.{Token}
 use Rattle.c_lexer.specs.declared.token.LexKind.{LexKind}
@@ -74,34 +74,12 @@ said_faults t o e e' result err err' bytes status said =
     (λ h. inr (inl (omega arith, omega arith, omega (arith, h.0), inr (omega (arith, h.0)), h.1)))
     said
 
--- a text that is too long
-too_long_is : (file text input : List ℕ) (steps : ℕ) (a : Shown) → most_bytes < length text → a ≡ text_too_long file → AnswersFile file text input steps a
-too_long_is file text input steps a long is =
-    subst (λ b. MatchBool b (a ≡ text_too_long file) (AnswersText file text input steps a)) (sym (lt-ltb most_bytes (length text) long)) is
-
--- a text that was not read
-pub unread_is : (error : ReadError) (file text input : List ℕ) (steps before after : ℕ) → Reads text (Err error) → ReadCounts {T = List ℕ} before after (Err error) → after ≡ before → AnswersFile file text input steps (unread error file) ⊎ (unread error file ≡ no_memory)
-unread_is Fault file text input steps before after reads counts same = absurd (omega (arith, counts, same))
-unread_is TooLong file text input steps before after reads counts same =
-    inl (too_long_is file text input steps (text_too_long file) reads refl)
-unread_is NoMemory file text input steps before after reads counts same = inr refl
-
-pub unread_out : (error : ReadError) (file : List ℕ) → (unread error file).out ≡ []
-unread_out Fault file = refl
-unread_out TooLong file = refl
-unread_out NoMemory file = refl
-
--- a text that is not too long
-pub short_is : (file text input : List ℕ) (steps : ℕ) (a : Shown) → length text ≤ most_bytes → AnswersText file text input steps a → AnswersFile file text input steps a
-short_is file text input steps a short is =
-    subst (λ b. MatchBool b (a ≡ text_too_long file) (AnswersText file text input steps a)) (sym (le-ltb most_bytes (length text) short)) is
-
--- a text with these tokens, without a core
-pub none_is : (file text : List ℕ) (tokens : List Token) (input : List ℕ) (steps : ℕ) → ((core : Core) → IsBuilt text tokens core → ⊥) → AnswersTokens file text tokens input steps (not_built file)
+-- a text with a tree, without a core
+pub none_is : (file text : List ℕ) (tokens : List Token) (input : List ℕ) (steps : ℕ) → ((core : Core) → IsBuilt text tokens core → ⊥) → AnswersTree file text tokens input steps (not_built file)
 none_is file text tokens input steps none = record { built = λ core b. absurd (none core b); unbuilt = λ h. refl }
 
--- a text with these tokens and this core alone
-run_is : (file text : List ℕ) (tokens : List Token) (core : Core) (input : List ℕ) (steps : ℕ) (a : Shown) → IsBuilt text tokens core → ((other : Core) → IsBuilt text tokens other → other ≡ core) → AnswersRun file text core input steps a → AnswersTokens file text tokens input steps a
+-- a text with a tree and this core alone
+run_is : (file text : List ℕ) (tokens : List Token) (core : Core) (input : List ℕ) (steps : ℕ) (a : Shown) → IsBuilt text tokens core → ((other : Core) → IsBuilt text tokens other → other ≡ core) → AnswersRun file text core input steps a → AnswersTree file text tokens input steps a
 run_is file text tokens core input steps a is only ran =
     record { built = λ other b. subst (λ (x : Core). AnswersRun file text x input steps a) (sym (only other b)) ran; unbuilt = λ none. absurd (none core is) }
 
@@ -110,9 +88,31 @@ pub gives_more : (Is Is' : Shown → Type 0) → ((s : Shown) → Is s → Is' s
 gives_more Is Is' more o e out err result g =
     record { shown = g.shown; is = ⊎_elim (λ h. inl (more g.shown h)) (λ h. inr h) g.is; out_took = g.out_took; err_took = g.err_took; status = g.status }
 
-pub gives_tokens : (file text : List ℕ) (tokens : List Token) (core : Core) (input : List ℕ) (steps : ℕ) (o e : List ℕ) (out err : Option (List ℕ)) (result : ℕ) → IsBuilt text tokens core → ((other : Core) → IsBuilt text tokens other → other ≡ core) → Gives (AnswersRun file text core input steps) o e out err result → Gives (AnswersTokens file text tokens input steps) o e out err result
+pub gives_tokens : (file text : List ℕ) (tokens : List Token) (core : Core) (input : List ℕ) (steps : ℕ) (o e : List ℕ) (out err : Option (List ℕ)) (result : ℕ) → IsBuilt text tokens core → ((other : Core) → IsBuilt text tokens other → other ≡ core) → Gives (AnswersRun file text core input steps) o e out err result → Gives (AnswersTree file text tokens input steps) o e out err result
 gives_tokens file text tokens core input steps o e out err result is only g =
-    gives_more (AnswersRun file text core input steps) (AnswersTokens file text tokens input steps) (λ s ran. run_is file text tokens core input steps s is only ran) o e out err result g
+    gives_more (AnswersRun file text core input steps) (AnswersTree file text tokens input steps) (λ s ran. run_is file text tokens core input steps s is only ran) o e out err result g
+
+-- a text that is too long
+too_long_is : (file text input : List ℕ) (task : Task) (a : Shown) → most_bytes < length text → a ≡ text_too_long file → AnswersFile file text input task a
+too_long_is file text input task a long is =
+    subst (λ b. MatchBool b (a ≡ text_too_long file) (AnswersText file text input task a)) (sym (lt-ltb most_bytes (length text) long)) is
+
+-- a text that was not read
+pub unread_is : (error : ReadError) (file text input : List ℕ) (task : Task) (before after : ℕ) → Reads text (Err error) → ReadCounts {T = List ℕ} before after (Err error) → after ≡ before → AnswersFile file text input task (unread error file) ⊎ (unread error file ≡ no_memory)
+unread_is Fault file text input task before after reads counts same = absurd (omega (arith, counts, same))
+unread_is TooLong file text input task before after reads counts same =
+    inl (too_long_is file text input task (text_too_long file) reads refl)
+unread_is NoMemory file text input task before after reads counts same = inr refl
+
+pub unread_out : (error : ReadError) (file : List ℕ) → (unread error file).out ≡ []
+unread_out Fault file = refl
+unread_out TooLong file = refl
+unread_out NoMemory file = refl
+
+-- a text that is not too long
+pub short_is : (file text input : List ℕ) (task : Task) (a : Shown) → length text ≤ most_bytes → AnswersText file text input task a → AnswersFile file text input task a
+short_is file text input task a short is =
+    subst (λ b. MatchBool b (a ≡ text_too_long file) (AnswersText file text input task a)) (sym (le-ltb most_bytes (length text) short)) is
 
 -- an answer of the lexer that is another
 abbrev given : List Token → Result (List Token) LexError
@@ -128,40 +128,40 @@ bad_is : (kind kind' : LexKind) (line line' : ℕ) → refused (lex.Bad kind lin
 bad_is kind kind' line line' e = (cc, cc)
 
 -- a text that has these tokens
-tokens_is : (file text : List ℕ) (tokens : List Token) (input : List ℕ) (steps : ℕ) (a : Shown) → IsOnlyAnswer text (Ok tokens) → AnswersTokens file text tokens input steps a → AnswersText file text input steps a
-tokens_is file text tokens input steps a only is = record {
+tokens_is : (file text : List ℕ) (tokens : List Token) (input : List ℕ) (task : Task) (a : Shown) → IsOnlyAnswer text (Ok tokens) → AnswersTokens file text tokens input task a → AnswersText file text input task a
+tokens_is file text tokens input task a only is = record {
   refused = λ kind line bad. ⊎_elim (λ (h : given tokens ≡ refused (lex.Bad kind line)). absurd cc) (λ (h : given tokens ≡ refused lex.NoMemory). absurd cc) (only (Err (lex.Bad kind line)) bad);
-  lexed = λ others has. ⊎_elim (λ h. subst (λ ts. AnswersTokens file text ts input steps a) (sym (ok_is tokens others h)) is) (λ (h : given tokens ≡ refused lex.NoMemory). absurd cc) (only (Ok others) has);
+  lexed = λ others has. ⊎_elim (λ h. subst (λ ts. AnswersTokens file text ts input task a) (sym (ok_is tokens others h)) is) (λ (h : given tokens ≡ refused lex.NoMemory). absurd cc) (only (Ok others) has);
 }
 
 -- a text that has no tokens
-pub untokened_is : (error : LexError) (file text input : List ℕ) (steps : ℕ) → IsOnlyAnswer text (Err error) → AnswersText file text input steps (untokened error file text) ⊎ (untokened error file text ≡ no_memory)
-untokened_is (lex.Bad kind line) file text input steps only = inl (record {
+pub untokened_is : (error : LexError) (file text input : List ℕ) (task : Task) → IsOnlyAnswer text (Err error) → AnswersText file text input task (untokened error file text) ⊎ (untokened error file text ≡ no_memory)
+untokened_is (lex.Bad kind line) file text input task only = inl (record {
   refused = λ kind' line' bad. ⊎_elim
       (λ h. let same = bad_is kind kind' line line' h in ap (λ (k : LexKind). bad_place file text k line) same.0 ∙ ap (λ l. bad_place file text kind' l) same.1)
       (λ (h : refused (lex.Bad kind line) ≡ refused lex.NoMemory). absurd cc)
       (only (Err (lex.Bad kind' line')) bad);
   lexed = λ tokens has. ⊎_elim (λ (h : refused (lex.Bad kind line) ≡ given tokens). absurd cc) (λ (h : refused (lex.Bad kind line) ≡ refused lex.NoMemory). absurd cc) (only (Ok tokens) has);
 })
-untokened_is lex.NoMemory file text input steps only = inr refl
+untokened_is lex.NoMemory file text input task only = inr refl
 
 pub untokened_out : (error : LexError) (file text : List ℕ) → (untokened error file text).out ≡ []
 untokened_out (lex.Bad kind line) file text = refl
 untokened_out lex.NoMemory file text = refl
 
 -- a text that was read and is refused for its tokens
-pub untokened_file : (error : LexError) (file told read input : List ℕ) (steps : ℕ) → (read ≡ told) × (length told ≤ most_bytes) → IsOnlyAnswer read (Err error) → AnswersFile file told input steps (untokened error file read) ⊎ (untokened error file read ≡ no_memory)
-untokened_file error file told read input steps same only =
+pub untokened_file : (error : LexError) (file told read input : List ℕ) (task : Task) → (read ≡ told) × (length told ≤ most_bytes) → IsOnlyAnswer read (Err error) → AnswersFile file told input task (untokened error file read) ⊎ (untokened error file read ≡ no_memory)
+untokened_file error file told read input task same only =
     ⊎_elim
-    (λ h. inl (short_is file told input steps (untokened error file read) same.1 (subst (λ t. AnswersText file t input steps (untokened error file read)) same.0 h)))
+    (λ h. inl (short_is file told input task (untokened error file read) same.1 (subst (λ t. AnswersText file t input task (untokened error file read)) same.0 h)))
     (λ h. inr h)
-    (untokened_is error file read input steps only)
+    (untokened_is error file read input task only)
 
 -- a text that was read and has tokens
-pub gives_file : (file told read : List ℕ) (tokens : List Token) (input : List ℕ) (steps : ℕ) (o e : List ℕ) (out err : Option (List ℕ)) (result : ℕ) → (read ≡ told) × (length told ≤ most_bytes) → IsOnlyAnswer read (Ok tokens) → Gives (AnswersTokens file read tokens input steps) o e out err result → Gives (AnswersFile file told input steps) o e out err result
-gives_file file told read tokens input steps o e out err result same only g =
-    gives_more (AnswersTokens file read tokens input steps) (AnswersFile file told input steps)
-    (λ s is. short_is file told input steps s same.1 (subst (λ t. AnswersText file t input steps s) same.0 (tokens_is file read tokens input steps s only is)))
+pub gives_file : (file told read : List ℕ) (tokens : List Token) (input : List ℕ) (task : Task) (o e : List ℕ) (out err : Option (List ℕ)) (result : ℕ) → (read ≡ told) × (length told ≤ most_bytes) → IsOnlyAnswer read (Ok tokens) → Gives (AnswersTokens file read tokens input task) o e out err result → Gives (AnswersFile file told input task) o e out err result
+gives_file file told read tokens input task o e out err result same only g =
+    gives_more (AnswersTokens file read tokens input task) (AnswersFile file told input task)
+    (λ s is. short_is file told input task s same.1 (subst (λ t. AnswersText file t input task s) same.0 (tokens_is file read tokens input task s only is)))
     o e out err result g
 
 -- the count of the texts stayed

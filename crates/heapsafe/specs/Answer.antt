@@ -11,7 +11,10 @@ use Rattle.c_lexer.specs.declared.token.Token.{Token}
 use Rattle.c_lexer.specs.declared.token.LexKind.{LexKind}
 use Rattle.c_lexer.specs.Words.{word_of}
 use Rattle.c_lexer.specs.Tokens.{HasTokens, HasBadPlace}
-use Rattle.heapsafe.specs.Words.{Command, Run, command_of}
+use Rattle.c_tree.specs.Tree.{Trees}
+use Rattle.c_tree.specs.HasTree.{HasTree, GoesWrong}
+use Rattle.c_tree.specs.Canonical.{canonical}
+use Rattle.command_words.specs.Commands.{Command, Task, Run, Print, command_of}
 use Rattle.heapsafe.specs.Reading.{most_bytes}
 use Rattle.heapsafe.specs.Running.{end_in}
 use Rattle.heapsafe.specs.Form.{IsBuilt}
@@ -42,6 +45,12 @@ no_memory = refusal (codes "heapsafe") (codes "no memory") 134
 abbrev pub bad_place : List ℕ → List ℕ → LexKind → ℕ → Shown
 bad_place file text kind line = refusal_at file text line (codes "lex: " ++ word_of kind) 123
 
+abbrev pub bad_syntax : List ℕ → List ℕ → ℕ → Shown
+bad_syntax file text line = refusal_at file text line (codes "syntax") 124
+
+abbrev pub printed : Trees → Shown
+printed externals = record { out = canonical externals; err = []; status = 0 }
+
 abbrev pub not_built : List ℕ → Shown
 not_built file = refusal file (codes "not built") 135
 
@@ -68,24 +77,34 @@ AnswersRun file text core input steps a =
     let kept = cut default_room run.trace in
     (e : End) × (end_in (ending_of kept.refused run.ended) ≡ Some e) × (a ≡ record { out = bytes_out kept.kept; err = end_report core file text e; status = status_of e })
 
--- a text with these tokens that has a core is run, and one that has none is not built
-pub record AnswersTokens (file text : List ℕ) (tokens : List Token) (input : List ℕ) (steps : ℕ) (a : Shown) : Type 0 where
+-- a text with a tree that has a core is run, and one that has none is not built
+pub record AnswersTree (file text : List ℕ) (tokens : List Token) (input : List ℕ) (steps : ℕ) (a : Shown) : Type 0 where
   pub built : (core : Core) → IsBuilt text tokens core → AnswersRun file text core input steps a
   pub unbuilt : ((core : Core) → IsBuilt text tokens core → ⊥) → a ≡ not_built file
 
+-- what is answered for a text with these tokens and this tree
+abbrev pub Does : List ℕ → List ℕ → List Token → Trees → List ℕ → Task → Shown → Type 0
+Does file text tokens externals input (Run steps) a = AnswersTree file text tokens input steps a
+Does file text tokens externals input Print a = a ≡ printed externals
+
+-- a text without a tree is refused, by the line of the first external declaration that has none
+pub record AnswersTokens (file text : List ℕ) (tokens : List Token) (input : List ℕ) (task : Task) (a : Shown) : Type 0 where
+  pub refused : (line : ℕ) → GoesWrong tokens line → a ≡ bad_syntax file text line
+  pub parsed : (externals : Trees) → HasTree tokens externals → Does file text tokens externals input task a
+
 -- a text without tokens is refused, by its first bad place
-pub record AnswersText (file text input : List ℕ) (steps : ℕ) (a : Shown) : Type 0 where
+pub record AnswersText (file text input : List ℕ) (task : Task) (a : Shown) : Type 0 where
   pub refused : (kind : LexKind) (line : ℕ) → HasBadPlace text kind line → a ≡ bad_place file text kind line
-  pub lexed : (tokens : List Token) → HasTokens text tokens → AnswersTokens file text tokens input steps a
+  pub lexed : (tokens : List Token) → HasTokens text tokens → AnswersTokens file text tokens input task a
 
 -- a text that is too long is refused as such
-abbrev pub AnswersFile : List ℕ → List ℕ → List ℕ → ℕ → Shown → Type 0
-AnswersFile file text input steps a =
-    MatchBool (nat_lt most_bytes (length text)) (a ≡ text_too_long file) (AnswersText file text input steps a)
+abbrev pub AnswersFile : List ℕ → List ℕ → List ℕ → Task → Shown → Type 0
+AnswersFile file text input task a =
+    MatchBool (nat_lt most_bytes (length text)) (a ≡ text_too_long file) (AnswersText file text input task a)
 
 abbrev pub AnswersCommand : Option Command → (List ℕ → List ℕ) → List ℕ → Shown → Type 0
 AnswersCommand None texts input a = a ≡ usage
-AnswersCommand (Some (Run file steps)) texts input a = AnswersFile file (texts file) input steps a
+AnswersCommand (Some command) texts input a = AnswersFile command.file (texts command.file) input command.task a
 
 -- the answer for these words, where each name has this text and this input is left
 abbrev pub Answers : List (List ℕ) → (List ℕ → List ℕ) → List ℕ → Shown → Type 0

@@ -8,28 +8,30 @@
 ghost use Rattle.std.specs.Prelude.{◌≡◌, ◌≢◌, ◌+◌, ◌<◌, ◌^◌, ℕ, List, Some, None, MatchBool, map, All};
 ghost use Rattle.c_lexer.specs.Tokens.{IsLexed};
 ghost use Rattle.first_core.specs.Sound.{IsSound};
-ghost use Rattle.heapsafe.specs.Words.{command_of};
+ghost use Rattle.command_words.specs.Commands.{command_of, task_shown};
+ghost use Rattle.c_tree.specs.StatementView.{unit_view};
 ghost use Rattle.bad_free_report.specs.Report.{end_report};
-ghost use Rattle.heapsafe.specs.Answer.{Answers, AnswersRun, AnswersTokens, AnswersFile, status_of};
+ghost use Rattle.heapsafe.specs.Answer.{Answers, AnswersRun, AnswersTree, AnswersTokens, AnswersFile, Does, printed, status_of};
 ghost use Rattle.heapsafe.specs.Saying.{Says, Gives, Faults, shown_of, unread};
 
 mod form;
 mod reading;
 mod refusal;
 mod runner;
-mod words;
 
 use bad_free_report::report;
 use c_lexer::{Token, lex};
+use c_parser::parse;
+use c_tree::{Unit, write_unit};
+use command_words::{Command, Task, WordsError};
 use first_core::Core;
 use first_form::FormError;
 use form::core_of;
-use hs_base::{End, Limits, Sink, Source, Texts};
+use hs_base::{End, Limits, Sink, Source, Texts, put_all};
 use reading::{ReadError, read_text};
-use refusal::{OUTPUT_FAULT, Refusal, refuse, refuse_text};
+use refusal::{OUTPUT_FAULT, Refusal, refuse, refuse_text, refuse_tokens};
 use runner::run;
 use std::alloc::Global;
-use words::Run;
 
 /// The heap and the stack of a run, in bytes.
 const LIMITS: Limits = Limits {
@@ -123,7 +125,7 @@ fn run_tokens<O: Sink, E: Sink>(
     requires lexed { All IsLexed tokens.now }
     requires out { O.faults out.old + 1 < 2 ^ 64 }
     requires err { E.faults err.old + 1 < 2 ^ 64 }
-    ensures exact { (input o e : List ℕ) → O.taken out.old ≡ Some o → E.taken err.old ≡ Some e → O.faults out.new ≡ O.faults out.old → E.faults err.new ≡ E.faults err.old → Gives (AnswersTokens file.now text.now tokens.now input steps) o e (O.taken out.new) (E.taken err.new) result }
+    ensures exact { (input o e : List ℕ) → O.taken out.old ≡ Some o → E.taken err.old ≡ Some e → O.faults out.new ≡ O.faults out.old → E.faults err.new ≡ E.faults err.old → Gives (AnswersTree file.now text.now tokens.now input steps) o e (O.taken out.new) (E.taken err.new) result }
     ensures faults { (t : ℕ) → Faults t t (O.faults out.old) (O.faults out.new) (E.faults err.old) (E.faults err.new) result }
 {
     match core_of(alloc, text, tokens) {
@@ -133,11 +135,72 @@ fn run_tokens<O: Sink, E: Sink>(
     }
 }
 
-/// Reads a text, and runs its core.
-fn run_file<T: Texts, O: Sink, E: Sink>(
+/// Writes the canonical spelling of a text.
+fn print<O: Sink, E: Sink>(alloc: Global, unit: &Unit, out: &mut O, err: &mut E) -> u8
+    requires out { O.faults out.old + 1 < 2 ^ 64 }
+    requires err { E.faults err.old + 1 < 2 ^ 64 }
+    ensures exact { (o e : List ℕ) → O.taken out.old ≡ Some o → E.taken err.old ≡ Some e → O.faults out.new ≡ O.faults out.old → E.faults err.new ≡ E.faults err.old → Gives (λ a. a ≡ printed (unit_view unit.now)) o e (O.taken out.new) (E.taken err.new) result }
+    ensures faults { (t : ℕ) → Faults t t (O.faults out.old) (O.faults out.new) (E.faults err.old) (E.faults err.new) result }
+{
+    let Ok(text) = write_unit(alloc, unit) else {
+        return refuse(err, Refusal::NoMemory);
+    };
+    match put_all(out, text.as_slice()) {
+        Ok(()) => 0,
+        Err(_) => refuse(err, Refusal::OutputFault),
+    }
+}
+
+/// Does what is asked with a text that has this tree.
+fn with_tree<O: Sink, E: Sink>(
     alloc: Global,
     file: &str,
-    steps: u64,
+    task: Task,
+    text: &[u8],
+    tokens: &[Token],
+    unit: &Unit,
+    out: &mut O,
+    err: &mut E,
+) -> u8
+    requires lexed { All IsLexed tokens.now }
+    requires out { O.faults out.old + 1 < 2 ^ 64 }
+    requires err { E.faults err.old + 1 < 2 ^ 64 }
+    ensures exact { (input o e : List ℕ) → O.taken out.old ≡ Some o → E.taken err.old ≡ Some e → O.faults out.new ≡ O.faults out.old → E.faults err.new ≡ E.faults err.old → Gives (Does file.now text.now tokens.now (unit_view unit.now) input (task_shown task)) o e (O.taken out.new) (E.taken err.new) result }
+    ensures faults { (t : ℕ) → Faults t t (O.faults out.old) (O.faults out.new) (E.faults err.old) (E.faults err.new) result }
+{
+    match task {
+        Task::Run { steps } => run_tokens(alloc, file, text, tokens, steps, out, err),
+        Task::Print => print(alloc, unit, out, err),
+    }
+}
+
+/// Does what is asked with a text that has these tokens.
+fn with_tokens<O: Sink, E: Sink>(
+    alloc: Global,
+    file: &str,
+    task: Task,
+    text: &[u8],
+    tokens: &[Token],
+    out: &mut O,
+    err: &mut E,
+) -> u8
+    requires lexed { All IsLexed tokens.now }
+    requires out { O.faults out.old + 1 < 2 ^ 64 }
+    requires err { E.faults err.old + 1 < 2 ^ 64 }
+    ensures exact { (input o e : List ℕ) → O.taken out.old ≡ Some o → E.taken err.old ≡ Some e → O.faults out.new ≡ O.faults out.old → E.faults err.new ≡ E.faults err.old → Gives (AnswersTokens file.now text.now tokens.now input (task_shown task)) o e (O.taken out.new) (E.taken err.new) result }
+    ensures faults { (t : ℕ) → Faults t t (O.faults out.old) (O.faults out.new) (E.faults err.old) (E.faults err.new) result }
+{
+    match parse(alloc, tokens) {
+        Ok(unit) => with_tree(alloc, file, task, text, tokens, &unit, out, err),
+        Err(error) => refuse_tokens(err, error, file, text),
+    }
+}
+
+/// Reads a text, and does what is asked with it.
+fn with_file<T: Texts, O: Sink, E: Sink>(
+    alloc: Global,
+    file: &str,
+    task: Task,
     texts: &mut T,
     out: &mut O,
     err: &mut E,
@@ -145,7 +208,7 @@ fn run_file<T: Texts, O: Sink, E: Sink>(
     requires texts { T.faults texts.old + 1 < 2 ^ 64 }
     requires out { O.faults out.old + 1 < 2 ^ 64 }
     requires err { E.faults err.old + 1 < 2 ^ 64 }
-    ensures exact { (told : List ℕ → List ℕ) (input o e : List ℕ) → T.texts texts.old ≡ Some told → O.taken out.old ≡ Some o → E.taken err.old ≡ Some e → T.faults texts.new ≡ T.faults texts.old → O.faults out.new ≡ O.faults out.old → E.faults err.new ≡ E.faults err.old → Gives (AnswersFile file.now (told file.now) input steps) o e (O.taken out.new) (E.taken err.new) result }
+    ensures exact { (told : List ℕ → List ℕ) (input o e : List ℕ) → T.texts texts.old ≡ Some told → O.taken out.old ≡ Some o → E.taken err.old ≡ Some e → T.faults texts.new ≡ T.faults texts.old → O.faults out.new ≡ O.faults out.old → E.faults err.new ≡ E.faults err.old → Gives (AnswersFile file.now (told file.now) input (task_shown task)) o e (O.taken out.new) (E.taken err.new) result }
     ensures faults { Faults (T.faults texts.old) (T.faults texts.new) (O.faults out.old) (O.faults out.new) (E.faults err.old) (E.faults err.new) result }
 {
     let text = match read_text(alloc, texts, file) {
@@ -154,7 +217,7 @@ fn run_file<T: Texts, O: Sink, E: Sink>(
     };
     let text = text.as_slice();
     match lex(alloc, text) {
-        Ok(tokens) => run_tokens(alloc, file, text, tokens.as_slice(), steps, out, err),
+        Ok(tokens) => with_tokens(alloc, file, task, text, tokens.as_slice(), out, err),
         Err(error) => refuse_text(err, error, file, text),
     }
 }
@@ -179,11 +242,14 @@ pub fn heapsafe<T: Texts, I: Source, O: Sink, E: Sink>(
     ensures usage { command_of (map (λ w. w.now) words.now) ≡ None → (texts.new ≡ texts.old) × (out.new ≡ out.old) }
     ensures input { _input.new ≡ _input.old }
 {
-    let Some(Run { file, steps }) = Run::read(words) else {
-        return refuse(err, Refusal::Usage);
-    };
-    run_file(alloc, file, steps, texts, out, err)
+    match command_words::read(alloc, words) {
+        Ok(Command { file, task }) => with_file(alloc, file, task, texts, out, err),
+        Err(WordsError::Usage) => refuse(err, Refusal::Usage),
+        Err(WordsError::NoMemory) => refuse(err, Refusal::NoMemory),
+    }
 }
 
 #[cfg(test)]
 mod tests;
+#[cfg(test)]
+mod tree_tests;

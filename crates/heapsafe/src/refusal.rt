@@ -2,10 +2,11 @@
 
 ghost use Rattle.std.specs.Prelude.{◌≡◌, ◌+◌, ◌<◌, ◌^◌, ◌++◌};
 ghost use Rattle.heapsafe.specs.Answer.{refusal_at};
-ghost use Rattle.heapsafe.specs.Saying.{Says, name_of, words_of, status_in, shown_of, untokened};
+ghost use Rattle.heapsafe.specs.Saying.{Says, name_of, words_of, status_in, shown_of, untokened, unparsed};
 
 use bad_free_report::{complain, complain_labelled};
 use c_lexer::LexError;
+use c_parser::ParseError;
 use hs_base::{Line, Sink};
 
 /// Why nothing was run, or why a run gave up.
@@ -109,5 +110,16 @@ pub(crate) fn refuse_text<E: Sink>(err: &mut E, error: LexError, file: &str, tex
             refuse_at(err, file, text, line, b"lex: ", kind.word().as_bytes(), 123)
         }
         LexError::NoMemory => refuse(err, Refusal::NoMemory),
+    }
+}
+
+/// Says why tokens have no tree, and answers the status of that.
+pub(crate) fn refuse_tokens<E: Sink>(err: &mut E, error: ParseError, file: &str, text: &[u8]) -> u8
+    requires { E.faults err.old + 1 < 2 ^ 64 }
+    ensures says { Says (E.taken err.old) (E.taken err.new) (E.faults err.old) (E.faults err.new) (unparsed error file.now text.now).err (unparsed error file.now text.now).status result }
+{
+    match error {
+        ParseError::Syntax { line } => refuse_at(err, file, text, line, b"", b"syntax", 124),
+        ParseError::NoMemory => refuse(err, Refusal::NoMemory),
     }
 }
