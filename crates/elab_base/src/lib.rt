@@ -15,6 +15,7 @@ mod numbers;
 mod pieces;
 mod running;
 mod sizes;
+mod starts;
 mod statics;
 mod switches;
 
@@ -27,3 +28,4 @@ pub use numbers::fit;
 pub use pieces::{Piece, Pieces};
 pub use running::{Cases, Running};
 pub use sizes::{layout_in, size_in};
+pub use starts::{no_start, trimmed};

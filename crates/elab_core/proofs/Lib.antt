@@ -1,0 +1,3 @@
+pub mod ByteLayouts
+pub mod Bodies
+pub mod Functions

@@ -1,0 +1,2 @@
+pub mod NumbersBy
+pub mod StaticsBy
