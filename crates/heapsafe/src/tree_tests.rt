@@ -127,8 +127,8 @@ fn texts_without_a_tree(rt: HostRuntime) -> Result<(), Fail> {
             b"a.c:1: syntax\n  long long long i;\n",
         ),
         (
-            b"int f(void,int i);",
-            b"a.c:1: syntax\n  int f(void,int i);\n",
+            b"int f(int i,);",
+            b"a.c:1: syntax\n  int f(int i,);\n",
         ),
         (
             b"int f(void){a=b=;}",
