@@ -126,10 +126,7 @@ fn texts_without_a_tree(rt: HostRuntime) -> Result<(), Fail> {
             b"long long long i;",
             b"a.c:1: syntax\n  long long long i;\n",
         ),
-        (
-            b"int f(int i,);",
-            b"a.c:1: syntax\n  int f(int i,);\n",
-        ),
+        (b"int f(int i,);", b"a.c:1: syntax\n  int f(int i,);\n"),
         (
             b"int f(void){a=b=;}",
             b"a.c:1: syntax\n  int f(void){a=b=;}\n",
