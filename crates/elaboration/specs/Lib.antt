@@ -17,3 +17,5 @@ pub mod Resolving
 pub mod Elaboration
 pub mod Built
 pub mod Laws
+pub mod Worlds
+pub mod Spoken

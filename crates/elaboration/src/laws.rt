@@ -1,6 +1,7 @@
 //! Laws of the definitions.
 
-ghost use Rattle.std.specs.Prelude.{◌≡◌, Ok, count_by};
+ghost use Rattle.std.specs.Prelude.{◌≡◌, Ok, count_by, slice_get};
+ghost use Rattle.std.specs.Option.{ForSome};
 ghost use Rattle.c_types.specs.Types.{PlainType};
 ghost use Rattle.c_types.specs.TagTable.{TagTable};
 ghost use Rattle.c_decls.specs.Expressions.{typed};
@@ -8,10 +9,11 @@ ghost use Rattle.elaboration.specs.Context.{Context, asked};
 ghost use Rattle.elaboration.specs.Conversions.{Found};
 ghost use Rattle.elaboration.specs.Expressions.{found};
 ghost use Rattle.core_tree.specs.declared.program.Core.{Core};
-ghost use Rattle.core_tree.specs.Sound.{EachFunc, is_main};
+ghost use Rattle.core_tree.specs.Sound.{EachFunc, IsMain, is_main, main_of};
 ghost use Rattle.c_tree.specs.Tree.{Tree, Trees};
 ghost use Rattle.elaboration.specs.Elaboration.{elaborated};
-ghost use Rattle.elaboration.specs.Laws.{CallsInside, HasFlow, HasSizes};
+ghost use Rattle.elaboration.specs.Spoken.{ArePlain};
+ghost use Rattle.elaboration.specs.Laws.{CallsInside, HasFlow, HasSizes, HasTypes};
 
 /// In each function of the core of a text every edge leads to a statement, only a loop goes back, and scopes are opened
 /// and closed in the same way on all paths.
@@ -37,4 +39,15 @@ pub fn one_main()
 /// Each call of the core of a text names one of its functions (C99 6.5.2.2).
 pub fn calls_are_inside()
     ensures { (unit : Trees) (core : Core) (tags : TagTable) → elaborated unit ≡ Ok (core, tags) → EachFunc core (CallsInside core) }
+{}
+
+/// In each function of the core of a text each statement has a line and names what is there, with operands, arguments and
+/// results of its sorts, where lines are at least 1, each definition has a parameter list, and `&` stands before no name.
+pub fn statements_are_typed()
+    ensures { (unit : Trees) (core : Core) (tags : TagTable) → ArePlain unit → elaborated unit ≡ Ok (core, tags) → EachFunc core (HasTypes core) }
+{}
+
+/// The function named `main` of the core of such a text has no parameters, and its returns have integers (C99 5.1.2.2.1).
+pub fn main_answers()
+    ensures { (unit : Trees) (core : Core) (tags : TagTable) → ArePlain unit → elaborated unit ≡ Ok (core, tags) → ForSome (slice_get core.funcs (main_of core)) (IsMain core) }
 {}

@@ -14,7 +14,9 @@
 //! - `specs/Built.antt` says which texts declare types alone, beside a small `main`.
 //!
 //! `src/laws.rt` has laws of every core that a text has: how control flows through it, how large it is, and that it has
-//! one `main`; and that the types of expressions are those that their types alone give them.
+//! one `main`; that the types of expressions are those that their types alone give them; and, for the texts that
+//! `specs/Spoken.antt` describes, that the operands of every statement are there and have their sorts. For this the walk
+//! keeps a world of what was declared so far (`specs/Worlds.antt`).
 //!
 //! `proofs/Rows.antt` has texts whose core or refusal was worked out by hand. The kinds of refusals are those of `c_decls`.
 #![tactic(auto)]
@@ -22,4 +24,7 @@
 mod laws;
 
 pub use c_decls::{TypeError, TypeKind};
-pub use laws::{calls_are_inside, control_flows, one_main, sizes_are_kept, types_agree};
+pub use laws::{
+    calls_are_inside, control_flows, main_answers, one_main, sizes_are_kept, statements_are_typed,
+    types_agree,
+};
