@@ -40,7 +40,7 @@ in_append (Leave ∷ a) b = in_append a b
 
 -- A trace is only added to
 
-led_more : (trace : List Event) (n : Next) → (runs.led trace n).trace ≡ trace ++ events_of n
+pub led_more : (trace : List Event) (n : Next) → (runs.led trace n).trace ≡ trace ++ events_of n
 led_more trace (runs.Goes before events after) = refl
 led_more trace (runs.Stops before events after e) = refl
 
@@ -59,7 +59,7 @@ module _ (core : Core) where
 
 module _ (core : Core) (sound : IsSound core) (input : List ℕ) (n : ℕ) where
   -- what is made so far stands at the front of the whole trace
-  in_front : (k : ℕ) → (more : List Event) × ((meaning core input n).trace ≡ (runs.after (step core) (begun core input n) k).trace ++ more)
+  pub in_front : (k : ℕ) → (more : List Event) × ((meaning core input n).trace ≡ (runs.after (step core) (begun core input n) k).trace ++ more)
   in_front k =
       let r = begun core input n in
       let total = enough core r.state in

@@ -1,0 +1,14 @@
+pub mod Each
+pub mod Cuts
+pub mod Fits
+pub mod Pays
+pub mod Reached
+pub mod Stacks
+pub mod Backs
+pub mod Calling
+pub mod Pairing
+pub mod Formats
+pub mod Steps
+pub mod Prints
+pub mod Starts
+pub mod Example

@@ -1,0 +1,11 @@
+//! A call that is under way.
+
+/// A call that is under way. Its registers are the values from its base on, up to where the next call begins.
+#[derive(Clone, Copy)]
+pub(crate) struct Call {
+    pub(crate) func: u32,
+    pub(crate) point: usize,
+    pub(crate) base: usize,
+    /// The bytes of stack that are in use with it.
+    pub(crate) used: u32,
+}
