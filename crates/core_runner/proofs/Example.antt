@@ -1,31 +1,18 @@
--- A core that is sound: it writes a digit and returns it.
-use Rattle.std.proofs.Common.{◌≡◌, ℕ, zero, suc, pos, ◌<◌, ◌≤◌, [], ◌∷◌, length, Option, Some, None, refl, sym, ◌∙◌, subst, arith, lit<, lit≤}
+-- The core of the example is sound, and the runner takes it.
+use Rattle.std.proofs.Common.{◌≡◌, ℕ, zero, suc, pos, ◌<◌, ◌≤◌, [], ◌∷◌, length, Option, Some, refl, sym, ◌∙◌, subst, arith, lit<, lit≤}
 use Rattle.std.proofs.lemmas.Int.{ints}
-use Rattle.std.specs.Prelude.{codes, All}
-use Rattle.core_tree.specs.declared.program.Core.{Core}
+use Rattle.std.specs.Prelude.{All}
 use Rattle.core_tree.specs.declared.program.Func.{Func}
 use Rattle.core_tree.specs.declared.statements.Atom.{Atom}
 use Rattle.core_tree.specs.declared.statements.Atom.TheVariants.{Int}
-use Rattle.core_tree.specs.declared.statements.LibName.TheVariants.{Putchar}
 use Rattle.core_tree.specs.declared.statements.Stm.{Stm}
-use Rattle.core_tree.specs.declared.statements.StmKind.TheVariants.{Lib, Return, Leave}
+use Rattle.core_tree.specs.declared.statements.StmKind.TheVariants.{Return, Leave}
 use Rattle.core_tree.specs.LayoutsOfTypes.{IsLayoutOfType}
 use Rattle.core_tree.specs.Sorts.{Integer, IsTyped}
 use Rattle.core_tree.specs.Statements.{edges}
 use Rattle.core_tree.specs.Sound.{IsSound, IsFunction, IsMain, AreShort, HasNumbers, IsNumber, Opens, start, goes, scopes_after, EachFunc, EachStatement, EachReturn, LeadsOn, GivesAnswer, answer_sort, element_layouts}
+use Rattle.core_runner.specs.Example.{put, give, main, digit}
 use Rattle.core_runner.specs.Built.{IsIntegerStatement, IsIntegerFunction, IsBuilt}
-
-abbrev put : Stm
-put = record { line = 1; kind = Lib Putchar None (Int (pos 55) ∷ []) }
-
-abbrev give : Stm
-give = record { line = 2; kind = Return (Some (Int (pos 7))) }
-
-abbrev main : Func
-main = record { name = codes "main"; line = 1; params = 0; regs = []; mems = []; body = put ∷ give ∷ []; formats = [] }
-
-abbrev pub digit : Core
-digit = record { statics = []; funcs = main ∷ [] }
 
 -- what holds of both statements holds of each
 each : (P : ℕ → Stm → Type 0) → P 0 put → P 1 give → EachStatement main.body P

@@ -5,3 +5,4 @@ pub mod Stacked
 pub mod Leading
 pub mod Writing
 pub mod Running
+pub mod Example

@@ -1,5 +1,5 @@
 ghost use Rattle.std.specs.Prelude.{◌≡◌, IfOk};
-ghost use Rattle.core_runner.proofs.Example.{digit};
+ghost use Rattle.core_runner.specs.Example.{digit};
 
 use crate::{is_built, run};
 use core_tree::{Atom, Core, Func, LibName, Stm, StmKind};
