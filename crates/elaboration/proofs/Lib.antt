@@ -50,3 +50,4 @@ mod Parameters
 mod TextsRun
 mod Typing
 mod MainTyped
+mod Formats

@@ -1,6 +1,9 @@
 //! Laws of the definitions.
 
-ghost use Rattle.std.specs.Prelude.{◌≡◌, Ok, count_by, slice_get};
+ghost use Rattle.std.specs.Prelude.{◌≡◌, ℕ, true, List, Ok, count_by, slice_get};
+ghost use Rattle.c_print.specs.Format.{IsFormat};
+ghost use Rattle.c_print.specs.Pieces.{pieces_of};
+ghost use Rattle.c_decls.specs.Callees.{is_format};
 ghost use Rattle.std.specs.Option.{ForSome};
 ghost use Rattle.c_types.specs.Types.{PlainType};
 ghost use Rattle.c_types.specs.TagTable.{TagTable};
@@ -50,4 +53,9 @@ pub fn statements_are_typed()
 /// The function named `main` of the core of such a text has no parameters, and its returns have integers (C99 5.1.2.2.1).
 pub fn main_answers()
     ensures { (unit : Trees) (core : Core) (tags : TagTable) → ArePlain unit → elaborated unit ≡ Ok (core, tags) → ForSome (slice_get core.funcs (main_of core)) (IsMain core) }
+{}
+
+/// A format that passes the test of formats is one, with the pieces that its bytes have (C99 7.19.6.1).
+pub fn formats_are_read()
+    ensures { (bytes : List ℕ) → is_format bytes ≡ true → IsFormat bytes (pieces_of bytes) }
 {}
