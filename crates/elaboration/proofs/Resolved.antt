@@ -14,9 +14,9 @@ use Rattle.core_tree.specs.declared.statements.Atom.TheVariants as atom
 use Rattle.core_tree.specs.declared.statements.Stm.{Stm}
 use Rattle.core_tree.specs.declared.statements.StmKind.{StmKind}
 use Rattle.core_tree.specs.declared.statements.StmKind.TheVariants.{Set, Conv, Un, Bin, Cmp, Add, Sub, Off, Diff, Pcmp, Test, Load, Loadp, Store, Storep, Copy, Clear, Jump, Zero, Case, Loop, Call, Malloc, Calloc, Realloc, Free, Lib, Printf, Enter, Leave, Return}
-use Rattle.core_tree.specs.Sorts.{Sort, Integer, Pointer, sort_of, register_sort, atom_sort, Takes, TakesAll, Gives, GivesResult, TakesCall, HasRegister, piece_takes, lib_takes, lib_gives}
+use Rattle.core_tree.specs.Sorts.{Sort, Integer, Pointer, sort_of, register_sort, atom_sort, Takes, TakesAll, Gives, GivesResult, TakesCall, TakesFormat, IsTyped, HasRegister, piece_takes, lib_takes, lib_gives}
 use Rattle.core_tree.specs.Sound.{EachStatement, EachReturn, answer_sort}
-use Rattle.elaboration.specs.Laws.{PassesFormat, HasOperands}
+use Rattle.elaboration.proofs.Formats.{format_is}
 use Rattle.elaboration.specs.Context.{Piece, Does, Here, Context, Walked, local_register, integer_temporary, pointer_temporary, file_variable, literal_object}
 use Rattle.elaboration.specs.Resolving.{Numbers, atom_by, atoms_by, numbered, body_of, register_by, static_by, numbers_of, temporary, pointer_register, function_of, variable_static, literal_static, core_of}
 use Rattle.elaboration.specs.Worlds.{World, walked_world, local_sort, IsRegister, is_local, is_integer, is_pointer_temporary, IsObject, is_variable, is_literal, Holds, HoldAll, Receives, IsCall, IsPrinted, Fits, FitsAnswer, FitsIn, PieceFits, PiecesFit}
@@ -168,11 +168,11 @@ module _ (c : Context) (w : Walked) where
 
   -- what is called is there
   module _ (calls : (f : ℕ) (r : Option ℕ) (args : List Atom) → IsCall here f r args → HasRegister func (option_map num.register r) × TakesCall core func (atoms_by num args) (slice_get core.funcs (num.function f))) where
-    printed_resolves : (args : List Atom) (o : Option (List ℕ)) → IsPrinted here args o → PassesFormat core func (atoms_by num args) o
+    printed_resolves : (args : List Atom) (o : Option (List ℕ)) → IsPrinted here args o → TakesFormat core func (atoms_by num args) o
     printed_resolves args None h = absurd h
-    printed_resolves args (Some bytes) h = (h.0, all_resolve (flat_map piece_takes (pieces_of bytes)) args h.1)
+    printed_resolves args (Some bytes) h = (format_is bytes h.0, all_resolve (flat_map piece_takes (pieces_of bytes)) args h.1)
 
-    kind_resolves : (kind : StmKind) → Fits here kind → HasOperands core func (numbered num kind)
+    kind_resolves : (kind : StmKind) → Fits here kind → IsTyped core func (numbered num kind)
     unfolding numbered
     kind_resolves (Set r a) h = (h.0, register_resolves h.0 r h.1, atom_resolves h.0 a h.2)
     kind_resolves (Conv k r a) h = (register_resolves Integer r h.0, atom_resolves Integer a h.1)
@@ -206,21 +206,21 @@ module _ (c : Context) (w : Walked) where
     kind_resolves Leave h = tt
     kind_resolves (Return a) h = absurd h
 
-    answer_typed : (answer : Option Sort) (a : Option Atom) → FitsAnswer here answer a → HasOperands core func (numbered num (Return a))
+    answer_typed : (answer : Option Sort) (a : Option Atom) → FitsAnswer here answer a → IsTyped core func (numbered num (Return a))
     unfolding numbered
     answer_typed None None h = tt
     answer_typed None (Some a) h = absurd h
     answer_typed (Some sort) None h = absurd h
     answer_typed (Some sort) (Some a) h = (sort, atom_resolves sort a h)
 
-    in_resolves : (answer : Option Sort) (kind : StmKind) → FitsIn answer here kind → HasOperands core func (numbered num kind)
+    in_resolves : (answer : Option Sort) (kind : StmKind) → FitsIn answer here kind → IsTyped core func (numbered num kind)
     in_resolves answer (Return a) h = answer_typed answer a h
     in_resolves answer kind h = kind_resolves kind h
 
-    pub statements_resolve : (answer : Option Sort) (pieces : List Piece) (point : ℕ) (stm : Stm) → PiecesFit answer here pieces → slice_get (body_of num pieces) point ≡ Some stm → (1 ≤ stm.line) × HasOperands core func stm.kind
+    pub statements_resolve : (answer : Option Sort) (pieces : List Piece) (point : ℕ) (stm : Stm) → PiecesFit answer here pieces → slice_get (body_of num pieces) point ≡ Some stm → (1 ≤ stm.line) × IsTyped core func stm.kind
     statements_resolve answer [] point stm h e = cc
     statements_resolve answer (Here l ∷ pieces) point stm h e = statements_resolve answer pieces point stm h.1 e
-    statements_resolve answer (Does s ∷ pieces) zero stm h e = subst (λ (x : Stm). (1 ≤ x.line) × HasOperands core func x.kind) (same_of _ stm e) (h.0.0, in_resolves answer s.kind h.0.1)
+    statements_resolve answer (Does s ∷ pieces) zero stm h e = subst (λ (x : Stm). (1 ≤ x.line) × IsTyped core func x.kind) (same_of _ stm e) (h.0.0, in_resolves answer s.kind h.0.1)
       where
         same_of : (x y : Stm) → Some x ≡ Some y → x ≡ y
         same_of x y q = cc

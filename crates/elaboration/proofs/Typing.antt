@@ -26,7 +26,7 @@ use Rattle.elaboration.specs.Resolving.{Numbers, atoms_by, numbered, body_of, te
 use Rattle.elaboration.specs.Elaboration.{walked, elaborated}
 use Rattle.elaboration.specs.Worlds.{walked_world, IsCall, result_sort, param_sorts, PiecesFit}
 use Rattle.elaboration.specs.Spoken.{ArePlain}
-use Rattle.elaboration.specs.Laws.{HasOperands, HasTypes}
+use Rattle.elaboration.specs.Laws.{HasTypes}
 use Rattle.elaboration.proofs.Grown.{good, bad, ok_same, never}
 use Rattle.elaboration.proofs.Agreeing.{came}
 use Rattle.elaboration.proofs.Operating.{passed}

@@ -1,17 +1,14 @@
 -- Parts of what makes a core sound, each said of every core that a text has.
-use Rattle.std.specs.Prelude.{◌≡◌, ℕ, true, List, Option, Some, None, slice_get, ◌<◌, ◌≤◌, length, All}
-use Rattle.std.specs.List.{sum_by, flat_map}
+use Rattle.std.specs.Prelude.{◌≡◌, ℕ, List, Option, Some, slice_get, ◌<◌, ◌≤◌, length, All}
+use Rattle.std.specs.List.{sum_by}
 use Rattle.hs_base.specs.Place.{block_size}
 use Rattle.core_tree.specs.declared.program.Core.{Core}
 use Rattle.core_tree.specs.declared.program.Func.{Func}
 use Rattle.core_tree.specs.declared.program.Static.{Static}
 use Rattle.core_tree.specs.declared.statements.Atom.{Atom}
 use Rattle.core_tree.specs.declared.statements.Stm.{Stm}
-use Rattle.core_tree.specs.declared.statements.StmKind.TheVariants.{Call, Printf}
-use Rattle.core_tree.specs.declared.statements.StmKind.{StmKind}
-use Rattle.core_tree.specs.Sorts.{Integer, TakesAll, Gives, IsTyped, piece_takes}
-use Rattle.c_print.specs.Pieces.{pieces_of}
-use Rattle.c_decls.specs.Callees.{is_format}
+use Rattle.core_tree.specs.declared.statements.StmKind.TheVariants.{Call}
+use Rattle.core_tree.specs.Sorts.{IsTyped}
 use Rattle.core_tree.specs.Statements.{edges}
 use Rattle.core_tree.specs.Sound.{EachFunc, EachStatement, EachReturn, LeadsOn, HasScopes, answer_sort, GivesAnswer, code_size, IsShort}
 
@@ -42,16 +39,6 @@ abbrev pub CallsInside : Core → Func → Type 0
 CallsInside core func =
     (point : ℕ) (stm : Stm) (f : ℕ) (r : Option ℕ) (args : List Atom) → slice_get func.body point ≡ Some stm → stm.kind ≡ Call f r args → f < length core.funcs
 
--- a format passes the test of formats, and its pieces have these arguments
-abbrev pub PassesFormat : Core → Func → List Atom → Option (List ℕ) → Type 0
-PassesFormat core func args None = ⊥
-PassesFormat core func args (Some format) = (is_format format ≡ true) × TakesAll core func (flat_map piece_takes (pieces_of format)) args
-
--- what a statement names is there, and its operands, its arguments and the register that it writes are of its sorts
-abbrev pub HasOperands : Core → Func → StmKind → Type 0
-HasOperands core func (Printf r format args) = Gives func Integer r × PassesFormat core func args (slice_get func.formats format)
-HasOperands core func kind = IsTyped core func kind
-
 -- how the statements of a function are typed
 pub record HasTypes (core : Core) (func : Func) : Type 0 where
   -- its parameters are among its registers
@@ -59,7 +46,8 @@ pub record HasTypes (core : Core) (func : Func) : Type 0 where
   -- it has a line, and so has each of its statements
   pub line : 1 ≤ func.line
   pub lines : EachStatement func.body (λ point stm. 1 ≤ stm.line)
-  pub typed : EachStatement func.body (λ point stm. HasOperands core func stm.kind)
+  -- what a statement names is there, and its operands, its arguments and the register that it writes are of its sorts
+  pub typed : EachStatement func.body (λ point stm. IsTyped core func stm.kind)
   -- the returns all have an integer, all have a pointer, or all have nothing
   pub alike : EachReturn func (λ one. EachReturn func (λ other. answer_sort core func one ≡ answer_sort core func other))
   -- a call has a register for the answer or none, and none where there is no answer
