@@ -1,3 +1,4 @@
+pub mod Copies
 pub mod Examples
 pub mod NumberedNames
 pub mod SameTypes

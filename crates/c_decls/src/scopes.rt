@@ -5,6 +5,7 @@ ghost use Rattle.c_decls.specs.Named.{plain_named};
 ghost use Rattle.c_decls.specs.ScopeList.{no_scopes, named_in, innermost, found, with_name, after_declaration, entered, left, IsTwice};
 ghost use Rattle.c_decls.specs.BuiltIns.{first_scopes, all_differ, numbered_from};
 
+mod copy;
 mod kept;
 
 use crate::built_in::BuiltIn;
@@ -124,7 +125,7 @@ impl Scopes {
     }
 
     /// What the innermost scope declares a name as.
-    fn find_innermost(&self, name: &[u8]) -> Option<&Named>
+    pub fn find_innermost(&self, name: &[u8]) -> Option<&Named>
         ensures { option_map (λ named. plain_named named.now) result ≡ named_in name.now (innermost self.now) }
     {
         match self.inner.last() {
