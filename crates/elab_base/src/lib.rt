@@ -5,6 +5,7 @@
 //! is said of the state. Where the definition forgets code, [`Elaborator::forget`] cuts it back to a [`Mark`].
 #![tactic(auto)]
 
+mod asked;
 mod code;
 mod conversions;
 mod elaborator;
@@ -12,7 +13,9 @@ mod found;
 mod locals;
 mod names;
 mod numbers;
+mod params;
 mod pieces;
+mod records;
 mod running;
 mod sizes;
 mod starts;

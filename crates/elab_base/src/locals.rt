@@ -22,7 +22,7 @@ use hs_base::{Items, Line, NoMemory};
 use std::alloc::Global;
 
 /// A copy of a name.
-fn copied(alloc: Global, name: &[u8]) -> Result<Items<u8>, NoMemory>
+pub(crate) fn copied(alloc: Global, name: &[u8]) -> Result<Items<u8>, NoMemory>
     ensures { IfOk result (λ copy. copy ≡ name.now) }
 {
     Ok(Items::from(name.to_vec(alloc)?))

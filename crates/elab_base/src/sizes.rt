@@ -12,7 +12,7 @@ use hs_base::NoMemory;
 use std::alloc::Global;
 
 /// Whether no array inside a type is too large.
-fn fits(tags: &Tags, ty: &CType) -> bool
+pub(crate) fn fits(tags: &Tags, ty: &CType) -> bool
     ensures { IsTrue result → ArraysFit (known tags.now.completed) (plain ty.now) }
 {
     match ty {
