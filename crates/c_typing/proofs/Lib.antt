@@ -1,3 +1,4 @@
+pub mod ConstantValues
 pub mod Turns
 pub mod Walked
 pub mod LayerLists

@@ -1,16 +1,20 @@
 //! The types of expressions and the values of constants, for whoever has scopes and tags.
 
 ghost use Rattle.std.specs.Prelude.{◌≡◌, OnOk};
+ghost use Rattle.c_types.specs.Types.{plain};
+ghost use Rattle.c_tree.specs.View.{spec_tree};
 ghost use Rattle.c_tree.specs.StatementView.{expr_view};
+ghost use Rattle.c_decls.specs.Refusals.{Answers, Meets};
 ghost use Rattle.c_decls.specs.Typed.{plain_typed};
+ghost use Rattle.c_decls.specs.TypeNames.{special_type};
 ghost use Rattle.c_decls.specs.Expressions as rules;
 ghost use Rattle.c_typing.specs.Walks.{Walks, here, with_new};
 
 use crate::typer::{Typer, is_made};
-use c_decls::{Scopes, TypeError, Typed};
-use c_tree::Expr;
-use c_types::{TagInfo, Tags};
-use hs_base::NoMemory;
+use c_decls::{Constant, Folded, Scopes, TypeError, TypeKind, Typed, refused};
+use c_tree::{Expr, Spec};
+use c_types::{CType, TagInfo, Tags};
+use hs_base::{Line, NoMemory};
 use std::alloc::Global;
 use std::mem;
 
@@ -52,4 +56,62 @@ pub fn typed(
     let answer = answer?;
     make_tags(tags, new_tags)?;
     Ok(answer)
+}
+
+/// A tag without braces, or the name of a type, at a line (C99 6.7.2): the type that it says. A tag that is named first here
+/// is made, and declared in the innermost scope. After a refusal nothing is said of the scopes.
+pub fn special_type(
+    alloc: Global,
+    scopes: &mut Scopes,
+    tags: &mut Tags,
+    line: Line,
+    word: &Spec,
+) -> Result<CType, TypeError>
+    ensures { Walks plain (here scopes.new tags.new) result (special_type line (spec_tree word.now) (here scopes.old tags.old)) }
+{
+    let mut typer = Typer {
+        alloc,
+        scopes: mem::replace(scopes, Scopes::none(alloc)),
+        new_tags: Vec::new(alloc),
+    };
+    let answer = typer.special_type(&*tags, line, word);
+    let Typer {
+        scopes: after,
+        new_tags,
+        ..
+    } = typer;
+    *scopes = after;
+    let answer = answer?;
+    make_tags(tags, new_tags)?;
+    Ok(answer)
+}
+
+/// The value of an expression at a line that must be constant, once it has its type (C99 6.6).
+pub fn constant_from(line: Line, e: &Typed) -> Result<Constant, TypeError>
+    ensures { Answers (λ k. k) result (rules.constant_from line (plain e.now.ty) e.now.folded) }
+{
+    match (&e.ty, e.folded) {
+        (CType::Int(ty), Folded::Is(value)) => Ok(Constant { ty: *ty, value }),
+        _ => refused(TypeKind::NotConstant, line),
+    }
+}
+
+/// An integer constant expression (C99 6.6): its type and value, for scopes and tags that stay as they are. A tag that is
+/// named first in it stands in the expression alone.
+pub fn constant(
+    alloc: Global,
+    scopes: &Scopes,
+    tags: &Tags,
+    e: &Expr,
+) -> Result<Constant, TypeError>
+    ensures { Meets (λ k. k) result (rules.constant_value scopes.now tags.now (expr_view e.now)) }
+{
+    let mut typer = Typer {
+        alloc,
+        scopes: scopes.try_clone(alloc)?,
+        new_tags: Vec::new(alloc),
+    };
+    let x = typer.wanted(tags, e)?;
+    let constant = constant_from(e.line, &x)?;
+    Ok(constant)
 }

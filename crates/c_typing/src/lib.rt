@@ -8,7 +8,8 @@
 //! - [`word_type`], [`with_layers`] and [`with_param_layers`] make the types that words and the layers of a declarator say.
 //! - The walk over an expression (`walk.rt`) meets the definitions of `c_decls/specs/Expressions.antt`: the parts from left
 //!   to right, and the whole after its parts. [`typed`] is the walk for scopes and tags of the caller; inside it a [`Typer`]
-//!   keeps what the expression declares: scopes, and the tags that are first named in it.
+//!   keeps what the expression declares: scopes, and the tags that are first named in it. [`constant`] is the value of a
+//!   constant expression, for scopes and tags that are only lent.
 #![tactic(auto)]
 
 mod api;
@@ -22,7 +23,7 @@ mod typer;
 mod walk;
 mod words;
 
-pub use api::typed;
+pub use api::{constant, constant_from, special_type, typed};
 pub use callees::{Callee, call, called, named, no_function};
 pub use layers::{Layer, adjusted, array_length, with_layers, with_param_layers};
 pub use literals::{char_constant, first_literal, int_constant, joined, string};
@@ -33,4 +34,4 @@ pub use places::{
 };
 pub use typer::Typer;
 pub use walk::declared_name;
-pub use words::{special_word, word_type};
+pub use words::{is_special, special_word, word_type};

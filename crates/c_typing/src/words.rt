@@ -13,7 +13,7 @@ use c_tree::Spec;
 use c_types::{CType, IntType};
 
 /// Whether a word is a tag or the name of a type, which says the type alone.
-fn is_special(word: &Spec) -> bool
+pub fn is_special(word: &Spec) -> bool
     ensures { result ≡ is_special word.now }
 {
     matches!(word, Spec::Named(_) | Spec::Tag(_))
