@@ -6,6 +6,7 @@ ghost use Rattle.c_decls.specs.ScopeList.{no_scopes, named_in, innermost, found,
 ghost use Rattle.c_decls.specs.BuiltIns.{first_scopes, all_differ, numbered_from};
 
 mod copy;
+mod file;
 mod kept;
 
 use crate::built_in::BuiltIn;
