@@ -1,3 +1,6 @@
 pub mod ListRules
 pub mod Lines
 pub mod Twice
+pub mod Signatures
+pub mod CodeSizes
+pub mod DefinedCalls

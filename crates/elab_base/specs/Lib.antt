@@ -3,3 +3,5 @@ pub mod Marks
 pub mod Stored
 pub mod PlainFound
 pub mod MaybeNames
+pub mod Idle
+pub mod Calls

@@ -2,6 +2,8 @@
 
 ghost use Rattle.std.specs.Prelude.{◌≡◌, ◌++◌, ◌∷◌, ◌+◌, ◌*◌, [], IfOk, length, max};
 ghost use Rattle.elaboration.specs.Context.{Code as PlainCode, no_code, with_integer, with_pointer};
+ghost use Rattle.std.specs.List.{sum_by};
+ghost use Rattle.elaboration.specs.Externals.{piece_length};
 ghost use Rattle.elab_base.specs.PlainPieces.{plain_piece};
 ghost use Rattle.elab_base.specs.Marks.{mark_of, cut};
 
@@ -151,6 +153,13 @@ impl Code {
         ensures with { self.new ≡ record self.old { pieces = pieces } }
     {
         mem::replace(&mut self.pieces, pieces)
+    }
+
+    /// How many statements and operands it has.
+    pub fn size(&self) -> Result<u64, NoMemory>
+        ensures { IfOk result (λ size. size ≡ sum_by piece_length self.now.pieces) }
+    {
+        self.pieces.size()
     }
 
     /// How many labels it has.

@@ -72,6 +72,13 @@ impl Pieces {
         self.list.truncate(count);
     }
 
+    /// The pieces as a slice.
+    pub(crate) fn as_slice(&self) -> &[Piece]
+        ensures { map plain_piece result.now ≡ self.now }
+    {
+        self.list.as_slice()
+    }
+
     /// The pieces as a `Vec`.
     pub fn into_vec(self) -> Vec<Piece>
         ensures { map plain_piece result.items ≡ self }
