@@ -1,4 +1,3 @@
-pub mod Copies
 pub mod Examples
 pub mod NumberedNames
 pub mod SameTypes

@@ -27,40 +27,6 @@ pub enum Named {
     Tag { ty: CType },
 }
 
-impl Named {
-    /// A copy.
-    pub fn try_clone(&self, alloc: Global) -> Result<Named, NoMemory>
-        ensures { IfOk result (λ copy. plain_named copy ≡ plain_named self.now) }
-    {
-        let copy = match self {
-            Named::Object { ty, index } => Named::Object {
-                ty: ty.try_clone(alloc)?,
-                index: *index,
-            },
-            Named::Register { ty, index } => Named::Register {
-                ty: ty.try_clone(alloc)?,
-                index: *index,
-            },
-            Named::Function { ty, index } => Named::Function {
-                ty: ty.try_clone(alloc)?,
-                index: *index,
-            },
-            Named::Typedef { ty } => Named::Typedef {
-                ty: ty.try_clone(alloc)?,
-            },
-            Named::Constant { ty, value } => Named::Constant {
-                ty: *ty,
-                value: *value,
-            },
-            Named::BuiltIn { index } => Named::BuiltIn { index: *index },
-            Named::Tag { ty } => Named::Tag {
-                ty: ty.try_clone(alloc)?,
-            },
-        };
-        Ok(copy)
-    }
-}
-
 /// Whether a second declaration is of the same sort with the same type (C99 6.7, 6.9.2).
 pub(crate) fn is_same_again(before: &Named, again: &Named) -> bool
     ensures { IsTrue result ↔ IsSameAgain (plain_named before.now) (plain_named again.now) }

@@ -1,6 +1,6 @@
 //! One scope.
 
-ghost use Rattle.std.specs.Prelude.{◌≡◌, ◌∷◌, ◌++◌, [], None, option_map, IfOk, OnOk, OnErr};
+ghost use Rattle.std.specs.Prelude.{◌≡◌, ◌∷◌, ◌++◌, [], None, option_map, OnOk, OnErr};
 ghost use Rattle.c_decls.specs.Named.{plain_named};
 ghost use Rattle.c_decls.specs.ScopeList.{named_in};
 
@@ -54,17 +54,5 @@ impl Scope {
     {
         self.names.insert(name, named)?;
         Ok(())
-    }
-    /// A copy of the scope.
-    pub(crate) fn try_clone(&self, alloc: Global) -> Result<Scope, NoMemory>
-        ensures { IfOk result (λ copy. copy ≡ self.now) }
-    {
-        let mut copy = Scope::new(alloc);
-        for (name, named) in self.names.iter() {
-            let name = name.as_slice().to_vec(alloc)?;
-            let named = named.try_clone(alloc)?;
-            copy.add(name, named)?;
-        }
-        Ok(copy)
     }
 }

@@ -5,7 +5,6 @@ ghost use Rattle.c_decls.specs.Named.{plain_named};
 ghost use Rattle.c_decls.specs.ScopeList.{no_scopes, named_in, innermost, found, with_name, after_declaration, entered, left, IsTwice};
 ghost use Rattle.c_decls.specs.BuiltIns.{first_scopes, all_differ, numbered_from};
 
-mod copy;
 mod file;
 mod kept;
 

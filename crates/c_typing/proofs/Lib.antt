@@ -5,3 +5,5 @@ pub mod LayerLists
 pub mod SpecTypes
 pub mod Calls
 pub mod FormatLemmas
+pub mod Lents
+pub mod Lending

@@ -5,3 +5,4 @@ pub mod Walks
 pub mod Parts
 pub mod Format
 pub mod WordCounts
+pub mod Lent

@@ -1,18 +1,19 @@
 //! The types of expressions and the values of constants, for whoever has scopes and tags.
 
-ghost use Rattle.std.specs.Prelude.{◌≡◌, OnOk};
+ghost use Rattle.std.specs.Prelude.{◌≡◌, Ok, OnOk};
 ghost use Rattle.c_types.specs.Types.{plain};
 ghost use Rattle.c_tree.specs.View.{spec_tree};
-ghost use Rattle.c_tree.specs.StatementView.{expr_view};
-ghost use Rattle.c_decls.specs.Refusals.{Answers, Meets};
+ghost use Rattle.c_tree.specs.StatementView.{expr_view, typename_view};
+ghost use Rattle.c_decls.specs.Refusals.{Answers, Meets, then};
 ghost use Rattle.c_decls.specs.Typed.{plain_typed};
 ghost use Rattle.c_decls.specs.TypeNames.{special_type};
 ghost use Rattle.c_decls.specs.Expressions as rules;
 ghost use Rattle.c_typing.specs.Walks.{Walks, here, with_new};
 
+use crate::lent::Around;
 use crate::typer::{Typer, is_made};
 use c_decls::{Constant, Folded, Scopes, TypeError, TypeKind, Typed, refused};
-use c_tree::{Expr, Spec};
+use c_tree::{Expr, Spec, TypeName};
 use c_types::{CType, TagInfo, Tags};
 use hs_base::{Line, NoMemory};
 use std::alloc::Global;
@@ -43,17 +44,16 @@ pub fn typed(
 {
     let mut typer = Typer {
         alloc,
-        scopes: mem::replace(scopes, Scopes::none(alloc)),
+        scopes: Around::own(mem::replace(scopes, Scopes::none(alloc))),
         new_tags: Vec::new(alloc),
     };
-    let answer = typer.typed(&*tags, e);
+    let answer = typer.typed(&*tags, e)?;
     let Typer {
         scopes: after,
         new_tags,
         ..
     } = typer;
-    *scopes = after;
-    let answer = answer?;
+    *scopes = after.into_own()?;
     make_tags(tags, new_tags)?;
     Ok(answer)
 }
@@ -71,19 +71,61 @@ pub fn special_type(
 {
     let mut typer = Typer {
         alloc,
-        scopes: mem::replace(scopes, Scopes::none(alloc)),
+        scopes: Around::own(mem::replace(scopes, Scopes::none(alloc))),
         new_tags: Vec::new(alloc),
     };
-    let answer = typer.special_type(&*tags, line, word);
+    let answer = typer.special_type(&*tags, line, word)?;
     let Typer {
         scopes: after,
         new_tags,
         ..
     } = typer;
-    *scopes = after;
-    let answer = answer?;
+    *scopes = after.into_own()?;
     make_tags(tags, new_tags)?;
     Ok(answer)
+}
+
+/// The name of a type at a place of a text (C99 6.7.6). A tag that is named first in it is made, and declared in the
+/// innermost scope. After a refusal nothing is said of the scopes.
+pub fn typename(
+    alloc: Global,
+    scopes: &mut Scopes,
+    tags: &mut Tags,
+    name: &TypeName,
+) -> Result<CType, TypeError>
+    ensures { Walks plain (here scopes.new tags.new) result (rules.typename (typename_view name.now) (here scopes.old tags.old)) }
+{
+    let mut typer = Typer {
+        alloc,
+        scopes: Around::own(mem::replace(scopes, Scopes::none(alloc))),
+        new_tags: Vec::new(alloc),
+    };
+    let answer = typer.typename(&*tags, name)?;
+    let Typer {
+        scopes: after,
+        new_tags,
+        ..
+    } = typer;
+    *scopes = after.into_own()?;
+    make_tags(tags, new_tags)?;
+    Ok(answer)
+}
+
+/// An expression whose value is wanted, at a place whose scopes and tags are only lent: what it declares is forgotten.
+pub fn value_ahead(
+    alloc: Global,
+    scopes: &Scopes,
+    tags: &Tags,
+    e: &Expr,
+) -> Result<Typed, TypeError>
+    ensures { Meets plain_typed result (then (rules.wanted (expr_view e.now) (rules.typed (expr_view e.now) (here scopes.now tags.now))) (λ d. Ok d.1)) }
+{
+    let mut typer = Typer {
+        alloc,
+        scopes: Around::lent(alloc, scopes),
+        new_tags: Vec::new(alloc),
+    };
+    typer.wanted(tags, e)
 }
 
 /// The value of an expression at a line that must be constant, once it has its type (C99 6.6).
@@ -106,12 +148,7 @@ pub fn constant(
 ) -> Result<Constant, TypeError>
     ensures { Meets (λ k. k) result (rules.constant_value scopes.now tags.now (expr_view e.now)) }
 {
-    let mut typer = Typer {
-        alloc,
-        scopes: scopes.try_clone(alloc)?,
-        new_tags: Vec::new(alloc),
-    };
-    let x = typer.wanted(tags, e)?;
+    let x = value_ahead(alloc, scopes, tags, e)?;
     let constant = constant_from(e.line, &x)?;
     Ok(constant)
 }

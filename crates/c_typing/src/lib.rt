@@ -7,15 +7,16 @@
 //!   has the kind and the line.
 //! - [`word_type`], [`with_layers`] and [`with_param_layers`] make the types that words and the layers of a declarator say.
 //! - The walk over an expression (`walk.rt`) meets the definitions of `c_decls/specs/Expressions.antt`: the parts from left
-//!   to right, and the whole after its parts. [`typed`] is the walk for scopes and tags of the caller; inside it a [`Typer`]
-//!   keeps what the expression declares: scopes, and the tags that are first named in it. [`constant`] is the value of a
-//!   constant expression, for scopes and tags that are only lent.
+//!   to right, and the whole after its parts. [`typed`], [`typename`] and [`special_type`] are the walk for scopes and tags
+//!   of the caller, [`value_ahead`] and [`constant`] the walk for scopes and tags that are only lent; inside it a [`Typer`]
+//!   keeps what the expression declares: scopes, and the tags that are first named in it.
 #![tactic(auto)]
 
 mod api;
 mod callees;
 mod formats;
 mod layers;
+mod lent;
 mod literals;
 mod members;
 mod places;
@@ -23,9 +24,10 @@ mod typer;
 mod walk;
 mod words;
 
-pub use api::{constant, constant_from, special_type, typed};
+pub use api::{constant, constant_from, special_type, typed, typename, value_ahead};
 pub use callees::{Callee, call, called, named, no_function};
 pub use layers::{Layer, adjusted, array_length, with_layers, with_param_layers};
+pub use lent::Around;
 pub use literals::{char_constant, first_literal, int_constant, joined, string};
 pub use members::{arrow, dot};
 pub use places::{

@@ -4,18 +4,15 @@ ghost use Rattle.std.specs.Prelude.{◌≡◌, ◌<◌, ◌↔◌, ℕ, Ok, None
 ghost use Rattle.c_types.specs.Types.{plain};
 ghost use Rattle.c_tree.specs.View.{spec_tree, tag_tree};
 ghost use Rattle.c_tree.specs.StatementView.{trees};
-ghost use Rattle.c_decls.specs.Named.{plain_named};
 ghost use Rattle.c_decls.specs.ScopeList.{found, tag_name};
 ghost use Rattle.c_decls.specs.Refusals.{Meets};
 ghost use Rattle.c_decls.specs.TypeNames as rules;
 ghost use Rattle.c_decls.specs.TypeNames.{Context};
-ghost use Rattle.c_typing.specs.Walks.{Walks, context_of, declared, IsNeverAgain};
+ghost use Rattle.c_typing.specs.Walks.{Walks, context_of};
 
+use crate::lent::Around;
 use crate::words::{special_word, word_type};
-use c_decls::{
-    DeclError, Named, Scopes, TypeError, TypeKind, is_function, is_record, is_void, refused,
-    tag_name,
-};
+use c_decls::{Named, TypeError, TypeKind, is_function, is_record, is_void, refused, tag_name};
 use c_tree::{RecordSort, Spec, Specs, TagKind};
 use c_types::{CType, IntType, TagId, TagInfo, Tags};
 use hs_base::{Items, Line, NoMemory};
@@ -24,9 +21,9 @@ use std::alloc::Global;
 /// The scopes at a place of an expression, and the tags that were first named in it, which come behind those that were
 /// made before.
 #[derive(Drop)]
-pub struct Typer {
+pub struct Typer<'a> {
     pub alloc: Global,
-    pub scopes: Scopes,
+    pub scopes: Around<'a>,
     pub new_tags: Vec<TagInfo>,
 }
 
@@ -95,7 +92,7 @@ fn same_sort(line: Line, sort: RecordSort, ty: &CType) -> Result<CType, TypeErro
     }
 }
 
-impl Typer {
+impl Typer<'_> {
     /// The number of the next tag.
     fn next_tag(&self, tags: &Tags) -> Result<TagId, NoMemory>
         ensures { IfOk result (λ tag. tag ≡ length (context_of self.now tags.now).tags.made) }
@@ -103,19 +100,6 @@ impl Typer {
         let made = count(tags).ok_or(NoMemory)?;
         let new = u32::try_from(self.new_tags.len()).map_err(|_| NoMemory)?;
         made.checked_add(new).ok_or(NoMemory)
-    }
-
-    /// Declares a parameter or a tag in the innermost scope, which must not have its name.
-    fn declare(&mut self, line: Line, name: &[u8], named: Named) -> Result<(), TypeError>
-        requires { IsNeverAgain (plain_named named) }
-        ensures scopes { Meets (λ _. self.new.scopes) result (declared line name.now (plain_named named) self.old.scopes) }
-        ensures new_tags { self.new.new_tags ≡ self.old.new_tags }
-    {
-        match self.scopes.declare(name, named) {
-            Ok(()) => Ok(()),
-            Err(DeclError::Twice) => refused(TypeKind::DeclaredTwice, line),
-            Err(DeclError::NoMemory) => Err(TypeError::NoMemory),
-        }
     }
 
     /// Makes a tag that is named first here: it is incomplete, and declared in the innermost scope (C99 6.7.2.3).
@@ -134,7 +118,7 @@ impl Typer {
     {
         let number = self.next_tag(tags)?;
         let ty = record_type(sort, number);
-        self.declare(line, tag, Named::Tag { ty })?;
+        self.scopes.declare(line, tag, Named::Tag { ty })?;
         let name = copied(self.alloc, name)?;
         let is_union = is_union(sort);
         self.new_tags.push(TagInfo { is_union, name })?;
@@ -261,7 +245,7 @@ impl Typer {
                 ty: param,
                 index: 0,
             };
-            self.declare(line, name.as_slice(), named)?;
+            self.scopes.declare(line, name.as_slice(), named)?;
         }
         Ok(ty)
     }

@@ -60,7 +60,7 @@ fn base_name(base: &Base) -> Option<&Items<u8>>
     }
 }
 
-impl Typer {
+impl Typer<'_> {
     /// An expression: its type, and its value where it is constant.
     #[cycle(walk)]
     pub fn typed(&mut self, tags: &Tags, e: &Expr) -> Result<Typed, TypeError>
@@ -311,7 +311,7 @@ impl Typer {
             SuffixKind::Params(params) => {
                 self.scopes.enter()?;
                 let types = self.param_types(tags, params)?;
-                self.scopes.leave();
+                self.scopes.leave()?;
                 Ok(Layer::FunctionOf(line, types))
             }
         }

@@ -1,7 +1,9 @@
 //! What is known at a place of a text, and the steps that change it.
 
 ghost use Rattle.std.specs.Prelude.{◌≡◌, ◌++◌, ◌∷◌, ◌+◌, [], IfOk};
-ghost use Rattle.elaboration.specs.Context.{Context, Does, Here, first_context, entered, left, emit, here, new_label, with_labels, integer_temporary, pointer_temporary, with_integer, with_pointer, anew, with_pieces};
+ghost use Rattle.elaboration.specs.Context.{Context, Does, Here, first_context, asked, told, entered, left, emit, here, new_label, with_labels, integer_temporary, pointer_temporary, with_integer, with_pointer, anew, with_pieces};
+ghost use Rattle.c_types.specs.TagTable.{no_tags};
+ghost use Rattle.c_decls.specs.ScopeList.{no_scopes};
 ghost use Rattle.elab_base.specs.Marks.{mark_of, cut};
 
 use crate::code::{Code, Mark};
@@ -14,6 +16,7 @@ use core_tree::{Stm, StmKind};
 use hs_base::{Items, Line, NoMemory};
 use std::alloc::Global;
 use std::marker::Model;
+use std::mem;
 
 /// What is known at a place of a text: the scopes and tags; the file-scope variables, the bytes of literals, and the bytes
 /// that the blocks of both take; the functions in order of declaration, the calls of them with their lines, and those
@@ -97,6 +100,24 @@ impl Elaborator {
         ensures { result.now ≡ self.now.tags }
     {
         &self.tags
+    }
+
+    /// Takes the scopes and the tags, until [`Elaborator::put_names`] puts others in their place.
+    pub fn take_names(&mut self) -> Result<(Scopes, Tags), NoMemory>
+        ensures names { IfOk result (λ names. asked self.old ≡ record { scopes = names.0; tags = names.1 }) }
+        ensures rest { IfOk result (λ _. self.new ≡ told (record { scopes = no_scopes; tags = no_tags }) self.old) }
+    {
+        let scopes = mem::replace(&mut self.scopes, Scopes::none(self.alloc));
+        let tags = mem::replace(&mut self.tags, Tags::new(self.alloc)?);
+        Ok((scopes, tags))
+    }
+
+    /// Puts other scopes and tags in place of those so far.
+    pub fn put_names(&mut self, scopes: Scopes, tags: Tags)
+        ensures { self.new ≡ told (record { scopes = scopes; tags = tags }) self.old }
+    {
+        self.scopes = scopes;
+        self.tags = tags;
     }
 
     /// A scope begins (C99 6.2.1).

@@ -21,7 +21,7 @@ use elab_base::{Elaborator, Fixed, Found, Mark, Spot, code_line};
 use hs_base::{Line, NoMemory};
 
 /// A label behind another.
-fn next_label(label: u32) -> Result<u32, NoMemory>
+pub fn next_label(label: u32) -> Result<u32, NoMemory>
     ensures { IfOk result (λ next. next ≡ label + 1) }
 {
     label.checked_add(1).ok_or(NoMemory)

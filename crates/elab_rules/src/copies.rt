@@ -8,7 +8,7 @@ use hs_base::NoMemory;
 use std::alloc::Global;
 
 /// A copy.
-pub(crate) fn copied(alloc: Global, typed: &Typed) -> Result<Typed, NoMemory>
+pub fn copied(alloc: Global, typed: &Typed) -> Result<Typed, NoMemory>
     ensures { IfOk result (λ copy. plain_typed copy ≡ plain_typed typed.now) }
 {
     Ok(Typed {

@@ -12,7 +12,10 @@ mod operators;
 mod places;
 
 pub use assignments::{changed_by, changing, old_value, record_assigned, scalar_assigned, stepped};
-pub use branches::{and_ended, and_then, choose_first, chosen, or_else, or_ended, tested_value};
+pub use branches::{
+    and_ended, and_then, choose_first, chosen, next_label, or_else, or_ended, tested_value,
+};
+pub use copies::copied;
 pub use names::{address_of, constant_found, literal_found, name_found};
 pub use operators::{applied, between, cast_to};
 pub use places::{dotted, indexed, pointed};

@@ -1,7 +1,7 @@
 //! Scopes inside the file scope: that of a parameter list, which is closed behind the list and stands again for the body
 //! (C99 6.2.1), and what is declared in any of them.
 
-ghost use Rattle.std.specs.Prelude.{◌≡◌, ◌∷◌, [], IfOk, is_some};
+ghost use Rattle.std.specs.Prelude.{◌≡◌, ◌↔◌, ◌∷◌, [], IfOk, IsTrue, is_some};
 ghost use Rattle.c_decls.specs.ScopeList.{first_or, found_from, left};
 
 use crate::scope::Scope;
@@ -34,6 +34,13 @@ impl Scopes {
         ensures { self.new ≡ record { file = self.old.file; inner = [] } }
     {
         self.inner.clear();
+    }
+
+    /// Whether no scope inside the file scope is open.
+    pub fn is_file_scope(&self) -> bool
+        ensures { IsTrue result ↔ (self.now.inner ≡ []) }
+    {
+        self.inner.is_empty()
     }
 
     /// Whether a scope inside the file scope has a name.

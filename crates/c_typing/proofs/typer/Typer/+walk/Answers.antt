@@ -115,13 +115,13 @@ suffix_layer-returns-in_ok-length-in-Some t c =
     (Ok c.in_ok-length-in-Some.length) is c.deref.ensures (ap (λ (e : Expr). e.line) c.deref-in-Some.ensures)
     c.in_ok-x-in-Some.ensures c.in_ok-length-in-Some.ensures
 
-pub suffix_layer-returns-in_ok-types-in-Params : goal.suffix_layer-returns-in_ok-types-in-Params
-suffix_layer-returns-in_ok-types-in-Params t c =
+pub suffix_layer-returns-in_ok-leave-in-Params : goal.suffix_layer-returns-in_ok-leave-in-Params
+suffix_layer-returns-in_ok-leave-in-Params t c =
     params_walk c.args.kind.now c.args.line c.in-Params.params c.deref-in-Params.result.now (context_of c.args.self.now c.args.tags.now)
     _ (context_of c.param_types.new.self c.args.tags.now) _ (plain_list c.in_ok-types-in-Params.types.items)
     c.in-Params.is c.deref-in-Params.ensures.value
-    (ap (λ (scopes : ScopeList). let at : Context = record { scopes = scopes; tags = with_new c.args.tags.now c.args.self.now.new_tags.items } in at) c.in_ok-enter-in-Params.ensures.ok)
-    (ap (λ (scopes : ScopeList). let at : Context = record { scopes = scopes; tags = with_new c.args.tags.now c.param_types.new.self.new_tags.items } in at) c.leave.ensures)
+    (ap (λ (scopes : ScopeList). let at : Context = record { scopes = scopes; tags = with_new c.args.tags.now c.args.self.now.new_tags.items } in at) c.in_ok-enter-in-Params.ensures)
+    (ap (λ (scopes : ScopeList). let at : Context = record { scopes = scopes; tags = with_new c.args.tags.now c.param_types.new.self.new_tags.items } in at) c.in_ok-leave-in-Params.ensures)
     c.in_ok-types-in-Params.ensures
 
 pub suffix_layer-returns-in_err-x-in-Some : goal.suffix_layer-returns-in_err-x-in-Some
@@ -150,7 +150,7 @@ suffix_layer-returns-in_err-types-in-Params t c =
     (params_refused c.args.kind.now c.args.line c.in-Params.params c.deref-in-Params.result.now (context_of c.args.self.now c.args.tags.now)
     _ (context_of c.param_types.new.self c.args.tags.now) c.in_err-types-in-Params.field-0.0
     c.in-Params.is c.deref-in-Params.ensures.value
-    (ap (λ (scopes : ScopeList). let at : Context = record { scopes = scopes; tags = with_new c.args.tags.now c.args.self.now.new_tags.items } in at) c.in_ok-enter-in-Params.ensures.ok)
+    (ap (λ (scopes : ScopeList). let at : Context = record { scopes = scopes; tags = with_new c.args.tags.now c.args.self.now.new_tags.items } in at) c.in_ok-enter-in-Params.ensures)
     c.in_err-types-in-Params.ensures)
 
 -- parameters
