@@ -1,0 +1,5 @@
+pub mod Enumerators
+pub mod Free
+pub mod MemberLists
+pub mod Nodes
+pub mod Turns
