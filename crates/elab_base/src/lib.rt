@@ -23,6 +23,7 @@ mod sizes;
 mod starts;
 mod statics;
 mod switches;
+mod variables;
 
 pub use code::{Code, Mark};
 pub use conversions::code_line;

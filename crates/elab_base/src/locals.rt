@@ -92,7 +92,7 @@ impl Elaborator {
     }
 
     /// The layout of a memory local of a type.
-    fn mem_layout(&self, ty: &CType) -> Result<Layout, NoMemory>
+    pub(crate) fn mem_layout(&self, ty: &CType) -> Result<Layout, NoMemory>
         ensures { IfOk result (λ layout. layout ≡ unwrap_or (layout_in self.now.tags (plain ty.now)) no_layout) }
     {
         match layout_in(self.alloc, &self.tags, ty)? {

@@ -1,0 +1,3 @@
+pub mod SpecWords
+pub mod Entries
+pub mod Again

@@ -1,0 +1,2 @@
+pub mod PlainStorage
+pub mod Alone

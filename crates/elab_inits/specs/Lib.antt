@@ -1,0 +1,4 @@
+pub mod PlainTarget
+pub mod PlainParts
+pub mod Braces
+pub mod GivenLengths
