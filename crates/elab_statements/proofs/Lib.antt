@@ -1,0 +1,5 @@
+pub mod Cuts
+pub mod InTurn
+pub mod Returns
+pub mod Switching
+pub mod StatementKinds

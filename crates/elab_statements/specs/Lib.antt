@@ -1,0 +1,3 @@
+pub mod PlainAround
+pub mod Held
+pub mod Switches
