@@ -1,8 +1,8 @@
 #!/usr/bin/env python3
-"""Runs every program of this folder by ./heapsafe and compares what it writes and answers.
+"""check.py [--quiet]: runs every program of this folder by ./heapsafe and compares what it writes and answers.
 
 NAME.c is run with NAME.in as its input, where there is one; it has to write NAME.out, nothing on the error stream, and to
-answer the status in NAME.status, 0 where there is none."""
+answer the status in NAME.status, 0 where there is none. With --quiet it says only what differs."""
 
 import os
 import subprocess
@@ -30,7 +30,8 @@ def main():
         if (ran.stdout, ran.stderr, ran.returncode) != wanted:
             wrong += 1
             print(f"{name}: got {ran.stdout!r} {ran.stderr!r} {ran.returncode}, wanted {wanted!r}")
-    print(f"{len(names) - wrong} of {len(names)} examples as expected")
+    if wrong or "--quiet" not in sys.argv[1:]:
+        print(f"{len(names) - wrong} of {len(names)} examples as expected")
     sys.exit(1 if wrong else 0)
 
 
