@@ -16,3 +16,6 @@ mod sorts;
 mod statements;
 
 pub use functions::is_sound;
+
+#[cfg(test)]
+mod tests;
