@@ -1,5 +1,5 @@
 -- Words that stand alone.
-use Rattle.std.specs.Prelude.{ℕ, Bool, true, false, List, [], ◌∷◌, Option, Some, None, Ok}
+use Rattle.std.specs.Prelude.{ℕ, Bool, true, false, cond, List, [], ◌∷◌, Option, Some, None, Ok}
 use Rattle.c_types.specs.Types.{PlainType, Struct, Union}
 use Rattle.c_tree.specs.declared.word.Keyword.{Keyword}
 use Rattle.c_tree.specs.declared.word.Keyword.TheVariants as k
@@ -29,8 +29,12 @@ is_no_tag None = false
 is_no_tag (Some (n.Tag type)) = false
 is_no_tag (Some other) = true
 
--- a struct or union of that sort
+-- whether a type is a struct or union of that sort
+abbrev pub is_of_sort : RecordSort → PlainType → Bool
+is_of_sort r.Struct (Struct tag) = true
+is_of_sort r.Union (Union tag) = true
+is_of_sort sort type = false
+
+-- a struct or union of that sort, or the refusal of one of the other sort
 abbrev pub of_sort : ℕ → RecordSort → Context → PlainType → With PlainType
-of_sort line r.Struct c (Struct tag) = Ok (c, Struct tag)
-of_sort line r.Union c (Union tag) = Ok (c, Union tag)
-of_sort line sort c type = refused DeclaredTwice line
+of_sort line sort c type = cond (is_of_sort sort type) (Ok (c, type)) (refused DeclaredTwice line)

@@ -13,7 +13,7 @@ ghost use Rattle.c_typing.specs.SpecWords.{keyword, passes};
 ghost use Rattle.elaboration.specs.Context.{asked};
 ghost use Rattle.elaboration.specs.Declarations as rules;
 ghost use Rattle.elaboration.specs.Declarators.{with_type};
-ghost use Rattle.elab_declarations.specs.Alone.{lone_tag, is_typedef_word, is_no_tag};
+ghost use Rattle.elab_declarations.specs.Alone.{lone_tag, is_typedef_word, is_no_tag, is_of_sort};
 ghost use Rattle.elab_declarations.specs.PlainStorage.{plain_storage};
 
 use c_decls::{Named, TypeError, TypeKind, refused, tag_name};
@@ -104,6 +104,46 @@ fn has_no_tag(state: &Elaborator, name: &[u8]) -> Result<bool, NoMemory>
     }
 }
 
+/// Whether a type is a struct.
+fn is_struct(ty: &CType) -> bool
+    ensures { result ≡ is_of_sort RecordSort.Struct (plain ty.now) }
+{
+    match ty {
+        CType::Struct(_) => true,
+        CType::Void
+        | CType::Int(_)
+        | CType::Pointer(_)
+        | CType::Array(_, _)
+        | CType::Union(_)
+        | CType::Function(_) => false,
+    }
+}
+
+/// Whether a type is a union.
+fn is_union(ty: &CType) -> bool
+    ensures { result ≡ is_of_sort RecordSort.Union (plain ty.now) }
+{
+    match ty {
+        CType::Union(_) => true,
+        CType::Void
+        | CType::Int(_)
+        | CType::Pointer(_)
+        | CType::Array(_, _)
+        | CType::Struct(_)
+        | CType::Function(_) => false,
+    }
+}
+
+/// Whether a type is a struct or union of that sort.
+fn is_of_sort(sort: RecordSort, ty: &CType) -> bool
+    ensures { result ≡ is_of_sort sort (plain ty.now) }
+{
+    match sort {
+        RecordSort::Struct => is_struct(ty),
+        RecordSort::Union => is_union(ty),
+    }
+}
+
 /// A struct or union by its name in the innermost scope alone; one that is not there is declared there.
 #[tactic(auto, using(crate::proofs::SpecWords::tag_by_begin, crate::proofs::SpecWords::tag_other))]
 fn tag_here(
@@ -119,10 +159,10 @@ fn tag_here(
         return refused(TypeKind::DeclaredTwice, line);
     }
     let ty = state.begin_record(sort, Some(name))?;
-    match (sort, &ty) {
-        (RecordSort::Struct, CType::Struct(_)) => Ok(ty),
-        (RecordSort::Union, CType::Union(_)) => Ok(ty),
-        _ => refused(TypeKind::DeclaredTwice, line),
+    if is_of_sort(sort, &ty) {
+        Ok(ty)
+    } else {
+        refused(TypeKind::DeclaredTwice, line)
     }
 }
 
@@ -139,7 +179,7 @@ fn lone_tag(words: &[Spec]) -> Option<&Tag>
 }
 
 /// The type of specs that are one tag: `struct s;` alone declares the tag in its scope, whatever stands outside.
-#[tactic(auto, using(crate::proofs::SpecWords::alone_record, crate::proofs::Words::alone_body, crate::proofs::Words::alone_enum, crate::proofs::Words::alone_enum_body))]
+#[tactic(auto, using(crate::proofs::SpecWords::alone_record, crate::proofs::SpecWords::alone_body, crate::proofs::SpecWords::alone_enum, crate::proofs::SpecWords::alone_enum_body))]
 fn tag_alone(state: &mut Elaborator, words: &Specs, tag: &Tag) -> Result<CType, TypeError>
     requires { lone_tag words.now.words.items ≡ Some tag.now }
     ensures { Meets (λ ty. (state.new, plain ty)) result (rules.specs_alone (specs_view words.now) state.old) }

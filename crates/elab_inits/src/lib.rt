@@ -11,6 +11,8 @@ mod lengths;
 mod parts;
 mod starts;
 mod targets;
+#[cfg(test)]
+mod tests;
 mod texts;
 mod unwanted;
 
