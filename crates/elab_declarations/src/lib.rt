@@ -5,6 +5,8 @@
 mod files;
 mod locals;
 mod names;
+#[cfg(test)]
+mod tests;
 mod words;
 
 pub use names::declaration;
