@@ -1,5 +1,5 @@
 -- The parameters of a function that is defined, and its body.
-use Rattle.std.proofs.Common.{◌≡◌, ◌<◌, ◌≤◌, ℕ, zero, suc, List, [], ◌∷◌, Option, Some, None, Box, Vec, Global, length, get_or, refl, ap, sym, ◌∙◌, arith}
+use Rattle.std.proofs.Common.{◌≡◌, ◌<◌, ◌≤◌, ℕ, List, [], ◌∷◌, Option, Some, None, Box, Vec, Global, length, get_or, refl, ap, sym, ◌∙◌, arith}
 use Rattle.c_tree.specs.declared.tree.Declarator.{Declarator}
 use Rattle.c_tree.specs.declared.tree.Declarator.TheVariants as d
 use Rattle.c_tree.specs.declared.tree.Base.{Base}
@@ -10,7 +10,7 @@ use Rattle.c_tree.specs.declared.tree.SuffixKind.TheVariants as s
 use Rattle.c_tree.specs.declared.tree.Param.{Param}
 use Rattle.c_tree.specs.declared.tree.Expr.{Expr}
 use Rattle.c_tree.specs.Forms as f
-use Rattle.c_tree.specs.Tree.{Tree, Trees, Leaf, At, Node, none, ◌▹◌}
+use Rattle.c_tree.specs.Tree.{Tree, Trees, At, Node, none, ◌▹◌}
 use Rattle.c_tree.specs.Grammar.{shape}
 use Rattle.c_tree.specs.Scopes.{is_scope, first_list, leads_to_name, params_of, params_among, suffix_params}
 use Rattle.c_tree.specs.View.{declarator_tree, base_tree, suffix_tree}

@@ -1,7 +1,7 @@
 -- Lists of trees that are gone through in turn.
-use Rattle.std.proofs.Common.{◌≡◌, ◌<◌, ◌≤◌, ◌+◌, ℕ, zero, suc, Bool, true, false, ◌||◌, List, [], ◌∷◌, drop, length, get_or, refl, ap, sym, ◌∙◌, arith}
+use Rattle.std.proofs.Common.{◌≡◌, ◌<◌, ◌≤◌, ◌+◌, ℕ, zero, suc, List, [], ◌∷◌, drop, length, get_or, refl, ap, sym, ◌∙◌, arith}
 use Rattle.std.proofs.Math.Seq.{drop-cons}
-use Rattle.c_tree.specs.Tree.{Tree, Trees}
+use Rattle.c_tree.specs.Tree.{Tree}
 use Rattle.c_tree.specs.StatementView.{trees}
 use Rattle.elaboration.specs.Addressed.{Taken, taken}
 use Rattle.elab_addressed.specs.Turns.{in_turn}

@@ -1,10 +1,10 @@
 -- Parts of a node that are gone through in turn.
-use Rattle.std.proofs.Common.{◌≡◌, ◌≤◌, ℕ, zero, suc, Bool, true, false, ◌||◌, List, [], ◌∷◌, refl, ap, ◌∙◌, arith}
+use Rattle.std.proofs.Common.{◌≡◌, ◌≤◌, ℕ, zero, suc, Bool, false, ◌||◌, List, ◌∷◌, refl, ap, ◌∙◌, arith}
 use Rattle.std.specs.Prelude.{replicate}
 use Rattle.c_tree.specs.Forms as f
 use Rattle.c_tree.specs.Places.{Place, Expression}
 use Rattle.c_tree.specs.Places as p
-use Rattle.c_tree.specs.Tree.{Tree, Trees, At, Node, none, ◌▹◌, count}
+use Rattle.c_tree.specs.Tree.{Trees, At, Node, none, ◌▹◌, count}
 use Rattle.c_tree.specs.Grammar.{shape, rows, commas, behind_commas, some_commas, some}
 use Rattle.c_tree.specs.Scopes.{places, is_scope, has_typedef}
 use Rattle.elaboration.specs.Addressed.{Taken, taken, all_taken, left, left_part}

@@ -1,5 +1,5 @@
 -- Names stand behind those before them, so those before a scope hold again behind it.
-use Rattle.std.proofs.Common.{◌≡◌, ◌+◌, ℕ, Bool, true, false, List, [], ◌∷◌, ◌++◌, Option, Some, None, take, length, reverse, refl, ap, sym, subst, ◌∙◌, append_assoc}
+use Rattle.std.proofs.Common.{◌≡◌, ℕ, Bool, true, false, List, [], ◌∷◌, ◌++◌, Option, Some, None, take, length, reverse, refl, ap, sym, ◌∙◌, append_assoc}
 use Rattle.std.proofs.lemmas.List.{reverse-append, reverse-reverse, length-reverse}
 use Rattle.std.proofs.Math.Seq.{take-append_seam}
 use Rattle.c_tree.specs.Forms.{Form}
@@ -13,7 +13,7 @@ use Rattle.c_tree.specs.declared.statement.StmtKind.{StmtKind}
 use Rattle.c_tree.specs.declared.statement.StmtKind.TheVariants as s
 use Rattle.c_tree.specs.declared.statement.StmtKind.{None', Some'}
 use Rattle.c_tree.specs.StatementView.{expr_view, start_view, maybe_expr, stmt_tree, stmt_trees, if_tree}
-use Rattle.elaboration.specs.Addressed.{Known, Taken, taken, all_taken, left, left_part, left_scope, plain_name, number_of, with_number, with_address, with_known, with_local, declare}
+use Rattle.elaboration.specs.Addressed.{Known, Taken, taken, all_taken, left, left_part, left_scope, plain_name, number_of, with_number, with_address, with_known, declare}
 use Rattle.elab_addressed.specs.Turns.{in_turn, settled, back_to, inside, is_scope_kind, left_if}
 
 -- some names in front of others

@@ -24,14 +24,14 @@ use Rattle.c_tree.specs.declared.statement.StmtKind.{StmtKind}
 use Rattle.c_tree.specs.declared.statement.StmtKind.TheVariants as k
 use Rattle.c_tree.specs.declared.operator.RecordSort.{RecordSort}
 use Rattle.c_tree.specs.Forms as f
-use Rattle.c_tree.specs.Tree.{Tree, Trees, Leaf, At, Node, none, ◌▹◌}
+use Rattle.c_tree.specs.Tree.{Tree, At, Node, none, ◌▹◌}
 use Rattle.c_tree.specs.declared.word.Keyword.TheVariants as w
 use Rattle.c_tree.specs.Places.{Place}
 use Rattle.c_tree.specs.Places as p
 use Rattle.c_tree.specs.Grammar.{Item, Part, key, shape}
 use Rattle.c_tree.specs.Scopes.{first_name, name_of, name_among, leads_to_name, places, is_scope}
-use Rattle.c_tree.specs.View.{name_leaf, expr_tree, tag_tree, spec_tree, enumerator_tree, declarator_tree, base_tree, suffix_tree, literal_leaves, maybe_name}
-use Rattle.c_tree.specs.StatementView.{maybe, trees, expr_view, specs_view, typename_view, member_view, suffix_view, param_view, init_tree, init_view, entry_view, names_view, stmt_tree, stmt_view, if_view}
+use Rattle.c_tree.specs.View.{name_leaf, expr_tree, tag_tree, enumerator_tree, declarator_tree, base_tree, suffix_tree, literal_leaves, maybe_name}
+use Rattle.c_tree.specs.StatementView.{maybe, trees, expr_view, specs_view, typename_view, member_view, suffix_view, param_view, init_tree, init_view, entry_view, names_view, stmt_tree, stmt_view}
 use Rattle.c_tree.proofs.Views.{enumerator_value_tree, array_tree, call_tree, sizeof_type_tree, cast_tree, record_body_tree, enum_body_tree, direct_tree, params_tree}
 use Rattle.c_tree.proofs.StatementViews.{init_list_tree, block_tree, delay_tree, if_else_tree}
 use Rattle.elaboration.specs.Addressed.{Taken, taken, all_taken, left, left_scope, with_known, with_local, declare}

@@ -8,7 +8,9 @@ use Rattle.c_tree.specs.declared.tree.SuffixKind.{SuffixKind}
 use Rattle.c_tree.specs.Forms as f
 use Rattle.c_tree.specs.Scopes.{places, suffix_params}
 use Rattle.c_tree.specs.View.{suffix_tree}
-use Rattle.elaboration.specs.Addressed.{Taken, taken, all_taken}
+use Rattle.c_tree.specs.declared.operator.UnaryOp.{UnaryOp}
+use Rattle.c_tree.specs.declared.operator.UnaryOp.TheVariants as u
+use Rattle.elaboration.specs.Addressed.{Taken, taken, all_taken, plain_name, with_address}
 
 -- what is known behind some trees that are no scopes
 abbrev pub in_turn : Trees → Taken → Taken
@@ -47,3 +49,8 @@ is_scope_kind kind = false
 -- the parameters of a suffix, if it has some
 abbrev pub kind_params : SuffixKind → Option Trees
 kind_params kind = suffix_params (Node f.Suffixes (suffix_tree kind 0 ▹ none) ▹ none)
+
+-- what a sign before an operand does behind it
+abbrev pub behind_operator : UnaryOp → Tree → Taken → Taken
+behind_operator u.Address operand t = with_address (plain_name operand) t
+behind_operator op operand t = t

@@ -5,7 +5,7 @@ ghost use Rattle.c_tree.specs.Scopes.{has_typedef};
 ghost use Rattle.c_tree.specs.View.{expr_tree, spec_tree, tag_tree, enumerator_tree, declarator_tree, base_tree, suffix_tree};
 ghost use Rattle.c_tree.specs.StatementView.{trees, expr_view, specs_view, typename_view, tag_view, member_view, suffix_view, param_view};
 ghost use Rattle.elaboration.specs.Addressed.{taken, left_scope};
-ghost use Rattle.elab_addressed.specs.Turns.{in_turn, settled};
+ghost use Rattle.elab_addressed.specs.Turns.{in_turn, settled, behind_operator};
 ghost use Rattle.elab_addressed.specs.Words.{is_typedef_word};
 
 use crate::taken::{Taken, plain_name};
@@ -15,6 +15,16 @@ use c_tree::{
 };
 use c_typing::declared_name;
 use hs_base::NoMemory;
+
+/// A sign before an operand, behind it: `&` takes the address of its name.
+fn operator(state: &mut Taken, op: UnaryOp, operand: &Expr) -> Result<(), NoMemory>
+    ensures { IfOk result (λ _. state.new ≡ behind_operator op (expr_view operand.now) state.old) }
+{
+    match op {
+        UnaryOp::Address => state.with_address(plain_name(operand)),
+        _ => Ok(()),
+    }
+}
 
 /// An expression.
 #[cycle(walk)]
@@ -29,7 +39,7 @@ pub(crate) fn expr(state: &mut Taken, e: &Expr) -> Result<(), NoMemory>
 
 /// What stands in an expression of that kind.
 #[cycle(walk)]
-#[tactic(auto, unfolding(c_tree::specs::View::expr_tree, elaboration::specs::Addressed::taken, elaboration::specs::Addressed::left, c_tree::specs::Grammar::shape, c_tree::specs::Scopes::is_scope), using(crate::proofs::TreeParts::str_is, crate::proofs::TreeParts::call_is, crate::proofs::TreeParts::sizeof_is, crate::proofs::TreeParts::cast_is, crate::proofs::Addresses::address_is))]
+#[tactic(auto, unfolding(c_tree::specs::View::expr_tree, elaboration::specs::Addressed::taken, elaboration::specs::Addressed::left, c_tree::specs::Grammar::shape, c_tree::specs::Scopes::is_scope), using(crate::proofs::TreeParts::str_is, crate::proofs::TreeParts::call_is, crate::proofs::TreeParts::sizeof_is, crate::proofs::TreeParts::cast_is, crate::proofs::Addresses::unary_is))]
 fn expr_parts(state: &mut Taken, line: u32, kind: &ExprKind) -> Result<(), NoMemory>
     ensures { IfOk result (λ _. settled state.old state.new ≡ taken (expr_tree kind.now line) state.old) }
 {
@@ -43,11 +53,10 @@ fn expr_parts(state: &mut Taken, line: u32, kind: &ExprKind) -> Result<(), NoMem
         | ExprKind::PreInc(inner)
         | ExprKind::PreDec(inner)
         | ExprKind::SizeofExpr(inner) => expr(state, inner),
-        ExprKind::Unary(UnaryOp::Address, inner) => {
+        ExprKind::Unary(op, inner) => {
             expr(state, inner)?;
-            state.with_address(plain_name(inner))
+            operator(state, *op, inner)
         }
-        ExprKind::Unary(_, inner) => expr(state, inner),
         ExprKind::Index(left, right)
         | ExprKind::Binary(_, left, right)
         | ExprKind::Assign(_, left, right)
