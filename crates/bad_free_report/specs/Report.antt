@@ -11,9 +11,11 @@ use Rattle.hs_base.specs.declared.ends.Holder.TheVariants.{Global, Memory, Block
 use Rattle.hs_base.specs.declared.ends.BadFree.{BadFree as WrongFree}
 use Rattle.hs_base.specs.declared.ends.End.{End}
 use Rattle.hs_base.specs.declared.ends.End.TheVariants.{Exit, Trap, BadFree, Escape, Spent, OutOfHeap, OutOfStack, InputFault, OutputFault}
-use Rattle.first_core.specs.declared.Core.{Core}
-use Rattle.first_core.specs.declared.Func.{Func}
-use Rattle.first_core.specs.declared.Reg.{Reg}
+use Rattle.core_tree.specs.declared.program.Core.{Core}
+use Rattle.core_tree.specs.declared.program.Func.{Func}
+use Rattle.core_tree.specs.declared.program.Mem.{Mem}
+use Rattle.core_tree.specs.declared.program.Reg.{Reg}
+use Rattle.core_tree.specs.declared.program.Static as program
 
 -- a text's line of that number, from 1, with the byte 10 that ends it; a line behind the last byte has none
 unfoldable pub whole_line : List ℕ → ℕ → List ℕ
@@ -91,13 +93,15 @@ abbrev pub register_name : Core → ℕ → ℕ → Option (List ℕ)
 register_name core f r =
     option_and_then (λ (reg : Reg). reg.name) (option_and_then (λ (func : Func). slice_get func.regs r) (slice_get core.funcs f))
 
--- the name of a static; a core has no statics yet
-unfoldable pub static_name : Core → ℕ → List ℕ
-static_name core index = codes "-"
+-- the name of a static; a string literal's has none
+abbrev pub static_name : Core → ℕ → List ℕ
+static_name core index =
+    name_or_dash (option_and_then (λ (static : program.Static). static.name) (slice_get core.statics index))
 
--- the name of a function's memory local; a function has no memory locals yet
-unfoldable pub local_name : Core → ℕ → ℕ → List ℕ
-local_name core f index = codes "-"
+-- the name of a function's memory local
+abbrev pub local_name : Core → ℕ → ℕ → List ℕ
+local_name core f index =
+    name_or_dash (option_map (λ (mem : Mem). mem.name) (option_and_then (λ (func : Func). slice_get func.mems index) (slice_get core.funcs f)))
 
 -- a register that holds a freed object; one without a name is a value of its function
 abbrev pub register_text : Option (List ℕ) → List ℕ → List ℕ

@@ -9,7 +9,7 @@ use crate::holders::put_holder;
 use crate::lines::{complain, complain_at, complain_labelled};
 use crate::names::local_name;
 use crate::words::{reason_words, trap_word};
-use first_core::Core;
+use core_tree::Core;
 use hs_base::{BadFree, End, Failed, Holder, Reason, Sink};
 
 /// Writes the lines that say how a run ended: nothing of an exit; for a trap, a bad free, an escape, and a want of heap or

@@ -7,7 +7,7 @@ ghost use Rattle.bad_free_report.specs.Report.{func_name, holder_text, register_
 
 use crate::names::{func_name, local_name, register_name, static_name};
 use crate::parts::put_parts;
-use first_core::Core;
+use core_tree::Core;
 use hs_base::{Failed, Holder, Sink};
 use itoa::Buffer;
 

@@ -3,7 +3,7 @@
 ghost use Rattle.std.specs.Prelude.{◌≡◌, option_copied};
 ghost use Rattle.bad_free_report.specs.Report.{func_name, local_name, register_name, static_name};
 
-use first_core::Core;
+use core_tree::Core;
 
 /// The name of a function.
 pub(crate) fn func_name(core: &Core, func: u32) -> &[u8]
@@ -27,18 +27,28 @@ pub(crate) fn register_name(core: &Core, func: u32, register: u32) -> Option<&[u
     }
 }
 
-/// The name of a static. A core has no statics yet.
-#[tactic(auto, unfolding(crate::specs::Report::static_name))]
-pub(crate) fn static_name(_core: &Core, _index: u32) -> &[u8]
-    ensures { result.now ≡ static_name _core.now _index }
+/// The name of a static. A string literal's has none.
+pub(crate) fn static_name(core: &Core, index: u32) -> &[u8]
+    ensures { result.now ≡ static_name core.now index }
 {
-    b"-"
+    match core.statics.get(index as usize) {
+        Some(named) => match &named.name {
+            Some(name) => name.as_slice(),
+            None => b"-",
+        },
+        None => b"-",
+    }
 }
 
-/// The name of a function's memory local. A function has no memory locals yet.
-#[tactic(auto, unfolding(crate::specs::Report::local_name))]
-pub(crate) fn local_name(_core: &Core, _func: u32, _index: u32) -> &[u8]
-    ensures { result.now ≡ local_name _core.now _func _index }
+/// The name of a function's memory local.
+pub(crate) fn local_name(core: &Core, func: u32, index: u32) -> &[u8]
+    ensures { result.now ≡ local_name core.now func index }
 {
-    b"-"
+    match core.funcs.get(func as usize) {
+        Some(func) => match func.mems.get(index as usize) {
+            Some(local) => local.name.as_slice(),
+            None => b"-",
+        },
+        None => b"-",
+    }
 }

@@ -1,5 +1,6 @@
 use crate::{complain, complain_at, complain_labelled, leak_line, report};
-use first_core::{Core, Func, Reg};
+use c_types::Layout;
+use core_tree::{Core, Func, Mem, Reg, Start, Static};
 use hs_base::{BadFree, End, Holder, Items, Leak, Line, MemSink, Reason, TrapKind};
 use std::alloc::Global;
 use std::process::Abort;
@@ -17,28 +18,71 @@ fn bytes(alloc: Global, text: &[u8]) -> Result<Items<u8>, Fail> {
     Ok(Items::from(Vec::from_slice(alloc, text)?))
 }
 
-/// A function with one register.
-fn function(alloc: Global, name: &[u8], register: Option<Items<u8>>) -> Result<Func, Fail> {
+/// A function with one register, and one memory local where it has a name for it.
+fn function(
+    alloc: Global,
+    name: &[u8],
+    register: Option<Items<u8>>,
+    local: Option<Items<u8>>,
+) -> Result<Func, Fail> {
     let mut regs = Items::new(alloc);
     regs.push(Reg {
         name: register,
         pointer: true,
     })?;
+    let mut mems = Items::new(alloc);
+    if let Some(name) = local {
+        mems.push(Mem {
+            name,
+            layout: word(alloc),
+        })?;
+    }
     Ok(Func {
         name: bytes(alloc, name)?,
         line: 1,
         params: 0,
         regs,
+        mems,
         body: Items::new(alloc),
+        formats: Items::new(alloc),
     })
 }
 
-/// A main with a local p, and an f whose register has no name.
+fn word(alloc: Global) -> Layout {
+    Layout {
+        size: 4,
+        align: 4,
+        slots: Items::new(alloc),
+    }
+}
+
+/// A static with a name, and one of a string literal.
+fn two_statics(alloc: Global) -> Result<Items<Static>, Fail> {
+    let mut statics = Items::new(alloc);
+    for name in [Some(bytes(alloc, b"g")?), None] {
+        statics.push(Static {
+            name,
+            layout: word(alloc),
+            start: Start {
+                bytes: Items::new(alloc),
+                pointers: Items::new(alloc),
+            },
+        })?;
+    }
+    Ok(statics)
+}
+
+/// A main with a local p, and an f whose register has no name and which has a memory local x.
 fn two_functions(alloc: Global) -> Result<Core, Fail> {
     let mut funcs = Items::new(alloc);
-    funcs.push(function(alloc, b"main", Some(bytes(alloc, b"p")?))?)?;
-    funcs.push(function(alloc, b"f", None)?)?;
-    Ok(Core { funcs })
+    let p = Some(bytes(alloc, b"p")?);
+    let x = Some(bytes(alloc, b"x")?);
+    funcs.push(function(alloc, b"main", p, None)?)?;
+    funcs.push(function(alloc, b"f", None, x)?)?;
+    Ok(Core {
+        statics: two_statics(alloc)?,
+        funcs,
+    })
 }
 
 fn bad_free(reason: Reason, line: Line, holder: Option<Holder>) -> End {
@@ -112,6 +156,57 @@ fn free_rows() -> [Row; 5] {
     ]
 }
 
+fn named_rows() -> [Row; 4] {
+    [
+        case(
+            bad_free(
+                Reason::Held,
+                7,
+                Some(Holder::Global {
+                    index: 0,
+                    offset: 0,
+                }),
+            ),
+            b"char *g;\nint main(void){\ng = malloc(1);\n\n\n\nfree(g);\nreturn 0;}",
+            b"a.c:7: bad free: held\n  free(g);\nheld by global g at 0\n",
+        ),
+        case(
+            bad_free(
+                Reason::Held,
+                1,
+                Some(Holder::Global {
+                    index: 1,
+                    offset: 8,
+                }),
+            ),
+            b"free(p);\n",
+            b"a.c:1: bad free: held\n  free(p);\nheld by global - at 8\n",
+        ),
+        case(
+            bad_free(
+                Reason::Held,
+                1,
+                Some(Holder::Memory {
+                    func: 1,
+                    index: 0,
+                    offset: 4,
+                }),
+            ),
+            b"free(p);\n",
+            b"a.c:1: bad free: held\n  free(p);\nheld by local x of f at 4\n",
+        ),
+        case(
+            End::Escape {
+                func: 1,
+                local: 0,
+                line: 3,
+            },
+            b"int *g;\nvoid f(void){ int x = 1; g = &x;\n}\nint main(void){ f(); return 0;}",
+            b"a.c:3: escape: x\n  }\n",
+        ),
+    ]
+}
+
 fn other_rows() -> [Row; 6] {
     [
         case(End::Exit(126), b"int main(void){return 126;}", b""),
@@ -160,6 +255,7 @@ fn each_end_of_a_run(rt: HostRuntime) -> Result<(), Fail> {
     let core = two_functions(rt.alloc())?;
     try_rows(&rt, rt.alloc(), &core, &trap_rows())?;
     try_rows(&rt, rt.alloc(), &core, &free_rows())?;
+    try_rows(&rt, rt.alloc(), &core, &named_rows())?;
     try_rows(&rt, rt.alloc(), &core, &other_rows())
 }
 

@@ -15,9 +15,9 @@ option name = record (new_rule name) { long = Some name }
 abbrev pub run : App
 run = with_rule (with_rule (new_app (codes "run")) file) (option (codes "steps"))
 
--- `print FILE`
-abbrev pub print : App
-print = with_rule (new_app (codes "print")) file
+-- a command with a file alone
+abbrev pub plain : Text → App
+plain name = with_rule (new_app name) file
 
 -- all words are arguments; there is one command, and no help and no version
 abbrev pub bare : Shape → Shape
@@ -29,6 +29,11 @@ bare shape = record shape {
   subcommand_required = true;
 }
 
--- all commands
+-- the program before its commands
+abbrev pub program : App
+program = on_top bare (new_app (codes "heapsafe"))
+
+-- `run`, and `print FILE`, `layout FILE`, `list FILE`
 abbrev pub command_set : App
-command_set = with_subcommand (with_subcommand (on_top bare (new_app (codes "heapsafe"))) run.top) print.top
+command_set =
+    with_subcommand (with_subcommand (with_subcommand (with_subcommand program run.top) (plain (codes "print")).top) (plain (codes "layout")).top) (plain (codes "list")).top

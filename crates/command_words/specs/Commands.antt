@@ -1,5 +1,5 @@
 -- What the words of the command line ask for.
-use Rattle.std.specs.Prelude.{◌≡◌, ⊤, ℕ, cond, nat_eq, List, length, Option, Some, None, option_and_then, Result, Ok, Err, codes}
+use Rattle.std.specs.Prelude.{◌≡◌, ⊤, ℕ, cond, nat_eq, List as Listed, length, Option, Some, None, option_and_then, Result, Ok, Err, codes}
 use Rattle.std.specs.Str.{bytes_eq}
 use Rattle.clap.specs.Words.{Row, Text, first_of, fault_of, subcommand_of}
 use Rattle.command_words.specs.CommandSet.{command_set}
@@ -10,13 +10,16 @@ use Rattle.command_words.specs.declared.command.Task.TheVariants as tasks
 use Rattle.command_words.specs.declared.error.WordsError.{WordsError}
 use Rattle.command_words.specs.declared.error.WordsError.TheVariants.{Usage, NoMemory}
 
--- what is done with a text: it is run with at most so many steps, or its canonical spelling is written
+-- what is done with a text: it is run with at most so many steps; or its canonical spelling is written, the layouts of its
+-- structs and unions, or its core
 pub data Task : Type 0 where
   Run : (steps : ℕ) → Task
   Print : Task
+  Layout : Task
+  List : Task
 
 pub record Command : Type 0 where
-  pub file : List ℕ
+  pub file : Listed ℕ
   pub task : Task
 
 abbrev pub most_steps : ℕ
@@ -35,19 +38,24 @@ abbrev pub with_file : Text → Task → Option Command
 with_file file task = cond (is_file file) (Some (record { file = file; task = task })) None
 
 -- what a command asks for, by the values of its arguments
-abbrev pub run_in : List Row → Option Command
+abbrev pub run_in : Listed Row → Option Command
 run_in rows =
     option_and_then (λ file. option_and_then (λ steps. with_file file (Run steps)) (steps_in (first_of (codes "steps") rows))) (first_of (codes "FILE") rows)
 
-abbrev pub print_in : List Row → Option Command
-print_in rows = option_and_then (λ file. with_file file Print) (first_of (codes "FILE") rows)
+abbrev pub plain_in : Task → Listed Row → Option Command
+plain_in task rows = option_and_then (λ file. with_file file task) (first_of (codes "FILE") rows)
 
-abbrev pub asked : Text → List Row → Option Command
+-- the task of a command with a file alone
+abbrev pub task_named : Text → Option Task
+task_named name =
+    cond (bytes_eq name (codes "print")) (Some Print) (cond (bytes_eq name (codes "layout")) (Some Layout) (cond (bytes_eq name (codes "list")) (Some List) None))
+
+abbrev pub asked : Text → Listed Row → Option Command
 asked name rows =
-    cond (bytes_eq name (codes "run")) (run_in rows) (cond (bytes_eq name (codes "print")) (print_in rows) None)
+    cond (bytes_eq name (codes "run")) (run_in rows) (option_and_then (λ task. plain_in task rows) (task_named name))
 
 -- words in which `clap` finds no fault ask for what their command and its values say; all other words are not taken
-abbrev pub command_of : List Text → Option Command
+abbrev pub command_of : Listed Text → Option Command
 command_of words =
     cond (nat_eq (length (fault_of command_set words)) 0) (option_and_then (λ p. asked p.0 p.1) (subcommand_of command_set words)) None
 
@@ -55,6 +63,8 @@ command_of words =
 abbrev pub task_shown : code_task.Task → Task
 task_shown (tasks.Run steps) = Run steps
 task_shown tasks.Print = Print
+task_shown tasks.Layout = Layout
+task_shown tasks.List = List
 
 abbrev pub command_shown : code.Command → Command
 command_shown command = record { file = command.file.now; task = task_shown command.task }

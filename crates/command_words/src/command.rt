@@ -2,7 +2,7 @@
 
 ghost use Rattle.std.specs.Prelude.{◌≡◌, map, option_map};
 ghost use Rattle.clap.specs.Words.{first_of, found_of, rows_of};
-ghost use Rattle.command_words.specs.Commands.{command_of, command_shown, task_shown, asked, run_in, print_in, with_file, IsRead};
+ghost use Rattle.command_words.specs.Commands.{command_of, command_shown, task_shown, asked, run_in, plain_in, task_named, with_file, IsRead};
 
 use crate::error::WordsError;
 use crate::set::command_set;
@@ -25,6 +25,10 @@ pub enum Task {
     Run { steps: u64 },
     /// Its canonical spelling is written.
     Print,
+    /// The layouts of its structs and unions are written.
+    Layout,
+    /// The functions of its core are written.
+    List,
 }
 
 /// What is done with a file, if the word can be its name.
@@ -58,14 +62,30 @@ fn run<'a>(found: &ArgMatches<'a>) -> Result<Command<'a>, WordsError>
     }
 }
 
-/// `print`, by the values of its arguments.
-fn print<'a>(found: &ArgMatches<'a>) -> Result<Command<'a>, WordsError>
-    ensures { IsRead (print_in (rows_of (found_of found.now))) result }
+/// A command with a file alone, by the values of its arguments.
+fn plain<'a>(task: Task, found: &ArgMatches<'a>) -> Result<Command<'a>, WordsError>
+    ensures { IsRead (plain_in (task_shown task) (rows_of (found_of found.now))) result }
 {
     match value_of(found, "FILE") {
-        Some(file) => with_file(file, Task::Print),
+        Some(file) => with_file(file, task),
         None => Err(WordsError::Usage),
     }
+}
+
+/// The task of a command with a file alone.
+fn task_named(name: &str) -> Option<Task>
+    ensures { option_map task_shown result ≡ task_named name.now }
+{
+    if name == "print" {
+        return Some(Task::Print);
+    }
+    if name == "layout" {
+        return Some(Task::Layout);
+    }
+    if name == "list" {
+        return Some(Task::List);
+    }
+    None
 }
 
 /// What a command asks for.
@@ -75,10 +95,10 @@ fn asked<'a>(name: &str, found: &ArgMatches<'a>) -> Result<Command<'a>, WordsErr
     if name == "run" {
         return run(found);
     }
-    if name == "print" {
-        return print(found);
+    match task_named(name) {
+        Some(task) => plain(task, found),
+        None => Err(WordsError::Usage),
     }
-    Err(WordsError::Usage)
 }
 
 /// Reads the words behind the program's name.

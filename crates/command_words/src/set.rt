@@ -30,6 +30,8 @@ pub(crate) fn command_set<'a>(alloc: Global) -> Result<Command<'a>, AllocError>
     let steps = option(alloc, "steps");
     let run = Command::new(alloc, "run").arg(file(alloc))?.arg(steps)?;
     let print = Command::new(alloc, "print").arg(file(alloc))?;
+    let layout = Command::new(alloc, "layout").arg(file(alloc))?;
+    let list = Command::new(alloc, "list").arg(file(alloc))?;
     Command::new(alloc, "heapsafe")
         .no_binary_name(true)
         .disable_help_flag(true)
@@ -37,5 +39,7 @@ pub(crate) fn command_set<'a>(alloc: Global) -> Result<Command<'a>, AllocError>
         .disable_help_subcommand(true)
         .subcommand_required(true)
         .subcommand(run)?
-        .subcommand(print)
+        .subcommand(print)?
+        .subcommand(layout)?
+        .subcommand(list)
 }

@@ -4,29 +4,21 @@ use crate::command::{Command, Task, read};
 use crate::error::WordsError;
 use std::test::Fail;
 
-/// A command as a file with a number of steps, 0 for `print`.
+/// A command as a file with a number of steps, 0 for one that takes none.
 fn shown<'a>(read: Result<Command<'a>, WordsError>) -> Option<(&'a str, u64)> {
-    match read {
-        Ok(
-            Command {
-                file,
-                task: Task::Run { steps },
-            },
-        ) => Some((file, steps)),
-        Ok(
-            Command {
-                file,
-                task: Task::Print,
-            },
-        ) => Some((file, 0)),
-        Err(_) => None,
+    let Ok(Command { file, task }) = read else {
+        return None;
+    };
+    match task {
+        Task::Run { steps } => Some((file, steps)),
+        Task::Print | Task::Layout | Task::List => Some((file, 0)),
     }
 }
 
 /// Options stand before or after the file, with a blank or `=`; leading zeros are allowed; behind `--` stands a file.
 #[test]
 fn words_that_are_taken(rt: HostRuntime) -> Result<(), Fail> {
-    let rows: [(&[&str], &str, u64); 9] = [
+    let rows: [(&[&str], &str, u64); 11] = [
         (&["run", "a.c"], "a.c", 100_000_000),
         (&["run", "a.c", "--steps", "5"], "a.c", 5),
         (&["run", "--steps", "5", "a.c"], "a.c", 5),
@@ -36,6 +28,8 @@ fn words_that_are_taken(rt: HostRuntime) -> Result<(), Fail> {
         (&["run", "a.c", "--"], "a.c", 100_000_000),
         (&["print", "run"], "run", 0),
         (&["print", "--", "a.c"], "a.c", 0),
+        (&["layout", "a.c"], "a.c", 0),
+        (&["list", "a.c"], "a.c", 0),
     ];
     for (words, file, number) in rows {
         assert_eq!(rt; shown(read(rt.alloc(), words)), Some((file, number)));

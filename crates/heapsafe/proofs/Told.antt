@@ -88,6 +88,11 @@ pub gives_more : (Is Is' : Shown → Type 0) → ((s : Shown) → Is s → Is' s
 gives_more Is Is' more o e out err result g =
     record { shown = g.shown; is = ⊎_elim (λ h. inl (more g.shown h)) (λ h. inr h) g.is; out_took = g.out_took; err_took = g.err_took; status = g.status }
 
+-- an answer that is another
+pub gives_same : (s s' : Shown) (o e : List ℕ) (out err : Option (List ℕ)) (result : ℕ) → s ≡ s' → Gives (λ (a : Shown). a ≡ s) o e out err result → Gives (λ (a : Shown). a ≡ s') o e out err result
+gives_same s s' o e out err result same g =
+    gives_more (λ (a : Shown). a ≡ s) (λ (a : Shown). a ≡ s') (λ a is. is ∙ same) o e out err result g
+
 pub gives_tokens : (file text : List ℕ) (tokens : List Token) (core : Core) (input : List ℕ) (steps : ℕ) (o e : List ℕ) (out err : Option (List ℕ)) (result : ℕ) → IsBuilt text tokens core → ((other : Core) → IsBuilt text tokens other → other ≡ core) → Gives (AnswersRun file text core input steps) o e out err result → Gives (AnswersTree file text tokens input steps) o e out err result
 gives_tokens file text tokens core input steps o e out err result is only g =
     gives_more (AnswersRun file text core input steps) (AnswersTree file text tokens input steps) (λ s ran. run_is file text tokens core input steps s is only ran) o e out err result g

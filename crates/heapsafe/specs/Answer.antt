@@ -1,5 +1,5 @@
 -- What the program writes and answers for its words.
-use Rattle.std.specs.Prelude.{◌≡◌, ◌⊎◌, ◌++◌, ℕ, nat_lt, List, [], length, Option, Some, None, MatchBool, codes}
+use Rattle.std.specs.Prelude.{◌≡◌, ◌⊎◌, ◌++◌, ℕ, nat_lt, List, [], length, Option, Some, None, Ok, Err, MatchBool, codes}
 use Rattle.hs_base.specs.declared.ends.End.{End}
 use Rattle.hs_base.specs.declared.ends.End.TheVariants as end
 use Rattle.hs_base.specs.Trace.{bytes_out}
@@ -14,7 +14,15 @@ use Rattle.c_lexer.specs.Tokens.{HasTokens, HasBadPlace}
 use Rattle.c_tree.specs.Tree.{Trees}
 use Rattle.c_tree.specs.HasTree.{HasTree, GoesWrong}
 use Rattle.c_tree.specs.Canonical.{canonical}
-use Rattle.command_words.specs.Commands.{Command, Task, Run, Print, command_of}
+use Rattle.c_types.specs.TagTable.{TagTable}
+use Rattle.core_tree.specs.declared.program.Core.{Core as WholeCore}
+use Rattle.core_tree.specs.Listing.{listing}
+use Rattle.c_decls.specs.Refusals.{Checked, Refusal}
+use Rattle.c_decls.specs.Refusals as types
+use Rattle.elaboration.specs.Elaboration.{tags_of}
+use Rattle.c_elab.specs.Core.{core_in}
+use Rattle.layout_list.specs.Listing.{layout_listing}
+use Rattle.command_words.specs.Commands.{Command, Task, Run, Print, Layout, List as ListCore, command_of}
 use Rattle.heapsafe.specs.Reading.{most_bytes}
 use Rattle.heapsafe.specs.Running.{end_in}
 use Rattle.heapsafe.specs.Form.{IsBuilt}
@@ -48,8 +56,24 @@ bad_place file text kind line = refusal_at file text line (codes "lex: " ++ word
 abbrev pub bad_syntax : List ℕ → List ℕ → ℕ → Shown
 bad_syntax file text line = refusal_at file text line (codes "syntax") 124
 
+abbrev pub bad_type : List ℕ → List ℕ → Refusal → Shown
+bad_type file text refusal = refusal_at file text refusal.line (codes "type: " ++ types.word_of refusal.kind) 125
+
+-- an answer that is written alone
+abbrev pub written : List ℕ → Shown
+written text = record { out = text; err = []; status = 0 }
+
+-- the canonical spelling, the layouts of structs and unions, and the functions of the core
 abbrev pub printed : Trees → Shown
-printed externals = record { out = canonical externals; err = []; status = 0 }
+printed externals = written (canonical externals)
+
+abbrev pub layouts_shown : List ℕ → List ℕ → Checked TagTable → Shown
+layouts_shown file text (Ok tags) = written (layout_listing tags)
+layouts_shown file text (Err refusal) = bad_type file text refusal
+
+abbrev pub core_shown : List ℕ → List ℕ → Checked WholeCore → Shown
+core_shown file text (Ok core) = written (listing core)
+core_shown file text (Err refusal) = bad_type file text refusal
 
 abbrev pub not_built : List ℕ → Shown
 not_built file = refusal file (codes "not built") 135
@@ -86,6 +110,8 @@ pub record AnswersTree (file text : List ℕ) (tokens : List Token) (input : Lis
 abbrev pub Does : List ℕ → List ℕ → List Token → Trees → List ℕ → Task → Shown → Type 0
 Does file text tokens externals input (Run steps) a = AnswersTree file text tokens input steps a
 Does file text tokens externals input Print a = a ≡ printed externals
+Does file text tokens externals input Layout a = a ≡ layouts_shown file text (tags_of externals)
+Does file text tokens externals input ListCore a = a ≡ core_shown file text (core_in externals)
 
 -- a text without a tree is refused, by the line of the first external declaration that has none
 pub record AnswersTokens (file text : List ℕ) (tokens : List Token) (input : List ℕ) (task : Task) (a : Shown) : Type 0 where

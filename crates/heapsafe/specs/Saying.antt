@@ -3,7 +3,9 @@ use Rattle.std.specs.Prelude.{◌≡◌, ◌⊎◌, ◌<◌, ◌≤◌, ◌+◌,
 use Rattle.bad_free_report.specs.Report.{complaint}
 use Rattle.heapsafe.specs.declared.refusal.Refusal.{Refusal}
 use Rattle.heapsafe.specs.declared.refusal.Refusal.TheVariants.{Usage, TextFault, TextTooLong, NoMemory, NotBuilt, OutputFault}
-use Rattle.heapsafe.specs.Answer.{Shown, refusal, text_too_long, no_memory, bad_place, bad_syntax}
+use Rattle.heapsafe.specs.Answer.{Shown, refusal, text_too_long, no_memory, bad_place, bad_syntax, bad_type}
+use Rattle.c_decls.specs.declared.refusal.TypeError.{TypeError}
+use Rattle.c_decls.specs.declared.refusal.TypeError.TheVariants as type
 use Rattle.c_parser.specs.declared.error.ParseError.{ParseError}
 use Rattle.c_parser.specs.declared.error.ParseError.TheVariants as parse
 use Rattle.c_lexer.specs.declared.token.LexError.{LexError}
@@ -54,6 +56,11 @@ untokened lex.NoMemory file text = no_memory
 abbrev pub unparsed : ParseError → List ℕ → List ℕ → Shown
 unparsed (parse.Syntax line) file text = bad_syntax file text line
 unparsed parse.NoMemory file text = no_memory
+
+-- what is said where types are refused
+abbrev pub untyped : TypeError → List ℕ → List ℕ → Shown
+untyped (type.Bad kind line) file text = bad_type file text (record { kind = kind; line = line })
+untyped type.NoMemory file text = no_memory
 
 -- the error stream took these bytes and the status is this one, or a write to it failed and the status is 133
 abbrev pub Says : Option (List ℕ) → Option (List ℕ) → ℕ → ℕ → List ℕ → ℕ → ℕ → Type 0

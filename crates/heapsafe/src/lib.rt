@@ -11,7 +11,11 @@ ghost use Rattle.first_core.specs.Sound.{IsSound};
 ghost use Rattle.command_words.specs.Commands.{command_of, task_shown};
 ghost use Rattle.c_tree.specs.StatementView.{unit_view};
 ghost use Rattle.bad_free_report.specs.Report.{end_report};
-ghost use Rattle.heapsafe.specs.Answer.{Answers, AnswersRun, AnswersTree, AnswersTokens, AnswersFile, Does, printed, status_of};
+ghost use Rattle.core_tree.specs.Listing.{listing};
+ghost use Rattle.c_elab.specs.Core.{core_in};
+ghost use Rattle.elaboration.specs.Elaboration.{tags_of};
+ghost use Rattle.layout_list.specs.Listing.{layout_listing};
+ghost use Rattle.heapsafe.specs.Answer.{Answers, AnswersRun, AnswersTree, AnswersTokens, AnswersFile, Does, core_shown, layouts_shown, printed, status_of, written};
 ghost use Rattle.heapsafe.specs.Saying.{Says, Gives, Faults, shown_of, unread};
 
 mod form;
@@ -20,16 +24,20 @@ mod refusal;
 mod runner;
 
 use bad_free_report::report;
+use c_elab::{elab, tags};
 use c_lexer::{Token, lex};
 use c_parser::parse;
 use c_tree::{Unit, write_unit};
+use c_types::Tags;
 use command_words::{Command, Task, WordsError};
+use core_tree::{Core as WholeCore, list};
 use first_core::Core;
 use first_form::FormError;
 use form::core_of;
 use hs_base::{End, Limits, Sink, Source, Texts, put_all};
+use layout_list::list_layouts;
 use reading::{ReadError, read_text};
-use refusal::{OUTPUT_FAULT, Refusal, refuse, refuse_text, refuse_tokens};
+use refusal::{OUTPUT_FAULT, Refusal, refuse, refuse_text, refuse_tokens, refuse_types};
 use runner::run;
 use std::alloc::Global;
 
@@ -135,6 +143,19 @@ fn run_tokens<O: Sink, E: Sink>(
     }
 }
 
+/// Writes a text to the output.
+fn write_text<O: Sink, E: Sink>(text: &[u8], out: &mut O, err: &mut E) -> u8
+    requires out { O.faults out.old + 1 < 2 ^ 64 }
+    requires err { E.faults err.old + 1 < 2 ^ 64 }
+    ensures exact { (o e : List ℕ) → O.taken out.old ≡ Some o → E.taken err.old ≡ Some e → O.faults out.new ≡ O.faults out.old → E.faults err.new ≡ E.faults err.old → Gives (λ a. a ≡ written text.now) o e (O.taken out.new) (E.taken err.new) result }
+    ensures faults { (t : ℕ) → Faults t t (O.faults out.old) (O.faults out.new) (E.faults err.old) (E.faults err.new) result }
+{
+    match put_all(out, text) {
+        Ok(()) => 0,
+        Err(_) => refuse(err, Refusal::OutputFault),
+    }
+}
+
 /// Writes the canonical spelling of a text.
 fn print<O: Sink, E: Sink>(alloc: Global, unit: &Unit, out: &mut O, err: &mut E) -> u8
     requires out { O.faults out.old + 1 < 2 ^ 64 }
@@ -142,12 +163,75 @@ fn print<O: Sink, E: Sink>(alloc: Global, unit: &Unit, out: &mut O, err: &mut E)
     ensures exact { (o e : List ℕ) → O.taken out.old ≡ Some o → E.taken err.old ≡ Some e → O.faults out.new ≡ O.faults out.old → E.faults err.new ≡ E.faults err.old → Gives (λ a. a ≡ printed (unit_view unit.now)) o e (O.taken out.new) (E.taken err.new) result }
     ensures faults { (t : ℕ) → Faults t t (O.faults out.old) (O.faults out.new) (E.faults err.old) (E.faults err.new) result }
 {
-    let Ok(text) = write_unit(alloc, unit) else {
-        return refuse(err, Refusal::NoMemory);
-    };
-    match put_all(out, text.as_slice()) {
-        Ok(()) => 0,
-        Err(_) => refuse(err, Refusal::OutputFault),
+    match write_unit(alloc, unit) {
+        Ok(text) => write_text(text.as_slice(), out, err),
+        Err(_) => refuse(err, Refusal::NoMemory),
+    }
+}
+
+/// Writes the lines of completed structs and unions.
+fn write_layouts<O: Sink, E: Sink>(alloc: Global, tags: &Tags, out: &mut O, err: &mut E) -> u8
+    requires out { O.faults out.old + 1 < 2 ^ 64 }
+    requires err { E.faults err.old + 1 < 2 ^ 64 }
+    ensures exact { (o e : List ℕ) → O.taken out.old ≡ Some o → E.taken err.old ≡ Some e → O.faults out.new ≡ O.faults out.old → E.faults err.new ≡ E.faults err.old → Gives (λ a. a ≡ written (layout_listing tags.now)) o e (O.taken out.new) (E.taken err.new) result }
+    ensures faults { (t : ℕ) → Faults t t (O.faults out.old) (O.faults out.new) (E.faults err.old) (E.faults err.new) result }
+{
+    match list_layouts(alloc, tags) {
+        Ok(text) => write_text(text.as_slice(), out, err),
+        Err(_) => refuse(err, Refusal::NoMemory),
+    }
+}
+
+/// Writes the layouts of a text's structs and unions.
+fn layouts<O: Sink, E: Sink>(
+    alloc: Global,
+    file: &str,
+    text: &[u8],
+    unit: &Unit,
+    out: &mut O,
+    err: &mut E,
+) -> u8
+    requires out { O.faults out.old + 1 < 2 ^ 64 }
+    requires err { E.faults err.old + 1 < 2 ^ 64 }
+    ensures exact { (o e : List ℕ) → O.taken out.old ≡ Some o → E.taken err.old ≡ Some e → O.faults out.new ≡ O.faults out.old → E.faults err.new ≡ E.faults err.old → Gives (λ a. a ≡ layouts_shown file.now text.now (tags_of (unit_view unit.now))) o e (O.taken out.new) (E.taken err.new) result }
+    ensures faults { (t : ℕ) → Faults t t (O.faults out.old) (O.faults out.new) (E.faults err.old) (E.faults err.new) result }
+{
+    match tags(alloc, unit) {
+        Ok(tags) => write_layouts(alloc, &tags, out, err),
+        Err(error) => refuse_types(err, error, file, text),
+    }
+}
+
+/// Writes the functions of a core.
+fn write_core<O: Sink, E: Sink>(alloc: Global, core: &WholeCore, out: &mut O, err: &mut E) -> u8
+    requires out { O.faults out.old + 1 < 2 ^ 64 }
+    requires err { E.faults err.old + 1 < 2 ^ 64 }
+    ensures exact { (o e : List ℕ) → O.taken out.old ≡ Some o → E.taken err.old ≡ Some e → O.faults out.new ≡ O.faults out.old → E.faults err.new ≡ E.faults err.old → Gives (λ a. a ≡ written (listing core.now)) o e (O.taken out.new) (E.taken err.new) result }
+    ensures faults { (t : ℕ) → Faults t t (O.faults out.old) (O.faults out.new) (E.faults err.old) (E.faults err.new) result }
+{
+    match list(alloc, core) {
+        Ok(text) => write_text(text.as_slice(), out, err),
+        Err(_) => refuse(err, Refusal::NoMemory),
+    }
+}
+
+/// Writes the functions of a text's core.
+fn core_list<O: Sink, E: Sink>(
+    alloc: Global,
+    file: &str,
+    text: &[u8],
+    unit: &Unit,
+    out: &mut O,
+    err: &mut E,
+) -> u8
+    requires out { O.faults out.old + 1 < 2 ^ 64 }
+    requires err { E.faults err.old + 1 < 2 ^ 64 }
+    ensures exact { (o e : List ℕ) → O.taken out.old ≡ Some o → E.taken err.old ≡ Some e → O.faults out.new ≡ O.faults out.old → E.faults err.new ≡ E.faults err.old → Gives (λ a. a ≡ core_shown file.now text.now (core_in (unit_view unit.now))) o e (O.taken out.new) (E.taken err.new) result }
+    ensures faults { (t : ℕ) → Faults t t (O.faults out.old) (O.faults out.new) (E.faults err.old) (E.faults err.new) result }
+{
+    match elab(alloc, unit) {
+        Ok(core) => write_core(alloc, &core, out, err),
+        Err(error) => refuse_types(err, error, file, text),
     }
 }
 
@@ -171,6 +255,8 @@ fn with_tree<O: Sink, E: Sink>(
     match task {
         Task::Run { steps } => run_tokens(alloc, file, text, tokens, steps, out, err),
         Task::Print => print(alloc, unit, out, err),
+        Task::Layout => layouts(alloc, file, text, unit, out, err),
+        Task::List => core_list(alloc, file, text, unit, out, err),
     }
 }
 

@@ -2,9 +2,10 @@
 
 ghost use Rattle.std.specs.Prelude.{◌≡◌, ◌+◌, ◌<◌, ◌^◌, ◌++◌};
 ghost use Rattle.heapsafe.specs.Answer.{refusal_at};
-ghost use Rattle.heapsafe.specs.Saying.{Says, name_of, words_of, status_in, shown_of, untokened, unparsed};
+ghost use Rattle.heapsafe.specs.Saying.{Says, name_of, words_of, status_in, shown_of, untokened, unparsed, untyped};
 
 use bad_free_report::{complain, complain_labelled};
+use c_decls::TypeError;
 use c_lexer::LexError;
 use c_parser::ParseError;
 use hs_base::{Line, Sink};
@@ -121,5 +122,26 @@ pub(crate) fn refuse_tokens<E: Sink>(err: &mut E, error: ParseError, file: &str,
     match error {
         ParseError::Syntax { line } => refuse_at(err, file, text, line, b"", b"syntax", 124),
         ParseError::NoMemory => refuse(err, Refusal::NoMemory),
+    }
+}
+
+/// Says why the types of a text are refused, and answers the status of that.
+pub(crate) fn refuse_types<E: Sink>(err: &mut E, error: TypeError, file: &str, text: &[u8]) -> u8
+    requires { E.faults err.old + 1 < 2 ^ 64 }
+    ensures says { Says (E.taken err.old) (E.taken err.new) (E.faults err.old) (E.faults err.new) (untyped error file.now text.now).err (untyped error file.now text.now).status result }
+{
+    match error {
+        TypeError::Bad { kind, line } => {
+            refuse_at(
+                err,
+                file,
+                text,
+                line,
+                b"type: ",
+                kind.word().as_bytes(),
+                125,
+            )
+        }
+        TypeError::NoMemory => refuse(err, Refusal::NoMemory),
     }
 }

@@ -15,3 +15,13 @@ pub returns-in-Print-clause-exact : goal.returns-in-Print-clause-exact
 returns-in-Print-clause-exact g c = λ input o e h i same_out same_err.
     subst (λ (t : Task). Gives (Does c.args.file.now c.args.text.now c.args.tokens.now (unit_view c.args.unit.now) input (task_shown t)) o e (g.O.Sink.taken c.print.new.out) (g.E.Sink.taken c.print.new.err) c.print.result) (sym c.in-Print.is)
     (c.print.ensures.exact o e h i same_out same_err)
+
+pub returns-in-Layout-clause-exact : goal.returns-in-Layout-clause-exact
+returns-in-Layout-clause-exact g c = λ input o e h i same_out same_err.
+    subst (λ (t : Task). Gives (Does c.args.file.now c.args.text.now c.args.tokens.now (unit_view c.args.unit.now) input (task_shown t)) o e (g.O.Sink.taken c.layouts.new.out) (g.E.Sink.taken c.layouts.new.err) c.layouts.result) (sym c.in-Layout.is)
+    (c.layouts.ensures.exact o e h i same_out same_err)
+
+pub returns-in-List-clause-exact : goal.returns-in-List-clause-exact
+returns-in-List-clause-exact g c = λ input o e h i same_out same_err.
+    subst (λ (t : Task). Gives (Does c.args.file.now c.args.text.now c.args.tokens.now (unit_view c.args.unit.now) input (task_shown t)) o e (g.O.Sink.taken c.core_list.new.out) (g.E.Sink.taken c.core_list.new.err) c.core_list.result) (sym c.in-List.is)
+    (c.core_list.ensures.exact o e h i same_out same_err)

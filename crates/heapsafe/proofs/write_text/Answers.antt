@@ -1,0 +1,13 @@
+use Rattle.std.proofs.Common.{◌∙◌, Some, inl, refl, sym, ap}
+use Rattle.std.proofs.lemmas.List.{append-nil}
+use Rattle.heapsafe.specs.Answer.{written}
+use Rattle.heapsafe.proofs.write_text.Goals as goal
+
+pub returns-in-Ok-clause-exact : goal.returns-in-Ok-clause-exact
+returns-in-Ok-clause-exact g c = λ o e h i same_out same_err. record {
+  shown = written c.args.text.now;
+  is = inl refl;
+  out_took = c.in-Ok.ensures.bytes o h;
+  err_took = i ∙ ap Some (sym (append-nil e));
+  status = refl;
+}
