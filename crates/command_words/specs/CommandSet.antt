@@ -11,9 +11,13 @@ file = record (new_rule (codes "FILE")) { required = true }
 abbrev pub option : Text → Rule
 option name = record (new_rule name) { long = Some name }
 
--- `run FILE [--steps N]`
+-- `run FILE [--stack N] [--steps N]`
 abbrev pub run : App
-run = with_rule (with_rule (new_app (codes "run")) file) (option (codes "steps"))
+run = with_rule (with_rule (with_rule (new_app (codes "run")) file) (option (codes "stack"))) (option (codes "steps"))
+
+-- `mean FILE [--steps N]`
+abbrev pub mean : App
+mean = with_rule (with_rule (new_app (codes "mean")) file) (option (codes "steps"))
 
 -- a command with a file alone
 abbrev pub plain : Text → App
@@ -33,7 +37,7 @@ bare shape = record shape {
 abbrev pub program : App
 program = on_top bare (new_app (codes "heapsafe"))
 
--- `run`, and `print FILE`, `layout FILE`, `list FILE`
+-- `run` and `mean`, and `print FILE`, `layout FILE`, `list FILE`
 abbrev pub command_set : App
 command_set =
-    with_subcommand (with_subcommand (with_subcommand (with_subcommand program run.top) (plain (codes "print")).top) (plain (codes "layout")).top) (plain (codes "list")).top
+    with_subcommand (with_subcommand (with_subcommand (with_subcommand (with_subcommand program run.top) mean.top) (plain (codes "print")).top) (plain (codes "layout")).top) (plain (codes "list")).top

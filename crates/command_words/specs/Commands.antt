@@ -10,10 +10,11 @@ use Rattle.command_words.specs.declared.command.Task.TheVariants as tasks
 use Rattle.command_words.specs.declared.error.WordsError.{WordsError}
 use Rattle.command_words.specs.declared.error.WordsError.TheVariants.{Usage, NoMemory}
 
--- what is done with a text: it is run with at most so many steps; or its canonical spelling is written, the layouts of its
--- structs and unions, or its core
+-- what is done with a text: it is run on a stack of so many bytes with at most so many steps, or its meaning is evaluated
+-- with so many; or its canonical spelling is written, the layouts of its structs and unions, or its core
 pub data Task : Type 0 where
-  Run : (steps : ℕ) → Task
+  Run : (stack steps : ℕ) → Task
+  Mean : (steps : ℕ) → Task
   Print : Task
   Layout : Task
   List : Task
@@ -22,16 +23,18 @@ pub record Command : Type 0 where
   pub file : Listed ℕ
   pub task : Task
 
-abbrev pub most_steps : ℕ
-most_steps = 1000000000
+-- the value of an option, within its limits, or its default
+abbrev pub value_in : (least most default : ℕ) → Option Text → Option ℕ
+value_in least most default None = Some default
+value_in least most default (Some word) = within least most (number_in word)
 
-abbrev pub default_steps : ℕ
-default_steps = 100000000
-
--- the greatest number of steps: the value of the option, or the default
+-- how many steps a run may make at most
 abbrev pub steps_in : Option Text → Option ℕ
-steps_in None = Some default_steps
-steps_in (Some word) = within 1 most_steps (number_in word)
+steps_in word = value_in 1 1000000000 100000000 word
+
+-- how many bytes its stack has
+abbrev pub stack_in : Option Text → Option ℕ
+stack_in word = value_in 0 67108864 1048576 word
 
 -- a task with a file
 abbrev pub with_file : Text → Task → Option Command
@@ -40,7 +43,11 @@ with_file file task = cond (is_file file) (Some (record { file = file; task = ta
 -- what a command asks for, by the values of its arguments
 abbrev pub run_in : Listed Row → Option Command
 run_in rows =
-    option_and_then (λ file. option_and_then (λ steps. with_file file (Run steps)) (steps_in (first_of (codes "steps") rows))) (first_of (codes "FILE") rows)
+    option_and_then (λ file. option_and_then (λ stack. option_and_then (λ steps. with_file file (Run stack steps)) (steps_in (first_of (codes "steps") rows))) (stack_in (first_of (codes "stack") rows))) (first_of (codes "FILE") rows)
+
+abbrev pub mean_in : Listed Row → Option Command
+mean_in rows =
+    option_and_then (λ file. option_and_then (λ steps. with_file file (Mean steps)) (steps_in (first_of (codes "steps") rows))) (first_of (codes "FILE") rows)
 
 abbrev pub plain_in : Task → Listed Row → Option Command
 plain_in task rows = option_and_then (λ file. with_file file task) (first_of (codes "FILE") rows)
@@ -52,7 +59,7 @@ task_named name =
 
 abbrev pub asked : Text → Listed Row → Option Command
 asked name rows =
-    cond (bytes_eq name (codes "run")) (run_in rows) (option_and_then (λ task. plain_in task rows) (task_named name))
+    cond (bytes_eq name (codes "run")) (run_in rows) (cond (bytes_eq name (codes "mean")) (mean_in rows) (option_and_then (λ task. plain_in task rows) (task_named name)))
 
 -- words in which `clap` finds no fault ask for what their command and its values say; all other words are not taken
 abbrev pub command_of : Listed Text → Option Command
@@ -61,7 +68,8 @@ command_of words =
 
 -- the code's command as the definition has it
 abbrev pub task_shown : code_task.Task → Task
-task_shown (tasks.Run steps) = Run steps
+task_shown (tasks.Run stack steps) = Run stack steps
+task_shown (tasks.Mean steps) = Mean steps
 task_shown tasks.Print = Print
 task_shown tasks.Layout = Layout
 task_shown tasks.List = List

@@ -2,11 +2,11 @@
 
 ghost use Rattle.std.specs.Prelude.{◌≡◌, map, option_map};
 ghost use Rattle.clap.specs.Words.{first_of, found_of, rows_of};
-ghost use Rattle.command_words.specs.Commands.{command_of, command_shown, task_shown, asked, run_in, plain_in, task_named, with_file, IsRead};
+ghost use Rattle.command_words.specs.Commands.{command_of, command_shown, task_shown, asked, run_in, mean_in, plain_in, task_named, with_file, IsRead};
 
 use crate::error::WordsError;
 use crate::set::command_set;
-use crate::values::{is_file, steps};
+use crate::values::{is_file, stack, steps};
 use clap::ArgMatches;
 use clap::error::ErrorKind;
 use std::alloc::Global;
@@ -21,8 +21,10 @@ pub struct Command<'a> {
 /// What is done with a text.
 #[derive(Clone, Copy)]
 pub enum Task {
-    /// It is compiled and run, with at most so many steps.
-    Run { steps: u64 },
+    /// It is run on a stack of so many bytes, with at most so many steps.
+    Run { stack: u32, steps: u64 },
+    /// Its meaning is evaluated, with at most so many steps.
+    Mean { steps: u64 },
     /// Its canonical spelling is written.
     Print,
     /// The layouts of its structs and unions are written.
@@ -56,8 +58,24 @@ fn run<'a>(found: &ArgMatches<'a>) -> Result<Command<'a>, WordsError>
     let Some(file) = value_of(found, "FILE") else {
         return Err(WordsError::Usage);
     };
+    let Some(stack) = stack(value_of(found, "stack")) else {
+        return Err(WordsError::Usage);
+    };
     match steps(value_of(found, "steps")) {
-        Some(steps) => with_file(file, Task::Run { steps }),
+        Some(steps) => with_file(file, Task::Run { stack, steps }),
+        None => Err(WordsError::Usage),
+    }
+}
+
+/// `mean`, by the values of its arguments.
+fn mean<'a>(found: &ArgMatches<'a>) -> Result<Command<'a>, WordsError>
+    ensures { IsRead (mean_in (rows_of (found_of found.now))) result }
+{
+    let Some(file) = value_of(found, "FILE") else {
+        return Err(WordsError::Usage);
+    };
+    match steps(value_of(found, "steps")) {
+        Some(steps) => with_file(file, Task::Mean { steps }),
         None => Err(WordsError::Usage),
     }
 }
@@ -94,6 +112,9 @@ fn asked<'a>(name: &str, found: &ArgMatches<'a>) -> Result<Command<'a>, WordsErr
 {
     if name == "run" {
         return run(found);
+    }
+    if name == "mean" {
+        return mean(found);
     }
     match task_named(name) {
         Some(task) => plain(task, found),

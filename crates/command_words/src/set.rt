@@ -27,8 +27,14 @@ fn option<'a>(alloc: Global, name: &'a str) -> Arg<'a>
 pub(crate) fn command_set<'a>(alloc: Global) -> Result<Command<'a>, AllocError>
     ensures { IfOk result (λ c. app_of c ≡ command_set) }
 {
+    let stack = option(alloc, "stack");
     let steps = option(alloc, "steps");
-    let run = Command::new(alloc, "run").arg(file(alloc))?.arg(steps)?;
+    let run = Command::new(alloc, "run")
+        .arg(file(alloc))?
+        .arg(stack)?
+        .arg(steps)?;
+    let budget = option(alloc, "steps");
+    let mean = Command::new(alloc, "mean").arg(file(alloc))?.arg(budget)?;
     let print = Command::new(alloc, "print").arg(file(alloc))?;
     let layout = Command::new(alloc, "layout").arg(file(alloc))?;
     let list = Command::new(alloc, "list").arg(file(alloc))?;
@@ -39,6 +45,7 @@ pub(crate) fn command_set<'a>(alloc: Global) -> Result<Command<'a>, AllocError>
         .disable_help_subcommand(true)
         .subcommand_required(true)
         .subcommand(run)?
+        .subcommand(mean)?
         .subcommand(print)?
         .subcommand(layout)?
         .subcommand(list)

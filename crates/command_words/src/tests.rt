@@ -4,35 +4,50 @@ use crate::command::{Command, Task, read};
 use crate::error::WordsError;
 use std::test::Fail;
 
-/// A command as a file with a number of steps, 0 for one that takes none.
-fn shown<'a>(read: Result<Command<'a>, WordsError>) -> Option<(&'a str, u64)> {
+/// A command as a file with a stack and a number of steps, each 0 where it takes none.
+fn shown<'a>(read: Result<Command<'a>, WordsError>) -> Option<(&'a str, u32, u64)> {
     let Ok(Command { file, task }) = read else {
         return None;
     };
     match task {
-        Task::Run { steps } => Some((file, steps)),
-        Task::Print | Task::Layout | Task::List => Some((file, 0)),
+        Task::Run { stack, steps } => Some((file, stack, steps)),
+        Task::Mean { steps } => Some((file, 0, steps)),
+        Task::Print | Task::Layout | Task::List => Some((file, 0, 0)),
     }
 }
 
 /// Options stand before or after the file, with a blank or `=`; leading zeros are allowed; behind `--` stands a file.
 #[test]
 fn words_that_are_taken(rt: HostRuntime) -> Result<(), Fail> {
-    let rows: [(&[&str], &str, u64); 11] = [
-        (&["run", "a.c"], "a.c", 100_000_000),
-        (&["run", "a.c", "--steps", "5"], "a.c", 5),
-        (&["run", "--steps", "5", "a.c"], "a.c", 5),
-        (&["run", "--steps=007", "a.c"], "a.c", 7),
-        (&["run", "a.c", "--steps=1000000000"], "a.c", 1_000_000_000),
-        (&["run", "--", "a.c"], "a.c", 100_000_000),
-        (&["run", "a.c", "--"], "a.c", 100_000_000),
-        (&["print", "run"], "run", 0),
-        (&["print", "--", "a.c"], "a.c", 0),
-        (&["layout", "a.c"], "a.c", 0),
-        (&["list", "a.c"], "a.c", 0),
+    let rows: [(&[&str], &str, u32, u64); 15] = [
+        (&["run", "a.c"], "a.c", 1_048_576, 100_000_000),
+        (&["run", "a.c", "--steps", "5"], "a.c", 1_048_576, 5),
+        (&["run", "--steps", "5", "a.c"], "a.c", 1_048_576, 5),
+        (&["run", "--steps=007", "a.c"], "a.c", 1_048_576, 7),
+        (
+            &["run", "a.c", "--steps=1000000000", "--stack=0"],
+            "a.c",
+            0,
+            1_000_000_000,
+        ),
+        (
+            &["run", "--stack", "67108864", "a.c", "--steps", "1"],
+            "a.c",
+            67_108_864,
+            1,
+        ),
+        (&["run", "--", "a.c"], "a.c", 1_048_576, 100_000_000),
+        (&["run", "a.c", "--"], "a.c", 1_048_576, 100_000_000),
+        (&["mean", "a.c"], "a.c", 0, 100_000_000),
+        (&["mean", "--steps", "5", "a.c"], "a.c", 0, 5),
+        (&["print", "run"], "run", 0, 0),
+        (&["print", "mean"], "mean", 0, 0),
+        (&["print", "--", "a.c"], "a.c", 0, 0),
+        (&["layout", "a.c"], "a.c", 0, 0),
+        (&["list", "a.c"], "a.c", 0, 0),
     ];
-    for (words, file, number) in rows {
-        assert_eq!(rt; shown(read(rt.alloc(), words)), Some((file, number)));
+    for (words, file, stack, steps) in rows {
+        assert_eq!(rt; shown(read(rt.alloc(), words)), Some((file, stack, steps)));
     }
     Ok(())
 }
@@ -41,7 +56,7 @@ fn words_that_are_taken(rt: HostRuntime) -> Result<(), Fail> {
 /// without its value, and a number out of its limits.
 #[test]
 fn words_that_are_not_taken(rt: HostRuntime) -> Result<(), Fail> {
-    let rows: [&[&str]; 24] = [
+    let rows: [&[&str]; 30] = [
         &[],
         &["run"],
         &["print"],
@@ -65,6 +80,12 @@ fn words_that_are_not_taken(rt: HostRuntime) -> Result<(), Fail> {
         &["run", "a.c", "--steps", "0000000000000000005"],
         &["run", "a.c", "--steps", "5", "--steps", "5"],
         &["run", "a.c", "--step", "5"],
+        &["run", "a.c", "--stack", "67108865"],
+        &["run", "a.c", "--stack", "5", "--stack", "5"],
+        &["run", "a.c", "--heap", "5"],
+        &["mean"],
+        &["mean", "a.c", "--steps", "0"],
+        &["mean", "a.c", "--stack", "5"],
         &["print", "a.c", "--steps", "5"],
     ];
     for words in rows {

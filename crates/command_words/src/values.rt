@@ -1,14 +1,20 @@
 //! The rules that the values of arguments have beside those of `clap`.
 
-ghost use Rattle.std.specs.Prelude.{◌≡◌, option_map};
+ghost use Rattle.std.specs.Prelude.{◌≡◌, ◌≤◌, ⊤, MatchOption, option_map};
 ghost use Rattle.command_words.specs.Numbers.{is_file, number_in};
-ghost use Rattle.command_words.specs.Commands.{steps_in};
+ghost use Rattle.command_words.specs.Commands.{stack_in, steps_in, value_in};
 
 /// How many steps a run may make where the words do not say.
 const DEFAULT_STEPS: u64 = 100_000_000;
 
 /// How many steps a run may make at most.
 const MOST_STEPS: u64 = 1_000_000_000;
+
+/// How many bytes the stack of a run has where the words do not say.
+const DEFAULT_STACK: u64 = 1_048_576;
+
+/// How many bytes the stack of a run has at most.
+const MOST_STACK: u64 = 67_108_864;
 
 /// Says whether a word can be a file's name: it is not empty and does not begin with a dash.
 pub(crate) fn is_file(word: &str) -> bool
@@ -20,19 +26,36 @@ pub(crate) fn is_file(word: &str) -> bool
     }
 }
 
-/// The greatest number of steps: the value of the option, from 1 to 1,000,000,000, or the default.
-pub(crate) fn steps(word: Option<&str>) -> Option<u64>
-    ensures { result ≡ steps_in (option_map (λ w. w.now) word.entry) }
+/// The value of an option, from the least to the most, or its default, which is at most that.
+fn value(word: Option<&str>, least: u64, most: u64, default: u64) -> Option<u64>
+    requires { default ≤ most }
+    ensures value { result ≡ value_in least most default (option_map (λ w. w.now) word.entry) }
+    ensures bound { MatchOption result ⊤ (λ n. n ≤ most) }
 {
     let Some(word) = word else {
-        return Some(DEFAULT_STEPS);
+        return Some(default);
     };
     let number = number(word.as_bytes())?;
-    if 1 <= number && number <= MOST_STEPS {
+    if least <= number && number <= most {
         Some(number)
     } else {
         None
     }
+}
+
+/// The greatest number of steps: the value of the option, from 1 to 1,000,000,000, or the default.
+pub(crate) fn steps(word: Option<&str>) -> Option<u64>
+    ensures { result ≡ steps_in (option_map (λ w. w.now) word.entry) }
+{
+    value(word, 1, MOST_STEPS, DEFAULT_STEPS)
+}
+
+/// The bytes of the stack: the value of the option, from 0 to 67,108,864, or the default.
+pub(crate) fn stack(word: Option<&str>) -> Option<u32>
+    ensures { result ≡ stack_in (option_map (λ w. w.now) word.entry) }
+{
+    let bytes = value(word, 0, MOST_STACK, DEFAULT_STACK)?;
+    Some(bytes as u32)
 }
 
 /// A number of 1 to 18 decimal digits.

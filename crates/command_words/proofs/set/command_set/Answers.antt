@@ -2,7 +2,7 @@ use Rattle.std.proofs.Common.{◌≡◌, ◌∙◌, ap, ap₂, Bool, ◌||◌, c
 use Rattle.std.proofs.lemmas.Result.{IfOk-weaker}
 use Rattle.clap.specs.Words.{App, Shape, app_of, new_app, with_rule, with_subcommand}
 use Rattle.clap.specs.Simple.{on_top, app_of_fields}
-use Rattle.command_words.specs.CommandSet.{run, plain, program}
+use Rattle.command_words.specs.CommandSet.{run, mean, plain, program}
 use Rattle.command_words.proofs.set.command_set.Goals as goal
 
 abbrev words_alone : Shape → Shape
@@ -26,20 +26,26 @@ either a b = a || b
 pub returns : goal.returns
 returns c =
     let run_is : app_of c.in_ok-run.run' ≡ run = c.in_ok-run.ensures.shape c.option-steps.ensures.local
-    ∙ ap₂ with_rule (c.in_ok-arg.ensures.shape c.file.ensures.local ∙ ap₂ with_rule c.new.ensures.app c.file.ensures.rule) c.option-steps.ensures.rule in
+    ∙ ap₂ with_rule (c.in_ok-arg-2.ensures.shape c.option-stack.ensures.local
+    ∙ ap₂ with_rule (c.in_ok-arg.ensures.shape c.file.ensures.local ∙ ap₂ with_rule c.new.ensures.app c.file.ensures.rule) c.option-stack.ensures.rule) c.option-steps.ensures.rule in
     let run_local = c.in_ok-run.ensures.globals
-    ∙ ap₂ either (c.in_ok-arg.ensures.globals ∙ ap₂ either c.new.ensures.local c.file.ensures.local) c.option-steps.ensures.local in
-    let print_is : app_of c.in_ok-print.print ≡ plain (codes "print") = c.in_ok-print.ensures.shape c.file-2.ensures.local
-    ∙ ap₂ with_rule c.new-2.ensures.app c.file-2.ensures.rule in
-    let print_local = c.in_ok-print.ensures.globals ∙ ap₂ either c.new-2.ensures.local c.file-2.ensures.local in
-    let layout_is : app_of c.in_ok-layout.layout ≡ plain (codes "layout") = c.in_ok-layout.ensures.shape c.file-3.ensures.local
+    ∙ ap₂ either (c.in_ok-arg-2.ensures.globals
+    ∙ ap₂ either (c.in_ok-arg.ensures.globals ∙ ap₂ either c.new.ensures.local c.file.ensures.local) c.option-stack.ensures.local) c.option-steps.ensures.local in
+    let mean_is : app_of c.in_ok-mean.mean ≡ mean = c.in_ok-mean.ensures.shape c.option-budget.ensures.local
+    ∙ ap₂ with_rule (c.in_ok-arg-3.ensures.shape c.file-2.ensures.local ∙ ap₂ with_rule c.new-2.ensures.app c.file-2.ensures.rule) c.option-budget.ensures.rule in
+    let mean_local = c.in_ok-mean.ensures.globals
+    ∙ ap₂ either (c.in_ok-arg-3.ensures.globals ∙ ap₂ either c.new-2.ensures.local c.file-2.ensures.local) c.option-budget.ensures.local in
+    let print_is : app_of c.in_ok-print.print ≡ plain (codes "print") = c.in_ok-print.ensures.shape c.file-3.ensures.local
     ∙ ap₂ with_rule c.new-3.ensures.app c.file-3.ensures.rule in
-    let layout_local = c.in_ok-layout.ensures.globals ∙ ap₂ either c.new-3.ensures.local c.file-3.ensures.local in
-    let list_is : app_of c.in_ok-list.list ≡ plain (codes "list") = c.in_ok-list.ensures.shape c.file-4.ensures.local
+    let print_local = c.in_ok-print.ensures.globals ∙ ap₂ either c.new-3.ensures.local c.file-3.ensures.local in
+    let layout_is : app_of c.in_ok-layout.layout ≡ plain (codes "layout") = c.in_ok-layout.ensures.shape c.file-4.ensures.local
     ∙ ap₂ with_rule c.new-4.ensures.app c.file-4.ensures.rule in
-    let list_local = c.in_ok-list.ensures.globals ∙ ap₂ either c.new-4.ensures.local c.file-4.ensures.local in
+    let layout_local = c.in_ok-layout.ensures.globals ∙ ap₂ either c.new-4.ensures.local c.file-4.ensures.local in
+    let list_is : app_of c.in_ok-list.list ≡ plain (codes "list") = c.in_ok-list.ensures.shape c.file-5.ensures.local
+    ∙ ap₂ with_rule c.new-5.ensures.app c.file-5.ensures.rule in
+    let list_local = c.in_ok-list.ensures.globals ∙ ap₂ either c.new-5.ensures.local c.file-5.ensures.local in
     let one : app_of c.no_binary_name.result ≡ on_top words_alone (new_app (codes "heapsafe")) =
-    ap app_of_fields c.no_binary_name.ensures ∙ ap (on_top words_alone) c.new-5.ensures.app in
+    ap app_of_fields c.no_binary_name.ensures ∙ ap (on_top words_alone) c.new-6.ensures.app in
     let two : app_of c.disable_help_flag.result ≡ on_top helpless (on_top words_alone (new_app (codes "heapsafe"))) =
     ap app_of_fields c.disable_help_flag.ensures ∙ ap (on_top helpless) one in
     let three = ap app_of_fields c.disable_version_flag.ensures ∙ ap (on_top versionless) two in
@@ -47,6 +53,7 @@ returns c =
     let top_is : app_of c.subcommand_required.result ≡ program =
     ap app_of_fields c.subcommand_required.ensures ∙ ap (on_top in_need_of_a_command) four in
     let with_run = c.in_ok-subcommand.ensures.shape run_local ∙ ap₂ with_subcommand top_is (ap (λ (a : App). a.top) run_is) in
-    let with_print = c.in_ok-subcommand-2.ensures.shape print_local ∙ ap₂ with_subcommand with_run (ap (λ (a : App). a.top) print_is) in
-    let with_layout = c.in_ok-subcommand-3.ensures.shape layout_local ∙ ap₂ with_subcommand with_print (ap (λ (a : App). a.top) layout_is) in
-    IfOk-weaker c.subcommand-4.result _ _ (λ r h. h.shape list_local ∙ ap₂ with_subcommand with_layout (ap (λ (a : App). a.top) list_is)) c.subcommand-4.ensures
+    let with_mean = c.in_ok-subcommand-2.ensures.shape mean_local ∙ ap₂ with_subcommand with_run (ap (λ (a : App). a.top) mean_is) in
+    let with_print = c.in_ok-subcommand-3.ensures.shape print_local ∙ ap₂ with_subcommand with_mean (ap (λ (a : App). a.top) print_is) in
+    let with_layout = c.in_ok-subcommand-4.ensures.shape layout_local ∙ ap₂ with_subcommand with_print (ap (λ (a : App). a.top) layout_is) in
+    IfOk-weaker c.subcommand-5.result _ _ (λ r h. h.shape list_local ∙ ap₂ with_subcommand with_layout (ap (λ (a : App). a.top) list_is)) c.subcommand-5.ensures
