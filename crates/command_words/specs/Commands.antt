@@ -1,5 +1,5 @@
 -- What the words of the command line ask for.
-use Rattle.std.specs.Prelude.{◌≡◌, ⊤, ℕ, cond, nat_eq, List as Listed, length, Option, Some, None, option_and_then, Result, Ok, Err, codes}
+use Rattle.std.specs.Prelude.{◌≡◌, ◌≤◌, ⊤, ℕ, cond, nat_eq, List as Listed, length, Option, Some, None, option_and_then, Result, Ok, Err, codes}
 use Rattle.std.specs.Str.{bytes_eq}
 use Rattle.clap.specs.Words.{Row, Text, first_of, fault_of, subcommand_of}
 use Rattle.command_words.specs.CommandSet.{command_set}
@@ -82,3 +82,9 @@ abbrev pub IsRead : Option Command → Result code.Command WordsError → Type 0
 IsRead wanted (Ok command) = wanted ≡ Some (command_shown command)
 IsRead wanted (Err Usage) = wanted ≡ None
 IsRead wanted (Err NoMemory) = ⊤
+
+-- the steps of a task are at most the most that an option may give
+abbrev pub IsLimited : Task → Type 0
+IsLimited (Run stack steps) = steps ≤ 1000000000
+IsLimited (Mean steps) = steps ≤ 1000000000
+IsLimited _ = ⊤

@@ -1,8 +1,8 @@
 //! What the words of the command line ask for.
 
-ghost use Rattle.std.specs.Prelude.{◌≡◌, map, option_map};
+ghost use Rattle.std.specs.Prelude.{◌≡◌, ⊤, IfOk, MatchOption, map, option_map};
 ghost use Rattle.clap.specs.Words.{first_of, found_of, rows_of};
-ghost use Rattle.command_words.specs.Commands.{command_of, command_shown, task_shown, asked, run_in, mean_in, plain_in, task_named, with_file, IsRead};
+ghost use Rattle.command_words.specs.Commands.{command_of, command_shown, task_shown, asked, run_in, mean_in, plain_in, task_named, with_file, IsLimited, IsRead};
 
 use crate::error::WordsError;
 use crate::set::command_set;
@@ -35,7 +35,8 @@ pub enum Task {
 
 /// What is done with a file, if the word can be its name.
 fn with_file<'a>(file: &'a str, task: Task) -> Result<Command<'a>, WordsError>
-    ensures { IsRead (with_file file.entry.now (task_shown task)) result }
+    ensures read { IsRead (with_file file.entry.now (task_shown task)) result }
+    ensures task { IfOk result (λ c. c.task ≡ task) }
 {
     if is_file(file) {
         Ok(Command { file, task })
@@ -53,7 +54,8 @@ fn value_of<'a>(found: &ArgMatches<'a>, id: &str) -> Option<&'a str>
 
 /// `run`, by the values of its arguments.
 fn run<'a>(found: &ArgMatches<'a>) -> Result<Command<'a>, WordsError>
-    ensures { IsRead (run_in (rows_of (found_of found.now))) result }
+    ensures read { IsRead (run_in (rows_of (found_of found.now))) result }
+    ensures limits { IfOk result (λ c. IsLimited (task_shown c.task)) }
 {
     let Some(file) = value_of(found, "FILE") else {
         return Err(WordsError::Usage);
@@ -69,7 +71,8 @@ fn run<'a>(found: &ArgMatches<'a>) -> Result<Command<'a>, WordsError>
 
 /// `mean`, by the values of its arguments.
 fn mean<'a>(found: &ArgMatches<'a>) -> Result<Command<'a>, WordsError>
-    ensures { IsRead (mean_in (rows_of (found_of found.now))) result }
+    ensures read { IsRead (mean_in (rows_of (found_of found.now))) result }
+    ensures limits { IfOk result (λ c. IsLimited (task_shown c.task)) }
 {
     let Some(file) = value_of(found, "FILE") else {
         return Err(WordsError::Usage);
@@ -82,7 +85,8 @@ fn mean<'a>(found: &ArgMatches<'a>) -> Result<Command<'a>, WordsError>
 
 /// A command with a file alone, by the values of its arguments.
 fn plain<'a>(task: Task, found: &ArgMatches<'a>) -> Result<Command<'a>, WordsError>
-    ensures { IsRead (plain_in (task_shown task) (rows_of (found_of found.now))) result }
+    ensures read { IsRead (plain_in (task_shown task) (rows_of (found_of found.now))) result }
+    ensures task { IfOk result (λ c. c.task ≡ task) }
 {
     match value_of(found, "FILE") {
         Some(file) => with_file(file, task),
@@ -92,7 +96,8 @@ fn plain<'a>(task: Task, found: &ArgMatches<'a>) -> Result<Command<'a>, WordsErr
 
 /// The task of a command with a file alone.
 fn task_named(name: &str) -> Option<Task>
-    ensures { option_map task_shown result ≡ task_named name.now }
+    ensures task { option_map task_shown result ≡ task_named name.now }
+    ensures limits { MatchOption result ⊤ (λ task. IsLimited (task_shown task)) }
 {
     if name == "print" {
         return Some(Task::Print);
@@ -108,7 +113,8 @@ fn task_named(name: &str) -> Option<Task>
 
 /// What a command asks for.
 fn asked<'a>(name: &str, found: &ArgMatches<'a>) -> Result<Command<'a>, WordsError>
-    ensures { IsRead (asked name.now (rows_of (found_of found.now))) result }
+    ensures read { IsRead (asked name.now (rows_of (found_of found.now))) result }
+    ensures limits { IfOk result (λ c. IsLimited (task_shown c.task)) }
 {
     if name == "run" {
         return run(found);
@@ -127,9 +133,10 @@ fn asked<'a>(name: &str, found: &ArgMatches<'a>) -> Result<Command<'a>, WordsErr
 /// # Errors
 ///
 /// [`WordsError::Usage`] exactly where the words are not taken, but for want of memory, which is
-/// [`WordsError::NoMemory`].
+/// [`WordsError::NoMemory`]. The steps of a task that is read are at most 1,000,000,000.
 pub fn read<'a>(alloc: Global, words: &'a [&'a str]) -> Result<Command<'a>, WordsError>
-    ensures { IsRead (command_of (map (λ w. w.now) words.entry.now)) result }
+    ensures read { IsRead (command_of (map (λ w. w.now) words.entry.now)) result }
+    ensures limits { IfOk result (λ command. IsLimited (task_shown command.task)) }
 {
     let set = command_set(alloc)?;
     match set.try_get_matches_from(words) {

@@ -45,7 +45,8 @@ fn value(word: Option<&str>, least: u64, most: u64, default: u64) -> Option<u64>
 
 /// The greatest number of steps: the value of the option, from 1 to 1,000,000,000, or the default.
 pub(crate) fn steps(word: Option<&str>) -> Option<u64>
-    ensures { result ≡ steps_in (option_map (λ w. w.now) word.entry) }
+    ensures value { result ≡ steps_in (option_map (λ w. w.now) word.entry) }
+    ensures bound { MatchOption result ⊤ (λ n. n ≤ 1000000000) }
 {
     value(word, 1, MOST_STEPS, DEFAULT_STEPS)
 }
