@@ -9,9 +9,11 @@ use Rattle.c_parser.specs.Parses.{IsOnlyTree, IsRefused}
 use Rattle.c_parser.specs.declared.error.ParseError.{ParseError}
 use Rattle.c_parser.specs.declared.error.ParseError.TheVariants as parse
 use Rattle.command_words.specs.Commands.{Task}
-use Rattle.heapsafe.specs.Answer.{Shown, AnswersTokens, Does, bad_syntax, no_memory}
+use Rattle.heapsafe.specs.Shown.{Shown, bad_syntax, no_memory}
+use Rattle.heapsafe.specs.Program.{Input}
+use Rattle.heapsafe.specs.Answer.{AnswersTokens, Does}
 use Rattle.heapsafe.specs.Saying.{Gives, unparsed}
-use Rattle.heapsafe.proofs.Told.{gives_more}
+use Rattle.heapsafe.proofs.Told.{IsSilent, gives_more}
 
 -- tokens with a tree do not go wrong
 never_both : (tokens : List Token) (externals : Trees) (line : ℕ) → HasTree tokens externals → GoesWrong tokens line → ⊥
@@ -37,25 +39,25 @@ one_line tokens line other a b =
     sym a.here ∙ ap (λ (t : Token). t.line) tokens_are ∙ b.here
 
 -- a text with this tree alone
-pub tree_is : (file text : List ℕ) (tokens : List Token) (externals : Trees) (input : List ℕ) (task : Task) (a : Shown) → IsOnlyTree tokens externals → Does file text tokens externals input task a → AnswersTokens file text tokens input task a
+pub tree_is : (file text : List ℕ) (tokens : List Token) (externals : Trees) (input : Input) (task : Task) (a : Shown) → IsOnlyTree tokens externals → Does file text externals input task a → AnswersTokens file text tokens input task a
 tree_is file text tokens externals input task a is does = record {
   refused = λ line wrong. absurd (never_both tokens externals line is.tree wrong);
-  parsed = λ other has. subst (λ (t : Trees). Does file text tokens t input task a) (sym (is.only other has)) does;
+  parsed = λ other has. subst (λ (t : Trees). Does file text t input task a) (sym (is.only other has)) does;
 }
 
-pub gives_tree : (file text : List ℕ) (tokens : List Token) (externals : Trees) (input : List ℕ) (task : Task) (o e : List ℕ) (out err : Option (List ℕ)) (result : ℕ) → IsOnlyTree tokens externals → Gives (Does file text tokens externals input task) o e out err result → Gives (AnswersTokens file text tokens input task) o e out err result
-gives_tree file text tokens externals input task o e out err result is g =
-    gives_more (Does file text tokens externals input task) (AnswersTokens file text tokens input task)
-    (λ s does. tree_is file text tokens externals input task s is does) o e out err result g
+pub gives_tree : (file text : List ℕ) (tokens : List Token) (externals : Trees) (input : Input) (task : Task) (left o e : List ℕ) (left' out err : Option (List ℕ)) (result : ℕ) → IsOnlyTree tokens externals → Gives (Does file text externals input task) left o e left' out err result → Gives (AnswersTokens file text tokens input task) left o e left' out err result
+gives_tree file text tokens externals input task left o e left' out err result is g =
+    gives_more (Does file text externals input task) (AnswersTokens file text tokens input task)
+    (λ s does. tree_is file text tokens externals input task s is does) left o e left' out err result g
 
 -- a text whose tokens are refused
-pub unparsed_is : (error : ParseError) (file text : List ℕ) (tokens : List Token) (input : List ℕ) (task : Task) → IsRefused tokens error → AnswersTokens file text tokens input task (unparsed error file text) ⊎ (unparsed error file text ≡ no_memory)
+pub unparsed_is : (error : ParseError) (file text : List ℕ) (tokens : List Token) (input : Input) (task : Task) → IsRefused tokens error → AnswersTokens file text tokens input task (unparsed error file text) ⊎ (unparsed error file text ≡ no_memory)
 unparsed_is (parse.Syntax line) file text tokens input task wrong = inl (record {
   refused = λ other also. ap (λ l. bad_syntax file text l) (one_line tokens line other wrong also);
   parsed = λ externals has. absurd (never_both tokens externals line has wrong);
 })
 unparsed_is parse.NoMemory file text tokens input task wrong = inr refl
 
-pub unparsed_out : (error : ParseError) (file text : List ℕ) → (unparsed error file text).out ≡ []
-unparsed_out (parse.Syntax line) file text = refl
-unparsed_out parse.NoMemory file text = refl
+pub unparsed_silent : (error : ParseError) (file text : List ℕ) → IsSilent (unparsed error file text)
+unparsed_silent (parse.Syntax line) file text = record { read = refl; out = refl }
+unparsed_silent parse.NoMemory file text = record { read = refl; out = refl }

@@ -3,7 +3,7 @@ use Rattle.std.specs.Prelude.{◌≡◌, ◌⊎◌, ◌<◌, ◌≤◌, ◌+◌,
 use Rattle.bad_free_report.specs.Report.{complaint}
 use Rattle.heapsafe.specs.declared.refusal.Refusal.{Refusal}
 use Rattle.heapsafe.specs.declared.refusal.Refusal.TheVariants.{Usage, TextFault, TextTooLong, NoMemory, NotBuilt, OutputFault}
-use Rattle.heapsafe.specs.Answer.{Shown, refusal, text_too_long, no_memory, bad_place, bad_syntax, bad_type}
+use Rattle.heapsafe.specs.Shown.{Shown, refusal, text_too_long, no_memory, bad_place, bad_syntax, bad_type}
 use Rattle.c_decls.specs.declared.refusal.TypeError.{TypeError}
 use Rattle.c_decls.specs.declared.refusal.TypeError.TheVariants as type
 use Rattle.c_parser.specs.declared.error.ParseError.{ParseError}
@@ -68,17 +68,22 @@ Says taken taken' faults faults' bytes status result =
     ((faults' ≡ faults) × (result ≡ status) × ((t : List ℕ) → taken ≡ Some t → taken' ≡ Some (t ++ bytes)))
     ⊎ ((faults' ≡ faults + 1) × (result ≡ 133))
 
--- the streams took the bytes of an answer that is as said, or of one for want of memory, and the status is its own
-pub record Gives (Is : Shown → Type 0) (o e : List ℕ) (out err : Option (List ℕ)) (result : ℕ) : Type 0 where
+-- the input lost, and the streams took, the bytes of an answer that is as said, or of the one for want of memory; and the
+-- status is its own
+pub record Gives (Is : Shown → Type 0) (left o e : List ℕ) (left' out' err' : Option (List ℕ)) (result : ℕ) : Type 0 where
   pub shown : Shown
   pub is : Is shown ⊎ (shown ≡ no_memory)
-  pub out_took : out ≡ Some (o ++ shown.out)
-  pub err_took : err ≡ Some (e ++ shown.err)
+  pub rest : List ℕ
+  pub is_left : left' ≡ Some rest
+  pub is_read : shown.read ++ rest ≡ left
+  pub out_took : out' ≡ Some (o ++ shown.out)
+  pub err_took : err' ≡ Some (e ++ shown.err)
   pub status : result ≡ shown.status
 
 -- no count rose; or one of the output or of the error stream did, and the status is 133; or that of the texts alone, and
--- it is 121
-abbrev pub Faults : ℕ → ℕ → ℕ → ℕ → ℕ → ℕ → ℕ → Type 0
-Faults t t' o o' e e' result =
-    ((t' ≡ t) × (o' ≡ o) × (e' ≡ e)) ⊎ ((t ≤ t') × (o ≤ o') × (e ≤ e') × ((o < o') ⊎ (e < e')) × (result ≡ 133))
-    ⊎ ((t < t') × (o' ≡ o) × (e' ≡ e) × (result ≡ 121))
+-- it is 121; or that of the input alone, and it is 132
+abbrev pub Faults : ℕ → ℕ → ℕ → ℕ → ℕ → ℕ → ℕ → ℕ → ℕ → Type 0
+Faults t t' i i' o o' e e' result =
+    ((t' ≡ t) × (i' ≡ i) × (o' ≡ o) × (e' ≡ e)) ⊎ ((t ≤ t') × (i ≤ i') × (o ≤ o') × (e ≤ e') × ((o < o') ⊎ (e < e')) × (result ≡ 133))
+    ⊎ ((t < t') × (i' ≡ i) × (o' ≡ o) × (e' ≡ e) × (result ≡ 121))
+    ⊎ ((t' ≡ t) × (i < i') × (o' ≡ o) × (e' ≡ e) × (result ≡ 132))

@@ -1,7 +1,7 @@
 //! Answers that are not of a run: each has a line on the error stream and a status.
 
 ghost use Rattle.std.specs.Prelude.{◌≡◌, ◌+◌, ◌<◌, ◌^◌, ◌++◌};
-ghost use Rattle.heapsafe.specs.Answer.{refusal_at};
+ghost use Rattle.heapsafe.specs.Shown.{refusal_at};
 ghost use Rattle.heapsafe.specs.Saying.{Says, name_of, words_of, status_in, shown_of, untokened, unparsed, untyped};
 
 use bad_free_report::{complain, complain_labelled};
@@ -10,7 +10,7 @@ use c_lexer::LexError;
 use c_parser::ParseError;
 use hs_base::{Line, Sink};
 
-/// Why nothing was run, or why a run gave up.
+/// Why nothing is run, or why nothing is written.
 #[derive(Clone, Copy)]
 pub(crate) enum Refusal<'a> {
     /// The words are not taken.

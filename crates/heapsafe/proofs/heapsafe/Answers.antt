@@ -1,21 +1,25 @@
 use Rattle.std.proofs.Common.{ℕ, ◌≡◌, List, Err, inl, inr, refl, sym, subst, map, Bor}
 use Rattle.command_words.specs.Commands.{command_of, IsRead}
 use Rattle.command_words.specs.declared.error.WordsError.{WordsError}
-use Rattle.heapsafe.specs.Answer.{Answers, usage, no_memory}
+use Rattle.heapsafe.specs.Shown.{usage, no_memory}
+use Rattle.heapsafe.specs.Program.{input_of}
+use Rattle.heapsafe.specs.Answer.{Answers}
 use Rattle.heapsafe.proofs.Told.{gives_said, gives_as, usage_is}
 use Rattle.heapsafe.proofs.heapsafe.Goals as goal
 
 pub returns-in-Ok-clause-exact : goal.returns-in-Ok-clause-exact
-returns-in-Ok-clause-exact g c = λ told input o e k h i same_texts same_out same_err.
+returns-in-Ok-clause-exact g c = λ told left o e k l h i same_texts same_out same_err.
     let words : List (List ℕ) = map (λ (w : Bor (List ℕ)). w.now) c.args.words.now in
-    gives_as _ (command_of words) told input o e _ _ _ (sym c.in-Ok.ensures) (c.with_file.ensures.exact told input o e k h i same_texts same_out same_err)
+    gives_as _ (command_of words) told _ left o e _ _ _ _ (sym c.in-Ok.ensures.read) (c.with_file.ensures.exact told left o e k l h i same_texts same_out same_err)
 
 pub returns-in-Err-Usage-clause-exact : goal.returns-in-Err-Usage-clause-exact
-returns-in-Err-Usage-clause-exact g c = λ told input o e k h i same_texts same_out same_err.
+returns-in-Err-Usage-clause-exact g c = λ told left o e k l h i same_texts same_out same_err.
     let words : List (List ℕ) = map (λ (w : Bor (List ℕ)). w.now) c.args.words.now in
-    gives_said (Answers words told input) usage o e _ _ _ _ _ _ (inl (usage_is (command_of words) told input (sym (subst (λ (e : WordsError). IsRead (command_of words) (Err e)) c.in-Err-Usage.field-0-is c.in-Err-Usage.ensures)))) refl h i same_err c.refuse.ensures.says
+    let input = input_of left (g.I.Source.faults c.args.input.now) (g.I.Source.faults c.args.input.now) in
+    gives_said (Answers words told input) usage left o e _ _ _ _ _ _ _ (inl (usage_is (command_of words) told input (sym (subst (λ (e : WordsError). IsRead (command_of words) (Err e)) c.in-Err-Usage.field-0-is c.in-Err-Usage.ensures.read)))) (record { read = refl; out = refl }) l h i same_err c.refuse.ensures.says
 
 pub returns-in-Err-NoMemory-clause-exact : goal.returns-in-Err-NoMemory-clause-exact
-returns-in-Err-NoMemory-clause-exact g c = λ told input o e k h i same_texts same_out same_err.
+returns-in-Err-NoMemory-clause-exact g c = λ told left o e k l h i same_texts same_out same_err.
     let words : List (List ℕ) = map (λ (w : Bor (List ℕ)). w.now) c.args.words.now in
-    gives_said (Answers words told input) no_memory o e _ _ _ _ _ _ (inr refl) refl h i same_err c.refuse-in-Err-NoMemory.ensures.says
+    let input = input_of left (g.I.Source.faults c.args.input.now) (g.I.Source.faults c.args.input.now) in
+    gives_said (Answers words told input) no_memory left o e _ _ _ _ _ _ _ (inr refl) (record { read = refl; out = refl }) l h i same_err c.refuse-in-Err-NoMemory.ensures.says

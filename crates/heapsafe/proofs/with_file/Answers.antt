@@ -3,33 +3,38 @@ use Rattle.std.specs.Prelude.{Ok, length}
 use Rattle.c_lexer.specs.declared.token.Token.{Token}
 use Rattle.c_lexer.specs.Tokens.{IsOnlyAnswer}
 use Rattle.heapsafe.specs.Reading.{most_bytes}
+use Rattle.heapsafe.specs.Program.{input_of}
 use Rattle.heapsafe.specs.Answer.{AnswersFile}
 use Rattle.command_words.specs.Commands.{task_shown}
 use Rattle.heapsafe.specs.Saying.{shown_of, unread, untokened}
-use Rattle.heapsafe.proofs.Told.{gives_said, says_as, unread_is, unread_out, untokened_file, untokened_out, gives_file, faults_as}
+use Rattle.heapsafe.proofs.Told.{gives_said, says_as, unread_is, unread_silent, untokened_file, untokened_silent, gives_file, faults_as}
 use Rattle.heapsafe.proofs.with_file.Goals as goal
 
 pub returns-in-Err-clause-exact : goal.returns-in-Err-clause-exact
-returns-in-Err-clause-exact g c = λ told input o e k h i same_texts same_out same_err.
+returns-in-Err-clause-exact g c = λ told left o e k l h i same_texts same_out same_err.
+    let input = input_of left (g.I.Source.faults c.args.input.now) (g.I.Source.faults c.args.input.now) in
     let says = says_as (shown_of c.reading_refusal.result) (unread c.in-Err.error c.args.file.now) c.reading_refusal.ensures _ _ _ _ _ c.refuse.ensures.says in
-    gives_said (AnswersFile c.args.file.now (told c.args.file.now) input (task_shown c.args.task)) (unread c.in-Err.error c.args.file.now) o e _ _ _ _ _ _ (unread_is c.in-Err.error c.args.file.now (told c.args.file.now) input (task_shown c.args.task) _ _ (c.in-Err.ensures.bytes told k) c.in-Err.ensures.cause same_texts) (unread_out c.in-Err.error c.args.file.now) h i same_err says
+    gives_said (AnswersFile c.args.file.now (told c.args.file.now) input (task_shown c.args.task)) (unread c.in-Err.error c.args.file.now) left o e _ _ _ _ _ _ _
+    (unread_is c.in-Err.error c.args.file.now (told c.args.file.now) input (task_shown c.args.task) _ _ (c.in-Err.ensures.bytes told k) c.in-Err.ensures.cause same_texts)
+    (unread_silent c.in-Err.error c.args.file.now) l h i same_err says
 
 pub returns-in-Ok-lex-clause-exact : goal.returns-in-Ok-lex-clause-exact
-returns-in-Ok-lex-clause-exact g c = λ told input o e k h i same_texts same_out same_err.
-    gives_file c.args.file.now (told c.args.file.now) c.as_slice-text.result.now c.as_slice.result.now input (task_shown c.args.task) o e _ _ _
+returns-in-Ok-lex-clause-exact g c = λ told left o e k l h i same_texts same_out same_err.
+    gives_file c.args.file.now (told c.args.file.now) c.as_slice-text.result.now c.as_slice.result.now _ (task_shown c.args.task) left o e _ _ _ _
     (subst (λ (t : List ℕ). (t ≡ told c.args.file.now) × (length (told c.args.file.now) ≤ most_bytes)) (sym c.as_slice-text.ensures) (c.in-Ok.ensures.bytes told k))
     (subst (λ (ts : List Token). IsOnlyAnswer c.as_slice-text.result.now (Ok ts)) (sym c.as_slice.ensures) c.in-Ok-lex.ensures.exact)
-    (c.with_tokens.ensures.exact input o e h i same_out same_err)
+    (c.with_tokens.ensures.exact left o e l h i same_out same_err)
 
 pub returns-in-Ok-lex-clause-faults : goal.returns-in-Ok-lex-clause-faults
 returns-in-Ok-lex-clause-faults g c =
-    faults_as (g.T.Texts.faults c.args.texts.now) (g.T.Texts.faults c.read_text.new.texts) (g.O.Sink.faults c.args.out.now) (g.O.Sink.faults c.with_tokens.new.out) (g.E.Sink.faults c.args.err.now) (g.E.Sink.faults c.with_tokens.new.err) c.with_tokens.result
+    faults_as (g.T.Texts.faults c.args.texts.now) (g.T.Texts.faults c.read_text.new.texts) _ _ _ _ _ _ c.with_tokens.result
     c.in-Ok.ensures.cause (c.with_tokens.ensures.faults (g.T.Texts.faults c.args.texts.now))
 
 pub returns-clause-exact : goal.returns-clause-exact
-returns-clause-exact g c = λ told input o e k h i same_texts same_out same_err.
-    gives_said (AnswersFile c.args.file.now (told c.args.file.now) input (task_shown c.args.task)) (untokened c.in-Err-lex.error c.args.file.now c.as_slice-text.result.now) o e _ _ _ _ _ _
+returns-clause-exact g c = λ told left o e k l h i same_texts same_out same_err.
+    let input = input_of left (g.I.Source.faults c.args.input.now) (g.I.Source.faults c.args.input.now) in
+    gives_said (AnswersFile c.args.file.now (told c.args.file.now) input (task_shown c.args.task)) (untokened c.in-Err-lex.error c.args.file.now c.as_slice-text.result.now) left o e _ _ _ _ _ _ _
     (untokened_file c.in-Err-lex.error c.args.file.now (told c.args.file.now) c.as_slice-text.result.now input (task_shown c.args.task)
     (subst (λ (t : List ℕ). (t ≡ told c.args.file.now) × (length (told c.args.file.now) ≤ most_bytes)) (sym c.as_slice-text.ensures) (c.in-Ok.ensures.bytes told k))
     c.in-Err-lex.ensures.exact)
-    (untokened_out c.in-Err-lex.error c.args.file.now c.as_slice-text.result.now) h i same_err c.refuse_text.ensures.says
+    (untokened_silent c.in-Err-lex.error c.args.file.now c.as_slice-text.result.now) l h i same_err c.refuse_text.ensures.says

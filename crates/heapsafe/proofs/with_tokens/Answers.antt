@@ -1,19 +1,20 @@
-use Rattle.std.proofs.Common.{refl}
 use Rattle.c_tree.specs.StatementView.{unit_view}
 use Rattle.command_words.specs.Commands.{task_shown}
+use Rattle.heapsafe.specs.Program.{input_of}
 use Rattle.heapsafe.specs.Answer.{AnswersTokens}
 use Rattle.heapsafe.specs.Saying.{unparsed}
 use Rattle.heapsafe.proofs.Told.{gives_said}
-use Rattle.heapsafe.proofs.Trees.{gives_tree, unparsed_is, unparsed_out}
+use Rattle.heapsafe.proofs.Trees.{gives_tree, unparsed_is, unparsed_silent}
 use Rattle.heapsafe.proofs.with_tokens.Goals as goal
 
 pub returns-in-Ok-clause-exact : goal.returns-in-Ok-clause-exact
-returns-in-Ok-clause-exact g c = λ input o e h i same_out same_err.
-    gives_tree c.args.file.now c.args.text.now c.args.tokens.now (unit_view c.in-Ok.unit) input (task_shown c.args.task) o e _ _ _ c.in-Ok.ensures.tree
-    (c.with_tree.ensures.exact input o e h i same_out same_err)
+returns-in-Ok-clause-exact g c = λ left o e k h i same_out same_err.
+    gives_tree c.args.file.now c.args.text.now c.args.tokens.now (unit_view c.in-Ok.unit) _ (task_shown c.args.task) left o e _ _ _ _ c.in-Ok.ensures.tree
+    (c.with_tree.ensures.exact left o e k h i same_out same_err)
 
 pub returns-in-Err-clause-exact : goal.returns-in-Err-clause-exact
-returns-in-Err-clause-exact g c = λ input o e h i same_out same_err.
-    gives_said (AnswersTokens c.args.file.now c.args.text.now c.args.tokens.now input (task_shown c.args.task)) (unparsed c.in-Err.error c.args.file.now c.args.text.now) o e _ _ _ _ _ _
+returns-in-Err-clause-exact g c = λ left o e k h i same_out same_err.
+    let input = input_of left (g.I.Source.faults c.args.input.now) (g.I.Source.faults c.args.input.now) in
+    gives_said (AnswersTokens c.args.file.now c.args.text.now c.args.tokens.now input (task_shown c.args.task)) (unparsed c.in-Err.error c.args.file.now c.args.text.now) left o e _ _ _ _ _ _ _
     (unparsed_is c.in-Err.error c.args.file.now c.args.text.now c.args.tokens.now input (task_shown c.args.task) c.in-Err.ensures.refused)
-    (unparsed_out c.in-Err.error c.args.file.now c.args.text.now) h i same_err c.refuse_tokens.ensures.says
+    (unparsed_silent c.in-Err.error c.args.file.now c.args.text.now) k h i same_err c.refuse_tokens.ensures.says

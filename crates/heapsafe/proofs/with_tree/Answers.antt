@@ -1,27 +1,34 @@
-use Rattle.std.proofs.Common.{sym, subst}
+use Rattle.std.proofs.Common.{◌≡◌, ◌∙◌, sym, subst}
 use Rattle.c_tree.specs.StatementView.{unit_view}
 use Rattle.command_words.specs.declared.command.Task.{Task}
 use Rattle.command_words.specs.Commands.{task_shown}
+use Rattle.heapsafe.specs.Program.{input_of}
 use Rattle.heapsafe.specs.Answer.{Does}
 use Rattle.heapsafe.specs.Saying.{Gives}
+use Rattle.heapsafe.proofs.Told.{gives_left}
 use Rattle.heapsafe.proofs.with_tree.Goals as goal
 
 pub returns-in-Run-clause-exact : goal.returns-in-Run-clause-exact
-returns-in-Run-clause-exact g c = λ input o e h i same_out same_err.
-    subst (λ (t : Task). Gives (Does c.args.file.now c.args.text.now c.args.tokens.now (unit_view c.args.unit.now) input (task_shown t)) o e (g.O.Sink.taken c.run_tokens.new.out) (g.E.Sink.taken c.run_tokens.new.err) c.run_tokens.result) (sym c.in-Run.is)
-    (c.run_tokens.ensures.exact input o e h i same_out same_err)
+returns-in-Run-clause-exact g c = λ left o e k h i same_out same_err.
+    subst (λ (t : Task). Gives (Does c.args.file.now c.args.text.now (unit_view c.args.unit.now) (input_of left (g.I.Source.faults c.args.input.now) (g.I.Source.faults c.run_program.new.input)) (task_shown t)) left o e (g.I.Source.left c.run_program.new.input) (g.O.Sink.taken c.run_program.new.out) (g.E.Sink.taken c.run_program.new.err) c.run_program.result) (sym c.in-Run.is)
+    (c.run_program.ensures.exact left o e k h i same_out same_err)
+
+pub returns-in-Mean-clause-exact : goal.returns-in-Mean-clause-exact
+returns-in-Mean-clause-exact g c = λ left o e k h i same_out same_err.
+    subst (λ (t : Task). Gives (Does c.args.file.now c.args.text.now (unit_view c.args.unit.now) (input_of left (g.I.Source.faults c.args.input.now) (g.I.Source.faults c.run_program-in-Mean.new.input)) (task_shown t)) left o e (g.I.Source.left c.run_program-in-Mean.new.input) (g.O.Sink.taken c.run_program-in-Mean.new.out) (g.E.Sink.taken c.run_program-in-Mean.new.err) c.run_program-in-Mean.result) (sym c.in-Mean.is)
+    (c.run_program-in-Mean.ensures.exact left o e k h i same_out same_err)
 
 pub returns-in-Print-clause-exact : goal.returns-in-Print-clause-exact
-returns-in-Print-clause-exact g c = λ input o e h i same_out same_err.
-    subst (λ (t : Task). Gives (Does c.args.file.now c.args.text.now c.args.tokens.now (unit_view c.args.unit.now) input (task_shown t)) o e (g.O.Sink.taken c.print.new.out) (g.E.Sink.taken c.print.new.err) c.print.result) (sym c.in-Print.is)
-    (c.print.ensures.exact o e h i same_out same_err)
+returns-in-Print-clause-exact g c = λ left o e k h i same_out same_err.
+    subst (λ (t : Task). Gives (Does c.args.file.now c.args.text.now (unit_view c.args.unit.now) (input_of left (g.I.Source.faults c.args.input.now) (g.I.Source.faults c.args.input.now)) (task_shown t)) left o e (g.I.Source.left c.args.input.now) (g.O.Sink.taken c.print.new.out) (g.E.Sink.taken c.print.new.err) c.print.result) (sym c.in-Print.is)
+    (gives_left _ left o e _ _ _ _ k (c.print.ensures.exact left o e h i same_out same_err))
 
 pub returns-in-Layout-clause-exact : goal.returns-in-Layout-clause-exact
-returns-in-Layout-clause-exact g c = λ input o e h i same_out same_err.
-    subst (λ (t : Task). Gives (Does c.args.file.now c.args.text.now c.args.tokens.now (unit_view c.args.unit.now) input (task_shown t)) o e (g.O.Sink.taken c.layouts.new.out) (g.E.Sink.taken c.layouts.new.err) c.layouts.result) (sym c.in-Layout.is)
-    (c.layouts.ensures.exact o e h i same_out same_err)
+returns-in-Layout-clause-exact g c = λ left o e k h i same_out same_err.
+    subst (λ (t : Task). Gives (Does c.args.file.now c.args.text.now (unit_view c.args.unit.now) (input_of left (g.I.Source.faults c.args.input.now) (g.I.Source.faults c.args.input.now)) (task_shown t)) left o e (g.I.Source.left c.args.input.now) (g.O.Sink.taken c.layouts.new.out) (g.E.Sink.taken c.layouts.new.err) c.layouts.result) (sym c.in-Layout.is)
+    (gives_left _ left o e _ _ _ _ k (c.layouts.ensures.exact left o e h i same_out same_err))
 
 pub returns-in-List-clause-exact : goal.returns-in-List-clause-exact
-returns-in-List-clause-exact g c = λ input o e h i same_out same_err.
-    subst (λ (t : Task). Gives (Does c.args.file.now c.args.text.now c.args.tokens.now (unit_view c.args.unit.now) input (task_shown t)) o e (g.O.Sink.taken c.core_list.new.out) (g.E.Sink.taken c.core_list.new.err) c.core_list.result) (sym c.in-List.is)
-    (c.core_list.ensures.exact o e h i same_out same_err)
+returns-in-List-clause-exact g c = λ left o e k h i same_out same_err.
+    subst (λ (t : Task). Gives (Does c.args.file.now c.args.text.now (unit_view c.args.unit.now) (input_of left (g.I.Source.faults c.args.input.now) (g.I.Source.faults c.args.input.now)) (task_shown t)) left o e (g.I.Source.left c.args.input.now) (g.O.Sink.taken c.core_list.new.out) (g.E.Sink.taken c.core_list.new.err) c.core_list.result) (sym c.in-List.is)
+    (gives_left _ left o e _ _ _ _ k (c.core_list.ensures.exact left o e h i same_out same_err))

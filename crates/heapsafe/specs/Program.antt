@@ -1,0 +1,78 @@
+-- What a program reads, writes and answers, by the meaning of its core.
+use Rattle.std.specs.Prelude.{◌≡◌, ◌⊎◌, ◌++◌, ◌≤◌, ⊤, ℕ, Bool, nat_lt, List, ◌∷◌, Option, Some, MatchBool, codes}
+use Rattle.hs_base.specs.declared.ends.End.{End}
+use Rattle.hs_base.specs.declared.ends.End.TheVariants as end
+use Rattle.hs_base.specs.Trace.{Event, In, bytes_in, bytes_out}
+use Rattle.hs_base.specs.Cut.{cut, ending_of}
+use Rattle.bad_free_report.specs.Report.{complaint, end_report}
+use Rattle.core_tree.specs.declared.program.Core.{Core}
+use Rattle.object_meaning.specs.Meaning.{meaning}
+use Rattle.meaning_run.specs.Meant.{end_in}
+use Rattle.heapsafe.specs.declared.program.Way.{Way}
+use Rattle.heapsafe.specs.declared.program.Way.TheVariants.{Run, Mean}
+use Rattle.heapsafe.specs.Shown.{Shown}
+
+-- the bytes of input that are left, and whether the input fails
+pub record Input : Type 0 where
+  pub bytes : List ℕ
+  pub fails : Bool
+
+-- an input whose count of faults was the first number and is the second
+abbrev pub input_of : List ℕ → ℕ → ℕ → Input
+input_of bytes before after = record { bytes = bytes; fails = nat_lt before after }
+
+-- the status of a program's end
+abbrev pub status_of : End → ℕ
+status_of (end.Exit code) = code
+status_of (end.Trap kind line) = 128
+status_of (end.BadFree why holder) = 126
+status_of (end.Escape func local line) = 127
+status_of end.Spent = 131
+status_of (end.OutOfHeap line) = 129
+status_of (end.OutOfStack line) = 130
+status_of end.InputFault = 132
+status_of end.OutputFault = 133
+
+-- what a program does: its events, and its end
+pub record Done : Type 0 where
+  pub events : List Event
+  pub ends : Option End
+
+-- what the meaning does
+abbrev pub meant : Core → List ℕ → ℕ → Done
+meant core input steps = let m = meaning core input steps in record { events = m.trace; ends = end_in m.ended }
+
+-- the same, up to the first event for which a heap of 16777216 bytes, or the stack, has no room
+abbrev pub run_on : ℕ → Core → List ℕ → ℕ → Done
+run_on stack core input steps =
+    let m = meaning core input steps in
+    let kept = cut (record { heap = 16777216; stack = stack }) m.trace in
+    record { events = kept.kept; ends = end_in (ending_of kept.refused m.ended) }
+
+-- the bytes that events read and write, with the report and the status of an end
+abbrev pub ended : List ℕ → List ℕ → Core → List Event → End → Shown
+ended file text core events e =
+    record { read = bytes_in events; out = bytes_out events; err = end_report core file text e; status = status_of e }
+
+-- the same for want of memory
+abbrev pub unfinished : List Event → Shown
+unfinished events =
+    record { read = bytes_in events; out = bytes_out events; err = complaint (codes "heapsafe") (codes "no memory"); status = 134 }
+
+-- a program makes all of its events and ends; where the input fails it makes those before one that reads
+abbrev pub AnswersProgram : List ℕ → List ℕ → Core → Bool → Done → Shown → Type 0
+AnswersProgram file text core fails done a =
+    MatchBool fails ((before : List Event) × (byte : Option ℕ) × (rest : List Event) × (done.events ≡ before ++ In byte ∷ rest) × (a ≡ ended file text core before end.InputFault)) ((e : End) × (done.ends ≡ Some e) × (a ≡ ended file text core done.events e))
+
+-- `run` does what the meaning does while heap and stack have room; `mean` does all of it, or wants memory after a first part
+abbrev pub AnswersWay : List ℕ → List ℕ → Core → Input → Way → Shown → Type 0
+AnswersWay file text core input (Run stack steps) a =
+    AnswersProgram file text core input.fails (run_on stack core input.bytes steps) a
+AnswersWay file text core input (Mean steps) a =
+    let done = meant core input.bytes steps in
+    AnswersProgram file text core input.fails done a ⊎ ((before : List Event) × (rest : List Event) × (done.events ≡ before ++ rest) × (a ≡ unfinished before))
+
+-- the steps of `mean` are within the bound that the evaluator takes
+abbrev pub IsBounded : Way → Type 0
+IsBounded (Run stack steps) = ⊤
+IsBounded (Mean steps) = steps ≤ 1000000000

@@ -1,0 +1,69 @@
+-- What is seen of an answer, and the answers that are not of a program.
+use Rattle.std.specs.Prelude.{◌++◌, ℕ, List, [], Result, Ok, Err, codes}
+use Rattle.bad_free_report.specs.Report.{complaint, complaint_at}
+use Rattle.c_lexer.specs.declared.token.LexKind.{LexKind}
+use Rattle.c_lexer.specs.Words.{word_of}
+use Rattle.c_tree.specs.Tree.{Trees}
+use Rattle.c_tree.specs.Canonical.{canonical}
+use Rattle.c_types.specs.TagTable.{TagTable}
+use Rattle.c_decls.specs.Refusals.{Checked, Refusal}
+use Rattle.c_decls.specs.Refusals as types
+use Rattle.core_tree.specs.declared.program.Core.{Core}
+use Rattle.core_tree.specs.Listing.{listing}
+use Rattle.layout_list.specs.Listing.{layout_listing}
+
+-- the bytes that are read from the input, those that are written to the two streams, and the status
+pub record Shown : Type 0 where
+  pub read : List ℕ
+  pub out : List ℕ
+  pub err : List ℕ
+  pub status : ℕ
+
+-- lines on the error stream alone
+abbrev pub said : List ℕ → ℕ → Shown
+said lines status = record { read = []; out = []; err = lines; status = status }
+
+-- one line
+abbrev pub refusal : List ℕ → List ℕ → ℕ → Shown
+refusal name words status = said (complaint name words) status
+
+-- one that names a line of the text, which is shown below it
+abbrev pub refusal_at : List ℕ → List ℕ → ℕ → List ℕ → ℕ → Shown
+refusal_at file text line words status = said (complaint_at file line words text) status
+
+abbrev pub usage : Shown
+usage = refusal (codes "heapsafe") (codes "bad command line") 120
+
+abbrev pub text_too_long : List ℕ → Shown
+text_too_long file = refusal file (codes "text too long") 122
+
+abbrev pub bad_place : List ℕ → List ℕ → LexKind → ℕ → Shown
+bad_place file text kind line = refusal_at file text line (codes "lex: " ++ word_of kind) 123
+
+abbrev pub bad_syntax : List ℕ → List ℕ → ℕ → Shown
+bad_syntax file text line = refusal_at file text line (codes "syntax") 124
+
+abbrev pub bad_type : List ℕ → List ℕ → Refusal → Shown
+bad_type file text refusal = refusal_at file text refusal.line (codes "type: " ++ types.word_of refusal.kind) 125
+
+abbrev pub no_memory : Shown
+no_memory = refusal (codes "heapsafe") (codes "no memory") 134
+
+abbrev pub not_built : List ℕ → Shown
+not_built file = refusal file (codes "not built") 135
+
+-- a text on the output alone
+abbrev pub written : List ℕ → Shown
+written text = record { read = []; out = text; err = []; status = 0 }
+
+-- the canonical spelling, the layouts of structs and unions, and the functions of the core
+abbrev pub printed : Trees → Shown
+printed externals = written (canonical externals)
+
+abbrev pub layouts_shown : List ℕ → List ℕ → Checked TagTable → Shown
+layouts_shown file text (Ok tags) = written (layout_listing tags)
+layouts_shown file text (Err refusal) = bad_type file text refusal
+
+abbrev pub core_shown : List ℕ → List ℕ → Checked Core → Shown
+core_shown file text (Ok core) = written (listing core)
+core_shown file text (Err refusal) = bad_type file text refusal

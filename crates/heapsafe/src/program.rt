@@ -1,0 +1,191 @@
+//! Running the program of a text: on a stack, or by the meaning of its core.
+
+ghost use Rattle.std.specs.Prelude.{◌≡◌, ◌+◌, ◌<◌, ◌≤◌, ◌^◌, ℕ, List, Some};
+ghost use Rattle.c_tree.specs.StatementView.{unit_view};
+ghost use Rattle.c_elab.specs.Core.{core_in};
+ghost use Rattle.core_tree.specs.Sound.{IsSound};
+ghost use Rattle.core_runner.specs.Built.{IsBuilt};
+ghost use Rattle.bad_free_report.specs.Report.{end_report};
+ghost use Rattle.heapsafe.specs.Program.{AnswersWay, IsBounded, input_of, status_of};
+ghost use Rattle.heapsafe.specs.Answer.{AnswersCore, AnswersTypes};
+ghost use Rattle.heapsafe.specs.Saying.{Faults, Gives, Says};
+
+use crate::refusal::{OUTPUT_FAULT, Refusal, refuse, refuse_types};
+use bad_free_report::report;
+use c_elab::elab;
+use c_tree::Unit;
+use core_runner::{is_built, run};
+use core_tree::Core;
+use core_verifier::is_sound;
+use hs_base::{End, Sink, Source};
+use meaning_run::mean;
+use std::alloc::Global;
+
+/// How a program is run, and with how many steps.
+#[derive(Clone, Copy)]
+pub(crate) enum Way {
+    /// By the runner, on a stack of so many bytes.
+    Run { stack: u32, steps: u64 },
+    /// By the evaluator of the meaning, which knows no limits of heap and stack.
+    Mean { steps: u64 },
+}
+
+/// The status of a program's end.
+fn status_of(end: &End) -> u8
+    ensures { result ≡ status_of end.now }
+{
+    match end {
+        End::Exit(code) => *code,
+        End::BadFree(..) => 126,
+        End::Escape { .. } => 127,
+        End::Trap(..) => 128,
+        End::OutOfHeap(_) => 129,
+        End::OutOfStack(_) => 130,
+        End::Spent => 131,
+        End::InputFault => 132,
+        End::OutputFault => OUTPUT_FAULT,
+    }
+}
+
+/// Reports how a program ended, and answers its status or that of a failed write.
+fn finish<E: Sink>(end: &End, core: &Core, file: &str, text: &[u8], err: &mut E) -> u8
+    requires { E.faults err.old + 1 < 2 ^ 64 }
+    ensures says { Says (E.taken err.old) (E.taken err.new) (E.faults err.old) (E.faults err.new) (end_report core.now file.now text.now end.now) (status_of end.now) result }
+{
+    match report(end, core, file, text, err) {
+        Ok(()) => status_of(end),
+        Err(_) => OUTPUT_FAULT,
+    }
+}
+
+/// Runs a core on a stack, and reports its end.
+fn run_core<I: Source, O: Sink, E: Sink>(
+    alloc: Global,
+    file: &str,
+    text: &[u8],
+    core: &Core,
+    stack: u32,
+    steps: u64,
+    input: &mut I,
+    out: &mut O,
+    err: &mut E,
+) -> u8
+    requires sound { IsSound core.now }
+    requires built { IsBuilt core.now }
+    requires input { I.faults input.old + 1 < 2 ^ 64 }
+    requires out { O.faults out.old + 1 < 2 ^ 64 }
+    requires err { E.faults err.old + 1 < 2 ^ 64 }
+    ensures exact { (left o e : List ℕ) → I.left input.old ≡ Some left → O.taken out.old ≡ Some o → E.taken err.old ≡ Some e → O.faults out.new ≡ O.faults out.old → E.faults err.new ≡ E.faults err.old → Gives (AnswersWay file.now text.now core.now (input_of left (I.faults input.old) (I.faults input.new)) (Way.Run stack steps)) left o e (I.left input.new) (O.taken out.new) (E.taken err.new) result }
+    ensures faults { (t : ℕ) → Faults t t (I.faults input.old) (I.faults input.new) (O.faults out.old) (O.faults out.new) (E.faults err.old) (E.faults err.new) result }
+{
+    match run(alloc, core, stack, input, out, steps) {
+        Ok(end) => finish(&end, core, file, text, err),
+        Err(_) => refuse(err, Refusal::NoMemory),
+    }
+}
+
+/// Evaluates the meaning of a core, and reports its end.
+fn mean_core<I: Source, O: Sink, E: Sink>(
+    alloc: Global,
+    file: &str,
+    text: &[u8],
+    core: &Core,
+    steps: u64,
+    input: &mut I,
+    out: &mut O,
+    err: &mut E,
+) -> u8
+    requires sound { IsSound core.now }
+    requires steps { steps ≤ 1000000000 }
+    requires input { I.faults input.old + 1 < 2 ^ 64 }
+    requires out { O.faults out.old + 1 < 2 ^ 64 }
+    requires err { E.faults err.old + 1 < 2 ^ 64 }
+    ensures exact { (left o e : List ℕ) → I.left input.old ≡ Some left → O.taken out.old ≡ Some o → E.taken err.old ≡ Some e → O.faults out.new ≡ O.faults out.old → E.faults err.new ≡ E.faults err.old → Gives (AnswersWay file.now text.now core.now (input_of left (I.faults input.old) (I.faults input.new)) (Way.Mean steps)) left o e (I.left input.new) (O.taken out.new) (E.taken err.new) result }
+    ensures faults { (t : ℕ) → Faults t t (I.faults input.old) (I.faults input.new) (O.faults out.old) (O.faults out.new) (E.faults err.old) (E.faults err.new) result }
+{
+    match mean(alloc, core, input, out, steps) {
+        Ok(end) => finish(&end, core, file, text, err),
+        Err(_) => refuse(err, Refusal::NoMemory),
+    }
+}
+
+/// Runs a core in a way, and reports its end.
+fn go<I: Source, O: Sink, E: Sink>(
+    alloc: Global,
+    file: &str,
+    text: &[u8],
+    core: &Core,
+    way: Way,
+    input: &mut I,
+    out: &mut O,
+    err: &mut E,
+) -> u8
+    requires sound { IsSound core.now }
+    requires built { IsBuilt core.now }
+    requires steps { IsBounded way }
+    requires input { I.faults input.old + 1 < 2 ^ 64 }
+    requires out { O.faults out.old + 1 < 2 ^ 64 }
+    requires err { E.faults err.old + 1 < 2 ^ 64 }
+    ensures exact { (left o e : List ℕ) → I.left input.old ≡ Some left → O.taken out.old ≡ Some o → E.taken err.old ≡ Some e → O.faults out.new ≡ O.faults out.old → E.faults err.new ≡ E.faults err.old → Gives (AnswersWay file.now text.now core.now (input_of left (I.faults input.old) (I.faults input.new)) way) left o e (I.left input.new) (O.taken out.new) (E.taken err.new) result }
+    ensures faults { (t : ℕ) → Faults t t (I.faults input.old) (I.faults input.new) (O.faults out.old) (O.faults out.new) (E.faults err.old) (E.faults err.new) result }
+{
+    match way {
+        Way::Run { stack, steps } => {
+            run_core(alloc, file, text, core, stack, steps, input, out, err)
+        }
+        Way::Mean { steps } => mean_core(alloc, file, text, core, steps, input, out, err),
+    }
+}
+
+/// Runs a core of integers and functions; another one is not built.
+fn with_core<I: Source, O: Sink, E: Sink>(
+    alloc: Global,
+    file: &str,
+    text: &[u8],
+    core: &Core,
+    way: Way,
+    input: &mut I,
+    out: &mut O,
+    err: &mut E,
+) -> u8
+    requires steps { IsBounded way }
+    requires input { I.faults input.old + 1 < 2 ^ 64 }
+    requires out { O.faults out.old + 1 < 2 ^ 64 }
+    requires err { E.faults err.old + 1 < 2 ^ 64 }
+    ensures exact { (left o e : List ℕ) → I.left input.old ≡ Some left → O.taken out.old ≡ Some o → E.taken err.old ≡ Some e → O.faults out.new ≡ O.faults out.old → E.faults err.new ≡ E.faults err.old → Gives (AnswersCore file.now text.now core.now (input_of left (I.faults input.old) (I.faults input.new)) way) left o e (I.left input.new) (O.taken out.new) (E.taken err.new) result }
+    ensures faults { (t : ℕ) → Faults t t (I.faults input.old) (I.faults input.new) (O.faults out.old) (O.faults out.new) (E.faults err.old) (E.faults err.new) result }
+{
+    if !is_built(core) {
+        return refuse(err, Refusal::NotBuilt(file));
+    }
+    // A run owes that its core is sound. That the core of every text is sound is proved in parts so far, and not yet as
+    // one, so the core is tested; a core that the test does not take is answered like want of memory.
+    match is_sound(alloc, core) {
+        Ok(true) => go(alloc, file, text, core, way, input, out, err),
+        Ok(false) | Err(_) => refuse(err, Refusal::NoMemory),
+    }
+}
+
+/// Runs the program of a text.
+pub(crate) fn run_program<I: Source, O: Sink, E: Sink>(
+    alloc: Global,
+    file: &str,
+    text: &[u8],
+    unit: &Unit,
+    way: Way,
+    input: &mut I,
+    out: &mut O,
+    err: &mut E,
+) -> u8
+    requires steps { IsBounded way }
+    requires input { I.faults input.old + 1 < 2 ^ 64 }
+    requires out { O.faults out.old + 1 < 2 ^ 64 }
+    requires err { E.faults err.old + 1 < 2 ^ 64 }
+    ensures exact { (left o e : List ℕ) → I.left input.old ≡ Some left → O.taken out.old ≡ Some o → E.taken err.old ≡ Some e → O.faults out.new ≡ O.faults out.old → E.faults err.new ≡ E.faults err.old → Gives (AnswersTypes file.now text.now (core_in (unit_view unit.now)) (input_of left (I.faults input.old) (I.faults input.new)) way) left o e (I.left input.new) (O.taken out.new) (E.taken err.new) result }
+    ensures faults { (t : ℕ) → Faults t t (I.faults input.old) (I.faults input.new) (O.faults out.old) (O.faults out.new) (E.faults err.old) (E.faults err.new) result }
+{
+    match elab(alloc, unit) {
+        Ok(core) => with_core(alloc, file, text, &core, way, input, out, err),
+        Err(error) => refuse_types(err, error, file, text),
+    }
+}

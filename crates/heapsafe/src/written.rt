@@ -1,0 +1,111 @@
+//! Answers that are texts: the canonical spelling, the layouts of structs and unions, the functions of the core.
+
+ghost use Rattle.std.specs.Prelude.{◌≡◌, ◌+◌, ◌<◌, ◌^◌, ℕ, List, Some};
+ghost use Rattle.c_tree.specs.StatementView.{unit_view};
+ghost use Rattle.c_elab.specs.Core.{core_in};
+ghost use Rattle.core_tree.specs.Listing.{listing};
+ghost use Rattle.elaboration.specs.Elaboration.{tags_of};
+ghost use Rattle.layout_list.specs.Listing.{layout_listing};
+ghost use Rattle.heapsafe.specs.Shown.{core_shown, layouts_shown, printed, written};
+ghost use Rattle.heapsafe.specs.Saying.{Faults, Gives};
+
+use crate::refusal::{Refusal, refuse, refuse_types};
+use c_elab::{elab, tags};
+use c_tree::{Unit, write_unit};
+use c_types::Tags;
+use core_tree::{Core, list};
+use hs_base::{Sink, put_all};
+use layout_list::list_layouts;
+use std::alloc::Global;
+
+/// Writes a text to the output.
+fn write_text<O: Sink, E: Sink>(text: &[u8], out: &mut O, err: &mut E) -> u8
+    requires out { O.faults out.old + 1 < 2 ^ 64 }
+    requires err { E.faults err.old + 1 < 2 ^ 64 }
+    ensures exact { (left o e : List ℕ) → O.taken out.old ≡ Some o → E.taken err.old ≡ Some e → O.faults out.new ≡ O.faults out.old → E.faults err.new ≡ E.faults err.old → Gives (λ a. a ≡ written text.now) left o e (Some left) (O.taken out.new) (E.taken err.new) result }
+    ensures faults { (t i : ℕ) → Faults t t i i (O.faults out.old) (O.faults out.new) (E.faults err.old) (E.faults err.new) result }
+{
+    match put_all(out, text) {
+        Ok(()) => 0,
+        Err(_) => refuse(err, Refusal::OutputFault),
+    }
+}
+
+/// Writes the canonical spelling of a text.
+pub(crate) fn print<O: Sink, E: Sink>(alloc: Global, unit: &Unit, out: &mut O, err: &mut E) -> u8
+    requires out { O.faults out.old + 1 < 2 ^ 64 }
+    requires err { E.faults err.old + 1 < 2 ^ 64 }
+    ensures exact { (left o e : List ℕ) → O.taken out.old ≡ Some o → E.taken err.old ≡ Some e → O.faults out.new ≡ O.faults out.old → E.faults err.new ≡ E.faults err.old → Gives (λ a. a ≡ printed (unit_view unit.now)) left o e (Some left) (O.taken out.new) (E.taken err.new) result }
+    ensures faults { (t i : ℕ) → Faults t t i i (O.faults out.old) (O.faults out.new) (E.faults err.old) (E.faults err.new) result }
+{
+    match write_unit(alloc, unit) {
+        Ok(text) => write_text(text.as_slice(), out, err),
+        Err(_) => refuse(err, Refusal::NoMemory),
+    }
+}
+
+/// Writes the lines of completed structs and unions.
+fn write_layouts<O: Sink, E: Sink>(alloc: Global, tags: &Tags, out: &mut O, err: &mut E) -> u8
+    requires out { O.faults out.old + 1 < 2 ^ 64 }
+    requires err { E.faults err.old + 1 < 2 ^ 64 }
+    ensures exact { (left o e : List ℕ) → O.taken out.old ≡ Some o → E.taken err.old ≡ Some e → O.faults out.new ≡ O.faults out.old → E.faults err.new ≡ E.faults err.old → Gives (λ a. a ≡ written (layout_listing tags.now)) left o e (Some left) (O.taken out.new) (E.taken err.new) result }
+    ensures faults { (t i : ℕ) → Faults t t i i (O.faults out.old) (O.faults out.new) (E.faults err.old) (E.faults err.new) result }
+{
+    match list_layouts(alloc, tags) {
+        Ok(text) => write_text(text.as_slice(), out, err),
+        Err(_) => refuse(err, Refusal::NoMemory),
+    }
+}
+
+/// Writes the layouts of a text's structs and unions.
+pub(crate) fn layouts<O: Sink, E: Sink>(
+    alloc: Global,
+    file: &str,
+    text: &[u8],
+    unit: &Unit,
+    out: &mut O,
+    err: &mut E,
+) -> u8
+    requires out { O.faults out.old + 1 < 2 ^ 64 }
+    requires err { E.faults err.old + 1 < 2 ^ 64 }
+    ensures exact { (left o e : List ℕ) → O.taken out.old ≡ Some o → E.taken err.old ≡ Some e → O.faults out.new ≡ O.faults out.old → E.faults err.new ≡ E.faults err.old → Gives (λ a. a ≡ layouts_shown file.now text.now (tags_of (unit_view unit.now))) left o e (Some left) (O.taken out.new) (E.taken err.new) result }
+    ensures faults { (t i : ℕ) → Faults t t i i (O.faults out.old) (O.faults out.new) (E.faults err.old) (E.faults err.new) result }
+{
+    match tags(alloc, unit) {
+        Ok(tags) => write_layouts(alloc, &tags, out, err),
+        Err(error) => refuse_types(err, error, file, text),
+    }
+}
+
+/// Writes the functions of a core.
+fn write_core<O: Sink, E: Sink>(alloc: Global, core: &Core, out: &mut O, err: &mut E) -> u8
+    requires out { O.faults out.old + 1 < 2 ^ 64 }
+    requires err { E.faults err.old + 1 < 2 ^ 64 }
+    ensures exact { (left o e : List ℕ) → O.taken out.old ≡ Some o → E.taken err.old ≡ Some e → O.faults out.new ≡ O.faults out.old → E.faults err.new ≡ E.faults err.old → Gives (λ a. a ≡ written (listing core.now)) left o e (Some left) (O.taken out.new) (E.taken err.new) result }
+    ensures faults { (t i : ℕ) → Faults t t i i (O.faults out.old) (O.faults out.new) (E.faults err.old) (E.faults err.new) result }
+{
+    match list(alloc, core) {
+        Ok(text) => write_text(text.as_slice(), out, err),
+        Err(_) => refuse(err, Refusal::NoMemory),
+    }
+}
+
+/// Writes the functions of a text's core.
+pub(crate) fn core_list<O: Sink, E: Sink>(
+    alloc: Global,
+    file: &str,
+    text: &[u8],
+    unit: &Unit,
+    out: &mut O,
+    err: &mut E,
+) -> u8
+    requires out { O.faults out.old + 1 < 2 ^ 64 }
+    requires err { E.faults err.old + 1 < 2 ^ 64 }
+    ensures exact { (left o e : List ℕ) → O.taken out.old ≡ Some o → E.taken err.old ≡ Some e → O.faults out.new ≡ O.faults out.old → E.faults err.new ≡ E.faults err.old → Gives (λ a. a ≡ core_shown file.now text.now (core_in (unit_view unit.now))) left o e (Some left) (O.taken out.new) (E.taken err.new) result }
+    ensures faults { (t i : ℕ) → Faults t t i i (O.faults out.old) (O.faults out.new) (E.faults err.old) (E.faults err.new) result }
+{
+    match elab(alloc, unit) {
+        Ok(core) => write_core(alloc, &core, out, err),
+        Err(error) => refuse_types(err, error, file, text),
+    }
+}
