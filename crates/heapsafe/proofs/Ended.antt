@@ -13,7 +13,7 @@ use Rattle.meaning_run.specs.Meant as meant_specs
 use Rattle.core_runner.specs.Running.{RunAnswers, RunCounts, room_of}
 use Rattle.core_runner.specs.Running as run_specs
 use Rattle.heapsafe.specs.declared.program.Way.TheVariants.{Run, Mean}
-use Rattle.heapsafe.specs.Shown.{Shown}
+use Rattle.heapsafe.specs.Shown.{no_memory}
 use Rattle.heapsafe.specs.Program.{Done, AnswersProgram, AnswersWay, ended, input_of, meant, run_on, status_of, unfinished}
 use Rattle.heapsafe.specs.Saying.{Faults, Gives, Says}
 use Rattle.heapsafe.proofs.Told.{gives, said_faults}
@@ -84,8 +84,8 @@ module _ (file text : List ℕ) (core : Core) (left o e : List ℕ) (left' out e
   gives_mean steps end.OutputFault s counts stays said = absurd (omega (arith, counts.1, stays))
 
   -- memory was wanted after a first part of the events
-  pub gives_unfinished : (steps : ℕ) (before : List Event) → Stopped (meant core left steps).events left o left' out → Says err err' f f' (unfinished before).err 134 result → Means steps
-  gives_unfinished steps before s said =
+  pub gives_unfinished : (steps : ℕ) → Stopped (meant core left steps).events left o left' out → Says err err' f f' no_memory.err 134 result → Means steps
+  gives_unfinished steps s said =
       gives (AnswersWay file text core (input_of left i i') (Mean steps)) (unfinished s.before) left o e s.left left' out err err' f f' result
       (inl (inr (s.before, s.rest, s.is, refl))) s.is_left s.is_read s.is_taken told same said
 

@@ -1,6 +1,5 @@
 -- What is said of an answer, and what a fault of the outside leads to.
 use Rattle.std.specs.Prelude.{◌≡◌, ◌⊎◌, ◌<◌, ◌≤◌, ◌+◌, ℕ, List, ◌++◌, Option, Some, codes}
-use Rattle.bad_free_report.specs.Report.{complaint}
 use Rattle.heapsafe.specs.declared.refusal.Refusal.{Refusal}
 use Rattle.heapsafe.specs.declared.refusal.Refusal.TheVariants.{Usage, TextFault, TextTooLong, NoMemory, NotBuilt, OutputFault}
 use Rattle.heapsafe.specs.Shown.{Shown, refusal, text_too_long, no_memory, bad_place, bad_syntax, bad_type}

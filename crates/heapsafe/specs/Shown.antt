@@ -1,5 +1,5 @@
 -- What is seen of an answer, and the answers that are not of a program.
-use Rattle.std.specs.Prelude.{◌++◌, ℕ, List, [], Result, Ok, Err, codes}
+use Rattle.std.specs.Prelude.{◌++◌, ℕ, List, [], Ok, Err, codes}
 use Rattle.bad_free_report.specs.Report.{complaint, complaint_at}
 use Rattle.c_lexer.specs.declared.token.LexKind.{LexKind}
 use Rattle.c_lexer.specs.Words.{word_of}

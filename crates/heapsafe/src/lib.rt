@@ -66,7 +66,16 @@ fn with_tree<I: Source, O: Sink, E: Sink>(
             run_program(alloc, file, text, unit, way, input, out, err)
         }
         Task::Mean { steps } => {
-            run_program(alloc, file, text, unit, Way::Mean { steps }, input, out, err)
+            run_program(
+                alloc,
+                file,
+                text,
+                unit,
+                Way::Mean { steps },
+                input,
+                out,
+                err,
+            )
         }
         Task::Print => print(alloc, unit, out, err),
         Task::Layout => layouts(alloc, file, text, unit, out, err),

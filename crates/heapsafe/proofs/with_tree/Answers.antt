@@ -32,3 +32,12 @@ pub returns-in-List-clause-exact : goal.returns-in-List-clause-exact
 returns-in-List-clause-exact g c = λ left o e k h i same_out same_err.
     subst (λ (t : Task). Gives (Does c.args.file.now c.args.text.now (unit_view c.args.unit.now) (input_of left (g.I.Source.faults c.args.input.now) (g.I.Source.faults c.args.input.now)) (task_shown t)) left o e (g.I.Source.left c.args.input.now) (g.O.Sink.taken c.core_list.new.out) (g.E.Sink.taken c.core_list.new.err) c.core_list.result) (sym c.in-List.is)
     (gives_left _ left o e _ _ _ _ k (c.core_list.ensures.exact left o e h i same_out same_err))
+
+pub returns-in-Print-clause-faults : goal.returns-in-Print-clause-faults
+returns-in-Print-clause-faults g c = λ t. c.print.ensures.faults t (g.I.Source.faults c.args.input.now)
+
+pub returns-in-Layout-clause-faults : goal.returns-in-Layout-clause-faults
+returns-in-Layout-clause-faults g c = λ t. c.layouts.ensures.faults t (g.I.Source.faults c.args.input.now)
+
+pub returns-in-List-clause-faults : goal.returns-in-List-clause-faults
+returns-in-List-clause-faults g c = λ t. c.core_list.ensures.faults t (g.I.Source.faults c.args.input.now)

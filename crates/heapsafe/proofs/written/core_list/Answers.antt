@@ -1,4 +1,4 @@
-use Rattle.std.proofs.Common.{◌≡◌, sym, ap}
+use Rattle.std.proofs.Common.{◌≡◌, Some, refl, sym, ap}
 use Rattle.c_tree.specs.StatementView.{unit_view}
 use Rattle.c_elab.specs.Core.{core_in}
 use Rattle.heapsafe.specs.Shown.{Shown, core_shown}
@@ -13,6 +13,6 @@ returns-in-Ok-clause-exact g c = λ left o e h i same_out same_err.
 
 pub returns-in-Err-clause-exact : goal.returns-in-Err-clause-exact
 returns-in-Err-clause-exact g c = λ left o e h i same_out same_err.
-    gives_said (λ (a : Shown). a ≡ core_shown c.args.file.now c.args.text.now (core_in (unit_view c.args.unit.now))) (untyped c.in-Err.error c.args.file.now c.args.text.now) left o e _ _ _ _ _ _ _
+    gives_said (λ (a : Shown). a ≡ core_shown c.args.file.now c.args.text.now (core_in (unit_view c.args.unit.now))) (untyped c.in-Err.error c.args.file.now c.args.text.now) left o e (Some left) _ _ _ _ _ _
     (untyped_core c.in-Err.error c.args.file.now c.args.text.now (core_in (unit_view c.args.unit.now)) c.in-Err.ensures)
     (untyped_silent c.in-Err.error c.args.file.now c.args.text.now) refl h i same_err c.refuse_types.ensures.says

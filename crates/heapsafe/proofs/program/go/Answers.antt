@@ -1,0 +1,15 @@
+use Rattle.std.proofs.Common.{sym, subst}
+use Rattle.heapsafe.specs.declared.program.Way.{Way}
+use Rattle.heapsafe.specs.Program.{AnswersWay, input_of}
+use Rattle.heapsafe.specs.Saying.{Gives}
+use Rattle.heapsafe.proofs.program.go.Goals as goal
+
+pub returns-in-Run-clause-exact : goal.returns-in-Run-clause-exact
+returns-in-Run-clause-exact g c = λ left o e k h i same_out same_err.
+    subst (λ (w : Way). Gives (AnswersWay c.args.file.now c.args.text.now c.args.core.now (input_of left (g.I.Source.faults c.args.input.now) (g.I.Source.faults c.run_core.new.input)) w) left o e (g.I.Source.left c.run_core.new.input) (g.O.Sink.taken c.run_core.new.out) (g.E.Sink.taken c.run_core.new.err) c.run_core.result) (sym c.in-Run.is)
+    (c.run_core.ensures.exact left o e k h i same_out same_err)
+
+pub returns-in-Mean-clause-exact : goal.returns-in-Mean-clause-exact
+returns-in-Mean-clause-exact g c = λ left o e k h i same_out same_err.
+    subst (λ (w : Way). Gives (AnswersWay c.args.file.now c.args.text.now c.args.core.now (input_of left (g.I.Source.faults c.args.input.now) (g.I.Source.faults c.mean_core.new.input)) w) left o e (g.I.Source.left c.mean_core.new.input) (g.O.Sink.taken c.mean_core.new.out) (g.E.Sink.taken c.mean_core.new.err) c.mean_core.result) (sym c.in-Mean.is)
+    (c.mean_core.ensures.exact left o e k h i same_out same_err)

@@ -1,0 +1,22 @@
+use Rattle.std.proofs.Common.{refl}
+use Rattle.heapsafe.proofs.Told.{said_faults}
+use Rattle.heapsafe.proofs.Ended.{gives_mean, gives_unfinished, mean_counts, program_faults}
+use Rattle.heapsafe.proofs.program.mean_core.Goals as goal
+
+pub returns-in-Ok-clause-exact : goal.returns-in-Ok-clause-exact
+returns-in-Ok-clause-exact g c = λ left o e k h i same_out same_err.
+    gives_mean c.args.file.now c.args.text.now c.args.core.now left o e _ _ _ _ _ _ _ _ _ _ _ i same_err c.args.steps c.in-Ok.end
+    (c.in-Ok.ensures.told left o k h) c.in-Ok.ensures.faults same_out c.finish.ensures.says
+
+pub returns-in-Ok-clause-faults : goal.returns-in-Ok-clause-faults
+returns-in-Ok-clause-faults g c = λ t.
+    program_faults c.in-Ok.end t _ _ _ _ _ _ _ _ _ _ (mean_counts c.in-Ok.end _ _ _ _ c.in-Ok.ensures.faults) c.finish.ensures.says
+
+pub returns-in-Err-clause-exact : goal.returns-in-Err-clause-exact
+returns-in-Err-clause-exact g c = λ left o e k h i same_out same_err.
+    gives_unfinished c.args.file.now c.args.text.now c.args.core.now left o e _ _ _ _ _ _ 0 0 _ _ _ i same_err c.args.steps
+    (c.in-Err.ensures.told left o k h) c.refuse.ensures.says
+
+pub returns-in-Err-clause-faults : goal.returns-in-Err-clause-faults
+returns-in-Err-clause-faults g c = λ t.
+    said_faults t _ _ _ _ _ _ _ _ _ _ 134 c.in-Err.ensures.faults.0 c.in-Err.ensures.faults.1 c.refuse.ensures.says

@@ -1,0 +1,26 @@
+use Rattle.std.proofs.Common.{◌∙◌, inr, refl, ap}
+use Rattle.heapsafe.specs.declared.program.Way.TheVariants.{Run}
+use Rattle.heapsafe.specs.Shown.{no_memory}
+use Rattle.heapsafe.specs.Program.{AnswersWay, input_of}
+use Rattle.heapsafe.proofs.Told.{gives_said, said_faults}
+use Rattle.heapsafe.proofs.Ended.{gives_run, program_faults}
+use Rattle.heapsafe.proofs.program.run_core.Goals as goal
+
+pub returns-in-Ok-clause-exact : goal.returns-in-Ok-clause-exact
+returns-in-Ok-clause-exact g c = λ left o e k h i same_out same_err.
+    gives_run c.args.file.now c.args.text.now c.args.core.now left o e _ _ _ _ _ _ _ _ _ _ _ i same_err c.args.stack c.args.steps c.in-Ok.end
+    (c.in-Ok.ensures.told 16777216 left o k h) c.in-Ok.ensures.faults same_out c.finish.ensures.says
+
+pub returns-in-Ok-clause-faults : goal.returns-in-Ok-clause-faults
+returns-in-Ok-clause-faults g c = λ t.
+    program_faults c.in-Ok.end t _ _ _ _ _ _ _ _ _ _ c.in-Ok.ensures.faults c.finish.ensures.says
+
+pub returns-in-Err-clause-exact : goal.returns-in-Err-clause-exact
+returns-in-Err-clause-exact g c = λ left o e k h i same_out same_err.
+    let input = input_of left (g.I.Source.faults c.args.input.now) (g.I.Source.faults c.run.new.input) in
+    gives_said (AnswersWay c.args.file.now c.args.text.now c.args.core.now input (Run c.args.stack c.args.steps)) no_memory left o e _ _ _ _ _ _ _ (inr refl) (record { read = refl; out = refl })
+    (ap g.I.Source.left c.in-Err.ensures.input_stays ∙ k) (ap g.O.Sink.taken c.in-Err.ensures.out_stays ∙ h) i same_err c.refuse.ensures.says
+
+pub returns-in-Err-clause-faults : goal.returns-in-Err-clause-faults
+returns-in-Err-clause-faults g c = λ t.
+    said_faults t _ _ _ _ _ _ _ _ _ _ 134 (ap g.I.Source.faults c.in-Err.ensures.input_stays) (ap g.O.Sink.faults c.in-Err.ensures.out_stays) c.refuse.ensures.says
