@@ -1,4 +1,0 @@
-pub mod Registers
-pub mod Code
-pub mod Elaborated
-pub mod Allowed

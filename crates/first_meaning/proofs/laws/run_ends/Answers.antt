@@ -1,7 +1,0 @@
-use Rattle.first_meaning.proofs.Falls.{ends}
-use Rattle.first_meaning.proofs.Stands.{never_dangles}
-use Rattle.first_meaning.proofs.laws.run_ends.Goals as goal
-
-pub returns : goal.returns
-returns c = λ core sound input n.
-    let e = ends core sound input n in (e.0, e.1, never_dangles core sound input n e.0 e.1)
