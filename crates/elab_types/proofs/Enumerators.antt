@@ -1,11 +1,11 @@
 -- Enumerators by their trees.
-use Rattle.std.proofs.Common.{◌≡◌, ◌+◌, ◌<◌, ℕ, ℤ, length, drop, get_or, Bool, true, false, cond, List, [], ◌∷◌, Option, Some, None, option_map, Ok, Err, Box, Global, refl, sym, ap, ◌∙◌}
+use Rattle.std.proofs.Common.{◌≡◌, ◌+◌, ◌<◌, ℕ, ℤ, length, drop, get_or, Bool, true, false, cond, List, Option, Some, None, option_map, Ok, Box, Global, refl, sym, ap, ◌∙◌}
 use Rattle.std.specs.Prelude.{◌&&◌, not, is_some}
 use Rattle.c_types.specs.Types.{PlainType}
 use Rattle.c_tree.specs.declared.tree.Expr.{Expr}
 use Rattle.c_tree.specs.declared.tree.Enumerator.{Enumerator, out-Enumerator, roll-out-Enumerator}
 use Rattle.c_tree.specs.Forms as f
-use Rattle.c_tree.specs.Tree.{Tree, Trees, Leaf, At, Node, none, ◌▹◌}
+use Rattle.c_tree.specs.Tree.{Tree, Trees, At, Node, none, ◌▹◌}
 use Rattle.c_tree.specs.View.{enumerator_tree, name_leaf}
 use Rattle.c_tree.specs.StatementView.{maybe, expr_view, trees}
 use Rattle.c_tree.proofs.Views.{enumerator_value_tree}
@@ -13,8 +13,8 @@ use Rattle.c_decls.specs.declared.refusal.TypeKind.TheVariants.{DeclaredTwice}
 use Rattle.c_decls.specs.Named as n
 use Rattle.c_decls.specs.Named.{PlainNamed}
 use Rattle.c_decls.specs.Refusals.{Checked, then, unless}
-use Rattle.c_decls.specs.ScopeList.{ScopeList, named_in, innermost, with_name}
-use Rattle.elaboration.specs.Context.{Context, With}
+use Rattle.c_decls.specs.ScopeList.{named_in, innermost, with_name}
+use Rattle.elaboration.specs.Context.{Context}
 use Rattle.elaboration.specs.Declarators.{constant, enumerator, enumerators}
 use Rattle.elaboration.specs.Locals.{is_same_again, is_file, is_twice_in, declared_as}
 use Rattle.elab_types.specs.Steps.{held, enumerator_by, enumerator_step}

@@ -1,5 +1,5 @@
 -- Names that are free.
-use Rattle.std.proofs.Common.{◌≡◌, ℕ, Bool, true, false, true≢false, List, Option, Some, None, refl, sym}
+use Rattle.std.proofs.Common.{◌≡◌, ℕ, false, true≢false, List, Option, Some, None, refl}
 use Rattle.std.specs.Prelude.{is_some}
 use Rattle.c_decls.specs.Named.{PlainNamed}
 use Rattle.c_decls.specs.ScopeList.{named_in, innermost}

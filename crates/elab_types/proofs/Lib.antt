@@ -1,3 +1,4 @@
+-- Lemmas of the walk over specs and declarators.
 pub mod Enumerators
 pub mod Free
 pub mod MemberLists

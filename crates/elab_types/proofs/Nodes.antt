@@ -2,8 +2,7 @@
 use Rattle.std.proofs.Common.{◌≡◌, ℕ, suc, ◌+◌, ◌<◌, ◌≤◌, Bool, true, false, cond, List, [], ◌∷◌, ◌++◌, map, reverse, length, drop, get_or, Option, Some, None, Result, Ok, Err, Box, Vec, Global, refl, sym, ap, subst, ◌∙◌, append_assoc, add-one}
 use Rattle.std.proofs.lemmas.List.{append-nil, drop_all, reverse-append}
 use Rattle.std.proofs.Math.Seq.{drop-cons}
-use Rattle.c_types.specs.declared.types.CType.{CType}
-use Rattle.c_types.specs.Types.{PlainType, PlainTypes, none as no_types, first, plain, plain_list}
+use Rattle.c_types.specs.Types.{PlainType, PlainTypes, none as no_types, first, plain}
 use Rattle.c_tree.specs.declared.operator.RecordSort.{RecordSort}
 use Rattle.c_tree.specs.declared.tree.Expr.{Expr}
 use Rattle.c_tree.specs.declared.tree.Spec.{Spec}
@@ -28,7 +27,7 @@ use Rattle.c_tree.specs.StatementView.{trees, expr_view, specs_view, member_view
 use Rattle.c_tree.proofs.Views.{record_body_tree, enum_body_tree, direct_tree, params_tree, array_tree}
 use Rattle.c_decls.specs.declared.refusal.TypeError.{TypeError}
 use Rattle.c_decls.specs.declared.refusal.TypeError.TheVariants as e
-use Rattle.c_decls.specs.Refusals.{Checked, Meets, then}
+use Rattle.c_decls.specs.Refusals.{Meets, then}
 use Rattle.c_decls.specs.TypeNames.{Layer, FunctionOf, word_type, special_type, with_layers, with_param_layers, adjusted}
 use Rattle.c_typing.specs.declared.layers.Layer.{Layer as CodeLayer}
 use Rattle.c_typing.specs.Layers.{plain_layer, plain_layers}

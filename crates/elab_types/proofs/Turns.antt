@@ -6,7 +6,7 @@ use Rattle.c_tree.specs.Tree.{Tree, Trees, none, ◌▹◌}
 use Rattle.c_tree.specs.StatementView.{trees}
 use Rattle.c_decls.specs.declared.refusal.TypeError.{TypeError}
 use Rattle.c_decls.specs.declared.refusal.TypeError.TheVariants as e
-use Rattle.c_decls.specs.Refusals.{Checked, Meets, refused, then}
+use Rattle.c_decls.specs.Refusals.{Checked, Meets, then}
 use Rattle.elaboration.specs.Context.{Context, With}
 
 -- what is done in three parts

@@ -1,8 +1,9 @@
+-- An enumerator of the tree, with its value or without one.
 use Rattle.std.proofs.Common.{sym, subst, ℤ}
 use Rattle.std.specs.Int.{w128}
 use Rattle.std.proofs.lemmas.Int.{to_z-of_z}
 use Rattle.c_decls.specs.Refusals.{Meets}
-use Rattle.elaboration.specs.Context.{Context, With}
+use Rattle.elaboration.specs.Context.{With}
 use Rattle.elab_types.proofs.Enumerators.{step_is}
 use Rattle.elab_types.proofs.enums.enumerator_of.Goals as goal
 

@@ -1,3 +1,4 @@
+-- Enumerators in turn.
 use Rattle.std.proofs.Common.{ℤ}
 use Rattle.std.specs.Prelude.{pos}
 use Rattle.std.proofs.lemmas.Result.{err_from_is_err_and}

@@ -1,3 +1,4 @@
+-- What is left of the enumerators decides.
 use Rattle.std.proofs.Common.{◌≡◌, drop}
 use Rattle.std.specs.Prelude.{pos}
 use Rattle.c_tree.specs.View.{enumerator_tree}

@@ -1,4 +1,5 @@
-use Rattle.std.proofs.Common.{◌≡◌, ◌∙◌, [], List, ℕ, ap, sym, subst, map, Vec, Global, Err, Ok}
+-- The loops of the walk step by step, and the forms whose parts were gone through.
+use Rattle.std.proofs.Common.{◌≡◌, ◌∙◌, List, ℕ, ap, sym, subst, map, Vec, Global, Err, Ok}
 use Rattle.std.proofs.lemmas.Result.{err_from_is_err_and}
 use Rattle.c_types.specs.declared.types.CType.{CType}
 use Rattle.c_types.specs.Types.{PlainType, PlainTypes, plain, plain_list}
@@ -10,7 +11,7 @@ use Rattle.c_tree.specs.StatementView.{trees, member_view, suffix_view, param_vi
 use Rattle.c_decls.specs.Refusals.{Meets}
 use Rattle.c_decls.specs.TypeNames.{Layer, FunctionOf}
 use Rattle.c_typing.specs.declared.layers.Layer.{Layer as CodeLayer}
-use Rattle.c_typing.specs.Layers.{plain_layer, plain_layers}
+use Rattle.c_typing.specs.Layers.{plain_layer}
 use Rattle.c_typing.proofs.Walked.{as_types, as_plain_list}
 use Rattle.elaboration.specs.Context.{Context, With, entered}
 use Rattle.elaboration.specs.Declarators.{Members, members, params, suffix_layers, left_params}

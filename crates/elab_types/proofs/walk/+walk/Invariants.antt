@@ -1,4 +1,5 @@
-use Rattle.std.proofs.Common.{◌≡◌, [], map}
+-- What is left of each list decides what the walk answers.
+use Rattle.std.proofs.Common.{◌≡◌, [], map, drop}
 use Rattle.c_types.specs.Types.{plain}
 use Rattle.c_types.specs.TagTable.{plain_pair}
 use Rattle.c_tree.specs.View.{spec_tree, declarator_tree}
@@ -7,7 +8,6 @@ use Rattle.c_typing.specs.Layers.{plain_layer}
 use Rattle.elaboration.specs.Declarators.{words_type, members, member_names}
 use Rattle.elab_types.proofs.Nodes.{left_words, suffix_walk, param_walk}
 use Rattle.elab_types.proofs.walk.+walk.Given as goal
-use Rattle.std.proofs.Common.{drop}
 
 -- what is left decides
 
