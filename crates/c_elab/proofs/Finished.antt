@@ -11,7 +11,7 @@ use Rattle.elaboration.specs.Resolving.{core_of}
 use Rattle.elab_base.specs.Idle.{idle, idled}
 
 abbrev core_behind : Checked Context → Checked Core
-core_behind answer = then (then answer (λ c. Ok (core_of c, c.tags))) (λ both. Ok both.0)
+core_behind answer = then {A = Core × TagTable} (then answer (λ c. Ok (core_of c, c.tags))) (λ both. Ok both.0)
 
 abbrev tags_behind : Checked Context → Checked TagTable
 tags_behind answer = then answer (λ c. Ok c.tags)

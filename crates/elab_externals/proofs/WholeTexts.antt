@@ -1,5 +1,5 @@
 -- External declarations one behind another: between them nothing is kept of the last function.
-use Rattle.std.proofs.Common.{◌≡◌, ◌<◌, ◌≤◌, ◌+◌, ℕ, zero, suc, Bool, true, false, List, [], ◌∷◌, Ok, Err, drop, length, get_or, refl, ap, sym, ◌∙◌, arith}
+use Rattle.std.proofs.Common.{◌≡◌, ◌<◌, ◌≤◌, ◌+◌, ℕ, zero, suc, Bool, true, false, List, [], ◌∷◌, Ok, Err, drop, length, get_or, refl, ap, sym, subst, ◌∙◌, arith}
 use Rattle.std.specs.Prelude.{slice_get, not, cond, codes}
 use Rattle.std.proofs.Math.Seq.{drop-cons}
 use Rattle.c_tree.specs.declared.statement.Decl.{Decl}
@@ -11,7 +11,7 @@ use Rattle.c_decls.specs.declared.refusal.TypeError.{TypeError}
 use Rattle.c_decls.specs.declared.refusal.TypeError.TheVariants as e
 use Rattle.c_decls.specs.ScopeList.{named_in}
 use Rattle.c_decls.specs.Refusals.{Checked, refused, then, unless, Meets}
-use Rattle.elaboration.specs.Context.{Context, Declared}
+use Rattle.elaboration.specs.Context.{Context, Declared, first_context}
 use Rattle.elaboration.specs.Externals.{external, externals, is_defined, is_main, calls_defined, ended}
 use Rattle.elab_base.specs.Idle.{idle, idled}
 
@@ -107,3 +107,20 @@ pub end_err : (answer : Checked Context) (s : Context) (error : TypeError) → i
     Meets (λ (t : Context). idle t) (Err error) (idled (then answer ended))
 end_err answer s (e.Bad kind line) h failed = sym (whole_ok answer s h) ∙ ap (λ (a : Checked Context). idled a) failed
 end_err answer s e.NoMemory h failed = tt
+
+-- the same of what stands in the code: the declarations as a slice, and the first context as it was made
+module _ (decls list : List Decl) (first s : Context) (error : TypeError) (is : list ≡ decls) (begins : first ≡ first_context) where
+  from_first : externals (trees decl_view list) first ≡ externals (trees decl_view decls) first_context
+  from_first =
+      ap (λ (l : List Decl). externals (trees decl_view l) first) is ∙ ap (λ (c : Context). externals (trees decl_view decls) c) begins
+
+  pub text_err_at : Meets (λ (u : Unit {0}). idle s) (Err error) (idled (externals (trees decl_view list) first)) →
+      Meets (λ (t : Context). idle t) (Err error) (idled (then (externals (trees decl_view decls) first_context) ended))
+  text_err_at failed =
+      text_err (externals (trees decl_view decls) first_context) (idle s) error
+      (subst (λ (a : Checked Context). Meets (λ (u : Unit {0}). idle s) (Err error) (idled a)) from_first failed)
+
+  pub end_err_at : idled (externals (trees decl_view list) first) ≡ Ok (idle s) → Meets (λ (u : Unit {0}). s) (Err error) (ended s) →
+      Meets (λ (t : Context). idle t) (Err error) (idled (then (externals (trees decl_view decls) first_context) ended))
+  end_err_at h failed =
+      end_err (externals (trees decl_view decls) first_context) s error (ap (λ (a : Checked Context). idled a) (sym from_first) ∙ h) failed

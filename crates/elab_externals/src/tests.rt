@@ -36,7 +36,10 @@ fn mains(rt: HostRuntime) -> Result<(), Fail> {
     assert!(rt; matches!(walked(alloc, &void), Err(e) if e == no_main));
     let int = text(vec![in alloc; function(alloc, 3, Spec::Int)?]?);
     assert!(rt; walked(alloc, &int).is_ok());
-    let twice = text(vec![in alloc; function(alloc, 3, Spec::Int)?, function(alloc, 4, Spec::Int)?]?);
+    let twice = text(vec![in alloc;
+        function(alloc, 3, Spec::Int)?,
+        function(alloc, 4, Spec::Int)?,
+    ]?);
     let second = TypeError::Bad {
         kind: TypeKind::DeclaredTwice,
         line: 4,

@@ -1,5 +1,6 @@
-use Rattle.std.proofs.Common.{◌≡◌, ◌∙◌, sym, arith}
+use Rattle.std.proofs.Common.{◌∙◌, sym, arith}
 use Rattle.std.proofs.lemmas.Result.{err_from_is_err_and}
+use Rattle.elab_base.specs.Idle.{idle}
 use Rattle.elab_externals.proofs.WholeTexts.{decl_next, decl_err, decls_end}
 use Rattle.elab_externals.proofs.texts.externals.Goals as goal
 
@@ -17,4 +18,4 @@ pub returns-in_err-external : goal.returns-in_err-external
 returns-in_err-external c =
     let p = err_from_is_err_and c.from_residual.result c.from_residual.ensures.1 in
     rw (p.1, p.2)
-    (decl_err c.args.decls.now c.loop-decl.decl-index c.decl-item.result c.loop-decl.state c.external.new.state _ _ _ c.loop-decl-test.true c.decl-item.is c.loop-decl.invariant c.in_err-external.ensures)
+    (decl_err c.args.decls.now c.loop-decl.decl-index c.decl-item.result c.loop-decl.state c.external.new.state (idle c.external.new.state) _ _ c.loop-decl-test.true c.decl-item.is c.loop-decl.invariant c.in_err-external.ensures)
