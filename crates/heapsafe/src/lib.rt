@@ -175,6 +175,10 @@ pub fn heapsafe<T: Texts, I: Source, O: Sink, E: Sink>(
 }
 
 #[cfg(test)]
+mod program_tests;
+#[cfg(test)]
 mod tests;
 #[cfg(test)]
 mod tree_tests;
+#[cfg(test)]
+mod type_tests;

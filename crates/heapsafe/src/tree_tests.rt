@@ -90,7 +90,7 @@ fn texts_with_a_tree(rt: HostRuntime) -> Result<(), Fail> {
     Ok(())
 }
 
-/// Texts without a tree, each with what is said: `print` and `run` refuse them alike.
+/// Texts without a tree, each with what is said: all commands refuse them alike.
 #[test]
 fn texts_without_a_tree(rt: HostRuntime) -> Result<(), Fail> {
     let alloc = rt.alloc();
@@ -133,7 +133,7 @@ fn texts_without_a_tree(rt: HostRuntime) -> Result<(), Fail> {
         ),
     ];
     for (text, said) in rows {
-        for command in ["print", "run"] {
+        for command in ["print", "run", "mean", "layout", "list"] {
             let (out, err, status) = answer(alloc, command, text)?;
             assert_eq!(rt; status, 124);
             assert_eq!(rt; out.bytes(), b"".as_slice());
