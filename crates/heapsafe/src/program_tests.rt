@@ -17,6 +17,7 @@ fn texts(alloc: Global, text: &[u8]) -> Result<SureTexts, Fail> {
 }
 
 /// What is left of the input, what is written to the two streams, and the status.
+#[derive(Drop)]
 struct Seen {
     input: MemSource,
     out: MemSink,
@@ -25,7 +26,7 @@ struct Seen {
 }
 
 /// What is done for words with a text and an input whose call of that number fails.
-fn seen(
+fn answer(
     alloc: Global,
     words: &[&str],
     text: &[u8],
@@ -171,7 +172,7 @@ fn programs(rt: HostRuntime) -> Result<(), Fail> {
     ];
     for (text, steps, written, said, status) in rows {
         for command in ["run", "mean"] {
-            let seen = seen(alloc, &[command, "a.c", "--steps", steps], text, b"", 9)?;
+            let seen = answer(alloc, &[command, "a.c", "--steps", steps], text, b"", 9)?;
             assert_eq!(rt; seen.status, status);
             assert_eq!(rt; seen.out.bytes(), written);
             assert_eq!(rt; seen.err.bytes(), said);
@@ -217,7 +218,7 @@ fn inputs(rt: HostRuntime) -> Result<(), Fail> {
     ];
     for (text, input, failing, left, written, said, status) in rows {
         for command in ["run", "mean"] {
-            let seen = seen(alloc, &[command, "a.c"], text, input, failing)?;
+            let seen = answer(alloc, &[command, "a.c"], text, input, failing)?;
             assert_eq!(rt; seen.status, status);
             assert_eq!(rt; seen.input.left(), left);
             assert_eq!(rt; seen.out.bytes(), written);
@@ -255,7 +256,7 @@ fn stacks(rt: HostRuntime) -> Result<(), Fail> {
         (&["mean", "a.c", "--steps", "1000"], spent, 131),
     ];
     for (words, said, status) in rows {
-        let seen = seen(alloc, words, text, b"", 9)?;
+        let seen = answer(alloc, words, text, b"", 9)?;
         assert_eq!(rt; seen.status, status);
         assert_eq!(rt; seen.out.bytes(), b"".as_slice());
         assert_eq!(rt; seen.err.bytes(), said);
@@ -278,7 +279,7 @@ fn programs_that_are_not_built(rt: HostRuntime) -> Result<(), Fail> {
     ];
     for text in rows {
         for command in ["run", "mean"] {
-            let seen = seen(alloc, &[command, "a.c"], text, b"x", 1)?;
+            let seen = answer(alloc, &[command, "a.c"], text, b"x", 1)?;
             assert_eq!(rt; seen.status, 135);
             assert_eq!(rt; seen.input.left(), b"x".as_slice());
             assert_eq!(rt; seen.out.bytes(), b"".as_slice());
