@@ -8,9 +8,6 @@ module _ {A : Type 0} (xs : List A) (P : ℕ → A → Type 0) where
   abbrev pub EachBelow : ℕ → Type 0
   EachBelow i = (k : ℕ) (x : A) → k < i → slice_get xs k ≡ Some x → P k x
 
-  pub each_none : EachBelow 0
-  each_none k x lt e = absurd (omega arith)
-
   pub each_more : (i : ℕ) (x : A) → i < length xs → x ≡ get_or xs i x → EachBelow i → P i x → EachBelow (i + 1)
   each_more i x inside is h p k y lt e =
       ⊎_elim

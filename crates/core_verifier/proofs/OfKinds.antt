@@ -35,11 +35,6 @@ pub leads_on : (point : ℕ) (kind : StmKind) → ((l : ℕ) → kind ≡ Loop l
 leads_on point (Loop l) h = absurd (h l refl)
 leads_on point kind h = (λ x. x, λ x. x)
 
--- a statement that is no call wants no answer
-pub no_answer : (core : Core) (func : Func) (kind : StmKind) → ((f : ℕ) (r : Option ℕ) (args : List Atom) → kind ≡ Call f r args → ⊥) → GivesAnswer core func kind
-no_answer core func (Call f r args) h = absurd (h f r args refl)
-no_answer core func kind h = tt
-
 -- what has no target leads on
 pub ahead_none : (e : Edges) (point : ℕ) → e.target ≡ None → All (λ next. point < next) (leads_to e point)
 ahead_none e point h =

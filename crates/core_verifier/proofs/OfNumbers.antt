@@ -1,9 +1,9 @@
 -- The numbers of a statement, by its operands and those that stand beside them.
-use Rattle.std.proofs.Common.{◌≡◌, ◌↔◌, ℤ, pos, ◌≤ℤ◌, List, [], ◌∷◌, ◌++◌, sym, ap, ◌∙◌, subst, lit<}
+use Rattle.std.proofs.Common.{◌≡◌, ◌↔◌, ℤ, pos, ◌≤ℤ◌, List, [], ◌∷◌, ◌++◌, sym, ap, ◌∙◌, subst}
 use Rattle.std.specs.Prelude.{All}
 use Rattle.std.specs.List.{flat_map}
 use Rattle.std.proofs.lemmas.List.{append-nil}
-use Rattle.std.proofs.lemmas.List.Elements.{All-nil, All-cons, All-append, All-same}
+use Rattle.std.proofs.lemmas.List.Elements.{All-nil, All-append, All-same}
 use Rattle.core_tree.specs.declared.statements.Atom.{Atom}
 use Rattle.core_tree.specs.declared.statements.StmKind.{StmKind}
 use Rattle.core_tree.specs.Statements.{operands}
@@ -32,12 +32,6 @@ module _ (kind : StmKind) (atoms : List Atom) (own : List ℤ) (is : IsOf kind a
   atoms_from : HasNumbers kind → All IsNumber (flat_map atom_numbers atoms)
   atoms_from h = all_front IsNumber (flat_map atom_numbers atoms) own (subst (All IsNumber) same h.numbers)
 
-  own_from : HasNumbers kind → All IsNumber own
-  own_from h = all_back IsNumber (flat_map atom_numbers atoms) own (subst (All IsNumber) same h.numbers)
-
-pub of_none : (kind : StmKind) → IsOf kind [] [] → HasNumbers kind
-of_none kind is = numbers_from kind [] [] is (All-nil IsNumber) (All-nil IsNumber)
-
 pub of_some : (kind : StmKind) (atoms : List Atom) → IsOf kind atoms [] → All IsNumber (flat_map atom_numbers atoms) ↔ HasNumbers kind
 of_some kind atoms is = (λ a. numbers_from kind atoms [] is a (All-nil IsNumber), atoms_from kind atoms [] is)
 
@@ -57,13 +51,4 @@ of_two kind a b is = (
   λ h.
       let both = atoms_from kind (a ∷ b ∷ []) [] is h in
       (all_front IsNumber (atom_numbers a) (flat_map atom_numbers (b ∷ [])) both, subst (All IsNumber) (single b) (all_back IsNumber (atom_numbers a) (flat_map atom_numbers (b ∷ [])) both)),
-)
-
-all_one : (n : ℤ) → IsNumber n → All IsNumber (n ∷ [])
-all_one n h = All-cons IsNumber n [] h (All-nil IsNumber)
-
-pub of_case : (kind : StmKind) (a : Atom) (n : ℤ) → IsOf kind (a ∷ []) (n ∷ []) → (All IsNumber (atom_numbers a) × IsNumber n) ↔ HasNumbers kind
-of_case kind a n is = (
-  λ h. numbers_from kind (a ∷ []) (n ∷ []) is (subst (All IsNumber) (sym (single a)) h.0) (all_one n h.1),
-  λ h. (subst (All IsNumber) (single a) (atoms_from kind (a ∷ []) (n ∷ []) is h), own_from kind (a ∷ []) (n ∷ []) is h 0 n (lit< tt)),
 )

@@ -11,19 +11,6 @@ module _ {A B : Type 0} (P : A → B → Type 0) where
   pairs_push (a ∷ xs) [] x y h p = absurd h
   pairs_push (a ∷ xs) (b ∷ ys) x y h p = (h.0, pairs_push xs ys x y h.1 p)
 
-  pub pairs_length : (xs : List A) (ys : List B) → Pairs P xs ys → length xs ≡ length ys
-  pairs_length [] [] h = refl
-  pairs_length [] (b ∷ ys) h = absurd h
-  pairs_length (a ∷ xs) [] h = absurd h
-  pairs_length (a ∷ xs) (b ∷ ys) h = ap suc (pairs_length xs ys h.1)
-
-  pub pairs_at : (xs : List A) (ys : List B) → Pairs P xs ys → (k : ℕ) (x : A) (d : B) → slice_get xs k ≡ Some x → P x (get_or ys k d)
-  pairs_at [] [] h k x d e = absurd (cc)
-  pairs_at [] (b ∷ ys) h k x d e = absurd h
-  pairs_at (a ∷ xs) [] h k x d e = absurd h
-  pairs_at (a ∷ xs) (b ∷ ys) h zero x d e = let same : a ≡ x = cc in rw (← same) h.0
-  pairs_at (a ∷ xs) (b ∷ ys) h (suc k) x d e = pairs_at xs ys h.1 k x d e
-
   pub pairs_more : (xs : List A) (ys ys' : List B) (i : ℕ) (x : A) (y : B) → i < length xs → x ≡ get_or xs i x → Pairs P (take i xs) ys → P x y → ys' ≡ ys ++ y ∷ [] → Pairs P (take (i + 1) xs) ys'
   pairs_more xs ys ys' i x y inside is h p e =
       let front : take (i + 1) xs ≡ take i xs ++ x ∷ [] = take_more xs i x inside ∙ ap (λ z. take i xs ++ z ∷ []) (sym is) in
@@ -57,7 +44,3 @@ module _ {A B : Type 0} (P : A → B → Type 0) where
   pairs_both (a ∷ xs) [] h k x y e d = absurd h
   pairs_both (a ∷ xs) (b ∷ ys) h zero x y e d = let one : a ≡ x = cc in let other : b ≡ y = cc in rw (← one, ← other) h.0
   pairs_both (a ∷ xs) (b ∷ ys) h (suc k) x y e d = pairs_both xs ys h.1 k x y e d
-
-  -- where something is missing in one of the lists, something is missing in the first
-  pub pairs_no : (xs : List A) (ys : List B) → Pairs P xs ys → (k : ℕ) → ((x : A) (y : B) → slice_get xs k ≡ Some x → slice_get ys k ≡ Some y → ⊥) → (x : A) → slice_get xs k ≡ Some x → ⊥
-  pairs_no xs ys h k n x e = let other = pairs_get xs ys h k x e in n x other.0 e other.1

@@ -1,5 +1,5 @@
 -- What the returns of a function have.
-use Rattle.std.proofs.Common.{◌≡◌, Option, sym, ◌∙◌, subst}
+use Rattle.std.proofs.Common.{◌≡◌, Option, sym, ◌∙◌}
 use Rattle.core_tree.specs.declared.program.Core.{Core}
 use Rattle.core_tree.specs.declared.program.Func.{Func}
 use Rattle.core_tree.specs.Sorts.{Sort}
@@ -17,11 +17,3 @@ module _ (core : Core) (func : Func) where
   -- what one return has, all have that are alike
   pub alike_all : (sort : Option Sort) → HasReturn core func sort → AreAlike core func → EachReturn func (λ a. answer_sort core func a ≡ sort)
   alike_all sort one alike = λ p stm e a is. alike p stm e a is one.point one.stm one.here one.answer one.is ∙ one.sort_is
-
-  module _ (P : Option Sort → Type 0) (sort : Option Sort) (one : HasReturn core func sort) (all : EachReturn func (λ a. answer_sort core func a ≡ sort)) where
-    -- what holds of the one sort holds of what each return has
-    pub each_from : P sort → EachReturn func (λ a. P (answer_sort core func a))
-    each_from h = λ p stm e a is. subst P (sym (all p stm e a is)) h
-
-    pub one_from : EachReturn func (λ a. P (answer_sort core func a)) → P sort
-    one_from h = subst P one.sort_is (h one.point one.stm one.here one.answer one.is)

@@ -1,3 +1,4 @@
+-- What is left to show of the function.
 use Rattle.std.proofs.Common.{arith, subst, sym}
 use Rattle.core_tree.specs.declared.statements.Stm.{Stm}
 use Rattle.core_verifier.specs.Checks.{IsAnswer}

@@ -1,3 +1,4 @@
+-- What is left to show of the function.
 use Rattle.std.proofs.Common.{◌≡◌, subst, sym, ◌∙◌}
 use Rattle.std.specs.Prelude.{Option, option_map}
 use Rattle.core_tree.specs.declared.statements.Atom.{Atom}

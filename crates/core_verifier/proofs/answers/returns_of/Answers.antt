@@ -1,3 +1,4 @@
+-- What is left to show of the function.
 use Rattle.std.specs.Prelude.{option_map}
 use Rattle.core_verifier.specs.Checks.{seen}
 use Rattle.core_verifier.proofs.Returning.{alike_all}

@@ -1,3 +1,4 @@
+-- What is left to show of the function.
 use Rattle.std.proofs.Common.{arith}
 use Rattle.core_verifier.specs.Checks.{FormatTakes}
 use Rattle.core_verifier.proofs.Pairing.{pairs_more}

@@ -1,3 +1,4 @@
+-- What is left to show of the function.
 use Rattle.std.proofs.Common.{arith}
 use Rattle.core_verifier.proofs.Whole.{some_from}
 use Rattle.core_verifier.proofs.Answered.{fails}

@@ -1,3 +1,4 @@
+-- What is left to show of the function.
 use Rattle.std.proofs.Common.{None, sym, subst}
 use Rattle.std.specs.Prelude.{◌≡◌, slice_get}
 use Rattle.core_tree.specs.Sound.{IsMain}

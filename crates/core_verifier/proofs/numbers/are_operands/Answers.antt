@@ -1,3 +1,4 @@
+-- What is left to show of the function.
 use Rattle.std.proofs.Common.{arith, below_more, subst}
 use Rattle.std.specs.Prelude.{All}
 use Rattle.std.proofs.lemmas.List.{get_or_default}

@@ -1,3 +1,4 @@
+-- What is left to show of the function.
 use Rattle.std.proofs.Common.{arith}
 use Rattle.core_verifier.proofs.OfNumbers.{of_some, of_one, of_two}
 use Rattle.core_verifier.proofs.Answered.{along}

@@ -1,3 +1,4 @@
+-- What is left to show of the function.
 use Rattle.core_verifier.specs.Checks.{IsSignature}
 use Rattle.core_verifier.proofs.Pairing.{pairs_more}
 use Rattle.core_verifier.proofs.signatures.signatures_of.Goals as goal

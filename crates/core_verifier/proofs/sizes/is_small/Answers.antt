@@ -1,3 +1,4 @@
+-- What is left to show of the function.
 use Rattle.std.proofs.Common.{◌+◌, ap, arith}
 use Rattle.std.proofs.lemmas.List.Sums.{sum_by_more, sum_by-take-le}
 use Rattle.core_tree.specs.Sound.{code_size}

@@ -1,3 +1,4 @@
+-- What is left to show of the function.
 use Rattle.std.proofs.Common.{Some, arith, sym, ◌∙◌}
 use Rattle.core_tree.specs.Sorts.{Sort, atom_sort}
 use Rattle.core_verifier.specs.declared.sorts.Sort.{Sort as OwnSort}

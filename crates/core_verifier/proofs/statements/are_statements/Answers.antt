@@ -1,3 +1,4 @@
+-- What is left to show of the function.
 use Rattle.std.proofs.Common.{arith}
 use Rattle.core_verifier.specs.Checks.{IsStatement}
 use Rattle.core_verifier.proofs.Each.{each_more, each_all}

@@ -1,3 +1,4 @@
+-- What is left to show of the function.
 use Rattle.std.proofs.Common.{sym}
 use Rattle.core_verifier.specs.Checks.{IsSignature}
 use Rattle.core_verifier.proofs.Pairing.{pairs_both, pairs_none}

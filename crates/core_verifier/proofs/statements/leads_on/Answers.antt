@@ -1,3 +1,4 @@
+-- What is left to show of the function.
 use Rattle.std.proofs.Common.{◌<◌, ℕ, sym, subst}
 use Rattle.std.specs.Prelude.{All, List}
 use Rattle.std.proofs.lemmas.Bool.{ltb-true, lt-ltb}

@@ -1,3 +1,4 @@
+-- What is left to show of the function.
 use Rattle.std.proofs.Common.{sym, subst}
 use Rattle.core_tree.specs.Sorts.{TakesCall}
 use Rattle.core_verifier.specs.Checks.{IsSignature}
