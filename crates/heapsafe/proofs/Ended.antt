@@ -1,10 +1,9 @@
 -- A program's answer, from how it ended.
-use Rattle.std.proofs.Common.{◌≡◌, ◌⊎◌, ℕ, ◌+◌, List, ◌∷◌, ◌++◌, Option, Some, Ok, Err, inl, inr, refl, sym, subst, arith, ⊎_elim}
-use Rattle.std.specs.Prelude.{MatchBool, nat_lt}
+use Rattle.std.proofs.Common.{◌≡◌, ◌<◌, ℕ, ◌+◌, List, ◌∷◌, ◌++◌, Option, Some, Ok, inl, inr, refl, sym, subst, arith, ⊎_elim}
+use Rattle.std.specs.Prelude.{nat_lt}
 use Rattle.std.proofs.lemmas.Bool.{lt-ltb, le-ltb}
 use Rattle.hs_base.specs.declared.ends.End.{End}
 use Rattle.hs_base.specs.declared.ends.End.TheVariants as end
-use Rattle.hs_base.specs.declared.items.NoMemory.{NoMemory}
 use Rattle.hs_base.specs.Trace.{Event, In, bytes_in, bytes_out}
 use Rattle.bad_free_report.specs.Report.{end_report}
 use Rattle.core_tree.specs.declared.program.Core.{Core}
@@ -13,7 +12,7 @@ use Rattle.meaning_run.specs.Meant as meant_specs
 use Rattle.core_runner.specs.Running.{RunAnswers, RunCounts, room_of}
 use Rattle.core_runner.specs.Running as run_specs
 use Rattle.heapsafe.specs.declared.program.Way.TheVariants.{Run, Mean}
-use Rattle.heapsafe.specs.Shown.{no_memory}
+use Rattle.heapsafe.specs.Shown.{input_fault, no_memory, output_fault}
 use Rattle.heapsafe.specs.Program.{Done, AnswersProgram, AnswersWay, ended, input_of, meant, run_on, status_of, unfinished}
 use Rattle.heapsafe.specs.Saying.{Faults, Gives, Says}
 use Rattle.heapsafe.proofs.Told.{gives, said_faults}
@@ -119,3 +118,26 @@ mean_counts (end.OutOfHeap line) i i' o o' h = h
 mean_counts (end.OutOfStack line) i i' o o' h = h
 mean_counts end.InputFault i i' o o' h = h
 mean_counts end.OutputFault i i' o o' h = h
+
+-- what is said where the input or the output failed
+pub input_said : (x : End) (file text : List ℕ) (core : Core) (i i' o o' f f' result : ℕ) (err err' : Option (List ℕ)) → RunCounts x i i' o o' → i < i' → Says err err' f f' (end_report core file text x) (status_of x) result → Says err err' f f' input_fault.err 132 result
+input_said (end.Exit code) file text core i i' o o' f f' result err err' counts more said = absurd (omega (arith, counts.0, more))
+input_said (end.Trap kind line) file text core i i' o o' f f' result err err' counts more said = absurd (omega (arith, counts.0, more))
+input_said (end.BadFree why holder) file text core i i' o o' f f' result err err' counts more said = absurd (omega (arith, counts.0, more))
+input_said (end.Escape func local line) file text core i i' o o' f f' result err err' counts more said = absurd (omega (arith, counts.0, more))
+input_said end.Spent file text core i i' o o' f f' result err err' counts more said = absurd (omega (arith, counts.0, more))
+input_said (end.OutOfHeap line) file text core i i' o o' f f' result err err' counts more said = absurd (omega (arith, counts.0, more))
+input_said (end.OutOfStack line) file text core i i' o o' f f' result err err' counts more said = absurd (omega (arith, counts.0, more))
+input_said end.InputFault file text core i i' o o' f f' result err err' counts more said = said
+input_said end.OutputFault file text core i i' o o' f f' result err err' counts more said = absurd (omega (arith, counts.0, more))
+
+pub output_said : (x : End) (file text : List ℕ) (core : Core) (i i' o o' f f' result : ℕ) (err err' : Option (List ℕ)) → RunCounts x i i' o o' → o < o' → Says err err' f f' (end_report core file text x) (status_of x) result → Says err err' f f' output_fault.err 133 result
+output_said (end.Exit code) file text core i i' o o' f f' result err err' counts more said = absurd (omega (arith, counts.1, more))
+output_said (end.Trap kind line) file text core i i' o o' f f' result err err' counts more said = absurd (omega (arith, counts.1, more))
+output_said (end.BadFree why holder) file text core i i' o o' f f' result err err' counts more said = absurd (omega (arith, counts.1, more))
+output_said (end.Escape func local line) file text core i i' o o' f f' result err err' counts more said = absurd (omega (arith, counts.1, more))
+output_said end.Spent file text core i i' o o' f f' result err err' counts more said = absurd (omega (arith, counts.1, more))
+output_said (end.OutOfHeap line) file text core i i' o o' f f' result err err' counts more said = absurd (omega (arith, counts.1, more))
+output_said (end.OutOfStack line) file text core i i' o o' f f' result err err' counts more said = absurd (omega (arith, counts.1, more))
+output_said end.InputFault file text core i i' o o' f f' result err err' counts more said = absurd (omega (arith, counts.1, more))
+output_said end.OutputFault file text core i i' o o' f f' result err err' counts more said = said

@@ -1,5 +1,5 @@
 -- A text whose types are refused, and a text with a core.
-use Rattle.std.proofs.Common.{◌≡◌, ◌⊎◌, inl, inr, ℕ, List, [], Option, Ok, Err, refl, sym, ap, subst}
+use Rattle.std.proofs.Common.{◌≡◌, ◌⊎◌, inl, inr, ℕ, List, Option, Ok, Err, refl, sym, ap, subst}
 use Rattle.c_types.specs.TagTable.{TagTable}
 use Rattle.core_tree.specs.declared.program.Core.{Core}
 use Rattle.core_runner.specs.Built.{IsBuilt}
@@ -7,7 +7,7 @@ use Rattle.c_decls.specs.Refusals.{Checked, Meets}
 use Rattle.c_decls.specs.declared.refusal.TypeError.{TypeError}
 use Rattle.c_decls.specs.declared.refusal.TypeError.TheVariants as type
 use Rattle.heapsafe.specs.declared.program.Way.{Way}
-use Rattle.heapsafe.specs.Shown.{Shown, layouts_shown, core_shown, not_built, no_memory}
+use Rattle.heapsafe.specs.Shown.{layouts_shown, core_shown, not_built, no_memory}
 use Rattle.heapsafe.specs.Program.{Input, AnswersWay}
 use Rattle.heapsafe.specs.Answer.{AnswersCore, AnswersTypes}
 use Rattle.heapsafe.specs.Saying.{Gives, untyped}

@@ -58,12 +58,13 @@ AnswersCommand (Some command) texts input a = AnswersFile command.file (texts co
 abbrev pub Answers : List (List ℕ) → (List ℕ → List ℕ) → Input → Shown → Type 0
 Answers words texts input a = AnswersCommand (command_of words) texts input a
 
--- words that run no program
+-- a task that runs no program
 abbrev pub RunsNone : Task → Type 0
 RunsNone (Run stack steps) = ⊥
 RunsNone (Mean steps) = ⊥
 RunsNone _ = ⊤
 
+-- words that ask for no program
 abbrev pub AsksNone : Option Command → Type 0
 AsksNone None = ⊤
 AsksNone (Some command) = RunsNone command.task

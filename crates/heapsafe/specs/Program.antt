@@ -59,10 +59,18 @@ abbrev pub unfinished : List Event → Shown
 unfinished events =
     record { read = bytes_in events; out = bytes_out events; err = complaint (codes "heapsafe") (codes "no memory"); status = 134 }
 
--- a program makes all of its events and ends; where the input fails it makes those before one that reads
+-- a program made all of its events and ended
+abbrev pub Ended : List ℕ → List ℕ → Core → Done → Shown → Type 0
+Ended file text core done a = (e : End) × (done.ends ≡ Some e) × (a ≡ ended file text core done.events e)
+
+-- a program made its events before one that reads, and stopped there since the input failed
+abbrev pub Starved : List ℕ → List ℕ → Core → Done → Shown → Type 0
+Starved file text core done a =
+    (before : List Event) × (byte : Option ℕ) × (rest : List Event) × (done.events ≡ before ++ In byte ∷ rest) × (a ≡ ended file text core before end.InputFault)
+
 abbrev pub AnswersProgram : List ℕ → List ℕ → Core → Bool → Done → Shown → Type 0
 AnswersProgram file text core fails done a =
-    MatchBool fails ((before : List Event) × (byte : Option ℕ) × (rest : List Event) × (done.events ≡ before ++ In byte ∷ rest) × (a ≡ ended file text core before end.InputFault)) ((e : End) × (done.ends ≡ Some e) × (a ≡ ended file text core done.events e))
+    MatchBool fails (Starved file text core done a) (Ended file text core done a)
 
 -- `run` does what the meaning does while heap and stack have room; `mean` does all of it, or wants memory after a first part
 abbrev pub AnswersWay : List ℕ → List ℕ → Core → Input → Way → Shown → Type 0

@@ -2,7 +2,7 @@
 use Rattle.std.specs.Prelude.{◌≡◌, ◌⊎◌, ◌<◌, ◌≤◌, ◌+◌, ℕ, List, ◌++◌, Option, Some, codes}
 use Rattle.heapsafe.specs.declared.refusal.Refusal.{Refusal}
 use Rattle.heapsafe.specs.declared.refusal.Refusal.TheVariants.{Usage, TextFault, TextTooLong, NoMemory, NotBuilt, OutputFault}
-use Rattle.heapsafe.specs.Shown.{Shown, refusal, text_too_long, no_memory, bad_place, bad_syntax, bad_type}
+use Rattle.heapsafe.specs.Shown.{Shown, refusal, text_fault, text_too_long, no_memory, bad_place, bad_syntax, bad_type}
 use Rattle.c_decls.specs.declared.refusal.TypeError.{TypeError}
 use Rattle.c_decls.specs.declared.refusal.TypeError.TheVariants as type
 use Rattle.c_parser.specs.declared.error.ParseError.{ParseError}
@@ -42,7 +42,7 @@ shown_of r = refusal (name_of r) (words_of r) (status_in r)
 
 -- what is said where a text was not read
 abbrev pub unread : ReadError → List ℕ → Shown
-unread Fault file = refusal file (codes "cannot read") 121
+unread Fault file = text_fault file
 unread TooLong file = text_too_long file
 unread reading.NoMemory file = no_memory
 

@@ -34,6 +34,16 @@ refusal_at file text line words status = said (complaint_at file line words text
 abbrev pub usage : Shown
 usage = refusal (codes "heapsafe") (codes "bad command line") 120
 
+-- a text, the input, or the output failed
+abbrev pub text_fault : List ℕ → Shown
+text_fault file = refusal file (codes "cannot read") 121
+
+abbrev pub input_fault : Shown
+input_fault = refusal (codes "heapsafe") (codes "input fault") 132
+
+abbrev pub output_fault : Shown
+output_fault = refusal (codes "heapsafe") (codes "output fault") 133
+
 abbrev pub text_too_long : List ℕ → Shown
 text_too_long file = refusal file (codes "text too long") 122
 

@@ -8,11 +8,12 @@
 
 ghost use Rattle.std.specs.Prelude.{◌≡◌, ◌+◌, ◌<◌, ◌^◌, ℕ, List, Some, None, map, All};
 ghost use Rattle.c_lexer.specs.Tokens.{IsLexed};
-ghost use Rattle.command_words.specs.Commands.{command_of, task_shown, IsLimited};
+ghost use Rattle.command_words.specs.Commands.{Command as Asked, command_of, task_shown, IsLimited};
 ghost use Rattle.c_tree.specs.StatementView.{unit_view};
 ghost use Rattle.heapsafe.specs.Answer.{Answers, AnswersTokens, AnswersFile, AsksNone, Does, RunsNone};
+ghost use Rattle.heapsafe.specs.Shown.{input_fault, output_fault, text_fault};
 ghost use Rattle.heapsafe.specs.Program.{input_of};
-ghost use Rattle.heapsafe.specs.Saying.{Gives, Faults, shown_of, unread};
+ghost use Rattle.heapsafe.specs.Saying.{Gives, Faults, Says, shown_of, unread};
 
 mod program;
 mod reading;
@@ -58,6 +59,8 @@ fn with_tree<I: Source, O: Sink, E: Sink>(
     requires err { E.faults err.old + 1 < 2 ^ 64 }
     ensures exact { (left o e : List ℕ) → I.left input.old ≡ Some left → O.taken out.old ≡ Some o → E.taken err.old ≡ Some e → O.faults out.new ≡ O.faults out.old → E.faults err.new ≡ E.faults err.old → Gives (Does file.now text.now (unit_view unit.now) (input_of left (I.faults input.old) (I.faults input.new)) (task_shown task)) left o e (I.left input.new) (O.taken out.new) (E.taken err.new) result }
     ensures faults { (t : ℕ) → Faults t t (I.faults input.old) (I.faults input.new) (O.faults out.old) (O.faults out.new) (E.faults err.old) (E.faults err.new) result }
+    ensures input_fault { I.faults input.old < I.faults input.new → Says (E.taken err.old) (E.taken err.new) (E.faults err.old) (E.faults err.new) input_fault.err 132 result }
+    ensures output_fault { O.faults out.old < O.faults out.new → Says (E.taken err.old) (E.taken err.new) (E.faults err.old) (E.faults err.new) output_fault.err 133 result }
     ensures stays { RunsNone (task_shown task) → input.new ≡ input.old }
 {
     match task {
@@ -101,6 +104,8 @@ fn with_tokens<I: Source, O: Sink, E: Sink>(
     requires err { E.faults err.old + 1 < 2 ^ 64 }
     ensures exact { (left o e : List ℕ) → I.left input.old ≡ Some left → O.taken out.old ≡ Some o → E.taken err.old ≡ Some e → O.faults out.new ≡ O.faults out.old → E.faults err.new ≡ E.faults err.old → Gives (AnswersTokens file.now text.now tokens.now (input_of left (I.faults input.old) (I.faults input.new)) (task_shown task)) left o e (I.left input.new) (O.taken out.new) (E.taken err.new) result }
     ensures faults { (t : ℕ) → Faults t t (I.faults input.old) (I.faults input.new) (O.faults out.old) (O.faults out.new) (E.faults err.old) (E.faults err.new) result }
+    ensures input_fault { I.faults input.old < I.faults input.new → Says (E.taken err.old) (E.taken err.new) (E.faults err.old) (E.faults err.new) input_fault.err 132 result }
+    ensures output_fault { O.faults out.old < O.faults out.new → Says (E.taken err.old) (E.taken err.new) (E.faults err.old) (E.faults err.new) output_fault.err 133 result }
     ensures stays { RunsNone (task_shown task) → input.new ≡ input.old }
 {
     match parse(alloc, tokens) {
@@ -126,8 +131,10 @@ fn with_file<T: Texts, I: Source, O: Sink, E: Sink>(
     requires err { E.faults err.old + 1 < 2 ^ 64 }
     ensures exact { (told : List ℕ → List ℕ) (left o e : List ℕ) → T.texts texts.old ≡ Some told → I.left input.old ≡ Some left → O.taken out.old ≡ Some o → E.taken err.old ≡ Some e → T.faults texts.new ≡ T.faults texts.old → O.faults out.new ≡ O.faults out.old → E.faults err.new ≡ E.faults err.old → Gives (AnswersFile file.now (told file.now) (input_of left (I.faults input.old) (I.faults input.new)) (task_shown task)) left o e (I.left input.new) (O.taken out.new) (E.taken err.new) result }
     ensures faults { Faults (T.faults texts.old) (T.faults texts.new) (I.faults input.old) (I.faults input.new) (O.faults out.old) (O.faults out.new) (E.faults err.old) (E.faults err.new) result }
+    ensures input_fault { I.faults input.old < I.faults input.new → Says (E.taken err.old) (E.taken err.new) (E.faults err.old) (E.faults err.new) input_fault.err 132 result }
+    ensures output_fault { O.faults out.old < O.faults out.new → Says (E.taken err.old) (E.taken err.new) (E.faults err.old) (E.faults err.new) output_fault.err 133 result }
     ensures stays { RunsNone (task_shown task) → input.new ≡ input.old }
-    ensures unread { T.faults texts.old < T.faults texts.new → (input.new ≡ input.old) × (out.new ≡ out.old) }
+    ensures text_fault { T.faults texts.old < T.faults texts.new → (input.new ≡ input.old) × (out.new ≡ out.old) × Says (E.taken err.old) (E.taken err.new) (E.faults err.old) (E.faults err.new) (text_fault file.now).err 121 result }
 {
     let text = match read_text(alloc, texts, file) {
         Ok(text) => text,
@@ -147,8 +154,9 @@ fn with_file<T: Texts, I: Source, O: Sink, E: Sink>(
 ///
 /// Where texts, input and streams are told and neither texts nor streams failed, what is read, written and answered is by
 /// `Answers`, or nothing but the line of want of memory. The status of a failure of the texts, the input or a stream comes
-/// only where that failed, or as a program's own. Where the text could not be read, the input and the output are as before;
-/// so is the input where no program is run; and of words that are not taken nothing but the error stream is asked.
+/// only where that failed, or as a program's own; and where it failed its line is said, unless the error stream fails. Where
+/// the text could not be read, the input and the output are as before; so is the input where no program is run; and of words
+/// that are not taken nothing but the error stream is asked.
 pub fn heapsafe<T: Texts, I: Source, O: Sink, E: Sink>(
     alloc: Global,
     words: &[&str],
@@ -163,9 +171,11 @@ pub fn heapsafe<T: Texts, I: Source, O: Sink, E: Sink>(
     requires err { E.faults err.old + 1 < 2 ^ 64 }
     ensures exact { (told : List ℕ → List ℕ) (left o e : List ℕ) → T.texts texts.old ≡ Some told → I.left input.old ≡ Some left → O.taken out.old ≡ Some o → E.taken err.old ≡ Some e → T.faults texts.new ≡ T.faults texts.old → O.faults out.new ≡ O.faults out.old → E.faults err.new ≡ E.faults err.old → Gives (Answers (map (λ w. w.now) words.now) told (input_of left (I.faults input.old) (I.faults input.new))) left o e (I.left input.new) (O.taken out.new) (E.taken err.new) result }
     ensures faults { Faults (T.faults texts.old) (T.faults texts.new) (I.faults input.old) (I.faults input.new) (O.faults out.old) (O.faults out.new) (E.faults err.old) (E.faults err.new) result }
+    ensures input_fault { I.faults input.old < I.faults input.new → Says (E.taken err.old) (E.taken err.new) (E.faults err.old) (E.faults err.new) input_fault.err 132 result }
+    ensures output_fault { O.faults out.old < O.faults out.new → Says (E.taken err.old) (E.taken err.new) (E.faults err.old) (E.faults err.new) output_fault.err 133 result }
     ensures usage { command_of (map (λ w. w.now) words.now) ≡ None → (texts.new ≡ texts.old) × (input.new ≡ input.old) × (out.new ≡ out.old) }
     ensures stays { AsksNone (command_of (map (λ w. w.now) words.now)) → input.new ≡ input.old }
-    ensures unread { T.faults texts.old < T.faults texts.new → (input.new ≡ input.old) × (out.new ≡ out.old) }
+    ensures text_fault { (command : Asked) → command_of (map (λ w. w.now) words.now) ≡ Some command → T.faults texts.old < T.faults texts.new → (input.new ≡ input.old) × (out.new ≡ out.old) × Says (E.taken err.old) (E.taken err.new) (E.faults err.old) (E.faults err.new) (text_fault command.file).err 121 result }
 {
     match command_words::read(alloc, words) {
         Ok(Command { file, task }) => with_file(alloc, file, task, texts, input, out, err),

@@ -6,6 +6,7 @@ ghost use Rattle.c_elab.specs.Core.{core_in};
 ghost use Rattle.core_tree.specs.Sound.{IsSound};
 ghost use Rattle.core_runner.specs.Built.{IsBuilt};
 ghost use Rattle.bad_free_report.specs.Report.{end_report};
+ghost use Rattle.heapsafe.specs.Shown.{input_fault, output_fault};
 ghost use Rattle.heapsafe.specs.Program.{AnswersWay, IsBounded, input_of, status_of};
 ghost use Rattle.heapsafe.specs.Answer.{AnswersCore, AnswersTypes};
 ghost use Rattle.heapsafe.specs.Saying.{Faults, Gives, Says};
@@ -77,6 +78,8 @@ fn run_core<I: Source, O: Sink, E: Sink>(
     requires err { E.faults err.old + 1 < 2 ^ 64 }
     ensures exact { (left o e : List ℕ) → I.left input.old ≡ Some left → O.taken out.old ≡ Some o → E.taken err.old ≡ Some e → O.faults out.new ≡ O.faults out.old → E.faults err.new ≡ E.faults err.old → Gives (AnswersWay file.now text.now core.now (input_of left (I.faults input.old) (I.faults input.new)) (Way.Run stack steps)) left o e (I.left input.new) (O.taken out.new) (E.taken err.new) result }
     ensures faults { (t : ℕ) → Faults t t (I.faults input.old) (I.faults input.new) (O.faults out.old) (O.faults out.new) (E.faults err.old) (E.faults err.new) result }
+    ensures input_fault { I.faults input.old < I.faults input.new → Says (E.taken err.old) (E.taken err.new) (E.faults err.old) (E.faults err.new) input_fault.err 132 result }
+    ensures output_fault { O.faults out.old < O.faults out.new → Says (E.taken err.old) (E.taken err.new) (E.faults err.old) (E.faults err.new) output_fault.err 133 result }
 {
     match run(alloc, core, stack, input, out, steps) {
         Ok(end) => finish(&end, core, file, text, err),
@@ -102,6 +105,8 @@ fn mean_core<I: Source, O: Sink, E: Sink>(
     requires err { E.faults err.old + 1 < 2 ^ 64 }
     ensures exact { (left o e : List ℕ) → I.left input.old ≡ Some left → O.taken out.old ≡ Some o → E.taken err.old ≡ Some e → O.faults out.new ≡ O.faults out.old → E.faults err.new ≡ E.faults err.old → Gives (AnswersWay file.now text.now core.now (input_of left (I.faults input.old) (I.faults input.new)) (Way.Mean steps)) left o e (I.left input.new) (O.taken out.new) (E.taken err.new) result }
     ensures faults { (t : ℕ) → Faults t t (I.faults input.old) (I.faults input.new) (O.faults out.old) (O.faults out.new) (E.faults err.old) (E.faults err.new) result }
+    ensures input_fault { I.faults input.old < I.faults input.new → Says (E.taken err.old) (E.taken err.new) (E.faults err.old) (E.faults err.new) input_fault.err 132 result }
+    ensures output_fault { O.faults out.old < O.faults out.new → Says (E.taken err.old) (E.taken err.new) (E.faults err.old) (E.faults err.new) output_fault.err 133 result }
 {
     match mean(alloc, core, input, out, steps) {
         Ok(end) => finish(&end, core, file, text, err),
@@ -128,6 +133,8 @@ fn go<I: Source, O: Sink, E: Sink>(
     requires err { E.faults err.old + 1 < 2 ^ 64 }
     ensures exact { (left o e : List ℕ) → I.left input.old ≡ Some left → O.taken out.old ≡ Some o → E.taken err.old ≡ Some e → O.faults out.new ≡ O.faults out.old → E.faults err.new ≡ E.faults err.old → Gives (AnswersWay file.now text.now core.now (input_of left (I.faults input.old) (I.faults input.new)) way) left o e (I.left input.new) (O.taken out.new) (E.taken err.new) result }
     ensures faults { (t : ℕ) → Faults t t (I.faults input.old) (I.faults input.new) (O.faults out.old) (O.faults out.new) (E.faults err.old) (E.faults err.new) result }
+    ensures input_fault { I.faults input.old < I.faults input.new → Says (E.taken err.old) (E.taken err.new) (E.faults err.old) (E.faults err.new) input_fault.err 132 result }
+    ensures output_fault { O.faults out.old < O.faults out.new → Says (E.taken err.old) (E.taken err.new) (E.faults err.old) (E.faults err.new) output_fault.err 133 result }
 {
     match way {
         Way::Run { stack, steps } => {
@@ -154,6 +161,8 @@ fn with_core<I: Source, O: Sink, E: Sink>(
     requires err { E.faults err.old + 1 < 2 ^ 64 }
     ensures exact { (left o e : List ℕ) → I.left input.old ≡ Some left → O.taken out.old ≡ Some o → E.taken err.old ≡ Some e → O.faults out.new ≡ O.faults out.old → E.faults err.new ≡ E.faults err.old → Gives (AnswersCore file.now text.now core.now (input_of left (I.faults input.old) (I.faults input.new)) way) left o e (I.left input.new) (O.taken out.new) (E.taken err.new) result }
     ensures faults { (t : ℕ) → Faults t t (I.faults input.old) (I.faults input.new) (O.faults out.old) (O.faults out.new) (E.faults err.old) (E.faults err.new) result }
+    ensures input_fault { I.faults input.old < I.faults input.new → Says (E.taken err.old) (E.taken err.new) (E.faults err.old) (E.faults err.new) input_fault.err 132 result }
+    ensures output_fault { O.faults out.old < O.faults out.new → Says (E.taken err.old) (E.taken err.new) (E.faults err.old) (E.faults err.new) output_fault.err 133 result }
 {
     if !is_built(core) {
         return refuse(err, Refusal::NotBuilt(file));
@@ -183,6 +192,8 @@ pub(crate) fn run_program<I: Source, O: Sink, E: Sink>(
     requires err { E.faults err.old + 1 < 2 ^ 64 }
     ensures exact { (left o e : List ℕ) → I.left input.old ≡ Some left → O.taken out.old ≡ Some o → E.taken err.old ≡ Some e → O.faults out.new ≡ O.faults out.old → E.faults err.new ≡ E.faults err.old → Gives (AnswersTypes file.now text.now (core_in (unit_view unit.now)) (input_of left (I.faults input.old) (I.faults input.new)) way) left o e (I.left input.new) (O.taken out.new) (E.taken err.new) result }
     ensures faults { (t : ℕ) → Faults t t (I.faults input.old) (I.faults input.new) (O.faults out.old) (O.faults out.new) (E.faults err.old) (E.faults err.new) result }
+    ensures input_fault { I.faults input.old < I.faults input.new → Says (E.taken err.old) (E.taken err.new) (E.faults err.old) (E.faults err.new) input_fault.err 132 result }
+    ensures output_fault { O.faults out.old < O.faults out.new → Says (E.taken err.old) (E.taken err.new) (E.faults err.old) (E.faults err.new) output_fault.err 133 result }
 {
     match elab(alloc, unit) {
         Ok(core) => with_core(alloc, file, text, &core, way, input, out, err),

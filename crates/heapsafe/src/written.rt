@@ -6,8 +6,8 @@ ghost use Rattle.c_elab.specs.Core.{core_in};
 ghost use Rattle.core_tree.specs.Listing.{listing};
 ghost use Rattle.elaboration.specs.Elaboration.{tags_of};
 ghost use Rattle.layout_list.specs.Listing.{layout_listing};
-ghost use Rattle.heapsafe.specs.Shown.{core_shown, layouts_shown, printed, written};
-ghost use Rattle.heapsafe.specs.Saying.{Faults, Gives};
+ghost use Rattle.heapsafe.specs.Shown.{core_shown, layouts_shown, output_fault, printed, written};
+ghost use Rattle.heapsafe.specs.Saying.{Faults, Gives, Says};
 
 use crate::refusal::{Refusal, refuse, refuse_types};
 use c_elab::{elab, tags};
@@ -24,6 +24,7 @@ fn write_text<O: Sink, E: Sink>(text: &[u8], out: &mut O, err: &mut E) -> u8
     requires err { E.faults err.old + 1 < 2 ^ 64 }
     ensures exact { (left o e : List ℕ) → O.taken out.old ≡ Some o → E.taken err.old ≡ Some e → O.faults out.new ≡ O.faults out.old → E.faults err.new ≡ E.faults err.old → Gives (λ a. a ≡ written text.now) left o e (Some left) (O.taken out.new) (E.taken err.new) result }
     ensures faults { (t i : ℕ) → Faults t t i i (O.faults out.old) (O.faults out.new) (E.faults err.old) (E.faults err.new) result }
+    ensures output_fault { O.faults out.old < O.faults out.new → Says (E.taken err.old) (E.taken err.new) (E.faults err.old) (E.faults err.new) output_fault.err 133 result }
 {
     match put_all(out, text) {
         Ok(()) => 0,
@@ -37,6 +38,7 @@ pub(crate) fn print<O: Sink, E: Sink>(alloc: Global, unit: &Unit, out: &mut O, e
     requires err { E.faults err.old + 1 < 2 ^ 64 }
     ensures exact { (left o e : List ℕ) → O.taken out.old ≡ Some o → E.taken err.old ≡ Some e → O.faults out.new ≡ O.faults out.old → E.faults err.new ≡ E.faults err.old → Gives (λ a. a ≡ printed (unit_view unit.now)) left o e (Some left) (O.taken out.new) (E.taken err.new) result }
     ensures faults { (t i : ℕ) → Faults t t i i (O.faults out.old) (O.faults out.new) (E.faults err.old) (E.faults err.new) result }
+    ensures output_fault { O.faults out.old < O.faults out.new → Says (E.taken err.old) (E.taken err.new) (E.faults err.old) (E.faults err.new) output_fault.err 133 result }
 {
     match write_unit(alloc, unit) {
         Ok(text) => write_text(text.as_slice(), out, err),
@@ -50,6 +52,7 @@ fn write_layouts<O: Sink, E: Sink>(alloc: Global, tags: &Tags, out: &mut O, err:
     requires err { E.faults err.old + 1 < 2 ^ 64 }
     ensures exact { (left o e : List ℕ) → O.taken out.old ≡ Some o → E.taken err.old ≡ Some e → O.faults out.new ≡ O.faults out.old → E.faults err.new ≡ E.faults err.old → Gives (λ a. a ≡ written (layout_listing tags.now)) left o e (Some left) (O.taken out.new) (E.taken err.new) result }
     ensures faults { (t i : ℕ) → Faults t t i i (O.faults out.old) (O.faults out.new) (E.faults err.old) (E.faults err.new) result }
+    ensures output_fault { O.faults out.old < O.faults out.new → Says (E.taken err.old) (E.taken err.new) (E.faults err.old) (E.faults err.new) output_fault.err 133 result }
 {
     match list_layouts(alloc, tags) {
         Ok(text) => write_text(text.as_slice(), out, err),
@@ -70,6 +73,7 @@ pub(crate) fn layouts<O: Sink, E: Sink>(
     requires err { E.faults err.old + 1 < 2 ^ 64 }
     ensures exact { (left o e : List ℕ) → O.taken out.old ≡ Some o → E.taken err.old ≡ Some e → O.faults out.new ≡ O.faults out.old → E.faults err.new ≡ E.faults err.old → Gives (λ a. a ≡ layouts_shown file.now text.now (tags_of (unit_view unit.now))) left o e (Some left) (O.taken out.new) (E.taken err.new) result }
     ensures faults { (t i : ℕ) → Faults t t i i (O.faults out.old) (O.faults out.new) (E.faults err.old) (E.faults err.new) result }
+    ensures output_fault { O.faults out.old < O.faults out.new → Says (E.taken err.old) (E.taken err.new) (E.faults err.old) (E.faults err.new) output_fault.err 133 result }
 {
     match tags(alloc, unit) {
         Ok(tags) => write_layouts(alloc, &tags, out, err),
@@ -83,6 +87,7 @@ fn write_core<O: Sink, E: Sink>(alloc: Global, core: &Core, out: &mut O, err: &m
     requires err { E.faults err.old + 1 < 2 ^ 64 }
     ensures exact { (left o e : List ℕ) → O.taken out.old ≡ Some o → E.taken err.old ≡ Some e → O.faults out.new ≡ O.faults out.old → E.faults err.new ≡ E.faults err.old → Gives (λ a. a ≡ written (listing core.now)) left o e (Some left) (O.taken out.new) (E.taken err.new) result }
     ensures faults { (t i : ℕ) → Faults t t i i (O.faults out.old) (O.faults out.new) (E.faults err.old) (E.faults err.new) result }
+    ensures output_fault { O.faults out.old < O.faults out.new → Says (E.taken err.old) (E.taken err.new) (E.faults err.old) (E.faults err.new) output_fault.err 133 result }
 {
     match list(alloc, core) {
         Ok(text) => write_text(text.as_slice(), out, err),
@@ -103,6 +108,7 @@ pub(crate) fn core_list<O: Sink, E: Sink>(
     requires err { E.faults err.old + 1 < 2 ^ 64 }
     ensures exact { (left o e : List ℕ) → O.taken out.old ≡ Some o → E.taken err.old ≡ Some e → O.faults out.new ≡ O.faults out.old → E.faults err.new ≡ E.faults err.old → Gives (λ a. a ≡ core_shown file.now text.now (core_in (unit_view unit.now))) left o e (Some left) (O.taken out.new) (E.taken err.new) result }
     ensures faults { (t i : ℕ) → Faults t t i i (O.faults out.old) (O.faults out.new) (E.faults err.old) (E.faults err.new) result }
+    ensures output_fault { O.faults out.old < O.faults out.new → Says (E.taken err.old) (E.taken err.new) (E.faults err.old) (E.faults err.new) output_fault.err 133 result }
 {
     match elab(alloc, unit) {
         Ok(core) => write_core(alloc, &core, out, err),

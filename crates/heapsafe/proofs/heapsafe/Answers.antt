@@ -1,4 +1,4 @@
-use Rattle.std.proofs.Common.{ℕ, ◌≡◌, List, Err, inl, inr, refl, sym, subst, map, Bor}
+use Rattle.std.proofs.Common.{ℕ, List, Err, inl, inr, refl, sym, subst, map, Bor}
 use Rattle.command_words.specs.Commands.{command_of, IsRead}
 use Rattle.command_words.specs.declared.error.WordsError.{WordsError}
 use Rattle.heapsafe.specs.Shown.{usage, no_memory}

@@ -1,4 +1,4 @@
-use Rattle.std.proofs.Common.{◌≡◌, ◌∙◌, sym, subst}
+use Rattle.std.proofs.Common.{sym, subst}
 use Rattle.c_tree.specs.StatementView.{unit_view}
 use Rattle.command_words.specs.declared.command.Task.{Task}
 use Rattle.command_words.specs.Commands.{task_shown}

@@ -1,6 +1,5 @@
-use Rattle.std.proofs.Common.{refl}
 use Rattle.heapsafe.proofs.Told.{said_faults}
-use Rattle.heapsafe.proofs.Ended.{gives_mean, gives_unfinished, mean_counts, program_faults}
+use Rattle.heapsafe.proofs.Ended.{gives_mean, gives_unfinished, input_said, mean_counts, output_said, program_faults}
 use Rattle.heapsafe.proofs.program.mean_core.Goals as goal
 
 pub returns-in-Ok-clause-exact : goal.returns-in-Ok-clause-exact
@@ -11,6 +10,14 @@ returns-in-Ok-clause-exact g c = λ left o e k h i same_out same_err.
 pub returns-in-Ok-clause-faults : goal.returns-in-Ok-clause-faults
 returns-in-Ok-clause-faults g c = λ t.
     program_faults c.in-Ok.end t _ _ _ _ _ _ _ _ _ _ (mean_counts c.in-Ok.end _ _ _ _ c.in-Ok.ensures.faults) c.finish.ensures.says
+
+pub returns-in-Ok-clause-input_fault : goal.returns-in-Ok-clause-input_fault
+returns-in-Ok-clause-input_fault g c = λ more.
+    input_said c.in-Ok.end c.args.file.now c.args.text.now c.args.core.now _ _ _ _ _ _ _ _ _ (mean_counts c.in-Ok.end _ _ _ _ c.in-Ok.ensures.faults) more c.finish.ensures.says
+
+pub returns-in-Ok-clause-output_fault : goal.returns-in-Ok-clause-output_fault
+returns-in-Ok-clause-output_fault g c = λ more.
+    output_said c.in-Ok.end c.args.file.now c.args.text.now c.args.core.now _ _ _ _ _ _ _ _ _ (mean_counts c.in-Ok.end _ _ _ _ c.in-Ok.ensures.faults) more c.finish.ensures.says
 
 pub returns-in-Err-clause-exact : goal.returns-in-Err-clause-exact
 returns-in-Err-clause-exact g c = λ left o e k h i same_out same_err.

@@ -3,7 +3,7 @@ use Rattle.heapsafe.specs.declared.program.Way.TheVariants.{Run}
 use Rattle.heapsafe.specs.Shown.{no_memory}
 use Rattle.heapsafe.specs.Program.{AnswersWay, input_of}
 use Rattle.heapsafe.proofs.Told.{gives_said, said_faults}
-use Rattle.heapsafe.proofs.Ended.{gives_run, program_faults}
+use Rattle.heapsafe.proofs.Ended.{gives_run, input_said, output_said, program_faults}
 use Rattle.heapsafe.proofs.program.run_core.Goals as goal
 
 pub returns-in-Ok-clause-exact : goal.returns-in-Ok-clause-exact
@@ -14,6 +14,14 @@ returns-in-Ok-clause-exact g c = λ left o e k h i same_out same_err.
 pub returns-in-Ok-clause-faults : goal.returns-in-Ok-clause-faults
 returns-in-Ok-clause-faults g c = λ t.
     program_faults c.in-Ok.end t _ _ _ _ _ _ _ _ _ _ c.in-Ok.ensures.faults c.finish.ensures.says
+
+pub returns-in-Ok-clause-input_fault : goal.returns-in-Ok-clause-input_fault
+returns-in-Ok-clause-input_fault g c = λ more.
+    input_said c.in-Ok.end c.args.file.now c.args.text.now c.args.core.now _ _ _ _ _ _ _ _ _ c.in-Ok.ensures.faults more c.finish.ensures.says
+
+pub returns-in-Ok-clause-output_fault : goal.returns-in-Ok-clause-output_fault
+returns-in-Ok-clause-output_fault g c = λ more.
+    output_said c.in-Ok.end c.args.file.now c.args.text.now c.args.core.now _ _ _ _ _ _ _ _ _ c.in-Ok.ensures.faults more c.finish.ensures.says
 
 pub returns-in-Err-clause-exact : goal.returns-in-Err-clause-exact
 returns-in-Err-clause-exact g c = λ left o e k h i same_out same_err.

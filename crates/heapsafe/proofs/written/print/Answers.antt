@@ -1,4 +1,4 @@
-use Rattle.std.proofs.Common.{◌≡◌, ◌∙◌, inr, refl, sym, ap}
+use Rattle.std.proofs.Common.{◌≡◌, ◌∙◌, inr, refl, ap}
 use Rattle.c_tree.specs.StatementView.{unit_view}
 use Rattle.heapsafe.specs.Shown.{Shown, printed, written, no_memory}
 use Rattle.heapsafe.proofs.Told.{gives_said, gives_same}
