@@ -6,7 +6,7 @@ use Rattle.core_tree.specs.declared.statements.StmKind.TheVariants.{Return}
 use Rattle.c_types.specs.Types.{PlainType}
 use Rattle.c_decls.specs.declared.refusal.TypeKind.{TypeKind}
 use Rattle.c_decls.specs.declared.refusal.TypeKind.TheVariants.{ProgramTooLong}
-use Rattle.c_decls.specs.Refusals.{Checked, unless}
+use Rattle.c_decls.specs.Refusals.{unless}
 use Rattle.std.specs.Prelude.{Ok}
 use Rattle.elaboration.specs.Context.{Context, emit}
 use Rattle.elaboration.specs.Externals.{last_answer, params_of, piece_length, body_ended}
