@@ -39,3 +39,7 @@ module _ {A : Type 0} (P : A → Type 0) (xs : List A) where
       let inside = slice_get_within xs k x e in
       let same : get_or xs k x ≡ x = same_Some _ _ (sym (slice_get-get_or xs k x inside) ∙ e) in
       subst P same (h k x inside)
+
+  -- what holds of the item at each place holds of all
+  pub all_from : ((k : ℕ) (x : A) → slice_get xs k ≡ Some x → P x) → All P xs
+  all_from h k d lt = h k (get_or xs k d) (slice_get-get_or xs k d lt)

@@ -13,7 +13,7 @@ use Rattle.core_tree.specs.Sound.{IsSound, IsFunction, IsMain, IsStatic, IsShort
 use Rattle.core_verifier.specs.declared.signatures.Signature.{Signature}
 use Rattle.core_verifier.specs.Integers.{IsIntegerStatement, IsIntegerFunction, IsOfIntegers}
 use Rattle.core_verifier.specs.Checks.{IsSignature, MaySign, IsVerified, Pairs}
-use Rattle.core_verifier.proofs.Each.{all_at}
+use Rattle.core_verifier.proofs.Each.{all_at, all_from}
 use Rattle.core_verifier.proofs.Pairing.{pairs_get}
 use Rattle.core_verifier.proofs.OfKinds.{no_scopes, no_leave, no_layouts}
 use Rattle.core_verifier.proofs.Returning.{alike_from}
@@ -92,6 +92,16 @@ module _ (core : Core) where
     short_names = none_in (λ (static : Static). IfSome static.name IsShort) core.statics none;
     short_funcs = short;
     short = λ f func here. (all f func here).short;
+  }
+
+  -- what was verified is of integers
+  pub integers_from : core.statics ≡ [] → EachFunc core (IsVerified core) → IsOfIntegers core
+  integers_from none all = record {
+    statics = none;
+    functions = all_from IsIntegerFunction core.funcs (λ f func here. record {
+      locals = (all f func here).locals;
+      statements = all_from (λ (stm : Stm). IsIntegerStatement stm.kind) func.body (λ point stm e. ((all f func here).statements point stm e).integers);
+    });
   }
 
   -- a sound core has signatures

@@ -105,6 +105,7 @@ fn are_functions(
 /// [`NoMemory`], where there is none for the tables of functions and formats.
 pub fn is_sound(alloc: Global, core: &Core) -> Result<bool, NoMemory>
     ensures sound { IfOk result (λ sound. IsTrue sound → IsSound core.now) }
+    ensures integers { IfOk result (λ sound. IsTrue sound → IsOfIntegers core.now) }
     ensures all { IfOk result (λ sound. IsOfIntegers core.now → IsSound core.now → IsTrue sound) }
 {
     let funcs = core.funcs.as_slice();

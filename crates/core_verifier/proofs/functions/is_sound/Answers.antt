@@ -7,7 +7,7 @@ use Rattle.core_tree.specs.declared.program.Func.{Func}
 use Rattle.core_tree.specs.Sound.{EachFunc, IsSound, IsShort, code_size}
 use Rattle.core_verifier.specs.Integers.{IsOfIntegers}
 use Rattle.core_verifier.specs.Checks.{IsVerified}
-use Rattle.core_verifier.proofs.Whole.{sound_from, signs, verifies}
+use Rattle.core_verifier.proofs.Whole.{sound_from, integers_from, signs, verifies}
 use Rattle.core_verifier.proofs.functions.is_sound.Goals as goal
 
 pub returns-in-None-clause-all : goal.returns-in-None-clause-all
@@ -34,4 +34,12 @@ returns-else-not-is_main_sound-clause-all c =
     (λ sound. IsTrue sound ↔ EachFunc c.args.core.now (IsVerified c.args.core.now))
     (λ sound. IsOfIntegers c.args.core.now → IsSound c.args.core.now → IsTrue sound)
     (λ sound same i s. same.1 (verifies c.args.core.now i s))
+    c.are_functions.ensures
+
+pub returns-else-not-is_main_sound-clause-integers : goal.returns-else-not-is_main_sound-clause-integers
+returns-else-not-is_main_sound-clause-integers c =
+    IfOk-weaker c.are_functions.result
+    (λ sound. IsTrue sound ↔ EachFunc c.args.core.now (IsVerified c.args.core.now))
+    (λ sound. IsTrue sound → IsOfIntegers c.args.core.now)
+    (λ sound same e. integers_from c.args.core.now (c.is_empty.ensures.0 c.if-not-is_empty.false) (same.0 e))
     c.are_functions.ensures
