@@ -9,11 +9,7 @@ use std::alloc::Global;
 use std::test::Fail;
 
 /// A declarator of a name with suffixes.
-fn named(
-    alloc: Global,
-    name: &[u8],
-    suffixes: Vec<Suffix>,
-) -> Result<Declarator, NoMemory> {
+fn named(alloc: Global, name: &[u8], suffixes: Vec<Suffix>) -> Result<Declarator, NoMemory> {
     let name = Items::from(name.to_vec(alloc)?);
     Ok(Declarator::direct(Base::name(name), suffixes))
 }
@@ -28,7 +24,13 @@ fn word(alloc: Global, line: u32, word: Spec) -> Result<Specs, NoMemory> {
 fn main(alloc: Global) -> Result<Decl, NoMemory> {
     let suffixes = vec![in alloc; Suffix::void(3)]?;
     let specs = word(alloc, 3, Spec::Int)?;
-    Ok(Decl::function(3, specs, named(alloc, b"main", suffixes)?, Items::new(alloc), 4))
+    Ok(Decl::function(
+        3,
+        specs,
+        named(alloc, b"main", suffixes)?,
+        Items::new(alloc),
+        4,
+    ))
 }
 
 /// The declaration `struct s { int a; };`.
