@@ -1,3 +1,4 @@
+-- Lemmas of the walk over statements.
 pub mod Cuts
 pub mod InTurn
 pub mod Returns

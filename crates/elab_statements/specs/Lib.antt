@@ -1,3 +1,4 @@
+-- What contracts of this crate cite.
 pub mod PlainAround
 pub mod Held
 pub mod Switches

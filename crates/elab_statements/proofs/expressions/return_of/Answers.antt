@@ -1,3 +1,4 @@
+-- A return with a value, once the value is there.
 use Rattle.std.proofs.Common.{◌∙◌, sym}
 use Rattle.c_types.specs.Types.{plain}
 use Rattle.elab_base.specs.PlainFound.{plain_found}

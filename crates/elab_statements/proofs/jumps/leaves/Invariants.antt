@@ -1,3 +1,4 @@
+-- How many delay blocks are still to be left.
 use Rattle.std.proofs.Common.{◌≡◌}
 use Rattle.elaboration.specs.Statements.{leaves}
 use Rattle.elab_statements.proofs.jumps.leaves.Given as goal

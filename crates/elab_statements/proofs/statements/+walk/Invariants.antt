@@ -1,3 +1,4 @@
+-- What is left of the statements decides.
 use Rattle.std.proofs.Common.{◌≡◌, drop}
 use Rattle.c_tree.specs.StatementView.{trees, stmt_view}
 use Rattle.elaboration.specs.Statements.{items}

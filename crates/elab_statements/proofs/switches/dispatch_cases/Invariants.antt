@@ -1,3 +1,4 @@
+-- The jumps of the cases so far.
 use Rattle.std.proofs.Common.{◌≡◌, take}
 use Rattle.elab_statements.specs.Switches.{case_pieces}
 use Rattle.elab_statements.proofs.switches.dispatch_cases.Given as goal
