@@ -68,6 +68,7 @@ abbrev pub Starved : List ℕ → List ℕ → Core → Done → Shown → Type 
 Starved file text core done a =
     (before : List Event) × (byte : Option ℕ) × (rest : List Event) × (done.events ≡ before ++ In byte ∷ rest) × (a ≡ ended file text core before end.InputFault)
 
+-- which of the two it is goes by whether the input fails
 abbrev pub AnswersProgram : List ℕ → List ℕ → Core → Bool → Done → Shown → Type 0
 AnswersProgram file text core fails done a =
     MatchBool fails (Starved file text core done a) (Ended file text core done a)
