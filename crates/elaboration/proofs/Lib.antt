@@ -51,3 +51,4 @@ mod TextsRun
 mod Typing
 mod MainTyped
 mod Formats
+mod Grammatical

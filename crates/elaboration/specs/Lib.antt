@@ -19,3 +19,4 @@ pub mod Built
 pub mod Laws
 pub mod Worlds
 pub mod Spoken
+pub mod Written

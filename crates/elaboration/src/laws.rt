@@ -1,6 +1,6 @@
 //! Laws of the definitions.
 
-ghost use Rattle.std.specs.Prelude.{◌≡◌, ℕ, true, List, Ok, count_by, slice_get};
+ghost use Rattle.std.specs.Prelude.{◌≡◌, ℕ, true, All, List, Ok, count_by, slice_get};
 ghost use Rattle.c_print.specs.Format.{IsFormat};
 ghost use Rattle.c_print.specs.Pieces.{pieces_of};
 ghost use Rattle.c_decls.specs.Callees.{is_format};
@@ -13,9 +13,13 @@ ghost use Rattle.elaboration.specs.Conversions.{Found};
 ghost use Rattle.elaboration.specs.Expressions.{found};
 ghost use Rattle.core_tree.specs.declared.program.Core.{Core};
 ghost use Rattle.core_tree.specs.Sound.{EachFunc, IsMain, is_main, main_of};
+ghost use Rattle.c_lexer.specs.Tokens.{IsLexed};
+ghost use Rattle.c_lexer.specs.declared.token.Token.{Token};
+ghost use Rattle.c_tree.specs.HasTree.{HasTree};
 ghost use Rattle.c_tree.specs.Tree.{Tree, Trees};
 ghost use Rattle.elaboration.specs.Elaboration.{elaborated};
 ghost use Rattle.elaboration.specs.Spoken.{ArePlain};
+ghost use Rattle.elaboration.specs.Written.{AreWritten};
 ghost use Rattle.elaboration.specs.Laws.{CallsInside, HasFlow, HasSizes, HasTypes};
 
 /// In each function of the core of a text every edge leads to a statement, only a loop goes back, and scopes are opened
@@ -58,4 +62,10 @@ pub fn main_answers()
 /// A format that passes the test of formats is one, with the pieces that its bytes have (C99 7.19.6.1).
 pub fn formats_are_read()
     ensures { (bytes : List ℕ) → is_format bytes ≡ true → IsFormat bytes (pieces_of bytes) }
+{}
+
+/// The tree of tokens has lines from 1 on and constants of at most 64 bits; members and initializers stand where braces
+/// are; and each definition of a function has a parameter list.
+pub fn trees_are_written()
+    ensures { (tokens : List Token) (unit : Trees) → All IsLexed tokens → HasTree tokens unit → AreWritten unit }
 {}
