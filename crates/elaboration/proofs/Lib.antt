@@ -52,3 +52,5 @@ mod Typing
 mod MainTyped
 mod Formats
 mod Grammatical
+mod WholeTypes
+mod TypedWhole

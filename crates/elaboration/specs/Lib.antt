@@ -17,6 +17,7 @@ pub mod Resolving
 pub mod Elaboration
 pub mod Built
 pub mod Laws
+pub mod Whole
 pub mod Worlds
 pub mod Spoken
 pub mod Written
