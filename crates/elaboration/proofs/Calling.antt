@@ -34,7 +34,7 @@ grows_format bytes c = record {
   cases = refl;
   otherwise = refl;
   names = more_refl c.scopes;
-  kept = record { variables = refl; functions = refl; params = refl; walked = refl; length = refl; answer = refl; counted = λ (h : Counted c). record { bytes = h.bytes; small = h.small } };
+  kept = record { variables = refl; functions = refl; params = refl; walked = refl; length = refl; answer = refl; mems = refl; counted = λ (h : Counted c). record { bytes = h.bytes; small = h.small } };
 }
 
 pub grows_calls : (calls : List (ℕ × ℕ)) (c : Context) → Grows c (record c { calls = calls })
@@ -46,7 +46,7 @@ grows_calls calls c = record {
   cases = refl;
   otherwise = refl;
   names = more_refl c.scopes;
-  kept = record { variables = refl; functions = refl; params = refl; walked = refl; length = refl; answer = refl; counted = λ (h : Counted c). record { bytes = h.bytes; small = h.small } };
+  kept = record { variables = refl; functions = refl; params = refl; walked = refl; length = refl; answer = refl; mems = refl; counted = λ (h : Counted c). record { bytes = h.bytes; small = h.small } };
 }
 
 -- an object is freed in a scope of its own
@@ -65,7 +65,7 @@ grows_free line a c = record {
   cases = refl;
   otherwise = refl;
   names = more_refl c.scopes;
-  kept = record { variables = refl; functions = refl; params = refl; walked = refl; length = refl; answer = refl; counted = λ (h : Counted c). record { bytes = h.bytes; small = h.small } };
+  kept = record { variables = refl; functions = refl; params = refl; walked = refl; length = refl; answer = refl; mems = refl; counted = λ (h : Counted c). record { bytes = h.bytes; small = h.small } };
 }
 
 -- arguments
@@ -134,6 +134,7 @@ with_one_literal c bytes small = record {
     walked = refl;
     length = refl;
     answer = refl;
+    mems = refl;
     counted = λ (h : Counted c). record { bytes = omega (arith, h.bytes, more_bytes c.literals bytes); small = small };
   };
 }

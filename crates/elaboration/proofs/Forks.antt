@@ -140,6 +140,7 @@ recoded c d x y k = record {
   walked = k.walked;
   length = k.length;
   answer = k.answer;
+  mems = k.mems;
   counted = λ (h : Counted c). let r = k.counted (record { bytes = h.bytes; small = h.small }) in record { bytes = r.bytes; small = r.small };
 }
 

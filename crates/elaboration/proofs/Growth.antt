@@ -27,10 +27,11 @@ pub record Kept (c d : Context) : Type 0 where
   pub length : d.length ≡ c.length
   pub params : d.params ≡ c.params
   pub answer : d.running.answer ≡ c.running.answer
+  pub mems : d.running.mems ≡ c.running.mems
   pub counted : Counted c → Counted d
 
 pub kept_refl : (c : Context) → Kept c c
-kept_refl c = record { variables = refl; functions = refl; params = refl; walked = refl; length = refl; answer = refl; counted = λ h. h }
+kept_refl c = record { variables = refl; functions = refl; params = refl; walked = refl; length = refl; answer = refl; mems = refl; counted = λ h. h }
 
 pub kept_trans : (a b c : Context) → Kept a b → Kept b c → Kept a c
 kept_trans a b c x y = record {
@@ -40,6 +41,7 @@ kept_trans a b c x y = record {
   walked = y.walked ∙ x.walked;
   length = y.length ∙ x.length;
   answer = y.answer ∙ x.answer;
+  mems = y.mems ∙ x.mems;
   counted = λ h. y.counted (x.counted h);
 }
 
@@ -87,7 +89,7 @@ grows_step c code stm e l h = record {
   cases = refl;
   otherwise = refl;
   names = more_refl c.scopes;
-  kept = record { variables = refl; functions = refl; params = refl; walked = refl; length = refl; answer = refl; counted = λ (h : Counted c). record { bytes = h.bytes; small = h.small } };
+  kept = record { variables = refl; functions = refl; params = refl; walked = refl; length = refl; answer = refl; mems = refl; counted = λ (h : Counted c). record { bytes = h.bytes; small = h.small } };
 }
 
 pub grows_emit : (line : ℕ) (kind : StmKind) (c : Context) → IsPlain kind → Grows c (emit line kind c)
@@ -109,7 +111,7 @@ grows_code c code e l = record {
   cases = refl;
   otherwise = refl;
   names = more_refl c.scopes;
-  kept = record { variables = refl; functions = refl; params = refl; walked = refl; length = refl; answer = refl; counted = λ (h : Counted c). record { bytes = h.bytes; small = h.small } };
+  kept = record { variables = refl; functions = refl; params = refl; walked = refl; length = refl; answer = refl; mems = refl; counted = λ (h : Counted c). record { bytes = h.bytes; small = h.small } };
 }
 
 pub grows_told : (n : names.Context) (c : Context) → More c.scopes n.scopes → Grows c (told n c)
@@ -121,7 +123,7 @@ grows_told n c m = record {
   cases = refl;
   otherwise = refl;
   names = m;
-  kept = record { variables = refl; functions = refl; params = refl; walked = refl; length = refl; answer = refl; counted = λ (h : Counted c). record { bytes = h.bytes; small = h.small } };
+  kept = record { variables = refl; functions = refl; params = refl; walked = refl; length = refl; answer = refl; mems = refl; counted = λ (h : Counted c). record { bytes = h.bytes; small = h.small } };
 }
 
 -- code that is forgotten again
@@ -141,6 +143,7 @@ grows_forgotten b c g = record {
     walked = g.kept.walked;
     length = g.kept.length;
     answer = g.kept.answer;
+    mems = g.kept.mems;
     counted = λ (h : Counted b). let k = g.kept.counted h in record { bytes = k.bytes; small = k.small };
   };
 }

@@ -54,3 +54,7 @@ mod Formats
 mod Grammatical
 mod WholeTypes
 mod TypedWhole
+mod Solid
+mod SolidLayers
+mod SolidFills
+mod SolidTexts

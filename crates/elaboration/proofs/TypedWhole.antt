@@ -130,7 +130,7 @@ module _ (ts : List CompletedTag) where
   layered_whole tags (ArrayOf line length) type c h g = led_unless (Whole (known ts)) (is_function type) LeftOut line _ (λ t. row_of line tags type (layout_in tags type) length c refl h g)
   layered_whole tags (FunctionOf line params) type c h g = led_unless (Whole (known ts)) _ LeftOut line _ (λ t. led_ok (Whole (known ts)) (Function type params) (h, g))
 
-  before_whole : (tags : TagTable) (layer : Layer) (layers : List Layer) (type : PlainType) → tags.completed ≡ ts → Whole (known ts) type → LayerWhole (known ts) layer → Led (Whole (known ts)) (layered_before tags layer layers type)
+  pub before_whole : (tags : TagTable) (layer : Layer) (layers : List Layer) (type : PlainType) → tags.completed ≡ ts → Whole (known ts) type → LayerWhole (known ts) layer → Led (Whole (known ts)) (layered_before tags layer layers type)
   before_whole tags (FunctionOf line params) (next ∷ layers) type c h g =
       led_after (Whole (known ts)) (layered tags (FunctionOf line params) type) (λ t. refused LeftOut line) (λ t q. led_refused (Whole (known ts)) LeftOut line)
   before_whole tags (FunctionOf line params) [] type c h g = layered_whole tags (FunctionOf line params) type c h g
@@ -486,7 +486,7 @@ module _ (ts : List CompletedTag) (made : AreMade nothing ts) where
   answered_good : (c : Context) (x : Checked PlainTyped) → Fit c → Led W x → Led Good (answered c x)
   answered_good c x g h = led_after Good x (λ e. Ok (c, e)) (λ e q. led_ok Good (c, e) (g, h e q))
 
-  wanted_good : (tree : Tree) (x : Found) → Led Good x → Led Good (wanted tree x)
+  pub wanted_good : (tree : Tree) (x : Found) → Led Good x → Led Good (wanted tree x)
   wanted_good tree x h = led_after Good x (λ e. answered e.0 (read (line_of tree) e.0.tags e.1)) (λ d q. let k = h d q in answered_good d.0 _ k.0 (read_whole (line_of tree) d.0.tags d.1 k.1))
 
   changing_good : (tree : Tree) (x : Found) → Led Good x → Led Good (changing tree x)
@@ -517,7 +517,7 @@ module _ (ts : List CompletedTag) (made : AreMade nothing ts) where
   sort_good line r.Union c (Union tag) g = led_ok GoodType _ (g, tt)
   sort_good line sort c type g = led_refused GoodType DeclaredTwice line
 
-  record_type_whole : (sort : RecordSort) (m : ℕ) → Whole (known ts) (record_type sort m)
+  pub record_type_whole : (sort : RecordSort) (m : ℕ) → Whole (known ts) (record_type sort m)
   record_type_whole r.Struct m = tt
   record_type_whole r.Union m = tt
 

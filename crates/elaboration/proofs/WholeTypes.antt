@@ -44,7 +44,7 @@ mutual
   all_stay none j k x h = tt
   all_stay (first type rest) j k x h = (whole_stays type j k x h.0, all_stay rest j k x h.1)
 
-some_stays : (j k : Known) (type : PlainType) → Extends j k → IsSome (layout_of j type) → IsSome (layout_of k type)
+pub some_stays : (j k : Known) (type : PlainType) → Extends j k → IsSome (layout_of j type) → IsSome (layout_of k type)
 some_stays j k type x h = by (layout_of j type) refl h
   where
     by : (o : Option Layout) → layout_of j type ≡ o → is_some o ≡ true → is_some (layout_of k type) ≡ true

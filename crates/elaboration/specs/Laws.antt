@@ -4,12 +4,14 @@ use Rattle.std.specs.List.{sum_by}
 use Rattle.hs_base.specs.Place.{block_size}
 use Rattle.core_tree.specs.declared.program.Core.{Core}
 use Rattle.core_tree.specs.declared.program.Func.{Func}
+use Rattle.core_tree.specs.declared.program.Mem.{Mem}
 use Rattle.core_tree.specs.declared.program.Static.{Static}
 use Rattle.core_tree.specs.declared.statements.Atom.{Atom}
 use Rattle.core_tree.specs.declared.statements.Stm.{Stm}
 use Rattle.core_tree.specs.declared.statements.StmKind.TheVariants.{Call}
 use Rattle.core_tree.specs.Sorts.{IsTyped}
 use Rattle.core_tree.specs.Statements.{edges}
+use Rattle.core_tree.specs.LayoutsOfTypes.{IsLayoutOfType}
 use Rattle.core_tree.specs.Sound.{EachFunc, EachStatement, EachReturn, LeadsOn, HasScopes, answer_sort, GivesAnswer, code_size, IsShort}
 
 -- how control flows through a function
@@ -52,3 +54,10 @@ pub record HasTypes (core : Core) (func : Func) : Type 0 where
   pub alike : EachReturn func (λ one. EachReturn func (λ other. answer_sort core func one ≡ answer_sort core func other))
   -- a call has a register for the answer or none, and none where there is no answer
   pub answers : EachStatement func.body (λ point stm. GivesAnswer core func stm.kind)
+
+-- the layouts of a core are those of types
+pub record HasLayouts (core : Core) : Type 0 where
+  -- of memory locals
+  pub mems : EachFunc core (λ func. All (λ (mem : Mem). IsLayoutOfType mem.layout) func.mems)
+  -- of statics, which are file-scope variables and literals
+  pub statics : All (λ (static : Static). IsLayoutOfType static.layout) core.statics

@@ -20,7 +20,7 @@ ghost use Rattle.c_tree.specs.Tree.{Tree, Trees};
 ghost use Rattle.elaboration.specs.Elaboration.{elaborated};
 ghost use Rattle.elaboration.specs.Spoken.{ArePlain};
 ghost use Rattle.elaboration.specs.Written.{AreWritten};
-ghost use Rattle.elaboration.specs.Laws.{CallsInside, HasFlow, HasSizes, HasTypes};
+ghost use Rattle.elaboration.specs.Laws.{CallsInside, HasFlow, HasLayouts, HasSizes, HasTypes};
 
 /// In each function of the core of a text every edge leads to a statement, only a loop goes back, and scopes are opened
 /// and closed in the same way on all paths.
@@ -68,4 +68,9 @@ pub fn formats_are_read()
 /// are; and each definition of a function has a parameter list.
 pub fn trees_are_written()
     ensures { (tokens : List Token) (unit : Trees) → All IsLexed tokens → HasTree tokens unit → AreWritten unit }
+{}
+
+/// Memory locals and statics of the core of a text have the layouts of types (C99 6.2.5, 6.7.2.1).
+pub fn layouts_are_of_types()
+    ensures { (tokens : List Token) (unit : Trees) (core : Core) (tags : TagTable) → All IsLexed tokens → HasTree tokens unit → elaborated unit ≡ Ok (core, tags) → HasLayouts core }
 {}
