@@ -1,5 +1,5 @@
 -- Statements, functions and texts keep whole types (C99 6.8, 6.9).
-use Rattle.std.proofs.Common.{◌≡◌, ◌≤◌, ◌<◌, ◌+◌, ◌-◌, not, ℕ, zero, suc, ℤ, pos, Bool, true, false, cond, is_some, nat_lt, codes, All, length, map, List, [], ◌∷◌, ◌++◌, slice_get, sum_by, Option, Some, None, Ok, Err, refl, sym, ap, ◌∙◌, subst, arith, bytes_eq}
+use Rattle.std.proofs.Common.{◌≡◌, ◌≤◌, ◌<◌, ◌+◌, ◌*◌, ◌-◌, not, ℕ, zero, suc, ℤ, pos, Bool, true, false, cond, is_some, nat_lt, codes, All, length, map, List, [], ◌∷◌, ◌++◌, slice_get, sum_by, Option, Some, None, Ok, Err, refl, sym, ap, ◌∙◌, subst, arith, bytes_eq}
 use Rattle.std.proofs.lemmas.List.Elements.{All-cons}
 use Rattle.std.proofs.lemmas.List.Sums.{sum_by-append, sum_by-cons}
 use Rattle.hs_base.specs.Place.{block_size}

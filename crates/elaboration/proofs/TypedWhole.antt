@@ -373,7 +373,7 @@ module _ (ts : List CompletedTag) (made : AreMade nothing ts) where
       led_unless W (not (is_written target)) NotLvalue line r2
       (λ t1. led_unless W (is_void target.type) Incomplete line r3 (λ t2. led_barred W (unconverted target.type e) line (Ok (value target.type)) (led_ok W (value target.type) h)))
 
-  assigned_whole : (line right : ℕ) (tags : TagTable) (target e : PlainTyped) → W target → Led W (assigned line right tags target e)
+  pub assigned_whole : (line right : ℕ) (tags : TagTable) (target e : PlainTyped) → W target → Led W (assigned line right tags target e)
   assigned_whole line right tags target e h =
       led_cond W (is_record target.type) _ _ (record_whole line tags target e h)
       (led_after W (read right tags e) (scalar_assigned line target) (λ x q. scalar_whole line target x h))
@@ -383,7 +383,7 @@ module _ (ts : List CompletedTag) (made : AreMade nothing ts) where
   changed_types_whole line op tags type (PointerTo target) (Number source) h = led_unless W _ Operands line _ (λ t. moving_whole line tags target (value type) h)
   changed_types_whole line op tags type s t h = led_refused W Operands line
 
-  changed_whole : (line : ℕ) (op : AssignOp) (tags : TagTable) (target e : PlainTyped) → W target → Led W (changed line op tags target e)
+  pub changed_whole : (line : ℕ) (op : AssignOp) (tags : TagTable) (target e : PlainTyped) → W target → Led W (changed line op tags target e)
   changed_whole line op tags target e h = led_unless W _ NotLvalue line _ (λ t. changed_types_whole line op tags target.type (operand target.type) (operand e.type) h)
 
   -- callees
