@@ -52,9 +52,15 @@ mod Typing
 mod MainTyped
 mod Formats
 mod Grammatical
+mod Untaken
 mod WholeTypes
 mod TypedWhole
 mod Solid
 mod SolidLayers
 mod SolidFills
 mod SolidTexts
+mod Ranges
+mod Ranged
+mod RangedWork
+mod RangedFound
+mod RangedWalk

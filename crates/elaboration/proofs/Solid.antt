@@ -28,6 +28,7 @@ use Rattle.elaboration.specs.Expressions.{found}
 use Rattle.core_tree.specs.declared.statements.StmKind.TheVariants.{Enter, Leave}
 use Rattle.core_tree.specs.declared.statements.Atom.{Atom}
 use Rattle.elaboration.specs.Whole.{Whole, AllWhole, AreMade, MembersWhole, TableWhole, NamesWhole}
+use Rattle.elaboration.specs.Solid.{MemsLaid, VariablesLaid, WalkedLaid, SolidAt, Solid}
 use Rattle.elaboration.proofs.Grown.{good, ok_same, never}
 use Rattle.elaboration.proofs.Growth.{Grows, Kept, kept_refl, grows_refl}
 use Rattle.elaboration.proofs.Working.{grown_valued, grows_convert, grows_write}
@@ -50,19 +51,6 @@ wrapped_number U32 v = (omega (arith, ints, low_bits_lt 32 v), omega (arith, int
 wrapped_number I64 v = (omega (arith, ints, SFits-int_wrap w64 v), omega (arith, ints, SFits-int_wrap w64 v))
 wrapped_number U64 v = (omega (arith, ints, low_bits_lt 64 v), omega (arith, ints, low_bits_lt 64 v))
 
--- memory locals, variables and functions that were made
-abbrev pub MemsLaid : List Mem → Type 0
-MemsLaid [] = Unit {0}
-MemsLaid (m ∷ ms) = IsLayoutOfType m.layout × MemsLaid ms
-
-abbrev pub VariablesLaid : List Variable → Type 0
-VariablesLaid [] = Unit {0}
-VariablesLaid (v ∷ vs) = IsLayoutOfType v.layout × VariablesLaid vs
-
-abbrev pub WalkedLaid : List Walked → Type 0
-WalkedLaid [] = Unit {0}
-WalkedLaid (x ∷ xs) = MemsLaid x.running.mems × WalkedLaid xs
-
 pub mems_push : (ms : List Mem) (m : Mem) → MemsLaid ms → IsLayoutOfType m.layout → MemsLaid (ms ++ m ∷ [])
 mems_push [] m h k = (k, tt)
 mems_push (x ∷ ms) m h k = (h.0, mems_push ms m h.1 k)
@@ -74,18 +62,6 @@ variables_push (x ∷ vs) v h k = (h.0, variables_push vs v h.1 k)
 pub walked_push : (xs : List Walked) (x : Walked) → WalkedLaid xs → MemsLaid x.running.mems → WalkedLaid (xs ++ x ∷ [])
 walked_push [] x h k = (k, tt)
 walked_push (y ∷ xs) x h k = (h.0, walked_push xs x h.1 k)
-
-pub record SolidAt (ts : List CompletedTag) (s : ScopeList) (params : Table) (mems : List Mem) (answer : PlainType) (variables : List Variable) (walked : List Walked) : Type 0 where
-  pub made : AreMade nothing ts
-  pub names : NamesWhole (known ts) s
-  pub list : TableWhole (known ts) params
-  pub memory : MemsLaid mems
-  pub result : Whole (known ts) answer
-  pub statics : VariablesLaid variables
-  pub functions : WalkedLaid walked
-
-abbrev pub Solid : Context → Type 0
-Solid c = SolidAt c.tags.completed c.scopes c.params c.running.mems c.running.answer c.variables c.walked
 
 abbrev pub K : Context → Known
 K c = known c.tags.completed

@@ -42,7 +42,8 @@ use Rattle.elaboration.proofs.Quiet.{quiet_literal}
 use Rattle.elaboration.proofs.Reached.{Led, led_ok, led_refused, led_after, led_unless, led_barred}
 use Rattle.elaboration.proofs.WholeTypes.{whole_stays, extends_refl, some_stays}
 use Rattle.elaboration.proofs.TypedWhole.{LayersWhole, LayerWhole, led_cond, layered_whole, before_whole, tag_good}
-use Rattle.elaboration.proofs.Solid.{VariablesLaid, variables_push, SolidAt, Solid, K, Rises, rises_refl, rises_trans, same_kept, same_rises, opened_rises, closed_rises, Gone, found_gone, value_gone, converted_rises, write_rises, laid, fit_of}
+use Rattle.elaboration.specs.Solid.{VariablesLaid, SolidAt, Solid}
+use Rattle.elaboration.proofs.Solid.{variables_push, K, Rises, rises_refl, rises_trans, same_kept, same_rises, opened_rises, closed_rises, Gone, found_gone, value_gone, converted_rises, write_rises, laid, fit_of}
 use Rattle.elaboration.proofs.SolidLayers.{T, L, R1, named_rises, declared_rises, memory_rises, has_size, specs_rise, layers_rise, asked_type_rises}
 
 -- initializers

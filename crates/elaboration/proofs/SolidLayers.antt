@@ -44,7 +44,8 @@ use Rattle.elaboration.proofs.Operating.{behind_test}
 use Rattle.elaboration.proofs.Reached.{Led, led_ok, led_refused, led_after, led_unless}
 use Rattle.elaboration.proofs.WholeTypes.{nothing, whole_stays, all_stay, members_stay, table_stays, names_stay, push_extends, extends_refl, made_push, whole_fits}
 use Rattle.elaboration.proofs.TypedWhole.{Fit, Good, GoodType, LayersWhole, LayerWhole, layers_append, layers_reverse, with_name_whole, entered_whole, left_whole, with_layers_whole, with_param_layers_whole, adjusted_whole, special_good, word_whole, record_type_whole, length_some, typed_good, wanted_good}
-use Rattle.elaboration.proofs.Solid.{wrapped_number, mems_push, SolidAt, Solid, K, Rises, rises_refl, rises_trans, fit_of, told_rises, told_whole, write_rises, layers_stay, layer_stays, laid}
+use Rattle.elaboration.specs.Solid.{SolidAt, Solid}
+use Rattle.elaboration.proofs.Solid.{wrapped_number, mems_push, K, Rises, rises_refl, rises_trans, fit_of, told_rises, told_whole, write_rises, layers_stay, layer_stays, laid}
 
 -- answers behind a context: with a whole type, with layers, with members, with the types of parameters
 abbrev pub T : Context → Context × PlainType → Type 0

@@ -57,7 +57,8 @@ use Rattle.elaboration.proofs.Cores.{behind as core_behind, core_sizes}
 use Rattle.elaboration.proofs.Reached.{Led, led_ok, led_refused, led_after, led_unless, led_barred}
 use Rattle.elaboration.proofs.WholeTypes.{nothing, whole_stays, extends_refl, is_layout}
 use Rattle.elaboration.proofs.TypedWhole.{left_whole, with_layers_whole}
-use Rattle.elaboration.proofs.Solid.{MemsLaid, VariablesLaid, WalkedLaid, walked_push, SolidAt, Solid, K, Rises, rises_refl, rises_trans, same_kept, same_rises, opened_rises, closed_rises, Gone, value_gone, full_value, converted_rises}
+use Rattle.elaboration.specs.Solid.{MemsLaid, VariablesLaid, WalkedLaid, SolidAt, Solid}
+use Rattle.elaboration.proofs.Solid.{walked_push, K, Rises, rises_refl, rises_trans, same_kept, same_rises, opened_rises, closed_rises, Gone, value_gone, full_value, converted_rises}
 use Rattle.elaboration.proofs.SolidLayers.{T, L, R1, constant_rises, entered_solid, specs_rise, layers_rise}
 use Rattle.elaboration.proofs.SolidFills.{declared_function_rises, declaration_rises}
 

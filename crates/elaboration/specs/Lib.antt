@@ -18,6 +18,9 @@ pub mod Elaboration
 pub mod Built
 pub mod Laws
 pub mod Whole
+pub mod Solid
+pub mod Ranges
 pub mod Worlds
 pub mod Spoken
 pub mod Written
+pub mod Untaken

@@ -6,7 +6,7 @@ ghost use Rattle.c_print.specs.Pieces.{pieces_of};
 ghost use Rattle.c_decls.specs.Callees.{is_format};
 ghost use Rattle.std.specs.Option.{ForSome};
 ghost use Rattle.c_types.specs.Types.{PlainType};
-ghost use Rattle.c_types.specs.TagTable.{TagTable};
+ghost use Rattle.c_types.specs.TagTable.{TagTable, known};
 ghost use Rattle.c_decls.specs.Expressions.{typed};
 ghost use Rattle.elaboration.specs.Context.{Context, asked};
 ghost use Rattle.elaboration.specs.Conversions.{Found};
@@ -17,9 +17,13 @@ ghost use Rattle.c_lexer.specs.Tokens.{IsLexed};
 ghost use Rattle.c_lexer.specs.declared.token.Token.{Token};
 ghost use Rattle.c_tree.specs.HasTree.{HasTree};
 ghost use Rattle.c_tree.specs.Tree.{Tree, Trees};
-ghost use Rattle.elaboration.specs.Elaboration.{elaborated};
+ghost use Rattle.elaboration.specs.Elaboration.{elaborated, walked};
 ghost use Rattle.elaboration.specs.Spoken.{ArePlain};
-ghost use Rattle.elaboration.specs.Written.{AreWritten};
+ghost use Rattle.elaboration.specs.Ranges.{PiecesIn};
+ghost use Rattle.elaboration.specs.Solid.{Solid};
+ghost use Rattle.elaboration.specs.Untaken.{AllUntaken};
+ghost use Rattle.elaboration.specs.Whole.{Whole};
+ghost use Rattle.elaboration.specs.Written.{AreWritten, Written};
 ghost use Rattle.elaboration.specs.Laws.{CallsInside, HasFlow, HasLayouts, HasSizes, HasTypes};
 
 /// In each function of the core of a text every edge leads to a statement, only a loop goes back, and scopes are opened
@@ -73,4 +77,21 @@ pub fn trees_are_written()
 /// Memory locals and statics of the core of a text have the layouts of types (C99 6.2.5, 6.7.2.1).
 pub fn layouts_are_of_types()
     ensures { (tokens : List Token) (unit : Trees) (core : Core) (tags : TagTable) → All IsLexed tokens → HasTree tokens unit → elaborated unit ≡ Ok (core, tags) → HasLayouts core }
+{}
+
+/// The tree of tokens is plain, where `&` stands before no name.
+pub fn trees_are_plain()
+    ensures { (tokens : List Token) (unit : Trees) → All IsLexed tokens → HasTree tokens unit → AllUntaken unit → ArePlain unit }
+{}
+
+/// What is known behind a text has whole types: arrays of at least one element that are no larger than an object may be, and
+/// tags that were completed one after another with members of such types (C99 6.2.5, 6.7.2.1).
+pub fn types_are_whole()
+    ensures { (tokens : List Token) (unit : Trees) (c : Context) → All IsLexed tokens → HasTree tokens unit → walked unit ≡ Ok c → Solid c }
+{}
+
+/// Behind an expression every number of the code is in range, where types are whole and those of the code before it are:
+/// constants and sizes as registers hold them, and sizes of elements from 1 to that of the largest object.
+pub fn numbers_are_kept()
+    ensures { (tree : Tree) (wanted : PlainType) (c : Context) (d : Context × Found) → Solid c → Written tree → Whole (known c.tags.completed) wanted → PiecesIn c.code.pieces → found tree wanted c ≡ Ok d → PiecesIn d.0.code.pieces }
 {}
