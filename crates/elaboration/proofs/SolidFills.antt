@@ -9,8 +9,10 @@ use Rattle.c_types.proofs.MemberLemmas.{Extends}
 use Rattle.core_tree.specs.declared.program.Start.{Start}
 use Rattle.core_tree.specs.declared.statements.Atom.{Atom}
 use Rattle.core_tree.specs.declared.statements.Atom.TheVariants as atom
-use Rattle.core_tree.specs.declared.statements.StmKind.TheVariants.{Copy}
+use Rattle.core_tree.specs.declared.statements.StmKind.TheVariants.{Set, Clear, Off, Copy}
 use Rattle.core_tree.specs.LayoutsOfTypes.{IsLayoutOfType}
+use Rattle.core_tree.specs.Sound.{IsNumber}
+use Rattle.c_types.specs.declared.layouts.Layout.{Layout}
 use Rattle.c_tree.specs.Words as w
 use Rattle.c_tree.specs.Forms as f
 use Rattle.c_tree.specs.Tree.{Tree, Trees, Leaf, At, Node, none, ◌▹◌, count}
@@ -42,64 +44,117 @@ use Rattle.elaboration.proofs.Quiet.{quiet_literal}
 use Rattle.elaboration.proofs.Reached.{Led, led_ok, led_refused, led_after, led_unless, led_barred}
 use Rattle.elaboration.proofs.WholeTypes.{whole_stays, extends_refl, some_stays}
 use Rattle.elaboration.proofs.TypedWhole.{LayersWhole, LayerWhole, led_cond, layered_whole, before_whole, tag_good}
+use Rattle.elaboration.specs.Ranges.{AtomIn}
+use Rattle.elaboration.proofs.Ranges.{In, in_emit, in_pointer, zero_number, small_number}
+use Rattle.elaboration.proofs.Ranged.{size_number}
+use Rattle.elaboration.proofs.RangedWork.{SpotIn, spot_atom, convert_in, write_in}
+use Rattle.elaboration.proofs.RangedFound.{literal_in}
+use Rattle.elaboration.proofs.Within.{Within, PartsIn, within_stays, parts_stay, within_number, parts_in, starts_within, row_short}
+use Rattle.elaboration.proofs.Solid as base
 use Rattle.elaboration.specs.Solid.{VariablesLaid, SolidAt, Solid}
-use Rattle.elaboration.proofs.Solid.{variables_push, K, Rises, rises_refl, rises_trans, same_kept, same_rises, opened_rises, closed_rises, Gone, found_gone, value_gone, converted_rises, write_rises, laid, fit_of}
+use Rattle.elaboration.proofs.Solid.{variables_push, K, same_kept, same_rises, converted_rises, laid, fit_of}
+use Rattle.elaboration.proofs.Working.{grows_convert, grows_write}
+use Rattle.elaboration.proofs.Moving.{Cases, same_cases, same_walked, Rises, rises_refl, rises_trans, with_code, opened_rises, closed_rises, Went, went_rises, found_went, value_went}
 use Rattle.elaboration.proofs.SolidLayers.{T, L, R1, named_rises, declared_rises, memory_rises, has_size, specs_rise, layers_rise, asked_type_rises}
 
 -- initializers
 
-fill_scalar_rises : (e : Tree) (line : ℕ) (type : PlainType) (offset : ℕ) (target : Target) (c : Context) (d : Context × Found) → Solid c → valued e (found e type (opened e c)) ≡ Ok d → Led (R1 c) (fill_scalar e line type offset (opened e c).code d target)
-fill_scalar_rises e line type offset (InRegister at register) c d h q =
+-- the value of an expression, converted behind its full expression's start
+pub record Scalar (e : Tree) (at : ℕ) (type : PlainType) (c : Context) (d : Context × Found) : Type 0 where
+  pub rises : Rises c (convert at (opened e c).code type d.1.typed (atom_in d.1) d.0).0
+  pub fits : In c → AtomIn (convert at (opened e c).code type d.1.typed (atom_in d.1) d.0).1
+
+pub scalar_value : (e : Tree) (at : ℕ) (type : PlainType) (c : Context) (d : Context × Found) → Solid c → Written e → Whole (K c) type → valued e (found e type (opened e c)) ≡ Ok d → Scalar e at type c d
+scalar_value e at type c d h w t q =
     let begun = opened e c in
     let o = opened_rises e c h in
-    let v = value_gone e type begun d o.solid q in
+    let v = value_went e type begun d o.solid w (whole_stays type (K c) (K begun) o.more t) q in
     let x = convert at begun.code type d.1.typed (atom_in d.1) d.0 in
-    let a = converted_rises at begun type d v.grows v.rises.solid in
+    let a = converted_rises at begun type d v.gone.grows v.gone.rises.solid in
+    let g = went_rises begun d v in
+    record {
+      rises = record {
+        solid = a.solid;
+        more = λ tag l y. a.more tag l (g.more tag l (o.more tag l y));
+        code = λ k. let r = v.fits (o.code k) in (convert_in at begun.code type d.1.typed (atom_in d.1) d.0 (o.code k) r.0 (spot_atom d.1.spot r.1)).0;
+        cases = λ k. same_cases begun x.0 (grows_convert at begun type d.1.typed (atom_in d.1) d.0 v.gone.grows) (o.cases k);
+        walked = λ k. same_walked begun x.0 (grows_convert at begun type d.1.typed (atom_in d.1) d.0 v.gone.grows) (o.walked k);
+      };
+      fits = λ k. let r = v.fits (o.code k) in (convert_in at begun.code type d.1.typed (atom_in d.1) d.0 (o.code k) r.0 (spot_atom d.1.spot r.1)).1;
+    }
+
+fill_scalar_rises : (e : Tree) (line : ℕ) (type : PlainType) (offset : ℕ) (target : Target) (c : Context) (d : Context × Found) → Solid c → Written e → Whole (K c) type → IsNumber (pos offset) → valued e (found e type (opened e c)) ≡ Ok d → Led (R1 c) (fill_scalar e line type offset (opened e c).code d target)
+fill_scalar_rises e line type offset (InRegister at register) c d h w t m q =
+    let v = scalar_value e at type c d h w t q in
+    let x = convert at (opened e c).code type d.1.typed (atom_in d.1) d.0 in
     let s = write at type (Local register) x.1 x.0 in
-    let b = write_rises at type (Local register) x.1 x.0 a.solid in
+    let b = base.write_rises at type (Local register) x.1 x.0 v.rises.solid in
+    let z = closed_rises e s b.solid in
     led_ok (R1 c) (closed e s, InRegister at register)
-    (rises_trans c begun _ o (rises_trans begun d.0 _ v.rises (rises_trans d.0 x.0 _ a (rises_trans x.0 s _ b (closed_rises e s b.solid)))))
-fill_scalar_rises e line type offset (InMemory at mem) c d h q =
-    let begun = opened e c in
-    let o = opened_rises e c h in
-    let v = value_gone e type begun d o.solid q in
-    let x = convert at begun.code type d.1.typed (atom_in d.1) d.0 in
-    let a = converted_rises at begun type d v.grows v.rises.solid in
+    (record {
+      solid = z.solid;
+      more = λ tag l y. z.more tag l (b.more tag l (v.rises.more tag l y));
+      code = λ k. z.code (write_in at type (Local register) x.1 x.0 (v.rises.code k) tt (v.fits k));
+      cases = λ k. z.cases (same_cases x.0 s (grows_write at type (Local register) x.1 x.0) (v.rises.cases k));
+      walked = λ k. z.walked (same_walked x.0 s (grows_write at type (Local register) x.1 x.0) (v.rises.walked k));
+    })
+fill_scalar_rises e line type offset (InMemory at mem) c d h w t m q =
+    let v = scalar_value e at type c d h w t q in
+    let x = convert at (opened e c).code type d.1.typed (atom_in d.1) d.0 in
     let place = member_place at mem offset x.0 in
-    let p : Rises x.0 place.0 = record { solid = a.solid; more = extends_refl (K x.0) } in
     let s = store_at at type x.1 place in
-    let b = write_rises at type (Memory place.1) x.1 place.0 a.solid in
+    let b = base.write_rises at type (Memory place.1) x.1 place.0 v.rises.solid in
+    let z = closed_rises e s b.solid in
     led_ok (R1 c) (closed e s, InMemory at mem)
-    (rises_trans c begun _ o (rises_trans begun d.0 _ v.rises (rises_trans d.0 x.0 _ a (rises_trans x.0 place.0 _ p (rises_trans place.0 s _ b (closed_rises e s b.solid))))))
-fill_scalar_rises e line type offset (InStatic start) c d h q =
+    (record {
+      solid = z.solid;
+      more = λ tag l y. z.more tag l (b.more tag l (v.rises.more tag l y));
+      code = λ k. let p = in_pointer at (λ p. Off p (atom.Mem mem) (pos offset)) x.0 (v.rises.code k) (λ r. ((tt, tt), m)) in z.code (write_in at type (Memory place.1) x.1 place.0 p.0 p.1 (v.fits k));
+      cases = λ k. z.cases (same_cases place.0 s (grows_write at type (Memory place.1) x.1 place.0) (v.rises.cases k));
+      walked = λ k. z.walked (same_walked place.0 s (grows_write at type (Memory place.1) x.1 place.0) (v.rises.walked k));
+    })
+fill_scalar_rises e line type offset (InStatic start) c d h w t m q =
     let begun = opened e c in
     let o = opened_rises e c h in
-    let v = value_gone e type begun d o.solid q in
-    led_after (R1 c) (static_scalar line type offset start d.1) (λ filled. Ok (d.0, InStatic filled)) (λ filled s. led_ok (R1 c) (d.0, InStatic filled) (rises_trans c begun d.0 o v.rises))
+    let v = value_went e type begun d o.solid w (whole_stays type (K c) (K begun) o.more t) q in
+    led_after (R1 c) (static_scalar line type offset start d.1) (λ filled. Ok (d.0, InStatic filled)) (λ filled s. led_ok (R1 c) (d.0, InStatic filled) (rises_trans c begun d.0 o (went_rises begun d v)))
 
-scalar_rises : (e : Tree) (line : ℕ) (type : PlainType) (offset : ℕ) (target : Target) (c : Context) → Solid c → Led (R1 c) (scalar e line type offset target c)
-scalar_rises e line type offset target c h =
+scalar_rises : (e : Tree) (line : ℕ) (type : PlainType) (offset : ℕ) (target : Target) (c : Context) → Solid c → Written e → Whole (K c) type → IsNumber (pos offset) → Led (R1 c) (scalar e line type offset target c)
+scalar_rises e line type offset target c h w t m =
     led_after (R1 c) (valued e (found e type (opened e c))) (λ d. converts line type d.1.typed (fill_scalar e line type offset (opened e c).code d target))
-    (λ d q. led_barred (R1 c) (unconverted type d.1.typed) line (fill_scalar e line type offset (opened e c).code d target) (fill_scalar_rises e line type offset target c d h q))
+    (λ d q. led_barred (R1 c) (unconverted type d.1.typed) line (fill_scalar e line type offset (opened e c).code d target) (fill_scalar_rises e line type offset target c d h w t m q))
 
-fill_record_rises : (e : Tree) (line : ℕ) (type : PlainType) (offset : ℕ) (c : Context) (d : Context × Found) (target : Target) → Rises c d.0 → Led (R1 c) (fill_record e line type offset d target)
-fill_record_rises e line type offset c d (InMemory at mem) r =
-    let s = copy_to at type (atom_in d.1) (member_place at mem offset d.0) in
-    let a : Rises d.0 s = record { solid = r.solid; more = extends_refl (K d.0) } in
-    led_ok (R1 c) (closed e s, InMemory at mem) (rises_trans c d.0 _ r (rises_trans d.0 s _ a (closed_rises e s a.solid)))
-fill_record_rises e line type offset c d (InRegister at register) r = led_refused (R1 c) NotConstant line
-fill_record_rises e line type offset c d (InStatic start) r = led_refused (R1 c) NotConstant line
+fill_record_rises : (e : Tree) (line : ℕ) (type : PlainType) (offset : ℕ) (c : Context) (d : Context × Found) (target : Target) → Rises c d.0 → (In c → SpotIn d.1.spot) → Whole (K c) type → IsNumber (pos offset) → Led (R1 c) (fill_record e line type offset d target)
+fill_record_rises e line type offset c d (InMemory at mem) r f t m =
+    let place = member_place at mem offset d.0 in
+    let s = copy_to at type (atom_in d.1) place in
+    let z = closed_rises e s r.solid in
+    led_ok (R1 c) (closed e s, InMemory at mem)
+    (record {
+      solid = z.solid;
+      more = λ tag l y. z.more tag l (r.more tag l y);
+      code = λ k.
+          let p = in_pointer at (λ p. Off p (atom.Mem mem) (pos offset)) d.0 (r.code k) (λ r. ((tt, tt), m)) in
+          z.code (in_emit at (Copy place.1 (atom_in d.1) (pos (size_or_zero place.0 type))) place.0 p.0 ((p.1, (spot_atom d.1.spot (f k), tt)), size_number d.0 type r.solid (whole_stays type (K c) (K d.0) r.more t)));
+      cases = λ k. z.cases (r.cases k);
+      walked = λ k. z.walked (r.walked k);
+    })
+fill_record_rises e line type offset c d (InRegister at register) r f t m = led_refused (R1 c) NotConstant line
+fill_record_rises e line type offset c d (InStatic start) r f t m = led_refused (R1 c) NotConstant line
 
-whole_rises : (e : Tree) (line : ℕ) (type : PlainType) (offset : ℕ) (target : Target) (c : Context) → Solid c → Led (R1 c) (whole e line type offset target c)
-whole_rises e line type offset target c h =
+whole_rises : (e : Tree) (line : ℕ) (type : PlainType) (offset : ℕ) (target : Target) (c : Context) → Solid c → Written e → Whole (K c) type → IsNumber (pos offset) → Led (R1 c) (whole e line type offset target c)
+whole_rises e line type offset target c h w t m =
     led_after (R1 c) (found e type (opened e c)) (λ d. unless (not (is_same_place type d.1.typed)) Assignment line (fill_record e line type offset d target))
     (λ d q. let o = opened_rises e c h in
-    let g = found_gone e type (opened e c) d o.solid q in
+    let g = found_went e type (opened e c) d o.solid w (whole_stays type (K c) (K (opened e c)) o.more t) q in
     led_unless (R1 c) (not (is_same_place type d.1.typed)) Assignment line (fill_record e line type offset d target)
-    (λ t. fill_record_rises e line type offset c d target (rises_trans c (opened e c) d.0 o g.rises)))
+    (λ x. fill_record_rises e line type offset c d target (rises_trans c (opened e c) d.0 o (went_rises (opened e c) d g)) (λ k. (g.fits (o.code k)).1) t m))
 
-fill_text_rises : (e : Tree) (line : ℕ) (bytes : List ℕ) (size offset : ℕ) (target : Target) (c : Context) → Solid c → Led (R1 c) (fill_text e line bytes size offset target c)
-fill_text_rises e line bytes size offset (InMemory at mem) c h =
+least : (a b bound : ℕ) → b ≤ bound → min a b ≤ bound
+least a b bound h = omega (arith, h)
+
+fill_text_rises : (e : Tree) (line : ℕ) (bytes : List ℕ) (size offset : ℕ) (target : Target) (c : Context) → Solid c → size ≤ 268435456 → IsNumber (pos offset) → Led (R1 c) (fill_text e line bytes size offset target c)
+fill_text_rises e line bytes size offset (InMemory at mem) c h small m =
     let begun = opened e c in
     let o = opened_rises e c h in
     led_after (R1 c) (with_literal line bytes begun) (λ d. copy_text at mem offset (min (length bytes + 1) size) d)
@@ -107,63 +162,86 @@ fill_text_rises e line bytes size offset (InMemory at mem) c h =
     let k : ℕ = min (length bytes + 1) size in
     let place = member_place at mem offset d.0 in
     let s = emit at (Copy place.1 (atom.Static d.1) (pos k)) place.0 in
-    let a : Rises d.0 s = record { solid = r.solid; more = extends_refl (K d.0) } in
-    led_ok (R1 c) (s, InMemory at mem) (rises_trans c begun s o (rises_trans begun d.0 s r a)))
-fill_text_rises e line bytes size offset (InStatic start) c h = led_ok (R1 c) (c, InStatic (with_bytes start offset (take size bytes))) (rises_refl c h)
-fill_text_rises e line bytes size offset (InRegister at register) c h = led_refused (R1 c) Assignment line
+    led_ok (R1 c) (s, InMemory at mem)
+    (record {
+      solid = r.solid;
+      more = λ tag l y. r.more tag l (o.more tag l y);
+      code = λ g.
+          let p = in_pointer at (λ p. Off p (atom.Mem mem) (pos offset)) d.0 (literal_in line bytes begun (o.code g) d q) (λ r. ((tt, tt), m)) in
+          in_emit at (Copy place.1 (atom.Static d.1) (pos k)) place.0 p.0 ((p.1, (tt, tt)), small_number k (least (length bytes + 1) size 268435456 small));
+      cases = λ g. same_cases begun d.0 (grown_literal line bytes begun begun (grows_refl begun) d q) (o.cases g);
+      walked = λ g. same_walked begun d.0 (grown_literal line bytes begun begun (grows_refl begun) d q) (o.walked g);
+    }))
+fill_text_rises e line bytes size offset (InStatic start) c h small m = led_ok (R1 c) (c, InStatic (with_bytes start offset (take size bytes))) (rises_refl c h)
+fill_text_rises e line bytes size offset (InRegister at register) c h small m = led_refused (R1 c) Assignment line
 
-by_text_rises : (e : Tree) (line : ℕ) (element : PlainType) (size offset : ℕ) (o : Option (List ℕ)) (target : Target) (c : Context) → Solid c → Led (R1 c) (by_text e line element size offset o target c)
-by_text_rises e line element size offset None target c h = whole_rises e line (Array element size) offset target c h
-by_text_rises e line element size offset (Some bytes) target c h =
-    led_cond (R1 c) (is_character element) (fill_text e line bytes size offset target c) (whole e line (Array element size) offset target c) (fill_text_rises e line bytes size offset target c h) (whole_rises e line (Array element size) offset target c h)
+by_text_rises : (e : Tree) (line : ℕ) (element : PlainType) (size offset : ℕ) (o : Option (List ℕ)) (target : Target) (c : Context) → Solid c → Written e → Whole (K c) (Array element size) → IsNumber (pos offset) → Led (R1 c) (by_text e line element size offset o target c)
+by_text_rises e line element size offset None target c h w t m = whole_rises e line (Array element size) offset target c h w t m
+by_text_rises e line element size offset (Some bytes) target c h w t m =
+    led_cond (R1 c) (is_character element) (fill_text e line bytes size offset target c) (whole e line (Array element size) offset target c) (fill_text_rises e line bytes size offset target c h (row_short c element size h t) m) (whole_rises e line (Array element size) offset target c h w t m)
 
-by_expression_rises : (e : Tree) (line : ℕ) (type : PlainType) (offset : ℕ) (target : Target) (c : Context) → Solid c → Led (R1 c) (by_expression e line type offset target c)
-by_expression_rises e line (Array element size) offset target c h = by_text_rises e line element size offset (text e) target c h
-by_expression_rises e line (Struct tag) offset target c h = whole_rises e line (Struct tag) offset target c h
-by_expression_rises e line (Union tag) offset target c h = whole_rises e line (Union tag) offset target c h
-by_expression_rises e line type offset target c h = scalar_rises e line type offset target c h
+by_expression_rises : (e : Tree) (line : ℕ) (type : PlainType) (offset : ℕ) (target : Target) (c : Context) → Solid c → Written e → Whole (K c) type → IsNumber (pos offset) → Led (R1 c) (by_expression e line type offset target c)
+by_expression_rises e line (Array element size) offset target c h w t m = by_text_rises e line element size offset (text e) target c h w t m
+by_expression_rises e line (Struct tag) offset target c h w t m = whole_rises e line (Struct tag) offset target c h w t m
+by_expression_rises e line (Union tag) offset target c h w t m = whole_rises e line (Union tag) offset target c h w t m
+by_expression_rises e line type offset target c h w t m = scalar_rises e line type offset target c h w t m
 
 mutual
-  unfolding initialize initialize_parts
+  unfolding initialize initialize_parts Written AllWritten
 
-  pub initialize_rises : (tree : Tree) (in_scalar : Bool) (type : PlainType) (offset : ℕ) (target : Target) (c : Context) → Solid c → Led (R1 c) (initialize tree in_scalar type offset target c)
-  initialize_rises (Node f.InitExpr (At line ▹ e ▹ none)) in_scalar type offset target c h = by_expression_rises e line type offset target c h
-  initialize_rises (Node (f.InitList trailing) (At line ▹ Node f.Inits inits ▹ none)) in_scalar type offset target c h =
+  pub initialize_rises : (tree : Tree) (in_scalar : Bool) (type : PlainType) (offset : ℕ) (target : Target) (c : Context) → Solid c → Written tree → Whole (K c) type → Within (K c) type offset → Led (R1 c) (initialize tree in_scalar type offset target c)
+  initialize_rises (Node f.InitExpr (At line ▹ e ▹ none)) in_scalar type offset target c h w t v = by_expression_rises e line type offset target c h w.1.1.0 t (within_number (K c) type offset v)
+  initialize_rises (Node (f.InitList trailing) (At line ▹ Node f.Inits inits ▹ none)) in_scalar type offset target c h w t v =
       led_cond (R1 c) (takes_braces type in_scalar) (initialize_parts line inits (is_scalar_type type) (parts_of c (count inits) type offset) target c) (then (all_surplus inits c) (λ d. refused Assignment line))
-      (parts_rise inits line (is_scalar_type type) (parts_of c (count inits) type offset) target c h)
+      (parts_rise inits line (is_scalar_type type) (parts_of c (count inits) type offset) target c h w.1.1.0.1 (parts_in c (count inits) type offset h t v))
       (led_after (R1 c) (all_surplus inits c) (λ d. refused Assignment line) (λ d q. led_refused (R1 c) Assignment line))
-  initialize_rises tree in_scalar type offset target c h = led_refused (R1 c) Operands (line_of tree)
+  initialize_rises tree in_scalar type offset target c h w t v = led_refused (R1 c) Operands (line_of tree)
 
-  parts_rise : (inits : Trees) (line : ℕ) (in_scalar : Bool) (parts : List (PlainType × ℕ)) (target : Target) (c : Context) → Solid c → Led (R1 c) (initialize_parts line inits in_scalar parts target c)
-  parts_rise none line in_scalar parts target c h = led_ok (R1 c) (c, target) (rises_refl c h)
-  parts_rise (init ▹ rest) line in_scalar [] target c h = led_after (R1 c) (all_surplus (init ▹ rest) c) (λ d. refused Assignment line) (λ d q. led_refused (R1 c) Assignment line)
-  parts_rise (init ▹ rest) line in_scalar (part ∷ parts) target c h =
+  parts_rise : (inits : Trees) (line : ℕ) (in_scalar : Bool) (parts : List (PlainType × ℕ)) (target : Target) (c : Context) → Solid c → AllWritten inits → PartsIn (K c) parts → Led (R1 c) (initialize_parts line inits in_scalar parts target c)
+  parts_rise none line in_scalar parts target c h w v = led_ok (R1 c) (c, target) (rises_refl c h)
+  parts_rise (init ▹ rest) line in_scalar [] target c h w v = led_after (R1 c) (all_surplus (init ▹ rest) c) (λ d. refused Assignment line) (λ d q. led_refused (R1 c) Assignment line)
+  parts_rise (init ▹ rest) line in_scalar (part ∷ parts) target c h w v =
       led_after (R1 c) (initialize init in_scalar part.0 part.1 target c) (λ d. initialize_parts line rest in_scalar parts d.1 d.0)
-      (λ d q. let r = initialize_rises init in_scalar part.0 part.1 target c h d q in (λ z s. rises_trans c d.0 z.0 r (parts_rise rest line in_scalar parts d.1 d.0 r.solid z s)))
+      (λ d q. let r = initialize_rises init in_scalar part.0 part.1 target c h w.0 v.0.0 v.0.1 d q in
+      (λ z s. rises_trans c d.0 z.0 r (parts_rise rest line in_scalar parts d.1 d.0 r.solid w.1 (parts_stay parts (K c) (K d.0) r.more v.1) z s)))
 
 -- locals
 
-fill_memory_rises : (line : ℕ) (type : PlainType) (inits : Trees) (mem : Atom) (c : Context) → Solid c → Led (Rises c) (fill_memory line type inits mem c)
-fill_memory_rises line type (init ▹ rest) (atom.Mem mem) c h =
+clears : (line : ℕ) (type : PlainType) (mem : Atom) (c : Context) → Solid c → Whole (K c) type → AtomIn mem → Rises c (cleared line type mem c)
+clears line type mem c h t m = record { solid = h; more = extends_refl (K c); code = λ k. in_emit line (Clear mem (pos (size_or_zero c type))) c k ((m, tt), size_number c type h t); cases = λ k. k; walked = λ k. k }
+
+fill_memory_rises : (line : ℕ) (type : PlainType) (inits : Trees) (mem : Atom) (c : Context) → Solid c → AllWritten inits → Whole (K c) type → Within (K c) type 0 → AtomIn mem → Led (Rises c) (fill_memory line type inits mem c)
+unfolding AllWritten
+fill_memory_rises line type (init ▹ rest) (atom.Mem mem) c h w t v m =
     let x = cleared line type (atom.Mem mem) c in
-    let a : Rises c x = record { solid = h; more = extends_refl (K c) } in
-    led_after (Rises c) (initialize init false type 0 (InMemory line mem) x) (λ d. Ok d.0) (λ d q. led_ok (Rises c) d.0 (rises_trans c x d.0 a (initialize_rises init false type 0 (InMemory line mem) x a.solid d q)))
-fill_memory_rises line type none mem c h = led_ok (Rises c) (cleared line type mem c) (record { solid = h; more = extends_refl (K c) })
-fill_memory_rises line type (init ▹ rest) (atom.Reg r) c h = led_ok (Rises c) (cleared line type (atom.Reg r) c) (record { solid = h; more = extends_refl (K c) })
-fill_memory_rises line type (init ▹ rest) (atom.Int v) c h = led_ok (Rises c) (cleared line type (atom.Int v) c) (record { solid = h; more = extends_refl (K c) })
-fill_memory_rises line type (init ▹ rest) atom.Null c h = led_ok (Rises c) (cleared line type atom.Null c) (record { solid = h; more = extends_refl (K c) })
-fill_memory_rises line type (init ▹ rest) (atom.Static v) c h = led_ok (Rises c) (cleared line type (atom.Static v) c) (record { solid = h; more = extends_refl (K c) })
+    let a = clears line type (atom.Mem mem) c h t m in
+    led_after (Rises c) (initialize init false type 0 (InMemory line mem) x) (λ d. Ok d.0) (λ d q. led_ok (Rises c) d.0 (rises_trans c x d.0 a (initialize_rises init false type 0 (InMemory line mem) x a.solid w.0 t v d q)))
+fill_memory_rises line type none mem c h w t v m = led_ok (Rises c) (cleared line type mem c) (clears line type mem c h t m)
+fill_memory_rises line type (init ▹ rest) (atom.Reg r) c h w t v m = led_ok (Rises c) (cleared line type (atom.Reg r) c) (clears line type (atom.Reg r) c h t m)
+fill_memory_rises line type (init ▹ rest) (atom.Int x) c h w t v m = led_ok (Rises c) (cleared line type (atom.Int x) c) (clears line type (atom.Int x) c h t m)
+fill_memory_rises line type (init ▹ rest) atom.Null c h w t v m = led_ok (Rises c) (cleared line type atom.Null c) (clears line type atom.Null c h t m)
+fill_memory_rises line type (init ▹ rest) (atom.Static x) c h w t v m = led_ok (Rises c) (cleared line type (atom.Static x) c) (clears line type (atom.Static x) c h t m)
 
-fill_register_rises : (line : ℕ) (type : PlainType) (inits : Trees) (register : ℕ) (c : Context) → Solid c → Led (Rises c) (fill_register line type inits register c)
-fill_register_rises line type none register c h = led_ok (Rises c) _ (record { solid = h; more = extends_refl (K c) })
-fill_register_rises line type (init ▹ rest) register c h =
-    led_after (Rises c) (initialize init false type 0 (InRegister line register) c) (λ d. Ok d.0) (λ d q. led_ok (Rises c) d.0 (initialize_rises init false type 0 (InRegister line register) c h d q))
+zero_in : (type : PlainType) → AtomIn (zero_of type)
+zero_in (types.Pointer target) = tt
+zero_in Void = zero_number
+zero_in (types.Int ty) = zero_number
+zero_in (Array element m) = zero_number
+zero_in (Struct tag) = zero_number
+zero_in (Union tag) = zero_number
+zero_in (Function answer params) = zero_number
 
-fill_at_rises : (line : ℕ) (type : PlainType) (inits : Trees) (spot : Spot) (c : Context) → Solid c → Led (Rises c) (fill_at line type inits spot c)
-fill_at_rises line type inits (Local register) c h = fill_register_rises line type inits register c h
-fill_at_rises line type inits (Memory mem) c h = fill_memory_rises line type inits mem c h
-fill_at_rises line type inits (Value a) c h = led_ok (Rises c) c (rises_refl c h)
-fill_at_rises line type inits Empty c h = led_ok (Rises c) c (rises_refl c h)
+fill_register_rises : (line : ℕ) (type : PlainType) (inits : Trees) (register : ℕ) (c : Context) → Solid c → AllWritten inits → Whole (K c) type → Within (K c) type 0 → Led (Rises c) (fill_register line type inits register c)
+unfolding AllWritten
+fill_register_rises line type none register c h w t v = led_ok (Rises c) (emit line (Set register (zero_of type)) c) (record { solid = h; more = extends_refl (K c); code = λ k. in_emit line (Set register (zero_of type)) c k ((zero_in type, tt), tt); cases = λ k. k; walked = λ k. k })
+fill_register_rises line type (init ▹ rest) register c h w t v =
+    led_after (Rises c) (initialize init false type 0 (InRegister line register) c) (λ d. Ok d.0) (λ d q. led_ok (Rises c) d.0 (initialize_rises init false type 0 (InRegister line register) c h w.0 t v d q))
+
+fill_at_rises : (line : ℕ) (type : PlainType) (inits : Trees) (spot : Spot) (c : Context) → Solid c → AllWritten inits → Whole (K c) type → Within (K c) type 0 → SpotIn spot → Led (Rises c) (fill_at line type inits spot c)
+fill_at_rises line type inits (Local register) c h w t v s = fill_register_rises line type inits register c h w t v
+fill_at_rises line type inits (Memory mem) c h w t v s = fill_memory_rises line type inits mem c h w t v s
+fill_at_rises line type inits (Value a) c h w t v s = led_ok (Rises c) c (rises_refl c h)
+fill_at_rises line type inits Empty c h w t v s = led_ok (Rises c) c (rises_refl c h)
 
 with_local_rises : (name : List ℕ) (type : PlainType) (c : Context) → Solid c → Whole (K c) type → is_some (layout_in c.tags type) ≡ true → Rises c (with_local name type c).0
 with_local_rises name type c h w s = by (next_is_memory type c)
@@ -173,23 +251,43 @@ with_local_rises name type c h w s = by (next_is_memory type c)
         let x = with_memory name type c in
         let a = memory_rises name type c h w s in
         let q = named_rises x name (n.Object type (length c.running.mems)) a.solid w in
-        record { solid = q.solid; more = q.more }
-    by false = let q = named_rises (with_register (Some name) type c) name (n.Register type (length c.running.locals)) h w in record { solid = q.solid; more = q.more }
+        record { solid = q.solid; more = q.more; code = q.code; cases = q.cases; walked = q.walked }
+    by false = let q = named_rises (with_register (Some name) type c) name (n.Register type (length c.running.locals)) h w in record { solid = q.solid; more = q.more; code = q.code; cases = q.cases; walked = q.walked }
 
-local_object_rises : (line : ℕ) (name : List ℕ) (type : PlainType) (inits : Trees) (c : Context) → Solid c → Whole (K c) type → Led (Rises c) (local_object line name type inits c)
-local_object_rises line name type inits c h w =
+local_spot : (name : List ℕ) (type : PlainType) (c : Context) → SpotIn (with_local name type c).1
+local_spot name type c = by (next_is_memory type c)
+  where
+    by : (t : Bool) → SpotIn (counted_local (local_in t name type c)).1
+    by true = tt
+    by false = tt
+
+-- the layout of a type that has one
+has_layout : (c : Context) (type : PlainType) → is_some (layout_in c.tags type) ≡ true → layout_in c.tags type ≡ Some (unwrap_or (layout_in c.tags type) no_layout)
+has_layout c type s = by (layout_in c.tags type) s
+  where
+    by : (o : Option Layout) → is_some o ≡ true → o ≡ Some (unwrap_or o no_layout)
+    by None e = cc
+    by (Some l) e = refl
+
+starts : (c : Context) (type : PlainType) → Solid c → Whole (K c) type → is_some (layout_in c.tags type) ≡ true → Within (K c) type 0
+starts c type h w s = starts_within c type (unwrap_or (layout_in c.tags type) no_layout) h w (has_layout c type s)
+
+local_object_rises : (line : ℕ) (name : List ℕ) (type : PlainType) (inits : Trees) (c : Context) → Solid c → AllWritten inits → Whole (K c) type → Led (Rises c) (local_object line name type inits c)
+local_object_rises line name type inits c h v w =
     let x = with_local name type c in
     let r2 : Checked Context = unless (is_twice c.scopes name (n.Object type 0)) DeclaredTwice line (fill_local line type inits x) in
     let r1 : Checked Context = unless (has_no_size c.tags type) Incomplete line r2 in
     led_unless (Rises c) (is_function type) LeftOut line r1
     (λ a. led_unless (Rises c) (has_no_size c.tags type) Incomplete line r2
     (λ b. led_unless (Rises c) (is_twice c.scopes name (n.Object type 0)) DeclaredTwice line (fill_local line type inits x)
-    (λ t. let r = with_local_rises name type c h w (has_size c.tags type b) in (λ z q. rises_trans c x.0 z r (fill_at_rises line type inits x.1 x.0 r.solid z q)))))
+    (λ t. let r = with_local_rises name type c h w (has_size c.tags type b) in
+    let y = starts c type h w (has_size c.tags type b) in
+    (λ z q. rises_trans c x.0 z r (fill_at_rises line type inits x.1 x.0 r.solid v (whole_stays type (K c) (K x.0) r.more w) (within_stays (K c) (K x.0) type 0 r.more y) (local_spot name type c) z q)))))
 
-local_name_rises : (line : ℕ) (storage : Storage) (name : List ℕ) (type : PlainType) (inits : Trees) (c : Context) → Solid c → Whole (K c) type → Led (Rises c) (local_name line storage name type inits c)
-local_name_rises line Typedef name type inits c h w = declared_rises line name (n.Typedef type) c h w
-local_name_rises line Outside name type inits c h w = led_refused (Rises c) LeftOut line
-local_name_rises line storages.Plain name type inits c h w = local_object_rises line name type inits c h w
+local_name_rises : (line : ℕ) (storage : Storage) (name : List ℕ) (type : PlainType) (inits : Trees) (c : Context) → Solid c → AllWritten inits → Whole (K c) type → Led (Rises c) (local_name line storage name type inits c)
+local_name_rises line Typedef name type inits c h v w = declared_rises line name (n.Typedef type) c h w
+local_name_rises line Outside name type inits c h v w = led_refused (Rises c) LeftOut line
+local_name_rises line storages.Plain name type inits c h v w = local_object_rises line name type inits c h v w
 
 -- file scope
 
@@ -198,7 +296,7 @@ function_rises index name c h = by (nat_lt index (length c.functions))
   where
     by : (t : Bool) → Rises c (cond t c (record c { functions = c.functions ++ (record { name = name; defined = None }) ∷ [] }))
     by true = rises_refl c h
-    by false = record { solid = h; more = extends_refl (K c) }
+    by false = record { solid = h; more = extends_refl (K c); code = λ k. k; cases = λ k. k; walked = λ k. k }
 
 pub declared_function_rises : (line : ℕ) (name : List ℕ) (type : PlainType) (c : Context) → Solid c → Whole (K c) type → Led (Rises c) (declared_function line name type c)
 declared_function_rises line name type c h w =
@@ -224,11 +322,14 @@ new_variable_rises line name type c h w s =
     let size = size_or_zero c type in
     led_after (Rises c) (with_static line size c) (λ d. Ok (record d { variables = d.variables ++ (record { name = name; layout = unwrap_or (layout_in d.tags type) no_layout; start = None }) ∷ [] }))
     (λ d q. let y = led_unless (Ready c type) (nat_lt 67108864 (c.static_bytes + block_size size)) StaticTooLarge line (Ok (record c { static_bytes = c.static_bytes + block_size size }))
-    (λ t. led_ok (Ready c type) (record c { static_bytes = c.static_bytes + block_size size }) (record { rises = record { solid = h; more = extends_refl (K c) }; whole = w; sized = s })) d q in
+    (λ t. led_ok (Ready c type) (record c { static_bytes = c.static_bytes + block_size size }) (record { rises = record { solid = h; more = extends_refl (K c); code = λ k. k; cases = λ k. k; walked = λ k. k }; whole = w; sized = s })) d q in
     led_ok (Rises c) (record d { variables = d.variables ++ (record { name = name; layout = unwrap_or (layout_in d.tags type) no_layout; start = None }) ∷ [] })
     (record {
       solid = record { made = y.rises.solid.made; names = y.rises.solid.names; list = y.rises.solid.list; memory = y.rises.solid.memory; result = y.rises.solid.result; statics = variables_push d.variables _ y.rises.solid.statics (laid d type y.rises.solid y.whole y.sized); functions = y.rises.solid.functions };
       more = y.rises.more;
+      code = y.rises.code;
+      cases = y.rises.cases;
+      walked = y.rises.walked;
     }))
 
 variable_rises : (line index : ℕ) (name : List ℕ) (type : PlainType) (c : Context) → Solid c → Whole (K c) type → is_some (layout_in c.tags type) ≡ true → Led (Rises c) (with_variable line index name type c)
@@ -253,41 +354,47 @@ started_rises : (index : ℕ) (d : Context × Target) → Solid d.0 → Rises d.
 started_rises index d h = record {
   solid = record { made = h.made; names = h.names; list = h.list; memory = h.memory; result = h.result; statics = started_laid index (start_in d.1) (slice_get d.0.variables index) d.0.variables refl h.statics; functions = h.functions };
   more = extends_refl (K d.0);
+  code = λ k. k;
+  cases = λ k. k;
+  walked = λ k. k;
 }
 
-fill_variable_rises : (line index : ℕ) (type : PlainType) (inits : Trees) (c : Context) → Solid c → Led (Rises c) (fill_variable line index type inits c)
-fill_variable_rises line index type none c h = led_ok (Rises c) c (rises_refl c h)
-fill_variable_rises line index type (init ▹ rest) c h =
+fill_variable_rises : (line index : ℕ) (type : PlainType) (inits : Trees) (c : Context) → Solid c → AllWritten inits → Whole (K c) type → is_some (layout_in c.tags type) ≡ true → Led (Rises c) (fill_variable line index type inits c)
+unfolding AllWritten
+fill_variable_rises line index type none c h v w s = led_ok (Rises c) c (rises_refl c h)
+fill_variable_rises line index type (init ▹ rest) c h v w s =
     led_unless (Rises c) (is_some (start_of (slice_get c.variables index))) DeclaredTwice line (then (initialize init false type 0 (InStatic no_start) c) (λ d. Ok (started index d)))
     (λ t. led_after (Rises c) (initialize init false type 0 (InStatic no_start) c) (λ d. Ok (started index d))
-    (λ d q. let r = initialize_rises init false type 0 (InStatic no_start) c h d q in led_ok (Rises c) (started index d) (rises_trans c d.0 _ r (started_rises index d r.solid))))
+    (λ d q. let r = initialize_rises init false type 0 (InStatic no_start) c h v.0 w (starts c type h w s) d q in led_ok (Rises c) (started index d) (rises_trans c d.0 _ r (started_rises index d r.solid))))
 
-file_object_rises : (line : ℕ) (name : List ℕ) (type : PlainType) (inits : Trees) (c : Context) → Solid c → Whole (K c) type → Led (Rises c) (file_object line name type inits c)
-file_object_rises line name type inits c h w =
+file_object_rises : (line : ℕ) (name : List ℕ) (type : PlainType) (inits : Trees) (c : Context) → Solid c → AllWritten inits → Whole (K c) type → Led (Rises c) (file_object line name type inits c)
+file_object_rises line name type inits c h v w =
     let index = variable_number_of c (named_in name c.scopes.file) in
     led_unless (Rises c) (has_no_size c.tags type) Incomplete line (then (declared_as line name (n.Object type index) c) (λ d. then (with_variable line index name type d) (λ v. fill_variable line index type inits v)))
     (λ t. led_after (Rises c) (declared_as line name (n.Object type index) c) (λ d. then (with_variable line index name type d) (λ v. fill_variable line index type inits v))
     (λ d q. let r = declared_rises line name (n.Object type index) c h w d q in
     let y = ready_on c d type r w (has_size c.tags type t) in
     led_after (Rises c) (with_variable line index name type d) (λ v. fill_variable line index type inits v)
-    (λ v s. let k = variable_rises line index name type d r.solid y.whole y.sized v s in (λ z u. rises_trans c d z r (rises_trans d v z k (fill_variable_rises line index type inits v k.solid z u))))))
+    (λ x s. let k = variable_rises line index name type d r.solid y.whole y.sized x s in
+    let last = ready_on d x type k y.whole y.sized in
+    (λ z u. rises_trans c d z r (rises_trans d x z k (fill_variable_rises line index type inits x k.solid v last.whole last.sized z u))))))
 
-file_value_rises : (line : ℕ) (name : List ℕ) (type : PlainType) (inits : Trees) (c : Context) → Solid c → Whole (K c) type → Led (Rises c) (file_value line name type inits c)
-file_value_rises line name type inits c h w =
+file_value_rises : (line : ℕ) (name : List ℕ) (type : PlainType) (inits : Trees) (c : Context) → Solid c → AllWritten inits → Whole (K c) type → Led (Rises c) (file_value line name type inits c)
+file_value_rises line name type inits c h v w =
     led_cond (Rises c) (is_function type) (file_function line name type inits c) (file_object line name type inits c)
     (led_after (Rises c) (declared_function line name type c) (λ d. no_initializer inits d) (λ d q. let r = declared_function_rises line name type c h w d q in (λ z s. rises_trans c d z r (no_initializer_rises inits d r.solid z s))))
-    (file_object_rises line name type inits c h w)
+    (file_object_rises line name type inits c h v w)
 
-file_name_rises : (line : ℕ) (storage : Storage) (name : List ℕ) (type : PlainType) (inits : Trees) (c : Context) → Solid c → Whole (K c) type → Led (Rises c) (file_name line storage name type inits c)
-file_name_rises line Typedef name type inits c h w = declared_rises line name (n.Typedef type) c h w
-file_name_rises line Outside name type inits c h w = file_value_rises line name type inits c h w
-file_name_rises line storages.Plain name type inits c h w = file_value_rises line name type inits c h w
+file_name_rises : (line : ℕ) (storage : Storage) (name : List ℕ) (type : PlainType) (inits : Trees) (c : Context) → Solid c → AllWritten inits → Whole (K c) type → Led (Rises c) (file_name line storage name type inits c)
+file_name_rises line Typedef name type inits c h v w = declared_rises line name (n.Typedef type) c h w
+file_name_rises line Outside name type inits c h v w = file_value_rises line name type inits c h v w
+file_name_rises line storages.Plain name type inits c h v w = file_value_rises line name type inits c h v w
 
-name_in_rises : (file : Bool) (line : ℕ) (storage : Storage) (name : Option (List ℕ)) (type : PlainType) (inits : Trees) (c : Context) → Solid c → Whole (K c) type → Led (Rises c) (name_in file line storage name type inits c)
-name_in_rises true line storage None type inits c h w = led_ok (Rises c) c (rises_refl c h)
-name_in_rises false line storage None type inits c h w = led_ok (Rises c) c (rises_refl c h)
-name_in_rises true line storage (Some name) type inits c h w = file_name_rises line storage name type inits c h w
-name_in_rises false line storage (Some name) type inits c h w = local_name_rises line storage name type inits c h w
+name_in_rises : (file : Bool) (line : ℕ) (storage : Storage) (name : Option (List ℕ)) (type : PlainType) (inits : Trees) (c : Context) → Solid c → AllWritten inits → Whole (K c) type → Led (Rises c) (name_in file line storage name type inits c)
+name_in_rises true line storage None type inits c h v w = led_ok (Rises c) c (rises_refl c h)
+name_in_rises false line storage None type inits c h v w = led_ok (Rises c) c (rises_refl c h)
+name_in_rises true line storage (Some name) type inits c h v w = file_name_rises line storage name type inits c h v w
+name_in_rises false line storage (Some name) type inits c h v w = local_name_rises line storage name type inits c h v w
 
 -- the length that an initializer gives
 
@@ -322,7 +429,7 @@ entry_rises file line storage base declarator inits c h b w v =
     (λ l q. let k = layers_rise declarator c h w l q in
     led_after (Rises c) (with_init_layers l.0.tags l.1 inits base) (λ type. name_in file line storage (name_of declarator) type inits l.0)
     (λ type s. let y = init_layers_whole l.0.tags l.1 inits base v (whole_stays base (K c) (K l.0) k.0.more b) k.1 type s in
-    (λ z t. rises_trans c l.0 z k.0 (name_in_rises file line storage (name_of declarator) type inits l.0 k.0.solid y z t))))
+    (λ z t. rises_trans c l.0 z k.0 (name_in_rises file line storage (name_of declarator) type inits l.0 k.0.solid v y z t))))
 
 entries_rise : (names : Trees) (file : Bool) (line : ℕ) (storage : Storage) (base : PlainType) (c : Context) → Solid c → Whole (K c) base → AllWritten names → Led (Rises c) (entries file line storage base names c)
 unfolding entries Written AllWritten

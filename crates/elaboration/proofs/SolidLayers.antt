@@ -45,7 +45,8 @@ use Rattle.elaboration.proofs.Reached.{Led, led_ok, led_refused, led_after, led_
 use Rattle.elaboration.proofs.WholeTypes.{nothing, whole_stays, all_stay, members_stay, table_stays, names_stay, push_extends, extends_refl, made_push, whole_fits}
 use Rattle.elaboration.proofs.TypedWhole.{Fit, Good, GoodType, LayersWhole, LayerWhole, layers_append, layers_reverse, with_name_whole, entered_whole, left_whole, with_layers_whole, with_param_layers_whole, adjusted_whole, special_good, word_whole, record_type_whole, length_some, typed_good, wanted_good}
 use Rattle.elaboration.specs.Solid.{SolidAt, Solid}
-use Rattle.elaboration.proofs.Solid.{wrapped_number, mems_push, K, Rises, rises_refl, rises_trans, fit_of, told_rises, told_whole, write_rises, layers_stay, layer_stays, laid}
+use Rattle.elaboration.proofs.Solid.{wrapped_number, mems_push, K, fit_of, told_whole, layers_stay, layer_stays, laid}
+use Rattle.elaboration.proofs.Moving.{Rises, rises_refl, rises_trans, told_rises, write_rises}
 
 -- answers behind a context: with a whole type, with layers, with members, with the types of parameters
 abbrev pub T : Context → Context × PlainType → Type 0
@@ -72,6 +73,9 @@ pub named_rises : (c : Context) (name : List ℕ) (v : PlainNamed) → Solid c �
 named_rises c name v h w = record {
   solid = record { made = h.made; names = with_name_whole (K c) c.scopes name v w h.names; list = h.list; memory = h.memory; result = h.result; statics = h.statics; functions = h.functions };
   more = extends_refl (K c);
+  code = λ k. k;
+  cases = λ k. k;
+  walked = λ k. k;
 }
 
 pub declared_rises : (line : ℕ) (name : List ℕ) (v : PlainNamed) (c : Context) → Solid c → NamedWhole (K c) v → Led (Rises c) (declared_as line name v c)
@@ -80,7 +84,7 @@ declared_rises line name v c h w =
     (λ t. led_ok (Rises c) (record c { scopes = after_declaration c.scopes name v }) (by (is_some (named_in name (innermost c.scopes)))))
   where
     by : (t : Bool) → Rises c (record c { scopes = cond t c.scopes (with_name c.scopes name v) })
-    by true = record { solid = h; more = extends_refl (K c) }
+    by true = record { solid = h; more = extends_refl (K c); code = λ k. k; cases = λ k. k; walked = λ k. k }
     by false = named_rises c name v h w
 
 -- parameters
@@ -93,13 +97,16 @@ pub memory_rises : (name : List ℕ) (type : PlainType) (c : Context) → Solid 
 memory_rises name type c h w s = record {
   solid = record { made = h.made; names = h.names; list = h.list; memory = mems_push c.running.mems _ h.memory (laid c type h w s); result = h.result; statics = h.statics; functions = h.functions };
   more = extends_refl (K c);
+  code = λ k. k;
+  cases = λ k. k;
+  walked = λ k. k;
 }
 
 pub register_rises : (name : Option (List ℕ)) (type : PlainType) (c : Context) → Solid c → Rises c (with_register name type c)
-register_rises name type c h = record { solid = h; more = extends_refl (K c) }
+register_rises name type c h = record { solid = h; more = extends_refl (K c); code = λ k. k; cases = λ k. k; walked = λ k. k }
 
 pub counted_rises : (c x : Context) → Rises c x → Rises c (counted x)
-counted_rises c x r = record { solid = r.solid; more = r.more }
+counted_rises c x r = record { solid = r.solid; more = r.more; code = r.code; cases = r.cases; walked = r.walked }
 
 param_made : (name : Option (List ℕ)) (type : PlainType) (c : Context) → Solid c → Whole (K c) type → is_some (layout_in c.tags type) ≡ true → Rises c (with_param name type c)
 param_made name type c h w s = counted_rises c _ (by (next_is_memory type c))
@@ -117,8 +124,8 @@ param_made name type c h w s = counted_rises c _ (by (next_is_memory type c))
         let z = with_named name (n.Object type (length c.running.mems)) y in
         let a = memory_rises (unwrap_or name []) type x h w s in
         let q = maybe_named name (n.Object type (length c.running.mems)) y a.solid w in
-        rises_trans c y _ (record { solid = a.solid; more = a.more }) (rises_trans y z _ q (write_rises c.running.line type (Memory (atom.Mem (length c.running.mems))) (atom.Reg (local_register (length c.running.locals))) z q.solid))
-    by false = let q = maybe_named name (n.Register type (length c.running.locals)) (with_register name type c) h w in record { solid = q.solid; more = q.more }
+        rises_trans c y _ (record { solid = a.solid; more = a.more; code = a.code; cases = a.cases; walked = a.walked }) (rises_trans y z _ q (write_rises c.running.line type (Memory (atom.Mem (length c.running.mems))) (atom.Reg (local_register (length c.running.locals))) z q.solid (λ k. (tt, tt))))
+    by false = let q = maybe_named name (n.Register type (length c.running.locals)) (with_register name type c) h w in record { solid = q.solid; more = q.more; code = q.code; cases = q.cases; walked = q.walked }
 
 -- a parameter has a layout: it is an integer or a pointer
 param_sized : (k : Known) (type : PlainType) → is_void type ≡ false → is_record type || is_function type ≡ false → is_array type ≡ false → is_some (layout_of k type) ≡ true
@@ -169,6 +176,9 @@ newly_rises : (sort : RecordSort) (name : List ℕ) (c : Context) → Solid c �
 newly_rises sort name c h = record {
   solid = record { made = h.made; names = with_name_whole (K c) c.scopes (tag_name name) (n.Tag (record_type sort (length c.tags.made))) tt h.names; list = h.list; memory = h.memory; result = h.result; statics = h.statics; functions = h.functions };
   more = extends_refl (K c);
+  code = λ k. k;
+  cases = λ k. k;
+  walked = λ k. k;
 }
 
 begun_as_rises : (sort : RecordSort) (name : List ℕ) (o : Option PlainNamed) (c : Context) → Solid c → Rises c (begun_as sort name o c).0
@@ -182,7 +192,7 @@ begun_as_rises sort name (Some (n.BuiltIn i)) c h = newly_rises sort name c h
 begun_as_rises sort name None c h = newly_rises sort name c h
 
 begun_rises : (sort : RecordSort) (name : Option (List ℕ)) (c : Context) → Solid c → Rises c (begun sort name c).0
-begun_rises sort None c h = record { solid = h; more = extends_refl (K c) }
+begun_rises sort None c h = record { solid = h; more = extends_refl (K c); code = λ k. k; cases = λ k. k; walked = λ k. k }
 begun_rises sort (Some name) c h = begun_as_rises sort name (named_in (tag_name name) (innermost c.scopes)) c h
 
 members_all : (k : Known) (ms : d.Members) → MembersWhole k ms → All (λ (m : List ℕ × PlainType). HasLayout k m.1) ms
@@ -217,6 +227,9 @@ complete_rises line number type c list h m some w =
             functions = h.functions;
           };
           more = x;
+          code = λ k. k;
+          cases = λ k. k;
+          walked = λ k. k;
         }, w _)
 
 ended_rises : (line : ℕ) (sort : RecordSort) (type : PlainType) (c : Context) (list : d.Members) → Solid c → MembersWhole (K c) list → (list ≡ [] → ⊥) → Led (T c) (ended line sort type c list)
@@ -343,10 +356,13 @@ left_params_rises : (c x : Context) → Rises (entered c) x → Rises c (left_pa
 left_params_rises c x p = record {
   solid = record { made = p.solid.made; names = left_whole (K x) x.scopes p.solid.names; list = first_list (K x) x.scopes.inner p.solid.names.inner; memory = p.solid.memory; result = p.solid.result; statics = p.solid.statics; functions = p.solid.functions };
   more = p.more;
+  code = p.code;
+  cases = p.cases;
+  walked = p.walked;
 }
 
 no_params : (c : Context) → Solid c → Rises c (record c { params = [] })
-no_params c h = record { solid = record { made = h.made; names = h.names; list = λ name v e. cc; memory = h.memory; result = h.result; statics = h.statics; functions = h.functions }; more = extends_refl (K c) }
+no_params c h = record { solid = record { made = h.made; names = h.names; list = λ name v e. cc; memory = h.memory; result = h.result; statics = h.statics; functions = h.functions }; more = extends_refl (K c); code = λ k. k; cases = λ k. k; walked = λ k. k }
 
 t_on : (a b : Context) (z : Context × PlainType) → Rises a b → T b z → T a z
 t_on a b z x y = (rises_trans a b z.0 x y.0, y.1)

@@ -12,7 +12,7 @@ use Rattle.core_tree.specs.declared.statements.StmKind.TheVariants.{Call}
 use Rattle.core_tree.specs.Sorts.{IsTyped}
 use Rattle.core_tree.specs.Statements.{edges}
 use Rattle.core_tree.specs.LayoutsOfTypes.{IsLayoutOfType}
-use Rattle.core_tree.specs.Sound.{EachFunc, EachStatement, EachReturn, LeadsOn, HasScopes, answer_sort, GivesAnswer, code_size, IsShort}
+use Rattle.core_tree.specs.Sound.{EachFunc, EachStatement, EachReturn, LeadsOn, HasScopes, HasNumbers, element_layouts, answer_sort, GivesAnswer, code_size, IsShort}
 
 -- how control flows through a function
 pub record HasFlow (func : Func) : Type 0 where
@@ -61,3 +61,10 @@ pub record HasLayouts (core : Core) : Type 0 where
   pub mems : EachFunc core (λ func. All (λ (mem : Mem). IsLayoutOfType mem.layout) func.mems)
   -- of statics, which are file-scope variables and literals
   pub statics : All (λ (static : Static). IsLayoutOfType static.layout) core.statics
+
+-- the numbers and element layouts of a function
+pub record HasRanges (func : Func) : Type 0 where
+  -- each integer and each element size is in range
+  pub numbers : EachStatement func.body (λ point stm. HasNumbers stm.kind)
+  -- each layout of elements is that of a type
+  pub elements : EachStatement func.body (λ point stm. All IsLayoutOfType (element_layouts stm.kind))

@@ -12,7 +12,7 @@ ghost use Rattle.elaboration.specs.Context.{Context, asked};
 ghost use Rattle.elaboration.specs.Conversions.{Found};
 ghost use Rattle.elaboration.specs.Expressions.{found};
 ghost use Rattle.core_tree.specs.declared.program.Core.{Core};
-ghost use Rattle.core_tree.specs.Sound.{EachFunc, IsMain, is_main, main_of};
+ghost use Rattle.core_tree.specs.Sound.{EachFunc, IsFunction, IsMain, is_main, main_of};
 ghost use Rattle.c_lexer.specs.Tokens.{IsLexed};
 ghost use Rattle.c_lexer.specs.declared.token.Token.{Token};
 ghost use Rattle.c_tree.specs.HasTree.{HasTree};
@@ -24,7 +24,7 @@ ghost use Rattle.elaboration.specs.Solid.{Solid};
 ghost use Rattle.elaboration.specs.Untaken.{AllUntaken};
 ghost use Rattle.elaboration.specs.Whole.{Whole};
 ghost use Rattle.elaboration.specs.Written.{AreWritten, Written};
-ghost use Rattle.elaboration.specs.Laws.{CallsInside, HasFlow, HasLayouts, HasSizes, HasTypes};
+ghost use Rattle.elaboration.specs.Laws.{CallsInside, HasFlow, HasLayouts, HasRanges, HasSizes, HasTypes};
 
 /// In each function of the core of a text every edge leads to a statement, only a loop goes back, and scopes are opened
 /// and closed in the same way on all paths.
@@ -94,4 +94,15 @@ pub fn types_are_whole()
 /// constants and sizes as registers hold them, and sizes of elements from 1 to that of the largest object.
 pub fn numbers_are_kept()
     ensures { (tree : Tree) (wanted : PlainType) (c : Context) (d : Context × Found) → Solid c → Written tree → Whole (known c.tags.completed) wanted → PiecesIn c.code.pieces → found tree wanted c ≡ Ok d → PiecesIn d.0.code.pieces }
+{}
+
+/// In each function of the core of a text every integer is one that a register holds, sizes of elements are from 1 to that of
+/// the largest object, and layouts of elements are those of types.
+pub fn numbers_are_in_range()
+    ensures { (tokens : List Token) (unit : Trees) (core : Core) (tags : TagTable) → All IsLexed tokens → HasTree tokens unit → elaborated unit ≡ Ok (core, tags) → EachFunc core HasRanges }
+{}
+
+/// Each function of the core of a text is sound, where `&` stands before no name.
+pub fn functions_are_sound()
+    ensures { (tokens : List Token) (unit : Trees) (core : Core) (tags : TagTable) → All IsLexed tokens → HasTree tokens unit → AllUntaken unit → elaborated unit ≡ Ok (core, tags) → EachFunc core (IsFunction core) }
 {}
