@@ -317,9 +317,11 @@ chosen_in line end before t test x d f p h =
 pub record_in : (line right : ℕ) (target : Found) (d : Context × Found) → Solid d.0 → Whole (K d.0) target.typed.type → SpotIn target.spot → E d → Led E (record_assigned line right target d)
 record_in line right target d s w p h =
     led_after E (assigned line right d.0.tags target.typed d.1.typed) (λ t. Ok (emit line (Copy (atom_in target) (atom_in d.1) (pos (size_or_zero d.0 t.type))) d.0, found_as t Empty Unknown))
-    (λ t k. led_ok E (emit line (Copy (atom_in target) (atom_in d.1) (pos (size_or_zero d.0 t.type))) d.0, found_as t Empty Unknown)
-    (in_emit line (Copy (atom_in target) (atom_in d.1) (pos (size_or_zero d.0 t.type))) d.0 h.0
-    ((spot_atom target.spot p, (spot_atom d.1.spot h.1, tt)), size_number d.0 t.type s (assigned_whole d.0.tags.completed s.made line right d.0.tags target.typed d.1.typed w t k)), tt))
+    (λ t k. led_ok E (emit line (Copy (atom_in target) (atom_in d.1) (pos (size_or_zero d.0 t.type))) d.0, found_as t Empty Unknown) (
+      in_emit line (Copy (atom_in target) (atom_in d.1) (pos (size_or_zero d.0 t.type))) d.0 h.0
+          ((spot_atom target.spot p, (spot_atom d.1.spot h.1, tt)), size_number d.0 t.type s (assigned_whole d.0.tags.completed s.made line right d.0.tags target.typed d.1.typed w t k)),
+      tt,
+    ))
 
 pub scalar_in : (line : ℕ) (before : Code) (tree : Tree) (target : Found) (d : Context × Found) → PiecesIn before.pieces → SpotIn target.spot → E d → Led E (scalar_assigned line before tree target d)
 scalar_in line before tree target d f p h =

@@ -53,4 +53,3 @@ zero_number = small_number 0 (omega arith)
 
 pub one_number : IsNumber (pos 1)
 one_number = small_number 1 (omega arith)
-

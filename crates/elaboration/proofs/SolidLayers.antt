@@ -215,22 +215,24 @@ complete_rises line number type c list h m some w =
     by t None e =
         let x = push_extends c.tags.completed new in
         let made = made_push c.tags.completed new h.made (record { once = not_known (K c number) t; some = some; members = members_all (K c) list m; kept = e }) m in
-        led_ok (T c) (record c { tags = tables.with_completed c.tags new }, type)
-        (record {
-          solid = record {
-            made = made;
-            names = names_stay c.scopes (K c) _ x h.names;
-            list = table_stays c.params (K c) _ x h.list;
-            memory = h.memory;
-            result = whole_stays c.running.answer (K c) _ x h.result;
-            statics = h.statics;
-            functions = h.functions;
-          };
-          more = x;
-          code = λ k. k;
-          cases = λ k. k;
-          walked = λ k. k;
-        }, w _)
+        led_ok (T c) (record c { tags = tables.with_completed c.tags new }, type) (
+          record {
+            solid = record {
+              made = made;
+              names = names_stay c.scopes (K c) _ x h.names;
+              list = table_stays c.params (K c) _ x h.list;
+              memory = h.memory;
+              result = whole_stays c.running.answer (K c) _ x h.result;
+              statics = h.statics;
+              functions = h.functions;
+            };
+            more = x;
+            code = λ k. k;
+            cases = λ k. k;
+            walked = λ k. k;
+          },
+          w _,
+        )
 
 ended_rises : (line : ℕ) (sort : RecordSort) (type : PlainType) (c : Context) (list : d.Members) → Solid c → MembersWhole (K c) list → (list ≡ [] → ⊥) → Led (T c) (ended line sort type c list)
 ended_rises line r.Struct (Struct number) c list h m some = complete_rises line number (Struct number) c list h m some (λ k. tt)

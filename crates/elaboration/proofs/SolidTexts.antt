@@ -121,14 +121,16 @@ condition_rises e c h w =
     let k = tested_solid e d r.rises.solid in
     let z = closed_rises e (tested_value e d).0 k.solid in
     led_unless (C1 c) (not (is_scalar d.1.typed.type)) Operands (line_of e) (Ok (closed_atom e (tested_value e d)))
-    (λ x. led_ok (C1 c) (closed_atom e (tested_value e d))
-    (record {
-      solid = z.solid;
-      more = λ tag l y. z.more tag l (k.more tag l (r.rises.more tag l y));
-      code = λ g. z.code (tested_value_in e d (r.fits g)).0;
-      cases = λ g. z.cases (same_cases d.0 (tested_value e d).0 (grows_tested (code_line e) d.1.typed.type (atom_in d.1) d.0) (r.rises.cases g));
-      walked = λ g. z.walked (same_walked d.0 (tested_value e d).0 (grows_tested (code_line e) d.1.typed.type (atom_in d.1) d.0) (r.rises.walked g));
-    }, λ g. (tested_value_in e d (r.fits g)).1)))
+    (λ x. led_ok (C1 c) (closed_atom e (tested_value e d)) (
+      record {
+        solid = z.solid;
+        more = λ tag l y. z.more tag l (k.more tag l (r.rises.more tag l y));
+        code = λ g. z.code (tested_value_in e d (r.fits g)).0;
+        cases = λ g. z.cases (same_cases d.0 (tested_value e d).0 (grows_tested (code_line e) d.1.typed.type (atom_in d.1) d.0) (r.rises.cases g));
+        walked = λ g. z.walked (same_walked d.0 (tested_value e d).0 (grows_tested (code_line e) d.1.typed.type (atom_in d.1) d.0) (r.rises.walked g));
+      },
+      λ g. (tested_value_in e d (r.fits g)).1,
+    )))
 
 if_zero_rises : (line label : ℕ) (e : Tree) (c : Context) → Solid c → Written e → Led (Rises c) (leaves_if_zero line label e c)
 if_zero_rises line label e c h w =
@@ -217,14 +219,16 @@ operand_of_rises line e (Number ty) c d r =
     let grown = grows_convert_integer line (promoted ty) ty (atom_in d.1) d.0 in
     let a = same_rises d.0 x.0 (same_kept d.0 x.0 (quiet_convert_integer line (promoted ty) ty (atom_in d.1) d.0) grown.kept) r.rises.solid in
     let z = closed_rises e x.0 a.solid in
-    led_ok (O1 c) (closed e x.0, (promoted ty, x.1))
-    (record {
-      solid = z.solid;
-      more = λ tag l y. z.more tag l (a.more tag l (r.rises.more tag l y));
-      code = λ g. let f = r.fits g in z.code (convert_integer_in line (promoted ty) ty (atom_in d.1) d.0 f.0 (spot_atom d.1.spot f.1)).0;
-      cases = λ g. z.cases (same_cases d.0 x.0 grown (r.rises.cases g));
-      walked = λ g. z.walked (same_walked d.0 x.0 grown (r.rises.walked g));
-    }, λ g. let f = r.fits g in (convert_integer_in line (promoted ty) ty (atom_in d.1) d.0 f.0 (spot_atom d.1.spot f.1)).1)
+    led_ok (O1 c) (closed e x.0, (promoted ty, x.1)) (
+      record {
+        solid = z.solid;
+        more = λ tag l y. z.more tag l (a.more tag l (r.rises.more tag l y));
+        code = λ g. let f = r.fits g in z.code (convert_integer_in line (promoted ty) ty (atom_in d.1) d.0 f.0 (spot_atom d.1.spot f.1)).0;
+        cases = λ g. z.cases (same_cases d.0 x.0 grown (r.rises.cases g));
+        walked = λ g. z.walked (same_walked d.0 x.0 grown (r.rises.walked g));
+      },
+      λ g. let f = r.fits g in (convert_integer_in line (promoted ty) ty (atom_in d.1) d.0 f.0 (spot_atom d.1.spot f.1)).1,
+    )
 operand_of_rises line e (PointerTo target) c d r = led_refused (O1 c) Operands (line_of e)
 operand_of_rises line e Neither c d r = led_refused (O1 c) Operands (line_of e)
 

@@ -26,7 +26,7 @@ mod laws;
 
 pub use c_decls::{TypeError, TypeKind};
 pub use laws::{
-    calls_are_inside, control_flows, formats_are_read, functions_are_sound, layouts_are_of_types, main_answers,
-    numbers_are_in_range, numbers_are_kept, one_main, sizes_are_kept, statements_are_typed, trees_are_plain,
-    trees_are_written, types_agree, types_are_whole,
+    calls_are_inside, control_flows, formats_are_read, functions_are_sound, layouts_are_of_types,
+    main_answers, numbers_are_in_range, numbers_are_kept, one_main, sizes_are_kept,
+    statements_are_typed, trees_are_plain, trees_are_written, types_agree, types_are_whole,
 };
