@@ -1,31 +1,29 @@
 -- The sorts of what assignments write (C99 6.5.2.4, 6.5.3.1, 6.5.16).
-use Rattle.std.proofs.Common.{◌≡◌, ◌≤◌, ◌&&◌, ◌||◌, ℕ, pos, Bool, true, false, not, cond, Option, Some, None, Ok, Err, refl, sym, ap, ◌∙◌, subst, arith}
+use Rattle.std.proofs.Common.{◌≡◌, ◌≤◌, ◌&&◌, ℕ, pos, Bool, true, false, not, cond, None, Ok, refl, sym, ap, ◌∙◌, subst}
 use Rattle.c_types.specs.declared.types.IntType.{IntType}
 use Rattle.c_types.specs.Types as types
 use Rattle.c_types.specs.Types.{PlainType}
 use Rattle.c_types.specs.TagTable.{TagTable}
 use Rattle.core_tree.specs.declared.statements.Atom.{Atom}
-use Rattle.core_tree.specs.declared.statements.Atom.TheVariants as atom
 use Rattle.core_tree.specs.declared.statements.StmKind.TheVariants.{Copy}
-use Rattle.core_tree.specs.Sorts.{Integer, Pointer}
+use Rattle.core_tree.specs.Sorts.{Pointer}
 use Rattle.c_tree.specs.declared.operator.AssignOp.{AssignOp}
 use Rattle.c_tree.specs.Tree.{Tree}
 use Rattle.c_decls.specs.declared.refusal.TypeKind.TheVariants.{NotLvalue, Incomplete, Operands, Assignment}
-use Rattle.c_decls.specs.Refusals.{Checked, refused, then, unless}
-use Rattle.c_decls.specs.Typed.{PlainTyped, Operand, Number, PointerTo, Neither, operand, value, int, is_scalar, is_record, is_array, is_void, same, has_no_size, read}
+use Rattle.c_decls.specs.Refusals.{Checked, then, unless}
+use Rattle.c_decls.specs.Typed.{PlainTyped, Operand, Number, PointerTo, Neither, operand, value, is_scalar, is_record, is_array, is_void, same, has_no_size, read}
 use Rattle.c_decls.specs.PlaceRules.{unconverted, unconverted_types, converts, is_written, changed, changed_types, assigned}
 use Rattle.c_decls.specs.PlaceRules as places
 use Rattle.c_decls.specs.Expressions.{line_of}
-use Rattle.elaboration.specs.Context.{Code, Context, With, emit}
-use Rattle.elaboration.specs.Conversions.{Found, Spot, Value, Empty, Unknown, found_as, valued_as, atom_in, code_line, convert, write, valued_from, size_or_zero}
+use Rattle.elaboration.specs.Context.{Context, emit}
+use Rattle.elaboration.specs.Conversions.{Found, Empty, Unknown, found_as, atom_in, code_line, convert, write, valued_from, size_or_zero}
 use Rattle.elaboration.specs.Operations.{changed_to, operator_of}
 use Rattle.elaboration.specs.Assignments.{record_assigned, set_to, scalar_assigned, old_value, change_place, changed_answer, changed_by, one_found, stepped}
-use Rattle.elaboration.specs.Worlds.{World, world, Holds, HeldAs, Held, StandsAs, Stands}
-use Rattle.elaboration.proofs.Grown.{good, bad, ok_same, never}
+use Rattle.elaboration.specs.Worlds.{World, world, Holds, Held, StandsAs, Stands}
+use Rattle.elaboration.proofs.Grown.{good, ok_same, never}
 use Rattle.elaboration.proofs.Agreeing.{came, valued_from_rule}
-use Rattle.elaboration.proofs.Growing.{Grew}
-use Rattle.elaboration.proofs.Going.{Goes, goes_refl, goes_trans, goes_emit}
-use Rattle.elaboration.proofs.Sorting.{Lands, Comes, HasValue, held_grew, stands_as_grew, stands_grew, Brings, Converting, converted, write_goes, old_brings, valued_from_comes}
+use Rattle.elaboration.proofs.Going.{Goes, goes_trans, goes_emit}
+use Rattle.elaboration.proofs.Sorting.{Lands, Comes, held_grew, stands_as_grew, stands_grew, Converting, converted, write_goes, old_brings, valued_from_comes}
 use Rattle.elaboration.proofs.Operating.{passed, kept_test, behind_test, unbarred, moved_is, changed_brings}
 use Rattle.elaboration.proofs.Landing.{in_memory, not_false}
 

@@ -1,8 +1,7 @@
 -- The sorts of what calls take and give (C99 6.5.2.2, 7.19 to 7.21).
-use Rattle.std.proofs.Common.{◌≡◌, suc, nat_eq, ◌≤◌, ◌<◌, ◌==◌, ◌+◌, ◌++◌, ◌&&◌, ℕ, pos, Bool, true, false, not, cond, map, drop, length, List, [], ◌∷◌, slice_get, slice_index_or, unwrap_or, Option, Some, None, Ok, Err, refl, sym, ap, ◌∙◌, subst, arith, eqb-true, ◌⊎◌, inl, inr}
+use Rattle.std.proofs.Common.{◌≡◌, suc, nat_eq, ◌≤◌, ◌==◌, ◌++◌, ◌&&◌, ℕ, Bool, true, false, not, cond, drop, length, List, [], ◌∷◌, slice_get, unwrap_or, Option, Some, None, Ok, refl, sym, subst, arith, eqb-true, ◌⊎◌, inl, inr}
 use Rattle.std.specs.List.{flat_map}
 use Rattle.std.proofs.lemmas.List.Concat.{flat_map-cons}
-use Rattle.c_types.specs.declared.types.IntType.{IntType}
 use Rattle.c_types.specs.declared.types.IntType.TheVariants as i
 use Rattle.c_types.specs.Types as types
 use Rattle.c_types.specs.Types.{PlainType, PlainTypes, Void, kind_of}
@@ -12,38 +11,35 @@ use Rattle.c_print.specs.declared.piece.Piece.TheVariants as p
 use Rattle.c_print.specs.Pieces.{pieces_of}
 use Rattle.hs_base.specs.Numbers.{width}
 use Rattle.core_tree.specs.declared.statements.Atom.{Atom}
-use Rattle.core_tree.specs.declared.statements.Atom.TheVariants as atom
 use Rattle.core_tree.specs.declared.statements.StmKind.{StmKind}
 use Rattle.core_tree.specs.declared.statements.StmKind.TheVariants.{Call, Malloc, Calloc, Realloc, Free, Lib, Printf, Enter, Leave}
 use Rattle.core_tree.specs.Sorts.{Sort, Integer, Pointer, lib_takes, lib_gives, piece_takes}
-use Rattle.c_tree.specs.Words as w
-use Rattle.c_tree.specs.Forms as f
-use Rattle.c_tree.specs.Tree.{Tree, Trees, Leaf, At, Node, none, ◌▹◌}
+use Rattle.c_tree.specs.Tree.{Trees}
 use Rattle.c_decls.specs.declared.built_in.BuiltIn.{BuiltIn}
 use Rattle.c_decls.specs.declared.built_in.BuiltIn.TheVariants as b
 use Rattle.c_decls.specs.BuiltIns.{built_ins}
 use Rattle.c_decls.specs.declared.refusal.TypeKind.TheVariants.{ArgumentCount, Format}
 use Rattle.c_decls.specs.IntegerTypes.{promoted}
-use Rattle.c_decls.specs.Refusals.{Checked, refused, then, unless}
+use Rattle.c_decls.specs.Refusals.{Checked, then}
 use Rattle.c_decls.specs.Named as n
 use Rattle.c_decls.specs.Named.{PlainNamed}
-use Rattle.c_decls.specs.ScopeList.{named_in, found as declaration}
-use Rattle.c_decls.specs.Typed.{PlainTyped, Operand, Number, PointerTo, Neither, operand, value, read}
-use Rattle.c_decls.specs.PlaceRules.{unconverted, converts, all_convert, length_of}
+use Rattle.c_decls.specs.ScopeList.{named_in}
+use Rattle.c_decls.specs.Typed.{PlainTyped, operand, value, read}
+use Rattle.c_decls.specs.PlaceRules.{unconverted, all_convert, length_of}
 use Rattle.c_decls.specs.Callees.{Callee, Takes, Prints, NoFunction, built_in_callee, function_callee, no_function, built_in_named, built_in_called, callee_at, named, called, call, prints, is_format, suit, suits_type}
 use Rattle.c_decls.specs.Expressions.{first_literal}
-use Rattle.elaboration.specs.Context.{Code, Context, With, emit, integer_by, pointer_by}
-use Rattle.elaboration.specs.Conversions.{Found, Spot, Value, Empty, Unknown, found_as, atom_in, convert}
-use Rattle.elaboration.specs.Calls.{Argument, types_of, atoms_of, atom_at, first_type, rest_types, argument_from, built_in_at, lib_name, result_by, pointer_result, with_format, printing, call_built_in, call_of_built_in, call_named, element_layout}
+use Rattle.elaboration.specs.Context.{Context, emit}
+use Rattle.elaboration.specs.Conversions.{Found, Spot, Unknown, found_as, atom_in}
+use Rattle.elaboration.specs.Calls.{Argument, types_of, atoms_of, atom_at, rest_types, argument_from, lib_name, result_by, pointer_result, with_format, printing, call_built_in, call_of_built_in, call_named, element_layout}
 use Rattle.elaboration.specs.Expressions.{call_answer, parameters as params_of}
-use Rattle.elaboration.specs.Worlds.{World, world, IsRegister, Holds, HoldAll, HeldAs, Held, StandsAs, Stands, Receives, IsCall, IsPrinted, Fits, type_sort, param_sorts, result_sort}
-use Rattle.elaboration.proofs.Grown.{good, bad, ok_same, never}
+use Rattle.elaboration.specs.Worlds.{World, world, Holds, HoldAll, Held, StandsAs, Receives, IsPrinted, Fits, type_sort, param_sorts, result_sort}
+use Rattle.elaboration.proofs.Grown.{good, ok_same, never}
 use Rattle.elaboration.proofs.Names.{more_refl}
 use Rattle.elaboration.proofs.Agreeing.{came}
 use Rattle.elaboration.proofs.Owners.{get_last, get_left}
-use Rattle.elaboration.proofs.Growing.{Grew, grew_trans, holds_grew, all_grew, register_grew, receives_grew, pieces_grew}
-use Rattle.elaboration.proofs.Going.{Goes, goes_refl, goes_trans, goes_emit, Gives, gives_on, gives_integer, gives_pointer}
-use Rattle.elaboration.proofs.Sorting.{Apart, Lands, Comes, HasValue, held_grew, held_as_grew, Converting, converted}
+use Rattle.elaboration.proofs.Growing.{Grew, grew_trans, holds_grew, all_grew, pieces_grew}
+use Rattle.elaboration.proofs.Going.{Goes, goes_refl, goes_trans, goes_emit, Gives, gives_integer, gives_pointer}
+use Rattle.elaboration.proofs.Sorting.{Apart, Lands, held_grew, Converting, converted}
 use Rattle.elaboration.proofs.Operating.{passed, kept_test, behind_test, unbarred}
 use Rattle.elaboration.proofs.Landing.{not_false}
 use Rattle.elaboration.proofs.Assigning.{converting_of}

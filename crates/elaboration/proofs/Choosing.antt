@@ -1,40 +1,31 @@
 -- The sorts of what `&&`, `||` and `?:` give, and of what assignments write (C99 6.5.13 to 6.5.16).
-use Rattle.std.proofs.Common.{◌≡◌, ◌≤◌, ◌+◌, ◌&&◌, ◌||◌, ℕ, pos, Bool, true, false, not, cond, Option, Some, None, Ok, Err, refl, sym, ap, ◌∙◌, subst, arith}
-use Rattle.c_types.specs.declared.types.IntType.{IntType}
+use Rattle.std.proofs.Common.{◌≡◌, ◌≤◌, ◌+◌, ◌&&◌, ◌||◌, ℕ, pos, Bool, true, false, not, cond, Ok, refl, sym, ap, ◌∙◌, subst}
 use Rattle.c_types.specs.declared.types.IntType.TheVariants as i
 use Rattle.c_types.specs.Types as types
 use Rattle.c_types.specs.Types.{PlainType}
-use Rattle.c_types.specs.TagTable.{TagTable}
 use Rattle.core_tree.specs.declared.statements.Atom.{Atom}
 use Rattle.core_tree.specs.declared.statements.Atom.TheVariants as atom
 use Rattle.core_tree.specs.declared.statements.CmpOp.TheVariants as cmp
-use Rattle.core_tree.specs.declared.statements.StmKind.TheVariants.{Set, Cmp, Zero, Jump, Copy}
+use Rattle.core_tree.specs.declared.statements.StmKind.TheVariants.{Set, Cmp, Zero, Jump}
 use Rattle.core_tree.specs.Sorts.{Sort, Integer, Pointer}
-use Rattle.c_tree.specs.declared.operator.BinaryOp.{BinaryOp}
 use Rattle.c_tree.specs.declared.operator.BinaryOp.TheVariants as bin
-use Rattle.c_tree.specs.declared.operator.AssignOp.{AssignOp}
 use Rattle.c_tree.specs.Tree.{Tree}
-use Rattle.c_decls.specs.IntegerTypes.{common_type}
 use Rattle.c_decls.specs.declared.refusal.TypeKind.TheVariants.{Operands}
-use Rattle.c_decls.specs.Refusals.{Checked, refused, then, unless}
-use Rattle.c_decls.specs.Typed.{PlainTyped, Operand, Number, PointerTo, Neither, operand, value, integer, int, is_scalar, is_record, is_array, is_void, is_null_constant, same, has_no_size, read}
-use Rattle.c_decls.specs.TypeRules.{binary, logical, chosen as chosen_folded, truth_of, moving, barred}
-use Rattle.c_decls.specs.PlaceRules.{choice, choice_types, chosen_pointer, unconverted, unconverted_types, converts, is_written, changed, changed_types, moves, assigned}
-use Rattle.c_decls.specs.PlaceRules as places
-use Rattle.c_decls.specs.Expressions.{line_of}
-use Rattle.elaboration.specs.Context.{Code, Context, With, emit, here, with_labels, new_label, integer_by, pointer_by}
-use Rattle.elaboration.specs.Conversions.{Found, Spot, Local, Memory, Value, Empty, Unknown, found_as, valued_as, atom_in, code_line, convert, tested_value, write, valued_from, size_or_zero, read_spot}
-use Rattle.elaboration.specs.Operations.{changed_to, operator_of}
-use Rattle.elaboration.specs.Rules.{set_again, compare_again, with_value, and_then, and_ends, and_ended, or_else, or_ends, or_ended, choose, choice_spot, choice_found, chosen_by, choose_first, choose_last, chosen}
-use Rattle.elaboration.specs.Assignments.{record_assigned, set_to, scalar_assigned, old_value, change_place, changed_answer, changed_by, one_found, stepped}
-use Rattle.elaboration.specs.Worlds.{World, world, IsRegister, Holds, HeldAs, Held, StandsAs, Stands}
-use Rattle.elaboration.proofs.Grown.{good, bad, ok_same, never}
-use Rattle.elaboration.proofs.Agreeing.{came, valued_from_rule}
-use Rattle.elaboration.proofs.Growing.{Grew, grew_refl, holds_grew, register_grew}
+use Rattle.c_decls.specs.Refusals.{refused}
+use Rattle.c_decls.specs.Typed.{PlainTyped, Operand, Number, PointerTo, Neither, operand, value, is_scalar, is_void, same}
+use Rattle.c_decls.specs.TypeRules.{binary, logical}
+use Rattle.c_decls.specs.PlaceRules.{choice, choice_types, chosen_pointer}
+use Rattle.elaboration.specs.Context.{Code, Context, emit, here, with_labels, new_label, integer_by}
+use Rattle.elaboration.specs.Conversions.{Found, Value, Empty, Unknown, atom_in, code_line, convert, tested_value}
+use Rattle.elaboration.specs.Rules.{set_again, compare_again, with_value, and_then, and_ends, and_ended, or_else, or_ends, or_ended, choice_spot, choice_found, chosen_by, choose_first, choose_last, chosen}
+use Rattle.elaboration.specs.Worlds.{World, world, Holds, HeldAs, Held, StandsAs, Stands}
+use Rattle.elaboration.proofs.Grown.{good, ok_same, never}
+use Rattle.elaboration.proofs.Agreeing.{came}
+use Rattle.elaboration.proofs.Growing.{holds_grew}
 use Rattle.elaboration.proofs.Going.{Goes, goes_refl, goes_trans, goes_emit, goes_here, goes_labels, Gives, gives_on, gives_integer, gives_pointer}
-use Rattle.elaboration.proofs.Sorting.{Apart, Lands, Comes, HasValue, value_stands, value_grew, held_grew, held_as_grew, stands_as_grew, Brings, Converting, converted, tested_value_gives, write_goes, old_brings, valued_from_comes}
-use Rattle.elaboration.proofs.Operating.{passed, kept_test, behind_test, unbarred, moved_is, beside_is, Makes, changed_brings}
-use Rattle.elaboration.proofs.Landing.{in_memory, made_comes, integer_made, not_false}
+use Rattle.elaboration.proofs.Sorting.{Apart, Lands, Comes, HasValue, held_as_grew, Converting, converted, tested_value_gives}
+use Rattle.elaboration.proofs.Operating.{passed, kept_test, behind_test, beside_is}
+use Rattle.elaboration.proofs.Landing.{made_comes, integer_made, not_false}
 
 -- a register in hand is written again
 

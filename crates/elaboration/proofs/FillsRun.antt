@@ -1,38 +1,36 @@
 -- What initializers do to what fits (C99 6.7.8).
-use Rattle.std.proofs.Common.{◌≡◌, ◌≤◌, ◌<◌, ◌+◌, ◌&&◌, ℕ, pos, Bool, true, false, not, cond, min, take, length, List, [], ◌∷◌, Option, Some, None, Ok, Err, refl, sym, ap, ◌∙◌, subst, arith}
+use Rattle.std.proofs.Common.{◌≡◌, ◌≤◌, ◌<◌, ◌+◌, ◌&&◌, ℕ, pos, Bool, true, false, not, cond, min, take, length, List, [], ◌∷◌, Option, Some, None, Ok, refl, sym, subst, arith}
 use Rattle.c_types.specs.Types as types
 use Rattle.c_types.specs.Types.{PlainType, Void, Array, Struct, Union}
 use Rattle.core_tree.specs.declared.program.Start.{Start}
-use Rattle.core_tree.specs.declared.statements.Atom.{Atom}
 use Rattle.core_tree.specs.declared.statements.Atom.TheVariants as atom
 use Rattle.core_tree.specs.declared.statements.StmKind.TheVariants.{Off, Copy}
-use Rattle.core_tree.specs.Sorts.{Integer, Pointer}
+use Rattle.core_tree.specs.Sorts.{Pointer}
 use Rattle.c_tree.specs.Forms as f
 use Rattle.c_tree.specs.Tree.{Tree, Trees, At, Node, none, ◌▹◌, count}
-use Rattle.c_decls.specs.declared.refusal.TypeKind.TheVariants.{Assignment, NotConstant, Operands}
+use Rattle.c_decls.specs.declared.refusal.TypeKind.TheVariants.{Assignment}
 use Rattle.c_decls.specs.Refusals.{Checked, refused, then, unless}
 use Rattle.c_decls.specs.ScopeList.{ScopeList}
-use Rattle.c_decls.specs.Typed.{PlainTyped, operand, is_scalar, is_record, same}
+use Rattle.c_decls.specs.Typed.{is_record, same}
 use Rattle.c_decls.specs.PlaceRules.{unconverted, converts}
-use Rattle.c_decls.specs.Expressions.{line_of, joined}
-use Rattle.elaboration.specs.Context.{Code, Context, With, emit, pointer_by}
-use Rattle.elaboration.specs.Conversions.{Found, Spot, Local, Memory, atom_in, code_line, valued, convert, write, size_or_zero}
+use Rattle.elaboration.specs.Context.{Context, emit}
+use Rattle.elaboration.specs.Conversions.{Found, Local, Memory, atom_in, code_line, valued, convert, write, size_or_zero}
 use Rattle.elaboration.specs.Reallocates.{opened, closed}
 use Rattle.elaboration.specs.Rules.{with_literal}
 use Rattle.elaboration.specs.Expressions.{found}
-use Rattle.elaboration.specs.Initializers.{Target, InRegister, InMemory, InStatic, Filled, static_scalar, member_place, store_at, fill_scalar, scalar, copy_to, fill_record, is_same_place, whole, copy_text, fill_text, is_character, text, by_text, by_expression, parts_of, takes_braces, is_scalar_type, all_surplus, initialize, initialize_parts, with_bytes}
-use Rattle.elaboration.specs.Worlds.{World, world, Holds, Held, StandsAs, Stands, NamesFit}
+use Rattle.elaboration.specs.Initializers.{Target, InRegister, InMemory, InStatic, static_scalar, member_place, store_at, fill_scalar, scalar, copy_to, fill_record, is_same_place, whole, copy_text, fill_text, is_character, text, by_text, by_expression, parts_of, takes_braces, is_scalar_type, all_surplus, initialize, initialize_parts, with_bytes}
+use Rattle.elaboration.specs.Worlds.{World, world, Holds, StandsAs, Stands, NamesFit}
 use Rattle.elaboration.specs.Spoken.{Spoken, AllSpoken}
 use Rattle.elaboration.proofs.Grown.{good, bad, ok_same, never}
 use Rattle.elaboration.proofs.Agreeing.{came}
-use Rattle.elaboration.proofs.Growing.{Grew, grew_refl, grew_trans, holds_grew}
+use Rattle.elaboration.proofs.Growing.{Grew, holds_grew}
 use Rattle.elaboration.proofs.Going.{Goes, goes_refl, goes_trans, goes_emit, gives_pointer, Gives}
-use Rattle.elaboration.proofs.Sorting.{Comes, HasValue, held_grew, stands_as_grew, converted, write_goes}
+use Rattle.elaboration.proofs.Sorting.{held_grew, stands_as_grew, converted, write_goes}
 use Rattle.elaboration.proofs.Operating.{kept_test, behind_test, unbarred}
 use Rattle.elaboration.proofs.Landing.{in_memory, literal_there, not_false}
 use Rattle.elaboration.proofs.Assigning.{converting_of, same_record}
-use Rattle.elaboration.proofs.Readying.{names_more, spoken_more, all_spoken_more}
-use Rattle.elaboration.proofs.Running.{goes_anew, opened_rests, closed_goes, Evaluates, evaluates, evaluated_goes, opened_goes}
+use Rattle.elaboration.proofs.Readying.{names_more, all_spoken_more}
+use Rattle.elaboration.proofs.Running.{opened_rests, closed_goes, Evaluates, evaluates, evaluated_goes, opened_goes}
 
 -- what is initialized fits
 abbrev pub TargetFits : World → PlainType → Target → Type 0

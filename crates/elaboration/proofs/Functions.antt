@@ -1,5 +1,5 @@
 -- Each function of a core of a text is sound, where `&` stands before no name.
-use Rattle.std.proofs.Common.{◌≡◌, ℕ, All, List, Ok}
+use Rattle.std.proofs.Common.{◌≡◌, All, List, Ok}
 use Rattle.c_lexer.specs.declared.token.Token.{Token}
 use Rattle.c_lexer.specs.Tokens.{IsLexed}
 use Rattle.c_types.specs.TagTable.{TagTable}

@@ -1,16 +1,14 @@
 -- What elaborating an expression does to what fits: its statements fit, and what fitted before it fits behind it.
-use Rattle.std.proofs.Common.{◌≡◌, ◌≤◌, ◌<◌, ◌+◌, ℕ, Bool, true, false, cond, List, [], ◌∷◌, ◌++◌, length, slice_get, Option, Some, None, max, refl, sym, ap, ◌∙◌, subst, arith, append-nil}
+use Rattle.std.proofs.Common.{◌≡◌, ◌≤◌, ◌<◌, ◌+◌, ℕ, [], ◌∷◌, Option, max, refl, ◌∙◌, arith}
 use Rattle.core_tree.specs.declared.statements.Atom.{Atom}
 use Rattle.core_tree.specs.declared.statements.StmKind.{StmKind}
-use Rattle.core_tree.specs.declared.statements.Stm.{Stm}
 use Rattle.core_tree.specs.Sorts.{Sort, Integer, Pointer}
-use Rattle.c_decls.specs.ScopeList.{ScopeList}
 use Rattle.c_decls.specs.TypeNames as names
-use Rattle.elaboration.specs.Context.{Piece, Does, Here, Code, Context, told, emit, here, with_piece, with_labels, integer_by, pointer_by, integer_temporary, pointer_temporary}
-use Rattle.elaboration.specs.Worlds.{World, world, IsRegister, is_integer, is_pointer_temporary, Holds, Fits, FitsIn, PiecesFit}
+use Rattle.elaboration.specs.Context.{Does, Here, Context, told, emit, here, with_labels, integer_by, pointer_by, integer_temporary, pointer_temporary}
+use Rattle.elaboration.specs.Worlds.{World, world, IsRegister, is_integer, is_pointer_temporary, Holds, Fits, PiecesFit}
 use Rattle.elaboration.proofs.Names.{More, more_refl, more_trans}
 use Rattle.elaboration.proofs.Owners.{more_keeps}
-use Rattle.elaboration.proofs.Growing.{Grew, grew_refl, grew_trans, register_grew, fits_any, pieces_grew, pieces_joined}
+use Rattle.elaboration.proofs.Growing.{Grew, grew_refl, grew_trans, fits_any, pieces_grew, pieces_joined}
 
 -- the code fits, whatever the function answers
 abbrev pub CodeFits : Option Sort → Context → Type 0

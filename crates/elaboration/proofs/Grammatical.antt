@@ -1,12 +1,11 @@
 -- The trees of tokens are written as the grammar says.
-use Rattle.std.proofs.Common.{◌≡◌, ◌⊎◌, is_some, replicate, ◌≤◌, ◌<◌, ◌+◌, ℕ, zero, suc, Bool, true, false, cond, List, [], ◌∷◌, ◌++◌, length, All, Option, Some, None, IsSome, refl, sym, ap, ◌∙◌, subst, inl, inr, arith}
+use Rattle.std.proofs.Common.{◌≡◌, ◌⊎◌, replicate, ◌≤◌, ℕ, zero, suc, true, false, List, [], ◌∷◌, ◌++◌, All, Option, Some, None, IsSome, refl, sym, ap, ◌∙◌, subst, inl, inr, arith}
 use Rattle.std.proofs.lemmas.List.Elements.{All-tail}
 use Rattle.c_lexer.specs.declared.token.Token.{Token}
 use Rattle.c_lexer.specs.declared.token.TokenKind.{TokenKind}
 use Rattle.c_lexer.specs.declared.token.TokenKind.TheVariants as kind
 use Rattle.c_lexer.specs.Tokens.{IsLexed}
 use Rattle.c_lexer.specs.Pieces.{IsToken}
-use Rattle.c_lexer.specs.Numbers.{number_value}
 use Rattle.c_lexer.proofs.Constants.{constant_read}
 use Rattle.c_tree.specs.Words as w
 use Rattle.c_tree.specs.Words.{Word, word_kind, word_bytes}
@@ -19,11 +18,10 @@ use Rattle.c_tree.specs.declared.word.Keyword.{Keyword}
 use Rattle.c_tree.specs.declared.word.Keyword.TheVariants as k
 use Rattle.c_tree.specs.Grammar.{Item, Says, Here, Part, key, shape, form_home, keyword_home, home, rows}
 use Rattle.c_tree.specs.Spelling.{Piece, Said, Line, filled, spell, spell_all, IsWord, Spells}
-use Rattle.c_tree.specs.Scopes.{Scope, name_of, name_among, leads_to_name, is_scope, places, after, params_of, params_among, suffix_params, first_list, first_scope}
+use Rattle.c_tree.specs.Scopes.{Scope, leads_to_name, places, params_of, params_among, suffix_params, first_list, first_scope}
 use Rattle.c_tree.specs.Allowed.{Takes, IsBase, IsDeclarator, Allowed, AllAllowed, IsExternal, AreExternals}
-use Rattle.c_tree.specs.Allowed as allowed
 use Rattle.c_tree.specs.HasTree.{HasTree}
-use Rattle.elaboration.specs.Spoken.{IsList, HasLists, HasParameters, IsDefinition}
+use Rattle.elaboration.specs.Spoken.{HasLists, HasParameters, IsDefinition}
 use Rattle.elaboration.specs.Written.{IsHeld, HasParts, Written, AllWritten, AreWritten}
 
 -- a word of a spelling, and a line of it

@@ -1,5 +1,5 @@
 -- Operands and statements that fit go on to fit while a text is walked.
-use Rattle.std.proofs.Common.{◌≡◌, ◌≤◌, ◌<◌, ◌+◌, ℕ, Bool, true, false, cond, List, [], ◌∷◌, ◌++◌, length, slice_get, Option, Some, None, option_map, refl, sym, ap, ◌∙◌, subst, arith, length-append}
+use Rattle.std.proofs.Common.{◌≡◌, ◌≤◌, ℕ, List, [], ◌∷◌, ◌++◌, slice_get, Option, Some, None, option_map, refl, sym, ap, ◌∙◌, subst, arith}
 use Rattle.c_types.specs.Types as types
 use Rattle.c_types.specs.Types.{PlainType, PlainTypes}
 use Rattle.core_tree.specs.declared.program.Reg.{Reg as Register}
@@ -11,7 +11,7 @@ use Rattle.core_tree.specs.Sorts.{Sort, Integer, Pointer, sort_of}
 use Rattle.c_decls.specs.Named as n
 use Rattle.c_decls.specs.ScopeList.{named_in}
 use Rattle.elaboration.specs.Context.{Piece, Does, Here}
-use Rattle.elaboration.specs.Worlds.{World, IsRegister, is_local, is_integer, is_pointer_temporary, IsObject, is_variable, is_literal, Holds, HoldAll, local_sort, Receives, IsCall, IsPrinted, Fits, FitsAnswer, FitsIn, PieceFits, PiecesFit}
+use Rattle.elaboration.specs.Worlds.{World, IsRegister, is_local, is_integer, is_pointer_temporary, IsObject, is_variable, is_literal, Holds, HoldAll, local_sort, Receives, IsPrinted, Fits, FitsAnswer, FitsIn, PiecesFit}
 
 -- what is there stays there
 pub record Grew (w v : World) : Type 0 where

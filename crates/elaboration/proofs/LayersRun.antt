@@ -1,5 +1,5 @@
 -- What declarators, specs and tags do to what fits (C99 6.7).
-use Rattle.std.proofs.Common.{◌≡◌, ◌≤◌, ◌<◌, not, option_map, sym, ap, ◌∙◌, subst, ⊎_elim, length-append, ℕ, suc, ℤ, pos, ◌+ℤ◌, Bool, true, false, ◌||◌, cond, is_some, List, [], ◌∷◌, ◌++◌, length, reverse, unwrap_or, Option, Some, None, Result, Ok, Err, refl, arith}
+use Rattle.std.proofs.Common.{◌≡◌, ◌<◌, not, option_map, ap, ◌∙◌, subst, ⊎_elim, length-append, ℕ, suc, ℤ, pos, ◌+ℤ◌, Bool, true, false, ◌||◌, cond, is_some, List, [], ◌∷◌, ◌++◌, length, reverse, unwrap_or, Option, Some, None, Result, Ok, Err, refl, arith}
 use Rattle.hs_base.specs.declared.ends.IntKind.TheVariants.{I32}
 use Rattle.hs_base.specs.Numbers.{wrapped}
 use Rattle.c_types.specs.declared.types.IntType.TheVariants as i
@@ -25,13 +25,13 @@ use Rattle.c_decls.specs.Typed.{is_void, is_record, is_function, is_scalar, has_
 use Rattle.c_decls.specs.TypeNames as names
 use Rattle.c_decls.specs.TypeNames.{Layer, PointerTo, ArrayOf, FunctionOf, word_type, record_type, is_union, with_new_tag, special_type, array_length, with_layers, with_param_layers, adjusted}
 use Rattle.c_decls.specs.Expressions.{line_of, typed, wanted, constant_from}
-use Rattle.elaboration.specs.Context.{Context, Running, asked, told, entered, local_register}
-use Rattle.elaboration.specs.Conversions.{Spot, Local, Memory}
+use Rattle.elaboration.specs.Context.{Context, asked, told, entered, local_register}
+use Rattle.elaboration.specs.Conversions.{Spot, Memory}
 use Rattle.elaboration.specs.Locals.{is_pointer, is_twice, declared_as, next_is_memory, with_register, with_memory, counted, with_named, memory_param, register_param, with_param, local_in, with_local}
 use Rattle.elaboration.specs.Declarators as d
 use Rattle.elaboration.specs.Declarators.{constant, with_type, maybe_name, unnamed, newly_named, begun_as, begun, completed_by, complete, ended, with_member, member, enumerator, enum_named, is_declared, param, left_params, specs, words_type, tag_type, members, member_names, enumerators, layers, suffix_layers, suffix_layer, params}
 use Rattle.elaboration.proofs.Names.{More, more_refl, with_tag_more}
-use Rattle.elaboration.proofs.Owners.{FileKeeps, IsNoFunction, with_name_keeps, with_name_depth}
+use Rattle.elaboration.proofs.Owners.{IsNoFunction, with_name_keeps, with_name_depth}
 use Rattle.elaboration.proofs.Reached.{Reached, reached_ok, reached_refused, reached_after, reached_then, reached_unless, Led, led_ok, led_refused, led_after, led_unless}
 use Rattle.elaboration.proofs.TypedNames.{After, typed_after, wanted_after, special_after}
 use Rattle.core_tree.specs.declared.program.Reg.{Reg as Register}
@@ -40,10 +40,10 @@ use Rattle.elaboration.specs.Worlds.{World, world, local_sort, type_sort, is_loc
 use Rattle.elaboration.proofs.Declaring.{tail_depth}
 use Rattle.elaboration.proofs.Owners.{Pushed, push_get, get_left, get_last}
 use Rattle.elaboration.proofs.Growing.{Grew, grew_refl, pieces_grew}
-use Rattle.elaboration.proofs.Going.{Goes, goes_told}
+use Rattle.elaboration.proofs.Going.{goes_told}
 use Rattle.elaboration.proofs.Sorting.{write_goes}
 use Rattle.elaboration.proofs.Readying.{names_more, sort_kept}
-use Rattle.elaboration.proofs.Running.{Fine, Runs, runs_refl, runs_trans, goes_runs, on_runs, table_grew, names_left, entered_fine}
+use Rattle.elaboration.proofs.Running.{Fine, Runs, runs_refl, runs_trans, on_runs, table_grew, names_left, entered_fine}
 
 pub pushed_fits : (P : PlainNamed → Type 0) (name : List ℕ) (v : PlainNamed) (t : Table) → P v → TableFits P t → TableFits P (t ++ (name, v) ∷ [])
 pushed_fits P name v t h f key w e =

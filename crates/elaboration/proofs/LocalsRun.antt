@@ -1,7 +1,7 @@
 -- What declarations do to what fits (C99 6.7, 6.9.2).
-use Rattle.std.proofs.Common.{◌≡◌, ◌≤◌, ◌<◌, ◌+◌, ℕ, zero, suc, pos, Bool, true, false, not, cond, nat_lt, length, is_some, List, [], ◌∷◌, ◌++◌, slice_get, slice_set, unwrap_or, Option, Some, None, Ok, Err, refl, sym, ap, ◌∙◌, subst, arith, bytes_eq, length-append}
+use Rattle.std.proofs.Common.{◌≡◌, ◌≤◌, ◌+◌, ℕ, zero, suc, pos, Bool, true, false, cond, nat_lt, length, is_some, List, [], ◌∷◌, ◌++◌, slice_get, slice_set, unwrap_or, Option, Some, None, Ok, refl, ap, ◌∙◌, subst, arith, bytes_eq, length-append}
 use Rattle.std.specs.Option.{option_or}
-use Rattle.std.proofs.lemmas.Bool.{ltb-true, ltb-false}
+use Rattle.std.proofs.lemmas.Bool.{ltb-true}
 use Rattle.hs_base.specs.Place.{block_size}
 use Rattle.c_types.specs.Types as types
 use Rattle.c_types.specs.Types.{PlainType, Void, Array, Struct, Union, Function}
@@ -16,37 +16,37 @@ use Rattle.c_tree.specs.Words as w
 use Rattle.c_tree.specs.Forms as f
 use Rattle.c_tree.specs.Tree.{Tree, Trees, Leaf, At, Node, none, ◌▹◌}
 use Rattle.c_tree.specs.Scopes.{name_of}
-use Rattle.c_decls.specs.declared.refusal.TypeKind.TheVariants.{Operands, Assignment, DeclaredTwice, Incomplete, LeftOut, StaticTooLarge}
+use Rattle.c_decls.specs.declared.refusal.TypeKind.TheVariants.{Assignment, DeclaredTwice, Incomplete, LeftOut, StaticTooLarge}
 use Rattle.c_decls.specs.Named as n
 use Rattle.c_decls.specs.Named.{PlainNamed}
 use Rattle.c_decls.specs.ScopeList.{ScopeList, Table, named_in, innermost, with_name, after_declaration, tag_name}
 use Rattle.c_decls.specs.ScopeList as scopes
-use Rattle.c_decls.specs.Refusals.{Checked, refused, then, unless}
-use Rattle.c_decls.specs.Typed.{is_function, is_scalar, has_no_size}
+use Rattle.c_decls.specs.Refusals.{Checked, then, unless}
+use Rattle.c_decls.specs.Typed.{is_function, has_no_size}
 use Rattle.c_decls.specs.TypeNames.{tag_named}
 use Rattle.c_decls.specs.Expressions.{line_of}
-use Rattle.elaboration.specs.Context.{Context, With, Variable, asked, emit}
+use Rattle.elaboration.specs.Context.{Context, Variable, asked, emit}
 use Rattle.elaboration.specs.Conversions.{Spot, Local, Memory, Value, Empty, size_or_zero}
 use Rattle.elaboration.specs.Rules.{with_static}
 use Rattle.elaboration.specs.Locals.{is_twice, declared_as, with_local}
-use Rattle.elaboration.specs.Declarators.{specs, layers, with_type}
+use Rattle.elaboration.specs.Declarators.{layers}
 use Rattle.elaboration.specs.Initializers.{Target, InRegister, InMemory, InStatic, initialize, surplus, no_start, with_init_layers}
 use Rattle.elaboration.specs.Declarations as storages
 use Rattle.elaboration.specs.Declarations.{Storage, Typedef, Outside, storage_of, specs_alone, specs_before, zero_of, cleared, fill_memory, fill_register, fill_at, fill_local, local_object, local_name, function_number, with_function, declared_function, no_initializer, variable_number_of, with_new_variable, with_variable, start_of, start_in, started_variable, started, fill_variable, file_object, file_function, file_value, file_name, name_in, entry, entries, declaration}
-use Rattle.elaboration.specs.Worlds.{World, world, Holds, Held, StandsAs, InnerFits, FileFits, TableFits, TablesFit, NamesFit}
-use Rattle.elaboration.specs.Spoken.{Spoken, AllSpoken, Plain, AllPlain}
+use Rattle.elaboration.specs.Worlds.{world, Holds, StandsAs, InnerFits, FileFits, TablesFit}
+use Rattle.elaboration.specs.Spoken.{Plain, AllPlain}
 use Rattle.elaboration.proofs.Grown.{good, bad, ok_same, never}
 use Rattle.elaboration.proofs.Names.{more_refl, named_push}
 use Rattle.elaboration.proofs.TypedNames.{tag_after}
 use Rattle.elaboration.proofs.Agreeing.{came}
-use Rattle.elaboration.proofs.Growing.{Grew, grew_refl, grew_trans, pieces_grew}
-use Rattle.elaboration.proofs.Going.{Goes, goes_refl, goes_trans, goes_emit}
-use Rattle.elaboration.proofs.Operating.{passed, kept_test, behind_test}
+use Rattle.elaboration.proofs.Growing.{Grew, grew_refl, pieces_grew}
+use Rattle.elaboration.proofs.Going.{Goes, goes_trans, goes_emit}
+use Rattle.elaboration.proofs.Operating.{passed, behind_test}
 use Rattle.elaboration.proofs.Readying.{names_more}
-use Rattle.elaboration.proofs.Plainly.{plain_spoken, all_plain_spoken}
+use Rattle.elaboration.proofs.Plainly.{plain_spoken}
 use Rattle.elaboration.proofs.Running.{Fine, Runs, runs_refl, runs_trans, goes_runs, on_runs, table_grew}
 use Rattle.elaboration.proofs.LayersRun.{TableKept, rescoped, pushed_fits, with_local_runs, declared_runs, with_type_runs, specs_run, layers_run}
-use Rattle.elaboration.proofs.FillsRun.{Fills, initialize_fits}
+use Rattle.elaboration.proofs.FillsRun.{initialize_fits}
 
 -- locals
 

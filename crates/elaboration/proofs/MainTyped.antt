@@ -1,5 +1,5 @@
 -- The function named `main` has no parameters, and answers an integer (C99 5.1.2.2.1).
-use Rattle.std.proofs.Common.{◌≡◌, ◌≤◌, ◌+◌, ◌&&◌, ℕ, zero, suc, Bool, true, false, not, codes, cond, map, length, List, [], ◌∷◌, slice_get, Option, Some, None, Ok, refl, sym, ap, ◌∙◌, subst, arith, bytes_eq}
+use Rattle.std.proofs.Common.{◌≡◌, ◌+◌, ◌&&◌, ℕ, zero, suc, Bool, true, false, codes, cond, map, List, [], ◌∷◌, slice_get, Option, Some, Ok, refl, sym, ap, ◌∙◌, subst, arith}
 use Rattle.std.specs.Option.{ForSome}
 use Rattle.std.proofs.lemmas.Slice.Eq.{bytes_eq-Decides}
 use Rattle.c_types.specs.declared.types.IntType.TheVariants as i
@@ -8,8 +8,7 @@ use Rattle.c_types.specs.Types.{PlainType, PlainTypes, Int, Function}
 use Rattle.c_types.specs.TagTable.{TagTable}
 use Rattle.core_tree.specs.declared.program.Core.{Core}
 use Rattle.core_tree.specs.declared.program.Func.{Func}
-use Rattle.core_tree.specs.Sorts.{Integer}
-use Rattle.core_tree.specs.Sound.{EachReturn, answer_sort, is_main, first_main, main_of, IsMain}
+use Rattle.core_tree.specs.Sound.{is_main, first_main, main_of, IsMain}
 use Rattle.c_tree.specs.Tree.{Trees}
 use Rattle.c_decls.specs.Named as n
 use Rattle.c_decls.specs.Named.{PlainNamed}
@@ -24,7 +23,6 @@ use Rattle.elaboration.specs.Elaboration.{elaborated}
 use Rattle.elaboration.specs.Spoken.{ArePlain}
 use Rattle.elaboration.proofs.Cores.{behind}
 use Rattle.elaboration.proofs.Texts.{walked_finished}
-use Rattle.elaboration.proofs.TextsRun.{WalkedFits}
 use Rattle.elaboration.proofs.Typing.{text_ended, function_returns}
 
 first_is_main : (funcs : List Func) (func : Func) → slice_get funcs (first_main funcs) ≡ Some func → is_main func ≡ true

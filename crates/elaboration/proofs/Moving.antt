@@ -1,5 +1,5 @@
 -- What a part of a text leads to: whole types, and statements whose numbers are in range.
-use Rattle.std.proofs.Common.{◌≡◌, ◌≤◌, ◌+◌, ℕ, ℤ, Bool, true, false, cond, List, [], ◌∷◌, Ok, refl, sym, ap, subst}
+use Rattle.std.proofs.Common.{◌≡◌, ℕ, ℤ, Bool, true, false, cond, List, [], ◌∷◌, Ok, sym, subst}
 use Rattle.core_tree.specs.Sound.{IsNumber}
 use Rattle.c_types.specs.Types.{PlainType}
 use Rattle.c_types.proofs.MemberLemmas.{Extends}

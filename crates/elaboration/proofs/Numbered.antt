@@ -1,8 +1,7 @@
 -- The numbers of the statements of a core are in range.
-use Rattle.std.proofs.Common.{◌≡◌, ◌≤◌, ◌<◌, ◌+◌, ℕ, ℤ, pos, ◌≤ℤ◌, zero, suc, Bool, true, false, All, length, map, List, [], ◌∷◌, ◌++◌, slice_get, Option, Some, None, Ok, refl, sym, ap, ◌∙◌, subst, arith}
+use Rattle.std.proofs.Common.{◌≡◌, ℕ, ℤ, pos, zero, suc, All, map, List, [], ◌∷◌, ◌++◌, slice_get, Some, None, Ok, subst, arith}
 use Rattle.std.specs.List.{flat_map}
 use Rattle.std.proofs.lemmas.List.Elements.{All-cons}
-use Rattle.c_types.specs.declared.layouts.Layout.{Layout}
 use Rattle.c_types.specs.TagTable.{TagTable}
 use Rattle.core_tree.specs.declared.program.Core.{Core}
 use Rattle.core_tree.specs.declared.program.Func.{Func}
@@ -13,13 +12,13 @@ use Rattle.core_tree.specs.declared.statements.StmKind.{StmKind}
 use Rattle.core_tree.specs.declared.statements.StmKind.TheVariants.{Add, Sub, Off, Diff, Copy, Clear, Case, Malloc, Calloc, Realloc, Return}
 use Rattle.core_tree.specs.Statements.{operands}
 use Rattle.core_tree.specs.LayoutsOfTypes.{IsLayoutOfType}
-use Rattle.core_tree.specs.Sound.{EachFunc, EachStatement, IsNumber, atom_numbers, own_numbers, element_layouts, element_sizes, HasNumbers}
+use Rattle.core_tree.specs.Sound.{EachFunc, EachStatement, IsNumber, atom_numbers, element_layouts, HasNumbers}
 use Rattle.c_tree.specs.Tree.{Trees}
 use Rattle.elaboration.specs.Context.{Piece, Does, Here, Context, Walked}
-use Rattle.elaboration.specs.Resolving.{Numbers, atom_by, atoms_by, numbered, body_of, numbers_of, function_of, core_of}
+use Rattle.elaboration.specs.Resolving.{Numbers, atom_by, numbered, body_of, numbers_of, function_of}
 use Rattle.elaboration.specs.Elaboration.{elaborated}
 use Rattle.elaboration.specs.Laws.{HasRanges}
-use Rattle.elaboration.specs.Ranges.{IsStep, AtomIn, AtomsIn, IsElement, OwnIn, KindIn, PiecesIn}
+use Rattle.elaboration.specs.Ranges.{IsStep, AtomsIn, KindIn, PiecesIn}
 use Rattle.elaboration.specs.Written.{AreWritten}
 use Rattle.elaboration.proofs.Cores.{behind}
 use Rattle.elaboration.proofs.Moving.{WalkedIn}

@@ -1,5 +1,5 @@
 -- The sorts of what operators give (C99 6.5).
-use Rattle.std.proofs.Common.{◌≡◌, ◌≤◌, ◌+◌, ◌&&◌, ◌||◌, not, ℕ, pos, Bool, true, false, cond, Option, Some, None, Ok, Err, refl, sym, ap, ◌∙◌, subst, arith, ◌⊎◌, inl, inr}
+use Rattle.std.proofs.Common.{◌≡◌, ◌≤◌, ℕ, pos, Bool, true, false, cond, Option, Some, None, Ok, refl, sym, ◌∙◌, subst, ◌⊎◌, inl, inr}
 use Rattle.c_types.specs.declared.types.IntType.{IntType}
 use Rattle.c_types.specs.Types as types
 use Rattle.c_types.specs.Types.{PlainType, kind_of}
@@ -10,7 +10,7 @@ use Rattle.core_tree.specs.declared.statements.UnOp.TheVariants as un
 use Rattle.core_tree.specs.declared.statements.CmpOp.{CmpOp}
 use Rattle.core_tree.specs.declared.statements.CmpOp.TheVariants as cmp
 use Rattle.core_tree.specs.declared.statements.StmKind.TheVariants.{Un, Bin, Cmp, Add, Sub, Off, Diff, Pcmp}
-use Rattle.core_tree.specs.Sorts.{Sort, Integer, Pointer}
+use Rattle.core_tree.specs.Sorts.{Integer, Pointer}
 use Rattle.c_tree.specs.declared.operator.BinaryOp.{BinaryOp}
 use Rattle.c_tree.specs.declared.operator.BinaryOp.TheVariants as bin
 use Rattle.c_tree.specs.declared.operator.UnaryOp.{UnaryOp}
@@ -20,15 +20,14 @@ use Rattle.c_decls.specs.declared.refusal.TypeKind.TheVariants.{PointerAndIntege
 use Rattle.c_decls.specs.IntegerTypes.{promoted, common_type}
 use Rattle.c_decls.specs.Refusals.{Checked, refused, unless}
 use Rattle.c_decls.specs.Typed.{PlainTyped, Operand, Number, PointerTo, Neither, operand, value, int, is_null_constant}
-use Rattle.c_decls.specs.TypeRules.{result_type, barred, moving, immovable, beside_pointer, may_be_equal, sum_types, difference_types, order_types, equal_types, integer_types, binary}
-use Rattle.c_decls.specs.TypeRules as rules
-use Rattle.elaboration.specs.Context.{Context, integer_by, pointer_by}
-use Rattle.elaboration.specs.Conversions.{convert_integer, size_or_zero, forget}
+use Rattle.c_decls.specs.TypeRules.{result_type, barred, moving, immovable, beside_pointer, sum_types, difference_types, order_types, equal_types, integer_types, binary}
+use Rattle.elaboration.specs.Context.{Context}
+use Rattle.elaboration.specs.Conversions.{convert_integer, size_or_zero}
 use Rattle.elaboration.specs.Operations.{working, Working, Calculates, Shifts, Compares, Branches, convert_both, work, on_integers, before_integer, move_pointer, between_pointers, pointer_beside, beside_integer, combine, change, changed_to, member_address}
-use Rattle.elaboration.specs.Worlds.{World, world, Holds, HeldAs, Held}
+use Rattle.elaboration.specs.Worlds.{world, Holds, HeldAs, Held}
 use Rattle.elaboration.specs.Rules.{tells_equal}
-use Rattle.elaboration.proofs.Grown.{good, bad, ok_same, never}
-use Rattle.elaboration.proofs.Growing.{Grew, grew_refl, grew_trans, holds_grew}
+use Rattle.elaboration.proofs.Grown.{good, ok_same, never}
+use Rattle.elaboration.proofs.Growing.{holds_grew}
 use Rattle.elaboration.proofs.Going.{Goes, goes_refl, goes_trans, goes_forgotten, Gives, gives_on, gives_integer, gives_pointer}
 use Rattle.elaboration.proofs.Sorting.{Brings, integer_converted, gives_here}
 

@@ -8,7 +8,6 @@ use Rattle.c_types.specs.declared.tags.TagError.{TagError}
 use Rattle.c_types.specs.Types as types
 use Rattle.c_types.specs.Types.{PlainType, PlainTypes, Int, Struct, Union, Function, first}
 use Rattle.c_types.specs.TagTable.{TagTable, completion, known}
-use Rattle.core_tree.specs.declared.program.Reg.{Reg as Register}
 use Rattle.core_tree.specs.Sorts.{Sort, sort_of}
 use Rattle.c_tree.specs.declared.operator.RecordSort.{RecordSort}
 use Rattle.c_tree.specs.declared.operator.RecordSort.TheVariants as r
@@ -17,7 +16,7 @@ use Rattle.c_tree.specs.Forms as f
 use Rattle.c_tree.specs.Tree.{Tree, Trees, Leaf, At, Node, none, ◌▹◌}
 use Rattle.c_tree.specs.Scopes.{name_of}
 use Rattle.c_decls.specs.declared.constant.Constant.{Constant}
-use Rattle.c_decls.specs.declared.refusal.TypeKind.TheVariants.{Operands, DeclaredTwice, Incomplete, LeftOut}
+use Rattle.c_decls.specs.declared.refusal.TypeKind.TheVariants.{DeclaredTwice, Incomplete, LeftOut}
 use Rattle.c_decls.specs.Named as n
 use Rattle.c_decls.specs.Named.{PlainNamed}
 use Rattle.c_decls.specs.ScopeList.{named_in, innermost, with_name, tag_name, after_declaration}
@@ -30,7 +29,7 @@ use Rattle.elaboration.specs.Context.{Context, asked, told, entered, local_regis
 use Rattle.elaboration.specs.Conversions.{Spot, Local, Memory, write}
 use Rattle.core_tree.specs.declared.statements.Atom.{Atom}
 use Rattle.core_tree.specs.declared.statements.Atom.TheVariants as atom
-use Rattle.elaboration.specs.Locals.{is_pointer, is_twice, declared_as, next_is_memory, with_register, with_memory, with_named, memory_param, register_param, with_param}
+use Rattle.elaboration.specs.Locals.{is_pointer, declared_as, next_is_memory, with_register, with_memory, with_named, memory_param, register_param, with_param}
 use Rattle.elaboration.specs.Declarators as d
 use Rattle.elaboration.specs.Declarators.{constant, with_type, maybe_name, unnamed, newly_named, begun_as, begun, completed_by, complete, ended, with_member, member, enumerator, enum_named, is_declared, param, left_params, specs, words_type, tag_type, members, member_names, enumerators, layers, suffix_layers, suffix_layer, params}
 use Rattle.elaboration.specs.Worlds.{type_sort, param_sorts}

@@ -1,31 +1,21 @@
 -- Sizes and offsets that are in range.
-use Rattle.std.proofs.Common.{◌≡◌, ◌≤◌, ◌<◌, ◌+◌, ◌*◌, ◌==◌, ◌&&◌, ◌^◌, not, ℕ, ℤ, pos, neg_ℤ, ◌≤ℤ◌, ◌<ℤ◌, zero, suc, Bool, true, false, cond, max, is_some, is_none, nat_lt, All, List, [], ◌∷◌, ◌++◌, map, fold, zip, length, slice_get, Option, Some, None, option_map, unwrap_or, refl, sym, ap, ◌∙◌, subst, arith, bytes_eq}
-use Rattle.std.specs.Option.{option_or}
-use Rattle.std.specs.List.{find, flat_map}
-use Rattle.std.specs.Int.{next_multiple_of}
+use Rattle.std.proofs.Common.{◌≡◌, ◌≤◌, ◌==◌, ◌&&◌, not, ℕ, pos, Bool, true, false, cond, is_none, nat_lt, List, [], ◌∷◌, ◌++◌, map, fold, zip, Option, Some, None, option_map, unwrap_or, refl, sym, ap, ◌∙◌, subst, arith, bytes_eq}
+use Rattle.std.specs.List.{find}
 use Rattle.std.proofs.lemmas.Bool.{ltb-false}
-use Rattle.std.proofs.lemmas.Int.{ints}
-use Rattle.std.proofs.lemmas.List.Elements.{All-cons}
 use Rattle.c_types.specs.declared.layouts.Layout.{Layout}
 use Rattle.c_types.specs.declared.tags.TagError.TheVariants.{PointerInUnion, TooLarge}
 use Rattle.c_types.specs.Types.{PlainType, Void, Int, Pointer, Array, Struct, Union, Function}
-use Rattle.c_types.specs.Layouts.{Known, Placed, none_placed, offset_after, place, placed, layout_of, number_layout, no_layout, keeps_union_rule}
-use Rattle.c_types.specs.TagTable.{CompletedTag, TagTable, PlainMember, known, learn, tag_layout, member_layout, refusal, placed_members, members_in, layout_in, size_in}
+use Rattle.c_types.specs.Layouts.{Known, Placed, none_placed, offset_after, place, placed, no_layout, keeps_union_rule}
+use Rattle.c_types.specs.TagTable.{CompletedTag, TagTable, PlainMember, known, learn, tag_layout, member_layout, refusal, placed_members, members_in, layout_in}
 use Rattle.c_types.proofs.MemberLemmas.{Extends, sized_stays}
 use Rattle.c_types.proofs.Places.{stays_known}
 use Rattle.c_types.proofs.Sound.{rounded_le}
-use Rattle.core_tree.specs.declared.statements.Atom.{Atom}
-use Rattle.core_tree.specs.declared.statements.Atom.TheVariants as atom
-use Rattle.core_tree.specs.declared.statements.StmKind.{StmKind}
-use Rattle.core_tree.specs.declared.statements.StmKind.TheVariants.{Add, Sub, Off, Diff, Copy, Clear, Case, Malloc, Calloc, Realloc}
-use Rattle.core_tree.specs.Statements.{operands}
-use Rattle.core_tree.specs.LayoutsOfTypes.{IsLayoutOfType}
 use Rattle.core_tree.specs.Sound.{IsNumber}
 use Rattle.c_decls.specs.declared.refusal.TypeKind.{TypeKind}
 use Rattle.c_decls.specs.declared.refusal.TypeKind.TheVariants.{Operands, Incomplete}
 use Rattle.c_decls.specs.Typed.{is_void, has_no_size}
 use Rattle.c_decls.specs.TypeRules.{immovable}
-use Rattle.elaboration.specs.Context.{Piece, Does, Here, Context, emit, integer_by, pointer_by}
+use Rattle.elaboration.specs.Context.{Context}
 use Rattle.elaboration.specs.Conversions.{size_or_zero}
 use Rattle.elaboration.specs.Operations.{offset_among, offset_of}
 use Rattle.elaboration.specs.Calls.{byte_layout, element_layout}

@@ -1,14 +1,10 @@
 -- Expressions keep the numbers of statements in range.
-use Rattle.std.proofs.Common.{◌≡◌, ◌≤◌, ◌<◌, ◌+◌, ◌-◌, ◌&&◌, ◌^◌, not, ℕ, ℤ, pos, neg_ℤ, ◌≤ℤ◌, ◌<ℤ◌, zero, suc, Bool, true, false, cond, is_some, length, drop, List, [], ◌∷◌, ◌++◌, slice_get, Option, Some, None, unwrap_or, Ok, Err, refl, sym, ap, ◌∙◌, subst, arith}
-use Rattle.std.specs.Prelude.{slice_index, slice_index_or}
+use Rattle.std.proofs.Common.{◌≡◌, ◌<◌, ◌+◌, ◌&&◌, ◌^◌, not, ℕ, pos, zero, suc, Bool, true, false, cond, length, drop, List, [], ◌∷◌, ◌++◌, slice_get, Option, Some, None, unwrap_or, Ok, refl, sym, subst, arith}
+use Rattle.std.specs.Prelude.{slice_index_or}
 use Rattle.std.proofs.lemmas.Int.{ints}
-use Rattle.hs_base.specs.declared.ends.IntKind.TheVariants.{I8}
 use Rattle.hs_base.specs.Place.{block_size}
-use Rattle.c_lexer.specs.Numbers.{number_value}
-use Rattle.c_lexer.specs.Literals.{literal_values}
 use Rattle.c_types.specs.Types as ct
 use Rattle.c_types.specs.Types.{PlainType, PlainTypes, Void, Int, Pointer}
-use Rattle.c_types.specs.TagTable.{TagTable, known}
 use Rattle.core_tree.specs.declared.statements.Atom.{Atom}
 use Rattle.core_tree.specs.declared.statements.Atom.TheVariants as atom
 use Rattle.core_tree.specs.declared.statements.CmpOp.TheVariants as cmp
@@ -20,52 +16,43 @@ use Rattle.c_tree.specs.declared.operator.UnaryOp.TheVariants as u
 use Rattle.c_tree.specs.declared.operator.BinaryOp.{BinaryOp}
 use Rattle.c_tree.specs.declared.operator.BinaryOp.TheVariants as b
 use Rattle.c_tree.specs.declared.operator.AssignOp.{AssignOp}
-use Rattle.c_tree.specs.declared.operator.AssignOp.TheVariants as a
-use Rattle.c_tree.specs.Words as w
-use Rattle.c_tree.specs.Forms as f
-use Rattle.c_tree.specs.Tree.{Tree, Trees, Leaf, At, Node, none, ◌▹◌}
+use Rattle.c_tree.specs.Tree.{Tree}
 use Rattle.c_decls.specs.declared.built_in.BuiltIn.{BuiltIn}
 use Rattle.c_decls.specs.declared.built_in.BuiltIn.TheVariants as built
 use Rattle.c_decls.specs.declared.constant.Constant.{Constant}
-use Rattle.c_decls.specs.declared.refusal.TypeKind.TheVariants.{Operands, StaticTooLarge, TypeTooLarge}
-use Rattle.c_decls.specs.declared.typed.Folded.{Folded}
-use Rattle.c_decls.specs.declared.typed.Folded.TheVariants.{Is}
-use Rattle.c_decls.specs.Refusals.{Checked, refused, then, unless}
+use Rattle.c_decls.specs.declared.refusal.TypeKind.TheVariants.{Operands, StaticTooLarge}
+use Rattle.c_decls.specs.Refusals.{then}
 use Rattle.c_decls.specs.Named as n
 use Rattle.c_decls.specs.Named.{PlainNamed}
 use Rattle.c_decls.specs.ScopeList.{found as declaration}
 use Rattle.c_decls.specs.BuiltIns.{built_ins, constant_of}
-use Rattle.c_decls.specs.Typed.{PlainTyped, Operand, Number, PointerTo, Neither, operand, place, value, int, constant, is_record, is_null_constant}
-use Rattle.c_decls.specs.TypeRules.{unary, binary, address, moving}
-use Rattle.c_decls.specs.PlaceRules.{element, element_types, dot, arrow, cast, choice, assigned, changed, changed_types, is_written, moves, size, size_answer}
-use Rattle.c_decls.specs.Callees.{Callee, Takes, Prints, NoFunction, named, built_in_named, built_in_value, called, call}
-use Rattle.c_decls.specs.TypeNames as names
-use Rattle.c_decls.specs.Expressions as types
-use Rattle.c_decls.specs.Expressions.{line_of, int_constant, char_constant, joined, string, first_literal, typed, typename}
+use Rattle.c_decls.specs.Typed.{PlainTyped, Operand, Number, PointerTo, Neither, operand, place, value, constant, is_null_constant}
+use Rattle.c_decls.specs.TypeRules.{unary, binary, moving}
+use Rattle.c_decls.specs.PlaceRules.{element, element_types, dot, arrow, cast, choice, assigned, changed, changed_types, moves}
+use Rattle.c_decls.specs.Callees.{named, built_in_named, built_in_value}
+use Rattle.c_decls.specs.Expressions.{line_of, string, typed}
 use Rattle.elaboration.specs.Context.{Code, Context, With, asked, told, emit, here, new_label, with_labels, integer_by}
-use Rattle.elaboration.specs.Conversions.{Found, Spot, Local, Memory, Value, Empty, Unknown, Nowhere, found_as, valued_as, atom_in, valued_from, valued, convert, forget, tested_value, code_line, write, size_or_zero}
-use Rattle.elaboration.specs.Operations.{working, Working, Branches, combined, fixed_sum, offset_of, operator_of, changed_to, member_address}
-use Rattle.elaboration.specs.Calls.{Argument, atoms_of, atom_at, first_type, rest_types, argument_from, built_in_at, lib_name, result_by, pointer_result, with_format, printing, call_built_in, call_of_built_in, call_named, element_layout, types_of}
-use Rattle.elaboration.specs.Rules.{set_again, compare_again, number_atom, constant_found, object_found, built_in_found, name_found, is_inner, with_static, with_literal, literal_found, at_address, with_value, indexed, member_of, dotted, target_of, pointed, negated, before_number, apply, applied, tells_equal, is_pointer_ahead, ahead, left_operand, between, cast_fixed, cast_to, and_then, and_ends, and_ended, or_else, or_ends, or_ended, choose, type_ahead, chosen_by, choose_first, choose_last, choice_spot, choice_found, chosen}
+use Rattle.elaboration.specs.Conversions.{Found, Spot, Value, Empty, Unknown, Nowhere, found_as, atom_in, valued_from, convert, forget, tested_value, code_line, write, size_or_zero}
+use Rattle.elaboration.specs.Operations.{working, Branches, combined, fixed_sum, offset_of, operator_of, changed_to}
+use Rattle.elaboration.specs.Calls.{Argument, atoms_of, atom_at, argument_from, lib_name, result_by, with_format, call_built_in, call_of_built_in, call_named, element_layout}
+use Rattle.elaboration.specs.Rules.{set_again, compare_again, constant_found, object_found, built_in_found, name_found, is_inner, with_static, with_literal, literal_found, at_address, with_value, indexed, member_of, dotted, target_of, pointed, negated, before_number, apply, applied, tells_equal, is_pointer_ahead, ahead, left_operand, between, cast_fixed, cast_to, and_then, and_ends, and_ended, or_else, or_ends, or_ended, chosen_by, choose_first, choose_last, choice_spot, choice_found, chosen}
 use Rattle.elaboration.specs.Assignments.{record_assigned, set_to, scalar_assigned, old_value, change_place, changed_answer, changed_by, one_found, stepped}
-use Rattle.elaboration.specs.Expressions.{name_answer, literal_answer, unevaluated, address_answer, changing, comma_answer, callee, callee_name, parameters, format_argument, is_printf, call_answer, found, arguments}
-use Rattle.elaboration.specs.Whole.{Whole, AllWhole, NamedWhole}
-use Rattle.elaboration.specs.Written.{IsHeld, HasParts, Written, AllWritten}
+use Rattle.elaboration.specs.Expressions.{name_answer, literal_answer}
+use Rattle.elaboration.specs.Whole.{Whole, NamedWhole}
 use Rattle.elaboration.proofs.Grown.{good, ok_same, never}
-use Rattle.elaboration.proofs.Growth.{grows_refl}
 use Rattle.elaboration.proofs.Working.{grows_read}
 use Rattle.elaboration.proofs.Quiet.{quiet_read}
-use Rattle.elaboration.proofs.Agreeing.{came, left_typed}
+use Rattle.elaboration.proofs.Agreeing.{came}
 use Rattle.elaboration.proofs.Operating.{behind_test, moved_is}
-use Rattle.elaboration.proofs.Reached.{Led, led_ok, led_refused, led_after, led_unless}
+use Rattle.elaboration.proofs.Reached.{Led, led_ok, led_after, led_unless}
 use Rattle.elaboration.proofs.WholeTypes.{whole_stays}
-use Rattle.elaboration.proofs.TypedWhole.{led_cond, found_whole, called_whole, assigned_whole, typename_good, CW}
+use Rattle.elaboration.proofs.TypedWhole.{found_whole, assigned_whole}
 use Rattle.elaboration.specs.Ranges.{IsStep, AtomIn, AtomsIn, PiecesIn}
-use Rattle.elaboration.proofs.Ranges.{In, Has, in_emit, in_here, in_integer, in_pointer, zero_number, one_number, small_number}
+use Rattle.elaboration.proofs.Ranges.{In, Has, in_emit, in_here, in_integer, in_pointer, zero_number, one_number}
 use Rattle.elaboration.proofs.Ranged.{size_number, offset_number, wanted_element}
-use Rattle.elaboration.proofs.RangedWork.{SpotIn, spot_atom, read_in, valued_from_in, convert_in, tested_in, write_in, before_in, Step, Steps, combined_in, Pointed, pointed_of, moving_step, IsBetween, binary_steps, changed_in, member_in}
+use Rattle.elaboration.proofs.RangedWork.{SpotIn, spot_atom, read_in, valued_from_in, convert_in, tested_in, write_in, before_in, Steps, combined_in, Pointed, pointed_of, moving_step, IsBetween, binary_steps, changed_in, member_in}
 use Rattle.elaboration.specs.Solid.{Solid}
-use Rattle.elaboration.proofs.Solid.{wrapped_number, K, Rises, rises_trans, same_kept, same_rises, fit_of, told_rises, told_whole, Gone, found_gone, value_gone}
+use Rattle.elaboration.proofs.Solid.{K, Rises, same_kept, same_rises}
 
 -- an expression whose code and place are in range
 abbrev pub E : Context × Found → Type 0

@@ -1,14 +1,12 @@
 -- The walk over expressions keeps the numbers of statements in range.
-use Rattle.std.proofs.Common.{◌≡◌, ◌≤◌, ◌<◌, ◌+◌, ◌&&◌, ℕ, ℤ, pos, Bool, true, false, cond, is_some, List, [], ◌∷◌, ◌++◌, Option, Some, None, option_map, Ok, Err, refl, sym, ap, ◌∙◌, subst, arith}
+use Rattle.std.proofs.Common.{◌≡◌, ◌+◌, ◌&&◌, ℕ, Bool, true, false, cond, List, [], ◌∷◌, Option, Some, None, option_map, Ok, refl, sym, ◌∙◌, subst}
 use Rattle.hs_base.specs.declared.ends.IntKind.TheVariants.{I8}
 use Rattle.c_lexer.specs.Numbers.{number_value}
 use Rattle.c_types.specs.declared.layouts.Layout.{Layout}
 use Rattle.c_types.specs.Types as ct
 use Rattle.c_types.specs.Types.{PlainType, PlainTypes, Void, Int, Pointer}
 use Rattle.c_types.specs.TagTable.{TagTable, CompletedTag, known, layout_in}
-use Rattle.core_tree.specs.declared.statements.Atom.{Atom}
 use Rattle.core_tree.specs.declared.statements.Atom.TheVariants as atom
-use Rattle.core_tree.specs.Sound.{IsNumber}
 use Rattle.c_tree.specs.declared.operator.UnaryOp.TheVariants as u
 use Rattle.c_tree.specs.declared.operator.BinaryOp.{BinaryOp}
 use Rattle.c_tree.specs.declared.operator.BinaryOp.TheVariants as b
@@ -19,20 +17,20 @@ use Rattle.c_tree.specs.Tree.{Tree, Trees, Leaf, At, Node, none, ◌▹◌}
 use Rattle.c_decls.specs.Refusals.{Checked, then}
 use Rattle.c_decls.specs.Named.{PlainNamed}
 use Rattle.c_decls.specs.ScopeList.{found as declaration}
-use Rattle.c_decls.specs.Typed.{PlainTyped, is_record, is_null_constant, held}
+use Rattle.c_decls.specs.Typed.{PlainTyped, is_record, is_null_constant}
 use Rattle.c_decls.specs.TypeRules.{address}
 use Rattle.c_decls.specs.PlaceRules.{held_place, size, size_answer}
 use Rattle.c_decls.specs.Callees.{Callee, Takes, Prints, NoFunction, called, call}
 use Rattle.c_decls.specs.TypeNames as names
-use Rattle.c_decls.specs.Expressions.{line_of, int_constant, char_constant, joined, first_literal, literal, typed, typename}
-use Rattle.elaboration.specs.Context.{Code, Context, With, asked, told, emit, here, new_label}
-use Rattle.elaboration.specs.Conversions.{Found, Spot, Value, Unknown, Nowhere, found_as, valued_as, atom_in, valued_from, valued, convert, forget, tested_value, code_line}
+use Rattle.c_decls.specs.Expressions.{line_of, int_constant, char_constant, joined, first_literal, typed, typename}
+use Rattle.elaboration.specs.Context.{Code, Context, With, asked, told, new_label}
+use Rattle.elaboration.specs.Conversions.{Found, Value, Unknown, Nowhere, found_as, valued_as, atom_in, valued_from, valued, forget, tested_value, code_line}
 use Rattle.elaboration.specs.Calls.{Argument, atoms_of, types_of, first_type, rest_types, argument_from, call_named}
 use Rattle.elaboration.specs.Rules.{constant_found, indexed, dotted, pointed, applied, tells_equal, is_pointer_ahead, ahead, left_operand, between, cast_to, and_then, and_ended, or_else, or_ended, choose, type_ahead, chosen_by, choose_first, chosen}
 use Rattle.elaboration.specs.Assignments.{record_assigned, scalar_assigned, old_value, changed_by, stepped}
 use Rattle.elaboration.specs.Expressions.{unevaluated, address_answer, changing, comma_answer, callee, callee_name, parameters, format_argument, is_printf, call_answer, found, arguments}
-use Rattle.elaboration.specs.Whole.{Whole, AllWhole, AreMade, NamedWhole}
-use Rattle.elaboration.specs.Written.{HasParts, Written, AllWritten}
+use Rattle.elaboration.specs.Whole.{Whole, AllWhole, AreMade}
+use Rattle.elaboration.specs.Written.{Written, AllWritten}
 use Rattle.elaboration.proofs.Grown.{good, ok_same, never}
 use Rattle.elaboration.proofs.Growth.{Grows, grows_refl}
 use Rattle.elaboration.proofs.Working.{grows_tested}
@@ -40,13 +38,13 @@ use Rattle.elaboration.proofs.Quiet.{quiet_tested_value}
 use Rattle.elaboration.proofs.Agreeing.{came, left_typed}
 use Rattle.elaboration.proofs.Reached.{Led, led_ok, led_after}
 use Rattle.elaboration.proofs.WholeTypes.{nothing, whole_stays, all_stay, extends_refl, made_sized}
-use Rattle.elaboration.proofs.TypedWhole.{Fit, led_cond, found_whole, called_whole, typed_good, typename_good, CW}
-use Rattle.elaboration.specs.Ranges.{AtomIn, AtomsIn, PiecesIn}
-use Rattle.elaboration.proofs.Ranges.{In, Has, small_number}
+use Rattle.elaboration.proofs.TypedWhole.{led_cond, found_whole, called_whole, typed_good, typename_good, CW}
+use Rattle.elaboration.specs.Ranges.{AtomsIn}
+use Rattle.elaboration.proofs.Ranges.{In, small_number}
 use Rattle.elaboration.proofs.RangedWork.{SpotIn, spot_atom, read_in, valued_from_in}
 use Rattle.elaboration.proofs.RangedFound.{E, named_in_range, constant_in, held_number, string_in, indexed_in, dotted_in, pointed_in, applied_in, left_in, between_in, cast_in, and_then_in, and_ended_in, or_else_in, or_ended_in, first_in, chosen_in, record_in, scalar_in, changed_by_in, old_solid, stepped_in, call_in, argument_in}
 use Rattle.elaboration.specs.Solid.{Solid}
-use Rattle.elaboration.proofs.Solid.{wrapped_number, K, Rises, rises_refl, rises_trans, same_kept, same_rises, fit_of, told_rises, told_whole, Gone, found_gone, value_gone, converted_rises}
+use Rattle.elaboration.proofs.Solid.{wrapped_number, K, Rises, rises_refl, rises_trans, same_kept, same_rises, fit_of, told_rises, told_whole, found_gone, value_gone, converted_rises}
 
 -- sizes
 

@@ -1,9 +1,8 @@
 -- Conversions and operators keep the numbers of statements in range.
-use Rattle.std.proofs.Common.{◌≡◌, ◌≤◌, ◌+◌, ℕ, ℤ, pos, Bool, true, false, cond, List, [], ◌∷◌, Option, Some, None, Ok, refl, sym, ap, ◌∙◌, subst, arith}
+use Rattle.std.proofs.Common.{◌≡◌, ℕ, pos, Ok, refl, sym, subst}
 use Rattle.c_types.specs.declared.types.IntType.{IntType}
 use Rattle.c_types.specs.Types as types
 use Rattle.c_types.specs.Types.{PlainType, Int, Pointer, kind_of}
-use Rattle.c_types.specs.TagTable.{TagTable}
 use Rattle.core_tree.specs.declared.statements.Atom.{Atom}
 use Rattle.core_tree.specs.declared.statements.Atom.TheVariants as atom
 use Rattle.core_tree.specs.declared.statements.UnOp.TheVariants as un
@@ -17,12 +16,11 @@ use Rattle.c_tree.specs.declared.operator.UnaryOp.{UnaryOp}
 use Rattle.c_tree.specs.declared.operator.UnaryOp.TheVariants as u
 use Rattle.c_tree.specs.Tree.{Tree}
 use Rattle.c_decls.specs.IntegerTypes.{promoted, common_type}
-use Rattle.c_decls.specs.Refusals.{Checked, then}
 use Rattle.c_decls.specs.Expressions.{line_of}
 use Rattle.c_decls.specs.Typed.{PlainTyped, Operand, Number, PointerTo, Neither, operand, read, value, int}
-use Rattle.c_decls.specs.TypeRules.{result_type, immovable, moving, sum_types, difference_types, order_types, equal_types, integer_types, binary}
-use Rattle.elaboration.specs.Context.{Code, Context, With, integer_by, pointer_by}
-use Rattle.elaboration.specs.Conversions.{Found, Spot, Local, Memory, Value, Empty, read_spot, read_value, code_line, valued_from, valued, atom_in, atom_of, holds_all, convert_integer, convert_to, convert, tested, tested_value, write, size_or_zero}
+use Rattle.c_decls.specs.TypeRules.{result_type, immovable, moving, sum_types, difference_types, integer_types, binary}
+use Rattle.elaboration.specs.Context.{Code, Context}
+use Rattle.elaboration.specs.Conversions.{Found, Spot, Local, Memory, Value, Empty, read_spot, read_value, code_line, valued_from, atom_in, atom_of, holds_all, convert_integer, convert_to, convert, tested, write, size_or_zero}
 use Rattle.elaboration.specs.Operations.{working, Working, Calculates, Shifts, Compares, Branches, convert_both, work, on_integers, before_integer, move_pointer, between_pointers, pointer_beside, beside_integer, combine, combined, change, changed_to, member_address}
 use Rattle.elaboration.specs.Whole.{Whole}
 use Rattle.elaboration.proofs.Grown.{good, ok_same, never}

@@ -1,16 +1,11 @@
 -- Code whose numbers are in range, with one statement more.
-use Rattle.std.proofs.Common.{◌≡◌, ◌≤◌, ◌^◌, ℕ, ℤ, pos, ◌≤ℤ◌, Bool, true, false, cond, List, [], ◌∷◌, ◌++◌, refl, arith}
+use Rattle.std.proofs.Common.{◌≤◌, ℕ, pos, Bool, true, false, cond, List, [], ◌∷◌, ◌++◌, arith}
 use Rattle.std.proofs.lemmas.Int.{ints}
-use Rattle.c_types.specs.declared.layouts.Layout.{Layout}
 use Rattle.core_tree.specs.declared.statements.Atom.{Atom}
-use Rattle.core_tree.specs.declared.statements.Atom.TheVariants as atom
 use Rattle.core_tree.specs.declared.statements.StmKind.{StmKind}
-use Rattle.core_tree.specs.declared.statements.StmKind.TheVariants.{Add, Sub, Off, Diff, Copy, Clear, Case, Malloc, Calloc, Realloc}
-use Rattle.core_tree.specs.Statements.{operands}
-use Rattle.core_tree.specs.LayoutsOfTypes.{IsLayoutOfType}
 use Rattle.core_tree.specs.Sound.{IsNumber}
 use Rattle.elaboration.specs.Context.{Piece, Does, Here, Context, emit, here, integer_by, pointer_by}
-use Rattle.elaboration.specs.Ranges.{IsStep, AtomIn, AtomsIn, IsElement, OwnIn, KindIn, PiecesIn}
+use Rattle.elaboration.specs.Ranges.{IsStep, AtomIn, KindIn, PiecesIn}
 
 pub pieces_joined : (one other : List Piece) → PiecesIn one → PiecesIn other → PiecesIn (one ++ other)
 pieces_joined [] other x y = y

@@ -1,15 +1,13 @@
 -- What is asked of names and expressions is kept while a text is walked.
-use Rattle.std.proofs.Common.{◌≡◌, ◌⊎◌, ◌≤◌, ◌<◌, ℕ, Bool, true, false, List, [], ◌∷◌, slice_get, Option, Some, None, option_map, Ok, refl, sym, ap, ◌∙◌, subst, inl, inr, ⊎_elim, arith}
+use Rattle.std.proofs.Common.{◌≡◌, ◌≤◌, ℕ, Bool, true, false, List, [], ◌∷◌, slice_get, Option, Some, None, option_map, Ok, refl, sym, ap, ◌∙◌, subst, ⊎_elim, arith}
 use Rattle.std.specs.Option.{option_or}
 use Rattle.c_types.specs.Types.{PlainType}
 use Rattle.c_tree.specs.declared.operator.UnaryOp.TheVariants as u
-use Rattle.c_tree.specs.Words as w
 use Rattle.c_tree.specs.Forms.{Form}
 use Rattle.c_tree.specs.Forms as f
 use Rattle.c_tree.specs.Tree.{Tree, Trees, Leaf, At, Node, none, ◌▹◌}
 use Rattle.core_tree.specs.declared.program.Reg.{Reg as Register}
 use Rattle.core_tree.specs.Sorts.{Sort}
-use Rattle.c_decls.specs.Refusals.{then}
 use Rattle.c_decls.specs.Named as n
 use Rattle.c_decls.specs.Named.{PlainNamed, Tag}
 use Rattle.c_decls.specs.ScopeList.{ScopeList, Table, named_in, found_from, found as declaration}
@@ -22,12 +20,12 @@ use Rattle.elaboration.specs.Rules.{name_found, is_inner, object_found, built_in
 use Rattle.elaboration.specs.Expressions.{name_answer}
 use Rattle.elaboration.specs.Worlds.{World, world, local_sort, type_sort, InnerFits, FileFits, TableFits, TablesFit, NamesFit}
 use Rattle.elaboration.specs.Spoken.{is_register, NoRegister, TakesAddress, Spoken, AllSpoken}
-use Rattle.elaboration.proofs.Grown.{good, ok_same, never}
+use Rattle.elaboration.proofs.Grown.{good, ok_same}
 use Rattle.elaboration.proofs.Names.{More, MoreAll, MoreTags, IsNewTag}
 use Rattle.elaboration.proofs.Agreeing.{came}
 use Rattle.elaboration.proofs.Growing.{Grew}
 use Rattle.elaboration.proofs.Going.{Goes}
-use Rattle.elaboration.proofs.Sorting.{Sits, Lands, lands_sits, Apart, Comes, comes_lands, valued_from_comes, valued_comes}
+use Rattle.elaboration.proofs.Sorting.{Sits, Lands, lands_sits, Apart, Comes, valued_comes}
 
 -- names
 

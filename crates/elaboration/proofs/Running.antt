@@ -1,29 +1,27 @@
 -- What a part of a function does to what fits.
-use Rattle.std.proofs.Common.{◌≡◌, ◌≤◌, ◌<◌, ℕ, Bool, true, false, cond, List, [], ◌∷◌, ◌++◌, length, slice_get, Option, Some, None, Ok, Err, refl, sym, ap, ◌∙◌, subst, arith}
-use Rattle.c_types.specs.Types.{PlainType, Void}
+use Rattle.std.proofs.Common.{◌≡◌, ◌≤◌, ℕ, Bool, true, false, cond, List, [], ◌∷◌, length, Option, Ok, refl, sym, ◌∙◌, subst}
+use Rattle.c_types.specs.Types.{PlainType}
 use Rattle.core_tree.specs.declared.statements.StmKind.TheVariants.{Enter, Leave}
 use Rattle.core_tree.specs.Sorts.{Sort}
 use Rattle.c_tree.specs.Tree.{Tree}
 use Rattle.c_decls.specs.Named.{PlainNamed}
 use Rattle.c_decls.specs.ScopeList.{ScopeList, Table, entered as scope_entered}
 use Rattle.c_decls.specs.ScopeList as scopes
-use Rattle.c_decls.specs.Refusals.{Checked, then}
-use Rattle.c_decls.specs.TypeNames as names
-use Rattle.elaboration.specs.Context.{Piece, Context, With, emit, anew, told, entered, left, scoped}
+use Rattle.c_decls.specs.Refusals.{Checked}
+use Rattle.elaboration.specs.Context.{Context, emit, anew, entered, left, scoped}
 use Rattle.elaboration.specs.Conversions.{Found, code_line, valued_from, valued}
 use Rattle.elaboration.specs.Reallocates.{reallocates, opened, closed}
 use Rattle.elaboration.specs.Expressions.{found}
-use Rattle.elaboration.specs.Worlds.{World, world, PiecesFit, InnerFits, FileFits, TableFits, TablesFit, NamesFit}
+use Rattle.elaboration.specs.Worlds.{World, world, InnerFits, TableFits, TablesFit, NamesFit}
 use Rattle.elaboration.specs.Spoken.{Spoken}
-use Rattle.elaboration.proofs.Grown.{good, ok_same, never}
-use Rattle.elaboration.proofs.Names.{More}
+use Rattle.elaboration.proofs.Grown.{good, ok_same}
 use Rattle.elaboration.proofs.Owners.{more_depth}
 use Rattle.elaboration.proofs.Declaring.{tail_depth}
 use Rattle.elaboration.proofs.Agreeing.{came}
-use Rattle.elaboration.proofs.Growing.{Grew, grew_refl, grew_trans, pieces_grew}
-use Rattle.elaboration.proofs.Going.{CodeFits, Keeps, keeps_refl, keeps_trans, Goes, goes_refl, goes_trans, goes_emit, goes_told}
-use Rattle.elaboration.proofs.Sorting.{Sits, Comes, HasValue, valued_comes}
-use Rattle.elaboration.proofs.Readying.{names_more, inner_kept, Rests, Operated, valued_operated}
+use Rattle.elaboration.proofs.Growing.{Grew, grew_refl, grew_trans}
+use Rattle.elaboration.proofs.Going.{CodeFits, Goes, goes_refl, goes_trans, goes_emit}
+use Rattle.elaboration.proofs.Sorting.{Comes, valued_comes}
+use Rattle.elaboration.proofs.Readying.{names_more, inner_kept, Rests}
 use Rattle.elaboration.proofs.Sitting.{found_rests}
 
 -- the parameters of the list that ended last fit

@@ -1,9 +1,9 @@
 -- Each expression is where it says, and its code fits (C99 6.5).
-use Rattle.std.proofs.Common.{◌≡◌, ◌≤◌, ◌+◌, ℕ, ℤ, pos, Bool, true, false, cond, is_some, ⊎_elim, List, [], ◌∷◌, Option, Some, None, Ok, Err, refl, sym, ap, ◌∙◌, subst, arith}
+use Rattle.std.proofs.Common.{◌≡◌, ◌≤◌, ◌+◌, ℕ, ℤ, pos, Bool, true, false, cond, is_some, ⊎_elim, List, [], ◌∷◌, Option, Some, None, Ok, refl, sym, ap, ◌∙◌, subst}
 use Rattle.c_types.specs.declared.types.IntType.TheVariants as i
 use Rattle.c_types.specs.Types as ct
 use Rattle.c_types.specs.Types.{PlainType, PlainTypes, Void}
-use Rattle.c_types.specs.TagTable.{TagTable, size_in}
+use Rattle.c_types.specs.TagTable.{size_in}
 use Rattle.core_tree.specs.declared.statements.Atom.TheVariants as atom
 use Rattle.c_tree.specs.declared.operator.UnaryOp.TheVariants as u
 use Rattle.c_tree.specs.declared.operator.BinaryOp.TheVariants as b
@@ -16,7 +16,7 @@ use Rattle.c_decls.specs.Refusals.{Checked, then}
 use Rattle.c_decls.specs.ScopeList.{named_in, found_from, found as declaration}
 use Rattle.c_decls.specs.Named as n
 use Rattle.c_decls.specs.Named.{PlainNamed}
-use Rattle.c_decls.specs.Typed.{PlainTyped, Operand, Neither, operand, is_record, constant, integer}
+use Rattle.c_decls.specs.Typed.{PlainTyped, operand, is_record, integer}
 use Rattle.c_decls.specs.TypeRules.{binary}
 use Rattle.c_decls.specs.PlaceRules.{held_place, choice, size, size_answer}
 use Rattle.c_decls.specs.Callees.{Callee, Takes, Prints, NoFunction, called}
@@ -31,21 +31,20 @@ use Rattle.elaboration.specs.Rules.{constant_found, indexed, dotted, pointed, ap
 use Rattle.elaboration.specs.Assignments.{record_assigned, scalar_assigned, old_value, changed_by, stepped}
 use Rattle.elaboration.specs.Expressions.{unevaluated, address_answer, changing, comma_answer, callee_name, callee, parameters, format_argument, is_printf, call_answer, found, arguments}
 use Rattle.elaboration.specs.Worlds.{World, world, HeldAs, Held, StandsAs, Stands, NamesFit}
-use Rattle.elaboration.specs.Spoken.{NoRegister, is_register, TakesAddress, Spoken, AllSpoken}
-use Rattle.elaboration.proofs.Grown.{good, bad, ok_same, never}
+use Rattle.elaboration.specs.Spoken.{NoRegister, TakesAddress, Spoken, AllSpoken}
+use Rattle.elaboration.proofs.Grown.{good, ok_same, never}
 use Rattle.elaboration.proofs.TypedNames.{typed_after, typename_after}
-use Rattle.elaboration.proofs.Quiet.{quiet_read}
 use Rattle.elaboration.proofs.Agreeing.{came, quiet_left, quiet_first, valued_agrees}
 use Rattle.elaboration.proofs.Agreement.{found_agrees}
-use Rattle.elaboration.proofs.Growing.{Grew, grew_refl, holds_grew}
-use Rattle.elaboration.proofs.Going.{Goes, goes_refl, goes_trans, goes_told, Gives}
-use Rattle.elaboration.proofs.Sorting.{Sits, Lands, Comes, comes_lands, lands_sits, HasValue, value_grew, stands_grew, held_grew, old_brings, Converting}
+use Rattle.elaboration.proofs.Growing.{Grew}
+use Rattle.elaboration.proofs.Going.{Goes, goes_refl, goes_trans, goes_told}
+use Rattle.elaboration.proofs.Sorting.{Sits, Lands, Comes, comes_lands, value_grew, stands_grew, held_grew, old_brings, Converting}
 use Rattle.elaboration.proofs.Operating.{passed}
 use Rattle.elaboration.proofs.Landing.{found_name, name_lands, constant_lands, string_lands, indexed_lands, dotted_lands, pointed_lands, InMemory, address_lands, applied_lands, left_goes, between_lands, cast_lands}
 use Rattle.elaboration.proofs.Choosing.{logical_typed, and_then_goes, and_comes, or_else_gives, or_comes, choice_sides, first_goes, first_null, chosen_lands}
 use Rattle.elaboration.proofs.Assigning.{record_lands, scalar_lands, changing_rule, changed_comes, stepped_comes}
-use Rattle.elaboration.proofs.CallSorts.{ArgumentsHeld, arguments_grew, AllHeld, argument_goes, CallOf, call_of, call_lands}
-use Rattle.elaboration.proofs.Readying.{Ready, ready_on, NamesRegister, Rests, rests, name_local, Operated, valued_operated, names_more, all_spoken_more}
+use Rattle.elaboration.proofs.CallSorts.{arguments_grew, AllHeld, argument_goes, CallOf, call_of, call_lands}
+use Rattle.elaboration.proofs.Readying.{ready_on, NamesRegister, Rests, rests, name_local, valued_operated, names_more, all_spoken_more}
 
 -- sizes
 

@@ -1,5 +1,5 @@
 -- What is known while a text is walked has whole types, and what was made so far has the layouts of types.
-use Rattle.std.proofs.Common.{◌≡◌, ◌≤◌, ◌<◌, ◌+◌, ℕ, ℤ, zero, suc, Bool, true, false, cond, is_some, List, [], ◌∷◌, ◌++◌, slice_get, slice_set, Option, Some, None, unwrap_or, option_map, Ok, Err, refl, sym, ap, ◌∙◌, subst, arith}
+use Rattle.std.proofs.Common.{◌≡◌, ℕ, ℤ, Bool, true, false, cond, is_some, List, [], ◌∷◌, ◌++◌, Option, Some, None, unwrap_or, Ok, refl, sym, ap, ◌∙◌, subst, arith}
 use Rattle.std.specs.Int.{w8, w16, w32, w64}
 use Rattle.std.proofs.lemmas.Int.{ints, SFits-int_wrap}
 use Rattle.hs_base.specs.declared.ends.IntKind.{IntKind}
@@ -7,38 +7,32 @@ use Rattle.hs_base.specs.declared.ends.IntKind.TheVariants.{I8, U8, I16, U16, I3
 use Rattle.hs_base.specs.Numbers.{wrapped}
 use Rattle.hs_base.proofs.Wrapping.{low_bits_lt}
 use Rattle.c_types.specs.declared.layouts.Layout.{Layout}
-use Rattle.c_types.specs.Types.{PlainType, PlainTypes}
-use Rattle.c_types.specs.Layouts.{Known, layout_of, no_layout}
-use Rattle.c_types.specs.TagTable.{TagTable, CompletedTag, known, layout_in}
+use Rattle.c_types.specs.Types.{PlainType}
+use Rattle.c_types.specs.Layouts.{Known, no_layout}
+use Rattle.c_types.specs.TagTable.{CompletedTag, known, layout_in}
 use Rattle.c_types.proofs.MemberLemmas.{Extends}
 use Rattle.core_tree.specs.declared.program.Mem.{Mem}
 use Rattle.core_tree.specs.LayoutsOfTypes.{IsLayoutOfType}
 use Rattle.core_tree.specs.Sound.{IsNumber}
 use Rattle.c_tree.specs.Tree.{Tree}
-use Rattle.c_decls.specs.ScopeList as scopes
-use Rattle.c_decls.specs.ScopeList.{ScopeList, Table}
 use Rattle.c_decls.specs.TypeNames as names
-use Rattle.c_decls.specs.Refusals.{Checked}
-use Rattle.c_decls.specs.Typed.{PlainTyped}
 use Rattle.c_decls.specs.Expressions.{typed}
-use Rattle.elaboration.specs.Context.{Context, With, Variable, Walked, Code, asked, told, emit, anew}
+use Rattle.elaboration.specs.Context.{Context, Variable, Walked, asked, told, emit, anew}
 use Rattle.elaboration.specs.Conversions.{Found, code_line, valued, convert, atom_in, write, Spot}
 use Rattle.elaboration.specs.Reallocates.{reallocates, opened, closed}
 use Rattle.elaboration.specs.Expressions.{found}
 use Rattle.core_tree.specs.declared.statements.StmKind.TheVariants.{Enter, Leave}
 use Rattle.core_tree.specs.declared.statements.Atom.{Atom}
-use Rattle.elaboration.specs.Whole.{Whole, AllWhole, AreMade, MembersWhole, TableWhole, NamesWhole}
-use Rattle.elaboration.specs.Solid.{MemsLaid, VariablesLaid, WalkedLaid, SolidAt, Solid}
-use Rattle.elaboration.proofs.Grown.{good, ok_same, never}
-use Rattle.elaboration.proofs.Growth.{Grows, Kept, kept_refl, grows_refl}
+use Rattle.elaboration.specs.Whole.{Whole, AreMade, TableWhole, NamesWhole}
+use Rattle.elaboration.specs.Solid.{MemsLaid, VariablesLaid, WalkedLaid, Solid}
+use Rattle.elaboration.proofs.Growth.{Grows, Kept, grows_refl}
 use Rattle.elaboration.proofs.Working.{grown_valued, grows_convert, grows_write}
 use Rattle.elaboration.proofs.ExprGrows.{found_grows}
-use Rattle.elaboration.proofs.Quiet.{Quiet, quiet_convert, quiet_write}
-use Rattle.elaboration.proofs.Agreeing.{Agreed, valued_agrees}
+use Rattle.elaboration.proofs.Quiet.{quiet_convert, quiet_write}
+use Rattle.elaboration.proofs.Agreeing.{valued_agrees}
 use Rattle.elaboration.proofs.Agreement.{found_agrees}
-use Rattle.elaboration.proofs.Reached.{Led}
-use Rattle.elaboration.proofs.WholeTypes.{nothing, whole_stays, all_stay, members_stay, table_stays, names_stay, extends_refl, is_layout}
-use Rattle.elaboration.proofs.TypedWhole.{Fit, Good, GoodType, LayersWhole, LayerWhole, typed_good, wanted_good}
+use Rattle.elaboration.proofs.WholeTypes.{nothing, all_stay, extends_refl, is_layout}
+use Rattle.elaboration.proofs.TypedWhole.{Fit, LayersWhole, LayerWhole, typed_good, wanted_good}
 
 -- numbers that registers hold
 pub wrapped_number : (k : IntKind) (v : ℤ) → IsNumber (wrapped k v)

@@ -1,11 +1,10 @@
 -- Initializers and declarations keep whole types, and what they make has the layouts of types (C99 6.7, 6.7.8, 6.9.2).
-use Rattle.std.proofs.Common.{◌≡◌, ◌≤◌, ◌<◌, ◌+◌, not, ℕ, zero, suc, pos, Bool, true, false, cond, is_some, nat_lt, min, take, length, List, [], ◌∷◌, ◌++◌, slice_get, slice_set, Option, Some, None, unwrap_or, Ok, Err, refl, sym, ap, ◌∙◌, subst, arith}
+use Rattle.std.proofs.Common.{◌≡◌, ◌≤◌, ◌+◌, not, ℕ, zero, suc, pos, Bool, true, false, cond, is_some, nat_lt, min, take, length, List, [], ◌∷◌, ◌++◌, slice_get, slice_set, Option, Some, None, unwrap_or, Ok, refl, subst, arith}
 use Rattle.hs_base.specs.Place.{block_size}
 use Rattle.c_types.specs.Types as types
 use Rattle.c_types.specs.Types.{PlainType, Void, Array, Struct, Union, Function}
-use Rattle.c_types.specs.Layouts.{Known, layout_of, no_layout}
+use Rattle.c_types.specs.Layouts.{Known, no_layout}
 use Rattle.c_types.specs.TagTable.{TagTable, known, layout_in}
-use Rattle.c_types.proofs.MemberLemmas.{Extends}
 use Rattle.core_tree.specs.declared.program.Start.{Start}
 use Rattle.core_tree.specs.declared.statements.Atom.{Atom}
 use Rattle.core_tree.specs.declared.statements.Atom.TheVariants as atom
@@ -22,22 +21,21 @@ use Rattle.c_decls.specs.Named as n
 use Rattle.c_decls.specs.ScopeList.{named_in, innermost, tag_name}
 use Rattle.c_decls.specs.Refusals.{Checked, refused, then, unless}
 use Rattle.c_decls.specs.Typed.{is_function, has_no_size}
-use Rattle.c_decls.specs.TypeNames.{Layer, PointerTo, ArrayOf, FunctionOf, layered, layered_before, tag_named}
+use Rattle.c_decls.specs.TypeNames.{Layer, ArrayOf, layered_before, tag_named}
 use Rattle.c_decls.specs.PlaceRules.{unconverted, converts}
-use Rattle.c_decls.specs.Expressions.{line_of, joined}
-use Rattle.elaboration.specs.Context.{Context, With, Variable, asked, emit}
+use Rattle.c_decls.specs.Expressions.{line_of}
+use Rattle.elaboration.specs.Context.{Context, Variable, asked, emit}
 use Rattle.elaboration.specs.Conversions.{Found, Spot, Local, Memory, Value, Empty, atom_in, valued, convert, write, size_or_zero}
 use Rattle.elaboration.specs.Reallocates.{opened, closed}
 use Rattle.elaboration.specs.Rules.{with_static, with_literal}
 use Rattle.elaboration.specs.Expressions.{found}
 use Rattle.elaboration.specs.Locals.{is_twice, declared_as, next_is_memory, with_memory, with_register, local_in, counted_local, with_local}
-use Rattle.elaboration.specs.Declarators.{specs, layers, with_type}
-use Rattle.elaboration.specs.Initializers.{Target, InRegister, InMemory, InStatic, Filled, static_scalar, member_place, store_at, fill_scalar, scalar, copy_to, fill_record, is_same_place, whole, copy_text, fill_text, is_character, text, by_text, by_expression, parts_of, takes_braces, is_scalar_type, surplus, all_surplus, initialize, initialize_parts, with_bytes, no_start, text_length, given_length, with_init_layers}
+use Rattle.elaboration.specs.Declarators.{layers}
+use Rattle.elaboration.specs.Initializers.{Target, InRegister, InMemory, InStatic, static_scalar, member_place, store_at, fill_scalar, scalar, copy_to, fill_record, is_same_place, whole, copy_text, fill_text, is_character, text, by_text, by_expression, parts_of, takes_braces, is_scalar_type, surplus, all_surplus, initialize, initialize_parts, with_bytes, no_start, text_length, given_length, with_init_layers}
 use Rattle.elaboration.specs.Declarations as storages
 use Rattle.elaboration.specs.Declarations.{Storage, Typedef, Outside, storage_of, specs_alone, specs_before, zero_of, cleared, fill_memory, fill_register, fill_at, fill_local, local_object, local_name, function_number, with_function, declared_function, no_initializer, variable_number_of, with_new_variable, with_variable, start_of, start_in, started_variable, started, fill_variable, file_object, file_function, file_value, file_name, name_in, entry, entries, declaration}
-use Rattle.elaboration.specs.Whole.{Whole, NamedWhole}
+use Rattle.elaboration.specs.Whole.{Whole}
 use Rattle.elaboration.specs.Written.{HasParts, Written, AllWritten}
-use Rattle.elaboration.proofs.Grown.{good, ok_same, never}
 use Rattle.elaboration.proofs.Growth.{grows_refl}
 use Rattle.elaboration.proofs.Calling.{grown_literal}
 use Rattle.elaboration.proofs.Quiet.{quiet_literal}
@@ -51,11 +49,11 @@ use Rattle.elaboration.proofs.RangedWork.{SpotIn, spot_atom, convert_in, write_i
 use Rattle.elaboration.proofs.RangedFound.{literal_in}
 use Rattle.elaboration.proofs.Within.{Within, PartsIn, within_stays, parts_stay, within_number, parts_in, starts_within, row_short}
 use Rattle.elaboration.proofs.Solid as base
-use Rattle.elaboration.specs.Solid.{VariablesLaid, SolidAt, Solid}
+use Rattle.elaboration.specs.Solid.{VariablesLaid, Solid}
 use Rattle.elaboration.proofs.Solid.{variables_push, K, same_kept, same_rises, converted_rises, laid, fit_of}
 use Rattle.elaboration.proofs.Working.{grows_convert, grows_write}
-use Rattle.elaboration.proofs.Moving.{Cases, same_cases, same_walked, Rises, rises_refl, rises_trans, with_code, opened_rises, closed_rises, Went, went_rises, found_went, value_went}
-use Rattle.elaboration.proofs.SolidLayers.{T, L, R1, named_rises, declared_rises, memory_rises, has_size, specs_rise, layers_rise, asked_type_rises}
+use Rattle.elaboration.proofs.Moving.{same_cases, same_walked, Rises, rises_refl, rises_trans, opened_rises, closed_rises, went_rises, found_went, value_went}
+use Rattle.elaboration.proofs.SolidLayers.{T, R1, named_rises, declared_rises, memory_rises, has_size, specs_rise, layers_rise, asked_type_rises}
 
 -- initializers
 

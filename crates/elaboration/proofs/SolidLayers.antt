@@ -1,5 +1,5 @@
 -- Declarators, specs and tags have whole types (C99 6.7).
-use Rattle.std.proofs.Common.{◌≡◌, ◌≤◌, ◌<◌, not, ℕ, suc, ℤ, pos, ◌+ℤ◌, Bool, true, false, ◌||◌, cond, is_some, is_none, All, IsSome, List, [], ◌∷◌, ◌++◌, length, reverse, slice_get, unwrap_or, option_map, Option, Some, None, Result, Ok, Err, refl, sym, ap, ◌∙◌, subst, arith}
+use Rattle.std.proofs.Common.{◌≡◌, ℕ, ℤ, pos, ◌+ℤ◌, Bool, true, false, ◌||◌, cond, is_some, is_none, All, List, [], ◌∷◌, ◌++◌, length, reverse, slice_get, unwrap_or, option_map, Option, Some, None, Ok, refl, ap, ◌∙◌, arith}
 use Rattle.std.specs.Option.{option_map_or}
 use Rattle.std.proofs.lemmas.List.Elements.{All-cons}
 use Rattle.hs_base.specs.declared.ends.IntKind.TheVariants.{I32}
@@ -13,7 +13,7 @@ use Rattle.c_types.specs.Types.{PlainType, PlainTypes, Void, Int, Pointer, Array
 use Rattle.c_types.specs.Layouts.{Known, layout_of}
 use Rattle.c_types.specs.TagTable as tables
 use Rattle.c_types.specs.TagTable.{TagTable, CompletedTag, completion, refusal, known, layout_in, size_in}
-use Rattle.core_tree.specs.LayoutsOfTypes.{HasLayout, IsCompleted}
+use Rattle.core_tree.specs.LayoutsOfTypes.{HasLayout}
 use Rattle.core_tree.specs.declared.statements.Atom.TheVariants as atom
 use Rattle.c_tree.specs.declared.operator.RecordSort.{RecordSort}
 use Rattle.c_tree.specs.declared.operator.RecordSort.TheVariants as r
@@ -24,27 +24,26 @@ use Rattle.c_tree.specs.Scopes.{name_of}
 use Rattle.c_decls.specs.declared.refusal.TypeKind.TheVariants.{Operands, DeclaredTwice, Incomplete, LeftOut}
 use Rattle.c_decls.specs.Named as n
 use Rattle.c_decls.specs.Named.{PlainNamed}
-use Rattle.c_decls.specs.ScopeList as scopes
-use Rattle.c_decls.specs.ScopeList.{ScopeList, Table, named_in, innermost, first_or, with_name, tag_name, after_declaration}
-use Rattle.c_decls.specs.Refusals.{Checked, refused, then, unless}
-use Rattle.c_decls.specs.Typed.{is_void, is_record, is_array, is_function, is_scalar, has_no_size}
+use Rattle.c_decls.specs.ScopeList.{Table, named_in, innermost, first_or, with_name, tag_name, after_declaration}
+use Rattle.c_decls.specs.Refusals.{Checked, then, unless}
+use Rattle.c_decls.specs.Typed.{is_void, is_record, is_array, is_function, has_no_size}
 use Rattle.c_decls.specs.TypeNames as names
 use Rattle.c_decls.specs.TypeNames.{Layer, PointerTo, ArrayOf, FunctionOf, word_type, record_type, is_union, with_new_tag, special_type, array_length, with_layers, with_param_layers, adjusted}
 use Rattle.c_decls.specs.Expressions.{line_of, typed, wanted, constant_from}
 use Rattle.elaboration.specs.Context.{Context, asked, told, entered, local_register}
-use Rattle.elaboration.specs.Conversions.{Local, Memory}
+use Rattle.elaboration.specs.Conversions.{Memory}
 use Rattle.elaboration.specs.Locals.{is_twice, declared_as, next_is_memory, with_register, with_memory, counted, with_named, memory_param, register_param, with_param}
 use Rattle.elaboration.specs.Declarators as d
 use Rattle.elaboration.specs.Declarators.{constant, with_type, maybe_name, unnamed, newly_named, begun_as, begun, completed_by, complete, ended, with_member, member, enumerator, enum_named, is_declared, param, left_params, specs, words_type, tag_type, members, member_names, enumerators, layers, suffix_layers, suffix_layer, params}
-use Rattle.elaboration.specs.Whole.{Whole, AllWhole, MembersWhole, AreMade, NamedWhole, TableWhole, TablesWhole, NamesWhole}
+use Rattle.elaboration.specs.Whole.{Whole, AllWhole, MembersWhole, NamedWhole, TableWhole, TablesWhole}
 use Rattle.elaboration.specs.Written.{HasParts, Written, AllWritten}
-use Rattle.elaboration.proofs.Grown.{good, bad, ok_same, never}
+use Rattle.elaboration.proofs.Grown.{good, ok_same, never}
 use Rattle.elaboration.proofs.Agreeing.{came}
 use Rattle.elaboration.proofs.Operating.{behind_test}
 use Rattle.elaboration.proofs.Reached.{Led, led_ok, led_refused, led_after, led_unless}
-use Rattle.elaboration.proofs.WholeTypes.{nothing, whole_stays, all_stay, members_stay, table_stays, names_stay, push_extends, extends_refl, made_push, whole_fits}
-use Rattle.elaboration.proofs.TypedWhole.{Fit, Good, GoodType, LayersWhole, LayerWhole, layers_append, layers_reverse, with_name_whole, entered_whole, left_whole, with_layers_whole, with_param_layers_whole, adjusted_whole, special_good, word_whole, record_type_whole, length_some, typed_good, wanted_good}
-use Rattle.elaboration.specs.Solid.{SolidAt, Solid}
+use Rattle.elaboration.proofs.WholeTypes.{whole_stays, members_stay, table_stays, names_stay, push_extends, extends_refl, made_push, whole_fits}
+use Rattle.elaboration.proofs.TypedWhole.{GoodType, LayersWhole, LayerWhole, layers_append, layers_reverse, with_name_whole, entered_whole, left_whole, with_layers_whole, with_param_layers_whole, adjusted_whole, special_good, word_whole, length_some, typed_good, wanted_good}
+use Rattle.elaboration.specs.Solid.{Solid}
 use Rattle.elaboration.proofs.Solid.{wrapped_number, mems_push, K, fit_of, told_whole, layers_stay, layer_stays, laid}
 use Rattle.elaboration.proofs.Moving.{Rises, rises_refl, rises_trans, told_rises, write_rises}
 

@@ -1,5 +1,5 @@
 -- Statements, functions and texts keep whole types (C99 6.8, 6.9).
-use Rattle.std.proofs.Common.{take, drop, ◌≡◌, ◌≤◌, ◌<◌, ◌+◌, ◌*◌, ◌-◌, not, ℕ, zero, suc, ℤ, pos, Bool, true, false, cond, is_some, nat_lt, codes, All, length, map, List, [], ◌∷◌, ◌++◌, slice_get, sum_by, Option, Some, None, Ok, Err, refl, sym, ap, ◌∙◌, subst, arith, bytes_eq}
+use Rattle.std.proofs.Common.{take, drop, ◌≡◌, ◌≤◌, ◌+◌, ◌*◌, ◌-◌, not, ℕ, zero, suc, ℤ, Bool, true, false, cond, is_some, nat_lt, codes, All, length, map, List, [], ◌∷◌, ◌++◌, slice_get, sum_by, Option, Some, None, Ok, refl, sym, subst, arith, bytes_eq}
 use Rattle.std.proofs.lemmas.List.Elements.{All-cons}
 use Rattle.std.proofs.lemmas.List.Sums.{sum_by-append, sum_by-cons}
 use Rattle.hs_base.specs.Place.{block_size}
@@ -8,7 +8,7 @@ use Rattle.c_types.specs.declared.types.IntType.TheVariants as i
 use Rattle.c_types.specs.Types as types
 use Rattle.c_types.specs.Types.{PlainType, Void, Function}
 use Rattle.c_types.specs.Layouts.{Known, array_layout, number_layout}
-use Rattle.c_types.specs.TagTable.{TagTable, known}
+use Rattle.c_types.specs.TagTable.{TagTable}
 use Rattle.core_tree.specs.declared.program.Core.{Core}
 use Rattle.core_tree.specs.declared.program.Func.{Func}
 use Rattle.core_tree.specs.declared.program.Mem.{Mem}
@@ -17,16 +17,15 @@ use Rattle.core_tree.specs.declared.statements.Atom.{Atom}
 use Rattle.core_tree.specs.declared.statements.StmKind.TheVariants.{Enter, Leave, Return, Jump, Zero, Loop, Case}
 use Rattle.core_tree.specs.Statements.{given}
 use Rattle.core_tree.specs.LayoutsOfTypes.{IsLayoutOfType}
-use Rattle.core_tree.specs.Sound.{EachFunc, IsNumber}
+use Rattle.core_tree.specs.Sound.{IsNumber}
 use Rattle.c_tree.specs.Forms as f
-use Rattle.c_tree.specs.Tree as t
 use Rattle.c_tree.specs.Tree.{Tree, Trees, At, Node, none, ◌▹◌}
 use Rattle.c_tree.specs.Scopes.{name_of}
 use Rattle.c_decls.specs.declared.refusal.TypeKind.TheVariants.{Operands, Assignment, StrayBreak, CaseTwice, LeftOut, DeclaredTwice, ProgramTooLong, Undeclared, NoMain}
 use Rattle.c_decls.specs.declared.built_in.BuiltIn.{BuiltIn}
 use Rattle.c_decls.specs.Named as n
 use Rattle.c_decls.specs.Named.{PlainNamed}
-use Rattle.c_decls.specs.ScopeList.{Table, named_in}
+use Rattle.c_decls.specs.ScopeList.{named_in}
 use Rattle.c_decls.specs.BuiltIns as names
 use Rattle.c_decls.specs.BuiltIns.{built_ins, numbered_from}
 use Rattle.c_decls.specs.Refusals.{Checked, refused, then, unless}
@@ -35,39 +34,36 @@ use Rattle.c_decls.specs.Typed.{Operand, Number, PointerTo, Neither, operand, is
 use Rattle.c_decls.specs.TypeNames.{with_layers}
 use Rattle.c_decls.specs.PlaceRules.{unconverted, converts}
 use Rattle.c_decls.specs.Expressions.{line_of}
-use Rattle.elaboration.specs.Context.{Piece, Here, Code, Context, With, Variable, Walked, scoped, entered, left, emit, here, new_label, with_labels, with_pieces, first_context, Declared}
+use Rattle.elaboration.specs.Context.{Here, Context, Variable, Walked, scoped, entered, left, emit, here, new_label, with_labels, with_pieces, first_context, Declared}
 use Rattle.elaboration.specs.Conversions.{Found, atom_in, valued, convert, convert_integer, tested_value, code_line}
 use Rattle.elaboration.specs.Reallocates.{opened, closed}
 use Rattle.elaboration.specs.Expressions.{found}
 use Rattle.elaboration.specs.Declarators.{specs, layers, constant}
-use Rattle.elaboration.specs.Declarations.{function_number, declared_function, declaration}
-use Rattle.elaboration.specs.Statements as s
-use Rattle.elaboration.specs.Statements.{Around, around_body, below, in_loop, in_switch, in_delay, leaves, leave_to, evaluated, maybe_evaluated, closed_atom, condition, leaves_if_zero, maybe_leaves, apart, behind, returned, return_value, return_of, return_from, has_case, with_case, case_of, cased, defaulted, switch_operand_of, switch_operand, no_cases, switched, looped, for_start, statement, items, dispatch, default_or, does, cases_of}
+use Rattle.elaboration.specs.Declarations.{function_number, declared_function}
+use Rattle.elaboration.specs.Statements.{Around, around_body, below, in_loop, in_switch, in_delay, leaves, leave_to, evaluated, maybe_evaluated, closed_atom, condition, leaves_if_zero, maybe_leaves, apart, behind, returned, return_value, return_of, return_from, has_case, with_case, case_of, cased, defaulted, switch_operand_of, switch_operand, no_cases, switched, looped, for_start, statement, items, dispatch, does, cases_of}
 use Rattle.elaboration.specs.Externals.{begun, answer_of, params_of, is_defined, body_begun, last_answer, body_ended, body, defined, named_definition, definition, external, externals, calls_defined, is_main, ended}
 use Rattle.elaboration.specs.Addressed.{addressed_in}
 use Rattle.elaboration.specs.Resolving.{function_of, variable_static, literal_static, core_of}
 use Rattle.elaboration.specs.Elaboration.{walked, elaborated}
 use Rattle.elaboration.specs.Whole.{Whole, TableWhole}
-use Rattle.elaboration.specs.Written.{HasParts, Written, AllWritten, AreWritten}
-use Rattle.elaboration.specs.Laws.{HasSizes, HasLayouts}
-use Rattle.elaboration.proofs.Grown.{good, ok_same, never}
+use Rattle.elaboration.specs.Written.{Written, AllWritten, AreWritten}
+use Rattle.elaboration.specs.Laws.{HasLayouts}
 use Rattle.elaboration.proofs.Working.{grows_tested, grows_convert_integer}
-use Rattle.elaboration.proofs.Quiet.{quiet_tested_value, quiet_convert_integer}
-use Rattle.elaboration.proofs.Agreeing.{came}
+use Rattle.elaboration.proofs.Quiet.{quiet_convert_integer}
 use Rattle.elaboration.proofs.Cores.{behind as core_behind, core_sizes}
 use Rattle.elaboration.proofs.Reached.{Led, led_ok, led_refused, led_after, led_unless, led_barred}
-use Rattle.elaboration.proofs.WholeTypes.{nothing, whole_stays, extends_refl, is_layout}
+use Rattle.elaboration.proofs.WholeTypes.{whole_stays, extends_refl, is_layout}
 use Rattle.elaboration.proofs.TypedWhole.{left_whole, with_layers_whole}
-use Rattle.elaboration.specs.Solid.{MemsLaid, VariablesLaid, WalkedLaid, SolidAt, Solid}
+use Rattle.elaboration.specs.Solid.{MemsLaid, VariablesLaid, WalkedLaid, Solid}
 use Rattle.elaboration.proofs.Solid.{walked_push, K, same_kept, same_rises, wrapped_number}
-use Rattle.elaboration.specs.Ranges.{AtomIn, AtomsIn, KindIn, OwnIn, PiecesIn}
+use Rattle.elaboration.specs.Ranges.{AtomIn, AtomsIn, PiecesIn}
 use Rattle.elaboration.proofs.Ranges.{In, in_emit, in_here, pieces_joined, zero_number}
 use Rattle.elaboration.proofs.RangedWork.{spot_atom, convert_integer_in}
 use Rattle.elaboration.proofs.RangedFound.{tested_value_in}
 use Rattle.elaboration.proofs.RangedWalk.{tested_solid}
-use Rattle.elaboration.proofs.Moving.{CasesIn, WalkedIn, Cases, same_cases, same_walked, Rises, rises_refl, rises_trans, opened_rises, closed_rises, Full, full_value}
-use Rattle.elaboration.proofs.SolidLayers.{T, L, R1, constant_rises, entered_solid, specs_rise, layers_rise}
-use Rattle.elaboration.proofs.SolidFills.{declared_function_rises, declaration_rises, Scalar, scalar_value}
+use Rattle.elaboration.proofs.Moving.{CasesIn, WalkedIn, same_cases, same_walked, Rises, rises_refl, rises_trans, closed_rises, Full, full_value}
+use Rattle.elaboration.proofs.SolidLayers.{constant_rises, entered_solid, specs_rise, layers_rise}
+use Rattle.elaboration.proofs.SolidFills.{declared_function_rises, declaration_rises, scalar_value}
 
 -- scopes
 

@@ -1,33 +1,24 @@
 -- The sorts of what conversions and operators give.
-use Rattle.std.proofs.Common.{◌≡◌, ◌≤◌, ◌+◌, ℕ, pos, Bool, true, false, cond, Option, Some, None, Ok, Err, refl, sym, ap, ◌∙◌, subst, arith}
-use Rattle.hs_base.specs.Numbers.{wrapped}
+use Rattle.std.proofs.Common.{◌≡◌, ◌≤◌, ℕ, Bool, true, false, cond, Ok, refl, sym, subst}
 use Rattle.c_types.specs.declared.types.IntType.{IntType}
 use Rattle.c_types.specs.Types as types
 use Rattle.c_types.specs.Types.{PlainType, kind_of}
 use Rattle.c_types.specs.TagTable.{TagTable}
 use Rattle.core_tree.specs.declared.statements.Atom.{Atom}
 use Rattle.core_tree.specs.declared.statements.Atom.TheVariants as atom
-use Rattle.core_tree.specs.declared.statements.UnOp.TheVariants as un
-use Rattle.core_tree.specs.declared.statements.StmKind.TheVariants.{Set, Conv, Load, Loadp, Store, Storep, Test, Un, Bin, Cmp, Add, Sub, Off, Diff, Pcmp}
+use Rattle.core_tree.specs.declared.statements.StmKind.TheVariants.{Set, Conv, Load, Loadp, Store, Storep, Test}
 use Rattle.core_tree.specs.Sorts.{Sort, Integer, Pointer}
-use Rattle.c_tree.specs.declared.operator.BinaryOp.{BinaryOp}
-use Rattle.c_tree.specs.declared.operator.BinaryOp.TheVariants as b
-use Rattle.c_tree.specs.declared.operator.UnaryOp.{UnaryOp}
-use Rattle.c_tree.specs.declared.operator.UnaryOp.TheVariants as u
 use Rattle.c_tree.specs.Tree.{Tree}
-use Rattle.c_decls.specs.IntegerTypes.{promoted, common_type}
-use Rattle.c_decls.specs.Refusals.{Checked, Refusal, then}
+use Rattle.c_decls.specs.Refusals.{Refusal}
 use Rattle.c_decls.specs.Expressions.{line_of}
 use Rattle.c_decls.specs.Typed.{PlainTyped, Operand, Number, PointerTo, Neither, operand, held, read, is_scalar, has_no_size}
-use Rattle.c_decls.specs.TypeRules.{result_type}
-use Rattle.elaboration.specs.Context.{Context, With, emit, integer_by, pointer_by}
-use Rattle.elaboration.specs.Conversions.{Found, Spot, Local, Memory, Value, Empty, read_spot, read_value, code_line, valued_from, valued, atom_in, atom_of, holds_all, convert_integer, convert_to, convert, tested, tested_value, write, size_or_zero}
-use Rattle.elaboration.specs.Operations.{working, Working, Calculates, Shifts, Compares, Branches, convert_both, work, on_integers, before_integer, move_pointer, between_pointers, pointer_beside, beside_integer, combine, combined, change, changed_to, member_address}
+use Rattle.elaboration.specs.Context.{Context, With, integer_by, pointer_by}
+use Rattle.elaboration.specs.Conversions.{Found, Spot, Local, Memory, Value, Empty, read_spot, read_value, code_line, valued_from, valued, atom_in, holds_all, convert_integer, convert_to, convert, tested, tested_value, write}
 use Rattle.elaboration.specs.Worlds.{World, world, Holds, HeldAs, Held, StandsAs, Stands}
 use Rattle.elaboration.proofs.Grown.{good, bad, ok_same, never}
 use Rattle.elaboration.proofs.Agreeing.{came}
-use Rattle.elaboration.proofs.Growing.{Grew, grew_refl, grew_trans, register_grew, holds_grew}
-use Rattle.elaboration.proofs.Going.{Goes, goes_refl, goes_trans, goes_emit, goes_forgotten, Gives, gives_on, gives_integer, gives_pointer}
+use Rattle.elaboration.proofs.Growing.{Grew, register_grew, holds_grew}
+use Rattle.elaboration.proofs.Going.{Goes, goes_refl, goes_trans, goes_emit, goes_forgotten, Gives, gives_integer, gives_pointer}
 
 pub held_as_grew : (w v : World) (o : Operand) (a : Atom) → Grew w v → HeldAs w o a → HeldAs v o a
 held_as_grew w v (Number ty) a g h = holds_grew w v Integer a g h

@@ -1,34 +1,32 @@
 -- What statements do to what fits (C99 6.8).
-use Rattle.std.proofs.Common.{◌≡◌, ◌≤◌, ◌<◌, ◌+◌, ◌-◌, ℕ, ℤ, zero, suc, pos, Bool, true, false, not, cond, is_some, map, length, List, [], ◌∷◌, ◌++◌, Option, Some, None, Ok, Err, refl, sym, ap, ◌∙◌, subst, arith}
+use Rattle.std.proofs.Common.{◌≡◌, ◌≤◌, ◌+◌, ◌-◌, ℕ, ℤ, zero, suc, true, false, not, is_some, map, length, List, [], ◌∷◌, ◌++◌, Option, Some, None, Ok, refl, ap, ◌∙◌, subst}
 use Rattle.c_types.specs.declared.types.IntType.{IntType}
 use Rattle.c_types.specs.Types as types
 use Rattle.c_types.specs.Types.{PlainType, Void, kind_of}
 use Rattle.core_tree.specs.declared.statements.Atom.{Atom}
-use Rattle.core_tree.specs.declared.statements.StmKind.{StmKind}
 use Rattle.core_tree.specs.declared.statements.StmKind.TheVariants.{Jump, Zero, Case, Loop, Enter, Leave, Return}
-use Rattle.core_tree.specs.Sorts.{Sort, Integer, Pointer}
+use Rattle.core_tree.specs.Sorts.{Sort, Integer}
 use Rattle.c_tree.specs.Forms as f
 use Rattle.c_tree.specs.Tree.{Tree, Trees, At, Node, none, ◌▹◌}
 use Rattle.c_decls.specs.declared.refusal.TypeKind.TheVariants.{LeftOut, Operands, Assignment, CaseTwice, StrayBreak}
 use Rattle.hs_base.specs.Numbers.{wrapped}
 use Rattle.c_decls.specs.Expressions.{line_of}
-use Rattle.c_decls.specs.Refusals.{Checked, refused, then, unless}
+use Rattle.c_decls.specs.Refusals.{Checked, then, unless}
 use Rattle.c_decls.specs.IntegerTypes.{promoted}
 use Rattle.c_decls.specs.Typed.{Operand, Number, PointerTo, Neither, operand, is_void, is_scalar}
 use Rattle.c_decls.specs.PlaceRules.{unconverted, converts}
-use Rattle.elaboration.specs.Context.{Piece, Does, Here, Code, Context, With, entered, left, scoped, emit, here, new_label, with_labels, with_pieces}
-use Rattle.elaboration.specs.Conversions.{Found, atom_in, code_line, valued, convert, convert_integer, tested_value}
+use Rattle.elaboration.specs.Context.{Here, Context, entered, left, scoped, emit, here, new_label, with_labels, with_pieces}
+use Rattle.elaboration.specs.Conversions.{Found, atom_in, valued, convert, convert_integer, tested_value}
 use Rattle.elaboration.specs.Reallocates.{opened, closed}
 use Rattle.elaboration.specs.Expressions.{found}
 use Rattle.elaboration.specs.Declarators.{constant}
-use Rattle.elaboration.specs.Declarations.{declaration}
-use Rattle.elaboration.specs.Statements.{Around, below, in_loop, in_switch, in_delay, has_case, leaves, leave_to, evaluated, maybe_evaluated, closed_atom, condition, leaves_if_zero, maybe_leaves, apart, behind, returned, return_value, return_of, return_from, with_case, case_of, cased, defaulted, does, default_or, dispatch, switch_operand_of, switch_operand, no_cases, cases_of, switched, looped, for_start, statement, items}
+use Rattle.elaboration.specs.Statements.{Around, below, in_loop, in_switch, in_delay, has_case, leaves, leave_to, evaluated, maybe_evaluated, closed_atom, condition, leaves_if_zero, maybe_leaves, apart, returned, return_value, return_of, return_from, with_case, cased, defaulted, does, dispatch, switch_operand_of, switch_operand, no_cases, switched, looped, for_start, statement, items}
 use Rattle.elaboration.specs.Worlds.{World, world, Holds, HeldAs, Held, FitsAnswer, PiecesFit, NamesFit, result_sort}
 use Rattle.elaboration.specs.Spoken.{Plain, AllPlain}
 use Rattle.elaboration.proofs.Grown.{good, bad, ok_same, never}
 use Rattle.elaboration.proofs.Agreeing.{came}
 use Rattle.elaboration.proofs.Growing.{Grew, grew_refl, grew_trans, holds_grew, pieces_grew, pieces_joined}
-use Rattle.elaboration.proofs.Going.{CodeFits, Goes, goes_refl, goes_trans, goes_emit, goes_here, goes_labels}
+use Rattle.elaboration.proofs.Going.{Goes, goes_refl, goes_trans, goes_emit, goes_here, goes_labels}
 use Rattle.elaboration.proofs.Sorting.{Comes, HasValue, converted, integer_converted, tested_value_gives}
 use Rattle.elaboration.proofs.Operating.{passed, kept_test, behind_test, unbarred}
 use Rattle.elaboration.proofs.Landing.{not_false}

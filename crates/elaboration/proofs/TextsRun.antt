@@ -1,47 +1,42 @@
 -- The functions of a text fit (C99 6.9).
-use Rattle.std.proofs.Common.{◌≡◌, ◌⊎◌, ◌≤◌, ◌<◌, ◌+◌, ◌&&◌, ◌||◌, ℕ, zero, suc, pos, Bool, true, false, not, cond, nat_lt, reverse, is_some, map, length, take, List, [], ◌∷◌, ◌++◌, slice_get, Option, Some, None, Ok, Err, refl, sym, ap, ◌∙◌, subst, inl, inr, ⊎_elim, arith, bytes_eq, append_assoc}
+use Rattle.std.proofs.Common.{◌≡◌, ◌≤◌, ◌+◌, ◌&&◌, ◌||◌, ℕ, suc, Bool, true, false, not, cond, nat_lt, reverse, is_some, map, length, List, [], ◌∷◌, ◌++◌, slice_get, Option, Some, None, Ok, refl, sym, ap, ◌∙◌, subst, inl, inr, ⊎_elim, arith, bytes_eq}
 use Rattle.std.specs.Option.{option_or}
 use Rattle.std.proofs.lemmas.Slice.Eq.{bytes_eq-Decides}
-use Rattle.c_types.specs.declared.types.IntType.TheVariants as i
 use Rattle.c_types.specs.Types as types
 use Rattle.c_types.specs.Types.{PlainType, PlainTypes, Void, Int, Function, none}
 use Rattle.core_tree.specs.declared.program.Reg.{Reg as Register}
-use Rattle.core_tree.specs.declared.statements.Atom.{Atom}
-use Rattle.core_tree.specs.declared.statements.Atom.TheVariants as atom
 use Rattle.core_tree.specs.declared.statements.StmKind.TheVariants.{Return}
 use Rattle.core_tree.specs.Sorts.{Sort, sort_of}
-use Rattle.c_tree.specs.Words as w
 use Rattle.c_tree.specs.Forms as f
 use Rattle.c_tree.specs.Tree as t
 use Rattle.c_tree.specs.Tree.{Tree, Trees, Leaf, At, Node, ◌▹◌}
-use Rattle.c_tree.specs.Scopes.{name_of, leads_to_name, params_of as list_of, params_among, suffix_params, first_list}
-use Rattle.c_decls.specs.declared.refusal.TypeKind.TheVariants.{LeftOut, DeclaredTwice, ProgramTooLong}
+use Rattle.c_tree.specs.Scopes.{name_of}
+use Rattle.c_decls.specs.declared.refusal.TypeKind.TheVariants.{DeclaredTwice, ProgramTooLong}
 use Rattle.c_decls.specs.Named as n
 use Rattle.c_decls.specs.Named.{PlainNamed}
-use Rattle.c_decls.specs.ScopeList as scopes
-use Rattle.c_decls.specs.ScopeList.{ScopeList, Table, named_in, innermost, with_name, after_declaration}
+use Rattle.c_decls.specs.ScopeList.{Table, named_in, with_name}
 use Rattle.c_decls.specs.declared.built_in.BuiltIn.{BuiltIn}
 use Rattle.c_decls.specs.BuiltIns.{built_ins, numbered_from}
-use Rattle.c_decls.specs.Refusals.{Checked, refused, then, unless}
+use Rattle.c_decls.specs.Refusals.{then, unless}
 use Rattle.c_decls.specs.Typed.{same, is_array, is_record, is_function}
 use Rattle.c_decls.specs.TypeNames.{Layer, FunctionOf, with_layers}
 use Rattle.c_decls.specs.PlaceRules.{length_of}
 use Rattle.c_decls.proofs.SameTypes.{same_equal}
 use Rattle.elaboration.specs.Context.{Piece, Does, running_at, no_code, Declared, Context, Walked, entered, emit, first_context}
-use Rattle.elaboration.specs.Locals.{is_twice, is_twice_in, declared_as}
+use Rattle.elaboration.specs.Locals.{is_twice_in}
 use Rattle.elaboration.specs.Declarators.{specs, layers, suffix_layers, suffix_layer, params, left_params}
 use Rattle.elaboration.specs.Declarations.{function_number, function_number_of, with_function, declared_function, declaration}
 use Rattle.elaboration.specs.Statements.{around_body, items}
 use Rattle.std.specs.List.{sum_by}
-use Rattle.elaboration.specs.Externals.{piece_length, begun, answer_of, params_of, is_defined, body_begun, last_answer, body_ended, body, defined, named_definition, definition, external, externals}
-use Rattle.elaboration.specs.Worlds.{World, world, walked_world, FitsAnswer, PiecesFit, InnerFits, FileFits, TableFits, TablesFit, NamesFit, result_sort, param_sorts}
+use Rattle.elaboration.specs.Externals.{piece_length, begun, is_defined, body_begun, last_answer, body_ended, body, defined, named_definition, definition, external, externals}
+use Rattle.elaboration.specs.Worlds.{World, world, walked_world, FitsAnswer, PiecesFit, InnerFits, FileFits, TableFits, TablesFit, result_sort, param_sorts}
 use Rattle.elaboration.specs.Spoken.{Plain, AllPlain, IsList, HasLists, HasParameters, IsDefinition, ArePlain}
 use Rattle.elaboration.specs.Addressed.{addressed_in}
-use Rattle.elaboration.proofs.Grown.{good, bad, ok_same, never}
+use Rattle.elaboration.proofs.Grown.{good, ok_same, never}
 use Rattle.elaboration.proofs.Names.{named_push}
-use Rattle.elaboration.proofs.Owners.{get_left, get_push}
+use Rattle.elaboration.proofs.Owners.{get_push}
 use Rattle.elaboration.proofs.Agreeing.{came}
-use Rattle.elaboration.proofs.Growing.{Grew, grew_trans, pieces_grew, pieces_joined}
+use Rattle.elaboration.proofs.Growing.{Grew, pieces_grew}
 use Rattle.elaboration.proofs.Going.{CodeFits}
 use Rattle.elaboration.proofs.Operating.{passed, kept_test, behind_test}
 use Rattle.elaboration.proofs.Landing.{not_false}
@@ -49,7 +44,7 @@ use Rattle.elaboration.proofs.Running.{Fine, Runs, runs_refl, runs_trans, Params
 use Rattle.elaboration.proofs.LayersRun.{specs_run, layers_run, suffixes_run, suffix_runs, first_fits, params_run}
 use Rattle.elaboration.proofs.LocalsRun.{declaration_runs, function_runs}
 use Rattle.elaboration.proofs.StatementsRun.{Stands_in, items_run, return_fits}
-use Rattle.elaboration.proofs.Parameters.{sorts, functions, function_sorts, functions_joined, functions_reversed, functions_one, MakesFunction, makes_function, specs_sorts, layers_added}
+use Rattle.elaboration.proofs.Parameters.{sorts, functions, function_sorts, functions_joined, functions_reversed, functions_one, makes_function, specs_sorts, layers_added}
 
 -- a function that was walked
 

@@ -1,6 +1,6 @@
 -- The functions of a core are typed.
-use Rattle.std.proofs.Common.{◌≡◌, ◌≤◌, ◌<◌, ◌+◌, ◌&&◌, ℕ, zero, suc, Bool, true, false, cond, is_some, not, codes, map, length, replicate, take, List, [], ◌∷◌, ◌++◌, slice_get, unwrap_or, Option, Some, None, option_map, Ok, Err, refl, sym, ap, ◌∙◌, subst, arith, length-append, append_assoc}
-use Rattle.std.proofs.lemmas.List.{length-map, map-append}
+use Rattle.std.proofs.Common.{◌≡◌, ◌≤◌, ◌<◌, ℕ, zero, suc, Bool, true, false, cond, is_some, not, codes, map, length, replicate, take, List, [], ◌∷◌, ◌++◌, slice_get, unwrap_or, Option, Some, None, option_map, Ok, refl, sym, ap, ◌∙◌, subst, arith, length-append}
+use Rattle.std.proofs.lemmas.List.{length-map}
 use Rattle.c_types.specs.Types as types
 use Rattle.c_types.specs.Types.{PlainType, PlainTypes, Function}
 use Rattle.c_types.specs.TagTable.{TagTable}
@@ -10,19 +10,19 @@ use Rattle.core_tree.specs.declared.program.Reg.{Reg as Register}
 use Rattle.core_tree.specs.declared.statements.Atom.{Atom}
 use Rattle.core_tree.specs.declared.statements.Stm.{Stm}
 use Rattle.core_tree.specs.declared.statements.StmKind.{StmKind}
-use Rattle.core_tree.specs.declared.statements.StmKind.TheVariants.{Call, Return}
-use Rattle.core_tree.specs.Sorts.{Sort, sort_of, register_sort, atom_sort, GivesResult, TakesCall, HasRegister}
-use Rattle.core_tree.specs.Sound.{EachFunc, EachStatement, EachReturn, answer_sort, GivesAnswer}
+use Rattle.core_tree.specs.declared.statements.StmKind.TheVariants.{Call}
+use Rattle.core_tree.specs.Sorts.{Sort, sort_of, register_sort, GivesResult, TakesCall, HasRegister}
+use Rattle.core_tree.specs.Sound.{EachFunc, EachReturn, answer_sort, GivesAnswer}
 use Rattle.c_tree.specs.Tree.{Trees}
 use Rattle.c_decls.specs.Named as n
 use Rattle.c_decls.specs.Named.{PlainNamed}
 use Rattle.c_decls.specs.ScopeList.{named_in}
 use Rattle.c_decls.specs.declared.refusal.TypeKind.TheVariants.{Undeclared, NoMain}
-use Rattle.c_decls.specs.Refusals.{Checked, refused, then, unless}
+use Rattle.c_decls.specs.Refusals.{unless}
 use Rattle.c_decls.specs.PlaceRules.{length_of}
 use Rattle.elaboration.specs.Context.{Piece, Does, Here, Context, Declared, Walked, first_context}
 use Rattle.elaboration.specs.Externals.{externals, ended, is_defined, is_main, calls_defined}
-use Rattle.elaboration.specs.Resolving.{Numbers, atoms_by, numbered, body_of, temporary, pointer_register, numbers_of, function_of, core_of, definition_of, function_by}
+use Rattle.elaboration.specs.Resolving.{atoms_by, numbered, body_of, temporary, pointer_register, numbers_of, function_of, core_of, definition_of, function_by}
 use Rattle.elaboration.specs.Elaboration.{walked, elaborated}
 use Rattle.elaboration.specs.Worlds.{walked_world, IsCall, result_sort, param_sorts, PiecesFit}
 use Rattle.elaboration.specs.Spoken.{ArePlain}

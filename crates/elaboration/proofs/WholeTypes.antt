@@ -1,22 +1,19 @@
 -- Types that are whole stay so, and have sizes from 1 to that of the largest object.
-use Rattle.std.proofs.Common.{◌≡◌, ◌⊎◌, ◌≤◌, ◌<◌, ◌+◌, ◌*◌, ◌==◌, ◌^◌, ℕ, ℤ, pos, neg_ℤ, ◌≤ℤ◌, ◌<ℤ◌, zero, suc, Bool, true, false, cond, max, min, is_some, List, [], ◌∷◌, ◌++◌, map, fold, zip, length, All, Option, Some, None, IsSome, IfSome, option_map, unwrap_or, refl, sym, ap, ◌∙◌, subst, inl, inr, arith, bytes_eq}
+use Rattle.std.proofs.Common.{◌≡◌, ◌≤◌, ◌*◌, ◌==◌, ℕ, zero, suc, Bool, true, false, cond, is_some, List, [], ◌∷◌, ◌++◌, map, fold, zip, Option, Some, None, IsSome, IfSome, option_map, unwrap_or, refl, sym, ap, ◌∙◌, subst, arith}
 use Rattle.std.specs.Option.{option_or}
 use Rattle.std.specs.List.{find}
-use Rattle.std.specs.Int.{next_multiple_of}
-use Rattle.std.proofs.lemmas.List.Elements.{All-cons}
 use Rattle.std.proofs.lemmas.List.Sums.{fold_push}
 use Rattle.c_types.specs.declared.layouts.Layout.{Layout}
 use Rattle.c_types.specs.declared.types.IntType.{IntType}
 use Rattle.c_types.specs.declared.types.IntType.TheVariants as i
 use Rattle.c_types.specs.Types.{PlainType, PlainTypes, Void, Int, Pointer, Array, Struct, Union, Function, none, first, width_of}
-use Rattle.c_types.specs.Layouts.{Known, ArraysFit, Placed, none_placed, offset_after, place, placed, layout_of, array_layout, number_layout, pointer_layout, no_layout, members_layout}
-use Rattle.c_types.specs.TagTable.{CompletedTag, TagTable, PlainMember, learn, known, tag_layout, member_layout, layout_in, size_in, placed_members, members_in}
+use Rattle.c_types.specs.Layouts.{Known, ArraysFit, Placed, none_placed, place, placed, layout_of, number_layout, pointer_layout, no_layout, members_layout}
+use Rattle.c_types.specs.TagTable.{CompletedTag, TagTable, PlainMember, learn, known, tag_layout, member_layout, placed_members, members_in}
 use Rattle.c_types.proofs.MemberLemmas.{Extends, some_array, layout_stays}
 use Rattle.c_types.proofs.Places.{stays_known}
 use Rattle.c_types.proofs.Sound.{rounded_le}
-use Rattle.core_tree.specs.LayoutsOfTypes.{HasLayout, IsCompleted, AreCompleted, IsLayoutOfType}
+use Rattle.core_tree.specs.LayoutsOfTypes.{IsCompleted, AreCompleted, IsLayoutOfType}
 use Rattle.core_tree.proofs.TypeLayouts.{type_layout_small}
-use Rattle.core_tree.specs.Sound.{IsNumber}
 use Rattle.c_decls.specs.Named as n
 use Rattle.c_decls.specs.Named.{PlainNamed}
 use Rattle.c_decls.specs.ScopeList.{ScopeList, Table}

@@ -5,8 +5,8 @@ use Rattle.std.specs.List.{find}
 use Rattle.std.proofs.lemmas.Bool.{eqb-true}
 use Rattle.c_types.specs.declared.layouts.Layout.{Layout}
 use Rattle.c_types.specs.Types.{PlainType, Void, Int, Pointer, Array, Struct, Union, Function}
-use Rattle.c_types.specs.Layouts.{Known, Placed, none_placed, offset_after, place, placed, layout_of, array_layout, no_layout}
-use Rattle.c_types.specs.TagTable.{CompletedTag, TagTable, PlainMember, known, learn, tag_layout, member_layout, placed_members, members_in, layout_in}
+use Rattle.c_types.specs.Layouts.{Known, Placed, none_placed, offset_after, place, placed, layout_of, no_layout}
+use Rattle.c_types.specs.TagTable.{CompletedTag, PlainMember, learn, tag_layout, member_layout, placed_members, members_in}
 use Rattle.c_types.proofs.MemberLemmas.{Extends, layout_stays, some_array}
 use Rattle.c_types.proofs.Places.{stays_known}
 use Rattle.c_types.proofs.Sound.{rounded_le}

@@ -14,6 +14,7 @@ use Rattle.elaboration.specs.Context.{Piece, Does, Here}
 abbrev pub IsStep : ℤ → Type 0
 IsStep s = (pos 1 ≤ℤ s) × (s ≤ℤ pos 268435456)
 
+-- an integer operand is what a register can hold
 abbrev pub AtomIn : Atom → Type 0
 AtomIn (atom.Int v) = IsNumber v
 AtomIn a = Unit {0}
@@ -22,6 +23,7 @@ abbrev pub AtomsIn : List Atom → Type 0
 AtomsIn [] = Unit {0}
 AtomsIn (a ∷ atoms) = AtomIn a × AtomsIn atoms
 
+-- a layout of elements is that of a type, and no larger than an object
 abbrev pub IsElement : Layout → Type 0
 IsElement l = IsStep (pos l.size) × IsLayoutOfType l
 
@@ -39,6 +41,7 @@ OwnIn (Calloc r m k t) = IsElement t
 OwnIn (Realloc r p k t) = IsElement t
 OwnIn kind = Unit {0}
 
+-- the numbers of a statement, and of pieces of code
 abbrev pub KindIn : StmKind → Type 0
 KindIn kind = AtomsIn (operands kind) × OwnIn kind
 

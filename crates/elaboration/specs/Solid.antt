@@ -8,7 +8,7 @@ use Rattle.c_decls.specs.ScopeList.{ScopeList, Table}
 use Rattle.elaboration.specs.Context.{Context, Variable, Walked}
 use Rattle.elaboration.specs.Whole.{Whole, AreMade, TableWhole, NamesWhole}
 
--- memory locals, variables and functions that were made
+-- the layouts of memory locals, of variables and of the memory locals of functions are those of types
 abbrev pub MemsLaid : List Mem → Type 0
 MemsLaid [] = Unit {0}
 MemsLaid (m ∷ ms) = IsLayoutOfType m.layout × MemsLaid ms
@@ -21,7 +21,7 @@ abbrev pub WalkedLaid : List Walked → Type 0
 WalkedLaid [] = Unit {0}
 WalkedLaid (x ∷ xs) = MemsLaid x.running.mems × WalkedLaid xs
 
--- tags are made of such members; names, the parameters of the list that ended last and the answer have whole types; and
+-- tags are made of whole members; names, the parameters of the list that ended last and the answer have whole types; and
 -- memory locals, variables and functions that were walked have layouts of types
 pub record SolidAt (ts : List CompletedTag) (s : ScopeList) (params : Table) (mems : List Mem) (answer : PlainType) (variables : List Variable) (walked : List Walked) : Type 0 where
   pub made : AreMade (λ tag. None) ts
@@ -32,5 +32,6 @@ pub record SolidAt (ts : List CompletedTag) (s : ScopeList) (params : Table) (me
   pub statics : VariablesLaid variables
   pub functions : WalkedLaid walked
 
+-- at a point of the walk
 abbrev pub Solid : Context → Type 0
 Solid c = SolidAt c.tags.completed c.scopes c.params c.running.mems c.running.answer c.variables c.walked

@@ -4,7 +4,7 @@ use Rattle.std.specs.Prelude.{◌≡◌, ◌≤◌, ◌*◌, ℕ, List, [], ◌�
 use Rattle.c_types.specs.declared.layouts.Layout.{Layout}
 use Rattle.c_types.specs.Types.{PlainType, PlainTypes, Void, Int, Pointer, Array, Struct, Union, Function, none, first}
 use Rattle.c_types.specs.Layouts.{Known, layout_of}
-use Rattle.c_types.specs.TagTable.{CompletedTag, learn, known}
+use Rattle.c_types.specs.TagTable.{CompletedTag, learn}
 use Rattle.core_tree.specs.LayoutsOfTypes.{IsCompleted}
 use Rattle.core_tree.specs.Sound.{IsNumber}
 use Rattle.c_decls.specs.Named as n
@@ -15,6 +15,7 @@ use Rattle.c_decls.specs.ScopeList.{Table, ScopeList, named_in}
 abbrev pub IsRow : Known → PlainType → ℕ → Type 0
 IsRow k element length = (l : Layout) × (layout_of k element ≡ Some l) × (length * l.size ≤ 268435456) × (1 ≤ length)
 
+-- whole types, and whole parameters
 abbrev mutual
   pub Whole : Known → PlainType → Type 0
   Whole k Void = Unit {0}
@@ -49,6 +50,7 @@ NamedWhole k (n.Constant type value) = IsNumber value
 NamedWhole k (n.BuiltIn i) = Unit {0}
 NamedWhole k (n.Tag type) = Unit {0}
 
+-- each name of a table, and of tables, is such a one
 abbrev pub TableWhole : Known → Table → Type 0
 TableWhole k table = (name : List ℕ) (v : PlainNamed) → named_in name table ≡ Some v → NamedWhole k v
 
@@ -56,6 +58,7 @@ abbrev pub TablesWhole : Known → List Table → Type 0
 TablesWhole k [] = Unit {0}
 TablesWhole k (table ∷ tables) = TableWhole k table × TablesWhole k tables
 
+-- so is each name of scopes
 pub record NamesWhole (k : Known) (s : ScopeList) : Type 0 where
   pub file : TableWhole k s.file
   pub inner : TablesWhole k s.inner

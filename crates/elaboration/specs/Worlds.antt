@@ -14,7 +14,7 @@ use Rattle.c_decls.specs.Named as n
 use Rattle.c_decls.specs.Named.{PlainNamed}
 use Rattle.c_decls.specs.Callees.{is_format}
 use Rattle.c_decls.specs.ScopeList.{ScopeList, Table, named_in}
-use Rattle.c_decls.specs.Typed.{PlainTyped, Operand, Number, PointerTo, Neither, operand, is_scalar}
+use Rattle.c_decls.specs.Typed.{Operand, Number, PointerTo, Neither, operand, is_scalar}
 use Rattle.elaboration.specs.Context.{Piece, Does, Here, Context, Walked, local_register, integer_temporary, pointer_temporary, file_variable, literal_object}
 use Rattle.elaboration.specs.Conversions.{Found, Spot, Local, Memory, Value, Empty}
 use Rattle.elaboration.specs.Locals.{is_pointer}

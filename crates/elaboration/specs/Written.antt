@@ -1,5 +1,5 @@
 -- What the grammar says of the trees of tokens, as far as laws of cores stand on it.
-use Rattle.std.specs.Prelude.{◌<◌, ◌≤◌, ◌^◌, List, Option, Some, None, IsSome}
+use Rattle.std.specs.Prelude.{◌<◌, ◌≤◌, ◌^◌, IsSome}
 use Rattle.c_lexer.specs.Numbers.{number_value}
 use Rattle.c_tree.specs.Words as w
 use Rattle.c_tree.specs.Words.{Word}
