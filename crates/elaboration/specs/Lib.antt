@@ -16,11 +16,3 @@ pub mod Externals
 pub mod Resolving
 pub mod Elaboration
 pub mod Built
-pub mod Laws
-pub mod Whole
-pub mod Solid
-pub mod Ranges
-pub mod Worlds
-pub mod Spoken
-pub mod Written
-pub mod Untaken

@@ -13,20 +13,8 @@
 //! - `specs/Statements.antt` has the statements, and `specs/Externals.antt` functions and texts.
 //! - `specs/Built.antt` says which texts declare types alone, beside a small `main`.
 //!
-//! `src/laws.rt` has laws of every core that a text has: how control flows through it, how large it is, and that it has
-//! one `main`; that the types of expressions are those that their types alone give them; that layouts are those of types, and
-//! numbers in range (`specs/Whole.antt`, `specs/Ranges.antt`); and, for the texts that `specs/Spoken.antt` describes, that the
-//! operands of every statement are there and have their sorts. For this the walk keeps a world of what was declared so far
-//! (`specs/Worlds.antt`). What of this the grammar gives is in `specs/Written.antt`.
-//!
 //! `proofs/Rows.antt` has texts whose core or refusal was worked out by hand. The kinds of refusals are those of `c_decls`.
+//! The crate has definitions alone; `core_soundness` has laws of every core that a text has.
 #![tactic(auto)]
 
-mod laws;
-
 pub use c_decls::{TypeError, TypeKind};
-pub use laws::{
-    calls_are_inside, control_flows, formats_are_read, functions_are_sound, layouts_are_of_types,
-    main_answers, numbers_are_in_range, numbers_are_kept, one_main, sizes_are_kept,
-    statements_are_typed, trees_are_plain, trees_are_written, types_agree, types_are_whole,
-};

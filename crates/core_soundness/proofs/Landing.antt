@@ -1,0 +1,418 @@
+-- Where names, literals, places and operators are, and of which sort (C99 6.5).
+use Rattle.std.proofs.Common.{◌≡◌, ◌⊎◌, ◌≤◌, ◌+◌, ◌&&◌, ℕ, pos, Bool, true, false, not, cond, is_some, List, [], ◌∷◌, ◌++◌, length, slice_get, Option, Some, None, Ok, refl, sym, ap, ◌∙◌, subst, inl, inr, ⊎_elim, arith, length-append}
+use Rattle.std.specs.Option.{option_or}
+use Rattle.hs_base.specs.Place.{block_size}
+use Rattle.c_types.specs.declared.types.IntType.{IntType}
+use Rattle.c_types.specs.declared.types.IntType.TheVariants as i
+use Rattle.c_types.specs.Types as types
+use Rattle.c_types.specs.Types.{PlainType}
+use Rattle.c_types.specs.TagTable.{TagTable, PlainMember, members_in}
+use Rattle.core_tree.specs.declared.statements.Atom.{Atom}
+use Rattle.core_tree.specs.declared.statements.Atom.TheVariants as atom
+use Rattle.core_tree.specs.declared.statements.CmpOp.TheVariants as cmp
+use Rattle.core_tree.specs.declared.statements.StmKind.TheVariants.{Cmp}
+use Rattle.core_tree.specs.Sorts.{Integer, Pointer}
+use Rattle.c_tree.specs.declared.operator.BinaryOp.{BinaryOp}
+use Rattle.c_tree.specs.declared.operator.BinaryOp.TheVariants as bin
+use Rattle.c_tree.specs.declared.operator.UnaryOp.{UnaryOp}
+use Rattle.c_tree.specs.declared.operator.UnaryOp.TheVariants as u
+use Rattle.c_tree.specs.Tree.{Tree}
+use Rattle.c_decls.specs.declared.built_in.BuiltIn.{BuiltIn}
+use Rattle.c_decls.specs.declared.built_in.BuiltIn.TheVariants as built
+use Rattle.c_decls.specs.declared.constant.Constant.{Constant}
+use Rattle.c_decls.specs.declared.refusal.TypeKind.TheVariants.{TypeTooLarge, StaticTooLarge, NotLvalue}
+use Rattle.c_decls.specs.Refusals.{refused, then}
+use Rattle.c_decls.specs.Named as n
+use Rattle.c_decls.specs.Named.{PlainNamed}
+use Rattle.c_decls.specs.ScopeList.{Table, named_in, found_from, found as declaration}
+use Rattle.c_decls.specs.BuiltIns.{built_ins, constant_of}
+use Rattle.c_decls.specs.Callees.{named, built_in_named, built_in_value}
+use Rattle.c_decls.specs.Typed.{PlainTyped, Operand, Number, PointerTo, Neither, operand, place, value, int, constant, is_scalar, is_null_constant}
+use Rattle.c_decls.specs.TypeRules.{unary, unary_of, unary_on_integer, unary_type, binary, address}
+use Rattle.c_decls.specs.PlaceRules.{cast, cast_types, null_pointer, element, element_types, dot, arrow, arrow_of, member_among, member_answer, size, size_answer}
+use Rattle.c_decls.specs.PlaceRules as places
+use Rattle.c_decls.specs.Expressions.{string}
+use Rattle.elaboration.specs.Context.{Context, literal_object, local_register}
+use Rattle.elaboration.specs.Conversions.{Found, Spot, Local, Memory, Value, Empty, Fixed, Unknown, Nowhere, found_as, atom_in, code_line, convert, forget, tested_value}
+use Rattle.elaboration.specs.Operations.{working, move_pointer, combine, combined, fixed_sum, moved_by, offset_of}
+use Rattle.elaboration.specs.Rules.{constant_found, object_found, built_in_found, name_found, is_inner, with_static, with_literal, literal_found, at_address, with_value, indexed, member_of, dotted, target_of, pointed, negated, before_number, apply, applied, tells_equal, is_pointer_ahead, is_pointer_operand, ahead, left_operand, between, cast_fixed, cast_to}
+use Rattle.elaboration.specs.Expressions.{name_answer, literal_answer, address_answer}
+use Rattle.core_soundness.specs.Worlds.{World, world, Holds, HeldAs, Held, StandsAs, Stands, IsObject, is_variable, is_literal, is_local, InnerFits, FileFits, TablesFit, NamesFit, local_sort, type_sort}
+use Rattle.core_soundness.proofs.Grown.{good, ok_same, never}
+use Rattle.core_soundness.proofs.Names.{more_refl}
+use Rattle.core_soundness.proofs.Agreeing.{came}
+use Rattle.core_soundness.proofs.Growing.{Grew, holds_grew, pieces_grew}
+use Rattle.core_soundness.proofs.Going.{Goes, goes_refl, goes_forgotten, Gives, gives_on, gives_integer}
+use Rattle.core_soundness.proofs.Sorting.{Sits, Lands, Comes, comes_lands, HasValue, Converting, converted, tested_value_gives}
+use Rattle.core_soundness.proofs.Operating.{passed, kept_test, behind_test, moved_is, beside_is, Makes, before_gives, member_gives, move_gives, IsPointed, IsBetween, LeftOf, binary_makes}
+
+-- names
+
+-- what is found under a name: inside a function, or at file scope
+abbrev pub FoundName : World → Table → List Table → List ℕ → PlainNamed → Type 0
+FoundName w file inner name v =
+    ((is_some (found_from [] name inner) ≡ true) × InnerFits w v) ⊎ ((is_some (found_from [] name inner) ≡ false) × (named_in name file ≡ Some v))
+
+pub found_name : (w : World) (file : Table) (inner : List Table) (name : List ℕ) (v : PlainNamed) → TablesFit (InnerFits w) inner → found_from file name inner ≡ Some v → FoundName w file inner name v
+found_name w file [] name v h e = inr (refl, e)
+found_name w file (table ∷ outer) name v h e = by (named_in name table) refl (λ k. found_name w file outer name v h.1 k) e
+  where
+    by : (o : Option PlainNamed) → named_in name table ≡ o → (found_from file name outer ≡ Some v → FoundName w file outer name v) → option_or o (found_from file name outer) ≡ Some v
+        → ((is_some (option_or o (found_from [] name outer)) ≡ true) × InnerFits w v) ⊎ ((is_some (option_or o (found_from [] name outer)) ≡ false) × (named_in name file ≡ Some v))
+    by (Some x) q again k = inl (refl, h.0 name v (q ∙ k))
+    by None q again k = again k
+
+scalar_held : (w : World) (type : PlainType) (k : ℕ) → is_scalar type ≡ true → local_sort w k ≡ Some (type_sort type) → Held w type (atom.Reg (local_register k))
+scalar_held w (types.Int ty) k s h = is_local k refl h
+scalar_held w (types.Pointer target) k s h = is_local k refl h
+scalar_held w types.Void k s h = tt
+scalar_held w (types.Array element length) k s h = tt
+scalar_held w (types.Struct tag) k s h = tt
+scalar_held w (types.Union tag) k s h = tt
+scalar_held w (types.Function answer params) k s h = tt
+
+built_in_stands : (w : World) (line : ℕ) (name : BuiltIn) (o : Option Constant) (e : PlainTyped) → built_in_value line name o ≡ Ok e → Stands w (built_in_found e e.is_null)
+built_in_stands w line built.Null o e h = subst (λ (x : PlainTyped). Stands w (built_in_found x x.is_null)) (ok_same _ e h) refl
+built_in_stands w line built.SizeT o e h = never _ _ e h
+built_in_stands w line name (Some c) e h = subst (λ (x : PlainTyped). Stands w (built_in_found x x.is_null)) (ok_same _ e h) refl
+built_in_stands w line name None e h = never _ _ e h
+
+built_in_at : (w : World) (line : ℕ) (o : Option BuiltIn) (e : PlainTyped) → built_in_named line o ≡ Ok e → Stands w (built_in_found e e.is_null)
+built_in_at w line None e h = never _ _ e h
+built_in_at w line (Some name) e h = built_in_stands w line name (constant_of name) e h
+
+name_stands : (w : World) (file : Table) (inner : Bool) (line : ℕ) (v : PlainNamed) (e : PlainTyped) → ((inner ≡ true) × InnerFits w v) ⊎ ((inner ≡ false) × FileFits w v) → named line (Some v) ≡ Ok e → Stands w (name_found e inner (Some v))
+name_stands w file inner line (n.Register type k) e (inl f) h =
+    subst (λ (x : PlainTyped). Stands w (name_found x inner (Some (n.Register type k)))) (ok_same (place type) e h) (f.1.0, scalar_held w type k f.1.0 f.1.1)
+name_stands w file inner line (n.Register type k) e (inr f) h = absurd f.1
+name_stands w file inner line (n.Object type k) e (inl f) h =
+    subst (λ (x : PlainTyped). Stands w (name_found x inner (Some (n.Object type k)))) (ok_same (place type) e h) (subst (λ (x : Bool). Stands w (object_found (place type) x k)) (sym f.0) (refl, f.1))
+name_stands w file inner line (n.Object type k) e (inr f) h =
+    subst (λ (x : PlainTyped). Stands w (name_found x inner (Some (n.Object type k)))) (ok_same (place type) e h) (subst (λ (x : Bool). Stands w (object_found (place type) x k)) (sym f.0) (refl, is_variable k refl f.1))
+name_stands w file inner line (n.BuiltIn index) e f h = built_in_at w line (slice_get built_ins index) e h
+name_stands w file inner line (n.Constant type k) e f h = subst (λ (x : PlainTyped). Stands w (constant_found x)) (ok_same _ e h) refl
+name_stands w file inner line (n.Function type k) e f h = never _ _ e h
+name_stands w file inner line (n.Typedef type) e f h = never _ _ e h
+name_stands w file inner line (n.Tag type) e f h = never _ _ e h
+
+pub name_lands : (line : ℕ) (name : List ℕ) (c : Context) (z : Context × Found) → NamesFit (world c) c.scopes → name_answer line name (declaration c.scopes name) c ≡ Ok z → Sits c z
+name_lands line name c z f h = by (declaration c.scopes name) refl h
+  where
+    by : (o : Option PlainNamed) → declaration c.scopes name ≡ o → name_answer line name o c ≡ Ok z → Sits c z
+    by None q k = never (Sits c z) _ z k
+    by (Some v) q k =
+        let e = came (named line (Some v)) (λ e. good (c, name_found e (is_inner c name) (Some v))) z k in
+        let there = found_name (world c) c.scopes.file c.scopes.inner name v f.inner q in
+        subst (Sits c) (ok_same (c, name_found e.value (is_inner c name) (Some v)) z e.last)
+        (record {
+          goes = goes_refl c;
+          stands = name_stands (world c) c.scopes.file (is_inner c name) line v e.value
+              (⊎_elim (λ (x : (is_inner c name ≡ true) × InnerFits (world c) v). inl x) (λ (x : (is_inner c name ≡ false) × (named_in name c.scopes.file ≡ Some v)). inr (x.0, f.file name v x.1)) there) e.is;
+        })
+
+-- a constant of an integer type
+pub constant_lands : (c : Context) (e : Constant) (z : Context × Found) → good (c, constant_found (constant e)) ≡ Ok z → Lands c z
+constant_lands c e z h = subst (Lands c) (ok_same (c, constant_found (constant e)) z h) (record { goes = goes_refl c; stands = refl; apart = tt })
+
+-- literals
+
+more_statics : (c : Context) (bytes : List ℕ) (k : ℕ) → Goes c (record c { static_bytes = k; literals = c.literals ++ bytes ∷ [] })
+more_statics c bytes k =
+    let grew : Grew (world c) (world (record c { static_bytes = k; literals = c.literals ++ bytes ∷ [] })) = record { locals = λ j r e. e; mems = omega arith; integers = omega arith; pointers = omega arith; variables = omega arith; literals = omega (arith, length-append c.literals (bytes ∷ [])); formats = λ j f e. e; calls = λ j y e. e; file = λ name t i e. e } in
+    record { grew = grew; more = more_refl c.scopes; kept = record { line = refl; answer = refl; params = refl; walked = refl }; fits = λ answer h. pieces_grew answer (world c) (world (record c { static_bytes = k; literals = c.literals ++ bytes ∷ [] })) c.code.pieces grew h }
+
+pub record Literal (c : Context) (d : Context × ℕ) : Type 0 where
+  pub goes : Goes c d.0
+  pub there : IsObject (world d.0) d.1
+
+pub literal_there : (line : ℕ) (bytes : List ℕ) (c : Context) (d : Context × ℕ) → with_literal line bytes c ≡ Ok d → Literal c d
+literal_there line bytes c d h =
+    let s = came (with_static line (length bytes + 1) c) (λ s. good (record s { literals = s.literals ++ bytes ∷ [] }, literal_object (length c.literals))) d h in
+    let k = c.static_bytes + block_size (length bytes + 1) in
+    let e : record c { static_bytes = k } ≡ s.value = passed _ StaticTooLarge line (record c { static_bytes = k }) s.value s.is in
+    let last : good (record s.value { literals = s.value.literals ++ bytes ∷ [] }, literal_object (length c.literals)) ≡ Ok d = s.last in
+    let same : (record c { static_bytes = k; literals = c.literals ++ bytes ∷ [] }, literal_object (length c.literals)) ≡ d =
+    ap (λ (x : Context). (record x { literals = x.literals ++ bytes ∷ [] }, literal_object (length c.literals))) e ∙ ok_same _ d last in
+    subst (Literal c) same (record { goes = more_statics c bytes k; there = is_literal (length c.literals) refl (omega (arith, length-append c.literals (bytes ∷ []))) })
+
+pub string_lands : (line : ℕ) (bytes : List ℕ) (c : Context) (z : Context × Found) → literal_answer line bytes c ≡ Ok z → Lands c z
+string_lands line bytes c z h =
+    let e = came (string line bytes) (λ e. then (with_literal line bytes c) (λ d. good (literal_found e d))) z h in
+    let d = came (with_literal line bytes c) (λ d. good (literal_found e.value d)) z e.last in
+    let l = literal_there line bytes c d.value d.is in
+    let type : place (types.Array (types.Int i.Char) (length bytes + 1)) ≡ e.value = passed _ TypeTooLarge line _ e.value e.is in
+    let flag : e.value.is_place ≡ true = sym (ap (λ (x : PlainTyped). x.is_place) type) in
+    subst (Lands c) (ok_same (literal_found e.value d.value) z d.last)
+    (record { goes = l.goes; stands = subst (λ (x : Bool). StandsAs (world d.value.0) x e.value.type (Memory (atom.Static d.value.1))) (sym flag) (refl, l.there); apart = tt })
+
+-- places
+
+-- a place that is no scalar is in memory
+pub in_memory : (w : World) (type : PlainType) (spot : Spot) (e : Found) → e.spot ≡ spot → is_scalar type ≡ false → StandsAs w true type spot → Holds w Pointer (atom_in e)
+in_memory w type (Local r) e q s h = let clash : false ≡ true = sym s ∙ h.0 in cc
+in_memory w type (Memory a) e q s h = subst (λ (x : Spot). Holds w Pointer (atom_in (record e { spot = x }))) (sym q) h
+in_memory w type (Value a) e q s h = absurd h
+in_memory w type Empty e q s h = absurd h
+
+-- a pointer in hand is a place
+at_lands : (c : Context) (type : PlainType) (fixed : Fixed) (d : Context × Atom) → Gives c Pointer d → Lands c (at_address (place type) fixed d)
+at_lands c type fixed d g = record { goes = g.goes; stands = g.holds; apart = tt }
+
+IsPlaced : PlainTyped → Type 0
+IsPlaced typed = (type : PlainType) × (place type ≡ typed)
+
+at_place : (c : Context) (typed : PlainTyped) (fixed : Fixed) (d : Context × Atom) (z : Context × Found) → IsPlaced typed → Gives c Pointer d → good (at_address typed fixed d) ≡ Ok z → Lands c z
+unfolding IsPlaced
+at_place c typed fixed d z p g h = subst (Lands c) (ap (λ (t : PlainTyped). at_address t fixed d) p.1 ∙ ok_same _ z h) (at_lands c p.0 fixed d g)
+
+added_first : (line : ℕ) (c : Context) (target : PlainType) (ty : IntType) (p q : Atom) → Gives c Pointer (move_pointer line bin.Add target p q c) → Gives c Pointer (combine line bin.Add c.code (PointerTo target) (Number ty) p q c)
+unfolding working
+added_first line c target ty p q g = g
+
+added_last : (line : ℕ) (c : Context) (target : PlainType) (ty : IntType) (p q : Atom) → Gives c Pointer (move_pointer line bin.Add target q p c) → Gives c Pointer (combine line bin.Add c.code (Number ty) (PointerTo target) p q c)
+unfolding working
+added_last line c target ty p q g = g
+
+element_moves : (line : ℕ) (c : Context) (s t : Operand) (typed : PlainTyped) (p q : Atom) → 1 ≤ line → element_types line c.tags s t ≡ Ok typed → HeldAs (world c) s p → HeldAs (world c) t q → IsPlaced typed × Gives c Pointer (combine line bin.Add c.code s t p q c)
+unfolding IsPlaced
+element_moves line c (PointerTo target) (Number ty) typed p q l e h k = ((target, moved_is line c.tags target (place target) typed e), added_first line c target ty p q (move_gives line bin.Add target p q c l h k))
+element_moves line c (Number ty) (PointerTo target) typed p q l e h k = ((target, moved_is line c.tags target (place target) typed e), added_last line c target ty p q (move_gives line bin.Add target q p c l k h))
+element_moves line c (PointerTo target) (PointerTo other) typed p q l e h k = never _ _ typed e
+element_moves line c (PointerTo target) Neither typed p q l e h k = never _ _ typed e
+element_moves line c (Number ty) (Number other) typed p q l e h k = never _ _ typed e
+element_moves line c (Number ty) Neither typed p q l e h k = never _ _ typed e
+element_moves line c Neither t typed p q l e h k = never _ _ typed e
+
+pub indexed_lands : (line : ℕ) (c : Context) (x y : Found) (z : Context × Found) → 1 ≤ line → HasValue (world c) x → HasValue (world c) y → indexed line c x y ≡ Ok z → Lands c z
+indexed_lands line c x y z l h k q =
+    let t = came (element line c.tags x.typed y.typed) (λ typed. good (at_address typed (fixed_sum c bin.Add x y) (combined line bin.Add c.code x y c))) z q in
+    let m = element_moves line c (operand x.typed.type) (operand y.typed.type) t.value (atom_in x) (atom_in y) l t.is h.held k.held in
+    at_place c t.value (fixed_sum c bin.Add x y) (combined line bin.Add c.code x y c) z m.0 m.1 t.last
+
+member_placed : (line : ℕ) (name : List ℕ) (o : Option (List PlainMember)) (typed : PlainTyped) → member_among line name o ≡ Ok typed → IsPlaced typed
+unfolding IsPlaced
+member_placed line name None typed e = never _ _ typed e
+member_placed line name (Some members) typed e = by _ e
+  where
+    by : (o : Option PlainType) → member_answer line o ≡ Ok typed → (type : PlainType) × (place type ≡ typed)
+    by None q = never _ _ typed q
+    by (Some type) q = (type, ok_same (place type) typed q)
+
+member_of_placed : (line : ℕ) (name : List ℕ) (tags : TagTable) (type : PlainType) (typed : PlainTyped) → places.member_of line name tags type ≡ Ok typed → IsPlaced typed × (is_scalar type ≡ false)
+member_of_placed line name tags (types.Struct tag) typed e = (member_placed line name (members_in tags tag) typed e, refl)
+member_of_placed line name tags (types.Union tag) typed e = (member_placed line name (members_in tags tag) typed e, refl)
+member_of_placed line name tags types.Void typed e = never _ _ typed e
+member_of_placed line name tags (types.Int ty) typed e = never _ _ typed e
+member_of_placed line name tags (types.Pointer target) typed e = never _ _ typed e
+member_of_placed line name tags (types.Array element length) typed e = never _ _ typed e
+member_of_placed line name tags (types.Function answer params) typed e = never _ _ typed e
+
+pub not_false : (k : Bool) → not k ≡ false → k ≡ true
+not_false true e = refl
+not_false false e = cc
+
+pub dotted_lands : (line : ℕ) (name : List ℕ) (c : Context) (e : Found) (z : Context × Found) → 1 ≤ line → Stands (world c) e → dotted line name c e ≡ Ok z → Lands c z
+dotted_lands line name c e z l h q =
+    let t = came (dot line name c.tags e.typed) (λ typed. good (member_of line (offset_of c.tags name e.typed.type) typed c e)) z q in
+    let flag : e.typed.is_place ≡ true = not_false _ (kept_test _ _ line _ t.value t.is) in
+    let m = member_of_placed line name c.tags e.typed.type t.value (behind_test _ _ line _ t.value t.is) in
+    let there : Holds (world c) Pointer (atom_in e) = in_memory (world c) e.typed.type e.spot e refl m.1 (subst (λ (x : Bool). StandsAs (world c) x e.typed.type e.spot) flag h) in
+    at_place c t.value (moved_by c (pos (offset_of c.tags name e.typed.type)) e.fixed) _ z m.0 (member_gives line (offset_of c.tags name e.typed.type) (atom_in e) c l there) t.last
+
+arrow_placed : (line : ℕ) (name : List ℕ) (w : World) (tags : TagTable) (o : Operand) (typed : PlainTyped) (a : Atom) → arrow_of line name tags o ≡ Ok typed → HeldAs w o a → IsPlaced typed × Holds w Pointer a
+arrow_placed line name w tags (PointerTo target) typed a e h = ((member_of_placed line name tags target typed e).0, h)
+arrow_placed line name w tags (Number ty) typed a e h = never _ _ typed e
+arrow_placed line name w tags Neither typed a e h = never _ _ typed e
+
+pub pointed_lands : (line : ℕ) (name : List ℕ) (c : Context) (e : Found) (z : Context × Found) → 1 ≤ line → HasValue (world c) e → pointed line name c e ≡ Ok z → Lands c z
+pointed_lands line name c e z l h q =
+    let t = came (arrow line name c.tags e.typed) (λ typed. good (member_of line (offset_of c.tags name (target_of (operand e.typed.type))) typed c e)) z q in
+    let m = arrow_placed line name (world c) c.tags (operand e.typed.type) t.value (atom_in e) t.is h.held in
+    at_place c t.value (moved_by c (pos (offset_of c.tags name (target_of (operand e.typed.type)))) e.fixed) _ z m.0 (member_gives line (offset_of c.tags name (target_of (operand e.typed.type))) (atom_in e) c l m.1) t.last
+
+-- an address is taken of what is no register
+abbrev pub InMemory : Found → Type 0
+InMemory e = (r : ℕ) → e.spot ≡ Local r → ⊥
+
+address_held : (w : World) (type : PlainType) (spot : Spot) (e : Found) → e.spot ≡ spot → InMemory e → StandsAs w true type spot → Holds w Pointer (atom_in e)
+address_held w type (Local r) e q n h = absurd (n r q)
+address_held w type (Memory a) e q n h = subst (λ (x : Spot). Holds w Pointer (atom_in (record e { spot = x }))) (sym q) h
+address_held w type (Value a) e q n h = absurd h
+address_held w type Empty e q n h = absurd h
+
+pub address_lands : (line : ℕ) (c : Context) (e : Found) (z : Context × Found) → InMemory e → Stands (world c) e → address_answer line c e ≡ Ok z → Lands c z
+address_lands line c e z m h q =
+    let t = came (address line e.typed) (λ type. good (c, found_as type (Value (atom_in e)) e.fixed)) z q in
+    let r = by e.typed.is_place t.value t.is in
+    let there : Holds (world c) Pointer (atom_in e) = address_held (world c) e.typed.type e.spot e refl m (subst (λ (x : Bool). StandsAs (world c) x e.typed.type e.spot) r.0 h) in
+    subst (Lands c) (ap (λ (x : PlainTyped). (c, found_as x (Value (atom_in e)) e.fixed)) r.1 ∙ ok_same _ z t.last) (record { goes = goes_refl c; stands = there; apart = tt })
+  where
+    by : (k : Bool) (typed : PlainTyped) → cond k (good (value (types.Pointer e.typed.type))) (refused NotLvalue line) ≡ Ok typed → (k ≡ true) × (value (types.Pointer e.typed.type) ≡ typed)
+    by true typed x = (refl, ok_same (value (types.Pointer e.typed.type)) typed x)
+    by false typed x = never _ _ typed x
+
+-- operators
+
+-- a value that was made
+pub made_comes : (c : Context) (typed : PlainTyped) (fixed : Fixed) (d : Context × Atom) (z : Context × Found) → Makes c typed d → good (with_value typed fixed d) ≡ Ok z → Comes c z
+made_comes c typed fixed d z m h = subst (Comes c) (ok_same (with_value typed fixed d) z h) (record { goes = m.goes; value = record { spot = refl; value = m.value; held = m.held } })
+
+pub integer_made : (c : Context) (ty : IntType) (typed : PlainTyped) (d : Context × Atom) → typed.is_place ≡ false → typed.type ≡ types.Int ty → Gives c Integer d → Makes c typed d
+integer_made c ty typed d p e g = record { value = p; goes = g.goes; held = subst (λ (t : PlainType). Held (world d.0) t d.1) (sym e) g.holds }
+
+pub tested_not : (line : ℕ) (tree : Tree) (typed : PlainTyped) (c : Context) (e : Found) (z : Context × Found) → 1 ≤ line → 1 ≤ code_line tree → HasValue (world c) e → is_scalar e.typed.type ≡ true → typed.is_place ≡ false → typed.type ≡ types.Int i.Int → good (negated line tree typed c e) ≡ Ok z → Lands c z
+tested_not line tree typed c e z l l2 h s p q k =
+    let d = tested_value tree (c, e) in
+    let t = tested_value_gives tree (c, e) l2 s h in
+    let g = gives_on c d.0 Integer _ t.goes (gives_integer line (λ r. Cmp cmp.Eq r d.1 (atom.Int (pos 0))) d.0 l (λ v r gv there. (there, holds_grew (world d.0) v Integer d.1 gv t.holds, refl))) in
+    let m = made_comes c typed Unknown _ z (integer_made c i.Int typed _ p q g) k in
+    comes_lands c z m
+
+number_scalar : (type : PlainType) (ty : IntType) → operand type ≡ Number ty → is_scalar type ≡ true
+number_scalar (types.Int t) ty e = refl
+number_scalar (types.Pointer t) ty e = refl
+number_scalar types.Void ty e = cc
+number_scalar (types.Array element length) ty e = cc
+number_scalar (types.Struct tag) ty e = cc
+number_scalar (types.Union tag) ty e = cc
+number_scalar (types.Function answer params) ty e = cc
+
+pointer_scalar : (type target : PlainType) → operand type ≡ PointerTo target → is_scalar type ≡ true
+pointer_scalar (types.Int t) ty e = refl
+pointer_scalar (types.Pointer t) ty e = refl
+pointer_scalar types.Void ty e = cc
+pointer_scalar (types.Array element length) ty e = cc
+pointer_scalar (types.Struct tag) ty e = cc
+pointer_scalar (types.Union tag) ty e = cc
+pointer_scalar (types.Function answer params) ty e = cc
+
+-- `+`, `-` and `~`
+calculated_lands : (line : ℕ) (op : UnaryOp) (typed : PlainTyped) (o : Operand) (c : Context) (e : Found) (z : Context × Found) (s : IntType) → 1 ≤ line → HeldAs (world c) o (atom_in e) → (ty : IntType) → o ≡ Number s → typed.is_place ≡ false → typed.type ≡ types.Int ty
+    → good (before_number line op typed o c e) ≡ Ok z → Lands c z
+calculated_lands line op typed (Number t) c e z s l h ty q p r k =
+    let m = made_comes c typed Unknown _ z (integer_made c ty typed _ p r (before_gives line op t (atom_in e) c l h)) k in
+    comes_lands c z m
+calculated_lands line op typed (PointerTo target) c e z s l h ty q p r k = cc
+calculated_lands line op typed Neither c e z s l h ty q p r k = cc
+
+IsNumberType : PlainTyped → Type 0
+IsNumberType typed = (ty : IntType) × (typed.is_place ≡ false) × (typed.type ≡ types.Int ty)
+
+on_integer : (op : UnaryOp) (ty : IntType) (folded : _) (typed : PlainTyped) → good (unary_on_integer op ty folded) ≡ Ok typed → IsNumberType typed
+unfolding IsNumberType
+on_integer op ty folded typed e = subst (λ (x : PlainTyped). (t : IntType) × (x.is_place ≡ false) × (x.type ≡ types.Int t)) (ok_same _ typed e) (unary_type op ty, refl, refl)
+
+plain_applied : (line : ℕ) (op : UnaryOp) (o : Operand) (typed : PlainTyped) (c : Context) (e : Found) (z : Context × Found) → 1 ≤ line → HeldAs (world c) o (atom_in e) → IsNumberType typed → (s : IntType) → o ≡ Number s → good (before_number line op typed o c e) ≡ Ok z → Lands c z
+unfolding IsNumberType
+plain_applied line op o typed c e z l h t s q k = calculated_lands line op typed o c e z s l h t.0 q t.1 t.2 k
+
+-- the operand of `+`, `-` or `~` is a number
+abbrev IsPlain : UnaryOp → Type 0
+IsPlain u.Deref = ⊥
+IsPlain u.Not = ⊥
+IsPlain op = Unit {0}
+
+plain_number : (line : ℕ) (op : UnaryOp) (e typed : PlainTyped) (o : Operand) → IsPlain op → unary_of line op e o ≡ Ok typed → ((s : IntType) × (o ≡ Number s)) × IsNumberType typed
+plain_number line u.Deref e typed o p h = absurd p
+plain_number line u.Not e typed o p h = absurd p
+plain_number line op e typed (Number ty) p h = ((ty, refl), on_integer op ty e.folded typed h)
+plain_number line op e typed (PointerTo target) p h = never _ _ typed h
+plain_number line op e typed Neither p h = never _ _ typed h
+
+not_result : (x typed : PlainTyped) → x.is_place ≡ false → x.type ≡ types.Int i.Int → x ≡ typed → (typed.is_place ≡ false) × (typed.type ≡ types.Int i.Int)
+not_result x typed p t e = (ap (λ (y : PlainTyped). y.is_place) (sym e) ∙ p, ap (λ (y : PlainTyped). y.type) (sym e) ∙ t)
+
+not_typed : (line : ℕ) (e typed : PlainTyped) (o : Operand) → unary_of line u.Not e o ≡ Ok typed → (typed.is_place ≡ false) × (typed.type ≡ types.Int i.Int) × (((s : IntType) × (o ≡ Number s)) ⊎ ((target : PlainType) × (o ≡ PointerTo target)))
+not_typed line e typed (Number ty) h = let r = not_result (unary_on_integer u.Not ty e.folded) typed refl refl (ok_same _ typed h) in (r.0, r.1, inl (ty, refl))
+not_typed line e typed (PointerTo target) h = let r = not_result int typed refl refl (ok_same _ typed h) in (r.0, r.1, inr (target, refl))
+not_typed line e typed Neither h = never _ _ typed h
+
+deref_lands : (line : ℕ) (c : Context) (o : Operand) (e : Found) (typed : PlainTyped) (z : Context × Found) → HeldAs (world c) o (atom_in e) → unary_of line u.Deref e.typed o ≡ Ok typed → good (c, found_as typed (Memory (atom_in e)) e.fixed) ≡ Ok z → Lands c z
+deref_lands line c (Number ty) e typed z h t k = never _ _ typed t
+deref_lands line c (PointerTo target) e typed z h t k = subst (Lands c) (ap (λ (x : PlainTyped). (c, found_as x (Memory (atom_in e)) e.fixed)) (ok_same (place target) typed t) ∙ ok_same _ z k) (record { goes = goes_refl c; stands = h; apart = tt })
+deref_lands line c Neither e typed z h t k = never _ _ typed t
+
+plain_lands : (line : ℕ) (op : UnaryOp) (typed : PlainTyped) (c : Context) (e : Found) (z : Context × Found) → IsPlain op → 1 ≤ line → HasValue (world c) e → unary line op c.tags e.typed ≡ Ok typed → good (before_number line op typed (operand e.typed.type) c e) ≡ Ok z → Lands c z
+plain_lands line op typed c e z p l h t k = let r = plain_number line op e.typed typed (operand e.typed.type) p t in plain_applied line op (operand e.typed.type) typed c e z l h.held r.1 r.0.0 r.0.1 k
+
+apply_lands : (line : ℕ) (op : UnaryOp) (tree : Tree) (typed : PlainTyped) (c : Context) (e : Found) (z : Context × Found) → 1 ≤ line → 1 ≤ code_line tree → HasValue (world c) e → unary line op c.tags e.typed ≡ Ok typed → good (apply line op tree typed c e) ≡ Ok z → Lands c z
+apply_lands line u.Deref tree typed c e z l l2 h t k = deref_lands line c (operand e.typed.type) e typed z h.held t k
+apply_lands line u.Not tree typed c e z l l2 h t k =
+    let r = not_typed line e.typed typed (operand e.typed.type) t in
+    tested_not line tree typed c e z l l2 h (⊎_elim (λ (x : (s : IntType) × (operand e.typed.type ≡ Number s)). number_scalar e.typed.type x.0 x.1) (λ (x : (target : PlainType) × (operand e.typed.type ≡ PointerTo target)). pointer_scalar e.typed.type x.0 x.1) r.2) r.0 r.1 k
+apply_lands line op tree typed c e z l l2 h t k = plain_lands line op typed c e z tt l h t k
+
+pub applied_lands : (line : ℕ) (op : UnaryOp) (tree : Tree) (c : Context) (e : Found) (z : Context × Found) → 1 ≤ line → 1 ≤ code_line tree → HasValue (world c) e → applied line op tree c e ≡ Ok z → Lands c z
+applied_lands line op tree c e z l l2 h q =
+    let t = came (unary line op c.tags e.typed) (λ typed. good (apply line op tree typed c e)) z q in
+    apply_lands line op tree t.value c e z l l2 h t.is t.last
+
+-- two operands
+
+-- what comes next, where it is known ahead
+pub is_pointed : (type : PlainType) → is_pointer_operand (operand type) ≡ true → IsPointed (operand type)
+is_pointed (types.Pointer target) e = tt
+is_pointed types.Void e = cc
+is_pointed (types.Int ty) e = cc
+is_pointed (types.Array element length) e = cc
+is_pointed (types.Struct tag) e = cc
+is_pointed (types.Union tag) e = cc
+is_pointed (types.Function answer params) e = cc
+
+and_first : (x y : Bool) → x && y ≡ true → x ≡ true
+and_first true y e = refl
+and_first false y e = cc
+
+and_second : (x y : Bool) → x && y ≡ true → y ≡ true
+and_second true y e = e
+and_second false y e = cc
+
+-- a left operand in front of its right one, whose type is known ahead
+pub record LeftGoes (b : Context) (op : BinaryOp) (right : Tree) (d begun : Context × Found) : Type 0 where
+  pub goes : Goes b begun.0
+  pub typed : begun.1.typed ≡ d.1.typed
+  pub left : (y : PlainTyped) → ahead right d.0 ≡ Some y → LeftOf begun.0 op (operand d.1.typed.type) (operand y.type) (atom_in begun.1)
+
+pub left_goes : (op : BinaryOp) (b : Context) (right : Tree) (d : Context × Found) → Goes b d.0 → HasValue (world d.0) d.1 → LeftGoes b op right d (left_operand op b.code right d)
+left_goes op b right d g h = by (tells_equal op && is_null_constant d.1.typed && is_pointer_ahead (ahead right d.0)) refl
+  where
+    by : (k : Bool) → (tells_equal op && is_null_constant d.1.typed && is_pointer_ahead (ahead right d.0)) ≡ k → LeftGoes b op right d (cond k (forget b.code d.0, found_as d.1.typed (Value atom.Null) Nowhere) d)
+    by true e = record {
+      goes = goes_forgotten b d.0 g;
+      typed = refl;
+      left = λ y q. inr (and_first (tells_equal op) (is_null_constant d.1.typed) (and_first (tells_equal op && is_null_constant d.1.typed) (is_pointer_ahead (ahead right d.0)) e), is_pointed y.type (ap is_pointer_ahead (sym q) ∙ and_second (tells_equal op && is_null_constant d.1.typed) (is_pointer_ahead (ahead right d.0)) e), refl);
+    }
+    by false e = record { goes = g; typed = refl; left = λ y q. inl h.held }
+
+pub between_lands : (line : ℕ) (op : BinaryOp) (b c : Context) (x y : Found) (z : Context × Found) → IsBetween op → 1 ≤ line → Goes b c → LeftOf b op (operand x.typed.type) (operand y.typed.type) (atom_in x) → HasValue (world c) y → between line op b.code c x y ≡ Ok z → Comes b z
+between_lands line op b c x y z i l g h k q =
+    let t = came (binary line op c.tags x.typed y.typed) (λ typed. good (with_value typed (fixed_sum c op x y) (combined line op b.code x y c))) z q in
+    made_comes b t.value (fixed_sum c op x y) (combined line op b.code x y c) z (binary_makes line l b c g op c.tags x.typed y.typed t.value (atom_in x) (atom_in y) i t.is h k.held) t.last
+
+-- casts
+
+cast_converts : (line : ℕ) (type : PlainType) (e typed : PlainTyped) (s t : Operand) → operand type ≡ s → cast_types line type e s t ≡ Ok typed → (typed.is_place ≡ false) × (operand typed.type ≡ operand type) × Converting s t
+cast_converts line type e typed (Number ty) (Number source) o h = subst (λ (x : PlainTyped). (x.is_place ≡ false) × (operand x.type ≡ operand type) × Unit {0}) (ok_same _ typed h) (refl, sym o, tt)
+cast_converts line type e typed (PointerTo target) (PointerTo source) o h = subst (λ (x : PlainTyped). (x.is_place ≡ false) × (operand x.type ≡ operand type) × Unit {0}) (ok_same _ typed h) (refl, refl, tt)
+cast_converts line type e typed (PointerTo target) (Number source) o h = subst (λ (x : PlainTyped). (x.is_place ≡ false) × (operand x.type ≡ operand type) × Unit {0}) (ok_same (null_pointer type target) typed (beside_is line e _ typed h)) (refl, refl, tt)
+cast_converts line type e typed (Number ty) (PointerTo source) o h = never _ _ typed h
+cast_converts line type e typed (Number ty) Neither o h = never _ _ typed h
+cast_converts line type e typed (PointerTo target) Neither o h = never _ _ typed h
+cast_converts line type e typed Neither t o h = never _ _ typed h
+
+cast_typed : (line : ℕ) (type : PlainType) (e typed : PlainTyped) → cast line type e ≡ Ok typed → (typed.is_place ≡ false) × (operand typed.type ≡ operand type) × Converting (operand type) (operand e.type)
+cast_typed line types.Void e typed h = subst (λ (x : PlainTyped). (x.is_place ≡ false) × (operand x.type ≡ Neither) × Unit {0}) (ok_same (value types.Void) typed h) (refl, refl, tt)
+cast_typed line (types.Int ty) e typed h = cast_converts line (types.Int ty) e typed (Number ty) (operand e.type) refl h
+cast_typed line (types.Pointer target) e typed h = cast_converts line (types.Pointer target) e typed (PointerTo target) (operand e.type) refl h
+cast_typed line (types.Array element length) e typed h = never _ _ typed h
+cast_typed line (types.Struct tag) e typed h = never _ _ typed h
+cast_typed line (types.Union tag) e typed h = never _ _ typed h
+cast_typed line (types.Function answer params) e typed h = never _ _ typed h
+
+pub cast_lands : (line : ℕ) (type : PlainType) (b c : Context) (e : Found) (z : Context × Found) → 1 ≤ line → Goes b c → HasValue (world c) e → cast_to line type b.code c e ≡ Ok z → Comes b z
+cast_lands line type b c e z l g h q =
+    let t = came (cast line type e.typed) (λ typed. good (with_value typed (cast_fixed e.typed e.fixed) (convert line b.code type e.typed (atom_in e) c))) z q in
+    let r = cast_typed line type e.typed t.value t.is in
+    let d = convert line b.code type e.typed (atom_in e) c in
+    let k = converted line b type e.typed (atom_in e) c l g h.held in
+    made_comes b t.value (cast_fixed e.typed e.fixed) d z (record { value = r.0; goes = k.goes; held = subst (λ (o : Operand). HeldAs (world d.0) o d.1) (sym r.1) (k.held r.2) }) t.last

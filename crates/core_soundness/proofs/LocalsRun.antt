@@ -1,0 +1,299 @@
+-- What declarations do to what fits (C99 6.7, 6.9.2).
+use Rattle.std.proofs.Common.{◌≡◌, ◌≤◌, ◌+◌, ℕ, zero, suc, pos, Bool, true, false, cond, nat_lt, length, is_some, List, [], ◌∷◌, ◌++◌, slice_get, slice_set, unwrap_or, Option, Some, None, Ok, refl, ap, ◌∙◌, subst, arith, bytes_eq, length-append}
+use Rattle.std.specs.Option.{option_or}
+use Rattle.std.proofs.lemmas.Bool.{ltb-true}
+use Rattle.hs_base.specs.Place.{block_size}
+use Rattle.c_types.specs.Types as types
+use Rattle.c_types.specs.Types.{PlainType, Void, Array, Struct, Union, Function}
+use Rattle.c_types.specs.Layouts.{no_layout}
+use Rattle.c_types.specs.TagTable.{layout_in}
+use Rattle.core_tree.specs.declared.program.Start.{Start}
+use Rattle.core_tree.specs.declared.statements.Atom.{Atom}
+use Rattle.core_tree.specs.declared.statements.Atom.TheVariants as atom
+use Rattle.core_tree.specs.declared.statements.StmKind.TheVariants.{Set, Clear}
+use Rattle.core_tree.specs.Sorts.{Sort, Integer, Pointer}
+use Rattle.c_tree.specs.Words as w
+use Rattle.c_tree.specs.Forms as f
+use Rattle.c_tree.specs.Tree.{Tree, Trees, Leaf, At, Node, none, ◌▹◌}
+use Rattle.c_tree.specs.Scopes.{name_of}
+use Rattle.c_decls.specs.declared.refusal.TypeKind.TheVariants.{Assignment, DeclaredTwice, Incomplete, LeftOut, StaticTooLarge}
+use Rattle.c_decls.specs.Named as n
+use Rattle.c_decls.specs.Named.{PlainNamed}
+use Rattle.c_decls.specs.ScopeList.{ScopeList, Table, named_in, innermost, with_name, after_declaration, tag_name}
+use Rattle.c_decls.specs.ScopeList as scopes
+use Rattle.c_decls.specs.Refusals.{Checked, then, unless}
+use Rattle.c_decls.specs.Typed.{is_function, has_no_size}
+use Rattle.c_decls.specs.TypeNames.{tag_named}
+use Rattle.c_decls.specs.Expressions.{line_of}
+use Rattle.elaboration.specs.Context.{Context, Variable, asked, emit}
+use Rattle.elaboration.specs.Conversions.{Spot, Local, Memory, Value, Empty, size_or_zero}
+use Rattle.elaboration.specs.Rules.{with_static}
+use Rattle.elaboration.specs.Locals.{is_twice, declared_as, with_local}
+use Rattle.elaboration.specs.Declarators.{layers}
+use Rattle.elaboration.specs.Initializers.{Target, InRegister, InMemory, InStatic, initialize, surplus, no_start, with_init_layers}
+use Rattle.elaboration.specs.Declarations as storages
+use Rattle.elaboration.specs.Declarations.{Storage, Typedef, Outside, storage_of, specs_alone, specs_before, zero_of, cleared, fill_memory, fill_register, fill_at, fill_local, local_object, local_name, function_number, with_function, declared_function, no_initializer, variable_number_of, with_new_variable, with_variable, start_of, start_in, started_variable, started, fill_variable, file_object, file_function, file_value, file_name, name_in, entry, entries, declaration}
+use Rattle.core_soundness.specs.Worlds.{world, Holds, StandsAs, InnerFits, FileFits, TablesFit}
+use Rattle.core_soundness.specs.Spoken.{Plain, AllPlain}
+use Rattle.core_soundness.proofs.Grown.{good, bad, ok_same, never}
+use Rattle.core_soundness.proofs.Names.{more_refl, named_push}
+use Rattle.core_soundness.proofs.TypedNames.{tag_after}
+use Rattle.core_soundness.proofs.Agreeing.{came}
+use Rattle.core_soundness.proofs.Growing.{Grew, grew_refl, pieces_grew}
+use Rattle.core_soundness.proofs.Going.{Goes, goes_trans, goes_emit}
+use Rattle.core_soundness.proofs.Operating.{passed, behind_test}
+use Rattle.core_soundness.proofs.Readying.{names_more}
+use Rattle.core_soundness.proofs.Plainly.{plain_spoken}
+use Rattle.core_soundness.proofs.Running.{Fine, Runs, runs_refl, runs_trans, goes_runs, on_runs, table_grew}
+use Rattle.core_soundness.proofs.LayersRun.{TableKept, rescoped, pushed_fits, with_local_runs, declared_runs, with_type_runs, specs_run, layers_run}
+use Rattle.core_soundness.proofs.FillsRun.{initialize_fits}
+
+-- locals
+
+cleared_goes : (line : ℕ) (type : PlainType) (mem : Atom) (c : Context) → 1 ≤ line → Holds (world c) Pointer mem → Goes c (cleared line type mem c)
+cleared_goes line type mem c l h = goes_emit line (Clear mem (pos (size_or_zero c type))) c l h
+
+fill_memory_goes : (line : ℕ) (type : PlainType) (inits : Trees) (mem : Atom) (c z : Context) → 1 ≤ line → AllPlain inits → Fine c → Holds (world c) Pointer mem → fill_memory line type inits mem c ≡ Ok z → Goes c z
+unfolding AllPlain
+fill_memory_goes line type (init ▹ rest) (atom.Mem mem) c z l p g h q =
+    let x = cleared line type (atom.Mem mem) c in
+    let first = cleared_goes line type (atom.Mem mem) c l h in
+    let d = came (initialize init false type 0 (InMemory line mem) x) (λ d. good d.0) z q in
+    let one = initialize_fits init false type 0 (InMemory line mem) x d.value (plain_spoken x.scopes init p.0) g.names (l, h.1) d.is in
+    subst (Goes c) (ok_same d.value.0 z d.last) (goes_trans c x d.value.0 first one.goes)
+fill_memory_goes line type none mem c z l p g h q = subst (Goes c) (ok_same (cleared line type mem c) z q) (cleared_goes line type mem c l h)
+fill_memory_goes line type (init ▹ rest) (atom.Reg r) c z l p g h q = subst (Goes c) (ok_same (cleared line type (atom.Reg r) c) z q) (cleared_goes line type (atom.Reg r) c l h)
+fill_memory_goes line type (init ▹ rest) (atom.Int v) c z l p g h q = subst (Goes c) (ok_same (cleared line type (atom.Int v) c) z q) (cleared_goes line type (atom.Int v) c l h)
+fill_memory_goes line type (init ▹ rest) atom.Null c z l p g h q = subst (Goes c) (ok_same (cleared line type atom.Null c) z q) (cleared_goes line type atom.Null c l h)
+fill_memory_goes line type (init ▹ rest) (atom.Static v) c z l p g h q = subst (Goes c) (ok_same (cleared line type (atom.Static v) c) z q) (cleared_goes line type (atom.Static v) c l h)
+
+zero_set : (line : ℕ) (type : PlainType) (register : ℕ) (c : Context) → 1 ≤ line → StandsAs (world c) true type (Local register) → Goes c (emit line (Set register (zero_of type)) c)
+zero_set line (types.Int ty) register c l h = goes_emit line (Set register (atom.Int (pos 0))) c l (Integer, h.1, refl)
+zero_set line (types.Pointer target) register c l h = goes_emit line (Set register atom.Null) c l (Pointer, h.1, refl)
+zero_set line Void register c l h = let clash : false ≡ true = h.0 in cc
+zero_set line (Array element length) register c l h = let clash : false ≡ true = h.0 in cc
+zero_set line (Struct tag) register c l h = let clash : false ≡ true = h.0 in cc
+zero_set line (Union tag) register c l h = let clash : false ≡ true = h.0 in cc
+zero_set line (Function answer params) register c l h = let clash : false ≡ true = h.0 in cc
+
+fill_register_goes : (line : ℕ) (type : PlainType) (inits : Trees) (register : ℕ) (c z : Context) → 1 ≤ line → AllPlain inits → Fine c → StandsAs (world c) true type (Local register) → fill_register line type inits register c ≡ Ok z → Goes c z
+unfolding AllPlain
+fill_register_goes line type none register c z l p g h q = subst (Goes c) (ok_same (emit line (Set register (zero_of type)) c) z q) (zero_set line type register c l h)
+fill_register_goes line type (init ▹ rest) register c z l p g h q =
+    let d = came (initialize init false type 0 (InRegister line register) c) (λ d. good d.0) z q in
+    let one = initialize_fits init false type 0 (InRegister line register) c d.value (plain_spoken c.scopes init p.0) g.names (l, h) d.is in
+    subst (Goes c) (ok_same d.value.0 z d.last) one.goes
+
+fill_at_goes : (line : ℕ) (type : PlainType) (inits : Trees) (spot : Spot) (c z : Context) → 1 ≤ line → AllPlain inits → Fine c → StandsAs (world c) true type spot → fill_at line type inits spot c ≡ Ok z → Goes c z
+fill_at_goes line type inits (Local register) c z l p g h q = fill_register_goes line type inits register c z l p g h q
+fill_at_goes line type inits (Memory mem) c z l p g h q = fill_memory_goes line type inits mem c z l p g h q
+fill_at_goes line type inits (Value a) c z l p g h q = absurd h
+fill_at_goes line type inits Empty c z l p g h q = absurd h
+
+module _ (answer : Option Sort) where
+  local_object_runs : (line : ℕ) (name : List ℕ) (type : PlainType) (inits : Trees) (k : ℕ) (c z : Context) → 1 ≤ line → AllPlain inits → Fine c → length c.scopes.inner ≡ suc k → local_object line name type inits c ≡ Ok z → Runs answer c z
+  local_object_runs line name type inits k c z l p g deep q =
+      let x : Context × Spot = with_local name type c in
+      let r2 : Checked Context = unless (is_twice c.scopes name (n.Object type 0)) DeclaredTwice line (fill_local line type inits x) in
+      let r1 : Checked Context = unless (has_no_size c.tags type) Incomplete line r2 in
+      let a = behind_test (is_function type) LeftOut line r1 z q in
+      let b = behind_test (has_no_size c.tags type) Incomplete line r2 z a in
+      let e = behind_test (is_twice c.scopes name (n.Object type 0)) DeclaredTwice line (fill_local line type inits x) z b in
+      let r = with_local_runs answer name type k c deep g in
+      on_runs answer c x.0 z r.runs (fill_at_goes line type inits x.1 x.0 z l p r.runs.fine r.stands e)
+
+  local_name_runs : (line : ℕ) (storage : Storage) (name : List ℕ) (type : PlainType) (inits : Trees) (k : ℕ) (c z : Context) → 1 ≤ line → AllPlain inits → Fine c → length c.scopes.inner ≡ suc k → local_name line storage name type inits c ≡ Ok z → Runs answer c z
+  local_name_runs line Typedef name type inits k c z l p g deep q = declared_runs answer line name (n.Typedef type) c c tt tt tt (runs_refl answer c g) z q
+  local_name_runs line Outside name type inits k c z l p g deep q = never _ _ z q
+  local_name_runs line storages.Plain name type inits k c z l p g deep q = local_object_runs line name type inits k c z l p g deep q
+
+-- file scope
+
+pushed_kept : (key : List ℕ) (v : PlainNamed) (t : Table) → TableKept t (t ++ (key, v) ∷ [])
+pushed_kept key v t name x e = named_push name key v t ∙ ap (λ o. option_or o (cond (bytes_eq name key) (Some v) None)) e
+
+some_none : (k : ℕ) → suc k ≡ 0 → ⊥
+some_none k x = omega arith
+
+-- a name more at file scope
+file_renamed : (answer : Option Sort) (name : List ℕ) (v : PlainNamed) (c : Context) → length c.scopes.inner ≡ 0 → FileFits (world c) v → Fine c → Runs answer c (record c { scopes = after_declaration c.scopes name v })
+file_renamed answer name v c flat h g = by (is_some (named_in name (innermost c.scopes)))
+  where
+    empty : (inner : List Table) → length inner ≡ 0 → TablesFit (InnerFits (world c)) inner → Runs answer c (record c { scopes = record { file = c.scopes.file; inner = inner } }) → Runs answer c (record c { scopes = scopes.with_name_in c.scopes.file inner name v })
+    empty [] e t r = runs_trans answer c (record c { scopes = record { file = c.scopes.file; inner = [] } }) _ r
+        (rescoped answer (record c { scopes = record { file = c.scopes.file; inner = [] } }) (record { file = c.scopes.file ++ (name, v) ∷ []; inner = [] }) (pushed_kept name v c.scopes.file) refl
+        (record { file = pushed_fits (FileFits (world c)) name v c.scopes.file h g.names.file; inner = tt }) r.fine)
+    empty (s ∷ ss) e t r = absurd (some_none (length ss) e)
+
+    by : (t : Bool) → Runs answer c (record c { scopes = cond t c.scopes (with_name c.scopes name v) })
+    by true = runs_refl answer c g
+    by false = empty c.scopes.inner flat g.names.inner (runs_refl answer c g)
+
+declared_at : (line : ℕ) (name : List ℕ) (v : PlainNamed) (c d : Context) → declared_as line name v c ≡ Ok d → record c { scopes = after_declaration c.scopes name v } ≡ d
+declared_at line name v c d q = passed (is_twice c.scopes name v) DeclaredTwice line (record c { scopes = after_declaration c.scopes name v }) d q
+
+functions_grew : (answer : Option Sort) (c : Context) (index : ℕ) (name : List ℕ) → Fine c → Runs answer c (with_function index name c)
+functions_grew answer c index name g = by (nat_lt index (length c.functions))
+  where
+    by : (t : Bool) → Runs answer c (cond t c (record c { functions = c.functions ++ (record { name = name; defined = None }) ∷ [] }))
+    by true = runs_refl answer c g
+    by false = record { grew = grew_refl (world c); fine = record { names = g.names; lined = g.lined }; fits = λ k. k; answer = refl; depth = refl; params = λ k. k; walked = refl }
+
+pub function_runs : (answer : Option Sort) (line : ℕ) (name : List ℕ) (type : PlainType) (c z : Context) → length c.scopes.inner ≡ 0 → Fine c → declared_function line name type c ≡ Ok z → Runs answer c z
+function_runs answer line name type c z flat g q =
+    let index = function_number name c in
+    let d = came (declared_as line name (n.Function type index) c) (λ d. good (with_function index name d)) z q in
+    let one : Runs answer c d.value = subst (Runs answer c) (declared_at line name (n.Function type index) c d.value d.is) (file_renamed answer name (n.Function type index) c flat tt g) in
+    subst (Runs answer c) (ok_same (with_function index name d.value) z d.last) (runs_trans answer c d.value _ one (functions_grew answer d.value index name one.fine))
+
+no_initializer_runs : (answer : Option Sort) (inits : Trees) (c z : Context) → Fine c → no_initializer inits c ≡ Ok z → Runs answer c z
+no_initializer_runs answer none c z g q = subst (Runs answer c) (ok_same c z q) (runs_refl answer c g)
+no_initializer_runs answer (init ▹ rest) c z g q = let d = came (surplus init c) (λ d. bad (record { kind = Assignment; line = line_of init })) z q in never _ _ z d.last
+
+-- one variable more, with its bytes
+more_variables : (answer : Option Sort) (c : Context) (v : Variable) (bytes : ℕ) → Fine c → Runs answer c (record c { static_bytes = bytes; variables = c.variables ++ v ∷ [] })
+more_variables answer c v bytes g =
+    let d : Context = record c { static_bytes = bytes; variables = c.variables ++ v ∷ [] } in
+    let grew : Grew (world c) (world d) = record { locals = λ k r e. e; mems = omega arith; integers = omega arith; pointers = omega arith; variables = omega (arith, length-append c.variables (v ∷ [])); literals = omega arith; formats = λ k x e. e; calls = λ j y e. e; file = λ name t i e. e } in
+    record {
+      grew = grew;
+      fine = record { names = names_more (world c) (world d) c.scopes c.scopes grew (more_refl c.scopes) g.names; lined = g.lined };
+      fits = λ k. pieces_grew answer (world c) (world d) c.code.pieces grew k;
+      answer = refl;
+      depth = refl;
+      params = λ k. table_grew (world c) (world d) c.params grew k;
+      walked = refl;
+    }
+
+number_small : (c : Context) (o : Option PlainNamed) → ((v : PlainNamed) → o ≡ Some v → FileFits (world c) v) → variable_number_of c o ≤ length c.variables
+number_small c (Some (n.Object type i)) h = omega (arith, h (n.Object type i) refl)
+number_small c (Some (n.Register type i)) h = omega arith
+number_small c (Some (n.Function type i)) h = omega arith
+number_small c (Some (n.Typedef type)) h = omega arith
+number_small c (Some (n.Constant type i)) h = omega arith
+number_small c (Some (n.BuiltIn i)) h = omega arith
+number_small c (Some (n.Tag type)) h = omega arith
+number_small c None h = omega arith
+
+-- a variable with its name
+variable_runs : (answer : Option Sort) (line index : ℕ) (name : List ℕ) (type : PlainType) (c z : Context) → length c.scopes.inner ≡ 0 → index ≤ length c.variables → Fine c → with_variable line index name type (record c { scopes = after_declaration c.scopes name (n.Object type index) }) ≡ Ok z → Runs answer c z
+variable_runs answer line index name type c z flat small g q = by (nat_lt index (length c.variables)) refl q
+  where
+    by : (t : Bool) → nat_lt index (length c.variables) ≡ t → cond t (good (record c { scopes = after_declaration c.scopes name (n.Object type index) })) (with_new_variable line name type (record c { scopes = after_declaration c.scopes name (n.Object type index) })) ≡ Ok z → Runs answer c z
+    by true e q = subst (Runs answer c) (ok_same _ z q) (file_renamed answer name (n.Object type index) c flat (ltb-true index (length c.variables) e) g)
+    by false e q =
+        let x : Context = record c { scopes = after_declaration c.scopes name (n.Object type index) } in
+        let v : Variable = record { name = name; layout = unwrap_or (layout_in c.tags type) no_layout; start = None } in
+        let s = came (with_static line (size_or_zero x type) x) (λ s. good (record s { variables = s.variables ++ (record { name = name; layout = unwrap_or (layout_in s.tags type) no_layout; start = None }) ∷ [] })) z q in
+        let bytes : ℕ = c.static_bytes + block_size (size_or_zero c type) in
+        let same : record x { static_bytes = bytes } ≡ s.value = passed (nat_lt 67108864 bytes) StaticTooLarge line (record x { static_bytes = bytes }) s.value s.is in
+        let y : Context = record c { static_bytes = bytes; variables = c.variables ++ v ∷ [] } in
+        let one = more_variables answer c v bytes g in
+        let two = file_renamed answer name (n.Object type index) y flat (omega (arith, small, length-append c.variables (v ∷ []))) one.fine in
+        subst (Runs answer c) (ap (λ (k : Context). record k { variables = k.variables ++ (record { name = name; layout = unwrap_or (layout_in k.tags type) no_layout; start = None }) ∷ [] }) same ∙ ok_same _ z s.last) (runs_trans answer c y _ one two)
+
+set_length : {X : Type 0} (xs : List X) (i : ℕ) (x : X) → length (slice_set xs i x) ≡ length xs
+set_length [] i x = refl
+set_length (y ∷ ys) zero x = refl
+set_length (y ∷ ys) (suc i) x = ap suc (set_length ys i x)
+
+started_length : (index : ℕ) (start : Start) (o : Option Variable) (variables : List Variable) → length (started_variable index start o variables) ≡ length variables
+started_length index start None variables = refl
+started_length index start (Some v) variables = set_length variables index (record v { start = Some start })
+
+started_runs : (answer : Option Sort) (index : ℕ) (d : Context × Target) → Fine d.0 → Runs answer d.0 (started index d)
+started_runs answer index d g =
+    let z = started index d in
+    let grew : Grew (world d.0) (world z) = record { locals = λ k r e. e; mems = omega arith; integers = omega arith; pointers = omega arith; variables = omega (arith, started_length index (start_in d.1) (slice_get d.0.variables index) d.0.variables); literals = omega arith; formats = λ k x e. e; calls = λ j y e. e; file = λ name t i e. e } in
+    record {
+      grew = grew;
+      fine = record { names = names_more (world d.0) (world z) d.0.scopes d.0.scopes grew (more_refl d.0.scopes) g.names; lined = g.lined };
+      fits = λ k. pieces_grew answer (world d.0) (world z) d.0.code.pieces grew k;
+      answer = refl;
+      depth = refl;
+      params = λ k. table_grew (world d.0) (world z) d.0.params grew k;
+      walked = refl;
+    }
+
+fill_variable_runs : (answer : Option Sort) (line index : ℕ) (type : PlainType) (inits : Trees) (c z : Context) → AllPlain inits → Fine c → fill_variable line index type inits c ≡ Ok z → Runs answer c z
+unfolding AllPlain
+fill_variable_runs answer line index type none c z p g q = subst (Runs answer c) (ok_same c z q) (runs_refl answer c g)
+fill_variable_runs answer line index type (init ▹ rest) c z p g q =
+    let a = behind_test (is_some (start_of (slice_get c.variables index))) DeclaredTwice line (then (initialize init false type 0 (InStatic no_start) c) (λ d. good (started index d))) z q in
+    let d = came (initialize init false type 0 (InStatic no_start) c) (λ d. good (started index d)) z a in
+    let one = initialize_fits init false type 0 (InStatic no_start) c d.value (plain_spoken c.scopes init p.0) g.names tt d.is in
+    let r = goes_runs answer c d.value.0 g one.goes in
+    subst (Runs answer c) (ok_same (started index d.value) z d.last) (runs_trans answer c d.value.0 _ r (started_runs answer index d.value r.fine))
+
+file_object_runs : (answer : Option Sort) (line : ℕ) (name : List ℕ) (type : PlainType) (inits : Trees) (c z : Context) → AllPlain inits → Fine c → length c.scopes.inner ≡ 0 → file_object line name type inits c ≡ Ok z → Runs answer c z
+file_object_runs answer line name type inits c z p g flat q =
+    let index = variable_number_of c (named_in name c.scopes.file) in
+    let a = behind_test (has_no_size c.tags type) Incomplete line (then (declared_as line name (n.Object type index) c) (λ d. then (with_variable line index name type d) (λ v. fill_variable line index type inits v))) z q in
+    let d = came (declared_as line name (n.Object type index) c) (λ d. then (with_variable line index name type d) (λ v. fill_variable line index type inits v)) z a in
+    let v = came (with_variable line index name type d.value) (λ v. fill_variable line index type inits v) z d.last in
+    let at : with_variable line index name type (record c { scopes = after_declaration c.scopes name (n.Object type index) }) ≡ Ok v.value = ap (λ (x : Context). with_variable line index name type x) (declared_at line name (n.Object type index) c d.value d.is) ∙ v.is in
+    let one = variable_runs answer line index name type c v.value flat (number_small c (named_in name c.scopes.file) (λ x e. g.names.file name x e)) g at in
+    runs_trans answer c v.value z one (fill_variable_runs answer line index type inits v.value z p one.fine v.last)
+
+file_value_runs : (answer : Option Sort) (line : ℕ) (name : List ℕ) (type : PlainType) (inits : Trees) (c z : Context) → AllPlain inits → Fine c → length c.scopes.inner ≡ 0 → file_value line name type inits c ≡ Ok z → Runs answer c z
+file_value_runs answer line name type inits c z p g flat q = by (is_function type) q
+  where
+    by : (t : Bool) → cond t (file_function line name type inits c) (file_object line name type inits c) ≡ Ok z → Runs answer c z
+    by true q =
+        let d = came (declared_function line name type c) (λ d. no_initializer inits d) z q in
+        let one = function_runs answer line name type c d.value flat g d.is in
+        runs_trans answer c d.value z one (no_initializer_runs answer inits d.value z one.fine d.last)
+    by false q = file_object_runs answer line name type inits c z p g flat q
+
+-- where names are declared: at file scope, or inside a function
+abbrev pub AtPlace : Bool → Context → Type 0
+AtPlace true c = length c.scopes.inner ≡ 0
+AtPlace false c = (k : ℕ) × (length c.scopes.inner ≡ suc k)
+
+pub place_on : (file : Bool) (c d : Context) → length d.scopes.inner ≡ length c.scopes.inner → AtPlace file c → AtPlace file d
+place_on true c d e h = e ∙ h
+place_on false c d e h = (h.0, e ∙ h.1)
+
+file_name_runs : (answer : Option Sort) (line : ℕ) (storage : Storage) (name : List ℕ) (type : PlainType) (inits : Trees) (c z : Context) → AllPlain inits → Fine c → length c.scopes.inner ≡ 0 → file_name line storage name type inits c ≡ Ok z → Runs answer c z
+file_name_runs answer line Typedef name type inits c z p g flat q = declared_runs answer line name (n.Typedef type) c c tt tt tt (runs_refl answer c g) z q
+file_name_runs answer line Outside name type inits c z p g flat q = file_value_runs answer line name type inits c z p g flat q
+file_name_runs answer line storages.Plain name type inits c z p g flat q = file_value_runs answer line name type inits c z p g flat q
+
+name_in_runs : (answer : Option Sort) (file : Bool) (line : ℕ) (storage : Storage) (name : Option (List ℕ)) (type : PlainType) (inits : Trees) (c z : Context) → 1 ≤ line → AllPlain inits → Fine c → AtPlace file c → name_in file line storage name type inits c ≡ Ok z → Runs answer c z
+name_in_runs answer true line storage None type inits c z l p g at q = subst (Runs answer c) (ok_same c z q) (runs_refl answer c g)
+name_in_runs answer false line storage None type inits c z l p g at q = subst (Runs answer c) (ok_same c z q) (runs_refl answer c g)
+name_in_runs answer true line storage (Some name) type inits c z l p g at q = file_name_runs answer line storage name type inits c z p g at q
+name_in_runs answer false line storage (Some name) type inits c z l p g at q = local_name_runs answer line storage name type inits at.0 c z l p g at.1 q
+
+entry_runs : (answer : Option Sort) (file : Bool) (line : ℕ) (storage : Storage) (base : PlainType) (declarator : Tree) (inits : Trees) (c z : Context) → 1 ≤ line → AllPlain inits → Fine c → AtPlace file c → entry file line storage base declarator inits c ≡ Ok z → Runs answer c z
+entry_runs answer file line storage base declarator inits c z l p g at q =
+    let x = came (layers declarator c) (λ x. then (with_init_layers x.0.tags x.1 inits base) (λ type. name_in file line storage (name_of declarator) type inits x.0)) z q in
+    let t = came (with_init_layers x.value.0.tags x.value.1 inits base) (λ type. name_in file line storage (name_of declarator) type inits x.value.0) z x.last in
+    let one = layers_run answer declarator c c (runs_refl answer c g) x.value x.is in
+    runs_trans answer c x.value.0 z one (name_in_runs answer file line storage (name_of declarator) t.value inits x.value.0 z l p one.fine (place_on file c x.value.0 one.depth at) t.last)
+
+pub entries_run : (names : Trees) (answer : Option Sort) (file : Bool) (line : ℕ) (storage : Storage) (base : PlainType) (c z : Context) → 1 ≤ line → AllPlain names → Fine c → AtPlace file c → entries file line storage base names c ≡ Ok z → Runs answer c z
+unfolding entries Plain AllPlain
+entries_run none answer file line storage base c z l p g at q = subst (Runs answer c) (ok_same c z q) (runs_refl answer c g)
+entries_run (Node f.Entry (Node f.Declared (declarator ▹ none) ▹ Node f.MaybeInit inits ▹ none) ▹ rest) answer file line storage base c z l p g at q =
+    let d = came (entry file line storage base declarator inits c) (λ d. entries file line storage base rest d) z q in
+    let one = entry_runs answer file line storage base declarator inits c d.value l p.0.1.1.0.1 g at d.is in
+    runs_trans answer c d.value z one (entries_run rest answer file line storage base d.value z l p.1 one.fine (place_on file c d.value one.depth at) d.last)
+entries_run (tree ▹ rest) answer file line storage base c z l p g at q = never _ _ z q
+
+specs_alone_runs : (answer : Option Sort) (tree : Tree) (c : Context) (z : Context × PlainType) → Fine c → specs_alone tree c ≡ Ok z → Runs answer c z.0
+specs_alone_runs answer (Node f.Specs (At line ▹ Node (f.RecordTag sort) (At at ▹ Leaf (w.Name name) ▹ none) ▹ none)) c z g q =
+    with_type_runs answer (tag_named at sort name (asked c) (named_in (tag_name name) (innermost c.scopes))) c c (tag_after at sort name (asked c) (named_in (tag_name name) (innermost c.scopes))) (runs_refl answer c g) z q
+specs_alone_runs answer tree c z g q = specs_run answer tree c c (runs_refl answer c g) z q
+
+specs_before_runs : (answer : Option Sort) (tree : Tree) (names : Trees) (c : Context) (z : Context × PlainType) → Fine c → specs_before tree names c ≡ Ok z → Runs answer c z.0
+specs_before_runs answer tree none c z g q = specs_alone_runs answer tree c z g q
+specs_before_runs answer tree (name ▹ rest) c z g q = specs_run answer tree c c (runs_refl answer c g) z q
+
+pub declaration_runs : (answer : Option Sort) (file : Bool) (line : ℕ) (words tree : Tree) (c z : Context) → 1 ≤ line → Plain tree → Fine c → AtPlace file c → declaration file line words tree c ≡ Ok z → Runs answer c z
+unfolding declaration Plain
+declaration_runs answer file line words (Node f.Names names) c z l p g at q =
+    let base = came (specs_before words names c) (λ base. entries file line (storage_of words) base.1 names base.0) z q in
+    let one = specs_before_runs answer words names c base.value g base.is in
+    runs_trans answer c base.value.0 z one (entries_run names answer file line (storage_of words) base.value.1 base.value.0 z l p.1 one.fine (place_on file c base.value.0 one.depth at) base.last)
+declaration_runs answer file line words tree c z l p g at q = never _ _ z q

@@ -1,0 +1,450 @@
+-- The registers that declarators make: those of the parameters of their function layer, in order (C99 6.7.5.3, 6.9.1).
+use Rattle.std.proofs.Common.{◌≡◌, ◌≤◌, ◌+◌, ℕ, zero, suc, ℤ, pos, ◌+ℤ◌, Bool, true, false, ◌||◌, cond, is_some, map, length, reverse, unwrap_or, ◌⊎◌, inl, inr, ⊎_elim, List, [], ◌∷◌, ◌++◌, Option, Some, None, Result, Ok, Err, refl, sym, ap, ◌∙◌, subst, arith, append-nil, append_assoc}
+use Rattle.hs_base.specs.declared.ends.IntKind.TheVariants.{I32}
+use Rattle.hs_base.specs.Numbers.{wrapped}
+use Rattle.std.proofs.lemmas.List.{reverse-append, map-append}
+use Rattle.c_types.specs.declared.types.IntType.TheVariants as i
+use Rattle.c_types.specs.declared.tags.TagError.{TagError}
+use Rattle.c_types.specs.Types as types
+use Rattle.c_types.specs.Types.{PlainType, PlainTypes, Int, Struct, Union, Function, first}
+use Rattle.c_types.specs.TagTable.{TagTable, completion, known}
+use Rattle.core_tree.specs.Sorts.{Sort, sort_of}
+use Rattle.c_tree.specs.declared.operator.RecordSort.{RecordSort}
+use Rattle.c_tree.specs.declared.operator.RecordSort.TheVariants as r
+use Rattle.c_tree.specs.Words as w
+use Rattle.c_tree.specs.Forms as f
+use Rattle.c_tree.specs.Tree.{Tree, Trees, Leaf, At, Node, none, ◌▹◌}
+use Rattle.c_tree.specs.Scopes.{name_of}
+use Rattle.c_decls.specs.declared.constant.Constant.{Constant}
+use Rattle.c_decls.specs.declared.refusal.TypeKind.TheVariants.{DeclaredTwice, Incomplete, LeftOut}
+use Rattle.c_decls.specs.Named as n
+use Rattle.c_decls.specs.Named.{PlainNamed}
+use Rattle.c_decls.specs.ScopeList.{named_in, innermost, with_name, tag_name, after_declaration}
+use Rattle.c_decls.specs.Refusals.{Checked, then, unless}
+use Rattle.c_decls.specs.Typed.{is_void, is_record, is_function, is_array, has_no_size}
+use Rattle.c_decls.specs.TypeNames as names
+use Rattle.c_decls.specs.TypeNames.{Layer, PointerTo, ArrayOf, FunctionOf, word_type, special_type, array_length, array_of, layered, with_layers, with_param_layers, adjusted}
+use Rattle.c_decls.specs.Expressions.{line_of, typed, wanted, constant_from}
+use Rattle.elaboration.specs.Context.{Context, asked, told, entered, local_register}
+use Rattle.elaboration.specs.Conversions.{Spot, Local, Memory, write}
+use Rattle.core_tree.specs.declared.statements.Atom.{Atom}
+use Rattle.core_tree.specs.declared.statements.Atom.TheVariants as atom
+use Rattle.elaboration.specs.Locals.{is_pointer, declared_as, next_is_memory, with_register, with_memory, with_named, memory_param, register_param, with_param}
+use Rattle.elaboration.specs.Declarators as d
+use Rattle.elaboration.specs.Declarators.{constant, with_type, maybe_name, unnamed, newly_named, begun_as, begun, completed_by, complete, ended, with_member, member, enumerator, enum_named, is_declared, param, left_params, specs, words_type, tag_type, members, member_names, enumerators, layers, suffix_layers, suffix_layer, params}
+use Rattle.core_soundness.specs.Worlds.{type_sort, param_sorts}
+use Rattle.core_soundness.proofs.Grown.{good, bad, ok_same, never}
+use Rattle.core_soundness.proofs.Agreeing.{came}
+use Rattle.core_soundness.proofs.Operating.{passed, kept_test, behind_test}
+
+-- the sorts of the parameters and locals so far
+abbrev pub sorts : Context → List Sort
+sorts c = map sort_of c.running.locals
+
+-- layers of functions, and the sorts of their parameters
+
+abbrev pub functions : List Layer → ℕ
+functions [] = 0
+functions (FunctionOf line params ∷ ls) = suc (functions ls)
+functions (PointerTo line ∷ ls) = functions ls
+functions (ArrayOf line length ∷ ls) = functions ls
+
+abbrev pub function_sorts : List Layer → List Sort
+function_sorts [] = []
+function_sorts (FunctionOf line params ∷ ls) = param_sorts params ++ function_sorts ls
+function_sorts (PointerTo line ∷ ls) = function_sorts ls
+function_sorts (ArrayOf line length ∷ ls) = function_sorts ls
+
+reverse_one : (x : Layer) (ls : List Layer) → reverse (x ∷ ls) ≡ reverse ls ++ x ∷ []
+reverse_one x ls = reverse-append (x ∷ []) ls
+
+pub functions_joined : (a b : List Layer) → functions (a ++ b) ≡ functions a + functions b
+functions_joined [] b = omega arith
+functions_joined (FunctionOf line params ∷ ls) b = omega (arith, functions_joined ls b)
+functions_joined (PointerTo line ∷ ls) b = functions_joined ls b
+functions_joined (ArrayOf line length ∷ ls) b = functions_joined ls b
+
+sorts_joined : (a b : List Layer) → function_sorts (a ++ b) ≡ function_sorts a ++ function_sorts b
+sorts_joined [] b = refl
+sorts_joined (FunctionOf line params ∷ ls) b = ap (λ (s : List Sort). param_sorts params ++ s) (sorts_joined ls b) ∙ sym (append_assoc (param_sorts params) (function_sorts ls) (function_sorts b))
+sorts_joined (PointerTo line ∷ ls) b = sorts_joined ls b
+sorts_joined (ArrayOf line length ∷ ls) b = sorts_joined ls b
+
+sorts_none : (a : List Layer) → functions a ≡ 0 → function_sorts a ≡ []
+sorts_none [] e = refl
+sorts_none (FunctionOf line params ∷ ls) e = absurd (omega (arith, e))
+sorts_none (PointerTo line ∷ ls) e = sorts_none ls e
+sorts_none (ArrayOf line length ∷ ls) e = sorts_none ls e
+
+pub functions_one : (x : Layer) (ls : List Layer) → functions (x ∷ ls) ≡ functions (x ∷ []) + functions ls
+functions_one (FunctionOf line params) ls = omega arith
+functions_one (PointerTo line) ls = omega arith
+functions_one (ArrayOf line length) ls = omega arith
+
+sorts_one : (x : Layer) (ls : List Layer) → function_sorts (x ∷ ls) ≡ function_sorts (x ∷ []) ++ function_sorts ls
+sorts_one (FunctionOf line params) ls = ap (λ (s : List Sort). s ++ function_sorts ls) (sym (append-nil (param_sorts params)))
+sorts_one (PointerTo line) ls = refl
+sorts_one (ArrayOf line length) ls = refl
+
+pub functions_reversed : (a : List Layer) → functions (reverse a) ≡ functions a
+functions_reversed [] = refl
+functions_reversed (x ∷ ls) =
+    ap functions (reverse_one x ls) ∙ functions_joined (reverse ls) (x ∷ []) ∙ (let e = functions_reversed ls in omega (arith, e, functions_one x ls))
+
+sorts_reversed : (a : List Layer) → functions a ≤ 1 → function_sorts (reverse a) ≡ function_sorts a
+sorts_reversed [] h = refl
+sorts_reversed (FunctionOf line params ∷ ls) h =
+    let none_left : functions ls ≡ 0 = omega (arith, h) in
+    ap function_sorts (reverse_one (FunctionOf line params) ls) ∙ sorts_joined (reverse ls) (FunctionOf line params ∷ [])
+    ∙ ap (λ (s : List Sort). s ++ (param_sorts params ++ [])) (sorts_none (reverse ls) (functions_reversed ls ∙ none_left))
+    ∙ ap (λ (s : List Sort). param_sorts params ++ s) (sym (sorts_none ls none_left))
+sorts_reversed (PointerTo line ∷ ls) h = ap function_sorts (reverse_one (PointerTo line) ls) ∙ sorts_joined (reverse ls) (PointerTo line ∷ []) ∙ append-nil (function_sorts (reverse ls)) ∙ sorts_reversed ls h
+sorts_reversed (ArrayOf line length ∷ ls) h = ap function_sorts (reverse_one (ArrayOf line length) ls) ∙ sorts_joined (reverse ls) (ArrayOf line length ∷ []) ∙ append-nil (function_sorts (reverse ls)) ∙ sorts_reversed ls h
+
+-- the sorts that layers add, where at most one of them is a function
+pub record Counts (ls : List Layer) (ss : List Sort) : Type 0 where
+  pub none : functions ls ≡ 0 → ss ≡ []
+  pub one : functions ls ≡ 1 → ss ≡ function_sorts ls
+
+nil_both : (a b : List Sort) → a ≡ [] → b ≡ [] → a ++ b ≡ []
+nil_both a b x y = ap (λ (s : List Sort). s ++ b) x ∙ y
+
+nil_left : (a b t : List Sort) → a ≡ [] → b ≡ t → a ++ b ≡ t
+nil_left a b t x y = ap (λ (s : List Sort). s ++ b) x ∙ y
+
+nil_right : (a b t : List Sort) → a ≡ t → b ≡ [] → a ++ b ≡ t
+nil_right a b t x y = ap (λ (s : List Sort). a ++ s) y ∙ append-nil a ∙ x
+
+one_of : (a b : ℕ) → a + b ≡ 1 → ((a ≡ 1) × (b ≡ 0)) ⊎ ((a ≡ 0) × (b ≡ 1))
+one_of zero b e = inr (refl, omega (arith, e))
+one_of (suc a) b e = inl (omega (arith, e), omega (arith, e))
+
+counts_more : (x : Layer) (ls : List Layer) (ss ts : List Sort) → Counts (x ∷ []) ss → Counts ls ts → Counts (x ∷ ls) (ss ++ ts)
+counts_more x ls ss ts a b = record {
+  none = λ e. nil_both ss ts (a.none (omega (arith, e, functions_one x ls))) (b.none (omega (arith, e, functions_one x ls)));
+  one = λ e. ⊎_elim
+      (λ (h : (functions (x ∷ []) ≡ 1) × (functions ls ≡ 0)). nil_right ss ts _ (a.one h.0) (b.none h.1) ∙ sym (sorts_one x ls ∙ ap (λ (s : List Sort). function_sorts (x ∷ []) ++ s) (sorts_none ls h.1) ∙ append-nil (function_sorts (x ∷ []))))
+      (λ (h : (functions (x ∷ []) ≡ 0) × (functions ls ≡ 1)). nil_left ss ts _ (a.none h.0) (b.one h.1) ∙ sym (sorts_one x ls ∙ ap (λ (s : List Sort). s ++ function_sorts ls) (sorts_none (x ∷ []) h.0)))
+      (one_of (functions (x ∷ [])) (functions ls) (sym (functions_one x ls) ∙ e));
+}
+
+counts_behind : (ls ms : List Layer) (ss ts : List Sort) → Counts ls ss → Counts ms ts → Counts (reverse ms ++ ls) (ss ++ ts)
+counts_behind ls ms ss ts a b =
+    let total : functions (reverse ms ++ ls) ≡ functions ms + functions ls = functions_joined (reverse ms) ls ∙ ap (λ (k : ℕ). k + functions ls) (functions_reversed ms) in
+    record {
+      none = λ e. nil_both ss ts (a.none (omega (arith, e, total))) (b.none (omega (arith, e, total)));
+      one = λ e. ⊎_elim
+          (λ (h : (functions ms ≡ 1) × (functions ls ≡ 0)). nil_left ss ts _ (a.none h.1) (b.one h.0)
+          ∙ sym (sorts_joined (reverse ms) ls ∙ ap (λ (s : List Sort). function_sorts (reverse ms) ++ s) (sorts_none ls h.1) ∙ append-nil (function_sorts (reverse ms)) ∙ sorts_reversed ms (omega (arith, h.0))))
+          (λ (h : (functions ms ≡ 0) × (functions ls ≡ 1)). nil_right ss ts _ (a.one h.1) (b.none h.0)
+          ∙ sym (sorts_joined (reverse ms) ls ∙ ap (λ (s : List Sort). s ++ function_sorts ls) (sorts_none (reverse ms) (functions_reversed ms ∙ h.0))))
+          (one_of (functions ms) (functions ls) (sym total ∙ e));
+    }
+
+-- types with layers
+
+pub not_function : (tags : TagTable) (ls : List Layer) (base type : PlainType) → with_layers tags ls base ≡ Ok type → is_function type ≡ false → functions ls ≡ 0
+not_function tags [] base type e h = refl
+not_function tags (FunctionOf line params ∷ []) base type e h =
+    let inner = came (layered tags (FunctionOf line params) base) (λ inner. good inner) type e in
+    let made = passed _ _ line (Function base params) inner.value inner.is in
+    let same : Function base params ≡ type = made ∙ ok_same inner.value type inner.last in
+    let clash : true ≡ false = ap is_function same ∙ h in
+    cc
+not_function tags (FunctionOf line params ∷ next ∷ ls) base type e h =
+    let x = came (then (layered tags (FunctionOf line params) base) (λ type. bad {A = PlainType} (record { kind = LeftOut; line = line }))) (λ inner. with_layers tags (next ∷ ls) inner) type e in
+    let y = came (layered tags (FunctionOf line params) base) (λ type. bad {A = PlainType} (record { kind = LeftOut; line = line })) x.value x.is in
+    never _ _ x.value y.last
+not_function tags (PointerTo line ∷ ls) base type e h =
+    let x = came (layered tags (PointerTo line) base) (λ inner. with_layers tags ls inner) type e in not_function tags ls x.value type x.last h
+not_function tags (ArrayOf line length ∷ ls) base type e h =
+    let x = came (layered tags (ArrayOf line length) base) (λ inner. with_layers tags ls inner) type e in not_function tags ls x.value type x.last h
+
+param_not_function : (tags : TagTable) (ls : List Layer) (base type : PlainType) → with_param_layers tags ls base ≡ Ok type → is_function type ≡ false → functions ls ≡ 0
+param_not_function tags [] base type e h = refl
+param_not_function tags (FunctionOf line params ∷ []) base type e h =
+    let inner = came (layered tags (FunctionOf line params) base) (λ inner. good inner) type e in
+    let made = passed _ _ line (Function base params) inner.value inner.is in
+    let same : Function base params ≡ type = made ∙ ok_same inner.value type inner.last in
+    let clash : true ≡ false = ap is_function same ∙ h in
+    cc
+param_not_function tags (FunctionOf line params ∷ next ∷ ls) base type e h =
+    let x = came (then (layered tags (FunctionOf line params) base) (λ type. bad {A = PlainType} (record { kind = LeftOut; line = line }))) (λ inner. with_param_layers tags (next ∷ ls) inner) type e in
+    let y = came (layered tags (FunctionOf line params) base) (λ type. bad {A = PlainType} (record { kind = LeftOut; line = line })) x.value x.is in
+    never _ _ x.value y.last
+param_not_function tags (PointerTo line ∷ ls) base type e h =
+    let x = came (layered tags (PointerTo line) base) (λ inner. with_param_layers tags ls inner) type e in param_not_function tags ls x.value type x.last h
+param_not_function tags (ArrayOf line None ∷ []) base type e h = refl
+param_not_function tags (ArrayOf line None ∷ next ∷ ls) base type e h =
+    let x = came (layered tags (ArrayOf line None) base) (λ inner. with_param_layers tags (next ∷ ls) inner) type e in param_not_function tags (next ∷ ls) x.value type x.last h
+param_not_function tags (ArrayOf line (Some length) ∷ ls) base type e h =
+    let x = came (layered tags (ArrayOf line (Some length)) base) (λ inner. with_param_layers tags ls inner) type e in param_not_function tags ls x.value type x.last h
+
+-- the function that layers make
+pub record MakesFunction (ls : List Layer) (answer : PlainType) (ps : PlainTypes) : Type 0 where
+  pub single : functions ls ≡ 1
+  pub sorts : function_sorts ls ≡ param_sorts ps
+  pub plain : (is_array answer || is_function answer || is_record answer) ≡ false
+
+pub makes_function : (tags : TagTable) (ls : List Layer) (base answer : PlainType) (ps : PlainTypes) → with_layers tags ls base ≡ Ok (Function answer ps) → 1 ≤ functions ls → MakesFunction ls answer ps
+makes_function tags [] base answer ps e h = absurd (omega (arith, h))
+makes_function tags (FunctionOf line params ∷ []) base answer ps e h =
+    let inner = came (layered tags (FunctionOf line params) base) (λ inner. good inner) (Function answer ps) e in
+    let made = passed _ _ line (Function base params) inner.value inner.is in
+    let test : (is_array base || is_function base || is_record base) ≡ false = kept_test _ _ line _ inner.value inner.is in
+    let same : Function base params ≡ Function answer ps = made ∙ ok_same inner.value (Function answer ps) inner.last in
+    let answers : base ≡ answer = cc in
+    let params_same : params ≡ ps = cc in
+    record { single = refl; sorts = append-nil (param_sorts params) ∙ ap param_sorts params_same; plain = subst (λ (t : PlainType). (is_array t || is_function t || is_record t) ≡ false) answers test }
+makes_function tags (FunctionOf line params ∷ next ∷ ls) base answer ps e h =
+    let x = came (then (layered tags (FunctionOf line params) base) (λ type. bad {A = PlainType} (record { kind = LeftOut; line = line }))) (λ inner. with_layers tags (next ∷ ls) inner) (Function answer ps) e in
+    let y = came (layered tags (FunctionOf line params) base) (λ type. bad {A = PlainType} (record { kind = LeftOut; line = line })) x.value x.is in
+    never _ _ x.value y.last
+makes_function tags (PointerTo line ∷ ls) base answer ps e h =
+    let x = came (layered tags (PointerTo line) base) (λ inner. with_layers tags ls inner) (Function answer ps) e in
+    let m = makes_function tags ls x.value answer ps x.last h in record { single = m.single; sorts = m.sorts; plain = m.plain }
+makes_function tags (ArrayOf line length ∷ ls) base answer ps e h =
+    let x = came (layered tags (ArrayOf line length) base) (λ inner. with_layers tags ls inner) (Function answer ps) e in
+    let m = makes_function tags ls x.value answer ps x.last h in record { single = m.single; sorts = m.sorts; plain = m.plain }
+
+-- what adds no register
+
+constant_sorts : (e : Tree) (c : Context) (z : Context × Constant) → constant e c ≡ Ok z → sorts z.0 ≡ sorts c
+constant_sorts e c z q =
+    let x = came (wanted e (typed e (asked c))) (λ x. then (constant_from (line_of e) x.1.type x.1.folded) (λ k. good (told x.0 c, k))) z q in
+    let k = came (constant_from (line_of e) x.value.1.type x.value.1.folded) (λ k. good (told x.value.0 c, k)) z x.last in
+    ap (λ (y : Context × Constant). sorts y.0) (sym (ok_same (told x.value.0 c, k.value) z k.last))
+
+with_type_sorts : (answer : Checked (names.Context × PlainType)) (c : Context) (z : Context × PlainType) → with_type answer c ≡ Ok z → sorts z.0 ≡ sorts c
+with_type_sorts answer c z q =
+    let x = came answer (λ x. good (told x.0 c, x.1)) z q in ap (λ (y : Context × PlainType). sorts y.0) (sym (ok_same (told x.value.0 c, x.value.1) z x.last))
+
+begun_as_sorts : (sort : RecordSort) (name : List ℕ) (named : Option PlainNamed) (c : Context) → sorts (begun_as sort name named c).0 ≡ sorts c
+begun_as_sorts sort name (Some (n.Tag type)) c = refl
+begun_as_sorts sort name named c = refl
+
+begun_sorts : (sort : RecordSort) (name : Option (List ℕ)) (c : Context) → sorts (begun sort name c).0 ≡ sorts c
+begun_sorts sort None c = refl
+begun_sorts sort (Some name) c = begun_as_sorts sort name (named_in (tag_name name) (innermost c.scopes)) c
+
+completed_sorts : (line : ℕ) (c : Context) (type : PlainType) (result : Result TagTable TagError) (z : Context × PlainType) → completed_by line c type result ≡ Ok z → sorts z.0 ≡ sorts c
+completed_sorts line c type (Ok tags) z q = ap (λ (y : Context × PlainType). sorts y.0) (sym (ok_same (record c { tags = tags }, type) z q))
+completed_sorts line c type (Err error) z q = never _ _ z q
+
+complete_sorts : (line number : ℕ) (type : PlainType) (c : Context) (list : d.Members) (z : Context × PlainType) → complete line number type c list ≡ Ok z → sorts z.0 ≡ sorts c
+complete_sorts line number type c list z q = completed_sorts line c type (completion c.tags number list) z (behind_test (is_some (known c.tags.completed number)) DeclaredTwice line (completed_by line c type (completion c.tags number list)) z q)
+
+ended_sorts : (line : ℕ) (sort : RecordSort) (type : PlainType) (c : Context) (list : d.Members) (z : Context × PlainType) → ended line sort type c list ≡ Ok z → sorts z.0 ≡ sorts c
+ended_sorts line r.Struct (Struct number) c list z q = complete_sorts line number (Struct number) c list z q
+ended_sorts line r.Union (Union number) c list z q = complete_sorts line number (Union number) c list z q
+ended_sorts line sort type c list z q = never _ _ z q
+
+declared_sorts : (line : ℕ) (name : List ℕ) (v : PlainNamed) (c z : Context) → declared_as line name v c ≡ Ok z → sorts z ≡ sorts c
+declared_sorts line name v c z q = ap sorts (sym (passed _ _ line (record c { scopes = after_declaration c.scopes name v }) z q))
+
+enumerator_sorts : (line : ℕ) (name : List ℕ) (v : ℤ) (c : Context) (z : Context × ℤ) → enumerator line name v c ≡ Ok z → sorts z.0 ≡ sorts c
+enumerator_sorts line name v c z q =
+    let x = came (declared_as line name (n.Constant i.Int (wrapped I32 v)) c) (λ x. good (x, wrapped I32 v +ℤ pos 1)) z q in
+    ap (λ (y : Context × ℤ). sorts y.0) (sym (ok_same (x.value, wrapped I32 v +ℤ pos 1) z x.last)) ∙ declared_sorts line name (n.Constant i.Int (wrapped I32 v)) c x.value x.is
+
+enum_named_sorts : (line : ℕ) (name : Option (List ℕ)) (c : Context) (z : Context × PlainType) → enum_named line name c ≡ Ok z → sorts z.0 ≡ sorts c
+enum_named_sorts line None c z q = ap (λ (y : Context × PlainType). sorts y.0) (sym (ok_same (c, Int i.Int) z q))
+enum_named_sorts line (Some name) c z q = ap (λ (y : Context × PlainType). sorts y.0) (sym (passed _ _ line (record c { scopes = with_name c.scopes (tag_name name) (n.Tag (Int i.Int)) }, Int i.Int) z q))
+
+-- a member is no function
+member_sorts : (line : ℕ) (name : Option (List ℕ)) (type : PlainType) (list : d.Members) (c : Context) (z : Context × d.Members) → member line name type list c ≡ Ok z → (sorts z.0 ≡ sorts c) × (is_function type ≡ false)
+member_sorts line name type list c z q =
+    let last : Checked (Context × d.Members) = then (with_member line name type list) (λ more. good (c, more)) in
+    let a = behind_test (is_function type) LeftOut line (unless (has_no_size c.tags type) Incomplete line last) z q in
+    let b = behind_test (has_no_size c.tags type) Incomplete line last z a in
+    let x = came (with_member line name type list) (λ more. good (c, more)) z b in
+    (ap (λ (y : Context × d.Members). sorts y.0) (sym (ok_same (c, x.value) z x.last)), kept_test (is_function type) LeftOut line (unless (has_no_size c.tags type) Incomplete line last) z q)
+
+-- a parameter has a register
+write_sorts : (line : ℕ) (type : PlainType) (spot : Spot) (a : Atom) (c : Context) → sorts (write line type spot a c) ≡ sorts c
+unfolding write
+write_sorts line (Int ty) (Memory p) a c = refl
+write_sorts line (types.Pointer target) (Memory p) a c = refl
+write_sorts line type (Local r) a c = refl
+write_sorts line type spot a c = refl
+
+one_register : (name : Option (List ℕ)) (type : PlainType) (c : Context) → sorts (with_register name type c) ≡ sorts c ++ type_sort type ∷ []
+one_register name type c = map-append sort_of c.running.locals (record { name = name; pointer = is_pointer type } ∷ [])
+
+named_sorts : (name : Option (List ℕ)) (v : PlainNamed) (c : Context) → sorts (with_named name v c) ≡ sorts c
+named_sorts None v c = refl
+named_sorts (Some name) v c = refl
+
+with_param_sorts : (name : Option (List ℕ)) (type : PlainType) (c : Context) → sorts (with_param name type c) ≡ sorts c ++ type_sort type ∷ []
+with_param_sorts name type c = by (next_is_memory type c)
+  where
+    by : (t : Bool) → sorts (cond t (memory_param name type c) (register_param name type c)) ≡ sorts c ++ type_sort type ∷ []
+    by true =
+        let y = with_memory (unwrap_or name []) type (with_register name type c) in
+        write_sorts c.running.line type (Memory (atom.Mem (length c.running.mems))) (atom.Reg (local_register (length c.running.locals))) (with_named name (n.Object type (length c.running.mems)) y)
+        ∙ named_sorts name (n.Object type (length c.running.mems)) y ∙ one_register name type c
+    by false = named_sorts name (n.Register type (length c.running.locals)) (with_register name type c) ∙ one_register name type c
+
+-- a parameter is no function, and has a register of its sort
+record Parameter (type : PlainType) (c : Context) (z : Context × PlainType) : Type 0 where
+  plain : is_function type ≡ false
+  same : z.1 ≡ type
+  added : sorts z.0 ≡ sorts c ++ type_sort type ∷ []
+
+or_right : (x y : Bool) → x || y ≡ false → y ≡ false
+or_right true y e = cc
+or_right false y e = e
+
+param_added : (line : ℕ) (name : Option (List ℕ)) (type : PlainType) (c : Context) (z : Context × PlainType) → param line name type c ≡ Ok z → Parameter type c z
+param_added line name type c z q =
+    let r2 : Checked (Context × PlainType) = unless (is_declared name c) DeclaredTwice line (good (with_param name type c, type)) in
+    let r1 : Checked (Context × PlainType) = unless (is_record type || is_function type) LeftOut line r2 in
+    let a = behind_test (is_void type) Incomplete line r1 z q in
+    let b = behind_test (is_record type || is_function type) LeftOut line r2 z a in
+    let made = passed (is_declared name c) DeclaredTwice line (with_param name type c, type) z b in
+    record { plain = or_right (is_record type) (is_function type) (kept_test (is_record type || is_function type) LeftOut line r2 z a); same = ap (λ (y : Context × PlainType). y.1) (sym made); added = ap (λ (y : Context × PlainType). sorts y.0) (sym made) ∙ with_param_sorts name type c }
+
+adjusted_plain : (type : PlainType) → is_function (adjusted type) ≡ false → is_function type ≡ false
+adjusted_plain (types.Array element length) e = refl
+adjusted_plain types.Void e = e
+adjusted_plain (Int ty) e = e
+adjusted_plain (types.Pointer target) e = e
+adjusted_plain (Struct tag) e = e
+adjusted_plain (Union tag) e = e
+adjusted_plain (Function answer ps) e = e
+
+-- what is added to the registers, and what layers say of it
+pub record Adds (c d : Context) (ss : List Sort) : Type 0 where
+  pub added : sorts d ≡ sorts c ++ ss
+
+adds_none : (c d : Context) → sorts d ≡ sorts c → Adds c d []
+adds_none c d e = record { added = e ∙ sym (append-nil (sorts c)) }
+
+adds_trans : (a b c : Context) (ss ts : List Sort) → Adds a b ss → Adds b c ts → Adds a c (ss ++ ts)
+adds_trans a b c ss ts x y = record { added = y.added ∙ ap (λ (l : List Sort). l ++ ts) x.added ∙ append_assoc (sorts a) ss ts }
+
+pub record Layered (c : Context) (z : Context × List Layer) : Type 0 where
+  pub sorts_of : List Sort
+  pub adds : Adds c z.0 sorts_of
+  pub counts : Counts z.1 sorts_of
+
+record Single (c : Context) (z : Context × Layer) : Type 0 where
+  sorts_of : List Sort
+  adds : Adds c z.0 sorts_of
+  counts : Counts (z.1 ∷ []) sorts_of
+
+no_layers : (c : Context) (z : Context × List Layer) → (c, []) ≡ z → Layered c z
+no_layers c z e = subst (Layered c) e (record { sorts_of = []; adds = adds_none c c refl; counts = record { none = λ h. refl; one = λ h. refl } })
+
+single_none : (c : Context) (z : Context × Layer) → sorts z.0 ≡ sorts c → functions (z.1 ∷ []) ≡ 0 → Single c z
+single_none c z e h = record { sorts_of = []; adds = adds_none c z.0 e; counts = record { none = λ k. refl; one = λ k. absurd (omega (arith, h, k)) } }
+
+-- with no function among the layers nothing is added
+unadded : (c : Context) (z : Context × List Layer) → Layered c z → functions z.1 ≡ 0 → sorts z.0 ≡ sorts c
+unadded c z h e = h.adds.added ∙ ap (λ (l : List Sort). sorts c ++ l) (h.counts.none e) ∙ append-nil (sorts c)
+
+mutual
+  unfolding specs words_type tag_type members member_names enumerators layers suffix_layers suffix_layer params
+
+  pub specs_sorts : (tree : Tree) (c : Context) (z : Context × PlainType) → specs tree c ≡ Ok z → sorts z.0 ≡ sorts c
+  specs_sorts (Node f.Specs (At line ▹ words)) c z q = words_sorts words line words c z q
+  specs_sorts tree c z q = never _ _ z q
+
+  words_sorts : (rest : Trees) (line : ℕ) (words : Trees) (c : Context) (z : Context × PlainType) → words_type line words rest c ≡ Ok z → sorts z.0 ≡ sorts c
+  words_sorts none line words c z q = ap (λ (y : Context × PlainType). sorts y.0) (sym (ok_same (c, word_type words) z q))
+  words_sorts (Leaf word ▹ rest) line words c z q = words_sorts rest line words c z q
+  words_sorts (At at ▹ rest) line words c z q = words_sorts rest line words c z q
+  words_sorts (Node form parts ▹ rest) line words c z q = tag_sorts (Node form parts) line c z q
+
+  tag_sorts : (tree : Tree) (line : ℕ) (c : Context) (z : Context × PlainType) → tag_type line tree c ≡ Ok z → sorts z.0 ≡ sorts c
+  tag_sorts (Node (f.RecordBody sort) (At at ▹ Node f.MaybeName name ▹ Node f.Members parts ▹ none)) line c z q =
+      let start = begun sort (maybe_name name) c in
+      let m = came (members parts [] start.0) (λ m. ended at sort start.1 m.0 m.1) z q in
+      ended_sorts at sort start.1 m.value.0 m.value.1 z m.last ∙ members_sorts parts [] start.0 m.value m.is ∙ begun_sorts sort (maybe_name name) c
+  tag_sorts (Node (f.EnumBody trailing) (At at ▹ Node f.MaybeName name ▹ Node f.Enumerators parts ▹ none)) line c z q =
+      let e = came (enumerators parts (pos 0) c) (λ e. enum_named at (maybe_name name) e) z q in
+      enum_named_sorts at (maybe_name name) e.value z e.last ∙ enumerators_sorts parts (pos 0) c e.value e.is
+  tag_sorts tree line c z q = with_type_sorts (special_type line tree (asked c)) c z q
+
+  members_sorts : (parts : Trees) (list : d.Members) (c : Context) (z : Context × d.Members) → members parts list c ≡ Ok z → sorts z.0 ≡ sorts c
+  members_sorts none list c z q = ap (λ (y : Context × d.Members). sorts y.0) (sym (ok_same (c, list) z q))
+  members_sorts (Node f.Member (At line ▹ words ▹ Node f.MemberNames declarators ▹ none) ▹ rest) list c z q =
+      let base = came (specs words c) (λ base. then (member_names line base.1 declarators list base.0) (λ m. members rest m.1 m.0)) z q in
+      let m = came (member_names line base.value.1 declarators list base.value.0) (λ m. members rest m.1 m.0) z base.last in
+      members_sorts rest m.value.1 m.value.0 z m.last ∙ member_names_sorts declarators line base.value.1 list base.value.0 m.value m.is ∙ specs_sorts words c base.value base.is
+  members_sorts (tree ▹ rest) list c z q = never _ _ z q
+
+  member_names_sorts : (parts : Trees) (line : ℕ) (base : PlainType) (list : d.Members) (c : Context) (z : Context × d.Members) → member_names line base parts list c ≡ Ok z → sorts z.0 ≡ sorts c
+  member_names_sorts none line base list c z q = ap (λ (y : Context × d.Members). sorts y.0) (sym (ok_same (c, list) z q))
+  member_names_sorts (declarator ▹ rest) line base list c z q =
+      let l = came (layers declarator c) (λ l. then (with_layers l.0.tags l.1 base) (λ type. then (member line (name_of declarator) type list l.0) (λ m. member_names line base rest m.1 m.0))) z q in
+      let t = came (with_layers l.value.0.tags l.value.1 base) (λ type. then (member line (name_of declarator) type list l.value.0) (λ m. member_names line base rest m.1 m.0)) z l.last in
+      let m = came (member line (name_of declarator) t.value list l.value.0) (λ m. member_names line base rest m.1 m.0) z t.last in
+      let s = member_sorts line (name_of declarator) t.value list l.value.0 m.value m.is in
+      member_names_sorts rest line base m.value.1 m.value.0 z m.last ∙ s.0 ∙ unadded c l.value (layers_added declarator c l.value l.is) (not_function l.value.0.tags l.value.1 base t.value t.is s.1)
+
+  enumerators_sorts : (parts : Trees) (next : ℤ) (c z : Context) → enumerators parts next c ≡ Ok z → sorts z ≡ sorts c
+  enumerators_sorts none next c z q = ap sorts (sym (ok_same c z q))
+  enumerators_sorts (Node f.Enumerator (At line ▹ Leaf (w.Name name) ▹ Node f.MaybeValue none ▹ none) ▹ rest) next c z q =
+      let e = came (enumerator line name next c) (λ e. enumerators rest e.1 e.0) z q in
+      enumerators_sorts rest e.value.1 e.value.0 z e.last ∙ enumerator_sorts line name next c e.value e.is
+  enumerators_sorts (Node f.Enumerator (At line ▹ Leaf (w.Name name) ▹ Node f.MaybeValue (v ▹ none) ▹ none) ▹ rest) next c z q =
+      let k = came (constant v c) (λ k. then (enumerator line name k.1.value k.0) (λ e. enumerators rest e.1 e.0)) z q in
+      let e = came (enumerator line name k.value.1.value k.value.0) (λ e. enumerators rest e.1 e.0) z k.last in
+      enumerators_sorts rest e.value.1 e.value.0 z e.last ∙ enumerator_sorts line name k.value.1.value k.value.0 e.value e.is ∙ constant_sorts v c k.value k.is
+  enumerators_sorts (tree ▹ rest) next c z q = never _ _ z q
+
+  pub layers_added : (tree : Tree) (c : Context) (z : Context × List Layer) → layers tree c ≡ Ok z → Layered c z
+  layers_added (Node (f.Pointer consts) (At line ▹ declarator ▹ none)) c z q =
+      let l = came (layers declarator c) (λ l. good (l.0, PointerTo line ∷ l.1)) z q in
+      let h = layers_added declarator c l.value l.is in
+      subst (Layered c) (ok_same (l.value.0, PointerTo line ∷ l.value.1) z l.last) (record { sorts_of = h.sorts_of; adds = h.adds; counts = record { none = λ e. h.counts.none e; one = λ e. h.counts.one e } })
+  layers_added (Node f.Direct (base ▹ Node f.Suffixes suffixes ▹ none)) c z q =
+      let l = came (layers base c) (λ l. then (suffix_layers suffixes l.0) (λ s. good (s.0, reverse s.1 ++ l.1))) z q in
+      let s = came (suffix_layers suffixes l.value.0) (λ s. good (s.0, reverse s.1 ++ l.value.1)) z l.last in
+      let a = layers_added base c l.value l.is in
+      let b = suffixes_added suffixes l.value.0 s.value s.is in
+      subst (Layered c) (ok_same (s.value.0, reverse s.value.1 ++ l.value.1) z s.last)
+      (record { sorts_of = a.sorts_of ++ b.sorts_of; adds = adds_trans c l.value.0 s.value.0 a.sorts_of b.sorts_of a.adds b.adds; counts = counts_behind l.value.1 s.value.1 a.sorts_of b.sorts_of a.counts b.counts })
+  layers_added (Node f.Parens (At line ▹ declarator ▹ none)) c z q = layers_added declarator c z q
+  layers_added tree c z q = no_layers c z (ok_same (c, []) z q)
+
+  suffixes_added : (parts : Trees) (c : Context) (z : Context × List Layer) → suffix_layers parts c ≡ Ok z → Layered c z
+  suffixes_added none c z q = no_layers c z (ok_same (c, []) z q)
+  suffixes_added (suffix ▹ rest) c z q =
+      let l = came (suffix_layer suffix c) (λ l. then (suffix_layers rest l.0) (λ more. good (more.0, l.1 ∷ more.1))) z q in
+      let m = came (suffix_layers rest l.value.0) (λ more. good (more.0, l.value.1 ∷ more.1)) z l.last in
+      let a = suffix_added suffix c l.value l.is in
+      let b = suffixes_added rest l.value.0 m.value m.is in
+      subst (Layered c) (ok_same (m.value.0, l.value.1 ∷ m.value.1) z m.last)
+      (record { sorts_of = a.sorts_of ++ b.sorts_of; adds = adds_trans c l.value.0 m.value.0 a.sorts_of b.sorts_of a.adds b.adds; counts = counts_more l.value.1 m.value.1 a.sorts_of b.sorts_of a.counts b.counts })
+
+  suffix_added : (tree : Tree) (c : Context) (z : Context × Layer) → suffix_layer tree c ≡ Ok z → Single c z
+  suffix_added (Node f.ArraySuffix (At line ▹ Node f.MaybeLength none ▹ none)) c z q = subst (Single c) (ok_same (c, ArrayOf line None) z q) (single_none c (c, ArrayOf line None) refl refl)
+  suffix_added (Node f.ArraySuffix (At line ▹ Node f.MaybeLength (e ▹ none) ▹ none)) c z q =
+      let x = came (wanted e (typed e (asked c))) (λ x. then (array_length (line_of e) x.1) (λ length. good (told x.0 c, ArrayOf line (Some length)))) z q in
+      let k = came (array_length (line_of e) x.value.1) (λ length. good (told x.value.0 c, ArrayOf line (Some length))) z x.last in
+      subst (Single c) (ok_same (told x.value.0 c, ArrayOf line (Some k.value)) z k.last) (single_none c (told x.value.0 c, ArrayOf line (Some k.value)) refl refl)
+  suffix_added (Node f.FunctionSuffix (At line ▹ Node f.Params parts ▹ none)) c z q =
+      let p = came (params parts (entered c)) (λ p. good (left_params p.0, FunctionOf line p.1)) z q in
+      let a = params_added parts (entered c) p.value p.is in
+      subst (Single c) (ok_same (left_params p.value.0, FunctionOf line p.value.1) z p.last)
+      (record { sorts_of = param_sorts p.value.1; adds = record { added = a.added }; counts = record { none = λ e. absurd (omega (arith, e)); one = λ e. sym (append-nil (param_sorts p.value.1)) } })
+  suffix_added tree c z q =
+      subst (Single c) (ok_same (record c { params = [] }, FunctionOf (line_of tree) types.none) z q)
+      (record { sorts_of = []; adds = record { added = sym (append-nil (sorts c)) }; counts = record { none = λ e. refl; one = λ e. refl } })
+
+  params_added : (parts : Trees) (c : Context) (z : Context × PlainTypes) → params parts c ≡ Ok z → Adds c z.0 (param_sorts z.1)
+  params_added none c z q = subst (λ (y : Context × PlainTypes). Adds c y.0 (param_sorts y.1)) (ok_same (c, types.none) z q) (adds_none c c refl)
+  params_added (Node f.Param (At line ▹ words ▹ declarator ▹ none) ▹ rest) c z q =
+      let base = came (specs words c) (λ base. then (layers declarator base.0) (λ l. then (with_param_layers l.0.tags l.1 base.1) (λ type. then (param line (name_of declarator) (adjusted type) l.0) (λ p. then (params rest p.0) (λ more. good (more.0, first p.1 more.1)))))) z q in
+      let l = came (layers declarator base.value.0) (λ l. then (with_param_layers l.0.tags l.1 base.value.1) (λ type. then (param line (name_of declarator) (adjusted type) l.0) (λ p. then (params rest p.0) (λ more. good (more.0, first p.1 more.1))))) z base.last in
+      let t = came (with_param_layers l.value.0.tags l.value.1 base.value.1) (λ type. then (param line (name_of declarator) (adjusted type) l.value.0) (λ p. then (params rest p.0) (λ more. good (more.0, first p.1 more.1)))) z l.last in
+      let p = came (param line (name_of declarator) (adjusted t.value) l.value.0) (λ p. then (params rest p.0) (λ more. good (more.0, first p.1 more.1))) z t.last in
+      let m = came (params rest p.value.0) (λ more. good (more.0, first p.value.1 more.1)) z p.last in
+      let one = param_added line (name_of declarator) (adjusted t.value) l.value.0 p.value p.is in
+      let kept = unadded base.value.0 l.value (layers_added declarator base.value.0 l.value l.is) (param_not_function l.value.0.tags l.value.1 base.value.1 t.value t.is (adjusted_plain t.value one.plain)) in
+      let here : Adds c p.value.0 (type_sort p.value.1 ∷ []) = record { added = one.added ∙ ap (λ (s : List Sort). s ++ type_sort (adjusted t.value) ∷ []) (kept ∙ specs_sorts words c base.value base.is) ∙ ap (λ (x : PlainType). sorts c ++ type_sort x ∷ []) (sym one.same) } in
+      subst (λ (y : Context × PlainTypes). Adds c y.0 (param_sorts y.1)) (ok_same (m.value.0, first p.value.1 m.value.1) z m.last)
+      (adds_trans c p.value.0 m.value.0 (type_sort p.value.1 ∷ []) (param_sorts m.value.1) here (params_added rest p.value.0 m.value m.is))
+  params_added (tree ▹ rest) c z q = never _ _ z q

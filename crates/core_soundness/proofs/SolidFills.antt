@@ -1,0 +1,455 @@
+-- Initializers and declarations keep whole types, and what they make has the layouts of types (C99 6.7, 6.7.8, 6.9.2).
+use Rattle.std.proofs.Common.{◌≡◌, ◌≤◌, ◌+◌, not, ℕ, zero, suc, pos, Bool, true, false, cond, is_some, nat_lt, min, take, length, List, [], ◌∷◌, ◌++◌, slice_get, slice_set, Option, Some, None, unwrap_or, Ok, refl, subst, arith}
+use Rattle.hs_base.specs.Place.{block_size}
+use Rattle.c_types.specs.Types as types
+use Rattle.c_types.specs.Types.{PlainType, Void, Array, Struct, Union, Function}
+use Rattle.c_types.specs.Layouts.{Known, no_layout}
+use Rattle.c_types.specs.TagTable.{TagTable, known, layout_in}
+use Rattle.core_tree.specs.declared.program.Start.{Start}
+use Rattle.core_tree.specs.declared.statements.Atom.{Atom}
+use Rattle.core_tree.specs.declared.statements.Atom.TheVariants as atom
+use Rattle.core_tree.specs.declared.statements.StmKind.TheVariants.{Set, Clear, Off, Copy}
+use Rattle.core_tree.specs.LayoutsOfTypes.{IsLayoutOfType}
+use Rattle.core_tree.specs.Sound.{IsNumber}
+use Rattle.c_types.specs.declared.layouts.Layout.{Layout}
+use Rattle.c_tree.specs.Words as w
+use Rattle.c_tree.specs.Forms as f
+use Rattle.c_tree.specs.Tree.{Tree, Trees, Leaf, At, Node, none, ◌▹◌, count}
+use Rattle.c_tree.specs.Scopes.{name_of}
+use Rattle.c_decls.specs.declared.refusal.TypeKind.TheVariants.{Operands, Assignment, NotConstant, DeclaredTwice, Incomplete, LeftOut, StaticTooLarge}
+use Rattle.c_decls.specs.Named as n
+use Rattle.c_decls.specs.ScopeList.{named_in, innermost, tag_name}
+use Rattle.c_decls.specs.Refusals.{Checked, refused, then, unless}
+use Rattle.c_decls.specs.Typed.{is_function, has_no_size}
+use Rattle.c_decls.specs.TypeNames.{Layer, ArrayOf, layered_before, tag_named}
+use Rattle.c_decls.specs.PlaceRules.{unconverted, converts}
+use Rattle.c_decls.specs.Expressions.{line_of}
+use Rattle.elaboration.specs.Context.{Context, Variable, asked, emit}
+use Rattle.elaboration.specs.Conversions.{Found, Spot, Local, Memory, Value, Empty, atom_in, valued, convert, write, size_or_zero}
+use Rattle.elaboration.specs.Reallocates.{opened, closed}
+use Rattle.elaboration.specs.Rules.{with_static, with_literal}
+use Rattle.elaboration.specs.Expressions.{found}
+use Rattle.elaboration.specs.Locals.{is_twice, declared_as, next_is_memory, with_memory, with_register, local_in, counted_local, with_local}
+use Rattle.elaboration.specs.Declarators.{layers}
+use Rattle.elaboration.specs.Initializers.{Target, InRegister, InMemory, InStatic, static_scalar, member_place, store_at, fill_scalar, scalar, copy_to, fill_record, is_same_place, whole, copy_text, fill_text, is_character, text, by_text, by_expression, parts_of, takes_braces, is_scalar_type, surplus, all_surplus, initialize, initialize_parts, with_bytes, no_start, text_length, given_length, with_init_layers}
+use Rattle.elaboration.specs.Declarations as storages
+use Rattle.elaboration.specs.Declarations.{Storage, Typedef, Outside, storage_of, specs_alone, specs_before, zero_of, cleared, fill_memory, fill_register, fill_at, fill_local, local_object, local_name, function_number, with_function, declared_function, no_initializer, variable_number_of, with_new_variable, with_variable, start_of, start_in, started_variable, started, fill_variable, file_object, file_function, file_value, file_name, name_in, entry, entries, declaration}
+use Rattle.core_soundness.specs.Whole.{Whole}
+use Rattle.core_soundness.specs.Written.{HasParts, Written, AllWritten}
+use Rattle.core_soundness.proofs.Growth.{grows_refl}
+use Rattle.core_soundness.proofs.Calling.{grown_literal}
+use Rattle.core_soundness.proofs.Quiet.{quiet_literal}
+use Rattle.core_soundness.proofs.Reached.{Led, led_ok, led_refused, led_after, led_unless, led_barred}
+use Rattle.core_soundness.proofs.WholeTypes.{whole_stays, extends_refl, some_stays}
+use Rattle.core_soundness.proofs.TypedWhole.{LayersWhole, LayerWhole, led_cond, layered_whole, before_whole, tag_good}
+use Rattle.core_soundness.specs.Ranges.{AtomIn}
+use Rattle.core_soundness.proofs.Ranges.{In, in_emit, in_pointer, zero_number, small_number}
+use Rattle.core_soundness.proofs.Ranged.{size_number}
+use Rattle.core_soundness.proofs.RangedWork.{SpotIn, spot_atom, convert_in, write_in}
+use Rattle.core_soundness.proofs.RangedFound.{literal_in}
+use Rattle.core_soundness.proofs.Within.{Within, PartsIn, within_stays, parts_stay, within_number, parts_in, starts_within, row_short}
+use Rattle.core_soundness.proofs.Solid as base
+use Rattle.core_soundness.specs.Solid.{VariablesLaid, Solid}
+use Rattle.core_soundness.proofs.Solid.{variables_push, K, same_kept, same_rises, converted_rises, laid, fit_of}
+use Rattle.core_soundness.proofs.Working.{grows_convert, grows_write}
+use Rattle.core_soundness.proofs.Moving.{same_cases, same_walked, Rises, rises_refl, rises_trans, opened_rises, closed_rises, went_rises, found_went, value_went}
+use Rattle.core_soundness.proofs.SolidLayers.{T, R1, named_rises, declared_rises, memory_rises, has_size, specs_rise, layers_rise, asked_type_rises}
+
+-- initializers
+
+-- the value of an expression, converted behind its full expression's start
+pub record Scalar (e : Tree) (at : ℕ) (type : PlainType) (c : Context) (d : Context × Found) : Type 0 where
+  pub rises : Rises c (convert at (opened e c).code type d.1.typed (atom_in d.1) d.0).0
+  pub fits : In c → AtomIn (convert at (opened e c).code type d.1.typed (atom_in d.1) d.0).1
+
+pub scalar_value : (e : Tree) (at : ℕ) (type : PlainType) (c : Context) (d : Context × Found) → Solid c → Written e → Whole (K c) type → valued e (found e type (opened e c)) ≡ Ok d → Scalar e at type c d
+scalar_value e at type c d h w t q =
+    let begun = opened e c in
+    let o = opened_rises e c h in
+    let v = value_went e type begun d o.solid w (whole_stays type (K c) (K begun) o.more t) q in
+    let x = convert at begun.code type d.1.typed (atom_in d.1) d.0 in
+    let a = converted_rises at begun type d v.gone.grows v.gone.rises.solid in
+    let g = went_rises begun d v in
+    record {
+      rises = record {
+        solid = a.solid;
+        more = λ tag l y. a.more tag l (g.more tag l (o.more tag l y));
+        code = λ k. let r = v.fits (o.code k) in (convert_in at begun.code type d.1.typed (atom_in d.1) d.0 (o.code k) r.0 (spot_atom d.1.spot r.1)).0;
+        cases = λ k. same_cases begun x.0 (grows_convert at begun type d.1.typed (atom_in d.1) d.0 v.gone.grows) (o.cases k);
+        walked = λ k. same_walked begun x.0 (grows_convert at begun type d.1.typed (atom_in d.1) d.0 v.gone.grows) (o.walked k);
+      };
+      fits = λ k. let r = v.fits (o.code k) in (convert_in at begun.code type d.1.typed (atom_in d.1) d.0 (o.code k) r.0 (spot_atom d.1.spot r.1)).1;
+    }
+
+fill_scalar_rises : (e : Tree) (line : ℕ) (type : PlainType) (offset : ℕ) (target : Target) (c : Context) (d : Context × Found) → Solid c → Written e → Whole (K c) type → IsNumber (pos offset) → valued e (found e type (opened e c)) ≡ Ok d → Led (R1 c) (fill_scalar e line type offset (opened e c).code d target)
+fill_scalar_rises e line type offset (InRegister at register) c d h w t m q =
+    let v = scalar_value e at type c d h w t q in
+    let x = convert at (opened e c).code type d.1.typed (atom_in d.1) d.0 in
+    let s = write at type (Local register) x.1 x.0 in
+    let b = base.write_rises at type (Local register) x.1 x.0 v.rises.solid in
+    let z = closed_rises e s b.solid in
+    led_ok (R1 c) (closed e s, InRegister at register)
+    (record {
+      solid = z.solid;
+      more = λ tag l y. z.more tag l (b.more tag l (v.rises.more tag l y));
+      code = λ k. z.code (write_in at type (Local register) x.1 x.0 (v.rises.code k) tt (v.fits k));
+      cases = λ k. z.cases (same_cases x.0 s (grows_write at type (Local register) x.1 x.0) (v.rises.cases k));
+      walked = λ k. z.walked (same_walked x.0 s (grows_write at type (Local register) x.1 x.0) (v.rises.walked k));
+    })
+fill_scalar_rises e line type offset (InMemory at mem) c d h w t m q =
+    let v = scalar_value e at type c d h w t q in
+    let x = convert at (opened e c).code type d.1.typed (atom_in d.1) d.0 in
+    let place = member_place at mem offset x.0 in
+    let s = store_at at type x.1 place in
+    let b = base.write_rises at type (Memory place.1) x.1 place.0 v.rises.solid in
+    let z = closed_rises e s b.solid in
+    led_ok (R1 c) (closed e s, InMemory at mem)
+    (record {
+      solid = z.solid;
+      more = λ tag l y. z.more tag l (b.more tag l (v.rises.more tag l y));
+      code = λ k. let p = in_pointer at (λ p. Off p (atom.Mem mem) (pos offset)) x.0 (v.rises.code k) (λ r. ((tt, tt), m)) in z.code (write_in at type (Memory place.1) x.1 place.0 p.0 p.1 (v.fits k));
+      cases = λ k. z.cases (same_cases place.0 s (grows_write at type (Memory place.1) x.1 place.0) (v.rises.cases k));
+      walked = λ k. z.walked (same_walked place.0 s (grows_write at type (Memory place.1) x.1 place.0) (v.rises.walked k));
+    })
+fill_scalar_rises e line type offset (InStatic start) c d h w t m q =
+    let begun = opened e c in
+    let o = opened_rises e c h in
+    let v = value_went e type begun d o.solid w (whole_stays type (K c) (K begun) o.more t) q in
+    led_after (R1 c) (static_scalar line type offset start d.1) (λ filled. Ok (d.0, InStatic filled)) (λ filled s. led_ok (R1 c) (d.0, InStatic filled) (rises_trans c begun d.0 o (went_rises begun d v)))
+
+scalar_rises : (e : Tree) (line : ℕ) (type : PlainType) (offset : ℕ) (target : Target) (c : Context) → Solid c → Written e → Whole (K c) type → IsNumber (pos offset) → Led (R1 c) (scalar e line type offset target c)
+scalar_rises e line type offset target c h w t m =
+    led_after (R1 c) (valued e (found e type (opened e c))) (λ d. converts line type d.1.typed (fill_scalar e line type offset (opened e c).code d target))
+    (λ d q. led_barred (R1 c) (unconverted type d.1.typed) line (fill_scalar e line type offset (opened e c).code d target) (fill_scalar_rises e line type offset target c d h w t m q))
+
+fill_record_rises : (e : Tree) (line : ℕ) (type : PlainType) (offset : ℕ) (c : Context) (d : Context × Found) (target : Target) → Rises c d.0 → (In c → SpotIn d.1.spot) → Whole (K c) type → IsNumber (pos offset) → Led (R1 c) (fill_record e line type offset d target)
+fill_record_rises e line type offset c d (InMemory at mem) r f t m =
+    let place = member_place at mem offset d.0 in
+    let s = copy_to at type (atom_in d.1) place in
+    let z = closed_rises e s r.solid in
+    led_ok (R1 c) (closed e s, InMemory at mem)
+    (record {
+      solid = z.solid;
+      more = λ tag l y. z.more tag l (r.more tag l y);
+      code = λ k.
+          let p = in_pointer at (λ p. Off p (atom.Mem mem) (pos offset)) d.0 (r.code k) (λ r. ((tt, tt), m)) in
+          z.code (in_emit at (Copy place.1 (atom_in d.1) (pos (size_or_zero place.0 type))) place.0 p.0 ((p.1, (spot_atom d.1.spot (f k), tt)), size_number d.0 type r.solid (whole_stays type (K c) (K d.0) r.more t)));
+      cases = λ k. z.cases (r.cases k);
+      walked = λ k. z.walked (r.walked k);
+    })
+fill_record_rises e line type offset c d (InRegister at register) r f t m = led_refused (R1 c) NotConstant line
+fill_record_rises e line type offset c d (InStatic start) r f t m = led_refused (R1 c) NotConstant line
+
+whole_rises : (e : Tree) (line : ℕ) (type : PlainType) (offset : ℕ) (target : Target) (c : Context) → Solid c → Written e → Whole (K c) type → IsNumber (pos offset) → Led (R1 c) (whole e line type offset target c)
+whole_rises e line type offset target c h w t m =
+    led_after (R1 c) (found e type (opened e c)) (λ d. unless (not (is_same_place type d.1.typed)) Assignment line (fill_record e line type offset d target))
+    (λ d q. let o = opened_rises e c h in
+    let g = found_went e type (opened e c) d o.solid w (whole_stays type (K c) (K (opened e c)) o.more t) q in
+    led_unless (R1 c) (not (is_same_place type d.1.typed)) Assignment line (fill_record e line type offset d target)
+    (λ x. fill_record_rises e line type offset c d target (rises_trans c (opened e c) d.0 o (went_rises (opened e c) d g)) (λ k. (g.fits (o.code k)).1) t m))
+
+least : (a b bound : ℕ) → b ≤ bound → min a b ≤ bound
+least a b bound h = omega (arith, h)
+
+fill_text_rises : (e : Tree) (line : ℕ) (bytes : List ℕ) (size offset : ℕ) (target : Target) (c : Context) → Solid c → size ≤ 268435456 → IsNumber (pos offset) → Led (R1 c) (fill_text e line bytes size offset target c)
+fill_text_rises e line bytes size offset (InMemory at mem) c h small m =
+    let begun = opened e c in
+    let o = opened_rises e c h in
+    led_after (R1 c) (with_literal line bytes begun) (λ d. copy_text at mem offset (min (length bytes + 1) size) d)
+    (λ d q. let r = same_rises begun d.0 (same_kept begun d.0 (quiet_literal line bytes begun d q) (grown_literal line bytes begun begun (grows_refl begun) d q).kept) o.solid in
+    let k : ℕ = min (length bytes + 1) size in
+    let place = member_place at mem offset d.0 in
+    let s = emit at (Copy place.1 (atom.Static d.1) (pos k)) place.0 in
+    led_ok (R1 c) (s, InMemory at mem)
+    (record {
+      solid = r.solid;
+      more = λ tag l y. r.more tag l (o.more tag l y);
+      code = λ g.
+          let p = in_pointer at (λ p. Off p (atom.Mem mem) (pos offset)) d.0 (literal_in line bytes begun (o.code g) d q) (λ r. ((tt, tt), m)) in
+          in_emit at (Copy place.1 (atom.Static d.1) (pos k)) place.0 p.0 ((p.1, (tt, tt)), small_number k (least (length bytes + 1) size 268435456 small));
+      cases = λ g. same_cases begun d.0 (grown_literal line bytes begun begun (grows_refl begun) d q) (o.cases g);
+      walked = λ g. same_walked begun d.0 (grown_literal line bytes begun begun (grows_refl begun) d q) (o.walked g);
+    }))
+fill_text_rises e line bytes size offset (InStatic start) c h small m = led_ok (R1 c) (c, InStatic (with_bytes start offset (take size bytes))) (rises_refl c h)
+fill_text_rises e line bytes size offset (InRegister at register) c h small m = led_refused (R1 c) Assignment line
+
+by_text_rises : (e : Tree) (line : ℕ) (element : PlainType) (size offset : ℕ) (o : Option (List ℕ)) (target : Target) (c : Context) → Solid c → Written e → Whole (K c) (Array element size) → IsNumber (pos offset) → Led (R1 c) (by_text e line element size offset o target c)
+by_text_rises e line element size offset None target c h w t m = whole_rises e line (Array element size) offset target c h w t m
+by_text_rises e line element size offset (Some bytes) target c h w t m =
+    led_cond (R1 c) (is_character element) (fill_text e line bytes size offset target c) (whole e line (Array element size) offset target c) (fill_text_rises e line bytes size offset target c h (row_short c element size h t) m) (whole_rises e line (Array element size) offset target c h w t m)
+
+by_expression_rises : (e : Tree) (line : ℕ) (type : PlainType) (offset : ℕ) (target : Target) (c : Context) → Solid c → Written e → Whole (K c) type → IsNumber (pos offset) → Led (R1 c) (by_expression e line type offset target c)
+by_expression_rises e line (Array element size) offset target c h w t m = by_text_rises e line element size offset (text e) target c h w t m
+by_expression_rises e line (Struct tag) offset target c h w t m = whole_rises e line (Struct tag) offset target c h w t m
+by_expression_rises e line (Union tag) offset target c h w t m = whole_rises e line (Union tag) offset target c h w t m
+by_expression_rises e line type offset target c h w t m = scalar_rises e line type offset target c h w t m
+
+mutual
+  unfolding initialize initialize_parts Written AllWritten
+
+  pub initialize_rises : (tree : Tree) (in_scalar : Bool) (type : PlainType) (offset : ℕ) (target : Target) (c : Context) → Solid c → Written tree → Whole (K c) type → Within (K c) type offset → Led (R1 c) (initialize tree in_scalar type offset target c)
+  initialize_rises (Node f.InitExpr (At line ▹ e ▹ none)) in_scalar type offset target c h w t v = by_expression_rises e line type offset target c h w.1.1.0 t (within_number (K c) type offset v)
+  initialize_rises (Node (f.InitList trailing) (At line ▹ Node f.Inits inits ▹ none)) in_scalar type offset target c h w t v =
+      led_cond (R1 c) (takes_braces type in_scalar) (initialize_parts line inits (is_scalar_type type) (parts_of c (count inits) type offset) target c) (then (all_surplus inits c) (λ d. refused Assignment line))
+      (parts_rise inits line (is_scalar_type type) (parts_of c (count inits) type offset) target c h w.1.1.0.1 (parts_in c (count inits) type offset h t v))
+      (led_after (R1 c) (all_surplus inits c) (λ d. refused Assignment line) (λ d q. led_refused (R1 c) Assignment line))
+  initialize_rises tree in_scalar type offset target c h w t v = led_refused (R1 c) Operands (line_of tree)
+
+  parts_rise : (inits : Trees) (line : ℕ) (in_scalar : Bool) (parts : List (PlainType × ℕ)) (target : Target) (c : Context) → Solid c → AllWritten inits → PartsIn (K c) parts → Led (R1 c) (initialize_parts line inits in_scalar parts target c)
+  parts_rise none line in_scalar parts target c h w v = led_ok (R1 c) (c, target) (rises_refl c h)
+  parts_rise (init ▹ rest) line in_scalar [] target c h w v = led_after (R1 c) (all_surplus (init ▹ rest) c) (λ d. refused Assignment line) (λ d q. led_refused (R1 c) Assignment line)
+  parts_rise (init ▹ rest) line in_scalar (part ∷ parts) target c h w v =
+      led_after (R1 c) (initialize init in_scalar part.0 part.1 target c) (λ d. initialize_parts line rest in_scalar parts d.1 d.0)
+      (λ d q. let r = initialize_rises init in_scalar part.0 part.1 target c h w.0 v.0.0 v.0.1 d q in
+      (λ z s. rises_trans c d.0 z.0 r (parts_rise rest line in_scalar parts d.1 d.0 r.solid w.1 (parts_stay parts (K c) (K d.0) r.more v.1) z s)))
+
+-- locals
+
+clears : (line : ℕ) (type : PlainType) (mem : Atom) (c : Context) → Solid c → Whole (K c) type → AtomIn mem → Rises c (cleared line type mem c)
+clears line type mem c h t m = record { solid = h; more = extends_refl (K c); code = λ k. in_emit line (Clear mem (pos (size_or_zero c type))) c k ((m, tt), size_number c type h t); cases = λ k. k; walked = λ k. k }
+
+fill_memory_rises : (line : ℕ) (type : PlainType) (inits : Trees) (mem : Atom) (c : Context) → Solid c → AllWritten inits → Whole (K c) type → Within (K c) type 0 → AtomIn mem → Led (Rises c) (fill_memory line type inits mem c)
+unfolding AllWritten
+fill_memory_rises line type (init ▹ rest) (atom.Mem mem) c h w t v m =
+    let x = cleared line type (atom.Mem mem) c in
+    let a = clears line type (atom.Mem mem) c h t m in
+    led_after (Rises c) (initialize init false type 0 (InMemory line mem) x) (λ d. Ok d.0) (λ d q. led_ok (Rises c) d.0 (rises_trans c x d.0 a (initialize_rises init false type 0 (InMemory line mem) x a.solid w.0 t v d q)))
+fill_memory_rises line type none mem c h w t v m = led_ok (Rises c) (cleared line type mem c) (clears line type mem c h t m)
+fill_memory_rises line type (init ▹ rest) (atom.Reg r) c h w t v m = led_ok (Rises c) (cleared line type (atom.Reg r) c) (clears line type (atom.Reg r) c h t m)
+fill_memory_rises line type (init ▹ rest) (atom.Int x) c h w t v m = led_ok (Rises c) (cleared line type (atom.Int x) c) (clears line type (atom.Int x) c h t m)
+fill_memory_rises line type (init ▹ rest) atom.Null c h w t v m = led_ok (Rises c) (cleared line type atom.Null c) (clears line type atom.Null c h t m)
+fill_memory_rises line type (init ▹ rest) (atom.Static x) c h w t v m = led_ok (Rises c) (cleared line type (atom.Static x) c) (clears line type (atom.Static x) c h t m)
+
+zero_in : (type : PlainType) → AtomIn (zero_of type)
+zero_in (types.Pointer target) = tt
+zero_in Void = zero_number
+zero_in (types.Int ty) = zero_number
+zero_in (Array element m) = zero_number
+zero_in (Struct tag) = zero_number
+zero_in (Union tag) = zero_number
+zero_in (Function answer params) = zero_number
+
+fill_register_rises : (line : ℕ) (type : PlainType) (inits : Trees) (register : ℕ) (c : Context) → Solid c → AllWritten inits → Whole (K c) type → Within (K c) type 0 → Led (Rises c) (fill_register line type inits register c)
+unfolding AllWritten
+fill_register_rises line type none register c h w t v = led_ok (Rises c) (emit line (Set register (zero_of type)) c) (record { solid = h; more = extends_refl (K c); code = λ k. in_emit line (Set register (zero_of type)) c k ((zero_in type, tt), tt); cases = λ k. k; walked = λ k. k })
+fill_register_rises line type (init ▹ rest) register c h w t v =
+    led_after (Rises c) (initialize init false type 0 (InRegister line register) c) (λ d. Ok d.0) (λ d q. led_ok (Rises c) d.0 (initialize_rises init false type 0 (InRegister line register) c h w.0 t v d q))
+
+fill_at_rises : (line : ℕ) (type : PlainType) (inits : Trees) (spot : Spot) (c : Context) → Solid c → AllWritten inits → Whole (K c) type → Within (K c) type 0 → SpotIn spot → Led (Rises c) (fill_at line type inits spot c)
+fill_at_rises line type inits (Local register) c h w t v s = fill_register_rises line type inits register c h w t v
+fill_at_rises line type inits (Memory mem) c h w t v s = fill_memory_rises line type inits mem c h w t v s
+fill_at_rises line type inits (Value a) c h w t v s = led_ok (Rises c) c (rises_refl c h)
+fill_at_rises line type inits Empty c h w t v s = led_ok (Rises c) c (rises_refl c h)
+
+with_local_rises : (name : List ℕ) (type : PlainType) (c : Context) → Solid c → Whole (K c) type → is_some (layout_in c.tags type) ≡ true → Rises c (with_local name type c).0
+with_local_rises name type c h w s = by (next_is_memory type c)
+  where
+    by : (t : Bool) → Rises c (counted_local (local_in t name type c)).0
+    by true =
+        let x = with_memory name type c in
+        let a = memory_rises name type c h w s in
+        let q = named_rises x name (n.Object type (length c.running.mems)) a.solid w in
+        record { solid = q.solid; more = q.more; code = q.code; cases = q.cases; walked = q.walked }
+    by false = let q = named_rises (with_register (Some name) type c) name (n.Register type (length c.running.locals)) h w in record { solid = q.solid; more = q.more; code = q.code; cases = q.cases; walked = q.walked }
+
+local_spot : (name : List ℕ) (type : PlainType) (c : Context) → SpotIn (with_local name type c).1
+local_spot name type c = by (next_is_memory type c)
+  where
+    by : (t : Bool) → SpotIn (counted_local (local_in t name type c)).1
+    by true = tt
+    by false = tt
+
+-- the layout of a type that has one
+has_layout : (c : Context) (type : PlainType) → is_some (layout_in c.tags type) ≡ true → layout_in c.tags type ≡ Some (unwrap_or (layout_in c.tags type) no_layout)
+has_layout c type s = by (layout_in c.tags type) s
+  where
+    by : (o : Option Layout) → is_some o ≡ true → o ≡ Some (unwrap_or o no_layout)
+    by None e = cc
+    by (Some l) e = refl
+
+starts : (c : Context) (type : PlainType) → Solid c → Whole (K c) type → is_some (layout_in c.tags type) ≡ true → Within (K c) type 0
+starts c type h w s = starts_within c type (unwrap_or (layout_in c.tags type) no_layout) h w (has_layout c type s)
+
+local_object_rises : (line : ℕ) (name : List ℕ) (type : PlainType) (inits : Trees) (c : Context) → Solid c → AllWritten inits → Whole (K c) type → Led (Rises c) (local_object line name type inits c)
+local_object_rises line name type inits c h v w =
+    let x = with_local name type c in
+    let r2 : Checked Context = unless (is_twice c.scopes name (n.Object type 0)) DeclaredTwice line (fill_local line type inits x) in
+    let r1 : Checked Context = unless (has_no_size c.tags type) Incomplete line r2 in
+    led_unless (Rises c) (is_function type) LeftOut line r1
+    (λ a. led_unless (Rises c) (has_no_size c.tags type) Incomplete line r2
+    (λ b. led_unless (Rises c) (is_twice c.scopes name (n.Object type 0)) DeclaredTwice line (fill_local line type inits x)
+    (λ t. let r = with_local_rises name type c h w (has_size c.tags type b) in
+    let y = starts c type h w (has_size c.tags type b) in
+    (λ z q. rises_trans c x.0 z r (fill_at_rises line type inits x.1 x.0 r.solid v (whole_stays type (K c) (K x.0) r.more w) (within_stays (K c) (K x.0) type 0 r.more y) (local_spot name type c) z q)))))
+
+local_name_rises : (line : ℕ) (storage : Storage) (name : List ℕ) (type : PlainType) (inits : Trees) (c : Context) → Solid c → AllWritten inits → Whole (K c) type → Led (Rises c) (local_name line storage name type inits c)
+local_name_rises line Typedef name type inits c h v w = declared_rises line name (n.Typedef type) c h w
+local_name_rises line Outside name type inits c h v w = led_refused (Rises c) LeftOut line
+local_name_rises line storages.Plain name type inits c h v w = local_object_rises line name type inits c h v w
+
+-- file scope
+
+function_rises : (index : ℕ) (name : List ℕ) (c : Context) → Solid c → Rises c (with_function index name c)
+function_rises index name c h = by (nat_lt index (length c.functions))
+  where
+    by : (t : Bool) → Rises c (cond t c (record c { functions = c.functions ++ (record { name = name; defined = None }) ∷ [] }))
+    by true = rises_refl c h
+    by false = record { solid = h; more = extends_refl (K c); code = λ k. k; cases = λ k. k; walked = λ k. k }
+
+pub declared_function_rises : (line : ℕ) (name : List ℕ) (type : PlainType) (c : Context) → Solid c → Whole (K c) type → Led (Rises c) (declared_function line name type c)
+declared_function_rises line name type c h w =
+    let index = function_number name c in
+    led_after (Rises c) (declared_as line name (n.Function type index) c) (λ d. Ok (with_function index name d))
+    (λ d q. let r = declared_rises line name (n.Function type index) c h w d q in led_ok (Rises c) (with_function index name d) (rises_trans c d _ r (function_rises index name d r.solid)))
+
+no_initializer_rises : (inits : Trees) (c : Context) → Solid c → Led (Rises c) (no_initializer inits c)
+no_initializer_rises none c h = led_ok (Rises c) c (rises_refl c h)
+no_initializer_rises (init ▹ rest) c h = led_after (Rises c) (surplus init c) (λ d. refused Assignment (line_of init)) (λ d q. led_refused (Rises c) Assignment (line_of init))
+
+-- a type that is whole, and has a layout
+record Ready (c : Context) (type : PlainType) (d : Context) : Type 0 where
+  rises : Rises c d
+  whole : Whole (K d) type
+  sized : is_some (layout_in d.tags type) ≡ true
+
+ready_on : (c d : Context) (type : PlainType) → Rises c d → Whole (K c) type → is_some (layout_in c.tags type) ≡ true → Ready c type d
+ready_on c d type r w s = record { rises = r; whole = whole_stays type (K c) (K d) r.more w; sized = some_stays (K c) (K d) type r.more s }
+
+new_variable_rises : (line : ℕ) (name : List ℕ) (type : PlainType) (c : Context) → Solid c → Whole (K c) type → is_some (layout_in c.tags type) ≡ true → Led (Rises c) (with_new_variable line name type c)
+new_variable_rises line name type c h w s =
+    let size = size_or_zero c type in
+    led_after (Rises c) (with_static line size c) (λ d. Ok (record d { variables = d.variables ++ (record { name = name; layout = unwrap_or (layout_in d.tags type) no_layout; start = None }) ∷ [] }))
+    (λ d q. let y = led_unless (Ready c type) (nat_lt 67108864 (c.static_bytes + block_size size)) StaticTooLarge line (Ok (record c { static_bytes = c.static_bytes + block_size size }))
+    (λ t. led_ok (Ready c type) (record c { static_bytes = c.static_bytes + block_size size }) (record { rises = record { solid = h; more = extends_refl (K c); code = λ k. k; cases = λ k. k; walked = λ k. k }; whole = w; sized = s })) d q in
+    led_ok (Rises c) (record d { variables = d.variables ++ (record { name = name; layout = unwrap_or (layout_in d.tags type) no_layout; start = None }) ∷ [] })
+    (record {
+      solid = record { made = y.rises.solid.made; names = y.rises.solid.names; list = y.rises.solid.list; memory = y.rises.solid.memory; result = y.rises.solid.result; statics = variables_push d.variables _ y.rises.solid.statics (laid d type y.rises.solid y.whole y.sized); functions = y.rises.solid.functions };
+      more = y.rises.more;
+      code = y.rises.code;
+      cases = y.rises.cases;
+      walked = y.rises.walked;
+    }))
+
+variable_rises : (line index : ℕ) (name : List ℕ) (type : PlainType) (c : Context) → Solid c → Whole (K c) type → is_some (layout_in c.tags type) ≡ true → Led (Rises c) (with_variable line index name type c)
+variable_rises line index name type c h w s =
+    led_cond (Rises c) (nat_lt index (length c.variables)) (Ok c) (with_new_variable line name type c) (led_ok (Rises c) c (rises_refl c h)) (new_variable_rises line name type c h w s)
+
+get_laid : (vs : List Variable) (i : ℕ) (v : Variable) → slice_get vs i ≡ Some v → VariablesLaid vs → IsLayoutOfType v.layout
+get_laid [] i v e h = cc
+get_laid (x ∷ vs) zero v e h = let same : x ≡ v = cc in subst (λ (y : Variable). IsLayoutOfType y.layout) same h.0
+get_laid (x ∷ vs) (suc i) v e h = get_laid vs i v e h.1
+
+set_laid : (vs : List Variable) (i : ℕ) (v : Variable) → VariablesLaid vs → IsLayoutOfType v.layout → VariablesLaid (slice_set vs i v)
+set_laid [] i v h k = tt
+set_laid (x ∷ vs) zero v h k = (k, h.1)
+set_laid (x ∷ vs) (suc i) v h k = (h.0, set_laid vs i v h.1 k)
+
+started_laid : (index : ℕ) (start : Start) (o : Option Variable) (vs : List Variable) → slice_get vs index ≡ o → VariablesLaid vs → VariablesLaid (started_variable index start o vs)
+started_laid index start None vs e h = h
+started_laid index start (Some v) vs e h = set_laid vs index (record v { start = Some start }) h (get_laid vs index v e h)
+
+started_rises : (index : ℕ) (d : Context × Target) → Solid d.0 → Rises d.0 (started index d)
+started_rises index d h = record {
+  solid = record { made = h.made; names = h.names; list = h.list; memory = h.memory; result = h.result; statics = started_laid index (start_in d.1) (slice_get d.0.variables index) d.0.variables refl h.statics; functions = h.functions };
+  more = extends_refl (K d.0);
+  code = λ k. k;
+  cases = λ k. k;
+  walked = λ k. k;
+}
+
+fill_variable_rises : (line index : ℕ) (type : PlainType) (inits : Trees) (c : Context) → Solid c → AllWritten inits → Whole (K c) type → is_some (layout_in c.tags type) ≡ true → Led (Rises c) (fill_variable line index type inits c)
+unfolding AllWritten
+fill_variable_rises line index type none c h v w s = led_ok (Rises c) c (rises_refl c h)
+fill_variable_rises line index type (init ▹ rest) c h v w s =
+    led_unless (Rises c) (is_some (start_of (slice_get c.variables index))) DeclaredTwice line (then (initialize init false type 0 (InStatic no_start) c) (λ d. Ok (started index d)))
+    (λ t. led_after (Rises c) (initialize init false type 0 (InStatic no_start) c) (λ d. Ok (started index d))
+    (λ d q. let r = initialize_rises init false type 0 (InStatic no_start) c h v.0 w (starts c type h w s) d q in led_ok (Rises c) (started index d) (rises_trans c d.0 _ r (started_rises index d r.solid))))
+
+file_object_rises : (line : ℕ) (name : List ℕ) (type : PlainType) (inits : Trees) (c : Context) → Solid c → AllWritten inits → Whole (K c) type → Led (Rises c) (file_object line name type inits c)
+file_object_rises line name type inits c h v w =
+    let index = variable_number_of c (named_in name c.scopes.file) in
+    led_unless (Rises c) (has_no_size c.tags type) Incomplete line (then (declared_as line name (n.Object type index) c) (λ d. then (with_variable line index name type d) (λ v. fill_variable line index type inits v)))
+    (λ t. led_after (Rises c) (declared_as line name (n.Object type index) c) (λ d. then (with_variable line index name type d) (λ v. fill_variable line index type inits v))
+    (λ d q. let r = declared_rises line name (n.Object type index) c h w d q in
+    let y = ready_on c d type r w (has_size c.tags type t) in
+    led_after (Rises c) (with_variable line index name type d) (λ v. fill_variable line index type inits v)
+    (λ x s. let k = variable_rises line index name type d r.solid y.whole y.sized x s in
+    let last = ready_on d x type k y.whole y.sized in
+    (λ z u. rises_trans c d z r (rises_trans d x z k (fill_variable_rises line index type inits x k.solid v last.whole last.sized z u))))))
+
+file_value_rises : (line : ℕ) (name : List ℕ) (type : PlainType) (inits : Trees) (c : Context) → Solid c → AllWritten inits → Whole (K c) type → Led (Rises c) (file_value line name type inits c)
+file_value_rises line name type inits c h v w =
+    led_cond (Rises c) (is_function type) (file_function line name type inits c) (file_object line name type inits c)
+    (led_after (Rises c) (declared_function line name type c) (λ d. no_initializer inits d) (λ d q. let r = declared_function_rises line name type c h w d q in (λ z s. rises_trans c d z r (no_initializer_rises inits d r.solid z s))))
+    (file_object_rises line name type inits c h v w)
+
+file_name_rises : (line : ℕ) (storage : Storage) (name : List ℕ) (type : PlainType) (inits : Trees) (c : Context) → Solid c → AllWritten inits → Whole (K c) type → Led (Rises c) (file_name line storage name type inits c)
+file_name_rises line Typedef name type inits c h v w = declared_rises line name (n.Typedef type) c h w
+file_name_rises line Outside name type inits c h v w = file_value_rises line name type inits c h v w
+file_name_rises line storages.Plain name type inits c h v w = file_value_rises line name type inits c h v w
+
+name_in_rises : (file : Bool) (line : ℕ) (storage : Storage) (name : Option (List ℕ)) (type : PlainType) (inits : Trees) (c : Context) → Solid c → AllWritten inits → Whole (K c) type → Led (Rises c) (name_in file line storage name type inits c)
+name_in_rises true line storage None type inits c h v w = led_ok (Rises c) c (rises_refl c h)
+name_in_rises false line storage None type inits c h v w = led_ok (Rises c) c (rises_refl c h)
+name_in_rises true line storage (Some name) type inits c h v w = file_name_rises line storage name type inits c h v w
+name_in_rises false line storage (Some name) type inits c h v w = local_name_rises line storage name type inits c h v w
+
+-- the length that an initializer gives
+
+text_some : (k : Known) (line : ℕ) (o : Option (List ℕ)) → LayerWhole k (ArrayOf line (text_length o))
+text_some k line None = tt
+text_some k line (Some bytes) = omega arith
+
+inits_some : (inits : Trees) → HasParts f.Inits inits → 1 ≤ count inits
+unfolding HasParts
+inits_some none h = absurd h
+inits_some (init ▹ rest) h = omega arith
+
+given_some : (k : Known) (line : ℕ) (inits : Trees) → AllWritten inits → LayerWhole k (ArrayOf line (given_length inits))
+unfolding Written AllWritten
+given_some k line (Node f.InitExpr (At at ▹ e ▹ none) ▹ none) w = text_some k line (text e)
+given_some k line (Node (f.InitList trailing) (At at ▹ Node f.Inits inits ▹ none) ▹ none) w = inits_some inits w.0.1.1.0.0
+given_some k line inits w = tt
+
+init_layers_whole : (tags : TagTable) (ls : List Layer) (inits : Trees) (type : PlainType) → AllWritten inits → Whole (known tags.completed) type → LayersWhole (known tags.completed) ls → Led (Whole (known tags.completed)) (with_init_layers tags ls inits type)
+init_layers_whole tags [] inits type w h g = led_ok (Whole (known tags.completed)) type h
+init_layers_whole tags (ArrayOf line None ∷ []) inits type w h g = layered_whole tags.completed tags (ArrayOf line (given_length inits)) type refl h (given_some (known tags.completed) line inits w)
+init_layers_whole tags (ArrayOf line None ∷ (next ∷ ls)) inits type w h g =
+    led_after (Whole (known tags.completed)) (layered_before tags (ArrayOf line None) (next ∷ ls) type) (λ inner. with_init_layers tags (next ∷ ls) inits inner)
+    (λ inner q. init_layers_whole tags (next ∷ ls) inits inner w (before_whole tags.completed tags (ArrayOf line None) (next ∷ ls) type refl h g.0 inner q) g.1)
+init_layers_whole tags (layer ∷ ls) inits type w h g =
+    led_after (Whole (known tags.completed)) (layered_before tags layer ls type) (λ inner. with_init_layers tags ls inits inner)
+    (λ inner q. init_layers_whole tags ls inits inner w (before_whole tags.completed tags layer ls type refl h g.0 inner q) g.1)
+
+entry_rises : (file : Bool) (line : ℕ) (storage : Storage) (base : PlainType) (declarator : Tree) (inits : Trees) (c : Context) → Solid c → Whole (K c) base → Written declarator → AllWritten inits → Led (Rises c) (entry file line storage base declarator inits c)
+entry_rises file line storage base declarator inits c h b w v =
+    led_after (Rises c) (layers declarator c) (λ l. then (with_init_layers l.0.tags l.1 inits base) (λ type. name_in file line storage (name_of declarator) type inits l.0))
+    (λ l q. let k = layers_rise declarator c h w l q in
+    led_after (Rises c) (with_init_layers l.0.tags l.1 inits base) (λ type. name_in file line storage (name_of declarator) type inits l.0)
+    (λ type s. let y = init_layers_whole l.0.tags l.1 inits base v (whole_stays base (K c) (K l.0) k.0.more b) k.1 type s in
+    (λ z t. rises_trans c l.0 z k.0 (name_in_rises file line storage (name_of declarator) type inits l.0 k.0.solid v y z t))))
+
+entries_rise : (names : Trees) (file : Bool) (line : ℕ) (storage : Storage) (base : PlainType) (c : Context) → Solid c → Whole (K c) base → AllWritten names → Led (Rises c) (entries file line storage base names c)
+unfolding entries Written AllWritten
+entries_rise none file line storage base c h b w = led_ok (Rises c) c (rises_refl c h)
+entries_rise (Node f.Entry (Node f.Declared (declarator ▹ none) ▹ Node f.MaybeInit inits ▹ none) ▹ rest) file line storage base c h b w =
+    led_after (Rises c) (entry file line storage base declarator inits c) (λ d. entries file line storage base rest d)
+    (λ d q. let r = entry_rises file line storage base declarator inits c h b w.0.1.0.1.0 w.0.1.1.0.1 d q in
+    (λ z s. rises_trans c d z r (entries_rise rest file line storage base d r.solid (whole_stays base (K c) (K d) r.more b) w.1 z s)))
+entries_rise (tree ▹ rest) file line storage base c h b w = led_refused (Rises c) Operands (line_of tree)
+
+alone_rises : (tree : Tree) (c : Context) → Solid c → Written tree → Led (T c) (specs_alone tree c)
+alone_rises (Node f.Specs (At line ▹ Node (f.RecordTag sort) (At at ▹ Leaf (w.Name name) ▹ none) ▹ none)) c h v =
+    asked_type_rises (tag_named at sort name (asked c) (named_in (tag_name name) (innermost c.scopes))) c h (tag_good c.tags.completed h.made at sort name (asked c) (named_in (tag_name name) (innermost c.scopes)) (fit_of c h))
+alone_rises tree c h v = specs_rise tree c h v
+
+before_rises : (tree : Tree) (names : Trees) (c : Context) → Solid c → Written tree → Led (T c) (specs_before tree names c)
+before_rises tree none c h v = alone_rises tree c h v
+before_rises tree (name ▹ rest) c h v = specs_rise tree c h v
+
+pub declaration_rises : (file : Bool) (line : ℕ) (words tree : Tree) (c : Context) → Solid c → Written words → Written tree → Led (Rises c) (declaration file line words tree c)
+unfolding declaration Written
+declaration_rises file line words (Node f.Names names) c h v w =
+    led_after (Rises c) (specs_before words names c) (λ base. entries file line (storage_of words) base.1 names base.0)
+    (λ base q. let b = before_rises words names c h v base q in (λ z s. rises_trans c base.0 z b.0 (entries_rise names file line (storage_of words) base.1 base.0 b.0.solid b.1 w.1 z s)))
+declaration_rises file line words tree c h v w = led_refused (Rises c) Operands line

@@ -1,0 +1,476 @@
+-- Declarators, specs and tags have whole types (C99 6.7).
+use Rattle.std.proofs.Common.{◌≡◌, ℕ, ℤ, pos, ◌+ℤ◌, Bool, true, false, ◌||◌, cond, is_some, is_none, All, List, [], ◌∷◌, ◌++◌, length, reverse, slice_get, unwrap_or, option_map, Option, Some, None, Ok, refl, ap, ◌∙◌, arith}
+use Rattle.std.specs.Option.{option_map_or}
+use Rattle.std.proofs.lemmas.List.Elements.{All-cons}
+use Rattle.hs_base.specs.declared.ends.IntKind.TheVariants.{I32}
+use Rattle.hs_base.specs.Numbers.{wrapped}
+use Rattle.c_types.specs.declared.layouts.Layout.{Layout}
+use Rattle.c_types.specs.declared.types.IntType.TheVariants as i
+use Rattle.c_types.specs.declared.tags.TagInfo.{TagInfo}
+use Rattle.c_types.specs.declared.tags.TagError.{TagError}
+use Rattle.c_types.specs.Types as types
+use Rattle.c_types.specs.Types.{PlainType, PlainTypes, Void, Int, Pointer, Array, Struct, Union, Function, first}
+use Rattle.c_types.specs.Layouts.{Known, layout_of}
+use Rattle.c_types.specs.TagTable as tables
+use Rattle.c_types.specs.TagTable.{TagTable, CompletedTag, completion, refusal, known, layout_in, size_in}
+use Rattle.core_tree.specs.LayoutsOfTypes.{HasLayout}
+use Rattle.core_tree.specs.declared.statements.Atom.TheVariants as atom
+use Rattle.c_tree.specs.declared.operator.RecordSort.{RecordSort}
+use Rattle.c_tree.specs.declared.operator.RecordSort.TheVariants as r
+use Rattle.c_tree.specs.Words as w
+use Rattle.c_tree.specs.Forms as f
+use Rattle.c_tree.specs.Tree.{Tree, Trees, Leaf, At, Node, none, ◌▹◌}
+use Rattle.c_tree.specs.Scopes.{name_of}
+use Rattle.c_decls.specs.declared.refusal.TypeKind.TheVariants.{Operands, DeclaredTwice, Incomplete, LeftOut}
+use Rattle.c_decls.specs.Named as n
+use Rattle.c_decls.specs.Named.{PlainNamed}
+use Rattle.c_decls.specs.ScopeList.{Table, named_in, innermost, first_or, with_name, tag_name, after_declaration}
+use Rattle.c_decls.specs.Refusals.{Checked, then, unless}
+use Rattle.c_decls.specs.Typed.{is_void, is_record, is_array, is_function, has_no_size}
+use Rattle.c_decls.specs.TypeNames as names
+use Rattle.c_decls.specs.TypeNames.{Layer, PointerTo, ArrayOf, FunctionOf, word_type, record_type, is_union, with_new_tag, special_type, array_length, with_layers, with_param_layers, adjusted}
+use Rattle.c_decls.specs.Expressions.{line_of, typed, wanted, constant_from}
+use Rattle.elaboration.specs.Context.{Context, asked, told, entered, local_register}
+use Rattle.elaboration.specs.Conversions.{Memory}
+use Rattle.elaboration.specs.Locals.{is_twice, declared_as, next_is_memory, with_register, with_memory, counted, with_named, memory_param, register_param, with_param}
+use Rattle.elaboration.specs.Declarators as d
+use Rattle.elaboration.specs.Declarators.{constant, with_type, maybe_name, unnamed, newly_named, begun_as, begun, completed_by, complete, ended, with_member, member, enumerator, enum_named, is_declared, param, left_params, specs, words_type, tag_type, members, member_names, enumerators, layers, suffix_layers, suffix_layer, params}
+use Rattle.core_soundness.specs.Whole.{Whole, AllWhole, MembersWhole, NamedWhole, TableWhole, TablesWhole}
+use Rattle.core_soundness.specs.Written.{HasParts, Written, AllWritten}
+use Rattle.core_soundness.proofs.Grown.{good, ok_same, never}
+use Rattle.core_soundness.proofs.Agreeing.{came}
+use Rattle.core_soundness.proofs.Operating.{behind_test}
+use Rattle.core_soundness.proofs.Reached.{Led, led_ok, led_refused, led_after, led_unless}
+use Rattle.core_soundness.proofs.WholeTypes.{whole_stays, members_stay, table_stays, names_stay, push_extends, extends_refl, made_push, whole_fits}
+use Rattle.core_soundness.proofs.TypedWhole.{GoodType, LayersWhole, LayerWhole, layers_append, layers_reverse, with_name_whole, entered_whole, left_whole, with_layers_whole, with_param_layers_whole, adjusted_whole, special_good, word_whole, length_some, typed_good, wanted_good}
+use Rattle.core_soundness.specs.Solid.{Solid}
+use Rattle.core_soundness.proofs.Solid.{wrapped_number, mems_push, K, fit_of, told_whole, layers_stay, layer_stays, laid}
+use Rattle.core_soundness.proofs.Moving.{Rises, rises_refl, rises_trans, told_rises, write_rises}
+
+-- answers behind a context: with a whole type, with layers, with members, with the types of parameters
+abbrev pub T : Context → Context × PlainType → Type 0
+T c z = Rises c z.0 × Whole (K z.0) z.1
+
+abbrev pub L : Context → Context × List Layer → Type 0
+L c z = Rises c z.0 × LayersWhole (K z.0) z.1
+
+abbrev LL : Context → Context × Layer → Type 0
+LL c z = Rises c z.0 × LayerWhole (K z.0) z.1
+
+abbrev M : Context → Context × d.Members → Type 0
+M c z = Rises c z.0 × MembersWhole (K z.0) z.1
+
+abbrev P : Context → Context × PlainTypes → Type 0
+P c z = Rises c z.0 × AllWhole (K z.0) z.1
+
+abbrev pub R1 : {A : Type 0} → Context → Context × A → Type 0
+R1 {A} c z = Rises c z.0
+
+-- names that are declared
+
+pub named_rises : (c : Context) (name : List ℕ) (v : PlainNamed) → Solid c → NamedWhole (K c) v → Rises c (record c { scopes = with_name c.scopes name v })
+named_rises c name v h w = record {
+  solid = record { made = h.made; names = with_name_whole (K c) c.scopes name v w h.names; list = h.list; memory = h.memory; result = h.result; statics = h.statics; functions = h.functions };
+  more = extends_refl (K c);
+  code = λ k. k;
+  cases = λ k. k;
+  walked = λ k. k;
+}
+
+pub declared_rises : (line : ℕ) (name : List ℕ) (v : PlainNamed) (c : Context) → Solid c → NamedWhole (K c) v → Led (Rises c) (declared_as line name v c)
+declared_rises line name v c h w =
+    led_unless (Rises c) (is_twice c.scopes name v) DeclaredTwice line (Ok (record c { scopes = after_declaration c.scopes name v }))
+    (λ t. led_ok (Rises c) (record c { scopes = after_declaration c.scopes name v }) (by (is_some (named_in name (innermost c.scopes)))))
+  where
+    by : (t : Bool) → Rises c (record c { scopes = cond t c.scopes (with_name c.scopes name v) })
+    by true = record { solid = h; more = extends_refl (K c); code = λ k. k; cases = λ k. k; walked = λ k. k }
+    by false = named_rises c name v h w
+
+-- parameters
+
+maybe_named : (name : Option (List ℕ)) (v : PlainNamed) (c : Context) → Solid c → NamedWhole (K c) v → Rises c (with_named name v c)
+maybe_named None v c h w = rises_refl c h
+maybe_named (Some name) v c h w = named_rises c name v h w
+
+pub memory_rises : (name : List ℕ) (type : PlainType) (c : Context) → Solid c → Whole (K c) type → is_some (layout_in c.tags type) ≡ true → Rises c (with_memory name type c)
+memory_rises name type c h w s = record {
+  solid = record { made = h.made; names = h.names; list = h.list; memory = mems_push c.running.mems _ h.memory (laid c type h w s); result = h.result; statics = h.statics; functions = h.functions };
+  more = extends_refl (K c);
+  code = λ k. k;
+  cases = λ k. k;
+  walked = λ k. k;
+}
+
+pub register_rises : (name : Option (List ℕ)) (type : PlainType) (c : Context) → Solid c → Rises c (with_register name type c)
+register_rises name type c h = record { solid = h; more = extends_refl (K c); code = λ k. k; cases = λ k. k; walked = λ k. k }
+
+pub counted_rises : (c x : Context) → Rises c x → Rises c (counted x)
+counted_rises c x r = record { solid = r.solid; more = r.more; code = r.code; cases = r.cases; walked = r.walked }
+
+param_made : (name : Option (List ℕ)) (type : PlainType) (c : Context) → Solid c → Whole (K c) type → is_some (layout_in c.tags type) ≡ true → Rises c (with_param name type c)
+param_made name type c h w s = counted_rises c _ (by (next_is_memory type c))
+  where
+    mem : ℕ
+    mem = length c.running.mems
+
+    register : ℕ
+    register = local_register (length c.running.locals)
+
+    by : (t : Bool) → Rises c (cond t (memory_param name type c) (register_param name type c))
+    by true =
+        let x = with_register name type c in
+        let y = with_memory (unwrap_or name []) type x in
+        let z = with_named name (n.Object type (length c.running.mems)) y in
+        let a = memory_rises (unwrap_or name []) type x h w s in
+        let q = maybe_named name (n.Object type (length c.running.mems)) y a.solid w in
+        rises_trans c y _ (record { solid = a.solid; more = a.more; code = a.code; cases = a.cases; walked = a.walked }) (rises_trans y z _ q (write_rises c.running.line type (Memory (atom.Mem (length c.running.mems))) (atom.Reg (local_register (length c.running.locals))) z q.solid (λ k. (tt, tt))))
+    by false = let q = maybe_named name (n.Register type (length c.running.locals)) (with_register name type c) h w in record { solid = q.solid; more = q.more; code = q.code; cases = q.cases; walked = q.walked }
+
+-- a parameter has a layout: it is an integer or a pointer
+param_sized : (k : Known) (type : PlainType) → is_void type ≡ false → is_record type || is_function type ≡ false → is_array type ≡ false → is_some (layout_of k type) ≡ true
+param_sized k Void a b e = cc
+param_sized k (Int ty) a b e = refl
+param_sized k (Pointer target) a b e = refl
+param_sized k (Array element m) a b e = cc
+param_sized k (Struct tag) a b e = cc
+param_sized k (Union tag) a b e = cc
+param_sized k (Function answer ps) a b e = cc
+
+adjusted_flat : (type : PlainType) → is_array (adjusted type) ≡ false
+adjusted_flat Void = refl
+adjusted_flat (Int ty) = refl
+adjusted_flat (Pointer target) = refl
+adjusted_flat (Array element m) = refl
+adjusted_flat (Struct tag) = refl
+adjusted_flat (Union tag) = refl
+adjusted_flat (Function answer ps) = refl
+
+param_rises : (line : ℕ) (name : Option (List ℕ)) (type : PlainType) (c : Context) → Solid c → Whole (K c) type → is_array type ≡ false → Led (T c) (param line name type c)
+param_rises line name type c h w flat =
+    let r2 : Checked (Context × PlainType) = unless (is_declared name c) DeclaredTwice line (Ok (with_param name type c, type)) in
+    let r1 : Checked (Context × PlainType) = unless (is_record type || is_function type) LeftOut line r2 in
+    led_unless (T c) (is_void type) Incomplete line r1
+    (λ a. led_unless (T c) (is_record type || is_function type) LeftOut line r2
+    (λ b. led_unless (T c) (is_declared name c) DeclaredTwice line (Ok (with_param name type c, type))
+    (λ t. let q = param_made name type c h w (param_sized (K c) type a b flat) in led_ok (T c) (with_param name type c, type) (q, whole_stays type (K c) _ q.more w))))
+
+-- tags
+
+type_rises : (answer : Checked (names.Context × PlainType)) (c : Context) (h : Solid c) → Led (GoodType c.tags.completed h.made) answer → Led (T c) (with_type answer c)
+type_rises answer c h g = led_after (T c) answer (λ x. Ok (told x.0 c, x.1)) (λ x q. let k = g x q in led_ok (T c) (told x.0 c, x.1) (told_rises c x.0 h k.0, told_whole c x.0 h x.1 k.0 k.1))
+
+pub with_type_rises : (line : ℕ) (tree : Tree) (c : Context) → Solid c → Led (T c) (with_type (special_type line tree (asked c)) c)
+with_type_rises line tree c h = type_rises (special_type line tree (asked c)) c h (special_good c.tags.completed h.made line tree (asked c) (fit_of c h))
+
+pub asked_type_rises : (answer : Checked (names.Context × PlainType)) (c : Context) (h : Solid c) → Led (GoodType c.tags.completed h.made) answer → Led (T c) (with_type answer c)
+asked_type_rises answer c h g = type_rises answer c h g
+
+pub constant_rises : (e : Tree) (c : Context) → Solid c → Led (R1 c) (constant e c)
+constant_rises e c h =
+    led_after (R1 c) (wanted e (typed e (asked c))) (λ x. then (constant_from (line_of e) x.1.type x.1.folded) (λ k. Ok (told x.0 c, k)))
+    (λ x q. let g = wanted_good c.tags.completed h.made e (typed e (asked c)) (typed_good c.tags.completed h.made e (asked c) (fit_of c h)) x q in
+    led_after (R1 c) (constant_from (line_of e) x.1.type x.1.folded) (λ k. Ok (told x.0 c, k)) (λ k z. led_ok (R1 c) (told x.0 c, k) (told_rises c x.0 h g.0)))
+
+newly_rises : (sort : RecordSort) (name : List ℕ) (c : Context) → Solid c → Rises c (newly_named sort name c).0
+newly_rises sort name c h = record {
+  solid = record { made = h.made; names = with_name_whole (K c) c.scopes (tag_name name) (n.Tag (record_type sort (length c.tags.made))) tt h.names; list = h.list; memory = h.memory; result = h.result; statics = h.statics; functions = h.functions };
+  more = extends_refl (K c);
+  code = λ k. k;
+  cases = λ k. k;
+  walked = λ k. k;
+}
+
+begun_as_rises : (sort : RecordSort) (name : List ℕ) (o : Option PlainNamed) (c : Context) → Solid c → Rises c (begun_as sort name o c).0
+begun_as_rises sort name (Some (n.Tag type)) c h = rises_refl c h
+begun_as_rises sort name (Some (n.Object type i)) c h = newly_rises sort name c h
+begun_as_rises sort name (Some (n.Register type i)) c h = newly_rises sort name c h
+begun_as_rises sort name (Some (n.Function type i)) c h = newly_rises sort name c h
+begun_as_rises sort name (Some (n.Typedef type)) c h = newly_rises sort name c h
+begun_as_rises sort name (Some (n.Constant type x)) c h = newly_rises sort name c h
+begun_as_rises sort name (Some (n.BuiltIn i)) c h = newly_rises sort name c h
+begun_as_rises sort name None c h = newly_rises sort name c h
+
+begun_rises : (sort : RecordSort) (name : Option (List ℕ)) (c : Context) → Solid c → Rises c (begun sort name c).0
+begun_rises sort None c h = record { solid = h; more = extends_refl (K c); code = λ k. k; cases = λ k. k; walked = λ k. k }
+begun_rises sort (Some name) c h = begun_as_rises sort name (named_in (tag_name name) (innermost c.scopes)) c h
+
+members_all : (k : Known) (ms : d.Members) → MembersWhole k ms → All (λ (m : List ℕ × PlainType). HasLayout k m.1) ms
+members_all k [] h = λ j x q. absurd (omega (arith, q))
+members_all k (m ∷ ms) h = All-cons (λ (x : List ℕ × PlainType). HasLayout k x.1) m ms (h.0.1, whole_fits m.1 k h.0.0) (members_all k ms h.1)
+
+not_known : (o : Option Layout) → is_some o ≡ false → o ≡ None
+not_known None e = refl
+not_known (Some l) e = cc
+
+complete_rises : (line number : ℕ) (type : PlainType) (c : Context) (list : d.Members) → Solid c → MembersWhole (K c) list → (list ≡ [] → ⊥) → ((k : Known) → Whole k type) → Led (T c) (complete line number type c list)
+complete_rises line number type c list h m some w =
+    led_unless (T c) (is_some (K c number)) DeclaredTwice line (completed_by line c type (completion c.tags number list)) (λ t. by t (refusal (K c) new) refl)
+  where
+    new : CompletedTag
+    new = record { tag = number; is_union = option_map_or (λ (x : TagInfo). x.is_union) (slice_get c.tags.made number) false; members = list }
+
+    by : is_some (K c number) ≡ false → (o : Option TagError) → refusal (K c) new ≡ o → Led (T c) (completed_by line c type (tables.completed_by c.tags new o))
+    by t (Some error) e = led_refused (T c) _ line
+    by t None e =
+        let x = push_extends c.tags.completed new in
+        let made = made_push c.tags.completed new h.made (record { once = not_known (K c number) t; some = some; members = members_all (K c) list m; kept = e }) m in
+        led_ok (T c) (record c { tags = tables.with_completed c.tags new }, type) (
+          record {
+            solid = record {
+              made = made;
+              names = names_stay c.scopes (K c) _ x h.names;
+              list = table_stays c.params (K c) _ x h.list;
+              memory = h.memory;
+              result = whole_stays c.running.answer (K c) _ x h.result;
+              statics = h.statics;
+              functions = h.functions;
+            };
+            more = x;
+            code = λ k. k;
+            cases = λ k. k;
+            walked = λ k. k;
+          },
+          w _,
+        )
+
+ended_rises : (line : ℕ) (sort : RecordSort) (type : PlainType) (c : Context) (list : d.Members) → Solid c → MembersWhole (K c) list → (list ≡ [] → ⊥) → Led (T c) (ended line sort type c list)
+ended_rises line r.Struct (Struct number) c list h m some = complete_rises line number (Struct number) c list h m some (λ k. tt)
+ended_rises line r.Union (Union number) c list h m some = complete_rises line number (Union number) c list h m some (λ k. tt)
+ended_rises line sort type c list h m some = led_refused (T c) DeclaredTwice line
+
+-- members
+
+members_push : (k : Known) (ms : d.Members) (m : List ℕ × PlainType) → MembersWhole k ms → Whole k m.1 → is_some (layout_of k m.1) ≡ true → MembersWhole k (ms ++ m ∷ [])
+members_push k [] m h w s = ((w, s), tt)
+members_push k (x ∷ ms) m h w s = (h.0, members_push k ms m h.1 w s)
+
+sized : (tags : TagTable) (type : PlainType) → has_no_size tags type ≡ false → is_some (layout_in tags type) ≡ true
+sized tags type e = by (layout_in tags type) e
+  where
+    by : (o : Option Layout) → is_none (option_map (λ (l : Layout). l.size) o) ≡ false → is_some o ≡ true
+    by None q = cc
+    by (Some l) q = refl
+
+pub has_size : (tags : TagTable) (type : PlainType) → has_no_size tags type ≡ false → is_some (layout_in tags type) ≡ true
+has_size tags type e = sized tags type e
+
+with_member_rises : (line : ℕ) (name : Option (List ℕ)) (type : PlainType) (k : Known) (list : d.Members) → MembersWhole k list → Whole k type → is_some (layout_of k type) ≡ true → Led (MembersWhole k) (with_member line name type list)
+with_member_rises line None type k list m w s = led_ok (MembersWhole k) list m
+with_member_rises line (Some name) type k list m w s = led_unless (MembersWhole k) (d.has_member name list) DeclaredTwice line _ (λ t. led_ok (MembersWhole k) (list ++ (name, type) ∷ []) (members_push k list (name, type) m w s))
+
+member_rises : (line : ℕ) (name : Option (List ℕ)) (type : PlainType) (list : d.Members) (c : Context) → Solid c → Whole (K c) type → MembersWhole (K c) list → Led (M c) (member line name type list c)
+member_rises line name type list c h w m =
+    let r2 : Checked (Context × d.Members) = then (with_member line name type list) (λ more. Ok (c, more)) in
+    let r1 : Checked (Context × d.Members) = unless (has_no_size c.tags type) Incomplete line r2 in
+    led_unless (M c) (is_function type) LeftOut line r1
+    (λ t. led_unless (M c) (has_no_size c.tags type) Incomplete line r2
+    (λ s. led_after (M c) (with_member line name type list) (λ more. Ok (c, more))
+    (λ more q. led_ok (M c) (c, more) (rises_refl c h, with_member_rises line name type (K c) list m w (sized c.tags type s) more q))))
+
+-- members in braces are some
+
+append_some : {X : Type 0} (xs : List X) (x : X) → xs ++ x ∷ [] ≡ [] → ⊥
+append_some [] x e = cc
+append_some (y ∷ xs) x e = cc
+
+abbrev Keeps : d.Members → d.Members → Type 0
+Keeps list more = more ≡ [] → list ≡ []
+
+with_member_keeps : (line : ℕ) (name : Option (List ℕ)) (type : PlainType) (list more : d.Members) → with_member line name type list ≡ Ok more → Keeps list more
+with_member_keeps line None type list more q e = ok_same list more q ∙ e
+with_member_keeps line (Some name) type list more q e =
+    absurd (append_some list (name, type) (ok_same (list ++ (name, type) ∷ []) more (behind_test (d.has_member name list) DeclaredTwice line (Ok (list ++ (name, type) ∷ [])) more q) ∙ e))
+
+with_member_some : (line : ℕ) (name : Option (List ℕ)) (type : PlainType) (list more : d.Members) → is_some name ≡ true → with_member line name type list ≡ Ok more → more ≡ [] → ⊥
+with_member_some line None type list more s q e = cc
+with_member_some line (Some name) type list more s q e =
+    append_some list (name, type) (ok_same (list ++ (name, type) ∷ []) more (behind_test (d.has_member name list) DeclaredTwice line (Ok (list ++ (name, type) ∷ [])) more q) ∙ e)
+
+member_is : (line : ℕ) (name : Option (List ℕ)) (type : PlainType) (list : d.Members) (c : Context) (m : Context × d.Members) → member line name type list c ≡ Ok m → with_member line name type list ≡ Ok m.1
+member_is line name type list c m q =
+    let r2 : Checked (Context × d.Members) = then (with_member line name type list) (λ more. good (c, more)) in
+    let r1 : Checked (Context × d.Members) = unless (has_no_size c.tags type) Incomplete line r2 in
+    let a = behind_test (is_function type) LeftOut line r1 m q in
+    let b = behind_test (has_no_size c.tags type) Incomplete line r2 m a in
+    let k = came (with_member line name type list) (λ more. good (c, more)) m b in
+    k.is ∙ ap (λ (x : Context × d.Members). good x.1) (ok_same (c, k.value) m k.last)
+
+names_keep : (parts : Trees) (line : ℕ) (base : PlainType) (list : d.Members) (c : Context) (z : Context × d.Members) → member_names line base parts list c ≡ Ok z → Keeps list z.1
+unfolding member_names
+names_keep none line base list c z q e = ap (λ (x : Context × d.Members). x.1) (ok_same (c, list) z q) ∙ e
+names_keep (declarator ▹ rest) line base list c z q e =
+    let l = came (layers declarator c) (λ l. then (with_layers l.0.tags l.1 base) (λ type. then (member line (name_of declarator) type list l.0) (λ m. member_names line base rest m.1 m.0))) z q in
+    let t = came (with_layers l.value.0.tags l.value.1 base) (λ type. then (member line (name_of declarator) type list l.value.0) (λ m. member_names line base rest m.1 m.0)) z l.last in
+    let m = came (member line (name_of declarator) t.value list l.value.0) (λ m. member_names line base rest m.1 m.0) z t.last in
+    with_member_keeps line (name_of declarator) t.value list m.value.1 (member_is line (name_of declarator) t.value list l.value.0 m.value m.is) (names_keep rest line base m.value.1 m.value.0 z m.last e)
+
+names_some : (parts : Trees) (line : ℕ) (base : PlainType) (list : d.Members) (c : Context) (z : Context × d.Members) → HasParts f.MemberNames parts → member_names line base parts list c ≡ Ok z → z.1 ≡ [] → ⊥
+unfolding member_names HasParts
+names_some none line base list c z h q e = h
+names_some (declarator ▹ rest) line base list c z h q e =
+    let l = came (layers declarator c) (λ l. then (with_layers l.0.tags l.1 base) (λ type. then (member line (name_of declarator) type list l.0) (λ m. member_names line base rest m.1 m.0))) z q in
+    let t = came (with_layers l.value.0.tags l.value.1 base) (λ type. then (member line (name_of declarator) type list l.value.0) (λ m. member_names line base rest m.1 m.0)) z l.last in
+    let m = came (member line (name_of declarator) t.value list l.value.0) (λ m. member_names line base rest m.1 m.0) z t.last in
+    with_member_some line (name_of declarator) t.value list m.value.1 h (member_is line (name_of declarator) t.value list l.value.0 m.value m.is) (names_keep rest line base m.value.1 m.value.0 z m.last e)
+
+members_keep : (parts : Trees) (list : d.Members) (c : Context) (z : Context × d.Members) → members parts list c ≡ Ok z → Keeps list z.1
+unfolding members
+members_keep none list c z q e = ap (λ (x : Context × d.Members). x.1) (ok_same (c, list) z q) ∙ e
+members_keep (Node f.Member (At line ▹ words ▹ Node f.MemberNames declarators ▹ none) ▹ rest) list c z q e =
+    let base = came (specs words c) (λ base. then (member_names line base.1 declarators list base.0) (λ m. members rest m.1 m.0)) z q in
+    let m = came (member_names line base.value.1 declarators list base.value.0) (λ m. members rest m.1 m.0) z base.last in
+    names_keep declarators line base.value.1 list base.value.0 m.value m.is (members_keep rest m.value.1 m.value.0 z m.last e)
+members_keep (tree ▹ rest) list c z q e = never _ _ z q
+
+members_some : (parts : Trees) (list : d.Members) (c : Context) (z : Context × d.Members) → HasParts f.Members parts → AllWritten parts → members parts list c ≡ Ok z → z.1 ≡ [] → ⊥
+unfolding members HasParts Written AllWritten
+members_some none list c z h w q e = h
+members_some (Node f.Member (At line ▹ words ▹ Node f.MemberNames declarators ▹ none) ▹ rest) list c z h w q e =
+    let base = came (specs words c) (λ base. then (member_names line base.1 declarators list base.0) (λ m. members rest m.1 m.0)) z q in
+    let m = came (member_names line base.value.1 declarators list base.value.0) (λ m. members rest m.1 m.0) z base.last in
+    names_some declarators line base.value.1 list base.value.0 m.value w.0.1.1.1.0.0 m.is (members_keep rest m.value.1 m.value.0 z m.last e)
+members_some (tree ▹ rest) list c z h w q e = never _ _ z q
+
+-- enumerators
+
+enumerator_rises : (line : ℕ) (name : List ℕ) (value : ℤ) (c : Context) → Solid c → Led (R1 c) (enumerator line name value c)
+enumerator_rises line name value c h =
+    led_after (R1 c) (declared_as line name (n.Constant i.Int (wrapped I32 value)) c) (λ x. Ok (x, wrapped I32 value +ℤ pos 1))
+    (λ x q. led_ok (R1 c) (x, wrapped I32 value +ℤ pos 1) (declared_rises line name (n.Constant i.Int (wrapped I32 value)) c h (wrapped_number I32 value) x q))
+
+enum_rises : (line : ℕ) (name : Option (List ℕ)) (c : Context) → Solid c → Led (T c) (enum_named line name c)
+enum_rises line None c h = led_ok (T c) (c, Int i.Int) (rises_refl c h, tt)
+enum_rises line (Some name) c h =
+    led_unless (T c) (is_some (named_in (tag_name name) (innermost c.scopes))) DeclaredTwice line (Ok (record c { scopes = with_name c.scopes (tag_name name) (n.Tag (Int i.Int)) }, Int i.Int))
+    (λ t. led_ok (T c) (record c { scopes = with_name c.scopes (tag_name name) (n.Tag (Int i.Int)) }, Int i.Int) (named_rises c (tag_name name) (n.Tag (Int i.Int)) h tt, tt))
+
+-- scopes of parameters
+
+pub entered_solid : (c : Context) → Solid c → Solid (entered c)
+entered_solid c h = record { made = h.made; names = entered_whole (K c) c.scopes h.names; list = h.list; memory = h.memory; result = h.result; statics = h.statics; functions = h.functions }
+
+first_list : (k : Known) (inner : List Table) → TablesWhole k inner → TableWhole k (first_or [] inner)
+first_list k [] h = λ name v e. cc
+first_list k (t ∷ ts) h = h.0
+
+left_params_rises : (c x : Context) → Rises (entered c) x → Rises c (left_params x)
+left_params_rises c x p = record {
+  solid = record { made = p.solid.made; names = left_whole (K x) x.scopes p.solid.names; list = first_list (K x) x.scopes.inner p.solid.names.inner; memory = p.solid.memory; result = p.solid.result; statics = p.solid.statics; functions = p.solid.functions };
+  more = p.more;
+  code = p.code;
+  cases = p.cases;
+  walked = p.walked;
+}
+
+no_params : (c : Context) → Solid c → Rises c (record c { params = [] })
+no_params c h = record { solid = record { made = h.made; names = h.names; list = λ name v e. cc; memory = h.memory; result = h.result; statics = h.statics; functions = h.functions }; more = extends_refl (K c); code = λ k. k; cases = λ k. k; walked = λ k. k }
+
+t_on : (a b : Context) (z : Context × PlainType) → Rises a b → T b z → T a z
+t_on a b z x y = (rises_trans a b z.0 x y.0, y.1)
+
+mutual
+  unfolding specs words_type tag_type members member_names enumerators layers suffix_layers suffix_layer params Written AllWritten HasParts
+
+  pub specs_rise : (tree : Tree) (c : Context) → Solid c → Written tree → Led (T c) (specs tree c)
+  specs_rise (Node f.Specs (At line ▹ words)) c h w = words_rise words line words c h w.1.1
+  specs_rise tree c h w = led_refused (T c) Operands (line_of tree)
+
+  words_rise : (rest : Trees) (line : ℕ) (words : Trees) (c : Context) → Solid c → AllWritten rest → Led (T c) (words_type line words rest c)
+  words_rise none line words c h w = led_ok (T c) (c, word_type words) (rises_refl c h, word_whole c.tags.completed h.made words)
+  words_rise (Leaf word ▹ rest) line words c h w = words_rise rest line words c h w.1
+  words_rise (At at ▹ rest) line words c h w = words_rise rest line words c h w.1
+  words_rise (Node form parts ▹ rest) line words c h w = tag_rises (Node form parts) line c h w.0
+
+  tag_rises : (tree : Tree) (line : ℕ) (c : Context) → Solid c → Written tree → Led (T c) (tag_type line tree c)
+  tag_rises (Node (f.RecordBody sort) (At at ▹ Node f.MaybeName name ▹ Node f.Members parts ▹ none)) line c h w =
+      let start = begun sort (maybe_name name) c in
+      let b = begun_rises sort (maybe_name name) c h in
+      led_after (T c) (members parts [] start.0) (λ m. ended at sort start.1 m.0 m.1)
+      (λ m q. let k = members_rise parts [] start.0 b.solid w.1.1.1.0.1 tt m q in
+      (λ z s. t_on c m.0 z (rises_trans c start.0 m.0 b k.0) (ended_rises at sort start.1 m.0 m.1 k.0.solid k.1 (members_some parts [] start.0 m w.1.1.1.0.0 w.1.1.1.0.1 q) z s)))
+  tag_rises (Node (f.EnumBody trailing) (At at ▹ Node f.MaybeName name ▹ Node f.Enumerators parts ▹ none)) line c h w =
+      led_after (T c) (enumerators parts (pos 0) c) (λ e. enum_named at (maybe_name name) e)
+      (λ e q. let k = enumerators_rise parts (pos 0) c h w.1.1.1.0.1 e q in (λ z s. t_on c e z k (enum_rises at (maybe_name name) e k.solid z s)))
+  tag_rises tree line c h w = with_type_rises line tree c h
+
+  members_rise : (parts : Trees) (list : d.Members) (c : Context) → Solid c → AllWritten parts → MembersWhole (K c) list → Led (M c) (members parts list c)
+  members_rise none list c h w m = led_ok (M c) (c, list) (rises_refl c h, m)
+  members_rise (Node f.Member (At line ▹ words ▹ Node f.MemberNames declarators ▹ none) ▹ rest) list c h w m =
+      led_after (M c) (specs words c) (λ base. then (member_names line base.1 declarators list base.0) (λ x. members rest x.1 x.0))
+      (λ base q. let b = specs_rise words c h w.0.1.1.0 base q in
+      led_after (M c) (member_names line base.1 declarators list base.0) (λ x. members rest x.1 x.0)
+      (λ x s. let k = member_names_rise declarators line base.1 list base.0 b.0.solid w.0.1.1.1.0.1 b.1 (members_stay list (K c) (K base.0) b.0.more m) x s in
+      (λ z t. let y = members_rise rest x.1 x.0 k.0.solid w.1 k.1 z t in (rises_trans c base.0 z.0 b.0 (rises_trans base.0 x.0 z.0 k.0 y.0), y.1))))
+  members_rise (tree ▹ rest) list c h w m = led_refused (M c) Operands (line_of tree)
+
+  member_names_rise : (parts : Trees) (line : ℕ) (base : PlainType) (list : d.Members) (c : Context) → Solid c → AllWritten parts → Whole (K c) base → MembersWhole (K c) list → Led (M c) (member_names line base parts list c)
+  member_names_rise none line base list c h w t m = led_ok (M c) (c, list) (rises_refl c h, m)
+  member_names_rise (declarator ▹ rest) line base list c h w t m =
+      led_after (M c) (layers declarator c) (λ l. then (with_layers l.0.tags l.1 base) (λ type. then (member line (name_of declarator) type list l.0) (λ x. member_names line base rest x.1 x.0)))
+      (λ l q. let k = layers_rise declarator c h w.0 l q in
+      led_after (M c) (with_layers l.0.tags l.1 base) (λ type. then (member line (name_of declarator) type list l.0) (λ x. member_names line base rest x.1 x.0))
+      (λ type s. let y = with_layers_whole l.0.tags.completed l.0.tags l.1 base refl (whole_stays base (K c) (K l.0) k.0.more t) k.1 type s in
+      led_after (M c) (member line (name_of declarator) type list l.0) (λ x. member_names line base rest x.1 x.0)
+      (λ x v. let u = member_rises line (name_of declarator) type list l.0 k.0.solid y (members_stay list (K c) (K l.0) k.0.more m) x v in
+      let more : Rises c x.0 = rises_trans c l.0 x.0 k.0 u.0 in
+      (λ z a. let last = member_names_rise rest line base x.1 x.0 u.0.solid w.1 (whole_stays base (K c) (K x.0) more.more t) u.1 z a in (rises_trans c x.0 z.0 more last.0, last.1)))))
+
+  enumerators_rise : (parts : Trees) (next : ℤ) (c : Context) → Solid c → AllWritten parts → Led (Rises c) (enumerators parts next c)
+  enumerators_rise none next c h w = led_ok (Rises c) c (rises_refl c h)
+  enumerators_rise (Node f.Enumerator (At line ▹ Leaf (w.Name name) ▹ Node f.MaybeValue none ▹ none) ▹ rest) next c h w =
+      led_after (Rises c) (enumerator line name next c) (λ e. enumerators rest e.1 e.0)
+      (λ e q. let k = enumerator_rises line name next c h e q in (λ z s. rises_trans c e.0 z k (enumerators_rise rest e.1 e.0 k.solid w.1 z s)))
+  enumerators_rise (Node f.Enumerator (At line ▹ Leaf (w.Name name) ▹ Node f.MaybeValue (value ▹ none) ▹ none) ▹ rest) next c h w =
+      led_after (Rises c) (constant value c) (λ k. then (enumerator line name k.1.value k.0) (λ e. enumerators rest e.1 e.0))
+      (λ k q. let a = constant_rises value c h k q in
+      led_after (Rises c) (enumerator line name k.1.value k.0) (λ e. enumerators rest e.1 e.0)
+      (λ e s. let b = enumerator_rises line name k.1.value k.0 a.solid e s in (λ z t. rises_trans c k.0 z a (rises_trans k.0 e.0 z b (enumerators_rise rest e.1 e.0 b.solid w.1 z t)))))
+  enumerators_rise (tree ▹ rest) next c h w = led_refused (Rises c) Operands (line_of tree)
+
+  pub layers_rise : (tree : Tree) (c : Context) → Solid c → Written tree → Led (L c) (layers tree c)
+  layers_rise (Node (f.Pointer consts) (At line ▹ declarator ▹ none)) c h w =
+      led_after (L c) (layers declarator c) (λ l. Ok (l.0, PointerTo line ∷ l.1)) (λ l q. let k = layers_rise declarator c h w.1.1.0 l q in led_ok (L c) (l.0, PointerTo line ∷ l.1) (k.0, (tt, k.1)))
+  layers_rise (Node f.Direct (base ▹ Node f.Suffixes suffixes ▹ none)) c h w =
+      led_after (L c) (layers base c) (λ l. then (suffix_layers suffixes l.0) (λ s. Ok (s.0, reverse s.1 ++ l.1)))
+      (λ l q. let k = layers_rise base c h w.1.0 l q in
+      led_after (L c) (suffix_layers suffixes l.0) (λ s. Ok (s.0, reverse s.1 ++ l.1))
+      (λ s t. let m = suffixes_rise suffixes l.0 k.0.solid w.1.1.0.1 s t in
+      led_ok (L c) (s.0, reverse s.1 ++ l.1) (rises_trans c l.0 s.0 k.0 m.0, layers_append (K s.0) (reverse s.1) l.1 (layers_reverse (K s.0) s.1 m.1) (layers_stay l.1 (K l.0) (K s.0) m.0.more k.1))))
+  layers_rise (Node f.Parens (At line ▹ declarator ▹ none)) c h w = layers_rise declarator c h w.1.1.0
+  layers_rise tree c h w = led_ok (L c) (c, []) (rises_refl c h, tt)
+
+  suffixes_rise : (parts : Trees) (c : Context) → Solid c → AllWritten parts → Led (L c) (suffix_layers parts c)
+  suffixes_rise none c h w = led_ok (L c) (c, []) (rises_refl c h, tt)
+  suffixes_rise (suffix ▹ rest) c h w =
+      led_after (L c) (suffix_layer suffix c) (λ l. then (suffix_layers rest l.0) (λ more. Ok (more.0, l.1 ∷ more.1)))
+      (λ l q. let k = suffix_rises suffix c h w.0 l q in
+      led_after (L c) (suffix_layers rest l.0) (λ more. Ok (more.0, l.1 ∷ more.1))
+      (λ more s. let m = suffixes_rise rest l.0 k.0.solid w.1 more s in led_ok (L c) (more.0, l.1 ∷ more.1) (rises_trans c l.0 more.0 k.0 m.0, (layer_stays l.1 (K l.0) (K more.0) m.0.more k.1, m.1))))
+
+  suffix_rises : (tree : Tree) (c : Context) → Solid c → Written tree → Led (LL c) (suffix_layer tree c)
+  suffix_rises (Node f.ArraySuffix (At line ▹ Node f.MaybeLength none ▹ none)) c h w = led_ok (LL c) (c, ArrayOf line None) (rises_refl c h, tt)
+  suffix_rises (Node f.ArraySuffix (At line ▹ Node f.MaybeLength (e ▹ none) ▹ none)) c h w =
+      led_after (LL c) (wanted e (typed e (asked c))) (λ x. then (array_length (line_of e) x.1) (λ length. Ok (told x.0 c, ArrayOf line (Some length))))
+      (λ x q. let g = wanted_good c.tags.completed h.made e (typed e (asked c)) (typed_good c.tags.completed h.made e (asked c) (fit_of c h)) x q in
+      led_after (LL c) (array_length (line_of e) x.1) (λ length. Ok (told x.0 c, ArrayOf line (Some length)))
+      (λ m s. led_ok (LL c) (told x.0 c, ArrayOf line (Some m)) (told_rises c x.0 h g.0, length_some c.tags.completed h.made (line_of e) x.1 m s)))
+  suffix_rises (Node f.FunctionSuffix (At line ▹ Node f.Params parts ▹ none)) c h w =
+      led_after (LL c) (params parts (entered c)) (λ x. Ok (left_params x.0, FunctionOf line x.1))
+      (λ x q. let k = params_rise parts (entered c) (entered_solid c h) w.1.1.0.1 x q in led_ok (LL c) (left_params x.0, FunctionOf line x.1) (left_params_rises c x.0 k.0, k.1))
+  suffix_rises tree c h w = led_ok (LL c) (record c { params = [] }, FunctionOf (line_of tree) types.none) (no_params c h, tt)
+
+  params_rise : (parts : Trees) (c : Context) → Solid c → AllWritten parts → Led (P c) (params parts c)
+  params_rise none c h w = led_ok (P c) (c, types.none) (rises_refl c h, tt)
+  params_rise (Node f.Param (At line ▹ words ▹ declarator ▹ none) ▹ rest) c h w =
+      led_after (P c) (specs words c) (λ base. then (layers declarator base.0) (λ l. then (with_param_layers l.0.tags l.1 base.1) (λ type. then (param line (name_of declarator) (adjusted type) l.0) (λ x. then (params rest x.0) (λ more. Ok (more.0, first x.1 more.1))))))
+      (λ base q. let b = specs_rise words c h w.0.1.1.0 base q in
+      led_after (P c) (layers declarator base.0) (λ l. then (with_param_layers l.0.tags l.1 base.1) (λ type. then (param line (name_of declarator) (adjusted type) l.0) (λ x. then (params rest x.0) (λ more. Ok (more.0, first x.1 more.1)))))
+      (λ l s. let k = layers_rise declarator base.0 b.0.solid w.0.1.1.1.0 l s in
+      led_after (P c) (with_param_layers l.0.tags l.1 base.1) (λ type. then (param line (name_of declarator) (adjusted type) l.0) (λ x. then (params rest x.0) (λ more. Ok (more.0, first x.1 more.1))))
+      (λ type t. let y = with_param_layers_whole l.0.tags.completed l.0.tags l.1 base.1 refl (whole_stays base.1 (K base.0) (K l.0) k.0.more b.1) k.1 type t in
+      led_after (P c) (param line (name_of declarator) (adjusted type) l.0) (λ x. then (params rest x.0) (λ more. Ok (more.0, first x.1 more.1)))
+      (λ x v. let u = param_rises line (name_of declarator) (adjusted type) l.0 k.0.solid (adjusted_whole l.0.tags.completed type y) (adjusted_flat type) x v in
+      let far : Rises c x.0 = rises_trans c base.0 x.0 b.0 (rises_trans base.0 l.0 x.0 k.0 u.0) in
+      led_after (P c) (params rest x.0) (λ more. Ok (more.0, first x.1 more.1))
+      (λ more a. let m = params_rise rest x.0 u.0.solid w.1 more a in led_ok (P c) (more.0, first x.1 more.1) (rises_trans c x.0 more.0 far m.0, (whole_stays x.1 (K x.0) (K more.0) m.0.more u.1, m.1)))))))
+  params_rise (tree ▹ rest) c h w = led_refused (P c) Operands (line_of tree)

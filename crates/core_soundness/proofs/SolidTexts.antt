@@ -1,0 +1,592 @@
+-- Statements, functions and texts keep whole types (C99 6.8, 6.9).
+use Rattle.std.proofs.Common.{take, drop, ◌≡◌, ◌≤◌, ◌+◌, ◌*◌, ◌-◌, not, ℕ, zero, suc, ℤ, Bool, true, false, cond, is_some, nat_lt, codes, All, length, map, List, [], ◌∷◌, ◌++◌, slice_get, sum_by, Option, Some, None, Ok, refl, sym, subst, arith, bytes_eq}
+use Rattle.std.proofs.lemmas.List.Elements.{All-cons}
+use Rattle.std.proofs.lemmas.List.Sums.{sum_by-append, sum_by-cons}
+use Rattle.hs_base.specs.Place.{block_size}
+use Rattle.c_types.specs.declared.types.IntType.{IntType}
+use Rattle.c_types.specs.declared.types.IntType.TheVariants as i
+use Rattle.c_types.specs.Types as types
+use Rattle.c_types.specs.Types.{PlainType, Void, Function}
+use Rattle.c_types.specs.Layouts.{Known, array_layout, number_layout}
+use Rattle.c_types.specs.TagTable.{TagTable}
+use Rattle.core_tree.specs.declared.program.Core.{Core}
+use Rattle.core_tree.specs.declared.program.Func.{Func}
+use Rattle.core_tree.specs.declared.program.Mem.{Mem}
+use Rattle.core_tree.specs.declared.program.Static.{Static}
+use Rattle.core_tree.specs.declared.statements.Atom.{Atom}
+use Rattle.core_tree.specs.declared.statements.StmKind.TheVariants.{Enter, Leave, Return, Jump, Zero, Loop, Case}
+use Rattle.core_tree.specs.Statements.{given}
+use Rattle.core_tree.specs.LayoutsOfTypes.{IsLayoutOfType}
+use Rattle.core_tree.specs.Sound.{IsNumber}
+use Rattle.c_tree.specs.Forms as f
+use Rattle.c_tree.specs.Tree.{Tree, Trees, At, Node, none, ◌▹◌}
+use Rattle.c_tree.specs.Scopes.{name_of}
+use Rattle.c_decls.specs.declared.refusal.TypeKind.TheVariants.{Operands, Assignment, StrayBreak, CaseTwice, LeftOut, DeclaredTwice, ProgramTooLong, Undeclared, NoMain}
+use Rattle.c_decls.specs.declared.built_in.BuiltIn.{BuiltIn}
+use Rattle.c_decls.specs.Named as n
+use Rattle.c_decls.specs.Named.{PlainNamed}
+use Rattle.c_decls.specs.ScopeList.{named_in}
+use Rattle.c_decls.specs.BuiltIns as names
+use Rattle.c_decls.specs.BuiltIns.{built_ins, numbered_from}
+use Rattle.c_decls.specs.Refusals.{Checked, refused, then, unless}
+use Rattle.c_decls.specs.IntegerTypes.{promoted}
+use Rattle.c_decls.specs.Typed.{Operand, Number, PointerTo, Neither, operand, is_void, is_scalar, is_function}
+use Rattle.c_decls.specs.TypeNames.{with_layers}
+use Rattle.c_decls.specs.PlaceRules.{unconverted, converts}
+use Rattle.c_decls.specs.Expressions.{line_of}
+use Rattle.elaboration.specs.Context.{Here, Context, Variable, Walked, scoped, entered, left, emit, here, new_label, with_labels, with_pieces, first_context, Declared}
+use Rattle.elaboration.specs.Conversions.{Found, atom_in, valued, convert, convert_integer, tested_value, code_line}
+use Rattle.elaboration.specs.Reallocates.{opened, closed}
+use Rattle.elaboration.specs.Expressions.{found}
+use Rattle.elaboration.specs.Declarators.{specs, layers, constant}
+use Rattle.elaboration.specs.Declarations.{function_number, declared_function}
+use Rattle.elaboration.specs.Statements.{Around, around_body, below, in_loop, in_switch, in_delay, leaves, leave_to, evaluated, maybe_evaluated, closed_atom, condition, leaves_if_zero, maybe_leaves, apart, behind, returned, return_value, return_of, return_from, has_case, with_case, case_of, cased, defaulted, switch_operand_of, switch_operand, no_cases, switched, looped, for_start, statement, items, dispatch, does, cases_of}
+use Rattle.elaboration.specs.Externals.{begun, answer_of, params_of, is_defined, body_begun, last_answer, body_ended, body, defined, named_definition, definition, external, externals, calls_defined, is_main, ended}
+use Rattle.elaboration.specs.Addressed.{addressed_in}
+use Rattle.elaboration.specs.Resolving.{function_of, variable_static, literal_static, core_of}
+use Rattle.elaboration.specs.Elaboration.{walked, elaborated}
+use Rattle.core_soundness.specs.Whole.{Whole, TableWhole}
+use Rattle.core_soundness.specs.Written.{Written, AllWritten, AreWritten}
+use Rattle.core_soundness.specs.Laws.{HasLayouts}
+use Rattle.core_soundness.proofs.Working.{grows_tested, grows_convert_integer}
+use Rattle.core_soundness.proofs.Quiet.{quiet_convert_integer}
+use Rattle.core_soundness.proofs.Cores.{behind as core_behind, core_sizes}
+use Rattle.core_soundness.proofs.Reached.{Led, led_ok, led_refused, led_after, led_unless, led_barred}
+use Rattle.core_soundness.proofs.WholeTypes.{whole_stays, extends_refl, is_layout}
+use Rattle.core_soundness.proofs.TypedWhole.{left_whole, with_layers_whole}
+use Rattle.core_soundness.specs.Solid.{MemsLaid, VariablesLaid, WalkedLaid, Solid}
+use Rattle.core_soundness.proofs.Solid.{walked_push, K, same_kept, same_rises, wrapped_number}
+use Rattle.core_soundness.specs.Ranges.{AtomIn, AtomsIn, PiecesIn}
+use Rattle.core_soundness.proofs.Ranges.{In, in_emit, in_here, pieces_joined, zero_number}
+use Rattle.core_soundness.proofs.RangedWork.{spot_atom, convert_integer_in}
+use Rattle.core_soundness.proofs.RangedFound.{tested_value_in}
+use Rattle.core_soundness.proofs.RangedWalk.{tested_solid}
+use Rattle.core_soundness.proofs.Moving.{CasesIn, WalkedIn, same_cases, same_walked, Rises, rises_refl, rises_trans, closed_rises, Full, full_value}
+use Rattle.core_soundness.proofs.SolidLayers.{constant_rises, entered_solid, specs_rise, layers_rise}
+use Rattle.core_soundness.proofs.SolidFills.{declared_function_rises, declaration_rises, scalar_value}
+
+-- scopes
+
+pub scoped_rises : (c : Context) (inside : Context → Checked Context) → Led (Rises (entered c)) (inside (entered c)) → Led (Rises c) (scoped c inside)
+scoped_rises c inside k =
+    led_after (Rises c) (inside (entered c)) (λ d. Ok (left d))
+    (λ d q. let r = k d q in
+    led_ok (Rises c) (left d)
+    (record {
+      solid = record { made = r.solid.made; names = left_whole (K d) d.scopes r.solid.names; list = r.solid.list; memory = r.solid.memory; result = r.solid.result; statics = r.solid.statics; functions = r.solid.functions };
+      more = r.more;
+      code = r.code;
+      cases = r.cases;
+      walked = r.walked;
+    }))
+
+on_led : (a b : Context) (x : Checked Context) → Rises a b → Led (Rises b) x → Led (Rises a) x
+on_led a b x r k z q = rises_trans a b z r (k z q)
+
+leaves_rise : (k line : ℕ) (c : Context) → Solid c → Rises c (leaves line k c)
+leaves_rise zero line c h = rises_refl c h
+leaves_rise (suc k) line c h =
+    let d = emit line Leave c in rises_trans c d _ (record { solid = h; more = extends_refl (K c); code = λ g. in_emit line Leave c g (tt, tt); cases = λ g. g; walked = λ g. g }) (leaves_rise k line d h)
+
+leave_rises : (line delays : ℕ) (o : Option (ℕ × ℕ)) (c : Context) → Solid c → Led (Rises c) (leave_to line delays o c)
+leave_rises line delays None c h = led_refused (Rises c) StrayBreak line
+leave_rises line delays (Some exit) c h =
+    let d = leaves line (delays - exit.1) c in
+    let r = leaves_rise (delays - exit.1) line c h in led_ok (Rises c) (emit line (Jump exit.0) d) (record { solid = r.solid; more = r.more; code = λ g. in_emit line (Jump exit.0) d (r.code g) (tt, tt); cases = r.cases; walked = r.walked })
+
+-- expressions
+
+evaluated_rises : (e : Tree) (c : Context) → Solid c → Written e → Led (Rises c) (evaluated e c)
+evaluated_rises e c h w =
+    led_after (Rises c) (valued e (found e Void (opened e c))) (λ d. Ok (closed e d.0))
+    (λ d q. let r = full_value e Void c d h w tt q in led_ok (Rises c) (closed e d.0) (rises_trans c d.0 _ r.rises (closed_rises e d.0 r.rises.solid)))
+
+maybe_evaluated_rises : (es : Trees) (c : Context) → Solid c → AllWritten es → Led (Rises c) (maybe_evaluated es c)
+unfolding AllWritten
+maybe_evaluated_rises none c h w = led_ok (Rises c) c (rises_refl c h)
+maybe_evaluated_rises (e ▹ rest) c h w = evaluated_rises e c h w.0
+
+-- with an operand in range
+abbrev C1 : Context → Context × Atom → Type 0
+C1 c z = Rises c z.0 × (In c → AtomIn z.1)
+
+condition_rises : (e : Tree) (c : Context) → Solid c → Written e → Led (C1 c) (condition e c)
+condition_rises e c h w =
+    led_after (C1 c) (valued e (found e Void (opened e c))) (λ d. unless (not (is_scalar d.1.typed.type)) Operands (line_of e) (Ok (closed_atom e (tested_value e d))))
+    (λ d q. let r = full_value e Void c d h w tt q in
+    let k = tested_solid e d r.rises.solid in
+    let z = closed_rises e (tested_value e d).0 k.solid in
+    led_unless (C1 c) (not (is_scalar d.1.typed.type)) Operands (line_of e) (Ok (closed_atom e (tested_value e d)))
+    (λ x. led_ok (C1 c) (closed_atom e (tested_value e d)) (
+      record {
+        solid = z.solid;
+        more = λ tag l y. z.more tag l (k.more tag l (r.rises.more tag l y));
+        code = λ g. z.code (tested_value_in e d (r.fits g)).0;
+        cases = λ g. z.cases (same_cases d.0 (tested_value e d).0 (grows_tested (code_line e) d.1.typed.type (atom_in d.1) d.0) (r.rises.cases g));
+        walked = λ g. z.walked (same_walked d.0 (tested_value e d).0 (grows_tested (code_line e) d.1.typed.type (atom_in d.1) d.0) (r.rises.walked g));
+      },
+      λ g. (tested_value_in e d (r.fits g)).1,
+    )))
+
+if_zero_rises : (line label : ℕ) (e : Tree) (c : Context) → Solid c → Written e → Led (Rises c) (leaves_if_zero line label e c)
+if_zero_rises line label e c h w =
+    led_after (Rises c) (condition e c) (λ d. Ok (emit line (Zero d.1 label) d.0))
+    (λ d q. let r = condition_rises e c h w d q in led_ok (Rises c) (emit line (Zero d.1 label) d.0) (record { solid = r.0.solid; more = r.0.more; code = λ g. in_emit line (Zero d.1 label) d.0 (r.0.code g) ((r.1 g, tt), tt); cases = r.0.cases; walked = r.0.walked }))
+
+maybe_leaves_rises : (line label : ℕ) (es : Trees) (c : Context) → Solid c → AllWritten es → Led (Rises c) (maybe_leaves line label es c)
+unfolding AllWritten
+maybe_leaves_rises line label none c h w = led_ok (Rises c) c (rises_refl c h)
+maybe_leaves_rises line label (e ▹ rest) c h w = if_zero_rises line label e c h w.0
+
+return_of_rises : (line delays : ℕ) (e : Tree) (type : PlainType) (c : Context) → Solid c → Written e → Whole (K c) type → Led (Rises c) (return_of line delays e type c)
+return_of_rises line delays e type c h w t =
+    let begin = opened e c in
+    led_after (Rises c) (valued e (found e type begin)) (λ d. unless (is_void type) Assignment line (converts line type d.1.typed (return_value line delays e type begin.code d)))
+    (λ d q. let v = scalar_value e line type c d h w t q in
+    let x = convert line begin.code type d.1.typed (atom_in d.1) d.0 in
+    let k = closed_rises e x.0 v.rises.solid in
+    let f = leaves line delays (closed e x.0) in
+    let z = leaves_rise delays line (closed e x.0) k.solid in
+    led_unless (Rises c) (is_void type) Assignment line (converts line type d.1.typed (return_value line delays e type begin.code d))
+    (λ b. led_barred (Rises c) (unconverted type d.1.typed) line (return_value line delays e type begin.code d)
+    (led_ok (Rises c) (returned line delays (Some x.1) (closed e x.0))
+    (record {
+      solid = z.solid;
+      more = λ tag l y. z.more tag l (k.more tag l (v.rises.more tag l y));
+      code = λ g. in_emit line (Return (Some x.1)) f (z.code (k.code (v.rises.code g))) ((v.fits g, tt), tt);
+      cases = λ g. z.cases (k.cases (v.rises.cases g));
+      walked = λ g. z.walked (k.walked (v.rises.walked g));
+    }))))
+
+return_rises : (line delays : ℕ) (es : Trees) (c : Context) → Solid c → AllWritten es → Led (Rises c) (return_from line delays es c)
+unfolding AllWritten
+return_rises line delays none c h w =
+    let r = leaves_rise delays line c h in
+    led_unless (Rises c) (not (is_void c.running.answer)) Assignment line (Ok (returned line delays None c))
+    (λ x. led_ok (Rises c) (returned line delays None c) (record { solid = r.solid; more = r.more; code = λ g. in_emit line (Return None) (leaves line delays c) (r.code g) (tt, tt); cases = r.cases; walked = r.walked }))
+return_rises line delays (e ▹ rest) c h w = return_of_rises line delays e c.running.answer c h w.0 h.result
+
+-- switches
+
+cases_joined : (xs ys : List (ℤ × ℕ)) → CasesIn xs → CasesIn ys → CasesIn (xs ++ ys)
+cases_joined [] ys g h = h
+cases_joined (x ∷ xs) ys g h = (g.0, cases_joined xs ys g.1 h)
+
+cases_put : (place : ℕ) (v : ℤ) (label : ℕ) (xs : List (ℤ × ℕ)) → IsNumber v → CasesIn xs → CasesIn (take place xs ++ ((v, label) ∷ drop place xs))
+cases_put zero v label xs n g = (n, g)
+cases_put (suc place) v label [] n g = (n, tt)
+cases_put (suc place) v label (x ∷ xs) n g = (g.0, cases_put place v label xs n g.1)
+
+cases_code : (line : ℕ) (a : Atom) (xs : List (ℤ × ℕ)) → AtomIn a → CasesIn xs → PiecesIn (map (λ (x : ℤ × ℕ). does line (Case a x.0 x.1)) xs)
+cases_code line a [] h g = tt
+cases_code line a (x ∷ xs) h g = (((h, tt), g.0), cases_code line a xs h g.1)
+
+dispatch_in : (line : ℕ) (a : Atom) (end : ℕ) (c : Context) → AtomIn a → CasesIn c.running.cases → PiecesIn (dispatch line a end c)
+dispatch_in line a end c h g = pieces_joined (map (λ (x : ℤ × ℕ). does line (Case a x.0 x.1)) c.running.cases) _ (cases_code line a c.running.cases h g) ((tt, tt), tt)
+
+looped_in : (line head end : ℕ) (c : Context) → In c → In (looped line head end c)
+looped_in line head end c g = in_here end (emit line (Loop head) c) (in_emit line (Loop head) c g (tt, tt))
+
+case_rises : (line : ℕ) (a : Around) (ty : IntType) (place : ℕ) (v : ℤ) (label : ℕ) (c : Context) → Solid c → Led (Rises c) (case_of line a ty place v label c)
+case_rises line a ty place v label c h =
+    let value = Rattle.hs_base.specs.Numbers.wrapped (types.kind_of ty) v in
+    led_unless (Rises c) (not a.labelled) LeftOut line (unless (has_case value c) CaseTwice line (Ok (with_case place value label c)))
+    (λ x. led_unless (Rises c) (has_case value c) CaseTwice line (Ok (with_case place value label c)) (λ y. led_ok (Rises c) (with_case place value label c) (record { solid = h; more = extends_refl (K c); code = λ g. g; cases = λ g. cases_put place value label c.running.cases (wrapped_number (types.kind_of ty) v) g; walked = λ g. g })))
+
+cased_rises : (line : ℕ) (a : Around) (o : Option IntType) (place : ℕ) (v : ℤ) (label : ℕ) (c : Context) → Solid c → Led (Rises c) (cased line a o place v label c)
+cased_rises line a None place v label c h = led_refused (Rises c) StrayBreak line
+cased_rises line a (Some ty) place v label c h = case_rises line a ty place v label c h
+
+defaulted_rises : (line : ℕ) (a : Around) (label : ℕ) (c : Context) → Solid c → Led (Rises c) (defaulted line a label c)
+defaulted_rises line a label c h =
+    let d : Context = record c { running = record c.running { otherwise = Some label } } in
+    let r2 : Checked Context = unless (is_some c.running.otherwise) CaseTwice line (Ok d) in
+    let r1 : Checked Context = unless (not a.labelled) LeftOut line r2 in
+    led_unless (Rises c) (not (is_some a.switched)) StrayBreak line r1
+    (λ x. led_unless (Rises c) (not a.labelled) LeftOut line r2
+    (λ y. led_unless (Rises c) (is_some c.running.otherwise) CaseTwice line (Ok d) (λ z. led_ok (Rises c) d (record { solid = h; more = extends_refl (K c); code = λ g. g; cases = λ g. g; walked = λ g. g }))))
+
+abbrev O1 : Context → Context × (IntType × Atom) → Type 0
+O1 c z = Rises c z.0 × (In c → AtomIn z.1.1)
+
+operand_of_rises : (line : ℕ) (e : Tree) (o : Operand) (c : Context) (d : Context × Found) → Full c d → Led (O1 c) (switch_operand_of line e o d)
+operand_of_rises line e (Number ty) c d r =
+    let x = convert_integer line (promoted ty) ty (atom_in d.1) d.0 in
+    let grown = grows_convert_integer line (promoted ty) ty (atom_in d.1) d.0 in
+    let a = same_rises d.0 x.0 (same_kept d.0 x.0 (quiet_convert_integer line (promoted ty) ty (atom_in d.1) d.0) grown.kept) r.rises.solid in
+    let z = closed_rises e x.0 a.solid in
+    led_ok (O1 c) (closed e x.0, (promoted ty, x.1)) (
+      record {
+        solid = z.solid;
+        more = λ tag l y. z.more tag l (a.more tag l (r.rises.more tag l y));
+        code = λ g. let f = r.fits g in z.code (convert_integer_in line (promoted ty) ty (atom_in d.1) d.0 f.0 (spot_atom d.1.spot f.1)).0;
+        cases = λ g. z.cases (same_cases d.0 x.0 grown (r.rises.cases g));
+        walked = λ g. z.walked (same_walked d.0 x.0 grown (r.rises.walked g));
+      },
+      λ g. let f = r.fits g in (convert_integer_in line (promoted ty) ty (atom_in d.1) d.0 f.0 (spot_atom d.1.spot f.1)).1,
+    )
+operand_of_rises line e (PointerTo target) c d r = led_refused (O1 c) Operands (line_of e)
+operand_of_rises line e Neither c d r = led_refused (O1 c) Operands (line_of e)
+
+operand_rises : (line : ℕ) (e : Tree) (c : Context) → Solid c → Written e → Led (O1 c) (switch_operand line e c)
+operand_rises line e c h w =
+    led_after (O1 c) (valued e (found e Void (opened e c))) (λ d. switch_operand_of line e (operand d.1.typed.type) d) (λ d q. operand_of_rises line e (operand d.1.typed.type) c d (full_value e Void c d h w tt q))
+
+start_rises : (line : ℕ) (tree : Tree) (c : Context) → Solid c → Written tree → Led (Rises c) (for_start line tree c)
+unfolding Written AllWritten
+start_rises line (Node f.ForNames (words ▹ names ▹ none)) c h w = declaration_rises false line words names c h w.1.0 w.1.1.0
+start_rises line (Node f.ForStart (Node f.MaybeExpr e ▹ none)) c h w = maybe_evaluated_rises e c h w.1.0.1
+start_rises line tree c h w = led_refused (Rises c) Operands line
+
+mutual
+  unfolding statement items Written AllWritten
+
+  pub statement_rises : (tree : Tree) (a : Around) (c : Context) → Solid c → Written tree → Led (Rises c) (statement tree a c)
+  statement_rises (Node f.Empty parts) a c h w = led_ok (Rises c) c (rises_refl c h)
+  statement_rises (Node f.Expr (At line ▹ e ▹ none)) a c h w = evaluated_rises e c h w.1.1.0
+  statement_rises (Node f.Block (At line ▹ Node f.Items parts ▹ none)) a c h w =
+      scoped_rises c (λ d. items parts (below a) d) (items_rise parts (below a) (entered c) (entered_solid c h) w.1.1.0.1)
+  statement_rises (Node f.Delay (At line ▹ Node f.Items parts ▹ none)) a c h w =
+      let d0 = entered c in
+      let d1 = emit line Enter d0 in
+      let h0 = entered_solid c h in
+      scoped_rises c (λ d. then (items parts (in_delay a) (emit line Enter d)) (λ e. Ok (emit line Leave e)))
+      (led_after (Rises d0) (items parts (in_delay a) d1) (λ e. Ok (emit line Leave e))
+      (λ e q. let r = rises_trans d0 d1 e (record { solid = h0; more = extends_refl (K d0); code = λ g. in_emit line Enter d0 g (tt, tt); cases = λ g. g; walked = λ g. g }) (items_rise parts (in_delay a) d1 h0 w.1.1.0.1 e q) in led_ok (Rises d0) (emit line Leave e) (record { solid = r.solid; more = r.more; code = λ g. in_emit line Leave e (r.code g) (tt, tt); cases = r.cases; walked = r.walked })))
+  statement_rises (Node f.If (At line ▹ e ▹ s ▹ none)) a c h w =
+      let end = new_label c in
+      let c1 = with_labels 1 c in
+      let d0 = entered c1 in
+      let h0 = entered_solid c1 h in
+      on_led c c1 _ (record { solid = h; more = extends_refl (K c); code = λ g. g; cases = λ g. g; walked = λ g. g })
+      (scoped_rises c1 (λ d. then (leaves_if_zero line end e d) (λ t. then (scoped t (λ b. statement s (below a) b)) (λ g. Ok (here end g))))
+      (led_after (Rises d0) (leaves_if_zero line end e d0) (λ t. then (scoped t (λ b. statement s (below a) b)) (λ g. Ok (here end g)))
+      (λ t q. let r = if_zero_rises line end e d0 h0 w.1.1.0 t q in
+      led_after (Rises d0) (scoped t (λ b. statement s (below a) b)) (λ g. Ok (here end g))
+      (λ g k. let m = rises_trans d0 t g r (scoped_rises t (λ b. statement s (below a) b) (statement_rises s (below a) (entered t) (entered_solid t r.solid) w.1.1.1.0) g k) in
+      led_ok (Rises d0) (here end g) (record { solid = m.solid; more = m.more; code = λ v. in_here end g (m.code v); cases = m.cases; walked = m.walked })))))
+  statement_rises (Node f.IfElse (At line ▹ e ▹ s ▹ other ▹ none)) a c h w =
+      let end = new_label c in
+      let c1 = with_labels 2 c in
+      let d0 = entered c1 in
+      let h0 = entered_solid c1 h in
+      on_led c c1 _ (record { solid = h; more = extends_refl (K c); code = λ g. g; cases = λ g. g; walked = λ g. g })
+      (scoped_rises c1 (λ d. then (leaves_if_zero line (end + 1) e d) (λ t. then (scoped t (λ b. statement s (below a) b)) (λ g. then (scoped (here (end + 1) (emit line (Jump end) g)) (λ b. statement other (below a) b)) (λ k. Ok (here end k)))))
+      (led_after (Rises d0) (leaves_if_zero line (end + 1) e d0) (λ t. then (scoped t (λ b. statement s (below a) b)) (λ g. then (scoped (here (end + 1) (emit line (Jump end) g)) (λ b. statement other (below a) b)) (λ k. Ok (here end k))))
+      (λ t q. let r = if_zero_rises line (end + 1) e d0 h0 w.1.1.0 t q in
+      led_after (Rises d0) (scoped t (λ b. statement s (below a) b)) (λ g. then (scoped (here (end + 1) (emit line (Jump end) g)) (λ b. statement other (below a) b)) (λ k. Ok (here end k)))
+      (λ g k. let m = rises_trans d0 t g r (scoped_rises t (λ b. statement s (below a) b) (statement_rises s (below a) (entered t) (entered_solid t r.solid) w.1.1.1.0) g k) in
+      let x = here (end + 1) (emit line (Jump end) g) in
+      let mx : Rises d0 x = record { solid = m.solid; more = m.more; code = λ v. in_here (end + 1) (emit line (Jump end) g) (in_emit line (Jump end) g (m.code v) (tt, tt)); cases = m.cases; walked = m.walked } in
+      led_after (Rises d0) (scoped x (λ b. statement other (below a) b)) (λ y. Ok (here end y))
+      (λ y u. let last = rises_trans d0 x y mx (scoped_rises x (λ b. statement other (below a) b) (statement_rises other (below a) (entered x) (entered_solid x mx.solid) w.1.1.1.1.0) y u) in
+      led_ok (Rises d0) (here end y) (record { solid = last.solid; more = last.more; code = λ v. in_here end y (last.code v); cases = last.cases; walked = last.walked }))))))
+  statement_rises (Node f.While (At line ▹ e ▹ s ▹ none)) a c h w =
+      let head = new_label c in
+      let c1 = with_labels 3 c in
+      let d0 = entered c1 in
+      let h0 = entered_solid c1 h in
+      let d1 = here head d0 in
+      on_led c c1 _ (record { solid = h; more = extends_refl (K c); code = λ g. g; cases = λ g. g; walked = λ g. g })
+      (scoped_rises c1 (λ d. then (leaves_if_zero line (head + 1) e (here head d)) (λ t. then (scoped t (λ b. statement s (in_loop (head + 1) (head + 2) a) b)) (λ g. Ok (looped line head (head + 1) (here (head + 2) g)))))
+      (led_after (Rises d0) (leaves_if_zero line (head + 1) e d1) (λ t. then (scoped t (λ b. statement s (in_loop (head + 1) (head + 2) a) b)) (λ g. Ok (looped line head (head + 1) (here (head + 2) g))))
+      (λ t q. let r = rises_trans d0 d1 t (record { solid = h0; more = extends_refl (K d0); code = λ v. in_here head d0 v; cases = λ v. v; walked = λ v. v }) (if_zero_rises line (head + 1) e d1 h0 w.1.1.0 t q) in
+      led_after (Rises d0) (scoped t (λ b. statement s (in_loop (head + 1) (head + 2) a) b)) (λ g. Ok (looped line head (head + 1) (here (head + 2) g)))
+      (λ g k. let m = rises_trans d0 t g r (scoped_rises t (λ b. statement s (in_loop (head + 1) (head + 2) a) b) (statement_rises s (in_loop (head + 1) (head + 2) a) (entered t) (entered_solid t r.solid) w.1.1.1.0) g k) in
+      led_ok (Rises d0) (looped line head (head + 1) (here (head + 2) g)) (record { solid = m.solid; more = m.more; code = λ v. looped_in line head (head + 1) (here (head + 2) g) (in_here (head + 2) g (m.code v)); cases = m.cases; walked = m.walked })))))
+  statement_rises (Node f.Do (At line ▹ s ▹ e ▹ none)) a c h w =
+      let head = new_label c in
+      let c1 = with_labels 3 c in
+      let d0 = entered c1 in
+      let h0 = entered_solid c1 h in
+      let d1 = here head d0 in
+      on_led c c1 _ (record { solid = h; more = extends_refl (K c); code = λ g. g; cases = λ g. g; walked = λ g. g })
+      (scoped_rises c1 (λ d. then (scoped (here head d) (λ b. statement s (in_loop (head + 1) (head + 2) a) b)) (λ g. then (leaves_if_zero line (head + 1) e (here (head + 2) g)) (λ t. Ok (looped line head (head + 1) t))))
+      (led_after (Rises d0) (scoped d1 (λ b. statement s (in_loop (head + 1) (head + 2) a) b)) (λ g. then (leaves_if_zero line (head + 1) e (here (head + 2) g)) (λ t. Ok (looped line head (head + 1) t)))
+      (λ g k. let m = rises_trans d0 d1 g (record { solid = h0; more = extends_refl (K d0); code = λ v. in_here head d0 v; cases = λ v. v; walked = λ v. v }) (scoped_rises d1 (λ b. statement s (in_loop (head + 1) (head + 2) a) b) (statement_rises s (in_loop (head + 1) (head + 2) a) (entered d1) (entered_solid d1 h0) w.1.1.0) g k) in
+      let x = here (head + 2) g in
+      let mx : Rises d0 x = record { solid = m.solid; more = m.more; code = λ v. in_here (head + 2) g (m.code v); cases = m.cases; walked = m.walked } in
+      led_after (Rises d0) (leaves_if_zero line (head + 1) e x) (λ t. Ok (looped line head (head + 1) t))
+      (λ t q. let r = rises_trans d0 x t mx (if_zero_rises line (head + 1) e x mx.solid w.1.1.1.0 t q) in led_ok (Rises d0) (looped line head (head + 1) t) (record { solid = r.solid; more = r.more; code = λ v. looped_in line head (head + 1) t (r.code v); cases = r.cases; walked = r.walked })))))
+  statement_rises (Node f.For (At line ▹ start ▹ Node f.MaybeExpr test ▹ Node f.MaybeExpr step ▹ s ▹ none)) a c h w =
+      let head = new_label c in
+      let c1 = with_labels 3 c in
+      let d0 = entered c1 in
+      let h0 = entered_solid c1 h in
+      let around = in_loop (head + 1) (head + 2) a in
+      on_led c c1 _ (record { solid = h; more = extends_refl (K c); code = λ g. g; cases = λ g. g; walked = λ g. g })
+      (scoped_rises c1 (λ d. then (for_start line start d) (λ x. then (maybe_leaves line (head + 1) test (here head x)) (λ t. then (maybe_evaluated step (apart t)) (λ g. then (scoped (with_pieces t.code.pieces g) (λ b. statement s around b)) (λ k. Ok (looped line head (head + 1) (with_pieces (k.code.pieces ++ (Here (head + 2) ∷ g.code.pieces)) k)))))))
+      (led_after (Rises d0) (for_start line start d0) (λ x. then (maybe_leaves line (head + 1) test (here head x)) (λ t. then (maybe_evaluated step (apart t)) (λ g. then (scoped (with_pieces t.code.pieces g) (λ b. statement s around b)) (λ k. Ok (looped line head (head + 1) (with_pieces (k.code.pieces ++ (Here (head + 2) ∷ g.code.pieces)) k))))))
+      (λ x q1. let r1 = start_rises line start d0 h0 w.1.1.0 x q1 in
+      let x1 = here head x in
+      let s1 : Rises d0 x1 = record { solid = r1.solid; more = r1.more; code = λ v. in_here head x (r1.code v); cases = r1.cases; walked = r1.walked } in
+      led_after (Rises d0) (maybe_leaves line (head + 1) test x1) (λ t. then (maybe_evaluated step (apart t)) (λ g. then (scoped (with_pieces t.code.pieces g) (λ b. statement s around b)) (λ k. Ok (looped line head (head + 1) (with_pieces (k.code.pieces ++ (Here (head + 2) ∷ g.code.pieces)) k)))))
+      (λ t q2. let r2 = rises_trans d0 x1 t s1 (maybe_leaves_rises line (head + 1) test x1 s1.solid w.1.1.1.0.1 t q2) in
+      let t1 = apart t in
+      let s2 : Rises d0 t1 = record { solid = r2.solid; more = r2.more; code = λ v. tt; cases = r2.cases; walked = r2.walked } in
+      led_after (Rises d0) (maybe_evaluated step t1) (λ g. then (scoped (with_pieces t.code.pieces g) (λ b. statement s around b)) (λ k. Ok (looped line head (head + 1) (with_pieces (k.code.pieces ++ (Here (head + 2) ∷ g.code.pieces)) k))))
+      (λ g q3. let near = maybe_evaluated_rises step t1 s2.solid w.1.1.1.1.0.1 g q3 in
+      let r3 = rises_trans d0 t1 g s2 near in
+      let g1 = with_pieces t.code.pieces g in
+      let s3 : Rises d0 g1 = record { solid = r3.solid; more = r3.more; code = λ v. r2.code v; cases = r3.cases; walked = r3.walked } in
+      led_after (Rises d0) (scoped g1 (λ b. statement s around b)) (λ k. Ok (looped line head (head + 1) (with_pieces (k.code.pieces ++ (Here (head + 2) ∷ g.code.pieces)) k)))
+      (λ k q4. let r4 = rises_trans d0 g1 k s3 (scoped_rises g1 (λ b. statement s around b) (statement_rises s around (entered g1) (entered_solid g1 s3.solid) w.1.1.1.1.1.0) k q4) in
+      led_ok (Rises d0) (looped line head (head + 1) (with_pieces (k.code.pieces ++ (Here (head + 2) ∷ g.code.pieces)) k)) (record { solid = r4.solid; more = r4.more; code = λ v. looped_in line head (head + 1) (with_pieces (k.code.pieces ++ (Here (head + 2) ∷ g.code.pieces)) k) (pieces_joined k.code.pieces (Here (head + 2) ∷ g.code.pieces) (r4.code v) (near.code tt)); cases = r4.cases; walked = r4.walked })))))))
+  statement_rises (Node f.Switch (At line ▹ e ▹ Node f.Block (At at ▹ Node f.Items parts ▹ none) ▹ none)) a c h w =
+      let end = new_label c in
+      let c1 = with_labels 1 c in
+      let d0 = entered c1 in
+      let h0 = entered_solid c1 h in
+      on_led c c1 _ (record { solid = h; more = extends_refl (K c); code = λ g. g; cases = λ g. g; walked = λ g. g })
+      (scoped_rises c1 (λ d. then (switch_operand line e d) (λ t. then (scoped (no_cases (apart t.0)) (λ b. items parts (in_switch true end t.1.0 a) b)) (λ g. Ok (switched line end t.1.1 t.0 g))))
+      (led_after (Rises d0) (switch_operand line e d0) (λ t. then (scoped (no_cases (apart t.0)) (λ b. items parts (in_switch true end t.1.0 a) b)) (λ g. Ok (switched line end t.1.1 t.0 g)))
+      (λ t q. let r = operand_rises line e d0 h0 w.1.1.0 t q in
+      let x = no_cases (apart t.0) in
+      let rx : Rises d0 x = record { solid = r.0.solid; more = r.0.more; code = λ v. tt; cases = λ v. tt; walked = λ v. r.0.walked v } in
+      led_after (Rises d0) (scoped x (λ b. items parts (in_switch true end t.1.0 a) b)) (λ g. Ok (switched line end t.1.1 t.0 g))
+      (λ g k. let near = scoped_rises x (λ b. items parts (in_switch true end t.1.0 a) b) (items_rise parts (in_switch true end t.1.0 a) (entered x) (entered_solid x rx.solid) w.1.1.1.0.1.1.0.1) g k in
+      let m = rises_trans d0 x g rx near in
+      led_ok (Rises d0) (switched line end t.1.1 t.0 g)
+      (record {
+        solid = m.solid;
+        more = m.more;
+        code = λ v. in_here end (cases_of t.0 (behind (t.0.code.pieces ++ dispatch line t.1.1 end g) g)) (pieces_joined (t.0.code.pieces ++ dispatch line t.1.1 end g) g.code.pieces (pieces_joined t.0.code.pieces (dispatch line t.1.1 end g) (r.0.code v) (dispatch_in line t.1.1 end g (r.1 v) (near.cases tt))) (m.code v));
+        cases = λ v. r.0.cases v;
+        walked = m.walked;
+      })))))
+  statement_rises (Node f.Switch (At line ▹ e ▹ s ▹ none)) a c h w =
+      let end = new_label c in
+      let c1 = with_labels 1 c in
+      let d0 = entered c1 in
+      on_led c c1 _ (record { solid = h; more = extends_refl (K c); code = λ g. g; cases = λ g. g; walked = λ g. g })
+      (scoped_rises c1 (λ d. then (switch_operand line e d) (λ t. then (statement s (in_switch false end t.1.0 a) (no_cases (apart t.0))) (λ g. refused LeftOut line)))
+      (led_after (Rises d0) (switch_operand line e d0) (λ t. then (statement s (in_switch false end t.1.0 a) (no_cases (apart t.0))) (λ g. refused LeftOut line))
+      (λ t q. led_after (Rises d0) (statement s (in_switch false end t.1.0 a) (no_cases (apart t.0))) (λ g. refused LeftOut line) (λ g k. led_refused (Rises d0) LeftOut line))))
+  statement_rises (Node f.Case (At line ▹ e ▹ s ▹ none)) a c h w =
+      led_after (Rises c) (constant e c) (λ k. let label = new_label k.0 in then (statement s a (here label (with_labels 1 k.0))) (λ d. cased line a a.switched (length c.running.cases) k.1.value label d))
+      (λ k q. let r = constant_rises e c h k q in
+      let label = new_label k.0 in
+      let x = here label (with_labels 1 k.0) in
+      let rx : Rises c x = record { solid = r.solid; more = r.more; code = λ v. in_here label (with_labels 1 k.0) (r.code v); cases = r.cases; walked = r.walked } in
+      led_after (Rises c) (statement s a x) (λ d. cased line a a.switched (length c.running.cases) k.1.value label d)
+      (λ d u. let m = rises_trans c x d rx (statement_rises s a x rx.solid w.1.1.1.0 d u) in on_led c d _ m (cased_rises line a a.switched (length c.running.cases) k.1.value label d m.solid)))
+  statement_rises (Node f.Default (At line ▹ s ▹ none)) a c h w =
+      let label = new_label c in
+      let x = here label (with_labels 1 c) in
+      let rx : Rises c x = record { solid = h; more = extends_refl (K c); code = λ v. in_here label (with_labels 1 c) v; cases = λ v. v; walked = λ v. v } in
+      led_after (Rises c) (statement s a x) (λ d. defaulted line a label d)
+      (λ d u. let m = rises_trans c x d rx (statement_rises s a x rx.solid w.1.1.0 d u) in on_led c d _ m (defaulted_rises line a label d m.solid))
+  statement_rises (Node f.Break (At line ▹ none)) a c h w = leave_rises line a.delays a.breaks c h
+  statement_rises (Node f.Continue (At line ▹ none)) a c h w = leave_rises line a.delays a.continues c h
+  statement_rises (Node f.Return (At line ▹ Node f.MaybeExpr e ▹ none)) a c h w = return_rises line a.delays e c h w.1.1.0.1
+  statement_rises (Node f.Local (At line ▹ words ▹ names ▹ none)) a c h w = declaration_rises false line words names c h w.1.1.0 w.1.1.1.0
+  statement_rises tree a c h w = led_refused (Rises c) Operands (line_of tree)
+
+  pub items_rise : (parts : Trees) (a : Around) (c : Context) → Solid c → AllWritten parts → Led (Rises c) (items parts a c)
+  items_rise none a c h w = led_ok (Rises c) c (rises_refl c h)
+  items_rise (item ▹ rest) a c h w =
+      led_after (Rises c) (statement item a c) (λ d. items rest a d) (λ d q. let r = statement_rises item a c h w.0 d q in on_led c d _ r (items_rise rest a d r.solid w.1))
+
+-- functions
+
+begun_rises : (line : ℕ) (addressed : List ℕ) (c : Context) → Solid c → Rises c (begun line addressed c)
+begun_rises line addressed c h = record {
+  solid = record { made = h.made; names = h.names; list = h.list; memory = tt; result = tt; statics = h.statics; functions = h.functions };
+  more = extends_refl (K c);
+  code = λ g. tt;
+  cases = λ g. tt;
+  walked = λ g. g;
+}
+
+answer_whole : (k : Known) (type : PlainType) → Whole k type → Whole k (answer_of type)
+answer_whole k (Function answer params) h = h.0
+answer_whole k Void h = tt
+answer_whole k (types.Int ty) h = tt
+answer_whole k (types.Pointer target) h = tt
+answer_whole k (types.Array element m) h = tt
+answer_whole k (types.Struct tag) h = tt
+answer_whole k (types.Union tag) h = tt
+
+body_begun_rises : (index : ℕ) (type : PlainType) (c : Context) → Solid c → Whole (K c) type → Rises c (body_begun index type c)
+body_begun_rises index type c h w = record {
+  solid = record { made = h.made; names = record { file = h.names.file; inner = (h.list, tt) }; list = λ name v e. cc; memory = h.memory; result = answer_whole (K c) type w; statics = h.statics; functions = h.functions };
+  more = extends_refl (K c);
+  code = λ g. g;
+  cases = λ g. g;
+  walked = λ g. g;
+}
+
+last_in : (type : PlainType) → AtomsIn (given (last_answer type))
+last_in Void = tt
+last_in (types.Pointer target) = (tt, tt)
+last_in (types.Int ty) = (zero_number, tt)
+last_in (types.Array element m) = (zero_number, tt)
+last_in (types.Struct tag) = (zero_number, tt)
+last_in (types.Union tag) = (zero_number, tt)
+last_in (Function answer params) = (zero_number, tt)
+
+walked_in : (xs : List Walked) (x : Walked) → WalkedIn xs → PiecesIn x.code.pieces → WalkedIn (xs ++ x ∷ [])
+walked_in [] x h k = (k, tt)
+walked_in (y ∷ xs) x h k = (h.0, walked_in xs x h.1 k)
+
+body_ended_rises : (line : ℕ) (name : List ℕ) (type : PlainType) (end : ℕ) (c : Context) → Solid c → In c → Led (Rises c) (body_ended line name type end c)
+body_ended_rises line name type end c h g =
+    let d = emit end (Return (last_answer c.running.answer)) c in
+    let done = in_emit end (Return (last_answer c.running.answer)) c g (last_in c.running.answer, tt) in
+    let total = d.length + Rattle.std.specs.List.sum_by Rattle.elaboration.specs.Externals.piece_length d.code.pieces in
+    let z : Context = record d {
+      scopes = record { file = d.scopes.file; inner = [] };
+      length = total;
+      walked = d.walked ++ (record { name = name; params = params_of type; running = d.running; code = d.code }) ∷ [];
+    } in
+    led_unless (Rises c) (nat_lt 268435456 total) ProgramTooLong line (Ok z)
+    (λ x. led_ok (Rises c) z (record {
+      solid = record { made = h.made; names = record { file = h.names.file; inner = tt }; list = h.list; memory = h.memory; result = h.result; statics = h.statics; functions = walked_push c.walked _ h.functions h.memory };
+      more = extends_refl (K c);
+      code = λ k. done;
+      cases = λ k. k;
+      walked = λ k. walked_in c.walked (record { name = name; params = params_of type; running = d.running; code = d.code }) k done;
+    }))
+
+body_rises : (line : ℕ) (name : List ℕ) (type : PlainType) (tree : Tree) (c : Context) → Solid c → In c → Written tree → Led (Rises c) (body line name type tree c)
+unfolding Written AllWritten
+body_rises line name type (Node f.Body (Node f.Items parts ▹ At end ▹ none)) c h g w =
+    led_after (Rises c) (items parts around_body c) (λ d. body_ended line name type end d) (λ d q. let r = items_rise parts around_body c h w.1.0.1 d q in on_led c d _ r (body_ended_rises line name type end d r.solid (r.code g)))
+body_rises line name type tree c h g w = led_refused (Rises c) Operands line
+
+defined_rises : (line : ℕ) (name : List ℕ) (type : PlainType) (tree : Tree) (c : Context) → Solid c → In c → Whole (K c) type → Written tree → Led (Rises c) (defined line name type tree c)
+defined_rises line name type tree c h g v w =
+    let index = function_number name c in
+    led_unless (Rises c) (not (is_function type)) LeftOut line (then (declared_function line name type c) (λ d. unless (is_defined (slice_get d.functions index)) DeclaredTwice line (body line name type tree (body_begun index type d))))
+    (λ x. led_after (Rises c) (declared_function line name type c) (λ d. unless (is_defined (slice_get d.functions index)) DeclaredTwice line (body line name type tree (body_begun index type d)))
+    (λ d q. let r = declared_function_rises line name type c h v d q in
+    let y = body_begun index type d in
+    let ry = rises_trans c d y r (body_begun_rises index type d r.solid (whole_stays type (K c) (K d) r.more v)) in
+    led_unless (Rises c) (is_defined (slice_get d.functions index)) DeclaredTwice line (body line name type tree y) (λ z. on_led c y _ ry (body_rises line name type tree y ry.solid (ry.code g) w))))
+
+named_rises : (line : ℕ) (name : Option (List ℕ)) (type : PlainType) (tree : Tree) (c : Context) → Solid c → In c → Whole (K c) type → Written tree → Led (Rises c) (named_definition line name type tree c)
+named_rises line None type tree c h g v w = led_refused (Rises c) Operands line
+named_rises line (Some name) type tree c h g v w = defined_rises line name type tree c h g v w
+
+definition_rises : (line : ℕ) (words declarator tree : Tree) (c : Context) → Solid c → In c → Written words → Written declarator → Written tree → Led (Rises c) (definition line words declarator tree c)
+definition_rises line words declarator tree c h g u v w =
+    led_after (Rises c) (specs words c) (λ base. then (layers declarator base.0) (λ l. then (with_layers l.0.tags l.1 base.1) (λ type. named_definition line (name_of declarator) type tree l.0)))
+    (λ base q. let b = specs_rise words c h u base q in
+    led_after (Rises c) (layers declarator base.0) (λ l. then (with_layers l.0.tags l.1 base.1) (λ type. named_definition line (name_of declarator) type tree l.0))
+    (λ l k. let m = layers_rise declarator base.0 b.0.solid v l k in
+    led_after (Rises c) (with_layers l.0.tags l.1 base.1) (λ type. named_definition line (name_of declarator) type tree l.0)
+    (λ type s. let y = with_layers_whole l.0.tags.completed l.0.tags l.1 base.1 refl (whole_stays base.1 (K base.0) (K l.0) m.0.more b.1) m.1 type s in
+    on_led c l.0 _ (rises_trans c base.0 l.0 b.0 m.0) (named_rises line (name_of declarator) type tree l.0 m.0.solid (m.0.code (b.0.code g)) y w))))
+
+external_rises : (tree : Tree) (c : Context) → Solid c → Written tree → Led (Rises c) (external tree c)
+unfolding external Written AllWritten
+external_rises (Node f.Function (At line ▹ words ▹ Node f.Declared (declarator ▹ none) ▹ tree ▹ none)) c h w =
+    let b = begun_rises line (addressed_in declarator tree) c h in
+    on_led c (begun line (addressed_in declarator tree) c) _ b (definition_rises line words declarator tree (begun line (addressed_in declarator tree) c) b.solid tt w.1.1.0 w.1.1.1.0.1.0 w.1.1.1.1.0)
+external_rises (Node f.Declaration (At line ▹ words ▹ names ▹ none)) c h w =
+    let b = begun_rises line [] c h in
+    on_led c (begun line [] c) _ b (declaration_rises true line words names (begun line [] c) b.solid w.1.1.0 w.1.1.1.0)
+external_rises tree c h w = led_refused (Rises c) Operands (line_of tree)
+
+externals_rise : (unit : Trees) (c : Context) → Solid c → AreWritten unit → Led (Rises c) (externals unit c)
+unfolding externals
+externals_rise none c h w = led_ok (Rises c) c (rises_refl c h)
+externals_rise (tree ▹ rest) c h w =
+    led_after (Rises c) (external tree c) (λ d. externals rest d) (λ d q. let r = external_rises tree c h w.0.0 d q in on_led c d _ r (externals_rise rest d r.solid w.1))
+
+-- texts
+
+numbered_whole : (k : Known) (j : ℕ) (bs : List BuiltIn) → TableWhole k (numbered_from j bs)
+numbered_whole k j [] name v e = cc
+numbered_whole k j (b ∷ bs) name v e = by (bytes_eq name (names.name_of b)) (numbered_whole k (j + 1) bs name v) e
+  where
+    by : (x : Bool) → (named_in name (numbered_from (j + 1) bs) ≡ Some v → Rattle.core_soundness.specs.Whole.NamedWhole k v) → cond x (Some (n.BuiltIn j)) (named_in name (numbered_from (j + 1) bs)) ≡ Some v → Rattle.core_soundness.specs.Whole.NamedWhole k v
+    by true again q = let same : n.BuiltIn j ≡ v = cc in subst (Rattle.core_soundness.specs.Whole.NamedWhole k) same tt
+    by false again q = again q
+
+first_solid : Solid first_context
+first_solid = record { made = tt; names = record { file = numbered_whole (K first_context) 0 built_ins; inner = tt }; list = λ name v e. cc; memory = tt; result = tt; statics = tt; functions = tt }
+
+-- what holds at the end of a text
+abbrev Ends : Context → Type 0
+Ends c = Solid c × WalkedIn c.walked
+
+calls_same : (functions : List Declared) (calls : List (ℕ × ℕ)) (c : Context) → Ends c → Led Ends (calls_defined functions calls c)
+calls_same functions [] c h = led_ok Ends c h
+calls_same functions (call ∷ calls) c h = by (is_defined (slice_get functions call.0)) (calls_same functions calls c h)
+  where
+    by : (x : Bool) → Led Ends (calls_defined functions calls c) → Led Ends (cond x (calls_defined functions calls c) (refused Undeclared call.1))
+    by true k = k
+    by false k = led_refused Ends Undeclared call.1
+
+walked_ends : (unit : Trees) (c : Context) → AreWritten unit → walked unit ≡ Ok c → Ends c
+walked_ends unit c w q =
+    led_after Ends (externals unit first_context) ended
+    (λ x s. let r = externals_rise unit first_context first_solid w x s in
+    led_after Ends (calls_defined x.functions x.calls x) (λ d. unless (not (is_main d.functions (named_in (codes "main") d.scopes.file))) NoMain 1 (Ok d))
+    (λ d k. led_unless Ends (not (is_main d.functions (named_in (codes "main") d.scopes.file))) NoMain 1 (Ok d) (λ y. led_ok Ends d (calls_same x.functions x.calls x (r.solid, r.walked tt) d k))))
+    c q
+
+pub walked_solid : (unit : Trees) (c : Context) → AreWritten unit → walked unit ≡ Ok c → Solid c
+walked_solid unit c w q = (walked_ends unit c w q).0
+
+pub walked_numbers : (unit : Trees) (c : Context) → AreWritten unit → walked unit ≡ Ok c → WalkedIn c.walked
+walked_numbers unit c w q = (walked_ends unit c w q).1
+
+-- layouts of a core
+
+abbrev Laid : Static → Type 0
+Laid static = IsLayoutOfType static.layout
+
+none_laid : {X : Type 0} (P : X → Type 0) → All P []
+none_laid P j x q = absurd (omega (arith, q))
+
+mems_all : (ms : List Mem) → MemsLaid ms → All (λ (m : Mem). IsLayoutOfType m.layout) ms
+mems_all [] h = none_laid (λ (m : Mem). IsLayoutOfType m.layout)
+mems_all (m ∷ ms) h = All-cons (λ (x : Mem). IsLayoutOfType x.layout) m ms h.0 (mems_all ms h.1)
+
+statics_all : (c : Context) (vs : List Variable) (rest : List Static) → VariablesLaid vs → All Laid rest → All Laid (map (variable_static c) vs ++ rest)
+statics_all c [] rest h k = k
+statics_all c (v ∷ vs) rest h k = All-cons Laid (variable_static c v) (map (variable_static c) vs ++ rest) h.0 (statics_all c vs rest h.1 k)
+
+literal_laid : (bytes : List ℕ) → block_size (length bytes + 1) ≤ 67108864 → IsLayoutOfType (array_layout (length bytes + 1) (number_layout 1))
+literal_laid bytes small =
+    is_layout [] (types.Array (types.Int i.Char) (length bytes + 1)) (array_layout (length bytes + 1) (number_layout 1)) tt (tt, (number_layout 1, refl, omega (arith, small), omega arith)) refl
+
+abbrev bytes_in : List Static → ℕ
+bytes_in statics = sum_by (λ (static : Static). block_size static.layout.size) statics
+
+literals_all : (ls : List (List ℕ)) → bytes_in (map literal_static ls) ≤ 67108864 → All Laid (map literal_static ls)
+literals_all [] h = none_laid Laid
+literals_all (l ∷ ls) h =
+    let e = sum_by-cons (λ (static : Static). block_size static.layout.size) (literal_static l) (map literal_static ls) in
+    let first : block_size (length l + 1) ≤ 67108864 = head (length l + 1) (bytes_in (map literal_static ls)) (bytes_in (map literal_static (l ∷ ls))) (one (length l)) e h in
+    let rest : bytes_in (map literal_static ls) ≤ 67108864 = omega (arith, e, h) in
+    All-cons Laid (literal_static l) (map literal_static ls) (literal_laid l first) (literals_all ls rest)
+  where
+    one : (k : ℕ) → (k + 1) * 1 ≡ k + 1
+    one k = omega arith
+
+    head : (size more total : ℕ) → size * 1 ≡ size → total ≡ block_size (size * 1) + more → total ≤ 67108864 → block_size size ≤ 67108864
+    head size more total s e h = let f : block_size (size * 1) ≤ 67108864 = omega (arith, e, h) in subst (λ (k : ℕ). block_size k ≤ 67108864) s f
+
+literals_small : (c : Context) (vs : List Variable) (ls : List (List ℕ)) → bytes_in (map (variable_static c) vs ++ map literal_static ls) ≤ 67108864 → bytes_in (map literal_static ls) ≤ 67108864
+literals_small c vs ls h =
+    let e = sum_by-append (λ (static : Static). block_size static.layout.size) (map (variable_static c) vs) (map literal_static ls) in omega (arith, e, h)
+
+each_mems : (c : Context) (xs : List Walked) → WalkedLaid xs → (k : ℕ) (func : Func) → slice_get (map (function_of c) xs) k ≡ Some func → All (λ (m : Mem). IsLayoutOfType m.layout) func.mems
+each_mems c [] h k func e = cc
+each_mems c (x ∷ xs) h zero func e = let same : function_of c x ≡ func = cc in subst (λ (y : Func). All (λ (m : Mem). IsLayoutOfType m.layout) y.mems) same (mems_all x.running.mems h.0)
+each_mems c (x ∷ xs) h (suc k) func e = each_mems c xs h.1 k func e
+
+pub core_layouts : (unit : Trees) (core : Core) (tags : TagTable) → AreWritten unit → elaborated unit ≡ Ok (core, tags) → HasLayouts core
+core_layouts unit core tags w q =
+    let b = core_behind unit core tags q in
+    let h = walked_solid unit b.context w b.is in
+    let sizes = core_sizes unit core tags q in
+    let small : bytes_in (core_of b.context).statics ≤ 67108864 = subst (λ (x : Core). bytes_in x.statics ≤ 67108864) (sym b.made) sizes.static_bytes in
+    subst HasLayouts b.made
+    (record {
+      mems = λ k func e. each_mems b.context b.context.walked h.functions k func e;
+      statics = statics_all b.context b.context.variables (map literal_static b.context.literals) h.statics (literals_all b.context.literals (literals_small b.context b.context.variables b.context.literals small));
+    })

@@ -1,0 +1,349 @@
+-- The functions of a text fit (C99 6.9).
+use Rattle.std.proofs.Common.{◌≡◌, ◌≤◌, ◌+◌, ◌&&◌, ◌||◌, ℕ, suc, Bool, true, false, not, cond, nat_lt, reverse, is_some, map, length, List, [], ◌∷◌, ◌++◌, slice_get, Option, Some, None, Ok, refl, sym, ap, ◌∙◌, subst, inl, inr, ⊎_elim, arith, bytes_eq}
+use Rattle.std.specs.Option.{option_or}
+use Rattle.std.proofs.lemmas.Slice.Eq.{bytes_eq-Decides}
+use Rattle.c_types.specs.Types as types
+use Rattle.c_types.specs.Types.{PlainType, PlainTypes, Void, Int, Function, none}
+use Rattle.core_tree.specs.declared.program.Reg.{Reg as Register}
+use Rattle.core_tree.specs.declared.statements.StmKind.TheVariants.{Return}
+use Rattle.core_tree.specs.Sorts.{Sort, sort_of}
+use Rattle.c_tree.specs.Forms as f
+use Rattle.c_tree.specs.Tree as t
+use Rattle.c_tree.specs.Tree.{Tree, Trees, Leaf, At, Node, ◌▹◌}
+use Rattle.c_tree.specs.Scopes.{name_of}
+use Rattle.c_decls.specs.declared.refusal.TypeKind.TheVariants.{DeclaredTwice, ProgramTooLong}
+use Rattle.c_decls.specs.Named as n
+use Rattle.c_decls.specs.Named.{PlainNamed}
+use Rattle.c_decls.specs.ScopeList.{Table, named_in, with_name}
+use Rattle.c_decls.specs.declared.built_in.BuiltIn.{BuiltIn}
+use Rattle.c_decls.specs.BuiltIns.{built_ins, numbered_from}
+use Rattle.c_decls.specs.Refusals.{then, unless}
+use Rattle.c_decls.specs.Typed.{same, is_array, is_record, is_function}
+use Rattle.c_decls.specs.TypeNames.{Layer, FunctionOf, with_layers}
+use Rattle.c_decls.specs.PlaceRules.{length_of}
+use Rattle.c_decls.proofs.SameTypes.{same_equal}
+use Rattle.elaboration.specs.Context.{Piece, Does, running_at, no_code, Declared, Context, Walked, entered, emit, first_context}
+use Rattle.elaboration.specs.Locals.{is_twice_in}
+use Rattle.elaboration.specs.Declarators.{specs, layers, suffix_layers, suffix_layer, params, left_params}
+use Rattle.elaboration.specs.Declarations.{function_number, function_number_of, with_function, declared_function, declaration}
+use Rattle.elaboration.specs.Statements.{around_body, items}
+use Rattle.std.specs.List.{sum_by}
+use Rattle.elaboration.specs.Externals.{piece_length, begun, is_defined, body_begun, last_answer, body_ended, body, defined, named_definition, definition, external, externals}
+use Rattle.core_soundness.specs.Worlds.{World, world, walked_world, FitsAnswer, PiecesFit, InnerFits, FileFits, TableFits, TablesFit, result_sort, param_sorts}
+use Rattle.core_soundness.specs.Spoken.{Plain, AllPlain, IsList, HasLists, HasParameters, IsDefinition, ArePlain}
+use Rattle.elaboration.specs.Addressed.{addressed_in}
+use Rattle.core_soundness.proofs.Grown.{good, ok_same, never}
+use Rattle.core_soundness.proofs.Names.{named_push}
+use Rattle.core_soundness.proofs.Owners.{get_push}
+use Rattle.core_soundness.proofs.Agreeing.{came}
+use Rattle.core_soundness.proofs.Growing.{Grew, pieces_grew}
+use Rattle.core_soundness.proofs.Going.{CodeFits}
+use Rattle.core_soundness.proofs.Operating.{passed, kept_test, behind_test}
+use Rattle.core_soundness.proofs.Landing.{not_false}
+use Rattle.core_soundness.proofs.Running.{Fine, Runs, runs_refl, runs_trans, ParamsFit, entered_fine}
+use Rattle.core_soundness.proofs.LayersRun.{specs_run, layers_run, suffixes_run, suffix_runs, first_fits, params_run}
+use Rattle.core_soundness.proofs.LocalsRun.{declaration_runs, function_runs}
+use Rattle.core_soundness.proofs.StatementsRun.{Stands_in, items_run, return_fits}
+use Rattle.core_soundness.proofs.Parameters.{sorts, functions, function_sorts, functions_joined, functions_reversed, functions_one, makes_function, specs_sorts, layers_added}
+
+-- a function that was walked
+
+pub record WalkedFits (c : Context) (x : Walked) : Type 0 where
+  pub answer : PlainType
+  pub params : PlainTypes
+  pub index : ℕ
+  pub named : named_in x.name c.scopes.file ≡ Some (n.Function (Function answer params) index)
+  pub lined : 1 ≤ x.running.line
+  pub fits : PiecesFit (result_sort answer) (walked_world c x) x.code.pieces
+  pub count : x.params ≡ length_of params
+  pub rest : List Sort
+  pub sorted : map sort_of x.running.locals ≡ param_sorts params ++ rest
+
+-- statics, calls and names at file scope that are there stay there
+record Statics (c d : Context) : Type 0 where
+  variables : length c.variables ≤ length d.variables
+  literals : length c.literals ≤ length d.literals
+  calls : (k : ℕ) (x : ℕ × ℕ) → slice_get c.calls k ≡ Some x → slice_get d.calls k ≡ Some x
+  file : (name : List ℕ) (type : PlainType) (j : ℕ) → named_in name c.scopes.file ≡ Some (n.Function type j) → named_in name d.scopes.file ≡ Some (n.Function type j)
+
+statics_of : (c d : Context) → Grew (world c) (world d) → Statics c d
+statics_of c d g = record { variables = g.variables; literals = g.literals; calls = g.calls; file = g.file }
+
+statics_trans : (a b c : Context) → Statics a b → Statics b c → Statics a c
+statics_trans a b c x y = record {
+  variables = omega (arith, x.variables, y.variables);
+  literals = omega (arith, x.literals, y.literals);
+  calls = λ k v e. y.calls k v (x.calls k v e);
+  file = λ name type j e. y.file name type j (x.file name type j e);
+}
+
+walked_grew : (c d : Context) (x : Walked) → Statics c d → Grew (walked_world c x) (walked_world d x)
+walked_grew c d x s = record { locals = λ k r e. e; mems = omega arith; integers = omega arith; pointers = omega arith; variables = s.variables; literals = s.literals; formats = λ k v e. e; calls = s.calls; file = s.file }
+
+walked_on : (c d : Context) (x : Walked) → Statics c d → WalkedFits c x → WalkedFits d x
+walked_on c d x s h = record {
+  answer = h.answer;
+  params = h.params;
+  index = h.index;
+  named = s.file x.name (Function h.answer h.params) h.index h.named;
+  lined = h.lined;
+  fits = pieces_grew (result_sort h.answer) (walked_world c x) (walked_world d x) x.code.pieces (walked_grew c d x s) h.fits;
+  count = h.count;
+  rest = h.rest;
+  sorted = h.sorted;
+}
+
+-- what holds between external declarations
+pub record Between (c : Context) : Type 0 where
+  pub file : TableFits (FileFits (world c)) c.scopes.file
+  pub flat : length c.scopes.inner ≡ 0
+  pub walked : (k : ℕ) (x : Walked) → slice_get c.walked k ≡ Some x → WalkedFits c x
+
+empty_fits : (P : PlainNamed → Type 0) (inner : List Table) → length inner ≡ 0 → TablesFit P inner
+empty_fits P [] e = tt
+empty_fits P (t ∷ ts) e = absurd (omega (arith, e))
+
+begun_fine : (line : ℕ) (addressed : List ℕ) (c : Context) → 1 ≤ line → Between c → Fine (begun line addressed c)
+begun_fine line addressed c l h = record { names = record { file = h.file; inner = empty_fits (InnerFits (world (begun line addressed c))) c.scopes.inner h.flat }; lined = l }
+
+-- a declaration at file scope
+declared_between : (line : ℕ) (words names : Tree) (c z : Context) → 1 ≤ line → Plain names → Between c → declaration true line words names (begun line [] c) ≡ Ok z → Between z
+declared_between line words names c z l p h q =
+    let b = begun line [] c in
+    let r = declaration_runs None true line words names b z l p (begun_fine line [] c l h) h.flat q in
+    let s : Statics c z = record { variables = r.grew.variables; literals = r.grew.literals; calls = r.grew.calls; file = r.grew.file } in
+    record {
+      file = r.fine.names.file;
+      flat = r.depth ∙ h.flat;
+      walked = λ k x e. walked_on c z x s (h.walked k x (subst (λ (ws : List Walked). slice_get ws k ≡ Some x) r.walked e));
+    }
+
+-- the parameters of a definition
+
+-- layers with a function among them, whose parameters are the list that ended last
+record HasList (z : Context × List Layer) : Type 0 where
+  some : 1 ≤ functions z.1
+  params : ParamsFit z.0
+
+none_fit : (P : PlainNamed → Type 0) → TableFits P []
+none_fit P name v e = cc
+
+list_suffix : (answer : Option Sort) (tree : Tree) (c : Context) (z : Context × Layer) → IsList tree → Fine c → suffix_layer tree c ≡ Ok z → HasList (z.0, z.1 ∷ [])
+unfolding suffix_layer
+list_suffix answer (Node f.ArraySuffix parts) c z i g q = absurd i
+list_suffix answer (Node f.FunctionSuffix (At line ▹ Node f.Params parts ▹ t.none)) c z i g q =
+    let p = came (params parts (entered c)) (λ p. good (left_params p.0, FunctionOf line p.1)) z q in
+    let r = params_run answer parts (length c.scopes.inner) (entered c) (entered c) refl (runs_refl answer (entered c) (entered_fine c g)) p.value p.is in
+    subst (λ (y : Context × Layer). HasList (y.0, y.1 ∷ [])) (ok_same (left_params p.value.0, FunctionOf line p.value.1) z p.last)
+    (record { some = omega arith; params = first_fits (world p.value.0) p.value.0.scopes.inner r.fine.names.inner })
+list_suffix answer tree c z i g q =
+    subst (λ (y : Context × Layer). HasList (y.0, y.1 ∷ [])) (ok_same (record c { params = [] }, FunctionOf (Rattle.c_decls.specs.Expressions.line_of tree) types.none) z q)
+    (record { some = omega arith; params = none_fit (InnerFits (world c)) })
+
+suffixes_list : (parts : Trees) (answer : Option Sort) (c : Context) (z : Context × List Layer) → HasLists parts → Fine c → suffix_layers parts c ≡ Ok z → HasList z
+unfolding suffix_layers
+suffixes_list t.none answer c z i g q = absurd i
+suffixes_list (suffix ▹ rest) answer c z (inl i) g q =
+    let l = came (suffix_layer suffix c) (λ l. then (suffix_layers rest l.0) (λ more. good (more.0, l.1 ∷ more.1))) z q in
+    let m = came (suffix_layers rest l.value.0) (λ more. good (more.0, l.value.1 ∷ more.1)) z l.last in
+    let one = list_suffix answer suffix c l.value i g l.is in
+    let r1 = suffix_runs answer suffix c c (runs_refl answer c g) l.value l.is in
+    let r2 = suffixes_run answer rest l.value.0 l.value.0 (runs_refl answer l.value.0 r1.fine) m.value m.is in
+    subst HasList (ok_same (m.value.0, l.value.1 ∷ m.value.1) z m.last) (record { some = omega (arith, one.some, functions_one l.value.1 m.value.1); params = r2.params one.params })
+suffixes_list (suffix ▹ rest) answer c z (inr i) g q =
+    let l = came (suffix_layer suffix c) (λ l. then (suffix_layers rest l.0) (λ more. good (more.0, l.1 ∷ more.1))) z q in
+    let m = came (suffix_layers rest l.value.0) (λ more. good (more.0, l.value.1 ∷ more.1)) z l.last in
+    let r1 = suffix_runs answer suffix c c (runs_refl answer c g) l.value l.is in
+    let one = suffixes_list rest answer l.value.0 m.value i r1.fine m.is in
+    subst HasList (ok_same (m.value.0, l.value.1 ∷ m.value.1) z m.last) (record { some = omega (arith, one.some, functions_one l.value.1 m.value.1); params = one.params })
+
+joined_some : (ms ls : List Layer) → 1 ≤ functions ms + functions ls → 1 ≤ functions (reverse ms ++ ls)
+joined_some ms ls h = omega (arith, h, functions_joined (reverse ms) ls, functions_reversed ms)
+
+layers_list : (tree : Tree) (answer : Option Sort) (c : Context) (z : Context × List Layer) → HasParameters tree → Fine c → layers tree c ≡ Ok z → HasList z
+unfolding layers HasParameters
+layers_list (Node (f.Pointer consts) (At line ▹ declarator ▹ t.none)) answer c z h g q =
+    let l = came (layers declarator c) (λ l. good (l.0, Rattle.c_decls.specs.TypeNames.PointerTo line ∷ l.1)) z q in
+    let one = layers_list declarator answer c l.value h g l.is in
+    subst HasList (ok_same (l.value.0, Rattle.c_decls.specs.TypeNames.PointerTo line ∷ l.value.1) z l.last) (record { some = one.some; params = one.params })
+layers_list (Node f.Direct (base ▹ Node f.Suffixes suffixes ▹ t.none)) answer c z (inl h) g q =
+    let l = came (layers base c) (λ l. then (suffix_layers suffixes l.0) (λ s. good (s.0, reverse s.1 ++ l.1))) z q in
+    let s = came (suffix_layers suffixes l.value.0) (λ s. good (s.0, reverse s.1 ++ l.value.1)) z l.last in
+    let one = layers_list base answer c l.value h g l.is in
+    let r1 = layers_run answer base c c (runs_refl answer c g) l.value l.is in
+    let r2 = suffixes_run answer suffixes l.value.0 l.value.0 (runs_refl answer l.value.0 r1.fine) s.value s.is in
+    subst HasList (ok_same (s.value.0, reverse s.value.1 ++ l.value.1) z s.last) (record { some = joined_some s.value.1 l.value.1 (omega (arith, one.some)); params = r2.params one.params })
+layers_list (Node f.Direct (base ▹ Node f.Suffixes suffixes ▹ t.none)) answer c z (inr h) g q =
+    let l = came (layers base c) (λ l. then (suffix_layers suffixes l.0) (λ s. good (s.0, reverse s.1 ++ l.1))) z q in
+    let s = came (suffix_layers suffixes l.value.0) (λ s. good (s.0, reverse s.1 ++ l.value.1)) z l.last in
+    let r1 = layers_run answer base c c (runs_refl answer c g) l.value l.is in
+    let one = suffixes_list suffixes answer l.value.0 s.value h r1.fine s.is in
+    subst HasList (ok_same (s.value.0, reverse s.value.1 ++ l.value.1) z s.last) (record { some = joined_some s.value.1 l.value.1 (omega (arith, one.some)); params = one.params })
+layers_list (Node f.Parens (At line ▹ declarator ▹ t.none)) answer c z h g q = layers_list declarator answer c z h g q
+layers_list tree answer c z h g q = absurd h
+
+-- a function's type is that of its name
+
+abbrev Typed : List ℕ → PlainType → Context → Context → Type 0
+Typed name type c d = named_in name d.scopes.file ≡ Some (n.Function type (function_number name c))
+
+pushed_name : (key : List ℕ) (v : PlainNamed) (table : Table) → named_in key table ≡ None → named_in key (table ++ (key, v) ∷ []) ≡ Some v
+pushed_name key v table e =
+    named_push key key v table ∙ ap (λ o. option_or o (cond (bytes_eq key key) (Some v) None)) e ∙ ap (λ k. cond k (Some v) None) ((bytes_eq-Decides key key).1 refl)
+
+function_kept : (k : Bool) (name key : List ℕ) (type : PlainType) (index : ℕ) (x : Context) → named_in key x.scopes.file ≡ Some (n.Function type index) → named_in key (cond k x (record x { functions = x.functions ++ (record { name = name; defined = None }) ∷ [] })).scopes.file ≡ Some (n.Function type index)
+function_kept true name key type index x e = e
+function_kept false name key type index x e = e
+
+function_number_at : (c : Context) (file : Table) (o : Option PlainNamed) → ℕ
+function_number_at c file o = function_number_of (record c { scopes = record { file = file; inner = [] } }) o
+
+-- a file scope alone, by what it has under the name
+flat_typed : (line : ℕ) (name : List ℕ) (type : PlainType) (c : Context) (file : Table) (o : Option PlainNamed) (d : Context) → named_in name file ≡ o
+    → (let x : Context = record c { scopes = record { file = file; inner = [] } } in
+    then (unless (is_twice_in true (n.Function type (function_number_of x o)) o) DeclaredTwice line (good (record x { scopes = cond (is_some o) x.scopes (with_name x.scopes name (n.Function type (function_number_of x o))) }))) (λ y. good (with_function (function_number_of x o) name y)) ≡ Ok d)
+    → named_in name d.scopes.file ≡ Some (n.Function type (function_number_of (record c { scopes = record { file = file; inner = [] } }) o))
+flat_typed line name type c file None d e q =
+    let x : Context = record c { scopes = record { file = file ++ (name, n.Function type (length c.functions)) ∷ []; inner = [] } } in
+    subst (λ (y : Context). named_in name y.scopes.file ≡ Some (n.Function type (length c.functions))) (ok_same (with_function (length c.functions) name x) d q)
+    (function_kept (nat_lt (length c.functions) (length c.functions)) name name type (length c.functions) x (pushed_name name (n.Function type (length c.functions)) file e))
+flat_typed line name type c file (Some (n.Function t j)) d e q =
+    let x : Context = record c { scopes = record { file = file; inner = [] } } in
+    let y = came (unless (not (true && same t type)) DeclaredTwice line (good x)) (λ y. good (with_function j name y)) d q in
+    let alike : t ≡ type = same_equal t type (not_false (same t type) (kept_test (not (true && same t type)) DeclaredTwice line (good x) y.value y.is)) in
+    let there : named_in name file ≡ Some (n.Function type j) = subst (λ (k : PlainType). named_in name file ≡ Some (n.Function k j)) alike e in
+    let same_x : x ≡ y.value = passed (not (true && same t type)) DeclaredTwice line x y.value y.is in
+    subst (λ (z : Context). named_in name z.scopes.file ≡ Some (n.Function type j)) (ap (λ (z : Context). with_function j name z) same_x ∙ ok_same (with_function j name y.value) d y.last)
+    (function_kept (nat_lt j (length c.functions)) name name type j x there)
+flat_typed line name type c file (Some other) d e q = never _ _ d q
+
+no_scope : (inner : List Table) → length inner ≡ 0 → [] ≡ inner
+no_scope [] e = refl
+no_scope (s ∷ ss) e = absurd (omega (arith, e))
+
+function_typed : (line : ℕ) (name : List ℕ) (type : PlainType) (c d : Context) → length c.scopes.inner ≡ 0 → declared_function line name type c ≡ Ok d → Typed name type c d
+function_typed line name type c d flat q =
+    let at : record c { scopes = record { file = c.scopes.file; inner = [] } } ≡ c = ap (λ (inner : List Table). record c { scopes = record { file = c.scopes.file; inner = inner } }) (no_scope c.scopes.inner flat) in
+    subst (λ (x : Context). declared_function line name type x ≡ Ok d → Typed name type x d) at (λ k. flat_typed line name type c c.scopes.file (named_in name c.scopes.file) d refl k) q
+
+-- the end of a body
+
+last_fits : (v : World) (type : PlainType) → (is_array type || is_function type || is_record type) ≡ false → FitsAnswer v (result_sort type) (last_answer type)
+last_fits v Void e = tt
+last_fits v (Int ty) e = refl
+last_fits v (types.Pointer target) e = refl
+last_fits v (types.Array element length) e = cc
+last_fits v (types.Struct tag) e = cc
+last_fits v (types.Union tag) e = cc
+last_fits v (Function answer ps) e = cc
+
+-- the body of a function of a name, in front of which c stands between external declarations
+body_between : (line end : ℕ) (name : List ℕ) (answer : PlainType) (ps : PlainTypes) (index : ℕ) (more : List Sort) (c e z : Context) → 1 ≤ end → Between c → Statics c e → e.walked ≡ c.walked → Stands_in (result_sort answer) e → CodeFits (result_sort answer) e → e.running.answer ≡ answer
+    → (is_array answer || is_function answer || is_record answer) ≡ false → named_in name e.scopes.file ≡ Some (n.Function (Function answer ps) index) → map sort_of e.running.locals ≡ param_sorts ps ++ more
+    → body_ended line name (Function answer ps) end e ≡ Ok z → Between z
+body_between line end name answer ps index more c e z l h s same st fits is_answer plain there regs q =
+    let x = emit end (Return (last_answer e.running.answer)) e in
+    let r = return_fits (result_sort answer) end (last_answer e.running.answer) e l st.fine (subst (λ (type : PlainType). FitsAnswer (world e) (result_sort answer) (last_answer type)) (sym is_answer) (last_fits (world e) answer plain)) in
+    let w : Walked = record { name = name; params = length_of ps; running = x.running; code = x.code } in
+    let total = x.length + sum_by piece_length x.code.pieces in
+    let made : Context = record x { scopes = record { file = x.scopes.file; inner = [] }; length = total; walked = x.walked ++ w ∷ [] } in
+    subst Between (passed (nat_lt 268435456 total) ProgramTooLong line made z q)
+    (record {
+      file = st.fine.names.file;
+      flat = refl;
+      walked = λ k v k_is. ⊎_elim
+          (λ (old : slice_get e.walked k ≡ Some v). walked_on c made v (record { variables = s.variables; literals = s.literals; calls = s.calls; file = s.file }) (h.walked k v (subst (λ (ws : List Walked). slice_get ws k ≡ Some v) same old)))
+          (λ (new : (k ≡ length e.walked) × (v ≡ w)). subst (WalkedFits made) (sym new.1) (record { answer = answer; params = ps; index = index; named = there; lined = st.fine.lined; fits = r.fits fits; count = refl; rest = more; sorted = regs }))
+          (get_push e.walked w k v k_is);
+    })
+
+locals_prefix : (xs ys : List Register) → ((k : ℕ) (reg : Register) → slice_get xs k ≡ Some reg → slice_get ys k ≡ Some reg) → (more : List Sort) × (map sort_of ys ≡ map sort_of xs ++ more)
+locals_prefix [] ys h = (map sort_of ys, refl)
+locals_prefix (x ∷ xs) [] h = let clash : None ≡ Some x = h 0 x refl in cc
+locals_prefix (x ∷ xs) (y ∷ ys) h =
+    let same : y ≡ x = first_same (h 0 x refl) in
+    let rest = locals_prefix xs ys (λ k reg e. h (suc k) reg e) in
+    (rest.0, ap (λ (v : Register). sort_of v ∷ map sort_of ys) same ∙ ap (λ (ss : List Sort). sort_of x ∷ ss) rest.1)
+  where
+    first_same : Some y ≡ Some x → y ≡ x
+    first_same e = cc
+
+-- a definition: b is where it begins, and l behind its declarator
+defined_between : (line : ℕ) (name : List ℕ) (answer : PlainType) (ps : PlainTypes) (tree : Tree) (c b l z : Context) → Between c → Statics c b → b.walked ≡ c.walked → Plain tree → Runs (result_sort answer) b l → CodeFits (result_sort answer) b → length l.scopes.inner ≡ 0 → ParamsFit l
+    → (is_array answer || is_function answer || is_record answer) ≡ false → sorts l ≡ param_sorts ps → defined line name (Function answer ps) tree l ≡ Ok z → Between z
+unfolding Plain AllPlain
+defined_between line name answer ps (Node f.Body (Node f.Items parts ▹ At end ▹ t.none)) c b l z h s same p r fits flat params plain regs q =
+    let index = function_number name l in
+    let d = came (declared_function line name (Function answer ps) l) (λ d. unless (is_defined (slice_get d.functions index)) DeclaredTwice line (body line name (Function answer ps) (Node f.Body (Node f.Items parts ▹ At end ▹ t.none)) (body_begun index (Function answer ps) d))) z q in
+    let a2 = behind_test (is_defined (slice_get d.value.functions index)) DeclaredTwice line (body line name (Function answer ps) (Node f.Body (Node f.Items parts ▹ At end ▹ t.none)) (body_begun index (Function answer ps) d.value)) z d.last in
+    let rd = function_runs (result_sort answer) line name (Function answer ps) l d.value flat r.fine d.is in
+    let there = function_typed line name (Function answer ps) l d.value flat d.is in
+    let begin = body_begun index (Function answer ps) d.value in
+    let e = came (items parts around_body begin) (λ e. body_ended line name (Function answer ps) end e) z a2 in
+    let all = runs_trans (result_sort answer) b l d.value r rd in
+    let st : Stands_in (result_sort answer) begin = record { fine = record { names = record { file = all.fine.names.file; inner = (rd.params params, tt) }; lined = all.fine.lined }; inside = 0; deep = refl; sorted = refl } in
+    let re = items_run parts (result_sort answer) around_body begin e.value p.1.0.1 st e.is in
+    let prefix = locals_prefix l.running.locals e.value.running.locals (λ k reg x. re.grew.locals k reg (rd.grew.locals k reg x)) in
+    let sl : Statics b e.value = statics_trans b d.value e.value (statics_of b d.value all.grew) (record { variables = re.grew.variables; literals = re.grew.literals; calls = re.grew.calls; file = re.grew.file }) in
+    body_between line end name answer ps index prefix.0 c e.value z p.1.1.0 h (statics_trans c b e.value s sl) (re.walked ∙ all.walked ∙ same)
+    (record { fine = re.fine; inside = 0; deep = re.depth; sorted = ap result_sort re.answer }) (re.fits (all.fits fits)) re.answer plain (re.grew.file name (Function answer ps) index there) (prefix.1 ∙ ap (λ (ss : List Sort). ss ++ prefix.0) regs) e.last
+defined_between line name answer ps tree c b l z h s same p r fits flat params plain regs q =
+    let index = function_number name l in
+    let d = came (declared_function line name (Function answer ps) l) (λ d. unless (is_defined (slice_get d.functions index)) DeclaredTwice line (body line name (Function answer ps) tree (body_begun index (Function answer ps) d))) z q in
+    never _ _ z (behind_test (is_defined (slice_get d.value.functions index)) DeclaredTwice line (body line name (Function answer ps) tree (body_begun index (Function answer ps) d.value)) z d.last)
+
+-- a definition by what its name and its type are
+named_between : (line : ℕ) (o : Option (List ℕ)) (type base : PlainType) (tree : Tree) (c b : Context) (l : Context × List Layer) (z : Context) → Between c → Statics c b → b.walked ≡ c.walked → Plain tree → ((answer : Option Sort) → Runs answer b l.0) → b.code ≡ no_code
+    → length b.scopes.inner ≡ 0 → HasList l → (functions l.1 ≡ 1 → sorts l.0 ≡ function_sorts l.1) → with_layers l.0.tags l.1 base ≡ Ok type → named_definition line o type tree l.0 ≡ Ok z → Between z
+named_between line None type base tree c b l z h s same p r code flat list regs made q = never _ _ z q
+named_between line (Some name) (Function answer ps) base tree c b l z h s same p r code flat list regs made q =
+    let m = makes_function l.0.tags l.1 base answer ps made list.some in
+    defined_between line name answer ps tree c b l.0 z h s same p (r (result_sort answer)) (subst (λ (x : Rattle.elaboration.specs.Context.Code). PiecesFit (result_sort answer) (world b) x.pieces) (sym code) tt)
+    ((r (result_sort answer)).depth ∙ flat) list.params m.plain (regs m.single ∙ m.sorts) q
+named_between line (Some name) Void base tree c b l z h s same p r code flat list regs made q = never _ _ z q
+named_between line (Some name) (Int ty) base tree c b l z h s same p r code flat list regs made q = never _ _ z q
+named_between line (Some name) (types.Pointer target) base tree c b l z h s same p r code flat list regs made q = never _ _ z q
+named_between line (Some name) (types.Array element length) base tree c b l z h s same p r code flat list regs made q = never _ _ z q
+named_between line (Some name) (types.Struct tag) base tree c b l z h s same p r code flat list regs made q = never _ _ z q
+named_between line (Some name) (types.Union tag) base tree c b l z h s same p r code flat list regs made q = never _ _ z q
+
+definition_between : (line : ℕ) (addressed : List ℕ) (words declarator tree : Tree) (c z : Context) → 1 ≤ line → Plain tree → HasParameters declarator → Between c → definition line words declarator tree (begun line addressed c) ≡ Ok z → Between z
+definition_between line addressed words declarator tree c z one p has h q =
+    let b = begun line addressed c in
+    let g = begun_fine line addressed c one h in
+    let base = came (specs words b) (λ base. then (layers declarator base.0) (λ l. then (with_layers l.0.tags l.1 base.1) (λ type. named_definition line (name_of declarator) type tree l.0))) z q in
+    let l = came (layers declarator base.value.0) (λ l. then (with_layers l.0.tags l.1 base.value.1) (λ type. named_definition line (name_of declarator) type tree l.0)) z base.last in
+    let type = came (with_layers l.value.0.tags l.value.1 base.value.1) (λ type. named_definition line (name_of declarator) type tree l.value.0) z l.last in
+    let first : (answer : Option Sort) → Runs answer b base.value.0 = λ answer. specs_run answer words b b (runs_refl answer b g) base.value base.is in
+    let added = layers_added declarator base.value.0 l.value l.is in
+    named_between line (name_of declarator) type.value base.value.1 tree c b l.value z h (record { variables = omega arith; literals = omega arith; calls = λ k x e. e; file = λ name t j e. e }) refl p
+    (λ answer. layers_run answer declarator b base.value.0 (first answer) l.value l.is) refl h.flat
+    (layers_list declarator None base.value.0 l.value has (first None).fine l.is)
+    (λ single. added.adds.added ∙ ap (λ (ss : List Sort). ss ++ added.sorts_of) (specs_sorts words b base.value base.is) ∙ added.counts.one single) type.is type.last
+
+external_between : (tree : Tree) (c z : Context) → Plain tree → IsDefinition tree → Between c → external tree c ≡ Ok z → Between z
+unfolding external Plain AllPlain
+external_between (Node f.Function (At line ▹ words ▹ Node f.Declared (declarator ▹ t.none) ▹ tree ▹ t.none)) c z p d h q = definition_between line (addressed_in declarator tree) words declarator tree c z p.1.0 p.1.1.1.1.0 d h q
+external_between (Node f.Declaration (At line ▹ words ▹ names ▹ t.none)) c z p d h q = declared_between line words names c z p.1.0 p.1.1.1.0 h q
+external_between tree c z p d h q = never _ _ z q
+
+pub externals_between : (unit : Trees) (c z : Context) → ArePlain unit → Between c → externals unit c ≡ Ok z → Between z
+unfolding externals
+externals_between t.none c z p h q = subst Between (ok_same c z q) h
+externals_between (tree ▹ rest) c z p h q =
+    let d = came (external tree c) (λ d. externals rest d) z q in
+    externals_between rest d.value z p.1 (external_between tree c d.value p.0.0 p.0.1 h d.is) d.last
+
+some_is : (x y : PlainNamed) → Some x ≡ Some y → x ≡ y
+some_is x y e = cc
+
+built_fit : (v : World) (k : ℕ) (list : List BuiltIn) → TableFits (FileFits v) (numbered_from k list)
+built_fit v k [] name x e = cc
+built_fit v k (b ∷ rest) name x e = by (bytes_eq name (Rattle.c_decls.specs.BuiltIns.name_of b)) (built_fit v (k + 1) rest name x) e
+  where
+    by : (t : Bool) → (named_in name (numbered_from (k + 1) rest) ≡ Some x → FileFits v x) → cond t (Some (n.BuiltIn k)) (named_in name (numbered_from (k + 1) rest)) ≡ Some x → FileFits v x
+    by true again q = subst (FileFits v) (some_is (n.BuiltIn k) x q) tt
+    by false again q = again q
+
+pub first_between : Between first_context
+first_between = record { file = built_fit (world first_context) 0 built_ins; flat = refl; walked = λ k x e. cc }

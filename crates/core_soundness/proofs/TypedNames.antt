@@ -1,0 +1,266 @@
+-- The types of expressions declare tags alone.
+use Rattle.std.proofs.Common.{ℕ, zero, List, [], ◌∷◌, ◌++◌, reverse, Option, Some, None, Ok, subst}
+use Rattle.c_types.specs.Types as ct
+use Rattle.c_types.specs.Types.{PlainType, PlainTypes, first}
+use Rattle.c_types.specs.TagTable.{TagTable}
+use Rattle.c_tree.specs.declared.operator.RecordSort.{RecordSort}
+use Rattle.c_tree.specs.declared.operator.RecordSort.TheVariants as r
+use Rattle.c_tree.specs.declared.operator.UnaryOp.TheVariants as u
+use Rattle.c_tree.specs.declared.operator.AssignOp.TheVariants as a
+use Rattle.c_tree.specs.Words as w
+use Rattle.c_tree.specs.Forms as f
+use Rattle.c_tree.specs.Tree.{Tree, Trees, Leaf, At, Node, none, ◌▹◌}
+use Rattle.c_tree.specs.Scopes.{name_of}
+use Rattle.c_decls.specs.declared.refusal.TypeKind.TheVariants.{Operands, DeclaredTwice, LeftOut, Incomplete}
+use Rattle.c_decls.specs.Refusals.{Checked, then, unless}
+use Rattle.c_decls.specs.Named as n
+use Rattle.c_decls.specs.Named.{PlainNamed}
+use Rattle.c_decls.specs.ScopeList as scopes
+use Rattle.c_decls.specs.ScopeList.{ScopeList, Table, found, with_name, tag_name, named_in, innermost}
+use Rattle.c_decls.specs.Typed.{PlainTyped, read, constant, is_function, is_void}
+use Rattle.c_decls.specs.PlaceRules.{held_place, element, dot, arrow, stepped, size, cast, choice, assigned, changed, behind_comma}
+use Rattle.c_decls.specs.TypeRules.{address, unary, binary}
+use Rattle.c_decls.specs.Callees.{named, called, call, no_function}
+use Rattle.c_decls.specs.TypeNames.{Context, PointerTo, ArrayOf, FunctionOf, word_type, same_sort, tag_named, enum_named, type_named, special_type, specs_type, array_length, with_layers, with_param_layers, adjusted, with_param, declared_param, with_new_tag}
+use Rattle.c_decls.specs.Expressions.{line_of, Found, answered, wanted, changing, one, two, int_constant, char_constant, joined, string, first_literal, callee, in_new_scope, out_of_scope, typed, values, typename, layers, suffix_layers, suffix_layer, param_types, param_type}
+use Rattle.core_soundness.proofs.Names.{More, MoreAll, more_refl, more_trans, with_tag_more}
+use Rattle.core_soundness.proofs.Grown.{ok_same, never}
+use Rattle.core_soundness.proofs.Reached.{Reached, reached_ok, reached_refused, reached_after, reached_then, reached_unless}
+
+-- what is known behind has more tags than before
+abbrev pub After : Context → Context → Type 0
+After c d = More c.scopes d.scopes
+
+after_trans : (b c : Context) {A : Type 0} (answer : Checked (Context × A)) → After b c → Reached (After c) answer → Reached (After b) answer
+after_trans b c answer g h d e = more_trans b.scopes c.scopes d.0.scopes g (h d e)
+
+-- the shapes of the rules
+
+module _ (b : Context) where
+  answered_after : (c : Context) (x : Checked PlainTyped) → After b c → Reached (After b) (answered c x)
+  answered_after c x g = reached_after (After b) x (λ e. Ok (c, e)) (λ e h. reached_ok (After b) (c, e) g)
+
+  pub wanted_after : (tree : Tree) (x : Found) → Reached (After b) x → Reached (After b) (wanted tree x)
+  wanted_after tree x g =
+      reached_then (After b) (After b) x (λ e. answered e.0 (read (line_of tree) e.0.tags e.1)) g (λ d h. answered_after d.0 (read (line_of tree) d.0.tags d.1) h)
+
+  changing_after : (tree : Tree) (x : Found) → Reached (After b) x → Reached (After b) (changing tree x)
+  changing_after tree x g =
+      reached_then (After b) (After b) x (λ e. answered e.0 (held_place (line_of tree) e.0.tags e.1)) g (λ d h. answered_after d.0 (held_place (line_of tree) d.0.tags d.1) h)
+
+  one_after : (x : Found) (rule : TagTable → PlainTyped → Checked PlainTyped) → Reached (After b) x → Reached (After b) (one x rule)
+  one_after x rule g = reached_then (After b) (After b) x (λ e. answered e.0 (rule e.0.tags e.1)) g (λ d h. answered_after d.0 (rule d.0.tags d.1) h)
+
+  two_after : (x : Found) (y : Context → Found) (rule : TagTable → PlainTyped → PlainTyped → Checked PlainTyped) → Reached (After b) x
+      → ((c : Context) → After b c → Reached (After b) (y c)) → Reached (After b) (two x y rule)
+  two_after x y rule g h =
+      reached_then (After b) (After b) x (λ d. then (y d.0) (λ e. answered e.0 (rule e.0.tags d.1 e.1))) g
+      (λ d k. reached_then (After b) (After b) (y d.0) (λ e. answered e.0 (rule e.0.tags d.1 e.1)) (h d.0 k) (λ e q. answered_after e.0 (rule e.0.tags d.1 e.1) q))
+
+  callee_after : (e : Tree) (c : Context) (answer : Found) → After b c → Reached (After b) answer → Reached (After b) (callee e c answer)
+  callee_after (Node f.Name (At line ▹ Leaf (w.Name name) ▹ none)) c answer g h =
+      reached_after (After b) (called line c.tags (found c.scopes name)) (λ function. Ok (c, function)) (λ function k. reached_ok (After b) (c, function) g)
+  callee_after e c answer g h =
+      reached_then (After b) (After b) answer (λ d. then (no_function (line_of e) d.0.tags (Ok d.1)) (λ function. Ok (d.0, function))) h
+      (λ d k. reached_after (After b) (no_function (line_of e) d.0.tags (Ok d.1)) (λ function. Ok (d.0, function)) (λ function q. reached_ok (After b) (d.0, function) k))
+
+-- tags and the names of types
+
+sort_after : (line : ℕ) (sort : RecordSort) (c : Context) (type : PlainType) → Reached (After c) (same_sort line sort c type)
+sort_after line r.Struct c (ct.Struct tag) = reached_ok (After c) (c, ct.Struct tag) (more_refl c.scopes)
+sort_after line r.Union c (ct.Union tag) = reached_ok (After c) (c, ct.Union tag) (more_refl c.scopes)
+sort_after line sort c type = reached_refused (After c) DeclaredTwice line
+
+new_tag_after : (sort : RecordSort) (name : List ℕ) (c : Context) → After c (with_new_tag sort name c).0
+new_tag_after sort name c = with_tag_more c.scopes name _
+
+pub tag_after : (line : ℕ) (sort : RecordSort) (name : List ℕ) (c : Context) (named : Option PlainNamed) → Reached (After c) (tag_named line sort name c named)
+tag_after line sort name c None = reached_ok (After c) (with_new_tag sort name c) (new_tag_after sort name c)
+tag_after line sort name c (Some (n.Tag type)) = sort_after line sort c type
+tag_after line sort name c (Some other) = reached_refused (After c) DeclaredTwice line
+
+enum_after : (line : ℕ) (c : Context) (named : Option PlainNamed) → Reached (After c) (enum_named line c named)
+enum_after line c (Some (n.Tag (ct.Int ty))) d e = subst (λ (x : Context × PlainType). After c x.0) (ok_same _ d e) (more_refl c.scopes)
+enum_after line c (Some (n.Tag type)) d e = never (After c d.0) _ d e
+enum_after line c named d e = never (After c d.0) _ d e
+
+type_after : (line : ℕ) (c : Context) (named : Option PlainNamed) → Reached (After c) (type_named line c named)
+type_after line c (Some (n.Typedef type)) d e = subst (λ (x : Context × PlainType). After c x.0) (ok_same _ d e) (more_refl c.scopes)
+type_after line c (Some (n.BuiltIn zero)) d e = subst (λ (x : Context × PlainType). After c x.0) (ok_same _ d e) (more_refl c.scopes)
+type_after line c named d e = never (After c d.0) _ d e
+
+pub special_after : (line : ℕ) (tree : Tree) (c : Context) → Reached (After c) (special_type line tree c)
+special_after line (Node f.TypedefName (Leaf (w.Name name) ▹ none)) c = type_after line c (found c.scopes name)
+special_after line (Node (f.RecordTag sort) (At at ▹ Leaf (w.Name name) ▹ none)) c = tag_after at sort name c (found c.scopes (tag_name name))
+special_after line (Node f.EnumTag (At at ▹ Leaf (w.Name name) ▹ none)) c = enum_after at c (found c.scopes (tag_name name))
+special_after line (Node other (At at ▹ parts)) c = reached_refused (After c) LeftOut at
+special_after line tree c = reached_refused (After c) LeftOut line
+
+specs_after : (line : ℕ) (all words : Trees) (c : Context) → Reached (After c) (specs_type line all words c)
+specs_after line all none c = reached_ok (After c) (c, word_type all) (more_refl c.scopes)
+specs_after line all (Node form parts ▹ rest) c = special_after line (Node form parts) c
+specs_after line all (Leaf word ▹ rest) c = specs_after line all rest c
+specs_after line all (At at ▹ rest) c = specs_after line all rest c
+
+-- inside a list of parameters: the scopes outside have more tags alone
+abbrev HasScope : List Table → Type 0
+HasScope [] = ⊥
+HasScope (scope ∷ outer) = Unit {0}
+
+pub record Inside (c d : Context) : Type 0 where
+  pub some : HasScope d.scopes.inner
+  pub outside : More (scopes.left c.scopes) (scopes.left d.scopes)
+
+all_some : (one other : List Table) → MoreAll one other → HasScope one → HasScope other
+all_some [] other m h = absurd h
+all_some (s ∷ ss) [] m h = absurd m
+all_some (s ∷ ss) (t ∷ ts) m h = tt
+
+all_tail : (one other : List Table) → MoreAll one other → MoreAll (scopes.tail one) (scopes.tail other)
+all_tail [] [] m = tt
+all_tail [] (t ∷ ts) m = absurd m
+all_tail (s ∷ ss) [] m = absurd m
+all_tail (s ∷ ss) (t ∷ ts) m = m.1
+
+left_more : (one other : ScopeList) → More one other → More (scopes.left one) (scopes.left other)
+left_more one other m = record { file = m.file; inner = all_tail one.inner other.inner m.inner }
+
+inside_refl : (c : Context) → HasScope c.scopes.inner → Inside c c
+inside_refl c h = record { some = h; outside = more_refl (scopes.left c.scopes) }
+
+inside_trans : (a b c : Context) → Inside a b → Inside b c → Inside a c
+inside_trans a b c x y = record { some = y.some; outside = more_trans (scopes.left a.scopes) (scopes.left b.scopes) (scopes.left c.scopes) x.outside y.outside }
+
+inside_after : (a b c : Context) → Inside a b → After b c → Inside a c
+inside_after a b c x y = record {
+  some = all_some b.scopes.inner c.scopes.inner y.inner x.some;
+  outside = more_trans (scopes.left a.scopes) (scopes.left b.scopes) (scopes.left c.scopes) x.outside (left_more b.scopes c.scopes y);
+}
+
+named_some : (file : Table) (inner : List Table) (name : List ℕ) (v : PlainNamed) → HasScope inner → HasScope (scopes.with_name_in file inner name v).inner
+named_some file [] name v h = absurd h
+named_some file (s ∷ ss) name v h = tt
+
+named_left : (file : Table) (inner : List Table) (name : List ℕ) (v : PlainNamed) → HasScope inner
+    → More (scopes.left (record { file = file; inner = inner })) (scopes.left (scopes.with_name_in file inner name v))
+named_left file [] name v h = absurd h
+named_left file (s ∷ ss) name v h = more_refl (record { file = file; inner = ss })
+
+param_inside : (line : ℕ) (c : Context) (name : Option (List ℕ)) (type : PlainType) → HasScope c.scopes.inner → Reached (Inside c) (with_param line c name type)
+param_inside line c None type h = reached_ok (Inside c) (c, type) (inside_refl c h)
+param_inside line c (Some name) type h =
+    let d : Context = record { scopes = with_name c.scopes name (n.Register type 0); tags = c.tags } in
+    reached_unless (Inside c) _ DeclaredTwice line (Ok (d, type)) (reached_ok (Inside c) (d, type) (record {
+      some = named_some c.scopes.file c.scopes.inner name (n.Register type 0) h;
+      outside = named_left c.scopes.file c.scopes.inner name (n.Register type 0) h;
+    }))
+
+declared_inside : (line : ℕ) (c : Context) (name : Option (List ℕ)) (type : PlainType) → HasScope c.scopes.inner → Reached (Inside c) (declared_param line c name type)
+declared_inside line c name type h =
+    reached_unless (Inside c) (is_void type) Incomplete line _ (reached_unless (Inside c) _ LeftOut line _ (param_inside line c name type h))
+
+mutual
+  unfolding typed values typename layers suffix_layers suffix_layer param_types param_type
+
+  pub typed_after : (tree : Tree) (c : Context) → Reached (After c) (typed tree c)
+  typed_after (Node f.Name (At line ▹ Leaf (w.Name name) ▹ none)) c = answered_after c c _ (more_refl c.scopes)
+  typed_after (Node f.Int (At line ▹ Leaf (w.Int bytes) ▹ none)) c = reached_ok (After c) (c, constant (int_constant bytes)) (more_refl c.scopes)
+  typed_after (Node f.Char (At line ▹ Leaf (w.Char bytes) ▹ none)) c = reached_ok (After c) (c, constant (char_constant bytes)) (more_refl c.scopes)
+  typed_after (Node f.Str (At line ▹ Node f.Strings parts ▹ none)) c = answered_after c c (string line (joined parts)) (more_refl c.scopes)
+  typed_after (Node f.Paren (At line ▹ e ▹ none)) c = typed_after e c
+  typed_after (Node f.Index (At line ▹ e ▹ g ▹ none)) c =
+      two_after c (wanted e (typed e c)) (λ d. wanted g (typed g d)) (element line) (wanted_after c e (typed e c) (typed_after e c))
+      (λ d h. wanted_after c g (typed g d) (after_trans c d (typed g d) h (typed_after g d)))
+  typed_after (Node f.Call (At line ▹ e ▹ Node f.Arguments arguments ▹ none)) c =
+      reached_then (After c) (After c) (callee e c (typed e c)) (λ k. then (values arguments k.0) (λ v. answered v.0 (call line (first_literal arguments) k.1 v.1)))
+      (callee_after c e c (typed e c) (more_refl c.scopes) (typed_after e c))
+      (λ k h. reached_then (After c) (After c) (values arguments k.0) (λ v. answered v.0 (call line (first_literal arguments) k.1 v.1))
+      (after_trans c k.0 (values arguments k.0) h (values_after arguments k.0)) (λ v q. answered_after c v.0 (call line (first_literal arguments) k.1 v.1) q))
+  typed_after (Node f.Dot (At line ▹ e ▹ Leaf (w.Name name) ▹ none)) c = one_after c (typed e c) (dot line name) (typed_after e c)
+  typed_after (Node f.Arrow (At line ▹ e ▹ Leaf (w.Name name) ▹ none)) c = one_after c (wanted e (typed e c)) (arrow line name) (wanted_after c e (typed e c) (typed_after e c))
+  typed_after (Node f.PostInc (At line ▹ e ▹ none)) c = one_after c (changing e (typed e c)) (stepped line) (changing_after c e (typed e c) (typed_after e c))
+  typed_after (Node f.PostDec (At line ▹ e ▹ none)) c = one_after c (changing e (typed e c)) (stepped line) (changing_after c e (typed e c) (typed_after e c))
+  typed_after (Node f.PreInc (At line ▹ e ▹ none)) c = one_after c (changing e (typed e c)) (stepped line) (changing_after c e (typed e c) (typed_after e c))
+  typed_after (Node f.PreDec (At line ▹ e ▹ none)) c = one_after c (changing e (typed e c)) (stepped line) (changing_after c e (typed e c) (typed_after e c))
+  typed_after (Node (f.Unary u.Address) (At line ▹ e ▹ none)) c = one_after c (typed e c) (λ tags d. address line d) (typed_after e c)
+  typed_after (Node (f.Unary op) (At line ▹ e ▹ none)) c = one_after c (wanted e (typed e c)) (unary line op) (wanted_after c e (typed e c) (typed_after e c))
+  typed_after (Node f.SizeofExpr (At line ▹ e ▹ none)) c = one_after c (typed e c) (λ tags d. size line tags d.type) (typed_after e c)
+  typed_after (Node f.SizeofType (At line ▹ name ▹ none)) c =
+      reached_then (After c) (After c) (typename name c) (λ t. answered t.0 (size line t.0.tags t.1)) (typename_after name c) (λ t h. answered_after c t.0 (size line t.0.tags t.1) h)
+  typed_after (Node f.Cast (At line ▹ name ▹ e ▹ none)) c =
+      reached_then (After c) (After c) (typename name c) (λ t. one (wanted e (typed e t.0)) (λ tags d. cast line t.1 d)) (typename_after name c)
+      (λ t h. one_after c (wanted e (typed e t.0)) (λ tags d. cast line t.1 d) (wanted_after c e (typed e t.0) (after_trans c t.0 (typed e t.0) h (typed_after e t.0))))
+  typed_after (Node (f.Binary op) (At line ▹ e ▹ g ▹ none)) c =
+      two_after c (wanted e (typed e c)) (λ d. wanted g (typed g d)) (binary line op) (wanted_after c e (typed e c) (typed_after e c))
+      (λ d h. wanted_after c g (typed g d) (after_trans c d (typed g d) h (typed_after g d)))
+  typed_after (Node f.Cond (At line ▹ e ▹ g ▹ k ▹ none)) c =
+      reached_then (After c) (After c) (wanted e (typed e c)) (λ test. two (wanted g (typed g test.0)) (λ d. wanted k (typed k d)) (λ tags x y. choice line test.1 x y)) (wanted_after c e (typed e c) (typed_after e c))
+      (λ test h. two_after c (wanted g (typed g test.0)) (λ d. wanted k (typed k d)) (λ tags x y. choice line test.1 x y) (wanted_after c g (typed g test.0) (after_trans c test.0 (typed g test.0) h (typed_after g test.0)))
+      (λ d q. wanted_after c k (typed k d) (after_trans c d (typed k d) q (typed_after k d))))
+  typed_after (Node (f.Assign a.Plain) (At line ▹ e ▹ g ▹ none)) c =
+      two_after c (typed e c) (λ d. typed g d) (assigned line (line_of g)) (typed_after e c) (λ d h. after_trans c d (typed g d) h (typed_after g d))
+  typed_after (Node (f.Assign op) (At line ▹ e ▹ g ▹ none)) c =
+      two_after c (changing e (typed e c)) (λ d. wanted g (typed g d)) (changed line op) (changing_after c e (typed e c) (typed_after e c))
+      (λ d h. wanted_after c g (typed g d) (after_trans c d (typed g d) h (typed_after g d)))
+  typed_after (Node f.Comma (At line ▹ e ▹ g ▹ none)) c =
+      two_after c (wanted e (typed e c)) (λ d. wanted g (typed g d)) (λ tags x y. Ok (behind_comma y)) (wanted_after c e (typed e c) (typed_after e c))
+      (λ d h. wanted_after c g (typed g d) (after_trans c d (typed g d) h (typed_after g d)))
+  typed_after tree c = reached_refused (After c) Operands (line_of tree)
+
+  values_after : (arguments : Trees) (c : Context) → Reached (After c) (values arguments c)
+  values_after none c = reached_ok (After c) (c, []) (more_refl c.scopes)
+  values_after (e ▹ rest) c =
+      reached_then (After c) (After c) (wanted e (typed e c)) (λ d. then (values rest d.0) (λ more. Ok (more.0, d.1 ∷ more.1))) (wanted_after c e (typed e c) (typed_after e c))
+      (λ d h. reached_then (After c) (After c) (values rest d.0) (λ more. Ok (more.0, d.1 ∷ more.1)) (after_trans c d.0 (values rest d.0) h (values_after rest d.0))
+      (λ more q. reached_ok (After c) (more.0, d.1 ∷ more.1) q))
+
+  pub typename_after : (name : Tree) (c : Context) → Reached (After c) (typename name c)
+  typename_after (Node f.Typename (At line ▹ Node f.Specs (At at ▹ words) ▹ declarator ▹ none)) c =
+      reached_then (After c) (After c) (specs_type at words words c) (λ base. then (layers declarator base.0) (λ l. then (with_layers l.0.tags l.1 base.1) (λ type. unless (is_function type) LeftOut line (Ok (l.0, type))))) (specs_after at words words c)
+      (λ base h. reached_then (After c) (After c) (layers declarator base.0) (λ l. then (with_layers l.0.tags l.1 base.1) (λ type. unless (is_function type) LeftOut line (Ok (l.0, type)))) (after_trans c base.0 (layers declarator base.0) h (layers_after declarator base.0))
+      (λ l q. reached_after (After c) (with_layers l.0.tags l.1 base.1) (λ type. unless (is_function type) LeftOut line (Ok (l.0, type)))
+      (λ type z. reached_unless (After c) (is_function type) LeftOut line (Ok (l.0, type)) (reached_ok (After c) (l.0, type) q))))
+  typename_after tree c = reached_refused (After c) Operands (line_of tree)
+
+  layers_after : (tree : Tree) (c : Context) → Reached (After c) (layers tree c)
+  layers_after (Node (f.Pointer consts) (At line ▹ declarator ▹ none)) c =
+      reached_then (After c) (After c) (layers declarator c) (λ l. Ok (l.0, PointerTo line ∷ l.1)) (layers_after declarator c) (λ l h. reached_ok (After c) (l.0, PointerTo line ∷ l.1) h)
+  layers_after (Node f.Direct (base ▹ Node f.Suffixes suffixes ▹ none)) c =
+      reached_then (After c) (After c) (layers base c) (λ l. then (suffix_layers suffixes l.0) (λ s. Ok (s.0, reverse s.1 ++ l.1))) (layers_after base c)
+      (λ l h. reached_then (After c) (After c) (suffix_layers suffixes l.0) (λ s. Ok (s.0, reverse s.1 ++ l.1)) (after_trans c l.0 (suffix_layers suffixes l.0) h (suffixes_after suffixes l.0))
+      (λ s q. reached_ok (After c) (s.0, reverse s.1 ++ l.1) q))
+  layers_after (Node f.Parens (At line ▹ declarator ▹ none)) c = layers_after declarator c
+  layers_after tree c = reached_ok (After c) (c, []) (more_refl c.scopes)
+
+  suffixes_after : (suffixes : Trees) (c : Context) → Reached (After c) (suffix_layers suffixes c)
+  suffixes_after none c = reached_ok (After c) (c, []) (more_refl c.scopes)
+  suffixes_after (suffix ▹ rest) c =
+      reached_then (After c) (After c) (suffix_layer suffix c) (λ l. then (suffix_layers rest l.0) (λ more. Ok (more.0, l.1 ∷ more.1))) (suffix_after suffix c)
+      (λ l h. reached_then (After c) (After c) (suffix_layers rest l.0) (λ more. Ok (more.0, l.1 ∷ more.1)) (after_trans c l.0 (suffix_layers rest l.0) h (suffixes_after rest l.0))
+      (λ more q. reached_ok (After c) (more.0, l.1 ∷ more.1) q))
+
+  suffix_after : (suffix : Tree) (c : Context) → Reached (After c) (suffix_layer suffix c)
+  suffix_after (Node f.ArraySuffix (At line ▹ Node f.MaybeLength none ▹ none)) c = reached_ok (After c) (c, ArrayOf line None) (more_refl c.scopes)
+  suffix_after (Node f.ArraySuffix (At line ▹ Node f.MaybeLength (e ▹ none) ▹ none)) c =
+      reached_then (After c) (After c) (wanted e (typed e c)) (λ d. then (array_length (line_of e) d.1) (λ length. Ok (d.0, ArrayOf line (Some length)))) (wanted_after c e (typed e c) (typed_after e c))
+      (λ d h. reached_after (After c) (array_length (line_of e) d.1) (λ length. Ok (d.0, ArrayOf line (Some length))) (λ length q. reached_ok (After c) (d.0, ArrayOf line (Some length)) h))
+  suffix_after (Node f.FunctionSuffix (At line ▹ Node f.Params params ▹ none)) c =
+      reached_then (After c) (Inside (in_new_scope c)) (param_types params (in_new_scope c)) (λ p. Ok (out_of_scope p.0, FunctionOf line p.1)) (params_inside params (in_new_scope c) tt)
+      (λ p h. reached_ok (After c) (out_of_scope p.0, FunctionOf line p.1) h.outside)
+  suffix_after tree c = reached_ok (After c) (c, FunctionOf (line_of tree) ct.none) (more_refl c.scopes)
+
+  params_inside : (params : Trees) (c : Context) → HasScope c.scopes.inner → Reached (Inside c) (param_types params c)
+  params_inside none c h = reached_ok (Inside c) (c, ct.none) (inside_refl c h)
+  params_inside (param ▹ rest) c h =
+      reached_then (Inside c) (Inside c) (param_type param c) (λ p. then (param_types rest p.0) (λ more. Ok (more.0, first p.1 more.1))) (param_type_inside param c h)
+      (λ p q. reached_then (Inside c) (Inside p.0) (param_types rest p.0) (λ more. Ok (more.0, first p.1 more.1)) (params_inside rest p.0 q.some)
+      (λ more z. reached_ok (Inside c) (more.0, first p.1 more.1) (inside_trans c p.0 more.0 q z)))
+
+  param_type_inside : (param : Tree) (c : Context) → HasScope c.scopes.inner → Reached (Inside c) (param_type param c)
+  param_type_inside (Node f.Param (At line ▹ Node f.Specs (At at ▹ words) ▹ declarator ▹ none)) c h =
+      reached_then (Inside c) (After c) (specs_type at words words c) (λ base. then (layers declarator base.0) (λ l. then (with_param_layers l.0.tags l.1 base.1) (λ type. declared_param line l.0 (name_of declarator) (adjusted type)))) (specs_after at words words c)
+      (λ base g. reached_then (Inside c) (After base.0) (layers declarator base.0) (λ l. then (with_param_layers l.0.tags l.1 base.1) (λ type. declared_param line l.0 (name_of declarator) (adjusted type))) (layers_after declarator base.0)
+      (λ l q. reached_after (Inside c) (with_param_layers l.0.tags l.1 base.1) (λ type. declared_param line l.0 (name_of declarator) (adjusted type))
+      (λ type z d e. let i = inside_after c base.0 l.0 (inside_after c c base.0 (inside_refl c h) g) q in
+      inside_trans c l.0 d.0 i (declared_inside line l.0 (name_of declarator) (adjusted type) i.some d e))))
+  param_type_inside tree c h = reached_refused (Inside c) Operands (line_of tree)

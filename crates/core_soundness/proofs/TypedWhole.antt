@@ -1,0 +1,698 @@
+-- The types of expressions are whole, where those of names are.
+use Rattle.std.proofs.Common.{◌≡◌, ◌≤◌, ◌+◌, ◌*◌, ◌||◌, not, ℕ, pos, zero, suc, Bool, true, false, cond, nat_lt, bytes_eq, length, List, [], ◌∷◌, ◌++◌, reverse, slice_get, Option, Some, None, option_map, Ok, refl, sym, ap, ◌∙◌, subst, arith}
+use Rattle.std.specs.Option.{option_or}
+use Rattle.std.specs.List.{find}
+use Rattle.std.proofs.lemmas.Bool.{ltb-false}
+use Rattle.std.proofs.lemmas.List.{reverse-append}
+use Rattle.c_types.specs.declared.layouts.Layout.{Layout}
+use Rattle.c_types.specs.declared.types.IntType.{IntType}
+use Rattle.c_types.specs.Types as ct
+use Rattle.c_types.specs.Types.{PlainType, PlainTypes, Void, Int, Pointer, Array, Struct, Union, Function, first}
+use Rattle.c_types.specs.Layouts.{Known, layout_of, number_layout}
+use Rattle.c_types.specs.TagTable.{TagTable, CompletedTag, PlainMember, known, layout_in, size_in, members_in}
+use Rattle.c_tree.specs.declared.operator.RecordSort.{RecordSort}
+use Rattle.c_tree.specs.declared.operator.RecordSort.TheVariants as r
+use Rattle.c_tree.specs.declared.operator.UnaryOp.{UnaryOp}
+use Rattle.c_tree.specs.declared.operator.UnaryOp.TheVariants as u
+use Rattle.c_tree.specs.declared.operator.BinaryOp.{BinaryOp}
+use Rattle.c_tree.specs.declared.operator.BinaryOp.TheVariants as b
+use Rattle.c_tree.specs.declared.operator.AssignOp.{AssignOp}
+use Rattle.c_tree.specs.declared.operator.AssignOp.TheVariants as a
+use Rattle.c_tree.specs.Words as w
+use Rattle.c_tree.specs.Forms as f
+use Rattle.c_tree.specs.Tree.{Tree, Trees, Leaf, At, Node, none, ◌▹◌}
+use Rattle.c_tree.specs.Scopes.{name_of}
+use Rattle.c_decls.specs.declared.built_in.BuiltIn.{BuiltIn}
+use Rattle.c_decls.specs.declared.built_in.BuiltIn.TheVariants as built
+use Rattle.c_decls.specs.declared.constant.Constant.{Constant}
+use Rattle.c_decls.specs.declared.refusal.TypeKind.TheVariants.{Undeclared, Operands, NotLvalue, ArgumentCount, Assignment, DeclaredTwice, Incomplete, NoMember, PointerAndInteger, NotConstant, TypeTooLarge, Format, LeftOut}
+use Rattle.c_decls.specs.declared.typed.Folded.{Folded}
+use Rattle.c_decls.specs.declared.typed.Folded.TheVariants.{Is}
+use Rattle.c_decls.specs.Refusals.{Checked, refused, then, unless}
+use Rattle.c_decls.specs.Named as n
+use Rattle.c_decls.specs.Named.{PlainNamed}
+use Rattle.c_decls.specs.ScopeList as scopes
+use Rattle.c_decls.specs.ScopeList.{ScopeList, Table, found, found_from, with_name, tag_name, named_in, innermost}
+use Rattle.c_decls.specs.BuiltIns.{built_ins, constant_of}
+use Rattle.c_decls.specs.Typed.{PlainTyped, Operand, Number, PointerTo, Neither, operand, place, value, int, constant, held, read, same, is_void, is_function, is_record, is_null_constant, has_no_size}
+use Rattle.c_decls.specs.TypeRules.{immovable, moving, beside_pointer, sum_types, difference_types, order_types, equal_types, integer_types, logical, binary, unary_of, unary_on_pointer, unary, address}
+use Rattle.c_decls.specs.PlaceRules.{cast_types, cast, chosen_pointer, choice_types, choice, size_answer, size, element_types, element, member_answer, member_among, member_of, dot, arrow_of, arrow, record_assigned, scalar_assigned, assigned, changed_types, changed, stepped, held_place, behind_comma, all_convert, converts, unconverted, is_written}
+use Rattle.c_decls.specs.Callees.{Callee, Takes, Prints, NoFunction, built_in_callee, built_in_value, built_in_named, named, no_function, function_callee, built_in_called, callee_at, called, prints, call}
+use Rattle.c_decls.specs.TypeNames as names
+use Rattle.c_decls.specs.TypeNames.{Context, Layer, ArrayOf, FunctionOf, word_type, record_type, is_union, with_new_tag, same_sort, tag_named, enum_named, type_named, special_type, specs_type, length_from, array_length, array_of, layered, layered_before, with_layers, with_param_layers, adjusted, with_param, declared_param}
+use Rattle.c_decls.specs.Expressions.{line_of, Found, answered, wanted, changing, one, two, int_constant, char_constant, joined, string, first_literal, callee, in_new_scope, out_of_scope, typed, values, typename, layers, suffix_layers, suffix_layer, param_types, param_type}
+use Rattle.core_soundness.specs.Whole.{Whole, AllWhole, AreMade, NamedWhole, TableWhole, TablesWhole, NamesWhole}
+use Rattle.core_soundness.proofs.Names.{named_push}
+use Rattle.core_soundness.proofs.Reached.{Led, led_ok, led_refused, led_after, led_unless, led_barred}
+use Rattle.core_soundness.proofs.WholeTypes.{nothing, member_whole}
+
+pub led_cond : {C : Type 0} (R : C → Type 0) (test : Bool) (x y : Checked C) → Led R x → Led R y → Led R (cond test x y)
+led_cond R true x y g h = g
+led_cond R false x y g h = h
+
+some_same : {X : Type 0} (x y : X) → Some x ≡ Some y → x ≡ y
+some_same x y e = cc
+
+-- names
+
+table_push : (k : Known) (name : List ℕ) (v : PlainNamed) (t : Table) → NamedWhole k v → TableWhole k t → TableWhole k (t ++ (name, v) ∷ [])
+table_push k name v t h g key x e = by (named_in key t) refl (sym (named_push key name v t) ∙ e)
+  where
+    last : (c : Bool) → cond c (Some v) None ≡ Some x → NamedWhole k x
+    last true q = subst (NamedWhole k) (some_same v x q) h
+    last false q = cc
+
+    by : (o : Option PlainNamed) → named_in key t ≡ o → option_or o (cond (bytes_eq key name) (Some v) None) ≡ Some x → NamedWhole k x
+    by None q r = last (bytes_eq key name) r
+    by (Some y) q r = subst (NamedWhole k) (some_same y x r) (g key y q)
+
+pub with_name_whole : (k : Known) (s : ScopeList) (name : List ℕ) (v : PlainNamed) → NamedWhole k v → NamesWhole k s → NamesWhole k (with_name s name v)
+with_name_whole k s name v h g = by s.inner g.inner
+  where
+    by : (inner : List Table) → TablesWhole k inner → NamesWhole k (scopes.with_name_in s.file inner name v)
+    by [] x = record { file = table_push k name v s.file h g.file; inner = tt }
+    by (t ∷ ts) x = record { file = g.file; inner = (table_push k name v t h x.0, x.1) }
+
+pub entered_whole : (k : Known) (s : ScopeList) → NamesWhole k s → NamesWhole k (scopes.entered s)
+entered_whole k s h = record { file = h.file; inner = (λ name v e. cc, h.inner) }
+
+tail_whole : (k : Known) (ts : List Table) → TablesWhole k ts → TablesWhole k (scopes.tail ts)
+tail_whole k [] h = tt
+tail_whole k (t ∷ ts) h = h.1
+
+pub left_whole : (k : Known) (s : ScopeList) → NamesWhole k s → NamesWhole k (scopes.left s)
+left_whole k s h = record { file = h.file; inner = tail_whole k s.inner h.inner }
+
+found_from_whole : (k : Known) (file : Table) (inner : List Table) (name : List ℕ) (v : PlainNamed) → TableWhole k file → TablesWhole k inner → found_from file name inner ≡ Some v → NamedWhole k v
+found_from_whole k file [] name v f h e = f name v e
+found_from_whole k file (t ∷ ts) name v f h e = by (named_in name t) refl (found_from_whole k file ts name v f h.1) e
+  where
+    by : (o : Option PlainNamed) → named_in name t ≡ o → (found_from file name ts ≡ Some v → NamedWhole k v) → option_or o (found_from file name ts) ≡ Some v → NamedWhole k v
+    by None q again r = again r
+    by (Some x) q again r = h.0 name v (q ∙ r)
+
+pub found_whole : (k : Known) (s : ScopeList) (name : List ℕ) (v : PlainNamed) → NamesWhole k s → found s name ≡ Some v → NamedWhole k v
+found_whole k s name v h e = found_from_whole k s.file s.inner name v h.file h.inner e
+
+-- layers of declarators
+
+abbrev pub LayerWhole : Known → Layer → Type 0
+LayerWhole k (names.PointerTo line) = Unit {0}
+LayerWhole k (ArrayOf line None) = Unit {0}
+LayerWhole k (ArrayOf line (Some n)) = 1 ≤ n
+LayerWhole k (FunctionOf line params) = AllWhole k params
+
+abbrev pub LayersWhole : Known → List Layer → Type 0
+LayersWhole k [] = Unit {0}
+LayersWhole k (l ∷ ls) = LayerWhole k l × LayersWhole k ls
+
+pub layers_append : (k : Known) (xs ys : List Layer) → LayersWhole k xs → LayersWhole k ys → LayersWhole k (xs ++ ys)
+layers_append k [] ys g h = h
+layers_append k (x ∷ xs) ys g h = (g.0, layers_append k xs ys g.1 h)
+
+pub layers_reverse : (k : Known) (xs : List Layer) → LayersWhole k xs → LayersWhole k (reverse xs)
+layers_reverse k [] h = tt
+layers_reverse k (x ∷ xs) h = subst (LayersWhole k) (sym (reverse-append (x ∷ []) xs)) (layers_append k (reverse xs) (x ∷ []) (layers_reverse k xs h.1) (h.0, tt))
+
+-- types with layers
+
+module _ (ts : List CompletedTag) where
+  row_of : (line : ℕ) (tags : TagTable) (element : PlainType) (o : Option Layout) (length : Option ℕ) → tags.completed ≡ ts → layout_in tags element ≡ o → Whole (known ts) element → LayerWhole (known ts) (ArrayOf line length) → Led (Whole (known ts)) (array_of line element (option_map (λ (l : Layout). l.size) o) length)
+  row_of line tags element None length c q h g = led_refused (Whole (known ts)) Incomplete line
+  row_of line tags element (Some l) None c q h g = led_refused (Whole (known ts)) Incomplete line
+  row_of line tags element (Some l) (Some m) c q h g =
+      led_unless (Whole (known ts)) (nat_lt 268435456 (m * l.size)) TypeTooLarge line _
+      (λ t. led_ok (Whole (known ts)) (Array element m) (h, (l, ap (λ (x : List CompletedTag). layout_of (known x) element) (sym c) ∙ q, ltb-false 268435456 (m * l.size) t, g)))
+
+  pub layered_whole : (tags : TagTable) (layer : Layer) (type : PlainType) → tags.completed ≡ ts → Whole (known ts) type → LayerWhole (known ts) layer → Led (Whole (known ts)) (layered tags layer type)
+  layered_whole tags (names.PointerTo line) type c h g = led_unless (Whole (known ts)) (is_function type) LeftOut line _ (λ t. led_ok (Whole (known ts)) (Pointer type) h)
+  layered_whole tags (ArrayOf line length) type c h g = led_unless (Whole (known ts)) (is_function type) LeftOut line _ (λ t. row_of line tags type (layout_in tags type) length c refl h g)
+  layered_whole tags (FunctionOf line params) type c h g = led_unless (Whole (known ts)) _ LeftOut line _ (λ t. led_ok (Whole (known ts)) (Function type params) (h, g))
+
+  pub before_whole : (tags : TagTable) (layer : Layer) (layers : List Layer) (type : PlainType) → tags.completed ≡ ts → Whole (known ts) type → LayerWhole (known ts) layer → Led (Whole (known ts)) (layered_before tags layer layers type)
+  before_whole tags (FunctionOf line params) (next ∷ layers) type c h g =
+      led_after (Whole (known ts)) (layered tags (FunctionOf line params) type) (λ t. refused LeftOut line) (λ t q. led_refused (Whole (known ts)) LeftOut line)
+  before_whole tags (FunctionOf line params) [] type c h g = layered_whole tags (FunctionOf line params) type c h g
+  before_whole tags (names.PointerTo line) layers type c h g = layered_whole tags (names.PointerTo line) type c h g
+  before_whole tags (ArrayOf line length) layers type c h g = layered_whole tags (ArrayOf line length) type c h g
+
+  pub with_layers_whole : (tags : TagTable) (layers : List Layer) (type : PlainType) → tags.completed ≡ ts → Whole (known ts) type → LayersWhole (known ts) layers → Led (Whole (known ts)) (with_layers tags layers type)
+  with_layers_whole tags [] type c h g = led_ok (Whole (known ts)) type h
+  with_layers_whole tags (layer ∷ layers) type c h g =
+      led_after (Whole (known ts)) (layered_before tags layer layers type) (λ inner. with_layers tags layers inner)
+      (λ inner q. with_layers_whole tags layers inner c (before_whole tags layer layers type c h g.0 inner q) g.1)
+
+  pub with_param_layers_whole : (tags : TagTable) (layers : List Layer) (type : PlainType) → tags.completed ≡ ts → Whole (known ts) type → LayersWhole (known ts) layers → Led (Whole (known ts)) (with_param_layers tags layers type)
+  with_param_layers_whole tags [] type c h g = led_ok (Whole (known ts)) type h
+  with_param_layers_whole tags (ArrayOf line None ∷ []) type c h g = layered_whole tags (ArrayOf line (Some 1)) type c h (omega arith)
+  with_param_layers_whole tags (ArrayOf line None ∷ (next ∷ layers)) type c h g =
+      led_after (Whole (known ts)) (layered_before tags (ArrayOf line None) (next ∷ layers) type) (λ inner. with_param_layers tags (next ∷ layers) inner)
+      (λ inner q. with_param_layers_whole tags (next ∷ layers) inner c (before_whole tags (ArrayOf line None) (next ∷ layers) type c h g.0 inner q) g.1)
+  with_param_layers_whole tags (layer ∷ layers) type c h g =
+      led_after (Whole (known ts)) (layered_before tags layer layers type) (λ inner. with_param_layers tags layers inner)
+      (λ inner q. with_param_layers_whole tags layers inner c (before_whole tags layer layers type c h g.0 inner q) g.1)
+
+  pub adjusted_whole : (type : PlainType) → Whole (known ts) type → Whole (known ts) (adjusted type)
+  adjusted_whole (Array element m) h = h.0
+  adjusted_whole Void h = h
+  adjusted_whole (Int ty) h = h
+  adjusted_whole (Pointer target) h = h
+  adjusted_whole (Struct tag) h = h
+  adjusted_whole (Union tag) h = h
+  adjusted_whole (Function answer params) h = h
+
+-- the rules of expressions
+
+module _ (ts : List CompletedTag) (made : AreMade nothing ts) where
+  abbrev W : PlainTyped → Type 0
+  W e = Whole (known ts) e.type
+
+  abbrev WO : Operand → Type 0
+  WO (Number ty) = Unit {0}
+  WO (PointerTo target) = Whole (known ts) target
+  WO Neither = Unit {0}
+
+  operand_whole : (type : PlainType) → Whole (known ts) type → WO (operand type)
+  operand_whole Void h = tt
+  operand_whole (Int ty) h = tt
+  operand_whole (Pointer target) h = h
+  operand_whole (Array element m) h = tt
+  operand_whole (Struct tag) h = tt
+  operand_whole (Union tag) h = tt
+  operand_whole (Function answer params) h = tt
+
+  held_whole : (line : ℕ) (tags : TagTable) (type : PlainType) → Whole (known ts) type → Led W (held line tags type)
+  held_whole line tags Void h = led_refused W Incomplete line
+  held_whole line tags (Int ty) h = led_ok W _ tt
+  held_whole line tags (Pointer target) h = led_ok W _ h
+  held_whole line tags (Array element m) h = led_ok W _ h.0
+  held_whole line tags (Struct tag) h = led_cond W (has_no_size tags (Struct tag)) _ _ (led_refused W Incomplete line) (led_refused W Operands line)
+  held_whole line tags (Union tag) h = led_cond W (has_no_size tags (Union tag)) _ _ (led_refused W Incomplete line) (led_refused W Operands line)
+  held_whole line tags (Function answer params) h = led_refused W Operands line
+
+  pub read_whole : (line : ℕ) (tags : TagTable) (e : PlainTyped) → W e → Led W (read line tags e)
+  read_whole line tags e h = led_cond W e.is_place _ _ (held_whole line tags e.type h) (led_ok W e h)
+
+  held_place_whole : (line : ℕ) (tags : TagTable) (e : PlainTyped) → W e → Led W (held_place line tags e)
+  held_place_whole line tags e h = led_after W (read line tags e) (λ x. Ok e) (λ x q. led_ok W e h)
+
+  value_of_whole : (line : ℕ) (name : BuiltIn) (o : Option Constant) → Led W (built_in_value line name o)
+  value_of_whole line built.Null o = led_ok W _ tt
+  value_of_whole line built.SizeT o = led_refused W Operands line
+  value_of_whole line name (Some c) = led_ok W _ tt
+  value_of_whole line name None = led_refused W LeftOut line
+
+  built_in_whole : (line : ℕ) (o : Option BuiltIn) → Led W (built_in_named line o)
+  built_in_whole line None = led_refused W Undeclared line
+  built_in_whole line (Some name) = value_of_whole line name (constant_of name)
+
+  abbrev NamedBy : Option PlainNamed → Type 0
+  NamedBy o = (v : PlainNamed) → o ≡ Some v → NamedWhole (known ts) v
+
+  named_whole : (line : ℕ) (o : Option PlainNamed) → NamedBy o → Led W (named line o)
+  named_whole line None h = led_refused W Undeclared line
+  named_whole line (Some (n.Object type i)) h = led_ok W _ (h (n.Object type i) refl)
+  named_whole line (Some (n.Register type i)) h = led_ok W _ (h (n.Register type i) refl)
+  named_whole line (Some (n.Function type i)) h = led_refused W LeftOut line
+  named_whole line (Some (n.Typedef type)) h = led_refused W Operands line
+  named_whole line (Some (n.Constant type x)) h = led_ok W _ tt
+  named_whole line (Some (n.BuiltIn i)) h = built_in_whole line (slice_get built_ins i)
+  named_whole line (Some (n.Tag type)) h = led_refused W Operands line
+
+  string_whole : (line : ℕ) (bytes : List ℕ) → Led W (string line bytes)
+  string_whole line bytes =
+      led_unless W (nat_lt 268435456 (length bytes + 1)) TypeTooLarge line _
+      (λ t. let small = ltb-false 268435456 (length bytes + 1) t in led_ok W _ (tt, (number_layout 1, refl, omega (arith, small), omega arith)))
+
+  moving_whole : (line : ℕ) (tags : TagTable) (target : PlainType) (e : PlainTyped) → W e → Led W (moving line tags target e)
+  moving_whole line tags target e h = led_barred W (immovable tags target) line (Ok e) (led_ok W e h)
+
+  beside_whole : (line : ℕ) (e : PlainTyped) (x : Checked PlainTyped) → Led W x → Led W (beside_pointer line e x)
+  beside_whole line e x h = led_cond W (is_null_constant e) x _ h (led_refused W PointerAndInteger line)
+
+  element_whole : (line : ℕ) (tags : TagTable) (s t : Operand) → WO s → WO t → Led W (element_types line tags s t)
+  element_whole line tags (PointerTo target) (Number ty) h k = moving_whole line tags target (place target) h
+  element_whole line tags (Number ty) (PointerTo target) h k = moving_whole line tags target (place target) k
+  element_whole line tags s t h k = led_refused W Operands line
+
+  answer_whole : (line : ℕ) (o : Option PlainType) → ((type : PlainType) → o ≡ Some type → Whole (known ts) type) → Led W (member_answer line o)
+  answer_whole line None h = led_refused W NoMember line
+  answer_whole line (Some type) h = led_ok W _ (h type refl)
+
+  among_whole : (line : ℕ) (name : List ℕ) (o : Option (List PlainMember)) → ((members : List PlainMember) (m : PlainMember) → o ≡ Some members → find (λ (m : PlainMember). bytes_eq name m.name) members ≡ Some m → Whole (known ts) m.type) → Led W (member_among line name o)
+  among_whole line name None h = led_refused W Incomplete line
+  among_whole line name (Some members) h = answer_whole line _ (by (find (λ (m : PlainMember). bytes_eq name m.name) members) refl)
+    where
+      by : (o : Option PlainMember) → find (λ (m : PlainMember). bytes_eq name m.name) members ≡ o → (type : PlainType) → option_map (λ (m : PlainMember). m.type) o ≡ Some type → Whole (known ts) type
+      by None q type e = cc
+      by (Some m) q type e = subst (Whole (known ts)) (some_same m.type type e) (h members m refl q)
+
+  tag_member_whole : (line : ℕ) (name : List ℕ) (tags : TagTable) (tag : ℕ) → tags.completed ≡ ts → Led W (member_among line name (members_in tags tag))
+  tag_member_whole line name tags tag c =
+      among_whole line name (members_in tags tag)
+      (λ members m e q. subst (λ (x : List CompletedTag). Whole (known x) m.type) c
+      (member_whole tags tag members (λ (m : PlainMember). bytes_eq name m.name) m (subst (AreMade nothing) (sym c) made) e q))
+
+  member_of_whole : (line : ℕ) (name : List ℕ) (tags : TagTable) (type : PlainType) → tags.completed ≡ ts → Led W (member_of line name tags type)
+  member_of_whole line name tags (Struct tag) c = tag_member_whole line name tags tag c
+  member_of_whole line name tags (Union tag) c = tag_member_whole line name tags tag c
+  member_of_whole line name tags type c = led_refused W Operands line
+
+  dot_whole : (line : ℕ) (name : List ℕ) (tags : TagTable) (e : PlainTyped) → tags.completed ≡ ts → Led W (dot line name tags e)
+  dot_whole line name tags e c = led_unless W (not e.is_place) Operands line _ (λ t. member_of_whole line name tags e.type c)
+
+  arrow_whole : (line : ℕ) (name : List ℕ) (tags : TagTable) (o : Operand) → tags.completed ≡ ts → Led W (arrow_of line name tags o)
+  arrow_whole line name tags (PointerTo target) c = member_of_whole line name tags target c
+  arrow_whole line name tags o c = led_refused W Operands line
+
+  pointer_unary_whole : (line : ℕ) (op : UnaryOp) (target : PlainType) → Whole (known ts) target → Led W (unary_on_pointer line op target)
+  pointer_unary_whole line u.Not target h = led_ok W _ tt
+  pointer_unary_whole line u.Deref target h = led_ok W _ h
+  pointer_unary_whole line op target h = led_refused W Operands line
+
+  unary_whole : (line : ℕ) (op : UnaryOp) (e : PlainTyped) (o : Operand) → WO o → Led W (unary_of line op e o)
+  unary_whole line u.Deref e (Number ty) h = led_refused W Operands line
+  unary_whole line u.Deref e (PointerTo target) h = pointer_unary_whole line u.Deref target h
+  unary_whole line u.Deref e Neither h = led_refused W Operands line
+  unary_whole line op e (Number ty) h = led_ok W _ tt
+  unary_whole line op e (PointerTo target) h = pointer_unary_whole line op target h
+  unary_whole line op e Neither h = led_refused W Operands line
+
+  address_whole : (line : ℕ) (e : PlainTyped) → W e → Led W (address line e)
+  address_whole line e h = led_cond W e.is_place _ _ (led_ok W _ h) (led_refused W NotLvalue line)
+
+  sum_whole : (line : ℕ) (tags : TagTable) (x y : PlainTyped) (s t : Operand) → W x → W y → Led W (sum_types line tags x y s t)
+  sum_whole line tags x y (Number s) (Number t) h k = led_ok W _ tt
+  sum_whole line tags x y (PointerTo target) (Number t) h k = moving_whole line tags target (value x.type) h
+  sum_whole line tags x y (Number s) (PointerTo target) h k = moving_whole line tags target (value y.type) k
+  sum_whole line tags x y s t h k = led_refused W Operands line
+
+  difference_whole : (line : ℕ) (tags : TagTable) (x y : PlainTyped) (s t : Operand) → W x → W y → Led W (difference_types line tags x y s t)
+  difference_whole line tags x y (Number s) (Number t) h k = led_ok W _ tt
+  difference_whole line tags x y (PointerTo target) (Number t) h k = moving_whole line tags target (value x.type) h
+  difference_whole line tags x y (PointerTo target) (PointerTo other) h k = led_unless W _ Operands line _ (λ t. moving_whole line tags target int tt)
+  difference_whole line tags x y s t h k = led_refused W Operands line
+
+  order_whole : (op : BinaryOp) (line : ℕ) (x y : PlainTyped) (s t : Operand) → Led W (order_types op line x y s t)
+  order_whole op line x y (Number s) (Number t) = led_ok W _ tt
+  order_whole op line x y (PointerTo target) (PointerTo other) = led_unless W _ Operands line _ (λ t. led_ok W int tt)
+  order_whole op line x y (PointerTo target) (Number t) = beside_whole line y _ (led_refused W Operands line)
+  order_whole op line x y (Number s) (PointerTo other) = beside_whole line x _ (led_refused W Operands line)
+  order_whole op line x y s t = led_refused W Operands line
+
+  equal_whole : (op : BinaryOp) (line : ℕ) (x y : PlainTyped) (s t : Operand) → Led W (equal_types op line x y s t)
+  equal_whole op line x y (Number s) (Number t) = led_ok W _ tt
+  equal_whole op line x y (PointerTo target) (PointerTo other) = led_unless W _ Operands line _ (λ t. led_ok W int tt)
+  equal_whole op line x y (PointerTo target) (Number t) = beside_whole line y _ (led_ok W int tt)
+  equal_whole op line x y (Number s) (PointerTo other) = beside_whole line x _ (led_ok W int tt)
+  equal_whole op line x y s t = led_refused W Operands line
+
+  integer_whole : (op : BinaryOp) (line : ℕ) (x y : PlainTyped) (s t : Operand) → Led W (integer_types op line x y s t)
+  integer_whole op line x y (Number s) (Number t) = led_ok W _ tt
+  integer_whole op line x y s t = led_refused W Operands line
+
+  logical_whole : (line : ℕ) (folded : Folded) (x y : PlainTyped) → Led W (logical line folded x y)
+  logical_whole line folded x y = led_unless W _ Operands line _ (λ t. led_ok W _ tt)
+
+  pub binary_whole : (line : ℕ) (op : BinaryOp) (tags : TagTable) (x y : PlainTyped) → W x → W y → Led W (binary line op tags x y)
+  binary_whole line b.Or tags x y h k = logical_whole line _ x y
+  binary_whole line b.And tags x y h k = logical_whole line _ x y
+  binary_whole line b.Add tags x y h k = sum_whole line tags x y (operand x.type) (operand y.type) h k
+  binary_whole line b.Subtract tags x y h k = difference_whole line tags x y (operand x.type) (operand y.type) h k
+  binary_whole line b.Less tags x y h k = order_whole b.Less line x y (operand x.type) (operand y.type)
+  binary_whole line b.Greater tags x y h k = order_whole b.Greater line x y (operand x.type) (operand y.type)
+  binary_whole line b.LessEqual tags x y h k = order_whole b.LessEqual line x y (operand x.type) (operand y.type)
+  binary_whole line b.GreaterEqual tags x y h k = order_whole b.GreaterEqual line x y (operand x.type) (operand y.type)
+  binary_whole line b.Equal tags x y h k = equal_whole b.Equal line x y (operand x.type) (operand y.type)
+  binary_whole line b.NotEqual tags x y h k = equal_whole b.NotEqual line x y (operand x.type) (operand y.type)
+  binary_whole line op tags x y h k = integer_whole op line x y (operand x.type) (operand y.type)
+
+  size_whole : (line : ℕ) (o : Option ℕ) → Led W (size_answer line o)
+  size_whole line None = led_refused W Incomplete line
+  size_whole line (Some m) = led_ok W _ tt
+
+  cast_types_whole : (line : ℕ) (type : PlainType) (e : PlainTyped) (s t : Operand) → Whole (known ts) type → Led W (cast_types line type e s t)
+  cast_types_whole line type e (Number ty) (Number source) h = led_ok W _ tt
+  cast_types_whole line type e (Number ty) (PointerTo source) h = led_refused W PointerAndInteger line
+  cast_types_whole line type e (PointerTo target) (PointerTo source) h = led_ok W _ h
+  cast_types_whole line type e (PointerTo target) (Number source) h = beside_whole line e _ (led_ok W _ h)
+  cast_types_whole line type e s t h = led_refused W Operands line
+
+  cast_whole : (line : ℕ) (type : PlainType) (e : PlainTyped) → Whole (known ts) type → Led W (cast line type e)
+  cast_whole line type e h = led_cond W (is_void type) _ _ (led_ok W _ h) (cast_types_whole line type e (operand type) (operand e.type) h)
+
+  chosen_whole : (line : ℕ) (x y : PlainTyped) (s t : PlainType) → W x → W y → Led W (chosen_pointer line x y s t)
+  chosen_whole line x y s t h k =
+      led_cond W _ _ _ (led_ok W _ h) (led_cond W x.is_null _ _ (led_ok W _ k) (led_cond W (is_void s) _ _ (led_ok W _ h) (led_cond W (is_void t) _ _ (led_ok W _ k) (led_refused W Operands line))))
+
+  choice_types_whole : (line : ℕ) (test : Folded) (x y : PlainTyped) (s t : Operand) → W x → W y → Led W (choice_types line test x y s t)
+  choice_types_whole line test x y (Number s) (Number t) h k = led_ok W _ tt
+  choice_types_whole line test x y (PointerTo s) (PointerTo t) h k = chosen_whole line x y s t h k
+  choice_types_whole line test x y (PointerTo s) (Number t) h k = beside_whole line y _ (led_ok W _ h)
+  choice_types_whole line test x y (Number s) (PointerTo t) h k = beside_whole line x _ (led_ok W _ k)
+  choice_types_whole line test x y s t h k = led_cond W _ _ _ (led_ok W _ h) (led_refused W Operands line)
+
+  pub choice_whole : (line : ℕ) (test x y : PlainTyped) → W x → W y → Led W (choice line test x y)
+  choice_whole line test x y h k = led_unless W _ Operands line _ (λ t. choice_types_whole line test.folded x y (operand x.type) (operand y.type) h k)
+
+  record_whole : (line : ℕ) (tags : TagTable) (target e : PlainTyped) → W target → Led W (record_assigned line tags target e)
+  record_whole line tags target e h =
+      let r4 : Checked PlainTyped = unless (not e.is_place) Operands line (Ok (value target.type)) in
+      let r3 : Checked PlainTyped = unless (not (same target.type e.type)) Assignment line r4 in
+      let r2 : Checked PlainTyped = unless (has_no_size tags target.type) Incomplete line r3 in
+      led_unless W (not target.is_place) NotLvalue line r2
+      (λ t1. led_unless W (has_no_size tags target.type) Incomplete line r3
+      (λ t2. led_unless W (not (same target.type e.type)) Assignment line r4
+      (λ t3. led_unless W (not e.is_place) Operands line (Ok (value target.type)) (λ t4. led_ok W (value target.type) h))))
+
+  scalar_whole : (line : ℕ) (target e : PlainTyped) → W target → Led W (scalar_assigned line target e)
+  scalar_whole line target e h =
+      let r3 : Checked PlainTyped = converts line target.type e (Ok (value target.type)) in
+      let r2 : Checked PlainTyped = unless (is_void target.type) Incomplete line r3 in
+      led_unless W (not (is_written target)) NotLvalue line r2
+      (λ t1. led_unless W (is_void target.type) Incomplete line r3 (λ t2. led_barred W (unconverted target.type e) line (Ok (value target.type)) (led_ok W (value target.type) h)))
+
+  pub assigned_whole : (line right : ℕ) (tags : TagTable) (target e : PlainTyped) → W target → Led W (assigned line right tags target e)
+  assigned_whole line right tags target e h =
+      led_cond W (is_record target.type) _ _ (record_whole line tags target e h)
+      (led_after W (read right tags e) (scalar_assigned line target) (λ x q. scalar_whole line target x h))
+
+  changed_types_whole : (line : ℕ) (op : AssignOp) (tags : TagTable) (type : PlainType) (s t : Operand) → Whole (known ts) type → Led W (changed_types line op tags type s t)
+  changed_types_whole line op tags type (Number ty) (Number source) h = led_ok W _ h
+  changed_types_whole line op tags type (PointerTo target) (Number source) h = led_unless W _ Operands line _ (λ t. moving_whole line tags target (value type) h)
+  changed_types_whole line op tags type s t h = led_refused W Operands line
+
+  pub changed_whole : (line : ℕ) (op : AssignOp) (tags : TagTable) (target e : PlainTyped) → W target → Led W (changed line op tags target e)
+  changed_whole line op tags target e h = led_unless W _ NotLvalue line _ (λ t. changed_types_whole line op tags target.type (operand target.type) (operand e.type) h)
+
+  -- callees
+
+  abbrev pub CW : Callee → Type 0
+  CW (Takes answer params) = Whole (known ts) answer × AllWhole (known ts) params
+  CW Prints = Unit {0}
+  CW NoFunction = Unit {0}
+
+  converting_whole : (line : ℕ) (params : PlainTypes) (arguments : List PlainTyped) (x : Checked PlainTyped) → Led W x → Led W (all_convert line params arguments x)
+  converting_whole line ct.none arguments x h = h
+  converting_whole line (first type rest) [] x h = h
+  converting_whole line (first type rest) (e ∷ arguments) x h = led_barred W (unconverted type e) line _ (converting_whole line rest arguments x h)
+
+  printing_whole : (line : ℕ) (o : Option (List ℕ)) (arguments : List PlainTyped) → Led W (prints line o arguments)
+  printing_whole line None arguments = led_refused W Format line
+  printing_whole line (Some bytes) [] = led_refused W Format line
+  printing_whole line (Some bytes) (format ∷ rest) = led_unless W _ Format line _ (λ t. led_ok W _ tt)
+
+  call_whole : (line : ℕ) (o : Option (List ℕ)) (function : Callee) (arguments : List PlainTyped) → CW function → Led W (call line o function arguments)
+  call_whole line o (Takes answer params) arguments h = led_unless W _ ArgumentCount line _ (λ t. converting_whole line params arguments _ (led_ok W _ h.0))
+  call_whole line o Prints arguments h = printing_whole line o arguments
+  call_whole line o NoFunction arguments h = led_refused W Operands line
+
+  no_function_whole : (line : ℕ) (tags : TagTable) (x : Checked PlainTyped) → Led CW (no_function line tags x)
+  no_function_whole line tags x = led_after CW x (λ e. then (read line tags e) (λ y. Ok NoFunction)) (λ e q. led_after CW (read line tags e) (λ y. Ok NoFunction) (λ y z. led_ok CW NoFunction tt))
+
+  function_whole : (type : PlainType) → Whole (known ts) type → CW (function_callee type)
+  function_whole (Function answer params) h = h
+  function_whole Void h = tt
+  function_whole (Int ty) h = tt
+  function_whole (Pointer target) h = tt
+  function_whole (Array element m) h = tt
+  function_whole (Struct tag) h = tt
+  function_whole (Union tag) h = tt
+
+  built_in_callee_whole : (name : BuiltIn) → CW (built_in_callee name)
+  built_in_callee_whole built.Malloc = (tt, (tt, tt))
+  built_in_callee_whole built.Calloc = (tt, (tt, (tt, tt)))
+  built_in_callee_whole built.Realloc = (tt, (tt, (tt, tt)))
+  built_in_callee_whole built.Free = (tt, (tt, tt))
+  built_in_callee_whole built.Exit = (tt, (tt, tt))
+  built_in_callee_whole built.Abort = (tt, tt)
+  built_in_callee_whole built.Memcpy = (tt, (tt, (tt, (tt, tt))))
+  built_in_callee_whole built.Memmove = (tt, (tt, (tt, (tt, tt))))
+  built_in_callee_whole built.Memset = (tt, (tt, (tt, (tt, tt))))
+  built_in_callee_whole built.Strlen = (tt, (tt, tt))
+  built_in_callee_whole built.Strcmp = (tt, (tt, (tt, tt)))
+  built_in_callee_whole built.Getchar = (tt, tt)
+  built_in_callee_whole built.Putchar = (tt, (tt, tt))
+  built_in_callee_whole built.Puts = (tt, (tt, tt))
+  built_in_callee_whole name = tt
+
+  at_whole : (o : Option BuiltIn) → CW (callee_at o)
+  at_whole None = tt
+  at_whole (Some name) = built_in_callee_whole name
+
+  built_in_called_whole : (line : ℕ) (tags : TagTable) (o : Option BuiltIn) (function : Callee) → CW function → Led CW (built_in_called line tags o function)
+  built_in_called_whole line tags o NoFunction h = no_function_whole line tags (built_in_named line o)
+  built_in_called_whole line tags o (Takes answer params) h = led_ok CW _ h
+  built_in_called_whole line tags o Prints h = led_ok CW _ h
+
+  pub called_whole : (line : ℕ) (tags : TagTable) (o : Option PlainNamed) → NamedBy o → Led CW (called line tags o)
+  called_whole line tags (Some (n.Function type i)) h = led_ok CW _ (function_whole type (h (n.Function type i) refl))
+  called_whole line tags (Some (n.BuiltIn i)) h = built_in_called_whole line tags (slice_get built_ins i) (callee_at (slice_get built_ins i)) (at_whole (slice_get built_ins i))
+  called_whole line tags (Some (n.Object type i)) h = no_function_whole line tags (named line (Some (n.Object type i)))
+  called_whole line tags (Some (n.Register type i)) h = no_function_whole line tags (named line (Some (n.Register type i)))
+  called_whole line tags (Some (n.Typedef type)) h = no_function_whole line tags (named line (Some (n.Typedef type)))
+  called_whole line tags (Some (n.Constant type x)) h = no_function_whole line tags (named line (Some (n.Constant type x)))
+  called_whole line tags (Some (n.Tag type)) h = no_function_whole line tags (named line (Some (n.Tag type)))
+  called_whole line tags None h = no_function_whole line tags (named line None)
+
+  -- the walk
+
+  pub record Fit (c : Context) : Type 0 where
+    pub completed : c.tags.completed ≡ ts
+    pub names : NamesWhole (known ts) c.scopes
+
+  abbrev pub Good : Context × PlainTyped → Type 0
+  Good d = Fit d.0 × W d.1
+
+  abbrev pub GoodType : Context × PlainType → Type 0
+  GoodType d = Fit d.0 × Whole (known ts) d.1
+
+  abbrev GoodCallee : Context × Callee → Type 0
+  GoodCallee d = Fit d.0 × CW d.1
+
+  abbrev GoodValues : Context × List PlainTyped → Type 0
+  GoodValues d = Fit d.0
+
+  abbrev pub GoodLayers : Context × List Layer → Type 0
+  GoodLayers d = Fit d.0 × LayersWhole (known ts) d.1
+
+  abbrev GoodLayer : Context × Layer → Type 0
+  GoodLayer d = Fit d.0 × LayerWhole (known ts) d.1
+
+  abbrev GoodParams : Context × PlainTypes → Type 0
+  GoodParams d = Fit d.0 × AllWhole (known ts) d.1
+
+  answered_good : (c : Context) (x : Checked PlainTyped) → Fit c → Led W x → Led Good (answered c x)
+  answered_good c x g h = led_after Good x (λ e. Ok (c, e)) (λ e q. led_ok Good (c, e) (g, h e q))
+
+  pub wanted_good : (tree : Tree) (x : Found) → Led Good x → Led Good (wanted tree x)
+  wanted_good tree x h = led_after Good x (λ e. answered e.0 (read (line_of tree) e.0.tags e.1)) (λ d q. let k = h d q in answered_good d.0 _ k.0 (read_whole (line_of tree) d.0.tags d.1 k.1))
+
+  changing_good : (tree : Tree) (x : Found) → Led Good x → Led Good (changing tree x)
+  changing_good tree x h = led_after Good x (λ e. answered e.0 (held_place (line_of tree) e.0.tags e.1)) (λ d q. let k = h d q in answered_good d.0 _ k.0 (held_place_whole (line_of tree) d.0.tags d.1 k.1))
+
+  one_good : (x : Found) (rule : TagTable → PlainTyped → Checked PlainTyped) → Led Good x → ((c : Context) (e : PlainTyped) → Fit c → W e → Led W (rule c.tags e)) → Led Good (one x rule)
+  one_good x rule h k = led_after Good x (λ e. answered e.0 (rule e.0.tags e.1)) (λ d q. let g = h d q in answered_good d.0 _ g.0 (k d.0 d.1 g.0 g.1))
+
+  two_good : (x : Found) (y : Context → Found) (rule : TagTable → PlainTyped → PlainTyped → Checked PlainTyped) → Led Good x → ((c : Context) → Fit c → Led Good (y c)) → ((c : Context) (d e : PlainTyped) → Fit c → W d → W e → Led W (rule c.tags d e)) → Led Good (two x y rule)
+  two_good x y rule h g k =
+      led_after Good x (λ d. then (y d.0) (λ e. answered e.0 (rule e.0.tags d.1 e.1)))
+      (λ d q. let one = h d q in led_after Good (y d.0) (λ e. answered e.0 (rule e.0.tags d.1 e.1)) (λ e z. let other = g d.0 one.0 e z in answered_good e.0 _ other.0 (k e.0 d.1 e.1 other.0 one.1 other.1)))
+
+  found_by : (c : Context) (name : List ℕ) → Fit c → NamedBy (found c.scopes name)
+  found_by c name g v e = found_whole (known ts) c.scopes name v g.names e
+
+  callee_good : (e : Tree) (c : Context) (answer : Found) → Fit c → Led Good answer → Led GoodCallee (callee e c answer)
+  callee_good (Node f.Name (At line ▹ Leaf (w.Name name) ▹ none)) c answer g h =
+      led_after GoodCallee (called line c.tags (found c.scopes name)) (λ function. Ok (c, function)) (λ function q. led_ok GoodCallee (c, function) (g, called_whole line c.tags (found c.scopes name) (found_by c name g) function q))
+  callee_good e c answer g h =
+      led_after GoodCallee answer (λ d. then (no_function (line_of e) d.0.tags (Ok d.1)) (λ function. Ok (d.0, function)))
+      (λ d q. led_after GoodCallee (no_function (line_of e) d.0.tags (Ok d.1)) (λ function. Ok (d.0, function)) (λ function z. led_ok GoodCallee (d.0, function) ((h d q).0, no_function_whole (line_of e) d.0.tags (Ok d.1) function z)))
+
+  -- tags and the names of types
+
+  sort_good : (line : ℕ) (sort : RecordSort) (c : Context) (type : PlainType) → Fit c → Led GoodType (same_sort line sort c type)
+  sort_good line r.Struct c (Struct tag) g = led_ok GoodType _ (g, tt)
+  sort_good line r.Union c (Union tag) g = led_ok GoodType _ (g, tt)
+  sort_good line sort c type g = led_refused GoodType DeclaredTwice line
+
+  pub record_type_whole : (sort : RecordSort) (m : ℕ) → Whole (known ts) (record_type sort m)
+  record_type_whole r.Struct m = tt
+  record_type_whole r.Union m = tt
+
+  new_tag_good : (sort : RecordSort) (name : List ℕ) (c : Context) → Fit c → GoodType (with_new_tag sort name c)
+  new_tag_good sort name c g =
+      (record { completed = g.completed; names = with_name_whole (known ts) c.scopes (tag_name name) (n.Tag (record_type sort (length c.tags.made))) tt g.names }, record_type_whole sort (length c.tags.made))
+
+  pub tag_good : (line : ℕ) (sort : RecordSort) (name : List ℕ) (c : Context) (o : Option PlainNamed) → Fit c → Led GoodType (tag_named line sort name c o)
+  tag_good line sort name c None g = led_ok GoodType _ (new_tag_good sort name c g)
+  tag_good line sort name c (Some (n.Tag type)) g = sort_good line sort c type g
+  tag_good line sort name c (Some other) g = led_refused GoodType DeclaredTwice line
+
+  enum_good : (line : ℕ) (c : Context) (o : Option PlainNamed) → Fit c → Led GoodType (enum_named line c o)
+  enum_good line c (Some (n.Tag (Int ty))) g = led_ok GoodType _ (g, tt)
+  enum_good line c (Some (n.Tag type)) g = led_refused GoodType DeclaredTwice line
+  enum_good line c o g = led_refused GoodType Undeclared line
+
+  type_good : (line : ℕ) (c : Context) (o : Option PlainNamed) → Fit c → NamedBy o → Led GoodType (type_named line c o)
+  type_good line c (Some (n.Typedef type)) g h = led_ok GoodType _ (g, h (n.Typedef type) refl)
+  type_good line c (Some (n.BuiltIn zero)) g h = led_ok GoodType _ (g, tt)
+  type_good line c o g h = led_refused GoodType Undeclared line
+
+  pub special_good : (line : ℕ) (tree : Tree) (c : Context) → Fit c → Led GoodType (special_type line tree c)
+  special_good line (Node f.TypedefName (Leaf (w.Name name) ▹ none)) c g = type_good line c (found c.scopes name) g (found_by c name g)
+  special_good line (Node (f.RecordTag sort) (At at ▹ Leaf (w.Name name) ▹ none)) c g = tag_good at sort name c (found c.scopes (tag_name name)) g
+  special_good line (Node f.EnumTag (At at ▹ Leaf (w.Name name) ▹ none)) c g = enum_good at c (found c.scopes (tag_name name)) g
+  special_good line (Node other (At at ▹ parts)) c g = led_refused GoodType LeftOut at
+  special_good line tree c g = led_refused GoodType LeftOut line
+
+  pub word_whole : (words : Trees) → Whole (known ts) (word_type words)
+  word_whole words = by (names.has names.is_void_word words) _
+    where
+      by : (t : Bool) (ty : IntType) → Whole (known ts) (cond t Void (Int ty))
+      by true ty = tt
+      by false ty = tt
+
+  specs_good : (line : ℕ) (all words : Trees) (c : Context) → Fit c → Led GoodType (specs_type line all words c)
+  specs_good line all none c g = led_ok GoodType _ (g, word_whole all)
+  specs_good line all (Node form parts ▹ rest) c g = special_good line (Node form parts) c g
+  specs_good line all (Leaf word ▹ rest) c g = specs_good line all rest c g
+  specs_good line all (At at ▹ rest) c g = specs_good line all rest c g
+
+  abbrev Some_long : ℕ → Type 0
+  Some_long m = 1 ≤ m
+
+  length_from_some : (line : ℕ) (type : PlainType) (folded : Folded) → Led Some_long (length_from line type folded)
+  length_from_some line (Int ty) (Is (pos (suc m))) = led_ok Some_long (suc m) (omega arith)
+  length_from_some line type folded = led_refused Some_long NotConstant line
+
+  pub length_some : (line : ℕ) (e : PlainTyped) → Led Some_long (array_length line e)
+  length_some line e = length_from_some line e.type e.folded
+
+  param_good : (line : ℕ) (c : Context) (name : Option (List ℕ)) (type : PlainType) → Fit c → Whole (known ts) type → Led GoodType (with_param line c name type)
+  param_good line c None type g h = led_ok GoodType _ (g, h)
+  param_good line c (Some name) type g h =
+      led_unless GoodType _ DeclaredTwice line _ (λ t. led_ok GoodType _ (record { completed = g.completed; names = with_name_whole (known ts) c.scopes name (n.Register type 0) h g.names }, h))
+
+  declared_good : (line : ℕ) (c : Context) (name : Option (List ℕ)) (type : PlainType) → Fit c → Whole (known ts) type → Led GoodType (declared_param line c name type)
+  declared_good line c name type g h =
+      led_unless GoodType (is_void type) Incomplete line (unless (is_record type || is_function type) LeftOut line (with_param line c name type))
+      (λ t. led_unless GoodType (is_record type || is_function type) LeftOut line (with_param line c name type) (λ s. param_good line c name type g h))
+
+  new_scope : (c : Context) → Fit c → Fit (in_new_scope c)
+  new_scope c g = record { completed = g.completed; names = entered_whole (known ts) c.scopes g.names }
+
+  old_scope : (c : Context) → Fit c → Fit (out_of_scope c)
+  old_scope c g = record { completed = g.completed; names = left_whole (known ts) c.scopes g.names }
+
+  mutual
+    unfolding typed values typename layers suffix_layers suffix_layer param_types param_type
+
+    pub typed_good : (tree : Tree) (c : Context) → Fit c → Led Good (typed tree c)
+    typed_good (Node f.Name (At line ▹ Leaf (w.Name name) ▹ none)) c g = answered_good c (named line (found c.scopes name)) g (named_whole line (found c.scopes name) (found_by c name g))
+    typed_good (Node f.Int (At line ▹ Leaf (w.Int bytes) ▹ none)) c g = led_ok Good (c, constant (int_constant bytes)) (g, tt)
+    typed_good (Node f.Char (At line ▹ Leaf (w.Char bytes) ▹ none)) c g = led_ok Good (c, constant (char_constant bytes)) (g, tt)
+    typed_good (Node f.Str (At line ▹ Node f.Strings parts ▹ none)) c g = answered_good c (string line (joined parts)) g (string_whole line (joined parts))
+    typed_good (Node f.Paren (At line ▹ e ▹ none)) c g = typed_good e c g
+    typed_good (Node f.Index (At line ▹ e ▹ h ▹ none)) c g =
+        two_good (wanted e (typed e c)) (λ d. wanted h (typed h d)) (element line) (wanted_good e (typed e c) (typed_good e c g)) (λ d k. wanted_good h (typed h d) (typed_good h d k))
+        (λ d x y k p q. element_whole line d.tags (operand x.type) (operand y.type) (operand_whole x.type p) (operand_whole y.type q))
+    typed_good (Node f.Call (At line ▹ e ▹ Node f.Arguments arguments ▹ none)) c g =
+        led_after Good (callee e c (typed e c)) (λ k. then (values arguments k.0) (λ v. answered v.0 (call line (first_literal arguments) k.1 v.1)))
+        (λ k q. let one = callee_good e c (typed e c) g (typed_good e c g) k q in
+        led_after Good (values arguments k.0) (λ v. answered v.0 (call line (first_literal arguments) k.1 v.1))
+        (λ v z. answered_good v.0 (call line (first_literal arguments) k.1 v.1) (values_good arguments k.0 one.0 v z) (call_whole line (first_literal arguments) k.1 v.1 one.1)))
+    typed_good (Node f.Dot (At line ▹ e ▹ Leaf (w.Name name) ▹ none)) c g = one_good (typed e c) (dot line name) (typed_good e c g) (λ d x k p. dot_whole line name d.tags x k.completed)
+    typed_good (Node f.Arrow (At line ▹ e ▹ Leaf (w.Name name) ▹ none)) c g = one_good (wanted e (typed e c)) (arrow line name) (wanted_good e (typed e c) (typed_good e c g)) (λ d x k p. arrow_whole line name d.tags (operand x.type) k.completed)
+    typed_good (Node f.PostInc (At line ▹ e ▹ none)) c g = one_good (changing e (typed e c)) (stepped line) (changing_good e (typed e c) (typed_good e c g)) (λ d x k p. changed_whole line a.Add d.tags x int p)
+    typed_good (Node f.PostDec (At line ▹ e ▹ none)) c g = one_good (changing e (typed e c)) (stepped line) (changing_good e (typed e c) (typed_good e c g)) (λ d x k p. changed_whole line a.Add d.tags x int p)
+    typed_good (Node f.PreInc (At line ▹ e ▹ none)) c g = one_good (changing e (typed e c)) (stepped line) (changing_good e (typed e c) (typed_good e c g)) (λ d x k p. changed_whole line a.Add d.tags x int p)
+    typed_good (Node f.PreDec (At line ▹ e ▹ none)) c g = one_good (changing e (typed e c)) (stepped line) (changing_good e (typed e c) (typed_good e c g)) (λ d x k p. changed_whole line a.Add d.tags x int p)
+    typed_good (Node (f.Unary u.Address) (At line ▹ e ▹ none)) c g = one_good (typed e c) (λ tags d. address line d) (typed_good e c g) (λ d x k p. address_whole line x p)
+    typed_good (Node (f.Unary op) (At line ▹ e ▹ none)) c g = one_good (wanted e (typed e c)) (unary line op) (wanted_good e (typed e c) (typed_good e c g)) (λ d x k p. unary_whole line op x (operand x.type) (operand_whole x.type p))
+    typed_good (Node f.SizeofExpr (At line ▹ e ▹ none)) c g = one_good (typed e c) (λ tags d. size line tags d.type) (typed_good e c g) (λ d x k p. size_whole line (size_in d.tags x.type))
+    typed_good (Node f.SizeofType (At line ▹ name ▹ none)) c g =
+        led_after Good (typename name c) (λ t. answered t.0 (size line t.0.tags t.1)) (λ t q. answered_good t.0 (size line t.0.tags t.1) (typename_good name c g t q).0 (size_whole line (size_in t.0.tags t.1)))
+    typed_good (Node f.Cast (At line ▹ name ▹ e ▹ none)) c g =
+        led_after Good (typename name c) (λ t. one (wanted e (typed e t.0)) (λ tags d. cast line t.1 d))
+        (λ t q. let k = typename_good name c g t q in one_good (wanted e (typed e t.0)) (λ tags d. cast line t.1 d) (wanted_good e (typed e t.0) (typed_good e t.0 k.0)) (λ d x z p. cast_whole line t.1 x k.1))
+    typed_good (Node (f.Binary op) (At line ▹ e ▹ h ▹ none)) c g =
+        two_good (wanted e (typed e c)) (λ d. wanted h (typed h d)) (binary line op) (wanted_good e (typed e c) (typed_good e c g)) (λ d k. wanted_good h (typed h d) (typed_good h d k))
+        (λ d x y k p q. binary_whole line op d.tags x y p q)
+    typed_good (Node f.Cond (At line ▹ e ▹ h ▹ m ▹ none)) c g =
+        led_after Good (wanted e (typed e c)) (λ test. two (wanted h (typed h test.0)) (λ d. wanted m (typed m d)) (λ tags x y. choice line test.1 x y))
+        (λ test q. let k = wanted_good e (typed e c) (typed_good e c g) test q in
+        two_good (wanted h (typed h test.0)) (λ d. wanted m (typed m d)) (λ tags x y. choice line test.1 x y) (wanted_good h (typed h test.0) (typed_good h test.0 k.0)) (λ d z. wanted_good m (typed m d) (typed_good m d z))
+        (λ d x y z p s. choice_whole line test.1 x y p s))
+    typed_good (Node (f.Assign a.Plain) (At line ▹ e ▹ h ▹ none)) c g =
+        two_good (typed e c) (λ d. typed h d) (assigned line (line_of h)) (typed_good e c g) (λ d k. typed_good h d k) (λ d x y k p q. assigned_whole line (line_of h) d.tags x y p)
+    typed_good (Node (f.Assign op) (At line ▹ e ▹ h ▹ none)) c g =
+        two_good (changing e (typed e c)) (λ d. wanted h (typed h d)) (changed line op) (changing_good e (typed e c) (typed_good e c g)) (λ d k. wanted_good h (typed h d) (typed_good h d k))
+        (λ d x y k p q. changed_whole line op d.tags x y p)
+    typed_good (Node f.Comma (At line ▹ e ▹ h ▹ none)) c g =
+        two_good (wanted e (typed e c)) (λ d. wanted h (typed h d)) (λ tags x y. Ok (behind_comma y)) (wanted_good e (typed e c) (typed_good e c g)) (λ d k. wanted_good h (typed h d) (typed_good h d k))
+        (λ d x y k p q. led_ok W (behind_comma y) q)
+    typed_good tree c g = led_refused Good Operands (line_of tree)
+
+    values_good : (arguments : Trees) (c : Context) → Fit c → Led GoodValues (values arguments c)
+    values_good none c g = led_ok GoodValues (c, []) g
+    values_good (e ▹ rest) c g =
+        led_after GoodValues (wanted e (typed e c)) (λ d. then (values rest d.0) (λ more. Ok (more.0, d.1 ∷ more.1)))
+        (λ d q. led_after GoodValues (values rest d.0) (λ more. Ok (more.0, d.1 ∷ more.1))
+        (λ more z. led_ok GoodValues (more.0, d.1 ∷ more.1) (values_good rest d.0 (wanted_good e (typed e c) (typed_good e c g) d q).0 more z)))
+
+    pub typename_good : (name : Tree) (c : Context) → Fit c → Led GoodType (typename name c)
+    typename_good (Node f.Typename (At line ▹ Node f.Specs (At at ▹ words) ▹ declarator ▹ none)) c g =
+        led_after GoodType (specs_type at words words c) (λ base. then (layers declarator base.0) (λ l. then (with_layers l.0.tags l.1 base.1) (λ type. unless (is_function type) LeftOut line (Ok (l.0, type)))))
+        (λ base q. let k = specs_good at words words c g base q in
+        led_after GoodType (layers declarator base.0) (λ l. then (with_layers l.0.tags l.1 base.1) (λ type. unless (is_function type) LeftOut line (Ok (l.0, type))))
+        (λ l z. let m = layers_good declarator base.0 k.0 l z in
+        led_after GoodType (with_layers l.0.tags l.1 base.1) (λ type. unless (is_function type) LeftOut line (Ok (l.0, type)))
+        (λ type s. led_unless GoodType (is_function type) LeftOut line (Ok (l.0, type)) (λ t. led_ok GoodType (l.0, type) (m.0, with_layers_whole ts l.0.tags l.1 base.1 m.0.completed k.1 m.1 type s)))))
+    typename_good tree c g = led_refused GoodType Operands (line_of tree)
+
+    layers_good : (tree : Tree) (c : Context) → Fit c → Led GoodLayers (layers tree c)
+    layers_good (Node (f.Pointer consts) (At line ▹ declarator ▹ none)) c g =
+        led_after GoodLayers (layers declarator c) (λ l. Ok (l.0, names.PointerTo line ∷ l.1)) (λ l q. let k = layers_good declarator c g l q in led_ok GoodLayers (l.0, names.PointerTo line ∷ l.1) (k.0, (tt, k.1)))
+    layers_good (Node f.Direct (base ▹ Node f.Suffixes suffixes ▹ none)) c g =
+        led_after GoodLayers (layers base c) (λ l. then (suffix_layers suffixes l.0) (λ s. Ok (s.0, reverse s.1 ++ l.1)))
+        (λ l q. let k = layers_good base c g l q in
+        led_after GoodLayers (suffix_layers suffixes l.0) (λ s. Ok (s.0, reverse s.1 ++ l.1))
+        (λ s z. let m = suffixes_good suffixes l.0 k.0 s z in led_ok GoodLayers (s.0, reverse s.1 ++ l.1) (m.0, layers_append (known ts) (reverse s.1) l.1 (layers_reverse (known ts) s.1 m.1) k.1)))
+    layers_good (Node f.Parens (At line ▹ declarator ▹ none)) c g = layers_good declarator c g
+    layers_good tree c g = led_ok GoodLayers (c, []) (g, tt)
+
+    suffixes_good : (suffixes : Trees) (c : Context) → Fit c → Led GoodLayers (suffix_layers suffixes c)
+    suffixes_good none c g = led_ok GoodLayers (c, []) (g, tt)
+    suffixes_good (suffix ▹ rest) c g =
+        led_after GoodLayers (suffix_layer suffix c) (λ l. then (suffix_layers rest l.0) (λ more. Ok (more.0, l.1 ∷ more.1)))
+        (λ l q. let k = suffix_good suffix c g l q in
+        led_after GoodLayers (suffix_layers rest l.0) (λ more. Ok (more.0, l.1 ∷ more.1)) (λ more z. let m = suffixes_good rest l.0 k.0 more z in led_ok GoodLayers (more.0, l.1 ∷ more.1) (m.0, (k.1, m.1))))
+
+    suffix_good : (suffix : Tree) (c : Context) → Fit c → Led GoodLayer (suffix_layer suffix c)
+    suffix_good (Node f.ArraySuffix (At line ▹ Node f.MaybeLength none ▹ none)) c g = led_ok GoodLayer (c, ArrayOf line None) (g, tt)
+    suffix_good (Node f.ArraySuffix (At line ▹ Node f.MaybeLength (e ▹ none) ▹ none)) c g =
+        led_after GoodLayer (wanted e (typed e c)) (λ d. then (array_length (line_of e) d.1) (λ length. Ok (d.0, ArrayOf line (Some length))))
+        (λ d q. led_after GoodLayer (array_length (line_of e) d.1) (λ length. Ok (d.0, ArrayOf line (Some length)))
+        (λ m z. led_ok GoodLayer (d.0, ArrayOf line (Some m)) ((wanted_good e (typed e c) (typed_good e c g) d q).0, length_some (line_of e) d.1 m z)))
+    suffix_good (Node f.FunctionSuffix (At line ▹ Node f.Params params ▹ none)) c g =
+        led_after GoodLayer (param_types params (in_new_scope c)) (λ p. Ok (out_of_scope p.0, FunctionOf line p.1))
+        (λ p q. let k = params_good params (in_new_scope c) (new_scope c g) p q in led_ok GoodLayer (out_of_scope p.0, FunctionOf line p.1) (old_scope p.0 k.0, k.1))
+    suffix_good tree c g = led_ok GoodLayer (c, FunctionOf (line_of tree) ct.none) (g, tt)
+
+    params_good : (params : Trees) (c : Context) → Fit c → Led GoodParams (param_types params c)
+    params_good none c g = led_ok GoodParams (c, ct.none) (g, tt)
+    params_good (param ▹ rest) c g =
+        led_after GoodParams (param_type param c) (λ p. then (param_types rest p.0) (λ more. Ok (more.0, first p.1 more.1)))
+        (λ p q. let k = param_type_good param c g p q in
+        led_after GoodParams (param_types rest p.0) (λ more. Ok (more.0, first p.1 more.1)) (λ more z. let m = params_good rest p.0 k.0 more z in led_ok GoodParams (more.0, first p.1 more.1) (m.0, (k.1, m.1))))
+
+    param_type_good : (param : Tree) (c : Context) → Fit c → Led GoodType (param_type param c)
+    param_type_good (Node f.Param (At line ▹ Node f.Specs (At at ▹ words) ▹ declarator ▹ none)) c g =
+        led_after GoodType (specs_type at words words c) (λ base. then (layers declarator base.0) (λ l. then (with_param_layers l.0.tags l.1 base.1) (λ type. declared_param line l.0 (name_of declarator) (adjusted type))))
+        (λ base q. let k = specs_good at words words c g base q in
+        led_after GoodType (layers declarator base.0) (λ l. then (with_param_layers l.0.tags l.1 base.1) (λ type. declared_param line l.0 (name_of declarator) (adjusted type)))
+        (λ l z. let m = layers_good declarator base.0 k.0 l z in
+        led_after GoodType (with_param_layers l.0.tags l.1 base.1) (λ type. declared_param line l.0 (name_of declarator) (adjusted type))
+        (λ type s. declared_good line l.0 (name_of declarator) (adjusted type) m.0 (adjusted_whole ts type (with_param_layers_whole ts l.0.tags l.1 base.1 m.0.completed k.1 m.1 type s)))))
+    param_type_good tree c g = led_refused GoodType Operands (line_of tree)

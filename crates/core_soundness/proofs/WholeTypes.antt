@@ -1,0 +1,220 @@
+-- Types that are whole stay so, and have sizes from 1 to that of the largest object.
+use Rattle.std.proofs.Common.{◌≡◌, ◌≤◌, ◌*◌, ◌==◌, ℕ, zero, suc, Bool, true, false, cond, is_some, List, [], ◌∷◌, ◌++◌, map, fold, zip, Option, Some, None, IsSome, IfSome, option_map, unwrap_or, refl, sym, ap, ◌∙◌, subst, arith}
+use Rattle.std.specs.Option.{option_or}
+use Rattle.std.specs.List.{find}
+use Rattle.std.proofs.lemmas.List.Sums.{fold_push}
+use Rattle.c_types.specs.declared.layouts.Layout.{Layout}
+use Rattle.c_types.specs.declared.types.IntType.{IntType}
+use Rattle.c_types.specs.declared.types.IntType.TheVariants as i
+use Rattle.c_types.specs.Types.{PlainType, PlainTypes, Void, Int, Pointer, Array, Struct, Union, Function, none, first, width_of}
+use Rattle.c_types.specs.Layouts.{Known, ArraysFit, Placed, none_placed, place, placed, layout_of, number_layout, pointer_layout, no_layout, members_layout}
+use Rattle.c_types.specs.TagTable.{CompletedTag, TagTable, PlainMember, learn, known, tag_layout, member_layout, placed_members, members_in}
+use Rattle.c_types.proofs.MemberLemmas.{Extends, some_array, layout_stays}
+use Rattle.c_types.proofs.Places.{stays_known}
+use Rattle.c_types.proofs.Sound.{rounded_le}
+use Rattle.core_tree.specs.LayoutsOfTypes.{IsCompleted, AreCompleted, IsLayoutOfType}
+use Rattle.core_tree.proofs.TypeLayouts.{type_layout_small}
+use Rattle.c_decls.specs.Named as n
+use Rattle.c_decls.specs.Named.{PlainNamed}
+use Rattle.c_decls.specs.ScopeList.{ScopeList, Table}
+use Rattle.core_soundness.specs.Whole.{IsRow, Whole, AllWhole, MembersWhole, AreMade, NamedWhole, TableWhole, TablesWhole, NamesWhole}
+
+abbrev pub nothing : Known
+nothing = λ tag. None
+
+-- with more tags
+
+row_stays : (j k : Known) (element : PlainType) (n : ℕ) → Extends j k → IsRow j element n → IsRow k element n
+row_stays j k element n x h = (h.0, layout_stays j k x element h.0 h.1, h.2, h.3)
+
+mutual
+  pub whole_stays : (type : PlainType) (j k : Known) → Extends j k → Whole j type → Whole k type
+  whole_stays Void j k x h = tt
+  whole_stays (Int ty) j k x h = tt
+  whole_stays (Pointer target) j k x h = whole_stays target j k x h
+  whole_stays (Array element n) j k x h = (whole_stays element j k x h.0, row_stays j k element n x h.1)
+  whole_stays (Struct tag) j k x h = tt
+  whole_stays (Union tag) j k x h = tt
+  whole_stays (Function answer params) j k x h = (whole_stays answer j k x h.0, all_stay params j k x h.1)
+
+  pub all_stay : (types : PlainTypes) (j k : Known) → Extends j k → AllWhole j types → AllWhole k types
+  all_stay none j k x h = tt
+  all_stay (first type rest) j k x h = (whole_stays type j k x h.0, all_stay rest j k x h.1)
+
+pub some_stays : (j k : Known) (type : PlainType) → Extends j k → IsSome (layout_of j type) → IsSome (layout_of k type)
+some_stays j k type x h = by (layout_of j type) refl h
+  where
+    by : (o : Option Layout) → layout_of j type ≡ o → is_some o ≡ true → is_some (layout_of k type) ≡ true
+    by None e q = cc
+    by (Some l) e q = ap (λ (y : Option Layout). is_some y) (layout_stays j k x type l e)
+
+pub members_stay : (ms : List (List ℕ × PlainType)) (j k : Known) → Extends j k → MembersWhole j ms → MembersWhole k ms
+members_stay [] j k x h = tt
+members_stay (m ∷ ms) j k x h = ((whole_stays m.1 j k x h.0.0, some_stays j k m.1 x h.0.1), members_stay ms j k x h.1)
+
+pub named_stays : (v : PlainNamed) (j k : Known) → Extends j k → NamedWhole j v → NamedWhole k v
+named_stays (n.Object type i) j k x h = whole_stays type j k x h
+named_stays (n.Register type i) j k x h = whole_stays type j k x h
+named_stays (n.Function type i) j k x h = whole_stays type j k x h
+named_stays (n.Typedef type) j k x h = whole_stays type j k x h
+named_stays (n.Constant type value) j k x h = h
+named_stays (n.BuiltIn i) j k x h = tt
+named_stays (n.Tag type) j k x h = tt
+
+pub table_stays : (t : Table) (j k : Known) → Extends j k → TableWhole j t → TableWhole k t
+table_stays t j k x h name v e = named_stays v j k x (h name v e)
+
+pub tables_stay : (ts : List Table) (j k : Known) → Extends j k → TablesWhole j ts → TablesWhole k ts
+tables_stay [] j k x h = tt
+tables_stay (t ∷ ts) j k x h = (table_stays t j k x h.0, tables_stay ts j k x h.1)
+
+pub names_stay : (s : ScopeList) (j k : Known) → Extends j k → NamesWhole j s → NamesWhole k s
+names_stay s j k x h = record { file = table_stays s.file j k x h.file; inner = tables_stay s.inner j k x h.inner }
+
+pub extends_refl : (k : Known) → Extends k k
+extends_refl k tag l e = e
+
+pub learn_extends : (k : Known) (new : CompletedTag) → Extends k (learn k new)
+learn_extends k new tag l e = ap (λ (o : Option Layout). option_or o (cond (new.tag == tag) (Some (tag_layout k new)) None)) e
+
+pub push_extends : (tags : List CompletedTag) (new : CompletedTag) → Extends (known tags) (known (tags ++ new ∷ []))
+push_extends tags new tag l e = ap (λ (k : Known). k tag) (fold_push learn nothing tags new) ∙ learn_extends (known tags) new tag l e
+
+-- a tag more
+
+made_on : (k : Known) (tags : List CompletedTag) (new : CompletedTag) → AreMade k tags → IsCompleted (fold learn k tags) new → MembersWhole (fold learn k tags) new.members → AreMade k (tags ++ new ∷ [])
+made_on k [] new h c m = ((c, m), tt)
+made_on k (t ∷ tags) new h c m = (h.0, made_on (learn k t) tags new h.1 c m)
+
+pub made_push : (tags : List CompletedTag) (new : CompletedTag) → AreMade nothing tags → IsCompleted (known tags) new → MembersWhole (known tags) new.members → AreMade nothing (tags ++ new ∷ [])
+made_push tags new h c m = made_on nothing tags new h c m
+
+pub made_completed : (k : Known) (tags : List CompletedTag) → AreMade k tags → AreCompleted k tags
+made_completed k [] h = tt
+made_completed k (t ∷ tags) h = (h.0.0, made_completed (learn k t) tags h.1)
+
+-- sizes
+
+pub whole_fits : (type : PlainType) (k : Known) → Whole k type → ArraysFit k type
+whole_fits Void k h = tt
+whole_fits (Int ty) k h = tt
+whole_fits (Pointer target) k h = tt
+whole_fits (Array element n) k h =
+    (whole_fits element k h.0, subst (λ (o : Option Layout). IfSome o (λ l. n * l.size ≤ 268435456)) (sym h.1.1) h.1.2)
+whole_fits (Struct tag) k h = tt
+whole_fits (Union tag) k h = tt
+whole_fits (Function answer params) k h = tt
+
+pub is_layout : (tags : List CompletedTag) (type : PlainType) (l : Layout) → AreMade nothing tags → Whole (known tags) type → layout_of (known tags) type ≡ Some l → IsLayoutOfType l
+is_layout tags type l m h e = record { tags = tags; completed = made_completed nothing tags m; type = type; fits = whole_fits type (known tags) h; layout = e }
+
+-- each layout that is known has a size
+abbrev AllSized : Known → Type 0
+AllSized k = (tag : ℕ) (l : Layout) → k tag ≡ Some l → 1 ≤ l.size
+
+width_some : (int : IntType) → 1 ≤ width_of int
+width_some i.Char = omega arith
+width_some i.SChar = omega arith
+width_some i.UChar = omega arith
+width_some i.Short = omega arith
+width_some i.UShort = omega arith
+width_some i.Int = omega arith
+width_some i.UInt = omega arith
+width_some i.Long = omega arith
+width_some i.ULong = omega arith
+width_some i.LongLong = omega arith
+width_some i.ULongLong = omega arith
+
+product_some : (n m : ℕ) → 1 ≤ n → 1 ≤ m → 1 ≤ n * m
+product_some zero m h k = absurd (omega (arith, h))
+product_some (suc n) m h k = omega arith
+
+layout_some : (k : Known) → AllSized k → (type : PlainType) (l : Layout) → Whole k type → layout_of k type ≡ Some l → 1 ≤ l.size
+layout_some k a Void l w e = cc
+layout_some k a (Int int) l w e = let same : number_layout (width_of int) ≡ l = cc in subst (λ (x : Layout). 1 ≤ x.size) same (width_some int)
+layout_some k a (Pointer target) l w e = let same : pointer_layout ≡ l = cc in subst (λ (x : Layout). 1 ≤ x.size) same (omega arith)
+layout_some k a (Array element n) l w e =
+    let r = some_array (layout_of k element) n l e in
+    subst (λ (x : Layout). 1 ≤ x.size) r.2 (product_some n r.0.size w.1.3 (layout_some k a element r.0 w.0 r.1))
+layout_some k a (Struct tag) l w e = a tag l e
+layout_some k a (Union tag) l w e = a tag l e
+layout_some k a (Function answer params) l w e = cc
+
+-- members are placed one behind another, or all at 0
+placed_far : (u : Bool) (p : Placed) (ls : List Layout) → p.end ≤ (fold (place u) p ls).end
+placed_far u p [] = omega arith
+placed_far u p (l ∷ ls) = let rest = placed_far u (place u p l) ls in omega (arith, rest)
+
+first_far : (u : Bool) (l : Layout) (ls : List Layout) → 1 ≤ l.size → 1 ≤ (placed u (l ∷ ls)).end
+first_far u l ls h = let rest = placed_far u (place u none_placed l) ls in omega (arith, rest, h)
+
+body_some : (u : Bool) (l : Layout) (ls : List Layout) → 1 ≤ l.size → 1 ≤ (members_layout u (l ∷ ls)).size
+body_some u l ls h =
+    let all = placed u (l ∷ ls) in let e = first_far u l ls h in let r = rounded_le all.end all.align in omega (arith, e, r)
+
+some_layout : (o : Option Layout) → is_some o ≡ true → o ≡ Some (unwrap_or o no_layout)
+some_layout None e = cc
+some_layout (Some l) e = refl
+
+tag_some : (k : Known) → AllSized k → (new : CompletedTag) (ms : List (List ℕ × PlainType)) → new.members ≡ ms → ((new.members ≡ []) → ⊥) → MembersWhole k ms → 1 ≤ (tag_layout k new).size
+tag_some k a new [] e s w = absurd (s e)
+tag_some k a new (m ∷ ms) e s w =
+    let here : 1 ≤ (member_layout k m).size = layout_some k a m.1 (member_layout k m) w.0.0 (some_layout (layout_of k m.1) w.0.1) in
+    subst (λ (x : List (List ℕ × PlainType)). 1 ≤ (members_layout new.is_union (map (member_layout k) x)).size) (sym e) (body_some new.is_union (member_layout k m) (map (member_layout k) ms) here)
+
+learn_some : (k : Known) (new : CompletedTag) → AllSized k → 1 ≤ (tag_layout k new).size → AllSized (learn k new)
+learn_some k new a h tag l e = by (k tag) refl e
+  where
+    other : (t : Bool) → cond t (Some (tag_layout k new)) None ≡ Some l → 1 ≤ l.size
+    other true q = let same : tag_layout k new ≡ l = cc in subst (λ (x : Layout). 1 ≤ x.size) same h
+    other false q = cc
+
+    by : (o : Option Layout) → k tag ≡ o → option_or o (cond (new.tag == tag) (Some (tag_layout k new)) None) ≡ Some l → 1 ≤ l.size
+    by None q r = other (new.tag == tag) r
+    by (Some x) q r = a tag l (q ∙ r)
+
+learns_some : (k : Known) (tags : List CompletedTag) → AreMade k tags → AllSized k → AllSized (fold learn k tags)
+learns_some k [] m a = a
+learns_some k (new ∷ tags) m a = learns_some (learn k new) tags m.1 (learn_some k new a (tag_some k a new new.members refl m.0.0.some m.0.1))
+
+pub made_sized : (tags : List CompletedTag) (type : PlainType) (l : Layout) → AreMade nothing tags → Whole (known tags) type → layout_of (known tags) type ≡ Some l → (1 ≤ l.size) × (l.size ≤ 268435456)
+made_sized tags type l m h e = (layout_some (known tags) (learns_some nothing tags m (λ tag x q. cc)) type l h e, type_layout_small l (is_layout tags type l m h e))
+
+-- members that are found
+
+abbrev MemberWhole : Known → PlainMember → Type 0
+MemberWhole k m = Whole k m.type
+
+placed_whole : (k : Known) (ms : List (List ℕ × PlainType)) (ps : List (ℕ × Layout)) (p : PlainMember → Bool) (m : PlainMember) → MembersWhole k ms
+    → find p (map (λ (x : (List ℕ × PlainType) × (ℕ × Layout)). record { name = x.0.0; type = x.0.1; offset = x.1.0 }) (zip ms ps)) ≡ Some m → Whole k m.type
+placed_whole k [] ps p m h e = cc
+placed_whole k (x ∷ ms) [] p m h e = cc
+placed_whole k (x ∷ ms) (y ∷ ps) p m h e = by (p (record { name = x.0; type = x.1; offset = y.0 })) (placed_whole k ms ps p m h.1) e
+  where
+    rest : Option PlainMember
+    rest = find p (map (λ (z : (List ℕ × PlainType) × (ℕ × Layout)). record { name = z.0.0; type = z.0.1; offset = z.1.0 }) (zip ms ps))
+
+    by : (t : Bool) → (rest ≡ Some m → Whole k m.type) → cond t (Some (record { name = x.0; type = x.1; offset = y.0 })) rest ≡ Some m → Whole k m.type
+    by true again q = let same : x.1 ≡ m.type = ap (λ (o : Option PlainMember). (unwrap_or o m).type) q in subst (Whole k) same h.0.0
+    by false again q = again q
+
+made_found : (j : Known) (tags : List CompletedTag) (test : CompletedTag → Bool) (done : CompletedTag) → AreMade j tags → find test tags ≡ Some done → MembersWhole (fold learn j tags) done.members
+made_found j [] test done m e = cc
+made_found j (t ∷ tags) test done m e = by (test t) (made_found (learn j t) tags test done m.1) e
+  where
+    by : (b : Bool) → (find test tags ≡ Some done → MembersWhole (fold learn (learn j t) tags) done.members) → cond b (Some t) (find test tags) ≡ Some done → MembersWhole (fold learn (learn j t) tags) done.members
+    by true again q =
+        let same : t ≡ done = ap (λ (o : Option CompletedTag). unwrap_or o done) q in
+        members_stay done.members j (fold learn (learn j t) tags) (λ tag l h. stays_known (learn j t) tags tag l (learn_extends j t tag l h)) (subst (λ (x : CompletedTag). MembersWhole j x.members) same m.0.1)
+    by false again q = again q
+
+pub member_whole : (table : TagTable) (tag : ℕ) (members : List PlainMember) (p : PlainMember → Bool) (m : PlainMember) → AreMade nothing table.completed → members_in table tag ≡ Some members → find p members ≡ Some m → Whole (known table.completed) m.type
+member_whole table tag members p m made e f = by (find (λ (done : CompletedTag). done.tag == tag) table.completed) refl e
+  where
+    by : (o : Option CompletedTag) → find (λ (done : CompletedTag). done.tag == tag) table.completed ≡ o → option_map (placed_members (known table.completed)) o ≡ Some members → Whole (known table.completed) m.type
+    by None q r = cc
+    by (Some done) q r =
+        let same : placed_members (known table.completed) done ≡ members = ap (λ (o : Option (List PlainMember)). unwrap_or o members) r in
+        placed_whole (known table.completed) done.members (placed done.is_union (map (member_layout (known table.completed)) done.members)).members p m
+        (made_found nothing table.completed (λ (d : CompletedTag). d.tag == tag) done made q)
+        (subst (λ (xs : List PlainMember). find p xs ≡ Some m) (sym same) f)

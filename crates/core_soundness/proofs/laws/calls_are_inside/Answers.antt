@@ -1,0 +1,5 @@
+use Rattle.core_soundness.proofs.Calls as calls
+use Rattle.core_soundness.proofs.laws.calls_are_inside.Goals as goal
+
+pub returns : goal.returns
+returns c = calls.core_calls

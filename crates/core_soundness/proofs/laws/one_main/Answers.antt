@@ -1,0 +1,5 @@
+use Rattle.core_soundness.proofs.Mains as mains
+use Rattle.core_soundness.proofs.laws.one_main.Goals as goal
+
+pub returns : goal.returns
+returns c = mains.core_main

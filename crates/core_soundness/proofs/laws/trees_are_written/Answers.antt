@@ -1,0 +1,5 @@
+use Rattle.core_soundness.proofs.Grammatical as grammatical
+use Rattle.core_soundness.proofs.laws.trees_are_written.Goals as goal
+
+pub returns : goal.returns
+returns c = grammatical.trees_written_all

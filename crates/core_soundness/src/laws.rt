@@ -1,0 +1,108 @@
+//! Laws of the definitions.
+
+ghost use Rattle.std.specs.Prelude.{◌≡◌, ℕ, true, All, List, Ok, count_by, slice_get};
+ghost use Rattle.c_print.specs.Format.{IsFormat};
+ghost use Rattle.c_print.specs.Pieces.{pieces_of};
+ghost use Rattle.c_decls.specs.Callees.{is_format};
+ghost use Rattle.std.specs.Option.{ForSome};
+ghost use Rattle.c_types.specs.Types.{PlainType};
+ghost use Rattle.c_types.specs.TagTable.{TagTable, known};
+ghost use Rattle.c_decls.specs.Expressions.{typed};
+ghost use Rattle.elaboration.specs.Context.{Context, asked};
+ghost use Rattle.elaboration.specs.Conversions.{Found};
+ghost use Rattle.elaboration.specs.Expressions.{found};
+ghost use Rattle.core_tree.specs.declared.program.Core.{Core};
+ghost use Rattle.core_tree.specs.Sound.{EachFunc, IsFunction, IsMain, is_main, main_of};
+ghost use Rattle.c_lexer.specs.Tokens.{IsLexed};
+ghost use Rattle.c_lexer.specs.declared.token.Token.{Token};
+ghost use Rattle.c_tree.specs.HasTree.{HasTree};
+ghost use Rattle.c_tree.specs.Tree.{Tree, Trees};
+ghost use Rattle.elaboration.specs.Elaboration.{elaborated, walked};
+ghost use Rattle.core_soundness.specs.Spoken.{ArePlain};
+ghost use Rattle.core_soundness.specs.Ranges.{PiecesIn};
+ghost use Rattle.core_soundness.specs.Solid.{Solid};
+ghost use Rattle.core_soundness.specs.Untaken.{AllUntaken};
+ghost use Rattle.core_soundness.specs.Whole.{Whole};
+ghost use Rattle.core_soundness.specs.Written.{AreWritten, Written};
+ghost use Rattle.core_soundness.specs.Laws.{CallsInside, HasFlow, HasLayouts, HasRanges, HasSizes, HasTypes};
+
+/// In each function of the core of a text every edge leads to a statement, only a loop goes back, and scopes are opened
+/// and closed in the same way on all paths.
+pub fn control_flows()
+    ensures { (unit : Trees) (core : Core) (tags : TagTable) → elaborated unit ≡ Ok (core, tags) → EachFunc core HasFlow }
+{}
+
+/// The core of a text keeps the bounds on its statics and on its code, and so its lists are short.
+pub fn sizes_are_kept()
+    ensures { (unit : Trees) (core : Core) (tags : TagTable) → elaborated unit ≡ Ok (core, tags) → HasSizes core }
+{}
+
+/// An expression that is elaborated has the type, and the tags behind it, that its types alone give it (C99 6.5).
+pub fn types_agree()
+    ensures { (tree : Tree) (wanted : PlainType) (c : Context) (d : Context × Found) → found tree wanted c ≡ Ok d → typed tree (asked c) ≡ Ok (asked d.0, d.1.typed) }
+{}
+
+/// Exactly one function of the core of a text is named `main` (C99 5.1.2.2.1).
+pub fn one_main()
+    ensures { (unit : Trees) (core : Core) (tags : TagTable) → elaborated unit ≡ Ok (core, tags) → count_by is_main core.funcs ≡ 1 }
+{}
+
+/// Each call of the core of a text names one of its functions (C99 6.5.2.2).
+pub fn calls_are_inside()
+    ensures { (unit : Trees) (core : Core) (tags : TagTable) → elaborated unit ≡ Ok (core, tags) → EachFunc core (CallsInside core) }
+{}
+
+/// In each function of the core of a text each statement has a line and names what is there, with operands, arguments and
+/// results of its sorts, where lines are at least 1, each definition has a parameter list, and `&` stands before no name.
+pub fn statements_are_typed()
+    ensures { (unit : Trees) (core : Core) (tags : TagTable) → ArePlain unit → elaborated unit ≡ Ok (core, tags) → EachFunc core (HasTypes core) }
+{}
+
+/// The function named `main` of the core of such a text has no parameters, and its returns have integers (C99 5.1.2.2.1).
+pub fn main_answers()
+    ensures { (unit : Trees) (core : Core) (tags : TagTable) → ArePlain unit → elaborated unit ≡ Ok (core, tags) → ForSome (slice_get core.funcs (main_of core)) (IsMain core) }
+{}
+
+/// A format that passes the test of formats is one, with the pieces that its bytes have (C99 7.19.6.1).
+pub fn formats_are_read()
+    ensures { (bytes : List ℕ) → is_format bytes ≡ true → IsFormat bytes (pieces_of bytes) }
+{}
+
+/// The tree of tokens has lines from 1 on and constants of at most 64 bits; members and initializers stand where braces
+/// are; and each definition of a function has a parameter list.
+pub fn trees_are_written()
+    ensures { (tokens : List Token) (unit : Trees) → All IsLexed tokens → HasTree tokens unit → AreWritten unit }
+{}
+
+/// Memory locals and statics of the core of a text have the layouts of types (C99 6.2.5, 6.7.2.1).
+pub fn layouts_are_of_types()
+    ensures { (tokens : List Token) (unit : Trees) (core : Core) (tags : TagTable) → All IsLexed tokens → HasTree tokens unit → elaborated unit ≡ Ok (core, tags) → HasLayouts core }
+{}
+
+/// The tree of tokens is plain, where `&` stands before no name.
+pub fn trees_are_plain()
+    ensures { (tokens : List Token) (unit : Trees) → All IsLexed tokens → HasTree tokens unit → AllUntaken unit → ArePlain unit }
+{}
+
+/// What is known behind a text has whole types: arrays of at least one element that are no larger than an object may be, and
+/// tags that were completed one after another with members of such types (C99 6.2.5, 6.7.2.1).
+pub fn types_are_whole()
+    ensures { (tokens : List Token) (unit : Trees) (c : Context) → All IsLexed tokens → HasTree tokens unit → walked unit ≡ Ok c → Solid c }
+{}
+
+/// Behind an expression every number of the code is in range, where types are whole and those of the code before it are:
+/// constants and sizes as registers hold them, and sizes of elements from 1 to that of the largest object.
+pub fn numbers_are_kept()
+    ensures { (tree : Tree) (wanted : PlainType) (c : Context) (d : Context × Found) → Solid c → Written tree → Whole (known c.tags.completed) wanted → PiecesIn c.code.pieces → found tree wanted c ≡ Ok d → PiecesIn d.0.code.pieces }
+{}
+
+/// In each function of the core of a text every integer is one that a register holds, sizes of elements are from 1 to that of
+/// the largest object, and layouts of elements are those of types.
+pub fn numbers_are_in_range()
+    ensures { (tokens : List Token) (unit : Trees) (core : Core) (tags : TagTable) → All IsLexed tokens → HasTree tokens unit → elaborated unit ≡ Ok (core, tags) → EachFunc core HasRanges }
+{}
+
+/// Each function of the core of a text is sound, where `&` stands before no name.
+pub fn functions_are_sound()
+    ensures { (tokens : List Token) (unit : Trees) (core : Core) (tags : TagTable) → All IsLexed tokens → HasTree tokens unit → AllUntaken unit → elaborated unit ≡ Ok (core, tags) → EachFunc core (IsFunction core) }
+{}

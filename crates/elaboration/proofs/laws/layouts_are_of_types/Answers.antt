@@ -1,6 +1,0 @@
-use Rattle.elaboration.proofs.Grammatical as grammatical
-use Rattle.elaboration.proofs.SolidTexts as solid
-use Rattle.elaboration.proofs.laws.layouts_are_of_types.Goals as goal
-
-pub returns : goal.returns
-returns c = λ tokens unit core tags lexed tree e. solid.core_layouts unit core tags (grammatical.trees_written_all tokens unit lexed tree) e

@@ -1,6 +1,0 @@
-use Rattle.elaboration.proofs.Grammatical as grammatical
-use Rattle.elaboration.proofs.Numbered as numbered
-use Rattle.elaboration.proofs.laws.numbers_are_in_range.Goals as goal
-
-pub returns : goal.returns
-returns c = λ tokens unit core tags lexed tree e. numbered.core_ranges unit core tags (grammatical.trees_written_all tokens unit lexed tree) e

@@ -1,6 +1,0 @@
-use Rattle.elaboration.proofs.Grammatical as grammatical
-use Rattle.elaboration.proofs.SolidTexts as solid
-use Rattle.elaboration.proofs.laws.types_are_whole.Goals as goal
-
-pub returns : goal.returns
-returns c = λ tokens unit context lexed tree e. solid.walked_solid unit context (grammatical.trees_written_all tokens unit lexed tree) e
