@@ -10,10 +10,12 @@
 //! time, and say nothing of the text then.
 #![tactic(auto)]
 
+ghost use Rattle.std.specs.Prelude.{IfOk};
 ghost use Rattle.c_tree.specs.StatementView.{unit_view};
 ghost use Rattle.c_decls.specs.Refusals.{Meets};
 ghost use Rattle.elaboration.specs.Elaboration.{tags_of};
-ghost use Rattle.c_elab.specs.Core.{core_in};
+ghost use Rattle.core_tree.specs.Sound.{IsSound};
+ghost use Rattle.c_elab.specs.Core.{IsOfText, core_in};
 
 #[cfg(test)]
 mod tests;
@@ -21,12 +23,13 @@ mod tests;
 use c_decls::TypeError;
 use c_tree::Unit;
 use c_types::Tags;
+use core_soundness::cores_are_sound;
 use core_tree::Core;
 use elab_core::core_of;
 use elab_externals::walked;
 use std::alloc::Global;
 
-/// The core of a text (C99 6.5 to 6.9).
+/// The core of a text (C99 6.5 to 6.9). It is sound, as the runners of cores want it.
 ///
 /// # Errors
 ///
@@ -34,8 +37,10 @@ use std::alloc::Global;
 /// want of memory.
 #[tactic(auto, using(crate::proofs::Finished::core_ok, crate::proofs::Finished::core_err))]
 pub fn elab(alloc: Global, unit: &Unit) -> Result<Core, TypeError>
-    ensures { Meets (λ core. core) result (core_in (unit_view unit.now)) }
+    ensures core { Meets (λ core. core) result (core_in (unit_view unit.now)) }
+    ensures sound { IsOfText (unit_view unit.now) → IfOk result (λ core. IsSound core) }
 {
+    cores_are_sound();
     let (core, _) = core_of(walked(alloc, unit)?)?;
     Ok(core)
 }

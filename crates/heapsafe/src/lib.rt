@@ -7,7 +7,9 @@
 #![tactic(auto)]
 
 ghost use Rattle.std.specs.Prelude.{◌≡◌, ◌+◌, ◌<◌, ◌^◌, ℕ, List, Some, None, map, All};
+ghost use Rattle.c_elab.specs.Core.{IsOfText};
 ghost use Rattle.c_lexer.specs.Tokens.{IsLexed};
+ghost use Rattle.core_soundness.specs.Short.{AreShort};
 ghost use Rattle.command_words.specs.Commands.{Command as Asked, command_of, task_shown, IsLimited};
 ghost use Rattle.c_tree.specs.StatementView.{unit_view};
 ghost use Rattle.heapsafe.specs.Answer.{Answers, AnswersTokens, AnswersFile, AsksNone, Does, RunsNone};
@@ -53,6 +55,7 @@ fn with_tree<I: Source, O: Sink, E: Sink>(
     out: &mut O,
     err: &mut E,
 ) -> u8
+    requires text { IsOfText (unit_view unit.now) }
     requires limits { IsLimited (task_shown task) }
     requires input { I.faults input.old + 1 < 2 ^ 64 }
     requires out { O.faults out.old + 1 < 2 ^ 64 }
@@ -98,6 +101,7 @@ fn with_tokens<I: Source, O: Sink, E: Sink>(
     err: &mut E,
 ) -> u8
     requires lexed { All IsLexed tokens.now }
+    requires short { AreShort tokens.now }
     requires limits { IsLimited (task_shown task) }
     requires input { I.faults input.old + 1 < 2 ^ 64 }
     requires out { O.faults out.old + 1 < 2 ^ 64 }

@@ -2,7 +2,7 @@
 
 ghost use Rattle.std.specs.Prelude.{◌≡◌, ◌+◌, ◌<◌, ◌≤◌, ◌^◌, ℕ, List, Some};
 ghost use Rattle.c_tree.specs.StatementView.{unit_view};
-ghost use Rattle.c_elab.specs.Core.{core_in};
+ghost use Rattle.c_elab.specs.Core.{IsOfText, core_in};
 ghost use Rattle.core_tree.specs.Sound.{IsSound};
 ghost use Rattle.core_runner.specs.Built.{IsBuilt};
 ghost use Rattle.bad_free_report.specs.Report.{end_report};
@@ -17,7 +17,6 @@ use c_elab::elab;
 use c_tree::Unit;
 use core_runner::{is_built, run};
 use core_tree::Core;
-use core_verifier::is_sound;
 use hs_base::{End, Sink, Source};
 use meaning_run::mean;
 use std::alloc::Global;
@@ -155,6 +154,7 @@ fn with_core<I: Source, O: Sink, E: Sink>(
     out: &mut O,
     err: &mut E,
 ) -> u8
+    requires sound { IsSound core.now }
     requires steps { IsBounded way }
     requires input { I.faults input.old + 1 < 2 ^ 64 }
     requires out { O.faults out.old + 1 < 2 ^ 64 }
@@ -167,12 +167,7 @@ fn with_core<I: Source, O: Sink, E: Sink>(
     if !is_built(core) {
         return refuse(err, Refusal::NotBuilt(file));
     }
-    // A run owes that its core is sound. That the core of every text is sound is proved in parts so far, and not yet as
-    // one, so the core is tested; a core that the test does not take is answered like want of memory.
-    match is_sound(alloc, core) {
-        Ok(true) => go(alloc, file, text, core, way, input, out, err),
-        Ok(false) | Err(_) => refuse(err, Refusal::NoMemory),
-    }
+    go(alloc, file, text, core, way, input, out, err)
 }
 
 /// Runs the program of a text.
@@ -186,6 +181,7 @@ pub(crate) fn run_program<I: Source, O: Sink, E: Sink>(
     out: &mut O,
     err: &mut E,
 ) -> u8
+    requires text { IsOfText (unit_view unit.now) }
     requires steps { IsBounded way }
     requires input { I.faults input.old + 1 < 2 ^ 64 }
     requires out { O.faults out.old + 1 < 2 ^ 64 }

@@ -9,12 +9,12 @@ use Rattle.heapsafe.proofs.program.run_program.Goals as goal
 
 pub returns-in-Ok-clause-exact : goal.returns-in-Ok-clause-exact
 returns-in-Ok-clause-exact g c = λ left o e k h i same_out same_err.
-    gives_typed c.args.file.now c.args.text.now (core_in (unit_view c.args.unit.now)) c.in-Ok.core _ c.args.way left o e _ _ _ _ c.in-Ok.ensures
+    gives_typed c.args.file.now c.args.text.now (core_in (unit_view c.args.unit.now)) c.in-Ok.core _ c.args.way left o e _ _ _ _ c.in-Ok.ensures.core
     (c.with_core.ensures.exact left o e k h i same_out same_err)
 
 pub returns-in-Err-clause-exact : goal.returns-in-Err-clause-exact
 returns-in-Err-clause-exact g c = λ left o e k h i same_out same_err.
     let input = input_of left (g.I.Source.faults c.args.input.now) (g.I.Source.faults c.args.input.now) in
     gives_said (AnswersTypes c.args.file.now c.args.text.now (core_in (unit_view c.args.unit.now)) input c.args.way) (untyped c.in-Err.error c.args.file.now c.args.text.now) left o e _ _ _ _ _ _ _
-    (untyped_program c.in-Err.error c.args.file.now c.args.text.now (core_in (unit_view c.args.unit.now)) input c.args.way c.in-Err.ensures)
+    (untyped_program c.in-Err.error c.args.file.now c.args.text.now (core_in (unit_view c.args.unit.now)) input c.args.way c.in-Err.ensures.core)
     (untyped_silent c.in-Err.error c.args.file.now c.args.text.now) k h i same_err c.refuse_types.ensures.says

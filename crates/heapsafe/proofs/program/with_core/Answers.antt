@@ -1,7 +1,7 @@
-use Rattle.std.proofs.Common.{inl, inr, refl}
+use Rattle.std.proofs.Common.{inl, refl}
 use Rattle.core_runner.specs.Built.{IsBuilt}
 use Rattle.std.specs.Prelude.{IsTrue}
-use Rattle.heapsafe.specs.Shown.{no_memory, not_built}
+use Rattle.heapsafe.specs.Shown.{not_built}
 use Rattle.heapsafe.specs.Program.{input_of}
 use Rattle.heapsafe.specs.Answer.{AnswersCore}
 use Rattle.heapsafe.proofs.Told.{gives_said}
@@ -15,13 +15,7 @@ returns-then-not-is_built-clause-exact g c = λ left o e k h i same_out same_err
     gives_said (AnswersCore c.args.file.now c.args.text.now c.args.core.now input c.args.way) (not_built c.args.file.now) left o e _ _ _ _ _ _ _
     (inl (unbuilt_is c.args.file.now c.args.text.now c.args.core.now input c.args.way none)) (record { read = refl; out = refl }) k h i same_err c.refuse.ensures.says
 
-pub returns-in-Ok-true-clause-exact : goal.returns-in-Ok-true-clause-exact
-returns-in-Ok-true-clause-exact g c = λ left o e k h i same_out same_err.
+pub returns-else-clause-exact : goal.returns-else-clause-exact
+returns-else-clause-exact g c = λ left o e k h i same_out same_err.
     gives_built c.args.file.now c.args.text.now c.args.core.now _ c.args.way left o e _ _ _ _ (c.is_built.ensures.0 c.if-not-is_built.false)
     (c.go.ensures.exact left o e k h i same_out same_err)
-
-pub returns-in-Ok-false-clause-exact : goal.returns-in-Ok-false-clause-exact
-returns-in-Ok-false-clause-exact g c = λ left o e k h i same_out same_err.
-    let input = input_of left (g.I.Source.faults c.args.input.now) (g.I.Source.faults c.args.input.now) in
-    gives_said (AnswersCore c.args.file.now c.args.text.now c.args.core.now input c.args.way) no_memory left o e _ _ _ _ _ _ _
-    (inr refl) (record { read = refl; out = refl }) k h i same_err c.refuse-in-Ok-false.ensures.says
