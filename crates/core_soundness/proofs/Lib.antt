@@ -67,3 +67,12 @@ mod SolidFills
 mod SolidTexts
 mod Numbered
 mod Functions
+mod ShortNames
+mod Near
+mod NearWork
+mod NearFound
+mod NearLayers
+mod NearFills
+mod NearStatements
+mod Weighed
+mod NearTexts

@@ -1,5 +1,5 @@
 -- Parts of what makes a core sound, each said of every core that a text has.
-use Rattle.std.specs.Prelude.{◌≡◌, ℕ, List, Option, Some, slice_get, ◌<◌, ◌≤◌, length, All}
+use Rattle.std.specs.Prelude.{◌≡◌, ℕ, List, Option, Some, slice_get, ◌<◌, ◌≤◌, length, All, IfSome}
 use Rattle.std.specs.List.{sum_by}
 use Rattle.hs_base.specs.Place.{block_size}
 use Rattle.core_tree.specs.declared.program.Core.{Core}
@@ -12,7 +12,7 @@ use Rattle.core_tree.specs.declared.statements.StmKind.TheVariants.{Call}
 use Rattle.core_tree.specs.Sorts.{IsTyped}
 use Rattle.core_tree.specs.Statements.{edges}
 use Rattle.core_tree.specs.LayoutsOfTypes.{IsLayoutOfType}
-use Rattle.core_tree.specs.Sound.{EachFunc, EachStatement, EachReturn, LeadsOn, HasScopes, HasNumbers, element_layouts, answer_sort, GivesAnswer, code_size, IsShort}
+use Rattle.core_tree.specs.Sound.{EachFunc, EachStatement, EachReturn, LeadsOn, HasScopes, HasNumbers, element_layouts, answer_sort, GivesAnswer, code_size, IsShort, AreShort}
 
 -- how control flows through a function
 pub record HasFlow (func : Func) : Type 0 where
@@ -68,3 +68,10 @@ pub record HasRanges (func : Func) : Type 0 where
   pub numbers : EachStatement func.body (λ point stm. HasNumbers stm.kind)
   -- each layout of elements is that of a type
   pub elements : EachStatement func.body (λ point stm. All IsLayoutOfType (element_layouts stm.kind))
+
+-- lists of a core that are shorter than 2 to the 32
+pub record HasShortLists (core : Core) : Type 0 where
+  -- the names of statics
+  pub short_names : All (λ (static : Static). IfSome static.name IsShort) core.statics
+  -- the lists of functions, their names and their formats
+  pub short : EachFunc core AreShort

@@ -1,6 +1,6 @@
 //! Laws of the definitions.
 
-ghost use Rattle.std.specs.Prelude.{◌≡◌, ℕ, true, All, List, Ok, count_by, slice_get};
+ghost use Rattle.std.specs.Prelude.{◌≡◌, ◌≤◌, ℕ, true, All, List, Ok, count_by, length, slice_get};
 ghost use Rattle.c_print.specs.Format.{IsFormat};
 ghost use Rattle.c_print.specs.Pieces.{pieces_of};
 ghost use Rattle.c_decls.specs.Callees.{is_format};
@@ -12,7 +12,7 @@ ghost use Rattle.elaboration.specs.Context.{Context, asked};
 ghost use Rattle.elaboration.specs.Conversions.{Found};
 ghost use Rattle.elaboration.specs.Expressions.{found};
 ghost use Rattle.core_tree.specs.declared.program.Core.{Core};
-ghost use Rattle.core_tree.specs.Sound.{EachFunc, IsFunction, IsMain, is_main, main_of};
+ghost use Rattle.core_tree.specs.Sound.{EachFunc, IsFunction, IsMain, IsShort, is_main, main_of};
 ghost use Rattle.c_lexer.specs.Tokens.{IsLexed};
 ghost use Rattle.c_lexer.specs.declared.token.Token.{Token};
 ghost use Rattle.c_tree.specs.HasTree.{HasTree};
@@ -24,7 +24,7 @@ ghost use Rattle.core_soundness.specs.Solid.{Solid};
 ghost use Rattle.core_soundness.specs.Untaken.{AllUntaken};
 ghost use Rattle.core_soundness.specs.Whole.{Whole};
 ghost use Rattle.core_soundness.specs.Written.{AreWritten, Written};
-ghost use Rattle.core_soundness.specs.Laws.{CallsInside, HasFlow, HasLayouts, HasRanges, HasSizes, HasTypes};
+ghost use Rattle.core_soundness.specs.Laws.{CallsInside, HasFlow, HasLayouts, HasRanges, HasShortLists, HasSizes, HasTypes};
 
 /// In each function of the core of a text every edge leads to a statement, only a loop goes back, and scopes are opened
 /// and closed in the same way on all paths.
@@ -105,4 +105,10 @@ pub fn numbers_are_in_range()
 /// Each function of the core of a text is sound, where `&` stands before no name.
 pub fn functions_are_sound()
     ensures { (tokens : List Token) (unit : Trees) (core : Core) (tags : TagTable) → All IsLexed tokens → HasTree tokens unit → AllUntaken unit → elaborated unit ≡ Ok (core, tags) → EachFunc core (IsFunction core) }
+{}
+
+/// The names, the formats and the lists of functions of the core of a text are shorter than 2 to the 32, where the text has
+/// at most 268,435,456 tokens, each shorter than that.
+pub fn lists_are_short()
+    ensures { (tokens : List Token) (unit : Trees) (core : Core) (tags : TagTable) → length tokens ≤ 268435456 → All (λ token. IsShort token.bytes) tokens → HasTree tokens unit → elaborated unit ≡ Ok (core, tags) → HasShortLists core }
 {}
