@@ -76,3 +76,4 @@ mod NearFills
 mod NearStatements
 mod Weighed
 mod NearTexts
+mod TextTokens

@@ -2,6 +2,7 @@
 use Rattle.std.specs.Prelude.{◌≡◌, ℕ, List, Option, Some, slice_get, ◌<◌, ◌≤◌, length, All, IfSome}
 use Rattle.std.specs.List.{sum_by}
 use Rattle.hs_base.specs.Place.{block_size}
+use Rattle.c_lexer.specs.declared.token.Token.{Token}
 use Rattle.core_tree.specs.declared.program.Core.{Core}
 use Rattle.core_tree.specs.declared.program.Func.{Func}
 use Rattle.core_tree.specs.declared.program.Mem.{Mem}
@@ -75,3 +76,8 @@ pub record HasShortLists (core : Core) : Type 0 where
   pub short_names : All (λ (static : Static). IfSome static.name IsShort) core.statics
   -- the lists of functions, their names and their formats
   pub short : EachFunc core AreShort
+
+-- at most so many tokens, each of at most so many bytes
+pub record AreWithin (most : ℕ) (tokens : List Token) : Type 0 where
+  pub count : length tokens ≤ most
+  pub bytes : All (λ (token : Token). length token.bytes ≤ most) tokens

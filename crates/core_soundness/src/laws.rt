@@ -13,7 +13,7 @@ ghost use Rattle.elaboration.specs.Conversions.{Found};
 ghost use Rattle.elaboration.specs.Expressions.{found};
 ghost use Rattle.core_tree.specs.declared.program.Core.{Core};
 ghost use Rattle.core_tree.specs.Sound.{EachFunc, IsFunction, IsMain, IsShort, is_main, main_of};
-ghost use Rattle.c_lexer.specs.Tokens.{IsLexed};
+ghost use Rattle.c_lexer.specs.Tokens.{HasTokens, IsLexed};
 ghost use Rattle.c_lexer.specs.declared.token.Token.{Token};
 ghost use Rattle.c_tree.specs.HasTree.{HasTree};
 ghost use Rattle.c_tree.specs.Tree.{Tree, Trees};
@@ -24,7 +24,7 @@ ghost use Rattle.core_soundness.specs.Solid.{Solid};
 ghost use Rattle.core_soundness.specs.Untaken.{AllUntaken};
 ghost use Rattle.core_soundness.specs.Whole.{Whole};
 ghost use Rattle.core_soundness.specs.Written.{AreWritten, Written};
-ghost use Rattle.core_soundness.specs.Laws.{CallsInside, HasFlow, HasLayouts, HasRanges, HasShortLists, HasSizes, HasTypes};
+ghost use Rattle.core_soundness.specs.Laws.{AreWithin, CallsInside, HasFlow, HasLayouts, HasRanges, HasShortLists, HasSizes, HasTypes};
 
 /// In each function of the core of a text every edge leads to a statement, only a loop goes back, and scopes are opened
 /// and closed in the same way on all paths.
@@ -105,6 +105,11 @@ pub fn numbers_are_in_range()
 /// Each function of the core of a text is sound, where `&` stands before no name.
 pub fn functions_are_sound()
     ensures { (tokens : List Token) (unit : Trees) (core : Core) (tags : TagTable) → All IsLexed tokens → HasTree tokens unit → AllUntaken unit → elaborated unit ≡ Ok (core, tags) → EachFunc core (IsFunction core) }
+{}
+
+/// A text has no more tokens than bytes, and none of its tokens is longer than it.
+pub fn tokens_are_within()
+    ensures { (text : List ℕ) (tokens : List Token) → HasTokens text tokens → AreWithin (length text) tokens }
 {}
 
 /// The names, the formats and the lists of functions of the core of a text are shorter than 2 to the 32, where the text has

@@ -1,0 +1,5 @@
+use Rattle.core_soundness.proofs.TextTokens as texts
+use Rattle.core_soundness.proofs.laws.tokens_are_within.Goals as goal
+
+pub returns : goal.returns
+returns c = texts.tokens_within
