@@ -15,7 +15,7 @@ ghost use Rattle.c_tree.specs.StatementView.{unit_view};
 ghost use Rattle.c_decls.specs.Refusals.{Meets};
 ghost use Rattle.elaboration.specs.Elaboration.{tags_of};
 ghost use Rattle.core_tree.specs.Sound.{IsSound};
-ghost use Rattle.c_elab.specs.Core.{IsOfText, core_in};
+ghost use Rattle.c_elab.specs.Core.{IsOfTokens, core_in};
 
 #[cfg(test)]
 mod tests;
@@ -38,7 +38,7 @@ use std::alloc::Global;
 #[tactic(auto, using(crate::proofs::Finished::core_ok, crate::proofs::Finished::core_err))]
 pub fn elab(alloc: Global, unit: &Unit) -> Result<Core, TypeError>
     ensures core { Meets (λ core. core) result (core_in (unit_view unit.now)) }
-    ensures sound { IsOfText (unit_view unit.now) → IfOk result (λ core. IsSound core) }
+    ensures sound { IsOfTokens (unit_view unit.now) → IfOk result (λ core. IsSound core) }
 {
     cores_are_sound();
     let (core, _) = core_of(walked(alloc, unit)?)?;

@@ -7,12 +7,13 @@
 #![tactic(auto)]
 
 ghost use Rattle.std.specs.Prelude.{◌≡◌, ◌+◌, ◌<◌, ◌^◌, ℕ, List, Some, None, map, All};
-ghost use Rattle.c_elab.specs.Core.{IsOfText};
+ghost use Rattle.c_elab.specs.Core.{IsOfTokens};
 ghost use Rattle.c_lexer.specs.Tokens.{IsLexed};
-ghost use Rattle.core_soundness.specs.Short.{AreShort};
+ghost use Rattle.core_soundness.specs.Laws.{AreWithin};
 ghost use Rattle.command_words.specs.Commands.{Command as Asked, command_of, task_shown, IsLimited};
 ghost use Rattle.c_tree.specs.StatementView.{unit_view};
 ghost use Rattle.heapsafe.specs.Answer.{Answers, AnswersTokens, AnswersFile, AsksNone, Does, RunsNone};
+ghost use Rattle.heapsafe.specs.Reading.{most_bytes};
 ghost use Rattle.heapsafe.specs.Shown.{input_fault, output_fault, text_fault};
 ghost use Rattle.heapsafe.specs.Program.{input_of};
 ghost use Rattle.heapsafe.specs.Saying.{Gives, Faults, Says, shown_of, unread};
@@ -26,6 +27,7 @@ use c_lexer::{Token, lex};
 use c_parser::parse;
 use c_tree::Unit;
 use command_words::{Command, Task, WordsError};
+use core_soundness::tokens_are_within;
 use hs_base::{Sink, Source, Texts};
 use program::{Way, run_program};
 use reading::{ReadError, read_text};
@@ -55,7 +57,7 @@ fn with_tree<I: Source, O: Sink, E: Sink>(
     out: &mut O,
     err: &mut E,
 ) -> u8
-    requires text { IsOfText (unit_view unit.now) }
+    requires text { IsOfTokens (unit_view unit.now) }
     requires limits { IsLimited (task_shown task) }
     requires input { I.faults input.old + 1 < 2 ^ 64 }
     requires out { O.faults out.old + 1 < 2 ^ 64 }
@@ -101,7 +103,7 @@ fn with_tokens<I: Source, O: Sink, E: Sink>(
     err: &mut E,
 ) -> u8
     requires lexed { All IsLexed tokens.now }
-    requires short { AreShort tokens.now }
+    requires short { AreWithin most_bytes tokens.now }
     requires limits { IsLimited (task_shown task) }
     requires input { I.faults input.old + 1 < 2 ^ 64 }
     requires out { O.faults out.old + 1 < 2 ^ 64 }
@@ -145,6 +147,7 @@ fn with_file<T: Texts, I: Source, O: Sink, E: Sink>(
         Err(error) => return refuse(err, reading_refusal(error, file)),
     };
     let text = text.as_slice();
+    tokens_are_within();
     match lex(alloc, text) {
         Ok(tokens) => with_tokens(alloc, file, task, text, tokens.as_slice(), input, out, err),
         Err(error) => refuse_text(err, error, file, text),

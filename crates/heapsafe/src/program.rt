@@ -2,7 +2,7 @@
 
 ghost use Rattle.std.specs.Prelude.{◌≡◌, ◌+◌, ◌<◌, ◌≤◌, ◌^◌, ℕ, List, Some};
 ghost use Rattle.c_tree.specs.StatementView.{unit_view};
-ghost use Rattle.c_elab.specs.Core.{IsOfText, core_in};
+ghost use Rattle.c_elab.specs.Core.{IsOfTokens, core_in};
 ghost use Rattle.core_tree.specs.Sound.{IsSound};
 ghost use Rattle.core_runner.specs.Built.{IsBuilt};
 ghost use Rattle.bad_free_report.specs.Report.{end_report};
@@ -181,7 +181,7 @@ pub(crate) fn run_program<I: Source, O: Sink, E: Sink>(
     out: &mut O,
     err: &mut E,
 ) -> u8
-    requires text { IsOfText (unit_view unit.now) }
+    requires text { IsOfTokens (unit_view unit.now) }
     requires steps { IsBounded way }
     requires input { I.faults input.old + 1 < 2 ^ 64 }
     requires out { O.faults out.old + 1 < 2 ^ 64 }
