@@ -1,0 +1,5 @@
+use Rattle.core_soundness.proofs.SoundCores as cores
+use Rattle.core_soundness.proofs.laws.cores_are_sound.Goals as goal
+
+pub returns : goal.returns
+returns c = cores.cores_sound
