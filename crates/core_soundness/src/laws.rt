@@ -112,8 +112,8 @@ pub fn tokens_are_within()
     ensures { (text : List ℕ) (tokens : List Token) → HasTokens text tokens → AreWithin (length text) tokens }
 {}
 
-/// The names, the formats and the lists of functions of the core of a text are shorter than 2 to the 32, where the text has
-/// at most 268,435,456 tokens, each shorter than that.
+/// In the core of a text the names, the formats and the lists of functions are shorter than 2 to the 32, where the text has at
+/// most 268,435,456 tokens, each of fewer than 2 to the 32 bytes.
 pub fn lists_are_short()
     ensures { (tokens : List Token) (unit : Trees) (core : Core) (tags : TagTable) → length tokens ≤ 268435456 → All (λ token. IsShort token.bytes) tokens → HasTree tokens unit → elaborated unit ≡ Ok (core, tags) → HasShortLists core }
 {}
