@@ -77,7 +77,7 @@ pub record Named (rs : List Register) (ms : List Mem) (fs : List (List ℕ)) : T
   pub mems : All (λ (mem : Mem). IsShort mem.name) ms
   pub formats : All IsShort fs
 
--- so is all of a function that was walked, and it has made so much
+-- so is all of a function that was walked, and it has made at most six for each of 268435456 words
 pub record Sized (w : Walked) : Type 0 where
   pub name : IsShort w.name
   pub named : Named w.running.locals w.running.mems w.running.formats
