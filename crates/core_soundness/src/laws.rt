@@ -117,3 +117,8 @@ pub fn tokens_are_within()
 pub fn lists_are_short()
     ensures { (tokens : List Token) (unit : Trees) (core : Core) (tags : TagTable) → length tokens ≤ 268435456 → All (λ token. IsShort token.bytes) tokens → HasTree tokens unit → elaborated unit ≡ Ok (core, tags) → HasShortLists core }
 {}
+
+/// The core of a text is sound, where the text has at most 268,435,456 tokens, each of fewer than 2 to the 32 bytes.
+pub fn cores_are_sound()
+    ensures { (tokens : List Token) (unit : Trees) (core : Core) (tags : TagTable) → All IsLexed tokens → length tokens ≤ 268435456 → All (λ token. IsShort token.bytes) tokens → HasTree tokens unit → elaborated unit ≡ Ok (core, tags) → IsSound core }
+{}
