@@ -20,6 +20,7 @@ use Rattle.elaboration.specs.Rules.{with_literal}
 use Rattle.core_soundness.proofs.Flow.{agree_refl}
 use Rattle.core_soundness.proofs.Fragments.{nothing, IsPlain}
 use Rattle.core_soundness.proofs.Names.{more_refl}
+use Rattle.core_soundness.proofs.Owners.{get_left}
 use Rattle.core_soundness.proofs.Growth.{Grows, Counted, literal_bytes, grows_refl, grows_trans, grows_emit, grows_integer, grows_pointer}
 use Rattle.core_soundness.proofs.Grown.{Grown, good, ok_same, never}
 use Rattle.core_soundness.proofs.Working.{grows_convert}
@@ -34,7 +35,7 @@ grows_format bytes c = record {
   cases = refl;
   otherwise = refl;
   names = more_refl c.scopes;
-  kept = record { variables = refl; functions = refl; params = refl; walked = refl; length = refl; answer = refl; mems = refl; counted = λ (h : Counted c). record { bytes = h.bytes; small = h.small } };
+  kept = record { variables = refl; functions = refl; params = refl; walked = refl; length = refl; answer = refl; mems = refl; literals = λ i w e. e; counted = λ (h : Counted c). record { bytes = h.bytes; small = h.small } };
 }
 
 pub grows_calls : (calls : List (ℕ × ℕ)) (c : Context) → Grows c (record c { calls = calls })
@@ -46,7 +47,7 @@ grows_calls calls c = record {
   cases = refl;
   otherwise = refl;
   names = more_refl c.scopes;
-  kept = record { variables = refl; functions = refl; params = refl; walked = refl; length = refl; answer = refl; mems = refl; counted = λ (h : Counted c). record { bytes = h.bytes; small = h.small } };
+  kept = record { variables = refl; functions = refl; params = refl; walked = refl; length = refl; answer = refl; mems = refl; literals = λ i w e. e; counted = λ (h : Counted c). record { bytes = h.bytes; small = h.small } };
 }
 
 -- an object is freed in a scope of its own
@@ -65,7 +66,7 @@ grows_free line a c = record {
   cases = refl;
   otherwise = refl;
   names = more_refl c.scopes;
-  kept = record { variables = refl; functions = refl; params = refl; walked = refl; length = refl; answer = refl; mems = refl; counted = λ (h : Counted c). record { bytes = h.bytes; small = h.small } };
+  kept = record { variables = refl; functions = refl; params = refl; walked = refl; length = refl; answer = refl; mems = refl; literals = λ i w e. e; counted = λ (h : Counted c). record { bytes = h.bytes; small = h.small } };
 }
 
 -- arguments
@@ -135,6 +136,7 @@ with_one_literal c bytes small = record {
     length = refl;
     answer = refl;
     mems = refl;
+    literals = λ i w e. get_left c.literals (bytes ∷ []) i w e;
     counted = λ (h : Counted c). record { bytes = omega (arith, h.bytes, more_bytes c.literals bytes); small = small };
   };
 }

@@ -1,5 +1,5 @@
 -- What specs, declarators and the names of locals do to what is known.
-use Rattle.std.proofs.Common.{◌≡◌, ℕ, suc, ℤ, pos, ◌+ℤ◌, Bool, true, false, ◌||◌, cond, is_some, List, [], ◌∷◌, ◌++◌, length, reverse, unwrap_or, Option, Some, None, Result, Ok, Err, refl, arith}
+use Rattle.std.proofs.Common.{◌≡◌, ℕ, suc, ℤ, pos, ◌+ℤ◌, Bool, true, false, ◌||◌, cond, is_some, List, [], ◌∷◌, ◌++◌, length, reverse, unwrap_or, Option, Some, None, Result, Ok, Err, ◌≤◌, refl, arith}
 use Rattle.hs_base.specs.declared.ends.IntKind.TheVariants.{I32}
 use Rattle.hs_base.specs.Numbers.{wrapped}
 use Rattle.c_types.specs.declared.types.IntType.TheVariants as i
@@ -35,20 +35,21 @@ use Rattle.core_soundness.proofs.Owners.{FileKeeps, IsNoFunction, tied_refl, tie
 use Rattle.core_soundness.proofs.Reached.{Reached, reached_ok, reached_refused, reached_after, reached_then, reached_unless, Led, led_ok, led_refused, led_after, led_unless}
 use Rattle.core_soundness.proofs.TypedNames.{After, typed_after, wanted_after, special_after}
 use Rattle.core_soundness.proofs.Working.{grows_write}
+use Rattle.core_soundness.proofs.Settled.{ObjectsStay, inner_objects, declared_objects}
 use Rattle.core_soundness.proofs.Passing.{Passes, passes_trans, grows_passes, passes_beside, stays_beside}
 
 pub passes_refl : (c : Context) → Safe c.scopes → Passes c c
 passes_refl c s = grows_passes c c s (grows_refl c)
 
-pub scopes_changed : (c : Context) (s : ScopeList) → Safe s → FileKeeps c.scopes.file s.file → length s.inner ≡ length c.scopes.inner → Passes c (record c { scopes = s })
-scopes_changed c s h keep deep =
-    passes_beside c _ refl refl refl (stays_beside c _ h refl refl refl refl refl (λ k. k) deep (tied_file c.functions c.scopes.file s.file c.walked keep))
+pub scopes_changed : (c : Context) (s : ScopeList) → Safe s → FileKeeps c.scopes.file s.file → length s.inner ≡ length c.scopes.inner → (1 ≤ length c.scopes.inner → ObjectsStay c.scopes.file s.file) → Passes c (record c { scopes = s })
+scopes_changed c s h keep deep objects =
+    passes_beside c _ refl refl refl (stays_beside c _ h refl refl refl refl refl (λ k. k) deep (tied_file c.functions c.scopes.file s.file c.walked keep) objects)
 
 pub running_changed : (c : Context) (run : Running) → run.cases ≡ c.running.cases → run.otherwise ≡ c.running.otherwise → Safe c.scopes → Passes c (record c { running = run })
-running_changed c run e e2 h = passes_beside c _ refl e e2 (stays_beside c _ h refl refl refl refl refl (λ k. k) refl (tied_refl c.functions c.scopes.file c.walked))
+running_changed c run e e2 h = passes_beside c _ refl e e2 (stays_beside c _ h refl refl refl refl refl (λ k. k) refl (tied_refl c.functions c.scopes.file c.walked) (λ h name type i e. e))
 
 pub tags_changed : (c : Context) (tags : TagTable) → Safe c.scopes → Passes c (record c { tags = tags })
-tags_changed c tags h = passes_beside c _ refl refl refl (stays_beside c _ h refl refl refl refl refl (λ k. k) refl (tied_refl c.functions c.scopes.file c.walked))
+tags_changed c tags h = passes_beside c _ refl refl refl (stays_beside c _ h refl refl refl refl refl (λ k. k) refl (tied_refl c.functions c.scopes.file c.walked) (λ h name type i e. e))
 
 pub told_passes : (told_of : names.Context) (c : Context) → More c.scopes told_of.scopes → Safe c.scopes → Passes c (told told_of c)
 told_passes told_of c m s = grows_passes c (told told_of c) s (grows_told told_of c m)
@@ -79,11 +80,11 @@ after_depth s name named = by (is_some (named_in name (innermost s)))
 pub declared_passes : (line : ℕ) (name : List ℕ) (named : PlainNamed) (b c : Context) → frees (Some named) ≡ false → IsNoFunction named → Passes b c → Led (Passes b) (declared_as line name named c)
 declared_passes line name named b c e no_function p =
     led_unless (Passes b) (is_twice c.scopes name named) DeclaredTwice line (Ok (record c { scopes = after_declaration c.scopes name named }))
-    (λ q. led_ok (Passes b) (record c { scopes = after_declaration c.scopes name named }) (passes_trans b c _ p (scopes_changed c _ (after_safe c.scopes name named e p.stays.safe) (after_keeps c.scopes name named no_function) (after_depth c.scopes name named))))
+    (λ q. led_ok (Passes b) (record c { scopes = after_declaration c.scopes name named }) (passes_trans b c _ p (scopes_changed c _ (after_safe c.scopes name named e p.stays.safe) (after_keeps c.scopes name named no_function) (after_depth c.scopes name named) (λ h. declared_objects c.scopes name named (inner_objects c.scopes name named h)))))
 
 named_passes : (name : Option (List ℕ)) (named : PlainNamed) (c : Context) → frees (Some named) ≡ false → IsNoFunction named → Safe c.scopes → Passes c (with_named name named c)
 named_passes None named c e no_function s = passes_refl c s
-named_passes (Some name) named c e no_function s = scopes_changed c _ (with_name_safe c.scopes name named e s) (with_name_keeps c.scopes name named no_function) (with_name_depth c.scopes name named)
+named_passes (Some name) named c e no_function s = scopes_changed c _ (with_name_safe c.scopes name named e s) (with_name_keeps c.scopes name named no_function) (with_name_depth c.scopes name named) (λ h. inner_objects c.scopes name named h)
 
 register_passes : (name : Option (List ℕ)) (type : PlainType) (c : Context) → Safe c.scopes → Passes c (with_register name type c)
 register_passes name type c s = running_changed c _ refl refl s
@@ -179,7 +180,7 @@ enum_named_passes line None b c p = reached_ok (Passes b) (c, Int i.Int) p
 enum_named_passes line (Some name) b c p =
     reached_unless (Passes b) _ DeclaredTwice line _
     (reached_ok (Passes b) (record c { scopes = with_name c.scopes (tag_name name) (n.Tag (Int i.Int)) }, Int i.Int)
-    (passes_trans b c _ p (scopes_changed c _ (with_name_safe c.scopes (tag_name name) (n.Tag (Int i.Int)) refl p.stays.safe) (with_name_keeps c.scopes (tag_name name) (n.Tag (Int i.Int)) tt) (with_name_depth c.scopes (tag_name name) (n.Tag (Int i.Int))))))
+    (passes_trans b c _ p (scopes_changed c _ (with_name_safe c.scopes (tag_name name) (n.Tag (Int i.Int)) refl p.stays.safe) (with_name_keeps c.scopes (tag_name name) (n.Tag (Int i.Int)) tt) (with_name_depth c.scopes (tag_name name) (n.Tag (Int i.Int))) (λ h. inner_objects c.scopes (tag_name name) (n.Tag (Int i.Int)) h))))
 
 -- parameters
 
@@ -211,6 +212,7 @@ left_params_passes c x p = record {
     length = p.stays.length;
     params = λ h. first_safe [] x.scopes.inner (λ y. refl) p.stays.safe.inner;
     counted = λ h. let k = p.stays.counted (record { bytes = h.bytes; small = h.small }) in record { bytes = k.bytes; small = k.small };
+    inside = λ h. let k = p.stays.inside (omega arith) in record { variables = k.variables; literals = k.literals; objects = k.objects };
   };
 }
 
@@ -290,7 +292,7 @@ mutual
       reached_then (Passes b) (Passes (entered c)) (params parts (entered c)) (λ x. Ok (left_params x.0, FunctionOf line x.1)) (params_pass parts (entered c) (entered c) (passes_refl (entered c) (entered_safe c.scopes p.stays.safe)))
       (λ x h. reached_ok (Passes b) (left_params x.0, FunctionOf line x.1) (passes_trans b c (left_params x.0) p (left_params_passes c x.0 h)))
   suffix_pass tree b c p =
-      reached_ok (Passes b) (record c { params = [] }, FunctionOf (line_of tree) types.none) (passes_trans b c _ p (passes_beside c _ refl refl refl (stays_beside c _ p.stays.safe refl refl refl refl refl (λ h x. refl) refl (tied_refl c.functions c.scopes.file c.walked))))
+      reached_ok (Passes b) (record c { params = [] }, FunctionOf (line_of tree) types.none) (passes_trans b c _ p (passes_beside c _ refl refl refl (stays_beside c _ p.stays.safe refl refl refl refl refl (λ h x. refl) refl (tied_refl c.functions c.scopes.file c.walked) (λ h name type i e. e))))
 
   params_pass : (parts : Trees) (b c : Context) → Passes b c → Reached (Passes b) (params parts c)
   params_pass none b c p = reached_ok (Passes b) (c, types.none) p

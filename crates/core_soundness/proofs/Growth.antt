@@ -1,5 +1,5 @@
 -- What elaborating an expression does to what is known: its code is a fragment with no way out but its end.
-use Rattle.std.proofs.Common.{◌≡◌, ◌≤◌, ◌+◌, ℕ, List, [], ◌∷◌, ◌++◌, length, sum_by, refl, sym, ap, ◌∙◌, arith, append_assoc, append-nil}
+use Rattle.std.proofs.Common.{◌≡◌, ◌≤◌, ◌+◌, ℕ, List, [], ◌∷◌, ◌++◌, length, slice_get, Some, sum_by, refl, sym, ap, ◌∙◌, arith, append_assoc, append-nil}
 use Rattle.hs_base.specs.Place.{block_size}
 use Rattle.core_tree.specs.declared.statements.Stm.{Stm}
 use Rattle.core_tree.specs.declared.statements.StmKind.{StmKind}
@@ -19,7 +19,11 @@ pub record Counted (c : Context) : Type 0 where
   pub bytes : c.static_bytes ≡ variable_bytes c.variables + literal_bytes c.literals
   pub small : c.static_bytes ≤ 67108864
 
--- what no part of a function changes
+-- what stands in a list stands in another at the same place
+abbrev pub Longer : {A : Type 0} → List A → List A → Type 0
+Longer {A} xs ys = (i : ℕ) (x : A) → slice_get xs i ≡ Some x → slice_get ys i ≡ Some x
+
+-- what no part of a function changes, but that there may be more literals
 pub record Kept (c d : Context) : Type 0 where
   pub variables : d.variables ≡ c.variables
   pub functions : d.functions ≡ c.functions
@@ -28,10 +32,11 @@ pub record Kept (c d : Context) : Type 0 where
   pub params : d.params ≡ c.params
   pub answer : d.running.answer ≡ c.running.answer
   pub mems : d.running.mems ≡ c.running.mems
+  pub literals : Longer c.literals d.literals
   pub counted : Counted c → Counted d
 
 pub kept_refl : (c : Context) → Kept c c
-kept_refl c = record { variables = refl; functions = refl; params = refl; walked = refl; length = refl; answer = refl; mems = refl; counted = λ h. h }
+kept_refl c = record { variables = refl; functions = refl; params = refl; walked = refl; length = refl; answer = refl; mems = refl; literals = λ i w e. e; counted = λ h. h }
 
 pub kept_trans : (a b c : Context) → Kept a b → Kept b c → Kept a c
 kept_trans a b c x y = record {
@@ -42,6 +47,7 @@ kept_trans a b c x y = record {
   length = y.length ∙ x.length;
   answer = y.answer ∙ x.answer;
   mems = y.mems ∙ x.mems;
+  literals = λ i w e. y.literals i w (x.literals i w e);
   counted = λ h. y.counted (x.counted h);
 }
 
@@ -89,7 +95,7 @@ grows_step c code stm e l h = record {
   cases = refl;
   otherwise = refl;
   names = more_refl c.scopes;
-  kept = record { variables = refl; functions = refl; params = refl; walked = refl; length = refl; answer = refl; mems = refl; counted = λ (h : Counted c). record { bytes = h.bytes; small = h.small } };
+  kept = record { variables = refl; functions = refl; params = refl; walked = refl; length = refl; answer = refl; mems = refl; literals = λ i w e. e; counted = λ (h : Counted c). record { bytes = h.bytes; small = h.small } };
 }
 
 pub grows_emit : (line : ℕ) (kind : StmKind) (c : Context) → IsPlain kind → Grows c (emit line kind c)
@@ -111,7 +117,7 @@ grows_code c code e l = record {
   cases = refl;
   otherwise = refl;
   names = more_refl c.scopes;
-  kept = record { variables = refl; functions = refl; params = refl; walked = refl; length = refl; answer = refl; mems = refl; counted = λ (h : Counted c). record { bytes = h.bytes; small = h.small } };
+  kept = record { variables = refl; functions = refl; params = refl; walked = refl; length = refl; answer = refl; mems = refl; literals = λ i w e. e; counted = λ (h : Counted c). record { bytes = h.bytes; small = h.small } };
 }
 
 pub grows_told : (n : names.Context) (c : Context) → More c.scopes n.scopes → Grows c (told n c)
@@ -123,7 +129,7 @@ grows_told n c m = record {
   cases = refl;
   otherwise = refl;
   names = m;
-  kept = record { variables = refl; functions = refl; params = refl; walked = refl; length = refl; answer = refl; mems = refl; counted = λ (h : Counted c). record { bytes = h.bytes; small = h.small } };
+  kept = record { variables = refl; functions = refl; params = refl; walked = refl; length = refl; answer = refl; mems = refl; literals = λ i w e. e; counted = λ (h : Counted c). record { bytes = h.bytes; small = h.small } };
 }
 
 -- code that is forgotten again
@@ -144,6 +150,7 @@ grows_forgotten b c g = record {
     length = g.kept.length;
     answer = g.kept.answer;
     mems = g.kept.mems;
+    literals = g.kept.literals;
     counted = λ (h : Counted b). let k = g.kept.counted h in record { bytes = k.bytes; small = k.small };
   };
 }

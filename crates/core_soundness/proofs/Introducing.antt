@@ -64,7 +64,7 @@ module _ (line : ℕ) (name : List ℕ) (type : PlainType) (c : Context) (file :
   again t j e false q = record {
     passes = passes_beside flat (record flat { functions = c.functions ++ (record { name = name; defined = None }) ∷ [] }) refl refl refl
         (stays_beside flat (record flat { functions = c.functions ++ (record { name = name; defined = None }) ∷ [] }) s refl refl refl refl refl (λ k. k) refl
-        (again_tied c.functions file c.walked name t j e (ltb-false j (length c.functions) q)));
+        (again_tied c.functions file c.walked name t j e (ltb-false j (length c.functions) q)) (λ h. absurd (omega (arith, h))));
     type = t;
     there = e;
   }
@@ -75,7 +75,7 @@ module _ (line : ℕ) (name : List ℕ) (type : PlainType) (c : Context) (file :
   first_one e false q = record {
     passes = passes_beside flat (record (scopes_for None) { functions = c.functions ++ (record { name = name; defined = None }) ∷ [] }) refl refl refl
         (stays_beside flat (record (scopes_for None) { functions = c.functions ++ (record { name = name; defined = None }) ∷ [] }) (with_name_safe flat.scopes name (n.Function type (length c.functions)) refl s) refl refl refl refl refl (λ k. k) refl
-        (tied_function c.functions file c.walked name type e));
+        (tied_function c.functions file c.walked name type e) (λ h. absurd (omega (arith, h))));
     type = type;
     there = here c.functions file c.walked name type e;
   }

@@ -99,8 +99,8 @@ more_variable_bytes variables v = sum_by-append (λ (x : Variable). block_size x
     zero_first : (k : ℕ) → 0 + k ≡ k
     zero_first k = omega arith
 
-new_variable_stays : (line : ℕ) (name : List ℕ) (type : PlainType) (c : Context) → Safe c.scopes → Led (Stays c) (with_new_variable line name type c)
-new_variable_stays line name type c s = by (nat_lt 67108864 (c.static_bytes + block_size (size_or_zero c type))) refl
+new_variable_stays : (line : ℕ) (name : List ℕ) (type : PlainType) (c : Context) → Safe c.scopes → length c.scopes.inner ≡ 0 → Led (Stays c) (with_new_variable line name type c)
+new_variable_stays line name type c s flat = by (nat_lt 67108864 (c.static_bytes + block_size (size_or_zero c type))) refl
   where
     by : (t : Bool) → nat_lt 67108864 (c.static_bytes + block_size (size_or_zero c type)) ≡ t
         → Led (Stays c) (then (unless t StaticTooLarge line (good (record c { static_bytes = c.static_bytes + block_size (size_or_zero c type) }))) (λ d. good (record d { variables = d.variables ++ (record { name = name; layout = unwrap_or (layout_in d.tags type) no_layout; start = None }) ∷ [] })))
@@ -116,14 +116,15 @@ new_variable_stays line name type c s = by (nat_lt 67108864 (c.static_bytes + bl
         bytes = omega (arith, k.bytes, more_variable_bytes c.variables (record { name = name; layout = unwrap_or (layout_in c.tags type) no_layout; start = None }), ap block_size (same_size (layout_in c.tags type)));
         small = ltb-false 67108864 (c.static_bytes + block_size (size_or_zero c type)) e;
       };
+      inside = λ h. absurd (omega (arith, h, flat));
     })
 
-variable_stays : (line index : ℕ) (name : List ℕ) (type : PlainType) (c : Context) → Safe c.scopes → Led (Stays c) (with_variable line index name type c)
-variable_stays line index name type c s = by (nat_lt index (length c.variables))
+variable_stays : (line index : ℕ) (name : List ℕ) (type : PlainType) (c : Context) → Safe c.scopes → length c.scopes.inner ≡ 0 → Led (Stays c) (with_variable line index name type c)
+variable_stays line index name type c s flat = by (nat_lt index (length c.variables))
   where
     by : (t : Bool) → Led (Stays c) (cond t (Ok c) (with_new_variable line name type c))
     by true = led_ok (Stays c) c (passes_refl c s).stays
-    by false = new_variable_stays line name type c s
+    by false = new_variable_stays line name type c s flat
 
 set_bytes : (variables : List Variable) (index : ℕ) (v : Variable) (start : Option Start) → slice_get variables index ≡ Some v → variable_bytes (slice_set variables index (record v { start = start })) ≡ variable_bytes variables
 set_bytes [] index v start e = refl
@@ -139,8 +140,8 @@ started_bytes : (variables : List Variable) (index : ℕ) (start : Start) (v : O
 started_bytes variables index start None e = refl
 started_bytes variables index start (Some v) e = set_bytes variables index v (Some start) e
 
-started_stays : (index : ℕ) (d : Context × Target) → Safe d.0.scopes → Stays d.0 (started index d)
-started_stays index d s = record {
+started_stays : (index : ℕ) (d : Context × Target) → Safe d.0.scopes → length d.0.scopes.inner ≡ 0 → Stays d.0 (started index d)
+started_stays index d s flat = record {
   safe = s;
   depth = refl;
   tied = tied_refl d.0.functions d.0.scopes.file d.0.walked;
@@ -151,25 +152,26 @@ started_stays index d s = record {
     bytes = omega (arith, k.bytes, started_bytes d.0.variables index (start_in d.1) (slice_get d.0.variables index) refl);
     small = k.small;
   };
+  inside = λ h. absurd (omega (arith, h, flat));
 }
 
-fill_variable_stays : (line index : ℕ) (type : PlainType) (inits : Trees) (c : Context) → Safe c.scopes → Led (Stays c) (fill_variable line index type inits c)
-fill_variable_stays line index type none c s = led_ok (Stays c) c (passes_refl c s).stays
-fill_variable_stays line index type (init ▹ rest) c s =
+fill_variable_stays : (line index : ℕ) (type : PlainType) (inits : Trees) (c : Context) → Safe c.scopes → length c.scopes.inner ≡ 0 → Led (Stays c) (fill_variable line index type inits c)
+fill_variable_stays line index type none c s flat = led_ok (Stays c) c (passes_refl c s).stays
+fill_variable_stays line index type (init ▹ rest) c s flat =
     led_unless (Stays c) (is_some (start_of (slice_get c.variables index))) DeclaredTwice line _ (λ q.
     led_after (Stays c) (initialize init false type 0 (InStatic no_start) c) (λ d. Ok (started index d))
     (λ d h. let one = (initialize_fills init false type 0 (InStatic no_start) c s d h).stays in
-    led_ok (Stays c) (started index d) (stays_trans c d.0 _ one (started_stays index d one.safe))))
+    led_ok (Stays c) (started index d) (stays_trans c d.0 _ one (started_stays index d one.safe (one.depth ∙ flat)))))
 
-file_object_stays : (line : ℕ) (name : List ℕ) (type : PlainType) (inits : Trees) (c : Context) → Safe c.scopes → Led (Stays c) (file_object line name type inits c)
-file_object_stays line name type inits c s =
+file_object_stays : (line : ℕ) (name : List ℕ) (type : PlainType) (inits : Trees) (c : Context) → Safe c.scopes → length c.scopes.inner ≡ 0 → Led (Stays c) (file_object line name type inits c)
+file_object_stays line name type inits c s flat =
     let index = variable_number_of c (named_in name c.scopes.file) in
     led_unless (Stays c) (has_no_size c.tags type) Incomplete line _ (λ q.
     led_after (Stays c) (declared_as line name (n.Object type index) c) (λ d. then (with_variable line index name type d) (λ v. fill_variable line index type inits v))
     (λ d h. let one = (declared_passes line name (n.Object type index) c c refl tt (passes_refl c s) d h).stays in
     led_after (Stays c) (with_variable line index name type d) (λ v. fill_variable line index type inits v)
-    (λ v k x e. let two = variable_stays line index name type d one.safe v k in
-    stays_trans c v x (stays_trans c d v one two) (fill_variable_stays line index type inits v two.safe x e))))
+    (λ v k x e. let two = variable_stays line index name type d one.safe (one.depth ∙ flat) v k in
+    stays_trans c v x (stays_trans c d v one two) (fill_variable_stays line index type inits v two.safe (two.depth ∙ one.depth ∙ flat) x e))))
 
 file_function_stays : (line : ℕ) (name : List ℕ) (type : PlainType) (inits : Trees) (c : Context) → Safe c.scopes → length c.scopes.inner ≡ 0 → Led (Stays c) (file_function line name type inits c)
 file_function_stays line name type inits c s flat =
@@ -181,7 +183,7 @@ file_value_stays line name type inits c s flat = by (is_function type)
   where
     by : (t : Bool) → Led (Stays c) (cond t (file_function line name type inits c) (file_object line name type inits c))
     by true = file_function_stays line name type inits c s flat
-    by false = file_object_stays line name type inits c s
+    by false = file_object_stays line name type inits c s flat
 
 file_name_stays : (line : ℕ) (storage : Storage) (name : List ℕ) (type : PlainType) (inits : Trees) (c : Context) → Safe c.scopes → length c.scopes.inner ≡ 0 → Led (Stays c) (file_name line storage name type inits c)
 file_name_stays line Typedef name type inits c s flat = λ d h. (declared_passes line name (n.Typedef type) c c refl tt (passes_refl c s) d h).stays
@@ -206,7 +208,7 @@ name_in_declares true line storage (Some name) type inits c s flat =
     λ d h. record { stays = file_name_stays line storage name type inits c s (flat refl) d h; passes = λ e. absurd (true≢false e) }
 name_in_declares false line storage (Some name) type inits c s flat = λ d h. passed false c d (local_name_passes line storage name type inits c c (passes_refl c s) d h)
 
-entry_declares : (file : Bool) (line : ℕ) (storage : Storage) (base : PlainType) (declarator : Tree) (inits : Trees) (c : Context) → Safe c.scopes → (file ≡ true → length c.scopes.inner ≡ 0) → Led (Declares file c) (entry file line storage base declarator inits c)
+pub entry_declares : (file : Bool) (line : ℕ) (storage : Storage) (base : PlainType) (declarator : Tree) (inits : Trees) (c : Context) → Safe c.scopes → (file ≡ true → length c.scopes.inner ≡ 0) → Led (Declares file c) (entry file line storage base declarator inits c)
 entry_declares file line storage base declarator inits c s flat =
     led_after (Declares file c) (layers declarator c) (λ l. then (with_init_layers l.0.tags l.1 inits base) (λ type. name_in file line storage (name_of declarator) type inits l.0))
     (λ l h. let one = layers_pass declarator c c (passes_refl c s) l h in
@@ -227,7 +229,7 @@ specs_alone_passes (Node f.Specs (At line ▹ Node (f.RecordTag sort) (At at ▹
     with_type_passes (tag_named at sort name (asked c) (named_in (tag_name name) (innermost c.scopes))) c c (tag_after at sort name (asked c) (named_in (tag_name name) (innermost c.scopes))) (passes_refl c s)
 specs_alone_passes tree c s = specs_passes tree c c (passes_refl c s)
 
-specs_before_passes : (tree : Tree) (names : Trees) (c : Context) → Safe c.scopes → Reached (Passes c) (specs_before tree names c)
+pub specs_before_passes : (tree : Tree) (names : Trees) (c : Context) → Safe c.scopes → Reached (Passes c) (specs_before tree names c)
 specs_before_passes tree none c s = specs_alone_passes tree c s
 specs_before_passes tree (name ▹ rest) c s = specs_passes tree c c (passes_refl c s)
 

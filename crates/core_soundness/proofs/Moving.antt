@@ -7,13 +7,15 @@ use Rattle.core_tree.specs.declared.statements.Atom.{Atom}
 use Rattle.core_tree.specs.declared.statements.StmKind.TheVariants.{Enter, Leave}
 use Rattle.c_tree.specs.Tree.{Tree}
 use Rattle.c_decls.specs.TypeNames as names
-use Rattle.elaboration.specs.Context.{Context, Walked, told, emit, anew}
+use Rattle.elaboration.specs.Context.{Context, Walked, asked, told, emit, anew}
 use Rattle.elaboration.specs.Conversions.{Found, Spot, code_line, valued, write}
 use Rattle.elaboration.specs.Reallocates.{reallocates, opened, closed}
 use Rattle.elaboration.specs.Expressions.{found}
 use Rattle.core_soundness.specs.Whole.{Whole}
 use Rattle.core_soundness.specs.Written.{Written}
 use Rattle.core_soundness.proofs.WholeTypes.{extends_refl, whole_stays}
+use Rattle.core_soundness.proofs.TypedNames.{Leads}
+use Rattle.core_soundness.proofs.TagKinds.{Kinds, kinds_refl}
 use Rattle.core_soundness.proofs.TypedWhole.{Fit}
 use Rattle.core_soundness.specs.Ranges.{AtomIn, PiecesIn}
 use Rattle.core_soundness.specs.Solid.{Solid}
@@ -47,39 +49,40 @@ same_walked c d g k = subst WalkedIn (sym g.kept.walked) k
 pub record Rises (c d : Context) : Type 0 where
   pub solid : Solid d
   pub more : Extends (K c) (K d)
+  pub kinds : Kinds c d
   pub code : In c → In d
   pub cases : Cases c → Cases d
   pub walked : WalkedIn c.walked → WalkedIn d.walked
 
 pub rises_refl : (c : Context) → Solid c → Rises c c
-rises_refl c h = record { solid = h; more = extends_refl (K c); code = λ k. k; cases = λ k. k; walked = λ k. k }
+rises_refl c h = record { solid = h; more = extends_refl (K c); kinds = kinds_refl c; code = λ k. k; cases = λ k. k; walked = λ k. k }
 
 pub rises_trans : (a b c : Context) → Rises a b → Rises b c → Rises a c
-rises_trans a b c x y = record { solid = y.solid; more = λ tag l e. y.more tag l (x.more tag l e); code = λ k. y.code (x.code k); cases = λ k. y.cases (x.cases k); walked = λ k. y.walked (x.walked k) }
+rises_trans a b c x y = record { solid = y.solid; more = λ tag l e. y.more tag l (x.more tag l e); kinds = record { made = λ i u e. y.kinds.made i u (x.kinds.made i u e); sorts = λ ks. y.kinds.sorts (x.kinds.sorts ks) }; code = λ k. y.code (x.code k); cases = λ k. y.cases (x.cases k); walked = λ k. y.walked (x.walked k) }
 
 -- the same with code that is known
 pub with_code : (c d : Context) → base.Rises c d → (In c → In d) → (Cases c → Cases d) → (WalkedIn c.walked → WalkedIn d.walked) → Rises c d
-with_code c d r k m w = record { solid = r.solid; more = r.more; code = k; cases = m; walked = w }
+with_code c d r k m w = record { solid = r.solid; more = r.more; kinds = r.kinds; code = k; cases = m; walked = w }
 
 pub opened_rises : (e : Tree) (c : Context) → Solid c → Rises c (opened e c)
 opened_rises e c h = by (reallocates c.scopes e)
   where
     by : (r : Bool) → Rises c (cond r (emit (code_line e) Enter (anew c)) (anew c))
-    by true = record { solid = h; more = extends_refl (K c); code = λ k. in_emit (code_line e) Enter (anew c) k (tt, tt); cases = λ k. k; walked = λ k. k }
-    by false = record { solid = h; more = extends_refl (K c); code = λ k. k; cases = λ k. k; walked = λ k. k }
+    by true = record { solid = h; more = extends_refl (K c); kinds = kinds_refl c; code = λ k. in_emit (code_line e) Enter (anew c) k (tt, tt); cases = λ k. k; walked = λ k. k }
+    by false = record { solid = h; more = extends_refl (K c); kinds = kinds_refl c; code = λ k. k; cases = λ k. k; walked = λ k. k }
 
 pub closed_rises : (e : Tree) (c : Context) → Solid c → Rises c (closed e c)
 closed_rises e c h = by (reallocates c.scopes e)
   where
     by : (r : Bool) → Rises c (cond r (emit (code_line e) Leave c) c)
-    by true = record { solid = h; more = extends_refl (K c); code = λ k. in_emit (code_line e) Leave c k (tt, tt); cases = λ k. k; walked = λ k. k }
+    by true = record { solid = h; more = extends_refl (K c); kinds = kinds_refl c; code = λ k. in_emit (code_line e) Leave c k (tt, tt); cases = λ k. k; walked = λ k. k }
     by false = rises_refl c h
 
 pub write_rises : (line : ℕ) (type : PlainType) (spot : Spot) (a : Atom) (c : Context) → Solid c → (In c → SpotIn spot × AtomIn a) → Rises c (write line type spot a c)
 write_rises line type spot a c h s = with_code c _ (base.write_rises line type spot a c h) (λ k. let r = s k in write_in line type spot a c k r.0 r.1) (same_cases c _ (grows_write line type spot a c)) (same_walked c _ (grows_write line type spot a c))
 
-pub told_rises : (c : Context) (n : names.Context) (h : Solid c) → Fit c.tags.completed h.made n → Rises c (told n c)
-told_rises c n h f = with_code c _ (base.told_rises c n h f) (λ k. k) (λ k. k) (λ k. k)
+pub told_rises : (c : Context) (n : names.Context) (h : Solid c) → Fit c.tags.completed h.made n → Leads (asked c) n → Rises c (told n c)
+told_rises c n h f l = with_code c _ (base.told_rises c n h f l) (λ k. k) (λ k. k) (λ k. k)
 
 -- an expression that was gone through
 pub record Went (c : Context) (z : Context × Found) : Type 0 where

@@ -1,5 +1,5 @@
 -- What a part of a function, or of a text, leaves as it was.
-use Rattle.std.proofs.Common.{◌≡◌, ◌≤◌, ◌+◌, ℕ, Bool, true, false, ◌||◌, cond, List, [], ◌∷◌, ◌++◌, length, refl, sym, ap, ◌∙◌, subst, arith, append_assoc, append-nil}
+use Rattle.std.proofs.Common.{◌≡◌, ◌≤◌, ◌+◌, ℕ, Bool, true, false, ◌||◌, cond, List, [], ◌∷◌, ◌++◌, length, slice_get, Some, refl, sym, ap, ◌∙◌, subst, arith, append_assoc, append-nil}
 use Rattle.core_tree.specs.declared.statements.StmKind.TheVariants.{Enter, Leave}
 use Rattle.c_tree.specs.Words as w
 use Rattle.c_tree.specs.Forms as f
@@ -13,11 +13,13 @@ use Rattle.core_soundness.proofs.Names.{Safe, SafeTable, More, same_frees, more_
 use Rattle.core_soundness.proofs.Owners.{Tied, tied_trans, tied_same, more_keeps, more_depth}
 use Rattle.core_soundness.proofs.Growth.{Counted, Grows, grows_code, grows_trans}
 use Rattle.core_soundness.proofs.Forks.{recoded}
+use Rattle.core_soundness.proofs.Settled.{ObjectsStay, Settled, settled_trans, grows_settled}
 
 -- what every part leaves as it was
 pub record Stays (c d : Context) : Type 0 where
   pub safe : Safe d.scopes
   pub depth : length d.scopes.inner ≡ length c.scopes.inner
+  pub inside : 1 ≤ length c.scopes.inner → Settled c d
   pub tied : Tied c.functions c.scopes.file c.walked d.functions d.scopes.file d.walked
   pub walked : d.walked ≡ c.walked
   pub length : d.length ≡ c.length
@@ -25,7 +27,7 @@ pub record Stays (c d : Context) : Type 0 where
   pub counted : Counted c → Counted d
 
 pub stays_trans : (a b c : Context) → Stays a b → Stays b c → Stays a c
-stays_trans a b c x y = record { safe = y.safe; depth = y.depth ∙ x.depth; tied = tied_trans a.functions b.functions c.functions a.scopes.file b.scopes.file c.scopes.file a.walked b.walked c.walked x.tied y.tied; walked = y.walked ∙ x.walked; length = y.length ∙ x.length; params = λ h. y.params (x.params h); counted = λ h. y.counted (x.counted h) }
+stays_trans a b c x y = record { safe = y.safe; depth = y.depth ∙ x.depth; tied = tied_trans a.functions b.functions c.functions a.scopes.file b.scopes.file c.scopes.file a.walked b.walked c.walked x.tied y.tied; walked = y.walked ∙ x.walked; length = y.length ∙ x.length; params = λ h. y.params (x.params h); counted = λ h. y.counted (x.counted h); inside = λ h. settled_trans a b c (x.inside h) (y.inside (omega (arith, h, x.depth))) }
 
 -- a part whose code goes to its end alone
 pub record Passes (c d : Context) : Type 0 where
@@ -49,7 +51,7 @@ passes_trans a b c x y = record {
 }
 
 pub grows_stays : (c d : Context) → Safe c.scopes → Grows c d → Stays c d
-grows_stays c d s g = record { safe = more_safe c.scopes d.scopes g.names s; depth = more_depth c.scopes d.scopes g.names; tied = tied_same c.functions d.functions c.scopes.file d.scopes.file c.walked d.walked g.kept.functions g.kept.walked (more_keeps c.scopes d.scopes g.names); walked = g.kept.walked; length = g.kept.length; params = λ h. subst SafeTable (sym g.kept.params) h; counted = g.kept.counted }
+grows_stays c d s g = record { safe = more_safe c.scopes d.scopes g.names s; depth = more_depth c.scopes d.scopes g.names; tied = tied_same c.functions d.functions c.scopes.file d.scopes.file c.walked d.walked g.kept.functions g.kept.walked (more_keeps c.scopes d.scopes g.names); walked = g.kept.walked; length = g.kept.length; params = λ h. subst SafeTable (sym g.kept.params) h; counted = g.kept.counted; inside = λ h. grows_settled c d g }
 
 pub grows_passes : (c d : Context) → Safe c.scopes → Grows c d → Passes c d
 grows_passes c d s g = record {
@@ -75,8 +77,8 @@ passes_beside c d e same same2 s = record {
 }
 
 pub stays_beside : (c d : Context) → Safe d.scopes → d.walked ≡ c.walked → d.length ≡ c.length → d.static_bytes ≡ c.static_bytes → d.variables ≡ c.variables → d.literals ≡ c.literals → (SafeTable c.params → SafeTable d.params) → length d.scopes.inner ≡ length c.scopes.inner
-    → Tied c.functions c.scopes.file c.walked d.functions d.scopes.file d.walked → Stays c d
-stays_beside c d s e1 e2 e3 e4 e5 keep deep tie = record {
+    → Tied c.functions c.scopes.file c.walked d.functions d.scopes.file d.walked → (1 ≤ length c.scopes.inner → ObjectsStay c.scopes.file d.scopes.file) → Stays c d
+stays_beside c d s e1 e2 e3 e4 e5 keep deep tie objects = record {
   safe = s;
   depth = deep;
   tied = tie;
@@ -84,6 +86,7 @@ stays_beside c d s e1 e2 e3 e4 e5 keep deep tie = record {
   length = e2;
   params = keep;
   counted = λ (h : Counted c). record { bytes = cc (h.bytes); small = subst (λ n. n ≤ 67108864) (sym e3) h.small };
+  inside = λ h. record { variables = e4; literals = λ i w q. subst (λ (ls : List (List ℕ)). slice_get ls i ≡ Some w) (sym e5) q; objects = objects h };
 }
 
 -- full expressions
@@ -150,5 +153,5 @@ pub opened_stays : (e : Tree) (c d : Context) → Safe c.scopes → Grows (opene
 opened_stays e c d s = by (reallocates c.scopes e)
   where
     by : (r : Bool) → Grows (cond r (emit (code_line e) Enter (anew c)) (anew c)) d → Stays c d
-    by true g = record { safe = more_safe c.scopes d.scopes g.names s; depth = more_depth c.scopes d.scopes g.names; tied = tied_same c.functions d.functions c.scopes.file d.scopes.file c.walked d.walked g.kept.functions g.kept.walked (more_keeps c.scopes d.scopes g.names); walked = g.kept.walked; length = g.kept.length; params = λ k. subst SafeTable (sym g.kept.params) k; counted = λ (h : Counted c). g.kept.counted (record { bytes = h.bytes; small = h.small }) }
-    by false g = record { safe = more_safe c.scopes d.scopes g.names s; depth = more_depth c.scopes d.scopes g.names; tied = tied_same c.functions d.functions c.scopes.file d.scopes.file c.walked d.walked g.kept.functions g.kept.walked (more_keeps c.scopes d.scopes g.names); walked = g.kept.walked; length = g.kept.length; params = λ k. subst SafeTable (sym g.kept.params) k; counted = λ (h : Counted c). g.kept.counted (record { bytes = h.bytes; small = h.small }) }
+    by true g = record { safe = more_safe c.scopes d.scopes g.names s; depth = more_depth c.scopes d.scopes g.names; tied = tied_same c.functions d.functions c.scopes.file d.scopes.file c.walked d.walked g.kept.functions g.kept.walked (more_keeps c.scopes d.scopes g.names); walked = g.kept.walked; length = g.kept.length; params = λ k. subst SafeTable (sym g.kept.params) k; counted = λ (h : Counted c). g.kept.counted (record { bytes = h.bytes; small = h.small }); inside = λ h. let k = grows_settled _ d g in record { variables = k.variables; literals = k.literals; objects = k.objects } }
+    by false g = record { safe = more_safe c.scopes d.scopes g.names s; depth = more_depth c.scopes d.scopes g.names; tied = tied_same c.functions d.functions c.scopes.file d.scopes.file c.walked d.walked g.kept.functions g.kept.walked (more_keeps c.scopes d.scopes g.names); walked = g.kept.walked; length = g.kept.length; params = λ k. subst SafeTable (sym g.kept.params) k; counted = λ (h : Counted c). g.kept.counted (record { bytes = h.bytes; small = h.small }); inside = λ h. let k = grows_settled _ d g in record { variables = k.variables; literals = k.literals; objects = k.objects } }

@@ -38,6 +38,8 @@ use Rattle.core_soundness.proofs.Quiet.{quiet_tested_value}
 use Rattle.core_soundness.proofs.Agreeing.{came, left_typed}
 use Rattle.core_soundness.proofs.Reached.{Led, led_ok, led_after}
 use Rattle.core_soundness.proofs.WholeTypes.{nothing, whole_stays, all_stay, extends_refl, made_sized}
+use Rattle.core_soundness.proofs.TypedNames.{typename_leads}
+use Rattle.core_soundness.proofs.TagKinds.{kinds_refl}
 use Rattle.core_soundness.proofs.TypedWhole.{led_cond, found_whole, called_whole, typed_good, typename_good, CW}
 use Rattle.core_soundness.specs.Ranges.{AtomsIn}
 use Rattle.core_soundness.proofs.Ranges.{In, small_number}
@@ -90,21 +92,21 @@ pub tested_solid : (e : Tree) (d : Context × Found) → Solid d.0 → Rises d.0
 tested_solid e d h = same_rises d.0 _ (same_kept d.0 _ (quiet_tested_value e d) (grows_tested (code_line e) d.1.typed.type (atom_in d.1) d.0).kept) h
 
 then_solid : (line : ℕ) (e : Tree) (d : Context × Found) → Solid d.0 → Rises d.0 (and_then line e d)
-then_solid line e d h = let r = tested_solid e d h in record { solid = r.solid; more = r.more }
+then_solid line e d h = let r = tested_solid e d h in record { solid = r.solid; more = r.more; kinds = r.kinds }
 
 else_solid : (line : ℕ) (e : Tree) (d : Context × Found) → Solid d.0 → Rises d.0 (or_else line e d).0
-else_solid line e d h = let r = tested_solid e d h in record { solid = r.solid; more = r.more }
+else_solid line e d h = let r = tested_solid e d h in record { solid = r.solid; more = r.more; kinds = r.kinds }
 
 left_solid : (op : BinaryOp) (before : Code) (right : Tree) (d : Context × Found) → Solid d.0 → Rises d.0 (left_operand op before right d).0
 left_solid op before right d h = by (tells_equal op && is_null_constant d.1.typed && is_pointer_ahead (ahead right d.0))
   where
     by : (t : Bool) → Rises d.0 (cond t (forget before d.0, found_as d.1.typed (Value atom.Null) Nowhere) d).0
-    by true = record { solid = h; more = extends_refl (K d.0) }
+    by true = record { solid = h; more = extends_refl (K d.0); kinds = kinds_refl d.0 }
     by false = rises_refl d.0 h
 
 chosen_solid : (line : ℕ) (base : Context) (type : PlainType) (x : Context × Found) → Grows base x.0 → Solid x.0 → Rises x.0 (chosen_by line base.code type x.1.typed (x.0, atom_in x.1)).0
-chosen_solid line base (Int ty) x g h = let r = converted_rises line base (Int ty) x g h in record { solid = r.solid; more = r.more }
-chosen_solid line base (Pointer target) x g h = let r = converted_rises line base (Pointer target) x g h in record { solid = r.solid; more = r.more }
+chosen_solid line base (Int ty) x g h = let r = converted_rises line base (Int ty) x g h in record { solid = r.solid; more = r.more; kinds = r.kinds }
+chosen_solid line base (Pointer target) x g h = let r = converted_rises line base (Pointer target) x g h in record { solid = r.solid; more = r.more; kinds = r.kinds }
 chosen_solid line base Void x g h = rises_refl x.0 h
 chosen_solid line base (ct.Array element m) x g h = rises_refl x.0 h
 chosen_solid line base (ct.Struct tag) x g h = rises_refl x.0 h
@@ -112,7 +114,7 @@ chosen_solid line base (ct.Union tag) x g h = rises_refl x.0 h
 chosen_solid line base (ct.Function answer params) x g h = rises_refl x.0 h
 
 first_solid : (line other : ℕ) (base : Context) (type : PlainType) (x : Context × Found) → Grows base x.0 → Solid x.0 → Rises x.0 (choose_first line other base.code type x).0
-first_solid line other base type x g h = let r = chosen_solid line base type x g h in record { solid = r.solid; more = r.more }
+first_solid line other base type x g h = let r = chosen_solid line base type x g h in record { solid = r.solid; more = r.more; kinds = r.kinds }
 
 changing_ok : (tree : Tree) (answer : With Found) (z : Context × Found) → changing tree answer ≡ Ok z → answer ≡ Ok z
 changing_ok tree answer z h =
@@ -249,7 +251,7 @@ mutual
       let begun = told y.value.0 c in
       let d = came (valued e (found e y.value.1 begun)) (λ d. cast_to line y.value.1 c.code d.0 d.1) z y.last in
       let k = typename_good c.tags.completed h.made name (asked c) (fit_of c h) y.value y.is in
-      let hb = told_rises c y.value.0 h k.0 in
+      let hb = told_rises c y.value.0 h k.0 (typename_leads name (asked c) y.value y.is) in
       let one = valued_in e y.value.1 begun d.value (λ x s. found_in e y.value.1 begun x hb.solid v.1.1.1.0 (told_whole c y.value.0 h y.value.1 k.0 k.1) g s) d.is in
       cast_in line y.value.1 c.code d.value.0 d.value.1 g one.0 one.1 z d.last
   found_in (Node (f.Binary b.And) (At line ▹ e ▹ e2 ▹ none)) wish c z h v t g q =

@@ -32,6 +32,8 @@ use Rattle.core_soundness.proofs.Quiet.{quiet_convert, quiet_write}
 use Rattle.core_soundness.proofs.Agreeing.{valued_agrees}
 use Rattle.core_soundness.proofs.Agreement.{found_agrees}
 use Rattle.core_soundness.proofs.WholeTypes.{nothing, all_stay, extends_refl, is_layout}
+use Rattle.core_soundness.proofs.TypedNames.{Leads, typed_leads, wanted_leads}
+use Rattle.core_soundness.proofs.TagKinds.{Kinds, kinds_refl, leads_kinds, same_kinds}
 use Rattle.core_soundness.proofs.TypedWhole.{Fit, LayersWhole, LayerWhole, typed_good, wanted_good}
 
 -- numbers that registers hold
@@ -64,12 +66,13 @@ K c = known c.tags.completed
 pub record Rises (c d : Context) : Type 0 where
   pub solid : Solid d
   pub more : Extends (K c) (K d)
+  pub kinds : Kinds c d
 
 pub rises_refl : (c : Context) → Solid c → Rises c c
-rises_refl c h = record { solid = h; more = extends_refl (K c) }
+rises_refl c h = record { solid = h; more = extends_refl (K c); kinds = kinds_refl c }
 
 pub rises_trans : (a b c : Context) → Rises a b → Rises b c → Rises a c
-rises_trans a b c x y = record { solid = y.solid; more = λ tag l e. y.more tag l (x.more tag l e) }
+rises_trans a b c x y = record { solid = y.solid; more = λ tag l e. y.more tag l (x.more tag l e); kinds = record { made = λ i u e. y.kinds.made i u (x.kinds.made i u e); sorts = λ ks. y.kinds.sorts (x.kinds.sorts ks) } }
 
 -- what keeps all of this
 pub record Same (c d : Context) : Type 0 where
@@ -95,6 +98,7 @@ same_rises c d e h =
         functions = subst WalkedLaid (sym e.walked) h.functions;
       };
       more = λ tag l q. ap (λ (x : List CompletedTag). known x tag) tags ∙ q;
+      kinds = same_kinds c d e.known e.params;
     }
 
 -- what grew from the same context, with the same scopes and tags
@@ -117,14 +121,14 @@ pub opened_rises : (e : Tree) (c : Context) → Solid c → Rises c (opened e c)
 opened_rises e c h = by (reallocates c.scopes e)
   where
     by : (r : Bool) → Rises c (cond r (emit (code_line e) Enter (anew c)) (anew c))
-    by true = record { solid = h; more = extends_refl (K c) }
-    by false = record { solid = h; more = extends_refl (K c) }
+    by true = record { solid = h; more = extends_refl (K c); kinds = kinds_refl c }
+    by false = record { solid = h; more = extends_refl (K c); kinds = kinds_refl c }
 
 pub closed_rises : (e : Tree) (c : Context) → Solid c → Rises c (closed e c)
 closed_rises e c h = by (reallocates c.scopes e)
   where
     by : (r : Bool) → Rises c (cond r (emit (code_line e) Leave c) c)
-    by true = record { solid = h; more = extends_refl (K c) }
+    by true = record { solid = h; more = extends_refl (K c); kinds = kinds_refl c }
     by false = rises_refl c h
 
 -- expressions
@@ -135,8 +139,8 @@ Fits_in c n = (n.tags.completed ≡ c.tags.completed) × NamesWhole (K c) n.scop
 pub fit_of : (c : Context) (h : Solid c) → Fit c.tags.completed h.made (asked c)
 fit_of c h = record { completed = refl; names = h.names }
 
-found_fits : (c d : Context) → Solid c → Fits_in c (asked d) → Kept c d → Rises c d
-found_fits c d h f k =
+found_fits : (c d : Context) → Solid c → Fits_in c (asked d) → Kept c d → Leads (asked c) (asked d) → Rises c d
+found_fits c d h f k l =
     record {
       solid = record {
         made = subst (λ (x : List CompletedTag). AreMade nothing x) (sym f.0) h.made;
@@ -148,6 +152,7 @@ found_fits c d h f k =
         functions = subst WalkedLaid (sym k.walked) h.functions;
       };
       more = λ tag l q. ap (λ (x : List CompletedTag). known x tag) f.0 ∙ q;
+      kinds = leads_kinds c d l k.params f.0;
     }
 
 -- an expression that was elaborated, and the value of one
@@ -160,14 +165,14 @@ pub found_gone : (e : Tree) (wish : PlainType) (c : Context) (z : Context × Fou
 found_gone e wish c z h q =
     let g = typed_good c.tags.completed h.made e (asked c) (fit_of c h) (asked z.0, z.1.typed) (found_agrees e wish c z q) in
     let k = found_grows e wish c c (grows_refl c) z q in
-    record { rises = found_fits c z.0 h (g.0.completed, g.0.names) k.kept; grows = k; whole = subst (λ (x : List CompletedTag). Whole (known x) z.1.typed.type) (sym g.0.completed) g.1 }
+    record { rises = found_fits c z.0 h (g.0.completed, g.0.names) k.kept (typed_leads e (asked c) (asked z.0, z.1.typed) (found_agrees e wish c z q)); grows = k; whole = subst (λ (x : List CompletedTag). Whole (known x) z.1.typed.type) (sym g.0.completed) g.1 }
 
 pub value_gone : (e : Tree) (wish : PlainType) (c : Context) (z : Context × Found) → Solid c → valued e (found e wish c) ≡ Ok z → Gone c z
 value_gone e wish c z h q =
     let agreed = valued_agrees e (found e wish c) (typed e (asked c)) z (λ x k. found_agrees e wish c x k) q in
     let g = wanted_good c.tags.completed h.made e (typed e (asked c)) (typed_good c.tags.completed h.made e (asked c) (fit_of c h)) (asked z.0, z.1.typed) agreed in
     let k = grown_valued e c (found e wish c) (found_grows e wish c c (grows_refl c)) z q in
-    record { rises = found_fits c z.0 h (g.0.completed, g.0.names) k.kept; grows = k; whole = subst (λ (x : List CompletedTag). Whole (known x) z.1.typed.type) (sym g.0.completed) g.1 }
+    record { rises = found_fits c z.0 h (g.0.completed, g.0.names) k.kept (wanted_leads (asked c) e (typed e (asked c)) (typed_leads e (asked c)) (asked z.0, z.1.typed) agreed); grows = k; whole = subst (λ (x : List CompletedTag). Whole (known x) z.1.typed.type) (sym g.0.completed) g.1 }
 
 -- the value of a full expression
 pub full_value : (e : Tree) (wish : PlainType) (c : Context) (z : Context × Found) → Solid c → valued e (found e wish (opened e c)) ≡ Ok z → Rises c z.0
@@ -175,8 +180,8 @@ full_value e wish c z h q =
     let o = opened_rises e c h in rises_trans c (opened e c) z.0 o (value_gone e wish (opened e c) z o.solid q).rises
 
 -- other scopes and tags that were asked for
-pub told_rises : (c : Context) (n : names.Context) (h : Solid c) → Fit c.tags.completed h.made n → Rises c (told n c)
-told_rises c n h f = record {
+pub told_rises : (c : Context) (n : names.Context) (h : Solid c) → Fit c.tags.completed h.made n → Leads (asked c) n → Rises c (told n c)
+told_rises c n h f l = record {
   solid = record {
     made = subst (λ (x : List CompletedTag). AreMade nothing x) (sym f.completed) h.made;
     names = subst (λ (x : List CompletedTag). NamesWhole (known x) n.scopes) (sym f.completed) f.names;
@@ -187,6 +192,7 @@ told_rises c n h f = record {
     functions = h.functions;
   };
   more = λ tag l q. ap (λ (x : List CompletedTag). known x tag) f.completed ∙ q;
+  kinds = leads_kinds c (told n c) l refl f.completed;
 }
 
 pub told_whole : (c : Context) (n : names.Context) (h : Solid c) (type : PlainType) → Fit c.tags.completed h.made n → Whole (K c) type → Whole (K (told n c)) type

@@ -18,7 +18,7 @@ use Rattle.c_tree.specs.Tree.{Tree, Trees, Leaf, At, Node, none, ◌▹◌, coun
 use Rattle.c_tree.specs.Scopes.{name_of}
 use Rattle.c_decls.specs.declared.refusal.TypeKind.TheVariants.{Operands, Assignment, NotConstant, DeclaredTwice, Incomplete, LeftOut, StaticTooLarge}
 use Rattle.c_decls.specs.Named as n
-use Rattle.c_decls.specs.ScopeList.{named_in, innermost, tag_name}
+use Rattle.c_decls.specs.ScopeList.{named_in, innermost, tag_name, after_declaration}
 use Rattle.c_decls.specs.Refusals.{Checked, refused, then, unless}
 use Rattle.c_decls.specs.Typed.{is_function, has_no_size}
 use Rattle.c_decls.specs.TypeNames.{Layer, ArrayOf, layered_before, tag_named}
@@ -51,9 +51,16 @@ use Rattle.core_soundness.proofs.Within.{Within, PartsIn, within_stays, parts_st
 use Rattle.core_soundness.proofs.Solid as base
 use Rattle.core_soundness.specs.Solid.{VariablesLaid, Solid}
 use Rattle.core_soundness.proofs.Solid.{variables_push, K, same_kept, same_rises, converted_rises, laid, fit_of}
+use Rattle.c_types.proofs.MemberLemmas.{Extends}
+use Rattle.core_soundness.proofs.Growth.{Longer}
+use Rattle.core_soundness.proofs.Operating.{passed}
+use Rattle.core_soundness.proofs.TypedNames.{tag_leads}
+use Rattle.core_soundness.proofs.TagSorts.{SortedType, type_longer, innermost_sorted}
+use Rattle.core_soundness.proofs.SortedTypes.{tag_sorted, init_layers_sorted}
+use Rattle.core_soundness.proofs.TagKinds.{Sorts, kinds_refl}
 use Rattle.core_soundness.proofs.Working.{grows_convert, grows_write}
 use Rattle.core_soundness.proofs.Moving.{same_cases, same_walked, Rises, rises_refl, rises_trans, opened_rises, closed_rises, went_rises, found_went, value_went}
-use Rattle.core_soundness.proofs.SolidLayers.{T, R1, named_rises, declared_rises, memory_rises, has_size, specs_rise, layers_rise, asked_type_rises}
+use Rattle.core_soundness.proofs.SolidLayers.{T, R1, named_rises, declared_rises, typedef_rises, memory_rises, has_size, specs_rise, layers_rise, asked_type_rises}
 
 -- initializers
 
@@ -74,6 +81,7 @@ scalar_value e at type c d h w t q =
       rises = record {
         solid = a.solid;
         more = λ tag l y. a.more tag l (g.more tag l (o.more tag l y));
+        kinds = record { made = λ i u e. a.kinds.made i u (g.kinds.made i u (o.kinds.made i u e)); sorts = λ ks. a.kinds.sorts (g.kinds.sorts (o.kinds.sorts ks)) };
         code = λ k. let r = v.fits (o.code k) in (convert_in at begun.code type d.1.typed (atom_in d.1) d.0 (o.code k) r.0 (spot_atom d.1.spot r.1)).0;
         cases = λ k. same_cases begun x.0 (grows_convert at begun type d.1.typed (atom_in d.1) d.0 v.gone.grows) (o.cases k);
         walked = λ k. same_walked begun x.0 (grows_convert at begun type d.1.typed (atom_in d.1) d.0 v.gone.grows) (o.walked k);
@@ -92,6 +100,7 @@ fill_scalar_rises e line type offset (InRegister at register) c d h w t m q =
     (record {
       solid = z.solid;
       more = λ tag l y. z.more tag l (b.more tag l (v.rises.more tag l y));
+      kinds = record { made = λ i u e. z.kinds.made i u (b.kinds.made i u (v.rises.kinds.made i u e)); sorts = λ ks. z.kinds.sorts (b.kinds.sorts (v.rises.kinds.sorts ks)) };
       code = λ k. z.code (write_in at type (Local register) x.1 x.0 (v.rises.code k) tt (v.fits k));
       cases = λ k. z.cases (same_cases x.0 s (grows_write at type (Local register) x.1 x.0) (v.rises.cases k));
       walked = λ k. z.walked (same_walked x.0 s (grows_write at type (Local register) x.1 x.0) (v.rises.walked k));
@@ -107,6 +116,7 @@ fill_scalar_rises e line type offset (InMemory at mem) c d h w t m q =
     (record {
       solid = z.solid;
       more = λ tag l y. z.more tag l (b.more tag l (v.rises.more tag l y));
+      kinds = record { made = λ i u e. z.kinds.made i u (b.kinds.made i u (v.rises.kinds.made i u e)); sorts = λ ks. z.kinds.sorts (b.kinds.sorts (v.rises.kinds.sorts ks)) };
       code = λ k. let p = in_pointer at (λ p. Off p (atom.Mem mem) (pos offset)) x.0 (v.rises.code k) (λ r. ((tt, tt), m)) in z.code (write_in at type (Memory place.1) x.1 place.0 p.0 p.1 (v.fits k));
       cases = λ k. z.cases (same_cases place.0 s (grows_write at type (Memory place.1) x.1 place.0) (v.rises.cases k));
       walked = λ k. z.walked (same_walked place.0 s (grows_write at type (Memory place.1) x.1 place.0) (v.rises.walked k));
@@ -131,6 +141,7 @@ fill_record_rises e line type offset c d (InMemory at mem) r f t m =
     (record {
       solid = z.solid;
       more = λ tag l y. z.more tag l (r.more tag l y);
+      kinds = record { made = λ i u e. z.kinds.made i u (r.kinds.made i u e); sorts = λ ks. z.kinds.sorts (r.kinds.sorts ks) };
       code = λ k.
           let p = in_pointer at (λ p. Off p (atom.Mem mem) (pos offset)) d.0 (r.code k) (λ r. ((tt, tt), m)) in
           z.code (in_emit at (Copy place.1 (atom_in d.1) (pos (size_or_zero place.0 type))) place.0 p.0 ((p.1, (spot_atom d.1.spot (f k), tt)), size_number d.0 type r.solid (whole_stays type (K c) (K d.0) r.more t)));
@@ -164,6 +175,7 @@ fill_text_rises e line bytes size offset (InMemory at mem) c h small m =
     (record {
       solid = r.solid;
       more = λ tag l y. r.more tag l (o.more tag l y);
+      kinds = record { made = λ i u e. r.kinds.made i u (o.kinds.made i u e); sorts = λ ks. r.kinds.sorts (o.kinds.sorts ks) };
       code = λ g.
           let p = in_pointer at (λ p. Off p (atom.Mem mem) (pos offset)) d.0 (literal_in line bytes begun (o.code g) d q) (λ r. ((tt, tt), m)) in
           in_emit at (Copy place.1 (atom.Static d.1) (pos k)) place.0 p.0 ((p.1, (tt, tt)), small_number k (least (length bytes + 1) size 268435456 small));
@@ -206,7 +218,7 @@ mutual
 -- locals
 
 clears : (line : ℕ) (type : PlainType) (mem : Atom) (c : Context) → Solid c → Whole (K c) type → AtomIn mem → Rises c (cleared line type mem c)
-clears line type mem c h t m = record { solid = h; more = extends_refl (K c); code = λ k. in_emit line (Clear mem (pos (size_or_zero c type))) c k ((m, tt), size_number c type h t); cases = λ k. k; walked = λ k. k }
+clears line type mem c h t m = record { solid = h; more = extends_refl (K c); kinds = kinds_refl c; code = λ k. in_emit line (Clear mem (pos (size_or_zero c type))) c k ((m, tt), size_number c type h t); cases = λ k. k; walked = λ k. k }
 
 fill_memory_rises : (line : ℕ) (type : PlainType) (inits : Trees) (mem : Atom) (c : Context) → Solid c → AllWritten inits → Whole (K c) type → Within (K c) type 0 → AtomIn mem → Led (Rises c) (fill_memory line type inits mem c)
 unfolding AllWritten
@@ -231,7 +243,7 @@ zero_in (Function answer params) = zero_number
 
 fill_register_rises : (line : ℕ) (type : PlainType) (inits : Trees) (register : ℕ) (c : Context) → Solid c → AllWritten inits → Whole (K c) type → Within (K c) type 0 → Led (Rises c) (fill_register line type inits register c)
 unfolding AllWritten
-fill_register_rises line type none register c h w t v = led_ok (Rises c) (emit line (Set register (zero_of type)) c) (record { solid = h; more = extends_refl (K c); code = λ k. in_emit line (Set register (zero_of type)) c k ((zero_in type, tt), tt); cases = λ k. k; walked = λ k. k })
+fill_register_rises line type none register c h w t v = led_ok (Rises c) (emit line (Set register (zero_of type)) c) (record { solid = h; more = extends_refl (K c); kinds = kinds_refl c; code = λ k. in_emit line (Set register (zero_of type)) c k ((zero_in type, tt), tt); cases = λ k. k; walked = λ k. k })
 fill_register_rises line type (init ▹ rest) register c h w t v =
     led_after (Rises c) (initialize init false type 0 (InRegister line register) c) (λ d. Ok d.0) (λ d q. led_ok (Rises c) d.0 (initialize_rises init false type 0 (InRegister line register) c h w.0 t v d q))
 
@@ -248,9 +260,9 @@ with_local_rises name type c h w s = by (next_is_memory type c)
     by true =
         let x = with_memory name type c in
         let a = memory_rises name type c h w s in
-        let q = named_rises x name (n.Object type (length c.running.mems)) a.solid w in
-        record { solid = q.solid; more = q.more; code = q.code; cases = q.cases; walked = q.walked }
-    by false = let q = named_rises (with_register (Some name) type c) name (n.Register type (length c.running.locals)) h w in record { solid = q.solid; more = q.more; code = q.code; cases = q.cases; walked = q.walked }
+        let q = named_rises x name (n.Object type (length c.running.mems)) a.solid w (λ ks. tt) in
+        record { solid = q.solid; more = q.more; kinds = q.kinds; code = q.code; cases = q.cases; walked = q.walked }
+    by false = let q = named_rises (with_register (Some name) type c) name (n.Register type (length c.running.locals)) h w (λ ks. tt) in record { solid = q.solid; more = q.more; kinds = q.kinds; code = q.code; cases = q.cases; walked = q.walked }
 
 local_spot : (name : List ℕ) (type : PlainType) (c : Context) → SpotIn (with_local name type c).1
 local_spot name type c = by (next_is_memory type c)
@@ -282,10 +294,32 @@ local_object_rises line name type inits c h v w =
     let y = starts c type h w (has_size c.tags type b) in
     (λ z q. rises_trans c x.0 z r (fill_at_rises line type inits x.1 x.0 r.solid v (whole_stays type (K c) (K x.0) r.more w) (within_stays (K c) (K x.0) type 0 r.more y) (local_spot name type c) z q)))))
 
-local_name_rises : (line : ℕ) (storage : Storage) (name : List ℕ) (type : PlainType) (inits : Trees) (c : Context) → Solid c → AllWritten inits → Whole (K c) type → Led (Rises c) (local_name line storage name type inits c)
-local_name_rises line Typedef name type inits c h v w = declared_rises line name (n.Typedef type) c h w
-local_name_rises line Outside name type inits c h v w = led_refused (Rises c) LeftOut line
-local_name_rises line storages.Plain name type inits c h v w = local_object_rises line name type inits c h v w
+-- what a part leads to from an earlier point on, and from its start
+pub record Onward (past c d : Context) : Type 0 where
+  pub rises : Rises past d
+  pub more : Extends (K c) (K d)
+  pub made : Longer c.tags.made d.tags.made
+
+onward_led : (past c : Context) (x : Checked Context) → Rises past c → Led (Rises c) x → Led (Onward past c) x
+onward_led past c x r k d q = let y = k d q in record { rises = rises_trans past c d r y; more = y.more; made = y.kinds.made }
+
+typedef_onward : (past c : Context) → Rises past c → (line : ℕ) (name : List ℕ) (type : PlainType) → Whole (K c) type → (Sorts past → SortedType c.tags.made type) → Led (Onward past c) (declared_as line name (n.Typedef type) c)
+typedef_onward past c r line name type w s d q =
+    record { rises = typedef_rises past c r line name type w s d q; more = same_known d q; made = same_made d q }
+  where
+    same : (d : Context) → declared_as line name (n.Typedef type) c ≡ Ok d → record c { scopes = after_declaration c.scopes name (n.Typedef type) } ≡ d
+    same d q = passed (is_twice c.scopes name (n.Typedef type)) DeclaredTwice line (record c { scopes = after_declaration c.scopes name (n.Typedef type) }) d q
+
+    same_known : (d : Context) → declared_as line name (n.Typedef type) c ≡ Ok d → Extends (K c) (K d)
+    same_known d q = subst (λ (x : Context). Extends (K c) (K x)) (same d q) (extends_refl (K c))
+
+    same_made : (d : Context) → declared_as line name (n.Typedef type) c ≡ Ok d → Longer c.tags.made d.tags.made
+    same_made d q = subst (λ (x : Context). Longer c.tags.made x.tags.made) (same d q) (λ i u e. e)
+
+local_name_rises : (past : Context) (line : ℕ) (storage : Storage) (name : List ℕ) (type : PlainType) (inits : Trees) (c : Context) → Rises past c → AllWritten inits → Whole (K c) type → (Sorts past → SortedType c.tags.made type) → Led (Onward past c) (local_name line storage name type inits c)
+local_name_rises past line Typedef name type inits c r v w s = typedef_onward past c r line name type w s
+local_name_rises past line Outside name type inits c r v w s = led_refused (Onward past c) LeftOut line
+local_name_rises past line storages.Plain name type inits c r v w s = onward_led past c (local_name line storages.Plain name type inits c) r (local_object_rises line name type inits c r.solid v w)
 
 -- file scope
 
@@ -294,13 +328,13 @@ function_rises index name c h = by (nat_lt index (length c.functions))
   where
     by : (t : Bool) → Rises c (cond t c (record c { functions = c.functions ++ (record { name = name; defined = None }) ∷ [] }))
     by true = rises_refl c h
-    by false = record { solid = h; more = extends_refl (K c); code = λ k. k; cases = λ k. k; walked = λ k. k }
+    by false = record { solid = h; more = extends_refl (K c); kinds = kinds_refl c; code = λ k. k; cases = λ k. k; walked = λ k. k }
 
 pub declared_function_rises : (line : ℕ) (name : List ℕ) (type : PlainType) (c : Context) → Solid c → Whole (K c) type → Led (Rises c) (declared_function line name type c)
 declared_function_rises line name type c h w =
     let index = function_number name c in
     led_after (Rises c) (declared_as line name (n.Function type index) c) (λ d. Ok (with_function index name d))
-    (λ d q. let r = declared_rises line name (n.Function type index) c h w d q in led_ok (Rises c) (with_function index name d) (rises_trans c d _ r (function_rises index name d r.solid)))
+    (λ d q. let r = declared_rises line name (n.Function type index) c h w (λ ks. tt) d q in led_ok (Rises c) (with_function index name d) (rises_trans c d _ r (function_rises index name d r.solid)))
 
 no_initializer_rises : (inits : Trees) (c : Context) → Solid c → Led (Rises c) (no_initializer inits c)
 no_initializer_rises none c h = led_ok (Rises c) c (rises_refl c h)
@@ -320,17 +354,18 @@ new_variable_rises line name type c h w s =
     let size = size_or_zero c type in
     led_after (Rises c) (with_static line size c) (λ d. Ok (record d { variables = d.variables ++ (record { name = name; layout = unwrap_or (layout_in d.tags type) no_layout; start = None }) ∷ [] }))
     (λ d q. let y = led_unless (Ready c type) (nat_lt 67108864 (c.static_bytes + block_size size)) StaticTooLarge line (Ok (record c { static_bytes = c.static_bytes + block_size size }))
-    (λ t. led_ok (Ready c type) (record c { static_bytes = c.static_bytes + block_size size }) (record { rises = record { solid = h; more = extends_refl (K c); code = λ k. k; cases = λ k. k; walked = λ k. k }; whole = w; sized = s })) d q in
+    (λ t. led_ok (Ready c type) (record c { static_bytes = c.static_bytes + block_size size }) (record { rises = record { solid = h; more = extends_refl (K c); kinds = kinds_refl c; code = λ k. k; cases = λ k. k; walked = λ k. k }; whole = w; sized = s })) d q in
     led_ok (Rises c) (record d { variables = d.variables ++ (record { name = name; layout = unwrap_or (layout_in d.tags type) no_layout; start = None }) ∷ [] })
     (record {
       solid = record { made = y.rises.solid.made; names = y.rises.solid.names; list = y.rises.solid.list; memory = y.rises.solid.memory; result = y.rises.solid.result; statics = variables_push d.variables _ y.rises.solid.statics (laid d type y.rises.solid y.whole y.sized); functions = y.rises.solid.functions };
       more = y.rises.more;
+      kinds = y.rises.kinds;
       code = y.rises.code;
       cases = y.rises.cases;
       walked = y.rises.walked;
     }))
 
-variable_rises : (line index : ℕ) (name : List ℕ) (type : PlainType) (c : Context) → Solid c → Whole (K c) type → is_some (layout_in c.tags type) ≡ true → Led (Rises c) (with_variable line index name type c)
+pub variable_rises : (line index : ℕ) (name : List ℕ) (type : PlainType) (c : Context) → Solid c → Whole (K c) type → is_some (layout_in c.tags type) ≡ true → Led (Rises c) (with_variable line index name type c)
 variable_rises line index name type c h w s =
     led_cond (Rises c) (nat_lt index (length c.variables)) (Ok c) (with_new_variable line name type c) (led_ok (Rises c) c (rises_refl c h)) (new_variable_rises line name type c h w s)
 
@@ -352,6 +387,7 @@ started_rises : (index : ℕ) (d : Context × Target) → Solid d.0 → Rises d.
 started_rises index d h = record {
   solid = record { made = h.made; names = h.names; list = h.list; memory = h.memory; result = h.result; statics = started_laid index (start_in d.1) (slice_get d.0.variables index) d.0.variables refl h.statics; functions = h.functions };
   more = extends_refl (K d.0);
+  kinds = kinds_refl d.0;
   code = λ k. k;
   cases = λ k. k;
   walked = λ k. k;
@@ -370,7 +406,7 @@ file_object_rises line name type inits c h v w =
     let index = variable_number_of c (named_in name c.scopes.file) in
     led_unless (Rises c) (has_no_size c.tags type) Incomplete line (then (declared_as line name (n.Object type index) c) (λ d. then (with_variable line index name type d) (λ v. fill_variable line index type inits v)))
     (λ t. led_after (Rises c) (declared_as line name (n.Object type index) c) (λ d. then (with_variable line index name type d) (λ v. fill_variable line index type inits v))
-    (λ d q. let r = declared_rises line name (n.Object type index) c h w d q in
+    (λ d q. let r = declared_rises line name (n.Object type index) c h w (λ ks. tt) d q in
     let y = ready_on c d type r w (has_size c.tags type t) in
     led_after (Rises c) (with_variable line index name type d) (λ v. fill_variable line index type inits v)
     (λ x s. let k = variable_rises line index name type d r.solid y.whole y.sized x s in
@@ -383,16 +419,16 @@ file_value_rises line name type inits c h v w =
     (led_after (Rises c) (declared_function line name type c) (λ d. no_initializer inits d) (λ d q. let r = declared_function_rises line name type c h w d q in (λ z s. rises_trans c d z r (no_initializer_rises inits d r.solid z s))))
     (file_object_rises line name type inits c h v w)
 
-file_name_rises : (line : ℕ) (storage : Storage) (name : List ℕ) (type : PlainType) (inits : Trees) (c : Context) → Solid c → AllWritten inits → Whole (K c) type → Led (Rises c) (file_name line storage name type inits c)
-file_name_rises line Typedef name type inits c h v w = declared_rises line name (n.Typedef type) c h w
-file_name_rises line Outside name type inits c h v w = file_value_rises line name type inits c h v w
-file_name_rises line storages.Plain name type inits c h v w = file_value_rises line name type inits c h v w
+file_name_rises : (past : Context) (line : ℕ) (storage : Storage) (name : List ℕ) (type : PlainType) (inits : Trees) (c : Context) → Rises past c → AllWritten inits → Whole (K c) type → (Sorts past → SortedType c.tags.made type) → Led (Onward past c) (file_name line storage name type inits c)
+file_name_rises past line Typedef name type inits c r v w s = typedef_onward past c r line name type w s
+file_name_rises past line Outside name type inits c r v w s = onward_led past c (file_value line name type inits c) r (file_value_rises line name type inits c r.solid v w)
+file_name_rises past line storages.Plain name type inits c r v w s = onward_led past c (file_value line name type inits c) r (file_value_rises line name type inits c r.solid v w)
 
-name_in_rises : (file : Bool) (line : ℕ) (storage : Storage) (name : Option (List ℕ)) (type : PlainType) (inits : Trees) (c : Context) → Solid c → AllWritten inits → Whole (K c) type → Led (Rises c) (name_in file line storage name type inits c)
-name_in_rises true line storage None type inits c h v w = led_ok (Rises c) c (rises_refl c h)
-name_in_rises false line storage None type inits c h v w = led_ok (Rises c) c (rises_refl c h)
-name_in_rises true line storage (Some name) type inits c h v w = file_name_rises line storage name type inits c h v w
-name_in_rises false line storage (Some name) type inits c h v w = local_name_rises line storage name type inits c h v w
+pub name_in_rises : (past : Context) (file : Bool) (line : ℕ) (storage : Storage) (name : Option (List ℕ)) (type : PlainType) (inits : Trees) (c : Context) → Rises past c → AllWritten inits → Whole (K c) type → (Sorts past → SortedType c.tags.made type) → Led (Onward past c) (name_in file line storage name type inits c)
+name_in_rises past true line storage None type inits c r v w s = onward_led past c (Ok c) r (led_ok (Rises c) c (rises_refl c r.solid))
+name_in_rises past false line storage None type inits c r v w s = onward_led past c (Ok c) r (led_ok (Rises c) c (rises_refl c r.solid))
+name_in_rises past true line storage (Some name) type inits c r v w s = file_name_rises past line storage name type inits c r v w s
+name_in_rises past false line storage (Some name) type inits c r v w s = local_name_rises past line storage name type inits c r v w s
 
 -- the length that an initializer gives
 
@@ -411,7 +447,7 @@ given_some k line (Node f.InitExpr (At at ▹ e ▹ none) ▹ none) w = text_som
 given_some k line (Node (f.InitList trailing) (At at ▹ Node f.Inits inits ▹ none) ▹ none) w = inits_some inits w.0.1.1.0.0
 given_some k line inits w = tt
 
-init_layers_whole : (tags : TagTable) (ls : List Layer) (inits : Trees) (type : PlainType) → AllWritten inits → Whole (known tags.completed) type → LayersWhole (known tags.completed) ls → Led (Whole (known tags.completed)) (with_init_layers tags ls inits type)
+pub init_layers_whole : (tags : TagTable) (ls : List Layer) (inits : Trees) (type : PlainType) → AllWritten inits → Whole (known tags.completed) type → LayersWhole (known tags.completed) ls → Led (Whole (known tags.completed)) (with_init_layers tags ls inits type)
 init_layers_whole tags [] inits type w h g = led_ok (Whole (known tags.completed)) type h
 init_layers_whole tags (ArrayOf line None ∷ []) inits type w h g = layered_whole tags.completed tags (ArrayOf line (given_length inits)) type refl h (given_some (known tags.completed) line inits w)
 init_layers_whole tags (ArrayOf line None ∷ (next ∷ ls)) inits type w h g =
@@ -421,29 +457,33 @@ init_layers_whole tags (layer ∷ ls) inits type w h g =
     led_after (Whole (known tags.completed)) (layered_before tags layer ls type) (λ inner. with_init_layers tags ls inits inner)
     (λ inner q. init_layers_whole tags ls inits inner w (before_whole tags.completed tags layer ls type refl h g.0 inner q) g.1)
 
-entry_rises : (file : Bool) (line : ℕ) (storage : Storage) (base : PlainType) (declarator : Tree) (inits : Trees) (c : Context) → Solid c → Whole (K c) base → Written declarator → AllWritten inits → Led (Rises c) (entry file line storage base declarator inits c)
-entry_rises file line storage base declarator inits c h b w v =
-    led_after (Rises c) (layers declarator c) (λ l. then (with_init_layers l.0.tags l.1 inits base) (λ type. name_in file line storage (name_of declarator) type inits l.0))
-    (λ l q. let k = layers_rise declarator c h w l q in
-    led_after (Rises c) (with_init_layers l.0.tags l.1 inits base) (λ type. name_in file line storage (name_of declarator) type inits l.0)
+pub entry_rises : (past : Context) (file : Bool) (line : ℕ) (storage : Storage) (base : PlainType) (declarator : Tree) (inits : Trees) (c : Context) → Rises past c → Whole (K c) base → (Sorts past → SortedType c.tags.made base) → Written declarator → AllWritten inits → Led (Onward past c) (entry file line storage base declarator inits c)
+entry_rises past file line storage base declarator inits c r b st w v =
+    led_after (Onward past c) (layers declarator c) (λ l. then (with_init_layers l.0.tags l.1 inits base) (λ type. name_in file line storage (name_of declarator) type inits l.0))
+    (λ l q. let k = layers_rise declarator c r.solid w l q in
+    led_after (Onward past c) (with_init_layers l.0.tags l.1 inits base) (λ type. name_in file line storage (name_of declarator) type inits l.0)
     (λ type s. let y = init_layers_whole l.0.tags l.1 inits base v (whole_stays base (K c) (K l.0) k.0.more b) k.1 type s in
-    (λ z t. rises_trans c l.0 z k.0 (name_in_rises file line storage (name_of declarator) type inits l.0 k.0.solid v y z t))))
+    (λ z t. let o = name_in_rises past file line storage (name_of declarator) type inits l.0 (rises_trans past c l.0 r k.0) v y
+    (λ ks. init_layers_sorted l.0.tags.made l.0.tags l.1 inits base (type_longer base c.tags.made l.0.tags.made k.0.kinds.made (st ks)) type s) z t in
+    record { rises = o.rises; more = λ tag l q. o.more tag l (k.0.more tag l q); made = λ i u e. o.made i u (k.0.kinds.made i u e) })))
 
-entries_rise : (names : Trees) (file : Bool) (line : ℕ) (storage : Storage) (base : PlainType) (c : Context) → Solid c → Whole (K c) base → AllWritten names → Led (Rises c) (entries file line storage base names c)
+entries_rise : (names : Trees) (past : Context) (file : Bool) (line : ℕ) (storage : Storage) (base : PlainType) (c : Context) → Rises past c → Whole (K c) base → (Sorts past → SortedType c.tags.made base) → AllWritten names → Led (Rises past) (entries file line storage base names c)
 unfolding entries Written AllWritten
-entries_rise none file line storage base c h b w = led_ok (Rises c) c (rises_refl c h)
-entries_rise (Node f.Entry (Node f.Declared (declarator ▹ none) ▹ Node f.MaybeInit inits ▹ none) ▹ rest) file line storage base c h b w =
-    led_after (Rises c) (entry file line storage base declarator inits c) (λ d. entries file line storage base rest d)
-    (λ d q. let r = entry_rises file line storage base declarator inits c h b w.0.1.0.1.0 w.0.1.1.0.1 d q in
-    (λ z s. rises_trans c d z r (entries_rise rest file line storage base d r.solid (whole_stays base (K c) (K d) r.more b) w.1 z s)))
-entries_rise (tree ▹ rest) file line storage base c h b w = led_refused (Rises c) Operands (line_of tree)
+entries_rise none past file line storage base c r b st w = led_ok (Rises past) c r
+entries_rise (Node f.Entry (Node f.Declared (declarator ▹ none) ▹ Node f.MaybeInit inits ▹ none) ▹ rest) past file line storage base c r b st w =
+    led_after (Rises past) (entry file line storage base declarator inits c) (λ d. entries file line storage base rest d)
+    (λ d q. let o = entry_rises past file line storage base declarator inits c r b st w.0.1.0.1.0 w.0.1.1.0.1 d q in
+    entries_rise rest past file line storage base d o.rises (whole_stays base (K c) (K d) o.more b) (λ ks. type_longer base c.tags.made d.tags.made o.made (st ks)) w.1)
+entries_rise (tree ▹ rest) past file line storage base c r b st w = led_refused (Rises past) Operands (line_of tree)
 
 alone_rises : (tree : Tree) (c : Context) → Solid c → Written tree → Led (T c) (specs_alone tree c)
 alone_rises (Node f.Specs (At line ▹ Node (f.RecordTag sort) (At at ▹ Leaf (w.Name name) ▹ none) ▹ none)) c h v =
     asked_type_rises (tag_named at sort name (asked c) (named_in (tag_name name) (innermost c.scopes))) c h (tag_good c.tags.completed h.made at sort name (asked c) (named_in (tag_name name) (innermost c.scopes)) (fit_of c h))
+    (λ x q. tag_leads at sort name (asked c) (named_in (tag_name name) (innermost c.scopes)) x q)
+    (λ ks. tag_sorted at sort name (asked c) (named_in (tag_name name) (innermost c.scopes)) (λ type e. innermost_sorted c.tags.made c.scopes ks.names (tag_name name) (n.Tag type) e))
 alone_rises tree c h v = specs_rise tree c h v
 
-before_rises : (tree : Tree) (names : Trees) (c : Context) → Solid c → Written tree → Led (T c) (specs_before tree names c)
+pub before_rises : (tree : Tree) (names : Trees) (c : Context) → Solid c → Written tree → Led (T c) (specs_before tree names c)
 before_rises tree none c h v = alone_rises tree c h v
 before_rises tree (name ▹ rest) c h v = specs_rise tree c h v
 
@@ -451,5 +491,5 @@ pub declaration_rises : (file : Bool) (line : ℕ) (words tree : Tree) (c : Cont
 unfolding declaration Written
 declaration_rises file line words (Node f.Names names) c h v w =
     led_after (Rises c) (specs_before words names c) (λ base. entries file line (storage_of words) base.1 names base.0)
-    (λ base q. let b = before_rises words names c h v base q in (λ z s. rises_trans c base.0 z b.0 (entries_rise names file line (storage_of words) base.1 base.0 b.0.solid b.1 w.1 z s)))
+    (λ base q. let b = before_rises words names c h v base q in entries_rise names c file line (storage_of words) base.1 base.0 b.0 b.1 b.2 w.1)
 declaration_rises file line words tree c h v w = led_refused (Rises c) Operands line

@@ -42,6 +42,10 @@ use Rattle.core_soundness.proofs.Agreeing.{came}
 use Rattle.core_soundness.proofs.Operating.{behind_test}
 use Rattle.core_soundness.proofs.Reached.{Led, led_ok, led_refused, led_after, led_unless}
 use Rattle.core_soundness.proofs.WholeTypes.{whole_stays, members_stay, table_stays, names_stay, push_extends, extends_refl, made_push, whole_fits}
+use Rattle.core_soundness.proofs.TagSorts.{SortedType, SortedName, type_longer, table_longer, scopes_longer, with_name_sorted, entered_sorted, left_sorted, none_sorted, first_sorted, innermost_sorted, push_longer, new_sorted}
+use Rattle.core_soundness.proofs.TypedNames.{Leads, typed_leads, wanted_leads, special_leads, new_tag_leads}
+use Rattle.core_soundness.proofs.SortedTypes.{ST, word_sorted, special_sorted, with_layers_sorted}
+use Rattle.core_soundness.proofs.TagKinds.{MembersSorted, members_longer, bodies_longer, bodies_push, Sorts, kinds_refl, leads_kinds}
 use Rattle.core_soundness.proofs.TypedWhole.{GoodType, LayersWhole, LayerWhole, layers_append, layers_reverse, with_name_whole, entered_whole, left_whole, with_layers_whole, with_param_layers_whole, adjusted_whole, special_good, word_whole, length_some, typed_good, wanted_good}
 use Rattle.core_soundness.specs.Solid.{Solid}
 use Rattle.core_soundness.proofs.Solid.{wrapped_number, mems_push, K, fit_of, told_whole, layers_stay, layer_stays, laid}
@@ -49,7 +53,7 @@ use Rattle.core_soundness.proofs.Moving.{Rises, rises_refl, rises_trans, told_ri
 
 -- answers behind a context: with a whole type, with layers, with members, with the types of parameters
 abbrev pub T : Context → Context × PlainType → Type 0
-T c z = Rises c z.0 × Whole (K z.0) z.1
+T c z = Rises c z.0 × Whole (K z.0) z.1 × (Sorts c → SortedType z.0.tags.made z.1)
 
 abbrev pub L : Context → Context × List Layer → Type 0
 L c z = Rises c z.0 × LayersWhole (K z.0) z.1
@@ -57,8 +61,9 @@ L c z = Rises c z.0 × LayersWhole (K z.0) z.1
 abbrev LL : Context → Context × Layer → Type 0
 LL c z = Rises c z.0 × LayerWhole (K z.0) z.1
 
-abbrev M : Context → Context × d.Members → Type 0
-M c z = Rises c z.0 × MembersWhole (K z.0) z.1
+-- whose tags are of their sorts, where they are so at an earlier point
+abbrev M : Context → Context → Context × d.Members → Type 0
+M base c z = Rises c z.0 × MembersWhole (K z.0) z.1 × (Sorts base → MembersSorted z.0.tags.made z.1)
 
 abbrev P : Context → Context × PlainTypes → Type 0
 P c z = Rises c z.0 × AllWhole (K z.0) z.1
@@ -68,44 +73,63 @@ R1 {A} c z = Rises c z.0
 
 -- names that are declared
 
-pub named_rises : (c : Context) (name : List ℕ) (v : PlainNamed) → Solid c → NamedWhole (K c) v → Rises c (record c { scopes = with_name c.scopes name v })
-named_rises c name v h w = record {
+pub named_rises : (c : Context) (name : List ℕ) (v : PlainNamed) → Solid c → NamedWhole (K c) v → (Sorts c → SortedName c.tags.made v) → Rises c (record c { scopes = with_name c.scopes name v })
+named_rises c name v h w s = record {
   solid = record { made = h.made; names = with_name_whole (K c) c.scopes name v w h.names; list = h.list; memory = h.memory; result = h.result; statics = h.statics; functions = h.functions };
   more = extends_refl (K c);
+  kinds = record { made = λ i u e. e; sorts = λ ks. record { names = with_name_sorted c.tags.made c.scopes name v (s ks) ks.names; list = ks.list; bodies = ks.bodies } };
   code = λ k. k;
   cases = λ k. k;
   walked = λ k. k;
 }
 
-pub declared_rises : (line : ℕ) (name : List ℕ) (v : PlainNamed) (c : Context) → Solid c → NamedWhole (K c) v → Led (Rises c) (declared_as line name v c)
-declared_rises line name v c h w =
+pub declared_rises : (line : ℕ) (name : List ℕ) (v : PlainNamed) (c : Context) → Solid c → NamedWhole (K c) v → (Sorts c → SortedName c.tags.made v) → Led (Rises c) (declared_as line name v c)
+declared_rises line name v c h w s =
     led_unless (Rises c) (is_twice c.scopes name v) DeclaredTwice line (Ok (record c { scopes = after_declaration c.scopes name v }))
     (λ t. led_ok (Rises c) (record c { scopes = after_declaration c.scopes name v }) (by (is_some (named_in name (innermost c.scopes)))))
   where
     by : (t : Bool) → Rises c (record c { scopes = cond t c.scopes (with_name c.scopes name v) })
-    by true = record { solid = h; more = extends_refl (K c); code = λ k. k; cases = λ k. k; walked = λ k. k }
-    by false = named_rises c name v h w
+    by true = record { solid = h; more = extends_refl (K c); kinds = kinds_refl c; code = λ k. k; cases = λ k. k; walked = λ k. k }
+    by false = named_rises c name v h w s
+
+-- the name of a type, whose tags are of their sorts where they are so at an earlier point
+pub typedef_rises : (past c : Context) → Rises past c → (line : ℕ) (name : List ℕ) (type : PlainType) → Whole (K c) type → (Sorts past → SortedType c.tags.made type) → Led (Rises past) (declared_as line name (n.Typedef type) c)
+typedef_rises past c r line name type w s =
+    led_unless (Rises past) (is_twice c.scopes name (n.Typedef type)) DeclaredTwice line (Ok (record c { scopes = after_declaration c.scopes name (n.Typedef type) }))
+    (λ t. led_ok (Rises past) (record c { scopes = after_declaration c.scopes name (n.Typedef type) }) (by (is_some (named_in name (innermost c.scopes)))))
+  where
+    by : (t : Bool) → Rises past (record c { scopes = cond t c.scopes (with_name c.scopes name (n.Typedef type)) })
+    by true = record { solid = r.solid; more = r.more; kinds = r.kinds; code = r.code; cases = r.cases; walked = r.walked }
+    by false = record {
+      solid = record { made = r.solid.made; names = with_name_whole (K c) c.scopes name (n.Typedef type) w r.solid.names; list = r.solid.list; memory = r.solid.memory; result = r.solid.result; statics = r.solid.statics; functions = r.solid.functions };
+      more = r.more;
+      kinds = record { made = r.kinds.made; sorts = λ ks. let k = r.kinds.sorts ks in record { names = with_name_sorted c.tags.made c.scopes name (n.Typedef type) (s ks) k.names; list = k.list; bodies = k.bodies } };
+      code = r.code;
+      cases = r.cases;
+      walked = r.walked;
+    }
 
 -- parameters
 
-maybe_named : (name : Option (List ℕ)) (v : PlainNamed) (c : Context) → Solid c → NamedWhole (K c) v → Rises c (with_named name v c)
-maybe_named None v c h w = rises_refl c h
-maybe_named (Some name) v c h w = named_rises c name v h w
+maybe_named : (name : Option (List ℕ)) (v : PlainNamed) (c : Context) → Solid c → NamedWhole (K c) v → (Sorts c → SortedName c.tags.made v) → Rises c (with_named name v c)
+maybe_named None v c h w s = rises_refl c h
+maybe_named (Some name) v c h w s = named_rises c name v h w s
 
 pub memory_rises : (name : List ℕ) (type : PlainType) (c : Context) → Solid c → Whole (K c) type → is_some (layout_in c.tags type) ≡ true → Rises c (with_memory name type c)
 memory_rises name type c h w s = record {
   solid = record { made = h.made; names = h.names; list = h.list; memory = mems_push c.running.mems _ h.memory (laid c type h w s); result = h.result; statics = h.statics; functions = h.functions };
   more = extends_refl (K c);
+  kinds = kinds_refl c;
   code = λ k. k;
   cases = λ k. k;
   walked = λ k. k;
 }
 
 pub register_rises : (name : Option (List ℕ)) (type : PlainType) (c : Context) → Solid c → Rises c (with_register name type c)
-register_rises name type c h = record { solid = h; more = extends_refl (K c); code = λ k. k; cases = λ k. k; walked = λ k. k }
+register_rises name type c h = record { solid = h; more = extends_refl (K c); kinds = kinds_refl c; code = λ k. k; cases = λ k. k; walked = λ k. k }
 
 pub counted_rises : (c x : Context) → Rises c x → Rises c (counted x)
-counted_rises c x r = record { solid = r.solid; more = r.more; code = r.code; cases = r.cases; walked = r.walked }
+counted_rises c x r = record { solid = r.solid; more = r.more; kinds = r.kinds; code = r.code; cases = r.cases; walked = r.walked }
 
 param_made : (name : Option (List ℕ)) (type : PlainType) (c : Context) → Solid c → Whole (K c) type → is_some (layout_in c.tags type) ≡ true → Rises c (with_param name type c)
 param_made name type c h w s = counted_rises c _ (by (next_is_memory type c))
@@ -122,9 +146,9 @@ param_made name type c h w s = counted_rises c _ (by (next_is_memory type c))
         let y = with_memory (unwrap_or name []) type x in
         let z = with_named name (n.Object type (length c.running.mems)) y in
         let a = memory_rises (unwrap_or name []) type x h w s in
-        let q = maybe_named name (n.Object type (length c.running.mems)) y a.solid w in
-        rises_trans c y _ (record { solid = a.solid; more = a.more; code = a.code; cases = a.cases; walked = a.walked }) (rises_trans y z _ q (write_rises c.running.line type (Memory (atom.Mem (length c.running.mems))) (atom.Reg (local_register (length c.running.locals))) z q.solid (λ k. (tt, tt))))
-    by false = let q = maybe_named name (n.Register type (length c.running.locals)) (with_register name type c) h w in record { solid = q.solid; more = q.more; code = q.code; cases = q.cases; walked = q.walked }
+        let q = maybe_named name (n.Object type (length c.running.mems)) y a.solid w (λ ks. tt) in
+        rises_trans c y _ (record { solid = a.solid; more = a.more; kinds = a.kinds; code = a.code; cases = a.cases; walked = a.walked }) (rises_trans y z _ q (write_rises c.running.line type (Memory (atom.Mem (length c.running.mems))) (atom.Reg (local_register (length c.running.locals))) z q.solid (λ k. (tt, tt))))
+    by false = let q = maybe_named name (n.Register type (length c.running.locals)) (with_register name type c) h w (λ ks. tt) in record { solid = q.solid; more = q.more; kinds = q.kinds; code = q.code; cases = q.cases; walked = q.walked }
 
 -- a parameter has a layout: it is an integer or a pointer
 param_sized : (k : Known) (type : PlainType) → is_void type ≡ false → is_record type || is_function type ≡ false → is_array type ≡ false → is_some (layout_of k type) ≡ true
@@ -145,6 +169,16 @@ adjusted_flat (Struct tag) = refl
 adjusted_flat (Union tag) = refl
 adjusted_flat (Function answer ps) = refl
 
+-- a parameter is no struct, union or array
+param_sorted : (type : PlainType) (made : List TagInfo) → is_record type || is_function type ≡ false → is_array type ≡ false → SortedType made type
+param_sorted Void made b e = tt
+param_sorted (Int ty) made b e = tt
+param_sorted (Pointer target) made b e = tt
+param_sorted (Array element m) made b e = cc
+param_sorted (Struct tag) made b e = cc
+param_sorted (Union tag) made b e = cc
+param_sorted (Function answer ps) made b e = tt
+
 param_rises : (line : ℕ) (name : Option (List ℕ)) (type : PlainType) (c : Context) → Solid c → Whole (K c) type → is_array type ≡ false → Led (T c) (param line name type c)
 param_rises line name type c h w flat =
     let r2 : Checked (Context × PlainType) = unless (is_declared name c) DeclaredTwice line (Ok (with_param name type c, type)) in
@@ -152,29 +186,30 @@ param_rises line name type c h w flat =
     led_unless (T c) (is_void type) Incomplete line r1
     (λ a. led_unless (T c) (is_record type || is_function type) LeftOut line r2
     (λ b. led_unless (T c) (is_declared name c) DeclaredTwice line (Ok (with_param name type c, type))
-    (λ t. let q = param_made name type c h w (param_sized (K c) type a b flat) in led_ok (T c) (with_param name type c, type) (q, whole_stays type (K c) _ q.more w))))
+    (λ t. let q = param_made name type c h w (param_sized (K c) type a b flat) in led_ok (T c) (with_param name type c, type) (q, whole_stays type (K c) _ q.more w, λ ks. param_sorted type (with_param name type c).tags.made b flat))))
 
 -- tags
 
-type_rises : (answer : Checked (names.Context × PlainType)) (c : Context) (h : Solid c) → Led (GoodType c.tags.completed h.made) answer → Led (T c) (with_type answer c)
-type_rises answer c h g = led_after (T c) answer (λ x. Ok (told x.0 c, x.1)) (λ x q. let k = g x q in led_ok (T c) (told x.0 c, x.1) (told_rises c x.0 h k.0, told_whole c x.0 h x.1 k.0 k.1))
+type_rises : (answer : Checked (names.Context × PlainType)) (c : Context) (h : Solid c) → Led (GoodType c.tags.completed h.made) answer → ((x : names.Context × PlainType) → answer ≡ Ok x → Leads (asked c) x.0) → (Sorts c → Led ST answer) → Led (T c) (with_type answer c)
+type_rises answer c h g l s = led_after (T c) answer (λ x. Ok (told x.0 c, x.1)) (λ x q. let k = g x q in led_ok (T c) (told x.0 c, x.1) (told_rises c x.0 h k.0 (l x q), told_whole c x.0 h x.1 k.0 k.1, λ ks. s ks x q))
 
 pub with_type_rises : (line : ℕ) (tree : Tree) (c : Context) → Solid c → Led (T c) (with_type (special_type line tree (asked c)) c)
-with_type_rises line tree c h = type_rises (special_type line tree (asked c)) c h (special_good c.tags.completed h.made line tree (asked c) (fit_of c h))
+with_type_rises line tree c h = type_rises (special_type line tree (asked c)) c h (special_good c.tags.completed h.made line tree (asked c) (fit_of c h)) (λ x q. special_leads line tree (asked c) x q) (λ ks. special_sorted line tree (asked c) ks.names)
 
-pub asked_type_rises : (answer : Checked (names.Context × PlainType)) (c : Context) (h : Solid c) → Led (GoodType c.tags.completed h.made) answer → Led (T c) (with_type answer c)
-asked_type_rises answer c h g = type_rises answer c h g
+pub asked_type_rises : (answer : Checked (names.Context × PlainType)) (c : Context) (h : Solid c) → Led (GoodType c.tags.completed h.made) answer → ((x : names.Context × PlainType) → answer ≡ Ok x → Leads (asked c) x.0) → (Sorts c → Led ST answer) → Led (T c) (with_type answer c)
+asked_type_rises answer c h g l s = type_rises answer c h g l s
 
 pub constant_rises : (e : Tree) (c : Context) → Solid c → Led (R1 c) (constant e c)
 constant_rises e c h =
     led_after (R1 c) (wanted e (typed e (asked c))) (λ x. then (constant_from (line_of e) x.1.type x.1.folded) (λ k. Ok (told x.0 c, k)))
     (λ x q. let g = wanted_good c.tags.completed h.made e (typed e (asked c)) (typed_good c.tags.completed h.made e (asked c) (fit_of c h)) x q in
-    led_after (R1 c) (constant_from (line_of e) x.1.type x.1.folded) (λ k. Ok (told x.0 c, k)) (λ k z. led_ok (R1 c) (told x.0 c, k) (told_rises c x.0 h g.0)))
+    led_after (R1 c) (constant_from (line_of e) x.1.type x.1.folded) (λ k. Ok (told x.0 c, k)) (λ k z. led_ok (R1 c) (told x.0 c, k) (told_rises c x.0 h g.0 (wanted_leads (asked c) e (typed e (asked c)) (typed_leads e (asked c)) x q))))
 
 newly_rises : (sort : RecordSort) (name : List ℕ) (c : Context) → Solid c → Rises c (newly_named sort name c).0
 newly_rises sort name c h = record {
   solid = record { made = h.made; names = with_name_whole (K c) c.scopes (tag_name name) (n.Tag (record_type sort (length c.tags.made))) tt h.names; list = h.list; memory = h.memory; result = h.result; statics = h.statics; functions = h.functions };
   more = extends_refl (K c);
+  kinds = leads_kinds c (newly_named sort name c).0 (new_tag_leads sort name (asked c)) refl refl;
   code = λ k. k;
   cases = λ k. k;
   walked = λ k. k;
@@ -191,8 +226,23 @@ begun_as_rises sort name (Some (n.BuiltIn i)) c h = newly_rises sort name c h
 begun_as_rises sort name None c h = newly_rises sort name c h
 
 begun_rises : (sort : RecordSort) (name : Option (List ℕ)) (c : Context) → Solid c → Rises c (begun sort name c).0
-begun_rises sort None c h = record { solid = h; more = extends_refl (K c); code = λ k. k; cases = λ k. k; walked = λ k. k }
+begun_rises sort None c h = record { solid = h; more = extends_refl (K c); kinds = record { made = push_longer c.tags.made _; sorts = λ ks. record { names = scopes_longer c.scopes c.tags.made _ (push_longer c.tags.made _) ks.names; list = table_longer c.params c.tags.made _ (push_longer c.tags.made _) ks.list; bodies = bodies_longer c.tags.completed c.tags.made _ (push_longer c.tags.made _) ks.bodies } }; code = λ k. k; cases = λ k. k; walked = λ k. k }
 begun_rises sort (Some name) c h = begun_as_rises sort name (named_in (tag_name name) (innermost c.scopes)) c h
+
+-- the type that a struct or union with braces begins with
+begun_as_sorted : (sort : RecordSort) (name : List ℕ) (o : Option PlainNamed) (c : Context) → ((type : PlainType) → o ≡ Some (n.Tag type) → SortedType c.tags.made type) → SortedType (begun_as sort name o c).0.tags.made (begun_as sort name o c).1
+begun_as_sorted sort name (Some (n.Tag type)) c h = h type refl
+begun_as_sorted sort name (Some (n.Object type i)) c h = new_sorted sort c.tags.made name
+begun_as_sorted sort name (Some (n.Register type i)) c h = new_sorted sort c.tags.made name
+begun_as_sorted sort name (Some (n.Function type i)) c h = new_sorted sort c.tags.made name
+begun_as_sorted sort name (Some (n.Typedef type)) c h = new_sorted sort c.tags.made name
+begun_as_sorted sort name (Some (n.Constant type x)) c h = new_sorted sort c.tags.made name
+begun_as_sorted sort name (Some (n.BuiltIn i)) c h = new_sorted sort c.tags.made name
+begun_as_sorted sort name None c h = new_sorted sort c.tags.made name
+
+begun_sorted : (sort : RecordSort) (name : Option (List ℕ)) (c : Context) → Sorts c → SortedType (begun sort name c).0.tags.made (begun sort name c).1
+begun_sorted sort None c ks = new_sorted sort c.tags.made []
+begun_sorted sort (Some name) c ks = begun_as_sorted sort name (named_in (tag_name name) (innermost c.scopes)) c (λ type e. innermost_sorted c.tags.made c.scopes ks.names (tag_name name) (n.Tag type) e)
 
 members_all : (k : Known) (ms : d.Members) → MembersWhole k ms → All (λ (m : List ℕ × PlainType). HasLayout k m.1) ms
 members_all k [] h = λ j x q. absurd (omega (arith, q))
@@ -202,19 +252,20 @@ not_known : (o : Option Layout) → is_some o ≡ false → o ≡ None
 not_known None e = refl
 not_known (Some l) e = cc
 
-complete_rises : (line number : ℕ) (type : PlainType) (c : Context) (list : d.Members) → Solid c → MembersWhole (K c) list → (list ≡ [] → ⊥) → ((k : Known) → Whole k type) → Led (T c) (complete line number type c list)
-complete_rises line number type c list h m some w =
-    led_unless (T c) (is_some (K c number)) DeclaredTwice line (completed_by line c type (completion c.tags number list)) (λ t. by t (refusal (K c) new) refl)
+complete_rises : (line number : ℕ) (type : PlainType) (b c : Context) (list : d.Members) → Rises b c → MembersWhole (K c) list → (list ≡ [] → ⊥) → ((k : Known) → Whole k type) → (Sorts b → MembersSorted c.tags.made list) → (Sorts b → SortedType c.tags.made type) → (Sorts b → (i : TagInfo) × (slice_get c.tags.made number ≡ Some i)) → Led (T b) (complete line number type c list)
+complete_rises line number type b c list r m some w sm st at =
+    led_unless (T b) (is_some (K c number)) DeclaredTwice line (completed_by line c type (completion c.tags number list)) (λ t. by t (refusal (K c) new) refl)
   where
     new : CompletedTag
     new = record { tag = number; is_union = option_map_or (λ (x : TagInfo). x.is_union) (slice_get c.tags.made number) false; members = list }
 
-    by : is_some (K c number) ≡ false → (o : Option TagError) → refusal (K c) new ≡ o → Led (T c) (completed_by line c type (tables.completed_by c.tags new o))
-    by t (Some error) e = led_refused (T c) _ line
+    by : is_some (K c number) ≡ false → (o : Option TagError) → refusal (K c) new ≡ o → Led (T b) (completed_by line c type (tables.completed_by c.tags new o))
+    by t (Some error) e = led_refused (T b) _ line
     by t None e =
         let x = push_extends c.tags.completed new in
+        let h = r.solid in
         let made = made_push c.tags.completed new h.made (record { once = not_known (K c number) t; some = some; members = members_all (K c) list m; kept = e }) m in
-        led_ok (T c) (record c { tags = tables.with_completed c.tags new }, type) (
+        led_ok (T b) (record c { tags = tables.with_completed c.tags new }, type) (
           record {
             solid = record {
               made = made;
@@ -225,18 +276,20 @@ complete_rises line number type c list h m some w =
               statics = h.statics;
               functions = h.functions;
             };
-            more = x;
-            code = λ k. k;
-            cases = λ k. k;
-            walked = λ k. k;
+            more = λ tag l q. x tag l (r.more tag l q);
+            kinds = record { made = r.kinds.made; sorts = λ ks. let k = r.kinds.sorts ks in record { names = k.names; list = k.list; bodies = bodies_push c.tags.made c.tags.completed new k.bodies (((at ks).0, (at ks).1, ap (λ (o : Option TagInfo). option_map_or (λ (y : TagInfo). y.is_union) o false) (at ks).1), sm ks) } };
+            code = r.code;
+            cases = r.cases;
+            walked = r.walked;
           },
           w _,
+          st,
         )
 
-ended_rises : (line : ℕ) (sort : RecordSort) (type : PlainType) (c : Context) (list : d.Members) → Solid c → MembersWhole (K c) list → (list ≡ [] → ⊥) → Led (T c) (ended line sort type c list)
-ended_rises line r.Struct (Struct number) c list h m some = complete_rises line number (Struct number) c list h m some (λ k. tt)
-ended_rises line r.Union (Union number) c list h m some = complete_rises line number (Union number) c list h m some (λ k. tt)
-ended_rises line sort type c list h m some = led_refused (T c) DeclaredTwice line
+ended_rises : (line : ℕ) (sort : RecordSort) (type : PlainType) (b c : Context) (list : d.Members) → Rises b c → MembersWhole (K c) list → (list ≡ [] → ⊥) → (Sorts b → MembersSorted c.tags.made list) → (Sorts b → SortedType c.tags.made type) → Led (T b) (ended line sort type c list)
+ended_rises line r.Struct (Struct number) b c list g m some sm st = complete_rises line number (Struct number) b c list g m some (λ k. tt) sm st (λ ks. let x = st ks in (x.0, x.1))
+ended_rises line r.Union (Union number) b c list g m some sm st = complete_rises line number (Union number) b c list g m some (λ k. tt) sm st (λ ks. let x = st ks in (x.0, x.1))
+ended_rises line sort type b c list g m some sm st = led_refused (T b) DeclaredTwice line
 
 -- members
 
@@ -258,14 +311,22 @@ with_member_rises : (line : ℕ) (name : Option (List ℕ)) (type : PlainType) (
 with_member_rises line None type k list m w s = led_ok (MembersWhole k) list m
 with_member_rises line (Some name) type k list m w s = led_unless (MembersWhole k) (d.has_member name list) DeclaredTwice line _ (λ t. led_ok (MembersWhole k) (list ++ (name, type) ∷ []) (members_push k list (name, type) m w s))
 
-member_rises : (line : ℕ) (name : Option (List ℕ)) (type : PlainType) (list : d.Members) (c : Context) → Solid c → Whole (K c) type → MembersWhole (K c) list → Led (M c) (member line name type list c)
-member_rises line name type list c h w m =
+members_sorted_push : (made : List TagInfo) (ms : d.Members) (m : List ℕ × PlainType) → MembersSorted made ms → SortedType made m.1 → MembersSorted made (ms ++ m ∷ [])
+members_sorted_push made [] m h s = (s, tt)
+members_sorted_push made (x ∷ ms) m h s = (h.0, members_sorted_push made ms m h.1 s)
+
+with_member_sorted : (line : ℕ) (name : Option (List ℕ)) (type : PlainType) (made : List TagInfo) (list : d.Members) → MembersSorted made list → SortedType made type → Led (MembersSorted made) (with_member line name type list)
+with_member_sorted line None type made list m s = led_ok (MembersSorted made) list m
+with_member_sorted line (Some name) type made list m s = led_unless (MembersSorted made) (d.has_member name list) DeclaredTwice line _ (λ t. led_ok (MembersSorted made) (list ++ (name, type) ∷ []) (members_sorted_push made list (name, type) m s))
+
+member_rises : (past : Context) (line : ℕ) (name : Option (List ℕ)) (type : PlainType) (list : d.Members) (c : Context) → Solid c → Whole (K c) type → MembersWhole (K c) list → (Sorts past → SortedType c.tags.made type) → (Sorts past → MembersSorted c.tags.made list) → Led (M past c) (member line name type list c)
+member_rises past line name type list c h w m st sm =
     let r2 : Checked (Context × d.Members) = then (with_member line name type list) (λ more. Ok (c, more)) in
     let r1 : Checked (Context × d.Members) = unless (has_no_size c.tags type) Incomplete line r2 in
-    led_unless (M c) (is_function type) LeftOut line r1
-    (λ t. led_unless (M c) (has_no_size c.tags type) Incomplete line r2
-    (λ s. led_after (M c) (with_member line name type list) (λ more. Ok (c, more))
-    (λ more q. led_ok (M c) (c, more) (rises_refl c h, with_member_rises line name type (K c) list m w (sized c.tags type s) more q))))
+    led_unless (M past c) (is_function type) LeftOut line r1
+    (λ t. led_unless (M past c) (has_no_size c.tags type) Incomplete line r2
+    (λ s. led_after (M past c) (with_member line name type list) (λ more. Ok (c, more))
+    (λ more q. led_ok (M past c) (c, more) (rises_refl c h, with_member_rises line name type (K c) list m w (sized c.tags type s) more q, λ ks. with_member_sorted line name type c.tags.made list (sm ks) (st ks) more q))))
 
 -- members in braces are some
 
@@ -336,13 +397,13 @@ members_some (tree ▹ rest) list c z h w q e = never _ _ z q
 enumerator_rises : (line : ℕ) (name : List ℕ) (value : ℤ) (c : Context) → Solid c → Led (R1 c) (enumerator line name value c)
 enumerator_rises line name value c h =
     led_after (R1 c) (declared_as line name (n.Constant i.Int (wrapped I32 value)) c) (λ x. Ok (x, wrapped I32 value +ℤ pos 1))
-    (λ x q. led_ok (R1 c) (x, wrapped I32 value +ℤ pos 1) (declared_rises line name (n.Constant i.Int (wrapped I32 value)) c h (wrapped_number I32 value) x q))
+    (λ x q. led_ok (R1 c) (x, wrapped I32 value +ℤ pos 1) (declared_rises line name (n.Constant i.Int (wrapped I32 value)) c h (wrapped_number I32 value) (λ ks. tt) x q))
 
 enum_rises : (line : ℕ) (name : Option (List ℕ)) (c : Context) → Solid c → Led (T c) (enum_named line name c)
-enum_rises line None c h = led_ok (T c) (c, Int i.Int) (rises_refl c h, tt)
+enum_rises line None c h = led_ok (T c) (c, Int i.Int) (rises_refl c h, tt, λ ks. tt)
 enum_rises line (Some name) c h =
     led_unless (T c) (is_some (named_in (tag_name name) (innermost c.scopes))) DeclaredTwice line (Ok (record c { scopes = with_name c.scopes (tag_name name) (n.Tag (Int i.Int)) }, Int i.Int))
-    (λ t. led_ok (T c) (record c { scopes = with_name c.scopes (tag_name name) (n.Tag (Int i.Int)) }, Int i.Int) (named_rises c (tag_name name) (n.Tag (Int i.Int)) h tt, tt))
+    (λ t. led_ok (T c) (record c { scopes = with_name c.scopes (tag_name name) (n.Tag (Int i.Int)) }, Int i.Int) (named_rises c (tag_name name) (n.Tag (Int i.Int)) h tt (λ ks. tt), tt, λ ks. tt))
 
 -- scopes of parameters
 
@@ -357,16 +418,20 @@ left_params_rises : (c x : Context) → Rises (entered c) x → Rises c (left_pa
 left_params_rises c x p = record {
   solid = record { made = p.solid.made; names = left_whole (K x) x.scopes p.solid.names; list = first_list (K x) x.scopes.inner p.solid.names.inner; memory = p.solid.memory; result = p.solid.result; statics = p.solid.statics; functions = p.solid.functions };
   more = p.more;
+  kinds = record {
+    made = p.kinds.made;
+    sorts = λ ks. let k = p.kinds.sorts (record { names = entered_sorted c.tags.made c.scopes ks.names; list = ks.list; bodies = ks.bodies }) in record { names = left_sorted x.tags.made x.scopes k.names; list = first_sorted x.tags.made x.scopes.inner k.names.inner; bodies = k.bodies };
+  };
   code = p.code;
   cases = p.cases;
   walked = p.walked;
 }
 
 no_params : (c : Context) → Solid c → Rises c (record c { params = [] })
-no_params c h = record { solid = record { made = h.made; names = h.names; list = λ name v e. cc; memory = h.memory; result = h.result; statics = h.statics; functions = h.functions }; more = extends_refl (K c); code = λ k. k; cases = λ k. k; walked = λ k. k }
+no_params c h = record { solid = record { made = h.made; names = h.names; list = λ name v e. cc; memory = h.memory; result = h.result; statics = h.statics; functions = h.functions }; more = extends_refl (K c); kinds = record { made = λ i u e. e; sorts = λ ks. record { names = ks.names; list = none_sorted c.tags.made; bodies = ks.bodies } }; code = λ k. k; cases = λ k. k; walked = λ k. k }
 
 t_on : (a b : Context) (z : Context × PlainType) → Rises a b → T b z → T a z
-t_on a b z x y = (rises_trans a b z.0 x y.0, y.1)
+t_on a b z x y = (rises_trans a b z.0 x y.0, y.1, λ ks. y.2 (x.kinds.sorts ks))
 
 mutual
   unfolding specs words_type tag_type members member_names enumerators layers suffix_layers suffix_layer params Written AllWritten HasParts
@@ -376,7 +441,7 @@ mutual
   specs_rise tree c h w = led_refused (T c) Operands (line_of tree)
 
   words_rise : (rest : Trees) (line : ℕ) (words : Trees) (c : Context) → Solid c → AllWritten rest → Led (T c) (words_type line words rest c)
-  words_rise none line words c h w = led_ok (T c) (c, word_type words) (rises_refl c h, word_whole c.tags.completed h.made words)
+  words_rise none line words c h w = led_ok (T c) (c, word_type words) (rises_refl c h, word_whole c.tags.completed h.made words, λ ks. word_sorted c.tags.made words)
   words_rise (Leaf word ▹ rest) line words c h w = words_rise rest line words c h w.1
   words_rise (At at ▹ rest) line words c h w = words_rise rest line words c h w.1
   words_rise (Node form parts ▹ rest) line words c h w = tag_rises (Node form parts) line c h w.0
@@ -386,34 +451,35 @@ mutual
       let start = begun sort (maybe_name name) c in
       let b = begun_rises sort (maybe_name name) c h in
       led_after (T c) (members parts [] start.0) (λ m. ended at sort start.1 m.0 m.1)
-      (λ m q. let k = members_rise parts [] start.0 b.solid w.1.1.1.0.1 tt m q in
-      (λ z s. t_on c m.0 z (rises_trans c start.0 m.0 b k.0) (ended_rises at sort start.1 m.0 m.1 k.0.solid k.1 (members_some parts [] start.0 m w.1.1.1.0.0 w.1.1.1.0.1 q) z s)))
+      (λ m q. let k = members_rise c parts [] start.0 b.solid w.1.1.1.0.1 tt b.kinds.sorts (λ ks. tt) m q in
+      ended_rises at sort start.1 c m.0 m.1 (rises_trans c start.0 m.0 b k.0) k.1 (members_some parts [] start.0 m w.1.1.1.0.0 w.1.1.1.0.1 q) k.2 (λ ks. type_longer start.1 start.0.tags.made m.0.tags.made k.0.kinds.made (begun_sorted sort (maybe_name name) c ks)))
   tag_rises (Node (f.EnumBody trailing) (At at ▹ Node f.MaybeName name ▹ Node f.Enumerators parts ▹ none)) line c h w =
       led_after (T c) (enumerators parts (pos 0) c) (λ e. enum_named at (maybe_name name) e)
       (λ e q. let k = enumerators_rise parts (pos 0) c h w.1.1.1.0.1 e q in (λ z s. t_on c e z k (enum_rises at (maybe_name name) e k.solid z s)))
   tag_rises tree line c h w = with_type_rises line tree c h
 
-  members_rise : (parts : Trees) (list : d.Members) (c : Context) → Solid c → AllWritten parts → MembersWhole (K c) list → Led (M c) (members parts list c)
-  members_rise none list c h w m = led_ok (M c) (c, list) (rises_refl c h, m)
-  members_rise (Node f.Member (At line ▹ words ▹ Node f.MemberNames declarators ▹ none) ▹ rest) list c h w m =
-      led_after (M c) (specs words c) (λ base. then (member_names line base.1 declarators list base.0) (λ x. members rest x.1 x.0))
+  members_rise : (past : Context) (parts : Trees) (list : d.Members) (c : Context) → Solid c → AllWritten parts → MembersWhole (K c) list → (Sorts past → Sorts c) → (Sorts past → MembersSorted c.tags.made list) → Led (M past c) (members parts list c)
+  members_rise past none list c h w m ss sm = led_ok (M past c) (c, list) (rises_refl c h, m, sm)
+  members_rise past (Node f.Member (At line ▹ words ▹ Node f.MemberNames declarators ▹ none) ▹ rest) list c h w m ss sm =
+      led_after (M past c) (specs words c) (λ base. then (member_names line base.1 declarators list base.0) (λ x. members rest x.1 x.0))
       (λ base q. let b = specs_rise words c h w.0.1.1.0 base q in
-      led_after (M c) (member_names line base.1 declarators list base.0) (λ x. members rest x.1 x.0)
-      (λ x s. let k = member_names_rise declarators line base.1 list base.0 b.0.solid w.0.1.1.1.0.1 b.1 (members_stay list (K c) (K base.0) b.0.more m) x s in
-      (λ z t. let y = members_rise rest x.1 x.0 k.0.solid w.1 k.1 z t in (rises_trans c base.0 z.0 b.0 (rises_trans base.0 x.0 z.0 k.0 y.0), y.1))))
-  members_rise (tree ▹ rest) list c h w m = led_refused (M c) Operands (line_of tree)
+      led_after (M past c) (member_names line base.1 declarators list base.0) (λ x. members rest x.1 x.0)
+      (λ x s. let k = member_names_rise past declarators line base.1 list base.0 b.0.solid w.0.1.1.1.0.1 b.1 (members_stay list (K c) (K base.0) b.0.more m) (λ a. b.0.kinds.sorts (ss a)) (λ a. b.2 (ss a)) (λ a. members_longer list c.tags.made base.0.tags.made b.0.kinds.made (sm a)) x s in
+      (λ z t. let y = members_rise past rest x.1 x.0 k.0.solid w.1 k.1 (λ a. k.0.kinds.sorts (b.0.kinds.sorts (ss a))) k.2 z t in (rises_trans c base.0 z.0 b.0 (rises_trans base.0 x.0 z.0 k.0 y.0), y.1, y.2))))
+  members_rise past (tree ▹ rest) list c h w m ss sm = led_refused (M past c) Operands (line_of tree)
 
-  member_names_rise : (parts : Trees) (line : ℕ) (base : PlainType) (list : d.Members) (c : Context) → Solid c → AllWritten parts → Whole (K c) base → MembersWhole (K c) list → Led (M c) (member_names line base parts list c)
-  member_names_rise none line base list c h w t m = led_ok (M c) (c, list) (rises_refl c h, m)
-  member_names_rise (declarator ▹ rest) line base list c h w t m =
-      led_after (M c) (layers declarator c) (λ l. then (with_layers l.0.tags l.1 base) (λ type. then (member line (name_of declarator) type list l.0) (λ x. member_names line base rest x.1 x.0)))
+  member_names_rise : (past : Context) (parts : Trees) (line : ℕ) (base : PlainType) (list : d.Members) (c : Context) → Solid c → AllWritten parts → Whole (K c) base → MembersWhole (K c) list → (Sorts past → Sorts c) → (Sorts past → SortedType c.tags.made base) → (Sorts past → MembersSorted c.tags.made list) → Led (M past c) (member_names line base parts list c)
+  member_names_rise past none line base list c h w t m ss st sm = led_ok (M past c) (c, list) (rises_refl c h, m, sm)
+  member_names_rise past (declarator ▹ rest) line base list c h w t m ss st sm =
+      led_after (M past c) (layers declarator c) (λ l. then (with_layers l.0.tags l.1 base) (λ type. then (member line (name_of declarator) type list l.0) (λ x. member_names line base rest x.1 x.0)))
       (λ l q. let k = layers_rise declarator c h w.0 l q in
-      led_after (M c) (with_layers l.0.tags l.1 base) (λ type. then (member line (name_of declarator) type list l.0) (λ x. member_names line base rest x.1 x.0))
+      led_after (M past c) (with_layers l.0.tags l.1 base) (λ type. then (member line (name_of declarator) type list l.0) (λ x. member_names line base rest x.1 x.0))
       (λ type s. let y = with_layers_whole l.0.tags.completed l.0.tags l.1 base refl (whole_stays base (K c) (K l.0) k.0.more t) k.1 type s in
-      led_after (M c) (member line (name_of declarator) type list l.0) (λ x. member_names line base rest x.1 x.0)
-      (λ x v. let u = member_rises line (name_of declarator) type list l.0 k.0.solid y (members_stay list (K c) (K l.0) k.0.more m) x v in
+      led_after (M past c) (member line (name_of declarator) type list l.0) (λ x. member_names line base rest x.1 x.0)
+      (λ x v. let u = member_rises past line (name_of declarator) type list l.0 k.0.solid y (members_stay list (K c) (K l.0) k.0.more m)
+      (λ a. with_layers_sorted l.0.tags.made l.0.tags l.1 base (type_longer base c.tags.made l.0.tags.made k.0.kinds.made (st a)) type s) (λ a. members_longer list c.tags.made l.0.tags.made k.0.kinds.made (sm a)) x v in
       let more : Rises c x.0 = rises_trans c l.0 x.0 k.0 u.0 in
-      (λ z a. let last = member_names_rise rest line base x.1 x.0 u.0.solid w.1 (whole_stays base (K c) (K x.0) more.more t) u.1 z a in (rises_trans c x.0 z.0 more last.0, last.1)))))
+      (λ z a. let last = member_names_rise past rest line base x.1 x.0 u.0.solid w.1 (whole_stays base (K c) (K x.0) more.more t) u.1 (λ p. more.kinds.sorts (ss p)) (λ p. type_longer base c.tags.made x.0.tags.made more.kinds.made (st p)) u.2 z a in (rises_trans c x.0 z.0 more last.0, last.1, last.2)))))
 
   enumerators_rise : (parts : Trees) (next : ℤ) (c : Context) → Solid c → AllWritten parts → Led (Rises c) (enumerators parts next c)
   enumerators_rise none next c h w = led_ok (Rises c) c (rises_refl c h)
@@ -453,7 +519,7 @@ mutual
       led_after (LL c) (wanted e (typed e (asked c))) (λ x. then (array_length (line_of e) x.1) (λ length. Ok (told x.0 c, ArrayOf line (Some length))))
       (λ x q. let g = wanted_good c.tags.completed h.made e (typed e (asked c)) (typed_good c.tags.completed h.made e (asked c) (fit_of c h)) x q in
       led_after (LL c) (array_length (line_of e) x.1) (λ length. Ok (told x.0 c, ArrayOf line (Some length)))
-      (λ m s. led_ok (LL c) (told x.0 c, ArrayOf line (Some m)) (told_rises c x.0 h g.0, length_some c.tags.completed h.made (line_of e) x.1 m s)))
+      (λ m s. led_ok (LL c) (told x.0 c, ArrayOf line (Some m)) (told_rises c x.0 h g.0 (wanted_leads (asked c) e (typed e (asked c)) (typed_leads e (asked c)) x q), length_some c.tags.completed h.made (line_of e) x.1 m s)))
   suffix_rises (Node f.FunctionSuffix (At line ▹ Node f.Params parts ▹ none)) c h w =
       led_after (LL c) (params parts (entered c)) (λ x. Ok (left_params x.0, FunctionOf line x.1))
       (λ x q. let k = params_rise parts (entered c) (entered_solid c h) w.1.1.0.1 x q in led_ok (LL c) (left_params x.0, FunctionOf line x.1) (left_params_rises c x.0 k.0, k.1))

@@ -53,6 +53,8 @@ use Rattle.core_soundness.proofs.Quiet.{quiet_convert_integer}
 use Rattle.core_soundness.proofs.Cores.{behind as core_behind, core_sizes}
 use Rattle.core_soundness.proofs.Reached.{Led, led_ok, led_refused, led_after, led_unless, led_barred}
 use Rattle.core_soundness.proofs.WholeTypes.{whole_stays, extends_refl, is_layout}
+use Rattle.core_soundness.proofs.TagSorts.{none_sorted, entered_sorted, left_sorted}
+use Rattle.core_soundness.proofs.TagKinds.{kinds_refl}
 use Rattle.core_soundness.proofs.TypedWhole.{left_whole, with_layers_whole}
 use Rattle.core_soundness.specs.Solid.{MemsLaid, VariablesLaid, WalkedLaid, Solid}
 use Rattle.core_soundness.proofs.Solid.{walked_push, K, same_kept, same_rises, wrapped_number}
@@ -75,6 +77,7 @@ scoped_rises c inside k =
     (record {
       solid = record { made = r.solid.made; names = left_whole (K d) d.scopes r.solid.names; list = r.solid.list; memory = r.solid.memory; result = r.solid.result; statics = r.solid.statics; functions = r.solid.functions };
       more = r.more;
+      kinds = record { made = r.kinds.made; sorts = λ ks. let k = r.kinds.sorts (record { names = entered_sorted c.tags.made c.scopes ks.names; list = ks.list; bodies = ks.bodies }) in record { names = left_sorted d.tags.made d.scopes k.names; list = k.list; bodies = k.bodies } };
       code = r.code;
       cases = r.cases;
       walked = r.walked;
@@ -86,13 +89,13 @@ on_led a b x r k z q = rises_trans a b z r (k z q)
 leaves_rise : (k line : ℕ) (c : Context) → Solid c → Rises c (leaves line k c)
 leaves_rise zero line c h = rises_refl c h
 leaves_rise (suc k) line c h =
-    let d = emit line Leave c in rises_trans c d _ (record { solid = h; more = extends_refl (K c); code = λ g. in_emit line Leave c g (tt, tt); cases = λ g. g; walked = λ g. g }) (leaves_rise k line d h)
+    let d = emit line Leave c in rises_trans c d _ (record { solid = h; more = extends_refl (K c); kinds = kinds_refl c; code = λ g. in_emit line Leave c g (tt, tt); cases = λ g. g; walked = λ g. g }) (leaves_rise k line d h)
 
 leave_rises : (line delays : ℕ) (o : Option (ℕ × ℕ)) (c : Context) → Solid c → Led (Rises c) (leave_to line delays o c)
 leave_rises line delays None c h = led_refused (Rises c) StrayBreak line
 leave_rises line delays (Some exit) c h =
     let d = leaves line (delays - exit.1) c in
-    let r = leaves_rise (delays - exit.1) line c h in led_ok (Rises c) (emit line (Jump exit.0) d) (record { solid = r.solid; more = r.more; code = λ g. in_emit line (Jump exit.0) d (r.code g) (tt, tt); cases = r.cases; walked = r.walked })
+    let r = leaves_rise (delays - exit.1) line c h in led_ok (Rises c) (emit line (Jump exit.0) d) (record { solid = r.solid; more = r.more; kinds = r.kinds; code = λ g. in_emit line (Jump exit.0) d (r.code g) (tt, tt); cases = r.cases; walked = r.walked })
 
 -- expressions
 
@@ -121,6 +124,7 @@ condition_rises e c h w =
       record {
         solid = z.solid;
         more = λ tag l y. z.more tag l (k.more tag l (r.rises.more tag l y));
+        kinds = record { made = λ i u e. z.kinds.made i u (k.kinds.made i u (r.rises.kinds.made i u e)); sorts = λ ks. z.kinds.sorts (k.kinds.sorts (r.rises.kinds.sorts ks)) };
         code = λ g. z.code (tested_value_in e d (r.fits g)).0;
         cases = λ g. z.cases (same_cases d.0 (tested_value e d).0 (grows_tested (code_line e) d.1.typed.type (atom_in d.1) d.0) (r.rises.cases g));
         walked = λ g. z.walked (same_walked d.0 (tested_value e d).0 (grows_tested (code_line e) d.1.typed.type (atom_in d.1) d.0) (r.rises.walked g));
@@ -131,7 +135,7 @@ condition_rises e c h w =
 if_zero_rises : (line label : ℕ) (e : Tree) (c : Context) → Solid c → Written e → Led (Rises c) (leaves_if_zero line label e c)
 if_zero_rises line label e c h w =
     led_after (Rises c) (condition e c) (λ d. Ok (emit line (Zero d.1 label) d.0))
-    (λ d q. let r = condition_rises e c h w d q in led_ok (Rises c) (emit line (Zero d.1 label) d.0) (record { solid = r.0.solid; more = r.0.more; code = λ g. in_emit line (Zero d.1 label) d.0 (r.0.code g) ((r.1 g, tt), tt); cases = r.0.cases; walked = r.0.walked }))
+    (λ d q. let r = condition_rises e c h w d q in led_ok (Rises c) (emit line (Zero d.1 label) d.0) (record { solid = r.0.solid; more = r.0.more; kinds = r.0.kinds; code = λ g. in_emit line (Zero d.1 label) d.0 (r.0.code g) ((r.1 g, tt), tt); cases = r.0.cases; walked = r.0.walked }))
 
 maybe_leaves_rises : (line label : ℕ) (es : Trees) (c : Context) → Solid c → AllWritten es → Led (Rises c) (maybe_leaves line label es c)
 unfolding AllWritten
@@ -153,6 +157,7 @@ return_of_rises line delays e type c h w t =
     (record {
       solid = z.solid;
       more = λ tag l y. z.more tag l (k.more tag l (v.rises.more tag l y));
+      kinds = record { made = λ i u e. z.kinds.made i u (k.kinds.made i u (v.rises.kinds.made i u e)); sorts = λ ks. z.kinds.sorts (k.kinds.sorts (v.rises.kinds.sorts ks)) };
       code = λ g. in_emit line (Return (Some x.1)) f (z.code (k.code (v.rises.code g))) ((v.fits g, tt), tt);
       cases = λ g. z.cases (k.cases (v.rises.cases g));
       walked = λ g. z.walked (k.walked (v.rises.walked g));
@@ -163,7 +168,7 @@ unfolding AllWritten
 return_rises line delays none c h w =
     let r = leaves_rise delays line c h in
     led_unless (Rises c) (not (is_void c.running.answer)) Assignment line (Ok (returned line delays None c))
-    (λ x. led_ok (Rises c) (returned line delays None c) (record { solid = r.solid; more = r.more; code = λ g. in_emit line (Return None) (leaves line delays c) (r.code g) (tt, tt); cases = r.cases; walked = r.walked }))
+    (λ x. led_ok (Rises c) (returned line delays None c) (record { solid = r.solid; more = r.more; kinds = r.kinds; code = λ g. in_emit line (Return None) (leaves line delays c) (r.code g) (tt, tt); cases = r.cases; walked = r.walked }))
 return_rises line delays (e ▹ rest) c h w = return_of_rises line delays e c.running.answer c h w.0 h.result
 
 -- switches
@@ -191,7 +196,7 @@ case_rises : (line : ℕ) (a : Around) (ty : IntType) (place : ℕ) (v : ℤ) (l
 case_rises line a ty place v label c h =
     let value = Rattle.hs_base.specs.Numbers.wrapped (types.kind_of ty) v in
     led_unless (Rises c) (not a.labelled) LeftOut line (unless (has_case value c) CaseTwice line (Ok (with_case place value label c)))
-    (λ x. led_unless (Rises c) (has_case value c) CaseTwice line (Ok (with_case place value label c)) (λ y. led_ok (Rises c) (with_case place value label c) (record { solid = h; more = extends_refl (K c); code = λ g. g; cases = λ g. cases_put place value label c.running.cases (wrapped_number (types.kind_of ty) v) g; walked = λ g. g })))
+    (λ x. led_unless (Rises c) (has_case value c) CaseTwice line (Ok (with_case place value label c)) (λ y. led_ok (Rises c) (with_case place value label c) (record { solid = h; more = extends_refl (K c); kinds = kinds_refl c; code = λ g. g; cases = λ g. cases_put place value label c.running.cases (wrapped_number (types.kind_of ty) v) g; walked = λ g. g })))
 
 cased_rises : (line : ℕ) (a : Around) (o : Option IntType) (place : ℕ) (v : ℤ) (label : ℕ) (c : Context) → Solid c → Led (Rises c) (cased line a o place v label c)
 cased_rises line a None place v label c h = led_refused (Rises c) StrayBreak line
@@ -204,7 +209,7 @@ defaulted_rises line a label c h =
     let r1 : Checked Context = unless (not a.labelled) LeftOut line r2 in
     led_unless (Rises c) (not (is_some a.switched)) StrayBreak line r1
     (λ x. led_unless (Rises c) (not a.labelled) LeftOut line r2
-    (λ y. led_unless (Rises c) (is_some c.running.otherwise) CaseTwice line (Ok d) (λ z. led_ok (Rises c) d (record { solid = h; more = extends_refl (K c); code = λ g. g; cases = λ g. g; walked = λ g. g }))))
+    (λ y. led_unless (Rises c) (is_some c.running.otherwise) CaseTwice line (Ok d) (λ z. led_ok (Rises c) d (record { solid = h; more = extends_refl (K c); kinds = kinds_refl c; code = λ g. g; cases = λ g. g; walked = λ g. g }))))
 
 abbrev O1 : Context → Context × (IntType × Atom) → Type 0
 O1 c z = Rises c z.0 × (In c → AtomIn z.1.1)
@@ -219,6 +224,7 @@ operand_of_rises line e (Number ty) c d r =
       record {
         solid = z.solid;
         more = λ tag l y. z.more tag l (a.more tag l (r.rises.more tag l y));
+        kinds = record { made = λ i u e. z.kinds.made i u (a.kinds.made i u (r.rises.kinds.made i u e)); sorts = λ ks. z.kinds.sorts (a.kinds.sorts (r.rises.kinds.sorts ks)) };
         code = λ g. let f = r.fits g in z.code (convert_integer_in line (promoted ty) ty (atom_in d.1) d.0 f.0 (spot_atom d.1.spot f.1)).0;
         cases = λ g. z.cases (same_cases d.0 x.0 grown (r.rises.cases g));
         walked = λ g. z.walked (same_walked d.0 x.0 grown (r.rises.walked g));
@@ -252,97 +258,97 @@ mutual
       let h0 = entered_solid c h in
       scoped_rises c (λ d. then (items parts (in_delay a) (emit line Enter d)) (λ e. Ok (emit line Leave e)))
       (led_after (Rises d0) (items parts (in_delay a) d1) (λ e. Ok (emit line Leave e))
-      (λ e q. let r = rises_trans d0 d1 e (record { solid = h0; more = extends_refl (K d0); code = λ g. in_emit line Enter d0 g (tt, tt); cases = λ g. g; walked = λ g. g }) (items_rise parts (in_delay a) d1 h0 w.1.1.0.1 e q) in led_ok (Rises d0) (emit line Leave e) (record { solid = r.solid; more = r.more; code = λ g. in_emit line Leave e (r.code g) (tt, tt); cases = r.cases; walked = r.walked })))
+      (λ e q. let r = rises_trans d0 d1 e (record { solid = h0; more = extends_refl (K d0); kinds = kinds_refl d0; code = λ g. in_emit line Enter d0 g (tt, tt); cases = λ g. g; walked = λ g. g }) (items_rise parts (in_delay a) d1 h0 w.1.1.0.1 e q) in led_ok (Rises d0) (emit line Leave e) (record { solid = r.solid; more = r.more; kinds = r.kinds; code = λ g. in_emit line Leave e (r.code g) (tt, tt); cases = r.cases; walked = r.walked })))
   statement_rises (Node f.If (At line ▹ e ▹ s ▹ none)) a c h w =
       let end = new_label c in
       let c1 = with_labels 1 c in
       let d0 = entered c1 in
       let h0 = entered_solid c1 h in
-      on_led c c1 _ (record { solid = h; more = extends_refl (K c); code = λ g. g; cases = λ g. g; walked = λ g. g })
+      on_led c c1 _ (record { solid = h; more = extends_refl (K c); kinds = kinds_refl c; code = λ g. g; cases = λ g. g; walked = λ g. g })
       (scoped_rises c1 (λ d. then (leaves_if_zero line end e d) (λ t. then (scoped t (λ b. statement s (below a) b)) (λ g. Ok (here end g))))
       (led_after (Rises d0) (leaves_if_zero line end e d0) (λ t. then (scoped t (λ b. statement s (below a) b)) (λ g. Ok (here end g)))
       (λ t q. let r = if_zero_rises line end e d0 h0 w.1.1.0 t q in
       led_after (Rises d0) (scoped t (λ b. statement s (below a) b)) (λ g. Ok (here end g))
       (λ g k. let m = rises_trans d0 t g r (scoped_rises t (λ b. statement s (below a) b) (statement_rises s (below a) (entered t) (entered_solid t r.solid) w.1.1.1.0) g k) in
-      led_ok (Rises d0) (here end g) (record { solid = m.solid; more = m.more; code = λ v. in_here end g (m.code v); cases = m.cases; walked = m.walked })))))
+      led_ok (Rises d0) (here end g) (record { solid = m.solid; more = m.more; kinds = m.kinds; code = λ v. in_here end g (m.code v); cases = m.cases; walked = m.walked })))))
   statement_rises (Node f.IfElse (At line ▹ e ▹ s ▹ other ▹ none)) a c h w =
       let end = new_label c in
       let c1 = with_labels 2 c in
       let d0 = entered c1 in
       let h0 = entered_solid c1 h in
-      on_led c c1 _ (record { solid = h; more = extends_refl (K c); code = λ g. g; cases = λ g. g; walked = λ g. g })
+      on_led c c1 _ (record { solid = h; more = extends_refl (K c); kinds = kinds_refl c; code = λ g. g; cases = λ g. g; walked = λ g. g })
       (scoped_rises c1 (λ d. then (leaves_if_zero line (end + 1) e d) (λ t. then (scoped t (λ b. statement s (below a) b)) (λ g. then (scoped (here (end + 1) (emit line (Jump end) g)) (λ b. statement other (below a) b)) (λ k. Ok (here end k)))))
       (led_after (Rises d0) (leaves_if_zero line (end + 1) e d0) (λ t. then (scoped t (λ b. statement s (below a) b)) (λ g. then (scoped (here (end + 1) (emit line (Jump end) g)) (λ b. statement other (below a) b)) (λ k. Ok (here end k))))
       (λ t q. let r = if_zero_rises line (end + 1) e d0 h0 w.1.1.0 t q in
       led_after (Rises d0) (scoped t (λ b. statement s (below a) b)) (λ g. then (scoped (here (end + 1) (emit line (Jump end) g)) (λ b. statement other (below a) b)) (λ k. Ok (here end k)))
       (λ g k. let m = rises_trans d0 t g r (scoped_rises t (λ b. statement s (below a) b) (statement_rises s (below a) (entered t) (entered_solid t r.solid) w.1.1.1.0) g k) in
       let x = here (end + 1) (emit line (Jump end) g) in
-      let mx : Rises d0 x = record { solid = m.solid; more = m.more; code = λ v. in_here (end + 1) (emit line (Jump end) g) (in_emit line (Jump end) g (m.code v) (tt, tt)); cases = m.cases; walked = m.walked } in
+      let mx : Rises d0 x = record { solid = m.solid; more = m.more; kinds = m.kinds; code = λ v. in_here (end + 1) (emit line (Jump end) g) (in_emit line (Jump end) g (m.code v) (tt, tt)); cases = m.cases; walked = m.walked } in
       led_after (Rises d0) (scoped x (λ b. statement other (below a) b)) (λ y. Ok (here end y))
       (λ y u. let last = rises_trans d0 x y mx (scoped_rises x (λ b. statement other (below a) b) (statement_rises other (below a) (entered x) (entered_solid x mx.solid) w.1.1.1.1.0) y u) in
-      led_ok (Rises d0) (here end y) (record { solid = last.solid; more = last.more; code = λ v. in_here end y (last.code v); cases = last.cases; walked = last.walked }))))))
+      led_ok (Rises d0) (here end y) (record { solid = last.solid; more = last.more; kinds = last.kinds; code = λ v. in_here end y (last.code v); cases = last.cases; walked = last.walked }))))))
   statement_rises (Node f.While (At line ▹ e ▹ s ▹ none)) a c h w =
       let head = new_label c in
       let c1 = with_labels 3 c in
       let d0 = entered c1 in
       let h0 = entered_solid c1 h in
       let d1 = here head d0 in
-      on_led c c1 _ (record { solid = h; more = extends_refl (K c); code = λ g. g; cases = λ g. g; walked = λ g. g })
+      on_led c c1 _ (record { solid = h; more = extends_refl (K c); kinds = kinds_refl c; code = λ g. g; cases = λ g. g; walked = λ g. g })
       (scoped_rises c1 (λ d. then (leaves_if_zero line (head + 1) e (here head d)) (λ t. then (scoped t (λ b. statement s (in_loop (head + 1) (head + 2) a) b)) (λ g. Ok (looped line head (head + 1) (here (head + 2) g)))))
       (led_after (Rises d0) (leaves_if_zero line (head + 1) e d1) (λ t. then (scoped t (λ b. statement s (in_loop (head + 1) (head + 2) a) b)) (λ g. Ok (looped line head (head + 1) (here (head + 2) g))))
-      (λ t q. let r = rises_trans d0 d1 t (record { solid = h0; more = extends_refl (K d0); code = λ v. in_here head d0 v; cases = λ v. v; walked = λ v. v }) (if_zero_rises line (head + 1) e d1 h0 w.1.1.0 t q) in
+      (λ t q. let r = rises_trans d0 d1 t (record { solid = h0; more = extends_refl (K d0); kinds = kinds_refl d0; code = λ v. in_here head d0 v; cases = λ v. v; walked = λ v. v }) (if_zero_rises line (head + 1) e d1 h0 w.1.1.0 t q) in
       led_after (Rises d0) (scoped t (λ b. statement s (in_loop (head + 1) (head + 2) a) b)) (λ g. Ok (looped line head (head + 1) (here (head + 2) g)))
       (λ g k. let m = rises_trans d0 t g r (scoped_rises t (λ b. statement s (in_loop (head + 1) (head + 2) a) b) (statement_rises s (in_loop (head + 1) (head + 2) a) (entered t) (entered_solid t r.solid) w.1.1.1.0) g k) in
-      led_ok (Rises d0) (looped line head (head + 1) (here (head + 2) g)) (record { solid = m.solid; more = m.more; code = λ v. looped_in line head (head + 1) (here (head + 2) g) (in_here (head + 2) g (m.code v)); cases = m.cases; walked = m.walked })))))
+      led_ok (Rises d0) (looped line head (head + 1) (here (head + 2) g)) (record { solid = m.solid; more = m.more; kinds = m.kinds; code = λ v. looped_in line head (head + 1) (here (head + 2) g) (in_here (head + 2) g (m.code v)); cases = m.cases; walked = m.walked })))))
   statement_rises (Node f.Do (At line ▹ s ▹ e ▹ none)) a c h w =
       let head = new_label c in
       let c1 = with_labels 3 c in
       let d0 = entered c1 in
       let h0 = entered_solid c1 h in
       let d1 = here head d0 in
-      on_led c c1 _ (record { solid = h; more = extends_refl (K c); code = λ g. g; cases = λ g. g; walked = λ g. g })
+      on_led c c1 _ (record { solid = h; more = extends_refl (K c); kinds = kinds_refl c; code = λ g. g; cases = λ g. g; walked = λ g. g })
       (scoped_rises c1 (λ d. then (scoped (here head d) (λ b. statement s (in_loop (head + 1) (head + 2) a) b)) (λ g. then (leaves_if_zero line (head + 1) e (here (head + 2) g)) (λ t. Ok (looped line head (head + 1) t))))
       (led_after (Rises d0) (scoped d1 (λ b. statement s (in_loop (head + 1) (head + 2) a) b)) (λ g. then (leaves_if_zero line (head + 1) e (here (head + 2) g)) (λ t. Ok (looped line head (head + 1) t)))
-      (λ g k. let m = rises_trans d0 d1 g (record { solid = h0; more = extends_refl (K d0); code = λ v. in_here head d0 v; cases = λ v. v; walked = λ v. v }) (scoped_rises d1 (λ b. statement s (in_loop (head + 1) (head + 2) a) b) (statement_rises s (in_loop (head + 1) (head + 2) a) (entered d1) (entered_solid d1 h0) w.1.1.0) g k) in
+      (λ g k. let m = rises_trans d0 d1 g (record { solid = h0; more = extends_refl (K d0); kinds = kinds_refl d0; code = λ v. in_here head d0 v; cases = λ v. v; walked = λ v. v }) (scoped_rises d1 (λ b. statement s (in_loop (head + 1) (head + 2) a) b) (statement_rises s (in_loop (head + 1) (head + 2) a) (entered d1) (entered_solid d1 h0) w.1.1.0) g k) in
       let x = here (head + 2) g in
-      let mx : Rises d0 x = record { solid = m.solid; more = m.more; code = λ v. in_here (head + 2) g (m.code v); cases = m.cases; walked = m.walked } in
+      let mx : Rises d0 x = record { solid = m.solid; more = m.more; kinds = m.kinds; code = λ v. in_here (head + 2) g (m.code v); cases = m.cases; walked = m.walked } in
       led_after (Rises d0) (leaves_if_zero line (head + 1) e x) (λ t. Ok (looped line head (head + 1) t))
-      (λ t q. let r = rises_trans d0 x t mx (if_zero_rises line (head + 1) e x mx.solid w.1.1.1.0 t q) in led_ok (Rises d0) (looped line head (head + 1) t) (record { solid = r.solid; more = r.more; code = λ v. looped_in line head (head + 1) t (r.code v); cases = r.cases; walked = r.walked })))))
+      (λ t q. let r = rises_trans d0 x t mx (if_zero_rises line (head + 1) e x mx.solid w.1.1.1.0 t q) in led_ok (Rises d0) (looped line head (head + 1) t) (record { solid = r.solid; more = r.more; kinds = r.kinds; code = λ v. looped_in line head (head + 1) t (r.code v); cases = r.cases; walked = r.walked })))))
   statement_rises (Node f.For (At line ▹ start ▹ Node f.MaybeExpr test ▹ Node f.MaybeExpr step ▹ s ▹ none)) a c h w =
       let head = new_label c in
       let c1 = with_labels 3 c in
       let d0 = entered c1 in
       let h0 = entered_solid c1 h in
       let around = in_loop (head + 1) (head + 2) a in
-      on_led c c1 _ (record { solid = h; more = extends_refl (K c); code = λ g. g; cases = λ g. g; walked = λ g. g })
+      on_led c c1 _ (record { solid = h; more = extends_refl (K c); kinds = kinds_refl c; code = λ g. g; cases = λ g. g; walked = λ g. g })
       (scoped_rises c1 (λ d. then (for_start line start d) (λ x. then (maybe_leaves line (head + 1) test (here head x)) (λ t. then (maybe_evaluated step (apart t)) (λ g. then (scoped (with_pieces t.code.pieces g) (λ b. statement s around b)) (λ k. Ok (looped line head (head + 1) (with_pieces (k.code.pieces ++ (Here (head + 2) ∷ g.code.pieces)) k)))))))
       (led_after (Rises d0) (for_start line start d0) (λ x. then (maybe_leaves line (head + 1) test (here head x)) (λ t. then (maybe_evaluated step (apart t)) (λ g. then (scoped (with_pieces t.code.pieces g) (λ b. statement s around b)) (λ k. Ok (looped line head (head + 1) (with_pieces (k.code.pieces ++ (Here (head + 2) ∷ g.code.pieces)) k))))))
       (λ x q1. let r1 = start_rises line start d0 h0 w.1.1.0 x q1 in
       let x1 = here head x in
-      let s1 : Rises d0 x1 = record { solid = r1.solid; more = r1.more; code = λ v. in_here head x (r1.code v); cases = r1.cases; walked = r1.walked } in
+      let s1 : Rises d0 x1 = record { solid = r1.solid; more = r1.more; kinds = r1.kinds; code = λ v. in_here head x (r1.code v); cases = r1.cases; walked = r1.walked } in
       led_after (Rises d0) (maybe_leaves line (head + 1) test x1) (λ t. then (maybe_evaluated step (apart t)) (λ g. then (scoped (with_pieces t.code.pieces g) (λ b. statement s around b)) (λ k. Ok (looped line head (head + 1) (with_pieces (k.code.pieces ++ (Here (head + 2) ∷ g.code.pieces)) k)))))
       (λ t q2. let r2 = rises_trans d0 x1 t s1 (maybe_leaves_rises line (head + 1) test x1 s1.solid w.1.1.1.0.1 t q2) in
       let t1 = apart t in
-      let s2 : Rises d0 t1 = record { solid = r2.solid; more = r2.more; code = λ v. tt; cases = r2.cases; walked = r2.walked } in
+      let s2 : Rises d0 t1 = record { solid = r2.solid; more = r2.more; kinds = r2.kinds; code = λ v. tt; cases = r2.cases; walked = r2.walked } in
       led_after (Rises d0) (maybe_evaluated step t1) (λ g. then (scoped (with_pieces t.code.pieces g) (λ b. statement s around b)) (λ k. Ok (looped line head (head + 1) (with_pieces (k.code.pieces ++ (Here (head + 2) ∷ g.code.pieces)) k))))
       (λ g q3. let near = maybe_evaluated_rises step t1 s2.solid w.1.1.1.1.0.1 g q3 in
       let r3 = rises_trans d0 t1 g s2 near in
       let g1 = with_pieces t.code.pieces g in
-      let s3 : Rises d0 g1 = record { solid = r3.solid; more = r3.more; code = λ v. r2.code v; cases = r3.cases; walked = r3.walked } in
+      let s3 : Rises d0 g1 = record { solid = r3.solid; more = r3.more; kinds = r3.kinds; code = λ v. r2.code v; cases = r3.cases; walked = r3.walked } in
       led_after (Rises d0) (scoped g1 (λ b. statement s around b)) (λ k. Ok (looped line head (head + 1) (with_pieces (k.code.pieces ++ (Here (head + 2) ∷ g.code.pieces)) k)))
       (λ k q4. let r4 = rises_trans d0 g1 k s3 (scoped_rises g1 (λ b. statement s around b) (statement_rises s around (entered g1) (entered_solid g1 s3.solid) w.1.1.1.1.1.0) k q4) in
-      led_ok (Rises d0) (looped line head (head + 1) (with_pieces (k.code.pieces ++ (Here (head + 2) ∷ g.code.pieces)) k)) (record { solid = r4.solid; more = r4.more; code = λ v. looped_in line head (head + 1) (with_pieces (k.code.pieces ++ (Here (head + 2) ∷ g.code.pieces)) k) (pieces_joined k.code.pieces (Here (head + 2) ∷ g.code.pieces) (r4.code v) (near.code tt)); cases = r4.cases; walked = r4.walked })))))))
+      led_ok (Rises d0) (looped line head (head + 1) (with_pieces (k.code.pieces ++ (Here (head + 2) ∷ g.code.pieces)) k)) (record { solid = r4.solid; more = r4.more; kinds = r4.kinds; code = λ v. looped_in line head (head + 1) (with_pieces (k.code.pieces ++ (Here (head + 2) ∷ g.code.pieces)) k) (pieces_joined k.code.pieces (Here (head + 2) ∷ g.code.pieces) (r4.code v) (near.code tt)); cases = r4.cases; walked = r4.walked })))))))
   statement_rises (Node f.Switch (At line ▹ e ▹ Node f.Block (At at ▹ Node f.Items parts ▹ none) ▹ none)) a c h w =
       let end = new_label c in
       let c1 = with_labels 1 c in
       let d0 = entered c1 in
       let h0 = entered_solid c1 h in
-      on_led c c1 _ (record { solid = h; more = extends_refl (K c); code = λ g. g; cases = λ g. g; walked = λ g. g })
+      on_led c c1 _ (record { solid = h; more = extends_refl (K c); kinds = kinds_refl c; code = λ g. g; cases = λ g. g; walked = λ g. g })
       (scoped_rises c1 (λ d. then (switch_operand line e d) (λ t. then (scoped (no_cases (apart t.0)) (λ b. items parts (in_switch true end t.1.0 a) b)) (λ g. Ok (switched line end t.1.1 t.0 g))))
       (led_after (Rises d0) (switch_operand line e d0) (λ t. then (scoped (no_cases (apart t.0)) (λ b. items parts (in_switch true end t.1.0 a) b)) (λ g. Ok (switched line end t.1.1 t.0 g)))
       (λ t q. let r = operand_rises line e d0 h0 w.1.1.0 t q in
       let x = no_cases (apart t.0) in
-      let rx : Rises d0 x = record { solid = r.0.solid; more = r.0.more; code = λ v. tt; cases = λ v. tt; walked = λ v. r.0.walked v } in
+      let rx : Rises d0 x = record { solid = r.0.solid; more = r.0.more; kinds = r.0.kinds; code = λ v. tt; cases = λ v. tt; walked = λ v. r.0.walked v } in
       led_after (Rises d0) (scoped x (λ b. items parts (in_switch true end t.1.0 a) b)) (λ g. Ok (switched line end t.1.1 t.0 g))
       (λ g k. let near = scoped_rises x (λ b. items parts (in_switch true end t.1.0 a) b) (items_rise parts (in_switch true end t.1.0 a) (entered x) (entered_solid x rx.solid) w.1.1.1.0.1.1.0.1) g k in
       let m = rises_trans d0 x g rx near in
@@ -350,6 +356,7 @@ mutual
       (record {
         solid = m.solid;
         more = m.more;
+        kinds = m.kinds;
         code = λ v. in_here end (cases_of t.0 (behind (t.0.code.pieces ++ dispatch line t.1.1 end g) g)) (pieces_joined (t.0.code.pieces ++ dispatch line t.1.1 end g) g.code.pieces (pieces_joined t.0.code.pieces (dispatch line t.1.1 end g) (r.0.code v) (dispatch_in line t.1.1 end g (r.1 v) (near.cases tt))) (m.code v));
         cases = λ v. r.0.cases v;
         walked = m.walked;
@@ -358,7 +365,7 @@ mutual
       let end = new_label c in
       let c1 = with_labels 1 c in
       let d0 = entered c1 in
-      on_led c c1 _ (record { solid = h; more = extends_refl (K c); code = λ g. g; cases = λ g. g; walked = λ g. g })
+      on_led c c1 _ (record { solid = h; more = extends_refl (K c); kinds = kinds_refl c; code = λ g. g; cases = λ g. g; walked = λ g. g })
       (scoped_rises c1 (λ d. then (switch_operand line e d) (λ t. then (statement s (in_switch false end t.1.0 a) (no_cases (apart t.0))) (λ g. refused LeftOut line)))
       (led_after (Rises d0) (switch_operand line e d0) (λ t. then (statement s (in_switch false end t.1.0 a) (no_cases (apart t.0))) (λ g. refused LeftOut line))
       (λ t q. led_after (Rises d0) (statement s (in_switch false end t.1.0 a) (no_cases (apart t.0))) (λ g. refused LeftOut line) (λ g k. led_refused (Rises d0) LeftOut line))))
@@ -367,13 +374,13 @@ mutual
       (λ k q. let r = constant_rises e c h k q in
       let label = new_label k.0 in
       let x = here label (with_labels 1 k.0) in
-      let rx : Rises c x = record { solid = r.solid; more = r.more; code = λ v. in_here label (with_labels 1 k.0) (r.code v); cases = r.cases; walked = r.walked } in
+      let rx : Rises c x = record { solid = r.solid; more = r.more; kinds = r.kinds; code = λ v. in_here label (with_labels 1 k.0) (r.code v); cases = r.cases; walked = r.walked } in
       led_after (Rises c) (statement s a x) (λ d. cased line a a.switched (length c.running.cases) k.1.value label d)
       (λ d u. let m = rises_trans c x d rx (statement_rises s a x rx.solid w.1.1.1.0 d u) in on_led c d _ m (cased_rises line a a.switched (length c.running.cases) k.1.value label d m.solid)))
   statement_rises (Node f.Default (At line ▹ s ▹ none)) a c h w =
       let label = new_label c in
       let x = here label (with_labels 1 c) in
-      let rx : Rises c x = record { solid = h; more = extends_refl (K c); code = λ v. in_here label (with_labels 1 c) v; cases = λ v. v; walked = λ v. v } in
+      let rx : Rises c x = record { solid = h; more = extends_refl (K c); kinds = kinds_refl c; code = λ v. in_here label (with_labels 1 c) v; cases = λ v. v; walked = λ v. v } in
       led_after (Rises c) (statement s a x) (λ d. defaulted line a label d)
       (λ d u. let m = rises_trans c x d rx (statement_rises s a x rx.solid w.1.1.0 d u) in on_led c d _ m (defaulted_rises line a label d m.solid))
   statement_rises (Node f.Break (At line ▹ none)) a c h w = leave_rises line a.delays a.breaks c h
@@ -389,10 +396,11 @@ mutual
 
 -- functions
 
-begun_rises : (line : ℕ) (addressed : List ℕ) (c : Context) → Solid c → Rises c (begun line addressed c)
+pub begun_rises : (line : ℕ) (addressed : List ℕ) (c : Context) → Solid c → Rises c (begun line addressed c)
 begun_rises line addressed c h = record {
   solid = record { made = h.made; names = h.names; list = h.list; memory = tt; result = tt; statics = h.statics; functions = h.functions };
   more = extends_refl (K c);
+  kinds = kinds_refl c;
   code = λ g. tt;
   cases = λ g. tt;
   walked = λ g. g;
@@ -411,6 +419,7 @@ body_begun_rises : (index : ℕ) (type : PlainType) (c : Context) → Solid c �
 body_begun_rises index type c h w = record {
   solid = record { made = h.made; names = record { file = h.names.file; inner = (h.list, tt) }; list = λ name v e. cc; memory = h.memory; result = answer_whole (K c) type w; statics = h.statics; functions = h.functions };
   more = extends_refl (K c);
+  kinds = record { made = λ i u e. e; sorts = λ ks. record { names = record { file = ks.names.file; inner = (ks.list, tt) }; list = none_sorted c.tags.made; bodies = ks.bodies } };
   code = λ g. g;
   cases = λ g. g;
   walked = λ g. g;
@@ -443,6 +452,7 @@ body_ended_rises line name type end c h g =
     (λ x. led_ok (Rises c) z (record {
       solid = record { made = h.made; names = record { file = h.names.file; inner = tt }; list = h.list; memory = h.memory; result = h.result; statics = h.statics; functions = walked_push c.walked _ h.functions h.memory };
       more = extends_refl (K c);
+      kinds = record { made = λ i u e. e; sorts = λ ks. record { names = record { file = ks.names.file; inner = tt }; list = ks.list; bodies = ks.bodies } };
       code = λ k. done;
       cases = λ k. k;
       walked = λ k. walked_in c.walked (record { name = name; params = params_of type; running = d.running; code = d.code }) k done;
@@ -478,7 +488,7 @@ definition_rises line words declarator tree c h g u v w =
     (λ type s. let y = with_layers_whole l.0.tags.completed l.0.tags l.1 base.1 refl (whole_stays base.1 (K base.0) (K l.0) m.0.more b.1) m.1 type s in
     on_led c l.0 _ (rises_trans c base.0 l.0 b.0 m.0) (named_rises line (name_of declarator) type tree l.0 m.0.solid (m.0.code (b.0.code g)) y w))))
 
-external_rises : (tree : Tree) (c : Context) → Solid c → Written tree → Led (Rises c) (external tree c)
+pub external_rises : (tree : Tree) (c : Context) → Solid c → Written tree → Led (Rises c) (external tree c)
 unfolding external Written AllWritten
 external_rises (Node f.Function (At line ▹ words ▹ Node f.Declared (declarator ▹ none) ▹ tree ▹ none)) c h w =
     let b = begun_rises line (addressed_in declarator tree) c h in
@@ -504,7 +514,7 @@ numbered_whole k j (b ∷ bs) name v e = by (bytes_eq name (names.name_of b)) (n
     by true again q = let same : n.BuiltIn j ≡ v = cc in subst (Rattle.core_soundness.specs.Whole.NamedWhole k) same tt
     by false again q = again q
 
-first_solid : Solid first_context
+pub first_solid : Solid first_context
 first_solid = record { made = tt; names = record { file = numbered_whole (K first_context) 0 built_ins; inner = tt }; list = λ name v e. cc; memory = tt; result = tt; statics = tt; functions = tt }
 
 -- what holds at the end of a text

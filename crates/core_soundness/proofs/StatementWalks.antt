@@ -37,6 +37,7 @@ stays_recoded c d x y s = record {
   length = s.length;
   params = s.params;
   counted = λ h. let k = s.counted (record { bytes = h.bytes; small = h.small }) in record { bytes = k.bytes; small = k.small };
+  inside = λ h. let k = s.inside h in record { variables = k.variables; literals = k.literals; objects = k.objects };
 }
 
 -- the same, out of a scope
@@ -49,6 +50,7 @@ stays_out c d x y s = record {
   length = s.length;
   params = s.params;
   counted = λ h. let k = s.counted (record { bytes = h.bytes; small = h.small }) in record { bytes = k.bytes; small = k.small };
+  inside = λ h. let k = s.inside (omega arith) in record { variables = k.variables; literals = k.literals; objects = k.objects };
 }
 
 -- a statement in a scope of its own
@@ -260,6 +262,10 @@ switch_walks a line ty x c t g fit test w =
       length = w.stays.length ∙ test.stays.length;
       params = λ h. w.stays.params (test.stays.params h);
       counted = λ h. let k = test.stays.counted (record { bytes = h.bytes; small = h.small }) in let q = w.stays.counted (record { bytes = k.bytes; small = k.small }) in record { bytes = q.bytes; small = q.small };
+      inside = λ h.
+          let k = test.stays.inside (omega arith) in
+          let q = w.stays.inside (omega (arith, test.stays.depth)) in
+          record { variables = q.variables ∙ k.variables; literals = λ i u e. q.literals i u (k.literals i u e); objects = λ name type i e. k.objects name type i (q.objects name type i e) };
     })
 
 -- labels of a switch
@@ -301,7 +307,7 @@ cased_walks line a (Some ty) place v c k d fit p w =
     (labelled_walks a c k d (with_case place value k.code.labels d) fit (labelled_true a.labelled e) p w refl
     (λ l. ⊎_elim (λ (h : IsCase l (take place d.running.cases ++ ((value, k.code.labels) ∷ drop place d.running.cases))). ⊎_elim (λ (q : l ≡ k.code.labels). inl q) (λ (q : IsCase l d.running.cases). inr (inl q)) (case_among l place k.code.labels value d.running.cases h))
     (λ (h : d.running.otherwise ≡ Some l). inr (inr h)))
-    (stays_beside d _ w.stays.safe refl refl refl refl refl (λ k. k) refl (tied_refl d.functions d.scopes.file d.walked)))))
+    (stays_beside d _ w.stays.safe refl refl refl refl refl (λ k. k) refl (tied_refl d.functions d.scopes.file d.walked) (λ h name type i e. e)))))
 
 some_is : (one other : ℕ) → Some one ≡ Some other → other ≡ one
 some_is one other e = cc
@@ -315,7 +321,7 @@ defaulted_walks line a c d fit s w =
     led_ok (Walks a c) last
     (labelled_walks a c c d last fit (labelled_true a.labelled e2) (passes_refl c s) w refl
     (λ l. ⊎_elim (λ (h : IsCase l d.running.cases). inr (inl h)) (λ (h : Some c.code.labels ≡ Some l). inl (some_is c.code.labels l h)))
-    (stays_beside d _ w.stays.safe refl refl refl refl refl (λ k. k) refl (tied_refl d.functions d.scopes.file d.walked))))))
+    (stays_beside d _ w.stays.safe refl refl refl refl refl (λ k. k) refl (tied_refl d.functions d.scopes.file d.walked) (λ h name type i e. e))))))
 
 -- `break` and `continue`
 

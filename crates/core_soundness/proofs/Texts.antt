@@ -238,7 +238,7 @@ definition_sane line words declarator tree b start s =
     led_after Sane (with_layers l.0.tags l.1 base.1) (λ type. named_definition line (name_of declarator) type tree l.0)
     (λ type e. named_sane line (name_of declarator) type tree b l.0 start q (sane_stays b l.0 s q.stays))))
 
-external_sane : (tree : Tree) (c : Context) → Sane c → Led Sane (external tree c)
+pub external_sane : (tree : Tree) (c : Context) → Sane c → Led Sane (external tree c)
 unfolding external
 external_sane (Node f.Function (At line ▹ words ▹ Node f.Declared (declarator ▹ t.none) ▹ tree ▹ t.none)) c s =
     definition_sane line words declarator tree (begun line (addressed_in declarator tree) c) refl (sane_begun line (addressed_in declarator tree) c s)
@@ -290,7 +290,7 @@ no_functions k (b ∷ list) name type i e = by (bytes_eq name (name_of_built_in 
     by true rest q = cc
     by false rest q = rest q
 
-first_sane : Sane first_context
+pub first_sane : Sane first_context
 first_sane = record {
   safe = record { file = first_safe_file; inner = tt };
   flat = refl;

@@ -1,5 +1,5 @@
 -- The types of expressions declare tags alone.
-use Rattle.std.proofs.Common.{ℕ, zero, List, [], ◌∷◌, ◌++◌, reverse, Option, Some, None, Ok, subst}
+use Rattle.std.proofs.Common.{ℕ, zero, length, List, [], ◌∷◌, ◌++◌, reverse, Option, Some, None, Ok, subst}
 use Rattle.c_types.specs.Types as ct
 use Rattle.c_types.specs.Types.{PlainType, PlainTypes, first}
 use Rattle.c_types.specs.TagTable.{TagTable}
@@ -21,86 +21,104 @@ use Rattle.c_decls.specs.Typed.{PlainTyped, read, constant, is_function, is_void
 use Rattle.c_decls.specs.PlaceRules.{held_place, element, dot, arrow, stepped, size, cast, choice, assigned, changed, behind_comma}
 use Rattle.c_decls.specs.TypeRules.{address, unary, binary}
 use Rattle.c_decls.specs.Callees.{named, called, call, no_function}
-use Rattle.c_decls.specs.TypeNames.{Context, PointerTo, ArrayOf, FunctionOf, word_type, same_sort, tag_named, enum_named, type_named, special_type, specs_type, array_length, with_layers, with_param_layers, adjusted, with_param, declared_param, with_new_tag}
+use Rattle.c_decls.specs.TypeNames.{Context, PointerTo, ArrayOf, FunctionOf, word_type, record_type, same_sort, tag_named, enum_named, type_named, special_type, specs_type, array_length, with_layers, with_param_layers, adjusted, with_param, declared_param, with_new_tag}
 use Rattle.c_decls.specs.Expressions.{line_of, Found, answered, wanted, changing, one, two, int_constant, char_constant, joined, string, first_literal, callee, in_new_scope, out_of_scope, typed, values, typename, layers, suffix_layers, suffix_layer, param_types, param_type}
 use Rattle.core_soundness.proofs.Names.{More, MoreAll, more_refl, more_trans, with_tag_more}
+use Rattle.core_soundness.proofs.Growth.{Longer}
 use Rattle.core_soundness.proofs.Grown.{ok_same, never}
 use Rattle.core_soundness.proofs.Reached.{Reached, reached_ok, reached_refused, reached_after, reached_then, reached_unless}
+use Rattle.core_soundness.proofs.TagSorts.{SortedScopes, scopes_longer, with_name_sorted, entered_sorted, left_sorted, push_longer, new_sorted}
 
 -- what is known behind has more tags than before
 abbrev pub After : Context → Context → Type 0
 After c d = More c.scopes d.scopes
 
-after_trans : (b c : Context) {A : Type 0} (answer : Checked (Context × A)) → After b c → Reached (After c) answer → Reached (After b) answer
-after_trans b c answer g h d e = more_trans b.scopes c.scopes d.0.scopes g (h d e)
+-- and these are of the sorts by which they are named
+pub record Leads (c d : Context) : Type 0 where
+  pub more : After c d
+  pub made : Longer c.tags.made d.tags.made
+  pub sorts : SortedScopes c.tags.made c.scopes → SortedScopes d.tags.made d.scopes
+
+pub leads_refl : (c : Context) → Leads c c
+leads_refl c = record { more = more_refl c.scopes; made = λ i x e. e; sorts = λ h. h }
+
+leads_trans : (b c d : Context) → Leads b c → Leads c d → Leads b d
+leads_trans b c d x y = record { more = more_trans b.scopes c.scopes d.scopes x.more y.more; made = λ i u e. y.made i u (x.made i u e); sorts = λ h. y.sorts (x.sorts h) }
+
+leads_trans_on : (b c : Context) {A : Type 0} (answer : Checked (Context × A)) → Leads b c → Reached (Leads c) answer → Reached (Leads b) answer
+leads_trans_on b c answer g h d e = leads_trans b c d.0 g (h d e)
 
 -- the shapes of the rules
 
 module _ (b : Context) where
-  answered_after : (c : Context) (x : Checked PlainTyped) → After b c → Reached (After b) (answered c x)
-  answered_after c x g = reached_after (After b) x (λ e. Ok (c, e)) (λ e h. reached_ok (After b) (c, e) g)
+  answered_leads : (c : Context) (x : Checked PlainTyped) → Leads b c → Reached (Leads b) (answered c x)
+  answered_leads c x g = reached_after (Leads b) x (λ e. Ok (c, e)) (λ e h. reached_ok (Leads b) (c, e) g)
 
-  pub wanted_after : (tree : Tree) (x : Found) → Reached (After b) x → Reached (After b) (wanted tree x)
-  wanted_after tree x g =
-      reached_then (After b) (After b) x (λ e. answered e.0 (read (line_of tree) e.0.tags e.1)) g (λ d h. answered_after d.0 (read (line_of tree) d.0.tags d.1) h)
+  pub wanted_leads : (tree : Tree) (x : Found) → Reached (Leads b) x → Reached (Leads b) (wanted tree x)
+  wanted_leads tree x g =
+      reached_then (Leads b) (Leads b) x (λ e. answered e.0 (read (line_of tree) e.0.tags e.1)) g (λ d h. answered_leads d.0 (read (line_of tree) d.0.tags d.1) h)
 
-  changing_after : (tree : Tree) (x : Found) → Reached (After b) x → Reached (After b) (changing tree x)
-  changing_after tree x g =
-      reached_then (After b) (After b) x (λ e. answered e.0 (held_place (line_of tree) e.0.tags e.1)) g (λ d h. answered_after d.0 (held_place (line_of tree) d.0.tags d.1) h)
+  changing_leads : (tree : Tree) (x : Found) → Reached (Leads b) x → Reached (Leads b) (changing tree x)
+  changing_leads tree x g =
+      reached_then (Leads b) (Leads b) x (λ e. answered e.0 (held_place (line_of tree) e.0.tags e.1)) g (λ d h. answered_leads d.0 (held_place (line_of tree) d.0.tags d.1) h)
 
-  one_after : (x : Found) (rule : TagTable → PlainTyped → Checked PlainTyped) → Reached (After b) x → Reached (After b) (one x rule)
-  one_after x rule g = reached_then (After b) (After b) x (λ e. answered e.0 (rule e.0.tags e.1)) g (λ d h. answered_after d.0 (rule d.0.tags d.1) h)
+  one_leads : (x : Found) (rule : TagTable → PlainTyped → Checked PlainTyped) → Reached (Leads b) x → Reached (Leads b) (one x rule)
+  one_leads x rule g = reached_then (Leads b) (Leads b) x (λ e. answered e.0 (rule e.0.tags e.1)) g (λ d h. answered_leads d.0 (rule d.0.tags d.1) h)
 
-  two_after : (x : Found) (y : Context → Found) (rule : TagTable → PlainTyped → PlainTyped → Checked PlainTyped) → Reached (After b) x
-      → ((c : Context) → After b c → Reached (After b) (y c)) → Reached (After b) (two x y rule)
-  two_after x y rule g h =
-      reached_then (After b) (After b) x (λ d. then (y d.0) (λ e. answered e.0 (rule e.0.tags d.1 e.1))) g
-      (λ d k. reached_then (After b) (After b) (y d.0) (λ e. answered e.0 (rule e.0.tags d.1 e.1)) (h d.0 k) (λ e q. answered_after e.0 (rule e.0.tags d.1 e.1) q))
+  two_leads : (x : Found) (y : Context → Found) (rule : TagTable → PlainTyped → PlainTyped → Checked PlainTyped) → Reached (Leads b) x
+      → ((c : Context) → Leads b c → Reached (Leads b) (y c)) → Reached (Leads b) (two x y rule)
+  two_leads x y rule g h =
+      reached_then (Leads b) (Leads b) x (λ d. then (y d.0) (λ e. answered e.0 (rule e.0.tags d.1 e.1))) g
+      (λ d k. reached_then (Leads b) (Leads b) (y d.0) (λ e. answered e.0 (rule e.0.tags d.1 e.1)) (h d.0 k) (λ e q. answered_leads e.0 (rule e.0.tags d.1 e.1) q))
 
-  callee_after : (e : Tree) (c : Context) (answer : Found) → After b c → Reached (After b) answer → Reached (After b) (callee e c answer)
-  callee_after (Node f.Name (At line ▹ Leaf (w.Name name) ▹ none)) c answer g h =
-      reached_after (After b) (called line c.tags (found c.scopes name)) (λ function. Ok (c, function)) (λ function k. reached_ok (After b) (c, function) g)
-  callee_after e c answer g h =
-      reached_then (After b) (After b) answer (λ d. then (no_function (line_of e) d.0.tags (Ok d.1)) (λ function. Ok (d.0, function))) h
-      (λ d k. reached_after (After b) (no_function (line_of e) d.0.tags (Ok d.1)) (λ function. Ok (d.0, function)) (λ function q. reached_ok (After b) (d.0, function) k))
+  callee_leads : (e : Tree) (c : Context) (answer : Found) → Leads b c → Reached (Leads b) answer → Reached (Leads b) (callee e c answer)
+  callee_leads (Node f.Name (At line ▹ Leaf (w.Name name) ▹ none)) c answer g h =
+      reached_after (Leads b) (called line c.tags (found c.scopes name)) (λ function. Ok (c, function)) (λ function k. reached_ok (Leads b) (c, function) g)
+  callee_leads e c answer g h =
+      reached_then (Leads b) (Leads b) answer (λ d. then (no_function (line_of e) d.0.tags (Ok d.1)) (λ function. Ok (d.0, function))) h
+      (λ d k. reached_after (Leads b) (no_function (line_of e) d.0.tags (Ok d.1)) (λ function. Ok (d.0, function)) (λ function q. reached_ok (Leads b) (d.0, function) k))
 
 -- tags and the names of types
 
-sort_after : (line : ℕ) (sort : RecordSort) (c : Context) (type : PlainType) → Reached (After c) (same_sort line sort c type)
-sort_after line r.Struct c (ct.Struct tag) = reached_ok (After c) (c, ct.Struct tag) (more_refl c.scopes)
-sort_after line r.Union c (ct.Union tag) = reached_ok (After c) (c, ct.Union tag) (more_refl c.scopes)
-sort_after line sort c type = reached_refused (After c) DeclaredTwice line
+sort_leads : (line : ℕ) (sort : RecordSort) (c : Context) (type : PlainType) → Reached (Leads c) (same_sort line sort c type)
+sort_leads line r.Struct c (ct.Struct tag) = reached_ok (Leads c) (c, ct.Struct tag) (leads_refl c)
+sort_leads line r.Union c (ct.Union tag) = reached_ok (Leads c) (c, ct.Union tag) (leads_refl c)
+sort_leads line sort c type = reached_refused (Leads c) DeclaredTwice line
 
-new_tag_after : (sort : RecordSort) (name : List ℕ) (c : Context) → After c (with_new_tag sort name c).0
-new_tag_after sort name c = with_tag_more c.scopes name _
+pub new_tag_leads : (sort : RecordSort) (name : List ℕ) (c : Context) → Leads c (with_new_tag sort name c).0
+new_tag_leads sort name c = record {
+  more = with_tag_more c.scopes name _;
+  made = push_longer c.tags.made _;
+  sorts = λ h. with_name_sorted (with_new_tag sort name c).0.tags.made c.scopes (tag_name name) (n.Tag (record_type sort (length c.tags.made))) (new_sorted sort c.tags.made name) (scopes_longer c.scopes c.tags.made _ (push_longer c.tags.made _) h);
+}
 
-pub tag_after : (line : ℕ) (sort : RecordSort) (name : List ℕ) (c : Context) (named : Option PlainNamed) → Reached (After c) (tag_named line sort name c named)
-tag_after line sort name c None = reached_ok (After c) (with_new_tag sort name c) (new_tag_after sort name c)
-tag_after line sort name c (Some (n.Tag type)) = sort_after line sort c type
-tag_after line sort name c (Some other) = reached_refused (After c) DeclaredTwice line
+pub tag_leads : (line : ℕ) (sort : RecordSort) (name : List ℕ) (c : Context) (named : Option PlainNamed) → Reached (Leads c) (tag_named line sort name c named)
+tag_leads line sort name c None = reached_ok (Leads c) (with_new_tag sort name c) (new_tag_leads sort name c)
+tag_leads line sort name c (Some (n.Tag type)) = sort_leads line sort c type
+tag_leads line sort name c (Some other) = reached_refused (Leads c) DeclaredTwice line
 
-enum_after : (line : ℕ) (c : Context) (named : Option PlainNamed) → Reached (After c) (enum_named line c named)
-enum_after line c (Some (n.Tag (ct.Int ty))) d e = subst (λ (x : Context × PlainType). After c x.0) (ok_same _ d e) (more_refl c.scopes)
-enum_after line c (Some (n.Tag type)) d e = never (After c d.0) _ d e
-enum_after line c named d e = never (After c d.0) _ d e
+enum_leads : (line : ℕ) (c : Context) (named : Option PlainNamed) → Reached (Leads c) (enum_named line c named)
+enum_leads line c (Some (n.Tag (ct.Int ty))) d e = subst (λ (x : Context × PlainType). Leads c x.0) (ok_same _ d e) (leads_refl c)
+enum_leads line c (Some (n.Tag type)) d e = never (Leads c d.0) _ d e
+enum_leads line c named d e = never (Leads c d.0) _ d e
 
-type_after : (line : ℕ) (c : Context) (named : Option PlainNamed) → Reached (After c) (type_named line c named)
-type_after line c (Some (n.Typedef type)) d e = subst (λ (x : Context × PlainType). After c x.0) (ok_same _ d e) (more_refl c.scopes)
-type_after line c (Some (n.BuiltIn zero)) d e = subst (λ (x : Context × PlainType). After c x.0) (ok_same _ d e) (more_refl c.scopes)
-type_after line c named d e = never (After c d.0) _ d e
+type_leads : (line : ℕ) (c : Context) (named : Option PlainNamed) → Reached (Leads c) (type_named line c named)
+type_leads line c (Some (n.Typedef type)) d e = subst (λ (x : Context × PlainType). Leads c x.0) (ok_same _ d e) (leads_refl c)
+type_leads line c (Some (n.BuiltIn zero)) d e = subst (λ (x : Context × PlainType). Leads c x.0) (ok_same _ d e) (leads_refl c)
+type_leads line c named d e = never (Leads c d.0) _ d e
 
-pub special_after : (line : ℕ) (tree : Tree) (c : Context) → Reached (After c) (special_type line tree c)
-special_after line (Node f.TypedefName (Leaf (w.Name name) ▹ none)) c = type_after line c (found c.scopes name)
-special_after line (Node (f.RecordTag sort) (At at ▹ Leaf (w.Name name) ▹ none)) c = tag_after at sort name c (found c.scopes (tag_name name))
-special_after line (Node f.EnumTag (At at ▹ Leaf (w.Name name) ▹ none)) c = enum_after at c (found c.scopes (tag_name name))
-special_after line (Node other (At at ▹ parts)) c = reached_refused (After c) LeftOut at
-special_after line tree c = reached_refused (After c) LeftOut line
+pub special_leads : (line : ℕ) (tree : Tree) (c : Context) → Reached (Leads c) (special_type line tree c)
+special_leads line (Node f.TypedefName (Leaf (w.Name name) ▹ none)) c = type_leads line c (found c.scopes name)
+special_leads line (Node (f.RecordTag sort) (At at ▹ Leaf (w.Name name) ▹ none)) c = tag_leads at sort name c (found c.scopes (tag_name name))
+special_leads line (Node f.EnumTag (At at ▹ Leaf (w.Name name) ▹ none)) c = enum_leads at c (found c.scopes (tag_name name))
+special_leads line (Node other (At at ▹ parts)) c = reached_refused (Leads c) LeftOut at
+special_leads line tree c = reached_refused (Leads c) LeftOut line
 
-specs_after : (line : ℕ) (all words : Trees) (c : Context) → Reached (After c) (specs_type line all words c)
-specs_after line all none c = reached_ok (After c) (c, word_type all) (more_refl c.scopes)
-specs_after line all (Node form parts ▹ rest) c = special_after line (Node form parts) c
-specs_after line all (Leaf word ▹ rest) c = specs_after line all rest c
-specs_after line all (At at ▹ rest) c = specs_after line all rest c
+specs_leads : (line : ℕ) (all words : Trees) (c : Context) → Reached (Leads c) (specs_type line all words c)
+specs_leads line all none c = reached_ok (Leads c) (c, word_type all) (leads_refl c)
+specs_leads line all (Node form parts ▹ rest) c = special_leads line (Node form parts) c
+specs_leads line all (Leaf word ▹ rest) c = specs_leads line all rest c
+specs_leads line all (At at ▹ rest) c = specs_leads line all rest c
 
 -- inside a list of parameters: the scopes outside have more tags alone
 abbrev HasScope : List Table → Type 0
@@ -110,6 +128,8 @@ HasScope (scope ∷ outer) = Unit {0}
 pub record Inside (c d : Context) : Type 0 where
   pub some : HasScope d.scopes.inner
   pub outside : More (scopes.left c.scopes) (scopes.left d.scopes)
+  pub made : Longer c.tags.made d.tags.made
+  pub sorts : SortedScopes c.tags.made c.scopes → SortedScopes d.tags.made d.scopes
 
 all_some : (one other : List Table) → MoreAll one other → HasScope one → HasScope other
 all_some [] other m h = absurd h
@@ -126,15 +146,17 @@ left_more : (one other : ScopeList) → More one other → More (scopes.left one
 left_more one other m = record { file = m.file; inner = all_tail one.inner other.inner m.inner }
 
 inside_refl : (c : Context) → HasScope c.scopes.inner → Inside c c
-inside_refl c h = record { some = h; outside = more_refl (scopes.left c.scopes) }
+inside_refl c h = record { some = h; outside = more_refl (scopes.left c.scopes); made = λ i x e. e; sorts = λ k. k }
 
 inside_trans : (a b c : Context) → Inside a b → Inside b c → Inside a c
-inside_trans a b c x y = record { some = y.some; outside = more_trans (scopes.left a.scopes) (scopes.left b.scopes) (scopes.left c.scopes) x.outside y.outside }
+inside_trans a b c x y = record { some = y.some; outside = more_trans (scopes.left a.scopes) (scopes.left b.scopes) (scopes.left c.scopes) x.outside y.outside; made = λ i u e. y.made i u (x.made i u e); sorts = λ k. y.sorts (x.sorts k) }
 
-inside_after : (a b c : Context) → Inside a b → After b c → Inside a c
-inside_after a b c x y = record {
-  some = all_some b.scopes.inner c.scopes.inner y.inner x.some;
-  outside = more_trans (scopes.left a.scopes) (scopes.left b.scopes) (scopes.left c.scopes) x.outside (left_more b.scopes c.scopes y);
+inside_leads : (a b c : Context) → Inside a b → Leads b c → Inside a c
+inside_leads a b c x y = record {
+  some = all_some b.scopes.inner c.scopes.inner y.more.inner x.some;
+  outside = more_trans (scopes.left a.scopes) (scopes.left b.scopes) (scopes.left c.scopes) x.outside (left_more b.scopes c.scopes y.more);
+  made = λ i u e. y.made i u (x.made i u e);
+  sorts = λ k. y.sorts (x.sorts k);
 }
 
 named_some : (file : Table) (inner : List Table) (name : List ℕ) (v : PlainNamed) → HasScope inner → HasScope (scopes.with_name_in file inner name v).inner
@@ -153,6 +175,8 @@ param_inside line c (Some name) type h =
     reached_unless (Inside c) _ DeclaredTwice line (Ok (d, type)) (reached_ok (Inside c) (d, type) (record {
       some = named_some c.scopes.file c.scopes.inner name (n.Register type 0) h;
       outside = named_left c.scopes.file c.scopes.inner name (n.Register type 0) h;
+      made = λ i x e. e;
+      sorts = λ k. with_name_sorted c.tags.made c.scopes name (n.Register type 0) tt k;
     }))
 
 declared_inside : (line : ℕ) (c : Context) (name : Option (List ℕ)) (type : PlainType) → HasScope c.scopes.inner → Reached (Inside c) (declared_param line c name type)
@@ -162,92 +186,92 @@ declared_inside line c name type h =
 mutual
   unfolding typed values typename layers suffix_layers suffix_layer param_types param_type
 
-  pub typed_after : (tree : Tree) (c : Context) → Reached (After c) (typed tree c)
-  typed_after (Node f.Name (At line ▹ Leaf (w.Name name) ▹ none)) c = answered_after c c _ (more_refl c.scopes)
-  typed_after (Node f.Int (At line ▹ Leaf (w.Int bytes) ▹ none)) c = reached_ok (After c) (c, constant (int_constant bytes)) (more_refl c.scopes)
-  typed_after (Node f.Char (At line ▹ Leaf (w.Char bytes) ▹ none)) c = reached_ok (After c) (c, constant (char_constant bytes)) (more_refl c.scopes)
-  typed_after (Node f.Str (At line ▹ Node f.Strings parts ▹ none)) c = answered_after c c (string line (joined parts)) (more_refl c.scopes)
-  typed_after (Node f.Paren (At line ▹ e ▹ none)) c = typed_after e c
-  typed_after (Node f.Index (At line ▹ e ▹ g ▹ none)) c =
-      two_after c (wanted e (typed e c)) (λ d. wanted g (typed g d)) (element line) (wanted_after c e (typed e c) (typed_after e c))
-      (λ d h. wanted_after c g (typed g d) (after_trans c d (typed g d) h (typed_after g d)))
-  typed_after (Node f.Call (At line ▹ e ▹ Node f.Arguments arguments ▹ none)) c =
-      reached_then (After c) (After c) (callee e c (typed e c)) (λ k. then (values arguments k.0) (λ v. answered v.0 (call line (first_literal arguments) k.1 v.1)))
-      (callee_after c e c (typed e c) (more_refl c.scopes) (typed_after e c))
-      (λ k h. reached_then (After c) (After c) (values arguments k.0) (λ v. answered v.0 (call line (first_literal arguments) k.1 v.1))
-      (after_trans c k.0 (values arguments k.0) h (values_after arguments k.0)) (λ v q. answered_after c v.0 (call line (first_literal arguments) k.1 v.1) q))
-  typed_after (Node f.Dot (At line ▹ e ▹ Leaf (w.Name name) ▹ none)) c = one_after c (typed e c) (dot line name) (typed_after e c)
-  typed_after (Node f.Arrow (At line ▹ e ▹ Leaf (w.Name name) ▹ none)) c = one_after c (wanted e (typed e c)) (arrow line name) (wanted_after c e (typed e c) (typed_after e c))
-  typed_after (Node f.PostInc (At line ▹ e ▹ none)) c = one_after c (changing e (typed e c)) (stepped line) (changing_after c e (typed e c) (typed_after e c))
-  typed_after (Node f.PostDec (At line ▹ e ▹ none)) c = one_after c (changing e (typed e c)) (stepped line) (changing_after c e (typed e c) (typed_after e c))
-  typed_after (Node f.PreInc (At line ▹ e ▹ none)) c = one_after c (changing e (typed e c)) (stepped line) (changing_after c e (typed e c) (typed_after e c))
-  typed_after (Node f.PreDec (At line ▹ e ▹ none)) c = one_after c (changing e (typed e c)) (stepped line) (changing_after c e (typed e c) (typed_after e c))
-  typed_after (Node (f.Unary u.Address) (At line ▹ e ▹ none)) c = one_after c (typed e c) (λ tags d. address line d) (typed_after e c)
-  typed_after (Node (f.Unary op) (At line ▹ e ▹ none)) c = one_after c (wanted e (typed e c)) (unary line op) (wanted_after c e (typed e c) (typed_after e c))
-  typed_after (Node f.SizeofExpr (At line ▹ e ▹ none)) c = one_after c (typed e c) (λ tags d. size line tags d.type) (typed_after e c)
-  typed_after (Node f.SizeofType (At line ▹ name ▹ none)) c =
-      reached_then (After c) (After c) (typename name c) (λ t. answered t.0 (size line t.0.tags t.1)) (typename_after name c) (λ t h. answered_after c t.0 (size line t.0.tags t.1) h)
-  typed_after (Node f.Cast (At line ▹ name ▹ e ▹ none)) c =
-      reached_then (After c) (After c) (typename name c) (λ t. one (wanted e (typed e t.0)) (λ tags d. cast line t.1 d)) (typename_after name c)
-      (λ t h. one_after c (wanted e (typed e t.0)) (λ tags d. cast line t.1 d) (wanted_after c e (typed e t.0) (after_trans c t.0 (typed e t.0) h (typed_after e t.0))))
-  typed_after (Node (f.Binary op) (At line ▹ e ▹ g ▹ none)) c =
-      two_after c (wanted e (typed e c)) (λ d. wanted g (typed g d)) (binary line op) (wanted_after c e (typed e c) (typed_after e c))
-      (λ d h. wanted_after c g (typed g d) (after_trans c d (typed g d) h (typed_after g d)))
-  typed_after (Node f.Cond (At line ▹ e ▹ g ▹ k ▹ none)) c =
-      reached_then (After c) (After c) (wanted e (typed e c)) (λ test. two (wanted g (typed g test.0)) (λ d. wanted k (typed k d)) (λ tags x y. choice line test.1 x y)) (wanted_after c e (typed e c) (typed_after e c))
-      (λ test h. two_after c (wanted g (typed g test.0)) (λ d. wanted k (typed k d)) (λ tags x y. choice line test.1 x y) (wanted_after c g (typed g test.0) (after_trans c test.0 (typed g test.0) h (typed_after g test.0)))
-      (λ d q. wanted_after c k (typed k d) (after_trans c d (typed k d) q (typed_after k d))))
-  typed_after (Node (f.Assign a.Plain) (At line ▹ e ▹ g ▹ none)) c =
-      two_after c (typed e c) (λ d. typed g d) (assigned line (line_of g)) (typed_after e c) (λ d h. after_trans c d (typed g d) h (typed_after g d))
-  typed_after (Node (f.Assign op) (At line ▹ e ▹ g ▹ none)) c =
-      two_after c (changing e (typed e c)) (λ d. wanted g (typed g d)) (changed line op) (changing_after c e (typed e c) (typed_after e c))
-      (λ d h. wanted_after c g (typed g d) (after_trans c d (typed g d) h (typed_after g d)))
-  typed_after (Node f.Comma (At line ▹ e ▹ g ▹ none)) c =
-      two_after c (wanted e (typed e c)) (λ d. wanted g (typed g d)) (λ tags x y. Ok (behind_comma y)) (wanted_after c e (typed e c) (typed_after e c))
-      (λ d h. wanted_after c g (typed g d) (after_trans c d (typed g d) h (typed_after g d)))
-  typed_after tree c = reached_refused (After c) Operands (line_of tree)
+  pub typed_leads : (tree : Tree) (c : Context) → Reached (Leads c) (typed tree c)
+  typed_leads (Node f.Name (At line ▹ Leaf (w.Name name) ▹ none)) c = answered_leads c c _ (leads_refl c)
+  typed_leads (Node f.Int (At line ▹ Leaf (w.Int bytes) ▹ none)) c = reached_ok (Leads c) (c, constant (int_constant bytes)) (leads_refl c)
+  typed_leads (Node f.Char (At line ▹ Leaf (w.Char bytes) ▹ none)) c = reached_ok (Leads c) (c, constant (char_constant bytes)) (leads_refl c)
+  typed_leads (Node f.Str (At line ▹ Node f.Strings parts ▹ none)) c = answered_leads c c (string line (joined parts)) (leads_refl c)
+  typed_leads (Node f.Paren (At line ▹ e ▹ none)) c = typed_leads e c
+  typed_leads (Node f.Index (At line ▹ e ▹ g ▹ none)) c =
+      two_leads c (wanted e (typed e c)) (λ d. wanted g (typed g d)) (element line) (wanted_leads c e (typed e c) (typed_leads e c))
+      (λ d h. wanted_leads c g (typed g d) (leads_trans_on c d (typed g d) h (typed_leads g d)))
+  typed_leads (Node f.Call (At line ▹ e ▹ Node f.Arguments arguments ▹ none)) c =
+      reached_then (Leads c) (Leads c) (callee e c (typed e c)) (λ k. then (values arguments k.0) (λ v. answered v.0 (call line (first_literal arguments) k.1 v.1)))
+      (callee_leads c e c (typed e c) (leads_refl c) (typed_leads e c))
+      (λ k h. reached_then (Leads c) (Leads c) (values arguments k.0) (λ v. answered v.0 (call line (first_literal arguments) k.1 v.1))
+      (leads_trans_on c k.0 (values arguments k.0) h (values_leads arguments k.0)) (λ v q. answered_leads c v.0 (call line (first_literal arguments) k.1 v.1) q))
+  typed_leads (Node f.Dot (At line ▹ e ▹ Leaf (w.Name name) ▹ none)) c = one_leads c (typed e c) (dot line name) (typed_leads e c)
+  typed_leads (Node f.Arrow (At line ▹ e ▹ Leaf (w.Name name) ▹ none)) c = one_leads c (wanted e (typed e c)) (arrow line name) (wanted_leads c e (typed e c) (typed_leads e c))
+  typed_leads (Node f.PostInc (At line ▹ e ▹ none)) c = one_leads c (changing e (typed e c)) (stepped line) (changing_leads c e (typed e c) (typed_leads e c))
+  typed_leads (Node f.PostDec (At line ▹ e ▹ none)) c = one_leads c (changing e (typed e c)) (stepped line) (changing_leads c e (typed e c) (typed_leads e c))
+  typed_leads (Node f.PreInc (At line ▹ e ▹ none)) c = one_leads c (changing e (typed e c)) (stepped line) (changing_leads c e (typed e c) (typed_leads e c))
+  typed_leads (Node f.PreDec (At line ▹ e ▹ none)) c = one_leads c (changing e (typed e c)) (stepped line) (changing_leads c e (typed e c) (typed_leads e c))
+  typed_leads (Node (f.Unary u.Address) (At line ▹ e ▹ none)) c = one_leads c (typed e c) (λ tags d. address line d) (typed_leads e c)
+  typed_leads (Node (f.Unary op) (At line ▹ e ▹ none)) c = one_leads c (wanted e (typed e c)) (unary line op) (wanted_leads c e (typed e c) (typed_leads e c))
+  typed_leads (Node f.SizeofExpr (At line ▹ e ▹ none)) c = one_leads c (typed e c) (λ tags d. size line tags d.type) (typed_leads e c)
+  typed_leads (Node f.SizeofType (At line ▹ name ▹ none)) c =
+      reached_then (Leads c) (Leads c) (typename name c) (λ t. answered t.0 (size line t.0.tags t.1)) (typename_leads name c) (λ t h. answered_leads c t.0 (size line t.0.tags t.1) h)
+  typed_leads (Node f.Cast (At line ▹ name ▹ e ▹ none)) c =
+      reached_then (Leads c) (Leads c) (typename name c) (λ t. one (wanted e (typed e t.0)) (λ tags d. cast line t.1 d)) (typename_leads name c)
+      (λ t h. one_leads c (wanted e (typed e t.0)) (λ tags d. cast line t.1 d) (wanted_leads c e (typed e t.0) (leads_trans_on c t.0 (typed e t.0) h (typed_leads e t.0))))
+  typed_leads (Node (f.Binary op) (At line ▹ e ▹ g ▹ none)) c =
+      two_leads c (wanted e (typed e c)) (λ d. wanted g (typed g d)) (binary line op) (wanted_leads c e (typed e c) (typed_leads e c))
+      (λ d h. wanted_leads c g (typed g d) (leads_trans_on c d (typed g d) h (typed_leads g d)))
+  typed_leads (Node f.Cond (At line ▹ e ▹ g ▹ k ▹ none)) c =
+      reached_then (Leads c) (Leads c) (wanted e (typed e c)) (λ test. two (wanted g (typed g test.0)) (λ d. wanted k (typed k d)) (λ tags x y. choice line test.1 x y)) (wanted_leads c e (typed e c) (typed_leads e c))
+      (λ test h. two_leads c (wanted g (typed g test.0)) (λ d. wanted k (typed k d)) (λ tags x y. choice line test.1 x y) (wanted_leads c g (typed g test.0) (leads_trans_on c test.0 (typed g test.0) h (typed_leads g test.0)))
+      (λ d q. wanted_leads c k (typed k d) (leads_trans_on c d (typed k d) q (typed_leads k d))))
+  typed_leads (Node (f.Assign a.Plain) (At line ▹ e ▹ g ▹ none)) c =
+      two_leads c (typed e c) (λ d. typed g d) (assigned line (line_of g)) (typed_leads e c) (λ d h. leads_trans_on c d (typed g d) h (typed_leads g d))
+  typed_leads (Node (f.Assign op) (At line ▹ e ▹ g ▹ none)) c =
+      two_leads c (changing e (typed e c)) (λ d. wanted g (typed g d)) (changed line op) (changing_leads c e (typed e c) (typed_leads e c))
+      (λ d h. wanted_leads c g (typed g d) (leads_trans_on c d (typed g d) h (typed_leads g d)))
+  typed_leads (Node f.Comma (At line ▹ e ▹ g ▹ none)) c =
+      two_leads c (wanted e (typed e c)) (λ d. wanted g (typed g d)) (λ tags x y. Ok (behind_comma y)) (wanted_leads c e (typed e c) (typed_leads e c))
+      (λ d h. wanted_leads c g (typed g d) (leads_trans_on c d (typed g d) h (typed_leads g d)))
+  typed_leads tree c = reached_refused (Leads c) Operands (line_of tree)
 
-  values_after : (arguments : Trees) (c : Context) → Reached (After c) (values arguments c)
-  values_after none c = reached_ok (After c) (c, []) (more_refl c.scopes)
-  values_after (e ▹ rest) c =
-      reached_then (After c) (After c) (wanted e (typed e c)) (λ d. then (values rest d.0) (λ more. Ok (more.0, d.1 ∷ more.1))) (wanted_after c e (typed e c) (typed_after e c))
-      (λ d h. reached_then (After c) (After c) (values rest d.0) (λ more. Ok (more.0, d.1 ∷ more.1)) (after_trans c d.0 (values rest d.0) h (values_after rest d.0))
-      (λ more q. reached_ok (After c) (more.0, d.1 ∷ more.1) q))
+  values_leads : (arguments : Trees) (c : Context) → Reached (Leads c) (values arguments c)
+  values_leads none c = reached_ok (Leads c) (c, []) (leads_refl c)
+  values_leads (e ▹ rest) c =
+      reached_then (Leads c) (Leads c) (wanted e (typed e c)) (λ d. then (values rest d.0) (λ more. Ok (more.0, d.1 ∷ more.1))) (wanted_leads c e (typed e c) (typed_leads e c))
+      (λ d h. reached_then (Leads c) (Leads c) (values rest d.0) (λ more. Ok (more.0, d.1 ∷ more.1)) (leads_trans_on c d.0 (values rest d.0) h (values_leads rest d.0))
+      (λ more q. reached_ok (Leads c) (more.0, d.1 ∷ more.1) q))
 
-  pub typename_after : (name : Tree) (c : Context) → Reached (After c) (typename name c)
-  typename_after (Node f.Typename (At line ▹ Node f.Specs (At at ▹ words) ▹ declarator ▹ none)) c =
-      reached_then (After c) (After c) (specs_type at words words c) (λ base. then (layers declarator base.0) (λ l. then (with_layers l.0.tags l.1 base.1) (λ type. unless (is_function type) LeftOut line (Ok (l.0, type))))) (specs_after at words words c)
-      (λ base h. reached_then (After c) (After c) (layers declarator base.0) (λ l. then (with_layers l.0.tags l.1 base.1) (λ type. unless (is_function type) LeftOut line (Ok (l.0, type)))) (after_trans c base.0 (layers declarator base.0) h (layers_after declarator base.0))
-      (λ l q. reached_after (After c) (with_layers l.0.tags l.1 base.1) (λ type. unless (is_function type) LeftOut line (Ok (l.0, type)))
-      (λ type z. reached_unless (After c) (is_function type) LeftOut line (Ok (l.0, type)) (reached_ok (After c) (l.0, type) q))))
-  typename_after tree c = reached_refused (After c) Operands (line_of tree)
+  pub typename_leads : (name : Tree) (c : Context) → Reached (Leads c) (typename name c)
+  typename_leads (Node f.Typename (At line ▹ Node f.Specs (At at ▹ words) ▹ declarator ▹ none)) c =
+      reached_then (Leads c) (Leads c) (specs_type at words words c) (λ base. then (layers declarator base.0) (λ l. then (with_layers l.0.tags l.1 base.1) (λ type. unless (is_function type) LeftOut line (Ok (l.0, type))))) (specs_leads at words words c)
+      (λ base h. reached_then (Leads c) (Leads c) (layers declarator base.0) (λ l. then (with_layers l.0.tags l.1 base.1) (λ type. unless (is_function type) LeftOut line (Ok (l.0, type)))) (leads_trans_on c base.0 (layers declarator base.0) h (layers_leads declarator base.0))
+      (λ l q. reached_after (Leads c) (with_layers l.0.tags l.1 base.1) (λ type. unless (is_function type) LeftOut line (Ok (l.0, type)))
+      (λ type z. reached_unless (Leads c) (is_function type) LeftOut line (Ok (l.0, type)) (reached_ok (Leads c) (l.0, type) q))))
+  typename_leads tree c = reached_refused (Leads c) Operands (line_of tree)
 
-  layers_after : (tree : Tree) (c : Context) → Reached (After c) (layers tree c)
-  layers_after (Node (f.Pointer consts) (At line ▹ declarator ▹ none)) c =
-      reached_then (After c) (After c) (layers declarator c) (λ l. Ok (l.0, PointerTo line ∷ l.1)) (layers_after declarator c) (λ l h. reached_ok (After c) (l.0, PointerTo line ∷ l.1) h)
-  layers_after (Node f.Direct (base ▹ Node f.Suffixes suffixes ▹ none)) c =
-      reached_then (After c) (After c) (layers base c) (λ l. then (suffix_layers suffixes l.0) (λ s. Ok (s.0, reverse s.1 ++ l.1))) (layers_after base c)
-      (λ l h. reached_then (After c) (After c) (suffix_layers suffixes l.0) (λ s. Ok (s.0, reverse s.1 ++ l.1)) (after_trans c l.0 (suffix_layers suffixes l.0) h (suffixes_after suffixes l.0))
-      (λ s q. reached_ok (After c) (s.0, reverse s.1 ++ l.1) q))
-  layers_after (Node f.Parens (At line ▹ declarator ▹ none)) c = layers_after declarator c
-  layers_after tree c = reached_ok (After c) (c, []) (more_refl c.scopes)
+  layers_leads : (tree : Tree) (c : Context) → Reached (Leads c) (layers tree c)
+  layers_leads (Node (f.Pointer consts) (At line ▹ declarator ▹ none)) c =
+      reached_then (Leads c) (Leads c) (layers declarator c) (λ l. Ok (l.0, PointerTo line ∷ l.1)) (layers_leads declarator c) (λ l h. reached_ok (Leads c) (l.0, PointerTo line ∷ l.1) h)
+  layers_leads (Node f.Direct (base ▹ Node f.Suffixes suffixes ▹ none)) c =
+      reached_then (Leads c) (Leads c) (layers base c) (λ l. then (suffix_layers suffixes l.0) (λ s. Ok (s.0, reverse s.1 ++ l.1))) (layers_leads base c)
+      (λ l h. reached_then (Leads c) (Leads c) (suffix_layers suffixes l.0) (λ s. Ok (s.0, reverse s.1 ++ l.1)) (leads_trans_on c l.0 (suffix_layers suffixes l.0) h (suffixes_leads suffixes l.0))
+      (λ s q. reached_ok (Leads c) (s.0, reverse s.1 ++ l.1) q))
+  layers_leads (Node f.Parens (At line ▹ declarator ▹ none)) c = layers_leads declarator c
+  layers_leads tree c = reached_ok (Leads c) (c, []) (leads_refl c)
 
-  suffixes_after : (suffixes : Trees) (c : Context) → Reached (After c) (suffix_layers suffixes c)
-  suffixes_after none c = reached_ok (After c) (c, []) (more_refl c.scopes)
-  suffixes_after (suffix ▹ rest) c =
-      reached_then (After c) (After c) (suffix_layer suffix c) (λ l. then (suffix_layers rest l.0) (λ more. Ok (more.0, l.1 ∷ more.1))) (suffix_after suffix c)
-      (λ l h. reached_then (After c) (After c) (suffix_layers rest l.0) (λ more. Ok (more.0, l.1 ∷ more.1)) (after_trans c l.0 (suffix_layers rest l.0) h (suffixes_after rest l.0))
-      (λ more q. reached_ok (After c) (more.0, l.1 ∷ more.1) q))
+  suffixes_leads : (suffixes : Trees) (c : Context) → Reached (Leads c) (suffix_layers suffixes c)
+  suffixes_leads none c = reached_ok (Leads c) (c, []) (leads_refl c)
+  suffixes_leads (suffix ▹ rest) c =
+      reached_then (Leads c) (Leads c) (suffix_layer suffix c) (λ l. then (suffix_layers rest l.0) (λ more. Ok (more.0, l.1 ∷ more.1))) (suffix_leads suffix c)
+      (λ l h. reached_then (Leads c) (Leads c) (suffix_layers rest l.0) (λ more. Ok (more.0, l.1 ∷ more.1)) (leads_trans_on c l.0 (suffix_layers rest l.0) h (suffixes_leads rest l.0))
+      (λ more q. reached_ok (Leads c) (more.0, l.1 ∷ more.1) q))
 
-  suffix_after : (suffix : Tree) (c : Context) → Reached (After c) (suffix_layer suffix c)
-  suffix_after (Node f.ArraySuffix (At line ▹ Node f.MaybeLength none ▹ none)) c = reached_ok (After c) (c, ArrayOf line None) (more_refl c.scopes)
-  suffix_after (Node f.ArraySuffix (At line ▹ Node f.MaybeLength (e ▹ none) ▹ none)) c =
-      reached_then (After c) (After c) (wanted e (typed e c)) (λ d. then (array_length (line_of e) d.1) (λ length. Ok (d.0, ArrayOf line (Some length)))) (wanted_after c e (typed e c) (typed_after e c))
-      (λ d h. reached_after (After c) (array_length (line_of e) d.1) (λ length. Ok (d.0, ArrayOf line (Some length))) (λ length q. reached_ok (After c) (d.0, ArrayOf line (Some length)) h))
-  suffix_after (Node f.FunctionSuffix (At line ▹ Node f.Params params ▹ none)) c =
-      reached_then (After c) (Inside (in_new_scope c)) (param_types params (in_new_scope c)) (λ p. Ok (out_of_scope p.0, FunctionOf line p.1)) (params_inside params (in_new_scope c) tt)
-      (λ p h. reached_ok (After c) (out_of_scope p.0, FunctionOf line p.1) h.outside)
-  suffix_after tree c = reached_ok (After c) (c, FunctionOf (line_of tree) ct.none) (more_refl c.scopes)
+  suffix_leads : (suffix : Tree) (c : Context) → Reached (Leads c) (suffix_layer suffix c)
+  suffix_leads (Node f.ArraySuffix (At line ▹ Node f.MaybeLength none ▹ none)) c = reached_ok (Leads c) (c, ArrayOf line None) (leads_refl c)
+  suffix_leads (Node f.ArraySuffix (At line ▹ Node f.MaybeLength (e ▹ none) ▹ none)) c =
+      reached_then (Leads c) (Leads c) (wanted e (typed e c)) (λ d. then (array_length (line_of e) d.1) (λ length. Ok (d.0, ArrayOf line (Some length)))) (wanted_leads c e (typed e c) (typed_leads e c))
+      (λ d h. reached_after (Leads c) (array_length (line_of e) d.1) (λ length. Ok (d.0, ArrayOf line (Some length))) (λ length q. reached_ok (Leads c) (d.0, ArrayOf line (Some length)) h))
+  suffix_leads (Node f.FunctionSuffix (At line ▹ Node f.Params params ▹ none)) c =
+      reached_then (Leads c) (Inside (in_new_scope c)) (param_types params (in_new_scope c)) (λ p. Ok (out_of_scope p.0, FunctionOf line p.1)) (params_inside params (in_new_scope c) tt)
+      (λ p h. reached_ok (Leads c) (out_of_scope p.0, FunctionOf line p.1) (record { more = h.outside; made = h.made; sorts = λ k. left_sorted p.0.tags.made p.0.scopes (h.sorts (entered_sorted c.tags.made c.scopes k)) }))
+  suffix_leads tree c = reached_ok (Leads c) (c, FunctionOf (line_of tree) ct.none) (leads_refl c)
 
   params_inside : (params : Trees) (c : Context) → HasScope c.scopes.inner → Reached (Inside c) (param_types params c)
   params_inside none c h = reached_ok (Inside c) (c, ct.none) (inside_refl c h)
@@ -258,9 +282,28 @@ mutual
 
   param_type_inside : (param : Tree) (c : Context) → HasScope c.scopes.inner → Reached (Inside c) (param_type param c)
   param_type_inside (Node f.Param (At line ▹ Node f.Specs (At at ▹ words) ▹ declarator ▹ none)) c h =
-      reached_then (Inside c) (After c) (specs_type at words words c) (λ base. then (layers declarator base.0) (λ l. then (with_param_layers l.0.tags l.1 base.1) (λ type. declared_param line l.0 (name_of declarator) (adjusted type)))) (specs_after at words words c)
-      (λ base g. reached_then (Inside c) (After base.0) (layers declarator base.0) (λ l. then (with_param_layers l.0.tags l.1 base.1) (λ type. declared_param line l.0 (name_of declarator) (adjusted type))) (layers_after declarator base.0)
+      reached_then (Inside c) (Leads c) (specs_type at words words c) (λ base. then (layers declarator base.0) (λ l. then (with_param_layers l.0.tags l.1 base.1) (λ type. declared_param line l.0 (name_of declarator) (adjusted type)))) (specs_leads at words words c)
+      (λ base g. reached_then (Inside c) (Leads base.0) (layers declarator base.0) (λ l. then (with_param_layers l.0.tags l.1 base.1) (λ type. declared_param line l.0 (name_of declarator) (adjusted type))) (layers_leads declarator base.0)
       (λ l q. reached_after (Inside c) (with_param_layers l.0.tags l.1 base.1) (λ type. declared_param line l.0 (name_of declarator) (adjusted type))
-      (λ type z d e. let i = inside_after c base.0 l.0 (inside_after c c base.0 (inside_refl c h) g) q in
+      (λ type z d e. let i = inside_leads c base.0 l.0 (inside_leads c c base.0 (inside_refl c h) g) q in
       inside_trans c l.0 d.0 i (declared_inside line l.0 (name_of declarator) (adjusted type) i.some d e))))
   param_type_inside tree c h = reached_refused (Inside c) Operands (line_of tree)
+
+-- the names alone
+
+pub typed_after : (tree : Tree) (c : Context) → Reached (After c) (typed tree c)
+typed_after tree c d e = (typed_leads tree c d e).more
+
+pub typename_after : (name : Tree) (c : Context) → Reached (After c) (typename name c)
+typename_after name c d e = (typename_leads name c d e).more
+
+pub tag_after : (line : ℕ) (sort : RecordSort) (name : List ℕ) (c : Context) (named : Option PlainNamed) → Reached (After c) (tag_named line sort name c named)
+tag_after line sort name c named d e = (tag_leads line sort name c named d e).more
+
+pub special_after : (line : ℕ) (tree : Tree) (c : Context) → Reached (After c) (special_type line tree c)
+special_after line tree c d e = (special_leads line tree c d e).more
+
+pub wanted_after : (b : Context) (tree : Tree) (x : Found) → Reached (After b) x → Reached (After b) (wanted tree x)
+wanted_after b tree x g =
+    reached_then (After b) (After b) x (λ e. answered e.0 (read (line_of tree) e.0.tags e.1)) g
+    (λ d h. reached_after (After b) (read (line_of tree) d.0.tags d.1) (λ e. Ok (d.0, e)) (λ e k. reached_ok (After b) (d.0, e) h))

@@ -140,7 +140,7 @@ walks_scoped a c d w = record {
   part = w.part;
   cases = w.cases;
   unlabelled = w.unlabelled;
-  stays = record { safe = left_safe d.scopes w.stays.safe; depth = tail_depth d.scopes.inner (length c.scopes.inner) w.stays.depth; tied = w.stays.tied; walked = w.stays.walked; length = w.stays.length; params = w.stays.params; counted = λ h. let k = w.stays.counted (record { bytes = h.bytes; small = h.small }) in record { bytes = k.bytes; small = k.small } };
+  stays = record { safe = left_safe d.scopes w.stays.safe; depth = tail_depth d.scopes.inner (length c.scopes.inner) w.stays.depth; tied = w.stays.tied; walked = w.stays.walked; length = w.stays.length; params = w.stays.params; counted = λ h. let k = w.stays.counted (record { bytes = h.bytes; small = h.small }) in record { bytes = k.bytes; small = k.small }; inside = λ h. let k = w.stays.inside (omega arith) in record { variables = k.variables; literals = k.literals; objects = k.objects } };
 }
 
 -- a statement in which no label of the switch may stand
@@ -206,7 +206,7 @@ tests_zero line l a c d le p = record {
             (anywhere (way_on l n ∷ []) n c.code.labels d.code.labels p.pieces [] (p.fragment n)) (zero_leaves [] n d.code.labels d.code.labels line l a small);
       };
   running = (p.cases, p.otherwise);
-  stays = record { safe = p.stays.safe; depth = p.stays.depth; tied = p.stays.tied; walked = p.stays.walked; length = p.stays.length; params = p.stays.params; counted = λ h. let k = p.stays.counted h in record { bytes = k.bytes; small = k.small } };
+  stays = record { safe = p.stays.safe; depth = p.stays.depth; tied = p.stays.tied; walked = p.stays.walked; length = p.stays.length; params = p.stays.params; counted = λ h. let k = p.stays.counted h in record { bytes = k.bytes; small = k.small }; inside = λ h. let k = p.stays.inside h in record { variables = k.variables; literals = k.literals; objects = k.objects } };
 }
 
 pub leaves_tests : (line l : ℕ) (e : Tree) (c : Context) → l < c.code.labels → Safe c.scopes → Led (Tests l c) (leaves_if_zero line l e c)
@@ -243,7 +243,7 @@ out_walks a line k e kind c s deep is below_all goes =
       code = append_assoc c.code.pieces (leave_pieces line k) (Does (stm_at line kind) ∷ []);
       more = omega arith;
       fragment = out_fragment (ways a) a.delays c.code.labels c.code.labels line k e (stm_at line kind) deep is below_all goes;
-    }) refl refl (stays_beside c _ s refl refl refl refl refl (λ k. k) refl (tied_refl c.functions c.scopes.file c.walked)))
+    }) refl refl (stays_beside c _ s refl refl refl refl refl (λ k. k) refl (tied_refl c.functions c.scopes.file c.walked) (λ h name type i e. e)))
 
 pub returned_walks : (a : Around) (line : ℕ) (r : Option Atom) (c : Context) → Safe c.scopes → Walks a c (returned line a.delays r c)
 returned_walks a line r c s = out_walks a line a.delays 0 (Return r) c s (omega arith) tt tt (λ m p lead. refl)

@@ -12,7 +12,8 @@ ghost use Rattle.elaboration.specs.Context.{Context, asked};
 ghost use Rattle.elaboration.specs.Conversions.{Found};
 ghost use Rattle.elaboration.specs.Expressions.{found};
 ghost use Rattle.core_tree.specs.declared.program.Core.{Core};
-ghost use Rattle.core_tree.specs.Sound.{EachFunc, IsFunction, IsMain, IsShort, is_main, main_of};
+ghost use Rattle.core_tree.specs.declared.program.Static.{Static};
+ghost use Rattle.core_tree.specs.Sound.{EachFunc, IsFunction, IsMain, IsShort, IsSound, IsStatic, IsTarget, is_main, main_of};
 ghost use Rattle.c_lexer.specs.Tokens.{HasTokens, IsLexed};
 ghost use Rattle.c_lexer.specs.declared.token.Token.{Token};
 ghost use Rattle.c_tree.specs.HasTree.{HasTree};
@@ -105,6 +106,19 @@ pub fn numbers_are_in_range()
 /// Each function of the core of a text is sound, where `&` stands before no name.
 pub fn functions_are_sound()
     ensures { (tokens : List Token) (unit : Trees) (core : Core) (tags : TagTable) → All IsLexed tokens → HasTree tokens unit → AllUntaken unit → elaborated unit ≡ Ok (core, tags) → EachFunc core (IsFunction core) }
+{}
+
+/// Each pointer that a static of the core of a text holds first names a static of the core, and an offset in it up to its end
+/// (C99 6.6, 6.7.8).
+pub fn static_pointers_are_inside()
+    ensures { (unit : Trees) (core : Core) (tags : TagTable) → elaborated unit ≡ Ok (core, tags) → All (λ (static : Static). All (IsTarget core) static.start.pointers) core.statics }
+{}
+
+/// Each static of the core of a text is sound: it has the layout of a type, its first bytes lie in it and are zero in its slots,
+/// and the pointers that it holds first are at different slots of it, and name statics of the core and offsets up to their
+/// ends (C99 6.6, 6.7.8).
+pub fn statics_are_sound()
+    ensures { (tokens : List Token) (unit : Trees) (core : Core) (tags : TagTable) → All IsLexed tokens → HasTree tokens unit → elaborated unit ≡ Ok (core, tags) → All (IsStatic core) core.statics }
 {}
 
 /// A text has no more tokens than bytes, and none of its tokens is longer than it.

@@ -13,8 +13,8 @@
 mod laws;
 
 pub use laws::{
-    calls_are_inside, control_flows, cores_are_sound, formats_are_read, functions_are_sound, layouts_are_of_types,
-    lists_are_short, main_answers, numbers_are_in_range, numbers_are_kept, one_main,
-    sizes_are_kept, statements_are_typed, tokens_are_within, trees_are_plain, trees_are_written,
-    types_agree, types_are_whole,
+    calls_are_inside, control_flows, cores_are_sound, formats_are_read, functions_are_sound,
+    layouts_are_of_types, lists_are_short, main_answers, numbers_are_in_range, numbers_are_kept,
+    one_main, sizes_are_kept, statements_are_typed, static_pointers_are_inside, statics_are_sound,
+    tokens_are_within, trees_are_plain, trees_are_written, types_agree, types_are_whole,
 };

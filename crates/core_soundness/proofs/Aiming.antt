@@ -1,0 +1,321 @@
+-- Fixed addresses are those of objects that are there, at offsets up to their ends (C99 6.6).
+use Rattle.std.proofs.Common.{◌≡◌, ◌≤◌, ◌+◌, ◌*◌, ◌/◌, ◌%◌, ◌&&◌, ◌==◌, ℕ, ℤ, pos, negsuc, neg_ℤ, ◌+ℤ◌, ◌*ℤ◌, Bool, true, false, cond, length, is_some, List, [], ◌∷◌, ◌++◌, slice_get, Option, Some, None, Ok, refl, sym, ap, ◌∙◌, subst, arith}
+use Rattle.std.specs.Prelude.{int_le, nat_le}
+use Rattle.std.specs.Ordering.{int_eq}
+use Rattle.std.specs.Option.{option_or}
+use Rattle.std.proofs.lemmas.Bool.{and_parts, leb-true, eq-eqb}
+use Rattle.hs_base.specs.Place.{block_size}
+use Rattle.c_types.specs.declared.layouts.Layout.{Layout}
+use Rattle.c_types.specs.Types as ct
+use Rattle.c_types.specs.Types.{PlainType, PlainTypes, Void}
+use Rattle.core_tree.specs.declared.statements.Atom.{Atom}
+use Rattle.core_tree.specs.declared.statements.Atom.TheVariants as atom
+use Rattle.c_tree.specs.declared.operator.UnaryOp.{UnaryOp}
+use Rattle.c_tree.specs.declared.operator.UnaryOp.TheVariants as u
+use Rattle.c_tree.specs.declared.operator.BinaryOp.{BinaryOp}
+use Rattle.c_tree.specs.declared.operator.BinaryOp.TheVariants as b
+use Rattle.c_tree.specs.Tree.{Tree}
+use Rattle.c_decls.specs.declared.refusal.TypeKind.TheVariants.{StaticTooLarge}
+use Rattle.c_decls.specs.declared.typed.Folded.{Folded}
+use Rattle.c_decls.specs.declared.typed.Folded.TheVariants.{Is, Varies, Traps}
+use Rattle.c_decls.specs.Refusals.{then}
+use Rattle.c_decls.specs.Named as n
+use Rattle.c_decls.specs.Named.{PlainNamed}
+use Rattle.c_decls.specs.ScopeList.{Table, named_in, found_from, found as declaration}
+use Rattle.c_decls.specs.Callees.{named}
+use Rattle.c_decls.specs.Typed.{PlainTyped, Operand, Number, PointerTo, Neither, operand, read, is_null_constant}
+use Rattle.c_decls.specs.TypeRules.{unary, binary, address}
+use Rattle.c_decls.specs.PlaceRules.{element, dot, arrow, cast}
+use Rattle.c_decls.specs.Expressions.{line_of, string}
+use Rattle.elaboration.specs.Context.{Code, Context, Variable, With, file_variable, literal_object}
+use Rattle.elaboration.specs.Conversions.{Found, Value, Fixed, Unknown, Nowhere, Inside, found_as, atom_in, code_line, read_spot, read_fixed, read_value, valued_from, valued, convert, forget, size_or_zero}
+use Rattle.elaboration.specs.Operations.{variable_size, literal_size, static_size, moved_by, moved_times, fixed_sum_of, fixed_sum, combined, offset_of, member_address}
+use Rattle.elaboration.specs.Rules.{object_found, built_in_found, name_found, is_inner, with_static, with_literal, literal_found, at_address, with_value, indexed, member_of, dotted, target_of, pointed, before_number, apply, applied, tells_equal, is_pointer_ahead, ahead, left_operand, between, cast_fixed, cast_to}
+use Rattle.elaboration.specs.Expressions.{name_answer, literal_answer, address_answer}
+use Rattle.core_soundness.proofs.Names.{more_refl}
+use Rattle.core_soundness.proofs.Growth.{Longer, Counted, Grows, grows_refl}
+use Rattle.core_soundness.proofs.Grown.{good, ok_same}
+use Rattle.core_soundness.proofs.Agreeing.{came}
+use Rattle.core_soundness.proofs.Owners.{get_last}
+use Rattle.core_soundness.proofs.Operating.{passed}
+use Rattle.core_soundness.proofs.Working.{grows_read, grows_convert, grows_combined, grows_member}
+use Rattle.core_soundness.proofs.Settled.{Settled, grows_settled}
+
+-- an offset in a static that is there, up to its end
+pub data Aims (vs : List Variable) (ls : List (List ℕ)) (g n : ℕ) : Type 0 where
+  in_variable : (k : ℕ) (v : Variable) (at : g ≡ file_variable k) (there : slice_get vs k ≡ Some v) (inside : n ≤ v.layout.size) → Aims vs ls g n
+  in_literal : (k : ℕ) (bytes : List ℕ) (at : g ≡ literal_object k) (there : slice_get ls k ≡ Some bytes) (inside : n ≤ length bytes + 1) → Aims vs ls g n
+
+abbrev pub FixedIn : List Variable → List (List ℕ) → Fixed → Type 0
+FixedIn vs ls Unknown = Unit {0}
+FixedIn vs ls Nowhere = Unit {0}
+FixedIn vs ls (Inside g at) = (n : ℕ) × (at ≡ pos n) × Aims vs ls g n
+
+-- in a context
+abbrev pub FixedAt : Context → Fixed → Type 0
+FixedAt c fixed = FixedIn c.variables c.literals fixed
+
+-- variables stay where they are, with their layouts
+abbrev pub VariablesStay : List Variable → List Variable → Type 0
+VariablesStay vs ws = (k : ℕ) (v : Variable) → slice_get vs k ≡ Some v → (w : Variable) × (slice_get ws k ≡ Some w) × (w.layout ≡ v.layout)
+
+pub same_variables : (vs ws : List Variable) → ws ≡ vs → VariablesStay vs ws
+same_variables vs ws e k v q = (v, subst (λ (xs : List Variable). slice_get xs k ≡ Some v) (sym e) q, refl)
+
+pub aims_stay : (vs ws : List Variable) (ls ms : List (List ℕ)) (g i : ℕ) → VariablesStay vs ws → Longer ls ms → Aims vs ls g i → Aims ws ms g i
+aims_stay vs ws ls ms g i x y (in_variable k v at there inside) = let r = x k v there in in_variable k r.0 at r.1 (subst (λ (l : Layout). i ≤ l.size) (sym r.2) inside)
+aims_stay vs ws ls ms g i x y (in_literal k bytes at there inside) = in_literal k bytes at (y k bytes there) inside
+
+pub fixed_stays : (vs ws : List Variable) (ls ms : List (List ℕ)) (fixed : Fixed) → VariablesStay vs ws → Longer ls ms → FixedIn vs ls fixed → FixedIn ws ms fixed
+fixed_stays vs ws ls ms Unknown x y h = tt
+fixed_stays vs ws ls ms Nowhere x y h = tt
+fixed_stays vs ws ls ms (Inside g at) x y h = (h.0, h.1, aims_stay vs ws ls ms g h.0 x y h.2)
+
+pub fixed_on : (c d : Context) (fixed : Fixed) → Settled c d → FixedAt c fixed → FixedAt d fixed
+fixed_on c d fixed s h = fixed_stays c.variables d.variables c.literals d.literals fixed (same_variables c.variables d.variables s.variables) s.literals h
+
+-- each object that has a name at file scope is there
+abbrev pub ObjectsThere : List Variable → Table → Type 0
+ObjectsThere vs file = (name : List ℕ) (type : PlainType) (i : ℕ) → named_in name file ≡ Some (n.Object type i) → (v : Variable) × (slice_get vs i ≡ Some v)
+
+abbrev pub There : Context → Type 0
+There c = ObjectsThere c.variables c.scopes.file
+
+pub there_on : (c d : Context) → Settled c d → There c → There d
+there_on c d s h name type i e =
+    let r = h name type i (s.objects name type i e) in (r.0, subst (λ (vs : List Variable). slice_get vs i ≡ Some r.0) (sym s.variables) r.1)
+
+-- moving
+
+even_test : (k : ℕ) → ((file_variable k) % 2 == 0) ≡ true
+even_test k = eq-eqb ((2 * k) % 2) 0 (omega arith)
+
+half_even : (k : ℕ) → file_variable k / 2 ≡ k
+half_even k = omega arith
+
+half_odd : (k : ℕ) → literal_object k / 2 ≡ k
+half_odd k = omega arith
+
+variable_room : (c : Context) (k : ℕ) (v : Variable) → slice_get c.variables k ≡ Some v → static_size c (file_variable k) ≡ v.layout.size
+variable_room c k v e =
+    ap (λ (t : Bool). cond t (variable_size (slice_get c.variables (file_variable k / 2))) (literal_size (slice_get c.literals (file_variable k / 2)))) (even_test k)
+    ∙ ap (λ (j : ℕ). variable_size (slice_get c.variables j)) (half_even k)
+    ∙ ap variable_size e
+
+odd_test : (k : ℕ) → (literal_object k % 2 == 0) ≡ false
+odd_test k = subst (λ (j : ℕ). (j == 0) ≡ false) (sym one) refl
+  where
+    one : literal_object k % 2 ≡ 1
+    one = omega arith
+
+literal_room : (c : Context) (k : ℕ) (bytes : List ℕ) → slice_get c.literals k ≡ Some bytes → static_size c (literal_object k) ≡ length bytes + 1
+literal_room c k bytes e =
+    ap (λ (t : Bool). cond t (variable_size (slice_get c.variables (literal_object k / 2))) (literal_size (slice_get c.literals (literal_object k / 2)))) (odd_test k)
+    ∙ ap (λ (j : ℕ). literal_size (slice_get c.literals j)) (half_odd k)
+    ∙ ap literal_size e
+
+-- another offset up to the end
+aims_at : (c : Context) (g i m : ℕ) → m ≤ static_size c g → Aims c.variables c.literals g i → Aims c.variables c.literals g m
+aims_at c g i m h (in_variable k v at there inside) =
+    let room : static_size c g ≡ v.layout.size = ap (static_size c) at ∙ variable_room c k v there in in_variable k v at there (omega (arith, h, room))
+aims_at c g i m h (in_literal k bytes at there inside) =
+    let room : static_size c g ≡ length bytes + 1 = ap (static_size c) at ∙ literal_room c k bytes there in in_literal k bytes at there (omega (arith, h, room))
+
+moved_to : (c : Context) (g i : ℕ) (to : ℤ) → Aims c.variables c.literals g i → FixedAt c (cond (int_le (pos 0) to && int_le to (pos (static_size c g))) (Inside g to) Unknown)
+moved_to c g i (pos m) h = by (int_le (pos 0) (pos m) && int_le (pos m) (pos (static_size c g))) refl
+  where
+    by : (t : Bool) → (int_le (pos 0) (pos m) && int_le (pos m) (pos (static_size c g))) ≡ t → FixedAt c (cond t (Inside g (pos m)) Unknown)
+    by true e =
+        let le : nat_le m (static_size c g) ≡ true = (and_parts (int_le (pos 0) (pos m)) (int_le (pos m) (pos (static_size c g))) e).1 in
+        (m, refl, aims_at c g i m (leb-true m (static_size c g) le) h)
+    by false e = tt
+moved_to c g i (negsuc m) h = tt
+
+pub moved_in : (c : Context) (distance : ℤ) (fixed : Fixed) → FixedAt c fixed → FixedAt c (moved_by c distance fixed)
+moved_in c distance Unknown h = tt
+moved_in c distance Nowhere h = by (int_eq distance (pos 0))
+  where
+    by : (t : Bool) → FixedAt c (cond t Nowhere Unknown)
+    by true = tt
+    by false = tt
+moved_in c distance (Inside g at) h = moved_to c g h.0 (at +ℤ distance) h.2
+
+times_in : (c : Context) (down : Bool) (size : ℕ) (folded : Folded) (fixed : Fixed) → FixedAt c fixed → FixedAt c (moved_times c down size folded fixed)
+times_in c down size (Is k) fixed h = moved_in c (cond down (neg_ℤ (k *ℤ pos size)) (k *ℤ pos size)) fixed h
+times_in c down size Varies fixed h = tt
+times_in c down size Traps fixed h = tt
+
+sum_of_in : (c : Context) (down : Bool) (s t : Operand) (x y : Found) → FixedAt c x.fixed → FixedAt c y.fixed → FixedAt c (fixed_sum_of c down s t x y)
+sum_of_in c down (PointerTo target) (Number t) x y h k = times_in c down (size_or_zero c target) y.typed.folded x.fixed h
+sum_of_in c down (Number s) (PointerTo target) x y h k = times_in c down (size_or_zero c target) x.typed.folded y.fixed k
+sum_of_in c down (PointerTo target) (PointerTo other) x y h k = tt
+sum_of_in c down (PointerTo target) Neither x y h k = tt
+sum_of_in c down (Number s) (Number t) x y h k = tt
+sum_of_in c down (Number s) Neither x y h k = tt
+sum_of_in c down Neither t x y h k = tt
+
+pub sum_in : (c : Context) (op : BinaryOp) (x y : Found) → FixedAt c x.fixed → FixedAt c y.fixed → FixedAt c (fixed_sum c op x y)
+unfolding fixed_sum
+sum_in c b.Add x y h k = sum_of_in c false (operand x.typed.type) (operand y.typed.type) x y h k
+sum_in c b.Subtract x y h k = sum_of_in c true (operand x.typed.type) (operand y.typed.type) x y h k
+sum_in c op x y h k = tt
+
+-- names and literals
+
+-- what an expression comes to has a fixed address that is there
+abbrev pub Aimed : Context × Found → Type 0
+Aimed z = FixedAt z.0 z.1.fixed
+
+found_outside : (file : Table) (inner : List Table) (name : List ℕ) (v : PlainNamed) → is_some (found_from [] name inner) ≡ false → found_from file name inner ≡ Some v → named_in name file ≡ Some v
+found_outside file [] name v q e = e
+found_outside file (table ∷ outer) name v q e = by (named_in name table) (λ r k. found_outside file outer name v r k) q e
+  where
+    by : (o : Option PlainNamed) → (is_some (found_from [] name outer) ≡ false → found_from file name outer ≡ Some v → named_in name file ≡ Some v) → is_some (option_or o (found_from [] name outer)) ≡ false → option_or o (found_from file name outer) ≡ Some v → named_in name file ≡ Some v
+    by (Some x) again r k = cc
+    by None again r k = again r k
+
+object_in : (c : Context) (typed : PlainTyped) (name : List ℕ) (type : PlainType) (i : ℕ) (t : Bool) → is_inner c name ≡ t → There c → declaration c.scopes name ≡ Some (n.Object type i) → FixedAt c (object_found typed t i).fixed
+object_in c typed name type i true q h e = tt
+object_in c typed name type i false q h e =
+    let r = h name type i (found_outside c.scopes.file c.scopes.inner name (n.Object type i) q e) in (0, refl, in_variable i r.0 refl r.1 (omega arith))
+
+built_in_aimed : (c : Context) (typed : PlainTyped) (t : Bool) → FixedAt c (built_in_found typed t).fixed
+built_in_aimed c typed true = tt
+built_in_aimed c typed false = tt
+
+name_in : (c : Context) (typed : PlainTyped) (name : List ℕ) (o : Option PlainNamed) → declaration c.scopes name ≡ o → There c → FixedAt c (name_found typed (is_inner c name) o).fixed
+name_in c typed name (Some (n.Object type i)) e h = object_in c typed name type i (is_inner c name) refl h e
+name_in c typed name (Some (n.BuiltIn i)) e h = built_in_aimed c typed typed.is_null
+name_in c typed name (Some (n.Register type i)) e h = tt
+name_in c typed name (Some (n.Function type i)) e h = tt
+name_in c typed name (Some (n.Typedef type)) e h = tt
+name_in c typed name (Some (n.Constant type x)) e h = tt
+name_in c typed name (Some (n.Tag type)) e h = tt
+name_in c typed name None e h = tt
+
+pub name_aimed : (line : ℕ) (name : List ℕ) (c : Context) (z : Context × Found) → There c → name_answer line name (declaration c.scopes name) c ≡ Ok z → Aimed z
+name_aimed line name c z h q =
+    let e = came (named line (declaration c.scopes name)) (λ e. good (c, name_found e (is_inner c name) (declaration c.scopes name))) z q in
+    subst Aimed (ok_same (c, name_found e.value (is_inner c name) (declaration c.scopes name)) z e.last) (name_in c e.value name (declaration c.scopes name) refl h)
+
+literal_there : (line : ℕ) (bytes : List ℕ) (c : Context) (d : Context × ℕ) → with_literal line bytes c ≡ Ok d → Aims d.0.variables d.0.literals d.1 0
+literal_there line bytes c d h =
+    let s = came (with_static line (length bytes + 1) c) (λ s. good (record s { literals = s.literals ++ bytes ∷ [] }, literal_object (length c.literals))) d h in
+    let k = c.static_bytes + block_size (length bytes + 1) in
+    let e : record c { static_bytes = k } ≡ s.value = passed _ StaticTooLarge line (record c { static_bytes = k }) s.value s.is in
+    let same : (record c { static_bytes = k; literals = c.literals ++ bytes ∷ [] }, literal_object (length c.literals)) ≡ d =
+    ap (λ (x : Context). (record x { literals = x.literals ++ bytes ∷ [] }, literal_object (length c.literals))) e ∙ ok_same _ d s.last in
+    subst (λ (x : Context × ℕ). Aims x.0.variables x.0.literals x.1 0) same (in_literal (length c.literals) bytes refl (get_last c.literals bytes) (omega arith))
+
+pub string_aimed : (line : ℕ) (bytes : List ℕ) (c : Context) (z : Context × Found) → literal_answer line bytes c ≡ Ok z → Aimed z
+string_aimed line bytes c z h =
+    let e = came (string line bytes) (λ e. then (with_literal line bytes c) (λ d. good (literal_found e d))) z h in
+    let d = came (with_literal line bytes c) (λ d. good (literal_found e.value d)) z e.last in
+    subst Aimed (ok_same (literal_found e.value d.value) z d.last) (0, refl, literal_there line bytes c d.value d.is)
+
+-- values
+
+read_in : (vs : List Variable) (ls : List (List ℕ)) (type : PlainType) (fixed : Fixed) → FixedIn vs ls fixed → FixedIn vs ls (read_fixed type fixed)
+read_in vs ls (ct.Array element length) fixed h = h
+read_in vs ls Void fixed h = tt
+read_in vs ls (ct.Int ty) fixed h = tt
+read_in vs ls (ct.Pointer target) fixed h = tt
+read_in vs ls (ct.Struct tag) fixed h = tt
+read_in vs ls (ct.Union tag) fixed h = tt
+read_in vs ls (ct.Function answer params) fixed h = tt
+
+either_in : (vs : List Variable) (ls : List (List ℕ)) (t : Bool) (one other : Fixed) → FixedIn vs ls one → FixedIn vs ls other → FixedIn vs ls (cond t one other)
+either_in vs ls true one other h k = h
+either_in vs ls false one other h k = k
+
+pub valued_from_aimed : (tree : Tree) (c : Context) (e : Found) (z : Context × Found) → FixedAt c e.fixed → valued_from tree c e ≡ Ok z → Aimed z
+valued_from_aimed tree c e z h q =
+    let t = came (read (line_of tree) c.tags e.typed) (λ typed. good (read_value typed e (read_spot (code_line tree) e.typed.type e.spot c))) z q in
+    let d = (read_spot (code_line tree) e.typed.type e.spot c).0 in
+    let k = fixed_on c d e.fixed (grows_settled c d (grows_read (code_line tree) e.typed.type e.spot c)) h in
+    subst Aimed (ok_same _ z t.last) (either_in d.variables d.literals e.typed.is_place (read_fixed e.typed.type e.fixed) e.fixed (read_in d.variables d.literals e.typed.type e.fixed k) k)
+
+pub valued_aimed : (tree : Tree) (answer : With Found) (z : Context × Found) → ((d : Context × Found) → answer ≡ Ok d → Aimed d) → valued tree answer ≡ Ok z → Aimed z
+valued_aimed tree answer z h q = let d = came answer (λ d. valued_from tree d.0 d.1) z q in valued_from_aimed tree d.value.0 d.value.1 z (h d.value d.is) d.last
+
+-- places
+
+pub indexed_aimed : (line : ℕ) (c : Context) (x y : Found) (z : Context × Found) → FixedAt c x.fixed → FixedAt c y.fixed → indexed line c x y ≡ Ok z → Aimed z
+indexed_aimed line c x y z h k q =
+    let t = came (element line c.tags x.typed y.typed) (λ typed. good (at_address typed (fixed_sum c b.Add x y) (combined line b.Add c.code x y c))) z q in
+    let d = (combined line b.Add c.code x y c).0 in
+    subst Aimed (ok_same _ z t.last) (fixed_on c d (fixed_sum c b.Add x y) (grows_settled c d (grows_combined line b.Add c x y c (grows_refl c))) (sum_in c b.Add x y h k))
+
+member_aimed : (line offset : ℕ) (c : Context) (e : Found) → FixedAt c e.fixed → FixedAt (member_address line offset (atom_in e) c).0 (moved_by c (pos offset) e.fixed)
+member_aimed line offset c e h =
+    let d = (member_address line offset (atom_in e) c).0 in fixed_on c d (moved_by c (pos offset) e.fixed) (grows_settled c d (grows_member line offset (atom_in e) c)) (moved_in c (pos offset) e.fixed h)
+
+pub dotted_aimed : (line : ℕ) (name : List ℕ) (c : Context) (e : Found) (z : Context × Found) → FixedAt c e.fixed → dotted line name c e ≡ Ok z → Aimed z
+dotted_aimed line name c e z h q =
+    let t = came (dot line name c.tags e.typed) (λ typed. good (member_of line (offset_of c.tags name e.typed.type) typed c e)) z q in
+    subst Aimed (ok_same _ z t.last) (member_aimed line (offset_of c.tags name e.typed.type) c e h)
+
+pub pointed_aimed : (line : ℕ) (name : List ℕ) (c : Context) (e : Found) (z : Context × Found) → FixedAt c e.fixed → pointed line name c e ≡ Ok z → Aimed z
+pointed_aimed line name c e z h q =
+    let t = came (arrow line name c.tags e.typed) (λ typed. good (member_of line (offset_of c.tags name (target_of (operand e.typed.type))) typed c e)) z q in
+    subst Aimed (ok_same _ z t.last) (member_aimed line (offset_of c.tags name (target_of (operand e.typed.type))) c e h)
+
+pub address_aimed : (line : ℕ) (c : Context) (e : Found) (z : Context × Found) → FixedAt c e.fixed → address_answer line c e ≡ Ok z → Aimed z
+address_aimed line c e z h q =
+    let t = came (address line e.typed) (λ type. good (c, found_as type (Value (atom_in e)) e.fixed)) z q in subst Aimed (ok_same _ z t.last) h
+
+-- code that is behind other code
+
+recoded_grows : (b c : Context) → Grows b c → Grows (record c { code = b.code }) c
+recoded_grows b c g = record {
+  pieces = g.pieces;
+  code = g.code;
+  more = g.more;
+  fragment = g.fragment;
+  cases = refl;
+  otherwise = refl;
+  names = more_refl c.scopes;
+  kept = record { variables = refl; functions = refl; params = refl; walked = refl; length = refl; answer = refl; mems = refl; literals = λ i w e. e; counted = λ (h : Counted (record c { code = b.code })). record { bytes = h.bytes; small = h.small } };
+}
+
+pub settled_convert : (line : ℕ) (b : Context) (type : PlainType) (e : PlainTyped) (a : Atom) (c : Context) → Grows b c → Settled c (convert line b.code type e a c).0
+settled_convert line b type e a c g =
+    let k = grows_settled (record c { code = b.code }) _ (grows_convert line (record c { code = b.code }) type e a c (recoded_grows b c g)) in record { variables = k.variables; literals = k.literals; objects = k.objects }
+
+pub settled_combined : (line : ℕ) (op : BinaryOp) (b : Context) (x y : Found) (c : Context) → Grows b c → Settled c (combined line op b.code x y c).0
+settled_combined line op b x y c g =
+    let k = grows_settled (record c { code = b.code }) _ (grows_combined line op (record c { code = b.code }) x y c (recoded_grows b c g)) in record { variables = k.variables; literals = k.literals; objects = k.objects }
+
+-- operators
+
+number_aimed : (line : ℕ) (op : UnaryOp) (typed : PlainTyped) (o : Operand) (c : Context) (e : Found) → FixedAt c e.fixed → Aimed (before_number line op typed o c e)
+number_aimed line op typed (Number ty) c e h = tt
+number_aimed line op typed (PointerTo target) c e h = h
+number_aimed line op typed Neither c e h = h
+
+apply_aimed : (line : ℕ) (op : UnaryOp) (tree : Tree) (typed : PlainTyped) (c : Context) (e : Found) → FixedAt c e.fixed → Aimed (apply line op tree typed c e)
+apply_aimed line u.Deref tree typed c e h = h
+apply_aimed line u.Not tree typed c e h = tt
+apply_aimed line op tree typed c e h = number_aimed line op typed (operand e.typed.type) c e h
+
+pub applied_aimed : (line : ℕ) (op : UnaryOp) (tree : Tree) (c : Context) (e : Found) (z : Context × Found) → FixedAt c e.fixed → applied line op tree c e ≡ Ok z → Aimed z
+applied_aimed line op tree c e z h q =
+    let t = came (unary line op c.tags e.typed) (λ typed. good (apply line op tree typed c e)) z q in subst Aimed (ok_same _ z t.last) (apply_aimed line op tree t.value c e h)
+
+pub left_aimed : (op : BinaryOp) (before : Code) (right : Tree) (d : Context × Found) → Aimed d → Aimed (left_operand op before right d)
+left_aimed op before right d h = by (tells_equal op && is_null_constant d.1.typed && is_pointer_ahead (ahead right d.0))
+  where
+    by : (t : Bool) → Aimed (cond t (forget before d.0, found_as d.1.typed (Value atom.Null) Nowhere) d)
+    by true = tt
+    by false = h
+
+pub between_aimed : (line : ℕ) (op : BinaryOp) (base c : Context) (x y : Found) (z : Context × Found) → Settled c (combined line op base.code x y c).0 → FixedAt c x.fixed → FixedAt c y.fixed → between line op base.code c x y ≡ Ok z → Aimed z
+between_aimed line op base c x y z s h k q =
+    let t = came (binary line op c.tags x.typed y.typed) (λ typed. good (with_value typed (fixed_sum c op x y) (combined line op base.code x y c))) z q in
+    subst Aimed (ok_same _ z t.last) (fixed_on c (combined line op base.code x y c).0 (fixed_sum c op x y) s (sum_in c op x y h k))
+
+pub cast_aimed : (line : ℕ) (type : PlainType) (before : Code) (c : Context) (e : Found) (z : Context × Found) → Settled c (convert line before type e.typed (atom_in e) c).0 → FixedAt c e.fixed → cast_to line type before c e ≡ Ok z → Aimed z
+cast_aimed line type before c e z s h q =
+    let t = came (cast line type e.typed) (λ typed. good (with_value typed (cast_fixed e.typed e.fixed) (convert line before type e.typed (atom_in e) c))) z q in
+    let d = (convert line before type e.typed (atom_in e) c).0 in
+    subst Aimed (ok_same _ z t.last) (either_in d.variables d.literals (is_null_constant e.typed) Nowhere e.fixed tt (fixed_on c d e.fixed s h))

@@ -1,0 +1,428 @@
+-- The first bytes and pointers of the statics of a core fill their layouts (C99 6.7.8, 6.9.2).
+use Rattle.std.proofs.Common.{◌≡◌, ◌<◌, ◌+◌, ◌==◌, ◌&&◌, not, ℕ, Bool, true, false, cond, is_some, nat_lt, codes, All, length, List, [], ◌∷◌, ◌++◌, slice_get, slice_set, unwrap_or, Option, Some, None, Ok, refl, sym, ap, ◌∙◌, subst, ⊎_elim, arith, bytes_eq}
+use Rattle.std.specs.List.{find}
+use Rattle.std.proofs.lemmas.Bool.{ltb-true, ltb-false, eqb-true}
+use Rattle.hs_base.specs.Place.{block_size}
+use Rattle.c_types.specs.declared.layouts.Layout.{Layout}
+use Rattle.c_types.specs.declared.tags.TagInfo.{TagInfo}
+use Rattle.c_types.specs.Types.{PlainType, Void, Int, Pointer, Array, Struct, Union, Function}
+use Rattle.c_types.specs.Layouts.{Known, layout_of, no_layout}
+use Rattle.c_types.specs.TagTable.{CompletedTag, TagTable, known, layout_in}
+use Rattle.c_types.proofs.MemberLemmas.{Extends, layout_stays}
+use Rattle.core_tree.specs.declared.program.Core.{Core}
+use Rattle.core_tree.specs.declared.program.Start.{Start}
+use Rattle.core_tree.specs.Sound.{IsStatic}
+use Rattle.c_tree.specs.Forms as f
+use Rattle.c_tree.specs.Tree.{Tree, Trees, At, Node, none, ◌▹◌}
+use Rattle.c_tree.specs.Scopes.{name_of}
+use Rattle.c_decls.specs.declared.built_in.BuiltIn.{BuiltIn}
+use Rattle.c_decls.specs.declared.refusal.TypeKind.TheVariants.{Operands, Assignment, DeclaredTwice, Incomplete, StaticTooLarge, Undeclared, NoMain}
+use Rattle.c_decls.specs.Named as n
+use Rattle.c_decls.specs.Named.{PlainNamed}
+use Rattle.c_decls.specs.ScopeList.{Table, named_in}
+use Rattle.c_decls.specs.BuiltIns as names
+use Rattle.c_decls.specs.BuiltIns.{built_ins, numbered_from}
+use Rattle.c_decls.specs.Refusals.{refused, then, unless}
+use Rattle.c_decls.specs.Typed.{is_function, has_no_size, same}
+use Rattle.c_decls.specs.Expressions.{line_of}
+use Rattle.c_decls.proofs.SameTypes.{same_equal}
+use Rattle.elaboration.specs.Context.{Context, Variable, Declared, first_context}
+use Rattle.elaboration.specs.Conversions.{size_or_zero}
+use Rattle.elaboration.specs.Rules.{with_static}
+use Rattle.elaboration.specs.Locals.{is_twice_in, declared_as}
+use Rattle.elaboration.specs.Declarators.{layers}
+use Rattle.elaboration.specs.Initializers.{Target, InRegister, InMemory, InStatic, initialize, surplus, no_start, with_init_layers}
+use Rattle.elaboration.specs.Declarations as storages
+use Rattle.elaboration.specs.Declarations.{Storage, Typedef, Outside, storage_of, specs_before, declared_function, no_initializer, variable_number_of, with_new_variable, with_variable, start_of, start_in, started_variable, started, fill_variable, file_object, file_function, file_value, file_name, name_in, entry, entries, declaration}
+use Rattle.elaboration.specs.Externals.{begun, is_defined, external, externals, calls_defined, is_main, ended}
+use Rattle.elaboration.specs.Addressed.{addressed_in}
+use Rattle.elaboration.specs.Resolving.{core_of}
+use Rattle.elaboration.specs.Elaboration.{walked, elaborated}
+use Rattle.core_soundness.specs.Laws.{HasLayouts}
+use Rattle.core_soundness.specs.Whole.{Whole}
+use Rattle.core_soundness.specs.Written.{Written, AllWritten, AreWritten}
+use Rattle.core_soundness.specs.Solid.{Solid}
+use Rattle.core_soundness.proofs.Names.{Safe}
+use Rattle.core_soundness.proofs.Grown.{good, ok_same, never}
+use Rattle.core_soundness.proofs.Agreeing.{came}
+use Rattle.core_soundness.proofs.Operating.{passed, kept_test}
+use Rattle.core_soundness.proofs.Owners.{get_left, get_last, get_push, get_below, set_get, Pushed, push_get}
+use Rattle.core_soundness.proofs.Reached.{Led, led_ok, led_refused, led_after, led_unless}
+use Rattle.core_soundness.proofs.TypedWhole.{led_cond}
+use Rattle.core_soundness.proofs.WholeTypes.{whole_stays, some_stays}
+use Rattle.core_soundness.proofs.Cores.{behind as core_behind}
+use Rattle.core_soundness.proofs.Texts.{Sane, external_sane, first_sane}
+use Rattle.core_soundness.proofs.Localizing.{entry_declares, specs_before_passes}
+use Rattle.core_soundness.proofs.Solid.{K}
+use Rattle.core_soundness.proofs.Moving.{rises_refl}
+use Rattle.core_soundness.proofs.SolidLayers.{has_size, declared_rises, typedef_rises, layers_rise}
+use Rattle.core_soundness.proofs.SolidFills.{declared_function_rises, variable_rises, init_layers_whole, entry_rises, before_rises}
+use Rattle.core_soundness.proofs.SolidTexts.{external_rises, begun_rises, first_solid, core_layouts}
+use Rattle.core_soundness.proofs.TagSorts.{SortedType, SortedName, SortedTable, type_longer, none_sorted}
+use Rattle.core_soundness.proofs.SortedTypes.{init_layers_sorted}
+use Rattle.core_soundness.proofs.TagKinds.{MembersSorted, BodySorted, BodiesSorted, Sorts}
+use Rattle.core_soundness.proofs.Settled.{Settled}
+use Rattle.core_soundness.proofs.Specifying.{levels_refl, declared_levels, layers_level}
+use Rattle.core_soundness.proofs.Aiming.{VariablesStay, There}
+use Rattle.core_soundness.proofs.Seats.{seat_whole}
+use Rattle.core_soundness.proofs.Filling.{Filled, filled_more, filled_trimmed}
+use Rattle.core_soundness.proofs.Seating.{Proper, MembersProper, AllProper}
+use Rattle.core_soundness.proofs.FilledTexts.{TargetFilled, initialize_fills}
+use Rattle.core_soundness.proofs.Pointing.{initialize_points}
+use Rattle.core_soundness.proofs.PointedTexts.{set_stay, before_level, function_settled, definition_settled, walked_pointed}
+use Rattle.core_soundness.proofs.Statics.{StartsFilled, nothing_filled, statics_sound}
+
+-- tags of their sorts are as types name them
+
+found_body : (made : List TagInfo) (ts : List CompletedTag) (tag : ℕ) (done : CompletedTag) → BodiesSorted made ts → find (λ (d : CompletedTag). d.tag == tag) ts ≡ Some done → (done.tag ≡ tag) × BodySorted made done
+found_body made [] tag done h e = cc
+found_body made (t ∷ ts) tag done h e = by (t.tag == tag) refl (λ k. found_body made ts tag done h.1 k) e
+  where
+    by : (b : Bool) → (t.tag == tag) ≡ b → (find (λ (d : CompletedTag). d.tag == tag) ts ≡ Some done → (done.tag ≡ tag) × BodySorted made done) → cond b (Some t) (find (λ (d : CompletedTag). d.tag == tag) ts) ≡ Some done → (done.tag ≡ tag) × BodySorted made done
+    by true q again k =
+        let same : t ≡ done = ap (λ (o : Option CompletedTag). unwrap_or o done) k in
+        subst (λ (x : CompletedTag). (x.tag ≡ tag) × BodySorted made x) same (eqb-true t.tag tag q, h.0)
+    by false q again k = again k
+
+info_same : (a b : TagInfo) → Some a ≡ Some b → a ≡ b
+info_same a b e = cc
+
+proper_type : (made : List TagInfo) (ts : List CompletedTag) (type : PlainType) → BodiesSorted made ts → SortedType made type → Proper ts type
+proper_type made ts (Struct tag) h s = λ done e.
+    let b = found_body made ts tag done h e in
+    let same : b.1.0.0 ≡ s.0 = info_same b.1.0.0 s.0 (sym b.1.0.1 ∙ (ap (slice_get made) b.0 ∙ s.1)) in
+    b.1.0.2 ∙ (ap (λ (x : TagInfo). x.is_union) same ∙ s.2)
+proper_type made ts (Array element m) h s = proper_type made ts element h s
+proper_type made ts Void h s = tt
+proper_type made ts (Int ty) h s = tt
+proper_type made ts (Pointer target) h s = tt
+proper_type made ts (Union tag) h s = tt
+proper_type made ts (Function answer params) h s = tt
+
+proper_members : (made : List TagInfo) (ts : List CompletedTag) (ms : List (List ℕ × PlainType)) → BodiesSorted made ts → MembersSorted made ms → MembersProper ts ms
+proper_members made ts [] h s = tt
+proper_members made ts (m ∷ ms) h s = (proper_type made ts m.1 h s.0, proper_members made ts ms h s.1)
+
+all_proper : (made : List TagInfo) (ts : List CompletedTag) → BodiesSorted made ts → AllProper ts
+all_proper made ts h tag done e = proper_members made ts done.members h (found_body made ts tag done h e).1.1
+
+-- objects at file scope have variables of their layouts
+abbrev LaidObjects : Known → List Variable → Table → Type 0
+LaidObjects k vs file = (name : List ℕ) (type : PlainType) (i : ℕ) → named_in name file ≡ Some (n.Object type i) → (v : Variable) × (slice_get vs i ≡ Some v) × (layout_of k type ≡ Some v.layout)
+
+pub record Fitted (c : Context) : Type 0 where
+  pub objects : LaidObjects (K c) c.variables c.scopes.file
+  pub starts : StartsFilled c.variables
+
+fitted_on : (c d : Context) → Settled c d → Extends (K c) (K d) → Fitted c → Fitted d
+fitted_on c d s x h = record {
+  objects = λ name type i e. let r = h.objects name type i (s.objects name type i e) in (r.0, subst (λ (vs : List Variable). slice_get vs i ≡ Some r.0) (sym s.variables) r.1, layout_stays (K c) (K d) x type r.0.layout r.2);
+  starts = subst StartsFilled (sym s.variables) h.starts;
+}
+
+there_of : (c : Context) → Fitted c → There c
+there_of c h name type i e = let r = h.objects name type i e in (r.0, r.1)
+
+same_known : (c d : Context) → d.tags.completed ≡ c.tags.completed → Extends (K c) (K d)
+same_known c d e tag l q = ap (λ (ts : List CompletedTag). known ts tag) e ∙ q
+
+-- an initializer of a variable
+
+target_filled : (slots : List ℕ) (high : ℕ) (t : Target) → TargetFilled slots high t → Filled slots high (start_in t)
+target_filled slots high (InRegister line register) h = absurd h
+target_filled slots high (InMemory line mem) h = absurd h
+target_filled slots high (InStatic start) h = filled_trimmed slots high start h
+
+objects_set : (k : Known) (vs ws : List Variable) (file : Table) → VariablesStay vs ws → LaidObjects k vs file → LaidObjects k ws file
+objects_set k vs ws file x h name type i e =
+    let r = h name type i e in let y = x i r.0 r.1 in (y.0, y.1, r.2 ∙ ap Some (sym y.2))
+
+starts_set : (vs : List Variable) (index : ℕ) (v : Variable) (start : Start) → StartsFilled vs → Filled v.layout.slots v.layout.size start → StartsFilled (slice_set vs index (record v { start = Some start }))
+starts_set vs index v start h p i u s g r =
+    ⊎_elim
+    (λ (k : (i ≡ index) × (u ≡ record v { start = Some start })).
+    let layouts : v.layout ≡ u.layout = sym (ap (λ (y : Variable). y.layout) k.1) in
+    let starts : start ≡ s = some_start start s (sym (ap (λ (y : Variable). y.start) k.1) ∙ r) in
+    subst (λ (x : Start). Filled u.layout.slots u.layout.size x) starts (subst (λ (l : Layout). Filled l.slots l.size start) layouts p))
+    (λ (k : (i ≡ index → ⊥) × (slice_get vs i ≡ Some u)). h i u s k.1 r)
+    (set_get vs index (record v { start = Some start }) i u g)
+  where
+    some_start : (x y : Start) → Some x ≡ Some y → x ≡ y
+    some_start x y q = cc
+
+start_fitted : (index : ℕ) (c : Context) (start : Start) (v : Variable) → slice_get c.variables index ≡ Some v → Fitted c → Filled v.layout.slots v.layout.size start → Fitted (record c { variables = started_variable index start (slice_get c.variables index) c.variables })
+start_fitted index c start v e h p =
+    subst (λ (o : Option Variable). Fitted (record c { variables = started_variable index start o c.variables })) (sym e)
+    (record { objects = objects_set (K c) c.variables _ c.scopes.file (set_stay c.variables index v start e) h.objects; starts = starts_set c.variables index v start h.starts p })
+
+fill_fitted : (line index : ℕ) (type : PlainType) (inits : Trees) (c : Context) (v : Variable) → Solid c → Sorts c → SortedType c.tags.made type → Fitted c → slice_get c.variables index ≡ Some v → layout_of (K c) type ≡ Some v.layout → Led Fitted (fill_variable line index type inits c)
+fill_fitted line index type none c v solid ks st h at laid = led_ok Fitted c h
+fill_fitted line index type (init ▹ rest) c v solid ks st h at laid =
+    let ts = c.tags.completed in
+    let l = v.layout in
+    led_unless Fitted (is_some (start_of (slice_get c.variables index))) DeclaredTwice line (then (initialize init false type 0 (InStatic no_start) c) (λ d. Ok (started index d)))
+    (λ t. led_after Fitted (initialize init false type 0 (InStatic no_start) c) (λ d. Ok (started index d))
+    (λ d q. let points = initialize_points init false type 0 (InStatic no_start) c (there_of c h) tt d q in
+    let fills = initialize_fills ts (all_proper c.tags.made ts ks.bodies) l.size l.slots init false type 0 0 l (InStatic no_start) c solid refl (proper_type c.tags.made ts type ks.bodies st) laid (omega arith) (seat_whole l) (nothing_filled l.slots 0) d q in
+    let near = fitted_on c d.0 points.0 (same_known c d.0 fills.0.completed) h in
+    let here : slice_get d.0.variables index ≡ Some v = subst (λ (vs : List Variable). slice_get vs index ≡ Some v) (sym points.0.variables) at in
+    led_ok Fitted (started index d) (start_fitted index d.0 (start_in d.1) v here near (filled_more l.slots (0 + l.size) l.size (start_in d.1) (omega arith) (target_filled l.slots (0 + l.size) d.1 fills.1)))))
+
+-- an object that is declared, with its variable
+
+record Placed (index : ℕ) (type : PlainType) (c : Context) : Type 0 where
+  fitted : Fitted c
+  variable : Variable
+  there : slice_get c.variables index ≡ Some variable
+  laid : layout_of (K c) type ≡ Some variable.layout
+
+some_layout : (o : Option Layout) → is_some o ≡ true → o ≡ Some (unwrap_or o no_layout)
+some_layout None e = cc
+some_layout (Some l) e = refl
+
+module _ (name : List ℕ) (type : PlainType) (c : Context) (file : Table) where
+  abbrev outer : Context
+  outer = record c { scopes = record { file = file; inner = [] } }
+
+  abbrev index_of : Option PlainNamed → ℕ
+  index_of o = variable_number_of outer o
+
+  abbrev pushed : ℕ → Context
+  pushed index = record c { scopes = record { file = file ++ (name, n.Object type index) ∷ []; inner = [] } }
+
+  -- a variable more
+  new_placed : (line index : ℕ) (x : Context) → index ≡ length c.variables → is_some (layout_in c.tags type) ≡ true → Fitted outer → with_new_variable line name type (pushed index) ≡ Ok x → Placed index type x
+  new_placed line index x e s h q =
+      let d = pushed index in
+      let v : Variable = record { name = name; layout = unwrap_or (layout_in c.tags type) no_layout; start = None } in
+      let y = came (with_static line (size_or_zero d type) d) (λ z. good (record z { variables = z.variables ++ (record { name = name; layout = unwrap_or (layout_in z.tags type) no_layout; start = None }) ∷ [] })) x q in
+      let k = d.static_bytes + block_size (size_or_zero d type) in
+      let p : record d { static_bytes = k } ≡ y.value = passed _ StaticTooLarge line (record d { static_bytes = k }) y.value y.is in
+      let same : record d { static_bytes = k; variables = c.variables ++ v ∷ [] } ≡ x =
+      ap (λ (z : Context). record z { variables = z.variables ++ (record { name = name; layout = unwrap_or (layout_in z.tags type) no_layout; start = None }) ∷ [] }) p ∙ ok_same _ x y.last in
+      let ws = c.variables ++ v ∷ [] in
+      let here : slice_get ws index ≡ Some v = ap (λ (i : ℕ). slice_get ws i) e ∙ get_last c.variables v in
+      let laid : layout_of (K c) type ≡ Some v.layout = some_layout (layout_in c.tags type) s in
+      subst (Placed index type) same (record {
+        fitted = record {
+          objects = λ key t i g. ⊎_elim
+              (λ (r : named_in key file ≡ Some (n.Object t i)). let z = h.objects key t i r in (z.0, get_left c.variables (v ∷ []) i z.0 z.1, z.2))
+              (λ (r : Pushed key name (n.Object type index) (n.Object t i) file). new_object v t i here laid r.value)
+              (push_get key name (n.Object type index) (n.Object t i) file g);
+          starts = λ i u start g r. ⊎_elim
+              (λ (z : slice_get c.variables i ≡ Some u). h.starts i u start z r)
+              (λ (z : (i ≡ length c.variables) × (u ≡ v)). absurd (none_started u start z.1 r))
+              (get_push c.variables v i u g);
+        };
+        variable = v;
+        there = here;
+        laid = laid;
+      })
+    where
+      none_started : (u : Variable) (start : Start) → u ≡ record { name = name; layout = unwrap_or (layout_in c.tags type) no_layout; start = None } → u.start ≡ Some start → ⊥
+      none_started u start p r = let clash : None ≡ Some start = sym (ap (λ (y : Variable). y.start) p) ∙ r in cc
+
+      new_object : (v : Variable) (t : PlainType) (i : ℕ) → slice_get (c.variables ++ v ∷ []) index ≡ Some v → layout_of (K c) type ≡ Some v.layout → n.Object type index ≡ n.Object t i → (u : Variable) × (slice_get (c.variables ++ v ∷ []) i ≡ Some u) × (layout_of (K c) t ≡ Some u.layout)
+      new_object v t i there laid e =
+          let types : type ≡ t = cc in
+          let places : index ≡ i = cc in
+          (v, subst (λ (j : ℕ). slice_get (c.variables ++ v ∷ []) j ≡ Some v) places there, subst (λ (y : PlainType). layout_of (K c) y ≡ Some v.layout) types laid)
+
+  again_placed : (line i : ℕ) (t : PlainType) (d x : Context) → named_in name file ≡ Some (n.Object t i) → Fitted outer → unless (not (true && same t type)) DeclaredTwice line (good outer) ≡ Ok d → with_variable line i name type d ≡ Ok x → Placed i type x
+  again_placed line i t d x e h q k =
+      let r = h.objects name t i e in
+      let alike : t ≡ type = same_equal t type (not_false (same t type) (kept_test (not (true && same t type)) DeclaredTwice line (good outer) d q)) in
+      let is : outer ≡ d = passed (not (true && same t type)) DeclaredTwice line outer d q in
+      let near : nat_lt i (length c.variables) ≡ true = below (nat_lt i (length c.variables)) refl (get_below c.variables i r.0 r.1) in
+      let stays : good outer ≡ Ok x = sym (ap (λ (b : Bool). cond b (good outer) (with_new_variable line name type outer)) near) ∙ (ap (λ (y : Context). with_variable line i name type y) is ∙ k) in
+      subst (Placed i type) (ok_same outer x stays) (record { fitted = h; variable = r.0; there = r.1; laid = subst (λ (y : PlainType). layout_of (K c) y ≡ Some r.0.layout) alike r.2 })
+    where
+      not_false : (b : Bool) → not (true && b) ≡ false → b ≡ true
+      not_false true w = refl
+      not_false false w = cc
+
+      below : (b : Bool) → nat_lt i (length c.variables) ≡ b → i < length c.variables → b ≡ true
+      below true w less = refl
+      below false w less = absurd (omega (arith, less, ltb-false i (length c.variables) w))
+
+  first_placed : (line : ℕ) (d x : Context) → is_some (layout_in c.tags type) ≡ true → Fitted outer → unless false DeclaredTwice line (good (pushed (length c.variables))) ≡ Ok d → with_variable line (length c.variables) name type d ≡ Ok x → Placed (length c.variables) type x
+  first_placed line d x s h q k =
+      let is : pushed (length c.variables) ≡ d = ok_same (pushed (length c.variables)) d q in
+      let far : nat_lt (length c.variables) (length c.variables) ≡ false = equal (nat_lt (length c.variables) (length c.variables)) refl in
+      let made : with_new_variable line name type (pushed (length c.variables)) ≡ Ok x =
+      sym (ap (λ (b : Bool). cond b (good (pushed (length c.variables))) (with_new_variable line name type (pushed (length c.variables)))) far) ∙ (ap (λ (y : Context). with_variable line (length c.variables) name type y) is ∙ k) in
+      new_placed line (length c.variables) x refl s h made
+    where
+      equal : (b : Bool) → nat_lt (length c.variables) (length c.variables) ≡ b → b ≡ false
+      equal true w = absurd (omega (arith, ltb-true (length c.variables) (length c.variables) w))
+      equal false w = refl
+
+  placed_by : (line : ℕ) (o : Option PlainNamed) (d x : Context) → named_in name file ≡ o → is_some (layout_in c.tags type) ≡ true → Fitted outer
+      → unless (is_twice_in true (n.Object type (index_of o)) o) DeclaredTwice line (good (record outer { scopes = cond (is_some o) outer.scopes (record { file = file ++ (name, n.Object type (index_of o)) ∷ []; inner = [] }) })) ≡ Ok d
+      → with_variable line (index_of o) name type d ≡ Ok x → Placed (index_of o) type x
+  placed_by line None d x e s h q k = first_placed line d x s h q k
+  placed_by line (Some (n.Object t i)) d x e s h q k = again_placed line i t d x e h q k
+  placed_by line (Some (n.Register t i)) d x e s h q k = never (Placed (index_of (Some (n.Register t i))) type x) _ d q
+  placed_by line (Some (n.Function t i)) d x e s h q k = never (Placed (index_of (Some (n.Function t i))) type x) _ d q
+  placed_by line (Some (n.Typedef t)) d x e s h q k = never (Placed (index_of (Some (n.Typedef t))) type x) _ d q
+  placed_by line (Some (n.Constant t i)) d x e s h q k = never (Placed (index_of (Some (n.Constant t i))) type x) _ d q
+  placed_by line (Some (n.BuiltIn i)) d x e s h q k = never (Placed (index_of (Some (n.BuiltIn i))) type x) _ d q
+  placed_by line (Some (n.Tag t)) d x e s h q k = never (Placed (index_of (Some (n.Tag t))) type x) _ d q
+
+no_scope : (inner : List Table) → length inner ≡ 0 → [] ≡ inner
+no_scope [] e = refl
+no_scope (t ∷ ts) e = absurd (omega (arith, e))
+
+placed : (line : ℕ) (name : List ℕ) (type : PlainType) (c d x : Context) → length c.scopes.inner ≡ 0 → is_some (layout_in c.tags type) ≡ true → Fitted c
+    → (let index = variable_number_of c (named_in name c.scopes.file) in declared_as line name (n.Object type index) c ≡ Ok d → with_variable line index name type d ≡ Ok x → Placed index type x)
+placed line name type c d x flat s h =
+    let file = c.scopes.file in
+    let at : record c { scopes = record { file = file; inner = [] } } ≡ c = ap (λ (i : List Table). record c { scopes = record { file = file; inner = i } }) (no_scope c.scopes.inner flat) in
+    subst (λ (y : Context). Fitted y → (let index = variable_number_of y (named_in name y.scopes.file) in declared_as line name (n.Object type index) y ≡ Ok d → with_variable line index name type d ≡ Ok x → Placed index type x)) at
+    (λ g q k. placed_by name type c file line (named_in name file) d x refl s g q k) h
+
+object_fitted : (line : ℕ) (name : List ℕ) (type : PlainType) (inits : Trees) (c : Context) → length c.scopes.inner ≡ 0 → Solid c → Whole (K c) type → Sorts c → SortedType c.tags.made type → Fitted c → Led Fitted (file_object line name type inits c)
+object_fitted line name type inits c flat h w ks st fit =
+    let index = variable_number_of c (named_in name c.scopes.file) in
+    led_unless Fitted (has_no_size c.tags type) Incomplete line (then (declared_as line name (n.Object type index) c) (λ d. then (with_variable line index name type d) (λ v. fill_variable line index type inits v)))
+    (λ t. let sized = has_size c.tags type t in
+    led_after Fitted (declared_as line name (n.Object type index) c) (λ d. then (with_variable line index name type d) (λ v. fill_variable line index type inits v))
+    (λ d q. let r = declared_rises line name (n.Object type index) c h w (λ x. tt) d q in
+    led_after Fitted (with_variable line index name type d) (λ v. fill_variable line index type inits v)
+    (λ x s. let k = variable_rises line index name type d r.solid (whole_stays type (K c) (K d) r.more w) (some_stays (K c) (K d) type r.more sized) x s in
+    let p = placed line name type c d x flat sized fit q s in
+    fill_fitted line index type inits x p.variable k.solid (k.kinds.sorts (r.kinds.sorts ks)) (type_longer type c.tags.made x.tags.made (λ i u e. k.kinds.made i u (r.kinds.made i u e)) st) p.fitted p.there p.laid)))
+
+-- functions and other names
+
+no_initializer_fitted : (inits : Trees) (c : Context) → Fitted c → Led Fitted (no_initializer inits c)
+no_initializer_fitted none c h = led_ok Fitted c h
+no_initializer_fitted (init ▹ rest) c h = led_after Fitted (surplus init c) (λ d. refused Assignment (line_of init)) (λ d q. led_refused Fitted Assignment (line_of init))
+
+value_fitted : (line : ℕ) (name : List ℕ) (type : PlainType) (inits : Trees) (c : Context) → length c.scopes.inner ≡ 0 → Solid c → Whole (K c) type → Sorts c → SortedType c.tags.made type → Fitted c → Led Fitted (file_value line name type inits c)
+value_fitted line name type inits c flat h w ks st fit =
+    led_cond Fitted (is_function type) (file_function line name type inits c) (file_object line name type inits c)
+    (led_after Fitted (declared_function line name type c) (λ d. no_initializer inits d)
+    (λ d q. no_initializer_fitted inits d (fitted_on c d (function_settled line name type c d q) (declared_function_rises line name type c h w d q).more fit)))
+    (object_fitted line name type inits c flat h w ks st fit)
+
+file_name_fitted : (line : ℕ) (storage : Storage) (name : List ℕ) (type : PlainType) (inits : Trees) (c : Context) → length c.scopes.inner ≡ 0 → Solid c → Whole (K c) type → Sorts c → SortedType c.tags.made type → Fitted c → Led Fitted (file_name line storage name type inits c)
+file_name_fitted line Typedef name type inits c flat h w ks st fit = λ d q. fitted_on c d (declared_levels line name (n.Typedef type) c c tt (levels_refl c) d q).settled (typedef_rises c c (rises_refl c h) line name type w (λ x. st) d q).more fit
+file_name_fitted line Outside name type inits c flat h w ks st fit = value_fitted line name type inits c flat h w ks st fit
+file_name_fitted line storages.Plain name type inits c flat h w ks st fit = value_fitted line name type inits c flat h w ks st fit
+
+name_fitted : (line : ℕ) (storage : Storage) (name : Option (List ℕ)) (type : PlainType) (inits : Trees) (c : Context) → length c.scopes.inner ≡ 0 → Solid c → Whole (K c) type → Sorts c → SortedType c.tags.made type → Fitted c → Led Fitted (name_in true line storage name type inits c)
+name_fitted line storage None type inits c flat h w ks st fit = led_ok Fitted c fit
+name_fitted line storage (Some name) type inits c flat h w ks st fit = file_name_fitted line storage name type inits c flat h w ks st fit
+
+-- declarations at file scope
+
+record Steady (c : Context) : Type 0 where
+  safe : Safe c.scopes
+  flat : length c.scopes.inner ≡ 0
+  solid : Solid c
+  sorts : Sorts c
+  fitted : Fitted c
+
+entry_fitted : (line : ℕ) (storage : Storage) (base : PlainType) (declarator : Tree) (inits : Trees) (c : Context) → Steady c → Whole (K c) base → SortedType c.tags.made base → Written declarator → AllWritten inits → Led Fitted (entry true line storage base declarator inits c)
+entry_fitted line storage base declarator inits c k b st w v =
+    led_after Fitted (layers declarator c) (λ l. then (with_init_layers l.0.tags l.1 inits base) (λ type. name_in true line storage (name_of declarator) type inits l.0))
+    (λ l q. let r = layers_rise declarator c k.solid w l q in
+    let m = layers_level declarator c c (levels_refl c) l q in
+    led_after Fitted (with_init_layers l.0.tags l.1 inits base) (λ type. name_in true line storage (name_of declarator) type inits l.0)
+    (λ type s. name_fitted line storage (name_of declarator) type inits l.0 (m.depth ∙ k.flat) r.0.solid
+    (init_layers_whole l.0.tags l.1 inits base v (whole_stays base (K c) (K l.0) r.0.more b) r.1 type s)
+    (r.0.kinds.sorts k.sorts)
+    (init_layers_sorted l.0.tags.made l.0.tags l.1 inits base (type_longer base c.tags.made l.0.tags.made r.0.kinds.made st) type s)
+    (fitted_on c l.0 m.settled r.0.more k.fitted)))
+
+entries_fitted : (names : Trees) (line : ℕ) (storage : Storage) (base : PlainType) (c : Context) → Steady c → Whole (K c) base → SortedType c.tags.made base → AllWritten names → Led Fitted (entries true line storage base names c)
+unfolding entries Written AllWritten
+entries_fitted none line storage base c k b st w = led_ok Fitted c k.fitted
+entries_fitted (Node f.Entry (Node f.Declared (declarator ▹ none) ▹ Node f.MaybeInit inits ▹ none) ▹ rest) line storage base c k b st w =
+    led_after Fitted (entry true line storage base declarator inits c) (λ d. entries true line storage base rest d)
+    (λ d q. let o = entry_rises c true line storage base declarator inits c (rises_refl c k.solid) b (λ x. st) w.0.1.0.1.0 w.0.1.1.0.1 d q in
+    let y = (entry_declares true line storage base declarator inits c k.safe (λ t. k.flat) d q).stays in
+    entries_fitted rest line storage base d
+    (record { safe = y.safe; flat = y.depth ∙ k.flat; solid = o.rises.solid; sorts = o.rises.kinds.sorts k.sorts; fitted = entry_fitted line storage base declarator inits c k b st w.0.1.0.1.0 w.0.1.1.0.1 d q })
+    (whole_stays base (K c) (K d) o.more b) (type_longer base c.tags.made d.tags.made o.made st) w.1)
+entries_fitted (tree ▹ rest) line storage base c k b st w = led_refused Fitted Operands (line_of tree)
+
+declaration_fitted : (line : ℕ) (words tree : Tree) (c : Context) → Steady c → Written words → Written tree → Led Fitted (declaration true line words tree c)
+unfolding declaration Written
+declaration_fitted line words (Node f.Names names) c k v w =
+    led_after Fitted (specs_before words names c) (λ base. entries true line (storage_of words) base.1 names base.0)
+    (λ base q. let b = before_rises words names c k.solid v base q in
+    let m = before_level words names c base q in
+    let y = (specs_before_passes words names c k.safe base q).stays in
+    entries_fitted names line (storage_of words) base.1 base.0
+    (record { safe = y.safe; flat = m.depth ∙ k.flat; solid = b.0.solid; sorts = b.0.kinds.sorts k.sorts; fitted = fitted_on c base.0 m.settled b.0.more k.fitted })
+    b.1 (b.2 k.sorts) w.1)
+declaration_fitted line words tree c k v w = led_refused Fitted Operands line
+
+-- texts
+
+begun_fitted : (line : ℕ) (addressed : List ℕ) (c : Context) → Fitted c → Fitted (begun line addressed c)
+begun_fitted line addressed c h = record { objects = h.objects; starts = h.starts }
+
+external_fitted : (tree : Tree) (c : Context) → Sane c → Solid c → Sorts c → Written tree → Fitted c → Led Fitted (external tree c)
+unfolding external Written AllWritten
+external_fitted (Node f.Function (At line ▹ words ▹ Node f.Declared (declarator ▹ none) ▹ tree ▹ none)) c s h ks w fit z q =
+    let b = begun line (addressed_in declarator tree) c in
+    fitted_on b z (definition_settled line words declarator tree b s.safe s.params s.flat z q) (external_rises (Node f.Function (At line ▹ words ▹ Node f.Declared (declarator ▹ none) ▹ tree ▹ none)) c h w z q).more (begun_fitted line (addressed_in declarator tree) c fit)
+external_fitted (Node f.Declaration (At line ▹ words ▹ names ▹ none)) c s h ks w fit z q =
+    declaration_fitted line words names (begun line [] c) (record { safe = s.safe; flat = s.flat; solid = (begun_rises line [] c h).solid; sorts = ks; fitted = begun_fitted line [] c fit }) w.1.1.0 w.1.1.1.0 z q
+external_fitted tree c s h ks w fit z q = led_refused Fitted Operands (line_of tree) z q
+
+externals_fitted : (unit : Trees) (c : Context) → Sane c → Solid c → Sorts c → AreWritten unit → Fitted c → Led Fitted (externals unit c)
+unfolding externals
+externals_fitted none c s h ks w fit = led_ok Fitted c fit
+externals_fitted (tree ▹ rest) c s h ks w fit =
+    led_after Fitted (external tree c) (λ d. externals rest d)
+    (λ d q. let r = external_rises tree c h w.0.0 d q in
+    externals_fitted rest d (external_sane tree c s d q) r.solid (r.kinds.sorts ks) w.1 (external_fitted tree c s h ks w.0.0 fit d q))
+
+no_objects : (k : ℕ) (list : List BuiltIn) → LaidObjects (K first_context) [] (numbered_from k list)
+no_objects k [] name type i e = cc
+no_objects k (b ∷ list) name type i e = by (bytes_eq name (names.name_of b)) (no_objects (k + 1) list name type i) e
+  where
+    Goal : Type 0
+    Goal = (v : Variable) × (slice_get [] i ≡ Some v) × (layout_of (K first_context) type ≡ Some v.layout)
+
+    by : (t : Bool) → (named_in name (numbered_from (k + 1) list) ≡ Some (n.Object type i) → Goal) → cond t (Some (n.BuiltIn k)) (named_in name (numbered_from (k + 1) list)) ≡ Some (n.Object type i) → Goal
+    by true rest q = cc
+    by false rest q = rest q
+
+first_fitted : Fitted first_context
+first_fitted = record { objects = no_objects 0 built_ins; starts = λ i v s e q. cc }
+
+numbered_sorted : (j : ℕ) (bs : List BuiltIn) → SortedTable [] (numbered_from j bs)
+numbered_sorted j [] name v e = cc
+numbered_sorted j (b ∷ bs) name v e = by (bytes_eq name (names.name_of b)) (numbered_sorted (j + 1) bs name v) e
+  where
+    by : (x : Bool) → (named_in name (numbered_from (j + 1) bs) ≡ Some v → SortedName [] v) → cond x (Some (n.BuiltIn j)) (named_in name (numbered_from (j + 1) bs)) ≡ Some v → SortedName [] v
+    by true again q = let same : n.BuiltIn j ≡ v = cc in subst (SortedName []) same tt
+    by false again q = again q
+
+first_sorts : Sorts first_context
+first_sorts = record { names = record { file = numbered_sorted 0 built_ins; inner = tt }; list = none_sorted []; bodies = tt }
+
+calls_fitted : (functions : List Declared) (calls : List (ℕ × ℕ)) (c : Context) → Fitted c → Led Fitted (calls_defined functions calls c)
+calls_fitted functions [] c h = led_ok Fitted c h
+calls_fitted functions (call ∷ calls) c h = led_cond Fitted (is_defined (slice_get functions call.0)) (calls_defined functions calls c) (refused Undeclared call.1) (calls_fitted functions calls c h) (led_refused Fitted Undeclared call.1)
+
+walked_fitted : (unit : Trees) → AreWritten unit → Led Fitted (walked unit)
+walked_fitted unit w =
+    led_after Fitted (externals unit first_context) ended
+    (λ x s. let r = externals_fitted unit first_context first_sane first_solid first_sorts w first_fitted x s in
+    led_after Fitted (calls_defined x.functions x.calls x) (λ d. unless (not (is_main d.functions (named_in (codes "main") d.scopes.file))) NoMain 1 (Ok d))
+    (λ d k. led_unless Fitted (not (is_main d.functions (named_in (codes "main") d.scopes.file))) NoMain 1 (Ok d) (λ y. led_ok Fitted d (calls_fitted x.functions x.calls x r d k))))
+
+-- the statics of a core
+
+pub core_statics : (unit : Trees) (core : Core) (tags : TagTable) → AreWritten unit → elaborated unit ≡ Ok (core, tags) → All (IsStatic core) core.statics
+core_statics unit core tags w q =
+    let b = core_behind unit core tags q in
+    let c = b.context in
+    let layouts : HasLayouts (core_of c) = subst HasLayouts (sym b.made) (core_layouts unit core tags w q) in
+    subst (λ (x : Core). All (IsStatic x) x.statics) b.made (statics_sound c (walked_pointed unit c b.is) (walked_fitted unit w c b.is).starts layouts)

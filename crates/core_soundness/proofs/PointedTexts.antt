@@ -1,0 +1,416 @@
+-- The pointers that the statics of a core hold first name statics, and offsets in them up to their ends (C99 6.7.8, 6.9.2).
+use Rattle.std.proofs.Common.{◌≡◌, ◌≤◌, ◌<◌, ◌+◌, ◌*◌, ◌/◌, ◌%◌, ◌==◌, not, ℕ, zero, suc, Bool, true, false, cond, is_some, nat_lt, codes, All, length, map, sum_by, List, [], ◌∷◌, ◌++◌, slice_get, slice_set, option_map, unwrap_or, Option, Some, None, Ok, refl, sym, ap, ◌∙◌, subst, ⊎_elim, arith, bytes_eq}
+use Rattle.std.proofs.lemmas.Bool.{ltb-true, ltb-false, eq-eqb}
+use Rattle.std.proofs.lemmas.List.{length-map}
+use Rattle.std.proofs.lemmas.List.Elements.{All-cons, All-nil, All-append}
+use Rattle.std.proofs.lemmas.Option.{slice_get-map}
+use Rattle.hs_base.specs.Place.{block_size}
+use Rattle.c_types.specs.Types.{PlainType}
+use Rattle.c_types.specs.Layouts.{no_layout}
+use Rattle.c_types.specs.TagTable.{TagTable, layout_in}
+use Rattle.core_tree.specs.declared.program.Core.{Core}
+use Rattle.core_tree.specs.declared.program.Start.{Start}
+use Rattle.core_tree.specs.declared.program.Static.{Static}
+use Rattle.core_tree.specs.declared.statements.StmKind.TheVariants.{Return}
+use Rattle.core_tree.specs.Sound.{IsTarget}
+use Rattle.c_tree.specs.Words as w
+use Rattle.c_tree.specs.Forms as f
+use Rattle.c_tree.specs.Tree.{Tree, Trees, Leaf, At, Node, none, ◌▹◌}
+use Rattle.c_tree.specs.Scopes.{name_of}
+use Rattle.c_decls.specs.declared.built_in.BuiltIn.{BuiltIn}
+use Rattle.c_decls.specs.declared.refusal.TypeKind.TheVariants.{Operands, Assignment, DeclaredTwice, Incomplete, LeftOut, StaticTooLarge, ProgramTooLong, Undeclared, NoMain}
+use Rattle.c_decls.specs.Named as n
+use Rattle.c_decls.specs.Named.{PlainNamed}
+use Rattle.c_decls.specs.ScopeList.{ScopeList, Table, named_in, innermost, with_name, with_name_in, after_declaration, tag_name}
+use Rattle.c_decls.specs.BuiltIns as names
+use Rattle.c_decls.specs.BuiltIns.{built_ins, numbered_from}
+use Rattle.c_decls.specs.Refusals.{refused, then, unless}
+use Rattle.c_decls.specs.Typed.{is_function, has_no_size}
+use Rattle.c_decls.specs.TypeNames.{with_layers, tag_named}
+use Rattle.c_decls.specs.Expressions.{line_of}
+use Rattle.elaboration.specs.Context.{Context, Variable, Declared, asked, emit, first_context, file_variable, literal_object}
+use Rattle.elaboration.specs.Conversions.{size_or_zero}
+use Rattle.elaboration.specs.Rules.{with_static}
+use Rattle.elaboration.specs.Locals.{is_twice, declared_as}
+use Rattle.elaboration.specs.Declarators.{specs, layers}
+use Rattle.elaboration.specs.Initializers.{Target, InRegister, InMemory, InStatic, initialize, surplus, no_start, with_init_layers}
+use Rattle.elaboration.specs.Declarations as storages
+use Rattle.elaboration.specs.Declarations.{Storage, Typedef, Outside, storage_of, specs_alone, specs_before, function_number, with_function, declared_function, no_initializer, variable_number_of, with_new_variable, with_variable, start_of, start_in, started_variable, started, fill_variable, file_object, file_function, file_value, file_name, name_in, entry, entries, declaration}
+use Rattle.elaboration.specs.Statements.{around_body, items}
+use Rattle.elaboration.specs.Externals.{begun, is_defined, body_begun, last_answer, piece_length, params_of, body_ended, body, defined, named_definition, definition, external, externals, calls_defined, is_main, ended}
+use Rattle.elaboration.specs.Addressed.{addressed_in}
+use Rattle.elaboration.specs.Resolving.{static_by, variable_static, literal_static, core_of}
+use Rattle.elaboration.specs.Elaboration.{walked, elaborated}
+use Rattle.core_soundness.proofs.Names.{Safe, SafeTable}
+use Rattle.core_soundness.proofs.Grown.{good, ok_same}
+use Rattle.core_soundness.proofs.Agreeing.{came}
+use Rattle.core_soundness.proofs.Operating.{passed}
+use Rattle.core_soundness.proofs.Owners.{get_left, get_last, get_push, get_below, set_get, Pushed, push_get}
+use Rattle.core_soundness.proofs.Reached.{Reached, Led, led_ok, led_refused, led_after, led_unless}
+use Rattle.core_soundness.proofs.TypedNames.{tag_after}
+use Rattle.core_soundness.proofs.TypedWhole.{led_cond}
+use Rattle.core_soundness.proofs.Declaring.{passes_refl, specs_passes, layers_pass}
+use Rattle.core_soundness.proofs.Introducing.{introduced}
+use Rattle.core_soundness.proofs.StatementWalks.{items_walk}
+use Rattle.core_soundness.proofs.Texts.{Sane, external_sane, first_sane}
+use Rattle.core_soundness.proofs.Cores.{behind as core_behind}
+use Rattle.core_soundness.proofs.Settled.{Settled, settled_refl, settled_trans}
+use Rattle.core_soundness.proofs.Specifying.{Levels, levels_refl, with_type_levels, declared_levels, specs_level, layers_level}
+use Rattle.core_soundness.proofs.Aiming.{Aims, in_variable, in_literal, VariablesStay, same_variables, ObjectsThere, There, there_on}
+use Rattle.core_soundness.proofs.Pointing.{PointersIn, pointers_stay, TargetIn, initialize_points}
+
+-- each variable that has an initializer holds such pointers
+abbrev pub StartsIn : List Variable → List Variable → List (List ℕ) → Type 0
+StartsIn us vs ls = (i : ℕ) (v : Variable) (s : Start) → slice_get us i ≡ Some v → v.start ≡ Some s → PointersIn vs ls s.pointers
+
+-- what holds between declarations at file scope
+pub record Pointed (c : Context) : Type 0 where
+  pub there : There c
+  pub starts : StartsIn c.variables c.variables c.literals
+
+pub settled_pointed : (c d : Context) → Settled c d → Pointed c → Pointed d
+settled_pointed c d s h = record {
+  there = there_on c d s h.there;
+  starts = λ i v start e q. pointers_stay c.variables d.variables c.literals d.literals start.pointers (same_variables c.variables d.variables s.variables) s.literals
+      (h.starts i v start (subst (λ (vs : List Variable). slice_get vs i ≡ Some v) s.variables e) q);
+}
+
+-- an object that is declared
+
+declared_there : (vs : List Variable) (s : ScopeList) (key : List ℕ) (type : PlainType) (index : ℕ) → ObjectsThere vs s.file → ((v : Variable) × (slice_get vs index ≡ Some v)) → ObjectsThere vs (after_declaration s key (n.Object type index)).file
+declared_there vs s key type index h there = by (is_some (named_in key (innermost s)))
+  where
+    number_is : (t : PlainType) (i : ℕ) → n.Object type index ≡ n.Object t i → index ≡ i
+    number_is t i e = cc
+
+    pushed : ObjectsThere vs (s.file ++ (key, n.Object type index) ∷ [])
+    pushed name t i e =
+        ⊎_elim (λ (q : named_in name s.file ≡ Some (n.Object t i)). h name t i q)
+        (λ (q : Pushed name key (n.Object type index) (n.Object t i) s.file). subst (λ (j : ℕ). (v : Variable) × (slice_get vs j ≡ Some v)) (number_is t i q.value) there)
+        (push_get name key (n.Object type index) (n.Object t i) s.file e)
+
+    new : (inner : List Table) → ObjectsThere vs (with_name_in s.file inner key (n.Object type index)).file
+    new [] = pushed
+    new (t ∷ ts) = h
+
+    by : (t : Bool) → ObjectsThere vs (cond t s (with_name s key (n.Object type index))).file
+    by true = h
+    by false = new s.inner
+
+there_more : (vs ws : List Variable) (file : Table) → VariablesStay vs ws → ObjectsThere vs file → ObjectsThere ws file
+there_more vs ws file x h name type i e = let r = h name type i e in let k = x i r.0 r.1 in (k.0, k.1)
+
+pushed_stay : (vs : List Variable) (v : Variable) → VariablesStay vs (vs ++ v ∷ [])
+pushed_stay vs v k x e = (x, get_left vs (v ∷ []) k x e, refl)
+
+-- the number of a variable is that of one that is there, or the next
+record NumberIs (vs : List Variable) (index : ℕ) : Type 0 where
+  near : index ≤ length vs
+  there : index < length vs → (v : Variable) × (slice_get vs index ≡ Some v)
+
+get_there : (vs : List Variable) (i : ℕ) → i < length vs → (v : Variable) × (slice_get vs i ≡ Some v)
+get_there [] i h = absurd (omega (arith, h))
+get_there (v ∷ vs) zero h = (v, refl)
+get_there (v ∷ vs) (suc i) h = get_there vs i (omega (arith, h))
+
+number_is : (c : Context) (name : List ℕ) → There c → NumberIs c.variables (variable_number_of c (named_in name c.scopes.file))
+number_is c name h = by (named_in name c.scopes.file) refl
+  where
+    next : NumberIs c.variables (length c.variables)
+    next = record { near = omega arith; there = λ k. absurd (omega (arith, k)) }
+
+    by : (o : Option PlainNamed) → named_in name c.scopes.file ≡ o → NumberIs c.variables (variable_number_of c o)
+    by (Some (n.Object type i)) e = let r = h name type i e in record { near = omega (arith, get_below c.variables i r.0 r.1); there = λ k. r }
+    by (Some (n.Register type i)) e = next
+    by (Some (n.Function type i)) e = next
+    by (Some (n.Typedef type)) e = next
+    by (Some (n.Constant type i)) e = next
+    by (Some (n.BuiltIn i)) e = next
+    by (Some (n.Tag type)) e = next
+    by None e = next
+
+-- a variable with its name
+new_pointed : (line index : ℕ) (name : List ℕ) (type : PlainType) (c z : Context) → index ≡ length c.variables → Pointed c → with_new_variable line name type (record c { scopes = after_declaration c.scopes name (n.Object type index) }) ≡ Ok z → Pointed z
+new_pointed line index name type c z e h q =
+    let d : Context = record c { scopes = after_declaration c.scopes name (n.Object type index) } in
+    let v : Variable = record { name = name; layout = unwrap_or (layout_in d.tags type) no_layout; start = None } in
+    let x = came (with_static line (size_or_zero d type) d) (λ x. good (record x { variables = x.variables ++ (record { name = name; layout = unwrap_or (layout_in x.tags type) no_layout; start = None }) ∷ [] })) z q in
+    let k = d.static_bytes + block_size (size_or_zero d type) in
+    let s : record d { static_bytes = k } ≡ x.value = passed _ StaticTooLarge line (record d { static_bytes = k }) x.value x.is in
+    let same : record d { static_bytes = k; variables = c.variables ++ v ∷ [] } ≡ z =
+    ap (λ (y : Context). record y { variables = y.variables ++ (record { name = name; layout = unwrap_or (layout_in y.tags type) no_layout; start = None }) ∷ [] }) s ∙ ok_same _ z x.last in
+    let ws = c.variables ++ v ∷ [] in
+    let here : (u : Variable) × (slice_get ws index ≡ Some u) = (v, ap (λ (i : ℕ). slice_get ws i) e ∙ get_last c.variables v) in
+    subst Pointed same (record {
+      there = declared_there ws c.scopes name type index (there_more c.variables ws c.scopes.file (pushed_stay c.variables v) h.there) here;
+      starts = λ i u start g r. pointers_stay c.variables ws c.literals c.literals start.pointers (pushed_stay c.variables v) (λ j w y. y)
+          (⊎_elim (λ (p : slice_get c.variables i ≡ Some u). h.starts i u start p r) (λ (p : (i ≡ length c.variables) × (u ≡ v)). absurd (none_started u start p.1 r)) (get_push c.variables v i u g));
+    })
+  where
+    none_started : (u : Variable) (start : Start) → u ≡ record { name = name; layout = unwrap_or (layout_in c.tags type) no_layout; start = None } → u.start ≡ Some start → ⊥
+    none_started u start p r = let clash : None ≡ Some start = sym (ap (λ (y : Variable). y.start) p) ∙ r in cc
+
+variable_pointed : (line index : ℕ) (name : List ℕ) (type : PlainType) (c z : Context) → NumberIs c.variables index → Pointed c → with_variable line index name type (record c { scopes = after_declaration c.scopes name (n.Object type index) }) ≡ Ok z → Pointed z
+variable_pointed line index name type c z i h q = by (nat_lt index (length c.variables)) refl q
+  where
+    d : Context
+    d = record c { scopes = after_declaration c.scopes name (n.Object type index) }
+
+    by : (t : Bool) → nat_lt index (length c.variables) ≡ t → cond t (good d) (with_new_variable line name type d) ≡ Ok z → Pointed z
+    by true e k = subst Pointed (ok_same d z k) (record { there = declared_there c.variables c.scopes name type index h.there (i.there (ltb-true index (length c.variables) e)); starts = h.starts })
+    by false e k = new_pointed line index name type c z (omega (arith, i.near, ltb-false index (length c.variables) e)) h k
+
+-- an initializer of a variable
+
+pub set_stay : (vs : List Variable) (index : ℕ) (v : Variable) (start : Start) → slice_get vs index ≡ Some v → VariablesStay vs (slice_set vs index (record v { start = Some start }))
+set_stay [] index v start e k x q = cc
+set_stay (u ∷ vs) zero v start e zero x q = let same : v ≡ x = cc in (record v { start = Some start }, refl, ap (λ (y : Variable). y.layout) same)
+set_stay (u ∷ vs) zero v start e (suc k) x q = (x, q, refl)
+set_stay (u ∷ vs) (suc i) v start e zero x q = (x, q, refl)
+set_stay (u ∷ vs) (suc i) v start e (suc k) x q = set_stay vs i v start e k x q
+
+set_starts : (vs : List Variable) (ls : List (List ℕ)) (index : ℕ) (v : Variable) (start : Start) → slice_get vs index ≡ Some v → StartsIn vs vs ls → PointersIn vs ls start.pointers → (let ws = slice_set vs index (record v { start = Some start }) in StartsIn ws ws ls)
+set_starts vs ls index v start e h p i u s g r =
+    let ws = slice_set vs index (record v { start = Some start }) in
+    pointers_stay vs ws ls ls s.pointers (set_stay vs index v start e) (λ j w y. y)
+    (⊎_elim
+    (λ (k : (i ≡ index) × (u ≡ record v { start = Some start })). subst (λ (x : Start). PointersIn vs ls x.pointers) (started_is u s k.1 r) p)
+    (λ (k : (i ≡ index → ⊥) × (slice_get vs i ≡ Some u)). h i u s k.1 r)
+    (set_get vs index (record v { start = Some start }) i u g))
+  where
+    some_start : (x y : Start) → Some x ≡ Some y → x ≡ y
+    some_start x y q = cc
+
+    started_is : (u : Variable) (s : Start) → u ≡ record v { start = Some start } → u.start ≡ Some s → start ≡ s
+    started_is u s k r = some_start start s (sym (ap (λ (y : Variable). y.start) k) ∙ r)
+
+start_pointed : (index : ℕ) (c : Context) (start : Start) (o : Option Variable) → slice_get c.variables index ≡ o → Pointed c → PointersIn c.variables c.literals start.pointers → Pointed (record c { variables = started_variable index start o c.variables })
+start_pointed index c start None e h p = record { there = h.there; starts = h.starts }
+start_pointed index c start (Some v) e h p = record { there = there_more c.variables _ c.scopes.file (set_stay c.variables index v start e) h.there; starts = set_starts c.variables c.literals index v start e h.starts p }
+
+target_start : (c : Context) (t : Target) → TargetIn c t → PointersIn c.variables c.literals (start_in t).pointers
+target_start c (InRegister line register) h = absurd h
+target_start c (InMemory line mem) h = absurd h
+target_start c (InStatic start) h = h
+
+fill_pointed : (line index : ℕ) (type : PlainType) (inits : Trees) (c : Context) → Pointed c → Led Pointed (fill_variable line index type inits c)
+fill_pointed line index type none c h = led_ok Pointed c h
+fill_pointed line index type (init ▹ rest) c h =
+    led_unless Pointed (is_some (start_of (slice_get c.variables index))) DeclaredTwice line (then (initialize init false type 0 (InStatic no_start) c) (λ d. Ok (started index d)))
+    (λ t. led_after Pointed (initialize init false type 0 (InStatic no_start) c) (λ d. Ok (started index d))
+    (λ d q. let r = initialize_points init false type 0 (InStatic no_start) c h.there tt d q in
+    led_ok Pointed (started index d) (start_pointed index d.0 (start_in d.1) (slice_get d.0.variables index) refl (settled_pointed c d.0 r.0 h) (target_start d.0 d.1 r.1))))
+
+object_pointed : (line : ℕ) (name : List ℕ) (type : PlainType) (inits : Trees) (c : Context) → Pointed c → Led Pointed (file_object line name type inits c)
+object_pointed line name type inits c h =
+    let index = variable_number_of c (named_in name c.scopes.file) in
+    led_unless Pointed (has_no_size c.tags type) Incomplete line (then (declared_as line name (n.Object type index) c) (λ d. then (with_variable line index name type d) (λ v. fill_variable line index type inits v)))
+    (λ t. led_after Pointed (declared_as line name (n.Object type index) c) (λ d. then (with_variable line index name type d) (λ v. fill_variable line index type inits v))
+    (λ d q. let same : record c { scopes = after_declaration c.scopes name (n.Object type index) } ≡ d = passed (is_twice c.scopes name (n.Object type index)) DeclaredTwice line (record c { scopes = after_declaration c.scopes name (n.Object type index) }) d q in
+    led_after Pointed (with_variable line index name type d) (λ v. fill_variable line index type inits v)
+    (λ v k. fill_pointed line index type inits v
+    (variable_pointed line index name type c v (number_is c name h.there) h (ap (λ (x : Context). with_variable line index name type x) same ∙ k)))))
+
+-- functions and other names
+
+with_function_settled : (index : ℕ) (name : List ℕ) (c : Context) → Settled c (with_function index name c)
+with_function_settled index name c = by (nat_lt index (length c.functions))
+  where
+    by : (t : Bool) → Settled c (cond t c (record c { functions = c.functions ++ (record { name = name; defined = None }) ∷ [] }))
+    by true = settled_refl c
+    by false = record { variables = refl; literals = λ i u e. e; objects = λ name type i e. e }
+
+pub function_settled : (line : ℕ) (name : List ℕ) (type : PlainType) (c : Context) → Led (Settled c) (declared_function line name type c)
+function_settled line name type c =
+    let index = function_number name c in
+    led_after (Settled c) (declared_as line name (n.Function type index) c) (λ d. Ok (with_function index name d))
+    (λ d q. led_ok (Settled c) (with_function index name d) (settled_trans c d _ (declared_levels line name (n.Function type index) c c tt (levels_refl c) d q).settled (with_function_settled index name d)))
+
+no_initializer_pointed : (inits : Trees) (c : Context) → Pointed c → Led Pointed (no_initializer inits c)
+no_initializer_pointed none c h = led_ok Pointed c h
+no_initializer_pointed (init ▹ rest) c h = led_after Pointed (surplus init c) (λ d. refused Assignment (line_of init)) (λ d q. led_refused Pointed Assignment (line_of init))
+
+value_pointed : (line : ℕ) (name : List ℕ) (type : PlainType) (inits : Trees) (c : Context) → Pointed c → Led Pointed (file_value line name type inits c)
+value_pointed line name type inits c h =
+    led_cond Pointed (is_function type) (file_function line name type inits c) (file_object line name type inits c)
+    (led_after Pointed (declared_function line name type c) (λ d. no_initializer inits d) (λ d q. no_initializer_pointed inits d (settled_pointed c d (function_settled line name type c d q) h)))
+    (object_pointed line name type inits c h)
+
+file_name_pointed : (line : ℕ) (storage : Storage) (name : List ℕ) (type : PlainType) (inits : Trees) (c : Context) → Pointed c → Led Pointed (file_name line storage name type inits c)
+file_name_pointed line Typedef name type inits c h = λ d q. settled_pointed c d (declared_levels line name (n.Typedef type) c c tt (levels_refl c) d q).settled h
+file_name_pointed line Outside name type inits c h = value_pointed line name type inits c h
+file_name_pointed line storages.Plain name type inits c h = value_pointed line name type inits c h
+
+name_pointed : (line : ℕ) (storage : Storage) (name : Option (List ℕ)) (type : PlainType) (inits : Trees) (c : Context) → Pointed c → Led Pointed (name_in true line storage name type inits c)
+name_pointed line storage None type inits c h = led_ok Pointed c h
+name_pointed line storage (Some name) type inits c h = file_name_pointed line storage name type inits c h
+
+entry_pointed : (line : ℕ) (storage : Storage) (base : PlainType) (declarator : Tree) (inits : Trees) (c : Context) → Pointed c → Led Pointed (entry true line storage base declarator inits c)
+entry_pointed line storage base declarator inits c h =
+    led_after Pointed (layers declarator c) (λ l. then (with_init_layers l.0.tags l.1 inits base) (λ type. name_in true line storage (name_of declarator) type inits l.0))
+    (λ l q. let k = settled_pointed c l.0 (layers_level declarator c c (levels_refl c) l q).settled h in
+    led_after Pointed (with_init_layers l.0.tags l.1 inits base) (λ type. name_in true line storage (name_of declarator) type inits l.0)
+    (λ type s. name_pointed line storage (name_of declarator) type inits l.0 k))
+
+entries_pointed : (names : Trees) (line : ℕ) (storage : Storage) (base : PlainType) (c : Context) → Pointed c → Led Pointed (entries true line storage base names c)
+unfolding entries
+entries_pointed none line storage base c h = led_ok Pointed c h
+entries_pointed (Node f.Entry (Node f.Declared (declarator ▹ none) ▹ Node f.MaybeInit inits ▹ none) ▹ rest) line storage base c h =
+    led_after Pointed (entry true line storage base declarator inits c) (λ d. entries true line storage base rest d)
+    (λ d q. entries_pointed rest line storage base d (entry_pointed line storage base declarator inits c h d q))
+entries_pointed (tree ▹ rest) line storage base c h = led_refused Pointed Operands (line_of tree)
+
+alone_level : (tree : Tree) (c : Context) → Reached (Levels c) (specs_alone tree c)
+alone_level (Node f.Specs (At line ▹ Node (f.RecordTag sort) (At at ▹ Leaf (w.Name name) ▹ none) ▹ none)) c =
+    with_type_levels (tag_named at sort name (asked c) (named_in (tag_name name) (innermost c.scopes))) c c (tag_after at sort name (asked c) (named_in (tag_name name) (innermost c.scopes))) (levels_refl c)
+alone_level tree c = specs_level tree c c (levels_refl c)
+
+pub before_level : (tree : Tree) (names : Trees) (c : Context) → Reached (Levels c) (specs_before tree names c)
+before_level tree none c = alone_level tree c
+before_level tree (name ▹ rest) c = specs_level tree c c (levels_refl c)
+
+declaration_pointed : (line : ℕ) (words tree : Tree) (c : Context) → Pointed c → Led Pointed (declaration true line words tree c)
+unfolding declaration
+declaration_pointed line words (Node f.Names names) c h =
+    led_after Pointed (specs_before words names c) (λ base. entries true line (storage_of words) base.1 names base.0)
+    (λ base q. entries_pointed names line (storage_of words) base.1 base.0 (settled_pointed c base.0 (before_level words names c base q).settled h))
+declaration_pointed line words tree c h = led_refused Pointed Operands line
+
+-- definitions of functions
+
+body_ends : (line : ℕ) (name : List ℕ) (type : PlainType) (end : ℕ) (c d : Context) → Settled c d → Led (Settled c) (body_ended line name type end d)
+body_ends line name type end c d s =
+    let e = emit end (Return (last_answer d.running.answer)) d in
+    let total : ℕ = e.length + sum_by piece_length e.code.pieces in
+    let z : Context = record e { scopes = record { file = e.scopes.file; inner = [] }; length = total; walked = e.walked ++ (record { name = name; params = params_of type; running = e.running; code = e.code }) ∷ [] } in
+    led_unless (Settled c) (nat_lt 268435456 total) ProgramTooLong line (Ok z) (λ x. led_ok (Settled c) z (record { variables = s.variables; literals = s.literals; objects = s.objects }))
+
+body_settled : (line : ℕ) (name : List ℕ) (index : ℕ) (type : PlainType) (tree : Tree) (c : Context) → Safe c.scopes → SafeTable c.params → Led (Settled c) (body line name type tree (body_begun index type c))
+body_settled line name index type (Node f.Body (Node f.Items parts ▹ At end ▹ none)) c s p =
+    let begin = body_begun index type c in
+    led_after (Settled c) (items parts around_body begin) (λ d. body_ended line name type end d)
+    (λ d q. let walk = items_walk parts around_body begin (record { early = tt; breaks = tt; continues = tt }) (record { file = s.file; inner = (p, tt) }) d q in
+    let k = walk.stays.inside (omega arith) in body_ends line name type end c d (record { variables = k.variables; literals = k.literals; objects = k.objects }))
+body_settled line name index type tree c s p = led_refused (Settled c) Operands line
+
+defined_settled : (line : ℕ) (name : List ℕ) (type : PlainType) (tree : Tree) (c : Context) → Safe c.scopes → SafeTable c.params → length c.scopes.inner ≡ 0 → Led (Settled c) (defined line name type tree c)
+defined_settled line name type tree c s p flat =
+    let index = function_number name c in
+    led_unless (Settled c) (not (is_function type)) LeftOut line (then (declared_function line name type c) (λ d. unless (is_defined (slice_get d.functions index)) DeclaredTwice line (body line name type tree (body_begun index type d))))
+    (λ x. led_after (Settled c) (declared_function line name type c) (λ d. unless (is_defined (slice_get d.functions index)) DeclaredTwice line (body line name type tree (body_begun index type d)))
+    (λ d q. let k = (introduced line name type c s flat d q).passes.stays in
+    led_unless (Settled c) (is_defined (slice_get d.functions index)) DeclaredTwice line (body line name type tree (body_begun index type d))
+    (λ y z e. settled_trans c d z (function_settled line name type c d q) (body_settled line name index type tree d k.safe (k.params p) z e))))
+
+named_settled : (line : ℕ) (name : Option (List ℕ)) (type : PlainType) (tree : Tree) (c : Context) → Safe c.scopes → SafeTable c.params → length c.scopes.inner ≡ 0 → Led (Settled c) (named_definition line name type tree c)
+named_settled line None type tree c s p flat = led_refused (Settled c) Operands line
+named_settled line (Some name) type tree c s p flat = defined_settled line name type tree c s p flat
+
+pub definition_settled : (line : ℕ) (words declarator tree : Tree) (c : Context) → Safe c.scopes → SafeTable c.params → length c.scopes.inner ≡ 0 → Led (Settled c) (definition line words declarator tree c)
+definition_settled line words declarator tree c s p flat =
+    led_after (Settled c) (specs words c) (λ base. then (layers declarator base.0) (λ l. then (with_layers l.0.tags l.1 base.1) (λ type. named_definition line (name_of declarator) type tree l.0)))
+    (λ base h. let one = specs_passes words c c (passes_refl c s) base h in
+    led_after (Settled c) (layers declarator base.0) (λ l. then (with_layers l.0.tags l.1 base.1) (λ type. named_definition line (name_of declarator) type tree l.0))
+    (λ l k. let two = (layers_pass declarator c base.0 one l k).stays in
+    let near = (layers_level declarator c base.0 (specs_level words c c (levels_refl c) base h) l k).settled in
+    led_after (Settled c) (with_layers l.0.tags l.1 base.1) (λ type. named_definition line (name_of declarator) type tree l.0)
+    (λ type e z q. settled_trans c l.0 z near (named_settled line (name_of declarator) type tree l.0 two.safe (two.params p) (two.depth ∙ flat) z q))))
+
+-- texts
+
+external_pointed : (tree : Tree) (c : Context) → Sane c → Pointed c → Led Pointed (external tree c)
+unfolding external
+external_pointed (Node f.Function (At line ▹ words ▹ Node f.Declared (declarator ▹ none) ▹ tree ▹ none)) c s h z q =
+    let b = begun line (addressed_in declarator tree) c in settled_pointed b z (definition_settled line words declarator tree b s.safe s.params s.flat z q) (record { there = h.there; starts = h.starts })
+external_pointed (Node f.Declaration (At line ▹ words ▹ names ▹ none)) c s h z q = declaration_pointed line words names (begun line [] c) (record { there = h.there; starts = h.starts }) z q
+external_pointed tree c s h z q = led_refused Pointed Operands (line_of tree) z q
+
+externals_pointed : (unit : Trees) (c : Context) → Sane c → Pointed c → Led Pointed (externals unit c)
+unfolding externals
+externals_pointed none c s h = led_ok Pointed c h
+externals_pointed (tree ▹ rest) c s h =
+    led_after Pointed (external tree c) (λ d. externals rest d) (λ d q. externals_pointed rest d (external_sane tree c s d q) (external_pointed tree c s h d q))
+
+no_objects : (k : ℕ) (list : List BuiltIn) → ObjectsThere [] (numbered_from k list)
+no_objects k [] name type i e = cc
+no_objects k (b ∷ list) name type i e = by (bytes_eq name (names.name_of b)) (no_objects (k + 1) list name type i) e
+  where
+    by : (t : Bool) → (named_in name (numbered_from (k + 1) list) ≡ Some (n.Object type i) → (v : Variable) × (slice_get [] i ≡ Some v)) → cond t (Some (n.BuiltIn k)) (named_in name (numbered_from (k + 1) list)) ≡ Some (n.Object type i) → (v : Variable) × (slice_get [] i ≡ Some v)
+    by true rest q = cc
+    by false rest q = rest q
+
+first_pointed : Pointed first_context
+first_pointed = record { there = no_objects 0 built_ins; starts = λ i v s e q. cc }
+
+calls_pointed : (functions : List Declared) (calls : List (ℕ × ℕ)) (c : Context) → Pointed c → Led Pointed (calls_defined functions calls c)
+calls_pointed functions [] c h = led_ok Pointed c h
+calls_pointed functions (call ∷ calls) c h = led_cond Pointed (is_defined (slice_get functions call.0)) (calls_defined functions calls c) (refused Undeclared call.1) (calls_pointed functions calls c h) (led_refused Pointed Undeclared call.1)
+
+pub walked_pointed : (unit : Trees) → Led Pointed (walked unit)
+walked_pointed unit =
+    led_after Pointed (externals unit first_context) ended
+    (λ x s. let r = externals_pointed unit first_context first_sane first_pointed x s in
+    led_after Pointed (calls_defined x.functions x.calls x) (λ d. unless (not (is_main d.functions (named_in (codes "main") d.scopes.file))) NoMain 1 (Ok d))
+    (λ d k. led_unless Pointed (not (is_main d.functions (named_in (codes "main") d.scopes.file))) NoMain 1 (Ok d) (λ y. led_ok Pointed d (calls_pointed x.functions x.calls x r d k))))
+
+-- statics of the core
+
+get_behind : {A : Type 0} (xs ys : List A) (j k : ℕ) (x : A) → j ≡ length xs + k → slice_get ys k ≡ Some x → slice_get (xs ++ ys) j ≡ Some x
+get_behind [] ys j k x e q = let same : j ≡ k = omega (arith, e) in ap (slice_get ys) same ∙ q
+get_behind (y ∷ xs) ys zero k x e q = absurd (omega (arith, e))
+get_behind (y ∷ xs) ys (suc j) k x e q = get_behind xs ys j k x (omega (arith, e)) q
+
+even_place : (count k : ℕ) → static_by count (file_variable k) ≡ k
+even_place count k = ap (λ (t : Bool). cond t (file_variable k / 2) (count + file_variable k / 2)) (eq-eqb ((2 * k) % 2) 0 (omega arith)) ∙ half
+  where
+    half : file_variable k / 2 ≡ k
+    half = omega arith
+
+odd_place : (count k : ℕ) → static_by count (literal_object k) ≡ count + k
+odd_place count k = ap (λ (t : Bool). cond t (literal_object k / 2) (count + literal_object k / 2)) (subst (λ (j : ℕ). (j == 0) ≡ false) (sym one) refl) ∙ ap (λ (j : ℕ). count + j) half
+  where
+    one : literal_object k % 2 ≡ 1
+    one = omega arith
+
+    half : literal_object k / 2 ≡ k
+    half = omega arith
+
+aims_target : (c : Context) (slot g i : ℕ) → Aims c.variables c.literals g i → IsTarget (core_of c) (slot, static_by (length c.variables) g, i)
+aims_target c slot g i (in_variable k v at there inside) =
+    let here : slice_get (core_of c).statics k ≡ Some (variable_static c v) =
+    get_left (map (variable_static c) c.variables) (map literal_static c.literals) k (variable_static c v) (slice_get-map (variable_static c) c.variables k ∙ ap (option_map (variable_static c)) there) in
+    (variable_static c v, ap (slice_get (core_of c).statics) (ap (static_by (length c.variables)) at ∙ even_place (length c.variables) k) ∙ here, inside)
+aims_target c slot g i (in_literal k bytes at there inside) =
+    let here : slice_get (core_of c).statics (length (map (variable_static c) c.variables) + k) ≡ Some (literal_static bytes) =
+    get_behind (map (variable_static c) c.variables) (map literal_static c.literals) (length (map (variable_static c) c.variables) + k) k (literal_static bytes) refl (slice_get-map literal_static c.literals k ∙ ap (option_map literal_static) there) in
+    let place : static_by (length c.variables) g ≡ length (map (variable_static c) c.variables) + k =
+    ap (static_by (length c.variables)) at ∙ odd_place (length c.variables) k ∙ ap (λ (j : ℕ). j + k) (sym (length-map c.variables (variable_static c))) in
+    (literal_static bytes, ap (slice_get (core_of c).statics) place ∙ here, omega (arith, inside))
+
+-- what a static holds first
+abbrev pub HasTargets : Core → Static → Type 0
+HasTargets core static = All (IsTarget core) static.start.pointers
+
+pub pointers_target : (c : Context) (ps : List (ℕ × ℕ × ℕ)) → PointersIn c.variables c.literals ps → All (IsTarget (core_of c)) (map (λ (p : ℕ × ℕ × ℕ). (p.0, static_by (length c.variables) p.1, p.2)) ps)
+pointers_target c [] h = All-nil (IsTarget (core_of c))
+pointers_target c (p ∷ ps) h = All-cons (IsTarget (core_of c)) _ _ (aims_target c p.0 p.1 p.2 h.0) (pointers_target c ps h.1)
+
+start_targets : (c : Context) (v : Variable) (o : Option Start) → ((s : Start) → o ≡ Some s → PointersIn c.variables c.literals s.pointers) → All (IsTarget (core_of c)) (map (λ (p : ℕ × ℕ × ℕ). (p.0, static_by (length c.variables) p.1, p.2)) (unwrap_or o no_start).pointers)
+start_targets c v None h = All-nil (IsTarget (core_of c))
+start_targets c v (Some s) h = pointers_target c s.pointers (h s refl)
+
+variables_target : (c : Context) (us : List Variable) → StartsIn us c.variables c.literals → All (HasTargets (core_of c)) (map (variable_static c) us)
+variables_target c [] h = All-nil (HasTargets (core_of c))
+variables_target c (v ∷ us) h = All-cons (HasTargets (core_of c)) (variable_static c v) (map (variable_static c) us) (start_targets c v v.start (λ s e. h 0 v s refl e)) (variables_target c us (λ i x s e q. h (suc i) x s e q))
+
+literals_target : (core : Core) (ls : List (List ℕ)) → All (HasTargets core) (map literal_static ls)
+literals_target core [] = All-nil (HasTargets core)
+literals_target core (l ∷ ls) = All-cons (HasTargets core) (literal_static l) (map literal_static ls) (All-nil (IsTarget core)) (literals_target core ls)
+
+pub core_targets : (unit : Trees) (core : Core) (tags : TagTable) → elaborated unit ≡ Ok (core, tags) → All (HasTargets core) core.statics
+core_targets unit core tags q =
+    let b = core_behind unit core tags q in
+    let h = walked_pointed unit b.context b.is in
+    let c = b.context in
+    subst (λ (x : Core). All (HasTargets x) x.statics) b.made
+    (All-append (HasTargets (core_of c)) (map (variable_static c) c.variables) (map literal_static c.literals) (variables_target c c.variables h.starts) (literals_target (core_of c) c.literals))
