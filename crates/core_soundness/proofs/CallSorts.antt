@@ -129,7 +129,7 @@ pub function_answered : (line : ℕ) (name : List ℕ) (answer : PlainType) (par
 function_answered line name answer params index vs c l there h =
     let called_in : Context = record c { calls = c.calls ++ (index, line) ∷ [] } in
     let grew : Grew (world c) (world called_in) = record { locals = λ j r e. e; mems = omega arith; integers = omega arith; pointers = omega arith; variables = omega arith; literals = omega arith; formats = λ j f e. e; calls = λ j x e. get_left c.calls ((index, line) ∷ []) j x e; file = λ key t i e. e } in
-    let first : Goes c called_in = record { grew = grew; more = more_refl c.scopes; kept = record { line = refl; answer = refl; params = refl; walked = refl }; fits = λ answer k. pieces_grew answer (world c) (world called_in) c.code.pieces grew k } in
+    let first : Goes c called_in = record { grew = grew; more = more_refl c.scopes; kept = record { line = refl; answer = refl; addressed = refl; declared = refl; params = refl; walked = refl }; fits = λ answer k. pieces_grew answer (world c) (world called_in) c.code.pieces grew k } in
     let r = result_stands line answer (λ r. Call index r (atoms_of vs)) called_in l (λ v r g k. record {
       name = name;
       answer = answer;
@@ -245,7 +245,7 @@ all_suited w (p.Item flush zeros width' conv kind ∷ pieces) (v ∷ vs) e h =
 more_formats : (c : Context) (bytes : List ℕ) → Goes c (with_format bytes c)
 more_formats c bytes =
     let grew : Grew (world c) (world (with_format bytes c)) = record { locals = λ j r e. e; mems = omega arith; integers = omega arith; pointers = omega arith; variables = omega arith; literals = omega arith; formats = λ j f e. get_left c.running.formats (bytes ∷ []) j f e; calls = λ j y e. e; file = λ name t i e. e } in
-    record { grew = grew; more = more_refl c.scopes; kept = record { line = refl; answer = refl; params = refl; walked = refl }; fits = λ answer h. pieces_grew answer (world c) (world (with_format bytes c)) c.code.pieces grew h }
+    record { grew = grew; more = more_refl c.scopes; kept = record { line = refl; answer = refl; addressed = refl; declared = refl; params = refl; walked = refl }; fits = λ answer h. pieces_grew answer (world c) (world (with_format bytes c)) c.code.pieces grew h }
 
 printf_answered : (line : ℕ) (bytes : List ℕ) (args : List Atom) (c : Context) → 1 ≤ line → IsPrinted (world c) args (Some bytes) → Answered c (value (types.Int i.Int)) (printing line bytes args c)
 printf_answered line bytes args c l h =

@@ -35,7 +35,7 @@ grows_format bytes c = record {
   cases = refl;
   otherwise = refl;
   names = more_refl c.scopes;
-  kept = record { variables = refl; functions = refl; params = refl; walked = refl; length = refl; answer = refl; mems = refl; literals = λ i w e. e; counted = λ (h : Counted c). record { bytes = h.bytes; small = h.small } };
+  kept = record { variables = refl; functions = refl; params = refl; walked = refl; length = refl; answer = refl; mems = refl; declared = refl; addressed = refl; literals = λ i w e. e; counted = λ (h : Counted c). record { bytes = h.bytes; small = h.small } };
 }
 
 pub grows_calls : (calls : List (ℕ × ℕ)) (c : Context) → Grows c (record c { calls = calls })
@@ -47,7 +47,7 @@ grows_calls calls c = record {
   cases = refl;
   otherwise = refl;
   names = more_refl c.scopes;
-  kept = record { variables = refl; functions = refl; params = refl; walked = refl; length = refl; answer = refl; mems = refl; literals = λ i w e. e; counted = λ (h : Counted c). record { bytes = h.bytes; small = h.small } };
+  kept = record { variables = refl; functions = refl; params = refl; walked = refl; length = refl; answer = refl; mems = refl; declared = refl; addressed = refl; literals = λ i w e. e; counted = λ (h : Counted c). record { bytes = h.bytes; small = h.small } };
 }
 
 -- an object is freed in a scope of its own
@@ -66,7 +66,7 @@ grows_free line a c = record {
   cases = refl;
   otherwise = refl;
   names = more_refl c.scopes;
-  kept = record { variables = refl; functions = refl; params = refl; walked = refl; length = refl; answer = refl; mems = refl; literals = λ i w e. e; counted = λ (h : Counted c). record { bytes = h.bytes; small = h.small } };
+  kept = record { variables = refl; functions = refl; params = refl; walked = refl; length = refl; answer = refl; mems = refl; declared = refl; addressed = refl; literals = λ i w e. e; counted = λ (h : Counted c). record { bytes = h.bytes; small = h.small } };
 }
 
 -- arguments
@@ -136,6 +136,8 @@ with_one_literal c bytes small = record {
     length = refl;
     answer = refl;
     mems = refl;
+    declared = refl;
+    addressed = refl;
     literals = λ i w e. get_left c.literals (bytes ∷ []) i w e;
     counted = λ (h : Counted c). record { bytes = omega (arith, h.bytes, more_bytes c.literals bytes); small = small };
   };

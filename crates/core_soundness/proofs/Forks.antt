@@ -141,6 +141,8 @@ recoded c d x y k = record {
   length = k.length;
   answer = k.answer;
   mems = k.mems;
+  declared = k.declared;
+  addressed = k.addressed;
   literals = k.literals;
   counted = λ (h : Counted c). let r = k.counted (record { bytes = h.bytes; small = h.small }) in record { bytes = r.bytes; small = r.small };
 }

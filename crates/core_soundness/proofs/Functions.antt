@@ -1,4 +1,4 @@
--- Each function of a core of a text is sound, where `&` stands before no name.
+-- Each function of a core of a text is sound.
 use Rattle.std.proofs.Common.{◌≡◌, All, List, Ok}
 use Rattle.c_lexer.specs.declared.token.Token.{Token}
 use Rattle.c_lexer.specs.Tokens.{IsLexed}
@@ -8,19 +8,18 @@ use Rattle.core_tree.specs.Sound.{EachFunc, IsFunction}
 use Rattle.c_tree.specs.Tree.{Trees}
 use Rattle.c_tree.specs.HasTree.{HasTree}
 use Rattle.elaboration.specs.Elaboration.{elaborated}
-use Rattle.core_soundness.specs.Untaken.{AllUntaken}
 use Rattle.core_soundness.proofs.Cores.{core_flows}
 use Rattle.core_soundness.proofs.Typing.{core_types}
 use Rattle.core_soundness.proofs.Grammatical.{trees_written_all}
-use Rattle.core_soundness.proofs.Untaken.{trees_plain}
+use Rattle.core_soundness.proofs.FormedTrees.{trees_formed_all}
 use Rattle.core_soundness.proofs.SolidTexts.{core_layouts}
 use Rattle.core_soundness.proofs.Numbered.{core_ranges}
 
-pub functions_sound : (tokens : List Token) (unit : Trees) (core : Core) (tags : TagTable) → All IsLexed tokens → HasTree tokens unit → AllUntaken unit → elaborated unit ≡ Ok (core, tags) → EachFunc core (IsFunction core)
-functions_sound tokens unit core tags l h u q f func e =
+pub functions_sound : (tokens : List Token) (unit : Trees) (core : Core) (tags : TagTable) → All IsLexed tokens → HasTree tokens unit → elaborated unit ≡ Ok (core, tags) → EachFunc core (IsFunction core)
+functions_sound tokens unit core tags l h q f func e =
     let w = trees_written_all tokens unit l h in
     let flow = core_flows unit core tags q f func e in
-    let types = core_types unit core tags (trees_plain tokens unit l h u) q f func e in
+    let types = core_types unit core tags w (trees_formed_all tokens unit h) q f func e in
     let ranges = core_ranges unit core tags w q f func e in
     record {
       some = flow.some;

@@ -18,14 +18,16 @@ CodeFits answer c = PiecesFit answer (world c) c.code.pieces
 pub record Keeps (c d : Context) : Type 0 where
   pub line : d.running.line ≡ c.running.line
   pub answer : d.running.answer ≡ c.running.answer
+  pub addressed : d.running.addressed ≡ c.running.addressed
+  pub declared : d.running.declared ≡ c.running.declared
   pub params : d.params ≡ c.params
   pub walked : d.walked ≡ c.walked
 
 pub keeps_refl : (c : Context) → Keeps c c
-keeps_refl c = record { line = refl; answer = refl; params = refl; walked = refl }
+keeps_refl c = record { line = refl; answer = refl; addressed = refl; declared = refl; params = refl; walked = refl }
 
 pub keeps_trans : (a b c : Context) → Keeps a b → Keeps b c → Keeps a c
-keeps_trans a b c x y = record { line = y.line ∙ x.line; answer = y.answer ∙ x.answer; params = y.params ∙ x.params; walked = y.walked ∙ x.walked }
+keeps_trans a b c x y = record { line = y.line ∙ x.line; answer = y.answer ∙ x.answer; addressed = y.addressed ∙ x.addressed; declared = y.declared ∙ x.declared; params = y.params ∙ x.params; walked = y.walked ∙ x.walked }
 
 pub record Goes (c d : Context) : Type 0 where
   pub grew : Grew (world c) (world d)
@@ -49,7 +51,7 @@ pub goes_emit : (line : ℕ) (kind : StmKind) (c : Context) → 1 ≤ line → F
 goes_emit line kind c l h = record {
   grew = grew_refl (world c);
   more = more_refl c.scopes;
-  kept = record { line = refl; answer = refl; params = refl; walked = refl };
+  kept = record { line = refl; answer = refl; addressed = refl; declared = refl; params = refl; walked = refl };
   fits = λ answer k. pieces_joined answer (world c) c.code.pieces (Does (record { line = line; kind = kind }) ∷ []) k ((l, fits_any answer (world c) kind h), tt);
 }
 
@@ -57,12 +59,12 @@ pub goes_here : (label : ℕ) (c : Context) → Goes c (here label c)
 goes_here label c = record {
   grew = grew_refl (world c);
   more = more_refl c.scopes;
-  kept = record { line = refl; answer = refl; params = refl; walked = refl };
+  kept = record { line = refl; answer = refl; addressed = refl; declared = refl; params = refl; walked = refl };
   fits = λ answer k. pieces_joined answer (world c) c.code.pieces (Here label ∷ []) k (tt, tt);
 }
 
 pub goes_labels : (k : ℕ) (c : Context) → Goes c (with_labels k c)
-goes_labels k c = record { grew = grew_refl (world c); more = more_refl c.scopes; kept = record { line = refl; answer = refl; params = refl; walked = refl }; fits = λ answer h. h }
+goes_labels k c = record { grew = grew_refl (world c); more = more_refl c.scopes; kept = record { line = refl; answer = refl; addressed = refl; declared = refl; params = refl; walked = refl }; fits = λ answer h. h }
 
 -- a temporary more
 max_left : (a b : ℕ) → a ≤ max a b
@@ -103,7 +105,7 @@ gives_integer line kind c l h =
       goes = record {
         grew = grew;
         more = more_refl c.scopes;
-        kept = record { line = refl; answer = refl; params = refl; walked = refl };
+        kept = record { line = refl; answer = refl; addressed = refl; declared = refl; params = refl; walked = refl };
         fits = λ answer k. pieces_joined answer (world d) c.code.pieces _ (pieces_grew answer (world c) (world d) c.code.pieces grew k)
             ((l, fits_any answer (world d) (kind (integer_temporary c.code.integers)) (h (world d) (integer_temporary c.code.integers) grew there)), tt);
       };
@@ -119,7 +121,7 @@ gives_pointer line kind c l h =
       goes = record {
         grew = grew;
         more = more_refl c.scopes;
-        kept = record { line = refl; answer = refl; params = refl; walked = refl };
+        kept = record { line = refl; answer = refl; addressed = refl; declared = refl; params = refl; walked = refl };
         fits = λ answer k. pieces_joined answer (world d) c.code.pieces _ (pieces_grew answer (world c) (world d) c.code.pieces grew k)
             ((l, fits_any answer (world d) (kind (pointer_temporary c.code.pointers)) (h (world d) (pointer_temporary c.code.pointers) grew there)), tt);
       };
@@ -131,7 +133,7 @@ pub goes_told : (n : names.Context) (c : Context) → More c.scopes n.scopes →
 goes_told n c m = record {
   grew = record { locals = λ k r e. e; mems = omega arith; integers = omega arith; pointers = omega arith; variables = omega arith; literals = omega arith; formats = λ k f e. e; calls = λ j y e. e; file = λ name t i e. (more_keeps c.scopes n.scopes m).kept name _ e };
   more = m;
-  kept = record { line = refl; answer = refl; params = refl; walked = refl };
+  kept = record { line = refl; answer = refl; addressed = refl; declared = refl; params = refl; walked = refl };
   fits = λ answer h. pieces_grew answer (world c) (world (told n c)) c.code.pieces (record { locals = λ k r e. e; mems = omega arith; integers = omega arith; pointers = omega arith; variables = omega arith; literals = omega arith; formats = λ k f e. e; calls = λ j y e. e; file = λ name t i e. (more_keeps c.scopes n.scopes m).kept name _ e }) h;
 }
 
@@ -139,4 +141,4 @@ goes_told n c m = record {
 pub goes_forgotten : (b c : Context) → Goes b c → Goes b (record c { code = b.code })
 goes_forgotten b c g =
     let grew : Grew (world b) (world (record c { code = b.code })) = record { locals = g.grew.locals; mems = g.grew.mems; integers = omega arith; pointers = omega arith; variables = g.grew.variables; literals = g.grew.literals; formats = g.grew.formats; calls = g.grew.calls; file = g.grew.file } in
-    record { grew = grew; more = g.more; kept = record { line = g.kept.line; answer = g.kept.answer; params = g.kept.params; walked = g.kept.walked }; fits = λ answer h. pieces_grew answer (world b) (world (record c { code = b.code })) b.code.pieces grew h }
+    record { grew = grew; more = g.more; kept = record { line = g.kept.line; answer = g.kept.answer; addressed = g.kept.addressed; declared = g.kept.declared; params = g.kept.params; walked = g.kept.walked }; fits = λ answer h. pieces_grew answer (world b) (world (record c { code = b.code })) b.code.pieces grew h }

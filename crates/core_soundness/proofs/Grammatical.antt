@@ -96,7 +96,7 @@ mutual
 
 -- parameter lists
 
-no_line : (form : Form) → form_home form ≡ p.Line → ⊥
+pub no_line : (form : Form) → form_home form ≡ p.Line → ⊥
 unfolding form_home
 no_line f.Unit e = cc
 no_line form e = cc
@@ -125,7 +125,7 @@ list_first (Node f.VoidSuffix parts ▹ rest) e = inl tt
 list_first none e = no_list e
 list_first (tree ▹ rest) e = no_list e
 
-behind_stars : (consts : ℕ) → places (replicate consts (key k.Const) ++ Part p.AnyDeclarator ∷ []) ≡ p.AnyDeclarator ∷ []
+pub behind_stars : (consts : ℕ) → places (replicate consts (key k.Const) ++ Part p.AnyDeclarator ∷ []) ≡ p.AnyDeclarator ∷ []
 behind_stars zero = refl
 behind_stars (suc n) = behind_stars n
 
@@ -140,12 +140,12 @@ unfolding keyword_home
 key_no_line k.Void e = cc
 key_no_line keyword e = cc
 
-word_no_line : (word : Word) → home (Leaf word) ≡ p.Line → ⊥
+pub word_no_line : (word : Word) → home (Leaf word) ≡ p.Line → ⊥
 word_no_line (w.Key keyword) e = key_no_line keyword e
 word_no_line word e = cc
 
 -- a line with one part behind it
-line_parts : (parts : Trees) (place : Place) (scope : Scope) → AllAllowed parts (p.Line ∷ place ∷ []) scope → (line : ℕ) × (tree : Tree) × (parts ≡ (At line ▹ tree ▹ none))
+pub line_parts : (parts : Trees) (place : Place) (scope : Scope) → AllAllowed parts (p.Line ∷ place ∷ []) scope → (line : ℕ) × (tree : Tree) × (parts ≡ (At line ▹ tree ▹ none))
 unfolding AllAllowed Takes
 line_parts none place scope a = absurd a
 line_parts (Leaf word ▹ rest) place scope a = absurd (word_no_line word a.0)
@@ -155,7 +155,7 @@ line_parts (At line ▹ tree ▹ (more ▹ rest)) place scope a = absurd a.2.2
 line_parts (At line ▹ tree ▹ none) place scope a = (line, tree, refl)
 
 -- a base with suffixes behind it
-base_parts : (parts : Trees) (scope : Scope) → AllAllowed parts (p.Base ∷ p.Suffixes ∷ []) scope → (base : Tree) × (suffixes : Trees) × (parts ≡ (base ▹ Node f.Suffixes suffixes ▹ none))
+pub base_parts : (parts : Trees) (scope : Scope) → AllAllowed parts (p.Base ∷ p.Suffixes ∷ []) scope → (base : Tree) × (suffixes : Trees) × (parts ≡ (base ▹ Node f.Suffixes suffixes ▹ none))
 unfolding AllAllowed Takes
 base_parts none scope a = absurd a
 base_parts (base ▹ none) scope a = absurd a.2
@@ -165,7 +165,7 @@ base_parts (base ▹ Node form parts ▹ (more ▹ rest)) scope a = absurd a.2.2
 base_parts (base ▹ Node form parts ▹ none) scope a = (base, parts, ap (λ (x : Form). base ▹ Node x parts ▹ none) (suffixes_alone form a.2.0))
 
 -- the parameters of a part alone
-alone : (tree : Tree) → IsSome (params_among (tree ▹ none)) → IsSome (params_of tree)
+pub alone : (tree : Tree) → IsSome (params_among (tree ▹ none)) → IsSome (params_of tree)
 unfolding params_of params_among suffix_params
 alone (Leaf word) h = no_list h
 alone (At line) h = no_list h

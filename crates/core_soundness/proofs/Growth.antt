@@ -32,11 +32,13 @@ pub record Kept (c d : Context) : Type 0 where
   pub params : d.params ≡ c.params
   pub answer : d.running.answer ≡ c.running.answer
   pub mems : d.running.mems ≡ c.running.mems
+  pub declared : d.running.declared ≡ c.running.declared
+  pub addressed : d.running.addressed ≡ c.running.addressed
   pub literals : Longer c.literals d.literals
   pub counted : Counted c → Counted d
 
 pub kept_refl : (c : Context) → Kept c c
-kept_refl c = record { variables = refl; functions = refl; params = refl; walked = refl; length = refl; answer = refl; mems = refl; literals = λ i w e. e; counted = λ h. h }
+kept_refl c = record { variables = refl; functions = refl; params = refl; walked = refl; length = refl; answer = refl; mems = refl; declared = refl; addressed = refl; literals = λ i w e. e; counted = λ h. h }
 
 pub kept_trans : (a b c : Context) → Kept a b → Kept b c → Kept a c
 kept_trans a b c x y = record {
@@ -47,6 +49,8 @@ kept_trans a b c x y = record {
   length = y.length ∙ x.length;
   answer = y.answer ∙ x.answer;
   mems = y.mems ∙ x.mems;
+  declared = y.declared ∙ x.declared;
+  addressed = y.addressed ∙ x.addressed;
   literals = λ i w e. y.literals i w (x.literals i w e);
   counted = λ h. y.counted (x.counted h);
 }
@@ -95,7 +99,7 @@ grows_step c code stm e l h = record {
   cases = refl;
   otherwise = refl;
   names = more_refl c.scopes;
-  kept = record { variables = refl; functions = refl; params = refl; walked = refl; length = refl; answer = refl; mems = refl; literals = λ i w e. e; counted = λ (h : Counted c). record { bytes = h.bytes; small = h.small } };
+  kept = record { variables = refl; functions = refl; params = refl; walked = refl; length = refl; answer = refl; mems = refl; declared = refl; addressed = refl; literals = λ i w e. e; counted = λ (h : Counted c). record { bytes = h.bytes; small = h.small } };
 }
 
 pub grows_emit : (line : ℕ) (kind : StmKind) (c : Context) → IsPlain kind → Grows c (emit line kind c)
@@ -117,7 +121,7 @@ grows_code c code e l = record {
   cases = refl;
   otherwise = refl;
   names = more_refl c.scopes;
-  kept = record { variables = refl; functions = refl; params = refl; walked = refl; length = refl; answer = refl; mems = refl; literals = λ i w e. e; counted = λ (h : Counted c). record { bytes = h.bytes; small = h.small } };
+  kept = record { variables = refl; functions = refl; params = refl; walked = refl; length = refl; answer = refl; mems = refl; declared = refl; addressed = refl; literals = λ i w e. e; counted = λ (h : Counted c). record { bytes = h.bytes; small = h.small } };
 }
 
 pub grows_told : (n : names.Context) (c : Context) → More c.scopes n.scopes → Grows c (told n c)
@@ -129,7 +133,7 @@ grows_told n c m = record {
   cases = refl;
   otherwise = refl;
   names = m;
-  kept = record { variables = refl; functions = refl; params = refl; walked = refl; length = refl; answer = refl; mems = refl; literals = λ i w e. e; counted = λ (h : Counted c). record { bytes = h.bytes; small = h.small } };
+  kept = record { variables = refl; functions = refl; params = refl; walked = refl; length = refl; answer = refl; mems = refl; declared = refl; addressed = refl; literals = λ i w e. e; counted = λ (h : Counted c). record { bytes = h.bytes; small = h.small } };
 }
 
 -- code that is forgotten again
@@ -150,6 +154,8 @@ grows_forgotten b c g = record {
     length = g.kept.length;
     answer = g.kept.answer;
     mems = g.kept.mems;
+    declared = g.kept.declared;
+    addressed = g.kept.addressed;
     literals = g.kept.literals;
     counted = λ (h : Counted b). let k = g.kept.counted h in record { bytes = k.bytes; small = k.small };
   };

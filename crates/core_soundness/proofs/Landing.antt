@@ -119,7 +119,7 @@ constant_lands c e z h = subst (Lands c) (ok_same (c, constant_found (constant e
 more_statics : (c : Context) (bytes : List ℕ) (k : ℕ) → Goes c (record c { static_bytes = k; literals = c.literals ++ bytes ∷ [] })
 more_statics c bytes k =
     let grew : Grew (world c) (world (record c { static_bytes = k; literals = c.literals ++ bytes ∷ [] })) = record { locals = λ j r e. e; mems = omega arith; integers = omega arith; pointers = omega arith; variables = omega arith; literals = omega (arith, length-append c.literals (bytes ∷ [])); formats = λ j f e. e; calls = λ j y e. e; file = λ name t i e. e } in
-    record { grew = grew; more = more_refl c.scopes; kept = record { line = refl; answer = refl; params = refl; walked = refl }; fits = λ answer h. pieces_grew answer (world c) (world (record c { static_bytes = k; literals = c.literals ++ bytes ∷ [] })) c.code.pieces grew h }
+    record { grew = grew; more = more_refl c.scopes; kept = record { line = refl; answer = refl; addressed = refl; declared = refl; params = refl; walked = refl }; fits = λ answer h. pieces_grew answer (world c) (world (record c { static_bytes = k; literals = c.literals ++ bytes ∷ [] })) c.code.pieces grew h }
 
 pub record Literal (c : Context) (d : Context × ℕ) : Type 0 where
   pub goes : Goes c d.0

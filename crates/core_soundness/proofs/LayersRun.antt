@@ -30,7 +30,7 @@ use Rattle.elaboration.specs.Conversions.{Spot, Memory}
 use Rattle.elaboration.specs.Locals.{is_pointer, is_twice, declared_as, next_is_memory, with_register, with_memory, counted, with_named, memory_param, register_param, with_param, local_in, with_local}
 use Rattle.elaboration.specs.Declarators as d
 use Rattle.elaboration.specs.Declarators.{constant, with_type, maybe_name, unnamed, newly_named, begun_as, begun, completed_by, complete, ended, with_member, member, enumerator, enum_named, is_declared, param, left_params, specs, words_type, tag_type, members, member_names, enumerators, layers, suffix_layers, suffix_layer, params}
-use Rattle.core_soundness.proofs.Names.{More, more_refl, with_tag_more}
+use Rattle.core_soundness.proofs.Names.{More, MoreAll, more_refl, all_refl, with_tag_more}
 use Rattle.core_soundness.proofs.Owners.{IsNoFunction, with_name_keeps, with_name_depth}
 use Rattle.core_soundness.proofs.Reached.{Reached, reached_ok, reached_refused, reached_after, reached_then, reached_unless, Led, led_ok, led_refused, led_after, led_unless}
 use Rattle.core_soundness.proofs.TypedNames.{After, typed_after, wanted_after, special_after}
@@ -43,7 +43,7 @@ use Rattle.core_soundness.proofs.Growing.{Grew, grew_refl, pieces_grew}
 use Rattle.core_soundness.proofs.Going.{goes_told}
 use Rattle.core_soundness.proofs.Sorting.{write_goes}
 use Rattle.core_soundness.proofs.Readying.{names_more, sort_kept}
-use Rattle.core_soundness.proofs.Running.{Fine, Runs, runs_refl, runs_trans, on_runs, table_grew, names_left, entered_fine}
+use Rattle.core_soundness.proofs.Running.{Fine, Runs, tail_more, runs_refl, runs_trans, on_runs, table_grew, names_left, entered_fine}
 
 pub pushed_fits : (P : PlainNamed → Type 0) (name : List ℕ) (v : PlainNamed) (t : Table) → P v → TableFits P t → TableFits P (t ++ (name, v) ∷ [])
 pushed_fits P name v t h f key w e =
@@ -68,6 +68,13 @@ with_name_any w s name v h q f = by s.inner f.inner
     by [] g = record { file = pushed_fits (FileFits w) name v s.file q f.file; inner = tt }
     by (t ∷ ts) g = record { file = f.file; inner = (pushed_fits (InnerFits w) name v t h g.0, g.1) }
 
+with_name_outside : (s : ScopeList) (name : List ℕ) (v : PlainNamed) → MoreAll (scopes.tail s.inner) (scopes.tail (with_name s name v).inner)
+with_name_outside s name v = by s.inner
+  where
+    by : (inner : List Table) → MoreAll (scopes.tail inner) (scopes.tail (scopes.with_name_in s.file inner name v).inner)
+    by [] = tt
+    by (t ∷ ts) = all_refl ts
+
 pub first_fits : (w : World) (inner : List Table) → TablesFit (InnerFits w) inner → TableFits (InnerFits w) (first_or [] inner)
 first_fits w [] h = λ name v e. cc
 first_fits w (t ∷ ts) h = h.0
@@ -82,14 +89,16 @@ renamed c s keep = record { locals = λ k r e. e; mems = omega arith; integers =
 names_kept : (c : Context) (s : ScopeList) → TableKept c.scopes.file s.file → NamesFit (world c) s → NamesFit (world (record c { scopes = s })) s
 names_kept c s keep h = names_more (world c) (world (record c { scopes = s })) s s (renamed c s keep) (more_refl s) h
 
-pub rescoped : (answer : Option Sort) (c : Context) (s : ScopeList) → TableKept c.scopes.file s.file → length s.inner ≡ length c.scopes.inner → NamesFit (world c) s → Fine c → Runs answer c (record c { scopes = s })
-rescoped answer c s keep deep h f =
+pub rescoped : (answer : Option Sort) (c : Context) (s : ScopeList) → TableKept c.scopes.file s.file → length s.inner ≡ length c.scopes.inner → MoreAll (scopes.tail c.scopes.inner) (scopes.tail s.inner) → NamesFit (world c) s → Fine c → Runs answer c (record c { scopes = s })
+rescoped answer c s keep deep out h f =
     let grew = renamed c s keep in
     record {
       grew = grew;
       fine = record { names = names_kept c s keep h; lined = f.lined };
       fits = λ k. pieces_grew answer (world c) (world (record c { scopes = s })) c.code.pieces grew k;
       answer = refl;
+      addressed = refl;
+      outside = out;
       depth = deep;
       params = λ k. table_grew (world c) (world (record c { scopes = s })) c.params grew k;
       walked = refl;
@@ -105,6 +114,8 @@ more_register answer name type c f =
       fine = record { names = names_more (world c) (world d) c.scopes c.scopes grew (more_refl c.scopes) f.names; lined = f.lined };
       fits = λ k. pieces_grew answer (world c) (world d) c.code.pieces grew k;
       answer = refl;
+      addressed = refl;
+      outside = all_refl (scopes.tail c.scopes.inner);
       depth = refl;
       params = λ k. table_grew (world c) (world d) c.params grew k;
       walked = refl;
@@ -119,18 +130,20 @@ more_memory answer name type c f =
       fine = record { names = names_more (world c) (world d) c.scopes c.scopes grew (more_refl c.scopes) f.names; lined = f.lined };
       fits = λ k. pieces_grew answer (world c) (world d) c.code.pieces grew k;
       answer = refl;
+      addressed = refl;
+      outside = all_refl (scopes.tail c.scopes.inner);
       depth = refl;
       params = λ k. table_grew (world c) (world d) c.params grew k;
       walked = refl;
     }
 
 pub counted_runs : (answer : Option Sort) (b c : Context) → Runs answer b c → Runs answer b (counted c)
-counted_runs answer b c r = record { grew = r.grew; fine = record { names = r.fine.names; lined = r.fine.lined }; fits = r.fits; answer = r.answer; depth = r.depth; params = r.params; walked = r.walked }
+counted_runs answer b c r = record { grew = r.grew; fine = record { names = r.fine.names; lined = r.fine.lined }; fits = r.fits; answer = r.answer; addressed = r.addressed; outside = r.outside; depth = r.depth; params = r.params; walked = r.walked }
 
 -- a name in an inner scope
 pub named_runs : (answer : Option Sort) (name : Option (List ℕ)) (v : PlainNamed) (k : ℕ) (c : Context) → length c.scopes.inner ≡ suc k → IsNoFunction v → InnerFits (world c) v → Fine c → Runs answer c (with_named name v c)
 named_runs answer None v k c deep i h f = runs_refl answer c f
-named_runs answer (Some name) v k c deep i h f = rescoped answer c (with_name c.scopes name v) (with_name_keeps c.scopes name v i).kept (with_name_depth c.scopes name v) (with_name_inner (world c) c.scopes name v k deep h f.names) f
+named_runs answer (Some name) v k c deep i h f = rescoped answer c (with_name c.scopes name v) (with_name_keeps c.scopes name v i).kept (with_name_depth c.scopes name v) (with_name_outside c.scopes name v) (with_name_inner (world c) c.scopes name v k deep h f.names) f
 
 register_held : (w : World) (type : PlainType) (k : ℕ) → local_sort w k ≡ Some (type_sort type) → Held w type (atom.Reg (local_register k))
 register_held w (Int ty) k h = is_local k refl h
@@ -207,11 +220,11 @@ module _ (answer : Option Sort) where
   told_runs t b c m p = on_runs answer b c (told t c) p (goes_told t c m)
 
   tags_run : (tags : TagTable) (b c : Context) → Runs answer b c → Runs answer b (record c { tags = tags })
-  tags_run tags b c p = record { grew = p.grew; fine = record { names = p.fine.names; lined = p.fine.lined }; fits = p.fits; answer = p.answer; depth = p.depth; params = p.params; walked = p.walked }
+  tags_run tags b c p = record { grew = p.grew; fine = record { names = p.fine.names; lined = p.fine.lined }; fits = p.fits; answer = p.answer; addressed = p.addressed; outside = p.outside; depth = p.depth; params = p.params; walked = p.walked }
 
   scopes_run : (name : List ℕ) (v : PlainNamed) (b c : Context) → IsNoFunction v → InnerFits (world c) v → FileFits (world c) v → Runs answer b c → Runs answer b (record c { scopes = with_name c.scopes name v })
   scopes_run name v b c i h q p =
-      runs_trans answer b c _ p (rescoped answer c (with_name c.scopes name v) (with_name_keeps c.scopes name v i).kept (with_name_depth c.scopes name v) (with_name_any (world c) c.scopes name v h q p.fine.names) p.fine)
+      runs_trans answer b c _ p (rescoped answer c (with_name c.scopes name v) (with_name_keeps c.scopes name v i).kept (with_name_depth c.scopes name v) (with_name_outside c.scopes name v) (with_name_any (world c) c.scopes name v h q p.fine.names) p.fine)
 
   pub declared_runs : (line : ℕ) (name : List ℕ) (v : PlainNamed) (b c : Context) → IsNoFunction v → InnerFits (world c) v → FileFits (world c) v → Runs answer b c → Led (Runs answer b) (declared_as line name v c)
   declared_runs line name v b c i h q p =
@@ -219,7 +232,7 @@ module _ (answer : Option Sort) where
       (λ e. led_ok (Runs answer b) (record c { scopes = after_declaration c.scopes name v }) (by (is_some (named_in name (innermost c.scopes)))))
     where
       by : (t : Bool) → Runs answer b (record c { scopes = cond t c.scopes (with_name c.scopes name v) })
-      by true = record { grew = p.grew; fine = record { names = p.fine.names; lined = p.fine.lined }; fits = p.fits; answer = p.answer; depth = p.depth; params = p.params; walked = p.walked }
+      by true = record { grew = p.grew; fine = record { names = p.fine.names; lined = p.fine.lined }; fits = p.fits; answer = p.answer; addressed = p.addressed; outside = p.outside; depth = p.depth; params = p.params; walked = p.walked }
       by false = scopes_run name v b c i h q p
 
   -- constants and tags
@@ -291,6 +304,8 @@ module _ (answer : Option Sort) where
     fine = record { names = names_left (world x) x.scopes p.fine.names; lined = p.fine.lined };
     fits = p.fits;
     answer = p.answer;
+    addressed = p.addressed;
+    outside = tail_more c.scopes.inner (scopes.tail x.scopes.inner) p.outside;
     depth = tail_depth x.scopes.inner (length c.scopes.inner) p.depth;
     params = λ h. first_fits (world x) x.scopes.inner p.fine.names.inner;
     walked = p.walked;
@@ -372,7 +387,7 @@ module _ (answer : Option Sort) where
         reached_then (Runs answer b) (Runs answer (entered c)) (params parts (entered c)) (λ x. Ok (left_params x.0, FunctionOf line x.1)) (params_run parts (length c.scopes.inner) (entered c) (entered c) refl (runs_refl answer (entered c) (entered_fine c p.fine)))
         (λ x h. reached_ok (Runs answer b) (left_params x.0, FunctionOf line x.1) (runs_trans answer b c (left_params x.0) p (left_params_runs c x.0 h)))
     suffix_runs tree b c p =
-        reached_ok (Runs answer b) (record c { params = [] }, FunctionOf (line_of tree) types.none) (runs_trans answer b c _ p (record { grew = grew_refl (world c); fine = record { names = p.fine.names; lined = p.fine.lined }; fits = λ k. k; answer = refl; depth = refl; params = λ h name v e. cc; walked = refl }))
+        reached_ok (Runs answer b) (record c { params = [] }, FunctionOf (line_of tree) types.none) (runs_trans answer b c _ p (record { grew = grew_refl (world c); fine = record { names = p.fine.names; lined = p.fine.lined }; fits = λ k. k; answer = refl; addressed = refl; outside = all_refl (scopes.tail c.scopes.inner); depth = refl; params = λ h name v e. cc; walked = refl }))
 
     pub params_run : (parts : Trees) (k : ℕ) (b c : Context) → length b.scopes.inner ≡ suc k → Runs answer b c → Reached (Runs answer b) (params parts c)
     params_run none k b c deep p = reached_ok (Runs answer b) (c, types.none) p

@@ -23,7 +23,7 @@ use Rattle.c_decls.specs.ScopeList.{ScopeList, Table, named_in, innermost, with_
 use Rattle.c_decls.specs.ScopeList as scopes
 use Rattle.c_decls.specs.Refusals.{Checked, then, unless}
 use Rattle.c_decls.specs.Typed.{is_function, has_no_size}
-use Rattle.c_decls.specs.TypeNames.{tag_named}
+use Rattle.c_decls.specs.TypeNames.{Layer, tag_named}
 use Rattle.c_decls.specs.Expressions.{line_of}
 use Rattle.elaboration.specs.Context.{Context, Variable, asked, emit}
 use Rattle.elaboration.specs.Conversions.{Spot, Local, Memory, Value, Empty, size_or_zero}
@@ -34,16 +34,18 @@ use Rattle.elaboration.specs.Initializers.{Target, InRegister, InMemory, InStati
 use Rattle.elaboration.specs.Declarations as storages
 use Rattle.elaboration.specs.Declarations.{Storage, Typedef, Outside, storage_of, specs_alone, specs_before, zero_of, cleared, fill_memory, fill_register, fill_at, fill_local, local_object, local_name, function_number, with_function, declared_function, no_initializer, variable_number_of, with_new_variable, with_variable, start_of, start_in, started_variable, started, fill_variable, file_object, file_function, file_value, file_name, name_in, entry, entries, declaration}
 use Rattle.core_soundness.specs.Worlds.{world, Holds, StandsAs, InnerFits, FileFits, TablesFit}
-use Rattle.core_soundness.specs.Spoken.{Plain, AllPlain}
+use Rattle.core_soundness.specs.Spoken.{AllSpoken}
+use Rattle.core_soundness.specs.Written.{Written, AllWritten}
 use Rattle.core_soundness.proofs.Grown.{good, bad, ok_same, never}
-use Rattle.core_soundness.proofs.Names.{more_refl, named_push}
+use Rattle.core_soundness.proofs.Names.{more_refl, all_refl, named_push}
 use Rattle.core_soundness.proofs.TypedNames.{tag_after}
 use Rattle.core_soundness.proofs.Agreeing.{came}
 use Rattle.core_soundness.proofs.Growing.{Grew, grew_refl, pieces_grew}
 use Rattle.core_soundness.proofs.Going.{Goes, goes_trans, goes_emit}
 use Rattle.core_soundness.proofs.Operating.{passed, behind_test}
 use Rattle.core_soundness.proofs.Readying.{names_more}
-use Rattle.core_soundness.proofs.Plainly.{plain_spoken}
+use Rattle.core_soundness.proofs.Outside.{outside_spoken}
+use Rattle.core_soundness.proofs.LocalsSpoken.{LocalSpoken, EntriesSpoken, DeclarationSpoken}
 use Rattle.core_soundness.proofs.Running.{Fine, Runs, runs_refl, runs_trans, goes_runs, on_runs, table_grew}
 use Rattle.core_soundness.proofs.LayersRun.{TableKept, rescoped, pushed_fits, with_local_runs, declared_runs, with_type_runs, specs_run, layers_run}
 use Rattle.core_soundness.proofs.FillsRun.{initialize_fits}
@@ -53,13 +55,13 @@ use Rattle.core_soundness.proofs.FillsRun.{initialize_fits}
 cleared_goes : (line : ℕ) (type : PlainType) (mem : Atom) (c : Context) → 1 ≤ line → Holds (world c) Pointer mem → Goes c (cleared line type mem c)
 cleared_goes line type mem c l h = goes_emit line (Clear mem (pos (size_or_zero c type))) c l h
 
-fill_memory_goes : (line : ℕ) (type : PlainType) (inits : Trees) (mem : Atom) (c z : Context) → 1 ≤ line → AllPlain inits → Fine c → Holds (world c) Pointer mem → fill_memory line type inits mem c ≡ Ok z → Goes c z
-unfolding AllPlain
+fill_memory_goes : (line : ℕ) (type : PlainType) (inits : Trees) (mem : Atom) (c z : Context) → 1 ≤ line → AllSpoken c.scopes inits → Fine c → Holds (world c) Pointer mem → fill_memory line type inits mem c ≡ Ok z → Goes c z
+unfolding AllSpoken
 fill_memory_goes line type (init ▹ rest) (atom.Mem mem) c z l p g h q =
     let x = cleared line type (atom.Mem mem) c in
     let first = cleared_goes line type (atom.Mem mem) c l h in
     let d = came (initialize init false type 0 (InMemory line mem) x) (λ d. good d.0) z q in
-    let one = initialize_fits init false type 0 (InMemory line mem) x d.value (plain_spoken x.scopes init p.0) g.names (l, h.1) d.is in
+    let one = initialize_fits init false type 0 (InMemory line mem) x d.value p.0 g.names (l, h.1) d.is in
     subst (Goes c) (ok_same d.value.0 z d.last) (goes_trans c x d.value.0 first one.goes)
 fill_memory_goes line type none mem c z l p g h q = subst (Goes c) (ok_same (cleared line type mem c) z q) (cleared_goes line type mem c l h)
 fill_memory_goes line type (init ▹ rest) (atom.Reg r) c z l p g h q = subst (Goes c) (ok_same (cleared line type (atom.Reg r) c) z q) (cleared_goes line type (atom.Reg r) c l h)
@@ -76,22 +78,22 @@ zero_set line (Struct tag) register c l h = let clash : false ≡ true = h.0 in 
 zero_set line (Union tag) register c l h = let clash : false ≡ true = h.0 in cc
 zero_set line (Function answer params) register c l h = let clash : false ≡ true = h.0 in cc
 
-fill_register_goes : (line : ℕ) (type : PlainType) (inits : Trees) (register : ℕ) (c z : Context) → 1 ≤ line → AllPlain inits → Fine c → StandsAs (world c) true type (Local register) → fill_register line type inits register c ≡ Ok z → Goes c z
-unfolding AllPlain
+fill_register_goes : (line : ℕ) (type : PlainType) (inits : Trees) (register : ℕ) (c z : Context) → 1 ≤ line → AllSpoken c.scopes inits → Fine c → StandsAs (world c) true type (Local register) → fill_register line type inits register c ≡ Ok z → Goes c z
+unfolding AllSpoken
 fill_register_goes line type none register c z l p g h q = subst (Goes c) (ok_same (emit line (Set register (zero_of type)) c) z q) (zero_set line type register c l h)
 fill_register_goes line type (init ▹ rest) register c z l p g h q =
     let d = came (initialize init false type 0 (InRegister line register) c) (λ d. good d.0) z q in
-    let one = initialize_fits init false type 0 (InRegister line register) c d.value (plain_spoken c.scopes init p.0) g.names (l, h) d.is in
+    let one = initialize_fits init false type 0 (InRegister line register) c d.value p.0 g.names (l, h) d.is in
     subst (Goes c) (ok_same d.value.0 z d.last) one.goes
 
-fill_at_goes : (line : ℕ) (type : PlainType) (inits : Trees) (spot : Spot) (c z : Context) → 1 ≤ line → AllPlain inits → Fine c → StandsAs (world c) true type spot → fill_at line type inits spot c ≡ Ok z → Goes c z
+fill_at_goes : (line : ℕ) (type : PlainType) (inits : Trees) (spot : Spot) (c z : Context) → 1 ≤ line → AllSpoken c.scopes inits → Fine c → StandsAs (world c) true type spot → fill_at line type inits spot c ≡ Ok z → Goes c z
 fill_at_goes line type inits (Local register) c z l p g h q = fill_register_goes line type inits register c z l p g h q
 fill_at_goes line type inits (Memory mem) c z l p g h q = fill_memory_goes line type inits mem c z l p g h q
 fill_at_goes line type inits (Value a) c z l p g h q = absurd h
 fill_at_goes line type inits Empty c z l p g h q = absurd h
 
 module _ (answer : Option Sort) where
-  local_object_runs : (line : ℕ) (name : List ℕ) (type : PlainType) (inits : Trees) (k : ℕ) (c z : Context) → 1 ≤ line → AllPlain inits → Fine c → length c.scopes.inner ≡ suc k → local_object line name type inits c ≡ Ok z → Runs answer c z
+  local_object_runs : (line : ℕ) (name : List ℕ) (type : PlainType) (inits : Trees) (k : ℕ) (c z : Context) → 1 ≤ line → LocalSpoken line name type inits c z → Fine c → length c.scopes.inner ≡ suc k → local_object line name type inits c ≡ Ok z → Runs answer c z
   local_object_runs line name type inits k c z l p g deep q =
       let x : Context × Spot = with_local name type c in
       let r2 : Checked Context = unless (is_twice c.scopes name (n.Object type 0)) DeclaredTwice line (fill_local line type inits x) in
@@ -100,9 +102,9 @@ module _ (answer : Option Sort) where
       let b = behind_test (has_no_size c.tags type) Incomplete line r2 z a in
       let e = behind_test (is_twice c.scopes name (n.Object type 0)) DeclaredTwice line (fill_local line type inits x) z b in
       let r = with_local_runs answer name type k c deep g in
-      on_runs answer c x.0 z r.runs (fill_at_goes line type inits x.1 x.0 z l p r.runs.fine r.stands e)
+      on_runs answer c x.0 z r.runs (fill_at_goes line type inits x.1 x.0 z l (p e) r.runs.fine r.stands e)
 
-  local_name_runs : (line : ℕ) (storage : Storage) (name : List ℕ) (type : PlainType) (inits : Trees) (k : ℕ) (c z : Context) → 1 ≤ line → AllPlain inits → Fine c → length c.scopes.inner ≡ suc k → local_name line storage name type inits c ≡ Ok z → Runs answer c z
+  local_name_runs : (line : ℕ) (storage : Storage) (name : List ℕ) (type : PlainType) (inits : Trees) (k : ℕ) (c z : Context) → 1 ≤ line → LocalSpoken line name type inits c z → Fine c → length c.scopes.inner ≡ suc k → local_name line storage name type inits c ≡ Ok z → Runs answer c z
   local_name_runs line Typedef name type inits k c z l p g deep q = declared_runs answer line name (n.Typedef type) c c tt tt tt (runs_refl answer c g) z q
   local_name_runs line Outside name type inits k c z l p g deep q = never _ _ z q
   local_name_runs line storages.Plain name type inits k c z l p g deep q = local_object_runs line name type inits k c z l p g deep q
@@ -121,7 +123,7 @@ file_renamed answer name v c flat h g = by (is_some (named_in name (innermost c.
   where
     empty : (inner : List Table) → length inner ≡ 0 → TablesFit (InnerFits (world c)) inner → Runs answer c (record c { scopes = record { file = c.scopes.file; inner = inner } }) → Runs answer c (record c { scopes = scopes.with_name_in c.scopes.file inner name v })
     empty [] e t r = runs_trans answer c (record c { scopes = record { file = c.scopes.file; inner = [] } }) _ r
-        (rescoped answer (record c { scopes = record { file = c.scopes.file; inner = [] } }) (record { file = c.scopes.file ++ (name, v) ∷ []; inner = [] }) (pushed_kept name v c.scopes.file) refl
+        (rescoped answer (record c { scopes = record { file = c.scopes.file; inner = [] } }) (record { file = c.scopes.file ++ (name, v) ∷ []; inner = [] }) (pushed_kept name v c.scopes.file) refl tt
         (record { file = pushed_fits (FileFits (world c)) name v c.scopes.file h g.names.file; inner = tt }) r.fine)
     empty (s ∷ ss) e t r = absurd (some_none (length ss) e)
 
@@ -137,7 +139,7 @@ functions_grew answer c index name g = by (nat_lt index (length c.functions))
   where
     by : (t : Bool) → Runs answer c (cond t c (record c { functions = c.functions ++ (record { name = name; defined = None }) ∷ [] }))
     by true = runs_refl answer c g
-    by false = record { grew = grew_refl (world c); fine = record { names = g.names; lined = g.lined }; fits = λ k. k; answer = refl; depth = refl; params = λ k. k; walked = refl }
+    by false = record { grew = grew_refl (world c); fine = record { names = g.names; lined = g.lined }; fits = λ k. k; answer = refl; addressed = refl; outside = all_refl (scopes.tail c.scopes.inner); depth = refl; params = λ k. k; walked = refl }
 
 pub function_runs : (answer : Option Sort) (line : ℕ) (name : List ℕ) (type : PlainType) (c z : Context) → length c.scopes.inner ≡ 0 → Fine c → declared_function line name type c ≡ Ok z → Runs answer c z
 function_runs answer line name type c z flat g q =
@@ -160,6 +162,8 @@ more_variables answer c v bytes g =
       fine = record { names = names_more (world c) (world d) c.scopes c.scopes grew (more_refl c.scopes) g.names; lined = g.lined };
       fits = λ k. pieces_grew answer (world c) (world d) c.code.pieces grew k;
       answer = refl;
+      addressed = refl;
+      outside = all_refl (scopes.tail c.scopes.inner);
       depth = refl;
       params = λ k. table_grew (world c) (world d) c.params grew k;
       walked = refl;
@@ -210,22 +214,24 @@ started_runs answer index d g =
       fine = record { names = names_more (world d.0) (world z) d.0.scopes d.0.scopes grew (more_refl d.0.scopes) g.names; lined = g.lined };
       fits = λ k. pieces_grew answer (world d.0) (world z) d.0.code.pieces grew k;
       answer = refl;
+      addressed = refl;
+      outside = all_refl (scopes.tail d.0.scopes.inner);
       depth = refl;
       params = λ k. table_grew (world d.0) (world z) d.0.params grew k;
       walked = refl;
     }
 
-fill_variable_runs : (answer : Option Sort) (line index : ℕ) (type : PlainType) (inits : Trees) (c z : Context) → AllPlain inits → Fine c → fill_variable line index type inits c ≡ Ok z → Runs answer c z
-unfolding AllPlain
-fill_variable_runs answer line index type none c z p g q = subst (Runs answer c) (ok_same c z q) (runs_refl answer c g)
-fill_variable_runs answer line index type (init ▹ rest) c z p g q =
+fill_variable_runs : (answer : Option Sort) (line index : ℕ) (type : PlainType) (inits : Trees) (c z : Context) → AllWritten inits → Fine c → length c.scopes.inner ≡ 0 → fill_variable line index type inits c ≡ Ok z → Runs answer c z
+unfolding AllWritten
+fill_variable_runs answer line index type none c z p g flat q = subst (Runs answer c) (ok_same c z q) (runs_refl answer c g)
+fill_variable_runs answer line index type (init ▹ rest) c z p g flat q =
     let a = behind_test (is_some (start_of (slice_get c.variables index))) DeclaredTwice line (then (initialize init false type 0 (InStatic no_start) c) (λ d. good (started index d))) z q in
     let d = came (initialize init false type 0 (InStatic no_start) c) (λ d. good (started index d)) z a in
-    let one = initialize_fits init false type 0 (InStatic no_start) c d.value (plain_spoken c.scopes init p.0) g.names tt d.is in
+    let one = initialize_fits init false type 0 (InStatic no_start) c d.value (outside_spoken (world c) c.scopes init flat g.names.file p.0) g.names tt d.is in
     let r = goes_runs answer c d.value.0 g one.goes in
     subst (Runs answer c) (ok_same (started index d.value) z d.last) (runs_trans answer c d.value.0 _ r (started_runs answer index d.value r.fine))
 
-file_object_runs : (answer : Option Sort) (line : ℕ) (name : List ℕ) (type : PlainType) (inits : Trees) (c z : Context) → AllPlain inits → Fine c → length c.scopes.inner ≡ 0 → file_object line name type inits c ≡ Ok z → Runs answer c z
+file_object_runs : (answer : Option Sort) (line : ℕ) (name : List ℕ) (type : PlainType) (inits : Trees) (c z : Context) → AllWritten inits → Fine c → length c.scopes.inner ≡ 0 → file_object line name type inits c ≡ Ok z → Runs answer c z
 file_object_runs answer line name type inits c z p g flat q =
     let index = variable_number_of c (named_in name c.scopes.file) in
     let a = behind_test (has_no_size c.tags type) Incomplete line (then (declared_as line name (n.Object type index) c) (λ d. then (with_variable line index name type d) (λ v. fill_variable line index type inits v))) z q in
@@ -233,9 +239,9 @@ file_object_runs answer line name type inits c z p g flat q =
     let v = came (with_variable line index name type d.value) (λ v. fill_variable line index type inits v) z d.last in
     let at : with_variable line index name type (record c { scopes = after_declaration c.scopes name (n.Object type index) }) ≡ Ok v.value = ap (λ (x : Context). with_variable line index name type x) (declared_at line name (n.Object type index) c d.value d.is) ∙ v.is in
     let one = variable_runs answer line index name type c v.value flat (number_small c (named_in name c.scopes.file) (λ x e. g.names.file name x e)) g at in
-    runs_trans answer c v.value z one (fill_variable_runs answer line index type inits v.value z p one.fine v.last)
+    runs_trans answer c v.value z one (fill_variable_runs answer line index type inits v.value z p one.fine (one.depth ∙ flat) v.last)
 
-file_value_runs : (answer : Option Sort) (line : ℕ) (name : List ℕ) (type : PlainType) (inits : Trees) (c z : Context) → AllPlain inits → Fine c → length c.scopes.inner ≡ 0 → file_value line name type inits c ≡ Ok z → Runs answer c z
+file_value_runs : (answer : Option Sort) (line : ℕ) (name : List ℕ) (type : PlainType) (inits : Trees) (c z : Context) → AllWritten inits → Fine c → length c.scopes.inner ≡ 0 → file_value line name type inits c ≡ Ok z → Runs answer c z
 file_value_runs answer line name type inits c z p g flat q = by (is_function type) q
   where
     by : (t : Bool) → cond t (file_function line name type inits c) (file_object line name type inits c) ≡ Ok z → Runs answer c z
@@ -254,32 +260,55 @@ pub place_on : (file : Bool) (c d : Context) → length d.scopes.inner ≡ lengt
 place_on true c d e h = e ∙ h
 place_on false c d e h = (h.0, e ∙ h.1)
 
-file_name_runs : (answer : Option Sort) (line : ℕ) (storage : Storage) (name : List ℕ) (type : PlainType) (inits : Trees) (c z : Context) → AllPlain inits → Fine c → length c.scopes.inner ≡ 0 → file_name line storage name type inits c ≡ Ok z → Runs answer c z
+file_name_runs : (answer : Option Sort) (line : ℕ) (storage : Storage) (name : List ℕ) (type : PlainType) (inits : Trees) (c z : Context) → AllWritten inits → Fine c → length c.scopes.inner ≡ 0 → file_name line storage name type inits c ≡ Ok z → Runs answer c z
 file_name_runs answer line Typedef name type inits c z p g flat q = declared_runs answer line name (n.Typedef type) c c tt tt tt (runs_refl answer c g) z q
 file_name_runs answer line Outside name type inits c z p g flat q = file_value_runs answer line name type inits c z p g flat q
 file_name_runs answer line storages.Plain name type inits c z p g flat q = file_value_runs answer line name type inits c z p g flat q
 
-name_in_runs : (answer : Option Sort) (file : Bool) (line : ℕ) (storage : Storage) (name : Option (List ℕ)) (type : PlainType) (inits : Trees) (c z : Context) → 1 ≤ line → AllPlain inits → Fine c → AtPlace file c → name_in file line storage name type inits c ≡ Ok z → Runs answer c z
+-- what is asked of the initializers of a name at its place
+abbrev NameSpoken : Bool → ℕ → Option (List ℕ) → PlainType → Trees → Context → Context → Type 0
+NameSpoken true line name type inits c z = AllWritten inits
+NameSpoken false line None type inits c z = Unit {0}
+NameSpoken false line (Some name) type inits c z = LocalSpoken line name type inits c z
+
+name_in_runs : (answer : Option Sort) (file : Bool) (line : ℕ) (storage : Storage) (name : Option (List ℕ)) (type : PlainType) (inits : Trees) (c z : Context) → 1 ≤ line → NameSpoken file line name type inits c z → Fine c → AtPlace file c → name_in file line storage name type inits c ≡ Ok z → Runs answer c z
 name_in_runs answer true line storage None type inits c z l p g at q = subst (Runs answer c) (ok_same c z q) (runs_refl answer c g)
 name_in_runs answer false line storage None type inits c z l p g at q = subst (Runs answer c) (ok_same c z q) (runs_refl answer c g)
 name_in_runs answer true line storage (Some name) type inits c z l p g at q = file_name_runs answer line storage name type inits c z p g at q
 name_in_runs answer false line storage (Some name) type inits c z l p g at q = local_name_runs answer line storage name type inits at.0 c z l p g at.1 q
 
-entry_runs : (answer : Option Sort) (file : Bool) (line : ℕ) (storage : Storage) (base : PlainType) (declarator : Tree) (inits : Trees) (c z : Context) → 1 ≤ line → AllPlain inits → Fine c → AtPlace file c → entry file line storage base declarator inits c ≡ Ok z → Runs answer c z
+entry_runs : (answer : Option Sort) (file : Bool) (line : ℕ) (storage : Storage) (base : PlainType) (declarator : Tree) (inits : Trees) (c z : Context) → 1 ≤ line
+    → ((l : Context × List Layer) (type : PlainType) → layers declarator c ≡ Ok l → with_init_layers l.0.tags l.1 inits base ≡ Ok type → NameSpoken file line (name_of declarator) type inits l.0 z)
+    → Fine c → AtPlace file c → entry file line storage base declarator inits c ≡ Ok z → Runs answer c z
 entry_runs answer file line storage base declarator inits c z l p g at q =
     let x = came (layers declarator c) (λ x. then (with_init_layers x.0.tags x.1 inits base) (λ type. name_in file line storage (name_of declarator) type inits x.0)) z q in
     let t = came (with_init_layers x.value.0.tags x.value.1 inits base) (λ type. name_in file line storage (name_of declarator) type inits x.value.0) z x.last in
     let one = layers_run answer declarator c c (runs_refl answer c g) x.value x.is in
-    runs_trans answer c x.value.0 z one (name_in_runs answer file line storage (name_of declarator) t.value inits x.value.0 z l p one.fine (place_on file c x.value.0 one.depth at) t.last)
+    runs_trans answer c x.value.0 z one (name_in_runs answer file line storage (name_of declarator) t.value inits x.value.0 z l (p x.value t.value x.is t.is) one.fine (place_on file c x.value.0 one.depth at) t.last)
 
-pub entries_run : (names : Trees) (answer : Option Sort) (file : Bool) (line : ℕ) (storage : Storage) (base : PlainType) (c z : Context) → 1 ≤ line → AllPlain names → Fine c → AtPlace file c → entries file line storage base names c ≡ Ok z → Runs answer c z
-unfolding entries Plain AllPlain
-entries_run none answer file line storage base c z l p g at q = subst (Runs answer c) (ok_same c z q) (runs_refl answer c g)
-entries_run (Node f.Entry (Node f.Declared (declarator ▹ none) ▹ Node f.MaybeInit inits ▹ none) ▹ rest) answer file line storage base c z l p g at q =
-    let d = came (entry file line storage base declarator inits c) (λ d. entries file line storage base rest d) z q in
-    let one = entry_runs answer file line storage base declarator inits c d.value l p.0.1.1.0.1 g at d.is in
-    runs_trans answer c d.value z one (entries_run rest answer file line storage base d.value z l p.1 one.fine (place_on file c d.value one.depth at) d.last)
-entries_run (tree ▹ rest) answer file line storage base c z l p g at q = never _ _ z q
+-- a name that is there, or none
+name_spoken : (line : ℕ) (o : Option (List ℕ)) (type : PlainType) (inits : Trees) (c z : Context) → ((name : List ℕ) → o ≡ Some name → LocalSpoken line name type inits c z) → NameSpoken false line o type inits c z
+name_spoken line None type inits c z p = tt
+name_spoken line (Some name) type inits c z p = p name refl
+
+file_entries_run : (names : Trees) (answer : Option Sort) (line : ℕ) (storage : Storage) (base : PlainType) (c z : Context) → 1 ≤ line → AllWritten names → Fine c → length c.scopes.inner ≡ 0 → entries true line storage base names c ≡ Ok z → Runs answer c z
+unfolding entries Written AllWritten
+file_entries_run none answer line storage base c z l p g at q = subst (Runs answer c) (ok_same c z q) (runs_refl answer c g)
+file_entries_run (Node f.Entry (Node f.Declared (declarator ▹ none) ▹ Node f.MaybeInit inits ▹ none) ▹ rest) answer line storage base c z l p g at q =
+    let d = came (entry true line storage base declarator inits c) (λ d. entries true line storage base rest d) z q in
+    let one = entry_runs answer true line storage base declarator inits c d.value l (λ x type e h. p.0.1.1.0.1) g at d.is in
+    runs_trans answer c d.value z one (file_entries_run rest answer line storage base d.value z l p.1 one.fine (one.depth ∙ at) d.last)
+file_entries_run (tree ▹ rest) answer line storage base c z l p g at q = never _ _ z q
+
+local_entries_run : (names : Trees) (answer : Option Sort) (line : ℕ) (storage : Storage) (base : PlainType) (c z : Context) → 1 ≤ line → EntriesSpoken line storage base names c → Fine c → AtPlace false c → entries false line storage base names c ≡ Ok z → Runs answer c z
+unfolding entries EntriesSpoken
+local_entries_run none answer line storage base c z l p g at q = subst (Runs answer c) (ok_same c z q) (runs_refl answer c g)
+local_entries_run (Node f.Entry (Node f.Declared (declarator ▹ none) ▹ Node f.MaybeInit inits ▹ none) ▹ rest) answer line storage base c z l p g at q =
+    let d = came (entry false line storage base declarator inits c) (λ d. entries false line storage base rest d) z q in
+    let s = p d.value d.is in
+    let one = entry_runs answer false line storage base declarator inits c d.value l (λ x type e h. name_spoken line (name_of declarator) type inits x.0 d.value (λ name k. s.0 x type name e h k)) g at d.is in
+    runs_trans answer c d.value z one (local_entries_run rest answer line storage base d.value z l s.1 one.fine (place_on false c d.value one.depth at) d.last)
+local_entries_run (tree ▹ rest) answer line storage base c z l p g at q = never _ _ z q
 
 specs_alone_runs : (answer : Option Sort) (tree : Tree) (c : Context) (z : Context × PlainType) → Fine c → specs_alone tree c ≡ Ok z → Runs answer c z.0
 specs_alone_runs answer (Node f.Specs (At line ▹ Node (f.RecordTag sort) (At at ▹ Leaf (w.Name name) ▹ none) ▹ none)) c z g q =
@@ -290,10 +319,18 @@ specs_before_runs : (answer : Option Sort) (tree : Tree) (names : Trees) (c : Co
 specs_before_runs answer tree none c z g q = specs_alone_runs answer tree c z g q
 specs_before_runs answer tree (name ▹ rest) c z g q = specs_run answer tree c c (runs_refl answer c g) z q
 
-pub declaration_runs : (answer : Option Sort) (file : Bool) (line : ℕ) (words tree : Tree) (c z : Context) → 1 ≤ line → Plain tree → Fine c → AtPlace file c → declaration file line words tree c ≡ Ok z → Runs answer c z
-unfolding declaration Plain
-declaration_runs answer file line words (Node f.Names names) c z l p g at q =
-    let base = came (specs_before words names c) (λ base. entries file line (storage_of words) base.1 names base.0) z q in
+pub file_declaration_runs : (answer : Option Sort) (line : ℕ) (words tree : Tree) (c z : Context) → 1 ≤ line → Written tree → Fine c → length c.scopes.inner ≡ 0 → declaration true line words tree c ≡ Ok z → Runs answer c z
+unfolding declaration Written
+file_declaration_runs answer line words (Node f.Names names) c z l p g at q =
+    let base = came (specs_before words names c) (λ base. entries true line (storage_of words) base.1 names base.0) z q in
     let one = specs_before_runs answer words names c base.value g base.is in
-    runs_trans answer c base.value.0 z one (entries_run names answer file line (storage_of words) base.value.1 base.value.0 z l p.1 one.fine (place_on file c base.value.0 one.depth at) base.last)
-declaration_runs answer file line words tree c z l p g at q = never _ _ z q
+    runs_trans answer c base.value.0 z one (file_entries_run names answer line (storage_of words) base.value.1 base.value.0 z l p.1 one.fine (one.depth ∙ at) base.last)
+file_declaration_runs answer line words tree c z l p g at q = never _ _ z q
+
+pub local_declaration_runs : (answer : Option Sort) (line : ℕ) (words tree : Tree) (c z : Context) → 1 ≤ line → DeclarationSpoken line words tree c → Fine c → AtPlace false c → declaration false line words tree c ≡ Ok z → Runs answer c z
+unfolding declaration
+local_declaration_runs answer line words (Node f.Names names) c z l p g at q =
+    let base = came (specs_before words names c) (λ base. entries false line (storage_of words) base.1 names base.0) z q in
+    let one = specs_before_runs answer words names c base.value g base.is in
+    runs_trans answer c base.value.0 z one (local_entries_run names answer line (storage_of words) base.value.1 base.value.0 z l (p base.value base.is) one.fine (place_on false c base.value.0 one.depth at) base.last)
+local_declaration_runs answer line words tree c z l p g at q = never _ _ z q

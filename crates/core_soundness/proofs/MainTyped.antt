@@ -20,7 +20,8 @@ use Rattle.elaboration.specs.Externals as externals
 use Rattle.elaboration.specs.Externals.{is_defined}
 use Rattle.elaboration.specs.Resolving.{function_of, core_of}
 use Rattle.elaboration.specs.Elaboration.{elaborated}
-use Rattle.core_soundness.specs.Spoken.{ArePlain}
+use Rattle.core_soundness.specs.Written.{AreWritten}
+use Rattle.core_soundness.proofs.Formed.{AreFormed}
 use Rattle.core_soundness.proofs.Cores.{behind}
 use Rattle.core_soundness.proofs.Texts.{walked_finished}
 use Rattle.core_soundness.proofs.Typing.{text_ended, function_returns}
@@ -61,11 +62,11 @@ walked_at c (w ∷ ws) zero func e = (w, refl, some_is (function_of c w) func e)
     some_is x y q = cc
 walked_at c (w ∷ ws) (suc k) func e = walked_at c ws k func e
 
-pub core_main_typed : (unit : Trees) (core : Core) (tags : TagTable) → ArePlain unit → elaborated unit ≡ Ok (core, tags) → ForSome (slice_get core.funcs (main_of core)) (IsMain core)
-core_main_typed unit core tags p q =
+pub core_main_typed : (unit : Trees) (core : Core) (tags : TagTable) → AreWritten unit → AreFormed unit → elaborated unit ≡ Ok (core, tags) → ForSome (slice_get core.funcs (main_of core)) (IsMain core)
+core_main_typed unit core tags p i q =
     let b = behind unit core tags q in
     let c = b.context in
-    let e = text_ended unit c p b.is in
+    let e = text_ended unit c p i b.is in
     let f = walked_finished unit c b.is in
     subst (λ (x : Core). ForSome (slice_get x.funcs (main_of x)) (IsMain x)) b.made
     (λ func at.

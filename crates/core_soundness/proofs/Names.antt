@@ -69,7 +69,7 @@ tags_trans a b c x y name =
     (y name))
     (x name)
 
-all_trans : (a b c : List Table) → MoreAll a b → MoreAll b c → MoreAll a c
+pub all_trans : (a b c : List Table) → MoreAll a b → MoreAll b c → MoreAll a c
 all_trans [] [] [] x y = tt
 all_trans [] [] (u ∷ us) x y = absurd y
 all_trans [] (t ∷ ts) c x y = absurd x

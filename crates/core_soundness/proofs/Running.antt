@@ -15,6 +15,7 @@ use Rattle.elaboration.specs.Expressions.{found}
 use Rattle.core_soundness.specs.Worlds.{World, world, InnerFits, TableFits, TablesFit, NamesFit}
 use Rattle.core_soundness.specs.Spoken.{Spoken}
 use Rattle.core_soundness.proofs.Grown.{good, ok_same}
+use Rattle.core_soundness.proofs.Names.{MoreAll, all_refl, all_trans}
 use Rattle.core_soundness.proofs.Owners.{more_depth}
 use Rattle.core_soundness.proofs.Declaring.{tail_depth}
 use Rattle.core_soundness.proofs.Agreeing.{came}
@@ -33,18 +34,20 @@ pub record Fine (c : Context) : Type 0 where
   pub names : NamesFit (world c) c.scopes
   pub lined : 1 ≤ c.running.line
 
--- a part of a function that answers that
+-- a part of a function that answers that; scopes around the innermost have new tags at most
 pub record Runs (result : Option Sort) (c d : Context) : Type 0 where
   pub grew : Grew (world c) (world d)
   pub fine : Fine d
   pub fits : CodeFits result c → CodeFits result d
   pub answer : d.running.answer ≡ c.running.answer
+  pub addressed : d.running.addressed ≡ c.running.addressed
+  pub outside : MoreAll (scopes.tail c.scopes.inner) (scopes.tail d.scopes.inner)
   pub depth : length d.scopes.inner ≡ length c.scopes.inner
   pub params : ParamsFit c → ParamsFit d
   pub walked : d.walked ≡ c.walked
 
 pub runs_refl : (answer : Option Sort) (c : Context) → Fine c → Runs answer c c
-runs_refl answer c h = record { grew = grew_refl (world c); fine = h; fits = λ k. k; answer = refl; depth = refl; params = λ k. k; walked = refl }
+runs_refl answer c h = record { grew = grew_refl (world c); fine = h; fits = λ k. k; answer = refl; addressed = refl; outside = all_refl (scopes.tail c.scopes.inner); depth = refl; params = λ k. k; walked = refl }
 
 pub runs_trans : (answer : Option Sort) (a b c : Context) → Runs answer a b → Runs answer b c → Runs answer a c
 runs_trans answer a b c x y = record {
@@ -52,6 +55,8 @@ runs_trans answer a b c x y = record {
   fine = y.fine;
   fits = λ h. y.fits (x.fits h);
   answer = y.answer ∙ x.answer;
+  addressed = y.addressed ∙ x.addressed;
+  outside = all_trans (scopes.tail a.scopes.inner) (scopes.tail b.scopes.inner) (scopes.tail c.scopes.inner) x.outside y.outside;
   depth = y.depth ∙ x.depth;
   params = λ h. y.params (x.params h);
   walked = y.walked ∙ x.walked;
@@ -60,12 +65,20 @@ runs_trans answer a b c x y = record {
 pub table_grew : (a b : World) (t : Table) → Grew a b → TableFits (InnerFits a) t → TableFits (InnerFits b) t
 table_grew a b t g h name v e = inner_kept a b v g (h name v e)
 
+pub tail_more : (xs ys : List Table) → MoreAll xs ys → MoreAll (scopes.tail xs) (scopes.tail ys)
+tail_more [] [] m = tt
+tail_more [] (y ∷ ys) m = absurd m
+tail_more (x ∷ xs) [] m = absurd m
+tail_more (x ∷ xs) (y ∷ ys) m = m.1
+
 pub goes_runs : (answer : Option Sort) (c d : Context) → Fine c → Goes c d → Runs answer c d
 goes_runs answer c d h g = record {
   grew = g.grew;
   fine = record { names = names_more (world c) (world d) c.scopes d.scopes g.grew g.more h.names; lined = subst (λ (k : ℕ). 1 ≤ k) (sym g.kept.line) h.lined };
   fits = g.fits answer;
   answer = g.kept.answer;
+  addressed = g.kept.addressed;
+  outside = tail_more c.scopes.inner d.scopes.inner g.more.inner;
   depth = more_depth c.scopes d.scopes g.more;
   params = λ k. subst (TableFits (InnerFits (world d))) (sym g.kept.params) (table_grew (world c) (world d) c.params g.grew k);
   walked = g.kept.walked;
@@ -92,7 +105,7 @@ entered_fine c h = record { names = names_entered (world c) c.scopes h.names; li
 
 -- what ran in a scope of its own
 pub runs_left : (answer : Option Sort) (c d : Context) → Runs answer (entered c) d → Runs answer c (left d)
-runs_left answer c d r = record { grew = r.grew; fine = record { names = names_left (world d) d.scopes r.fine.names; lined = r.fine.lined }; fits = r.fits; answer = r.answer; depth = tail_depth d.scopes.inner (length c.scopes.inner) r.depth; params = r.params; walked = r.walked }
+runs_left answer c d r = record { grew = r.grew; fine = record { names = names_left (world d) d.scopes r.fine.names; lined = r.fine.lined }; fits = r.fits; answer = r.answer; addressed = r.addressed; outside = tail_more c.scopes.inner (scopes.tail d.scopes.inner) r.outside; depth = tail_depth d.scopes.inner (length c.scopes.inner) r.depth; params = r.params; walked = r.walked }
 
 pub scoped_runs : (answer : Option Sort) (c : Context) (inside : Context → Checked Context) (z : Context) → ((d : Context) → inside (entered c) ≡ Ok d → Runs answer (entered c) d) → scoped c inside ≡ Ok z → Runs answer c z
 scoped_runs answer c inside z k q =
@@ -102,7 +115,7 @@ scoped_runs answer c inside z k q =
 -- full expressions
 
 pub goes_anew : (c : Context) → Goes c (anew c)
-goes_anew c = record { grew = grew_refl (world c); more = (goes_refl c).more; kept = record { line = refl; answer = refl; params = refl; walked = refl }; fits = λ answer h. h }
+goes_anew c = record { grew = grew_refl (world c); more = (goes_refl c).more; kept = record { line = refl; answer = refl; addressed = refl; declared = refl; params = refl; walked = refl }; fits = λ answer h. h }
 
 pub record Opened (c : Context) (e : Tree) (z : Context × Found) : Type 0 where
   pub goes : Goes c (opened e c)

@@ -1,5 +1,5 @@
 -- What statements do to what fits (C99 6.8).
-use Rattle.std.proofs.Common.{◌≡◌, ◌≤◌, ◌+◌, ◌-◌, ℕ, ℤ, zero, suc, true, false, not, is_some, map, length, List, [], ◌∷◌, ◌++◌, Option, Some, None, Ok, refl, ap, ◌∙◌, subst}
+use Rattle.std.proofs.Common.{◌≡◌, ◌≤◌, ◌+◌, ◌-◌, ℕ, ℤ, zero, suc, true, false, not, is_some, map, length, List, [], ◌∷◌, ◌++◌, Option, Some, None, Ok, refl, sym, ap, ◌∙◌, subst}
 use Rattle.c_types.specs.declared.types.IntType.{IntType}
 use Rattle.c_types.specs.Types as types
 use Rattle.c_types.specs.Types.{PlainType, Void, kind_of}
@@ -10,6 +10,7 @@ use Rattle.c_tree.specs.Forms as f
 use Rattle.c_tree.specs.Tree.{Tree, Trees, At, Node, none, ◌▹◌}
 use Rattle.c_decls.specs.declared.refusal.TypeKind.TheVariants.{LeftOut, Operands, Assignment, CaseTwice, StrayBreak}
 use Rattle.hs_base.specs.Numbers.{wrapped}
+use Rattle.c_decls.specs.ScopeList.{tail}
 use Rattle.c_decls.specs.Expressions.{line_of}
 use Rattle.c_decls.specs.Refusals.{Checked, then, unless}
 use Rattle.c_decls.specs.IntegerTypes.{promoted}
@@ -19,11 +20,14 @@ use Rattle.elaboration.specs.Context.{Here, Context, entered, left, scoped, emit
 use Rattle.elaboration.specs.Conversions.{Found, atom_in, valued, convert, convert_integer, tested_value}
 use Rattle.elaboration.specs.Reallocates.{opened, closed}
 use Rattle.elaboration.specs.Expressions.{found}
+use Rattle.elaboration.specs.Addressed.{Taken, left_scope, taken}
 use Rattle.elaboration.specs.Declarators.{constant}
+use Rattle.elaboration.specs.Declarations.{declaration}
 use Rattle.elaboration.specs.Statements.{Around, below, in_loop, in_switch, in_delay, has_case, leaves, leave_to, evaluated, maybe_evaluated, closed_atom, condition, leaves_if_zero, maybe_leaves, apart, returned, return_value, return_of, return_from, with_case, cased, defaulted, does, dispatch, switch_operand_of, switch_operand, no_cases, switched, looped, for_start, statement, items}
 use Rattle.core_soundness.specs.Worlds.{World, world, Holds, HeldAs, Held, FitsAnswer, PiecesFit, NamesFit, result_sort}
-use Rattle.core_soundness.specs.Spoken.{Plain, AllPlain}
+use Rattle.core_soundness.specs.Spoken.{Spoken, AllSpoken}
 use Rattle.core_soundness.proofs.Grown.{good, bad, ok_same, never}
+use Rattle.core_soundness.proofs.Names.{all_refl, all_trans}
 use Rattle.core_soundness.proofs.Agreeing.{came}
 use Rattle.core_soundness.proofs.Growing.{Grew, grew_refl, grew_trans, holds_grew, pieces_grew, pieces_joined}
 use Rattle.core_soundness.proofs.Going.{Goes, goes_refl, goes_trans, goes_emit, goes_here, goes_labels}
@@ -31,21 +35,28 @@ use Rattle.core_soundness.proofs.Sorting.{Comes, HasValue, converted, integer_co
 use Rattle.core_soundness.proofs.Operating.{passed, kept_test, behind_test, unbarred}
 use Rattle.core_soundness.proofs.Landing.{not_false}
 use Rattle.core_soundness.proofs.Assigning.{converting_of}
-use Rattle.core_soundness.proofs.Plainly.{plain_spoken}
-use Rattle.core_soundness.proofs.Running.{Fine, Runs, runs_refl, runs_trans, goes_runs, on_runs, entered_fine, scoped_runs, closed_goes, Evaluates, evaluates, evaluated_goes}
+use Rattle.core_soundness.proofs.Running.{Fine, Runs, runs_refl, runs_trans, goes_runs, on_runs, entered_fine, runs_left, closed_goes, Evaluates, evaluates, evaluated_goes}
 use Rattle.core_soundness.proofs.LayersRun.{constant_runs}
-use Rattle.core_soundness.proofs.LocalsRun.{declaration_runs}
+use Rattle.core_soundness.proofs.LocalsRun.{local_declaration_runs}
+use Rattle.core_soundness.proofs.Adding.{Has, Inside}
+use Rattle.core_soundness.proofs.InStep.{InStep, Keeps}
+use Rattle.core_soundness.proofs.Keeping.{keeps_step}
+use Rattle.core_soundness.proofs.Leaving.{step_left}
+use Rattle.core_soundness.proofs.Good.{Good, ItemsGood, behind_items, as_before, expr_taken, block_taken, delay_taken, if_taken, else_taken, while_taken, do_taken, for_taken, switch_taken, case_taken, default_taken, break_taken, continue_taken, return_taken, start_taken, names_taken, items_taken, none_taken, empty_taken, line_good, expr_good, block_good, delay_good, if_good, else_good, while_good, do_good, for_good, switch_good, case_good, default_good, return_good, start_good, names_good, items_good}
+use Rattle.core_soundness.proofs.SpokenSteps.{evaluated_spoken, leaves_spoken, operand_spoken, maybe_evaluated_spoken, maybe_leaves_spoken, return_from_spoken}
+use Rattle.core_soundness.proofs.StepsExpressions.{evaluated_in_step, leaves_in_step, operand_in_step, maybe_evaluated_in_step, maybe_leaves_in_step, constant_in_step, return_from_in_step}
+use Rattle.core_soundness.proofs.DeclaredSteps.{declaration_spoken, declaration_in_step}
 
 -- expressions
 
-evaluated_runs : (e : Tree) (c z : Context) → Plain e → NamesFit (world c) c.scopes → evaluated e c ≡ Ok z → Goes c z
+evaluated_runs : (e : Tree) (c z : Context) → Spoken c.scopes e → NamesFit (world c) c.scopes → evaluated e c ≡ Ok z → Goes c z
 evaluated_runs e c z p h q =
     let d = came (valued e (found e Void (opened e c))) (λ d. good (closed e d.0)) z q in
-    let v = evaluates e Void c d.value (plain_spoken c.scopes e p) h d.is in
+    let v = evaluates e Void c d.value p h d.is in
     subst (Goes c) (ok_same (closed e d.value.0) z d.last) (goes_trans c d.value.0 _ (evaluated_goes c e d.value v) (closed_goes e d.value.0 v.line))
 
-maybe_evaluated_runs : (es : Trees) (c z : Context) → AllPlain es → NamesFit (world c) c.scopes → maybe_evaluated es c ≡ Ok z → Goes c z
-unfolding AllPlain
+maybe_evaluated_runs : (es : Trees) (c z : Context) → AllSpoken c.scopes es → NamesFit (world c) c.scopes → maybe_evaluated es c ≡ Ok z → Goes c z
+unfolding AllSpoken
 maybe_evaluated_runs none c z p h q = subst (Goes c) (ok_same c z q) (goes_refl c)
 maybe_evaluated_runs (e ▹ rest) c z p h q = evaluated_runs e c z p.0 h q
 
@@ -53,24 +64,24 @@ record Tested (c : Context) (z : Context × Atom) : Type 0 where
   goes : Goes c z.0
   holds : Holds (world z.0) Integer z.1
 
-condition_runs : (e : Tree) (c : Context) (z : Context × Atom) → Plain e → NamesFit (world c) c.scopes → condition e c ≡ Ok z → Tested c z
+condition_runs : (e : Tree) (c : Context) (z : Context × Atom) → Spoken c.scopes e → NamesFit (world c) c.scopes → condition e c ≡ Ok z → Tested c z
 condition_runs e c z p h q =
     let d = came (valued e (found e Void (opened e c))) (λ d. unless (not (is_scalar d.1.typed.type)) Operands (line_of e) (good (closed_atom e (tested_value e d)))) z q in
-    let v = evaluates e Void c d.value (plain_spoken c.scopes e p) h d.is in
+    let v = evaluates e Void c d.value p h d.is in
     let t = tested_value e d.value in
     let g = tested_value_gives e d.value v.line (not_false (is_scalar d.value.1.typed.type) (kept_test (not (is_scalar d.value.1.typed.type)) Operands (line_of e) (good (closed_atom e t)) z d.last)) v.comes.value in
     let k = closed_goes e t.0 v.line in
     subst (Tested c) (passed (not (is_scalar d.value.1.typed.type)) Operands (line_of e) (closed_atom e t) z d.last)
     (record { goes = goes_trans c d.value.0 _ (evaluated_goes c e d.value v) (goes_trans d.value.0 t.0 _ g.goes k); holds = holds_grew (world t.0) _ Integer t.1 k.grew g.holds })
 
-leaves_runs : (line label : ℕ) (e : Tree) (c z : Context) → 1 ≤ line → Plain e → NamesFit (world c) c.scopes → leaves_if_zero line label e c ≡ Ok z → Goes c z
+leaves_runs : (line label : ℕ) (e : Tree) (c z : Context) → 1 ≤ line → Spoken c.scopes e → NamesFit (world c) c.scopes → leaves_if_zero line label e c ≡ Ok z → Goes c z
 leaves_runs line label e c z l p h q =
     let d = came (condition e c) (λ d. good (emit line (Zero d.1 label) d.0)) z q in
     let t = condition_runs e c d.value p h d.is in
     subst (Goes c) (ok_same (emit line (Zero d.value.1 label) d.value.0) z d.last) (goes_trans c d.value.0 _ t.goes (goes_emit line (Zero d.value.1 label) d.value.0 l t.holds))
 
-maybe_leaves_runs : (line label : ℕ) (es : Trees) (c z : Context) → 1 ≤ line → AllPlain es → NamesFit (world c) c.scopes → maybe_leaves line label es c ≡ Ok z → Goes c z
-unfolding AllPlain
+maybe_leaves_runs : (line label : ℕ) (es : Trees) (c z : Context) → 1 ≤ line → AllSpoken c.scopes es → NamesFit (world c) c.scopes → maybe_leaves line label es c ≡ Ok z → Goes c z
+unfolding AllSpoken
 maybe_leaves_runs line label none c z l p h q = subst (Goes c) (ok_same c z q) (goes_refl c)
 maybe_leaves_runs line label (e ▹ rest) c z l p h q = leaves_runs line label e c z l p.0 h q
 
@@ -92,10 +103,15 @@ return_fits answer line a c l g h = record {
   fine = record { names = g.names; lined = g.lined };
   fits = λ k. pieces_joined answer (world c) c.code.pieces _ k ((l, h), tt);
   answer = refl;
+  addressed = refl;
+  outside = all_refl (tail c.scopes.inner);
   depth = refl;
   params = λ k. k;
   walked = refl;
 }
+
+goes_keeps : (c d : Context) → Goes c d → Keeps c d
+goes_keeps c d g = record { more = g.more; declared = g.kept.declared; addressed = g.kept.addressed }
 
 returned_runs : (answer : Option Sort) (line delays : ℕ) (a : Option Atom) (c : Context) → 1 ≤ line → Fine c → ((w : World) → Grew (world c) w → FitsAnswer w answer a) → Runs answer c (returned line delays a c)
 returned_runs answer line delays a c l g h =
@@ -121,12 +137,12 @@ never_neither type e u o = by (operand type) o u
     by (PointerTo target) k u = cc
     by Neither k u = cc
 
-return_of_runs : (answer : Option Sort) (line delays : ℕ) (e : Tree) (type : PlainType) (c z : Context) → 1 ≤ line → Plain e → Fine c → result_sort type ≡ answer → return_of line delays e type c ≡ Ok z → Runs answer c z
+return_of_runs : (answer : Option Sort) (line delays : ℕ) (e : Tree) (type : PlainType) (c z : Context) → 1 ≤ line → Spoken c.scopes e → Fine c → result_sort type ≡ answer → return_of line delays e type c ≡ Ok z → Runs answer c z
 return_of_runs answer line delays e type c z l p g s q =
     let begun = opened e c in
     let d = came (valued e (found e type begun)) (λ d. unless (is_void type) Assignment line (converts line type d.1.typed (return_value line delays e type begun.code d))) z q in
     let k = unbarred (unconverted type d.value.1.typed) line (return_value line delays e type begun.code d.value) z (behind_test (is_void type) Assignment line (converts line type d.value.1.typed (return_value line delays e type begun.code d.value)) z d.last) in
-    let v = evaluates e type c d.value (plain_spoken c.scopes e p) g.names d.is in
+    let v = evaluates e type c d.value p g.names d.is in
     let x = convert line begun.code type d.value.1.typed (atom_in d.value.1) d.value.0 in
     let cx = converted line begun type d.value.1.typed (atom_in d.value.1) d.value.0 l v.comes.goes v.comes.value.held in
     let y = closed e x.0 in
@@ -147,8 +163,8 @@ void_answer w answer (types.Struct tag) e v = cc
 void_answer w answer (types.Union tag) e v = cc
 void_answer w answer (types.Function result params) e v = cc
 
-return_from_runs : (answer : Option Sort) (line delays : ℕ) (es : Trees) (c z : Context) → 1 ≤ line → AllPlain es → Fine c → result_sort c.running.answer ≡ answer → return_from line delays es c ≡ Ok z → Runs answer c z
-unfolding AllPlain
+return_from_runs : (answer : Option Sort) (line delays : ℕ) (es : Trees) (c z : Context) → 1 ≤ line → AllSpoken c.scopes es → Fine c → result_sort c.running.answer ≡ answer → return_from line delays es c ≡ Ok z → Runs answer c z
+unfolding AllSpoken
 return_from_runs answer line delays none c z l p g s q =
     subst (Runs answer c) (ok_same (returned line delays None c) z (behind_test (not (is_void c.running.answer)) Assignment line (good (returned line delays None c)) z q))
     (returned_runs answer line delays None c l g (λ w gw. void_answer w answer c.running.answer s (not_false (is_void c.running.answer) (kept_test (not (is_void c.running.answer)) Assignment line (good (returned line delays None c)) z q))))
@@ -170,10 +186,10 @@ operand_of_runs line e (Number ty) c d z l v h q =
 operand_of_runs line e (PointerTo target) c d z l v h q = never _ _ z q
 operand_of_runs line e Neither c d z l v h q = never _ _ z q
 
-operand_runs : (line : ℕ) (e : Tree) (c : Context) (z : Context × (IntType × Atom)) → 1 ≤ line → Plain e → NamesFit (world c) c.scopes → switch_operand line e c ≡ Ok z → Operand_at c z
+operand_runs : (line : ℕ) (e : Tree) (c : Context) (z : Context × (IntType × Atom)) → 1 ≤ line → Spoken c.scopes e → NamesFit (world c) c.scopes → switch_operand line e c ≡ Ok z → Operand_at c z
 operand_runs line e c z l p h q =
     let d = came (valued e (found e Void (opened e c))) (λ d. switch_operand_of line e (operand d.1.typed.type) d) z q in
-    let v = evaluates e Void c d.value (plain_spoken c.scopes e p) h d.is in
+    let v = evaluates e Void c d.value p h d.is in
     operand_of_runs line e (operand d.value.1.typed.type) c d.value z l v v.comes.value.held d.last
 
 cases_fit : (answer : Option Sort) (w : World) (line : ℕ) (a : Atom) (cases : List (ℤ × ℕ)) → 1 ≤ line → Holds w Integer a → PiecesFit answer w (map (λ x. does line (Case a x.0 x.1)) cases)
@@ -193,6 +209,8 @@ switched_runs answer line end a t g l h r = record {
       (pieces_joined answer (world g) t.code.pieces (dispatch line a end g) (pieces_grew answer (world t) (world g) t.code.pieces r.grew k) (dispatch_fits answer (world g) line a end g l (holds_grew (world t) (world g) Integer a r.grew h)))
       (r.fits tt)) (tt, tt);
   answer = r.answer;
+  addressed = r.addressed;
+  outside = r.outside;
   depth = r.depth;
   params = r.params;
   walked = r.walked;
@@ -206,6 +224,8 @@ for_runs answer label t g h f s r = record {
   fits = λ k. pieces_joined answer (world h) h.code.pieces (Here label ∷ g.code.pieces) (r.fits (pieces_grew answer (world t) (world g) t.code.pieces s.grew k))
       (tt, pieces_grew answer (world g) (world h) g.code.pieces r.grew (s.fits answer tt));
   answer = r.answer ∙ step.answer;
+  addressed = r.addressed ∙ step.addressed;
+  outside = all_trans (tail t.scopes.inner) (tail g.scopes.inner) (tail h.scopes.inner) step.outside r.outside;
   depth = r.depth ∙ step.depth;
   params = λ k. r.params (step.params k);
   walked = r.walked ∙ step.walked;
@@ -214,16 +234,13 @@ for_runs answer label t g h f s r = record {
     step : Runs answer (apart t) g
     step = goes_runs answer (apart t) g (record { names = f.names; lined = f.lined }) s
 
-step_fine : (answer : Option Sort) (t g : Context) → Fine t → Goes (apart t) g → Fine (with_pieces t.code.pieces g)
-step_fine answer t g f s = let r = goes_runs answer (apart t) g (record { names = f.names; lined = f.lined }) s in record { names = r.fine.names; lined = r.fine.lined }
-
 case_runs : (answer : Option Sort) (line : ℕ) (a : Around) (o : Option IntType) (place : ℕ) (v : ℤ) (label : ℕ) (c z : Context) → Fine c → cased line a o place v label c ≡ Ok z → Runs answer c z
 case_runs answer line a None place v label c z g q = never _ _ z q
 case_runs answer line a (Some ty) place v label c z g q =
     let value = wrapped (kind_of ty) v in
     let last : Checked Context = good (with_case place value label c) in
     subst (Runs answer c) (passed (has_case value c) CaseTwice line (with_case place value label c) z (behind_test (not a.labelled) LeftOut line (unless (has_case value c) CaseTwice line last) z q))
-    (record { grew = grew_refl (world c); fine = record { names = g.names; lined = g.lined }; fits = λ k. k; answer = refl; depth = refl; params = λ k. k; walked = refl })
+    (record { grew = grew_refl (world c); fine = record { names = g.names; lined = g.lined }; fits = λ k. k; answer = refl; addressed = refl; outside = all_refl (tail c.scopes.inner); depth = refl; params = λ k. k; walked = refl })
 
 default_runs : (answer : Option Sort) (line : ℕ) (a : Around) (label : ℕ) (c z : Context) → Fine c → defaulted line a label c ≡ Ok z → Runs answer c z
 default_runs answer line a label c z g q =
@@ -231,191 +248,339 @@ default_runs answer line a label c z g q =
     let r2 : Checked Context = unless (is_some c.running.otherwise) CaseTwice line (good d) in
     let r1 : Checked Context = unless (not a.labelled) LeftOut line r2 in
     subst (Runs answer c) (passed (is_some c.running.otherwise) CaseTwice line d z (behind_test (not a.labelled) LeftOut line r2 z (behind_test (not (is_some a.switched)) StrayBreak line r1 z q)))
-    (record { grew = grew_refl (world c); fine = record { names = g.names; lined = g.lined }; fits = λ k. k; answer = refl; depth = refl; params = λ k. k; walked = refl })
+    (record { grew = grew_refl (world c); fine = record { names = g.names; lined = g.lined }; fits = λ k. k; answer = refl; addressed = refl; outside = all_refl (tail c.scopes.inner); depth = refl; params = λ k. k; walked = refl })
+
+case_step : (line : ℕ) (a : Around) (o : Option IntType) (place : ℕ) (v : ℤ) (label : ℕ) (u : Taken) (c z : Context) → InStep u c → cased line a o place v label c ≡ Ok z → InStep u z
+case_step line a None place v label u c z s q = never _ _ z q
+case_step line a (Some ty) place v label u c z s q =
+    let value = wrapped (kind_of ty) v in
+    let last : Checked Context = good (with_case place value label c) in
+    subst (λ (x : Context). InStep u x) (passed (has_case value c) CaseTwice line (with_case place value label c) z (behind_test (not a.labelled) LeftOut line (unless (has_case value c) CaseTwice line last) z q)) s
+
+default_step : (line : ℕ) (a : Around) (label : ℕ) (u : Taken) (c z : Context) → InStep u c → defaulted line a label c ≡ Ok z → InStep u z
+default_step line a label u c z s q =
+    let d : Context = record c { running = record c.running { otherwise = Some label } } in
+    let r2 : Checked Context = unless (is_some c.running.otherwise) CaseTwice line (good d) in
+    let r1 : Checked Context = unless (not a.labelled) LeftOut line r2 in
+    subst (λ (x : Context). InStep u x) (passed (is_some c.running.otherwise) CaseTwice line d z (behind_test (not a.labelled) LeftOut line r2 z (behind_test (not (is_some a.switched)) StrayBreak line r1 z q))) s
 
 looped_goes : (line head end : ℕ) (c : Context) → 1 ≤ line → Goes c (looped line head end c)
 looped_goes line head end c l = goes_trans c (emit line (Loop head) c) _ (goes_emit line (Loop head) c l tt) (goes_here end (emit line (Loop head) c))
 
-for_start_runs : (answer : Option Sort) (line : ℕ) (tree : Tree) (k : ℕ) (c z : Context) → 1 ≤ line → Plain tree → Fine c → length c.scopes.inner ≡ suc k → for_start line tree c ≡ Ok z → Runs answer c z
-unfolding Plain AllPlain
-for_start_runs answer line (Node f.ForNames (words ▹ names ▹ none)) k c z l p g deep q = declaration_runs answer false line words names c z l p.1.1.0 g (k, deep) q
-for_start_runs answer line (Node f.ForStart (Node f.MaybeExpr e ▹ none)) k c z l p g deep q = goes_runs answer c z g (maybe_evaluated_runs e c z p.1.0.1 g.names q)
-for_start_runs answer line tree k c z l p g deep q = never _ _ z q
-
--- what a statement keeps
-pub record Stands_in (answer : Option Sort) (c : Context) : Type 0 where
+-- what a statement keeps: addresses are taken of these numbers, and up to here as is known there
+pub record Stands_in (answer : Option Sort) (numbers : List ℕ) (t : Taken) (c : Context) : Type 0 where
   pub fine : Fine c
   pub inside : ℕ
   pub deep : length c.scopes.inner ≡ suc inside
   pub sorted : result_sort c.running.answer ≡ answer
+  pub step : InStep t c
+  pub same : c.running.addressed ≡ numbers
 
-stand_on : (answer : Option Sort) (c d : Context) → Stands_in answer c → Runs answer c d → Stands_in answer d
-stand_on answer c d s r = record { fine = r.fine; inside = s.inside; deep = r.depth ∙ s.deep; sorted = ap result_sort r.answer ∙ s.sorted }
+-- what a part does, and what holds behind it
+record Went_on (answer : Option Sort) (numbers : List ℕ) (c : Context) (u : Taken) (d : Context) : Type 0 where
+  goes : Goes c d
+  stands : Stands_in answer numbers u d
 
-stand_in : (answer : Option Sort) (c : Context) → Stands_in answer c → Stands_in answer (entered c)
-stand_in answer c s = record { fine = entered_fine c s.fine; inside = length c.scopes.inner; deep = refl; sorted = s.sorted }
+pub record Ran_on (answer : Option Sort) (numbers : List ℕ) (c : Context) (u : Taken) (d : Context) : Type 0 where
+  pub runs : Runs answer c d
+  pub stands : Stands_in answer numbers u d
 
--- the same behind what an expression or a label does
-stand_go : (answer : Option Sort) (c d : Context) → Stands_in answer c → Goes c d → Stands_in answer d
-stand_go answer c d s g = stand_on answer c d s (goes_runs answer c d s.fine g)
+record Operand_on (answer : Option Sort) (numbers : List ℕ) (c : Context) (u : Taken) (d : Context × (IntType × Atom)) : Type 0 where
+  at : Operand_at c d
+  stands : Stands_in answer numbers u d.0
 
--- a substatement in a scope of its own
-branch_of : (tree : Tree) (answer : Option Sort) (a : Around) (c z : Context) → ((d : Context) → statement tree a (entered c) ≡ Ok d → Runs answer (entered c) d) → scoped c (λ y. statement tree a y) ≡ Ok z → Runs answer c z
-branch_of tree answer a c z h q = scoped_runs answer c (λ y. statement tree a y) z h q
+-- the same numbers, as the running function has them
+inside_at : (one numbers addressed : List ℕ) → addressed ≡ numbers → Inside one numbers → Inside one addressed
+inside_at one numbers addressed e i k h = subst (λ (ks : List ℕ). Has ks k) (sym e) (i k h)
 
-mutual
-  unfolding statement items Plain AllPlain
+-- names of another kind are declared no longer
+typed_step : (t u : Taken) (c d : Context) → InStep t c → InStep u d → InStep (as_before t u) d
+typed_step t u c d s r = (s.0, r.1, r.2)
 
-  pub statement_runs : (tree : Tree) (answer : Option Sort) (a : Around) (c z : Context) → Plain tree → Stands_in answer c → statement tree a c ≡ Ok z → Runs answer c z
-  statement_runs (Node f.Empty parts) answer a c z p s q = subst (Runs answer c) (ok_same c z q) (runs_refl answer c s.fine)
-  statement_runs (Node f.Expr (At line ▹ e ▹ none)) answer a c z p s q = goes_runs answer c z s.fine (evaluated_runs e c z p.1.1.0 s.fine.names q)
-  statement_runs (Node f.Block (At line ▹ Node f.Items parts ▹ none)) answer a c z p s q =
-      scoped_runs answer c (λ d. items parts (below a) d) z (λ d k. items_run parts answer (below a) (entered c) d p.1.1.0.1 (stand_in answer c s) k) q
-  statement_runs (Node f.Delay (At line ▹ Node f.Items parts ▹ none)) answer a c z p s q =
-      scoped_runs answer c (λ d. then (items parts (in_delay a) (emit line Enter d)) (λ e. good (emit line Leave e))) z
-      (λ d k. let x = came (items parts (in_delay a) (emit line Enter (entered c))) (λ e. good (emit line Leave e)) d k in
-      let s2 = stand_in answer c s in
-      let g = goes_emit line Enter (entered c) p.1.0 tt in
-      let r = items_run parts answer (in_delay a) (emit line Enter (entered c)) x.value p.1.1.0.1 (stand_go answer (entered c) _ s2 g) x.is in
-      let r2 = runs_trans answer (entered c) (emit line Enter (entered c)) x.value (goes_runs answer (entered c) _ s2.fine g) r in
-      subst (Runs answer (entered c)) (ok_same (emit line Leave x.value) d x.last) (on_runs answer (entered c) x.value _ r2 (goes_emit line Leave x.value p.1.0 tt))) q
-  statement_runs (Node f.If (At line ▹ e ▹ x ▹ none)) answer a c z p s q =
-      let end = new_label c in
-      let b = with_labels 1 c in
-      let sb = stand_go answer c b s (goes_labels 1 c) in
-      runs_trans answer c b z (goes_runs answer c b s.fine (goes_labels 1 c))
-      (scoped_runs answer b (λ d. then (leaves_if_zero line end e d) (λ t. then (scoped t (λ y. statement x (below a) y)) (λ g. good (here end g)))) z
-      (λ d k. let t = came (leaves_if_zero line end e (entered b)) (λ t. then (scoped t (λ y. statement x (below a) y)) (λ g. good (here end g))) d k in
-      let g = came (scoped t.value (λ y. statement x (below a) y)) (λ g. good (here end g)) d t.last in
-      let s2 = stand_in answer b sb in
-      let tg = leaves_runs line end e (entered b) t.value p.1.0 p.1.1.0 s2.fine.names t.is in
-      let st = stand_go answer (entered b) t.value s2 tg in
-      let r = branch_of x answer (below a) t.value g.value (λ v j. statement_runs x answer (below a) (entered t.value) v p.1.1.1.0 (stand_in answer t.value st) j) g.is in
-      subst (Runs answer (entered b)) (ok_same (here end g.value) d g.last) (on_runs answer (entered b) g.value _ (runs_trans answer (entered b) t.value g.value (goes_runs answer (entered b) t.value s2.fine tg) r) (goes_here end g.value))) q)
-  statement_runs (Node f.IfElse (At line ▹ e ▹ x ▹ other ▹ none)) answer a c z p s q =
-      let end = new_label c in
-      let b = with_labels 2 c in
-      let sb = stand_go answer c b s (goes_labels 2 c) in
-      runs_trans answer c b z (goes_runs answer c b s.fine (goes_labels 2 c))
-      (scoped_runs answer b (λ d. then (leaves_if_zero line (end + 1) e d) (λ t. then (scoped t (λ y. statement x (below a) y)) (λ g. then (scoped (here (end + 1) (emit line (Jump end) g)) (λ y. statement other (below a) y)) (λ h. good (here end h))))) z
-      (λ d k. let t = came (leaves_if_zero line (end + 1) e (entered b)) (λ t. then (scoped t (λ y. statement x (below a) y)) (λ g. then (scoped (here (end + 1) (emit line (Jump end) g)) (λ y. statement other (below a) y)) (λ h. good (here end h)))) d k in
-      let g = came (scoped t.value (λ y. statement x (below a) y)) (λ g. then (scoped (here (end + 1) (emit line (Jump end) g)) (λ y. statement other (below a) y)) (λ h. good (here end h))) d t.last in
-      let mid = here (end + 1) (emit line (Jump end) g.value) in
-      let h = came (scoped mid (λ y. statement other (below a) y)) (λ h. good (here end h)) d g.last in
-      let s2 = stand_in answer b sb in
-      let tg = leaves_runs line (end + 1) e (entered b) t.value p.1.0 p.1.1.0 s2.fine.names t.is in
-      let st = stand_go answer (entered b) t.value s2 tg in
-      let r = branch_of x answer (below a) t.value g.value (λ v j. statement_runs x answer (below a) (entered t.value) v p.1.1.1.0 (stand_in answer t.value st) j) g.is in
-      let mg = goes_trans g.value (emit line (Jump end) g.value) mid (goes_emit line (Jump end) g.value p.1.0 tt) (goes_here (end + 1) (emit line (Jump end) g.value)) in
-      let r2 = on_runs answer t.value g.value mid r mg in
-      let sm = stand_on answer t.value mid st r2 in
-      let r3 = branch_of other answer (below a) mid h.value (λ v j. statement_runs other answer (below a) (entered mid) v p.1.1.1.1.0 (stand_in answer mid sm) j) h.is in
-      let all = runs_trans answer (entered b) t.value h.value (goes_runs answer (entered b) t.value s2.fine tg) (runs_trans answer t.value mid h.value r2 r3) in
-      subst (Runs answer (entered b)) (ok_same (here end h.value) d h.last) (on_runs answer (entered b) h.value _ all (goes_here end h.value))) q)
-  statement_runs (Node f.While (At line ▹ e ▹ x ▹ none)) answer a c z p s q =
-      let head = new_label c in
-      let b = with_labels 3 c in
-      let sb = stand_go answer c b s (goes_labels 3 c) in
-      runs_trans answer c b z (goes_runs answer c b s.fine (goes_labels 3 c))
-      (scoped_runs answer b (λ d. then (leaves_if_zero line (head + 1) e (here head d)) (λ t. then (scoped t (λ y. statement x (in_loop (head + 1) (head + 2) a) y)) (λ g. good (looped line head (head + 1) (here (head + 2) g))))) z
-      (λ d k. let t = came (leaves_if_zero line (head + 1) e (here head (entered b))) (λ t. then (scoped t (λ y. statement x (in_loop (head + 1) (head + 2) a) y)) (λ g. good (looped line head (head + 1) (here (head + 2) g)))) d k in
-      let g = came (scoped t.value (λ y. statement x (in_loop (head + 1) (head + 2) a) y)) (λ g. good (looped line head (head + 1) (here (head + 2) g))) d t.last in
-      let s2 = stand_in answer b sb in
-      let hg = goes_here head (entered b) in
-      let s3 = stand_go answer (entered b) (here head (entered b)) s2 hg in
-      let tg = goes_trans (entered b) (here head (entered b)) t.value hg (leaves_runs line (head + 1) e (here head (entered b)) t.value p.1.0 p.1.1.0 s3.fine.names t.is) in
-      let st = stand_go answer (entered b) t.value s2 tg in
-      let r = branch_of x answer (in_loop (head + 1) (head + 2) a) t.value g.value (λ v j. statement_runs x answer (in_loop (head + 1) (head + 2) a) (entered t.value) v p.1.1.1.0 (stand_in answer t.value st) j) g.is in
-      let last = goes_trans g.value (here (head + 2) g.value) _ (goes_here (head + 2) g.value) (looped_goes line head (head + 1) (here (head + 2) g.value) p.1.0) in
-      subst (Runs answer (entered b)) (ok_same (looped line head (head + 1) (here (head + 2) g.value)) d g.last)
-      (on_runs answer (entered b) g.value _ (runs_trans answer (entered b) t.value g.value (goes_runs answer (entered b) t.value s2.fine tg) r) last)) q)
-  statement_runs (Node f.Do (At line ▹ x ▹ e ▹ none)) answer a c z p s q =
-      let head = new_label c in
-      let b = with_labels 3 c in
-      let sb = stand_go answer c b s (goes_labels 3 c) in
-      runs_trans answer c b z (goes_runs answer c b s.fine (goes_labels 3 c))
-      (scoped_runs answer b (λ d. then (scoped (here head d) (λ y. statement x (in_loop (head + 1) (head + 2) a) y)) (λ g. then (leaves_if_zero line (head + 1) e (here (head + 2) g)) (λ t. good (looped line head (head + 1) t)))) z
-      (λ d k. let g = came (scoped (here head (entered b)) (λ y. statement x (in_loop (head + 1) (head + 2) a) y)) (λ g. then (leaves_if_zero line (head + 1) e (here (head + 2) g)) (λ t. good (looped line head (head + 1) t))) d k in
-      let t = came (leaves_if_zero line (head + 1) e (here (head + 2) g.value)) (λ t. good (looped line head (head + 1) t)) d g.last in
-      let s2 = stand_in answer b sb in
-      let hg = goes_here head (entered b) in
-      let s3 = stand_go answer (entered b) (here head (entered b)) s2 hg in
-      let r = branch_of x answer (in_loop (head + 1) (head + 2) a) (here head (entered b)) g.value (λ v j. statement_runs x answer (in_loop (head + 1) (head + 2) a) (entered (here head (entered b))) v p.1.1.0 (stand_in answer (here head (entered b)) s3) j) g.is in
-      let gg = goes_here (head + 2) g.value in
-      let r2 = on_runs answer (here head (entered b)) g.value _ r gg in
-      let tg = leaves_runs line (head + 1) e (here (head + 2) g.value) t.value p.1.0 p.1.1.1.0 r2.fine.names t.is in
-      let all = runs_trans answer (entered b) (here head (entered b)) t.value (goes_runs answer (entered b) _ s2.fine hg) (on_runs answer (here head (entered b)) (here (head + 2) g.value) t.value r2 tg) in
-      subst (Runs answer (entered b)) (ok_same (looped line head (head + 1) t.value) d t.last) (on_runs answer (entered b) t.value _ all (looped_goes line head (head + 1) t.value p.1.0))) q)
-  statement_runs (Node f.For (At line ▹ start ▹ Node f.MaybeExpr test ▹ Node f.MaybeExpr step ▹ x ▹ none)) answer a c z p s q =
-      let head = new_label c in
-      let b = with_labels 3 c in
-      let sb = stand_go answer c b s (goes_labels 3 c) in
-      runs_trans answer c b z (goes_runs answer c b s.fine (goes_labels 3 c))
-      (scoped_runs answer b (λ d. then (for_start line start d) (λ y. then (maybe_leaves line (head + 1) test (here head y)) (λ t. then (maybe_evaluated step (apart t)) (λ g. then (scoped (with_pieces t.code.pieces g) (λ v. statement x (in_loop (head + 1) (head + 2) a) v)) (λ h. good (looped line head (head + 1) (with_pieces (h.code.pieces ++ (Here (head + 2) ∷ g.code.pieces)) h))))))) z
-      (λ d k. let y = came (for_start line start (entered b)) (λ y. then (maybe_leaves line (head + 1) test (here head y)) (λ t. then (maybe_evaluated step (apart t)) (λ g. then (scoped (with_pieces t.code.pieces g) (λ v. statement x (in_loop (head + 1) (head + 2) a) v)) (λ h. good (looped line head (head + 1) (with_pieces (h.code.pieces ++ (Here (head + 2) ∷ g.code.pieces)) h)))))) d k in
-      let t = came (maybe_leaves line (head + 1) test (here head y.value)) (λ t. then (maybe_evaluated step (apart t)) (λ g. then (scoped (with_pieces t.code.pieces g) (λ v. statement x (in_loop (head + 1) (head + 2) a) v)) (λ h. good (looped line head (head + 1) (with_pieces (h.code.pieces ++ (Here (head + 2) ∷ g.code.pieces)) h))))) d y.last in
-      let g = came (maybe_evaluated step (apart t.value)) (λ g. then (scoped (with_pieces t.value.code.pieces g) (λ v. statement x (in_loop (head + 1) (head + 2) a) v)) (λ h. good (looped line head (head + 1) (with_pieces (h.code.pieces ++ (Here (head + 2) ∷ g.code.pieces)) h)))) d t.last in
-      let h = came (scoped (with_pieces t.value.code.pieces g.value) (λ v. statement x (in_loop (head + 1) (head + 2) a) v)) (λ h. good (looped line head (head + 1) (with_pieces (h.code.pieces ++ (Here (head + 2) ∷ g.value.code.pieces)) h))) d g.last in
-      let s2 = stand_in answer b sb in
-      let r1 = for_start_runs answer line start s2.inside (entered b) y.value p.1.0 p.1.1.0 s2.fine s2.deep y.is in
-      let r2 = on_runs answer (entered b) y.value (here head y.value) r1 (goes_here head y.value) in
-      let r3 = on_runs answer (entered b) (here head y.value) t.value r2 (maybe_leaves_runs line (head + 1) test (here head y.value) t.value p.1.0 p.1.1.1.0.1 r2.fine.names t.is) in
-      let st = stand_on answer (entered b) t.value s2 r3 in
-      let sg = maybe_evaluated_runs step (apart t.value) g.value p.1.1.1.1.0.1 st.fine.names g.is in
-      let sr = goes_runs answer (apart t.value) g.value (record { names = st.fine.names; lined = st.fine.lined }) sg in
-      let sw : Stands_in answer (with_pieces t.value.code.pieces g.value) = record { fine = step_fine answer t.value g.value st.fine sg; inside = st.inside; deep = sr.depth ∙ st.deep; sorted = ap result_sort sr.answer ∙ st.sorted } in
-      let r4 = branch_of x answer (in_loop (head + 1) (head + 2) a) (with_pieces t.value.code.pieces g.value) h.value (λ v j. statement_runs x answer (in_loop (head + 1) (head + 2) a) (entered (with_pieces t.value.code.pieces g.value)) v p.1.1.1.1.1.0 (stand_in answer (with_pieces t.value.code.pieces g.value) sw) j) h.is in
-      let made = with_pieces (h.value.code.pieces ++ (Here (head + 2) ∷ g.value.code.pieces)) h.value in
-      let r5 = for_runs answer (head + 2) t.value g.value h.value st.fine sg r4 in
-      subst (Runs answer (entered b)) (ok_same (looped line head (head + 1) made) d h.last)
-      (on_runs answer (entered b) made _ (runs_trans answer (entered b) t.value made r3 r5) (looped_goes line head (head + 1) made p.1.0))) q)
-  statement_runs (Node f.Switch (At line ▹ e ▹ Node f.Block (At at ▹ Node f.Items parts ▹ none) ▹ none)) answer a c z p s q =
-      let end = new_label c in
-      let b = with_labels 1 c in
-      let sb = stand_go answer c b s (goes_labels 1 c) in
-      runs_trans answer c b z (goes_runs answer c b s.fine (goes_labels 1 c))
-      (scoped_runs answer b (λ d. then (switch_operand line e d) (λ t. then (scoped (no_cases (apart t.0)) (λ y. items parts (in_switch true end t.1.0 a) y)) (λ g. good (switched line end t.1.1 t.0 g)))) z
-      (λ d k. let t = came (switch_operand line e (entered b)) (λ t. then (scoped (no_cases (apart t.0)) (λ y. items parts (in_switch true end t.1.0 a) y)) (λ g. good (switched line end t.1.1 t.0 g))) d k in
-      let g = came (scoped (no_cases (apart t.value.0)) (λ y. items parts (in_switch true end t.value.1.0 a) y)) (λ g. good (switched line end t.value.1.1 t.value.0 g)) d t.last in
-      let s2 = stand_in answer b sb in
-      let o = operand_runs line e (entered b) t.value p.1.0 p.1.1.0 s2.fine.names t.is in
-      let st = stand_go answer (entered b) t.value.0 s2 o.goes in
-      let sa : Stands_in answer (no_cases (apart t.value.0)) = record { fine = record { names = st.fine.names; lined = st.fine.lined }; inside = st.inside; deep = st.deep; sorted = st.sorted } in
-      let r = scoped_runs answer (no_cases (apart t.value.0)) (λ y. items parts (in_switch true end t.value.1.0 a) y) g.value (λ y j. items_run parts answer (in_switch true end t.value.1.0 a) (entered (no_cases (apart t.value.0))) y p.1.1.1.0.1.1.0.1 (stand_in answer (no_cases (apart t.value.0)) sa) j) g.is in
-      subst (Runs answer (entered b)) (ok_same (switched line end t.value.1.1 t.value.0 g.value) d g.last)
-      (runs_trans answer (entered b) t.value.0 _ (goes_runs answer (entered b) t.value.0 s2.fine o.goes) (switched_runs answer line end t.value.1.1 t.value.0 g.value p.1.0 o.holds r))) q)
-  statement_runs (Node f.Switch (At line ▹ e ▹ x ▹ none)) answer a c z p s q =
-      let end = new_label c in
-      let b = with_labels 1 c in
-      let v = came (then (switch_operand line e (entered b)) (λ t. then (statement x (in_switch false end t.1.0 a) (no_cases (apart t.0))) (λ g. bad (record { kind = LeftOut; line = line })))) (λ d. good (left d)) z q in
-      let t = came (switch_operand line e (entered b)) (λ t. then (statement x (in_switch false end t.1.0 a) (no_cases (apart t.0))) (λ g. bad (record { kind = LeftOut; line = line }))) v.value v.is in
-      let g = came (statement x (in_switch false end t.value.1.0 a) (no_cases (apart t.value.0))) (λ g. bad (record { kind = LeftOut; line = line })) v.value t.last in
-      never _ _ v.value g.last
-  statement_runs (Node f.Case (At line ▹ e ▹ x ▹ none)) answer a c z p s q =
-      let k = came (constant e c) (λ k. let label = new_label k.0 in then (statement x a (here label (with_labels 1 k.0))) (λ d. cased line a a.switched (length c.running.cases) k.1.value label d)) z q in
-      let label = new_label k.value.0 in
-      let b = here label (with_labels 1 k.value.0) in
-      let d = came (statement x a b) (λ d. cased line a a.switched (length c.running.cases) k.value.1.value label d) z k.last in
-      let r1 = constant_runs answer e c c (runs_refl answer c s.fine) k.value k.is in
-      let r2 = on_runs answer c k.value.0 b r1 (goes_trans k.value.0 (with_labels 1 k.value.0) b (goes_labels 1 k.value.0) (goes_here label (with_labels 1 k.value.0))) in
-      let r3 = statement_runs x answer a b d.value p.1.1.1.0 (stand_on answer c b s r2) d.is in
-      runs_trans answer c b z r2 (runs_trans answer b d.value z r3 (case_runs answer line a a.switched (length c.running.cases) k.value.1.value label d.value z r3.fine d.last))
-  statement_runs (Node f.Default (At line ▹ x ▹ none)) answer a c z p s q =
-      let label = new_label c in
-      let b = here label (with_labels 1 c) in
-      let d = came (statement x a b) (λ d. defaulted line a label d) z q in
-      let g = goes_trans c (with_labels 1 c) b (goes_labels 1 c) (goes_here label (with_labels 1 c)) in
-      let r = statement_runs x answer a b d.value p.1.1.0 (stand_go answer c b s g) d.is in
-      runs_trans answer c b z (goes_runs answer c b s.fine g) (runs_trans answer b d.value z r (default_runs answer line a label d.value z r.fine d.last))
-  statement_runs (Node f.Break (At line ▹ none)) answer a c z p s q = goes_runs answer c z s.fine (leave_to_runs line a.delays a.breaks c z p.1.0 q)
-  statement_runs (Node f.Continue (At line ▹ none)) answer a c z p s q = goes_runs answer c z s.fine (leave_to_runs line a.delays a.continues c z p.1.0 q)
-  statement_runs (Node f.Return (At line ▹ Node f.MaybeExpr e ▹ none)) answer a c z p s q = return_from_runs answer line a.delays e c z p.1.0 p.1.1.0.1 s.fine s.sorted q
-  statement_runs (Node f.Local (At line ▹ words ▹ names ▹ none)) answer a c z p s q = declaration_runs answer false line words names c z p.1.0 p.1.1.1.0 s.fine (s.inside, s.deep) q
-  statement_runs tree answer a c z p s q = never _ _ z q
+module _ (answer : Option Sort) (numbers : List ℕ) where
+  stand_on : (t u : Taken) (c d : Context) → Stands_in answer numbers t c → InStep u d → Runs answer c d → Stands_in answer numbers u d
+  stand_on t u c d s step r = record { fine = r.fine; inside = s.inside; deep = r.depth ∙ s.deep; sorted = ap result_sort r.answer ∙ s.sorted; step = step; same = r.addressed ∙ s.same }
 
-  pub items_run : (parts : Trees) (answer : Option Sort) (a : Around) (c z : Context) → AllPlain parts → Stands_in answer c → items parts a c ≡ Ok z → Runs answer c z
-  items_run none answer a c z p s q = subst (Runs answer c) (ok_same c z q) (runs_refl answer c s.fine)
-  items_run (item ▹ rest) answer a c z p s q =
-      let d = came (statement item a c) (λ d. items rest a d) z q in
-      let r = statement_runs item answer a c d.value p.0 s d.is in
-      runs_trans answer c d.value z r (items_run rest answer a d.value z p.1 (stand_on answer c d.value s r) d.last)
+  stand_in : (t : Taken) (c : Context) → Stands_in answer numbers t c → Stands_in answer numbers t (entered c)
+  stand_in t c s = record { fine = entered_fine c s.fine; inside = length c.scopes.inner; deep = refl; sorted = s.sorted; step = (s.step.0, tt, s.step.2); same = s.same }
+
+  -- the same behind what an expression or a label does
+  stand_go : (t u : Taken) (c d : Context) → Stands_in answer numbers t c → InStep u d → Goes c d → Stands_in answer numbers u d
+  stand_go t u c d s step g = stand_on t u c d s step (goes_runs answer c d s.fine g)
+
+  ran : (t u : Taken) (c d : Context) → Stands_in answer numbers t c → InStep u d → Runs answer c d → Ran_on answer numbers c u d
+  ran t u c d s step r = record { runs = r; stands = stand_on t u c d s step r }
+
+  ran_go : (t u : Taken) (c d : Context) → Stands_in answer numbers t c → InStep u d → Goes c d → Ran_on answer numbers c u d
+  ran_go t u c d s step g = ran t u c d s step (goes_runs answer c d s.fine g)
+
+  -- what is known, said otherwise; and the context
+  ran_as : (u v : Taken) (c d : Context) → u ≡ v → Ran_on answer numbers c u d → Ran_on answer numbers c v d
+  ran_as u v c d e r = subst (λ (x : Taken). Ran_on answer numbers c x d) e r
+
+  ran_to : (u : Taken) (c d z : Context) → good d ≡ Ok z → Ran_on answer numbers c u d → Ran_on answer numbers c u z
+  ran_to u c d z e r = subst (λ (x : Context). Ran_on answer numbers c u x) (ok_same d z e) r
+
+  -- behind what runs first
+  ran_behind : (u : Taken) (b c d : Context) → Runs answer b c → Ran_on answer numbers c u d → Ran_on answer numbers b u d
+  ran_behind u b c d r x = record { runs = runs_trans answer b c d r x.runs; stands = x.stands }
+
+  -- a scope of its own
+  scoped_on : (t u : Taken) (c : Context) (inner : Context → Checked Context) (z : Context) → Stands_in answer numbers t c → ((d : Context) → inner (entered c) ≡ Ok d → Ran_on answer numbers (entered c) u d) → scoped c inner ≡ Ok z → Ran_on answer numbers c (left_scope t u) z
+  scoped_on t u c inner z s k q =
+      let d = came (inner (entered c)) (λ d. good (left d)) z q in
+      let r = k d.value d.is in
+      ran_to (left_scope t u) c (left d.value) z d.last
+      (ran t (left_scope t u) c (left d.value) s (step_left t u c d.value s.step r.stands.step r.runs.addressed r.runs.fine.names.file r.runs.outside) (runs_left answer c d.value r.runs))
+
+  leaves_on : (line label : ℕ) (e : Tree) (t : Taken) (c z : Context) → 1 ≤ line → Good numbers t e → Stands_in answer numbers t c → leaves_if_zero line label e c ≡ Ok z → Went_on answer numbers c (taken e t) z
+  leaves_on line label e t c z l g s q =
+      let k = leaves_runs line label e c z l (leaves_spoken line label e t c z s.step.2 (inside_at (taken e t).addressed numbers c.running.addressed s.same g.inside) g.written g.formed q) s.fine.names q in
+      record { goes = k; stands = stand_go t (taken e t) c z s (leaves_in_step line label e t c z g.formed s.step q) k }
+
+  maybe_leaves_on : (line label : ℕ) (es : Trees) (t : Taken) (c z : Context) → 1 ≤ line → Good numbers t (Node f.MaybeExpr es) → Stands_in answer numbers t c → maybe_leaves line label es c ≡ Ok z → Went_on answer numbers c (taken (Node f.MaybeExpr es) t) z
+  maybe_leaves_on line label es t c z l g s q =
+      let u : Taken = taken (Node f.MaybeExpr es) t in
+      let k = maybe_leaves_runs line label es c z l (maybe_leaves_spoken line label es t c z s.step.2 (inside_at u.addressed numbers c.running.addressed s.same g.inside) g.written g.formed q) s.fine.names q in
+      record { goes = k; stands = stand_go t u c z s (maybe_leaves_in_step line label es t c z g.formed s.step q) k }
+
+  maybe_evaluated_on : (es : Trees) (t : Taken) (c z : Context) → Good numbers t (Node f.MaybeExpr es) → Stands_in answer numbers t c → maybe_evaluated es c ≡ Ok z → Went_on answer numbers c (taken (Node f.MaybeExpr es) t) z
+  maybe_evaluated_on es t c z g s q =
+      let u : Taken = taken (Node f.MaybeExpr es) t in
+      let k = maybe_evaluated_runs es c z (maybe_evaluated_spoken es t c z s.step.2 (inside_at u.addressed numbers c.running.addressed s.same g.inside) g.written g.formed q) s.fine.names q in
+      record { goes = k; stands = stand_go t u c z s (maybe_evaluated_in_step es t c z g.formed s.step q) k }
+
+  operand_on : (line : ℕ) (e : Tree) (t : Taken) (c : Context) (z : Context × (IntType × Atom)) → 1 ≤ line → Good numbers t e → Stands_in answer numbers t c → switch_operand line e c ≡ Ok z → Operand_on answer numbers c (taken e t) z
+  operand_on line e t c z l g s q =
+      let k = operand_runs line e c z l (operand_spoken line e t c z s.step.2 (inside_at (taken e t).addressed numbers c.running.addressed s.same g.inside) g.written g.formed q) s.fine.names q in
+      record { at = k; stands = stand_go t (taken e t) c z.0 s (operand_in_step line e t c z g.formed s.step q) k.goes }
+
+  -- a declaration of locals
+  local_on : (line : ℕ) (words names : Tree) (t : Taken) (c z : Context) → 1 ≤ line → Good numbers t (Node f.Local (At line ▹ words ▹ names ▹ none)) → Stands_in answer numbers t c → declaration false line words names c ≡ Ok z
+      → Ran_on answer numbers c (taken (Node f.Local (At line ▹ words ▹ names ▹ none)) t) z
+  local_on line words names t c z l g s q =
+      let u : Taken = taken (Node f.Local (At line ▹ words ▹ names ▹ none)) t in
+      ran t u c z s (declaration_in_step line words names t c z g.formed s.step q)
+      (local_declaration_runs answer line words names c z l (declaration_spoken line words names t c z g.formed g.written s.step (inside_at u.addressed numbers c.running.addressed s.same g.inside) q) s.fine (s.inside, s.deep) q)
+
+  for_start_on : (line : ℕ) (tree : Tree) (t : Taken) (c z : Context) → 1 ≤ line → Good numbers t tree → Stands_in answer numbers t c → for_start line tree c ≡ Ok z → Ran_on answer numbers c (taken tree t) z
+  for_start_on line (Node f.ForNames (words ▹ names ▹ none)) t c z l g s q =
+      ran_as (taken (Node f.Local (At line ▹ words ▹ names ▹ none)) t) (taken (Node f.ForNames (words ▹ names ▹ none)) t) c z (names_taken t line words names) (local_on line words names t c z l (names_good numbers t line words names l g) s q)
+  for_start_on line (Node f.ForStart (Node f.MaybeExpr es ▹ none)) t c z l g s q =
+      let r = maybe_evaluated_on es t c z (start_good numbers t es g) s q in
+      let u : Taken = taken (Node f.MaybeExpr es) t in
+      ran_as (as_before t u) (taken (Node f.ForStart (Node f.MaybeExpr es ▹ none)) t) c z (start_taken t es) (ran_go t (as_before t u) c z s (typed_step t u c z s.step r.stands.step) r.goes)
+  for_start_on line tree t c z l g s q = never _ _ z q
+
+  mutual
+    unfolding statement items
+
+    pub statement_runs : (tree : Tree) (w : Taken) (a : Around) (c z : Context) → Good numbers w tree → Stands_in answer numbers w c → statement tree a c ≡ Ok z → Ran_on answer numbers c (taken tree w) z
+    statement_runs (Node f.Empty parts) w a c z p s q =
+        ran_as w (taken (Node f.Empty parts) w) c z (empty_taken parts w p.formed) (ran_to w c c z q (record { runs = runs_refl answer c s.fine; stands = s }))
+    statement_runs (Node f.Expr (At line ▹ e ▹ none)) w a c z p s q =
+        let o = expr_good numbers w line e p in
+        let g = evaluated_runs e c z (evaluated_spoken e w c z s.step.2 (inside_at (taken e w).addressed numbers c.running.addressed s.same o.inside) o.written o.formed q) s.fine.names q in
+        ran_as (as_before w (taken e w)) (taken (Node f.Expr (At line ▹ e ▹ none)) w) c z (expr_taken w line e) (ran_go w (as_before w (taken e w)) c z s (typed_step w (taken e w) c z s.step (evaluated_in_step e w c z o.formed s.step q)) g)
+    statement_runs (Node f.Block (At line ▹ Node f.Items parts ▹ none)) w a c z p s q =
+        ran_as (left_scope w (behind_items parts w)) (taken (Node f.Block (At line ▹ Node f.Items parts ▹ none)) w) c z (block_taken w line parts)
+        (scoped_on w (behind_items parts w) c (λ d. items parts (below a) d) z s (λ d k. items_run parts w (below a) (entered c) d (block_good numbers w line parts p) (stand_in w c s) k) q)
+    statement_runs (Node f.Delay (At line ▹ Node f.Items parts ▹ none)) w a c z p s q =
+        let o = delay_good numbers w line parts p in
+        let u : Taken = behind_items parts w in
+        ran_as (left_scope w u) (taken (Node f.Delay (At line ▹ Node f.Items parts ▹ none)) w) c z (delay_taken w line parts)
+        (scoped_on w u c (λ d. then (items parts (in_delay a) (emit line Enter d)) (λ e. good (emit line Leave e))) z s
+        (λ d k. let x = came (items parts (in_delay a) (emit line Enter (entered c))) (λ e. good (emit line Leave e)) d k in
+        let s2 = stand_in w c s in
+        let g = goes_emit line Enter (entered c) o.0 tt in
+        let r = items_run parts w (in_delay a) (emit line Enter (entered c)) x.value o.1 (stand_go w w (entered c) (emit line Enter (entered c)) s2 s2.step g) x.is in
+        let r2 = runs_trans answer (entered c) (emit line Enter (entered c)) x.value (goes_runs answer (entered c) _ s2.fine g) r.runs in
+        ran_to u (entered c) (emit line Leave x.value) d x.last (ran w u (entered c) (emit line Leave x.value) s2 r.stands.step (on_runs answer (entered c) x.value _ r2 (goes_emit line Leave x.value o.0 tt)))) q)
+    statement_runs (Node f.If (At line ▹ e ▹ x ▹ none)) w a c z p s q =
+        let o = if_good numbers w line e x p in
+        let u : Taken = left_scope (taken e w) (taken x (taken e w)) in
+        let end = new_label c in
+        let b = with_labels 1 c in
+        let sb = stand_go w w c b s s.step (goes_labels 1 c) in
+        ran_as (left_scope w u) (taken (Node f.If (At line ▹ e ▹ x ▹ none)) w) c z (if_taken w line e x)
+        (ran_behind (left_scope w u) c b z (goes_runs answer c b s.fine (goes_labels 1 c))
+        (scoped_on w u b (λ d. then (leaves_if_zero line end e d) (λ t. then (scoped t (λ y. statement x (below a) y)) (λ g. good (here end g)))) z sb
+        (λ d k. let t = came (leaves_if_zero line end e (entered b)) (λ t. then (scoped t (λ y. statement x (below a) y)) (λ g. good (here end g))) d k in
+        let g = came (scoped t.value (λ y. statement x (below a) y)) (λ g. good (here end g)) d t.last in
+        let s2 = stand_in w b sb in
+        let tg = leaves_on line end e w (entered b) t.value o.0 o.1 s2 t.is in
+        let r = scoped_on (taken e w) (taken x (taken e w)) t.value (λ y. statement x (below a) y) g.value tg.stands (λ v j. statement_runs x (taken e w) (below a) (entered t.value) v o.2 (stand_in (taken e w) t.value tg.stands) j) g.is in
+        ran_to u (entered b) (here end g.value) d g.last
+        (ran w u (entered b) (here end g.value) s2 r.stands.step (on_runs answer (entered b) g.value _ (runs_trans answer (entered b) t.value g.value (goes_runs answer (entered b) t.value s2.fine tg.goes) r.runs) (goes_here end g.value)))) q))
+    statement_runs (Node f.IfElse (At line ▹ e ▹ x ▹ other ▹ none)) w a c z p s q =
+        let o = else_good numbers w line e x other p in
+        let u : Taken = left_scope (taken e w) (taken x (taken e w)) in
+        let v : Taken = left_scope u (taken other u) in
+        let end = new_label c in
+        let b = with_labels 2 c in
+        let sb = stand_go w w c b s s.step (goes_labels 2 c) in
+        ran_as (left_scope w v) (taken (Node f.IfElse (At line ▹ e ▹ x ▹ other ▹ none)) w) c z (else_taken w line e x other u refl)
+        (ran_behind (left_scope w v) c b z (goes_runs answer c b s.fine (goes_labels 2 c))
+        (scoped_on w v b (λ d. then (leaves_if_zero line (end + 1) e d) (λ t. then (scoped t (λ y. statement x (below a) y)) (λ g. then (scoped (here (end + 1) (emit line (Jump end) g)) (λ y. statement other (below a) y)) (λ h. good (here end h))))) z sb
+        (λ d k. let t = came (leaves_if_zero line (end + 1) e (entered b)) (λ t. then (scoped t (λ y. statement x (below a) y)) (λ g. then (scoped (here (end + 1) (emit line (Jump end) g)) (λ y. statement other (below a) y)) (λ h. good (here end h)))) d k in
+        let g = came (scoped t.value (λ y. statement x (below a) y)) (λ g. then (scoped (here (end + 1) (emit line (Jump end) g)) (λ y. statement other (below a) y)) (λ h. good (here end h))) d t.last in
+        let mid = here (end + 1) (emit line (Jump end) g.value) in
+        let h = came (scoped mid (λ y. statement other (below a) y)) (λ h. good (here end h)) d g.last in
+        let s2 = stand_in w b sb in
+        let tg = leaves_on line (end + 1) e w (entered b) t.value o.0 o.1 s2 t.is in
+        let r = scoped_on (taken e w) (taken x (taken e w)) t.value (λ y. statement x (below a) y) g.value tg.stands (λ v j. statement_runs x (taken e w) (below a) (entered t.value) v o.2 (stand_in (taken e w) t.value tg.stands) j) g.is in
+        let mg = goes_trans g.value (emit line (Jump end) g.value) mid (goes_emit line (Jump end) g.value o.0 tt) (goes_here (end + 1) (emit line (Jump end) g.value)) in
+        let r2 = on_runs answer t.value g.value mid r.runs mg in
+        let sm = stand_go u u g.value mid r.stands r.stands.step mg in
+        let r3 = scoped_on u (taken other u) mid (λ y. statement other (below a) y) h.value sm (λ v j. statement_runs other u (below a) (entered mid) v o.3 (stand_in u mid sm) j) h.is in
+        let all = runs_trans answer (entered b) t.value h.value (goes_runs answer (entered b) t.value s2.fine tg.goes) (runs_trans answer t.value mid h.value r2 r3.runs) in
+        ran_to v (entered b) (here end h.value) d h.last (ran w v (entered b) (here end h.value) s2 r3.stands.step (on_runs answer (entered b) h.value _ all (goes_here end h.value)))) q))
+    statement_runs (Node f.While (At line ▹ e ▹ x ▹ none)) w a c z p s q =
+        let o = while_good numbers w line e x p in
+        let u : Taken = left_scope (taken e w) (taken x (taken e w)) in
+        let head = new_label c in
+        let b = with_labels 3 c in
+        let sb = stand_go w w c b s s.step (goes_labels 3 c) in
+        ran_as (left_scope w u) (taken (Node f.While (At line ▹ e ▹ x ▹ none)) w) c z (while_taken w line e x)
+        (ran_behind (left_scope w u) c b z (goes_runs answer c b s.fine (goes_labels 3 c))
+        (scoped_on w u b (λ d. then (leaves_if_zero line (head + 1) e (here head d)) (λ t. then (scoped t (λ y. statement x (in_loop (head + 1) (head + 2) a) y)) (λ g. good (looped line head (head + 1) (here (head + 2) g))))) z sb
+        (λ d k. let t = came (leaves_if_zero line (head + 1) e (here head (entered b))) (λ t. then (scoped t (λ y. statement x (in_loop (head + 1) (head + 2) a) y)) (λ g. good (looped line head (head + 1) (here (head + 2) g)))) d k in
+        let g = came (scoped t.value (λ y. statement x (in_loop (head + 1) (head + 2) a) y)) (λ g. good (looped line head (head + 1) (here (head + 2) g))) d t.last in
+        let s2 = stand_in w b sb in
+        let hg = goes_here head (entered b) in
+        let s3 = stand_go w w (entered b) (here head (entered b)) s2 s2.step hg in
+        let lt = leaves_on line (head + 1) e w (here head (entered b)) t.value o.0 o.1 s3 t.is in
+        let tg = goes_trans (entered b) (here head (entered b)) t.value hg lt.goes in
+        let r = scoped_on (taken e w) (taken x (taken e w)) t.value (λ y. statement x (in_loop (head + 1) (head + 2) a) y) g.value lt.stands (λ v j. statement_runs x (taken e w) (in_loop (head + 1) (head + 2) a) (entered t.value) v o.2 (stand_in (taken e w) t.value lt.stands) j) g.is in
+        let made = looped line head (head + 1) (here (head + 2) g.value) in
+        let last = goes_trans g.value (here (head + 2) g.value) made (goes_here (head + 2) g.value) (looped_goes line head (head + 1) (here (head + 2) g.value) o.0) in
+        ran_to u (entered b) made d g.last
+        (ran w u (entered b) made s2 r.stands.step (on_runs answer (entered b) g.value made (runs_trans answer (entered b) t.value g.value (goes_runs answer (entered b) t.value s2.fine tg) r.runs) last))) q))
+    statement_runs (Node f.Do (At line ▹ x ▹ e ▹ none)) w a c z p s q =
+        let o = do_good numbers w line x e p in
+        let u : Taken = left_scope w (taken x w) in
+        let head = new_label c in
+        let b = with_labels 3 c in
+        let sb = stand_go w w c b s s.step (goes_labels 3 c) in
+        ran_as (left_scope w (taken e u)) (taken (Node f.Do (At line ▹ x ▹ e ▹ none)) w) c z (do_taken w line x e)
+        (ran_behind (left_scope w (taken e u)) c b z (goes_runs answer c b s.fine (goes_labels 3 c))
+        (scoped_on w (taken e u) b (λ d. then (scoped (here head d) (λ y. statement x (in_loop (head + 1) (head + 2) a) y)) (λ g. then (leaves_if_zero line (head + 1) e (here (head + 2) g)) (λ t. good (looped line head (head + 1) t)))) z sb
+        (λ d k. let g = came (scoped (here head (entered b)) (λ y. statement x (in_loop (head + 1) (head + 2) a) y)) (λ g. then (leaves_if_zero line (head + 1) e (here (head + 2) g)) (λ t. good (looped line head (head + 1) t))) d k in
+        let t = came (leaves_if_zero line (head + 1) e (here (head + 2) g.value)) (λ t. good (looped line head (head + 1) t)) d g.last in
+        let s2 = stand_in w b sb in
+        let hg = goes_here head (entered b) in
+        let s3 = stand_go w w (entered b) (here head (entered b)) s2 s2.step hg in
+        let r = scoped_on w (taken x w) (here head (entered b)) (λ y. statement x (in_loop (head + 1) (head + 2) a) y) g.value s3 (λ v j. statement_runs x w (in_loop (head + 1) (head + 2) a) (entered (here head (entered b))) v o.1 (stand_in w (here head (entered b)) s3) j) g.is in
+        let gg = goes_here (head + 2) g.value in
+        let r2 = on_runs answer (here head (entered b)) g.value _ r.runs gg in
+        let s4 = stand_go u u g.value (here (head + 2) g.value) r.stands r.stands.step gg in
+        let tg = leaves_on line (head + 1) e u (here (head + 2) g.value) t.value o.0 o.2 s4 t.is in
+        let all = runs_trans answer (entered b) (here head (entered b)) t.value (goes_runs answer (entered b) _ s2.fine hg) (on_runs answer (here head (entered b)) (here (head + 2) g.value) t.value r2 tg.goes) in
+        let made = looped line head (head + 1) t.value in
+        ran_to (taken e u) (entered b) made d t.last (ran w (taken e u) (entered b) made s2 tg.stands.step (on_runs answer (entered b) t.value made all (looped_goes line head (head + 1) t.value o.0)))) q))
+    statement_runs (Node f.For (At line ▹ start ▹ Node f.MaybeExpr test ▹ Node f.MaybeExpr step ▹ x ▹ none)) w a c z p s q =
+        let o = for_good numbers w line start x test step p in
+        let w1 : Taken = taken start w in
+        let w2 : Taken = taken (Node f.MaybeExpr test) w1 in
+        let w3 : Taken = taken (Node f.MaybeExpr step) w2 in
+        let u : Taken = left_scope w3 (taken x w3) in
+        let head = new_label c in
+        let b = with_labels 3 c in
+        let sb = stand_go w w c b s s.step (goes_labels 3 c) in
+        ran_as (left_scope w u) (taken (Node f.For (At line ▹ start ▹ Node f.MaybeExpr test ▹ Node f.MaybeExpr step ▹ x ▹ none)) w) c z (for_taken w line start x test step w3 refl)
+        (ran_behind (left_scope w u) c b z (goes_runs answer c b s.fine (goes_labels 3 c))
+        (scoped_on w u b (λ d. then (for_start line start d) (λ y. then (maybe_leaves line (head + 1) test (here head y)) (λ t. then (maybe_evaluated step (apart t)) (λ g. then (scoped (with_pieces t.code.pieces g) (λ v. statement x (in_loop (head + 1) (head + 2) a) v)) (λ h. good (looped line head (head + 1) (with_pieces (h.code.pieces ++ (Here (head + 2) ∷ g.code.pieces)) h))))))) z sb
+        (λ d k. let y = came (for_start line start (entered b)) (λ y. then (maybe_leaves line (head + 1) test (here head y)) (λ t. then (maybe_evaluated step (apart t)) (λ g. then (scoped (with_pieces t.code.pieces g) (λ v. statement x (in_loop (head + 1) (head + 2) a) v)) (λ h. good (looped line head (head + 1) (with_pieces (h.code.pieces ++ (Here (head + 2) ∷ g.code.pieces)) h)))))) d k in
+        let t = came (maybe_leaves line (head + 1) test (here head y.value)) (λ t. then (maybe_evaluated step (apart t)) (λ g. then (scoped (with_pieces t.code.pieces g) (λ v. statement x (in_loop (head + 1) (head + 2) a) v)) (λ h. good (looped line head (head + 1) (with_pieces (h.code.pieces ++ (Here (head + 2) ∷ g.code.pieces)) h))))) d y.last in
+        let g = came (maybe_evaluated step (apart t.value)) (λ g. then (scoped (with_pieces t.value.code.pieces g) (λ v. statement x (in_loop (head + 1) (head + 2) a) v)) (λ h. good (looped line head (head + 1) (with_pieces (h.code.pieces ++ (Here (head + 2) ∷ g.code.pieces)) h)))) d t.last in
+        let h = came (scoped (with_pieces t.value.code.pieces g.value) (λ v. statement x (in_loop (head + 1) (head + 2) a) v)) (λ h. good (looped line head (head + 1) (with_pieces (h.code.pieces ++ (Here (head + 2) ∷ g.value.code.pieces)) h))) d g.last in
+        let s2 = stand_in w b sb in
+        let r1 = for_start_on line start w (entered b) y.value o.0 o.1 s2 y.is in
+        let r2 = on_runs answer (entered b) y.value (here head y.value) r1.runs (goes_here head y.value) in
+        let sy = stand_go w1 w1 y.value (here head y.value) r1.stands r1.stands.step (goes_here head y.value) in
+        let lt = maybe_leaves_on line (head + 1) test w1 (here head y.value) t.value o.0 o.2 sy t.is in
+        let r3 = on_runs answer (entered b) (here head y.value) t.value r2 lt.goes in
+        let st = lt.stands in
+        let sa : Stands_in answer numbers w2 (apart t.value) = record { fine = record { names = st.fine.names; lined = st.fine.lined }; inside = st.inside; deep = st.deep; sorted = st.sorted; step = st.step; same = st.same } in
+        let ge = maybe_evaluated_on step w2 (apart t.value) g.value o.3 sa g.is in
+        let sg = ge.stands in
+        let sw : Stands_in answer numbers w3 (with_pieces t.value.code.pieces g.value) = record { fine = record { names = sg.fine.names; lined = sg.fine.lined }; inside = sg.inside; deep = sg.deep; sorted = sg.sorted; step = sg.step; same = sg.same } in
+        let r4 = scoped_on w3 (taken x w3) (with_pieces t.value.code.pieces g.value) (λ v. statement x (in_loop (head + 1) (head + 2) a) v) h.value sw (λ v j. statement_runs x w3 (in_loop (head + 1) (head + 2) a) (entered (with_pieces t.value.code.pieces g.value)) v o.4 (stand_in w3 (with_pieces t.value.code.pieces g.value) sw) j) h.is in
+        let bodied = with_pieces (h.value.code.pieces ++ (Here (head + 2) ∷ g.value.code.pieces)) h.value in
+        let r5 = for_runs answer (head + 2) t.value g.value h.value st.fine ge.goes r4.runs in
+        let made = looped line head (head + 1) bodied in
+        ran_to u (entered b) made d h.last
+        (ran w u (entered b) made s2 r4.stands.step (on_runs answer (entered b) bodied made (runs_trans answer (entered b) t.value bodied r3 r5) (looped_goes line head (head + 1) bodied o.0)))) q))
+    statement_runs (Node f.Switch (At line ▹ e ▹ Node f.Block (At at ▹ Node f.Items parts ▹ none) ▹ none)) w a c z p s q =
+        let o = switch_good numbers w line at e parts p in
+        let u : Taken = taken e w in
+        let v : Taken = left_scope u (behind_items parts u) in
+        let end = new_label c in
+        let b = with_labels 1 c in
+        let sb = stand_go w w c b s s.step (goes_labels 1 c) in
+        ran_as (left_scope w v) (taken (Node f.Switch (At line ▹ e ▹ Node f.Block (At at ▹ Node f.Items parts ▹ none) ▹ none)) w) c z (switch_taken w line at e parts)
+        (ran_behind (left_scope w v) c b z (goes_runs answer c b s.fine (goes_labels 1 c))
+        (scoped_on w v b (λ d. then (switch_operand line e d) (λ t. then (scoped (no_cases (apart t.0)) (λ y. items parts (in_switch true end t.1.0 a) y)) (λ g. good (switched line end t.1.1 t.0 g)))) z sb
+        (λ d k. let t = came (switch_operand line e (entered b)) (λ t. then (scoped (no_cases (apart t.0)) (λ y. items parts (in_switch true end t.1.0 a) y)) (λ g. good (switched line end t.1.1 t.0 g))) d k in
+        let g = came (scoped (no_cases (apart t.value.0)) (λ y. items parts (in_switch true end t.value.1.0 a) y)) (λ g. good (switched line end t.value.1.1 t.value.0 g)) d t.last in
+        let s2 = stand_in w b sb in
+        let k2 = operand_on line e w (entered b) t.value o.0 o.1 s2 t.is in
+        let st = k2.stands in
+        let sa : Stands_in answer numbers u (no_cases (apart t.value.0)) = record { fine = record { names = st.fine.names; lined = st.fine.lined }; inside = st.inside; deep = st.deep; sorted = st.sorted; step = st.step; same = st.same } in
+        let r = scoped_on u (behind_items parts u) (no_cases (apart t.value.0)) (λ y. items parts (in_switch true end t.value.1.0 a) y) g.value sa (λ y j. items_run parts u (in_switch true end t.value.1.0 a) (entered (no_cases (apart t.value.0))) y o.2 (stand_in u (no_cases (apart t.value.0)) sa) j) g.is in
+        let made = switched line end t.value.1.1 t.value.0 g.value in
+        ran_to v (entered b) made d g.last
+        (ran w v (entered b) made s2 r.stands.step (runs_trans answer (entered b) t.value.0 made (goes_runs answer (entered b) t.value.0 s2.fine k2.at.goes) (switched_runs answer line end t.value.1.1 t.value.0 g.value o.0 k2.at.holds r.runs)))) q))
+    statement_runs (Node f.Switch (At line ▹ e ▹ x ▹ none)) w a c z p s q =
+        let end = new_label c in
+        let b = with_labels 1 c in
+        let v = came (then (switch_operand line e (entered b)) (λ t. then (statement x (in_switch false end t.1.0 a) (no_cases (apart t.0))) (λ g. bad (record { kind = LeftOut; line = line })))) (λ d. good (left d)) z q in
+        let t = came (switch_operand line e (entered b)) (λ t. then (statement x (in_switch false end t.1.0 a) (no_cases (apart t.0))) (λ g. bad (record { kind = LeftOut; line = line }))) v.value v.is in
+        let g = came (statement x (in_switch false end t.value.1.0 a) (no_cases (apart t.value.0))) (λ g. bad (record { kind = LeftOut; line = line })) v.value t.last in
+        never _ _ v.value g.last
+    statement_runs (Node f.Case (At line ▹ e ▹ x ▹ none)) w a c z p s q =
+        let o = case_good numbers w line e x p in
+        let u : Taken = taken x (taken e w) in
+        let k = came (constant e c) (λ k. let label = new_label k.0 in then (statement x a (here label (with_labels 1 k.0))) (λ d. cased line a a.switched (length c.running.cases) k.1.value label d)) z q in
+        let label = new_label k.value.0 in
+        let b = here label (with_labels 1 k.value.0) in
+        let d = came (statement x a b) (λ d. cased line a a.switched (length c.running.cases) k.value.1.value label d) z k.last in
+        let r1 = constant_runs answer e c c (runs_refl answer c s.fine) k.value k.is in
+        let r2 = on_runs answer c k.value.0 b r1 (goes_trans k.value.0 (with_labels 1 k.value.0) b (goes_labels 1 k.value.0) (goes_here label (with_labels 1 k.value.0))) in
+        let r3 = statement_runs x (taken e w) a b d.value o.1 (stand_on w (taken e w) c b s (constant_in_step e w c k.value o.0.formed s.step k.is) r2) d.is in
+        ran_as (as_before w u) (taken (Node f.Case (At line ▹ e ▹ x ▹ none)) w) c z (case_taken w line e x)
+        (ran w (as_before w u) c z s (typed_step w u c z s.step (case_step line a a.switched (length c.running.cases) k.value.1.value label u d.value z r3.stands.step d.last))
+        (runs_trans answer c b z r2 (runs_trans answer b d.value z r3.runs (case_runs answer line a a.switched (length c.running.cases) k.value.1.value label d.value z r3.runs.fine d.last))))
+    statement_runs (Node f.Default (At line ▹ x ▹ none)) w a c z p s q =
+        let label = new_label c in
+        let b = here label (with_labels 1 c) in
+        let u : Taken = taken x w in
+        let d = came (statement x a b) (λ d. defaulted line a label d) z q in
+        let g = goes_trans c (with_labels 1 c) b (goes_labels 1 c) (goes_here label (with_labels 1 c)) in
+        let r = statement_runs x w a b d.value (default_good numbers w line x p) (stand_go w w c b s s.step g) d.is in
+        ran_as (as_before w u) (taken (Node f.Default (At line ▹ x ▹ none)) w) c z (default_taken w line x)
+        (ran w (as_before w u) c z s (typed_step w u c z s.step (default_step line a label u d.value z r.stands.step d.last))
+        (runs_trans answer c b z (goes_runs answer c b s.fine g) (runs_trans answer b d.value z r.runs (default_runs answer line a label d.value z r.runs.fine d.last))))
+    statement_runs (Node f.Break (At line ▹ none)) w a c z p s q =
+        let g = leave_to_runs line a.delays a.breaks c z (line_good numbers w f.Break line none p) q in
+        ran_as w (taken (Node f.Break (At line ▹ none)) w) c z (break_taken w line) (ran_go w w c z s (keeps_step w w c z (record { names = refl; typedef = refl; declared = refl }) (goes_keeps c z g) s.step) g)
+    statement_runs (Node f.Continue (At line ▹ none)) w a c z p s q =
+        let g = leave_to_runs line a.delays a.continues c z (line_good numbers w f.Continue line none p) q in
+        ran_as w (taken (Node f.Continue (At line ▹ none)) w) c z (continue_taken w line) (ran_go w w c z s (keeps_step w w c z (record { names = refl; typedef = refl; declared = refl }) (goes_keeps c z g) s.step) g)
+    statement_runs (Node f.Return (At line ▹ Node f.MaybeExpr es ▹ none)) w a c z p s q =
+        let o = return_good numbers w line es p in
+        let u : Taken = taken (Node f.MaybeExpr es) w in
+        let r = return_from_runs answer line a.delays es c z o.0
+        (return_from_spoken line a.delays es w c z s.step.2 (inside_at u.addressed numbers c.running.addressed s.same o.1.inside) o.1.written o.1.formed q) s.fine s.sorted q in
+        ran_as (as_before w u) (taken (Node f.Return (At line ▹ Node f.MaybeExpr es ▹ none)) w) c z (return_taken w line es)
+        (ran w (as_before w u) c z s (typed_step w u c z s.step (return_from_in_step line a.delays es w c z o.1.formed s.step q)) r)
+    statement_runs (Node f.Local (At line ▹ words ▹ names ▹ none)) w a c z p s q = local_on line words names w c z (line_good numbers w f.Local line (words ▹ names ▹ none) p) p s q
+    statement_runs tree w a c z p s q = never _ _ z q
+
+    pub items_run : (parts : Trees) (w : Taken) (a : Around) (c z : Context) → ItemsGood numbers w parts → Stands_in answer numbers w c → items parts a c ≡ Ok z → Ran_on answer numbers c (behind_items parts w) z
+    items_run none w a c z p s q = ran_as w (behind_items none w) c z (none_taken w) (ran_to w c c z q (record { runs = runs_refl answer c s.fine; stands = s }))
+    items_run (item ▹ rest) w a c z p s q =
+        let o = items_good numbers w item rest p in
+        let d = came (statement item a c) (λ d. items rest a d) z q in
+        let r = statement_runs item w a c d.value o.0 s d.is in
+        ran_as (behind_items rest (taken item w)) (behind_items (item ▹ rest) w) c z (items_taken w item rest) (ran_behind (behind_items rest (taken item w)) c d.value z r.runs (items_run rest (taken item w) a d.value z o.1 r.stands d.last))

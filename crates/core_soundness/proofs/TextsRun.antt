@@ -1,5 +1,5 @@
 -- The functions of a text fit (C99 6.9).
-use Rattle.std.proofs.Common.{◌≡◌, ◌≤◌, ◌+◌, ◌&&◌, ◌||◌, ℕ, suc, Bool, true, false, not, cond, nat_lt, reverse, is_some, map, length, List, [], ◌∷◌, ◌++◌, slice_get, Option, Some, None, Ok, refl, sym, ap, ◌∙◌, subst, inl, inr, ⊎_elim, arith, bytes_eq}
+use Rattle.std.proofs.Common.{◌≡◌, ◌≤◌, ◌+◌, ◌&&◌, ◌||◌, ℕ, suc, Bool, true, false, not, cond, nat_lt, reverse, is_some, map, length, List, [], ◌∷◌, ◌++◌, slice_get, Option, Some, None, IsSome, Ok, refl, sym, ap, ◌∙◌, subst, inl, inr, ⊎_elim, arith, bytes_eq}
 use Rattle.std.specs.Option.{option_or}
 use Rattle.std.proofs.lemmas.Slice.Eq.{bytes_eq-Decides}
 use Rattle.c_types.specs.Types as types
@@ -10,7 +10,7 @@ use Rattle.core_tree.specs.Sorts.{Sort, sort_of}
 use Rattle.c_tree.specs.Forms as f
 use Rattle.c_tree.specs.Tree as t
 use Rattle.c_tree.specs.Tree.{Tree, Trees, Leaf, At, Node, ◌▹◌}
-use Rattle.c_tree.specs.Scopes.{name_of}
+use Rattle.c_tree.specs.Scopes.{name_of, params_of}
 use Rattle.c_decls.specs.declared.refusal.TypeKind.TheVariants.{DeclaredTwice, ProgramTooLong}
 use Rattle.c_decls.specs.Named as n
 use Rattle.c_decls.specs.Named.{PlainNamed}
@@ -30,8 +30,9 @@ use Rattle.elaboration.specs.Statements.{around_body, items}
 use Rattle.std.specs.List.{sum_by}
 use Rattle.elaboration.specs.Externals.{piece_length, begun, is_defined, body_begun, last_answer, body_ended, body, defined, named_definition, definition, external, externals}
 use Rattle.core_soundness.specs.Worlds.{World, world, walked_world, FitsAnswer, PiecesFit, InnerFits, FileFits, TableFits, TablesFit, result_sort, param_sorts}
-use Rattle.core_soundness.specs.Spoken.{Plain, AllPlain, IsList, HasLists, HasParameters, IsDefinition, ArePlain}
-use Rattle.elaboration.specs.Addressed.{addressed_in}
+use Rattle.core_soundness.specs.Spoken.{IsList, HasLists, HasParameters, IsDefinition}
+use Rattle.core_soundness.specs.Written.{Written, AllWritten, AreWritten}
+use Rattle.elaboration.specs.Addressed.{Taken, nothing_taken, params_taken, addressed_in}
 use Rattle.core_soundness.proofs.Grown.{good, ok_same, never}
 use Rattle.core_soundness.proofs.Names.{named_push}
 use Rattle.core_soundness.proofs.Owners.{get_push}
@@ -42,8 +43,12 @@ use Rattle.core_soundness.proofs.Operating.{passed, kept_test, behind_test}
 use Rattle.core_soundness.proofs.Landing.{not_false}
 use Rattle.core_soundness.proofs.Running.{Fine, Runs, runs_refl, runs_trans, ParamsFit, entered_fine}
 use Rattle.core_soundness.proofs.LayersRun.{specs_run, layers_run, suffixes_run, suffix_runs, first_fits, params_run}
-use Rattle.core_soundness.proofs.LocalsRun.{declaration_runs, function_runs}
+use Rattle.core_soundness.proofs.LocalsRun.{file_declaration_runs, function_runs}
 use Rattle.core_soundness.proofs.StatementsRun.{Stands_in, items_run, return_fits}
+use Rattle.core_soundness.proofs.Formed.{Shaped, Formed, AllFormed, HasParams, AreFormed}
+use Rattle.core_soundness.proofs.Good.{Good, body_good}
+use Rattle.core_soundness.proofs.Counting.{specs_counts}
+use Rattle.core_soundness.proofs.Beginning.{Begun, layers_start, body_step}
 use Rattle.core_soundness.proofs.Parameters.{sorts, functions, function_sorts, functions_joined, functions_reversed, functions_one, makes_function, specs_sorts, layers_added}
 
 -- a function that was walked
@@ -107,10 +112,10 @@ begun_fine : (line : ℕ) (addressed : List ℕ) (c : Context) → 1 ≤ line �
 begun_fine line addressed c l h = record { names = record { file = h.file; inner = empty_fits (InnerFits (world (begun line addressed c))) c.scopes.inner h.flat }; lined = l }
 
 -- a declaration at file scope
-declared_between : (line : ℕ) (words names : Tree) (c z : Context) → 1 ≤ line → Plain names → Between c → declaration true line words names (begun line [] c) ≡ Ok z → Between z
+declared_between : (line : ℕ) (words names : Tree) (c z : Context) → 1 ≤ line → Written names → Between c → declaration true line words names (begun line [] c) ≡ Ok z → Between z
 declared_between line words names c z l p h q =
     let b = begun line [] c in
-    let r = declaration_runs None true line words names b z l p (begun_fine line [] c l h) h.flat q in
+    let r = file_declaration_runs None line words names b z l p (begun_fine line [] c l h) h.flat q in
     let s : Statics c z = record { variables = r.grew.variables; literals = r.grew.literals; calls = r.grew.calls; file = r.grew.file } in
     record {
       file = r.fine.names.file;
@@ -238,22 +243,22 @@ last_fits v (types.Union tag) e = cc
 last_fits v (Function answer ps) e = cc
 
 -- the body of a function of a name, in front of which c stands between external declarations
-body_between : (line end : ℕ) (name : List ℕ) (answer : PlainType) (ps : PlainTypes) (index : ℕ) (more : List Sort) (c e z : Context) → 1 ≤ end → Between c → Statics c e → e.walked ≡ c.walked → Stands_in (result_sort answer) e → CodeFits (result_sort answer) e → e.running.answer ≡ answer
+body_between : (line end : ℕ) (name : List ℕ) (answer : PlainType) (ps : PlainTypes) (index : ℕ) (more : List Sort) (c e z : Context) → 1 ≤ end → Between c → Statics c e → e.walked ≡ c.walked → Fine e → CodeFits (result_sort answer) e → e.running.answer ≡ answer
     → (is_array answer || is_function answer || is_record answer) ≡ false → named_in name e.scopes.file ≡ Some (n.Function (Function answer ps) index) → map sort_of e.running.locals ≡ param_sorts ps ++ more
     → body_ended line name (Function answer ps) end e ≡ Ok z → Between z
-body_between line end name answer ps index more c e z l h s same st fits is_answer plain there regs q =
+body_between line end name answer ps index more c e z l h s same g fits is_answer plain there regs q =
     let x = emit end (Return (last_answer e.running.answer)) e in
-    let r = return_fits (result_sort answer) end (last_answer e.running.answer) e l st.fine (subst (λ (type : PlainType). FitsAnswer (world e) (result_sort answer) (last_answer type)) (sym is_answer) (last_fits (world e) answer plain)) in
+    let r = return_fits (result_sort answer) end (last_answer e.running.answer) e l g (subst (λ (type : PlainType). FitsAnswer (world e) (result_sort answer) (last_answer type)) (sym is_answer) (last_fits (world e) answer plain)) in
     let w : Walked = record { name = name; params = length_of ps; running = x.running; code = x.code } in
     let total = x.length + sum_by piece_length x.code.pieces in
     let made : Context = record x { scopes = record { file = x.scopes.file; inner = [] }; length = total; walked = x.walked ++ w ∷ [] } in
     subst Between (passed (nat_lt 268435456 total) ProgramTooLong line made z q)
     (record {
-      file = st.fine.names.file;
+      file = g.names.file;
       flat = refl;
       walked = λ k v k_is. ⊎_elim
           (λ (old : slice_get e.walked k ≡ Some v). walked_on c made v (record { variables = s.variables; literals = s.literals; calls = s.calls; file = s.file }) (h.walked k v (subst (λ (ws : List Walked). slice_get ws k ≡ Some v) same old)))
-          (λ (new : (k ≡ length e.walked) × (v ≡ w)). subst (WalkedFits made) (sym new.1) (record { answer = answer; params = ps; index = index; named = there; lined = st.fine.lined; fits = r.fits fits; count = refl; rest = more; sorted = regs }))
+          (λ (new : (k ≡ length e.walked) × (v ≡ w)). subst (WalkedFits made) (sym new.1) (record { answer = answer; params = ps; index = index; named = there; lined = g.lined; fits = r.fits fits; count = refl; rest = more; sorted = regs }))
           (get_push e.walked w k v k_is);
     })
 
@@ -269,10 +274,12 @@ locals_prefix (x ∷ xs) (y ∷ ys) h =
     first_same e = cc
 
 -- a definition: b is where it begins, and l behind its declarator
-defined_between : (line : ℕ) (name : List ℕ) (answer : PlainType) (ps : PlainTypes) (tree : Tree) (c b l z : Context) → Between c → Statics c b → b.walked ≡ c.walked → Plain tree → Runs (result_sort answer) b l → CodeFits (result_sort answer) b → length l.scopes.inner ≡ 0 → ParamsFit l
+defined_between : (line : ℕ) (name : List ℕ) (answer : PlainType) (ps : PlainTypes) (tree : Tree) (given : Option Trees) (numbers : List ℕ) (c b l z : Context) → Between c → Statics c b → b.walked ≡ c.walked → b.running.addressed ≡ numbers → Good numbers (params_taken given nothing_taken) tree → Begun given l
+    → Runs (result_sort answer) b l → CodeFits (result_sort answer) b → length l.scopes.inner ≡ 0 → ParamsFit l
     → (is_array answer || is_function answer || is_record answer) ≡ false → sorts l ≡ param_sorts ps → defined line name (Function answer ps) tree l ≡ Ok z → Between z
-unfolding Plain AllPlain
-defined_between line name answer ps (Node f.Body (Node f.Items parts ▹ At end ▹ t.none)) c b l z h s same p r fits flat params plain regs q =
+defined_between line name answer ps (Node f.Body (Node f.Items parts ▹ At end ▹ t.none)) given numbers c b l z h s same addressed p begins r fits flat params plain regs q =
+    let start : Taken = params_taken given nothing_taken in
+    let o = body_good numbers start end parts p in
     let index = function_number name l in
     let d = came (declared_function line name (Function answer ps) l) (λ d. unless (is_defined (slice_get d.functions index)) DeclaredTwice line (body line name (Function answer ps) (Node f.Body (Node f.Items parts ▹ At end ▹ t.none)) (body_begun index (Function answer ps) d))) z q in
     let a2 = behind_test (is_defined (slice_get d.value.functions index)) DeclaredTwice line (body line name (Function answer ps) (Node f.Body (Node f.Items parts ▹ At end ▹ t.none)) (body_begun index (Function answer ps) d.value)) z d.last in
@@ -281,58 +288,63 @@ defined_between line name answer ps (Node f.Body (Node f.Items parts ▹ At end 
     let begin = body_begun index (Function answer ps) d.value in
     let e = came (items parts around_body begin) (λ e. body_ended line name (Function answer ps) end e) z a2 in
     let all = runs_trans (result_sort answer) b l d.value r rd in
-    let st : Stands_in (result_sort answer) begin = record { fine = record { names = record { file = all.fine.names.file; inner = (rd.params params, tt) }; lined = all.fine.lined }; inside = 0; deep = refl; sorted = refl } in
-    let re = items_run parts (result_sort answer) around_body begin e.value p.1.0.1 st e.is in
+    let st : Stands_in (result_sort answer) numbers start begin = record { fine = record { names = record { file = all.fine.names.file; inner = (rd.params params, tt) }; lined = all.fine.lined }; inside = 0; deep = refl; sorted = refl; step = body_step given line index name (Function answer ps) l d.value begins all.fine.names.file d.is; same = all.addressed ∙ addressed } in
+    let re = (items_run (result_sort answer) numbers parts start around_body begin e.value o.1 st e.is).runs in
     let prefix = locals_prefix l.running.locals e.value.running.locals (λ k reg x. re.grew.locals k reg (rd.grew.locals k reg x)) in
     let sl : Statics b e.value = statics_trans b d.value e.value (statics_of b d.value all.grew) (record { variables = re.grew.variables; literals = re.grew.literals; calls = re.grew.calls; file = re.grew.file }) in
-    body_between line end name answer ps index prefix.0 c e.value z p.1.1.0 h (statics_trans c b e.value s sl) (re.walked ∙ all.walked ∙ same)
-    (record { fine = re.fine; inside = 0; deep = re.depth; sorted = ap result_sort re.answer }) (re.fits (all.fits fits)) re.answer plain (re.grew.file name (Function answer ps) index there) (prefix.1 ∙ ap (λ (ss : List Sort). ss ++ prefix.0) regs) e.last
-defined_between line name answer ps tree c b l z h s same p r fits flat params plain regs q =
+    body_between line end name answer ps index prefix.0 c e.value z o.0 h (statics_trans c b e.value s sl) (re.walked ∙ all.walked ∙ same)
+    re.fine (re.fits (all.fits fits)) re.answer plain (re.grew.file name (Function answer ps) index there) (prefix.1 ∙ ap (λ (ss : List Sort). ss ++ prefix.0) regs) e.last
+defined_between line name answer ps tree given numbers c b l z h s same addressed p begins r fits flat params plain regs q =
     let index = function_number name l in
     let d = came (declared_function line name (Function answer ps) l) (λ d. unless (is_defined (slice_get d.functions index)) DeclaredTwice line (body line name (Function answer ps) tree (body_begun index (Function answer ps) d))) z q in
     never _ _ z (behind_test (is_defined (slice_get d.value.functions index)) DeclaredTwice line (body line name (Function answer ps) tree (body_begun index (Function answer ps) d.value)) z d.last)
 
 -- a definition by what its name and its type are
-named_between : (line : ℕ) (o : Option (List ℕ)) (type base : PlainType) (tree : Tree) (c b : Context) (l : Context × List Layer) (z : Context) → Between c → Statics c b → b.walked ≡ c.walked → Plain tree → ((answer : Option Sort) → Runs answer b l.0) → b.code ≡ no_code
+named_between : (line : ℕ) (o : Option (List ℕ)) (type base : PlainType) (tree : Tree) (given : Option Trees) (numbers : List ℕ) (c b : Context) (l : Context × List Layer) (z : Context) → Between c → Statics c b → b.walked ≡ c.walked → b.running.addressed ≡ numbers → Good numbers (params_taken given nothing_taken) tree → (functions l.1 ≡ 1 → Begun given l.0)
+    → ((answer : Option Sort) → Runs answer b l.0) → b.code ≡ no_code
     → length b.scopes.inner ≡ 0 → HasList l → (functions l.1 ≡ 1 → sorts l.0 ≡ function_sorts l.1) → with_layers l.0.tags l.1 base ≡ Ok type → named_definition line o type tree l.0 ≡ Ok z → Between z
-named_between line None type base tree c b l z h s same p r code flat list regs made q = never _ _ z q
-named_between line (Some name) (Function answer ps) base tree c b l z h s same p r code flat list regs made q =
+named_between line None type base tree given numbers c b l z h s same addressed p begins r code flat list regs made q = never _ _ z q
+named_between line (Some name) (Function answer ps) base tree given numbers c b l z h s same addressed p begins r code flat list regs made q =
     let m = makes_function l.0.tags l.1 base answer ps made list.some in
-    defined_between line name answer ps tree c b l.0 z h s same p (r (result_sort answer)) (subst (λ (x : Rattle.elaboration.specs.Context.Code). PiecesFit (result_sort answer) (world b) x.pieces) (sym code) tt)
+    defined_between line name answer ps tree given numbers c b l.0 z h s same addressed p (begins m.single) (r (result_sort answer)) (subst (λ (x : Rattle.elaboration.specs.Context.Code). PiecesFit (result_sort answer) (world b) x.pieces) (sym code) tt)
     ((r (result_sort answer)).depth ∙ flat) list.params m.plain (regs m.single ∙ m.sorts) q
-named_between line (Some name) Void base tree c b l z h s same p r code flat list regs made q = never _ _ z q
-named_between line (Some name) (Int ty) base tree c b l z h s same p r code flat list regs made q = never _ _ z q
-named_between line (Some name) (types.Pointer target) base tree c b l z h s same p r code flat list regs made q = never _ _ z q
-named_between line (Some name) (types.Array element length) base tree c b l z h s same p r code flat list regs made q = never _ _ z q
-named_between line (Some name) (types.Struct tag) base tree c b l z h s same p r code flat list regs made q = never _ _ z q
-named_between line (Some name) (types.Union tag) base tree c b l z h s same p r code flat list regs made q = never _ _ z q
+named_between line (Some name) Void base tree given numbers c b l z h s same addressed p begins r code flat list regs made q = never _ _ z q
+named_between line (Some name) (Int ty) base tree given numbers c b l z h s same addressed p begins r code flat list regs made q = never _ _ z q
+named_between line (Some name) (types.Pointer target) base tree given numbers c b l z h s same addressed p begins r code flat list regs made q = never _ _ z q
+named_between line (Some name) (types.Array element length) base tree given numbers c b l z h s same addressed p begins r code flat list regs made q = never _ _ z q
+named_between line (Some name) (types.Struct tag) base tree given numbers c b l z h s same addressed p begins r code flat list regs made q = never _ _ z q
+named_between line (Some name) (types.Union tag) base tree given numbers c b l z h s same addressed p begins r code flat list regs made q = never _ _ z q
 
-definition_between : (line : ℕ) (addressed : List ℕ) (words declarator tree : Tree) (c z : Context) → 1 ≤ line → Plain tree → HasParameters declarator → Between c → definition line words declarator tree (begun line addressed c) ≡ Ok z → Between z
-definition_between line addressed words declarator tree c z one p has h q =
-    let b = begun line addressed c in
-    let g = begun_fine line addressed c one h in
+definition_between : (line : ℕ) (words declarator tree : Tree) (c z : Context) → 1 ≤ line → Written tree → Formed words → Formed (Node f.Declared (declarator ▹ t.none)) → Formed tree → HasParameters declarator → IsSome (params_of declarator) → Between c → definition line words declarator tree (begun line (addressed_in declarator tree) c) ≡ Ok z → Between z
+unfolding Formed AllFormed Shaped
+definition_between line words declarator tree c z one p form_words form_name form_tree has listed h q =
+    let numbers : List ℕ = addressed_in declarator tree in
+    let b = begun line numbers c in
+    let g = begun_fine line numbers c one h in
     let base = came (specs words b) (λ base. then (layers declarator base.0) (λ l. then (with_layers l.0.tags l.1 base.1) (λ type. named_definition line (name_of declarator) type tree l.0))) z q in
     let l = came (layers declarator base.value.0) (λ l. then (with_layers l.0.tags l.1 base.value.1) (λ type. named_definition line (name_of declarator) type tree l.0)) z base.last in
     let type = came (with_layers l.value.0.tags l.value.1 base.value.1) (λ type. named_definition line (name_of declarator) type tree l.value.0) z l.last in
     let first : (answer : Option Sort) → Runs answer b base.value.0 = λ answer. specs_run answer words b b (runs_refl answer b g) base.value base.is in
     let added = layers_added declarator base.value.0 l.value l.is in
-    named_between line (name_of declarator) type.value base.value.1 tree c b l.value z h (record { variables = omega arith; literals = omega arith; calls = λ k x e. e; file = λ name t j e. e }) refl p
+    named_between line (name_of declarator) type.value base.value.1 tree (params_of declarator) numbers c b l.value z h (record { variables = omega arith; literals = omega arith; calls = λ k x e. e; file = λ name t j e. e }) refl refl
+    (record { inside = λ k i. i; written = p; formed = form_tree })
+    (λ single. (layers_start declarator base.value.0 l.value form_name.0.0 form_name.1.0 listed (ap (λ (x : ℕ × List ℕ × Table). x.0) (specs_counts words b base.value base.is)) ((first None).depth ∙ h.flat) (first None).fine.names.file l.is).begun single)
     (λ answer. layers_run answer declarator b base.value.0 (first answer) l.value l.is) refl h.flat
     (layers_list declarator None base.value.0 l.value has (first None).fine l.is)
     (λ single. added.adds.added ∙ ap (λ (ss : List Sort). ss ++ added.sorts_of) (specs_sorts words b base.value base.is) ∙ added.counts.one single) type.is type.last
 
-external_between : (tree : Tree) (c z : Context) → Plain tree → IsDefinition tree → Between c → external tree c ≡ Ok z → Between z
-unfolding external Plain AllPlain
-external_between (Node f.Function (At line ▹ words ▹ Node f.Declared (declarator ▹ t.none) ▹ tree ▹ t.none)) c z p d h q = definition_between line (addressed_in declarator tree) words declarator tree c z p.1.0 p.1.1.1.1.0 d h q
-external_between (Node f.Declaration (At line ▹ words ▹ names ▹ t.none)) c z p d h q = declared_between line words names c z p.1.0 p.1.1.1.0 h q
-external_between tree c z p d h q = never _ _ z q
+external_between : (tree : Tree) (c z : Context) → Written tree → Formed tree → HasParams tree → IsDefinition tree → Between c → external tree c ≡ Ok z → Between z
+unfolding external Written AllWritten Formed AllFormed
+external_between (Node f.Function (At line ▹ words ▹ Node f.Declared (declarator ▹ t.none) ▹ tree ▹ t.none)) c z p i j d h q = definition_between line words declarator tree c z p.1.0 p.1.1.1.1.0 i.1.1.0 i.1.1.1.0 i.1.1.1.1.0 d j h q
+external_between (Node f.Declaration (At line ▹ words ▹ names ▹ t.none)) c z p i j d h q = declared_between line words names c z p.1.0 p.1.1.1.0 h q
+external_between tree c z p i j d h q = never _ _ z q
 
-pub externals_between : (unit : Trees) (c z : Context) → ArePlain unit → Between c → externals unit c ≡ Ok z → Between z
+pub externals_between : (unit : Trees) (c z : Context) → AreWritten unit → AreFormed unit → Between c → externals unit c ≡ Ok z → Between z
 unfolding externals
-externals_between t.none c z p h q = subst Between (ok_same c z q) h
-externals_between (tree ▹ rest) c z p h q =
+externals_between t.none c z p i h q = subst Between (ok_same c z q) h
+externals_between (tree ▹ rest) c z p i h q =
     let d = came (external tree c) (λ d. externals rest d) z q in
-    externals_between rest d.value z p.1 (external_between tree c d.value p.0.0 p.0.1 h d.is) d.last
+    externals_between rest d.value z p.1 i.1 (external_between tree c d.value p.0.0 i.0.0 i.0.1 p.0.1 h d.is) d.last
 
 some_is : (x y : PlainNamed) → Some x ≡ Some y → x ≡ y
 some_is x y e = cc

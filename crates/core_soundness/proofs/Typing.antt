@@ -25,7 +25,8 @@ use Rattle.elaboration.specs.Externals.{externals, ended, is_defined, is_main, c
 use Rattle.elaboration.specs.Resolving.{atoms_by, numbered, body_of, temporary, pointer_register, numbers_of, function_of, core_of, definition_of, function_by}
 use Rattle.elaboration.specs.Elaboration.{walked, elaborated}
 use Rattle.core_soundness.specs.Worlds.{walked_world, IsCall, result_sort, param_sorts, PiecesFit}
-use Rattle.core_soundness.specs.Spoken.{ArePlain}
+use Rattle.core_soundness.specs.Written.{AreWritten}
+use Rattle.core_soundness.proofs.Formed.{AreFormed}
 use Rattle.core_soundness.specs.Laws.{HasTypes}
 use Rattle.core_soundness.proofs.Grown.{good, bad, ok_same, never}
 use Rattle.core_soundness.proofs.Agreeing.{came}
@@ -64,13 +65,13 @@ pub record Ended (c : Context) : Type 0 where
   pub sane : Sane c
   pub called : (k f line : ℕ) → slice_get c.calls k ≡ Some (f, line) → is_defined (slice_get c.functions f) ≡ true
 
-pub text_ended : (unit : Trees) (c : Context) → ArePlain unit → walked unit ≡ Ok c → Ended c
-text_ended unit c p h =
+pub text_ended : (unit : Trees) (c : Context) → AreWritten unit → AreFormed unit → walked unit ≡ Ok c → Ended c
+text_ended unit c p i h =
     let x = came (externals unit first_context) ended c h in
     let d = came (calls_defined x.value.functions x.value.calls x.value) (λ d. unless (not (is_main d.functions (named_in (codes "main") d.scopes.file))) NoMain 1 (good d)) c x.last in
     let same : x.value ≡ c = calls_same x.value.functions x.value.calls x.value d.value d.is ∙ passed (not (is_main d.value.functions (named_in (codes "main") d.value.scopes.file))) NoMain 1 d.value c d.last in
     record {
-      between = subst Between same (externals_between unit first_context x.value p first_between x.is);
+      between = subst Between same (externals_between unit first_context x.value p i first_between x.is);
       sane = walked_sane unit c h;
       called = λ k f line. subst (λ (y : Context). slice_get y.calls k ≡ Some (f, line) → is_defined (slice_get y.functions f) ≡ true) same (λ e. defined_calls x.value.functions x.value.calls x.value d.value k f line d.is e);
     }
@@ -211,9 +212,9 @@ each_types c [] core s h i func e = cc
 each_types c (x ∷ xs) core s h zero func e = subst (HasTypes core) (same_value (function_of c x) func e) (h x 0 refl)
 each_types c (x ∷ xs) core s h (suc i) func e = each_types c xs core s (λ y k q. h y (suc k) q) i func e
 
-pub core_types : (unit : Trees) (core : Core) (tags : TagTable) → ArePlain unit → elaborated unit ≡ Ok (core, tags) → EachFunc core (HasTypes core)
-core_types unit core tags p q =
+pub core_types : (unit : Trees) (core : Core) (tags : TagTable) → AreWritten unit → AreFormed unit → elaborated unit ≡ Ok (core, tags) → EachFunc core (HasTypes core)
+core_types unit core tags p i q =
     let b = behind unit core tags q in
-    let e = text_ended unit b.context p b.is in
+    let e = text_ended unit b.context p i b.is in
     subst (λ (x : Core). EachFunc x (HasTypes x)) b.made
     (λ i func at. each_types b.context b.context.walked (core_of b.context) refl (λ x k h. function_types b.context x e (e.between.walked k x h)) i func at)

@@ -5,4 +5,3 @@ pub mod Ranges
 pub mod Worlds
 pub mod Spoken
 pub mod Written
-pub mod Untaken

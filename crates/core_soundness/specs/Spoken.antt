@@ -32,21 +32,6 @@ unfoldable mutual
   AllSpoken s none = Unit {0}
   AllSpoken s (tree ▹ rest) = Spoken s tree × AllSpoken s rest
 
--- a tree has lines, and `&` stands before no name, in parentheses or without them
-unfoldable pub TakesNoName : Form → Trees → Type 0
-TakesNoName (f.Unary u.Address) (line ▹ e ▹ none) = plain_name e ≡ None
-TakesNoName other parts = Unit {0}
-
-unfoldable mutual
-  pub Plain : Tree → Type 0
-  Plain (Leaf word) = Unit {0}
-  Plain (At line) = 1 ≤ line
-  Plain (Node form parts) = TakesNoName form parts × AllPlain parts
-
-  pub AllPlain : Trees → Type 0
-  AllPlain none = Unit {0}
-  AllPlain (tree ▹ rest) = Plain tree × AllPlain rest
-
 -- a suffix that is a parameter list, and suffixes with one among them
 abbrev pub IsList : Tree → Type 0
 IsList (Node f.FunctionSuffix parts) = Unit {0}
@@ -64,11 +49,7 @@ HasParameters (Node f.Direct (base ▹ Node f.Suffixes suffixes ▹ none)) = Has
 HasParameters (Node f.Parens (At line ▹ declarator ▹ none)) = HasParameters declarator
 HasParameters tree = ⊥
 
--- external declarations have lines and no `&` before a name, and each definition of a function has a parameter list
+-- a definition of a function has a parameter list
 abbrev pub IsDefinition : Tree → Type 0
 IsDefinition (Node f.Function (line ▹ words ▹ Node f.Declared (declarator ▹ none) ▹ body ▹ none)) = HasParameters declarator
 IsDefinition tree = Unit {0}
-
-abbrev pub ArePlain : Trees → Type 0
-ArePlain none = Unit {0}
-ArePlain (tree ▹ rest) = (Plain tree × IsDefinition tree) × ArePlain rest

@@ -19,10 +19,8 @@ ghost use Rattle.c_lexer.specs.declared.token.Token.{Token};
 ghost use Rattle.c_tree.specs.HasTree.{HasTree};
 ghost use Rattle.c_tree.specs.Tree.{Tree, Trees};
 ghost use Rattle.elaboration.specs.Elaboration.{elaborated, walked};
-ghost use Rattle.core_soundness.specs.Spoken.{ArePlain};
 ghost use Rattle.core_soundness.specs.Ranges.{PiecesIn};
 ghost use Rattle.core_soundness.specs.Solid.{Solid};
-ghost use Rattle.core_soundness.specs.Untaken.{AllUntaken};
 ghost use Rattle.core_soundness.specs.Whole.{Whole};
 ghost use Rattle.core_soundness.specs.Written.{AreWritten, Written};
 ghost use Rattle.core_soundness.specs.Laws.{AreWithin, CallsInside, HasFlow, HasLayouts, HasRanges, HasShortLists, HasSizes, HasTypes};
@@ -54,14 +52,14 @@ pub fn calls_are_inside()
 {}
 
 /// In each function of the core of a text each statement has a line and names what is there, with operands, arguments and
-/// results of its sorts, where lines are at least 1, each definition has a parameter list, and `&` stands before no name.
+/// results of its sorts.
 pub fn statements_are_typed()
-    ensures { (unit : Trees) (core : Core) (tags : TagTable) → ArePlain unit → elaborated unit ≡ Ok (core, tags) → EachFunc core (HasTypes core) }
+    ensures { (tokens : List Token) (unit : Trees) (core : Core) (tags : TagTable) → All IsLexed tokens → HasTree tokens unit → elaborated unit ≡ Ok (core, tags) → EachFunc core (HasTypes core) }
 {}
 
-/// The function named `main` of the core of such a text has no parameters, and its returns have integers (C99 5.1.2.2.1).
+/// The function named `main` of the core of a text has no parameters, and its returns have integers (C99 5.1.2.2.1).
 pub fn main_answers()
-    ensures { (unit : Trees) (core : Core) (tags : TagTable) → ArePlain unit → elaborated unit ≡ Ok (core, tags) → ForSome (slice_get core.funcs (main_of core)) (IsMain core) }
+    ensures { (tokens : List Token) (unit : Trees) (core : Core) (tags : TagTable) → All IsLexed tokens → HasTree tokens unit → elaborated unit ≡ Ok (core, tags) → ForSome (slice_get core.funcs (main_of core)) (IsMain core) }
 {}
 
 /// A format that passes the test of formats is one, with the pieces that its bytes have (C99 7.19.6.1).
@@ -78,11 +76,6 @@ pub fn trees_are_written()
 /// Memory locals and statics of the core of a text have the layouts of types (C99 6.2.5, 6.7.2.1).
 pub fn layouts_are_of_types()
     ensures { (tokens : List Token) (unit : Trees) (core : Core) (tags : TagTable) → All IsLexed tokens → HasTree tokens unit → elaborated unit ≡ Ok (core, tags) → HasLayouts core }
-{}
-
-/// The tree of tokens is plain, where `&` stands before no name.
-pub fn trees_are_plain()
-    ensures { (tokens : List Token) (unit : Trees) → All IsLexed tokens → HasTree tokens unit → AllUntaken unit → ArePlain unit }
 {}
 
 /// What is known behind a text has whole types: arrays of at least one element that are no larger than an object may be, and
@@ -103,9 +96,9 @@ pub fn numbers_are_in_range()
     ensures { (tokens : List Token) (unit : Trees) (core : Core) (tags : TagTable) → All IsLexed tokens → HasTree tokens unit → elaborated unit ≡ Ok (core, tags) → EachFunc core HasRanges }
 {}
 
-/// Each function of the core of a text is sound, where `&` stands before no name.
+/// Each function of the core of a text is sound.
 pub fn functions_are_sound()
-    ensures { (tokens : List Token) (unit : Trees) (core : Core) (tags : TagTable) → All IsLexed tokens → HasTree tokens unit → AllUntaken unit → elaborated unit ≡ Ok (core, tags) → EachFunc core (IsFunction core) }
+    ensures { (tokens : List Token) (unit : Trees) (core : Core) (tags : TagTable) → All IsLexed tokens → HasTree tokens unit → elaborated unit ≡ Ok (core, tags) → EachFunc core (IsFunction core) }
 {}
 
 /// Each pointer that a static of the core of a text holds first names a static of the core, and an offset in it up to its end

@@ -1,0 +1,205 @@
+-- What expressions leave as it was: as many parameters and locals are declared, and the same of them are taken the address of.
+use Rattle.std.proofs.Common.{◌≡◌, ℕ, zero, suc, Bool, true, false, not, cond, min, length, List, [], ◌∷◌, ◌++◌, Option, Some, None, Ok, Err, ⊎_elim, refl, sym, ap, ◌∙◌, subst}
+use Rattle.std.specs.Option.{option_or}
+use Rattle.c_types.specs.Types as types
+use Rattle.c_types.specs.Types.{PlainType, Void, Int, Array, Struct, Union}
+use Rattle.core_tree.specs.declared.program.Start.{Start}
+use Rattle.core_tree.specs.declared.statements.Atom.{Atom}
+use Rattle.core_tree.specs.declared.statements.Atom.TheVariants as atom
+use Rattle.core_tree.specs.declared.statements.StmKind.{StmKind}
+use Rattle.core_tree.specs.declared.statements.StmKind.TheVariants.{Zero, Off, Copy, Enter, Leave}
+use Rattle.c_tree.specs.Forms as f
+use Rattle.c_tree.specs.Tree.{Tree, Trees, At, Node, none, ◌▹◌, count}
+use Rattle.c_types.specs.declared.types.IntType.{IntType}
+use Rattle.c_decls.specs.declared.constant.Constant.{Constant}
+use Rattle.c_decls.specs.declared.refusal.TypeKind.TheVariants.{Assignment, Operands, NotConstant}
+use Rattle.c_decls.specs.Named as n
+use Rattle.c_decls.specs.Named.{PlainNamed}
+use Rattle.c_decls.specs.ScopeList as scopes
+use Rattle.c_decls.specs.ScopeList.{ScopeList, Table, named_in, found_from, found}
+use Rattle.c_decls.specs.Refusals.{Checked, refused, then, unless}
+use Rattle.c_decls.specs.TypeRules.{barred}
+use Rattle.c_decls.specs.IntegerTypes.{promoted}
+use Rattle.c_decls.specs.Typed.{Operand, Number, PointerTo, Neither, operand, is_scalar}
+use Rattle.c_decls.specs.PlaceRules.{unconverted, converts}
+use Rattle.c_decls.specs.Expressions.{line_of, typed, wanted, constant_from}
+use Rattle.c_decls.specs.TypeNames as names
+use Rattle.elaboration.specs.Context.{Context, With, asked, told, emit, anew}
+use Rattle.elaboration.specs.Conversions.{Found, Local, Memory, atom_in, code_line, valued, convert, convert_integer, write, size_or_zero, tested_value}
+use Rattle.elaboration.specs.Reallocates.{reallocates, opened, closed}
+use Rattle.elaboration.specs.Rules.{with_literal}
+use Rattle.elaboration.specs.Expressions as expressions
+use Rattle.elaboration.specs.Declarators.{constant}
+use Rattle.elaboration.specs.Statements.{evaluated, closed_atom, condition, leaves_if_zero, switch_operand_of, switch_operand}
+use Rattle.core_soundness.specs.Spoken.{is_register}
+use Rattle.core_soundness.proofs.Names.{More, MoreTags, MoreAll, IsNewTag, more_refl, more_trans}
+use Rattle.core_soundness.proofs.Grown.{Grown, good, bad, ok_same, never, grown_then}
+use Rattle.core_soundness.proofs.Growth.{Grows, grows_refl, grows_trans}
+use Rattle.core_soundness.proofs.Reached.{Reached, reached_ok, reached_after, reached_then, reached_unless, Led, led_ok, led_after, led_unless}
+use Rattle.core_soundness.proofs.Agreeing.{came}
+use Rattle.core_soundness.proofs.Operating.{passed, behind_test}
+use Rattle.core_soundness.proofs.Working.{grown_valued, grows_convert, grows_write, grows_convert_integer, grows_tested}
+use Rattle.core_soundness.proofs.ExprGrows.{found_grows}
+use Rattle.core_soundness.proofs.TypedNames.{typed_after, wanted_after}
+use Rattle.elaboration.specs.Addressed.{Taken, Known, number_of}
+use Rattle.core_soundness.proofs.InStep.{among, drops, Keeps, Same, Fewer, HasScope, Numbered, Follows, InStep, Stepped}
+use Rattle.core_soundness.proofs.Still.{SameNames}
+
+pub keeps_refl : (c : Context) → Keeps c c
+keeps_refl c = record { more = more_refl c.scopes; declared = refl; addressed = refl }
+
+pub keeps_trans : (a b c : Context) → Keeps a b → Keeps b c → Keeps a c
+keeps_trans a b c x y = record { more = more_trans a.scopes b.scopes c.scopes x.more y.more; declared = y.declared ∙ x.declared; addressed = y.addressed ∙ x.addressed }
+
+pub grows_keeps : (c d : Context) → Grows c d → Keeps c d
+grows_keeps c d g = record { more = g.names; declared = g.kept.declared; addressed = g.kept.addressed }
+
+pub told_keeps : (t : names.Context) (c : Context) → More c.scopes t.scopes → Keeps c (told t c)
+told_keeps t c m = record { more = m; declared = refl; addressed = refl }
+
+-- other code
+pub emit_keeps : (line : ℕ) (kind : StmKind) (c : Context) → Keeps c (emit line kind c)
+emit_keeps line kind c = record { more = more_refl c.scopes; declared = refl; addressed = refl }
+
+pub opened_keeps : (e : Tree) (c : Context) → Keeps c (opened e c)
+opened_keeps e c = by (reallocates c.scopes e)
+  where
+    by : (r : Bool) → Keeps c (cond r (emit (code_line e) Enter (anew c)) (anew c))
+    by true = record { more = more_refl c.scopes; declared = refl; addressed = refl }
+    by false = record { more = more_refl c.scopes; declared = refl; addressed = refl }
+
+pub closed_keeps : (e : Tree) (c : Context) → Keeps c (closed e c)
+closed_keeps e c = by (reallocates c.scopes e)
+  where
+    by : (r : Bool) → Keeps c (cond r (emit (code_line e) Leave c) c)
+    by true = record { more = more_refl c.scopes; declared = refl; addressed = refl }
+    by false = keeps_refl c
+
+-- expressions, and full expressions
+
+pub found_keeps : (e : Tree) (wish : PlainType) (c : Context) (d : Context × Found) → expressions.found e wish c ≡ Ok d → Keeps c d.0
+found_keeps e wish c d q = grows_keeps c d.0 (found_grows e wish c c (grows_refl c) d q)
+
+pub valued_keeps : (e : Tree) (wish : PlainType) (c : Context) (d : Context × Found) → valued e (expressions.found e wish c) ≡ Ok d → Keeps c d.0
+valued_keeps e wish c d q = grows_keeps c d.0 (grown_valued e c (expressions.found e wish c) (found_grows e wish c c (grows_refl c)) d q)
+
+pub full_keeps : (e : Tree) (wish : PlainType) (c : Context) (d : Context × Found) → valued e (expressions.found e wish (opened e c)) ≡ Ok d → Keeps c d.0
+full_keeps e wish c d q = keeps_trans c (opened e c) d.0 (opened_keeps e c) (valued_keeps e wish (opened e c) d q)
+
+pub evaluated_keeps : (e : Tree) (c z : Context) → evaluated e c ≡ Ok z → Keeps c z
+evaluated_keeps e c z q =
+    let d = came (valued e (expressions.found e Void (opened e c))) (λ d. good (closed e d.0)) z q in
+    subst (Keeps c) (ok_same (closed e d.value.0) z d.last) (keeps_trans c d.value.0 _ (full_keeps e Void c d.value d.is) (closed_keeps e d.value.0))
+
+pub condition_keeps : (e : Tree) (c : Context) (z : Context × Atom) → condition e c ≡ Ok z → Keeps c z.0
+condition_keeps e c z q =
+    let d = came (valued e (expressions.found e Void (opened e c))) (λ d. unless (not (is_scalar d.1.typed.type)) Operands (line_of e) (good (closed_atom e (tested_value e d)))) z q in
+    let t = tested_value e d.value in
+    let g : Keeps d.value.0 t.0 = grows_keeps d.value.0 t.0 (grows_tested (code_line e) d.value.1.typed.type (atom_in d.value.1) d.value.0) in
+    subst (λ (y : Context × Atom). Keeps c y.0) (passed (not (is_scalar d.value.1.typed.type)) Operands (line_of e) (closed_atom e t) z d.last)
+    (keeps_trans c d.value.0 (closed e t.0) (full_keeps e Void c d.value d.is) (keeps_trans d.value.0 t.0 (closed e t.0) g (closed_keeps e t.0)))
+
+pub leaves_keeps : (line label : ℕ) (e : Tree) (c z : Context) → leaves_if_zero line label e c ≡ Ok z → Keeps c z
+leaves_keeps line label e c z q =
+    let d = came (condition e c) (λ d. good (emit line (Zero d.1 label) d.0)) z q in
+    subst (Keeps c) (ok_same (emit line (Zero d.value.1 label) d.value.0) z d.last) (keeps_trans c d.value.0 _ (condition_keeps e c d.value d.is) (emit_keeps line (Zero d.value.1 label) d.value.0))
+
+operand_of_keeps : (line : ℕ) (e : Tree) (o : Operand) (d : Context × Found) (z : Context × (IntType × Atom)) → switch_operand_of line e o d ≡ Ok z → Keeps d.0 z.0
+operand_of_keeps line e (Number ty) d z q =
+    let v = convert_integer line (promoted ty) ty (atom_in d.1) d.0 in
+    subst (λ (y : Context × (IntType × Atom)). Keeps d.0 y.0) (ok_same (closed e v.0, (promoted ty, v.1)) z q)
+    (keeps_trans d.0 v.0 (closed e v.0) (grows_keeps d.0 v.0 (grows_convert_integer line (promoted ty) ty (atom_in d.1) d.0)) (closed_keeps e v.0))
+operand_of_keeps line e (PointerTo target) d z q = never _ _ z q
+operand_of_keeps line e Neither d z q = never _ _ z q
+
+pub operand_keeps : (line : ℕ) (e : Tree) (c : Context) (z : Context × (IntType × Atom)) → switch_operand line e c ≡ Ok z → Keeps c z.0
+operand_keeps line e c z q =
+    let d = came (valued e (expressions.found e Void (opened e c))) (λ d. switch_operand_of line e (operand d.1.typed.type) d) z q in
+    keeps_trans c d.value.0 z.0 (full_keeps e Void c d.value d.is) (operand_of_keeps line e (operand d.value.1.typed.type) d.value z d.last)
+
+pub constant_keeps : (e : Tree) (c : Context) (z : Context × Constant) → constant e c ≡ Ok z → Keeps c z.0
+constant_keeps e c z q =
+    let x = came (wanted e (typed e (asked c))) (λ x. then (constant_from (line_of e) x.1.type x.1.folded) (λ k. good (told x.0 c, k))) z q in
+    let k = came (constant_from (line_of e) x.value.1.type x.value.1.folded) (λ k. good (told x.value.0 c, k)) z x.last in
+    subst (λ (y : Context × Constant). Keeps c y.0) (ok_same (told x.value.0 c, k.value) z k.last)
+    (told_keeps x.value.0 c (wanted_after (asked c) e (typed e (asked c)) (typed_after e (asked c)) x.value x.is))
+
+-- more tags: no name stands for a register that did not before
+
+or_register : (o x y : Option PlainNamed) → (is_register x ≡ true → is_register y ≡ true) → is_register (option_or o x) ≡ true → is_register (option_or o y) ≡ true
+or_register None x y h e = h e
+or_register (Some v) x y h e = e
+
+tags_fewer : (f g : Table) (a b : List Table) (name : List ℕ) → MoreTags f g → MoreAll a b → is_register (found_from g name b) ≡ true → is_register (found_from f name a) ≡ true
+tags_fewer f g [] [] name mf m e =
+    ⊎_elim
+    (λ (s : named_in name g ≡ named_in name f). sym (ap is_register s) ∙ e)
+    (λ (s : IsNewTag name f g). let clash : false ≡ true = sym (ap is_register s.4) ∙ e in cc)
+    (mf name)
+tags_fewer f g [] (u ∷ us) name mf m e = absurd m
+tags_fewer f g (t ∷ ts) [] name mf m e = absurd m
+tags_fewer f g (t ∷ ts) (u ∷ us) name mf m e =
+    ⊎_elim
+    (λ (s : named_in name u ≡ named_in name t).
+    or_register (named_in name t) (found_from g name us) (found_from f name ts) (tags_fewer f g ts us name mf m.1) (sym (ap (λ (o : Option PlainNamed). is_register (option_or o (found_from g name us))) s) ∙ e))
+    (λ (s : IsNewTag name t u). let clash : false ≡ true = sym (ap (λ (o : Option PlainNamed). is_register (option_or o (found_from g name us))) s.4) ∙ e in cc)
+    (m.0 name)
+
+pub more_fewer : (s r : ScopeList) → More s r → Fewer s r
+more_fewer s r m name e = tags_fewer s.file r.file s.inner r.inner name m.file m.inner e
+
+tail_more : (a b : List Table) → MoreAll a b → MoreAll (scopes.tail a) (scopes.tail b)
+tail_more [] [] m = tt
+tail_more [] (u ∷ us) m = absurd m
+tail_more (t ∷ ts) [] m = absurd m
+tail_more (t ∷ ts) (u ∷ us) m = m.1
+
+pub left_more : (s r : ScopeList) → More s r → More (scopes.left s) (scopes.left r)
+left_more s r m = record { file = m.file; inner = tail_more s.inner r.inner m.inner }
+
+scope_more : (a b : List Table) → MoreAll a b → HasScope a → HasScope b
+scope_more [] [] m h = h
+scope_more [] (u ∷ us) m h = absurd m
+scope_more (t ∷ ts) [] m h = absurd m
+scope_more (t ∷ ts) (u ∷ us) m h = tt
+
+-- what follows before an expression follows behind it
+
+pub numbered_kept : (t u : Taken) (a b : List ℕ) (name : List ℕ) → u.names ≡ t.names → b ≡ a → Numbered t a name → Numbered u b name
+numbered_kept t u a b name e s n = (n.0, ap (λ (l : List Known). number_of l name) e ∙ n.1, ap (λ (l : List ℕ). among n.0 l) s ∙ n.2)
+
+pub keeps_follows : (t u : Taken) (c d : Context) → SameNames t u → Keeps c d → Follows t c → Follows u d
+keeps_follows t u c d s k h =
+    (s.1 ∙ h.0 ∙ sym k.declared, λ name e. numbered_kept t u c.running.addressed d.running.addressed name s.0 k.addressed (h.1 name (more_fewer c.scopes d.scopes k.more name e)))
+
+pub keeps_step : (t u : Taken) (c d : Context) → Same t u → Keeps c d → InStep t c → InStep u d
+keeps_step t u c d s k h = (s.typedef ∙ h.0, scope_more c.scopes.inner d.scopes.inner k.more.inner h.1, keeps_follows t u c d (s.names, s.declared) k h.2)
+
+pub drops_more : (k : ℕ) (s r : ScopeList) → More s r → More (drops k s) (drops k r)
+drops_more zero s r m = m
+drops_more (suc k) s r m = drops_more k (scopes.left s) (scopes.left r) (left_more s r m)
+
+pub keeps_stepped : (t u : Taken) (c d : Context) → SameNames t u → Keeps c d → Follows t c → Stepped t c u d
+keeps_stepped t u c d s k h = record {
+  follows = keeps_follows t u c d s k h;
+  addressed = k.addressed;
+  scope = scope_more c.scopes.inner d.scopes.inner k.more.inner;
+  outside = λ j. more_fewer (drops j (scopes.left c.scopes)) (drops j (scopes.left d.scopes)) (drops_more j (scopes.left c.scopes) (scopes.left d.scopes) (left_more c.scopes d.scopes k.more));
+}
+
+pub stepped_refl : (t : Taken) (c : Context) → Follows t c → Stepped t c t c
+stepped_refl t c h = record { follows = h; addressed = refl; scope = λ s. s; outside = λ j name e. e }
+
+pub stepped_trans : (t u v : Taken) (a b c : Context) → Stepped t a u b → Stepped u b v c → Stepped t a v c
+stepped_trans t u v a b c x y = record { follows = y.follows; addressed = y.addressed ∙ x.addressed; scope = λ s. y.scope (x.scope s); outside = λ j name e. x.outside j name (y.outside j name e) }
+
+pub stepped_step : (t u : Taken) (c d : Context) → u.typedef ≡ t.typedef → InStep t c → Stepped t c u d → InStep u d
+stepped_step t u c d e h s = (e ∙ h.0, s.scope h.1, s.follows)
+
+pub stepped_names : (t u v : Taken) (c d : Context) → SameNames u v → Stepped t c u d → Stepped t c v d
+stepped_names t u v c d s x = record {
+  follows = (s.1 ∙ x.follows.0, λ name e. numbered_kept u v d.running.addressed d.running.addressed name s.0 refl (x.follows.1 name e));
+  addressed = x.addressed;
+  scope = x.scope;
+  outside = x.outside;
+}
