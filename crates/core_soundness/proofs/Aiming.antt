@@ -275,7 +275,7 @@ recoded_grows b c g = record {
   cases = refl;
   otherwise = refl;
   names = more_refl c.scopes;
-  kept = record { variables = refl; functions = refl; params = refl; walked = refl; length = refl; answer = refl; mems = refl; literals = λ i w e. e; counted = λ (h : Counted (record c { code = b.code })). record { bytes = h.bytes; small = h.small } };
+  kept = record { variables = refl; functions = refl; params = refl; walked = refl; length = refl; answer = refl; mems = refl; declared = refl; addressed = refl; literals = λ i w e. e; counted = λ (h : Counted (record c { code = b.code })). record { bytes = h.bytes; small = h.small } };
 }
 
 pub settled_convert : (line : ℕ) (b : Context) (type : PlainType) (e : PlainTyped) (a : Atom) (c : Context) → Grows b c → Settled c (convert line b.code type e a c).0

@@ -7,7 +7,4 @@
 mod bodies;
 mod expressions;
 mod taken;
-#[cfg(test)]
-mod tests;
-
 pub use bodies::addressed_in;

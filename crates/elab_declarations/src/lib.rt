@@ -5,8 +5,6 @@
 mod files;
 mod locals;
 mod names;
-#[cfg(test)]
-mod tests;
 mod words;
 
 pub use names::declaration;

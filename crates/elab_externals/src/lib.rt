@@ -7,8 +7,6 @@
 mod bodies;
 mod declared;
 mod mains;
-#[cfg(test)]
-mod tests;
 mod texts;
 
 pub use texts::walked;

@@ -11,8 +11,6 @@ mod lengths;
 mod parts;
 mod starts;
 mod targets;
-#[cfg(test)]
-mod tests;
 mod texts;
 mod unwanted;
 

@@ -9,8 +9,5 @@ mod expressions;
 mod jumps;
 mod statements;
 mod switches;
-#[cfg(test)]
-mod tests;
-
 pub use around::Around;
 pub use statements::items;

@@ -9,8 +9,6 @@ mod asked;
 mod enums;
 mod members;
 mod params;
-#[cfg(test)]
-mod tests;
 mod walk;
 
 pub use asked::{constant, special_type, typed, wanted};

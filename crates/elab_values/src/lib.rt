@@ -9,8 +9,6 @@
 mod ahead;
 mod calls;
 mod leaves;
-#[cfg(test)]
-mod tests;
 mod types;
 mod walk;
 
