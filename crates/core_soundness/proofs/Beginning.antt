@@ -1,5 +1,5 @@
 -- Where a body begins, what is known of addresses is what is known of its parameters.
-use Rattle.std.proofs.Common.{◌≡◌, ◌≤◌, ◌+◌, ℕ, zero, suc, Bool, true, false, cond, nat_lt, length, reverse, List, [], ◌∷◌, ◌++◌, Option, Some, None, IsSome, Ok, refl, sym, ap, ◌∙◌, subst, arith}
+use Rattle.std.proofs.Common.{◌≡◌, ◌≤◌, ◌+◌, ℕ, Bool, true, false, cond, nat_lt, length, reverse, List, [], ◌∷◌, ◌++◌, Option, Some, None, IsSome, Ok, refl, sym, ap, ◌∙◌, subst, arith}
 use Rattle.std.specs.Option.{option_or}
 use Rattle.c_types.specs.Types as types
 use Rattle.c_types.specs.Types.{PlainType, PlainTypes}
@@ -11,9 +11,9 @@ use Rattle.c_tree.specs.Grammar.{shape, commas, behind_commas}
 use Rattle.c_tree.specs.Scopes.{is_scope, places, leads_to_name, suffix_params, first_list, params_of, params_among}
 use Rattle.c_decls.specs.Named as n
 use Rattle.c_decls.specs.Named.{PlainNamed}
-use Rattle.c_decls.specs.ScopeList.{Table, named_in, found_from, first_or, after_declaration}
+use Rattle.c_decls.specs.ScopeList.{Table, named_in, found_from, first_or}
 use Rattle.c_decls.specs.Refusals.{then}
-use Rattle.c_decls.specs.TypeNames.{Layer, PointerTo, ArrayOf, FunctionOf}
+use Rattle.c_decls.specs.TypeNames.{Layer, PointerTo, FunctionOf}
 use Rattle.c_decls.specs.Expressions.{line_of}
 use Rattle.elaboration.specs.Addressed.{Taken, nothing_taken, left, taken, all_taken, params_taken}
 use Rattle.elaboration.specs.Context.{Context, entered}
@@ -23,15 +23,14 @@ use Rattle.elaboration.specs.Externals.{body_begun}
 use Rattle.elaboration.specs.Locals.{declared_as}
 use Rattle.core_soundness.specs.Worlds.{World, world, FileFits, TableFits}
 use Rattle.core_soundness.specs.Spoken.{is_register}
-use Rattle.core_soundness.proofs.Grown.{good, ok_same, never}
+use Rattle.core_soundness.proofs.Grown.{good, ok_same}
 use Rattle.core_soundness.proofs.Agreeing.{came}
-use Rattle.core_soundness.proofs.Operating.{passed}
 use Rattle.core_soundness.proofs.Parameters.{functions, functions_joined, functions_one, functions_reversed}
 use Rattle.core_soundness.proofs.Formed.{IsLayer, IsSuffix, AreSuffixes, Shaped, Formed, AllFormed}
-use Rattle.core_soundness.proofs.InStep.{Numbered, Follows, InStep, Stepped, each}
+use Rattle.core_soundness.proofs.InStep.{Numbered, Follows, InStep, each}
 use Rattle.core_soundness.proofs.Outside.{file_register}
 use Rattle.core_soundness.proofs.Leaving.{file_none}
-use Rattle.core_soundness.proofs.Counting.{counts, declared_counts, layers_counts, suffixes_counts}
+use Rattle.core_soundness.proofs.Counting.{counts, declared_counts, suffixes_counts}
 use Rattle.core_soundness.proofs.StepHoles.{params_step}
 
 -- what is known of the parameters of a list that ended: how many they are, of which the address is taken, and their names

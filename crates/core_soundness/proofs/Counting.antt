@@ -1,5 +1,5 @@
 -- What declares no parameter and no local, and has no parameter list: specs, and layers with no function among them.
-use Rattle.std.proofs.Common.{◌≡◌, ◌≤◌, ◌+◌, ℕ, zero, suc, ℤ, pos, ◌+ℤ◌, Bool, true, false, ◌||◌, is_some, reverse, List, [], ◌∷◌, ◌++◌, Option, Some, None, Result, Ok, Err, refl, sym, ap, ◌∙◌, subst, arith}
+use Rattle.std.proofs.Common.{◌≡◌, ◌+◌, ℕ, ℤ, pos, ◌+ℤ◌, false, is_some, reverse, List, [], ◌∷◌, ◌++◌, Option, Some, None, Result, Ok, Err, refl, sym, ap, ◌∙◌, arith}
 use Rattle.hs_base.specs.declared.ends.IntKind.TheVariants.{I32}
 use Rattle.hs_base.specs.Numbers.{wrapped}
 use Rattle.c_types.specs.declared.types.IntType.TheVariants as i
@@ -26,7 +26,7 @@ use Rattle.c_decls.specs.Expressions.{line_of, typed, wanted, constant_from}
 use Rattle.elaboration.specs.Context.{Context, asked, told, entered}
 use Rattle.elaboration.specs.Locals.{declared_as}
 use Rattle.elaboration.specs.Declarators as d
-use Rattle.elaboration.specs.Declarators.{constant, with_type, maybe_name, newly_named, begun_as, begun, completed_by, complete, ended, with_member, member, enumerator, enum_named, left_params, specs, words_type, tag_type, members, member_names, enumerators, layers, suffix_layers, suffix_layer, params}
+use Rattle.elaboration.specs.Declarators.{constant, with_type, maybe_name, begun_as, begun, completed_by, complete, ended, with_member, member, enumerator, enum_named, left_params, specs, words_type, tag_type, members, member_names, enumerators, layers, suffix_layers, suffix_layer, params}
 use Rattle.core_soundness.proofs.Grown.{good, ok_same, never}
 use Rattle.core_soundness.proofs.Agreeing.{came}
 use Rattle.core_soundness.proofs.Operating.{passed, kept_test, behind_test}

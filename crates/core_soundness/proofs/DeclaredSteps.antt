@@ -1,6 +1,5 @@
 -- Declarations of locals go in step with the walk over addresses, and their initializers take the address of no register.
-use Rattle.std.proofs.Common.{◌≡◌, ◌⊎◌, inl, inr, ⊎_elim, ◌+◌, ℕ, suc, Bool, true, false, not, ◌||◌, cond, nat_eq, length, is_some, List, [], ◌∷◌, ◌++◌, Option, Some, None, IsSome, Ok, refl, sym, ap, ◌∙◌, subst, bytes_eq}
-use Rattle.std.specs.List.{list_any}
+use Rattle.std.proofs.Common.{◌≡◌, ◌⊎◌, inl, inr, ⊎_elim, ◌+◌, ℕ, Bool, true, false, not, ◌||◌, cond, length, is_some, List, [], ◌∷◌, ◌++◌, Option, Some, None, IsSome, Ok, refl, sym, ap, ◌∙◌, subst, bytes_eq}
 use Rattle.std.specs.Option.{option_or}
 use Rattle.std.proofs.lemmas.Slice.Eq.{bytes_eq-Decides}
 use Rattle.c_types.specs.Types.{PlainType}
@@ -30,13 +29,13 @@ use Rattle.elaboration.specs.Declarations.{Storage, Typedef, Outside, is_outside
 use Rattle.core_soundness.specs.Spoken.{is_register, AllSpoken}
 use Rattle.core_soundness.specs.Written.{Written, AllWritten}
 use Rattle.core_soundness.proofs.Grown.{good, ok_same, never}
-use Rattle.core_soundness.proofs.Names.{More, named_push}
+use Rattle.core_soundness.proofs.Names.{named_push}
 use Rattle.core_soundness.proofs.Agreeing.{came}
 use Rattle.core_soundness.proofs.Operating.{passed, kept_test, behind_test}
 use Rattle.core_soundness.proofs.TypedNames.{tag_after}
 use Rattle.core_soundness.proofs.Adding.{Has, Inside, taken_adds}
 use Rattle.core_soundness.proofs.Formed.{IsLayer, of_typedefs, NoInits, Shaped, Formed, AllFormed}
-use Rattle.core_soundness.proofs.InStep.{among, HasScope, Numbered, Follows, InStep, Stepped, each}
+use Rattle.core_soundness.proofs.InStep.{among, HasScope, Numbered, Follows, InStep, each}
 use Rattle.core_soundness.proofs.Still.{SameNames, still_names}
 use Rattle.core_soundness.proofs.Keeping.{told_keeps, keeps_follows}
 use Rattle.core_soundness.proofs.LocalsSpoken.{LocalSpoken, EntrySpoken, EntriesSpoken, DeclarationSpoken}

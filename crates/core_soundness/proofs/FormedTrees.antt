@@ -1,5 +1,5 @@
 -- The trees of tokens have the shapes that the walk over addresses stands on.
-use Rattle.std.proofs.Common.{◌≡◌, ◌≤◌, ◌+◌, ◌==◌, ◌||◌, ◌&&◌, nat_le, not, if◌then◌else◌, ℕ, zero, suc, Bool, true, false, List, [], ◌∷◌, ◌++◌, Option, Some, None, IsSome, refl, sym, ap, ◌∙◌, subst, arith}
+use Rattle.std.proofs.Common.{◌≡◌, ◌≤◌, ◌+◌, ◌==◌, ◌||◌, ◌&&◌, nat_le, not, if◌then◌else◌, ℕ, Bool, true, false, List, [], ◌∷◌, refl, sym, ap, ◌∙◌, subst, arith}
 use Rattle.std.proofs.lemmas.Bool.{eqb-true}
 use Rattle.c_lexer.specs.declared.token.Token.{Token}
 use Rattle.c_tree.specs.declared.word.Keyword.{Keyword}
@@ -11,8 +11,8 @@ use Rattle.c_tree.specs.Forms as f
 use Rattle.c_tree.specs.Places.{Place, Expression}
 use Rattle.c_tree.specs.Places as p
 use Rattle.c_tree.specs.Tree.{Tree, Trees, Leaf, At, Node, none, ◌▹◌, count}
-use Rattle.c_tree.specs.Grammar.{shape, rows, some, commas, behind_commas, some_commas, here_rows, expr, cond_level, form_home, keyword_home, home}
-use Rattle.c_tree.specs.Scopes.{Scope, name_of, has_typedef, is_scope, places, after, after_all, left, params_of, leads_to_name, first_scope}
+use Rattle.c_tree.specs.Grammar.{shape, rows, some, commas, behind_commas, some_commas, expr, cond_level, form_home, keyword_home, home}
+use Rattle.c_tree.specs.Scopes.{Scope, is_scope, places, after, left, params_of, leads_to_name, first_scope}
 use Rattle.c_tree.specs.Allowed.{Tally, with_keyword, with_word, tally, is_integer_type, is_one_type, are_specs, obeys, is_none, Takes, IsDeclarator, IsBase, Allowed, AllAllowed, IsExternal, AreExternals}
 use Rattle.c_tree.specs.HasTree.{HasTree}
 use Rattle.core_soundness.proofs.Grammatical.{alone, no_line, behind_stars, line_parts, base_parts}

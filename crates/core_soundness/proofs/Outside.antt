@@ -1,13 +1,12 @@
 -- At file scope no name stands for a register, and so no expression there takes the address of one.
-use Rattle.std.proofs.Common.{◌≡◌, ℕ, true, false, length, List, [], ◌∷◌, Option, Some, None, refl, arith}
-use Rattle.c_types.specs.Types.{PlainType}
+use Rattle.std.proofs.Common.{◌≡◌, ℕ, false, length, List, [], ◌∷◌, Option, Some, None, refl, arith}
 use Rattle.c_tree.specs.declared.operator.UnaryOp.TheVariants as u
 use Rattle.c_tree.specs.Forms.{Form}
 use Rattle.c_tree.specs.Forms as f
 use Rattle.c_tree.specs.Tree.{Tree, Trees, Leaf, At, Node, none, ◌▹◌}
 use Rattle.c_decls.specs.Named as n
 use Rattle.c_decls.specs.Named.{PlainNamed}
-use Rattle.c_decls.specs.ScopeList.{ScopeList, Table, named_in, found_from, found}
+use Rattle.c_decls.specs.ScopeList.{ScopeList, Table, named_in, found_from}
 use Rattle.elaboration.specs.Addressed.{plain_name}
 use Rattle.core_soundness.specs.Worlds.{World, FileFits, TableFits}
 use Rattle.core_soundness.specs.Spoken.{is_register, NoRegister, TakesAddress, Spoken, AllSpoken}
