@@ -1,5 +1,5 @@
 -- What the walk over addresses knows at a place goes with what elaboration knows there.
-use Rattle.std.proofs.Common.{◌≡◌, ℕ, zero, suc, Bool, true, false, nat_eq, List, [], ◌∷◌, Option, Some, None, refl, sym, ap, ◌∙◌, subst}
+use Rattle.std.proofs.Common.{◌≡◌, ℕ, zero, suc, Bool, true, false, nat_eq, length, List, [], ◌∷◌, Option, Some, None, refl, sym, ap, ◌∙◌, subst}
 use Rattle.std.specs.List.{list_any}
 use Rattle.c_tree.specs.Tree.{Tree, Trees, none, ◌▹◌}
 use Rattle.c_decls.specs.ScopeList as scopes
@@ -59,7 +59,7 @@ drops (suc k) s = drops k (scopes.left s)
 pub record Stepped (t : Taken) (c : Context) (u : Taken) (d : Context) : Type 0 where
   pub follows : Follows u d
   pub addressed : d.running.addressed ≡ c.running.addressed
-  pub scope : HasScope c.scopes.inner → HasScope d.scopes.inner
+  pub depth : length d.scopes.inner ≡ length c.scopes.inner
   pub outside : (k : ℕ) → Fewer (drops k (scopes.left c.scopes)) (drops k (scopes.left d.scopes))
 
 -- parts in turn, whatever their places are, if none is a scope

@@ -1,5 +1,5 @@
 -- What expressions leave as it was: as many parameters and locals are declared, and the same of them are taken the address of.
-use Rattle.std.proofs.Common.{◌≡◌, ℕ, zero, suc, Bool, true, false, not, cond, min, length, List, [], ◌∷◌, ◌++◌, Option, Some, None, Ok, Err, ⊎_elim, refl, sym, ap, ◌∙◌, subst}
+use Rattle.std.proofs.Common.{◌≡◌, ℕ, zero, suc, Bool, true, false, not, cond, min, length, List, [], ◌∷◌, ◌++◌, Option, Some, None, Ok, Err, ⊎_elim, arith, refl, sym, ap, ◌∙◌, subst}
 use Rattle.std.specs.Option.{option_or}
 use Rattle.c_types.specs.Types as types
 use Rattle.c_types.specs.Types.{PlainType, Void, Int, Array, Struct, Union}
@@ -33,6 +33,7 @@ use Rattle.elaboration.specs.Declarators.{constant}
 use Rattle.elaboration.specs.Statements.{evaluated, closed_atom, condition, leaves_if_zero, switch_operand_of, switch_operand}
 use Rattle.core_soundness.specs.Spoken.{is_register}
 use Rattle.core_soundness.proofs.Names.{More, MoreTags, MoreAll, IsNewTag, more_refl, more_trans}
+use Rattle.core_soundness.proofs.Owners.{more_depth}
 use Rattle.core_soundness.proofs.Grown.{Grown, good, bad, ok_same, never, grown_then}
 use Rattle.core_soundness.proofs.Growth.{Grows, grows_refl, grows_trans}
 use Rattle.core_soundness.proofs.Reached.{Reached, reached_ok, reached_after, reached_then, reached_unless, Led, led_ok, led_after, led_unless}
@@ -183,23 +184,31 @@ pub keeps_stepped : (t u : Taken) (c d : Context) → SameNames t u → Keeps c 
 keeps_stepped t u c d s k h = record {
   follows = keeps_follows t u c d s k h;
   addressed = k.addressed;
-  scope = scope_more c.scopes.inner d.scopes.inner k.more.inner;
+  depth = more_depth c.scopes d.scopes k.more;
   outside = λ j. more_fewer (drops j (scopes.left c.scopes)) (drops j (scopes.left d.scopes)) (drops_more j (scopes.left c.scopes) (scopes.left d.scopes) (left_more c.scopes d.scopes k.more));
 }
 
 pub stepped_refl : (t : Taken) (c : Context) → Follows t c → Stepped t c t c
-stepped_refl t c h = record { follows = h; addressed = refl; scope = λ s. s; outside = λ j name e. e }
+stepped_refl t c h = record { follows = h; addressed = refl; depth = refl; outside = λ j name e. e }
 
 pub stepped_trans : (t u v : Taken) (a b c : Context) → Stepped t a u b → Stepped u b v c → Stepped t a v c
-stepped_trans t u v a b c x y = record { follows = y.follows; addressed = y.addressed ∙ x.addressed; scope = λ s. y.scope (x.scope s); outside = λ j name e. x.outside j name (y.outside j name e) }
+stepped_trans t u v a b c x y = record { follows = y.follows; addressed = y.addressed ∙ x.addressed; depth = y.depth ∙ x.depth; outside = λ j name e. x.outside j name (y.outside j name e) }
+
+scope_of : (a b : List Table) → length b ≡ length a → HasScope a → HasScope b
+scope_of [] b e h = absurd h
+scope_of (t ∷ ts) [] e h = absurd (omega (arith, e))
+scope_of (t ∷ ts) (u ∷ us) e h = tt
+
+pub stepped_scope : (t u : Taken) (c d : Context) → Stepped t c u d → HasScope c.scopes.inner → HasScope d.scopes.inner
+stepped_scope t u c d s h = scope_of c.scopes.inner d.scopes.inner s.depth h
 
 pub stepped_step : (t u : Taken) (c d : Context) → u.typedef ≡ t.typedef → InStep t c → Stepped t c u d → InStep u d
-stepped_step t u c d e h s = (e ∙ h.0, s.scope h.1, s.follows)
+stepped_step t u c d e h s = (e ∙ h.0, stepped_scope t u c d s h.1, s.follows)
 
 pub stepped_names : (t u v : Taken) (c d : Context) → SameNames u v → Stepped t c u d → Stepped t c v d
 stepped_names t u v c d s x = record {
   follows = (s.1 ∙ x.follows.0, λ name e. numbered_kept u v d.running.addressed d.running.addressed name s.0 refl (x.follows.1 name e));
   addressed = x.addressed;
-  scope = x.scope;
+  depth = x.depth;
   outside = x.outside;
 }

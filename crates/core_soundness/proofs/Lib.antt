@@ -110,3 +110,4 @@ mod SpokenSteps
 mod StepsExpressions
 mod StepsInits
 mod StepsNames
+mod Each

@@ -145,15 +145,11 @@ mutual
   initialize_went (Node f.InitExpr (At line ▹ e ▹ none)) in_scalar type offset t b g d q =
       let x = by_expression_went e line type offset t b g.1.1.0 d q in (init_calm line e x.0, x.1)
   initialize_went (Node (f.InitList trailing) (At line ▹ Node f.Inits inits ▹ none)) in_scalar type offset t b g d q =
-      list_went (takes_braces type in_scalar) trailing line inits (is_scalar_type type) type offset t b g.1.1.0.1 d q
+      elim (takes_braces type in_scalar) as (λ k. cond k (initialize_parts line inits (is_scalar_type type) (parts_of b (count inits) type offset) t b) (then (all_surplus inits b) (λ y. refused Assignment line)) ≡ good d → Went (Node (f.InitList trailing) (At line ▹ Node f.Inits inits ▹ none)) b d.0) [
+        | true ↦ λ r. let x = parts_went inits line (is_scalar_type type) (parts_of b (count inits) type offset) t b g.1.1.0.1 d r in (list_calm trailing line inits x.0, x.1)
+        | false ↦ reached_after (Went (Node (f.InitList trailing) (At line ▹ Node f.Inits inits ▹ none)) b) (all_surplus inits b) (λ y. refused Assignment line) (λ y h. reached_refused (Went (Node (f.InitList trailing) (At line ▹ Node f.Inits inits ▹ none)) b) Assignment line) d
+      ] q
   initialize_went tree in_scalar type offset t b g d q = never (Went tree b d.0) _ d q
-
-  list_went : (takes trailing : Bool) (line : ℕ) (inits : Trees) (in_scalar : Bool) (type : PlainType) (offset : ℕ) (t : Target) (b : Context) → AllFormed inits
-      → Reached (Went (Node (f.InitList trailing) (At line ▹ Node f.Inits inits ▹ none)) b) (cond takes (initialize_parts line inits in_scalar (parts_of b (count inits) type offset) t b) (then (all_surplus inits b) (λ d. refused Assignment line)))
-  list_went true trailing line inits in_scalar type offset t b g d q =
-      let x = parts_went inits line in_scalar (parts_of b (count inits) type offset) t b g d q in (list_calm trailing line inits x.0, x.1)
-  list_went false trailing line inits in_scalar type offset t b g d q =
-      reached_after (Went (Node (f.InitList trailing) (At line ▹ Node f.Inits inits ▹ none)) b) (all_surplus inits b) (λ d. refused Assignment line) (λ d h. reached_refused (Went (Node (f.InitList trailing) (At line ▹ Node f.Inits inits ▹ none)) b) Assignment line) d q
 
   parts_went : (inits : Trees) (line : ℕ) (in_scalar : Bool) (parts : List (PlainType × ℕ)) (t : Target) (b : Context) → AllFormed inits → Reached (λ d. AllStill inits × Keeps b d) (initialize_parts line inits in_scalar parts t b)
   parts_went none line in_scalar parts t b g = reached_ok (λ d. AllStill none × Keeps b d) (b, t) (tt, keeps_refl b)

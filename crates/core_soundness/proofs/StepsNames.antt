@@ -111,9 +111,9 @@ plain_outside s name v p k = by s.inner refl
     by (t ∷ ts) e =
         subst (λ (i : List Table). Fewer (drops k (record { file = s.file; inner = scopes.tail i })) (drops k (scopes.left (with_name_in s.file i name v)))) (sym e) (λ x r. r)
 
-named_scope : (file : Table) (inner : List Table) (name : List ℕ) (v : PlainNamed) → HasScope inner → HasScope (with_name_in file inner name v).inner
-named_scope file [] name v h = h
-named_scope file (t ∷ ts) name v h = tt
+named_depth : (file : Table) (inner : List Table) (name : List ℕ) (v : PlainNamed) → length (with_name_in file inner name v).inner ≡ length inner
+named_depth file [] name v = refl
+named_depth file (t ∷ ts) name v = refl
 
 -- a name that stands for no register is declared
 
@@ -159,14 +159,14 @@ plain_stepped line name v t c z p h q =
         (record {
           follows = (h.0, named_numbered c.scopes name v None t c.running.addressed e (λ r. let clash : true ≡ false = sym r ∙ p in cc) h.1);
           addressed = refl;
-          scope = named_scope c.scopes.file c.scopes.inner name v;
+          depth = named_depth c.scopes.file c.scopes.inner name v;
           outside = plain_outside c.scopes name v p;
         })
     by (Some x) e w = subst (λ (o : Option PlainNamed). Stepped t c (with_one name None t) (record c { scopes = cond (is_some o) c.scopes (with_name c.scopes name v) })) (sym e)
         (record {
           follows = (h.0, again_numbered c.scopes.file c.scopes.inner name v x t c.running.addressed p e w h.1);
           addressed = refl;
-          scope = λ s. s;
+          depth = refl;
           outside = λ k y r. r;
         })
 
@@ -197,7 +197,7 @@ one_local : (name : Option (List ℕ)) (v : PlainNamed) (t : Taken) (c d : Conte
 one_local None v t c d same e1 e2 fresh deep g h = record {
   follows = (ap (λ (k : ℕ). k + 1) (h.0 ∙ sym e1), λ x r. let a = h.1 x (subst (λ (s : ScopeList). is_register (found s x) ≡ true) same r) in (a.0, a.1, ap (λ (l : List ℕ). among a.0 l) e2 ∙ a.2));
   addressed = e2;
-  scope = λ s. subst (λ (y : ScopeList). HasScope y.inner) (sym same) s;
+  depth = ap (λ (y : ScopeList). length y.inner) same;
   outside = λ k. subst (λ (y : ScopeList). Fewer (drops k (scopes.left c.scopes)) (drops k (scopes.left y))) (sym same) (λ x r. r);
 }
 one_local (Some name) v t c d same e1 e2 fresh deep g h =
@@ -207,7 +207,7 @@ one_local (Some name) v t c d same e1 e2 fresh deep g h =
       follows = (ap (λ (k : ℕ). k + 1) (h.0 ∙ sym e1),
           λ x r. let a = numbered x (subst (λ (s : ScopeList). is_register (found (with_name s name v) x) ≡ true) same r) in (a.0, a.1, ap (λ (l : List ℕ). among a.0 l) e2 ∙ a.2));
       addressed = e2;
-      scope = λ s. subst (λ (y : ScopeList). HasScope (with_name y name v).inner) (sym same) (named_scope c.scopes.file c.scopes.inner name v s);
+      depth = ap (λ (y : ScopeList). length (with_name y name v).inner) same ∙ named_depth c.scopes.file c.scopes.inner name v;
       outside = λ k. subst (λ (y : ScopeList). Fewer (drops k (scopes.left c.scopes)) (drops k (scopes.left (with_name y name v)))) (sym same) (inner_outside c.scopes name v deep k);
     }
 
