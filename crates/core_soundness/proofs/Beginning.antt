@@ -6,9 +6,9 @@ use Rattle.c_types.specs.Types.{PlainType, PlainTypes}
 use Rattle.c_tree.specs.Forms.{Form}
 use Rattle.c_tree.specs.Forms as f
 use Rattle.c_tree.specs.Places as p
-use Rattle.c_tree.specs.Tree.{Tree, Trees, Leaf, At, Node, none, ◌▹◌, count}
-use Rattle.c_tree.specs.Grammar.{shape, commas, behind_commas}
-use Rattle.c_tree.specs.Scopes.{is_scope, places, leads_to_name, suffix_params, first_list, params_of, params_among}
+use Rattle.c_tree.specs.Tree.{Tree, Trees, Leaf, At, Node, none, ◌▹◌}
+use Rattle.c_tree.specs.Grammar.{shape}
+use Rattle.c_tree.specs.Scopes.{is_scope, leads_to_name, suffix_params, first_list, params_of, params_among}
 use Rattle.c_decls.specs.Named as n
 use Rattle.c_decls.specs.Named.{PlainNamed}
 use Rattle.c_decls.specs.ScopeList.{Table, named_in, found_from, first_or}
@@ -27,11 +27,12 @@ use Rattle.core_soundness.proofs.Grown.{good, ok_same}
 use Rattle.core_soundness.proofs.Agreeing.{came}
 use Rattle.core_soundness.proofs.Parameters.{functions, functions_joined, functions_one, functions_reversed}
 use Rattle.core_soundness.proofs.Formed.{IsLayer, IsSuffix, AreSuffixes, Shaped, Formed, AllFormed}
-use Rattle.core_soundness.proofs.InStep.{Numbered, Follows, InStep, each}
+use Rattle.core_soundness.proofs.InStep.{Numbered, Follows, InStep}
+use Rattle.core_soundness.proofs.Each.{commas_each}
 use Rattle.core_soundness.proofs.Outside.{file_register}
 use Rattle.core_soundness.proofs.Leaving.{file_none}
 use Rattle.core_soundness.proofs.Counting.{counts, declared_counts, suffixes_counts}
-use Rattle.core_soundness.proofs.StepHoles.{params_step}
+use Rattle.core_soundness.proofs.StepHoles.{params_stepped}
 
 -- what is known of the parameters of a list that ended: how many they are, of which the address is taken, and their names
 pub record BegunAt (o : Option Trees) (x : ℕ × List ℕ × Table) : Type 0 where
@@ -44,17 +45,6 @@ Begun o c = BegunAt o (counts c)
 
 begun_same : (o : Option Trees) (c d : Context) → counts d ≡ counts c → Begun o c → Begun o d
 begun_same o c d e h = subst (BegunAt o) (sym e) h
-
--- parameters, one after another
-behind_each : (parts : Trees) (t : Taken) → all_taken parts (places (behind_commas p.Param (count parts))) t ≡ each parts t
-unfolding all_taken each is_scope
-behind_each none t = refl
-behind_each (tree ▹ rest) t = behind_each rest (taken tree t)
-
-commas_each : (parts : Trees) (t : Taken) → all_taken parts (places (commas p.Param (count parts))) t ≡ each parts t
-unfolding all_taken each is_scope
-commas_each none t = refl
-commas_each (tree ▹ rest) t = behind_each rest (taken tree t)
 
 -- at file scope no name is a register
 entered_none : (w : World) (file : Table) (inner : List Table) (name : List ℕ) → length inner ≡ 0 → TableFits (FileFits w) file → is_register (found_from file name inner) ≡ true → ⊥
@@ -88,8 +78,8 @@ no_params e = cc
 list_begun : (line : ℕ) (parts : Trees) (c : Context) (z : Context × PlainTypes) → AllFormed parts → c.running.declared ≡ 0 → length c.scopes.inner ≡ 0 → TableFits (FileFits (world c)) c.scopes.file → params parts (entered c) ≡ Ok z → Begun (Some (Node f.Params parts ▹ none)) (left_params z.0)
 unfolding taken all_taken left shape is_scope
 list_begun line parts c z g zero_yet flat h q =
-    let s = params_step parts nothing_taken (entered c) z g tt (follows_none c zero_yet flat h) q in
-    let same = commas_each parts nothing_taken in
+    let s = params_stepped parts nothing_taken (entered c) z g tt (follows_none c zero_yet flat h) q in
+    let same = commas_each p.Param refl parts nothing_taken in
     record {
       typed = refl;
       declared = ap (λ (t : Taken). t.declared) same ∙ s.follows.0;

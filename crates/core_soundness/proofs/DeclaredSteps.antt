@@ -1,149 +1,46 @@
 -- Declarations of locals go in step with the walk over addresses, and their initializers take the address of no register.
-use Rattle.std.proofs.Common.{◌≡◌, ◌⊎◌, inl, inr, ⊎_elim, ◌+◌, ℕ, Bool, true, false, not, ◌||◌, cond, length, is_some, List, [], ◌∷◌, ◌++◌, Option, Some, None, IsSome, Ok, refl, sym, ap, ◌∙◌, subst, bytes_eq}
-use Rattle.std.specs.Option.{option_or}
-use Rattle.std.proofs.lemmas.Slice.Eq.{bytes_eq-Decides}
+use Rattle.std.proofs.Common.{◌≡◌, ℕ, Bool, true, false, ◌||◌, cond, List, Option, Some, None, IsSome, Ok, refl, sym, ap, ◌∙◌, subst}
 use Rattle.c_types.specs.Types.{PlainType}
 use Rattle.c_tree.specs.declared.operator.RecordSort.{RecordSort}
 use Rattle.c_tree.specs.Words as w
 use Rattle.c_tree.specs.Forms as f
 use Rattle.c_tree.specs.Places as p
-use Rattle.c_tree.specs.Tree.{Tree, Trees, Leaf, At, Node, none, ◌▹◌, count}
-use Rattle.c_tree.specs.Grammar.{shape, commas, behind_commas}
-use Rattle.c_tree.specs.Scopes.{name_of, name_among, first_name, has_typedef, is_scope, places}
+use Rattle.c_tree.specs.Tree.{Tree, Trees, Leaf, At, Node, none, ◌▹◌}
+use Rattle.c_tree.specs.Grammar.{shape}
+use Rattle.c_tree.specs.Scopes.{name_of, name_among, first_name, has_typedef, is_scope}
 use Rattle.c_decls.specs.declared.refusal.TypeKind.TheVariants.{DeclaredTwice, Incomplete, LeftOut}
 use Rattle.c_decls.specs.Named as n
-use Rattle.c_decls.specs.Named.{PlainNamed}
-use Rattle.c_decls.specs.ScopeList.{ScopeList, Table, named_in, found, found_from, first_or, innermost, with_name_in, with_name, after_declaration, tag_name}
+use Rattle.c_decls.specs.ScopeList.{named_in, innermost, tag_name}
 use Rattle.c_decls.specs.Refusals.{Checked, then, unless}
-use Rattle.c_decls.specs.Typed.{is_scalar, is_function, has_no_size}
+use Rattle.c_decls.specs.Typed.{is_function, has_no_size}
 use Rattle.c_decls.specs.TypeNames.{Layer, has, tag_named}
 use Rattle.elaboration.specs.Addressed as addressed
-use Rattle.elaboration.specs.Addressed.{Taken, number_of, with_known, declare, left, taken, all_taken}
+use Rattle.elaboration.specs.Addressed.{Taken, with_known, declare, left, taken, all_taken}
 use Rattle.elaboration.specs.Context.{Context, asked, told}
 use Rattle.elaboration.specs.Conversions.{Spot}
-use Rattle.elaboration.specs.Locals.{is_file, is_twice_in, is_twice, declared_as, next_is_memory, with_local, local_in, counted_local}
+use Rattle.elaboration.specs.Locals.{is_twice, declared_as, with_local}
 use Rattle.elaboration.specs.Declarators.{layers, specs, with_type}
 use Rattle.elaboration.specs.Initializers.{with_init_layers}
 use Rattle.elaboration.specs.Declarations as storages
 use Rattle.elaboration.specs.Declarations.{Storage, Typedef, Outside, is_outside_word, storage_of, specs_alone, specs_before, fill_local, local_object, local_name, name_in, entry, entries, declaration}
-use Rattle.core_soundness.specs.Spoken.{is_register, AllSpoken}
+use Rattle.core_soundness.specs.Spoken.{AllSpoken}
 use Rattle.core_soundness.specs.Written.{Written, AllWritten}
 use Rattle.core_soundness.proofs.Grown.{good, ok_same, never}
-use Rattle.core_soundness.proofs.Names.{named_push}
 use Rattle.core_soundness.proofs.Agreeing.{came}
-use Rattle.core_soundness.proofs.Operating.{passed, kept_test, behind_test}
+use Rattle.core_soundness.proofs.Operating.{kept_test, behind_test}
 use Rattle.core_soundness.proofs.TypedNames.{tag_after}
 use Rattle.core_soundness.proofs.Adding.{Has, Inside, taken_adds}
 use Rattle.core_soundness.proofs.Formed.{IsLayer, of_typedefs, NoInits, Shaped, Formed, AllFormed}
-use Rattle.core_soundness.proofs.InStep.{among, HasScope, Numbered, Follows, InStep, each}
+use Rattle.core_soundness.proofs.InStep.{HasScope, Follows, InStep, each}
 use Rattle.core_soundness.proofs.Still.{SameNames, still_names}
-use Rattle.core_soundness.proofs.Keeping.{told_keeps, keeps_follows}
+use Rattle.core_soundness.proofs.Keeping.{keeps_refl, told_keeps, keeps_follows, stepped_scope}
+use Rattle.core_soundness.proofs.StepsNames.{plain_stepped, not_twice, local_stepped}
+use Rattle.core_soundness.proofs.Each.{commas_each}
 use Rattle.core_soundness.proofs.LocalsSpoken.{LocalSpoken, EntrySpoken, EntriesSpoken, DeclarationSpoken}
 use Rattle.core_soundness.proofs.Leaving.{scope_more}
 use Rattle.core_soundness.proofs.Good.{as_before}
 use Rattle.core_soundness.proofs.StepsInits.{local_went, inits_spoken}
-use Rattle.core_soundness.proofs.StepHoles.{specs_step, layers_step}
-
--- names that are declared
-
-eq_flip : (name key : List ℕ) → bytes_eq key name ≡ false → bytes_eq name key ≡ false
-eq_flip name key e = by (bytes_eq name key) refl
-  where
-    by : (b : Bool) → bytes_eq name key ≡ b → bytes_eq name key ≡ false
-    by true q = let clash : false ≡ true = sym e ∙ (bytes_eq-Decides key name).1 (sym ((bytes_eq-Decides name key).0 q)) in cc
-    by false q = q
-
-or_none : (o : Option PlainNamed) → option_or o None ≡ o
-or_none None = refl
-or_none (Some v) = refl
-
--- what is found under a key as a register, where a name is declared
-declared_register : (s : ScopeList) (name key : List ℕ) (v : PlainNamed) → HasScope s.inner → named_in name (innermost s) ≡ None → is_register (found (with_name s name v) key) ≡ true
-    → ((key ≡ name) × (is_register (Some v) ≡ true)) ⊎ ((bytes_eq name key ≡ false) × (is_register (found s key) ≡ true))
-declared_register s name key v h fresh e = by s.inner h fresh e
-  where
-    in_scope : (t : Table) (ts : List Table) → named_in name t ≡ None → (b : Bool) → bytes_eq key name ≡ b → is_register (option_or (named_in key (t ++ (name, v) ∷ [])) (found_from s.file key ts)) ≡ true
-        → ((key ≡ name) × (is_register (Some v) ≡ true)) ⊎ ((bytes_eq name key ≡ false) × (is_register (option_or (named_in key t) (found_from s.file key ts)) ≡ true))
-    in_scope t ts fresh true q e =
-        let same : key ≡ name = (bytes_eq-Decides key name).0 q in
-        let got : named_in key (t ++ (name, v) ∷ []) ≡ Some v = named_push key name v t ∙ ap (λ (o : Option PlainNamed). option_or o (cond (bytes_eq key name) (Some v) None)) (ap (λ (x : List ℕ). named_in x t) same ∙ fresh) ∙ ap (λ (b : Bool). cond b (Some v) None) q in
-        inl (same, sym (ap (λ (o : Option PlainNamed). is_register (option_or o (found_from s.file key ts))) got) ∙ e)
-    in_scope t ts fresh false q e =
-        let got : named_in key (t ++ (name, v) ∷ []) ≡ named_in key t = named_push key name v t ∙ ap (λ (b : Bool). option_or (named_in key t) (cond b (Some v) None)) q ∙ or_none (named_in key t) in
-        inr (eq_flip name key q, sym (ap (λ (o : Option PlainNamed). is_register (option_or o (found_from s.file key ts))) got) ∙ e)
-
-    by : (inner : List Table) → HasScope inner → named_in name (first_or s.file inner) ≡ None → is_register (found (with_name_in s.file inner name v) key) ≡ true
-        → ((key ≡ name) × (is_register (Some v) ≡ true)) ⊎ ((bytes_eq name key ≡ false) × (is_register (found_from s.file key inner) ≡ true))
-    by [] h fresh e = absurd h
-    by (t ∷ ts) h fresh e = in_scope t ts fresh (bytes_eq key name) refl e
-
-named_scope : (s : ScopeList) (name : List ℕ) (v : PlainNamed) → HasScope s.inner → HasScope (with_name s name v).inner
-named_scope s name v h = by s.inner h
-  where
-    by : (inner : List Table) → HasScope inner → HasScope (with_name_in s.file inner name v).inner
-    by [] h = absurd h
-    by (t ∷ ts) h = tt
-
--- a typedef name
-typedef_follows : (name : List ℕ) (type : PlainType) (t : Taken) (c : Context) → HasScope c.scopes.inner → named_in name (innermost c.scopes) ≡ None → Follows t c → Follows (with_known (Some name) None t) (record c { scopes = with_name c.scopes name (n.Typedef type) })
-typedef_follows name type t c s fresh h = (
-  h.0,
-  λ key e. ⊎_elim
-  (λ (x : (key ≡ name) × (false ≡ true)). let clash : false ≡ true = x.1 in cc)
-  (λ (x : (bytes_eq name key ≡ false) × (is_register (found c.scopes key) ≡ true)). let k = h.1 key x.1 in (k.0, ap (λ (b : Bool). cond b None (number_of t.names key)) x.0 ∙ k.1, k.2))
-  (declared_register c.scopes name key (n.Typedef type) s fresh e),
-)
-
-or_false : (x y : Bool) → x || y ≡ false → y ≡ false
-or_false true y e = cc
-or_false false y e = e
-
--- a local
-local_follows : (name : List ℕ) (type : PlainType) (t : Taken) (c : Context) → HasScope c.scopes.inner → named_in name (innermost c.scopes) ≡ None → Follows t c → Follows (addressed.with_local (Some name) t) (with_local name type c).0
-local_follows name type t c s fresh h = by (next_is_memory type c) refl
-  where
-    old : (number : Option ℕ) (key : List ℕ) → (bytes_eq name key ≡ false) × (is_register (found c.scopes key) ≡ true) → Numbered (record (with_known (Some name) number t) { declared = t.declared + 1 }) c.running.addressed key
-    old number key x = let k = h.1 key x.1 in (k.0, ap (λ (b : Bool). cond b number (number_of t.names key)) x.0 ∙ k.1, k.2)
-
-    by : (b : Bool) → next_is_memory type c ≡ b → Follows (addressed.with_local (Some name) t) (counted_local (local_in b name type c)).0
-    by true e = (
-      ap (λ (k : ℕ). k + 1) h.0,
-      λ key q. ⊎_elim
-      (λ (x : (key ≡ name) × (false ≡ true)). let clash : false ≡ true = x.1 in cc)
-      (λ (x : (bytes_eq name key ≡ false) × (is_register (found c.scopes key) ≡ true)). old (Some t.declared) key x)
-      (declared_register c.scopes name key (n.Object type (length c.running.mems)) s fresh q),
-    )
-    by false e =
-        let untaken : among c.running.declared c.running.addressed ≡ false = or_false (not (is_scalar type)) (among c.running.declared c.running.addressed) e in (
-          ap (λ (k : ℕ). k + 1) h.0,
-          λ key q. ⊎_elim
-          (λ (x : (key ≡ name) × (true ≡ true)). (t.declared, ap (λ (b : Bool). cond b (Some t.declared) (number_of t.names key)) ((bytes_eq-Decides name key).1 (sym x.0)), ap (λ (k : ℕ). among k c.running.addressed) h.0 ∙ untaken))
-          (λ (x : (bytes_eq name key ≡ false) × (is_register (found c.scopes key) ≡ true)). old (Some t.declared) key x)
-          (declared_register c.scopes name key (n.Register type (length c.running.locals)) s fresh q),
-        )
-
-local_scope : (name : List ℕ) (type : PlainType) (c : Context) → HasScope c.scopes.inner → HasScope (with_local name type c).0.scopes.inner
-local_scope name type c s = by (next_is_memory type c)
-  where
-    by : (b : Bool) → HasScope (counted_local (local_in b name type c)).0.scopes.inner
-    by true = named_scope c.scopes name (n.Object type (length c.running.mems)) s
-    by false = named_scope c.scopes name (n.Register type (length c.running.locals)) s
-
-local_addressed : (name : List ℕ) (type : PlainType) (c : Context) → (with_local name type c).0.running.addressed ≡ c.running.addressed
-local_addressed name type c = by (next_is_memory type c)
-  where
-    by : (b : Bool) → (counted_local (local_in b name type c)).0.running.addressed ≡ c.running.addressed
-    by true = refl
-    by false = refl
-
--- a name is new in its scope, where it is declared with success
-fresh_name : (s : ScopeList) (name : List ℕ) (v : PlainNamed) → HasScope s.inner → is_twice s name v ≡ false → named_in name (innermost s) ≡ None
-fresh_name s name v h e = by s.inner h (named_in name (innermost s)) e
-  where
-    by : (inner : List Table) → HasScope inner → (o : Option PlainNamed) → is_twice_in (is_file inner) v o ≡ false → o ≡ None
-    by [] h o e = absurd h
-    by (t ∷ ts) h None e = refl
-    by (t ∷ ts) h (Some before) e = cc
+use Rattle.core_soundness.proofs.StepHoles.{specs_stepped, layers_stepped}
 
 -- what a declaration leaves behind
 record Stayed (c : Context) (u : Taken) (d : Context) : Type 0 where
@@ -173,18 +70,13 @@ typedef_step : (line : ℕ) (name : List ℕ) (type : PlainType) (inits : Trees)
 unfolding AllSpoken
 typedef_step line name type inits t c z bare s h q =
     let u : Taken = with_known (Some name) None t in
-    let v : PlainNamed = n.Typedef type in
-    let d : Context = record c { scopes = after_declaration c.scopes name v } in
-    let fresh = fresh_name c.scopes name v s (kept_test (is_twice c.scopes name v) DeclaredTwice line (good d) z q) in
-    let renamed : after_declaration c.scopes name v ≡ with_name c.scopes name v = ap (λ (o : Option PlainNamed). cond (is_some o) c.scopes (with_name c.scopes name v)) fresh in
-    let made : record c { scopes = with_name c.scopes name v } ≡ z = ap (λ (x : ScopeList). record c { scopes = x }) (sym renamed) ∙ passed (is_twice c.scopes name v) DeclaredTwice line d z q in
+    let one = plain_stepped line name (n.Typedef type) t c z refl h q in
     record {
-      stayed = subst (λ (x : Context). Stayed c (taken (Node f.MaybeInit inits) u) x) made
-          (record {
-            follows = let same = inits_after inits u bare in (same.1 ∙ (typedef_follows name type t c s fresh h).0, λ key e. let k = (typedef_follows name type t c s fresh h).1 key e in (k.0, ap (λ (names : List addressed.Known). number_of names key) same.0 ∙ k.1, k.2));
-            addressed = refl;
-            scope = named_scope c.scopes name v s;
-          });
+      stayed = record {
+        follows = keeps_follows u (taken (Node f.MaybeInit inits) u) z z (inits_after inits u bare) (keeps_refl z) one.follows;
+        addressed = one.addressed;
+        scope = stepped_scope t u c z one s;
+      };
       spoken = λ i written k. subst (λ (trees : Trees). AllSpoken (with_local name type c).0.scopes trees) (sym bare) tt;
     }
 
@@ -196,17 +88,17 @@ object_step line name type inits t c z g s h q =
     let r1 : Checked Context = unless (has_no_size c.tags type) Incomplete line r2 in
     let a = behind_test (is_function type) LeftOut line r1 z q in
     let b = behind_test (has_no_size c.tags type) Incomplete line r2 z a in
-    let fresh = fresh_name c.scopes name (n.Object type 0) s (kept_test (is_twice c.scopes name (n.Object type 0)) DeclaredTwice line (fill_local line type inits x) z b) in
+    let fresh = not_twice c name (n.Object type 0) s (kept_test (is_twice c.scopes name (n.Object type 0)) DeclaredTwice line (fill_local line type inits x) z b) in
     let e = behind_test (is_twice c.scopes name (n.Object type 0)) DeclaredTwice line (fill_local line type inits x) z b in
-    let one = local_follows name type t c s fresh h in
+    let one = local_stepped name type t c s fresh h in
     let went = local_went line name type inits c z g e in
     record {
       stayed = record {
-        follows = keeps_follows u (taken (Node f.MaybeInit inits) u) x.0 z (still_names (Node f.MaybeInit inits) u went.0.still) went.1 one;
-        addressed = went.1.addressed ∙ local_addressed name type c;
-        scope = scope_more x.0.scopes.inner z.scopes.inner went.1.more.inner (local_scope name type c s);
+        follows = keeps_follows u (taken (Node f.MaybeInit inits) u) x.0 z (still_names (Node f.MaybeInit inits) u went.0.still) went.1 one.follows;
+        addressed = went.1.addressed ∙ one.addressed;
+        scope = scope_more x.0.scopes.inner z.scopes.inner went.1.more.inner (stepped_scope t u c x.0 one s);
       };
-      spoken = λ i written k. inits_spoken line name type inits u c z one (λ j has. subst (λ (ks : List ℕ). Has ks j) (sym (local_addressed name type c)) (i j has)) written g k;
+      spoken = λ i written k. inits_spoken line name type inits u c z one.follows (λ j has. subst (λ (ks : List ℕ). Has ks j) (sym one.addressed) (i j has)) written g k;
     }
 
 local_step : (line : ℕ) (storage : Storage) (name : List ℕ) (type : PlainType) (inits : Trees) (t : Taken) (c z : Context) → t.typedef ≡ is_typedef storage → (t.typedef ≡ true → inits ≡ none) → Formed (Node f.MaybeInit inits) → HasScope c.scopes.inner → Follows t c → local_name line storage name type inits c ≡ Ok z
@@ -244,34 +136,24 @@ entry_step line storage base declarator inits t c z e bare gd layer named g s h 
     let x = came (layers declarator c) (λ x. then (with_init_layers x.0.tags x.1 inits base) (λ type. name_in false line storage (name_of declarator) type inits x.0)) z q in
     let y = came (with_init_layers x.value.0.tags x.value.1 inits base) (λ type. name_in false line storage (name_of declarator) type inits x.value.0) z x.last in
     let k : local_name line storage name y.value inits x.value.0 ≡ Ok z = ap (λ (v : Option (List ℕ)). name_in false line storage v y.value inits x.value.0) (sym o.1) ∙ y.last in
-    let l = layers_step declarator t c x.value gd layer h x.is in
+    let l = layers_stepped declarator t c x.value gd layer h x.is in
     let td : Taken = as_before t (taken declarator t) in
-    let one = local_step line storage name y.value inits td x.value.0 z e bare g (l.scope s) l.follows k in
+    let one = local_step line storage name y.value inits td x.value.0 z e bare g (stepped_scope t (taken declarator t) c x.value.0 l s) l.follows k in
     let u : Taken = taken (Node f.MaybeInit inits) (declare t.typedef (Some name) td) in
     let same = entry_taken declarator inits name t o.1 in
     record {
       stayed = subst (λ (v : Taken). Stayed c v z) same (record { follows = one.stayed.follows; addressed = one.stayed.addressed ∙ l.addressed; scope = one.stayed.scope });
       spoken = λ i written l2 type2 name2 at made called.
-      let el : x.value ≡ l2 = ok_same x.value l2 (sym x.is ∙ at) in
-      let ey : y.value ≡ type2 = ok_same y.value type2 (sym y.is ∙ ap (λ (v : Context × List Layer). with_init_layers v.0.tags v.1 inits base) el ∙ made) in
-      let en : name ≡ name2 = same_some name name2 (sym o.1 ∙ called) in
-      let inside : Inside u.addressed x.value.0.running.addressed = λ j has. subst (λ (ks : List ℕ). Has ks j) (sym l.addressed) (i j (subst (λ (v : Taken). Has v.addressed j) same has)) in
-      subst (λ (v : Context × List Layer). LocalSpoken line name2 type2 inits v.0 z) el
-      (subst (λ (v : PlainType). LocalSpoken line name2 v inits x.value.0 z) ey
-      (subst (λ (v : List ℕ). LocalSpoken line v y.value inits x.value.0 z) en (one.spoken inside written)));
+          let el : x.value ≡ l2 = ok_same x.value l2 (sym x.is ∙ at) in
+          let ey : y.value ≡ type2 = ok_same y.value type2 (sym y.is ∙ ap (λ (v : Context × List Layer). with_init_layers v.0.tags v.1 inits base) el ∙ made) in
+          let en : name ≡ name2 = same_some name name2 (sym o.1 ∙ called) in
+          let inside : Inside u.addressed x.value.0.running.addressed = λ j has. subst (λ (ks : List ℕ). Has ks j) (sym l.addressed) (i j (subst (λ (v : Taken). Has v.addressed j) same has)) in
+          subst (λ (v : Context × List Layer). LocalSpoken line name2 type2 inits v.0 z) el
+          (subst (λ (v : PlainType). LocalSpoken line name2 v inits x.value.0 z) ey
+          (subst (λ (v : List ℕ). LocalSpoken line v y.value inits x.value.0 z) en (one.spoken inside written)));
     }
 
 -- entries in turn
-
-behind_each : (names : Trees) (t : Taken) → all_taken names (places (behind_commas p.Entry (count names))) t ≡ each names t
-unfolding all_taken each is_scope
-behind_each none t = refl
-behind_each (tree ▹ rest) t = behind_each rest (taken tree t)
-
-entries_each : (names : Trees) (t : Taken) → all_taken names (places (commas p.Entry (count names))) t ≡ each names t
-unfolding all_taken each is_scope
-entries_each none t = refl
-entries_each (tree ▹ rest) t = behind_each rest (taken tree t)
 
 each_adds : (names : Trees) (t : Taken) (k : ℕ) → Has t.addressed k → Has (each names t).addressed k
 unfolding each
@@ -341,8 +223,8 @@ specified line words t c z e s = record {
 specs_stay : (words : Tree) (t : Taken) (c : Context) (z : Context × PlainType) → t.typedef ≡ false → Formed words → HasScope c.scopes.inner → Follows t c → specs words c ≡ Ok z → Specified words t c z.0
 unfolding specs
 specs_stay (Node f.Specs (At line ▹ words)) t c z e g s h q =
-    let x = specs_step (Node f.Specs (At line ▹ words)) t c z g h q in
-    specified line words t c z.0 e (record { follows = x.follows; addressed = x.addressed; scope = x.scope s })
+    let x = specs_stepped (Node f.Specs (At line ▹ words)) t c z g h q in
+    specified line words t c z.0 e (record { follows = x.follows; addressed = x.addressed; scope = stepped_scope t (taken (Node f.Specs (At line ▹ words)) t) c z.0 x s })
 specs_stay words t c z e g s h q = never _ _ z q
 
 tag_stays : (line at : ℕ) (sort : RecordSort) (name : List ℕ) (t : Taken) (c : Context) (z : Context × PlainType) → HasScope c.scopes.inner → Follows t c → with_type (tag_named at sort name (asked c) (named_in (tag_name name) (innermost c.scopes))) c ≡ Ok z
@@ -373,7 +255,7 @@ before_stays words (name ▹ rest) t c z e g s h q = specs_stay words t c z e g 
 
 local_taken : (line : ℕ) (words : Tree) (names : Trees) (t : Taken) → as_before t (each names (taken words t)) ≡ taken (Node f.Local (At line ▹ words ▹ Node f.Names names ▹ none)) t
 unfolding taken all_taken left shape is_scope
-local_taken line words names t = ap (λ (u : Taken). as_before t u) (sym (entries_each names (taken words t)))
+local_taken line words names t = ap (λ (u : Taken). as_before t u) (sym (commas_each p.Entry refl names (taken words t)))
 
 pub declaration_in_step : (line : ℕ) (words names : Tree) (t : Taken) (c z : Context) → Formed (Node f.Local (At line ▹ words ▹ names ▹ none)) → InStep t c → declaration false line words names c ≡ Ok z → InStep (taken (Node f.Local (At line ▹ words ▹ names ▹ none)) t) z
 unfolding declaration Shaped Formed AllFormed

@@ -68,9 +68,11 @@ fill_scalar_went e line type offset b d (InMemory at mem) x q =
     let v = convert at (opened e b).code type d.1.typed (atom_in d.1) d.0 in
     let place = member_place at mem offset v.0 in
     let wrote = store_at at type v.1 place in
-    reached_ok (Went e b) (closed e wrote, InMemory at mem)
-    (x, keeps_trans b v.0 _ (converted_keeps at e type b d q)
-    (keeps_trans v.0 place.0 _ (place_keeps at mem offset v.0) (keeps_trans place.0 wrote _ (write_keeps at type (Memory place.1) v.1 place.0) (closed_keeps e wrote))))
+    reached_ok (Went e b) (closed e wrote, InMemory at mem) (
+      x,
+      keeps_trans b v.0 _ (converted_keeps at e type b d q)
+          (keeps_trans v.0 place.0 _ (place_keeps at mem offset v.0) (keeps_trans place.0 wrote _ (write_keeps at type (Memory place.1) v.1 place.0) (closed_keeps e wrote))),
+    )
 fill_scalar_went e line type offset b d (InStatic start) x q =
     reached_after (Went e b) (static_scalar line type offset start d.1) (λ filled. Ok (d.0, InStatic filled))
     (λ filled h. reached_ok (Went e b) (d.0, InStatic filled) (x, full_keeps e type b d q))
@@ -108,10 +110,12 @@ fill_text_went e line bytes size offset (InMemory at mem) b x =
     reached_after (Went e b) (with_literal line bytes begun) (λ d. copy_text at mem offset (min (length bytes + 1) size) d)
     (λ d h. let place = member_place at mem offset d.0 in
     let k : ℕ = min (length bytes + 1) size in
-    reached_ok (Went e b) (emit at (Copy place.1 (atom.Static d.1) (pos k)) place.0, InMemory at mem)
-    (x, keeps_trans b begun _ (opened_keeps e b)
-    (keeps_trans begun d.0 _ (grows_keeps begun d.0 (grown_literal line bytes begun begun (grows_refl begun) d h))
-    (keeps_trans d.0 place.0 _ (place_keeps at mem offset d.0) (emit_keeps at (Copy place.1 (atom.Static d.1) (pos k)) place.0)))))
+    reached_ok (Went e b) (emit at (Copy place.1 (atom.Static d.1) (pos k)) place.0, InMemory at mem) (
+      x,
+      keeps_trans b begun _ (opened_keeps e b)
+          (keeps_trans begun d.0 _ (grows_keeps begun d.0 (grown_literal line bytes begun begun (grows_refl begun) d h))
+          (keeps_trans d.0 place.0 _ (place_keeps at mem offset d.0) (emit_keeps at (Copy place.1 (atom.Static d.1) (pos k)) place.0))),
+    ))
 fill_text_went e line bytes size offset (InStatic start) b x = reached_ok (Went e b) (b, InStatic (with_bytes start offset (take size bytes))) (x, keeps_refl b)
 fill_text_went e line bytes size offset (InRegister at register) b x = reached_refused (Went e b) Assignment line
 

@@ -202,10 +202,12 @@ one_local None v t c d same e1 e2 fresh deep g h = record {
 }
 one_local (Some name) v t c d same e1 e2 fresh deep g h =
     let numbered : AreNumbered (with_name c.scopes name v) (with_one name (Some t.declared) t) c.running.addressed =
-          named_numbered c.scopes name v (Some t.declared) t c.running.addressed fresh (λ r. (t.declared, refl, ap (λ (k : ℕ). among k c.running.addressed) h.0 ∙ g r)) h.1 in
+    named_numbered c.scopes name v (Some t.declared) t c.running.addressed fresh (λ r. (t.declared, refl, ap (λ (k : ℕ). among k c.running.addressed) h.0 ∙ g r)) h.1 in
     record {
-      follows = (ap (λ (k : ℕ). k + 1) (h.0 ∙ sym e1),
-          λ x r. let a = numbered x (subst (λ (s : ScopeList). is_register (found (with_name s name v) x) ≡ true) same r) in (a.0, a.1, ap (λ (l : List ℕ). among a.0 l) e2 ∙ a.2));
+      follows = (
+        ap (λ (k : ℕ). k + 1) (h.0 ∙ sym e1),
+        λ x r. let a = numbered x (subst (λ (s : ScopeList). is_register (found (with_name s name v) x) ≡ true) same r) in (a.0, a.1, ap (λ (l : List ℕ). among a.0 l) e2 ∙ a.2),
+      );
       addressed = e2;
       depth = ap (λ (y : ScopeList). length (with_name y name v).inner) same ∙ named_depth c.scopes.file c.scopes.inner name v;
       outside = λ k. subst (λ (y : ScopeList). Fewer (drops k (scopes.left c.scopes)) (drops k (scopes.left (with_name y name v)))) (sym same) (inner_outside c.scopes name v deep k);
