@@ -111,3 +111,4 @@ mod StepsExpressions
 mod StepsInits
 mod StepsNames
 mod Each
+mod StepsLayers
