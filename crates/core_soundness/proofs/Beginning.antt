@@ -32,7 +32,7 @@ use Rattle.core_soundness.proofs.Each.{commas_each}
 use Rattle.core_soundness.proofs.Outside.{file_register}
 use Rattle.core_soundness.proofs.Leaving.{file_none}
 use Rattle.core_soundness.proofs.Counting.{counts, declared_counts, suffixes_counts}
-use Rattle.core_soundness.proofs.StepHoles.{params_stepped}
+use Rattle.core_soundness.proofs.StepsLayers.{params_stepped}
 
 -- what is known of the parameters of a list that ended: how many they are, of which the address is taken, and their names
 pub record BegunAt (o : Option Trees) (x : ℕ × List ℕ × Table) : Type 0 where

@@ -40,7 +40,7 @@ use Rattle.core_soundness.proofs.LocalsSpoken.{LocalSpoken, EntrySpoken, Entries
 use Rattle.core_soundness.proofs.Leaving.{scope_more}
 use Rattle.core_soundness.proofs.Good.{as_before}
 use Rattle.core_soundness.proofs.StepsInits.{local_went, inits_spoken}
-use Rattle.core_soundness.proofs.StepHoles.{specs_stepped, layers_stepped}
+use Rattle.core_soundness.proofs.StepsLayers.{specs_stepped, layers_stepped}
 
 -- what a declaration leaves behind
 record Stayed (c : Context) (u : Taken) (d : Context) : Type 0 where

@@ -97,7 +97,6 @@ mod InStep
 mod LocalsSpoken
 mod Outside
 mod Good
-mod StepHoles
 mod FormedTrees
 mod Leaving
 mod Counting
