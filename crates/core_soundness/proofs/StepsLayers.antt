@@ -294,7 +294,7 @@ mutual
       let ab = stepped_trans t t1 t2 c base.value.0 l.value.0 a b in
       let e = param_stepped_in line (name_of declarator) (adjusted y.value) t2 l.value.0 p.value (stepped_scope t t2 c l.value.0 ab deep) ab.follows p.is in
       let one = stepped_names t (walk.with_local (name_of declarator) t2) t3 c p.value.0 (param_taken line words declarator t (specs_unnamed words c base.value base.is))
-            (stepped_trans t t2 (walk.with_local (name_of declarator) t2) c l.value.0 p.value.0 ab e) in
+      (stepped_trans t t2 (walk.with_local (name_of declarator) t2) c l.value.0 p.value.0 ab e) in
       let more = params_stepped rest t3 p.value.0 m.value g.1 (stepped_scope t t3 c p.value.0 one deep) one.follows m.is in
       subst (λ (v : Context × PlainTypes). Stepped t c (each rest t3) v.0) (ok_same (m.value.0, first p.value.1 m.value.1) z m.last) (stepped_trans t t3 (each rest t3) c p.value.0 m.value.0 one more)
   params_stepped (tree ▹ rest) t c z g deep h q = never _ _ z q
