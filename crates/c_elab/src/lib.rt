@@ -35,10 +35,10 @@ use std::alloc::Global;
 ///
 /// [`TypeError::Bad`] with the first refusal, which says what is wrong and at which line; [`TypeError::NoMemory`] only for
 /// want of memory.
-#[tactic(auto, using(crate::proofs::Finished::core_ok, crate::proofs::Finished::core_err))]
+#[tactic(auto, using(crate::proofs::Finished::core_ok, crate::proofs::Finished::core_err, crate::proofs::Finished::core_sound))]
 pub fn elab(alloc: Global, unit: &Unit) -> Result<Core, TypeError>
     ensures core { Meets (λ core. core) result (core_in (unit_view unit.now)) }
-    ensures sound { IsOfTokens (unit_view unit.now) → IfOk result (λ core. IsSound core) }
+    ensures sound { IfOk result (λ core. IsOfTokens (unit_view unit.now) → IsSound core) }
 {
     cores_are_sound();
     let (core, _) = core_of(walked(alloc, unit)?)?;

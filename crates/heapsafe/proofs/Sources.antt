@@ -1,0 +1,25 @@
+-- The tokens of a text that may be read are few and short, and so their tree has a sound core.
+use Rattle.std.proofs.Common.{◌≡◌, ◌≤◌, ◌<◌, ℕ, List, All, length, arith}
+use Rattle.std.proofs.lemmas.List.Elements.{All-weaker}
+use Rattle.c_lexer.specs.declared.token.Token.{Token}
+use Rattle.c_lexer.specs.Tokens.{HasTokens, IsLexed}
+use Rattle.c_tree.specs.Tree.{Trees}
+use Rattle.c_tree.specs.HasTree.{HasTree}
+use Rattle.core_tree.specs.Sound.{IsShort}
+use Rattle.core_soundness.specs.Laws.{AreWithin}
+use Rattle.c_elab.specs.Core.{IsOfTokens}
+use Rattle.heapsafe.specs.Reading.{most_bytes}
+
+pub tokens_within_most : (text : List ℕ) (tokens : List Token) → AreWithin (length text) tokens → length text ≤ most_bytes → AreWithin most_bytes tokens
+tokens_within_most text tokens w h = record {
+  count = omega (arith, w.count, h);
+  bytes = All-weaker (λ (token : Token). length token.bytes ≤ length text) (λ (token : Token). length token.bytes ≤ most_bytes) (λ token q. omega (arith, h, q)) tokens w.bytes;
+}
+
+pub tree_of_tokens : (tokens : List Token) (unit : Trees) → All IsLexed tokens → AreWithin most_bytes tokens → HasTree tokens unit → IsOfTokens unit
+tree_of_tokens tokens unit l w h = (tokens, record {
+  lexed = l;
+  few = omega (arith, w.count);
+  short = All-weaker (λ (token : Token). length token.bytes ≤ most_bytes) (λ (token : Token). IsShort token.bytes) (λ token q. omega (arith, q)) tokens w.bytes;
+  tree = h;
+})
