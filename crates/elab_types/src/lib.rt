@@ -7,6 +7,7 @@
 
 mod asked;
 mod enums;
+mod member_table;
 mod members;
 mod params;
 mod walk;

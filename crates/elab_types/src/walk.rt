@@ -2,7 +2,6 @@
 
 ghost use Rattle.std.specs.Prelude.{◌≡◌, [], map, option_copied};
 ghost use Rattle.c_types.specs.Types.{plain, plain_list};
-ghost use Rattle.c_types.specs.TagTable.{plain_pair};
 ghost use Rattle.c_tree.specs.View.{spec_tree, tag_tree, declarator_tree, base_tree};
 ghost use Rattle.c_tree.specs.StatementView.{trees, specs_view, member_view, suffix_view, param_view};
 ghost use Rattle.c_decls.specs.Refusals.{Meets};
@@ -12,6 +11,7 @@ ghost use Rattle.elab_types.specs.Steps.{record_body, members_by, member_by, par
 
 use crate::asked::{array_layer, special_type};
 use crate::enums::enum_body;
+use crate::member_table::MemberTable;
 use crate::members::member;
 use crate::params::param;
 use c_decls::TypeError;
@@ -102,15 +102,16 @@ fn record_body(
 {
     let ty = state.begin_record(sort, name)?;
     let all = members(state, list)?;
-    state.end_record(line, sort, &ty, Items::from(all))
+    let pairs = all.into_pairs()?;
+    state.end_record(line, sort, &ty, Items::from(pairs))
 }
 
 /// The members in braces.
 #[cycle(walk)]
-fn members(state: &mut Elaborator, list: &[Member]) -> Result<Vec<(Items<u8>, CType)>, TypeError>
-    ensures { Meets (λ all. (state.new, map plain_pair all.items)) result (plain.members (trees member_view list.now) [] state.old) }
+fn members(state: &mut Elaborator, list: &[Member]) -> Result<MemberTable, TypeError>
+    ensures { Meets (λ all. (state.new, all)) result (plain.members (trees member_view list.now) [] state.old) }
 {
-    let mut all = Vec::new(state.alloc());
+    let mut all = MemberTable::new(state.alloc());
     for part in list {
         all = members_by(state, part, all)?;
     }
@@ -122,10 +123,10 @@ fn members(state: &mut Elaborator, list: &[Member]) -> Result<Vec<(Items<u8>, CT
 fn members_by(
     state: &mut Elaborator,
     part: &Member,
-    before: Vec<(Items<u8>, CType)>,
-) -> Result<Vec<(Items<u8>, CType)>, TypeError>
-    ensures { Meets (λ all. (state.new, map plain_pair all.items)) result
-        (members_by part.now.line (specs_view part.now.specs) (trees declarator_tree part.now.declarators.items) (map plain_pair before.items) state.old) }
+    before: MemberTable,
+) -> Result<MemberTable, TypeError>
+    ensures { Meets (λ all. (state.new, all)) result
+        (members_by part.now.line (specs_view part.now.specs) (trees declarator_tree part.now.declarators.items) before state.old) }
 {
     let base = specs(state, &part.specs)?;
     member_names(state, &part.declarators, part.line, &base, before)
@@ -138,10 +139,10 @@ fn member_names(
     list: &[Declarator],
     line: Line,
     base: &CType,
-    before: Vec<(Items<u8>, CType)>,
-) -> Result<Vec<(Items<u8>, CType)>, TypeError>
-    ensures { Meets (λ all. (state.new, map plain_pair all.items)) result
-        (plain.member_names line (plain base.now) (trees declarator_tree list.now) (map plain_pair before.items) state.old) }
+    before: MemberTable,
+) -> Result<MemberTable, TypeError>
+    ensures { Meets (λ all. (state.new, all)) result
+        (plain.member_names line (plain base.now) (trees declarator_tree list.now) before state.old) }
 {
     let mut all = before;
     for declarator in list {
@@ -157,10 +158,10 @@ fn member_by(
     declarator: &Declarator,
     line: Line,
     base: &CType,
-    before: Vec<(Items<u8>, CType)>,
-) -> Result<Vec<(Items<u8>, CType)>, TypeError>
-    ensures { Meets (λ all. (state.new, map plain_pair all.items)) result
-        (member_by line (plain base.now) (declarator_tree declarator.now) (map plain_pair before.items) state.old) }
+    before: MemberTable,
+) -> Result<MemberTable, TypeError>
+    ensures { Meets (λ all. (state.new, all)) result
+        (member_by line (plain base.now) (declarator_tree declarator.now) before state.old) }
 {
     let found = layers(state, declarator)?;
     let base = base.try_clone(state.alloc())?;

@@ -1,9 +1,8 @@
 -- The loops of the walk step by step, and the forms whose parts were gone through.
-use Rattle.std.proofs.Common.{◌≡◌, ◌∙◌, List, ℕ, ap, sym, subst, map, Vec, Global, Err, Ok}
+use Rattle.std.proofs.Common.{◌≡◌, ◌∙◌, List, ap, sym, subst, map, Vec, Global, Err, Ok}
 use Rattle.std.proofs.lemmas.Result.{err_from_is_err_and}
 use Rattle.c_types.specs.declared.types.CType.{CType}
 use Rattle.c_types.specs.Types.{PlainType, PlainTypes, plain, plain_list}
-use Rattle.c_types.specs.TagTable.{plain_pair}
 use Rattle.c_tree.specs.declared.tree.Param.{Param}
 use Rattle.c_tree.specs.declared.tree.Suffix.{Suffix}
 use Rattle.c_tree.specs.View.{spec_tree, declarator_tree}
@@ -39,21 +38,21 @@ words_type-returns-then-is_special t c =
 pub members-loop-part-preserved : goal.members-loop-part-preserved
 members-loop-part-preserved t c =
     left_next member_view member_step members (λ all d. (d, all)) members_end members_go
-    c.args.list.now c.loop-part.part-index c.part-item.result (map plain_pair c.loop-part.all.items) (map plain_pair c.in_ok-all.all.items) c.loop-part.state c.members_by.new.state _
+    c.args.list.now c.loop-part.part-index c.part-item.result c.loop-part.all c.in_ok-all.all c.loop-part.state c.members_by.new.state _
     c.part-item.is c.loop-part-test.true c.in_ok-all.ensures c.loop-part.invariant
 
 pub members-returns : goal.members-returns
 members-returns t c =
     left_none member_view member_step members (λ all d. (d, all)) members_end members_go
-    c.args.list.now c.loop-part.part-index (map plain_pair c.loop-part.all.items) c.loop-part.state _ c.loop-part-test.false c.loop-part.invariant
+    c.args.list.now c.loop-part.part-index c.loop-part.all c.loop-part.state _ c.loop-part-test.false c.loop-part.invariant
 
 pub members-returns-in_err-all : goal.members-returns-in_err-all
 members-returns-in_err-all t c =
     let p = err_from_is_err_and c.from_residual.result c.from_residual.ensures.1 in
-    let view : Vec (List ℕ × CType) Global → Context × Members = λ all. (c.members_by.new.state, map plain_pair all.items) in
+    let view : Members → Context × Members = λ all. (c.members_by.new.state, all) in
     rw (p.1, p.2)
     (left_refused member_view member_step members (λ all d. (d, all)) members_end members_go view view
-    c.args.list.now c.loop-part.part-index c.part-item.result (map plain_pair c.loop-part.all.items) c.loop-part.state c.in_err-all.field-0.0 _
+    c.args.list.now c.loop-part.part-index c.part-item.result c.loop-part.all c.loop-part.state c.in_err-all.field-0.0 _
     c.part-item.is c.loop-part-test.true c.loop-part.invariant c.in_err-all.ensures)
 
 pub member_names-loop-declarator-preserved : goal.member_names-loop-declarator-preserved
@@ -61,7 +60,7 @@ member_names-loop-declarator-preserved t c =
     let line = c.args.line in
     let base = plain c.args.base.now in
     left_next declarator_tree (name_step line base) (names_walk line base) (λ all d. (d, all)) (names_end line base) (names_go line base)
-    c.args.list.now c.loop-declarator.declarator-index c.declarator-item.result (map plain_pair c.loop-declarator.all.items) (map plain_pair c.in_ok-all.all.items) c.loop-declarator.state c.member_by.new.state _
+    c.args.list.now c.loop-declarator.declarator-index c.declarator-item.result c.loop-declarator.all c.in_ok-all.all c.loop-declarator.state c.member_by.new.state _
     c.declarator-item.is c.loop-declarator-test.true c.in_ok-all.ensures c.loop-declarator.invariant
 
 pub member_names-returns : goal.member_names-returns
@@ -69,17 +68,17 @@ member_names-returns t c =
     let line = c.args.line in
     let base = plain c.args.base.now in
     left_none declarator_tree (name_step line base) (names_walk line base) (λ all d. (d, all)) (names_end line base) (names_go line base)
-    c.args.list.now c.loop-declarator.declarator-index (map plain_pair c.loop-declarator.all.items) c.loop-declarator.state _ c.loop-declarator-test.false c.loop-declarator.invariant
+    c.args.list.now c.loop-declarator.declarator-index c.loop-declarator.all c.loop-declarator.state _ c.loop-declarator-test.false c.loop-declarator.invariant
 
 pub member_names-returns-in_err-all : goal.member_names-returns-in_err-all
 member_names-returns-in_err-all t c =
     let line = c.args.line in
     let base = plain c.args.base.now in
     let p = err_from_is_err_and c.from_residual.result c.from_residual.ensures.1 in
-    let view : Vec (List ℕ × CType) Global → Context × Members = λ all. (c.member_by.new.state, map plain_pair all.items) in
+    let view : Members → Context × Members = λ all. (c.member_by.new.state, all) in
     rw (p.1, p.2)
     (left_refused declarator_tree (name_step line base) (names_walk line base) (λ all d. (d, all)) (names_end line base) (names_go line base) view view
-    c.args.list.now c.loop-declarator.declarator-index c.declarator-item.result (map plain_pair c.loop-declarator.all.items) c.loop-declarator.state c.in_err-all.field-0.0 _
+    c.args.list.now c.loop-declarator.declarator-index c.declarator-item.result c.loop-declarator.all c.loop-declarator.state c.in_err-all.field-0.0 _
     c.declarator-item.is c.loop-declarator-test.true c.loop-declarator.invariant c.in_err-all.ensures)
 
 -- suffixes

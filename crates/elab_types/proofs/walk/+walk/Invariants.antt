@@ -1,7 +1,6 @@
 -- What is left of each list decides what the walk answers.
 use Rattle.std.proofs.Common.{◌≡◌, [], map, drop}
 use Rattle.c_types.specs.Types.{plain}
-use Rattle.c_types.specs.TagTable.{plain_pair}
 use Rattle.c_tree.specs.View.{spec_tree, declarator_tree}
 use Rattle.c_tree.specs.StatementView.{trees, member_view, suffix_view, param_view}
 use Rattle.c_typing.specs.Layers.{plain_layer}
@@ -18,13 +17,13 @@ invariant-words_type-loop-word l =
 
 abbrev pub invariant-members-loop-part : goal.invariant-members-loop-part
 invariant-members-loop-part l =
-    members (trees member_view (drop l.part-index l.list)) (map plain_pair l.all.items) l.state
+    members (trees member_view (drop l.part-index l.list)) l.all l.state
     ≡ members (trees member_view l.list) [] l.initial.state
 
 abbrev pub invariant-member_names-loop-declarator : goal.invariant-member_names-loop-declarator
 invariant-member_names-loop-declarator l =
-    member_names l.line (plain l.base) (trees declarator_tree (drop l.declarator-index l.list)) (map plain_pair l.all.items) l.state
-    ≡ member_names l.line (plain l.base) (trees declarator_tree l.list) (map plain_pair l.initial.all.items) l.initial.state
+    member_names l.line (plain l.base) (trees declarator_tree (drop l.declarator-index l.list)) l.all l.state
+    ≡ member_names l.line (plain l.base) (trees declarator_tree l.list) l.initial.all l.initial.state
 
 abbrev pub invariant-suffix_layers-loop-suffix : goal.invariant-suffix_layers-loop-suffix
 invariant-suffix_layers-loop-suffix l =
