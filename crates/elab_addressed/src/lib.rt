@@ -7,4 +7,5 @@
 mod bodies;
 mod expressions;
 mod taken;
+
 pub use bodies::addressed_in;

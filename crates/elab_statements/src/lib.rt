@@ -9,5 +9,6 @@ mod expressions;
 mod jumps;
 mod statements;
 mod switches;
+
 pub use around::Around;
 pub use statements::items;

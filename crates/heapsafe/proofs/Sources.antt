@@ -17,9 +17,12 @@ tokens_within_most text tokens w h = record {
 }
 
 pub tree_of_tokens : (tokens : List Token) (unit : Trees) → All IsLexed tokens → AreWithin most_bytes tokens → HasTree tokens unit → IsOfTokens unit
-tree_of_tokens tokens unit l w h = (tokens, record {
-  lexed = l;
-  few = omega (arith, w.count);
-  short = All-weaker (λ (token : Token). length token.bytes ≤ most_bytes) (λ (token : Token). IsShort token.bytes) (λ token q. omega (arith, q)) tokens w.bytes;
-  tree = h;
-})
+tree_of_tokens tokens unit l w h = (
+  tokens,
+  record {
+    lexed = l;
+    few = omega (arith, w.count);
+    short = All-weaker (λ (token : Token). length token.bytes ≤ most_bytes) (λ (token : Token). IsShort token.bytes) (λ token q. omega (arith, q)) tokens w.bytes;
+    tree = h;
+  },
+)
