@@ -1,0 +1,5 @@
+mod Bits
+mod Joins
+mod Following
+mod Filling
+mod Answering
