@@ -35,7 +35,7 @@ use std::alloc::Global;
 ///
 /// [`TypeError::Bad`] with the first refusal, which says what is wrong and at which line; [`TypeError::NoMemory`] only for
 /// want of memory.
-#[tactic(auto, using(crate::proofs::Finished::core_ok, crate::proofs::Finished::core_err, crate::proofs::Finished::core_sound))]
+#[tactic(auto, using(crate::proofs::Finished::core_ok, crate::proofs::Finished::core_err))]
 pub fn elab(alloc: Global, unit: &Unit) -> Result<Core, TypeError>
     ensures core { Meets (λ core. core) result (core_in (unit_view unit.now)) }
     ensures sound { IfOk result (λ core. IsOfTokens (unit_view unit.now) → IsSound core) }
