@@ -15,7 +15,7 @@ returns-then-not-is_built-clause-exact g c = λ left o e k h i same_out same_err
     gives_said (AnswersCore c.args.file.now c.args.text.now c.args.core.now input c.args.way) (not_built c.args.file.now) left o e _ _ _ _ _ _ _
     (inl (unbuilt_is c.args.file.now c.args.text.now c.args.core.now input c.args.way none)) (record { read = refl; out = refl }) k h i same_err c.refuse.ensures.says
 
-pub returns-clause-exact : goal.returns-else-clause-exact
+pub returns-clause-exact : goal.returns-clause-exact
 returns-clause-exact g c = λ left o e k h i same_out same_err.
     gives_built c.args.file.now c.args.text.now c.args.core.now _ c.args.way left o e _ _ _ _ (c.is_built.ensures.0 c.if-not-is_built.false)
     (c.go.ensures.exact left o e k h i same_out same_err)
