@@ -1,0 +1,10 @@
+mod Pieces
+mod Heading
+mod Marking
+mod Fitting
+mod Searching
+mod Holding
+mod Returning
+mod Owning
+mod Placing
+mod Objects

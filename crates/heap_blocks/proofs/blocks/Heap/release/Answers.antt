@@ -1,0 +1,24 @@
+use Rattle.std.proofs.Common.{◌≡◌, ℕ, List, ◌∙◌, sym, ap, subst}
+use Rattle.std.specs.Vec.{with_items}
+use Rattle.std.proofs.lemmas.List.{with_items_is}
+use Rattle.hs_base.specs.Place.{without_block}
+use Rattle.heap_blocks.specs.declared.marks.Mark.{Mark}
+use Rattle.heap_blocks.specs.Held.{HeapModel, HasHeaders, Holds, IsObject}
+use Rattle.heap_blocks.proofs.Holding.{marked_heap}
+use Rattle.heap_blocks.proofs.Returning.{released, headers_released}
+use Rattle.heap_blocks.proofs.blocks.Heap.release.Goals as goal
+
+pub returns-clause-held : goal.returns-clause-held
+returns-clause-held g c = λ held b object births.
+    let heap : HeapModel = record { base = c.self.inside.base; len = c.self.inside.len; marks = c.self.inside.marks.items } in
+    let same : heap ≡ c.args.self.now = c.self.view_is in
+    let marks : (with_items c.self.inside.marks c.fill_marks.new.marks).items ≡ c.fill_marks.new.marks =
+    with_items_is c.self.inside.marks c.fill_marks.new.marks (c.fill_marks.ensures.long ∙ c.as_mut_slice.ensures.len) in
+    let after =
+    released heap c.args.bytes.now c.args.addr c.read_size-size.result held b c.as_mut_slice.result.now c.fill_marks.new.marks (subst (λ (h : HeapModel). IsObject h c.args.bytes.now c.args.addr held b) (sym same) object) births c.read_size-size.ensures.size c.as_mut_slice.ensures.value c.fill_marks.ensures in
+    subst (λ (l : List Mark). Holds (marked_heap heap l) (without_block held b.birth)) (sym marks) after
+
+pub returns-clause-headers : goal.returns-clause-headers
+returns-clause-headers g c = λ held b object.
+    let base : c.self.inside.base ≡ c.args.self.now.base = ap (λ (h : HeapModel). h.base) c.self.view_is in
+    subst (λ (n : ℕ). HasHeaders n c.args.bytes.now (without_block held b.birth)) (sym base) (headers_released c.args.self.now.base c.args.bytes.now held b.birth object.headers)

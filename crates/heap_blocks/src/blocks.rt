@@ -1,0 +1,172 @@
+//! The heap: which of its bytes are held.
+
+ghost use Rattle.std.specs.Prelude.{◌≡◌, ℕ, ◌+◌, ◌*◌, ◌/◌, ◌%◌, ◌^◌, ◌<◌, ◌≤◌, List, [], length, replicate, IfOk, IfSome, IfNone, MatchOption, option_map};
+ghost use Rattle.hs_base.specs.Bytes.{part};
+ghost use Rattle.hs_base.specs.Place.{Block, block_size, rounded_up, with_block, without_block};
+ghost use Rattle.heap_blocks.specs.Bytes.{ChangesOnly};
+ghost use Rattle.heap_blocks.specs.Heads.{new_header};
+ghost use Rattle.heap_blocks.specs.Runs.{HasNoRun, IsFirstRun};
+ghost use Rattle.heap_blocks.specs.Held.{Holds, HasBounds, HasHeaders, HaveOwnBirths, IsHeldObject, IsObject, IsPlaced, address_of, fit_of, owner_of};
+
+use crate::headers::{HEADER_SIZE, Header};
+use crate::marks::{Mark, fill_marks, first_run, mark_block, start_of};
+use hs_base::{FlatBytes, Line, NoMemory, Steps};
+use std::alloc::Global;
+use std::marker::Model;
+use std::sync::ledger::Ledger;
+
+/// Sets so many words of 8 bytes to 0, with a step for each.
+fn clear<L: Ledger>(bytes: &mut FlatBytes, from: u32, words: u32, steps: &mut Steps<L>)
+    requires inside { from + 8 * words ≤ length bytes.old }
+    requires fits { from + 8 * words < 2 ^ 32 }
+    ensures zero { part bytes.new from (8 * words) ≡ replicate (8 * words) 0 }
+    ensures outside { ChangesOnly bytes.old bytes.new from (8 * words) }
+    ensures steps { steps.new ≡ steps.old + words }
+{
+    for word in 0..words {
+        bytes.write(from + 8 * word, 8, 0, steps);
+    }
+}
+
+/// Writes a header at the start of a block and sets the rest of the block to 0.
+fn write_block<L: Ledger>(bytes: &mut FlatBytes, block: u32, header: &Header, steps: &mut Steps<L>)
+    requires inside { block + block_size header.now.size ≤ length bytes.old }
+    requires fits { block + block_size header.now.size < 2 ^ 32 }
+    ensures placed { IsPlaced bytes.old bytes.new (block + HEADER_SIZE) (block_size header.now.size) header.now }
+    ensures steps { steps.new ≡ steps.old + (7 + rounded_up (header.now.size + 1) / 8) }
+{
+    header.write(bytes, block, steps);
+    clear(
+        bytes,
+        block + HEADER_SIZE,
+        2 * (header.size / 16 + 1),
+        steps,
+    );
+}
+
+/// A range of addresses, and which of its bytes are held by blocks.
+#[derive(Debug, Drop)]
+pub struct Heap {
+    base: u32,
+    len: u32,
+    marks: Vec<Mark>,
+}
+
+impl Model for Heap {
+    ghost use Rattle.heap_blocks.specs.Held.{HeapModel, IsHeap};
+
+    ghost Value = { HeapModel };
+
+    ghost view = { λ h. record { base = h.base; len = h.len; marks = h.marks.items } };
+
+    ghost invariant = { λ h. IsHeap h.base h.len h.marks.items };
+}
+
+impl Heap {
+    /// A heap of so many bytes from a base address on, all of them free. It takes all memory that later calls need.
+    pub fn new(alloc: Global, base: u32, len: u32) -> Result<Heap, NoMemory>
+        requires aligned { base % 16 ≡ 0 }
+        requires fits { base + len < 2 ^ 32 }
+        ensures bounds { IfOk result (HasBounds base len) }
+        ensures free { IfOk result (λ heap. Holds heap []) }
+    {
+        Ok(Heap {
+            base,
+            len,
+            marks: vec![in alloc; Mark::Free; len as usize / 16]?,
+        })
+    }
+
+    /// The lowest place for an object of a size, in 16 bytes from the base on.
+    fn room(&self, size: u64) -> Option<usize>
+        ensures { MatchOption result (HasNoRun self.now.marks (size / 16 + 3)) (IsFirstRun self.now.marks (size / 16 + 3)) }
+    {
+        if size >= u64::from(self.len) {
+            return None;
+        }
+        first_run(self.marks.as_slice(), size as usize / 16 + 3)
+    }
+
+    /// Places a block by first fit and answers the address of its object, all of whose bytes are 0. Nothing changes
+    /// where no place is free. Seven steps for the header, and one for each 8 bytes behind it.
+    pub fn place<L: Ledger>(
+        &mut self,
+        bytes: &mut FlatBytes,
+        size: u64,
+        layout: u32,
+        line: Line,
+        birth: u64,
+        steps: &mut Steps<L>,
+    ) -> Option<u32>
+        requires reach { self.old.base + self.old.len ≤ length bytes.old }
+
+        // What is held, for each list of blocks that the heap holds.
+        ensures bounds { HasBounds self.old.base self.old.len self.new }
+        ensures address { (held : List Block) → Holds self.old held → result ≡ option_map (address_of self.old) (fit_of self.old held size) }
+        ensures held { (held : List Block) → Holds self.old held → Holds self.new (with_block held birth (block_size size) (fit_of self.old held size)) }
+        ensures headers { (held : List Block) → Holds self.old held → HasHeaders self.old.base bytes.old held → HasHeaders self.new.base bytes.new (with_block held birth (block_size size) (fit_of self.old held size)) }
+
+        // The bytes.
+        ensures long { length bytes.new ≡ length bytes.old }
+        ensures aligned { IfSome result (λ addr. addr % 16 ≡ 0) }
+        ensures placed { IfSome result (λ addr. IsPlaced bytes.old bytes.new addr (block_size size) (new_header birth size layout line)) }
+        ensures none { IfNone result ((self.new ≡ self.old) × (bytes.new ≡ bytes.old)) }
+        ensures steps { MatchOption result (steps.new ≡ steps.old) (λ _. steps.new ≡ steps.old + (7 + rounded_up (size + 1) / 8)) }
+    {
+        let Some(from) = self.room(size) else {
+            return None;
+        };
+        mark_block(self.marks.as_mut_slice(), from, size as usize / 16 + 3);
+        let block = self.base + 16 * from as u32;
+        let header = Header::new(birth, size as u32, layout, line);
+        write_block(bytes, block, &header, steps);
+        Some(block + HEADER_SIZE)
+    }
+
+    /// Gives back the block of the object at an address. No byte outside the block changes. At most four steps.
+    pub fn release<L: Ledger>(&mut self, bytes: &mut FlatBytes, addr: u32, steps: &mut Steps<L>)
+        requires reach { self.old.base + self.old.len ≤ length bytes.old }
+        requires object { IsHeldObject self.old bytes.old addr }
+        ensures bounds { HasBounds self.old.base self.old.len self.new }
+        ensures held { (held : List Block) (b : Block) → IsObject self.old bytes.old addr held b → HaveOwnBirths held → Holds self.new (without_block held b.birth) }
+        ensures headers { (held : List Block) (b : Block) → IsObject self.old bytes.old addr held b → HasHeaders self.new.base bytes.new (without_block held b.birth) }
+        ensures long { length bytes.new ≡ length bytes.old }
+        ensures outside { (held : List Block) (b : Block) → IsObject self.old bytes.old addr held b → ChangesOnly bytes.old bytes.new (self.old.base + b.place) b.length }
+        ensures least { steps.old ≤ steps.new }
+        ensures most { steps.new ≤ steps.old + 4 }
+    {
+        let block = addr - HEADER_SIZE;
+        let size = Header::read_size(bytes, block, steps);
+        let from = (block - self.base) as usize / 16;
+        fill_marks(
+            self.marks.as_mut_slice(),
+            from,
+            size as usize / 16 + 3,
+            Mark::Free,
+        );
+    }
+
+    /// The address of the object whose block holds the byte at an address, if one does. At most four steps.
+    pub fn owner<L: Ledger>(
+        &self,
+        bytes: &FlatBytes,
+        addr: u32,
+        steps: &mut Steps<L>,
+    ) -> Option<u32>
+        ensures owner { (held : List Block) → Holds self.now held → result ≡ owner_of self.now held addr }
+        ensures least { steps.old ≤ steps.new }
+        ensures most { steps.new ≤ steps.old + 4 }
+    {
+        if addr < self.base {
+            return None;
+        }
+        let place = (addr - self.base) as usize / 16;
+        if place >= self.marks.len() {
+            return None;
+        }
+        let Some(start) = start_of(self.marks.as_slice(), place) else {
+            return None;
+        };
+        Some(self.base + 16 * start as u32 + HEADER_SIZE)
+    }
+}

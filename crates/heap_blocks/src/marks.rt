@@ -1,0 +1,80 @@
+//! One mark for each 16 bytes of the heap.
+
+ghost use Rattle.std.specs.Prelude.{◌≡◌, ◌≢◌, ◌<◌, ◌+◌, ◌^◌, ◌≤◌, length, MatchOption};
+ghost use Rattle.heap_blocks.specs.Runs.{IsFirstRun, IsNearestStart, Filled, IsMarked, HasNoRun, HasNoStart};
+
+/// What stands in 16 bytes of the heap.
+#[derive(Clone, Copy, Debug, PartialEq, Eq)]
+pub enum Mark {
+    /// No block.
+    Free,
+    /// The first 16 bytes of a block.
+    Start,
+    /// Further bytes of a block.
+    Inside,
+}
+
+/// How many marks in a row are free up to one, from how many were free before it.
+fn run_through(free: usize, mark: Mark) -> usize
+    requires { free + 1 < 2 ^ 64 }
+    ensures free { mark ≡ Mark.Free → result ≡ free + 1 }
+    ensures used { mark ≢ Mark.Free → result ≡ 0 }
+{
+    match mark {
+        Mark::Free => free + 1,
+        Mark::Start | Mark::Inside => 0,
+    }
+}
+
+/// The lowest place from which on so many marks are free.
+pub fn first_run(marks: &[Mark], count: usize) -> Option<usize>
+    requires { 0 < count }
+    ensures { MatchOption result (HasNoRun marks.now count) (IsFirstRun marks.now count) }
+{
+    let mut free = 0;
+    for (index, mark) in marks.iter().enumerate() {
+        free = run_through(free, *mark);
+        if free == count {
+            return Some(index + 1 - count);
+        }
+    }
+    None
+}
+
+/// Sets so many marks from a place on.
+pub fn fill_marks(marks: &mut [Mark], from: usize, count: usize, mark: Mark)
+    requires { from + count ≤ length marks.old }
+    ensures { Filled marks.old marks.new from count mark }
+{
+    for place in from..from + count {
+        marks[place] = mark;
+    }
+}
+
+/// Marks a block of so many marks from a place on.
+pub fn mark_block(marks: &mut [Mark], from: usize, count: usize)
+    requires some { 0 < count }
+    requires inside { from + count ≤ length marks.old }
+    ensures { IsMarked marks.old marks.new from count }
+{
+    fill_marks(marks, from, count, Mark::Inside);
+    marks[from] = Mark::Start;
+}
+
+/// The place of the nearest start at or below a place that is not free.
+pub fn start_of(marks: &[Mark], place: usize) -> Option<usize>
+    requires { place < length marks.now }
+    ensures { MatchOption result (HasNoStart marks.now place) (IsNearestStart marks.now place) }
+{
+    if marks[place] == Mark::Free {
+        return None;
+    }
+    let mut start = place;
+    while marks[start] != Mark::Start {
+        if start == 0 {
+            return None;
+        }
+        start -= 1;
+    }
+    Some(start)
+}
