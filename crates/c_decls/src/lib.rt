@@ -25,8 +25,6 @@ mod refusal;
 mod rules;
 mod scope;
 mod scopes;
-#[cfg(test)]
-mod tests;
 mod typed;
 
 pub use built_in::BuiltIn;

@@ -23,8 +23,6 @@ mod number;
 mod piece;
 mod place;
 mod sign;
-#[cfg(test)]
-mod tests;
 mod token;
 mod words;
 

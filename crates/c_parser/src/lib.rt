@@ -35,8 +35,6 @@ mod statement;
 mod strings;
 mod tags;
 mod tally;
-#[cfg(test)]
-mod tests;
 mod unit;
 mod words;
 

@@ -24,8 +24,6 @@ mod laws;
 mod operator;
 mod statement;
 mod statements;
-#[cfg(test)]
-mod tests;
 mod tree;
 mod word;
 mod write_expressions;

@@ -1,7 +1,7 @@
 //! Texts with their trees, and the lines at which texts go wrong, by C99 6.5 to 6.9.
 
-use crate::{ParseError, parse};
 use c_lexer::lex;
+use c_parser::{ParseError, parse};
 use c_tree::{Decl, Expr, ExprKind, Stmt, StmtKind, Unit};
 use std::alloc::Global;
 use std::test::Fail;

@@ -1,6 +1,8 @@
 //! Texts with their tokens and their refusals, by C99 6.4 and the tables of signs, escapes and types.
 
-use crate::{Base, LexError, LexKind, Suffix, Token, TokenKind, lex, literal_values, read_number};
+use c_lexer::{
+    Base, LexError, LexKind, Suffix, Token, TokenKind, lex, literal_values, read_number,
+};
 use std::alloc::Global;
 use std::test::Fail;
 

@@ -1,6 +1,6 @@
 //! Constants whose values were worked out by hand from C99, and names that hide others.
 
-use crate::{
+use c_decls::{
     BuiltIn, Constant, DeclError, Folded, Named, Scopes, TypeError, TypeKind, Typed, address,
     binary, common_type, number_type, promoted, tag_name, unary,
 };

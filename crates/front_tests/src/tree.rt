@@ -1,6 +1,6 @@
 //! Trees of each form with their canonical spellings, by the grammar of C99 6.5 to 6.9.
 
-use crate::{
+use c_tree::{
     AssignOp, Base, BinaryOp, Decl, Declarator, Enumerator, Expr, ForStart, Init, Keyword, Member,
     Param, RecordSort, Sign, Spec, Specs, Stmt, Suffix, Tag, TypeName, UnaryOp, Unit, write_unit,
 };
