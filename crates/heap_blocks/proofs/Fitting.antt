@@ -62,7 +62,7 @@ module _ (heap : HeapModel) (held : List Block) (shape : IsHeap heap.base heap.l
       λ i d below. clear_from_out heap.len from count (get_or held i d) (holds.blocks i d below)
       (λ k low high. let marked = holds.marks k (omega (arith, run.inside)) in
       let free : mark_of held (k * 16) ≡ Free = same_Some (mark_of held (k * 16)) Free (sym marked ∙ run.free k low high) in
-      out_from_free heap.len held (k * 16) holds.blocks free i d below)
+      out_from_free held (k * 16) free i d below)
       some
 
   pub run_is_free : (from count : ℕ) → 0 < count → IsFreeRun heap.marks from count → is_free held heap.len (count * 16) (from * 16) ≡ true
@@ -79,7 +79,7 @@ module _ (heap : HeapModel) (held : List Block) (shape : IsHeap heap.base heap.l
       let inside : from + count ≤ length heap.marks = omega (arith, shape.long) in
       record {
         inside = inside;
-        free = λ k low high. holds.marks k (omega arith) ∙ ap Some (free_from_out heap.len held (k * 16) holds.blocks (λ i d below. out_from_clear from count k (get_or held i d) (clear i d below) low high));
+        free = λ k low high. holds.marks k (omega arith) ∙ ap Some (free_from_out held (k * 16) (λ i d below. out_from_clear from count k (get_or held i d) (clear i d below) low high));
       }
 
   -- the lowest place that is free

@@ -5,9 +5,10 @@ use Rattle.hs_base.specs.Bytes.{part}
 use Rattle.hs_base.specs.Place.{Block, block_size, with_block}
 use Rattle.heap_blocks.specs.declared.headers.Header.{Header}
 use Rattle.heap_blocks.specs.declared.marks.Mark.{Mark}
+use Rattle.heap_blocks.specs.declared.marks.Mark.TheVariants.{Of}
 use Rattle.heap_blocks.specs.Bytes.{ChangesOnly}
 use Rattle.heap_blocks.specs.Heads.{header_at}
-use Rattle.heap_blocks.specs.Runs.{IsFirstRun, IsMarked, HasNoRun}
+use Rattle.heap_blocks.specs.Runs.{IsFirstRun, Filled, HasNoRun}
 use Rattle.heap_blocks.specs.Held.{HeapModel, Holds, HasHeaders, IsHeap, IsPlaced, address_of, fit_of}
 use Rattle.heap_blocks.proofs.Pieces.{changes_joined, zeros_front}
 use Rattle.heap_blocks.proofs.Heading.{header_kept}
@@ -37,7 +38,7 @@ module _ (heap : HeapModel) (held : List Block) (size : ℕ) (shape : IsHeap hea
       let same : addr ≡ heap.base + from * 16 + 32 = omega arith in
       ap Some same ∙ sym (ap (option_map (address_of heap)) (first_is_fit heap held shape holds size from first))
 
-  pub placed_holds : (from birth : ℕ) (after : List Mark) → IsFirstRun heap.marks (size / 16 + 3) from → IsMarked heap.marks after from (size / 16 + 3) → Holds (marked_heap heap after) (with_block held birth (block_size size) (fit_of heap held size))
+  pub placed_holds : (from birth : ℕ) (after : List Mark) → IsFirstRun heap.marks (size / 16 + 3) from → Filled heap.marks after from (size / 16 + 3) (Of from) → Holds (marked_heap heap after) (with_block held birth (block_size size) (fit_of heap held size))
   placed_holds from birth after first marked =
       subst (Holds (marked_heap heap after)) (sym (with_block_is birth from (first_is_fit heap held shape holds size from first)))
       (holds_placed heap held shape holds after birth from (size / 16 + 3) (omega arith) first.run marked)

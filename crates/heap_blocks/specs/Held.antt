@@ -4,7 +4,7 @@ use Rattle.hs_base.specs.Place.{Block, block_size, first_fit}
 use Rattle.hs_base.specs.Bytes.{word, part}
 use Rattle.heap_blocks.specs.declared.headers.Header.{Header}
 use Rattle.heap_blocks.specs.declared.marks.Mark.{Mark}
-use Rattle.heap_blocks.specs.declared.marks.Mark.TheVariants.{Free, Start, Inside}
+use Rattle.heap_blocks.specs.declared.marks.Mark.TheVariants.{Free, Of}
 use Rattle.heap_blocks.specs.Bytes.{ChangesOnly}
 use Rattle.heap_blocks.specs.Heads.{header_at}
 
@@ -18,10 +18,10 @@ pub record HeapModel : Type 0 where
 abbrev pub is_in : ℕ → Block → Bool
 is_in place b = nat_le b.place place && nat_lt place (b.place + b.length)
 
--- the mark of a place where these blocks are held
+-- the mark of a place where these blocks are held: its block, by the 16 bytes at which that starts
 abbrev pub mark_of : List Block → ℕ → Mark
 mark_of [] place = Free
-mark_of (b ∷ held) place = cond (nat_eq b.place place) Start (cond (is_in place b) Inside (mark_of held place))
+mark_of (b ∷ held) place = cond (is_in place b) (Of (b.place / 16)) (mark_of held place)
 
 -- a block that stands at a multiple of 16 within a heap
 pub record IsBlock (len : ℕ) (b : Block) : Type 0 where
@@ -93,4 +93,4 @@ pub record IsHeap (base len : ℕ) (marks : List Mark) : Type 0 where
   pub aligned : base % 16 ≡ 0
   pub reach : base + len < 2 ^ 32
   pub long : length marks ≡ len / 16
-  pub starts : (n : ℕ) → slice_get marks n ≡ Some Start → n * 16 + 48 ≤ len
+  pub starts : (n start : ℕ) → slice_get marks n ≡ Some (Of start) → start * 16 + 48 ≤ len

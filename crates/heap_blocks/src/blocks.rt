@@ -9,7 +9,7 @@ ghost use Rattle.heap_blocks.specs.Runs.{HasNoRun, IsFirstRun};
 ghost use Rattle.heap_blocks.specs.Held.{Holds, HasBounds, HasHeaders, HaveOwnBirths, IsHeldObject, IsObject, IsPlaced, address_of, fit_of, owner_of};
 
 use crate::headers::{HEADER_SIZE, Header};
-use crate::marks::{Mark, fill_marks, first_run, mark_block, start_of};
+use crate::marks::{Mark, fill_marks, first_run};
 use hs_base::{FlatBytes, Line, NoMemory, Steps};
 use std::alloc::Global;
 use std::marker::Model;
@@ -116,7 +116,9 @@ impl Heap {
         let Some(from) = self.room(size) else {
             return None;
         };
-        mark_block(self.marks.as_mut_slice(), from, size as usize / 16 + 3);
+        let count = size as usize / 16 + 3;
+        let mark = Mark::Of(from as u32);
+        fill_marks(self.marks.as_mut_slice(), from, count, mark);
         let block = self.base + 16 * from as u32;
         let header = Header::new(birth, size as u32, layout, line);
         write_block(bytes, block, &header, steps);
@@ -146,7 +148,8 @@ impl Heap {
         );
     }
 
-    /// The address of the object whose block holds the byte at an address, if one does. At most four steps.
+    /// The address of the object whose block holds the byte at an address, if one does. It reads one mark, and no byte.
+    /// At most four steps.
     pub fn owner<L: Ledger>(
         &self,
         bytes: &FlatBytes,
@@ -164,9 +167,9 @@ impl Heap {
         if place >= self.marks.len() {
             return None;
         }
-        let Some(start) = start_of(self.marks.as_slice(), place) else {
-            return None;
-        };
-        Some(self.base + 16 * start as u32 + HEADER_SIZE)
+        match self.marks[place] {
+            Mark::Of(start) => Some(self.base + 16 * start + HEADER_SIZE),
+            Mark::Free => None,
+        }
     }
 }

@@ -62,6 +62,9 @@ fn fills_heap<L: Ledger, R: Abort>(
     owns(rt, heap, bytes, 96, Some(96), steps);
     owns(rt, heap, bytes, 111, Some(96), steps);
     owns(rt, heap, bytes, 112, Some(144), steps);
+    owns(rt, heap, bytes, 207, Some(192), steps);
+    owns(rt, heap, bytes, 208, Some(240), steps);
+    owns(rt, heap, bytes, 256, Some(240), steps);
     owns(rt, heap, bytes, 335, Some(304), steps);
     owns(rt, heap, bytes, 336, None, steps);
     owns(rt, heap, bytes, 1000, None, steps);
