@@ -1,14 +1,14 @@
 -- Which block holds an address, and what stays true of all heaps.
-use Rattle.std.proofs.Common.{◌≡◌, ◌≢◌, ◌≤◌, ◌<◌, ◌+◌, ◌*◌, ◌/◌, inl, inr, ℕ, true, false, List, [], ◌∷◌, length, get_or, Some, None, refl, sym, ap, ◌∙◌, arith}
-use Rattle.std.specs.Prelude.{All, find, option_map, nat_le, nat_lt, slice_get}
-use Rattle.std.proofs.lemmas.Bool.{cases_lt, cases_order, and_from, and_left, and_right, le-leb, lt-leb, lt-ltb, le-ltb, cond-true, cond-false}
-use Rattle.std.proofs.lemmas.List.Elements.{All-head, All-tail}
+use Rattle.std.proofs.Common.{◌≡◌, ◌≢◌, ◌≤◌, ◌<◌, ◌+◌, ◌*◌, ◌/◌, inl, inr, ℕ, zero, suc, true, false, List, [], ◌∷◌, length, get_or, Some, None, refl, sym, ap, subst, ◌∙◌, arith}
+use Rattle.std.specs.Prelude.{All, Contains, find, option_map, nat_le, nat_lt, slice_get}
+use Rattle.std.proofs.lemmas.Bool.{cases_Bool, cases_lt, cases_order, and_from, and_parts, and_left, and_right, le-leb, lt-leb, lt-ltb, le-ltb, leb-true, ltb-true, cond-true, cond-false}
+use Rattle.std.proofs.lemmas.List.Elements.{All-head, All-tail, All-from_get_or}
 use Rattle.std.proofs.lemmas.Option.{same_Some, slice_get_within}
 use Rattle.hs_base.specs.Place.{Block}
 use Rattle.heap_blocks.specs.declared.marks.Mark.{Mark}
 use Rattle.heap_blocks.specs.declared.marks.Mark.TheVariants.{Free, Of}
 use Rattle.heap_blocks.specs.Runs.{Filled}
-use Rattle.heap_blocks.specs.Held.{HeapModel, Holds, IsBlock, IsHeap, address_of, has_address, owner_of, mark_of}
+use Rattle.heap_blocks.specs.Held.{HeapModel, HasAddress, Holds, AreApart, IsBlock, IsHeap, address_of, has_address, owner_of, mark_of}
 use Rattle.heap_blocks.proofs.Marking.{IsIn, IsOut, in_or_out, out_from_free, mark_in, mark_out}
 
 -- What every heap keeps
@@ -98,3 +98,50 @@ module _ (heap : HeapModel) (addr n off : ℕ) (at : addr ≡ heap.base + off) (
     pub past_owns : length heap.marks ≤ n → owner_of heap held addr ≡ None
     past_owns past =
         out_owner held holds.blocks (λ k d less. let block = holds.blocks k d less in inr (omega (arith, block.within, block.aligned, block.whole, shape.long)))
+
+-- The owner of an address of a block that is held
+
+owner_at : (heap : HeapModel) (addr place : ℕ) (held : List Block) (k : ℕ) (d : Block) → k < length held → has_address heap addr (get_or held k d) ≡ true → All (λ c. has_address heap addr c ≡ true → c.place ≡ place) held
+    → owner_of heap held addr ≡ Some (address_of heap place)
+owner_at heap addr place [] k d below here known = absurd (omega arith)
+owner_at heap addr place (c ∷ held) zero d below here known =
+    let test = has_address heap addr in
+    ap (option_map (λ (b : Block). address_of heap b.place)) (cond-true (test c) (Some c) (find test held) here)
+    ∙ ap (λ p. Some (address_of heap p)) (All-head (λ c. test c ≡ true → c.place ≡ place) c held known here)
+owner_at heap addr place (c ∷ held) (suc k) d below here known =
+    let test = has_address heap addr in
+    let address = option_map (λ (b : Block). address_of heap b.place) in
+    elim (cases_Bool (test c)) [
+      | inl hit ↦ ap address (cond-true (test c) (Some c) (find test held) hit)
+          ∙ ap (λ p. Some (address_of heap p)) (All-head (λ c. test c ≡ true → c.place ≡ place) c held known hit)
+      | inr miss ↦ ap address (cond-false (test c) (Some c) (find test held) miss)
+          ∙ owner_at heap addr place held k d (omega arith) here (All-tail (λ c. test c ≡ true → c.place ≡ place) c held known)
+    ]
+
+has_address_true : (heap : HeapModel) (addr : ℕ) (b : Block) → HasAddress heap addr b → has_address heap addr b ≡ true
+has_address_true heap addr b (low, high) =
+    and_from (nat_le (heap.base + b.place) addr) (nat_lt addr (heap.base + b.place + b.length)) (le-leb (heap.base + b.place) addr low) (lt-ltb addr (heap.base + b.place + b.length) high)
+
+has_address_only : (heap : HeapModel) (addr : ℕ) (b : Block) → has_address heap addr b ≡ true → HasAddress heap addr b
+has_address_only heap addr b h =
+    let both = and_parts (nat_le (heap.base + b.place) addr) (nat_lt addr (heap.base + b.place + b.length)) h in
+    (leb-true (heap.base + b.place) addr both.0, ltb-true addr (heap.base + b.place + b.length) both.1)
+
+-- blocks that are apart have no address in common
+not_both : {P : Type 0} (heap : HeapModel) (addr : ℕ) (a b : Block) → AreApart a b → HasAddress heap addr a → HasAddress heap addr b → P
+not_both heap addr a b (inl h) (low, high) (low', high') = absurd (omega arith)
+not_both heap addr a b (inr h) (low, high) (low', high') = absurd (omega arith)
+
+pub held_owns : (heap : HeapModel) (held : List Block) (b : Block) (addr : ℕ) → Holds heap held → Contains held b → HasAddress heap addr b → owner_of heap held addr ≡ Some (address_of heap b.place)
+held_owns heap held b addr holds is_held has =
+    let k = is_held.0 in
+    let same : get_or held k b ≡ b = is_held.2 in
+    let here : HasAddress heap addr (get_or held k b) = subst (HasAddress heap addr) (sym same) has in
+    owner_at heap addr b.place held k b is_held.1 (has_address_true heap addr (get_or held k b) here)
+    (All-from_get_or (λ c. has_address heap addr c ≡ true → c.place ≡ b.place) held b (λ i below hit.
+    let there = has_address_only heap addr (get_or held i b) hit in
+    elim (cases_order i k) [
+      | inl e ↦ ap (λ (c : Block). c.place) (ap (λ j. get_or held j b) e ∙ same)
+      | inr (inl h) ↦ not_both heap addr (get_or held i b) (get_or held k b) (holds.apart i k b h is_held.1) there here
+      | inr (inr h) ↦ not_both heap addr (get_or held k b) (get_or held i b) (holds.apart k i b h below) here there
+    ]))

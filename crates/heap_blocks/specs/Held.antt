@@ -1,6 +1,6 @@
 -- Which blocks a heap holds.
-use Rattle.std.specs.Prelude.{◌≡◌, ◌≢◌, ℕ, ◌+◌, ◌-◌, ◌*◌, ◌/◌, ◌%◌, ◌^◌, ◌<◌, ◌≤◌, ◌⊎◌, Bool, cond, ◌&&◌, nat_lt, nat_le, nat_eq, List, [], ◌∷◌, length, All, AllPairs, Contains, find, Option, Some, option_map, slice_get, replicate}
-use Rattle.hs_base.specs.Place.{Block, block_size, first_fit}
+use Rattle.std.specs.Prelude.{◌≡◌, ◌≢◌, ℕ, ◌+◌, ◌-◌, ◌*◌, ◌/◌, ◌%◌, ◌^◌, ◌<◌, ◌≤◌, ◌⊎◌, Bool, cond, ◌&&◌, nat_lt, nat_le, nat_eq, List, [], ◌∷◌, ◌++◌, length, All, AllPairs, Contains, find, Option, Some, option_map, slice_get, replicate}
+use Rattle.hs_base.specs.Place.{Block, block_size, first_fit, rounded_up}
 use Rattle.hs_base.specs.Bytes.{word, part}
 use Rattle.heap_blocks.specs.declared.headers.Header.{Header}
 use Rattle.heap_blocks.specs.declared.marks.Mark.{Mark}
@@ -68,6 +68,15 @@ has_address heap addr b = nat_le (heap.base + b.place) addr && nat_lt addr (heap
 abbrev pub owner_of : HeapModel → List Block → ℕ → Option ℕ
 owner_of heap held addr = option_map (λ (b : Block). address_of heap b.place) (find (has_address heap addr) held)
 
+-- the block, from its header on, has the byte at an address
+abbrev pub HasAddress : HeapModel → ℕ → Block → Type 0
+HasAddress heap addr b = (heap.base + b.place ≤ addr) × (addr < heap.base + b.place + b.length)
+
+-- the block of an object of that size at an address lies within the heap
+pub record IsWithin (heap : HeapModel) (size addr : ℕ) : Type 0 where
+  pub start : heap.base + 32 ≤ addr
+  pub end : addr + rounded_up (size + 1) ≤ heap.base + heap.len
+
 -- what a placement does to the bytes of an object at an address, with its header and the length of its block
 pub record IsPlaced (before after : List ℕ) (addr length : ℕ) (h : Header) : Type 0 where
   pub header : header_at after (addr - 32) ≡ h
@@ -83,6 +92,11 @@ pub record IsObject (heap : HeapModel) (bytes : List ℕ) (addr : ℕ) (held : L
 
 abbrev pub IsHeldObject : HeapModel → List ℕ → ℕ → Type 0
 IsHeldObject heap bytes addr = (held : List Block) × (b : Block) × IsObject heap bytes addr held b
+
+-- the object at an address is that of a new block of that birth, for an object of that size, held behind these
+abbrev pub IsNewObject : HeapModel → List ℕ → List Block → ℕ → ℕ → ℕ → Type 0
+IsNewObject heap bytes held birth size addr =
+    (place : ℕ) × (let b : Block = record { birth = birth; place = place; length = block_size size } in IsObject heap bytes addr (held ++ b ∷ []) b)
 
 -- the heap has this base and this length
 abbrev pub HasBounds : ℕ → ℕ → HeapModel → Type 0

@@ -3,7 +3,7 @@ use Rattle.std.specs.Prelude.{slice_get}
 use Rattle.std.proofs.lemmas.Option.{slice_get-get_or}
 use Rattle.heap_blocks.specs.declared.marks.Mark.TheVariants.{Free, Of}
 use Rattle.heap_blocks.specs.Held.{HeapModel, Holds, address_of, owner_of}
-use Rattle.heap_blocks.proofs.Owning.{below_owns, mark_owns, free_owns, past_owns}
+use Rattle.heap_blocks.proofs.Owning.{below_owns, mark_owns, free_owns, held_owns, past_owns}
 use Rattle.heap_blocks.proofs.blocks.Heap.owner.Goals as goal
 
 pub returns-then-addr-self-clause-owner : goal.returns-then-addr-self-clause-owner
@@ -40,3 +40,12 @@ returns-in-Free-clause-owner g c = λ held holds.
     let mark : slice_get heap.marks (off / 16) ≡ Some Free = slice_get-get_or heap.marks (off / 16) c.index.result.now below ∙ ap Some (sym c.index.ensures ∙ c.in-Free.is) in
     let none = free_owns heap c.args.addr (off / 16) off (omega arith) refl held c.self.invariant (subst (λ (h : HeapModel). Holds h held) (sym same) holds) mark in
     subst (λ (h : HeapModel). let nothing : Option ℕ = None in nothing ≡ owner_of h held c.args.addr) same (sym none)
+
+-- by the blocks that are held
+pub returns-in-Of-clause-held : goal.returns-in-Of-clause-held
+returns-in-Of-clause-held g c = λ held b holds is_held has.
+    returns-in-Of-clause-owner g c held holds ∙ held_owns c.args.self.now held b c.args.addr holds is_held has
+
+pub returns-in-Free-clause-held : goal.returns-in-Free-clause-held
+returns-in-Free-clause-held g c = λ held b holds is_held has.
+    returns-in-Free-clause-owner g c held holds ∙ held_owns c.args.self.now held b c.args.addr holds is_held has
