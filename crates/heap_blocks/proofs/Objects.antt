@@ -4,7 +4,7 @@ use Rattle.std.specs.Prelude.{Contains, option_map}
 use Rattle.std.proofs.lemmas.List.Elements.{Contains-append_left, Contains-push}
 use Rattle.std.proofs.lemmas.Option.{same_Some, none-some}
 use Rattle.hs_base.specs.Place.{Block, block_size, with_block}
-use Rattle.heap_blocks.specs.Held.{HeapModel, Holds, HasHeaders, IsNewObject, IsObject, address_of}
+use Rattle.heap_blocks.specs.Held.{HeapModel, Holds, HasHeaders, IsNewObject, address_of}
 
 -- a block that is held stays so where another is placed
 pub still_held : (held : List Block) (b : Block) (birth n : ℕ) (fit : Option ℕ) → Contains held b → Contains (with_block held birth n fit) b

@@ -16,7 +16,7 @@ use Rattle.heap_blocks.proofs.Holding.{marked_heap}
 abbrev keeps : Block → Block → Bool
 keeps b c = not (nat_eq c.birth b.birth)
 
-apart_swapped : (a b : Block) → AreApart a b → AreApart b a
+pub apart_swapped : (a b : Block) → AreApart a b → AreApart b a
 apart_swapped a b (inl h) = inr h
 apart_swapped a b (inr h) = inl h
 

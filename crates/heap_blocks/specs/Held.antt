@@ -1,5 +1,5 @@
 -- Which blocks a heap holds.
-use Rattle.std.specs.Prelude.{◌≡◌, ◌≢◌, ℕ, ◌+◌, ◌-◌, ◌*◌, ◌/◌, ◌%◌, ◌^◌, ◌<◌, ◌≤◌, ◌⊎◌, Bool, cond, ◌&&◌, nat_lt, nat_le, nat_eq, List, [], ◌∷◌, ◌++◌, length, All, AllPairs, Contains, find, Option, Some, option_map, slice_get, replicate}
+use Rattle.std.specs.Prelude.{◌≡◌, ◌≢◌, ℕ, ◌+◌, ◌-◌, ◌*◌, ◌/◌, ◌%◌, ◌^◌, ◌<◌, ◌≤◌, ◌⊎◌, Bool, cond, ◌&&◌, nat_lt, nat_le, List, [], ◌∷◌, ◌++◌, length, All, AllPairs, Contains, find, Option, Some, option_map, slice_get, replicate}
 use Rattle.hs_base.specs.Place.{Block, block_size, first_fit, rounded_up}
 use Rattle.hs_base.specs.Bytes.{word, part}
 use Rattle.heap_blocks.specs.declared.headers.Header.{Header}

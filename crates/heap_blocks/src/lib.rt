@@ -14,6 +14,7 @@
 
 mod blocks;
 mod headers;
+pub mod laws;
 mod marks;
 
 pub use blocks::Heap;
