@@ -1,5 +1,5 @@
 pub mod Pieces
-mod Heading
+pub mod Heading
 mod Marking
 mod Fitting
 mod Searching

@@ -1,5 +1,5 @@
 -- What a placement answers and leaves, by first fit.
-use Rattle.std.proofs.Common.{◌≡◌, ◌≤◌, ◌+◌, ◌-◌, ◌*◌, ◌/◌, ℕ, List, [], ◌∷◌, ◌++◌, replicate, Some, None, sym, ap, ◌∙◌, subst, arith}
+use Rattle.std.proofs.Common.{◌≡◌, ◌≤◌, ◌+◌, ◌-◌, ◌*◌, ◌/◌, inl, ℕ, List, [], ◌∷◌, ◌++◌, replicate, Some, None, sym, ap, ◌∙◌, subst, arith}
 use Rattle.std.specs.Prelude.{option_map}
 use Rattle.hs_base.specs.Bytes.{part}
 use Rattle.hs_base.specs.Place.{Block, block_size, with_block}
@@ -21,7 +21,7 @@ pub block_placed : (b0 b1 b2 : List ℕ) (block n : ℕ) (h : Header) → 32 + n
 block_placed b0 b1 b2 block n h n_is room header first zeros second =
     let at : block + 32 - 32 ≡ block = omega arith in
     record {
-      header = ap (header_at b2) at ∙ header_kept b2 b1 block (block + 32) n second (omega arith) ∙ header;
+      header = ap (header_at b2) at ∙ header_kept b2 b1 block (block + 32) n second (inl (omega arith)) ∙ header;
       zero = zeros_front b2 (block + 32) n h.size room zeros;
       outside = subst (λ a. ChangesOnly b0 b2 a (block_size h.size)) (sym at) (changes_joined b0 b1 b2 block 32 (block + 32) n block (block_size h.size) first second (omega arith) (omega arith) (omega arith) (omega arith));
     }

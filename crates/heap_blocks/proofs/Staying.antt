@@ -1,10 +1,12 @@
 -- Headers that stay while bytes elsewhere change.
-use Rattle.std.proofs.Common.{◌≡◌, ◌≤◌, ◌+◌, ◌⊎◌, inl, inr, ℕ, List, get_or, ap, ◌∙◌, arith}
+use Rattle.std.proofs.Common.{subst, sym, ◌≡◌, ◌≤◌, ◌+◌, ◌⊎◌, inl, inr, ℕ, List, get_or, ap, ◌∙◌, arith}
 use Rattle.std.specs.Prelude.{Contains}
 use Rattle.std.proofs.lemmas.Bool.{cases_order}
 use Rattle.std.proofs.lemmas.List.Elements.{All-from_get_or}
 use Rattle.hs_base.specs.Bytes.{word}
 use Rattle.hs_base.specs.Place.{Block, block_size}
+use Rattle.heap_blocks.specs.declared.headers.Header.{Header}
+use Rattle.heap_blocks.specs.Heads.{header_at}
 use Rattle.heap_blocks.specs.Bytes.{ChangesOnly}
 use Rattle.heap_blocks.specs.Held.{HeapModel, Holds, AreApart, IsBlock, HasHeader, HasHeaders, address_of}
 use Rattle.heap_blocks.proofs.Returning.{apart_swapped}
@@ -48,3 +50,26 @@ headers_within heap held b before after addr n holds is_held headers changed low
       | inr (inr h) ↦ beside (apart_swapped at c (holds.apart k i b h below))
     ])
     (headers i b below))
+
+pub headers_written : (heap : HeapModel) (held : List Block) (b : Block) (before after : List ℕ) (h : Header) → Holds heap held → Contains held b → HasHeaders heap.base before held → ChangesOnly before after (heap.base + b.place) 32
+    → header_at after (heap.base + b.place) ≡ h → h.birth ≡ b.birth → block_size h.size ≡ b.length → HasHeaders heap.base after held
+headers_written heap held b before after h holds is_held headers changed written birth_is size_is =
+    All-from_get_or (HasHeader heap.base after) held b (λ i below.
+    let k = is_held.0 in
+    let c = get_or held i b in
+    let at = get_or held k b in
+    let same : at ≡ b = is_held.2 in
+    let place : at.place ≡ b.place = ap (λ (d : Block). d.place) same in
+    let long : at.length ≡ b.length = ap (λ (d : Block). d.length) same in
+    let block : IsBlock heap.len c = holds.blocks i b below in
+    let here : IsBlock heap.len at = holds.blocks k b is_held.1 in
+    let old = headers i b below in
+    let beside : AreApart c at → HasHeader heap.base after c =
+    λ apart. header_stays heap.base before after (heap.base + b.place) 32 c changed (elim apart [ inl q ↦ inl (omega (arith, block.room)) | inr q ↦ inr (omega (arith, here.room)) ]) old in
+    let new : HasHeader heap.base after b =
+    record { birth = ap (λ (r : Header). r.birth) written ∙ birth_is; size = ap (λ (r : Header). block_size r.size) written ∙ size_is } in
+    elim (cases_order i k) [
+      | inl e ↦ subst (HasHeader heap.base after) (sym (ap (λ j. get_or held j b) e ∙ same)) new
+      | inr (inl q) ↦ beside (holds.apart i k b q is_held.1)
+      | inr (inr q) ↦ beside (apart_swapped at c (holds.apart k i b q below))
+    ])
