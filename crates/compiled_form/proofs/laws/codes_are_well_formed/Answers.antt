@@ -1,0 +1,4 @@
+use Rattle.compiled_form.proofs.laws.codes_are_well_formed.Goals as goal
+
+pub returns : goal.returns
+returns c = ?
