@@ -2,3 +2,4 @@ pub mod Parts
 pub mod Sorts
 pub mod Doing
 pub mod Places
+pub mod Handed
