@@ -1,5 +1,5 @@
 -- The instruction that does what a statement does, as a function of the statement and of the number of its layout or format.
-use Rattle.std.proofs.Common.{◌≡◌, ℕ, pos, ◌+◌, Bool, false, List, [], ◌∷◌, length, map, Option, Some, None, refl, ap, ◌∙◌, arith}
+use Rattle.std.proofs.Common.{◌≡◌, ℕ, pos, ◌+◌, false, [], ◌∷◌, map, Option, Some, None, refl, ap, arith}
 use Rattle.std.specs.Prelude.{slice_get, unwrap_or}
 use Rattle.std.specs.Option.{option_map_or}
 use Rattle.core_tree.specs.declared.program.Core.{Core}

@@ -3,3 +3,14 @@ pub mod Sorts
 pub mod Doing
 pub mod Places
 pub mod Handed
+pub mod Spots
+pub mod Typing
+pub mod Returns
+pub mod Flow
+pub mod Scopes
+pub mod Instructions
+pub mod Functions
+pub mod Tables
+pub mod Statics
+pub mod Lengths
+pub mod Formed

@@ -1,15 +1,12 @@
 -- Where the statements of a core stand in its code, and to which of them an instruction belongs.
-use Rattle.std.proofs.Common.{◌≡◌, ℕ, zero, suc, ◌+◌, ◌-◌, ◌<◌, ◌≤◌, List, [], ◌∷◌, length, take, Option, Some, None, refl, sym, ◌∙◌, ap, subst, arith, ⊎_elim}
+use Rattle.std.proofs.Common.{◌≡◌, ℕ, zero, suc, ◌+◌, ◌-◌, ◌<◌, ◌≤◌, List, [], ◌∷◌, length, Some, refl, arith}
 use Rattle.std.specs.Prelude.{slice_get}
-use Rattle.std.proofs.lemmas.Bool.{cases_lt}
-use Rattle.std.proofs.lemmas.Option.{slice_get_within, slice_get_past, slice_get-get_or}
 use Rattle.core_tree.specs.declared.program.Core.{Core}
 use Rattle.core_tree.specs.declared.program.Func.{Func}
 use Rattle.core_tree.specs.declared.statements.Stm.{Stm}
-use Rattle.core_tree.specs.declared.statements.StmKind.{StmKind}
 use Rattle.compiled_code.specs.Handing.{handed_atoms, code_length}
 use Rattle.compiled_code.specs.Places.{body_length, first_of, place_of}
-use Rattle.compiled_form.proofs.Parts.{Part, part_at, before_more, before_le, before_all, before_later, before_end, one_part}
+use Rattle.compiled_form.proofs.Parts.{part_at, before_more, before_all, before_later, before_end, one_part}
 
 abbrev pub weight : Stm → ℕ
 weight stm = code_length stm.kind

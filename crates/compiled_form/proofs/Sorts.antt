@@ -1,5 +1,5 @@
 -- What is handed over for an operand has the operand's sort.
-use Rattle.std.proofs.Common.{◌≡◌, ℕ, zero, suc, pos, ◌^◌, Bool, true, false, cond, List, [], ◌∷◌, length, map, take, Option, Some, None, refl, sym, ◌∙◌, ap, arith}
+use Rattle.std.proofs.Common.{◌≡◌, ℕ, zero, suc, pos, ◌^◌, Bool, true, false, cond, List, [], ◌∷◌, length, map, take, Option, Some, refl, sym, ◌∙◌, ap, arith}
 use Rattle.std.specs.Prelude.{ℤ, ◌-ℤ◌, slice_get, option_map, int_lt}
 use Rattle.std.proofs.lemmas.List.{length-map, take-map}
 use Rattle.core_tree.specs.declared.program.Core.{Core}
@@ -14,7 +14,7 @@ use Rattle.flat_code.specs.declared.instructions.Op.TheVariants as op
 use Rattle.flat_code.specs.declared.program.Code.{Code}
 use Rattle.flat_code.specs.declared.program.Entry.{Entry}
 use Rattle.flat_code.specs.Table.{sort_of, register_sorts, register_sort, parameter_sorts, hands, handed_sort}
-use Rattle.compiled_code.specs.Handing.{instr, hand_integer, hand_of}
+use Rattle.compiled_code.specs.Handing.{instr, hand_of}
 use Rattle.compiled_code.specs.Compiled.{IsEntry, IsCompiled}
 
 abbrev is_pointer : Reg → Bool
