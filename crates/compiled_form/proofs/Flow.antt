@@ -1,63 +1,39 @@
 -- Where the run goes on behind an instruction of compiled code.
-use Rattle.std.proofs.Common.{◌≡◌, ℕ, pos, ◌+◌, ◌^◌, ◌<◌, ◌≤◌, Bool, true, false, cond, [], ◌∷◌, length, Some, None, refl, sym, subst, arith}
-use Rattle.std.specs.Prelude.{All, ℤ, ◌-ℤ◌, int_lt}
+use Rattle.std.proofs.Common.{◌≡◌, ℕ, ◌+◌, ◌<◌, ◌≤◌, [], ◌∷◌, length, Some, None, refl, sym, subst, arith}
+use Rattle.std.specs.Prelude.{All}
 use Rattle.std.proofs.lemmas.List.Elements.{All-nil, All-cons, All-map, All-weaker}
 use Rattle.std.proofs.lemmas.Option.{slice_get_within}
 use Rattle.core_tree.specs.declared.program.Core.{Core}
 use Rattle.core_tree.specs.declared.statements.Atom.{Atom}
-use Rattle.core_tree.specs.declared.statements.Atom.TheVariants as atom
 use Rattle.core_tree.specs.declared.statements.StmKind.{StmKind}
 use Rattle.core_tree.specs.declared.statements.StmKind.TheVariants as stm
 use Rattle.core_tree.specs.Sound.{IsSound}
 use Rattle.core_tree.specs.Sound as sound
 use Rattle.core_tree.specs.Statements as statements
-use Rattle.flat_code.specs.declared.instructions.Op.TheVariants as op
+use Rattle.flat_code.specs.declared.instructions.Instr.{Instr}
 use Rattle.flat_code.specs.declared.program.Code.{Code}
 use Rattle.flat_code.specs.declared.program.Entry.{Entry}
 use Rattle.flat_code.specs.Table.{hands, edges, scopes_after}
 use Rattle.flat_code.specs.WellFormed.{LeadsOn, ClosesWhatIsOpen, StartsAfresh, handed_before, end_of}
-use Rattle.compiled_code.specs.Handing.{instr, hand_of}
+use Rattle.compiled_code.specs.Handing.{hand_of}
 use Rattle.compiled_code.specs.Compiled.{IsCompiled}
 use Rattle.compiled_form.proofs.Doing.{doing, does_not_hand, same_edges}
 use Rattle.compiled_form.proofs.Handed.{fresh_at}
+use Rattle.compiled_form.proofs.Handing.{each_hand}
 use Rattle.compiled_form.proofs.Places.{place_more, place_later, place_inside, place_below}
 use Rattle.compiled_form.proofs.Sorts.{hands_over}
 use Rattle.compiled_form.proofs.Spots.{Spot, places, start, last, end_is}
 
 -- Behind an instruction that hands a value over
 
-integer_edges : (b : Bool) (n m : ℤ) (at : ℕ) → edges (cond b (instr op.HandInt 0 0 0 n) (instr op.HandUnsigned 0 0 0 m)) (cond b (instr op.HandInt 0 0 0 n) (instr op.HandUnsigned 0 0 0 m)).op at ≡ (at + 1) ∷ []
-integer_edges true n m at = refl
-integer_edges false n m at = refl
-
 pub hand_edges : (a : Atom) (at : ℕ) → edges (hand_of a) (hand_of a).op at ≡ (at + 1) ∷ []
-hand_edges (atom.Reg r) at = refl
-hand_edges (atom.Int n) at = integer_edges (int_lt n (pos (2 ^ 63))) n (n -ℤ pos (2 ^ 64)) at
-hand_edges atom.Null at = refl
-hand_edges (atom.Static k) at = refl
-hand_edges (atom.Mem k) at = refl
-
-integer_scopes : (b : Bool) (n m : ℤ) (scopes : ℕ) → scopes_after (cond b (instr op.HandInt 0 0 0 n) (instr op.HandUnsigned 0 0 0 m)).op scopes ≡ scopes
-integer_scopes true n m scopes = refl
-integer_scopes false n m scopes = refl
+hand_edges a at = each_hand (λ (i : Instr). edges i i.op at ≡ (at + 1) ∷ []) (λ r. refl) (λ n. refl) (λ n. refl) refl (λ k. refl) (λ k. refl) a
 
 pub hand_scopes : (a : Atom) (scopes : ℕ) → scopes_after (hand_of a).op scopes ≡ scopes
-hand_scopes (atom.Reg r) scopes = refl
-hand_scopes (atom.Int n) scopes = integer_scopes (int_lt n (pos (2 ^ 63))) n (n -ℤ pos (2 ^ 64)) scopes
-hand_scopes atom.Null scopes = refl
-hand_scopes (atom.Static k) scopes = refl
-hand_scopes (atom.Mem k) scopes = refl
-
-integer_closes_nothing : (b : Bool) (n m : ℤ) (scopes : ℕ) → ClosesWhatIsOpen (cond b (instr op.HandInt 0 0 0 n) (instr op.HandUnsigned 0 0 0 m)).op scopes
-integer_closes_nothing true n m scopes = tt
-integer_closes_nothing false n m scopes = tt
+hand_scopes a scopes = each_hand (λ (i : Instr). scopes_after i.op scopes ≡ scopes) (λ r. refl) (λ n. refl) (λ n. refl) refl (λ k. refl) (λ k. refl) a
 
 pub hand_closes_nothing : (a : Atom) (scopes : ℕ) → ClosesWhatIsOpen (hand_of a).op scopes
-hand_closes_nothing (atom.Reg r) scopes = tt
-hand_closes_nothing (atom.Int n) scopes = integer_closes_nothing (int_lt n (pos (2 ^ 63))) n (n -ℤ pos (2 ^ 64)) scopes
-hand_closes_nothing atom.Null scopes = tt
-hand_closes_nothing (atom.Static k) scopes = tt
-hand_closes_nothing (atom.Mem k) scopes = tt
+hand_closes_nothing a scopes = each_hand (λ (i : Instr). ClosesWhatIsOpen i.op scopes) (λ r. tt) (λ n. tt) (λ n. tt) tt (λ k. tt) (λ k. tt) a
 
 all_one : (P : ℕ → Type 0) (x : ℕ) → P x → All P (x ∷ [])
 all_one P x h = All-cons P x [] h (All-nil P)
@@ -65,16 +41,10 @@ all_one P x h = All-cons P x [] h (All-nil P)
 pub hand_leads : (P : ℕ → Type 0) (a : Atom) (at : ℕ) → P (at + 1) → All P (edges (hand_of a) (hand_of a).op at)
 hand_leads P a at h = subst (λ next. All P next) (sym (hand_edges a at)) (all_one P (at + 1) h)
 
-integer_leads_on : (b : Bool) (n m : ℤ) (at : ℕ) → LeadsOn at (cond b (instr op.HandInt 0 0 0 n) (instr op.HandUnsigned 0 0 0 m)) (cond b (instr op.HandInt 0 0 0 n) (instr op.HandUnsigned 0 0 0 m)).op
-integer_leads_on true n m at = all_one (λ next. at < next) (at + 1) (omega arith)
-integer_leads_on false n m at = all_one (λ next. at < next) (at + 1) (omega arith)
-
 pub hand_leads_on : (a : Atom) (at : ℕ) → LeadsOn at (hand_of a) (hand_of a).op
-hand_leads_on (atom.Reg r) at = all_one (λ next. at < next) (at + 1) (omega arith)
-hand_leads_on (atom.Int n) at = integer_leads_on (int_lt n (pos (2 ^ 63))) n (n -ℤ pos (2 ^ 64)) at
-hand_leads_on atom.Null at = all_one (λ next. at < next) (at + 1) (omega arith)
-hand_leads_on (atom.Static k) at = all_one (λ next. at < next) (at + 1) (omega arith)
-hand_leads_on (atom.Mem k) at = all_one (λ next. at < next) (at + 1) (omega arith)
+hand_leads_on a at =
+    let on = all_one (λ next. at < next) (at + 1) (omega arith) in
+    each_hand (λ (i : Instr). LeadsOn at i i.op) (λ r. on) (λ n. on) (λ n. on) on (λ k. on) (λ k. on) a
 
 pub hand_starts_afresh : (code : Code) (entry : Entry) (a : Atom) (at : ℕ) → StartsAfresh code entry at (hand_of a) (hands (hand_of a).op)
 hand_starts_afresh code entry a at =

@@ -1,49 +1,32 @@
 -- Each instruction of the code of a sound core is well formed.
-use Rattle.std.proofs.Common.{◌≡◌, ℕ, ◌+◌, ◌<◌, ◌≤◌, Bool, true, false, cond, pos, ◌^◌, Option, Some, sym, subst, arith}
-use Rattle.std.specs.Prelude.{slice_get, IsSome, ℤ, ◌-ℤ◌, int_lt}
+use Rattle.std.proofs.Common.{◌≡◌, ℕ, ◌+◌, ◌<◌, ◌≤◌, Option, Some, sym, subst, arith}
+use Rattle.std.specs.Prelude.{slice_get, IsSome}
 use Rattle.std.proofs.lemmas.Option.{slice_get_within, get_or_from_slice_get}
 use Rattle.core_tree.specs.declared.program.Core.{Core}
 use Rattle.core_tree.specs.declared.statements.Atom.{Atom}
-use Rattle.core_tree.specs.declared.statements.Atom.TheVariants as atom
 use Rattle.core_tree.specs.Sorts.{Sort, atom_sort}
 use Rattle.core_tree.specs.Sound.{IsSound}
-use Rattle.flat_code.specs.declared.instructions.Op.TheVariants as op
+use Rattle.flat_code.specs.declared.instructions.Instr.{Instr}
 use Rattle.flat_code.specs.declared.program.Code.{Code}
 use Rattle.flat_code.specs.declared.program.Entry.{Entry}
 use Rattle.flat_code.specs.Table.{hands}
 use Rattle.flat_code.specs.WellFormed.{IsInstr, EachInstr, HandsOrTakes, HasResult, NamesWhatIsThere, Takes, end_of}
-use Rattle.compiled_code.specs.Handing.{instr, hand_of}
+use Rattle.compiled_code.specs.Handing.{hand_of}
 use Rattle.compiled_code.specs.Compiled.{IsCompiled}
 use Rattle.compiled_form.proofs.Doing.{doing, does_not_hand, Numbers}
 use Rattle.compiled_form.proofs.Flow.{hand_leads, hand_leads_on, hand_starts_afresh, first_inside, last_inside, leads_inside, leads_ahead, leads_afresh}
 use Rattle.compiled_form.proofs.Handed.{handed_all}
+use Rattle.compiled_form.proofs.Handing.{each_hand}
 use Rattle.compiled_form.proofs.Returns.{answered}
 use Rattle.compiled_form.proofs.Sorts.{hands_over, handed_is}
 use Rattle.compiled_form.proofs.Spots.{Spot, places, start, last, atoms, each_instr}
 use Rattle.compiled_form.proofs.Typing.{atoms_there, takes_its_operands, gives_its_result, names_what_is_there}
 
-integer_gives_nothing : (code : Code) (entry : Entry) (b : Bool) (n m : ℤ) → HasResult code entry (cond b (instr op.HandInt 0 0 0 n) (instr op.HandUnsigned 0 0 0 m)) (cond b (instr op.HandInt 0 0 0 n) (instr op.HandUnsigned 0 0 0 m)).op
-integer_gives_nothing code entry true n m = tt
-integer_gives_nothing code entry false n m = tt
-
 hand_gives_nothing : (code : Code) (entry : Entry) (a : Atom) → HasResult code entry (hand_of a) (hand_of a).op
-hand_gives_nothing code entry (atom.Reg r) = tt
-hand_gives_nothing code entry (atom.Int n) =
-    integer_gives_nothing code entry (int_lt n (pos (2 ^ 63))) n (n -ℤ pos (2 ^ 64))
-hand_gives_nothing code entry atom.Null = tt
-hand_gives_nothing code entry (atom.Static k) = tt
-hand_gives_nothing code entry (atom.Mem k) = tt
-
-integer_names_nothing : (code : Code) (b : Bool) (n m : ℤ) → NamesWhatIsThere code (cond b (instr op.HandInt 0 0 0 n) (instr op.HandUnsigned 0 0 0 m)) (cond b (instr op.HandInt 0 0 0 n) (instr op.HandUnsigned 0 0 0 m)).op
-integer_names_nothing code true n m = tt
-integer_names_nothing code false n m = tt
+hand_gives_nothing code entry a = each_hand (λ (i : Instr). HasResult code entry i i.op) (λ r. tt) (λ n. tt) (λ n. tt) tt (λ k. tt) (λ k. tt) a
 
 hand_names_nothing : (code : Code) (a : Atom) → NamesWhatIsThere code (hand_of a) (hand_of a).op
-hand_names_nothing code (atom.Reg r) = tt
-hand_names_nothing code (atom.Int n) = integer_names_nothing code (int_lt n (pos (2 ^ 63))) n (n -ℤ pos (2 ^ 64))
-hand_names_nothing code atom.Null = tt
-hand_names_nothing code (atom.Static k) = tt
-hand_names_nothing code (atom.Mem k) = tt
+hand_names_nothing code a = each_hand (λ (i : Instr). NamesWhatIsThere code i i.op) (λ r. tt) (λ n. tt) (λ n. tt) tt (λ k. tt) (λ k. tt) a
 
 module _ (core : Core) (code : Code) (sound : IsSound core) (is : IsCompiled core code) where
   hands_what_is_there : (s : Spot core code is) (k : ℕ) (a : Atom) → slice_get (atoms core code is s) k ≡ Some a → HandsOrTakes code s.entry (start core code is s + k) (hand_of a) (hands (hand_of a).op)

@@ -1,4 +1,5 @@
 pub mod Parts
+pub mod Handing
 pub mod Sorts
 pub mod Doing
 pub mod Places

@@ -1,38 +1,29 @@
 -- The returns of compiled code give what the returns of its core have.
-use Rattle.std.proofs.Common.{◌≡◌, ℕ, pos, ◌^◌, true, false, cond, List, map, Option, Some, None, refl, sym, ◌∙◌, ap, subst}
-use Rattle.std.specs.Prelude.{slice_get, int_lt, ℤ, ◌-ℤ◌, Bool}
+use Rattle.std.proofs.Common.{◌≡◌, ℕ, List, map, Option, Some, None, refl, sym, ◌∙◌, ap, subst}
+use Rattle.std.specs.Prelude.{slice_get}
 use Rattle.std.proofs.lemmas.Option.{same_Some}
 use Rattle.core_tree.specs.declared.program.Core.{Core}
 use Rattle.core_tree.specs.declared.program.Func.{Func}
 use Rattle.core_tree.specs.declared.statements.Atom.{Atom}
-use Rattle.core_tree.specs.declared.statements.Atom.TheVariants as atom
 use Rattle.core_tree.specs.declared.statements.StmKind.{StmKind}
 use Rattle.core_tree.specs.declared.statements.StmKind.TheVariants as stm
 use Rattle.core_tree.specs.Sorts.{Sort, atom_sort, TakesCall, IsTyped}
 use Rattle.core_tree.specs.Sound.{IsSound, EachReturn, answer_sort, GivesAnswer}
-use Rattle.flat_code.specs.declared.instructions.Op.TheVariants as op
+use Rattle.flat_code.specs.declared.instructions.Instr.{Instr}
 use Rattle.flat_code.specs.declared.program.Code.{Code}
 use Rattle.flat_code.specs.declared.program.Entry.{Entry}
 use Rattle.flat_code.specs.WellFormed.{handed_before, OfAnswer, EachAnswer, GivesTo}
-use Rattle.compiled_code.specs.Handing.{instr, hand_of, handed_atoms}
+use Rattle.compiled_code.specs.Handing.{hand_of, handed_atoms}
 use Rattle.compiled_code.specs.Compiled.{IsCompiled, IsEntry}
 use Rattle.compiled_form.proofs.Doing.{doing}
 use Rattle.compiled_form.proofs.Handed.{handed_all}
+use Rattle.compiled_form.proofs.Handing.{each_hand}
 use Rattle.compiled_form.proofs.Spots.{places, each_instr}
 use Rattle.compiled_form.proofs.Typing.{given, Answered}
 
 module _ (P : Option Sort → Type 0) where
-  integer_is_no_answer : (b : Bool) (n m : ℤ) (handed : List (Option Sort)) → OfAnswer P (cond b (instr op.HandInt 0 0 0 n) (instr op.HandUnsigned 0 0 0 m)).op handed
-  integer_is_no_answer true n m handed = tt
-  integer_is_no_answer false n m handed = tt
-
   hand_is_no_answer : (a : Atom) (handed : List (Option Sort)) → OfAnswer P (hand_of a).op handed
-  hand_is_no_answer (atom.Reg r) handed = tt
-  hand_is_no_answer (atom.Int n) handed =
-      integer_is_no_answer (int_lt n (pos (2 ^ 63))) n (n -ℤ pos (2 ^ 64)) handed
-  hand_is_no_answer atom.Null handed = tt
-  hand_is_no_answer (atom.Static k) handed = tt
-  hand_is_no_answer (atom.Mem k) handed = tt
+  hand_is_no_answer a handed = each_hand (λ (i : Instr). OfAnswer P i.op handed) (λ r. tt) (λ n. tt) (λ n. tt) tt (λ k. tt) (λ k. tt) a
 
   answer_of : (core : Core) (func : Func) (place : ℕ → ℕ) (kind : StmKind) (n : ℕ) → ((a : Option Atom) → kind ≡ stm.Return a → P (answer_sort core func a)) → OfAnswer P (doing place kind n).op (map (atom_sort core func) (handed_atoms kind))
   answer_of core func place (stm.Return None) n h = h None refl

@@ -10,12 +10,14 @@ use Rattle.core_tree.specs.declared.statements.Atom.{Atom}
 use Rattle.core_tree.specs.declared.statements.Atom.TheVariants as atom
 use Rattle.core_tree.specs.Sorts.{Sort, Integer, Pointer, atom_sort}
 use Rattle.core_tree.specs.Sorts as core_sorts
+use Rattle.flat_code.specs.declared.instructions.Instr.{Instr}
 use Rattle.flat_code.specs.declared.instructions.Op.TheVariants as op
 use Rattle.flat_code.specs.declared.program.Code.{Code}
 use Rattle.flat_code.specs.declared.program.Entry.{Entry}
 use Rattle.flat_code.specs.Table.{sort_of, register_sorts, register_sort, parameter_sorts, hands, handed_sort}
 use Rattle.compiled_code.specs.Handing.{instr, hand_of}
 use Rattle.compiled_code.specs.Compiled.{IsEntry, IsCompiled}
+use Rattle.compiled_form.proofs.Handing.{each_hand}
 
 abbrev is_pointer : Reg → Bool
 is_pointer reg = reg.pointer
@@ -40,16 +42,8 @@ same_there (x ∷ xs) [] k e = absurd (omega arith)
 same_there (x ∷ xs) (y ∷ ys) zero e = refl
 same_there (x ∷ xs) (y ∷ ys) (suc k) e = same_there xs ys k (omega arith)
 
-hands_integer : (b : Bool) (n m : ℤ) → hands (cond b (instr op.HandInt 0 0 0 n) (instr op.HandUnsigned 0 0 0 m)).op ≡ true
-hands_integer true n m = refl
-hands_integer false n m = refl
-
 pub hands_over : (a : Atom) → hands (hand_of a).op ≡ true
-hands_over (atom.Reg r) = refl
-hands_over (atom.Int n) = hands_integer (int_lt n (pos (2 ^ 63))) n (n -ℤ pos (2 ^ 64))
-hands_over atom.Null = refl
-hands_over (atom.Static k) = refl
-hands_over (atom.Mem k) = refl
+hands_over a = each_hand (λ (i : Instr). hands i.op ≡ true) (λ r. refl) (λ n. refl) (λ n. refl) refl (λ k. refl) (λ k. refl) a
 
 module _ (core : Core) (code : Code) (is : IsCompiled core code) (f : ℕ) (func : Func) (entry : Entry) (e : IsEntry core code f func entry) where
   pub registers_are : register_sorts entry ≡ map core_sorts.sort_of func.regs
