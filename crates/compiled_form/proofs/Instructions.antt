@@ -1,0 +1,83 @@
+-- Each instruction of the code of a sound core is well formed.
+use Rattle.std.proofs.Common.{◌≡◌, ℕ, ◌+◌, ◌<◌, ◌≤◌, Option, Some, sym, subst, arith}
+use Rattle.std.specs.Prelude.{slice_get, IsSome}
+use Rattle.std.proofs.lemmas.Option.{slice_get_within, get_or_from_slice_get}
+use Rattle.core_tree.specs.declared.program.Core.{Core}
+use Rattle.core_tree.specs.declared.statements.Atom.{Atom}
+use Rattle.core_tree.specs.Sorts.{Sort, atom_sort}
+use Rattle.core_tree.specs.Sound.{IsSound}
+use Rattle.flat_code.specs.declared.instructions.Instr.{Instr}
+use Rattle.flat_code.specs.declared.program.Code.{Code}
+use Rattle.flat_code.specs.declared.program.Entry.{Entry}
+use Rattle.flat_code.specs.Table.{hands}
+use Rattle.flat_code.specs.WellFormed.{IsInstr, EachInstr, HandsOrTakes, HasResult, NamesWhatIsThere, Takes, end_of}
+use Rattle.compiled_code.specs.Handing.{hand_of}
+use Rattle.compiled_code.specs.Compiled.{IsCompiled}
+use Rattle.compiled_form.proofs.Doing.{doing, does_not_hand, Numbers}
+use Rattle.compiled_form.proofs.Flow.{hand_leads, hand_leads_on, hand_starts_afresh, first_inside, last_inside, leads_inside, leads_ahead, leads_afresh}
+use Rattle.compiled_form.proofs.Handed.{handed_all}
+use Rattle.compiled_form.proofs.Handing.{each_hand}
+use Rattle.compiled_form.proofs.Returns.{answered}
+use Rattle.compiled_form.proofs.Sorts.{hands_over, handed_is}
+use Rattle.compiled_form.proofs.Spots.{Spot, places, start, last, atoms, each_instr}
+use Rattle.compiled_form.proofs.Typing.{atoms_there, takes_its_operands, gives_its_result, names_what_is_there}
+
+hand_gives_nothing : (code : Code) (entry : Entry) (a : Atom) → HasResult code entry (hand_of a) (hand_of a).op
+hand_gives_nothing code entry a = each_hand (λ (i : Instr). HasResult code entry i i.op) (λ r. tt) (λ n. tt) (λ n. tt) tt (λ k. tt) (λ k. tt) a
+
+hand_names_nothing : (code : Code) (a : Atom) → NamesWhatIsThere code (hand_of a) (hand_of a).op
+hand_names_nothing code a = each_hand (λ (i : Instr). NamesWhatIsThere code i i.op) (λ r. tt) (λ n. tt) (λ n. tt) tt (λ k. tt) (λ k. tt) a
+
+module _ (core : Core) (code : Code) (sound : IsSound core) (is : IsCompiled core code) where
+  hands_what_is_there : (s : Spot core code is) (k : ℕ) (a : Atom) → slice_get (atoms core code is s) k ≡ Some a → HandsOrTakes code s.entry (start core code is s + k) (hand_of a) (hands (hand_of a).op)
+  hands_what_is_there s k a h =
+      let typed = (sound.functions s.f s.func s.here).typed s.point s.stm s.found in
+      let all = atoms_there core s.func s.stm.kind typed in
+      let inside = slice_get_within (atoms core code is s) k a h in
+      let there : IsSome (atom_sort core s.func a) =
+      subst (λ (x : Atom). IsSome (atom_sort core s.func x)) (get_or_from_slice_get (atoms core code is s) k a a h) (all k a inside) in
+      subst (λ b. HandsOrTakes code s.entry (start core code is s + k) (hand_of a) b) (sym (hands_over a))
+      (subst (λ (o : Option Sort). IsSome o) (sym (handed_is core code is s.f s.func s.entry s.matches a)) there)
+
+  hand_is_instr : (s : Spot core code is) (k : ℕ) (a : Atom) → slice_get (atoms core code is s) k ≡ Some a → IsInstr code s.f s.entry (start core code is s + k) (hand_of a)
+  hand_is_instr s k a h =
+      let at = start core code is s + k in
+      let less = slice_get_within (atoms core code is s) k a h in
+      let low = first_inside core code sound is s in
+      let high = last_inside core code sound is s in
+      record {
+        operands = hands_what_is_there s k a h;
+        result = hand_gives_nothing code s.entry a;
+        names = hand_names_nothing code a;
+        inside = hand_leads (λ next. (s.entry.first ≤ next) × (next < end_of code s.f)) a at (omega (arith, low), omega (arith, less, high));
+        ahead = hand_leads_on a at;
+        afresh = hand_starts_afresh code s.entry a at;
+      }
+
+  takes_what_is_handed : (s : Spot core code is) (n : ℕ) → Numbers code s.func s.stm.kind n → HandsOrTakes code s.entry (last core code is s) (doing (places core code is s) s.stm.kind n) (hands (doing (places core code is s) s.stm.kind n).op)
+  takes_what_is_handed s n m =
+      let i = doing (places core code is s) s.stm.kind n in
+      let typed = (sound.functions s.f s.func s.here).typed s.point s.stm s.found in
+      let all = handed_all core code sound is s.f s.func s.here s.entry s.matches s.point s.stm s.found in
+      let taken = takes_its_operands core code is s.f s.func s.entry s.matches (places core code is s) s.stm.kind n typed m in
+      subst (λ b. HandsOrTakes code s.entry (last core code is s) i b) (sym (does_not_hand (places core code is s) s.stm.kind n))
+      (subst (λ handed. Takes code s.entry i i.op handed) (sym all) taken)
+
+  does_is_instr : (s : Spot core code is) (n : ℕ) → Numbers code s.func s.stm.kind n → IsInstr code s.f s.entry (last core code is s) (doing (places core code is s) s.stm.kind n)
+  does_is_instr s n m =
+      let func = sound.functions s.f s.func s.here in
+      let typed = func.typed s.point s.stm s.found in
+      let answers = func.answers s.point s.stm s.found in
+      let numbers = func.numbers s.point s.stm s.found in
+      let gives = answered core code sound is s.f s.func s.entry s.matches s.stm.kind typed answers in
+      record {
+        operands = takes_what_is_handed s n m;
+        result = gives_its_result core code is s.f s.func s.entry s.matches (places core code is s) s.stm.kind n typed gives;
+        names = names_what_is_there core code is s.f s.func s.entry s.matches (places core code is s) s.stm.kind n typed numbers m;
+        inside = leads_inside core code sound is s n;
+        ahead = leads_ahead core code sound is s n;
+        afresh = leads_afresh core code sound is s n;
+      }
+
+  pub instructions : EachInstr code (IsInstr code)
+  instructions = each_instr core code is (IsInstr code) hand_is_instr does_is_instr

@@ -1,0 +1,17 @@
+pub mod Parts
+pub mod Handing
+pub mod Sorts
+pub mod Doing
+pub mod Places
+pub mod Handed
+pub mod Spots
+pub mod Typing
+pub mod Returns
+pub mod Flow
+pub mod Scopes
+pub mod Instructions
+pub mod Functions
+pub mod Tables
+pub mod Statics
+pub mod Lengths
+pub mod Formed
