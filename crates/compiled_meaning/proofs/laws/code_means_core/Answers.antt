@@ -1,0 +1,4 @@
+use Rattle.compiled_meaning.proofs.laws.code_means_core.Goals as goal
+
+pub returns : goal.returns
+returns c = ?
