@@ -1,1 +1,5 @@
 pub mod Following
+pub mod Places
+pub mod Moved
+pub mod Numbered
+pub mod Handing
