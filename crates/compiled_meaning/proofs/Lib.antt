@@ -3,3 +3,4 @@ pub mod Places
 pub mod Moved
 pub mod Numbered
 pub mod Handing
+pub mod Keeping
