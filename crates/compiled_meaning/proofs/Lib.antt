@@ -4,3 +4,5 @@ pub mod Moved
 pub mod Numbered
 pub mod Handing
 pub mod Keeping
+pub mod Library
+pub mod Scopes
