@@ -6,3 +6,5 @@ pub mod Handing
 pub mod Keeping
 pub mod Library
 pub mod Scopes
+pub mod Entries
+pub mod Calling
