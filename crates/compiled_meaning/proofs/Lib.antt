@@ -8,3 +8,4 @@ pub mod Library
 pub mod Scopes
 pub mod Entries
 pub mod Calling
+pub mod Returns
