@@ -9,3 +9,4 @@ pub mod Scopes
 pub mod Entries
 pub mod Calling
 pub mod Returns
+pub mod Acting
