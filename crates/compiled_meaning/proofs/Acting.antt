@@ -178,7 +178,7 @@ module _ (core : Core) (code : Code) (sound : IsSound core) (freeless : IsFreele
 
   -- Each statement in turn
 
-  act_follows : (kind : StmKind) → At kind → (i : Instr) → Does core code s.running.func func kind i → Effect kind i
+  pub act_follows : (kind : StmKind) → At kind → (i : Instr) → Does core code s.running.func func kind i → Effect kind i
   act_follows (stm.Set r a) at i d = by_does (stm.Set r a) i (to r op.Set) d (writes_one (stm.Set r a) at r (value_of s.running a))
   act_follows (stm.Conv k r a) at i d = by_does (stm.Conv k r a) i (to r (op.Conv k)) d (writes_one (stm.Conv k r a) at r _)
   act_follows (stm.Un o k r a) at i d = by_does (stm.Un o k r a) i (to r (op.Un o k)) d (writes_one (stm.Un o k r a) at r _)

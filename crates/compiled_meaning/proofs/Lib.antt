@@ -10,3 +10,4 @@ pub mod Entries
 pub mod Calling
 pub mod Returns
 pub mod Acting
+pub mod Stepping
