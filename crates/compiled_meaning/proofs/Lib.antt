@@ -11,3 +11,6 @@ pub mod Calling
 pub mod Returns
 pub mod Acting
 pub mod Stepping
+pub mod FirstPointers
+pub mod Statics
+pub mod Beginning
