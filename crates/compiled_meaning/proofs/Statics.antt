@@ -22,6 +22,14 @@ use Rattle.code_meaning.specs.Entering.{layout_in, no_layout}
 use Rattle.compiled_code.specs.Compiled.{IsCompiled, IsTrimmed, IsStatic}
 use Rattle.compiled_meaning.proofs.FirstPointers.{first_same}
 
+-- zeros behind a place are some zeros and those behind a later place
+trimmed_behind : (size many short long z : ℕ) → size - short ≡ many + (size - long) → drop short (replicate size z) ≡ replicate many z ++ drop long (replicate size z)
+trimmed_behind size many short long z sum =
+    drop-replicate short size z
+      ∙ ap (λ n. replicate n z) sum
+      ∙ sym (replicate-append-replicate many (size - long) z)
+      ∙ ap (λ bs. replicate many z ++ bs) (sym (drop-replicate long size z))
+
 -- bytes without the zeros at their end, over zeros
 trimmed_same : (size : ℕ) (bytes trimmed : List ℕ) → IsTrimmed bytes trimmed → length bytes ≤ size → overlaid (replicate size 0) 0 trimmed ≡ overlaid (replicate size 0) 0 bytes
 trimmed_same size bytes trimmed t le =
@@ -30,7 +38,8 @@ trimmed_same size bytes trimmed t le =
     let count : length whole ≡ length trimmed + t.zeros = length-append trimmed zeros ∙ ap (λ n. length trimmed + n) (length-replicate t.zeros 0) in
     let long = ap (λ (bs : List ℕ). length bs) t.same in
     let sum : size - (0 + length trimmed) ≡ t.zeros + (size - (0 + length whole)) = omega (arith, le, long, count) in
-    ap (λ bs. trimmed ++ bs) (drop-replicate (0 + length trimmed) size 0 ∙ ap (λ n. replicate n 0) sum ∙ sym (replicate-append-replicate t.zeros (size - (0 + length whole)) 0) ∙ ap (λ bs. zeros ++ bs) (sym (drop-replicate (0 + length whole) size 0)))
+    let behind : drop (0 + length trimmed) (replicate size 0) ≡ zeros ++ drop (0 + length whole) (replicate size 0) = trimmed_behind size t.zeros (0 + length trimmed) (0 + length whole) 0 sum in
+    ap (λ bs. trimmed ++ bs) behind
       ∙ sym (append_assoc trimmed zeros (drop (0 + length whole) (replicate size 0)))
       ∙ ap (λ bs. overlaid (replicate size 0) 0 bs) (sym t.same)
 
