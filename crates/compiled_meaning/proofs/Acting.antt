@@ -1,5 +1,5 @@
 -- The last instruction of a statement does what the statement does.
-use Rattle.std.proofs.Common.{◌≡◌, ℕ, ℤ, zero, suc, ◌+◌, ◌-◌, ◌*◌, ◌<◌, ◌≤◌, pos, List, [], ◌∷◌, map, length, Option, Some, None, Result, refl, sym, ap, ◌∙◌, subst, arith}
+use Rattle.std.proofs.Common.{◌≡◌, ℕ, ℤ, ◌+◌, ◌*◌, ◌<◌, ◌≤◌, pos, List, [], map, length, Option, Some, None, Result, refl, sym, ap, ◌∙◌, subst, arith}
 use Rattle.std.specs.Prelude.{slice_get, slice_index_or, unwrap_or, ◌*ℤ◌}
 use Rattle.std.specs.Option.{option_map_or}
 use Rattle.std.proofs.lemmas.Option.{unwrap_or-slice_get}
@@ -13,7 +13,6 @@ use Rattle.core_tree.specs.declared.program.Core.{Core}
 use Rattle.core_tree.specs.declared.program.Func.{Func}
 use Rattle.core_tree.specs.declared.statements.Atom.{Atom}
 use Rattle.core_tree.specs.declared.statements.LibName.{LibName}
-use Rattle.core_tree.specs.declared.statements.Stm.{Stm}
 use Rattle.core_tree.specs.declared.statements.StmKind.{StmKind}
 use Rattle.core_tree.specs.declared.statements.StmKind.TheVariants as stm
 use Rattle.core_tree.specs.Sorts.{TakesCall}
@@ -21,7 +20,7 @@ use Rattle.core_tree.specs.Sound.{IsSound, LeadsOn}
 use Rattle.flat_code.specs.declared.instructions.Instr.{Instr}
 use Rattle.flat_code.specs.declared.instructions.Op.TheVariants as op
 use Rattle.flat_code.specs.declared.program.Code.{Code}
-use Rattle.object_meaning.specs.Values.{number, value_of, pointer_of, number_of, bytes_in, size_in}
+use Rattle.object_meaning.specs.Values.{number, value_of, pointer_of, number_of, size_in}
 use Rattle.object_meaning.specs.Going as going
 use Rattle.object_meaning.specs.Going.{at_point, write, answers, changes}
 use Rattle.object_meaning.specs.Arithmetic.{moved_by}
@@ -44,7 +43,7 @@ use Rattle.compiled_code.specs.Doing.{to, to_chosen, Does}
 use Rattle.compiled_meaning.specs.Freeless.{IsFreeless}
 use Rattle.compiled_meaning.proofs.Places.{place_at, place_is, place_next, place_later, place_within}
 use Rattle.compiled_meaning.proofs.Moved.{moved}
-use Rattle.compiled_meaning.proofs.Keeping.{Follows, with_same, with_others, IsLast, Both, alike, writes, answers_both, changes_both, goes_to, branches, takes_step, goes_back}
+use Rattle.compiled_meaning.proofs.Keeping.{Follows, with_same, with_others, IsLast, alike, writes, answers_both, changes_both, goes_to, branches, takes_step, goes_back}
 use Rattle.compiled_meaning.proofs.Library.{make_both, prints_both, lib_both}
 use Rattle.compiled_meaning.proofs.Scopes.{enter_follows, leave_follows}
 use Rattle.compiled_meaning.proofs.Calling.{call_follows}
@@ -73,10 +72,10 @@ module _ (core : Core) (code : Code) (sound : IsSound core) (freeless : IsFreele
   is_last kind at =
       let f = s.running.func in
       record {
-      here = omega arith;
-      next = omega (arith, place_next core f func good.here s.running.point _ at);
-      within = omega (arith, place_within core f func good.here code compiled s.running.point _ at);
-    }
+        here = omega arith;
+        next = omega (arith, place_next core f func good.here s.running.point _ at);
+        within = omega (arith, place_within core f func good.here code compiled s.running.point _ at);
+      }
 
   abbrev pub Values : StmKind → List Value
   Values kind = map (value_of s.running) (handed_atoms kind)

@@ -1,22 +1,18 @@
 -- The first instruction calls main, as the run of the core begins.
-use Rattle.std.proofs.Common.{◌≡◌, ℕ, zero, suc, ◌+◌, ◌-◌, ◌≤◌, pos, List, [], ◌∷◌, ◌++◌, map, length, Option, Some, None, refl, sym, ap, ◌∙◌, subst, arith}
-use Rattle.std.specs.Prelude.{slice_get, slice_index}
+use Rattle.std.proofs.Common.{◌≡◌, ℕ, zero, suc, ◌+◌, ◌-◌, List, [], ◌∷◌, length, Option, Some, refl, sym, ap, ◌∙◌, subst, arith}
+use Rattle.std.specs.Prelude.{slice_get}
 use Rattle.std.proofs.lemmas.Option.{get_or_from_slice_get}
-use Rattle.hs_base.specs.declared.values.Value.{Value}
 use Rattle.hs_base.specs.Object.{Object}
 use Rattle.hs_base.specs.State.{State, Frame}
 use Rattle.hs_base.specs.Trace.{Event, Ending, Enter}
 use Rattle.hs_base.specs.Runs as runs
 use Rattle.hs_base.proofs.Running.{after_zero, after_stays}
 use Rattle.core_tree.specs.declared.program.Core.{Core}
-use Rattle.core_tree.specs.declared.program.Func.{Func}
 use Rattle.core_tree.specs.Sound.{IsSound, main_of}
 use Rattle.flat_code.specs.declared.program.Code.{Code}
-use Rattle.object_meaning.specs.Calls as core_calls
 use Rattle.object_meaning.specs.Making.{static_objects}
 use Rattle.object_meaning.specs.Meaning as meaning
 use Rattle.object_meaning.specs.Meaning.{line_of}
-use Rattle.object_meaning.proofs.Frames.{Good}
 use Rattle.object_meaning.proofs.Beginning.{begins}
 use Rattle.object_meaning.proofs.Falls.{ends}
 use Rattle.object_meaning.proofs.Forward.{all_forward}
@@ -26,9 +22,8 @@ use Rattle.code_meaning.specs.CodeMeaning.{enough, first_numbers, main_in, hande
 use Rattle.code_meaning.specs.Entering as entering
 use Rattle.compiled_code.specs.Compiled.{IsCompiled}
 use Rattle.compiled_meaning.specs.Freeless.{IsFreeless}
-use Rattle.compiled_meaning.specs.SameRun.{SameFrame, SameState, SameRun}
+use Rattle.compiled_meaning.specs.SameRun.{SameRun}
 use Rattle.compiled_meaning.proofs.Following.{Tied, TiedAt, after_add, after_first, run_follows}
-use Rattle.compiled_meaning.proofs.Moved.{moved_frame, moved}
 use Rattle.compiled_meaning.proofs.Entries.{frame_same, cost_same}
 use Rattle.compiled_meaning.proofs.Calling.{entered_same}
 use Rattle.compiled_meaning.proofs.Statics.{statics_same}
@@ -47,7 +42,7 @@ module _ (core : Core) (code : Code) (sound : IsSound core) (freeless : IsFreele
   start_is : (n : ℕ) → code_meaning.start code input n ≡ before statics (main_of core) n
   start_is n =
       ap (λ os. before os (main_in (slice_get code.instrs 0)) n) (statics_same code core sound compiled)
-        ∙ ap (λ o. before statics (main_in o) n) compiled.start
+      ∙ ap (λ o. before statics (main_in o) n) compiled.start
 
   abbrev numbers : ℕ → ℕ
   numbers = first_numbers statics
@@ -58,7 +53,7 @@ module _ (core : Core) (code : Code) (sound : IsSound core) (freeless : IsFreele
       let c = before statics (main_of core) n in
       let line = get_or_from_slice_get code.lines 0 _ 0 compiled.start_line in
       ap (λ o. code_meaning.act_at code o c) compiled.start
-        ∙ ap (λ l. entering.with_step n numbers c.state (entering.begin code l (main_of core) numbers)) line
+      ∙ ap (λ l. entering.with_step n numbers c.state (entering.begin code l (main_of core) numbers)) line
 
   abbrev Both : ℕ → runs.Ran State Event Ending → code_meaning.Run → Type 0
   Both n r q = Tied (Stands core code) (Ends core code) (left core code) (enough code (before statics (main_of core) n).state) 1 r q
@@ -66,16 +61,22 @@ module _ (core : Core) (code : Code) (sound : IsSound core) (freeless : IsFreele
   first_tied : (n : ℕ) → Both n (meaning.begun core input n) (runs.led [] (entering.with_step n numbers (before statics (main_of core) n).state (entering.begin code (line_of (slice_get core.funcs (main_of core))) (main_of core) numbers)))
   first_tied zero =
       let there = begins core sound input 1 in
-      let frame = frame_same core code compiled freeless (main_of core) there.0 there.1.here [] (length statics) in
-      (refl, (refl, record {
-        objects = refl;
-        running = record { func = refl; regs = sym (ap (λ (f : Frame). f.regs) frame); first_local = refl };
-        waiting = tt;
-        queue = refl;
-        scopes = refl;
-        input = refl;
-        steps = refl;
-      }, omega arith))
+      let frame = frame_same core code compiled freeless (main_of core) there.0 there.1.here [] (length statics) in (
+        refl,
+        (
+          refl,
+          record {
+            objects = refl;
+            running = record { func = refl; regs = sym (ap (λ (f : Frame). f.regs) frame); first_local = refl };
+            waiting = tt;
+            queue = refl;
+            scopes = refl;
+            input = refl;
+            steps = refl;
+          },
+          omega arith,
+        ),
+      )
   first_tied (suc n) =
       let there = begins core sound input (suc n) in
       let line = line_of (slice_get core.funcs (main_of core)) in

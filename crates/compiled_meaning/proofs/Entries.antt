@@ -1,11 +1,10 @@
 -- A function is entered in code as it is in its core.
-use Rattle.std.proofs.Common.{◌≡◌, ℕ, zero, suc, ◌+◌, ◌≤◌, Bool, List, [], ◌∷◌, ◌++◌, map, drop, length, take, Option, Some, None, refl, sym, ap, ◌∙◌, subst, arith}
+use Rattle.std.proofs.Common.{◌≡◌, ℕ, Bool, List, [], ◌∷◌, ◌++◌, map, drop, length, Some, refl, sym, ap, ◌∙◌, arith}
 use Rattle.std.specs.Prelude.{slice_get}
-use Rattle.std.specs.List.{range_with_len}
 use Rattle.std.proofs.lemmas.List.{drop-map, length-map}
 use Rattle.hs_base.specs.declared.values.Value.{Value}
 use Rattle.hs_base.specs.Cost.{call_cost}
-use Rattle.hs_base.specs.State.{State, Frame}
+use Rattle.hs_base.specs.State.{Frame}
 use Rattle.c_types.specs.declared.layouts.Layout.{Layout}
 use Rattle.core_tree.specs.declared.program.Core.{Core}
 use Rattle.core_tree.specs.declared.program.Func.{Func}
@@ -16,7 +15,6 @@ use Rattle.flat_code.specs.declared.program.Entry.{Entry}
 use Rattle.object_meaning.specs.Values as core_values
 use Rattle.object_meaning.specs.Calls as core_calls
 use Rattle.code_meaning.specs.Entering as entering
-use Rattle.code_meaning.specs.Returning as returning
 use Rattle.compiled_code.specs.Compiled.{IsCompiled, IsEntry}
 use Rattle.compiled_meaning.specs.Freeless.{IsFreeless}
 use Rattle.compiled_meaning.proofs.Places.{place_at, place_is}
@@ -61,9 +59,9 @@ module _ (core : Core) (code : Code) (compiled : IsCompiled core code) (freeless
   first_values : (n : ℕ) → map entering.first_value (drop n (entering.kinds_of (slice_get code.funcs g))) ≡ map core_values.first_value (drop n (core_calls.registers_of (slice_get core.funcs g)))
   first_values n =
       ap (λ ks. map entering.first_value (drop n ks)) kinds
-        ∙ ap (map entering.first_value) (drop-map (λ (r : Reg). r.pointer) n callee.regs)
-        ∙ firsts (drop n callee.regs)
-        ∙ ap (λ regs. map core_values.first_value (drop n regs)) (sym registers)
+      ∙ ap (map entering.first_value) (drop-map (λ (r : Reg). r.pointer) n callee.regs)
+      ∙ firsts (drop n callee.regs)
+      ∙ ap (λ regs. map core_values.first_value (drop n regs)) (sym registers)
 
   first_place : entering.first_of (slice_get code.funcs g) ≡ place_at core g 0
   first_place = omega (arith, ap entering.first_of found, is_entry.first, place_is core g callee here 0)
@@ -72,11 +70,11 @@ module _ (core : Core) (code : Code) (compiled : IsCompiled core code) (freeless
   frame_same values n =
       let made : ℕ → List Value → Frame = λ point regs. record { func = g; point = point; regs = values ++ regs; first_local = n } in
       ap (λ p. made p (map entering.first_value (drop (length values) (entering.kinds_of (slice_get code.funcs g))))) first_place
-        ∙ ap (made (place_at core g 0)) (first_values (length values))
+      ∙ ap (made (place_at core g 0)) (first_values (length values))
 
   pub cost_same : entering.cost_of code (slice_get code.funcs g) ≡ core_calls.cost_of (slice_get core.funcs g)
   cost_same =
       let many : length (entering.kinds_of (slice_get code.funcs g)) ≡ length (core_calls.registers_of (slice_get core.funcs g)) = ap (λ (ks : List Bool). length ks) kinds ∙ length-map callee.regs (λ (r : Reg). r.pointer) ∙ ap (λ (regs : List Reg). length regs) (sym registers) in
       ap (λ n. call_cost n (map (λ (l : Layout). l.size) (entering.locals_of code (slice_get code.funcs g)))) many
-        ∙ ap (λ ls. call_cost (length (core_calls.registers_of (slice_get core.funcs g))) (map (λ (l : Layout). l.size) ls)) code_locals
-        ∙ ap (λ ms. call_cost (length (core_calls.registers_of (slice_get core.funcs g))) (map (λ (m : Mem). m.layout.size) ms)) (sym core_locals)
+      ∙ ap (λ ls. call_cost (length (core_calls.registers_of (slice_get core.funcs g))) (map (λ (l : Layout). l.size) ls)) code_locals
+      ∙ ap (λ ms. call_cost (length (core_calls.registers_of (slice_get core.funcs g))) (map (λ (m : Mem). m.layout.size) ms)) (sym core_locals)

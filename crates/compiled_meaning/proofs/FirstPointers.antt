@@ -1,5 +1,5 @@
 -- The first pointers of a static may stand in any order, since their slots differ.
-use Rattle.std.proofs.Common.{◌≡◌, ℕ, zero, suc, ◌+◌, ◌≤◌, Bool, true, false, cond, nat_eq, List, [], ◌∷◌, map, refl, sym, ap, ◌∙◌, subst, arith}
+use Rattle.std.proofs.Common.{◌≡◌, ℕ, zero, suc, ◌+◌, ◌≤◌, Bool, true, false, cond, nat_eq, List, [], ◌∷◌, map, refl, sym, ap, ◌∙◌, arith}
 use Rattle.std.specs.Prelude.{IsPermutation}
 use Rattle.std.specs.List.{sum_by, AllByRecursion, IsDistinct}
 use Rattle.std.proofs.lemmas.Bool.{eqb-true, eqb-false, ne_eqb}
@@ -71,9 +71,9 @@ module _ (slot : ℕ) where
   first_is (p ∷ pointers) h =
       let le : cond (nat_eq p.0 slot) 1 0 + at_slot one pointers ≤ 1 = omega (arith, h, sum_by-cons (only one) p pointers) in
       first_by p pointers (nat_eq p.0 slot) le (first_is pointers (at_most (nat_eq p.0 slot) _ le))
-        ∙ ap (λ n. from_sums n (cond (nat_eq p.0 slot) p.1 0 + at_slot birth pointers) (cond (nat_eq p.0 slot) p.2 0 + at_slot offset pointers)) (sym (sum_by-cons (only one) p pointers))
-        ∙ ap (λ n. from_sums (at_slot one (p ∷ pointers)) n (cond (nat_eq p.0 slot) p.2 0 + at_slot offset pointers)) (sym (sum_by-cons (only birth) p pointers))
-        ∙ ap (λ n. from_sums (at_slot one (p ∷ pointers)) (at_slot birth (p ∷ pointers)) n) (sym (sum_by-cons (only offset) p pointers))
+      ∙ ap (λ n. from_sums n (cond (nat_eq p.0 slot) p.1 0 + at_slot birth pointers) (cond (nat_eq p.0 slot) p.2 0 + at_slot offset pointers)) (sym (sum_by-cons (only one) p pointers))
+      ∙ ap (λ n. from_sums (at_slot one (p ∷ pointers)) n (cond (nat_eq p.0 slot) p.2 0 + at_slot offset pointers)) (sym (sum_by-cons (only birth) p pointers))
+      ∙ ap (λ n. from_sums (at_slot one (p ∷ pointers)) (at_slot birth (p ∷ pointers)) n) (sym (sum_by-cons (only offset) p pointers))
 
   -- where the slots differ there is one at most
   others_none : (k : ℕ) (pointers : List (ℕ × ℕ × ℕ)) → k ≡ slot → AllByRecursion (λ y. nat_eq k y ≡ false) (map (λ (p : ℕ × ℕ × ℕ). p.0) pointers) → at_slot one pointers ≡ 0
@@ -99,7 +99,7 @@ module _ (slot : ℕ) where
       let b = sum_by-IsPermutation (only birth) pointers others moved in
       let o = sum_by-IsPermutation (only offset) pointers others moved in
       first_is others (omega (arith, le, n))
-        ∙ ap (λ k. from_sums k (at_slot birth others) (at_slot offset others)) n
-        ∙ ap (λ k. from_sums (at_slot one pointers) k (at_slot offset others)) b
-        ∙ ap (from_sums (at_slot one pointers) (at_slot birth pointers)) o
-        ∙ sym (first_is pointers le)
+      ∙ ap (λ k. from_sums k (at_slot birth others) (at_slot offset others)) n
+      ∙ ap (λ k. from_sums (at_slot one pointers) k (at_slot offset others)) b
+      ∙ ap (from_sums (at_slot one pointers) (at_slot birth pointers)) o
+      ∙ sym (first_is pointers le)

@@ -1,7 +1,6 @@
 -- Where each move of one run is followed by some moves of another, the whole run is.
-use Rattle.std.proofs.Common.{◌≡◌, ℕ, zero, suc, ◌+◌, ◌-◌, ◌≤◌, List, [], Option, Some, None, refl, sym, ap, ◌∙◌, subst, arith}
-use Rattle.hs_base.specs.Runs.{Next, Ran, fresh, led, moved, after}
-use Rattle.hs_base.proofs.Running.{after_stays}
+use Rattle.std.proofs.Common.{◌≡◌, ℕ, zero, suc, ◌+◌, ◌≤◌, List, Option, Some, None, refl, sym, ap, ◌∙◌, subst, arith}
+use Rattle.hs_base.specs.Runs.{Next, Ran, led, moved, after}
 
 -- a run that goes on from a trace and a state
 abbrev pub going : {S E X : Type 0} → List E → S → Ran S E X
@@ -33,7 +32,7 @@ module _ {A B E X : Type 0} (R L : A → B → Type 0) (left : B → ℕ) where
     whole : (r : Ran A E X) (q : Ran B E X) → q.trace ≡ r.trace → q.ended ≡ None → q ≡ going r.trace q.state
     whole r q h i =
         ap (λ t. let p : Ran B E X = record { trace = t; ended = q.ended; state = q.state } in p) h
-          ∙ ap (λ o. let p : Ran B E X = record { trace = r.trace; ended = o; state = q.state } in p) i
+        ∙ ap (λ o. let p : Ran B E X = record { trace = r.trace; ended = o; state = q.state } in p) i
 
     later : (total i j : ℕ) (more : ℕ) (o : Option X) (r : Ran A E X) (q : Ran B E X) → more + i ≤ total → TiedAt more j o r q → TiedAt total (i + j) o r q
     later total i j more (Some e) r q h t = (t.0, t.1, omega (arith, t.2))

@@ -1,14 +1,13 @@
 -- The instructions that hand over the operands of a statement.
-use Rattle.std.proofs.Common.{◌≡◌, ℕ, ℤ, zero, suc, pos, negsuc, ◌+◌, ◌*◌, ◌%◌, ◌^◌, ◌<◌, Bool, true, false, cond, List, [], ◌∷◌, ◌++◌, map, length, Option, Some, None, refl, sym, ap, ◌∙◌, subst, arith}
-use Rattle.std.specs.Prelude.{slice_get, slice_index, int_lt, ◌-ℤ◌, ◌+ℤ◌, ◌≤ℤ◌, ◌<ℤ◌, unsigned_abs}
+use Rattle.std.proofs.Common.{◌≡◌, ℕ, ℤ, suc, pos, negsuc, ◌+◌, ◌^◌, ◌<◌, Bool, true, false, cond, List, [], ◌∷◌, ◌++◌, map, length, Some, refl, sym, ap, ◌∙◌, subst, arith}
+use Rattle.std.specs.Prelude.{slice_get, slice_index, int_lt, ◌-ℤ◌, unsigned_abs}
 use Rattle.std.specs.List.{list_any}
 use Rattle.std.proofs.lemmas.Bool.{or_parts}
 use Rattle.std.proofs.lemmas.List.{append-nil, append_assoc}
 use Rattle.std.proofs.lemmas.Int.{ints, int_rem_euclid_is}
 use Rattle.hs_base.specs.declared.values.Value.{Value}
 use Rattle.hs_base.specs.State.{Frame, State}
-use Rattle.hs_base.specs.Numbers.{low_bits}
-use Rattle.hs_base.specs.Trace.{Event, Ending}
+use Rattle.hs_base.specs.Trace.{Event}
 use Rattle.hs_base.specs.Runs as runs
 use Rattle.hs_base.proofs.Running.{after_zero}
 use Rattle.core_tree.specs.declared.statements.Atom.{Atom}
@@ -74,9 +73,9 @@ module _ (code : Code) (t : State) (numbers : ℕ → ℕ) where
       let v = value_of t.running a in
       let is = handed_is c.state.running a range ∙ ap (λ w. Some w) (same_value t.running point a) in
       ap (λ o. runs.led trace (act_at code o c)) at
-        ∙ ap (λ o. runs.led trace (hand_or_act code line i o c)) is
-        ∙ ap (λ b. runs.led trace (hand b v c)) fresh
-        ∙ ap (λ tr. going tr (holding (point + 1) (values ++ v ∷ []))) (append-nil trace)
+      ∙ ap (λ o. runs.led trace (hand_or_act code line i o c)) is
+      ∙ ap (λ b. runs.led trace (hand b v c)) fresh
+      ∙ ap (λ tr. going tr (holding (point + 1) (values ++ v ∷ []))) (append-nil trace)
 
   -- all operands are handed over, each by one instruction
   pub all_handed : (trace : List Event) (point : ℕ) (values : List Value) (atoms : List Atom) → Hands point atoms → AllInRange atoms → list_any (holds_stale t.objects) (map (value_of t.running) atoms) ≡ false → runs.after (step code) (going trace (holding point values)) (length atoms) ≡ going trace (holding (point + length atoms) (values ++ map (value_of t.running) atoms))
@@ -92,7 +91,7 @@ module _ (code : Code) (t : State) (numbers : ℕ → ℕ) where
       let rest = all_handed trace (point + 1) (values ++ v ∷ []) atoms there range.1 both.1 in
       let sum : point + 1 + length atoms ≡ point + suc (length atoms) = omega arith in
       after_first (step code) (going trace (holding point values)) (length atoms)
-        ∙ ap (λ r. runs.after (step code) r (length atoms)) first
-        ∙ rest
-        ∙ ap (λ p. going trace (holding p ((values ++ v ∷ []) ++ map (value_of t.running) atoms))) sum
-        ∙ ap (λ vs. going trace (holding (point + suc (length atoms)) vs)) (append_assoc values (v ∷ []) (map (value_of t.running) atoms))
+      ∙ ap (λ r. runs.after (step code) r (length atoms)) first
+      ∙ rest
+      ∙ ap (λ p. going trace (holding p ((values ++ v ∷ []) ++ map (value_of t.running) atoms))) sum
+      ∙ ap (λ vs. going trace (holding (point + suc (length atoms)) vs)) (append_assoc values (v ∷ []) (map (value_of t.running) atoms))

@@ -1,6 +1,5 @@
 -- What an effect on the state of a core and the same effect on that of its code have in common.
-use Rattle.std.proofs.Common.{◌≡◌, ℕ, zero, suc, ◌+◌, ◌-◌, ◌*◌, ◌<◌, ◌≤◌, Bool, true, false, List, [], ◌∷◌, map, length, Option, Some, None, Result, Ok, Err, pos, negsuc, refl, sym, ap, ◌∙◌, subst, arith}
-use Rattle.std.specs.Prelude.{slice_get}
+use Rattle.std.proofs.Common.{◌≡◌, ℕ, zero, suc, ◌+◌, ◌*◌, ◌<◌, ◌≤◌, Bool, true, false, List, [], map, length, Option, Some, None, Result, Ok, Err, refl, sym, ap, ◌∙◌, arith}
 use Rattle.std.specs.List.{sum_by}
 use Rattle.hs_base.specs.declared.values.Value.{Value}
 use Rattle.hs_base.specs.Access.{Refusal}
@@ -10,12 +9,10 @@ use Rattle.hs_base.specs.Trace.{Event, Ending}
 use Rattle.hs_base.specs.Runs as runs
 use Rattle.core_tree.specs.declared.program.Core.{Core}
 use Rattle.flat_code.specs.declared.program.Code.{Code}
-use Rattle.object_meaning.specs.Values.{number, address, start_of}
 use Rattle.object_meaning.specs.Going as going
 use Rattle.object_meaning.specs.Going.{at_point, onward, put, write, with_objects, answers, changes}
-use Rattle.object_meaning.specs.Making.{with_new}
 use Rattle.object_meaning.specs.Meaning.{branch}
-use Rattle.code_meaning.specs.CodeState.{Next, kept, same_numbers, other_numbers}
+use Rattle.code_meaning.specs.CodeState.{Next, same_numbers, other_numbers}
 use Rattle.code_meaning.specs.Entering as entering
 use Rattle.code_meaning.specs.CodeMeaning.{enough, code_left}
 use Rattle.compiled_meaning.specs.SameRun.{SameState}

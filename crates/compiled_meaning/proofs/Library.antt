@@ -1,9 +1,9 @@
 -- Built-in functions, printf and new objects do the same to the state of a core and to that of its code.
-use Rattle.std.proofs.Common.{◌≡◌, ℕ, zero, suc, ◌+◌, List, [], ◌∷◌, map, Option, Some, None, Result, Ok, Err, pos, negsuc, refl}
+use Rattle.std.proofs.Common.{◌≡◌, ℕ, List, [], ◌∷◌, map, Option, Some, None, Result, Ok, Err, pos, negsuc, refl}
 use Rattle.hs_base.specs.declared.ends.TrapKind.TheVariants as trap
 use Rattle.hs_base.specs.declared.values.Pointer.{Pointer}
 use Rattle.hs_base.specs.declared.values.Value.{Value}
-use Rattle.hs_base.specs.Access.{Refusal, set_bytes}
+use Rattle.hs_base.specs.Access.{Refusal}
 use Rattle.hs_base.specs.Object.{Object}
 use Rattle.hs_base.specs.State.{State}
 use Rattle.hs_base.specs.Trace.{Out, In, Exit, Trap}
@@ -12,14 +12,14 @@ use Rattle.core_tree.specs.declared.program.Core.{Core}
 use Rattle.core_tree.specs.declared.statements.LibName.{LibName}
 use Rattle.core_tree.specs.declared.statements.LibName.TheVariants as lib
 use Rattle.flat_code.specs.declared.program.Code.{Code}
-use Rattle.object_meaning.specs.Values.{number, address, start_of, number_at, pointer_at, size_in}
-use Rattle.object_meaning.specs.Going.{write, with_objects, ended_by, if_done}
+use Rattle.object_meaning.specs.Values.{number, address, number_at, pointer_at}
+use Rattle.object_meaning.specs.Going.{with_objects, ended_by, if_done}
 use Rattle.object_meaning.specs.Making.{with_new}
 use Rattle.object_meaning.specs.Heap.{birth_of, make}
 use Rattle.object_meaning.specs.Printing.{print}
 use Rattle.object_meaning.specs.Builtins.{byte_in, get_byte, put_line, filled, call_lib}
 use Rattle.object_meaning.specs.Meaning.{print_format}
-use Rattle.compiled_meaning.proofs.Keeping.{Alike, IsLast, acting, Both, alike, writes, stops, answers_both}
+use Rattle.compiled_meaning.proofs.Keeping.{IsLast, acting, Both, alike, writes, stops, answers_both}
 
 module _ (core : Core) (code : Code) (s : State) (q j : ℕ) (last : IsLast core code s q j) (empty : s.queue ≡ []) where
   abbrev there : State

@@ -1,9 +1,9 @@
 -- The state of a core as its code has it: the points are instructions.
-use Rattle.std.proofs.Common.{◌≡◌, ℕ, ◌+◌, ◌-◌, List, [], ◌∷◌, map, refl}
+use Rattle.std.proofs.Common.{ℕ, ◌+◌, ◌-◌, List, [], ◌∷◌, map, refl}
 use Rattle.hs_base.specs.State.{Frame, State}
 use Rattle.core_tree.specs.declared.program.Core.{Core}
 use Rattle.object_meaning.specs.Going.{at_point}
-use Rattle.compiled_meaning.specs.SameRun.{SameFrame, SameFrames, SameState}
+use Rattle.compiled_meaning.specs.SameRun.{SameFrames, SameState}
 use Rattle.compiled_meaning.proofs.Places.{place_at}
 
 -- the running frame is at the first instruction of its statement

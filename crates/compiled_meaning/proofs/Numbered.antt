@@ -1,5 +1,5 @@
 -- The integers that a statement of a sound core hands over are in range.
-use Rattle.std.proofs.Common.{◌≡◌, ℕ, ℤ, zero, suc, ◌+◌, ◌<◌, List, [], ◌∷◌, ◌++◌, length, get_or, Option, Some, None, refl, sym, ap, ◌∙◌, subst, arith}
+use Rattle.std.proofs.Common.{ℤ, ◌+◌, List, [], ◌∷◌, ◌++◌, length, subst, arith}
 use Rattle.std.specs.Prelude.{All}
 use Rattle.std.specs.List.{flat_map}
 use Rattle.std.proofs.lemmas.List.{get_or_append_left, get_or-append-add, length-append}
@@ -9,7 +9,7 @@ use Rattle.core_tree.specs.declared.statements.Atom.TheVariants as atom
 use Rattle.core_tree.specs.declared.statements.StmKind.{StmKind}
 use Rattle.core_tree.specs.declared.statements.StmKind.TheVariants as stm
 use Rattle.core_tree.specs.Statements.{operands}
-use Rattle.core_tree.specs.Sound.{IsNumber, atom_numbers, own_numbers, HasNumbers}
+use Rattle.core_tree.specs.Sound.{IsNumber, atom_numbers, HasNumbers}
 use Rattle.compiled_code.specs.Handing.{handed_atoms}
 
 -- an operand that is an integer is in range

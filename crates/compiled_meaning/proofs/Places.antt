@@ -1,5 +1,5 @@
 -- Where the statements of a core stand in its code.
-use Rattle.std.proofs.Common.{◌≡◌, ℕ, zero, suc, ◌+◌, ◌<◌, ◌≤◌, List, length, take, Option, Some, None, refl, sym, ap, ◌∙◌, subst, arith}
+use Rattle.std.proofs.Common.{◌≡◌, ℕ, ◌+◌, ◌<◌, ◌≤◌, List, length, take, Option, Some, None, ap, subst, arith}
 use Rattle.std.specs.Prelude.{slice_get}
 use Rattle.std.specs.List.{sum_by}
 use Rattle.std.proofs.lemmas.List.{take-take}
@@ -21,7 +21,6 @@ placed core f (Some func) point = place_of core f func.body point
 -- the same by the number of the function
 abbrev pub place_at : Core → ℕ → ℕ → ℕ
 place_at core f point = placed core f (slice_get core.funcs f) point
-
 
 module _ (core : Core) (f : ℕ) (func : Func) (here : slice_get core.funcs f ≡ Some func) where
   pub place_is : (point : ℕ) → place_at core f point ≡ place_of core f func.body point

@@ -2,7 +2,6 @@
 use Rattle.std.proofs.Common.{◌≡◌, ℕ, zero, suc, ◌+◌, Bool, List, [], ◌∷◌, Option, Some, None, refl}
 use Rattle.hs_base.specs.Freeing.{first_held, check_numbers}
 use Rattle.hs_base.specs.State.{State}
-use Rattle.hs_base.specs.Trace.{Dangling}
 use Rattle.core_tree.specs.declared.program.Core.{Core}
 use Rattle.flat_code.specs.declared.program.Code.{Code}
 use Rattle.object_meaning.specs.Scoping as scoping

@@ -1,6 +1,6 @@
 -- The statics of code are those of its core.
-use Rattle.std.proofs.Common.{◌≡◌, ℕ, zero, suc, ◌+◌, ◌-◌, ◌<◌, ◌≤◌, nat_eq, List, [], ◌∷◌, ◌++◌, map, length, take, drop, replicate, get_or, Option, Some, None, refl, sym, ap, ◌∙◌, subst, arith}
-use Rattle.std.specs.Prelude.{slice_get, All}
+use Rattle.std.proofs.Common.{◌≡◌, ℕ, suc, ◌+◌, ◌-◌, ◌≤◌, List, [], ◌∷◌, ◌++◌, map, length, drop, replicate, Some, refl, sym, ap, ◌∙◌, subst, arith}
+use Rattle.std.specs.Prelude.{slice_get}
 use Rattle.std.specs.List.{enumerate_from}
 use Rattle.std.specs.Option.{option_map_or}
 use Rattle.std.proofs.lemmas.List.{append_assoc, length-append, length-replicate, drop-replicate, replicate-append-replicate}
@@ -26,9 +26,9 @@ use Rattle.compiled_meaning.proofs.FirstPointers.{first_same}
 trimmed_behind : (size many short long z : ℕ) → size - short ≡ many + (size - long) → drop short (replicate size z) ≡ replicate many z ++ drop long (replicate size z)
 trimmed_behind size many short long z sum =
     drop-replicate short size z
-      ∙ ap (λ n. replicate n z) sum
-      ∙ sym (replicate-append-replicate many (size - long) z)
-      ∙ ap (λ bs. replicate many z ++ bs) (sym (drop-replicate long size z))
+    ∙ ap (λ n. replicate n z) sum
+    ∙ sym (replicate-append-replicate many (size - long) z)
+    ∙ ap (λ bs. replicate many z ++ bs) (sym (drop-replicate long size z))
 
 -- bytes without the zeros at their end, over zeros
 trimmed_same : (size : ℕ) (bytes trimmed : List ℕ) → IsTrimmed bytes trimmed → length bytes ≤ size → overlaid (replicate size 0) 0 trimmed ≡ overlaid (replicate size 0) 0 bytes
@@ -40,8 +40,8 @@ trimmed_same size bytes trimmed t le =
     let sum : size - (0 + length trimmed) ≡ t.zeros + (size - (0 + length whole)) = omega (arith, le, long, count) in
     let behind : drop (0 + length trimmed) (replicate size 0) ≡ zeros ++ drop (0 + length whole) (replicate size 0) = trimmed_behind size t.zeros (0 + length trimmed) (0 + length whole) 0 sum in
     ap (λ bs. trimmed ++ bs) behind
-      ∙ sym (append_assoc trimmed zeros (drop (0 + length whole) (replicate size 0)))
-      ∙ ap (λ bs. overlaid (replicate size 0) 0 bs) (sym t.same)
+    ∙ sym (append_assoc trimmed zeros (drop (0 + length whole) (replicate size 0)))
+    ∙ ap (λ bs. overlaid (replicate size 0) 0 bs) (sym t.same)
 
 map_same : {A B : Type 0} (f g : A → B) (xs : List A) → ((x : A) → f x ≡ g x) → map f xs ≡ map g xs
 map_same f g [] h = refl
@@ -55,8 +55,8 @@ module _ (code : Code) where
       let bytes = trimmed_same static.layout.size static.start.bytes init.bytes compiled.bytes sound.inside in
       let pointers = map_same (first_pointer init.pointers) (first_pointer static.start.pointers) static.layout.slots (λ slot. first_same slot static.start.pointers init.pointers compiled.same_pointers sound.distinct) in
       ap (λ (l : Layout). made l (overlaid (replicate l.size 0) 0 init.bytes) (map (first_pointer init.pointers) l.slots)) layout
-        ∙ ap (λ bs. made static.layout bs (map (first_pointer init.pointers) static.layout.slots)) bytes
-        ∙ ap (made static.layout (overlaid (replicate static.layout.size 0) 0 static.start.bytes)) pointers
+      ∙ ap (λ bs. made static.layout bs (map (first_pointer init.pointers) static.layout.slots)) bytes
+      ∙ ap (made static.layout (overlaid (replicate static.layout.size 0) 0 static.start.bytes)) pointers
 
   -- the statics of two lists are the same, one by one
   abbrev Matches : List Static → List StaticInit → Type 0
@@ -71,8 +71,8 @@ module _ (code : Code) where
       let first = h 0 n static refl in
       let here : init ≡ first.0 = cc (first.1) in
       ap (λ i. code_meaning.static_object code (n, i) ∷ map (code_meaning.static_object code) (enumerate_from (n + 1) inits)) here
-        ∙ ap (λ o. o ∷ map (code_meaning.static_object code) (enumerate_from (n + 1) inits)) first.2
-        ∙ ap (λ os. making.static_object (n, static) ∷ os) (all_same statics inits (n + 1) (omega (arith, e)) (λ k. h (suc k)))
+      ∙ ap (λ o. o ∷ map (code_meaning.static_object code) (enumerate_from (n + 1) inits)) first.2
+      ∙ ap (λ os. making.static_object (n, static) ∷ os) (all_same statics inits (n + 1) (omega (arith, e)) (λ k. h (suc k)))
 
   pub statics_same : (core : Core) → IsSound core → IsCompiled core code → code_meaning.static_objects code ≡ making.static_objects core.statics
   statics_same core sound compiled =

@@ -1,12 +1,12 @@
 -- The instructions of a statement together do what the statement does.
-use Rattle.std.proofs.Common.{◌≡◌, ℕ, zero, suc, ◌+◌, ◌<◌, ◌≤◌, Bool, true, false, pos, List, [], ◌∷◌, ◌++◌, map, length, Option, Some, None, refl, sym, ap, ◌∙◌, subst, arith}
+use Rattle.std.proofs.Common.{◌≡◌, ℕ, ◌+◌, ◌≤◌, false, List, [], ◌∷◌, ◌++◌, map, length, Some, None, refl, sym, ap, ◌∙◌, subst, arith}
 use Rattle.std.specs.Prelude.{slice_get, slice_index}
 use Rattle.std.specs.List.{list_any}
 use Rattle.std.proofs.lemmas.Option.{get_or_from_slice_get}
 use Rattle.hs_base.specs.declared.values.Value.{Value}
 use Rattle.hs_base.specs.Object.{Object}
 use Rattle.hs_base.specs.State.{State, Frame}
-use Rattle.hs_base.specs.Trace.{Event, Ending}
+use Rattle.hs_base.specs.Trace.{Event}
 use Rattle.hs_base.specs.Runs as runs
 use Rattle.hs_base.proofs.Running.{after_more}
 use Rattle.core_tree.specs.declared.program.Core.{Core}
@@ -33,7 +33,7 @@ use Rattle.object_meaning.proofs.Acting.{step_stays_at, found}
 use Rattle.code_meaning.specs.CodeState.{CodeState, Next}
 use Rattle.code_meaning.specs.CodeMeaning as code_meaning
 use Rattle.code_meaning.specs.CodeMeaning.{enough, handed_value, hand_or_act}
-use Rattle.compiled_code.specs.Handing.{handed_atoms, code_length, hand_of}
+use Rattle.compiled_code.specs.Handing.{handed_atoms, code_length}
 use Rattle.compiled_code.specs.Places.{place_of}
 use Rattle.compiled_code.specs.Compiled.{IsCompiled, IsStatement}
 use Rattle.compiled_code.specs.Doing.{Does}
@@ -44,16 +44,16 @@ use Rattle.compiled_meaning.proofs.Following.{Tied}
 use Rattle.compiled_meaning.proofs.Places.{place_at, place_is}
 use Rattle.compiled_meaning.proofs.Moved.{moved}
 use Rattle.compiled_meaning.proofs.Numbered.{handed_in_range}
-use Rattle.compiled_meaning.proofs.Handing.{same_value, holding, Hands, all_handed}
+use Rattle.compiled_meaning.proofs.Handing.{same_value, holding, all_handed}
 use Rattle.compiled_meaning.proofs.Keeping.{Follows}
-use Rattle.compiled_meaning.proofs.Acting.{last_of, there, is_last, Values, act_follows}
+use Rattle.compiled_meaning.proofs.Acting.{is_last, act_follows}
 
 -- the points of a frame do not matter to its operands
 same_values : (frame : Frame) (point : ℕ) (atoms : List Atom) → map (value_of (record frame { point = point })) atoms ≡ map (value_of frame) atoms
 same_values frame point [] = refl
 same_values frame point (a ∷ atoms) =
     ap (λ v. v ∷ map (value_of (record frame { point = point })) atoms) (same_value frame point a)
-      ∙ ap (λ vs. value_of frame a ∷ vs) (same_values frame point atoms)
+    ∙ ap (λ vs. value_of frame a ∷ vs) (same_values frame point atoms)
 
 -- the numbers beside operands are no pointers
 handed_fresh : (objects : List Object) (frame : Frame) (kind : StmKind) → list_any (holds_stale objects) (map (value_of frame) (operands kind)) ≡ false → list_any (holds_stale objects) (map (value_of frame) (handed_atoms kind)) ≡ false
@@ -121,7 +121,7 @@ module _ (core : Core) (code : Code) (sound : IsSound core) (freeless : IsFreele
   handed trace =
       let values = same_values s.running place atoms in
       all_handed code (moved core s) numbers trace place [] atoms is_statement.hands (handed_in_range kind ((sound.functions s.running.func func good.here).numbers s.running.point stm_at at)) (ap (list_any (holds_stale s.objects)) values ∙ handed_fresh s.objects s.running kind fresh)
-        ∙ ap (λ vs. following.going trace (holding code (moved core s) numbers (place + length atoms) vs)) values
+      ∙ ap (λ vs. following.going trace (holding code (moved core s) numbers (place + length atoms) vs)) values
 
   line_is : slice_index code.lines (place + length atoms) ≡ line
   line_is = get_or_from_slice_get code.lines _ line 0 (is_statement.lines (length atoms) (omega arith))
@@ -131,16 +131,16 @@ module _ (core : Core) (code : Code) (sound : IsSound core) (freeless : IsFreele
       let c = holding code (moved core s) numbers (place + length atoms) (map (value_of s.running) atoms) in
       let i = is_statement.does.0 in
       ap (λ o. code_meaning.act_at code o c) is_statement.does.1
-        ∙ ap (λ l. hand_or_act code l i (handed_value c.state.running i i.op) c) line_is
-        ∙ ap (λ o. hand_or_act code line i o c) (takes core code s.running.func func c.state.running kind i is_statement.does.2)
+      ∙ ap (λ l. hand_or_act code l i (handed_value c.state.running i i.op) c) line_is
+      ∙ ap (λ o. hand_or_act code line i o c) (takes core code s.running.func func c.state.running kind i is_statement.does.2)
 
   -- all instructions of the statement
   made : (trace : List Event) → runs.after (code_meaning.step code) (following.going trace (holding code (moved core s) numbers place [])) (code_length kind) ≡ runs.led trace (code_meaning.act code line is_statement.does.0 is_statement.does.0.op (map (value_of s.running) atoms) numbers (at_point (moved core s) (place + length atoms)))
   made trace =
       let r = following.going trace (holding code (moved core s) numbers place []) in
       after_more (code_meaning.step code) r (length atoms)
-        ∙ ap (λ q. runs.moved (code_meaning.step code) q q.ended) (handed trace)
-        ∙ ap (runs.led trace) (acted trace)
+      ∙ ap (λ q. runs.moved (code_meaning.step code) q q.ended) (handed trace)
+      ∙ ap (runs.led trace) (acted trace)
 
   core_acts : (trace : List Event) → meaning.step core trace s ≡ meaning.act core line kind s
   core_acts trace =
