@@ -1,0 +1,80 @@
+-- A function is entered in code as it is in its core.
+use Rattle.std.proofs.Common.{◌≡◌, ℕ, Bool, List, [], ◌∷◌, ◌++◌, map, drop, length, Some, refl, sym, ap, ◌∙◌, arith}
+use Rattle.std.specs.Prelude.{slice_get}
+use Rattle.std.proofs.lemmas.List.{drop-map, length-map}
+use Rattle.hs_base.specs.declared.values.Value.{Value}
+use Rattle.hs_base.specs.Cost.{call_cost}
+use Rattle.hs_base.specs.State.{Frame}
+use Rattle.c_types.specs.declared.layouts.Layout.{Layout}
+use Rattle.core_tree.specs.declared.program.Core.{Core}
+use Rattle.core_tree.specs.declared.program.Func.{Func}
+use Rattle.core_tree.specs.declared.program.Mem.{Mem}
+use Rattle.core_tree.specs.declared.program.Reg.{Reg}
+use Rattle.flat_code.specs.declared.program.Code.{Code}
+use Rattle.flat_code.specs.declared.program.Entry.{Entry}
+use Rattle.object_meaning.specs.Values as core_values
+use Rattle.object_meaning.specs.Calls as core_calls
+use Rattle.code_meaning.specs.Entering as entering
+use Rattle.compiled_code.specs.Compiled.{IsCompiled, IsEntry}
+use Rattle.compiled_meaning.specs.Freeless.{IsFreeless}
+use Rattle.compiled_meaning.proofs.Places.{place_at, place_is}
+use Rattle.compiled_meaning.proofs.Moved.{moved_frame}
+
+none_mapped : {A B : Type 0} (f : A → B) (xs : List A) → map f xs ≡ [] → xs ≡ []
+none_mapped f [] e = refl
+none_mapped f (x ∷ xs) e = absurd (cc)
+
+firsts : (regs : List Reg) → map entering.first_value (map (λ (r : Reg). r.pointer) regs) ≡ map core_values.first_value regs
+firsts [] = refl
+firsts (r ∷ regs) = ap (λ vs. core_values.first_value r ∷ vs) (firsts regs)
+
+module _ (core : Core) (code : Code) (compiled : IsCompiled core code) (freeless : IsFreeless core) (g : ℕ) (callee : Func) (here : slice_get core.funcs g ≡ Some callee) where
+  entry : Entry
+  entry = (compiled.functions g callee here).0
+
+  found : slice_get code.funcs g ≡ Some entry
+  unfolding entry
+  found = (compiled.functions g callee here).1
+
+  is_entry : IsEntry core code g callee entry
+  unfolding entry
+  is_entry = (compiled.functions g callee here).2
+
+  pub core_locals : core_calls.locals_of (slice_get core.funcs g) ≡ []
+  core_locals = ap core_calls.locals_of here ∙ freeless.locals g callee here
+
+  no_mems : entry.mems ≡ []
+  no_mems =
+      none_mapped (slice_get code.layouts) entry.mems (is_entry.mems ∙ ap (λ (mems : List Mem). map (λ (m : Mem). Some m.layout) mems) (freeless.locals g callee here))
+
+  pub code_locals : entering.locals_of code (slice_get code.funcs g) ≡ []
+  code_locals = ap (entering.locals_of code) found ∙ ap (map (entering.layout_in code)) no_mems
+
+  kinds : entering.kinds_of (slice_get code.funcs g) ≡ map (λ (r : Reg). r.pointer) callee.regs
+  kinds = ap entering.kinds_of found ∙ is_entry.kinds
+
+  registers : core_calls.registers_of (slice_get core.funcs g) ≡ callee.regs
+  registers = ap core_calls.registers_of here
+
+  first_values : (n : ℕ) → map entering.first_value (drop n (entering.kinds_of (slice_get code.funcs g))) ≡ map core_values.first_value (drop n (core_calls.registers_of (slice_get core.funcs g)))
+  first_values n =
+      ap (λ ks. map entering.first_value (drop n ks)) kinds
+      ∙ ap (map entering.first_value) (drop-map (λ (r : Reg). r.pointer) n callee.regs)
+      ∙ firsts (drop n callee.regs)
+      ∙ ap (λ regs. map core_values.first_value (drop n regs)) (sym registers)
+
+  first_place : entering.first_of (slice_get code.funcs g) ≡ place_at core g 0
+  first_place = omega (arith, ap entering.first_of found, is_entry.first, place_is core g callee here 0)
+
+  pub frame_same : (values : List Value) (n : ℕ) → entering.new_frame code g values n ≡ moved_frame core (core_calls.new_frame core g values n)
+  frame_same values n =
+      let made : ℕ → List Value → Frame = λ point regs. record { func = g; point = point; regs = values ++ regs; first_local = n } in
+      ap (λ p. made p (map entering.first_value (drop (length values) (entering.kinds_of (slice_get code.funcs g))))) first_place
+      ∙ ap (made (place_at core g 0)) (first_values (length values))
+
+  pub cost_same : entering.cost_of code (slice_get code.funcs g) ≡ core_calls.cost_of (slice_get core.funcs g)
+  cost_same =
+      let many : length (entering.kinds_of (slice_get code.funcs g)) ≡ length (core_calls.registers_of (slice_get core.funcs g)) = ap (λ (ks : List Bool). length ks) kinds ∙ length-map callee.regs (λ (r : Reg). r.pointer) ∙ ap (λ (regs : List Reg). length regs) (sym registers) in
+      ap (λ n. call_cost n (map (λ (l : Layout). l.size) (entering.locals_of code (slice_get code.funcs g)))) many
+      ∙ ap (λ ls. call_cost (length (core_calls.registers_of (slice_get core.funcs g))) (map (λ (l : Layout). l.size) ls)) code_locals
+      ∙ ap (λ ms. call_cost (length (core_calls.registers_of (slice_get core.funcs g))) (map (λ (m : Mem). m.layout.size) ms)) (sym core_locals)

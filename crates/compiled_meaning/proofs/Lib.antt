@@ -1,0 +1,16 @@
+pub mod Following
+pub mod Places
+pub mod Moved
+pub mod Numbered
+pub mod Handing
+pub mod Keeping
+pub mod Library
+pub mod Scopes
+pub mod Entries
+pub mod Calling
+pub mod Returns
+pub mod Acting
+pub mod Stepping
+pub mod FirstPointers
+pub mod Statics
+pub mod Beginning

@@ -1,0 +1,168 @@
+-- The instructions of a statement together do what the statement does.
+use Rattle.std.proofs.Common.{◌≡◌, ℕ, ◌+◌, ◌≤◌, false, List, [], ◌∷◌, ◌++◌, map, length, Some, None, refl, sym, ap, ◌∙◌, subst, arith}
+use Rattle.std.specs.Prelude.{slice_get, slice_index}
+use Rattle.std.specs.List.{list_any}
+use Rattle.std.proofs.lemmas.Option.{get_or_from_slice_get}
+use Rattle.hs_base.specs.declared.values.Value.{Value}
+use Rattle.hs_base.specs.Object.{Object}
+use Rattle.hs_base.specs.State.{State, Frame}
+use Rattle.hs_base.specs.Trace.{Event}
+use Rattle.hs_base.specs.Runs as runs
+use Rattle.hs_base.proofs.Running.{after_more}
+use Rattle.core_tree.specs.declared.program.Core.{Core}
+use Rattle.core_tree.specs.declared.program.Func.{Func}
+use Rattle.core_tree.specs.declared.statements.Atom.{Atom}
+use Rattle.core_tree.specs.declared.statements.Stm.{Stm}
+use Rattle.core_tree.specs.declared.statements.StmKind.{StmKind}
+use Rattle.core_tree.specs.declared.statements.StmKind.TheVariants as stm
+use Rattle.core_tree.specs.Statements.{operands}
+use Rattle.core_tree.specs.Sound.{IsSound}
+use Rattle.flat_code.specs.declared.instructions.Instr.{Instr}
+use Rattle.flat_code.specs.declared.program.Code.{Code}
+use Rattle.object_meaning.specs.Values.{value_of, holds_stale}
+use Rattle.object_meaning.specs.Going as going
+use Rattle.object_meaning.specs.Going.{at_point}
+use Rattle.object_meaning.specs.Holding.{statement_in, statement_at}
+use Rattle.object_meaning.specs.Meaning as meaning
+use Rattle.object_meaning.specs.Meaning.{unless_reads_stale}
+use Rattle.object_meaning.proofs.Lively.{needed}
+use Rattle.object_meaning.proofs.Frames.{Holds, Good}
+use Rattle.object_meaning.proofs.Standing.{Stays}
+use Rattle.object_meaning.proofs.Operands.{operands_fresh}
+use Rattle.object_meaning.proofs.Acting.{step_stays_at, found}
+use Rattle.code_meaning.specs.CodeState.{CodeState, Next}
+use Rattle.code_meaning.specs.CodeMeaning as code_meaning
+use Rattle.code_meaning.specs.CodeMeaning.{enough, handed_value, hand_or_act}
+use Rattle.compiled_code.specs.Handing.{handed_atoms, code_length}
+use Rattle.compiled_code.specs.Places.{place_of}
+use Rattle.compiled_code.specs.Compiled.{IsCompiled, IsStatement}
+use Rattle.compiled_code.specs.Doing.{Does}
+use Rattle.compiled_meaning.specs.Freeless.{IsFreeless}
+use Rattle.compiled_meaning.specs.SameRun.{SameState}
+use Rattle.compiled_meaning.proofs.Following as following
+use Rattle.compiled_meaning.proofs.Following.{Tied}
+use Rattle.compiled_meaning.proofs.Places.{place_at, place_is}
+use Rattle.compiled_meaning.proofs.Moved.{moved}
+use Rattle.compiled_meaning.proofs.Numbered.{handed_in_range}
+use Rattle.compiled_meaning.proofs.Handing.{same_value, holding, all_handed}
+use Rattle.compiled_meaning.proofs.Keeping.{Follows}
+use Rattle.compiled_meaning.proofs.Acting.{is_last, act_follows}
+
+-- the points of a frame do not matter to its operands
+same_values : (frame : Frame) (point : ℕ) (atoms : List Atom) → map (value_of (record frame { point = point })) atoms ≡ map (value_of frame) atoms
+same_values frame point [] = refl
+same_values frame point (a ∷ atoms) =
+    ap (λ v. v ∷ map (value_of (record frame { point = point })) atoms) (same_value frame point a)
+    ∙ ap (λ vs. value_of frame a ∷ vs) (same_values frame point atoms)
+
+-- the numbers beside operands are no pointers
+handed_fresh : (objects : List Object) (frame : Frame) (kind : StmKind) → list_any (holds_stale objects) (map (value_of frame) (operands kind)) ≡ false → list_any (holds_stale objects) (map (value_of frame) (handed_atoms kind)) ≡ false
+handed_fresh objects frame (stm.Off r p c) h = h
+handed_fresh objects frame (stm.Case a v l) h = h
+handed_fresh objects frame (stm.Copy p q n) h = h
+handed_fresh objects frame (stm.Clear p n) h = h
+handed_fresh objects frame kind h = h
+
+-- the last instruction of a statement hands nothing over
+takes : (core : Core) (code : Code) (f : ℕ) (func : Func) (frame : Frame) (kind : StmKind) (i : Instr) → Does core code f func kind i → handed_value frame i i.op ≡ None
+takes core code f func frame (stm.Call g None args) i d = ap (λ (k : Instr). handed_value frame k k.op) d
+takes core code f func frame (stm.Call g (Some r) args) i d = ap (λ (k : Instr). handed_value frame k k.op) d
+takes core code f func frame (stm.Lib name None args) i d = ap (λ (k : Instr). handed_value frame k k.op) d
+takes core code f func frame (stm.Lib name (Some r) args) i d = ap (λ (k : Instr). handed_value frame k k.op) d
+takes core code f func frame (stm.Malloc r n t) i d = ap (λ (k : Instr). handed_value frame k k.op) d.1
+takes core code f func frame (stm.Calloc r m n t) i d = ap (λ (k : Instr). handed_value frame k k.op) d.1
+takes core code f func frame (stm.Realloc r p n t) i d = ap (λ (k : Instr). handed_value frame k k.op) d.1
+takes core code f func frame (stm.Printf r k args) i d = ap (λ (k : Instr). handed_value frame k k.op) d.1
+takes core code f func frame (stm.Return None) i d = ap (λ (k : Instr). handed_value frame k k.op) d
+takes core code f func frame (stm.Return (Some a)) i d = ap (λ (k : Instr). handed_value frame k k.op) d
+takes core code f func frame kind i d = ap (λ (k : Instr). handed_value frame k k.op) d
+
+module _ (core : Core) (code : Code) where
+  -- the code is where a core is in a good state with nothing queued
+  abbrev pub Stands : State → CodeState → Type 0
+  Stands s c = Good core s × (s.queue ≡ []) × (c.state ≡ moved core s) × (c.handed ≡ [])
+
+  abbrev pub Ends : State → CodeState → Type 0
+  Ends s c = SameState s c.state
+
+  abbrev pub left : CodeState → ℕ
+  left c = enough code c.state
+
+  pub tied : (s : State) (j : ℕ) (trace : List Event) (m : going.Next) (n : Next) → Stays core m → Follows core code s j m n → j ≤ enough code (moved core s) → Tied Stands Ends left (enough code (moved core s)) j (runs.led trace m) (runs.led trace n)
+  tied s j trace (runs.Goes b es t) (runs.Goes c fs u) good f le =
+      (ap (λ es. trace ++ es) f.0, (refl, (good, f.2.queue, f.2.same, f.1), omega (arith, ap (enough code) f.2.same, f.2.left)))
+  tied s j trace (runs.Stops b es t e) (runs.Stops c fs u d) good f le =
+      (ap (λ es. trace ++ es) f.0, (ap (λ e. Some e) f.1, f.2, le))
+  tied s j trace (runs.Goes b es t) (runs.Stops c fs u d) good f le = absurd f
+  tied s j trace (runs.Stops b es t e) (runs.Goes c fs u) good f le = absurd f
+
+module _ (core : Core) (code : Code) (sound : IsSound core) (freeless : IsFreeless core) (compiled : IsCompiled core code) (s : State) (empty : s.queue ≡ []) (func : Func) (good : Holds core func needed s.scopes s) (numbers : ℕ → ℕ) (line : ℕ) (kind : StmKind) (at : slice_get func.body s.running.point ≡ Some (record { line = line; kind = kind })) where
+  abbrev stm_at : Stm
+  stm_at = record { line = line; kind = kind }
+
+  abbrev atoms : List Atom
+  atoms = handed_atoms kind
+
+  abbrev place : ℕ
+  place = place_at core s.running.func s.running.point
+
+  same_place : place_of core s.running.func func.body s.running.point ≡ place
+  same_place = sym (place_is core s.running.func func good.here s.running.point)
+
+  is_statement : IsStatement core code s.running.func func place stm_at
+  is_statement =
+      subst (λ p. IsStatement core code s.running.func func p stm_at) same_place (compiled.statements s.running.func s.running.point func stm_at good.here at)
+
+  fresh : list_any (holds_stale s.objects) (map (value_of s.running) (operands kind)) ≡ false
+  fresh =
+      operands_fresh core func s.scopes s good stm_at at ((sound.functions s.running.func func good.here).typed s.running.point stm_at at)
+
+  handed : (trace : List Event) → runs.after (code_meaning.step code) (following.going trace (holding code (moved core s) numbers place [])) (length atoms) ≡ following.going trace (holding code (moved core s) numbers (place + length atoms) (map (value_of s.running) atoms))
+  handed trace =
+      let values = same_values s.running place atoms in
+      all_handed code (moved core s) numbers trace place [] atoms is_statement.hands (handed_in_range kind ((sound.functions s.running.func func good.here).numbers s.running.point stm_at at)) (ap (list_any (holds_stale s.objects)) values ∙ handed_fresh s.objects s.running kind fresh)
+      ∙ ap (λ vs. following.going trace (holding code (moved core s) numbers (place + length atoms) vs)) values
+
+  line_is : slice_index code.lines (place + length atoms) ≡ line
+  line_is = get_or_from_slice_get code.lines _ line 0 (is_statement.lines (length atoms) (omega arith))
+
+  acted : (trace : List Event) → code_meaning.step code trace (holding code (moved core s) numbers (place + length atoms) (map (value_of s.running) atoms)) ≡ code_meaning.act code line is_statement.does.0 is_statement.does.0.op (map (value_of s.running) atoms) numbers (at_point (moved core s) (place + length atoms))
+  acted trace =
+      let c = holding code (moved core s) numbers (place + length atoms) (map (value_of s.running) atoms) in
+      let i = is_statement.does.0 in
+      ap (λ o. code_meaning.act_at code o c) is_statement.does.1
+      ∙ ap (λ l. hand_or_act code l i (handed_value c.state.running i i.op) c) line_is
+      ∙ ap (λ o. hand_or_act code line i o c) (takes core code s.running.func func c.state.running kind i is_statement.does.2)
+
+  -- all instructions of the statement
+  made : (trace : List Event) → runs.after (code_meaning.step code) (following.going trace (holding code (moved core s) numbers place [])) (code_length kind) ≡ runs.led trace (code_meaning.act code line is_statement.does.0 is_statement.does.0.op (map (value_of s.running) atoms) numbers (at_point (moved core s) (place + length atoms)))
+  made trace =
+      let r = following.going trace (holding code (moved core s) numbers place []) in
+      after_more (code_meaning.step code) r (length atoms)
+      ∙ ap (λ q. runs.moved (code_meaning.step code) q q.ended) (handed trace)
+      ∙ ap (runs.led trace) (acted trace)
+
+  core_acts : (trace : List Event) → meaning.step core trace s ≡ meaning.act core line kind s
+  core_acts trace =
+      let there : statement_at core s.running ≡ Some stm_at = ap (λ o. statement_in o s.running.point) good.here ∙ at in
+      ap (λ o. meaning.act_at core o s) there ∙ ap (λ b. unless_reads_stale b core stm_at s) fresh
+
+  pub statement_follows : (trace : List Event) → Tied (Stands core code) (Ends core code) (left core code) (enough code (moved core s)) (code_length kind) (runs.led trace (meaning.step core trace s)) (runs.after (code_meaning.step code) (following.going trace (holding code (moved core s) numbers place [])) (code_length kind))
+  statement_follows trace =
+      let stays = subst (Stays core) (core_acts trace) (step_stays_at core sound trace s (func, good)) in
+      let last = is_last core code sound freeless compiled s empty func good line numbers kind at in
+      let follows = act_follows core code sound freeless compiled s empty func good line numbers kind at is_statement.does.0 is_statement.does.2 in
+      let both = tied core code s (code_length kind) trace _ _ stays follows (omega (arith, last.here, last.within)) in
+      subst (λ n. Tied (Stands core code) (Ends core code) (left core code) (enough code (moved core s)) (code_length kind) (runs.led trace n) (runs.after (code_meaning.step code) (following.going trace (holding code (moved core s) numbers place [])) (code_length kind))) (sym (core_acts trace)) (subst (λ (r : code_meaning.Run). Tied (Stands core code) (Ends core code) (left core code) (enough code (moved core s)) (code_length kind) (runs.led trace (meaning.act core line kind s)) r) (sym (made trace)) both)
+
+module _ (core : Core) (code : Code) (sound : IsSound core) (freeless : IsFreeless core) (compiled : IsCompiled core code) where
+  -- each statement is followed by its instructions
+  pub one_follows : (trace : List Event) (s : State) (c : CodeState) → Stands core code s c → (j : ℕ) × Tied (Stands core code) (Ends core code) (left core code) (enough code c.state) j (runs.led trace (meaning.step core trace s)) (runs.after (code_meaning.step code) (following.going trace c) j)
+  one_follows trace s c h =
+      let func = h.0.0 in
+      let good = h.0.1 in
+      let at = found func.body s.running.point good.inside in
+      let begun : CodeState = record { state = moved core s; handed = []; numbers = c.numbers } in
+      let same : c ≡ begun = ap (λ (t : State). let d : CodeState = record { state = t; handed = c.handed; numbers = c.numbers } in d) h.2 ∙ ap (λ (vs : List Value). let d : CodeState = record { state = moved core s; handed = vs; numbers = c.numbers } in d) h.3 in
+      let follows = statement_follows core code sound freeless compiled s h.1 func good c.numbers at.0.line at.0.kind at.1 trace in
+      (code_length at.0.kind, subst (λ (d : CodeState). Tied (Stands core code) (Ends core code) (left core code) (enough code d.state) (code_length at.0.kind) (runs.led trace (meaning.step core trace s)) (runs.after (code_meaning.step code) (following.going trace d) (code_length at.0.kind))) (sym same) follows)

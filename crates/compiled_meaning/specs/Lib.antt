@@ -1,0 +1,3 @@
+pub mod Freeless
+pub mod SameRun
+pub mod Laws

@@ -1,0 +1,9 @@
+//! What holds of the code of every core.
+
+ghost use Rattle.compiled_meaning.specs.Laws.{CodeMeansCore};
+
+/// The run of the code of a sound core that frees nothing is that of the core, for every input and number of steps: the same
+/// trace, the same end, and the same last state but for the points that its frames are at.
+pub fn code_means_core()
+    ensures { CodeMeansCore }
+{}

@@ -1,0 +1,10 @@
+//! What the code of a core does is what the core means.
+//!
+//! Where a code is that of a core (`compiled_code`), its run writes what the core's run writes, reads what it reads, ends as
+//! it ends, and leaves the same state but for the points that the frames are at. `specs/SameRun.antt` says so of two runs, and
+//! `specs/Laws.antt` of every sound core that frees nothing.
+#![tactic(auto)]
+
+mod laws;
+
+pub use laws::code_means_core;
