@@ -1,0 +1,1 @@
+//! Reading and writing objects (C99 6.5.3.2).
