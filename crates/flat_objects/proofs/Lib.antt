@@ -1,3 +1,9 @@
 mod Members
 mod Blocks
 mod Owners
+mod Ascending
+mod Touching
+mod Trying
+mod Reached
+mod Wording
+mod Loaded

@@ -83,9 +83,9 @@ owned memory places objects birth offset addr found keeps at answer =
     ∙ own_owner memory places objects keeps birth at.there offset addr at
 
 pub found_at : (memory : Memory) (places : ℕ → ℕ) (objects : List Object) (birth offset addr start : ℕ) (header : Header) → KeepsAt memory places objects (pointer.At birth offset) addr → start ≡ places birth → header ≡ header_at memory.bytes (start - 32)
-    → IsFound memory places objects birth (record { start = start; size = header.size; layout = header.layout })
+    → IsFound memory places objects birth offset (record { start = start; offset = addr - start; size = header.size; layout = header.layout })
 found_at memory places objects birth offset addr start header at start_is header_is =
     let stands = at.keeps.standing birth at.stands.there in
     let same : header ≡ header_at memory.bytes (places birth - 32) = header_is ∙ ap (λ n. header_at memory.bytes (n - 32)) start_is in
-    subst (λ (h : Header). IsFound memory places objects birth (record { start = start; size = h.size; layout = h.layout })) (sym same)
-    (record { start = start_is; size = stands.header.size; slots = stands.slots })
+    subst (λ (h : Header). IsFound memory places objects birth offset (record { start = start; offset = addr - start; size = h.size; layout = h.layout })) (sym same)
+    (record { start = start_is; distance = omega (arith, at.stands.address); size = stands.header.size; slots = stands.slots })

@@ -13,12 +13,14 @@ use heap_blocks::{HEADER_SIZE, Header};
 use hs_base::{Pointer, Steps};
 use std::sync::ledger::Ledger;
 
-/// An object: the address of its first byte, its size in bytes, and the number of the layout of its elements.
+/// An offset in an object: the address of the object's first byte, the offset, the object's size in bytes, and the number
+/// of the layout of its elements.
 #[derive(Clone, Copy, Debug, PartialEq, Eq)]
-pub struct Found {
-    pub start: u32,
-    pub size: u32,
-    pub layout: u32,
+pub(crate) struct Found {
+    pub(crate) start: u32,
+    pub(crate) offset: u32,
+    pub(crate) size: u32,
+    pub(crate) layout: u32,
 }
 
 impl FlatObjects {
@@ -35,11 +37,11 @@ impl FlatObjects {
         }
     }
 
-    /// The object of an address that is inside it or one past its end.
+    /// The object of an address that is not null, and its offset in it.
     pub(crate) fn find<L: Ledger>(&self, addr: u32, steps: &mut Steps<L>) -> Found
         requires kept { IsKept self.now addr }
         requires some { 0 < addr }
-        ensures { (places : ℕ → ℕ) (objects : List Object) (birth offset : ℕ) → KeepsAt self.now places objects (Pointer.At birth offset) addr → IsFound self.now places objects birth result }
+        ensures { (places : ℕ → ℕ) (objects : List Object) (birth offset : ℕ) → KeepsAt self.now places objects (Pointer.At birth offset) addr → IsFound self.now places objects birth offset result }
     {
         let Some(start) = self.owner(addr, steps) else {
             unreachable!()
@@ -47,6 +49,7 @@ impl FlatObjects {
         let header = Header::read(&self.bytes, start - HEADER_SIZE, steps);
         Found {
             start,
+            offset: addr - start,
             size: header.size,
             layout: header.layout,
         }

@@ -34,6 +34,13 @@ read-header-requires-clause-inside g c =
     let bytes : length c.self.inside.bytes ≡ length c.args.self.now.bytes = ap (λ (m : Memory). length m.bytes) c.self.view_is in
     omega (arith, stands.room)
 
+pub overflow_sub-result : goal.overflow_sub-result
+overflow_sub-result g c =
+    let k = kept c.args.self.now c.args.addr c.requires.kept c.requires.some in
+    let start : c.in-Some.start ≡ k.places k.birth =
+    same_Some c.in-Some.start (k.places k.birth) (sym c.in-Some.is ∙ owned c.args.self.now k.places k.objects k.birth k.offset c.args.addr c.owner.result k.keeps k.at c.owner.ensures) in
+    omega (arith, k.at.address)
+
 pub returns : goal.returns
 returns g c = λ places objects birth offset at.
     let start : c.in-Some.start ≡ places birth =
