@@ -7,3 +7,5 @@ mod Trying
 mod Reached
 mod Wording
 mod Loaded
+mod Apart
+mod Changing
