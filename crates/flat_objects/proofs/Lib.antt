@@ -9,3 +9,4 @@ mod Wording
 mod Loaded
 mod Apart
 mod Changing
+mod Stored

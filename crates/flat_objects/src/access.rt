@@ -1,6 +1,6 @@
 //! Reading and writing objects (C99 6.5.3.2).
 
-ghost use Rattle.std.specs.Prelude.{◌≡◌, ◌+◌, ◌%◌, ◌<◌, ◌≤◌, ◌⊎◌, ℕ, List, OnOk, length};
+ghost use Rattle.std.specs.Prelude.{◌≡◌, ◌+◌, ◌*◌, ◌%◌, ◌^◌, ◌<◌, ◌≤◌, ◌⊎◌, ℕ, List, OnOk, length};
 ghost use Rattle.hs_base.specs.Object.{Object};
 ghost use Rattle.hs_base.specs.Access.{access_integer, access_pointer, touches_slot};
 ghost use Rattle.hs_base.specs.Numbers.{low_bits, width};
@@ -30,6 +30,19 @@ fn touches_slot(form: &Adjuster, size: u32, offset: u32, n: u32) -> bool
         return true;
     }
     n == 8 && form.is_slot(size, offset + 4)
+}
+
+/// The low bits of a number, as many as a kind has.
+fn low_bits(kind: IntKind, n: i128) -> u64
+    ensures value { result ≡ low_bits (8 * width kind) n }
+    ensures bound { result < 2 ^ (8 * width kind) }
+{
+    match kind {
+        IntKind::I8 | IntKind::U8 => n.rem_euclid(1 << 8) as u64,
+        IntKind::I16 | IntKind::U16 => n.rem_euclid(1 << 16) as u64,
+        IntKind::I32 | IntKind::U32 => n.rem_euclid(1 << 32) as u64,
+        IntKind::I64 | IntKind::U64 => n.rem_euclid(1 << 64) as u64,
+    }
 }
 
 impl FlatObjects {
@@ -117,5 +130,37 @@ impl FlatObjects {
     {
         self.access_pointer(addr, steps)?;
         Ok(self.bytes.read(addr, 4, steps) as u32)
+    }
+
+    /// Writes an integer at an address, converted to a kind. It traps as an access does, and then nothing changes.
+    pub fn store<L: Ledger>(
+        &mut self,
+        kind: IntKind,
+        addr: u32,
+        n: i128,
+        steps: &mut Steps<L>,
+    ) -> Result<(), TrapKind>
+        requires { IsKept self.old addr }
+        ensures { (places : ℕ → ℕ) (objects : List Object) (p : Pointer) → KeepsAt self.old places objects p addr → Changes places objects result self.old self.new (stored objects kind p n) }
+    {
+        let width = kind.bytes();
+        self.access_integer(addr, width, steps)?;
+        self.bytes.write(addr, width, low_bits(kind, n), steps);
+        Ok(())
+    }
+
+    /// Writes a pointer, by its address, at an address. It traps as an access does, and then nothing changes.
+    pub fn store_pointer<L: Ledger>(
+        &mut self,
+        addr: u32,
+        target: u32,
+        steps: &mut Steps<L>,
+    ) -> Result<(), TrapKind>
+        requires { IsKept self.old addr }
+        ensures { (places : ℕ → ℕ) (objects : List Object) (p q : Pointer) → KeepsAt self.old places objects p addr → IsAddressOf places objects q target → Changes places objects result self.old self.new (stored_pointer objects p q) }
+    {
+        self.access_pointer(addr, steps)?;
+        self.bytes.write(addr, 4, u64::from(target), steps);
+        Ok(())
     }
 }
