@@ -10,3 +10,5 @@ mod Loaded
 mod Apart
 mod Changing
 mod Stored
+mod Distances
+mod Equal

@@ -24,6 +24,11 @@ abbrev pub AnswersAddress : (ℕ → ℕ) → List Object → Result ℕ TrapKin
 AnswersAddress places objects (Ok addr) meant = (p : Pointer) × (meant ≡ Ok (address p)) × IsAddressOf places objects p addr
 AnswersAddress places objects (Err kind) meant = Traps kind meant
 
+-- the code answers two numbers as the definition does
+abbrev pub AnswersPair : Result (ℕ × ℕ) TrapKind → Result (ℕ × ℕ) Refusal → Type 0
+AnswersPair (Ok both) meant = meant ≡ Ok both
+AnswersPair (Err kind) meant = Traps kind meant
+
 -- the code lets an access through where the definition does
 abbrev pub Allows : Result Unit TrapKind → Result Place Refusal → Type 0
 Allows (Ok u) meant = (at : Place) × (meant ≡ Ok at)

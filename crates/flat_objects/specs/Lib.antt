@@ -3,3 +3,4 @@ pub mod Standing
 pub mod Keeping
 pub mod Reaching
 pub mod Answering
+pub mod Moving

@@ -2,6 +2,7 @@
 #![tactic(auto)]
 
 mod access;
+mod arithmetic;
 mod finding;
 mod memory;
 mod words;
