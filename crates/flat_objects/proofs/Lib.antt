@@ -12,3 +12,5 @@ mod Changing
 mod Stored
 mod Distances
 mod Equal
+mod Reading
+mod Behind

@@ -4,3 +4,4 @@ pub mod Keeping
 pub mod Reaching
 pub mod Answering
 pub mod Moving
+pub mod Texts

@@ -19,7 +19,7 @@ use hs_base::{IntKind, Pointer, Steps, TrapKind};
 use std::sync::ledger::Ledger;
 
 /// Says whether 1, 2, 4 or 8 bytes at an offset that their number divides touch a slot of an object.
-fn touches_slot(form: &Adjuster, size: u32, offset: u32, n: u32) -> bool
+pub(crate) fn touches_slot(form: &Adjuster, size: u32, offset: u32, n: u32) -> bool
     requires form { IsForm form.now }
     requires width { (n ≡ 1) ⊎ ((n ≡ 2) ⊎ ((n ≡ 4) ⊎ (n ≡ 8))) }
     requires aligned { offset % n ≡ 0 }

@@ -7,7 +7,7 @@ ghost use Rattle.object_meaning.specs.Arithmetic.{compared, difference, moved_by
 ghost use Rattle.object_meaning.specs.Values.{number};
 ghost use Rattle.flat_objects.specs.Standing.{IsAddressOf};
 ghost use Rattle.flat_objects.specs.Keeping.{KeepsAt, IsKept};
-ghost use Rattle.flat_objects.specs.Answering.{AnswersAddress, AnswersNumber, AnswersPair};
+ghost use Rattle.flat_objects.specs.Answering.{Answers, AnswersAddress, AnswersNumber};
 ghost use Rattle.flat_objects.specs.Moving.{IsFar, MovesTo};
 
 use crate::memory::FlatObjects;
@@ -140,7 +140,7 @@ impl FlatObjects {
     ) -> Result<(u32, u32), TrapKind>
         requires one { IsKept self.now p }
         requires other { IsKept self.now q }
-        ensures { (places : ℕ → ℕ) (objects : List Object) (a b : Pointer) → KeepsAt self.now places objects a p → IsAddressOf places objects b q → AnswersPair result (offsets a b) }
+        ensures { (places : ℕ → ℕ) (objects : List Object) (a b : Pointer) → KeepsAt self.now places objects a p → IsAddressOf places objects b q → Answers result (offsets a b) }
     {
         let _ = &self.bytes;
         if p == 0 || q == 0 {

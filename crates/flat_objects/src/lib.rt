@@ -5,6 +5,7 @@ mod access;
 mod arithmetic;
 mod finding;
 mod memory;
+mod strings;
 mod words;
 
 pub use memory::FlatObjects;
