@@ -1,0 +1,16 @@
+mod Members
+mod Blocks
+mod Owners
+mod Ascending
+mod Touching
+mod Trying
+mod Reached
+mod Wording
+mod Loaded
+mod Apart
+mod Changing
+mod Stored
+mod Distances
+mod Equal
+mod Reading
+mod Behind

@@ -1,0 +1,7 @@
+pub mod Memory
+pub mod Standing
+pub mod Keeping
+pub mod Reaching
+pub mod Answering
+pub mod Moving
+pub mod Texts

@@ -1,0 +1,12 @@
+//! The objects of a run, kept in flat bytes with addresses.
+#![tactic(auto)]
+
+mod access;
+mod arithmetic;
+mod finding;
+mod memory;
+mod strings;
+mod words;
+
+pub use memory::FlatObjects;
+pub use words::Word;
