@@ -26,7 +26,7 @@ pub record SameState (one other : State) : Type 0 where
   pub input : one.input ≡ other.input
   pub steps : one.steps ≡ other.steps
 
--- a run of a core and one of a code
+-- a run of a core and one of a code; what a code's state has beside the state of the meaning is not compared
 pub record SameRun (of_core : core.Run) (of_code : code.Run) : Type 0 where
   pub trace : of_core.trace ≡ of_code.trace
   pub ended : of_core.ended ≡ of_code.ended

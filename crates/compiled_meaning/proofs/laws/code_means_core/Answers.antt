@@ -2,4 +2,4 @@ use Rattle.compiled_meaning.proofs.Beginning.{same_meaning}
 use Rattle.compiled_meaning.proofs.laws.code_means_core.Goals as goal
 
 pub returns : goal.returns
-returns c = λ core code sound freeless compiled input n. same_meaning core code sound freeless compiled input n
+returns c = same_meaning
