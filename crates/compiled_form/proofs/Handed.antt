@@ -35,31 +35,33 @@ module _ (core : Core) (code : Code) (sound : IsSound core) (is : IsCompiled cor
       let d = as_doing core code f func stm.kind does.0 does.2 in
       none_handed code entry (place core f func here point + length (handed_atoms stm.kind)) does.0 does.1 (ap (λ (i : Instr). hands i.op) d.1 ∙ does_not_hand (place core f func here) stm.kind d.0)
 
+  abbrev IsFresh : Entry → ℕ → Type 0
+  IsFresh entry n = handed_before code entry n ≡ []
+
+  fresh_after : (entry : Entry) (f : ℕ) (func : Func) (here : slice_get core.funcs f ≡ Some func) (n : ℕ) → n < length func.body → IsFresh entry (place core f func here (n + 1))
+  fresh_after entry f func here n h =
+      let x = element func.body n h in
+      subst (IsFresh entry) (sym (place_more core f func here n x.0 x.1)) (fresh_behind entry f func here n x.0 x.1)
+
+  fresh_end : (entry : Entry) (f : ℕ) (func : Func) (here : slice_get core.funcs f ≡ Some func) (n : ℕ) → n + 1 ≡ length func.body → IsFresh entry (first_of core (f + 1))
+  fresh_end entry f func here n e =
+      subst (IsFresh entry) (ap (place core f func here) e ∙ place_all core f func here) (fresh_after entry f func here n (omega arith))
+
   -- nor before a function's first instruction
-  pub fresh_start : (entry : Entry) (f : ℕ) → f < length core.funcs → handed_before code entry (first_of core f) ≡ []
+  pub fresh_start : (entry : Entry) (f : ℕ) → f < length core.funcs → IsFresh entry (first_of core f)
   fresh_start entry zero h = rw is.start refl
   fresh_start entry (suc g) h =
       let x = element core.funcs g (omega arith) in
       let some = (sound.functions g x.0 x.1).some in
-      let last = element x.0.body (length x.0.body - 1) (omega arith) in
-      let more = place_more core g x.0 x.1 (length x.0.body - 1) last.0 last.1 in
-      let e : length x.0.body - 1 + 1 ≡ length x.0.body = omega arith in
-      let at_end = ap (place core g x.0 x.1) e in
-      let all = place_all core g x.0 x.1 in
-      let s : place core g x.0 x.1 (length x.0.body - 1) + length (handed_atoms last.0.kind) + 1 ≡ first_of core (g + 1) =
-      sym more ∙ at_end ∙ all in
-      subst (λ n. handed_before code entry n ≡ []) (s ∙ ap (first_of core) (add-one g)) (fresh_behind entry g x.0 x.1 (length x.0.body - 1) last.0 last.1)
+      let end = fresh_end entry g x.0 x.1 (length x.0.body - 1) (omega arith) in rw add-one at end
 
-  -- nothing is handed over before a statement's first instruction
-  pub fresh_at : (entry : Entry) (f : ℕ) (func : Func) (here : slice_get core.funcs f ≡ Some func) (point : ℕ) → point ≤ length func.body → handed_before code entry (place core f func here point) ≡ []
+  -- nor before a statement's first instruction
+  pub fresh_at : (entry : Entry) (f : ℕ) (func : Func) (here : slice_get core.funcs f ≡ Some func) (point : ℕ) → point ≤ length func.body → IsFresh entry (place core f func here point)
   fresh_at entry f func here zero h =
       let e : first_of core f ≡ place core f func here 0 = omega arith in
-      subst (λ n. handed_before code entry n ≡ []) e (fresh_start entry f (slice_get_within core.funcs f func here))
+      subst (IsFresh entry) e (fresh_start entry f (slice_get_within core.funcs f func here))
   fresh_at entry f func here (suc n) h =
-      let x = element func.body n (omega arith) in
-      let e : place core f func here n + length (handed_atoms x.0.kind) + 1 ≡ place core f func here (suc n) =
-      sym (place_more core f func here n x.0 x.1) ∙ ap (place core f func here) (add-one n) in
-      subst (λ n. handed_before code entry n ≡ []) e (fresh_behind entry f func here n x.0 x.1)
+      subst (λ (k : ℕ). IsFresh entry (place core f func here k)) (add-one n) (fresh_after entry f func here n (omega arith))
 
   module _ (f : ℕ) (func : Func) (here : slice_get core.funcs f ≡ Some func) (entry : Entry) (e : IsEntry core code f func entry) (point : ℕ) (stm : Stm) (found : slice_get func.body point ≡ Some stm) where
     abbrev atoms : List Atom

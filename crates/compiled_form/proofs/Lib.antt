@@ -4,6 +4,7 @@ pub mod Sorts
 pub mod Doing
 pub mod Places
 pub mod Handed
+pub mod Roles
 pub mod Spots
 pub mod Typing
 pub mod Returns

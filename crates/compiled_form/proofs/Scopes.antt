@@ -1,10 +1,9 @@
 -- Paths through compiled code lead over the statements of paths through the core, and open and close the same scopes.
-use Rattle.std.proofs.Common.{◌≡◌, ℕ, ◌+◌, ◌<◌, ◌≤◌, List, [], ◌∷◌, length, map, Option, Some, None, refl, sym, ◌∙◌, ap, subst, arith, ◌⊎◌, inl, inr, ⊎_elim}
+use Rattle.std.proofs.Common.{◌≡◌, ℕ, ◌+◌, ◌<◌, ◌≤◌, List, [], ◌∷◌, length, map, Option, Some, None, refl, sym, ◌∙◌, ap, subst, arith, ◌⊎◌, ⊎_elim}
 use Rattle.std.specs.Prelude.{slice_get, Contains}
-use Rattle.std.proofs.lemmas.Bool.{cases_lt}
 use Rattle.std.proofs.lemmas.List.{length-map, get_or-map}
 use Rattle.std.proofs.lemmas.List.Elements.{All-contains}
-use Rattle.std.proofs.lemmas.Option.{same_Some, get_or_from_slice_get}
+use Rattle.std.proofs.lemmas.Option.{slice_get_within, get_or_from_slice_get}
 use Rattle.core_tree.specs.declared.program.Core.{Core}
 use Rattle.core_tree.specs.declared.program.Func.{Func}
 use Rattle.core_tree.specs.declared.statements.Atom.{Atom}
@@ -22,8 +21,9 @@ use Rattle.flat_code.specs.WellFormed.{IsAt, Opens, HasScopes, ClosesWhatIsOpen}
 use Rattle.flat_code.specs.WellFormed as form
 use Rattle.compiled_code.specs.Handing.{hand_of, handed_atoms}
 use Rattle.compiled_code.specs.Compiled.{IsCompiled, IsEntry}
-use Rattle.compiled_form.proofs.Doing.{doing, as_doing, same_scopes, same_edges}
+use Rattle.compiled_form.proofs.Doing.{doing, same_scopes, same_edges}
 use Rattle.compiled_form.proofs.Flow.{hand_edges, hand_scopes, hand_closes_nothing}
+use Rattle.compiled_form.proofs.Roles.{Hands, DoesAll, role}
 use Rattle.compiled_form.proofs.Places.{element, place, place_more, same_point}
 
 contains_one : (x y : ℕ) → Contains (x ∷ []) y → x ≡ y
@@ -50,8 +50,9 @@ module _ (core : Core) (code : Code) (sound : IsSound core) (is : IsCompiled cor
     opens : cores.Opens func.body number scopes
 
   -- behind an operand that is handed over
-  over_hand : (point next scopes : ℕ) (i : Instr) (o : Over point scopes) (a : Atom) → o.rest < length (handed_atoms o.stm.kind) → hand_of a ≡ i → Contains (edges i i.op point) next → Over next (scopes_after i.op scopes)
-  over_hand point next scopes i o a less same edge =
+  over_hand : (point next scopes : ℕ) (i : Instr) (o : Over point scopes) (a : Atom) → slice_get (handed_atoms o.stm.kind) o.rest ≡ Some a → hand_of a ≡ i → Contains (edges i i.op point) next → Over next (scopes_after i.op scopes)
+  over_hand point next scopes i o a operand same edge =
+      let less = slice_get_within (handed_atoms o.stm.kind) o.rest a operand in
       let only : Contains (edges (hand_of a) (hand_of a).op point) next =
       subst (λ (j : Instr). Contains (edges j j.op point) next) (sym same) edge in
       let on : point + 1 ≡ next =
@@ -63,7 +64,7 @@ module _ (core : Core) (code : Code) (sound : IsSound core) (is : IsCompiled cor
         stm = o.stm;
         found = o.found;
         rest = o.rest + 1;
-        below = omega arith;
+        below = omega (arith, less);
         sum = omega (arith, o.sum);
         opens = subst (λ n. cores.Opens func.body o.number n) scopes_same o.opens;
       }
@@ -90,26 +91,9 @@ module _ (core : Core) (code : Code) (sound : IsSound core) (is : IsCompiled cor
         opens = subst (λ n. cores.Opens func.body to.0 n) scopes_same (cores.goes o.number to.0 scopes o.stm o.opens o.found to.1);
       }
 
-  -- the instruction at a place hands an operand of its statement over, or does what the statement does
-  abbrev Either : (point scopes : ℕ) → Over point scopes → Instr → Type 0
-  Either point scopes o i =
-      ((a : Atom) × (o.rest < length (handed_atoms o.stm.kind)) × (hand_of a ≡ i)) ⊎ ((n : ℕ) × (o.rest ≡ length (handed_atoms o.stm.kind)) × (doing at o.stm.kind n ≡ i))
-
-  either : (point scopes : ℕ) (o : Over point scopes) (i : Instr) → slice_get code.instrs point ≡ Some i → Either point scopes o i
-  either point scopes o i there =
-      let stands = is.statements f o.number func o.stm here o.found in
-      let at_rest : slice_get code.instrs (at o.number + o.rest) ≡ Some i = ap (slice_get code.instrs) o.sum ∙ there in
-      ⊎_elim
-      (λ (less : o.rest < length (handed_atoms o.stm.kind)).
-      let a = element (handed_atoms o.stm.kind) o.rest less in
-      inl (a.0, less, same_Some (hand_of a.0) i (sym (stands.hands o.rest a.0 a.1) ∙ at_rest)))
-      (λ (more : length (handed_atoms o.stm.kind) ≤ o.rest).
-      let all : o.rest ≡ length (handed_atoms o.stm.kind) = omega (arith, o.below) in
-      let d = as_doing core code f func o.stm.kind stands.does.0 stands.does.2 in
-      let same_i : stands.does.0 ≡ i =
-      same_Some stands.does.0 i (sym stands.does.1 ∙ ap (λ n. slice_get code.instrs (at o.number + n)) (sym all) ∙ at_rest) in
-      inr (d.0, all, sym d.1 ∙ same_i))
-      (cases_lt o.rest (length (handed_atoms o.stm.kind)))
+  role_of : (point scopes : ℕ) (o : Over point scopes) (i : Instr) → slice_get code.instrs point ≡ Some i → Hands o.stm.kind o.rest i ⊎ DoesAll code func at o.stm.kind o.rest i
+  role_of point scopes o i there =
+      role core code is f func here o.number o.stm o.found o.rest i o.below (ap (slice_get code.instrs) o.sum ∙ there)
 
   over : (point scopes : ℕ) → Opens code f entry point scopes → Over point scopes
   over point scopes form.start =
@@ -127,9 +111,9 @@ module _ (core : Core) (code : Code) (sound : IsSound core) (is : IsCompiled cor
   over _ _ (form.goes point next scopes i before there edge) =
       let o = over point scopes before in
       ⊎_elim
-      (λ (h : (a : Atom) × (o.rest < length (handed_atoms o.stm.kind)) × (hand_of a ≡ i)). over_hand point next scopes i o h.0 h.1 h.2 edge)
-      (λ (h : (n : ℕ) × (o.rest ≡ length (handed_atoms o.stm.kind)) × (doing at o.stm.kind n ≡ i)). over_statement point next scopes i o h.0 h.1 h.2 edge)
-      (either point scopes o i there.here)
+      (λ (h : Hands o.stm.kind o.rest i). over_hand point next scopes i o h.0 h.1 h.2 edge)
+      (λ (h : DoesAll code func at o.stm.kind o.rest i). over_statement point next scopes i o h.0 h.1 h.2 edge)
+      (role_of point scopes o i there.here)
 
   closes_statement : (kind : StmKind) (n scopes : ℕ) → (kind ≡ stm.Leave → 0 < scopes) → ((a : Option Atom) → kind ≡ stm.Return a → scopes ≡ 0) → ClosesWhatIsOpen (doing at kind n).op scopes
   closes_statement stm.Leave n scopes leave return = leave refl
@@ -150,9 +134,9 @@ module _ (core : Core) (code : Code) (sound : IsSound core) (is : IsCompiled cor
         closes = λ point scopes i opens there.
             let o = over point scopes opens in
             ⊎_elim
-            (λ (h : (a : Atom) × (o.rest < length (handed_atoms o.stm.kind)) × (hand_of a ≡ i)). subst (λ (j : Instr). ClosesWhatIsOpen j.op scopes) h.2 (hand_closes_nothing h.0 scopes))
-            (λ (h : (n : ℕ) × (o.rest ≡ length (handed_atoms o.stm.kind)) × (doing at o.stm.kind n ≡ i)).
+            (λ (h : Hands o.stm.kind o.rest i). subst (λ (j : Instr). ClosesWhatIsOpen j.op scopes) h.2 (hand_closes_nothing h.0 scopes))
+            (λ (h : DoesAll code func at o.stm.kind o.rest i).
             subst (λ (j : Instr). ClosesWhatIsOpen j.op scopes) h.2
             (closes_statement o.stm.kind h.0 scopes (kept.closes o.number o.stm o.found scopes o.opens) (λ a r. kept.ends o.number o.stm o.found scopes a o.opens r)))
-            (either point scopes o i there.here);
+            (role_of point scopes o i there.here);
       }

@@ -15,8 +15,9 @@ use Rattle.flat_code.specs.WellFormed.{end_of, EachInstr}
 use Rattle.compiled_code.specs.Handing.{hand_of, handed_atoms}
 use Rattle.compiled_code.specs.Places.{first_of}
 use Rattle.compiled_code.specs.Compiled.{IsCompiled, IsEntry}
-use Rattle.compiled_form.proofs.Doing.{doing, as_doing, Numbers}
-use Rattle.compiled_form.proofs.Places.{element, place, in_statement}
+use Rattle.compiled_form.proofs.Doing.{doing, Numbers}
+use Rattle.compiled_form.proofs.Places.{element, place, InStatement, in_statement}
+use Rattle.compiled_form.proofs.Roles.{Hands, DoesAll, role}
 
 module _ (core : Core) (code : Code) (is : IsCompiled core code) where
   -- the function of an entry
@@ -55,7 +56,6 @@ module _ (core : Core) (code : Code) (is : IsCompiled core code) where
     pub func : Func
     pub here : slice_get core.funcs f ≡ Some func
     pub entry : Entry
-    pub listed : slice_get code.funcs f ≡ Some entry
     pub matches : IsEntry core code f func entry
     pub point : ℕ
     pub stm : Stm
@@ -74,43 +74,43 @@ module _ (core : Core) (code : Code) (is : IsCompiled core code) where
   abbrev pub last : Spot → ℕ
   last s = start s + length (atoms s)
 
-  -- what holds of each instruction that hands an operand over and of each that does a statement holds of each instruction
-  pub each_instr :
-      (P : ℕ → Entry → ℕ → Instr → Type 0) →
-      ((s : Spot) (k : ℕ) (a : Atom) → slice_get (atoms s) k ≡ Some a → P s.f s.entry (start s + k) (hand_of a)) →
-      ((s : Spot) (n : ℕ) → Numbers code s.func s.stm.kind n → P s.f s.entry (last s) (doing (places s) s.stm.kind n)) →
-      EachInstr code P
-  each_instr P hands does f entry point i at =
-      let o = owner f entry at.function in
-      let inside = slice_get_within core.funcs f o.func o.here in
-      let from : first_of core f ≤ point = omega (arith, at.from, o.matches.first) in
-      let before : point < first_of core (f + 1) = omega (arith, at.before, end_is f inside) in
-      let w = in_statement core f o.func o.here point from before in
-      let s : Spot =
-      record {
-        f = f;
-        func = o.func;
-        here = o.here;
-        entry = entry;
-        listed = at.function;
-        matches = o.matches;
-        point = w.point;
-        stm = w.stm;
-        found = w.found;
-      } in
-      let stands = is.statements f w.point o.func w.stm o.here w.found in
-      let at_rest : slice_get code.instrs (start s + w.rest) ≡ Some i = ap (slice_get code.instrs) w.sum ∙ at.here in
-      ⊎_elim
-      (λ (less : w.rest < length (atoms s)).
-      let a = element (atoms s) w.rest less in
-      let same : hand_of a.0 ≡ i = same_Some (hand_of a.0) i (sym (stands.hands w.rest a.0 a.1) ∙ at_rest) in
-      subst (λ n. P f entry n i) w.sum (subst (λ (j : Instr). P f entry (start s + w.rest) j) same (hands s w.rest a.0 a.1)))
-      (λ (more : length (atoms s) ≤ w.rest).
-      let all : w.rest ≡ length (atoms s) = omega (arith, w.below) in
-      let d = as_doing core code f o.func w.stm.kind stands.does.0 stands.does.2 in
-      let same_i : stands.does.0 ≡ i =
-      same_Some stands.does.0 i (sym stands.does.1 ∙ ap (λ n. slice_get code.instrs (start s + n)) (sym all) ∙ at_rest) in
-      let same : doing (places s) w.stm.kind d.0 ≡ i = sym d.1 ∙ same_i in
-      let there : last s ≡ point = ap (λ n. start s + n) (sym all) ∙ w.sum in
-      subst (λ n. P f entry n i) there (subst (λ (j : Instr). P f entry (last s) j) same (does s d.0 d.2)))
-      (cases_lt w.rest (length (atoms s)))
+  module _ (P : ℕ → Entry → ℕ → Instr → Type 0) where
+    abbrev HandsHold : Type 0
+    HandsHold =
+        (s : Spot) (k : ℕ) (a : Atom) → slice_get (atoms s) k ≡ Some a → P s.f s.entry (start s + k) (hand_of a)
+
+    abbrev StatementsHold : Type 0
+    StatementsHold =
+        (s : Spot) (n : ℕ) → Numbers code s.func s.stm.kind n → P s.f s.entry (last s) (doing (places s) s.stm.kind n)
+
+    in_spot : HandsHold → StatementsHold → (s : Spot) (k : ℕ) (i : Instr) → k ≤ length (atoms s) → slice_get code.instrs (start s + k) ≡ Some i → P s.f s.entry (start s + k) i
+    in_spot hands does s k i h there =
+        ⊎_elim
+        (λ (r : Hands s.stm.kind k i). subst (λ (j : Instr). P s.f s.entry (start s + k) j) r.2 (hands s k r.0 r.1))
+        (λ (r : DoesAll code s.func (places s) s.stm.kind k i).
+        subst (λ (j : Instr). P s.f s.entry (start s + k) j) r.2 (subst (λ n. P s.f s.entry (start s + n) (doing (places s) s.stm.kind r.0)) (sym r.1) (does s r.0 r.3)))
+        (role core code is s.f s.func s.here s.point s.stm s.found k i h there)
+
+    in_part : HandsHold → StatementsHold → (f : ℕ) (func : Func) (here : slice_get core.funcs f ≡ Some func) (entry : Entry) → IsEntry core code f func entry → (point : ℕ) (w : InStatement core f func here point) (i : Instr) → slice_get code.instrs point ≡ Some i → P f entry point i
+    in_part hands does f func here entry matches point w i there =
+        let s : Spot = record {
+          f = f;
+          func = func;
+          here = here;
+          entry = entry;
+          matches = matches;
+          point = w.point;
+          stm = w.stm;
+          found = w.found;
+        } in
+        subst (λ n. P f entry n i) w.sum (in_spot hands does s w.rest i w.below (ap (slice_get code.instrs) w.sum ∙ there))
+
+    -- what holds of each instruction that hands over and of each that does a statement holds of each instruction
+    pub each_instr : HandsHold → StatementsHold → EachInstr code P
+    each_instr hands does f entry point i at =
+        let o = owner f entry at.function in
+        let inside = slice_get_within core.funcs f o.func o.here in
+        let from : first_of core f ≤ point = omega (arith, at.from, o.matches.first) in
+        let before : point < first_of core (f + 1) = omega (arith, at.before, end_is f inside) in
+        let w = in_statement core f o.func o.here point from before in
+        in_part hands does f o.func o.here entry o.matches point w i at.here

@@ -24,7 +24,7 @@ use Rattle.flat_code.specs.declared.program.Code.{Code}
 use Rattle.flat_code.specs.WellFormed.{IsLayout, IsShort}
 use Rattle.compiled_code.specs.Compiled.{IsCompiled, IsLayoutIn, IsFormatIn, format_of}
 use Rattle.compiled_form.proofs.Functions.{main_func}
-use Rattle.compiled_form.proofs.Places.{first_more, in_function, in_statement}
+use Rattle.compiled_form.proofs.Places.{first_more, in_function, InStatement, in_statement}
 
 -- some element of a list, with its place
 found_at : {X : Type 0} (P : X → Type 0) (xs : List X) → Any P xs → (k : ℕ) × (x : X) × (slice_get xs k ≡ Some x) × P x
@@ -114,12 +114,16 @@ module _ (core : Core) (code : Code) (sound : IsSound core) (is : IsCompiled cor
       let m = main_func core code sound is in
       (m.0.line, is.start_line ∙ ap (λ o. Some (line_of o)) m.1, (sound.functions (main_of core) m.0 m.1).line)
 
+  statement_has_line : (f : ℕ) (func : Func) (here : slice_get core.funcs f ≡ Some func) (k : ℕ) → InStatement core f func here k → HasLine k
+  statement_has_line f func here k w =
+      let stands = (is.statements f w.point func w.stm here w.found).lines w.rest (omega (arith, w.below)) in
+      (w.stm.line, sym (ap (slice_get code.lines) w.sum) ∙ stands, (sound.functions f func here).lines w.point w.stm w.found)
+
   has_line : (k : ℕ) → 1 ≤ k → k < length code.lines → HasLine k
   has_line k low high =
       let w = in_function core k low (omega (arith, is.few_lines, is.few_instrs)) in
-      let v = in_statement core w.f w.func w.here k (omega (arith, w.sum)) (omega (arith, w.sum, w.below, first_more core w.f w.func w.here)) in
-      let at = (is.statements w.f v.point w.func v.stm w.here v.found).lines v.rest (omega (arith, v.below)) in
-      (v.stm.line, sym (ap (slice_get code.lines) v.sum) ∙ at, (sound.functions w.f w.func w.here).lines v.point v.stm v.found)
+      let more = first_more core w.f w.func w.here in
+      statement_has_line w.f w.func w.here k (in_statement core w.f w.func w.here k (omega (arith, w.sum)) (omega (arith, w.sum, w.below, more)))
 
   any_has_line : (k : ℕ) → k < length code.lines → HasLine k
   any_has_line k high =
