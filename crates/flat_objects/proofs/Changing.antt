@@ -41,7 +41,7 @@ pub byte_kept : (before after : List ℕ) (addr long from : ℕ) → ChangesOnly
 byte_kept before after addr long from changes out inside =
     sym (word_1 after from (omega (arith, changes.long))) ∙ word_kept before after addr long from 1 changes out ∙ word_1 before from (omega arith)
 
-part_outside : (from n addr long at m : ℕ) → IsOutside from n addr long → from ≤ at → at + m ≤ from + n → IsOutside at m addr long
+pub part_outside : (from n addr long at m : ℕ) → IsOutside from n addr long → from ≤ at → at + m ≤ from + n → IsOutside at m addr long
 part_outside from n addr long at m (inl h) low high = inl (omega arith)
 part_outside from n addr long at m (inr h) low high = inr (omega arith)
 

@@ -14,3 +14,4 @@ mod Distances
 mod Equal
 mod Reading
 mod Behind
+mod Added

@@ -23,7 +23,7 @@ pub record LiesIn (range : HeapModel) (place size : ℕ) : Type 0 where
   pub above : range.base + 32 ≤ place
   pub below : place + size < end_of range
 
-range_inside : (locals heap : ℕ) (memory : Memory) → IsMemory locals heap memory → (range : Range) → end_of (heap_of memory range) ≤ length memory.bytes
+pub range_inside : (locals heap : ℕ) (memory : Memory) → IsMemory locals heap memory → (range : Range) → end_of (heap_of memory range) ≤ length memory.bytes
 range_inside locals heap memory shape Statics = omega (arith, shape.statics_end, shape.locals_end, shape.heap_end, shape.locals_from, shape.heap_from)
 range_inside locals heap memory shape Locals = omega (arith, shape.statics_end, shape.locals_end, shape.heap_end, shape.locals_from, shape.heap_from)
 range_inside locals heap memory shape Heap = shape.heap_end

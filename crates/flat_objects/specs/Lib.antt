@@ -5,3 +5,4 @@ pub mod Reaching
 pub mod Answering
 pub mod Moving
 pub mod Texts
+pub mod Adding

@@ -5,6 +5,7 @@ mod access;
 mod arithmetic;
 mod finding;
 mod memory;
+mod new_objects;
 mod strings;
 mod words;
 
