@@ -1,27 +1,29 @@
 -- What a memory keeps after an object was placed.
-use Rattle.std.proofs.Common.{◌≡◌, ◌<◌, ◌≤◌, ◌+◌, ◌*◌, ◌-◌, ◌⊎◌, inl, inr, ℕ, zero, suc, Bool, true, false, cond, not, List, [], ◌∷◌, ◌++◌, length, get_or, take, drop, replicate, sym, ap, ◌∙◌, refl, subst, arith, length-append, add-zero, zero-add}
-use Rattle.std.specs.Prelude.{map, filter, Contains, All, slice_index, slice_index_or, ◌&&◌, nat_eq}
-use Rattle.std.specs.List.{enumerate_from}
+use Rattle.std.proofs.Common.{◌≡◌, ◌<◌, ◌≤◌, ◌+◌, ◌*◌, ◌-◌, ◌⊎◌, inl, inr, ℕ, zero, suc, Bool, true, false, cond, not, ◌/◌, Option, Some, None, List, [], ◌∷◌, ◌++◌, length, get_or, take, drop, replicate, sym, ap, ◌∙◌, refl, subst, arith, length-append}
+use Rattle.std.specs.Prelude.{map, filter, Contains, All, slice_index, slice_index_or, ◌&&◌, nat_eq, option_map, IfSome}
+use Rattle.std.specs.List.{enumerate_from, flat_map, range_with_len}
+use Rattle.std.proofs.Math.Nat.{div_self}
 use Rattle.std.proofs.lemmas.Bool.{cases_eq, cases_lt, cond-true, cond-false, eq-eqb, ne_eqb, cases_Bool, and_left, and_from, not_from_false}
-use Rattle.std.proofs.lemmas.List.{append-nil, get_or_append_left, get_or_at, get_or_default, get_or-replicate, get_or-take, get_or-drop}
+use Rattle.std.proofs.lemmas.List.{append-nil, get_or_append_left, get_or_at, get_or_default, get_or-replicate, length-replicate, get_or-take, get_or-drop}
 use Rattle.std.proofs.lemmas.List.Elements.{All-contains}
 use Rattle.hs_base.specs.declared.values.Pointer.{Pointer}
 use Rattle.hs_base.specs.declared.values.Pointer.TheVariants as pointer
 use Rattle.hs_base.specs.Access.{touches_slot}
 use Rattle.hs_base.specs.Bytes.{word, part}
 use Rattle.hs_base.specs.Object as object
-use Rattle.hs_base.specs.Object.{Object, Sort, is_dead, no_object, object_at}
-use Rattle.hs_base.specs.Place.{Block, block_size}
+use Rattle.hs_base.specs.Object.{Object, Sort, Standing, is_dead, no_object, object_at}
+use Rattle.hs_base.specs.Place.{Block, block_size, with_block}
 use Rattle.hs_base.proofs.Words.{word_none, word_more}
-use Rattle.c_types.specs.Layouts.{AreSlots}
+use Rattle.c_types.specs.Layouts.{AreSlots, moved}
 use Rattle.adjusters.specs.ObjectSlots.{Element, object_slots}
 use Rattle.heap_blocks.specs.declared.headers.Header.{Header}
 use Rattle.heap_blocks.specs.Bytes.{ChangesOnly}
-use Rattle.heap_blocks.specs.Heads.{header_at}
-use Rattle.heap_blocks.specs.Held.{HeapModel, HasBounds, Holds, IsBlock, AreApart}
+use Rattle.heap_blocks.specs.Heads.{header_at, new_header}
+use Rattle.heap_blocks.specs.Held.{HeapModel, HasBounds, Holds, IsBlock, IsPlaced, AreApart, address_of}
+use Rattle.object_meaning.specs.Making.{blank}
 use Rattle.flat_objects.specs.Memory.{Memory, Range, Statics, Locals, Heap, IsMemory, heap_of, is_of, range_of, end_of}
 use Rattle.flat_objects.specs.Standing.{IsThere, IsAt, IsAddressOf}
-use Rattle.flat_objects.specs.Keeping.{Keeps, StandsAt, IsHeaderOf, HasSlots, block_of, blocks_of, stands_in}
+use Rattle.flat_objects.specs.Keeping.{Keeps, StandsAt, IsHeaderOf, IsLineOf, IsStateOf, HasSlots, block_of, blocks_of, stands_in}
 use Rattle.flat_objects.specs.Adding.{with_place, IsAdded}
 use Rattle.flat_objects.proofs.Apart.{ranges_apart}
 use Rattle.flat_objects.proofs.Ascending.{slot_ends}
@@ -111,7 +113,7 @@ unfolding part
 byte_zero bytes addr size k zeros less =
     sym (get_or-drop addr bytes k 0) ∙ sym (get_or-take size (drop addr bytes) k 0 less) ∙ ap (λ l. get_or l k 0) zeros ∙ get_or-replicate size k 0 0 less
 
-word_zero : (bytes : List ℕ) (at n : ℕ) → at + n ≤ length bytes → ((k : ℕ) → k < n → get_or bytes (at + k) 0 ≡ 0) → word bytes at n ≡ 0
+pub word_zero : (bytes : List ℕ) (at n : ℕ) → at + n ≤ length bytes → ((k : ℕ) → k < n → get_or bytes (at + k) 0 ≡ 0) → word bytes at n ≡ 0
 word_zero bytes at zero inside zeros = word_none bytes at
 word_zero bytes at (suc n) inside zeros =
     let first : get_or bytes at 0 ≡ 0 = (let e : at ≡ at + 0 = omega arith in ap (λ k. get_or bytes k 0) e) ∙ zeros 0 (omega arith) in
@@ -309,3 +311,61 @@ module _ (locals heap : ℕ) (memory next : Memory) (shape : IsMemory locals hea
     };
     stand = addresses;
   }
+
+-- What a call of a heap's placement says
+
+pub placed_object : (locals heap : ℕ) (memory next : Memory) → IsMemory locals heap memory → (places : ℕ → ℕ) (objects : List Object) → Keeps memory places objects → (new : Object) → IsBlank new → (fit result : Option ℕ) (size layout line birth : ℕ)
+    → result ≡ option_map (address_of (heap_of memory (range_of new.sort))) fit
+    → Holds (heap_of next (range_of new.sort)) (with_block (blocks_of memory places objects (range_of new.sort)) birth (block_size size) fit)
+    → HasBounds (heap_of memory (range_of new.sort)).base (heap_of memory (range_of new.sort)).len (heap_of next (range_of new.sort))
+    → IfSome result (λ addr. IsPlaced memory.bytes next.bytes addr (block_size size) (new_header birth size layout line))
+    → next.forms ≡ memory.forms → ((range : Range) → (range_of new.sort ≡ range → ⊥) → heap_of next range ≡ heap_of memory range)
+    → birth ≡ length objects → new.size ≡ size → new.standing ≡ object.Live → IsLineOf new.sort line → HasSlots memory.forms layout new
+    → IfSome result (IsAdded next places objects new)
+placed_object locals heap memory next shape places objects keeps new blank fit None size layout line birth result_is holds bounds placed forms others birth_is size_is live born slots = tt
+placed_object locals heap memory next shape places objects keeps new blank None (Some addr) size layout line birth result_is holds bounds placed forms others birth_is size_is live born slots = absurd (cc)
+placed_object locals heap memory next shape places objects keeps new blank (Some place) (Some addr) size layout line birth result_is holds bounds placed forms others birth_is size_is live born slots =
+    let address : addr ≡ (heap_of memory (range_of new.sort)).base + place + 32 = cc in
+    let header : header_at next.bytes (addr - 32) ≡ new_header birth size layout line = placed.header in
+    added locals heap memory next shape places objects keeps new blank place addr (record {
+      forms = forms;
+      others = others;
+      bounds = bounds;
+      address = address;
+      holds = subst (λ (n : ℕ). Holds (heap_of next (range_of new.sort)) (blocks_of memory places objects (range_of new.sort) ++ record { birth = length objects; place = place; length = block_size n } ∷ [])) (sym size_is)
+        (subst (λ (b : ℕ). Holds (heap_of next (range_of new.sort)) (blocks_of memory places objects (range_of new.sort) ++ record { birth = b; place = place; length = block_size size } ∷ [])) birth_is holds);
+      changes = subst (λ (n : ℕ). ChangesOnly memory.bytes next.bytes (addr - 32) (block_size n)) (sym size_is) placed.outside;
+      header = record {
+        born = ap (λ (h : Header). h.birth) header ∙ birth_is;
+        size = ap (λ (h : Header). h.size) header ∙ sym size_is;
+        line = subst (IsLineOf new.sort) (sym (ap (λ (h : Header). h.line) header)) born;
+        state = subst (λ (s : Standing). IsStateOf s (header_at next.bytes (addr - 32))) (sym live) (ap (λ (h : Header). h.state) header);
+      };
+      slots = subst (λ (n : ℕ). HasSlots memory.forms n new) (sym (ap (λ (h : Header). h.layout) header)) slots;
+      zero = ap (part next.bytes addr) size_is ∙ placed.zero ∙ ap (λ n. replicate n 0) (sym size_is);
+    })
+
+-- Blank objects
+
+pub blank_is : (sort : Sort) (size : ℕ) (slots : List ℕ) → IsBlank (blank sort size slots)
+blank_is sort size slots = record {
+  there = refl;
+  long = length-replicate size 0;
+  bytes = λ k less. get_or-replicate size k 0 0 less;
+  many = length-replicate (length slots) pointer.Null;
+  pointers = λ k less. get_or-replicate (length slots) k pointer.Null pointer.Null less;
+}
+
+moved_none : (slots : List ℕ) (by : ℕ) → by ≡ 0 → moved by slots ≡ slots
+moved_none [] by none = refl
+moved_none (s ∷ slots) by none = let e : by + s ≡ s = omega arith in λ i. e i ∷ moved_none slots by none i
+
+-- one element has its own slots
+pub own_element : (size : ℕ) (slots : List ℕ) → AreSlots 0 size slots → object_slots (record { size = size; slots = slots }) size ≡ slots
+own_element zero [] are = refl
+own_element zero (s ∷ slots) are = absurd (omega (arith, are.1))
+own_element (suc size) slots are =
+    let some : 0 < suc size = omega arith in
+    let whole : suc size / suc size ≡ 1 = div_self some in
+    ap (λ n. flat_map (λ k. moved (k * suc size) slots) (range_with_len 0 n)) whole
+    ∙ append-nil (moved (0 * suc size) slots) ∙ moved_none slots (0 * suc size) (omega arith)

@@ -15,3 +15,5 @@ mod Equal
 mod Reading
 mod Behind
 mod Added
+mod Made
+mod Started

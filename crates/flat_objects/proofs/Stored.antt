@@ -28,12 +28,12 @@ use Rattle.flat_objects.proofs.Trying.{Let, LetInteger, LetPointer, let_integer,
 -- Bytes after a write
 
 module _ (bytes : List ℕ) (addr n value : ℕ) (inside : addr + n ≤ length bytes) where
-  byte_before : (k : ℕ) → k < addr → slice_index (put_word bytes addr n value) k ≡ slice_index bytes k
+  pub byte_before : (k : ℕ) → k < addr → slice_index (put_word bytes addr n value) k ≡ slice_index bytes k
   byte_before k less =
       sym (word_1 (put_word bytes addr n value) k (omega (arith, length-put_word bytes addr n value inside)))
       ∙ word_before bytes addr n value k 1 inside (omega arith) ∙ word_1 bytes k (omega arith)
 
-  byte_past : (k : ℕ) → addr + n ≤ k → k < length bytes → slice_index (put_word bytes addr n value) k ≡ slice_index bytes k
+  pub byte_past : (k : ℕ) → addr + n ≤ k → k < length bytes → slice_index (put_word bytes addr n value) k ≡ slice_index bytes k
   byte_past k past less =
       sym (word_1 (put_word bytes addr n value) k (omega (arith, length-put_word bytes addr n value inside)))
       ∙ word_past bytes addr n value k 1 inside past ∙ word_1 bytes k (omega arith)
@@ -42,7 +42,7 @@ module _ (bytes : List ℕ) (addr n value : ℕ) (inside : addr + n ≤ length b
   unfolding word
   word_inside k low high = ap little_endian (part_inside bytes addr n value k 1 inside low (omega arith))
 
-  byte_inside : (k : ℕ) → addr ≤ k → k < addr + n → slice_index (put_word bytes addr n value) k ≡ slice_index (bytes_of n value) (k - addr)
+  pub byte_inside : (k : ℕ) → addr ≤ k → k < addr + n → slice_index (put_word bytes addr n value) k ≡ slice_index (bytes_of n value) (k - addr)
   byte_inside k low high =
       sym (word_1 (put_word bytes addr n value) k (omega (arith, length-put_word bytes addr n value inside)))
       ∙ word_inside k low high ∙ word_1 (bytes_of n value) (k - addr) (omega (arith, length-bytes_of n value))

@@ -6,3 +6,4 @@ pub mod Answering
 pub mod Moving
 pub mod Texts
 pub mod Adding
+pub mod Starting

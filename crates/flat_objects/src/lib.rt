@@ -6,6 +6,7 @@ mod arithmetic;
 mod finding;
 mod memory;
 mod new_objects;
+mod statics;
 mod strings;
 mod words;
 
