@@ -1,14 +1,13 @@
 -- What a memory keeps after an object was placed.
-use Rattle.std.proofs.Common.{◌≡◌, ◌<◌, ◌≤◌, ◌+◌, ◌*◌, ◌-◌, ◌⊎◌, inl, inr, ℕ, zero, suc, Bool, true, false, cond, not, ◌/◌, Option, Some, None, List, [], ◌∷◌, ◌++◌, length, get_or, take, drop, replicate, sym, ap, ◌∙◌, refl, subst, arith, length-append}
-use Rattle.std.specs.Prelude.{map, filter, Contains, All, slice_index, slice_index_or, ◌&&◌, nat_eq, option_map, IfSome}
+use Rattle.std.proofs.Common.{◌≡◌, ◌<◌, ◌≤◌, ◌+◌, ◌*◌, ◌-◌, ◌⊎◌, inl, inr, ℕ, zero, suc, Bool, true, false, cond, not, ◌/◌, Option, Some, None, List, [], ◌∷◌, ◌++◌, length, get_or, drop, replicate, sym, ap, ◌∙◌, refl, subst, arith, length-append}
+use Rattle.std.specs.Prelude.{map, filter, Contains, slice_index, slice_index_or, nat_eq, option_map, IfSome}
 use Rattle.std.specs.List.{enumerate_from, flat_map, range_with_len}
 use Rattle.std.proofs.Math.Nat.{div_self}
-use Rattle.std.proofs.lemmas.Bool.{cases_eq, cases_lt, cond-true, cond-false, eq-eqb, ne_eqb, cases_Bool, and_left, and_from, not_from_false}
+use Rattle.std.proofs.lemmas.Bool.{cases_lt, cond-true, cond-false, eq-eqb, ne_eqb, and_left, and_from, not_from_false}
 use Rattle.std.proofs.lemmas.List.{append-nil, get_or_append_left, get_or_at, get_or_default, get_or-replicate, length-replicate, get_or-take, get_or-drop}
 use Rattle.std.proofs.lemmas.List.Elements.{All-contains}
 use Rattle.hs_base.specs.declared.values.Pointer.{Pointer}
 use Rattle.hs_base.specs.declared.values.Pointer.TheVariants as pointer
-use Rattle.hs_base.specs.Access.{touches_slot}
 use Rattle.hs_base.specs.Bytes.{word, part}
 use Rattle.hs_base.specs.Object as object
 use Rattle.hs_base.specs.Object.{Object, Sort, Standing, is_dead, no_object, object_at}
@@ -21,8 +20,8 @@ use Rattle.heap_blocks.specs.Bytes.{ChangesOnly}
 use Rattle.heap_blocks.specs.Heads.{header_at, new_header}
 use Rattle.heap_blocks.specs.Held.{HeapModel, HasBounds, Holds, IsBlock, IsPlaced, AreApart, address_of}
 use Rattle.object_meaning.specs.Making.{blank}
-use Rattle.flat_objects.specs.Memory.{Memory, Range, Statics, Locals, Heap, IsMemory, heap_of, is_of, range_of, end_of}
-use Rattle.flat_objects.specs.Standing.{IsThere, IsAt, IsAddressOf}
+use Rattle.flat_objects.specs.Memory.{Memory, Range, Statics, Locals, Heap, IsMemory, heap_of, is_of, range_of}
+use Rattle.flat_objects.specs.Standing.{IsThere, IsAddressOf}
 use Rattle.flat_objects.specs.Keeping.{Keeps, StandsAt, IsHeaderOf, IsLineOf, IsStateOf, HasSlots, block_of, blocks_of, stands_in}
 use Rattle.flat_objects.specs.Adding.{with_place, IsAdded}
 use Rattle.flat_objects.proofs.Apart.{ranges_apart}
@@ -49,11 +48,11 @@ stands_kept memory after places new_places objects new_objects birth addr o star
       bytes = λ k less clear. byte_kept memory.bytes after.bytes start long (addr + k) changes (here (addr + k) 1 (omega arith) (omega arith)) (omega arith) ∙ old.bytes k less clear;
       many = old.many;
       pointers = λ k less.
-        let slot = slice_index o.slots k in
-        let ends = slot_ends 0 o.size o.slots slot slots (k, less, get_or_default o.slots k slot 0 less) in
-        let same = word_kept memory.bytes after.bytes start long (addr + slot) 4 changes (here (addr + slot) 4 (omega arith) (omega arith)) in
-        subst (IsAddressOf new_places new_objects (slice_index_or o.pointers k pointer.Null)) (sym same)
-        (addresses (slice_index_or o.pointers k pointer.Null) (word memory.bytes (addr + slot) 4) (old.pointers k less));
+          let slot = slice_index o.slots k in
+          let ends = slot_ends 0 o.size o.slots slot slots (k, less, get_or_default o.slots k slot 0 less) in
+          let same = word_kept memory.bytes after.bytes start long (addr + slot) 4 changes (here (addr + slot) 4 (omega arith) (omega arith)) in
+          subst (IsAddressOf new_places new_objects (slice_index_or o.pointers k pointer.Null)) (sym same)
+          (addresses (slice_index_or o.pointers k pointer.Null) (word memory.bytes (addr + slot) 4) (old.pointers k less));
     }
 
 -- One place more
@@ -283,10 +282,10 @@ module _ (locals heap : ℕ) (memory next : Memory) (shape : IsMemory locals hea
         bytes = λ k less clear. byte_zero next.bytes addr new.size k placed.zero less ∙ sym (blank.bytes k less);
         many = blank.many;
         pointers = λ k less.
-          let slot = slice_index new.slots k in
-          let ends = slot_ends 0 new.size new.slots slot slots (k, less, get_or_default new.slots k slot 0 less) in
-          let zero_is = word_zero next.bytes (addr + slot) 4 (omega arith) (λ i small. let e : addr + slot + i ≡ addr + (slot + i) = omega arith in ap (λ m. get_or next.bytes m 0) e ∙ byte_zero next.bytes addr new.size (slot + i) placed.zero (omega arith)) in
-          subst (λ (p : Pointer). IsAddressOf new_places (objects ++ new ∷ []) p (word next.bytes (addr + slot) 4)) (sym (blank.pointers k less)) zero_is;
+            let slot = slice_index new.slots k in
+            let ends = slot_ends 0 new.size new.slots slot slots (k, less, get_or_default new.slots k slot 0 less) in
+            let zero_is = word_zero next.bytes (addr + slot) 4 (omega arith) (λ i small. let e : addr + slot + i ≡ addr + (slot + i) = omega arith in ap (λ m. get_or next.bytes m 0) e ∙ byte_zero next.bytes addr new.size (slot + i) placed.zero (omega arith)) in
+            subst (λ (p : Pointer). IsAddressOf new_places (objects ++ new ∷ []) p (word next.bytes (addr + slot) 4)) (sym (blank.pointers k less)) zero_is;
       }
 
   pub added : IsAdded next places objects new addr
@@ -294,20 +293,20 @@ module _ (locals heap : ℕ) (memory next : Memory) (shape : IsMemory locals hea
     keeps = record {
       held = held_all;
       standing = λ birth there.
-        elim (old_or_new objects new birth there) [
-          | inl below ↦
-              let same = at_old objects new birth below in
-              let old_there : IsThere objects birth = ap (λ (o : Object). is_dead o.standing) (sym same) ∙ there in
-              let at : places birth ≡ new_places birth = sym (place_other places (length objects) addr birth (λ e. omega arith)) in
-              subst (λ (a : ℕ). StandsAt next new_places (objects ++ new ∷ []) birth a (object_at (objects ++ new ∷ []) birth)) at
-              (subst (StandsAt next new_places (objects ++ new ∷ []) birth (places birth)) (sym same) (old_stands birth old_there))
-          | inr e ↦
-              let same : new ≡ object_at (objects ++ new ∷ []) birth = sym (at_new objects new) ∙ ap (object_at (objects ++ new ∷ [])) (sym e) in
-              let at : addr ≡ new_places birth = sym (place_same places (length objects) addr) ∙ ap new_places (sym e) in
-              subst (λ (b : ℕ). StandsAt next new_places (objects ++ new ∷ []) b (new_places birth) (object_at (objects ++ new ∷ []) birth)) (sym e)
-              (subst (λ (a : ℕ). StandsAt next new_places (objects ++ new ∷ []) (length objects) a (object_at (objects ++ new ∷ []) birth)) at
-              (subst (StandsAt next new_places (objects ++ new ∷ []) (length objects) addr) same new_stands))
-        ];
+          elim (old_or_new objects new birth there) [
+            | inl below ↦
+                let same = at_old objects new birth below in
+                let old_there : IsThere objects birth = ap (λ (o : Object). is_dead o.standing) (sym same) ∙ there in
+                let at : places birth ≡ new_places birth = sym (place_other places (length objects) addr birth (λ e. omega arith)) in
+                subst (λ (a : ℕ). StandsAt next new_places (objects ++ new ∷ []) birth a (object_at (objects ++ new ∷ []) birth)) at
+                (subst (StandsAt next new_places (objects ++ new ∷ []) birth (places birth)) (sym same) (old_stands birth old_there))
+            | inr e ↦
+                let same : new ≡ object_at (objects ++ new ∷ []) birth = sym (at_new objects new) ∙ ap (object_at (objects ++ new ∷ [])) (sym e) in
+                let at : addr ≡ new_places birth = sym (place_same places (length objects) addr) ∙ ap new_places (sym e) in
+                subst (λ (b : ℕ). StandsAt next new_places (objects ++ new ∷ []) b (new_places birth) (object_at (objects ++ new ∷ []) birth)) (sym e)
+                (subst (λ (a : ℕ). StandsAt next new_places (objects ++ new ∷ []) (length objects) a (object_at (objects ++ new ∷ []) birth)) at
+                (subst (StandsAt next new_places (objects ++ new ∷ []) (length objects) addr) same new_stands))
+          ];
     };
     stand = addresses;
   }
@@ -333,7 +332,7 @@ placed_object locals heap memory next shape places objects keeps new blank (Some
       bounds = bounds;
       address = address;
       holds = subst (λ (n : ℕ). Holds (heap_of next (range_of new.sort)) (blocks_of memory places objects (range_of new.sort) ++ record { birth = length objects; place = place; length = block_size n } ∷ [])) (sym size_is)
-        (subst (λ (b : ℕ). Holds (heap_of next (range_of new.sort)) (blocks_of memory places objects (range_of new.sort) ++ record { birth = b; place = place; length = block_size size } ∷ [])) birth_is holds);
+          (subst (λ (b : ℕ). Holds (heap_of next (range_of new.sort)) (blocks_of memory places objects (range_of new.sort) ++ record { birth = b; place = place; length = block_size size } ∷ [])) birth_is holds);
       changes = subst (λ (n : ℕ). ChangesOnly memory.bytes next.bytes (addr - 32) (block_size n)) (sym size_is) placed.outside;
       header = record {
         born = ap (λ (h : Header). h.birth) header ∙ birth_is;

@@ -1,9 +1,9 @@
 -- Objects that are not dead stand apart.
-use Rattle.std.proofs.Common.{◌≡◌, ◌<◌, ◌≤◌, ◌+◌, ◌-◌, ◌⊎◌, inl, inr, ℕ, List, length, sym, ap, ◌∙◌, refl, subst, arith}
+use Rattle.std.proofs.Common.{◌≡◌, ◌≤◌, ◌+◌, ◌⊎◌, inl, inr, ℕ, List, ap, refl, subst, arith}
 use Rattle.std.specs.Prelude.{Contains}
 use Rattle.hs_base.specs.Object.{Object, object_at}
-use Rattle.hs_base.specs.Place.{Block, block_size}
-use Rattle.heap_blocks.specs.Held.{HeapModel, AreApart}
+use Rattle.hs_base.specs.Place.{Block}
+use Rattle.heap_blocks.specs.Held.{AreApart}
 use Rattle.flat_objects.specs.Memory.{Memory, Range, Statics, Locals, Heap, IsMemory, heap_of, range_of, end_of}
 use Rattle.flat_objects.specs.Standing.{IsThere}
 use Rattle.flat_objects.specs.Keeping.{Keeps, blocks_of}

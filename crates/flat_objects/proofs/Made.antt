@@ -9,13 +9,12 @@ use Rattle.hs_base.specs.Object.{Object}
 use Rattle.hs_base.specs.Place.{block_size, with_block}
 use Rattle.c_types.specs.declared.layouts.Layout.{Layout}
 use Rattle.c_types.specs.Layouts.{array_layout}
-use Rattle.adjusters.specs.ObjectSlots.{Element, element_of, object_slots}
+use Rattle.adjusters.specs.ObjectSlots.{element_of, object_slots}
 use Rattle.heap_blocks.specs.Heads.{new_header}
-use Rattle.heap_blocks.specs.Held.{HeapModel, HasBounds, Holds, IsPlaced, address_of, fit_of}
+use Rattle.heap_blocks.specs.Held.{HeapModel, HasBounds, Holds, IsPlaced, address_of}
 use Rattle.object_meaning.specs.Making.{blank, heap_object}
 use Rattle.flat_objects.specs.Memory.{Memory, Range, Statics, Locals, Heap, IsMemory, IsForm, heap_of}
-use Rattle.flat_objects.specs.Standing.{IsThere}
-use Rattle.flat_objects.specs.Keeping.{Keeps, StandsAt, blocks_of}
+use Rattle.flat_objects.specs.Keeping.{Keeps, blocks_of}
 use Rattle.flat_objects.specs.Adding.{IsAdded}
 use Rattle.flat_objects.proofs.Added.{placed_object, blank_is, own_element}
 

@@ -1,24 +1,23 @@
 -- The first bytes and pointers of statics.
-use Rattle.std.proofs.Common.{◌≡◌, ◌<◌, ◌≤◌, ◌+◌, ◌*◌, ◌^◌, ◌-◌, ◌⊎◌, inl, inr, ℕ, zero, suc, List, [], ◌∷◌, ◌++◌, length, get_or, take, drop, replicate, sym, ap, ◌∙◌, refl, subst, arith, length-append, length-drop}
-use Rattle.std.specs.Prelude.{All, slice_index, slice_index_or, slice_get, unwrap_or}
-use Rattle.std.proofs.lemmas.Bool.{cases_lt, cases_eq}
+use Rattle.std.proofs.Common.{◌≡◌, ◌<◌, ◌≤◌, ◌+◌, ◌^◌, ◌-◌, inl, inr, ℕ, zero, suc, List, length, drop, sym, ap, ◌∙◌, refl, subst, arith, length-append, length-drop}
+use Rattle.std.specs.Prelude.{slice_index, slice_index_or, slice_get, unwrap_or}
+use Rattle.std.proofs.lemmas.Bool.{cases_lt}
 use Rattle.std.proofs.lemmas.List.{get_or_append_left, get_or-append_right, get_or-drop, get_or_default}
 use Rattle.std.proofs.lemmas.Option.{unwrap_or-slice_get}
 use Rattle.hs_base.specs.declared.values.Pointer.{Pointer}
 use Rattle.hs_base.specs.declared.values.Pointer.TheVariants as pointer
-use Rattle.hs_base.specs.Access.{overlaid, with_object, touches_slot}
+use Rattle.hs_base.specs.Access.{overlaid, with_object}
 use Rattle.hs_base.specs.Bytes.{word, put_word}
 use Rattle.hs_base.specs.Object.{Object, object_at}
 use Rattle.hs_base.proofs.Words.{word_1, word_same, word_more, length-put_word}
 use Rattle.heap_blocks.specs.Bytes.{ChangesOnly}
 use Rattle.flat_objects.specs.Memory.{Memory, IsMemory}
-use Rattle.flat_objects.specs.Standing.{IsThere, IsAddressOf}
-use Rattle.flat_objects.specs.Keeping.{Keeps}
+use Rattle.flat_objects.specs.Standing.{IsAddressOf}
 use Rattle.flat_objects.specs.Answering.{IsChanged}
-use Rattle.flat_objects.specs.Starting.{IsWritten, FitsBlank, TakesBytes, with_first_bytes}
+use Rattle.flat_objects.specs.Starting.{IsWritten, TakesBytes, with_first_bytes}
 use Rattle.flat_objects.proofs.Added.{word_zero}
 use Rattle.flat_objects.proofs.Ascending.{slot_ends}
-use Rattle.flat_objects.proofs.Changing.{StandsNew, SameShape, with_bytes, changed, byte_kept}
+use Rattle.flat_objects.proofs.Changing.{StandsNew, with_bytes, changed, byte_kept}
 use Rattle.flat_objects.proofs.Owners.{own_inside}
 use Rattle.flat_objects.proofs.Reached.{are_slots}
 use Rattle.flat_objects.proofs.Stored.{byte_before, changes_within}
@@ -57,14 +56,14 @@ written_more before after start bytes n byte w inside less byte_is small =
     record {
       changes = changes_again before after (put_word after (start + n) 1 byte) start (length bytes) w.changes (changes_within after (start + n) 1 byte here start (length bytes) (omega arith) (omega arith));
       same = λ k below.
-        elim (cases_lt k n) [
-          | inl h ↦ byte_before after (start + n) 1 byte here (start + k) (omega arith) ∙ w.same k h
-          | inr h ↦
-              let e : k ≡ n = omega arith in
-              ap (λ m. slice_index (put_word after (start + n) 1 byte) (start + m)) e
-              ∙ sym (word_1 (put_word after (start + n) 1 byte) (start + n) (omega (arith, length-put_word after (start + n) 1 byte here)))
-              ∙ word_same after (start + n) 1 byte here small ∙ byte_is ∙ ap (slice_index bytes) (sym e)
-        ];
+          elim (cases_lt k n) [
+            | inl h ↦ byte_before after (start + n) 1 byte here (start + k) (omega arith) ∙ w.same k h
+            | inr h ↦
+                let e : k ≡ n = omega arith in
+                ap (λ m. slice_index (put_word after (start + n) 1 byte) (start + m)) e
+                ∙ sym (word_1 (put_word after (start + n) 1 byte) (start + n) (omega (arith, length-put_word after (start + n) 1 byte here)))
+                ∙ word_same after (start + n) 1 byte here small ∙ byte_is ∙ ap (slice_index bytes) (sym e)
+          ];
     }
 
 pub written_all : (before after : List ℕ) (start : ℕ) (bytes : List ℕ) (n : ℕ) → IsWrittenTo before after start bytes n → length bytes ≤ n → IsWritten before after start bytes
@@ -138,17 +137,17 @@ module _ (locals heap : ℕ) (memory : Memory) (shape : IsMemory locals heap mem
         record {
           long = length_overlaid o.bytes bytes (omega (arith, old.long, takes.fits.inside)) ∙ old.long;
           same = λ k less free.
-            elim (cases_lt k (length bytes)) [
-              | inl h ↦ written.same k h ∙ sym (byte_of_front o.bytes bytes k h)
-              | inr h ↦ byte_kept memory.bytes after start (length bytes) (start + k) written.changes (inr (omega arith)) (omega arith) ∙ old.bytes k less free ∙ sym (byte_of_rest o.bytes bytes k h)
-            ];
+              elim (cases_lt k (length bytes)) [
+                | inl h ↦ written.same k h ∙ sym (byte_of_front o.bytes bytes k h)
+                | inr h ↦ byte_kept memory.bytes after start (length bytes) (start + k) written.changes (inr (omega arith)) (omega arith) ∙ old.bytes k less free ∙ sym (byte_of_rest o.bytes bytes k h)
+              ];
           many = old.many;
           pointers = λ k less.
-            let slot = slice_index o.slots k in
-            let ends = slot_ends 0 o.size o.slots slot slots (k, less, get_or_default o.slots k slot 0 less) in
-            let null : slice_index_or o.pointers k pointer.Null ≡ pointer.Null = takes.fits.null k pointer.Null (omega (arith, old.many)) in
-            let none : word after (start + slot) 4 ≡ 0 = word_zero after (start + slot) 4 (omega (arith, written.changes.long)) (λ i small. slot_zero slot i k refl less ends small) in
-            subst (λ (p : Pointer). IsAddressOf places (with_object objects birth new) p (word after (start + slot) 4)) (sym null) none;
+              let slot = slice_index o.slots k in
+              let ends = slot_ends 0 o.size o.slots slot slots (k, less, get_or_default o.slots k slot 0 less) in
+              let null : slice_index_or o.pointers k pointer.Null ≡ pointer.Null = takes.fits.null k pointer.Null (omega (arith, old.many)) in
+              let none : word after (start + slot) 4 ≡ 0 = word_zero after (start + slot) 4 (omega (arith, written.changes.long)) (λ i small. slot_zero slot i k refl less ends small) in
+              subst (λ (p : Pointer). IsAddressOf places (with_object objects birth new) p (word after (start + slot) 4)) (sym null) none;
         }
 
     pub bytes_started : IsChanged (with_bytes memory after) places objects (with_object objects birth new)

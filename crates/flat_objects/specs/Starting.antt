@@ -1,5 +1,5 @@
 -- The first bytes and pointers of statics.
-use Rattle.std.specs.Prelude.{◌≡◌, ◌+◌, ◌<◌, ◌≤◌, ℕ, List, length, map, All, replicate, slice_get, slice_index, unwrap_or}
+use Rattle.std.specs.Prelude.{◌≡◌, ◌+◌, ◌<◌, ◌≤◌, ℕ, List, length, All, replicate, slice_get, slice_index, unwrap_or}
 use Rattle.hs_base.specs.declared.values.Pointer.TheVariants as pointer
 use Rattle.hs_base.specs.Access.{overlaid}
 use Rattle.hs_base.specs.Object.{Object, object_at}

@@ -35,12 +35,7 @@ fn forms_of(alloc: Global, layouts: &[Layout]) -> Result<Vec<Adjuster>, NoMemory
 }
 
 /// Writes bytes from an address on.
-fn write_bytes<L: Ledger>(
-    memory: &mut FlatBytes,
-    start: u32,
-    bytes: &[u8],
-    steps: &mut Steps<L>,
-)
+fn write_bytes<L: Ledger>(memory: &mut FlatBytes, start: u32, bytes: &[u8], steps: &mut Steps<L>)
     requires inside { start + length bytes.now ≤ length memory.old }
     requires fits { start + length bytes.now < 2 ^ 32 }
     ensures { IsWritten memory.old memory.new start bytes.now }

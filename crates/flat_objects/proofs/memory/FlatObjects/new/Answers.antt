@@ -1,4 +1,3 @@
-use Rattle.std.proofs.Common.{◌≡◌, ◌+◌}
 use Rattle.flat_objects.specs.Memory.{Memory}
 use Rattle.flat_objects.proofs.Made.{new_memory}
 use Rattle.flat_objects.proofs.memory.FlatObjects.new.Goals as goal

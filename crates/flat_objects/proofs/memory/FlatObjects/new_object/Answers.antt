@@ -1,6 +1,5 @@
-use Rattle.std.proofs.Common.{◌≡◌, List, length, Some, sym, subst, refl}
+use Rattle.std.proofs.Common.{◌≡◌, Some, sym, subst}
 use Rattle.std.specs.Prelude.{option_map, slice_get}
-use Rattle.hs_base.specs.Object.{Object}
 use Rattle.adjusters.specs.ObjectSlots.{element_of}
 use Rattle.heap_blocks.specs.Held.{address_of, fit_of}
 use Rattle.flat_objects.specs.Memory.{Memory, Heap}

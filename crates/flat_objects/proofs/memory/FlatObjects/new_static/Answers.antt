@@ -1,6 +1,6 @@
-use Rattle.std.proofs.Common.{◌≡◌, ◌∙◌, ℕ, List, length, Some, sym, ap, subst, refl}
+use Rattle.std.proofs.Common.{◌≡◌, ◌∙◌, ℕ, Some, sym, ap, subst}
 use Rattle.std.specs.Prelude.{option_map, slice_get, IfSome}
-use Rattle.hs_base.specs.Object.{Object, Static}
+use Rattle.hs_base.specs.Object.{Static}
 use Rattle.adjusters.specs.ObjectSlots.{element_of}
 use Rattle.heap_blocks.specs.Held.{address_of, fit_of}
 use Rattle.flat_objects.specs.Memory.{Memory, Statics}

@@ -1,10 +1,6 @@
-use Rattle.std.proofs.Common.{◌≡◌, ◌+◌, ◌≤◌, ℕ, List, length, sym, ap, subst, arith}
-use Rattle.hs_base.specs.Access.{with_object}
-use Rattle.hs_base.specs.Object.{object_at}
-use Rattle.flat_objects.specs.Memory.{Memory, IsMemory}
-use Rattle.flat_objects.specs.Answering.{IsChanged}
-use Rattle.flat_objects.specs.Starting.{IsWritten, TakesBytes, with_first_bytes}
-use Rattle.flat_objects.proofs.Changing.{with_bytes}
+use Rattle.std.proofs.Common.{ℕ, sym, subst}
+use Rattle.flat_objects.specs.Memory.{Memory}
+use Rattle.flat_objects.specs.Starting.{IsWritten, TakesBytes}
 use Rattle.flat_objects.proofs.Started.{taken_inside, taken_small, bytes_started}
 use Rattle.flat_objects.proofs.memory.FlatObjects.start_bytes.Goals as goal
 
