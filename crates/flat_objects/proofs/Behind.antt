@@ -1,5 +1,5 @@
 -- The bytes behind the start of a string.
-use Rattle.std.proofs.Common.{◌≡◌, ℕ, ◌+◌, ◌-◌, ◌%◌, ◌<◌, ◌≤◌, ◌^◌, List, true, false, Option, Some, None, Result, Ok, Err, length, get_or, refl, sym, ap, ◌∙◌, arith, subst}
+use Rattle.std.proofs.Common.{◌≡◌, ℕ, ◌+◌, ◌-◌, ◌<◌, ◌≤◌, List, false, Some, Result, Ok, Err, length, get_or, refl, sym, ap, ◌∙◌, arith}
 use Rattle.std.specs.Prelude.{slice_index}
 use Rattle.hs_base.specs.declared.values.Pointer.{Pointer}
 use Rattle.hs_base.specs.declared.values.Pointer.TheVariants as pointer
@@ -8,16 +8,16 @@ use Rattle.hs_base.specs.Bytes.{word}
 use Rattle.hs_base.specs.Object.{Object, object_at}
 use Rattle.hs_base.proofs.Words.{word_1}
 use Rattle.adjusters.specs.ObjectSlots.{Element, object_slots}
-use Rattle.object_meaning.specs.Strings.{behind, byte_behind, string_at, room_at}
+use Rattle.object_meaning.specs.Strings.{behind, byte_behind, room_at}
 use Rattle.flat_objects.specs.declared.finding.Found.{Found}
 use Rattle.flat_objects.specs.Memory.{Memory, IsMemory}
-use Rattle.flat_objects.specs.Standing.{IsAt, IsAddressOf}
-use Rattle.flat_objects.specs.Keeping.{Keeps, KeepsAt}
+use Rattle.flat_objects.specs.Standing.{IsAddressOf}
+use Rattle.flat_objects.specs.Keeping.{KeepsAt}
 use Rattle.flat_objects.specs.Texts.{IsIn, KeepsText, StringByte}
 use Rattle.flat_objects.proofs.Owners.{own_inside}
 use Rattle.flat_objects.proofs.Reached.{Finds, slots_are}
 use Rattle.flat_objects.proofs.Reading.{string_has}
-use Rattle.flat_objects.proofs.Trying.{LetInteger, let_integer, place_at, allowed_integer}
+use Rattle.flat_objects.proofs.Trying.{let_integer, allowed_integer}
 
 pub text_of : (memory : Memory) (places : ℕ → ℕ) (objects : List Object) (addr : ℕ) (found : Found) (p : Pointer) → (addr ≡ 0 → ⊥) → Finds memory addr found → KeepsAt memory places objects p addr → KeepsText memory places objects p (Some found)
 text_of memory places objects addr found pointer.Null some finds at = absurd (some at.stands)

@@ -1,21 +1,20 @@
 -- Addresses that are moved by distances.
-use Rattle.std.proofs.Common.{List, ◌≡◌, ℕ, zero, suc, ◌+◌, ◌^◌, ◌<◌, ◌≤◌, ◌⊎◌, inl, inr, Bool, true, false, ℤ, pos, negsuc, ◌+ℤ◌, ◌-ℤ◌, neg_ℤ, ◌<ℤ◌, ◌≤ℤ◌, Result, Ok, Err, refl, sym, ap, ◌∙◌, subst, arith, FitsSigned, ⊎_elim, length}
+use Rattle.std.proofs.Common.{List, ◌≡◌, ℕ, suc, ◌+◌, ◌^◌, ◌<◌, ◌≤◌, ◌⊎◌, inl, inr, ℤ, pos, negsuc, ◌+ℤ◌, ◌-ℤ◌, neg_ℤ, ◌<ℤ◌, Result, Ok, Err, refl, sym, ap, ◌∙◌, subst, arith, FitsSigned, ⊎_elim}
 use Rattle.std.specs.Prelude.{nat_le}
 use Rattle.std.proofs.lemmas.Int.{ints, fits_signed_from_abs}
 use Rattle.std.proofs.lemmas.Bool.{cases_lt, cond-true, cond-false, le-leb, lt-leb}
 use mir.Syntax.{w128}
 use Rattle.hs_base.specs.declared.ends.TrapKind.{TrapKind}
 use Rattle.hs_base.specs.declared.ends.TrapKind.TheVariants as trap
-use Rattle.hs_base.specs.declared.values.Value.{Value}
 use Rattle.hs_base.specs.declared.values.Pointer.{Pointer}
 use Rattle.hs_base.specs.declared.values.Pointer.TheVariants as pointer
-use Rattle.hs_base.specs.Access.{Refusal, Trapped}
+use Rattle.hs_base.specs.Access.{Trapped}
 use Rattle.hs_base.specs.Object.{Object, object_at}
 use Rattle.object_meaning.specs.Arithmetic.{within_object, moved_by}
 use Rattle.object_meaning.specs.Values.{address}
 use Rattle.flat_objects.specs.declared.finding.Found.{Found}
 use Rattle.flat_objects.specs.Memory.{Memory, IsMemory}
-use Rattle.flat_objects.specs.Standing.{IsAt, IsAddressOf}
+use Rattle.flat_objects.specs.Standing.{IsAt}
 use Rattle.flat_objects.specs.Keeping.{KeepsAt}
 use Rattle.flat_objects.specs.Moving.{IsFar, MovesTo}
 use Rattle.flat_objects.specs.Answering.{Traps, AnswersAddress}
@@ -65,10 +64,11 @@ moved_far_is locals heap memory shape places objects (pointer.At birth offset) a
 module _ (places : ℕ → ℕ) (objects : List Object) (birth offset start size : ℕ) (d place : ℤ) (addr : ℕ) (at : IsAt places objects birth offset addr) (start_is : start ≡ places birth) (size_is : size ≡ (object_at objects birth).size) (place_is : place ≡ pos offset +ℤ d) where
   place_answer : (result : Result ℕ TrapKind) → MovesTo start size place result → AnswersAddress places objects result (moved_by objects (pointer.At birth offset) d)
   place_answer (Ok new) (k, k_is, inside, new_is) =
-      let total = (object_at objects birth).size in
-      (pointer.At birth k,
+      let total = (object_at objects birth).size in (
+        pointer.At birth k,
         ap (within_object birth total) (sym place_is ∙ k_is) ∙ cond-true (nat_le k total) (Ok (address (pointer.At birth k))) (Err (Trapped trap.Range)) (le-leb k total (omega arith)),
-        record { there = at.there; inside = omega arith; address = new_is ∙ ap (λ s. s + k) start_is })
+        record { there = at.there; inside = omega arith; address = new_is ∙ ap (λ s. s + k) start_is },
+      )
   place_answer (Err kind) (kind_is, out) =
       let total = (object_at objects birth).size in
       subst (λ (t : TrapKind). Traps t (moved_by objects (pointer.At birth offset) d)) (sym kind_is)

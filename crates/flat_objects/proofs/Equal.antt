@@ -1,11 +1,11 @@
 -- Addresses of two pointers.
-use Rattle.std.proofs.Common.{List, ◌≡◌, ℕ, ◌+◌, ◌<◌, ◌≤◌, ◌⊎◌, inl, inr, Bool, true, false, cond, Result, Ok, Err, refl, sym, ap, ◌∙◌, subst, arith}
-use Rattle.std.specs.Prelude.{nat_eq, ◌&&◌}
+use Rattle.std.proofs.Common.{List, ◌≡◌, ℕ, ◌+◌, ◌≤◌, inl, inr, true, Ok, Err, refl, sym, ap, ◌∙◌, subst, arith}
+use Rattle.std.specs.Prelude.{nat_eq}
 use Rattle.std.proofs.lemmas.Bool.{cases_eq, cond-true, cond-false, eq-eqb, ne_eqb, eqb-true, and_from, and_parts, false_from_ne_true}
 use Rattle.hs_base.specs.declared.ends.TrapKind.TheVariants as trap
 use Rattle.hs_base.specs.declared.values.Pointer.{Pointer}
 use Rattle.hs_base.specs.declared.values.Pointer.TheVariants as pointer
-use Rattle.hs_base.specs.Access.{Refusal, Trapped}
+use Rattle.hs_base.specs.Access.{Trapped}
 use Rattle.hs_base.specs.Object.{Object, object_at}
 use Rattle.object_meaning.specs.Arithmetic.{same_pointer, offsets}
 use Rattle.flat_objects.specs.declared.finding.Found.{Found}
@@ -13,7 +13,7 @@ use Rattle.flat_objects.specs.Memory.{Memory, IsMemory}
 use Rattle.flat_objects.specs.Standing.{IsThere, IsAt, IsAddressOf}
 use Rattle.flat_objects.specs.Keeping.{Keeps, KeepsAt}
 use Rattle.flat_objects.specs.Answering.{Traps}
-use Rattle.flat_objects.proofs.Apart.{EndsBefore, objects_apart}
+use Rattle.flat_objects.proofs.Apart.{objects_apart}
 use Rattle.flat_objects.proofs.Owners.{own_lies}
 use Rattle.flat_objects.proofs.Reached.{Finds}
 

@@ -14,3 +14,6 @@ mod Distances
 mod Equal
 mod Reading
 mod Behind
+mod Added
+mod Made
+mod Started

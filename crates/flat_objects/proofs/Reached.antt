@@ -1,6 +1,6 @@
 -- What a found object says of an access to it.
-use Rattle.std.proofs.Common.{◌≡◌, ◌<◌, ◌≤◌, ◌+◌, ◌-◌, ◌%◌, ◌∙◌, ℕ, Bool, true, false, List, length, get_or, Some, Ok, refl, sym, ap, subst, arith}
-use Rattle.std.specs.Prelude.{slice_get, Contains}
+use Rattle.std.proofs.Common.{◌≡◌, ◌<◌, ◌≤◌, ◌+◌, ◌-◌, ◌%◌, ◌∙◌, ℕ, true, false, List, length, get_or, Ok, refl, sym, ap, subst, arith}
+use Rattle.std.specs.Prelude.{Contains}
 use Rattle.std.proofs.lemmas.Bool.{false_from_ne_true}
 use Rattle.std.proofs.lemmas.Option.{slice_get_within, get_or_from_slice_get}
 use Rattle.c_types.specs.Layouts.{AreSlots}
@@ -85,9 +85,11 @@ module _ (memory : Memory) (places : ℕ → ℕ) (objects : List Object) (p : P
 
     pub let_integers : touches_slot (object_slots form found.size) found.offset n ≡ false → (at : Place) × (access_integer objects p n ≡ Ok at)
     let_integers clear =
-        let s = stands_at in
-        (place_at r.birth found.offset, ap (λ q. access_integer objects q n) r.target
-        ∙ allowed_integer objects r.birth found.offset n s.there (omega (arith, r.inside, r.finds.size)) r.aligned (ap (λ slots. touches_slot slots found.offset n) (sym own_slots) ∙ clear))
+        let s = stands_at in (
+          place_at r.birth found.offset,
+          ap (λ q. access_integer objects q n) r.target
+              ∙ allowed_integer objects r.birth found.offset n s.there (omega (arith, r.inside, r.finds.size)) r.aligned (ap (λ slots. touches_slot slots found.offset n) (sym own_slots) ∙ clear),
+        )
 
     pub pointer_trap : n ≡ 4 → (Contains (object_slots form found.size) found.offset → ⊥) → Traps trap.Layout (access_pointer objects p)
     pointer_trap four none =
@@ -102,6 +104,8 @@ module _ (memory : Memory) (places : ℕ → ℕ) (objects : List Object) (p : P
     let_pointers four some =
         let s = stands_at in
         let even : found.offset % 4 ≡ 0 = ap (λ m. found.offset % m) (sym four) ∙ r.aligned in
-        let o = object_at objects r.birth in
-        (place_at r.birth found.offset, ap (λ q. access_pointer objects q) r.target
-        ∙ allowed_pointer objects r.birth found.offset 4 s.there (omega (arith, r.inside, r.finds.size)) even (there_is_slot o.slots found.offset (subst (λ (slots : List ℕ). Contains slots found.offset) own_slots some)))
+        let o = object_at objects r.birth in (
+          place_at r.birth found.offset,
+          ap (λ q. access_pointer objects q) r.target
+              ∙ allowed_pointer objects r.birth found.offset 4 s.there (omega (arith, r.inside, r.finds.size)) even (there_is_slot o.slots found.offset (subst (λ (slots : List ℕ). Contains slots found.offset) own_slots some)),
+        )

@@ -1,12 +1,11 @@
 -- Strings, byte by byte.
-use Rattle.std.proofs.Common.{inl, inr, ◌≡◌, ◌≢◌, ℕ, zero, suc, ◌+◌, ◌-◌, ◌<◌, ◌≤◌, List, [], ◌∷◌, Bool, true, false, cond, Result, Ok, Err, length, get_or, refl, sym, ap, ◌∙◌, arith, pos, negsuc, ℤ, subst}
+use Rattle.std.proofs.Common.{inl, inr, ◌≡◌, ◌≢◌, ℕ, zero, suc, ◌+◌, ◌-◌, ◌<◌, ◌≤◌, List, [], ◌∷◌, cond, Result, Ok, Err, length, refl, sym, ap, ◌∙◌, arith, pos, negsuc, ℤ}
 use Rattle.std.specs.Prelude.{nat_eq, nat_lt, slice_index}
 use Rattle.std.proofs.lemmas.Bool.{ne_eqb, cases_eq, lt-ltb, le-ltb}
-use Rattle.hs_base.specs.declared.ends.TrapKind.TheVariants as trap
 use Rattle.hs_base.specs.declared.values.Pointer.{Pointer}
-use Rattle.hs_base.specs.Access.{Refusal, Trapped, and_then}
+use Rattle.hs_base.specs.Access.{Refusal, and_then}
 use Rattle.hs_base.specs.Object.{Object}
-use Rattle.object_meaning.specs.Strings.{byte_behind, with_byte, string_from, string_at, room_at, byte_order, order_from, order_of}
+use Rattle.object_meaning.specs.Strings.{byte_behind, with_byte, string_from, byte_order, order_from}
 
 -- how many bytes, after so many
 abbrev pub counted : ℕ → Result (List ℕ) Refusal → Result ℕ Refusal

@@ -5,3 +5,5 @@ pub mod Reaching
 pub mod Answering
 pub mod Moving
 pub mod Texts
+pub mod Adding
+pub mod Starting

@@ -47,12 +47,7 @@ fn low_bits(kind: IntKind, n: i128) -> u64
 
 impl FlatObjects {
     /// Tries an access to so many bytes at an address: null, past the size, at an odd offset.
-    fn reach<L: Ledger>(
-        &self,
-        addr: u32,
-        n: u32,
-        steps: &mut Steps<L>,
-    ) -> Result<Found, TrapKind>
+    fn reach<L: Ledger>(&self, addr: u32, n: u32, steps: &mut Steps<L>) -> Result<Found, TrapKind>
         requires kept { IsKept self.now addr }
         requires some { 0 < n }
         ensures { (places : ℕ → ℕ) (objects : List Object) (p : Pointer) → KeepsAt self.now places objects p addr → Reaches self.now places objects p n result }
@@ -120,11 +115,7 @@ impl FlatObjects {
     }
 
     /// The pointer at an address. It traps as an access does.
-    pub fn load_pointer<L: Ledger>(
-        &self,
-        addr: u32,
-        steps: &mut Steps<L>,
-    ) -> Result<u32, TrapKind>
+    pub fn load_pointer<L: Ledger>(&self, addr: u32, steps: &mut Steps<L>) -> Result<u32, TrapKind>
         requires { IsKept self.now addr }
         ensures { (places : ℕ → ℕ) (objects : List Object) (p : Pointer) → KeepsAt self.now places objects p addr → AnswersAddress places objects result (loaded_pointer objects p) }
     {

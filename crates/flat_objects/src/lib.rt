@@ -5,6 +5,8 @@ mod access;
 mod arithmetic;
 mod finding;
 mod memory;
+mod new_objects;
+mod statics;
 mod strings;
 mod words;
 

@@ -63,11 +63,7 @@ impl FlatObjects {
     }
 
     /// How many bytes stand at an address in front of the first zero.
-    pub fn string_length<L: Ledger>(
-        &self,
-        addr: u32,
-        steps: &mut Steps<L>,
-    ) -> Result<u32, TrapKind>
+    pub fn string_length<L: Ledger>(&self, addr: u32, steps: &mut Steps<L>) -> Result<u32, TrapKind>
         requires { IsKept self.now addr }
         ensures { (places : ℕ → ℕ) (objects : List Object) (p : Pointer) → KeepsAt self.now places objects p addr → AnswersLength result (string_at objects p) }
     {

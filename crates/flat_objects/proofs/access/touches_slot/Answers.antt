@@ -1,4 +1,4 @@
-use Rattle.std.proofs.Common.{◌≡◌, ◌+◌, ◌*◌, ◌/◌, ◌∙◌, sym}
+use Rattle.std.proofs.Common.{◌*◌, ◌/◌, ◌∙◌, sym}
 use Rattle.std.specs.Prelude.{Contains}
 use Rattle.std.proofs.lemmas.Bool.{ne_eqb}
 use Rattle.adjusters.specs.ObjectSlots.{object_slots}

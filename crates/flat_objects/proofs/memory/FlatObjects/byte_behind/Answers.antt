@@ -1,4 +1,4 @@
-use Rattle.std.proofs.Common.{◌≡◌, ◌∙◌, ◌+◌, ◌-◌, ◌<◌, ◌≤◌, Option, Some, List, get_or, length, ap, sym, subst, arith}
+use Rattle.std.proofs.Common.{◌≡◌, ◌∙◌, ◌+◌, Option, get_or, length, ap, sym, subst, arith}
 use Rattle.hs_base.specs.Bytes.{word}
 use Rattle.flat_objects.specs.declared.finding.Found.{Found}
 use Rattle.flat_objects.specs.Memory.{Memory, IsMemory}

@@ -1,4 +1,4 @@
-use Rattle.std.proofs.Common.{◌≡◌, ◌∙◌, ℤ, Ok, Result, ap, sym, subst, rules, not, to_z, of_z}
+use Rattle.std.proofs.Common.{◌∙◌, Ok, Result, ap, sym, subst, rules, not}
 use Rattle.std.proofs.lemmas.Int.{to_z-of_z}
 use mir.Syntax.{w128}
 use mir.Val.{SFits}

@@ -1,11 +1,8 @@
-use Rattle.std.proofs.Common.{◌≡◌, ◌≤◌, ◌+◌, ◌-◌, ◌∙◌, ℕ, List, length, Option, Some, sym, ap, arith, subst}
+use Rattle.std.proofs.Common.{◌≡◌, ◌-◌, ◌∙◌, ℕ, List, length, sym, ap, arith, subst}
 use Rattle.std.proofs.lemmas.Option.{same_Some}
-use Rattle.hs_base.specs.Object.{object_at}
-use Rattle.heap_blocks.specs.declared.headers.Header.{Header}
 use Rattle.heap_blocks.specs.Heads.{header_at}
 use Rattle.flat_objects.specs.Memory.{Memory, IsMemory}
-use Rattle.flat_objects.specs.Keeping.{KeepsAt, IsKept}
-use Rattle.flat_objects.proofs.Owners.{Kept, kept, owned, own_inside, own_lies, found_at}
+use Rattle.flat_objects.proofs.Owners.{kept, owned, own_inside, found_at}
 use Rattle.flat_objects.proofs.memory.FlatObjects.find.Goals as goal
 
 pub unreachable-requires : goal.unreachable-requires

@@ -1,4 +1,4 @@
-use Rattle.std.proofs.Common.{◌<◌, ◌-◌, arith}
+use Rattle.std.proofs.Common.{arith}
 use Rattle.flat_objects.proofs.Reached.{reached_bounds, reached_align, reached}
 use Rattle.flat_objects.proofs.memory.FlatObjects.reach.Goals as goal
 

@@ -1,4 +1,4 @@
-use Rattle.std.proofs.Common.{◌≡◌, ◌∙◌, ◌+◌, ◌≤◌, List, length, ap, sym, subst, arith}
+use Rattle.std.proofs.Common.{◌≡◌, ◌∙◌, ◌+◌, length, ap, subst, arith}
 use Rattle.hs_base.specs.Bytes.{word}
 use Rattle.hs_base.proofs.Words.{word_1}
 use Rattle.flat_objects.specs.Memory.{Memory, IsMemory}
