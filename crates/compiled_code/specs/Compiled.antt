@@ -8,6 +8,8 @@ use Rattle.core_tree.specs.declared.program.Reg.{Reg}
 use Rattle.core_tree.specs.declared.program.Static.{Static}
 use Rattle.core_tree.specs.declared.statements.Atom.{Atom}
 use Rattle.core_tree.specs.declared.statements.Stm.{Stm}
+use Rattle.core_tree.specs.declared.statements.StmKind.{StmKind}
+use Rattle.core_tree.specs.declared.statements.StmKind.TheVariants.{Printf}
 use Rattle.core_tree.specs.Sound.{main_of, element_layouts}
 use Rattle.c_types.specs.declared.layouts.Layout.{Layout}
 use Rattle.flat_code.specs.declared.instructions.Instr.{Instr}
@@ -51,9 +53,15 @@ abbrev pub IsLayoutIn : Core → Layout → Type 0
 IsLayoutIn core layout =
     Any (λ (static : Static). static.layout ≡ layout) core.statics ⊎ Any (λ (func : Func). Any (λ (mem : Mem). mem.layout ≡ layout) func.mems ⊎ Any (λ (stm : Stm). Contains (element_layouts stm.kind) layout) func.body) core.funcs
 
--- a format of one of the core's functions
+-- the format that a statement writes
+abbrev pub format_of : Func → StmKind → Option (List ℕ)
+format_of func (Printf r format args) = slice_get func.formats format
+format_of func kind = None
+
+-- a format that a statement of the core writes
 abbrev pub IsFormatIn : Core → List ℕ → Type 0
-IsFormatIn core format = Any (λ (func : Func). Contains func.formats format) core.funcs
+IsFormatIn core format =
+    Any (λ (func : Func). Any (λ (stm : Stm). format_of func stm.kind ≡ Some format) func.body) core.funcs
 
 pub record IsCompiled (core : Core) (code : Code) : Type 0 where
   -- the run begins by a call of main, at the line of its definition
@@ -67,7 +75,7 @@ pub record IsCompiled (core : Core) (code : Code) : Type 0 where
   pub functions : (f : ℕ) (func : Func) → slice_get core.funcs f ≡ Some func → (entry : Entry) × (slice_get code.funcs f ≡ Some entry) × IsEntry core code f func entry
   pub statements : (f point : ℕ) (func : Func) (stm : Stm) → slice_get core.funcs f ≡ Some func → slice_get func.body point ≡ Some stm → IsStatement core code f func (place_of core f func.body point) stm
   pub statics : (k : ℕ) (static : Static) → slice_get core.statics k ≡ Some static → (init : StaticInit) × (slice_get code.statics k ≡ Some init) × IsStatic code static init
-  -- every layout and every format is one of the core's
+  -- every layout is one of the core's, and every format is one that a statement of it writes
   pub layouts : All (IsLayoutIn core) code.layouts
   pub formats : All (IsFormatIn core) code.formats
   -- nothing is freed
