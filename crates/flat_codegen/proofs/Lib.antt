@@ -1,0 +1,3 @@
+pub mod Gets
+pub mod Adding
+pub mod Stepping

@@ -79,7 +79,8 @@ impl Emitter {
             params: func.params,
             kinds,
             mems,
-        })
+        })?;
+        Ok(())
     }
 
     /// Adds a statement.
