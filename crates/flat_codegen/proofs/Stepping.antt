@@ -37,11 +37,11 @@ places_whole points end first body count last before point =
     let read : place_at points end point ≡ get_or points point end = unwrap_or-slice_get points point end in
     ⊎_elim
     (λ (h : point < length body).
-        let inside : point < length points = omega arith in
-        read ∙ get_or_default points point end 0 inside ∙ before point h)
+    let inside : point < length points = omega arith in
+    read ∙ get_or_default points point end 0 inside ∙ before point h)
     (λ (h : length body ≤ point).
-        let outside : length points ≤ point = omega arith in
-        read ∙ get_or_past points point end outside ∙ last ∙ ap (λ (b : List Stm). first + body_length b) (sym (take_all point body h)))
+    let outside : length points ≤ point = omega arith in
+    read ∙ get_or_past points point end outside ∙ last ∙ ap (λ (b : List Stm). first + body_length b) (sym (take_all point body h)))
     (cases_lt point (length body))
 
 -- what is handed over: the operands, and the number beside them

@@ -17,9 +17,15 @@ use Rattle.flat_code.specs.declared.instructions.Op.{Op}
 use Rattle.flat_code.specs.declared.instructions.Op.TheVariants as op
 use Rattle.flat_code.specs.declared.program.Code.{Code}
 use Rattle.flat_code.specs.declared.program.Entry.{Entry}
+use Rattle.flat_code.specs.declared.program.StaticInit.{StaticInit}
 use Rattle.compiled_code.specs.Handing.{hand_of, handed_atoms}
 use Rattle.compiled_code.specs.Places.{body_length}
 use Rattle.compiled_code.specs.Compiled.{format_of}
+
+-- the code with its statics and their layouts alone
+abbrev pub before_functions : List StaticInit → List Layout → Code
+before_functions statics layouts =
+    record { instrs = []; funcs = []; statics = statics; layouts = layouts; sites = []; lines = []; formats = [] }
 
 -- the code with some instructions at its end, which all have one line
 abbrev pub with_instrs : Code → ℕ → List Instr → Code

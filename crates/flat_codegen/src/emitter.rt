@@ -1,10 +1,11 @@
 //! Code that grows at its end.
 
 ghost use Rattle.std.specs.Prelude.{◌≡◌, ◌∷◌, [], IfOk};
-ghost use Rattle.flat_codegen.specs.Emitting.{with_instrs, with_layouts, with_formats};
+ghost use Rattle.flat_code.specs.WellFormed.{IsShort};
+ghost use Rattle.flat_codegen.specs.Emitting.{before_functions, with_instrs, with_layouts, with_formats};
 
 use c_types::Layout;
-use flat_code::{Code, Instr};
+use flat_code::{Code, Instr, StaticInit};
 use hs_base::{Items, Line, NoMemory};
 use std::alloc::Global;
 
@@ -23,7 +24,7 @@ pub(crate) fn fit(number: usize) -> Result<u32, NoMemory>
 }
 
 /// A copy of a layout.
-fn layout_copy(alloc: Global, layout: &Layout) -> Result<Layout, NoMemory>
+pub(crate) fn layout_copy(alloc: Global, layout: &Layout) -> Result<Layout, NoMemory>
     ensures { IfOk result (λ copy. copy ≡ layout.now) }
 {
     Ok(Layout {
@@ -34,22 +35,34 @@ fn layout_copy(alloc: Global, layout: &Layout) -> Result<Layout, NoMemory>
 }
 
 impl Emitter {
-    /// No code yet.
-    pub(crate) fn new(alloc: Global) -> Emitter
-        ensures { result.code ≡ record { instrs = []; funcs = []; statics = []; layouts = []; sites = []; lines = []; formats = [] } }
+    /// Code that has its statics and their layouts, and no function yet.
+    pub(crate) fn new(alloc: Global, statics: Items<StaticInit>, layouts: Items<Layout>) -> Emitter
+        ensures { result.code ≡ before_functions statics layouts }
     {
         Emitter {
             alloc,
             code: Code {
                 instrs: Items::new(alloc),
                 funcs: Items::new(alloc),
-                statics: Items::new(alloc),
-                layouts: Items::new(alloc),
+                statics,
+                layouts,
                 sites: Items::new(alloc),
                 lines: Items::new(alloc),
                 formats: Items::new(alloc),
             },
         }
+    }
+
+    /// The code, where its lists are short enough for numbers of 32 bits. No memory holds longer ones.
+    pub(crate) fn finish(self) -> Result<Code, NoMemory>
+        ensures code { IfOk result (λ code. code ≡ self.code) }
+        ensures short { IfOk result (λ code. IsShort code.instrs × IsShort code.layouts × IsShort code.formats) }
+    {
+        let Emitter { alloc: _, code } = self;
+        fit(code.instrs.len())?;
+        fit(code.layouts.len())?;
+        fit(code.formats.len())?;
+        Ok(code)
     }
 
     /// Adds an instruction.

@@ -11,3 +11,7 @@ mod emitter;
 mod functions;
 mod handing;
 mod places;
+mod program;
+mod statics;
+
+pub use program::compile_core;

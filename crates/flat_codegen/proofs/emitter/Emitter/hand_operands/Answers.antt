@@ -15,8 +15,8 @@ hand-requires c =
 pub loop-place-preserved : goal.loop-place-preserved
 loop-place-preserved c =
     elim c.match-operand.branch [
-      in-Some+in_ok-hand w ↦
-        let more = hands_more c.args.self.now.code c.args.line (operands c.args.kind.now) c.loop-place.place w.in-Some.atom (sym w.in-Some.ensures) in
-        grind (arith, more)
-    | in_default w ↦ grind (arith, common_steps, slice_get_cases)
+      | in-Some+in_ok-hand w ↦
+          let more = hands_more c.args.self.now.code c.args.line (operands c.args.kind.now) c.loop-place.place w.in-Some.atom (sym w.in-Some.ensures) in
+          grind (arith, more)
+      | in_default w ↦ grind (arith, common_steps, slice_get_cases)
     ]
