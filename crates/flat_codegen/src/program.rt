@@ -57,5 +57,6 @@ pub fn compile_core(alloc: Global, core: &Core) -> Result<Code, NoMemory>
     let main = main_of(core);
     emitter.push(line_of(core, main), instr(Op::Start, 0, 0, main as i64))?;
     emitter.functions(core.funcs.as_slice())?;
-    emitter.finish()
+    let code = emitter.finish()?;
+    Ok(code)
 }
