@@ -5,3 +5,4 @@ pub mod Kept
 pub mod Standing
 pub mod Walking
 pub mod Bodies
+pub mod Wholes
