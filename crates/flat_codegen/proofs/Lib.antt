@@ -6,3 +6,4 @@ pub mod Standing
 pub mod Walking
 pub mod Bodies
 pub mod Wholes
+pub mod Closing
