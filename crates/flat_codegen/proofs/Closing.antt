@@ -134,3 +134,15 @@ main_inside (func ∷ funcs) = one_more (is_main func) (first_main funcs) (lengt
 pub all_numbers : (core : Core) → IsSound core → All (λ (func : Func). EachStatement func.body (λ point stm. HasNumbers stm.kind)) core.funcs
 all_numbers core sound = all_at (λ (func : Func). EachStatement func.body (λ point stm. HasNumbers stm.kind)) core.funcs
     (λ f func at. λ point stm e. (sound.functions f func at).numbers point stm e)
+
+-- the same by the steps of the walk
+pub walked : (core : Core) → IsSound core → (statics : List Static) → statics ≡ core.statics → (funcs : List Func) → funcs ≡ core.funcs → (main : ℕ) → main ≡ main_of core →
+    (inits : List StaticInit) → AreInits statics inits → (layouts : List Layout) → layouts ≡ map (λ (static : Static). static.layout) core.statics →
+    (line : ℕ) → line ≡ line_of (slice_get core.funcs main) →
+    (first next last : Code) → first ≡ before_functions inits layouts → next ≡ with_instrs first line (instr op.Start 0 0 0 (pos main) ∷ []) → last ≡ fold with_function next funcs → IsCompiled core last
+walked core sound statics s funcs fs main m inits made layouts l line ln first next last a b c =
+    let begins : next ≡ begun core inits =
+    b ∙ (λ i. with_instrs (a i) (ln i) (instr op.Start 0 0 0 (pos main) ∷ []))
+    ∙ (λ i. with_instrs (before_functions inits (l i)) (line_of (slice_get core.funcs (m i))) (instr op.Start 0 0 0 (pos (m i)) ∷ [])) in
+    let all : last ≡ fold with_function (begun core inits) core.funcs = c ∙ (λ i. fold with_function (begins i) (fs i)) in
+    subst (IsCompiled core) (sym all) (is_compiled core sound inits (subst (λ (xs : List Static). AreInits xs inits) s made))

@@ -1,8 +1,9 @@
 //! The code of a core as a whole.
 
-ghost use Rattle.std.specs.Prelude.{◌≡◌, IfOk, slice_get};
+ghost use Rattle.std.specs.Prelude.{◌≡◌, ◌<◌, ◌^◌, pos, IfOk, slice_get};
 ghost use Rattle.core_tree.specs.Sound.{IsSound, is_main, main_of};
 ghost use Rattle.object_meaning.specs.Meaning.{line_of};
+ghost use Rattle.compiled_code.specs.Handing.{instr};
 ghost use Rattle.compiled_code.specs.Compiled.{IsCompiled};
 ghost use Rattle.flat_code.specs.WellFormed.{AreShort};
 
@@ -10,7 +11,7 @@ use crate::emitter::Emitter;
 use crate::handing::instr;
 use crate::statics::{inits, layouts};
 use core_tree::{Core, Func};
-use flat_code::{Code, Op};
+use flat_code::{Code, Instr, Op};
 use hs_base::{Line, NoMemory};
 use std::alloc::Global;
 
@@ -45,6 +46,14 @@ fn line_of(core: &Core, function: usize) -> Line
     }
 }
 
+/// The first instruction, which calls main.
+fn start(main: usize) -> Instr
+    requires { main < 2 ^ 32 }
+    ensures { result ≡ instr Op.Start 0 0 0 (pos main) }
+{
+    instr(Op::Start, 0, 0, main as i64)
+}
+
 /// The code of a core. Want of memory is the only error.
 pub fn compile_core(alloc: Global, core: &Core) -> Result<Code, NoMemory>
     requires { IsSound core.now }
@@ -55,7 +64,7 @@ pub fn compile_core(alloc: Global, core: &Core) -> Result<Code, NoMemory>
     let layouts = layouts(alloc, core.statics.as_slice())?;
     let mut emitter = Emitter::new(alloc, statics, layouts);
     let main = main_of(core);
-    emitter.push(line_of(core, main), instr(Op::Start, 0, 0, main as i64))?;
+    emitter.push(line_of(core, main), start(main))?;
     emitter.functions(core.funcs.as_slice())?;
     let code = emitter.finish()?;
     Ok(code)
