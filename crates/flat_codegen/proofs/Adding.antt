@@ -1,5 +1,5 @@
 -- Code that grows twice.
-use Rattle.std.proofs.Common.{◌≡◌, ℕ, List, [], ◌∷◌, ◌++◌, map, refl, ap, sym, ◌∙◌, append_assoc}
+use Rattle.std.proofs.Common.{◌≡◌, ℕ, List, [], ◌++◌, map, ap, sym, ◌∙◌, append_assoc}
 use Rattle.std.proofs.lemmas.List.{map-append, append-nil}
 use Rattle.c_types.specs.declared.layouts.Layout.{Layout}
 use Rattle.flat_code.specs.declared.instructions.Instr.{Instr}

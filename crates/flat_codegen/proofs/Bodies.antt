@@ -1,20 +1,16 @@
 -- The statements of a body that was emitted stand one behind the other.
-use Rattle.std.proofs.Common.{◌≡◌, ℕ, ◌+◌, ◌<◌, ◌≤◌, suc, zero, List, [], ◌∷◌, ◌++◌, Option, Some, None, refl, ap, sym, ◌∙◌, subst, length, get_or, map, take, arith, length-append, inl, inr, ⊎_elim}
+use Rattle.std.proofs.Common.{◌≡◌, ℕ, ◌+◌, ◌<◌, ◌≤◌, suc, List, [], ◌∷◌, Option, Some, None, refl, ap, sym, ◌∙◌, subst, length, get_or, map, take, arith, length-append, inr, ⊎_elim}
 use Rattle.std.specs.Prelude.{slice_get, All, fold}
 use Rattle.std.specs.Option.{option_to_list}
 use Rattle.std.proofs.lemmas.List.{length-map}
 use Rattle.std.proofs.lemmas.List.Elements.{All-append}
 use Rattle.std.proofs.lemmas.Bool.{cases_lt}
-use Rattle.c_types.specs.declared.layouts.Layout.{Layout}
 use Rattle.core_tree.specs.declared.program.Core.{Core}
 use Rattle.core_tree.specs.declared.program.Func.{Func}
 use Rattle.core_tree.specs.declared.statements.Stm.{Stm}
-use Rattle.core_tree.specs.declared.statements.StmKind.{StmKind}
 use Rattle.core_tree.specs.Sound.{element_layouts}
 use Rattle.flat_code.specs.declared.instructions.Instr.{Instr}
 use Rattle.flat_code.specs.declared.program.Code.{Code}
-use Rattle.flat_code.specs.declared.program.Entry.{Entry}
-use Rattle.flat_code.specs.declared.program.StaticInit.{StaticInit}
 use Rattle.compiled_code.specs.Handing.{code_length}
 use Rattle.compiled_code.specs.Places.{body_length, place_of}
 use Rattle.compiled_code.specs.Compiled.{IsStatement, IsLayoutIn, IsFormatIn, format_of}
@@ -74,12 +70,12 @@ module _ (core : Core) (f : ℕ) (func : Func) (at : slice_get core.funcs f ≡ 
               ⊎_elim
               (λ (lt : point < n). keeps_statement core code new f func (length old.instrs + body_length (take point func.body)) one (extends_statement place func code stm) (written point one g) (h.stand point one lt g))
               (λ (le : n ≤ point).
-                  let here : n ≡ point = omega arith in
-                  let it : one ≡ stm = same_get func.body n point stm one e g here in
-                  let stands : IsStatement core new f func (length code.instrs) stm = statement_stands core code f func place stm right s h.same in
-                  let spot : length code.instrs ≡ length old.instrs + body_length (take point func.body) = h.count ∙ ap (λ (k : ℕ). length old.instrs + body_length (take k func.body)) here in
-                  subst (λ (x : Stm). IsStatement core new f func (length old.instrs + body_length (take point func.body)) x) (sym it)
-                  (subst (λ (k : ℕ). IsStatement core new f func k stm) spot stands))
+              let here : n ≡ point = omega arith in
+              let it : one ≡ stm = same_get func.body n point stm one e g here in
+              let stands : IsStatement core new f func (length code.instrs) stm = statement_stands core code f func place stm right s h.same in
+              let spot : length code.instrs ≡ length old.instrs + body_length (take point func.body) = h.count ∙ ap (λ (k : ℕ). length old.instrs + body_length (take k func.body)) here in
+              subst (λ (x : Stm). IsStatement core new f func (length old.instrs + body_length (take point func.body)) x) (sym it)
+              (subst (λ (k : ℕ). IsStatement core new f func k stm) spot stands))
               (cases_lt point n);
           same = omega (arith, h.same);
           layouts = All-append (IsLayoutIn core) code.layouts (element_layouts stm.kind) h.layouts (elements_in n stm e);

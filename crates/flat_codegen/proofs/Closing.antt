@@ -1,6 +1,6 @@
 -- What was emitted is the code of the core, and its lists are short.
-use Rattle.std.proofs.Common.{◌≡◌, ℕ, ◌+◌, ◌<◌, ◌≤◌, suc, zero, Bool, true, false, cond, List, [], ◌∷◌, ◌++◌, Option, Some, None, refl, ap, sym, ◌∙◌, subst, length, map, arith, get_or}
-use Rattle.std.specs.Prelude.{slice_get, All, Any, fold, pos}
+use Rattle.std.proofs.Common.{◌≡◌, ℕ, ◌+◌, ◌<◌, ◌≤◌, suc, Bool, true, false, cond, List, [], ◌∷◌, Option, Some, None, refl, ap, sym, ◌∙◌, subst, length, map, arith}
+use Rattle.std.specs.Prelude.{slice_get, All, fold, pos}
 use Rattle.std.specs.Option.{option_map}
 use Rattle.std.proofs.lemmas.List.{length-map}
 use Rattle.std.proofs.lemmas.Option.{slice_get_within, slice_get-map, slice_get_read, get_or_from_slice_get}
@@ -23,11 +23,11 @@ use Rattle.flat_code.specs.declared.program.Entry.{Entry}
 use Rattle.flat_code.specs.declared.program.StaticInit.{StaticInit}
 use Rattle.flat_code.specs.WellFormed.{IsShort, AreShort}
 use Rattle.compiled_code.specs.Handing.{instr}
-use Rattle.compiled_code.specs.Compiled.{IsCompiled, IsStatic, IsFormatIn, format_of}
+use Rattle.compiled_code.specs.Compiled.{IsCompiled, IsFormatIn, format_of}
 use Rattle.flat_codegen.specs.Emitting.{before_functions, with_instrs, with_function}
-use Rattle.flat_codegen.specs.Statics.{IsInit, AreInits}
+use Rattle.flat_codegen.specs.Statics.{AreInits}
 use Rattle.flat_codegen.proofs.Gets.{get_within, all_at, same_get}
-use Rattle.flat_codegen.proofs.Kept.{Extends, HasFormat, extends_same}
+use Rattle.flat_codegen.proofs.Kept.{HasFormat, extends_same}
 use Rattle.flat_codegen.proofs.Wholes.{FuncsSoFar, statics_in, whole_core}
 
 -- a format that a statement takes is there
@@ -118,8 +118,11 @@ are_short core sound code h instrs layouts formats = record {
       subst (λ (x : Entry). IsShort x.kinds × IsShort x.mems) same (a, b);
   statics = omega (arith, h.few_statics, sound.short_statics);
   layouts = layouts;
-  formats = (formats, all_at IsShort code.formats (λ k text e.
-      short_format core sound text (subst (IsFormatIn core) (get_or_from_slice_get code.formats k text text e) (h.formats k text (slice_get_within code.formats k text e)))));
+  formats = (
+    formats,
+    all_at IsShort code.formats (λ k text e.
+        short_format core sound text (subst (IsFormatIn core) (get_or_from_slice_get code.formats k text text e) (h.formats k text (slice_get_within code.formats k text e)))),
+  );
 }
 
 -- main is one of the functions, or behind them

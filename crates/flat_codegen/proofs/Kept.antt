@@ -1,11 +1,9 @@
 -- What was said of code that grows at its end stays true.
-use Rattle.std.proofs.Common.{◌≡◌, ℕ, ◌+◌, ◌<◌, suc, zero, List, [], ◌∷◌, ◌++◌, Option, Some, None, refl, ap, sym, ◌∙◌, subst, length, map, arith}
+use Rattle.std.proofs.Common.{◌≡◌, ℕ, List, [], ◌∷◌, Option, Some, None, refl, sym, ◌∙◌, map}
 use Rattle.std.specs.Prelude.{slice_get}
-use Rattle.c_types.specs.declared.layouts.Layout.{Layout}
 use Rattle.core_tree.specs.declared.program.Core.{Core}
 use Rattle.core_tree.specs.declared.program.Func.{Func}
 use Rattle.core_tree.specs.declared.program.Mem.{Mem}
-use Rattle.core_tree.specs.declared.statements.Atom.{Atom}
 use Rattle.core_tree.specs.declared.statements.Stm.{Stm}
 use Rattle.core_tree.specs.declared.statements.StmKind.{StmKind}
 use Rattle.core_tree.specs.declared.statements.StmKind.TheVariants as stm
@@ -13,8 +11,7 @@ use Rattle.flat_code.specs.declared.instructions.Instr.{Instr}
 use Rattle.flat_code.specs.declared.program.Code.{Code}
 use Rattle.flat_code.specs.declared.program.Entry.{Entry}
 use Rattle.compiled_code.specs.Doing.{Does}
-use Rattle.compiled_code.specs.Compiled.{IsStatement, IsEntry, format_of}
-use Rattle.flat_codegen.proofs.Gets.{get_left}
+use Rattle.compiled_code.specs.Compiled.{IsStatement, IsEntry}
 
 -- each element stays where it is
 abbrev pub Grows : {X : Type 0} → List X → List X → Type 0

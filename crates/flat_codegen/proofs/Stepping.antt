@@ -10,7 +10,6 @@ use Rattle.core_tree.specs.Statements.{operands}
 use Rattle.core_tree.specs.Sound.{own_numbers}
 use Rattle.compiled_code.specs.Handing.{hand_of, handed_atoms}
 use Rattle.compiled_code.specs.Places.{body_length}
-use Rattle.flat_code.specs.declared.instructions.Instr.{Instr}
 use Rattle.flat_code.specs.declared.program.Code.{Code}
 use Rattle.flat_codegen.specs.Emitting.{with_instrs, place_from}
 use Rattle.flat_codegen.specs.Placing.{place_at}

@@ -1,5 +1,5 @@
 -- The functions that were emitted stand one behind the other.
-use Rattle.std.proofs.Common.{◌≡◌, ℕ, ◌+◌, ◌<◌, ◌≤◌, suc, zero, List, [], ◌∷◌, ◌++◌, Some, refl, ap, sym, ◌∙◌, subst, length, map, take, arith, length-append, append_assoc}
+use Rattle.std.proofs.Common.{◌≡◌, ℕ, ◌+◌, ◌<◌, ◌≤◌, suc, List, [], ◌∷◌, ◌++◌, Some, refl, ap, sym, ◌∙◌, subst, length, map, take, arith, length-append, append_assoc}
 use Rattle.std.specs.Prelude.{slice_get, All, Any, fold}
 use Rattle.std.specs.List.{range_with_len, sum_by}
 use Rattle.std.specs.Option.{option_map}
@@ -18,9 +18,9 @@ use Rattle.flat_code.specs.declared.program.Code.{Code}
 use Rattle.flat_code.specs.declared.program.Entry.{Entry}
 use Rattle.compiled_code.specs.Places.{body_length, first_of, place_of}
 use Rattle.compiled_code.specs.Compiled.{IsStatement, IsEntry, IsLayoutIn, IsFormatIn}
-use Rattle.flat_codegen.specs.Emitting.{place_from, entry_of, with_entry, with_statement, with_function}
+use Rattle.flat_codegen.specs.Emitting.{place_from, entry_of, with_entry, with_function}
 use Rattle.flat_codegen.proofs.Gets.{get_left, get_next, get_within, any_at, all_at, sum_one_more, same_get}
-use Rattle.flat_codegen.proofs.Kept.{Extends, HasFormat, extends_same, extends_twice, keeps_statement, keeps_entry}
+use Rattle.flat_codegen.proofs.Kept.{Extends, HasFormat, extends_twice, keeps_statement, keeps_entry}
 use Rattle.flat_codegen.proofs.Bodies.{BodySoFar, whole_body}
 use Rattle.flat_codegen.proofs.Walking.{fold_keeps}
 
@@ -102,23 +102,23 @@ module _ (core : Core) (written : (f point : ℕ) (func : Func) (stm : Stm) → 
             ⊎_elim
             (λ (lt : f < n). let found = h.entries f one lt e in (found.0, grows.funcs f found.0 found.1, keeps_entry core code new f one found.0 grows found.2))
             (λ (le : n ≤ f).
-                let here : n ≡ f = omega arith in
-                let it : one ≡ func = same_get core.funcs n f func one at e here in
-                let kept : IsEntry core new n func (entry_of code func) = keeps_entry core mid new n func (entry_of code func) body.grows entry in
-                subst (λ (x : Func). (entry : Entry) × (slice_get new.funcs f ≡ Some entry) × IsEntry core new f x entry) (sym it)
-                (subst (λ (k : ℕ). (entry : Entry) × (slice_get new.funcs k ≡ Some entry) × IsEntry core new k func entry) here (entry_of code func, made, kept)))
+            let here : n ≡ f = omega arith in
+            let it : one ≡ func = same_get core.funcs n f func one at e here in
+            let kept : IsEntry core new n func (entry_of code func) = keeps_entry core mid new n func (entry_of code func) body.grows entry in
+            subst (λ (x : Func). (entry : Entry) × (slice_get new.funcs f ≡ Some entry) × IsEntry core new f x entry) (sym it)
+            (subst (λ (k : ℕ). (entry : Entry) × (slice_get new.funcs k ≡ Some entry) × IsEntry core new k func entry) here (entry_of code func, made, kept)))
             (cases_lt f n);
         statements = λ f point one stm b e g.
             ⊎_elim
             (λ (lt : f < n). keeps_statement core code new f one (place_of core f one.body point) stm grows (written f point one stm e g) (h.statements f point one stm lt e g))
             (λ (le : n ≤ f).
-                let here : n ≡ f = omega arith in
-                let it : one ≡ func = same_get core.funcs n f func one at e here in
-                let there : slice_get func.body point ≡ Some stm = ap (λ (x : Func). slice_get x.body point) (sym it) ∙ g in
-                let stands : IsStatement core new n func (length code.instrs + body_length (take point func.body)) stm = body.stand point stm (slice_get_within func.body point stm there) there in
-                subst (λ (x : Func). IsStatement core new f x (place_of core f x.body point) stm) (sym it)
-                (subst (λ (k : ℕ). IsStatement core new k func (place_of core k func.body point) stm) here
-                 (subst (λ (k : ℕ). IsStatement core new n func k stm) (right point) stands)))
+            let here : n ≡ f = omega arith in
+            let it : one ≡ func = same_get core.funcs n f func one at e here in
+            let there : slice_get func.body point ≡ Some stm = ap (λ (x : Func). slice_get x.body point) (sym it) ∙ g in
+            let stands : IsStatement core new n func (length code.instrs + body_length (take point func.body)) stm = body.stand point stm (slice_get_within func.body point stm there) there in
+            subst (λ (x : Func). IsStatement core new f x (place_of core f x.body point) stm) (sym it)
+            (subst (λ (k : ℕ). IsStatement core new k func (place_of core k func.body point) stm) here
+            (subst (λ (k : ℕ). IsStatement core new n func k stm) (right point) stands)))
             (cases_lt f n);
         layouts = body.layouts;
         formats = body.formats;

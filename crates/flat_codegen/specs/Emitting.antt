@@ -1,12 +1,11 @@
 -- What each step adds to the code that stands so far.
-use Rattle.std.specs.Prelude.{◌≡◌, ◌+◌, ◌++◌, ◌∷◌, [], ℕ, ℤ, pos, List, Option, Some, None, length, map, fold, slice_get, unwrap_or, take}
+use Rattle.std.specs.Prelude.{◌+◌, ◌++◌, ◌∷◌, [], ℕ, ℤ, pos, List, Option, Some, None, length, map, fold, unwrap_or, take}
 use Rattle.std.specs.List.{range_with_len}
 use Rattle.std.specs.Option.{option_to_list}
 use Rattle.c_types.specs.declared.layouts.Layout.{Layout}
 use Rattle.core_tree.specs.declared.program.Func.{Func}
 use Rattle.core_tree.specs.declared.program.Mem.{Mem}
 use Rattle.core_tree.specs.declared.program.Reg.{Reg}
-use Rattle.core_tree.specs.declared.program.Static.{Static}
 use Rattle.core_tree.specs.declared.statements.Stm.{Stm}
 use Rattle.core_tree.specs.declared.statements.StmKind.{StmKind}
 use Rattle.core_tree.specs.declared.statements.StmKind.TheVariants as stm

@@ -1,6 +1,6 @@
 //! The functions of a core.
 
-ghost use Rattle.std.specs.Prelude.{◌≡◌, ◌+◌, ◌++◌, ◌∷◌, [], ℕ, IfOk, All, fold, length, map, option_copied};
+ghost use Rattle.std.specs.Prelude.{◌≡◌, IfOk, All, fold, length, map, option_copied};
 ghost use Rattle.std.specs.List.{range_with_len};
 ghost use Rattle.std.specs.Option.{option_to_list};
 ghost use Rattle.core_tree.specs.declared.program.Func.{Func as CoreFunc};
@@ -8,7 +8,7 @@ ghost use Rattle.core_tree.specs.declared.program.Mem.{Mem as CoreMem};
 ghost use Rattle.core_tree.specs.declared.program.Reg.{Reg as CoreReg};
 ghost use Rattle.core_tree.specs.Sound.{HasNumbers, EachStatement, element_layouts};
 ghost use Rattle.compiled_code.specs.Compiled.{format_of};
-ghost use Rattle.flat_codegen.specs.Emitting.{with_layouts, with_statement, with_entry, with_function, place_from};
+ghost use Rattle.flat_codegen.specs.Emitting.{with_layouts, with_statement, with_entry, with_function};
 ghost use Rattle.flat_codegen.specs.Placing.{place_in};
 
 use crate::doing::Names;

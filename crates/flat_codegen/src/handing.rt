@@ -1,6 +1,6 @@
 //! What a statement hands over.
 
-ghost use Rattle.std.specs.Prelude.{◌≡◌, ◌+◌, ◌++◌, ◌∷◌, [], IfOk, All, flat_map, length, map};
+ghost use Rattle.std.specs.Prelude.{◌≡◌, ◌∷◌, [], IfOk, All, flat_map, length, map};
 ghost use Rattle.std.specs.Option.{option_to_list};
 ghost use Rattle.core_tree.specs.Statements.{operands};
 ghost use Rattle.core_tree.specs.Sound.{IsNumber, HasNumbers, atom_numbers, own_numbers};

@@ -1,14 +1,9 @@
-use Rattle.std.proofs.Common.{◌≡◌, ◌≤◌, ◌<◌, ◌^◌, List, ◌∷◌, [], ap, sym, ◌∙◌, subst, arith, length, map}
-use Rattle.std.specs.Prelude.{All, fold}
+use Rattle.std.proofs.Common.{◌≤◌, ◌<◌, ◌^◌, List, ◌∷◌, [], ap, sym, ◌∙◌, subst, arith, length, map}
+use Rattle.std.specs.Prelude.{All}
 use Rattle.core_tree.specs.declared.program.Func.{Func}
 use Rattle.core_tree.specs.declared.program.Static.{Static}
-use Rattle.core_tree.specs.Sound.{EachStatement, HasNumbers, main_of}
-use Rattle.object_meaning.specs.Meaning.{line_of}
-use Rattle.flat_code.specs.declared.program.Code.{Code}
-use Rattle.flat_code.specs.declared.program.StaticInit.{StaticInit}
-use Rattle.compiled_code.specs.Compiled.{IsCompiled}
+use Rattle.core_tree.specs.Sound.{EachStatement, HasNumbers}
 use Rattle.flat_codegen.specs.Emitting.{with_instrs}
-use Rattle.flat_codegen.specs.Statics.{AreInits}
 use Rattle.flat_codegen.proofs.Closing.{walked, are_short, main_inside, all_numbers}
 use Rattle.flat_codegen.proofs.program.compile_core.Goals as goal
 

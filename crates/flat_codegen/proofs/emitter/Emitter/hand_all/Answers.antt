@@ -1,7 +1,7 @@
-use Rattle.std.proofs.Common.{arith, flat_map}
+use Rattle.std.proofs.Common.{flat_map}
 use Rattle.core_tree.specs.Statements.{operands}
 use Rattle.core_tree.specs.Sound.{IsNumber, atom_numbers, own_numbers}
-use Rattle.flat_codegen.proofs.Gets.{all_left, all_right}
+use Rattle.flat_codegen.proofs.Gets.{all_left}
 use Rattle.flat_codegen.proofs.emitter.Emitter.hand_all.Goals as goal
 
 pub hand_operands-requires : goal.hand_operands-requires

@@ -1,4 +1,4 @@
-use Rattle.std.proofs.Common.{sym, arith, map, take, ◌≡◌}
+use Rattle.std.proofs.Common.{sym, arith}
 use Rattle.std.proofs.lemmas.Grind.{common_steps}
 use Rattle.std.proofs.lemmas.Option.{slice_get_cases}
 use Rattle.core_tree.specs.Statements.{operands}
