@@ -1,0 +1,138 @@
+//! The functions of a core.
+
+ghost use Rattle.std.specs.Prelude.{◌≡◌, IfOk, All, fold, length, map, option_copied};
+ghost use Rattle.std.specs.List.{range_with_len};
+ghost use Rattle.std.specs.Option.{option_to_list};
+ghost use Rattle.core_tree.specs.declared.program.Func.{Func as CoreFunc};
+ghost use Rattle.core_tree.specs.declared.program.Mem.{Mem as CoreMem};
+ghost use Rattle.core_tree.specs.declared.program.Reg.{Reg as CoreReg};
+ghost use Rattle.core_tree.specs.Sound.{HasNumbers, EachStatement, element_layouts};
+ghost use Rattle.compiled_code.specs.Compiled.{format_of};
+ghost use Rattle.flat_codegen.specs.Emitting.{with_layouts, with_statement, with_entry, with_function};
+ghost use Rattle.flat_codegen.specs.Placing.{place_in};
+
+use crate::doing::Names;
+use crate::emitter::{Emitter, fit};
+use crate::places::Places;
+use c_types::Layout;
+use core_tree::{Func, Mem, Reg, Stm, StmKind};
+use flat_code::Entry;
+use hs_base::{Items, NoMemory};
+use std::alloc::Global;
+
+/// The layout of the elements of a new object.
+fn element_layout(kind: &StmKind) -> Option<&Layout>
+    ensures { element_layouts kind.now ≡ option_to_list (option_copied result) }
+{
+    match kind {
+        StmKind::Malloc(_, _, layout)
+        | StmKind::Calloc(_, _, _, layout)
+        | StmKind::Realloc(_, _, _, layout) => Some(layout),
+        _ => None,
+    }
+}
+
+/// The format that a statement of a function writes.
+fn format_of<'a>(func: &'a Func, kind: &StmKind) -> Option<&'a Items<u8>>
+    ensures { option_copied result ≡ format_of func.now kind.now }
+{
+    match kind {
+        StmKind::Printf(_, format, _) => func.formats.get(*format as usize),
+        _ => None,
+    }
+}
+
+/// Whether each register holds a pointer.
+fn kinds_of(alloc: Global, registers: &[Reg]) -> Result<Items<bool>, NoMemory>
+    ensures { IfOk result (λ kinds. kinds ≡ map (λ (r : CoreReg). r.pointer) registers.now) }
+{
+    let mut kinds = Items::new(alloc);
+    for register in registers {
+        kinds.push(register.pointer)?;
+    }
+    Ok(kinds)
+}
+
+impl Emitter {
+    /// Adds the layouts of memory locals, and gives their numbers.
+    fn mems(&mut self, mems: &[Mem]) -> Result<Items<u32>, NoMemory>
+        ensures code { IfOk result (λ _. self.new.code ≡ with_layouts self.old.code (map (λ (m : CoreMem). m.layout) mems.now)) }
+        ensures numbers { IfOk result (λ numbers. numbers ≡ range_with_len (length self.old.code.layouts) (length mems.now)) }
+    {
+        let mut numbers = Items::new(self.alloc);
+        for mem in mems {
+            numbers.push(fit(self.code.layouts.len())?)?;
+            self.layout(&mem.layout)?;
+        }
+        Ok(numbers)
+    }
+
+    /// Adds the entry of a function that comes next.
+    fn entry(&mut self, first: u32, func: &Func) -> Result<(), NoMemory>
+        requires { first ≡ length self.old.code.instrs }
+        ensures { IfOk result (λ _. self.new.code ≡ with_entry self.old.code func.now) }
+    {
+        let kinds = kinds_of(self.alloc, func.regs.as_slice())?;
+        let mems = self.mems(func.mems.as_slice())?;
+        self.code.funcs.push(Entry {
+            first,
+            params: func.params,
+            kinds,
+            mems,
+        })?;
+        Ok(())
+    }
+
+    /// Adds a statement.
+    fn statement(&mut self, func: &Func, places: &Places, stm: &Stm) -> Result<(), NoMemory>
+        requires { HasNumbers stm.now.kind }
+        ensures { IfOk result (λ _. self.new.code ≡ with_statement (place_in places.now) func.now self.old.code stm.now) }
+    {
+        let names = Names {
+            places,
+            layout: fit(self.code.layouts.len())?,
+            format: fit(self.code.formats.len())?,
+        };
+        if let Some(layout) = element_layout(&stm.kind) {
+            self.layout(layout)?;
+        }
+        if let Some(format) = format_of(func, &stm.kind) {
+            self.format(format.as_slice())?;
+        }
+        self.hand_all(stm.line, &stm.kind)?;
+        self.push(stm.line, names.doing(&stm.kind))
+    }
+
+    /// Adds the statements of a function.
+    fn body(&mut self, func: &Func, places: &Places) -> Result<(), NoMemory>
+        requires { EachStatement func.now.body (λ point stm. HasNumbers stm.kind) }
+        ensures { IfOk result (λ _. self.new.code ≡ fold (with_statement (place_in places.now) func.now) self.old.code func.now.body) }
+    {
+        for stm in func.body.as_slice() {
+            self.statement(func, places, stm)?;
+        }
+        Ok(())
+    }
+
+    /// Adds a function.
+    fn function(&mut self, func: &Func) -> Result<(), NoMemory>
+        requires { EachStatement func.now.body (λ point stm. HasNumbers stm.kind) }
+        ensures { IfOk result (λ _. self.new.code ≡ with_function self.old.code func.now) }
+    {
+        let first = fit(self.code.instrs.len())?;
+        let places = Places::of_body(self.alloc, first, func.body.as_slice())?;
+        self.entry(first, func)?;
+        self.body(func, &places)
+    }
+
+    /// Adds functions.
+    pub(crate) fn functions(&mut self, funcs: &[Func]) -> Result<(), NoMemory>
+        requires { All (λ (func : CoreFunc). EachStatement func.body (λ point stm. HasNumbers stm.kind)) funcs.now }
+        ensures { IfOk result (λ _. self.new.code ≡ fold with_function self.old.code funcs.now) }
+    {
+        for func in funcs {
+            self.function(func)?;
+        }
+        Ok(())
+    }
+}

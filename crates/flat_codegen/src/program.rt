@@ -1,0 +1,71 @@
+//! The code of a core as a whole.
+
+ghost use Rattle.std.specs.Prelude.{◌≡◌, ◌<◌, ◌^◌, pos, IfOk, slice_get};
+ghost use Rattle.core_tree.specs.Sound.{IsSound, is_main, main_of};
+ghost use Rattle.object_meaning.specs.Meaning.{line_of};
+ghost use Rattle.compiled_code.specs.Handing.{instr};
+ghost use Rattle.compiled_code.specs.Compiled.{IsCompiled};
+ghost use Rattle.flat_code.specs.WellFormed.{AreShort};
+
+use crate::emitter::Emitter;
+use crate::handing::instr;
+use crate::statics::{inits, layouts};
+use core_tree::{Core, Func};
+use flat_code::{Code, Instr, Op};
+use hs_base::{Line, NoMemory};
+use std::alloc::Global;
+
+/// Says whether a function is named main.
+fn is_main(func: &Func) -> bool
+    ensures { result ≡ is_main func.now }
+{
+    func.name.as_slice() == b"main".as_slice()
+}
+
+/// The number of the function named main.
+fn main_of(core: &Core) -> usize
+    ensures { result ≡ main_of core.now }
+{
+    let mut place = 0;
+    for func in core.funcs.as_slice() {
+        if is_main(func) {
+            return place;
+        }
+        place += 1;
+    }
+    place
+}
+
+/// The line of a function's definition.
+fn line_of(core: &Core, function: usize) -> Line
+    ensures { result ≡ line_of (slice_get core.now.funcs function) }
+{
+    match core.funcs.get(function) {
+        Some(func) => func.line,
+        None => 0,
+    }
+}
+
+/// The first instruction, which calls main.
+fn start(main: usize) -> Instr
+    requires { main < 2 ^ 32 }
+    ensures { result ≡ instr Op.Start 0 0 0 (pos main) }
+{
+    instr(Op::Start, 0, 0, main as i64)
+}
+
+/// The code of a core. Want of memory is the only error.
+pub fn compile_core(alloc: Global, core: &Core) -> Result<Code, NoMemory>
+    requires { IsSound core.now }
+    ensures compiled { IfOk result (λ code. IsCompiled core.now code) }
+    ensures short { IfOk result AreShort }
+{
+    let statics = inits(alloc, core.statics.as_slice())?;
+    let layouts = layouts(alloc, core.statics.as_slice())?;
+    let mut emitter = Emitter::new(alloc, statics, layouts);
+    let main = main_of(core);
+    emitter.push(line_of(core, main), start(main))?;
+    emitter.functions(core.funcs.as_slice())?;
+    let code = emitter.finish()?;
+    Ok(code)
+}
