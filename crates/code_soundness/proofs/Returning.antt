@@ -46,7 +46,7 @@ module _ (code : Code) (wf : IsWellFormed code) (free : IsFreeless code) (c : Co
     -- its register takes what each return of its function gives
     takes_answer : (result : Option Sort) → ((P : Option Sort → Type 0) → EachAnswer code s.running.func P → P result) → GivesTo w.entry result (chosen w.call)
     takes_answer result each =
-        each (λ answer. GivesTo w.entry answer (chosen w.call)) (subst (λ (g : ℕ). EachAnswer code g (λ answer. GivesTo w.entry answer (chosen w.call))) w.names calling.result)
+        each (λ answer. GivesTo w.entry answer (chosen w.call)) (subst (λ (g : ℕ). EachAnswer code g (λ answer. GivesTo w.entry answer (chosen w.call))) w.names calling.result.1)
 
     -- with a register for the answer, or none
     abbrev again : Option ℕ → Value → Frame

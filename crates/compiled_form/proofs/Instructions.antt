@@ -1,17 +1,20 @@
 -- Each instruction of the code of a sound core is well formed.
-use Rattle.std.proofs.Common.{◌≡◌, ℕ, ◌+◌, ◌<◌, ◌≤◌, Option, Some, sym, subst, arith}
-use Rattle.std.specs.Prelude.{slice_get, IsSome}
-use Rattle.std.proofs.lemmas.Option.{slice_get_within, get_or_from_slice_get}
+use Rattle.std.proofs.Common.{◌≡◌, ℕ, zero, suc, pos, ◌+◌, ◌^◌, ◌<◌, ◌≤◌, List, [], ◌∷◌, Bool, true, false, cond, Option, Some, sym, subst, arith}
+use Rattle.std.specs.Prelude.{slice_get, IsSome, ℤ, ◌-ℤ◌, int_lt}
+use Rattle.std.proofs.lemmas.Option.{none-some, same_Some, slice_get_within, get_or_from_slice_get}
 use Rattle.core_tree.specs.declared.program.Core.{Core}
 use Rattle.core_tree.specs.declared.statements.Atom.{Atom}
+use Rattle.core_tree.specs.declared.statements.Atom.TheVariants as atom
 use Rattle.core_tree.specs.Sorts.{Sort, atom_sort}
-use Rattle.core_tree.specs.Sound.{IsSound}
+use Rattle.core_tree.specs.Sound.{IsSound, IsNumber}
 use Rattle.flat_code.specs.declared.instructions.Instr.{Instr}
+use Rattle.flat_code.specs.declared.instructions.Op.TheVariants as op
 use Rattle.flat_code.specs.declared.program.Code.{Code}
 use Rattle.flat_code.specs.declared.program.Entry.{Entry}
 use Rattle.flat_code.specs.Table.{hands}
 use Rattle.flat_code.specs.WellFormed.{IsInstr, EachInstr, HandsOrTakes, HasResult, NamesWhatIsThere, Takes, end_of}
-use Rattle.compiled_code.specs.Handing.{hand_of}
+use Rattle.compiled_code.specs.Handing.{instr, hand_of}
+use Rattle.compiled_code.proofs.Numbered.{InRange, AllInRange, handed_in_range}
 use Rattle.compiled_code.specs.Compiled.{IsCompiled}
 use Rattle.compiled_form.proofs.Doing.{doing, does_not_hand, Numbers}
 use Rattle.compiled_form.proofs.Flow.{hand_leads, hand_leads_on, hand_starts_afresh, first_inside, last_inside, leads_inside, leads_ahead, leads_afresh}
@@ -25,8 +28,23 @@ use Rattle.compiled_form.proofs.Typing.{atoms_there, takes_its_operands, gives_i
 hand_gives_nothing : (code : Code) (entry : Entry) (a : Atom) → HasResult code entry (hand_of a) (hand_of a).op
 hand_gives_nothing code entry a = each_hand (λ (i : Instr). HasResult code entry i i.op) (λ r. tt) (λ n. tt) (λ n. tt) tt (λ k. tt) (λ k. tt) a
 
-hand_names_nothing : (code : Code) (a : Atom) → NamesWhatIsThere code (hand_of a) (hand_of a).op
-hand_names_nothing code a = each_hand (λ (i : Instr). NamesWhatIsThere code i i.op) (λ r. tt) (λ n. tt) (λ n. tt) tt (λ k. tt) (λ k. tt) a
+-- an integer that is handed over is in range, as the operand is
+integer_in_range : (code : Code) (b : Bool) (n m : ℤ) → IsNumber n → let i = cond b (instr op.HandInt 0 0 0 n) (instr op.HandUnsigned 0 0 0 m) in NamesWhatIsThere code i i.op
+integer_in_range code true n m h = h
+integer_in_range code false n m h = tt
+
+hand_names : (code : Code) (a : Atom) → InRange a → NamesWhatIsThere code (hand_of a) (hand_of a).op
+hand_names code (atom.Int n) h = integer_in_range code (int_lt n (pos (2 ^ 63))) n (n -ℤ pos (2 ^ 64)) h
+hand_names code (atom.Reg r) h = tt
+hand_names code atom.Null h = tt
+hand_names code (atom.Static k) h = tt
+hand_names code (atom.Mem k) h = tt
+
+-- each of some operands is in range where all are
+one_in_range : (atoms : List Atom) (k : ℕ) (a : Atom) → AllInRange atoms → slice_get atoms k ≡ Some a → InRange a
+one_in_range [] k a all h = absurd (none-some a h)
+one_in_range (x ∷ atoms) zero a all h = subst InRange (same_Some x a h) all.0
+one_in_range (x ∷ atoms) (suc k) a all h = one_in_range atoms k a all.1 h
 
 module _ (core : Core) (code : Code) (sound : IsSound core) (is : IsCompiled core code) where
   hands_what_is_there : (s : Spot core code is) (k : ℕ) (a : Atom) → slice_get (atoms core code is s) k ≡ Some a → HandsOrTakes code s.entry (start core code is s + k) (hand_of a) (hands (hand_of a).op)
@@ -48,7 +66,7 @@ module _ (core : Core) (code : Code) (sound : IsSound core) (is : IsCompiled cor
       record {
         operands = hands_what_is_there s k a h;
         result = hand_gives_nothing code s.entry a;
-        names = hand_names_nothing code a;
+        names = hand_names code a (one_in_range (atoms core code is s) k a (handed_in_range s.stm.kind ((sound.functions s.f s.func s.here).numbers s.point s.stm s.found)) h);
         inside = hand_leads (λ next. (s.entry.first ≤ next) × (next < end_of code s.f)) a at (omega (arith, low), omega (arith, less, high));
         ahead = hand_leads_on a at;
         afresh = hand_starts_afresh code s.entry a at;

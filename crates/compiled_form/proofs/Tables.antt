@@ -69,7 +69,7 @@ module _ (core : Core) (code : Code) (sound : IsSound core) (is : IsCompiled cor
       (λ layout h.
       let type = layout_type layout h in
       let kept = type_layout_sound layout type in
-      record { size = type_layout_small layout type; align = kept.aligned; slots = kept.slots })
+      record { size = type_layout_small layout type; sound = kept })
       code.layouts is.layouts
 
   -- Formats

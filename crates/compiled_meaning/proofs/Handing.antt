@@ -22,7 +22,7 @@ use Rattle.code_meaning.specs.CodeMeaning.{unsigned, handed_value, hand, hand_or
 use Rattle.flat_code.specs.declared.instructions.Op.TheVariants as op
 use Rattle.compiled_code.specs.Handing.{instr, hand_of}
 use Rattle.compiled_meaning.proofs.Following.{going, after_first}
-use Rattle.compiled_meaning.proofs.Numbered.{InRange, AllInRange}
+use Rattle.compiled_code.proofs.Numbered.{InRange, AllInRange}
 
 -- a number from 2^63 on is handed over by its low 64 bits
 large : (n : ℕ) → n < 2 ^ 64 → unsigned (pos n -ℤ pos (2 ^ 64)) ≡ pos n

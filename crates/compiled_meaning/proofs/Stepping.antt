@@ -43,7 +43,7 @@ use Rattle.compiled_meaning.proofs.Following as following
 use Rattle.compiled_meaning.proofs.Following.{Tied}
 use Rattle.compiled_meaning.proofs.Places.{place_at, place_is}
 use Rattle.compiled_meaning.proofs.Moved.{moved}
-use Rattle.compiled_meaning.proofs.Numbered.{handed_in_range}
+use Rattle.compiled_code.proofs.Numbered.{handed_in_range}
 use Rattle.compiled_meaning.proofs.Handing.{same_value, holding, all_handed}
 use Rattle.compiled_meaning.proofs.Keeping.{Follows}
 use Rattle.compiled_meaning.proofs.Acting.{is_last, act_follows}

@@ -1,15 +1,20 @@
 //! The code of a core as a whole.
 
-ghost use Rattle.std.specs.Prelude.{◌≡◌, ◌<◌, ◌^◌, pos, IfOk, slice_get};
+ghost use Rattle.std.specs.Prelude.{◌≡◌, ◌<◌, ◌^◌, ℕ, List, pos, IfOk, slice_get};
 ghost use Rattle.core_tree.specs.Sound.{IsSound, is_main, main_of};
-ghost use Rattle.object_meaning.specs.Meaning.{line_of};
+ghost use Rattle.object_meaning.specs.Meaning.{line_of, meaning as core_meaning};
+ghost use Rattle.code_meaning.specs.CodeMeaning.{meaning as code_meaning};
 ghost use Rattle.compiled_code.specs.Handing.{instr};
 ghost use Rattle.compiled_code.specs.Compiled.{IsCompiled};
-ghost use Rattle.flat_code.specs.WellFormed.{AreShort};
+ghost use Rattle.compiled_meaning.specs.Freeless.{IsFreeless};
+ghost use Rattle.compiled_meaning.specs.SameRun.{SameRun};
+ghost use Rattle.flat_code.specs.WellFormed.{AreShort, IsWellFormed};
 
 use crate::emitter::Emitter;
 use crate::handing::instr;
 use crate::statics::{inits, layouts};
+use compiled_form::codes_are_well_formed;
+use compiled_meaning::code_means_core;
 use core_tree::{Core, Func};
 use flat_code::{Code, Instr, Op};
 use hs_base::{Line, NoMemory};
@@ -54,8 +59,8 @@ fn start(main: usize) -> Instr
     instr(Op::Start, 0, 0, main as i64)
 }
 
-/// The code of a core. Want of memory is the only error.
-pub fn compile_core(alloc: Global, core: &Core) -> Result<Code, NoMemory>
+/// The code of a core, as the statements of the core say it.
+fn code_of(alloc: Global, core: &Core) -> Result<Code, NoMemory>
     requires { IsSound core.now }
     ensures compiled { IfOk result (λ code. IsCompiled core.now code) }
     ensures short { IfOk result AreShort }
@@ -68,4 +73,20 @@ pub fn compile_core(alloc: Global, core: &Core) -> Result<Code, NoMemory>
     emitter.functions(core.funcs.as_slice())?;
     let code = emitter.finish()?;
     Ok(code)
+}
+
+/// The code of a sound core. It is well formed, and where the core frees nothing and has no memory local its run is that of
+/// the core: the same trace, the same end and the same last state, but for the points that frames are at.
+///
+/// # Errors
+///
+/// [`NoMemory`] only for want of memory.
+pub fn compile_core(alloc: Global, core: &Core) -> Result<Code, NoMemory>
+    requires { IsSound core.now }
+    ensures formed { IfOk result IsWellFormed }
+    ensures means { IfOk result (λ code. IsFreeless core.now → (input : List ℕ) (n : ℕ) → SameRun (core_meaning core.now input n) (code_meaning code input n)) }
+{
+    codes_are_well_formed();
+    code_means_core();
+    code_of(alloc, core)
 }

@@ -1,32 +1,21 @@
-use Rattle.std.proofs.Common.{◌≤◌, ◌<◌, ◌^◌, List, ◌∷◌, [], ap, sym, ◌∙◌, subst, arith, length, map}
-use Rattle.std.specs.Prelude.{All}
-use Rattle.core_tree.specs.declared.program.Func.{Func}
-use Rattle.core_tree.specs.declared.program.Static.{Static}
-use Rattle.core_tree.specs.Sound.{EachStatement, HasNumbers}
-use Rattle.flat_codegen.specs.Emitting.{with_instrs}
-use Rattle.flat_codegen.proofs.Closing.{walked, are_short, main_inside, all_numbers}
+-- What is compiled of a core means what the core means, by the law on all such code.
+use Rattle.std.specs.Prelude.{ℕ, List, Result, Ok, Err, IfOk}
+use Rattle.core_tree.specs.declared.program.Core.{Core}
+use Rattle.core_tree.specs.Sound.{IsSound}
+use Rattle.flat_code.specs.declared.program.Code.{Code}
+use Rattle.hs_base.specs.declared.items.NoMemory.{NoMemory}
+use Rattle.object_meaning.specs.Meaning.{meaning as core_meaning}
+use Rattle.code_meaning.specs.CodeMeaning.{meaning as code_meaning}
+use Rattle.compiled_code.specs.Compiled.{IsCompiled}
+use Rattle.compiled_meaning.specs.Freeless.{IsFreeless}
+use Rattle.compiled_meaning.specs.Laws.{CodeMeansCore}
+use Rattle.compiled_meaning.specs.SameRun.{SameRun}
 use Rattle.flat_codegen.proofs.program.compile_core.Goals as goal
 
-pub start-requires : goal.start-requires
-start-requires c =
-    let inside : c.main_of-main.result ≤ length c.args.core.now.funcs =
-    subst (λ n. n ≤ length c.args.core.now.funcs) (sym c.main_of-main.ensures) (main_inside c.args.core.now.funcs) in
-    let short : length c.args.core.now.funcs < 2 ^ 32 = c.requires.short_funcs in
-    omega arith
+means_core : (core : Core) (r : Result Code NoMemory) → CodeMeansCore → IsSound core → IfOk r (λ code. IsCompiled core code) → IfOk r (λ code. IsFreeless core → (input : List ℕ) (n : ℕ) → SameRun (core_meaning core input n) (code_meaning code input n))
+means_core core (Ok code) law sound is = λ free. law core code sound free is
+means_core core (Err e) law sound is = tt
 
-pub functions-requires : goal.functions-requires
-functions-requires c =
-    subst (λ (funcs : List Func). All (λ (func : Func). EachStatement func.body (λ point stm. HasNumbers stm.kind)) funcs) (sym c.as_slice-3.ensures)
-    (all_numbers c.args.core.now c.requires)
-
-pub returns-clause-compiled : goal.returns-clause-compiled
-returns-clause-compiled c =
-    let core = c.args.core.now in
-    let layouts = c.in_ok-layouts.ensures ∙ ap (map (λ (static : Static). static.layout)) c.as_slice-2.ensures in
-    let pushed = c.in_ok-push.ensures ∙ ap (λ i. with_instrs c.new-emitter.result.code c.line_of.result (i ∷ [])) c.start.ensures in
-    let last = c.in_ok-code.ensures.code ∙ c.in_ok-functions.ensures in
-    walked core c.requires c.as_slice.result.now c.as_slice.ensures c.as_slice-3.result.now c.as_slice-3.ensures c.main_of-main.result c.main_of-main.ensures c.in_ok-statics.statics c.in_ok-statics.ensures c.in_ok-layouts.layouts layouts c.line_of.result c.line_of.ensures c.new-emitter.result.code c.push.new.self.code c.in_ok-code.code c.new-emitter.ensures pushed last
-
-pub returns-clause-short : goal.returns-clause-short
-returns-clause-short c =
-    are_short c.args.core.now c.requires c.in_ok-code.code (returns-clause-compiled c) (c.in_ok-code.ensures.short.0) (c.in_ok-code.ensures.short.1) (c.in_ok-code.ensures.short.2)
+pub returns-clause-means : goal.returns-clause-means
+returns-clause-means c =
+    means_core c.args.core.now c.code_of.result c.code_means_core.ensures c.requires c.code_of.ensures.compiled
