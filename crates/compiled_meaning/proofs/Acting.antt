@@ -115,7 +115,7 @@ module _ (core : Core) (code : Code) (sound : IsSound core) (freeless : IsFreele
   ahead : (kind : StmKind) → At kind → LeadsOn s.running.point kind
   ahead kind at = (sound.functions s.running.func func good.here).ahead s.running.point _ at
 
-  -- an instruction with a target, from what compiled code says of it
+  -- the instruction that a target is in code
   target : (l : ℕ) → place_of core s.running.func func.body l ≡ place_at core s.running.func l
   target l = sym (place_is core s.running.func func good.here l)
 
