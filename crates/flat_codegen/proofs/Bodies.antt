@@ -20,6 +20,7 @@ use Rattle.flat_codegen.proofs.Kept.{Extends, HasFormat, extends_same, extends_t
 use Rattle.flat_codegen.proofs.Standing.{length-block, statement_stands}
 use Rattle.flat_codegen.proofs.Walking.{fold_keeps}
 
+-- a statement more
 pub extends_statement : (place : ℕ → ℕ) (func : Func) (code : Code) (stm : Stm) → Extends code (with_statement place func code stm)
 extends_statement place func code stm = record {
   instrs = λ k x e. get_left code.instrs _ k x e;
@@ -30,6 +31,7 @@ extends_statement place func code stm = record {
 }
 
 module _ (core : Core) (f : ℕ) (func : Func) (at : slice_get core.funcs f ≡ Some func) where
+  -- the layouts and the format of a statement are the core's
   elements_in : (point : ℕ) (stm : Stm) → slice_get func.body point ≡ Some stm → All (IsLayoutIn core) (element_layouts stm.kind)
   elements_in point stm e = all_at (IsLayoutIn core) (element_layouts stm.kind)
       (λ k layout g. inr (any_at _ core.funcs f func at (inr (any_at _ func.body point stm e (contains_at (element_layouts stm.kind) k layout g)))))
@@ -54,6 +56,7 @@ module _ (core : Core) (f : ℕ) (func : Func) (at : slice_get core.funcs f ≡ 
       pub statics : code.statics ≡ old.statics
       pub sites : code.sites ≡ old.sites
 
+    -- one statement more stands
     one_more : (old : Code) (n : ℕ) (stm : Stm) (code : Code) → slice_get func.body n ≡ Some stm → BodySoFar old n code → BodySoFar old (suc n) (with_statement place func code stm)
     one_more old n stm code e h =
         let new = with_statement place func code stm in
@@ -85,6 +88,7 @@ module _ (core : Core) (f : ℕ) (func : Func) (at : slice_get core.funcs f ≡ 
           sites = h.sites;
         }
 
+    -- before the first one
     none_yet : (old : Code) → length old.lines ≡ length old.instrs → All (IsLayoutIn core) old.layouts → All (IsFormatIn core) old.formats → BodySoFar old 0 old
     none_yet old same layouts formats = record {
       grows = extends_same old;
@@ -98,6 +102,7 @@ module _ (core : Core) (f : ℕ) (func : Func) (at : slice_get core.funcs f ≡ 
       sites = refl;
     }
 
+    -- all of them
     pub whole_body : (old : Code) → length old.lines ≡ length old.instrs → All (IsLayoutIn core) old.layouts → All (IsFormatIn core) old.formats →
         BodySoFar old (length func.body) (fold (with_statement place func) old func.body)
     whole_body old same layouts formats =

@@ -47,6 +47,7 @@ abbrev pub begun : Core → List StaticInit → Code
 begun core inits =
     with_instrs (before_functions inits (map (λ (static : Static). static.layout) core.statics)) (line_of (slice_get core.funcs (main_of core))) (instr op.Start 0 0 0 (pos (main_of core)) ∷ [])
 
+-- before the first function
 no_functions : (core : Core) (sound : IsSound core) (inits : List StaticInit) → FuncsSoFar core (formats_there core sound) (begun core inits) 0 (begun core inits)
 no_functions core sound inits = record {
   grows = extends_same (begun core inits);
@@ -61,6 +62,7 @@ no_functions core sound inits = record {
   sites = refl;
 }
 
+-- the code of all functions is that of the core
 pub is_compiled : (core : Core) → IsSound core → (inits : List StaticInit) → AreInits core.statics inits → IsCompiled core (fold with_function (begun core inits) core.funcs)
 is_compiled core sound inits made =
     let code = fold with_function (begun core inits) core.funcs in
@@ -91,6 +93,7 @@ format_there : (func : Func) (kind : StmKind) (text : List ℕ) → format_of fu
 format_there func (stm.Printf r k args) text e = (k, e)
 format_there func kind text e = cc
 
+-- each format is short
 short_format : (core : Core) → IsSound core → (text : List ℕ) → IsFormatIn core text → IsShort text
 short_format core sound text h =
     let func = h.1 in
@@ -100,6 +103,7 @@ short_format core sound text h =
     let all = (sound.short h.0 func at).texts in
     subst IsShort (get_or_from_slice_get func.formats found.0 text [] found.1) (all found.0 [] (slice_get_within func.formats found.0 text found.1))
 
+-- and so are all lists
 pub are_short : (core : Core) → IsSound core → (code : Code) → IsCompiled core code → IsShort code.instrs → IsShort code.layouts → IsShort code.formats → AreShort code
 are_short core sound code h instrs layouts formats = record {
   instrs = instrs;
@@ -134,6 +138,7 @@ main_inside (func ∷ funcs) = one_more (is_main func) (first_main funcs) (lengt
     one_more true n m h = omega arith
     one_more false n m h = omega arith
 
+-- the numbers of each statement are in range
 pub all_numbers : (core : Core) → IsSound core → All (λ (func : Func). EachStatement func.body (λ point stm. HasNumbers stm.kind)) core.funcs
 all_numbers core sound = all_at (λ (func : Func). EachStatement func.body (λ point stm. HasNumbers stm.kind)) core.funcs
     (λ f func at. λ point stm e. (sound.functions f func at).numbers point stm e)

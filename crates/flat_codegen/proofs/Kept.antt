@@ -25,6 +25,7 @@ pub record Extends (old new : Code) : Type 0 where
   pub layouts : Grows old.layouts new.layouts
   pub formats : Grows old.formats new.formats
 
+-- code extends itself, and what it extends
 pub extends_same : (code : Code) → Extends code code
 extends_same code = record { instrs = λ k x e. e; lines = λ k x e. e; funcs = λ k x e. e; layouts = λ k x e. e; formats = λ k x e. e }
 
@@ -42,9 +43,11 @@ abbrev pub HasFormat : Func → StmKind → Type 0
 HasFormat func (stm.Printf r k args) = (format : List ℕ) × (slice_get func.formats k ≡ Some format)
 HasFormat func kind = Unit {0}
 
+-- a format by its number
 keeps_format : (old new : Code) → Extends old new → (o : Option (List ℕ)) (format : List ℕ) → o ≡ Some format → (n : ℕ) → slice_get old.formats n ≡ o → slice_get new.formats n ≡ o
 keeps_format old new h o format e n g = h.formats n format (g ∙ e) ∙ sym e
 
+-- what an instruction does
 pub keeps_does : (core : Core) (old new : Code) (f : ℕ) (func : Func) → Extends old new → (kind : StmKind) (i : Instr) → HasFormat func kind → Does core old f func kind i → Does core new f func kind i
 keeps_does core old new f func h (stm.Malloc r n t) i s d = (d.0, d.1, h.layouts d.0 t d.2)
 keeps_does core old new f func h (stm.Calloc r m n t) i s d = (d.0, d.1, h.layouts d.0 t d.2)
@@ -54,6 +57,7 @@ keeps_does core old new f func h (stm.Return None) i s d = d
 keeps_does core old new f func h (stm.Return (Some a)) i s d = d
 keeps_does core old new f func h kind i s d = d
 
+-- a statement that stands
 pub keeps_statement : (core : Core) (old new : Code) (f : ℕ) (func : Func) (place : ℕ) (stm : Stm) → Extends old new → HasFormat func stm.kind →
     IsStatement core old f func place stm → IsStatement core new f func place stm
 keeps_statement core old new f func place stm h s t = record {
@@ -62,6 +66,7 @@ keeps_statement core old new f func place stm h s t = record {
   lines = λ k b. h.lines _ _ (t.lines k b);
 }
 
+-- layouts by their numbers
 keeps_layouts : (old new : Code) → Extends old new → (ns : List ℕ) (mems : List Mem) →
     map (slice_get old.layouts) ns ≡ map (λ (m : Mem). Some m.layout) mems → map (slice_get new.layouts) ns ≡ map (λ (m : Mem). Some m.layout) mems
 keeps_layouts old new h [] [] e = refl
@@ -74,6 +79,7 @@ keeps_layouts old new h (n ∷ ns) (m ∷ mems) e =
     let b : map (slice_get new.layouts) ns ≡ map (λ (m : Mem). Some m.layout) mems = keeps_layouts old new h ns mems more in
     λ i. a i ∷ b i
 
+-- the entry of a function
 pub keeps_entry : (core : Core) (old new : Code) (f : ℕ) (func : Func) (entry : Entry) → Extends old new → IsEntry core old f func entry → IsEntry core new f func entry
 keeps_entry core old new f func entry h e = record {
   first = e.first;

@@ -28,9 +28,11 @@ module _ (core : Core) (code : Code) (f : ℕ) (func : Func) (place : ℕ → �
     layouts : (t : Layout) → element_layouts kind ≡ t ∷ [] → slice_get code.layouts n ≡ Some t
     formats : (t : List ℕ) → format_of func kind ≡ Some t → slice_get code.formats m ≡ Some t
 
+  -- the place of a target
   goes : ((l : ℕ) → place l ≡ place_of core f func.body l) → (o : Op) (l : ℕ) → instr o 0 (place l) 0 (pos 0) ≡ instr o 0 (place_of core f func.body l) 0 (pos 0)
   goes right o l = ap (λ (b : ℕ). instr o 0 b 0 (pos 0)) (right l)
 
+  -- the instruction does what the statement does
   does_it : ((l : ℕ) → place l ≡ place_of core f func.body l) → (kind : StmKind) → HasFormat func kind → Numbered kind → Does core code f func kind (doing place n m kind)
   does_it right (stm.Jump l) s h = goes right op.Jump l
   does_it right (stm.Zero a l) s h = goes right op.Zero l
@@ -65,6 +67,7 @@ taker_at : (atoms : List Atom) (i : Instr) → slice_get (map hand_of atoms ++ i
 taker_at [] i = refl
 taker_at (b ∷ atoms) i = taker_at atoms i
 
+-- how many instructions a statement has
 block_length : (atoms : List Atom) (i : Instr) → length (map hand_of atoms ++ i ∷ []) ≡ length atoms + 1
 block_length [] i = refl
 block_length (b ∷ atoms) i = omega (arith, block_length atoms i)
@@ -72,6 +75,7 @@ block_length (b ∷ atoms) i = omega (arith, block_length atoms i)
 pub length-block : (place : ℕ → ℕ) (n m : ℕ) (kind : StmKind) → length (block place n m kind) ≡ code_length kind
 length-block place n m kind = block_length (handed_atoms kind) (doing place n m kind)
 
+-- a layout and a format that were just added have the numbers that were next
 numbered : (core : Core) (code : Code) (f : ℕ) (func : Func) (place : ℕ → ℕ) (stm : Stm) →
     Numbered core (with_statement place func code stm) f func place (length code.layouts) (length code.formats) stm.kind
 numbered core code f func place stm = record {
@@ -79,6 +83,7 @@ numbered core code f func place stm = record {
   formats = λ t e. ap (λ (o : Option (List ℕ)). slice_get (code.formats ++ option_to_list o) (length code.formats)) e ∙ get_next code.formats t [];
 }
 
+-- a statement that was just emitted stands there
 pub statement_stands : (core : Core) (code : Code) (f : ℕ) (func : Func) (place : ℕ → ℕ) (stm : Stm) → ((l : ℕ) → place l ≡ place_of core f func.body l) →
     HasFormat func stm.kind → length code.lines ≡ length code.instrs → IsStatement core (with_statement place func code stm) f func (length code.instrs) stm
 statement_stands core code f func place stm right s same =

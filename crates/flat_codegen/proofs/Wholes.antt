@@ -36,6 +36,7 @@ numbers_lead all ls (m ∷ mems) e =
     subst (λ (n : ℕ). map (slice_get all) (range_with_len n (length mems)) ≡ map (λ (m : Mem). Some m.layout) mems) longer (numbers_lead all (ls ++ m.layout ∷ []) mems split) in
     λ i. first i ∷ more i
 
+-- the entry of a function more
 extends_entry : (code : Code) (func : Func) → Extends code (with_entry code func)
 extends_entry code func = record {
   instrs = λ k x e. e;
@@ -54,6 +55,7 @@ any_mapped g xs k y e =
     let same : g it.0 ≡ y = cc in
     any_at (λ x. g x ≡ y) xs k it.0 it.1 same
 
+-- the layouts of memory locals and of statics are the core's
 pub mems_in : (core : Core) (f : ℕ) (func : Func) → slice_get core.funcs f ≡ Some func → All (IsLayoutIn core) (map (λ (m : Mem). m.layout) func.mems)
 mems_in core f func at = all_at (IsLayoutIn core) (map (λ (m : Mem). m.layout) func.mems)
     (λ k layout e. inr (any_at _ core.funcs f func at (inl (any_mapped (λ (m : Mem). m.layout) func.mems k layout e))))
@@ -76,6 +78,7 @@ module _ (core : Core) (written : (f point : ℕ) (func : Func) (stm : Stm) → 
     pub statics : code.statics ≡ old.statics
     pub sites : code.sites ≡ old.sites
 
+  -- one function more stands
   one_more : (old : Code) (n : ℕ) (func : Func) (code : Code) → slice_get core.funcs n ≡ Some func → FuncsSoFar old n code → FuncsSoFar old (suc n) (with_function code func)
   one_more old n func code at h =
       let place = place_from (length code.instrs) func.body in
@@ -126,5 +129,6 @@ module _ (core : Core) (written : (f point : ℕ) (func : Func) (stm : Stm) → 
         sites = body.sites ∙ h.sites;
       }
 
+  -- all of them
   pub whole_core : (old : Code) → FuncsSoFar old 0 old → FuncsSoFar old (length core.funcs) (fold with_function old core.funcs)
   whole_core old start = fold_keeps with_function (FuncsSoFar old) old core.funcs start (λ k func code e h. one_more old k func code e h)
