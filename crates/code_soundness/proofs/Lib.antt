@@ -3,3 +3,7 @@ pub mod Pointing
 pub mod Lists
 pub mod SlotCounts
 pub mod Touching
+pub mod Texts
+pub mod Made
+pub mod Ready
+pub mod Frames
