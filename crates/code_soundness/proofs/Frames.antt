@@ -64,12 +64,12 @@ abbrev pub set_register : List Value → Option ℕ → Value → List Value
 set_register regs None v = regs
 set_register regs (Some r) v = set regs r v
 
-pub registers_put : (objects : List Object) (entry : Entry) (regs : List Value) → AreOfSorts objects (all_there (register_sorts entry)) regs → (result : Option Sort) (r : Option ℕ) → GivesTo entry result r → (v : Value) → IsOfSort objects result v → AreOfSorts objects (all_there (register_sorts entry)) (set_register regs r v)
+pub registers_put : (objects : List Object) (entry : Entry) (regs : List Value) → AreOfSorts objects (all_there (register_sorts entry)) regs → (result : Option Sort) (r : Option ℕ) → GivesTo entry result r → (v : Value) → ((sort : Sort) → result ≡ Some sort → IsOfSort objects (Some sort) v) → AreOfSorts objects (all_there (register_sorts entry)) (set_register regs r v)
 registers_put objects entry regs h result None gives v is = h
 registers_put objects entry regs h None (Some r) gives v is = absurd gives
 registers_put objects entry regs h (Some sort) (Some r) gives v is =
     let there : slice_get (all_there (register_sorts entry)) r ≡ Some (Some sort) = slice_get-map (λ (x : Sort). Some x) (register_sorts entry) r ∙ ap (λ (o : Option Sort). option_map (λ (x : Sort). Some x) o) gives in
-    zip_set (IsOfSort objects) (all_there (register_sorts entry)) regs r (Some sort) v h there is
+    zip_set (IsOfSort objects) (all_there (register_sorts entry)) regs r (Some sort) v h there (is sort refl)
 
 -- a frame moves to where an instruction leads, with other registers
 pub frame_moves : (code : Code) (objects : List Object) (entry : Entry) (scopes : ℕ) (frame : Frame) → IsFrame code objects entry scopes frame → (i : Instr) (o : Op) → Ready code frame.func entry frame.point i o → (next : ℕ) → Contains (edges i o frame.point) next → (regs : List Value) → AreOfSorts objects (all_there (register_sorts entry)) regs → IsFrame code objects entry (scopes_after o scopes) (record { func = frame.func; point = next; regs = regs; first_local = frame.first_local })
@@ -132,5 +132,5 @@ module _ (code : Code) (c : CodeState) (good : IsGood code c) (i : Instr) where
       goes_on o ready plain.takes (c.state.running.point + 1) plain.edge objects g whole c.state.running.regs regs c.state.scopes (omega (arith, good.depth, plain.same)) input bytes c.state.steps numbers
   write_good o ready plain objects g whole input bytes result (Some r) gives v is numbers =
       let regs = values_grow c.state.objects objects g (all_there (register_sorts good.entry)) c.state.running.regs good.running.registers in
-      let put = registers_put objects good.entry c.state.running.regs regs result (Some r) gives v is in
+      let put = registers_put objects good.entry c.state.running.regs regs result (Some r) gives v (λ sort e. subst (λ (x : Option Sort). IsOfSort objects x v) e is) in
       goes_on o ready plain.takes (c.state.running.point + 1) plain.edge objects g whole (set c.state.running.regs r v) put c.state.scopes (omega (arith, good.depth, plain.same)) input bytes c.state.steps numbers

@@ -7,3 +7,9 @@ pub mod Texts
 pub mod Made
 pub mod Ready
 pub mod Frames
+pub mod Standing
+pub mod Calling
+pub mod Returning
+pub mod Acting
+pub mod Stepping
+pub mod Falling
