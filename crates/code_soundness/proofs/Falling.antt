@@ -1,5 +1,5 @@
 -- Each instruction that does not end the run makes `enough` smaller.
-use Rattle.std.proofs.Common.{◌≡◌, ℕ, zero, suc, ◌+◌, ◌*◌, ◌-◌, ◌<◌, ◌≤◌, Bool, true, false, List, [], ◌∷◌, ◌++◌, length, Option, Some, None, Result, Ok, Err, pos, negsuc, refl, sym, ap, ◌∙◌, subst, arith}
+use Rattle.std.proofs.Common.{◌≡◌, ℕ, zero, suc, ◌+◌, ◌*◌, ◌-◌, ◌<◌, ◌≤◌, Bool, true, false, List, [], ◌∷◌, ◌++◌, length, get_or, Option, Some, None, Result, Ok, Err, pos, negsuc, refl, sym, ap, ◌∙◌, subst, arith}
 use Rattle.std.specs.Prelude.{All, unsigned_abs}
 use Rattle.std.specs.List.{sum_by}
 use Rattle.std.proofs.lemmas.List.Sums.{sum_by-cons}
@@ -213,8 +213,9 @@ module _ (code : Code) (s : State) (inside : s.running.point < length code.instr
 
   -- Operations
 
-  writes_less : (n : ℕ → ℕ) (r : Option ℕ) (v : Value) → Less (same_numbers n (core.goes s [] (write s r v)))
-  writes_less n r v = write_less s r v alike
+  -- whatever a register takes
+  register_less : (r : ℕ) → enough code (write s (Some r) (number (pos 0))) < enough code s
+  register_less r = write_less s (Some r) (number (pos 0)) alike
 
   module _ (line : ℕ) (i : Instr) (values : List Value) (n : ℕ → ℕ) where
     pub act_less : (o : Op) → LeadsOn s.running.point i o → Less (act code line i o values n s)
@@ -225,16 +226,16 @@ module _ (code : Code) (s : State) (inside : s.running.point < length code.instr
     act_less op.HandNull h = tt
     act_less op.HandStatic h = tt
     act_less op.HandLocal h = tt
-    act_less op.Set h = writes_less n (Some i.a) _
-    act_less (op.Conv k) h = writes_less n (Some i.a) _
-    act_less (op.Un o k) h = writes_less n (Some i.a) _
+    act_less op.Set h = register_less i.a
+    act_less (op.Conv k) h = register_less i.a
+    act_less (op.Un o k) h = register_less i.a
     act_less (op.Bin o k) h = same_less n _ (answers_less line (Some i.a) _)
-    act_less (op.Cmp o) h = writes_less n (Some i.a) _
+    act_less (op.Cmp o) h = register_less i.a
     act_less op.Add h = same_less n _ (answers_less line (Some i.a) _)
     act_less op.Sub h = same_less n _ (answers_less line (Some i.a) _)
     act_less op.Diff h = same_less n _ (answers_less line (Some i.a) _)
     act_less (op.Pcmp o) h = same_less n _ (answers_less line (Some i.a) _)
-    act_less op.Test h = writes_less n (Some i.a) _
+    act_less op.Test h = register_less i.a
     act_less (op.Load k) h = same_less n _ (answers_less line (Some i.a) _)
     act_less op.Loadp h = same_less n _ (answers_less line (Some i.a) _)
     act_less (op.Store k) h = same_less n _ (changes_less line _)
@@ -246,16 +247,16 @@ module _ (code : Code) (s : State) (inside : s.running.point < length code.instr
     act_less op.Case h = same_less n _ (branch_less _ i.b (h 1 0 (omega arith)))
     act_less op.Loop h = step_less n s.steps _ refl (λ m e. back_less m i.b e)
     act_less op.Call h = step_less n s.steps _ refl (λ m e. call_less line i.b values n m e)
-    act_less op.Malloc h = same_less n _ (make_less line i.a _ _)
-    act_less op.Calloc h = same_less n _ (make_less line i.a _ _)
+    act_less op.Malloc h = register_less i.a
+    act_less op.Calloc h = register_less i.a
     act_less op.Realloc h = grow_less line i.a _ _ _ n
     act_less op.Free h = free_less line _ n
     act_less (op.Lib name) h = other_less (behind_lib name values n) n _ (lib_less line name (chosen i) values)
     act_less op.Printf h = same_less n _ (print_less line i.a _ _)
     act_less op.Enter h = onward_less (record s { scopes = s.scopes + 1 }) (record { point = refl; waiting = refl; steps = refl })
     act_less op.Leave h = leave_less s.scopes n
-    act_less op.Return h = give_less line _ n
-    act_less op.Give h = give_less line _ n
+    act_less op.Return h = give_less line (number (pos 0)) n
+    act_less op.Give h = give_less line (get_or values 0 (number (pos 0))) n
 
 -- a value is handed over
 pub hand_less : (code : Code) (c : CodeState) (inside : c.state.running.point < length code.instrs) (b : Bool) (v : Value) → Less code c.state inside (hand b v c)

@@ -13,3 +13,5 @@ pub mod Returning
 pub mod Acting
 pub mod Stepping
 pub mod Falling
+pub mod Beginning
+pub mod Ending
