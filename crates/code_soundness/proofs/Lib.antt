@@ -15,3 +15,4 @@ pub mod Stepping
 pub mod Falling
 pub mod Beginning
 pub mod Ending
+pub mod Answering

@@ -1,6 +1,16 @@
 //! What holds of every run.
 
-ghost use Rattle.code_soundness.specs.Laws.{RunBeginsWell, RunsEnd, StepLeavesLess, StepStaysGood};
+ghost use Rattle.code_soundness.specs.Laws.{InstructionIsThere, MainGivesInteger, RunBeginsWell, RunsEnd, StepLeavesLess, StepStaysGood};
+
+/// A good state is at an instruction of its function.
+pub fn instruction_is_there()
+    ensures { InstructionIsThere }
+{}
+
+/// Where no frame waits, a return gives an integer: the one with which the run ends.
+pub fn main_gives_integer()
+    ensures { MainGivesInteger }
+{}
 
 /// The first instruction leads to a good state, or there is no step left for it.
 pub fn run_begins_well()

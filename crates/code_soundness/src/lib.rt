@@ -11,4 +11,7 @@
 
 mod laws;
 
-pub use laws::{run_begins_well, run_ends, step_leaves_less, step_stays_good};
+pub use laws::{
+    instruction_is_there, main_gives_integer, run_begins_well, run_ends, step_leaves_less,
+    step_stays_good,
+};
