@@ -1,7 +1,6 @@
 -- Each instruction in turn, from a good state.
-use Rattle.std.proofs.Common.{◌≡◌, ℕ, zero, suc, pos, ◌+◌, ◌*◌, ◌<◌, ◌^◌, Bool, true, false, List, [], ◌∷◌, ◌++◌, length, get_or, map, Option, Some, None, Result, Ok, refl, sym, ap, ◌∙◌, subst, arith}
+use Rattle.std.proofs.Common.{◌≡◌, ℕ, pos, ◌+◌, ◌<◌, ◌^◌, false, List, [], ◌∷◌, length, get_or, Option, Some, None, Result, refl, subst, arith}
 use Rattle.std.specs.Prelude.{slice_index_or, Contains}
-use Rattle.hs_base.specs.declared.values.Pointer.{Pointer}
 use Rattle.hs_base.specs.declared.values.Pointer.TheVariants as pointer
 use Rattle.hs_base.specs.declared.values.Value.{Value}
 use Rattle.hs_base.specs.declared.ends.IntKind.TheVariants.{I32}
@@ -14,7 +13,7 @@ use Rattle.core_tree.specs.declared.statements.LibName.{LibName}
 use Rattle.core_tree.specs.declared.statements.LibName.TheVariants as lib
 use Rattle.core_tree.specs.Sorts.{Sort, Integer, Pointer as Address}
 use Rattle.core_tree.specs.Sound.{IsNumber}
-use Rattle.object_meaning.specs.Values.{number, address, number_at, pointer_at, size_in, bytes_in}
+use Rattle.object_meaning.specs.Values.{number, number_at, pointer_at, size_in, bytes_in}
 use Rattle.object_meaning.specs.Going.{goes, write, answers}
 use Rattle.object_meaning.specs.Builtins.{byte_in, call_lib}
 use Rattle.object_meaning.specs.Printing.{printed}
@@ -24,10 +23,9 @@ use Rattle.flat_code.specs.declared.instructions.Instr.{Instr}
 use Rattle.flat_code.specs.declared.instructions.Op.{Op}
 use Rattle.flat_code.specs.declared.instructions.Op.TheVariants as op
 use Rattle.flat_code.specs.declared.program.Code.{Code}
-use Rattle.flat_code.specs.declared.program.Entry.{Entry}
-use Rattle.flat_code.specs.Table.{hands, edges, scopes_after, chosen, register_sort, written, gives}
+use Rattle.flat_code.specs.Table.{hands, edges, scopes_after, chosen, register_sort, gives}
 use Rattle.flat_code.specs.WellFormed.{IsWellFormed, IsAt, handed_before, EachAnswer, OfAnswer, GivesTo}
-use Rattle.code_meaning.specs.CodeState.{CodeState, Next, same_numbers, other_numbers}
+use Rattle.code_meaning.specs.CodeState.{CodeState, same_numbers, other_numbers}
 use Rattle.code_meaning.specs.Entering.{layout_in}
 use Rattle.code_meaning.specs.CodeMeaning.{act, behind_lib}
 use Rattle.code_soundness.specs.Freeless.{IsFreeless, QueuesNothing}
@@ -39,7 +37,6 @@ use Rattle.code_soundness.proofs.Pointing.{all_point, moved_done, difference_don
 use Rattle.code_soundness.proofs.Touching.{loaded_done, loaded_pointer_done, stored_done, stored_pointer_done, copied_done, set_done}
 use Rattle.code_soundness.proofs.Texts.{string_done, order_done, printed_lives}
 use Rattle.code_soundness.proofs.Made.{layout_sound, size_small, product_small}
-use Rattle.code_soundness.proofs.Ready.{Ready}
 use Rattle.code_soundness.proofs.Frames.{IsReady, IsPlain}
 use Rattle.code_soundness.proofs.Standing.{writes, answers_stays, stores_stays, changes_stays, goes_to, branch_stays, step_stays, enter_stays, leave_stays, make_stays, filled_stays, gives_stays, get_stays, puts_stays, print_stays}
 use Rattle.code_soundness.proofs.Calling.{call_stays}

@@ -1,5 +1,5 @@
 -- The first of all frames gives an integer.
-use Rattle.std.proofs.Common.{◌≡◌, ℕ, List, [], ◌∷◌, Option, Some, None, refl, ap, ◌∙◌, subst}
+use Rattle.std.proofs.Common.{◌≡◌, List, [], ◌∷◌, Option, Some, refl, ap, ◌∙◌, subst}
 use Rattle.std.specs.Prelude.{slice_get, unsigned_abs}
 use Rattle.hs_base.specs.State.{Frame}
 use Rattle.core_tree.specs.Sorts.{Sort, Integer}

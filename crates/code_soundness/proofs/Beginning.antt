@@ -1,5 +1,5 @@
 -- A run begins in a good state.
-use Rattle.std.proofs.Common.{◌≡◌, ℕ, zero, suc, pos, ◌+◌, ◌<◌, ◌≤◌, ◌^◌, Bool, true, false, cond, nat_eq, List, [], ◌∷◌, ◌++◌, length, map, get_or, Option, Some, None, refl, sym, ap, ◌∙◌, subst, arith}
+use Rattle.std.proofs.Common.{◌≡◌, ℕ, zero, suc, ◌+◌, Bool, true, false, cond, nat_eq, List, [], ◌∷◌, length, map, get_or, Option, Some, None, refl, sym, ap, ◌∙◌, subst, arith}
 use Rattle.std.specs.Prelude.{slice_get, slice_index, All, replicate, unsigned_abs, IsSomeAnd}
 use Rattle.std.specs.List.{enumerate_from}
 use Rattle.std.specs.Option.{option_map_or}
@@ -10,8 +10,7 @@ use Rattle.std.proofs.lemmas.List.FromFn.{length-enumerate_from}
 use Rattle.hs_base.specs.declared.values.Pointer.{Pointer}
 use Rattle.hs_base.specs.declared.values.Pointer.TheVariants as pointer
 use Rattle.hs_base.specs.Object.{Object, no_object, object_at}
-use Rattle.hs_base.specs.State.{State}
-use Rattle.hs_base.specs.Trace.{Event, Spent}
+use Rattle.hs_base.specs.Trace.{Event}
 use Rattle.c_types.specs.declared.layouts.Layout.{Layout}
 use Rattle.c_types.specs.Layouts.{AreSlots}
 use Rattle.object_meaning.specs.Making.{first_pointer}
@@ -22,13 +21,12 @@ use Rattle.flat_code.specs.declared.program.Code.{Code}
 use Rattle.flat_code.specs.declared.program.Entry.{Entry}
 use Rattle.flat_code.specs.declared.program.StaticInit.{StaticInit}
 use Rattle.flat_code.specs.Table.{all_there, parameter_sorts}
-use Rattle.flat_code.specs.WellFormed.{IsWellFormed, IsFirst, IsTarget, IsLayout, IsStart, static_size}
-use Rattle.code_meaning.specs.CodeState.{CodeState, Next, kept}
+use Rattle.flat_code.specs.WellFormed.{IsWellFormed, IsFirst, IsTarget, IsLayout, IsStart}
+use Rattle.code_meaning.specs.CodeState.{CodeState, Next}
 use Rattle.code_meaning.specs.Entering.{layout_in, no_layout, with_step, begin}
 use Rattle.code_meaning.specs.CodeMeaning.{static_object, static_objects, main_in, start, act, hand_or_act, handed_value, act_at, step}
 use Rattle.code_soundness.specs.Freeless.{IsFreeless}
-use Rattle.code_soundness.specs.Objects.{IsPointer, AreOfSorts, IsByte, IsObject, AreObjects, IsStatic, HasStatics}
-use Rattle.code_soundness.specs.Good.{AreWaiting, IsGood}
+use Rattle.code_soundness.specs.Objects.{IsPointer, AreOfSorts, IsByte, IsObject, AreObjects, HasStatics}
 use Rattle.code_soundness.specs.Laws.{BeginsWell, HoldsBytes, LeavesLess}
 use Rattle.code_soundness.proofs.Lists.{all_at, overlaid_length, overlaid_all}
 use Rattle.code_soundness.proofs.Calling.{enters}

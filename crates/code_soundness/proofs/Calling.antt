@@ -1,26 +1,25 @@
 -- The frame of a call begins well.
-use Rattle.std.proofs.Common.{◌≡◌, ℕ, zero, suc, pos, ◌+◌, ◌<◌, ◌≤◌, Bool, true, false, List, [], ◌∷◌, ◌++◌, length, take, drop, map, Option, Some, None, refl, sym, ap, ◌∙◌, subst, arith}
+use Rattle.std.proofs.Common.{◌≡◌, ℕ, zero, suc, ◌+◌, Bool, true, false, List, [], ◌∷◌, ◌++◌, length, take, drop, map, Option, Some, None, refl, sym, ap, ◌∙◌, subst, arith}
 use Rattle.std.specs.Prelude.{slice_get, All, IsSome}
 use Rattle.std.specs.List.{enumerate_from}
 use Rattle.std.proofs.lemmas.List.{append-nil}
 use Rattle.hs_base.specs.declared.values.Value.{Value}
 use Rattle.hs_base.specs.Object.{Object}
-use Rattle.hs_base.specs.State.{Frame, State}
+use Rattle.hs_base.specs.State.{Frame}
 use Rattle.core_tree.specs.Sorts.{Sort}
 use Rattle.flat_code.specs.declared.instructions.Instr.{Instr}
 use Rattle.flat_code.specs.declared.instructions.Op.TheVariants as op
 use Rattle.flat_code.specs.declared.program.Code.{Code}
 use Rattle.flat_code.specs.declared.program.Entry.{Entry}
 use Rattle.flat_code.specs.Table.{sort_of, parameter_sorts, all_there, call_takes}
-use Rattle.flat_code.specs.WellFormed.{IsWellFormed, IsAt, Opens, start}
+use Rattle.flat_code.specs.WellFormed.{IsWellFormed, start}
 use Rattle.code_meaning.specs.CodeState.{CodeState, kept}
 use Rattle.code_meaning.specs.Entering.{layout_in, first_value, kinds_of, locals_of, first_of, new_frame, local_object, with_locals, call}
 use Rattle.code_soundness.specs.Freeless.{IsFreeless}
 use Rattle.code_soundness.specs.Objects.{IsOfSort, AreOfSorts, IsByte, AreObjects, HasStatics}
-use Rattle.code_soundness.specs.Good.{IsFrame, Waits, AreWaiting, IsGood}
+use Rattle.code_soundness.specs.Good.{Waits, AreWaiting, IsGood}
 use Rattle.code_soundness.specs.Laws.{StaysGood}
 use Rattle.code_soundness.proofs.Numbers.{natural_number}
-use Rattle.code_soundness.proofs.Ready.{Ready}
 use Rattle.code_soundness.proofs.Frames.{IsReady}
 
 -- Registers at the start of a call

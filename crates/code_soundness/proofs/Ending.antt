@@ -1,5 +1,5 @@
 -- Every run ends, and not for want of life.
-use Rattle.std.proofs.Common.{◌≡◌, ◌≢◌, ℕ, zero, suc, ◌+◌, ◌<◌, ◌≤◌, List, [], ◌∷◌, ◌++◌, length, Option, Some, None, refl, sym, ap, ◌∙◌, subst, arith}
+use Rattle.std.proofs.Common.{◌≡◌, ◌≢◌, ℕ, zero, suc, ◌+◌, ◌≤◌, List, [], Option, Some, None, refl, sym, ◌∙◌, subst, arith}
 use Rattle.std.specs.Prelude.{slice_get, slice_index, ◌-◌, All}
 use Rattle.std.proofs.lemmas.Option.{slice_get_within}
 use Rattle.hs_base.specs.declared.values.Value.{Value}
@@ -10,12 +10,12 @@ use Rattle.flat_code.specs.declared.program.Code.{Code}
 use Rattle.flat_code.specs.WellFormed.{IsWellFormed, LeadsOn}
 use Rattle.object_meaning.specs.Values.{holds_stale}
 use Rattle.code_meaning.specs.CodeState.{CodeState, Next}
-use Rattle.code_meaning.specs.CodeMeaning.{Run, handed_value, hand, hand_or_act, act_at, step, start, enough, meaning}
+use Rattle.code_meaning.specs.CodeMeaning.{Run, handed_value, hand_or_act, act_at, step, start, enough, meaning}
 use Rattle.code_soundness.specs.Freeless.{IsFreeless}
 use Rattle.code_soundness.specs.Objects.{IsByte}
 use Rattle.code_soundness.specs.Good.{IsGood}
 use Rattle.code_soundness.specs.Laws.{StaysGood, LeavesLess, BeginsWell, HoldsBytes}
-use Rattle.code_soundness.proofs.Falling.{Less, act_less, hand_less}
+use Rattle.code_soundness.proofs.Falling.{act_less, hand_less}
 use Rattle.code_soundness.proofs.Stepping.{instr_of, stays}
 use Rattle.code_soundness.proofs.Beginning.{begins_well}
 

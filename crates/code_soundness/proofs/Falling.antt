@@ -1,6 +1,6 @@
 -- Each instruction that does not end the run makes `enough` smaller.
-use Rattle.std.proofs.Common.{◌≡◌, ℕ, zero, suc, ◌+◌, ◌*◌, ◌-◌, ◌<◌, ◌≤◌, Bool, true, false, List, [], ◌∷◌, ◌++◌, length, get_or, Option, Some, None, Result, Ok, Err, pos, negsuc, refl, sym, ap, ◌∙◌, subst, arith}
-use Rattle.std.specs.Prelude.{All, unsigned_abs}
+use Rattle.std.proofs.Common.{◌≡◌, ℕ, zero, suc, ◌+◌, ◌*◌, ◌-◌, ◌<◌, Bool, true, false, List, [], ◌∷◌, length, get_or, Option, Some, None, Result, Ok, Err, pos, negsuc, refl, ap, arith}
+use Rattle.std.specs.Prelude.{unsigned_abs}
 use Rattle.std.specs.List.{sum_by}
 use Rattle.std.proofs.lemmas.List.Sums.{sum_by-cons}
 use Rattle.hs_base.specs.declared.ends.IntKind.TheVariants.{I32}
@@ -18,7 +18,7 @@ use Rattle.hs_base.specs.Runs as runs
 use Rattle.c_types.specs.declared.layouts.Layout.{Layout}
 use Rattle.core_tree.specs.declared.statements.LibName.{LibName}
 use Rattle.core_tree.specs.declared.statements.LibName.TheVariants as lib
-use Rattle.object_meaning.specs.Values.{number, address, start_of, number_at, pointer_at, size_in, pointer_in}
+use Rattle.object_meaning.specs.Values.{number, address, start_of, number_at, pointer_in}
 use Rattle.object_meaning.specs.Going as core
 use Rattle.object_meaning.specs.Going.{at_point, onward, put, write, with_register, with_objects, if_done, answers, changes}
 use Rattle.object_meaning.specs.Making.{with_new}
@@ -32,14 +32,13 @@ use Rattle.flat_code.specs.declared.instructions.Op.TheVariants as op
 use Rattle.flat_code.specs.declared.program.Code.{Code}
 use Rattle.flat_code.specs.Table.{chosen}
 use Rattle.flat_code.specs.WellFormed.{LeadsOn}
-use Rattle.code_meaning.specs.CodeState.{CodeState, Next, kept, same_numbers, other_numbers, with_handed}
+use Rattle.code_meaning.specs.CodeState.{CodeState, Next, same_numbers, other_numbers}
 use Rattle.code_meaning.specs.Counting.{more, pinned, renumbered}
-use Rattle.code_meaning.specs.Entering.{new_frame, with_locals, with_step, call, begin}
-use Rattle.code_meaning.specs.Returning.{answer_register, resumed, go_back, end_locals, give_back, running_locals}
-use Rattle.code_meaning.specs.Checking.{enter, leave, checked, decided, in_scope}
+use Rattle.code_meaning.specs.Entering.{with_step, call, begin}
+use Rattle.code_meaning.specs.Returning.{go_back, end_locals, give_back, running_locals}
+use Rattle.code_meaning.specs.Checking.{leave, decided, in_scope}
 use Rattle.code_meaning.specs.Freeing.{free, free_named, grow, grow_named, grown}
 use Rattle.code_meaning.specs.CodeMeaning.{act, hand, behind_lib, code_left, enough}
-use Rattle.code_soundness.specs.Laws.{LeavesLess}
 
 -- the same point, the same waiting frames, and the same steps left
 record Alike (s t : State) : Type 0 where

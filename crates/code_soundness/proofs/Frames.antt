@@ -1,11 +1,10 @@
 -- How a good state goes on within its running frame.
-use Rattle.std.proofs.Common.{◌≡◌, ℕ, zero, suc, pos, ◌+◌, ◌<◌, ◌≤◌, Bool, true, false, List, [], ◌∷◌, ◌++◌, length, get_or, set, map, Option, Some, None, refl, sym, ap, ◌∙◌, subst, arith}
+use Rattle.std.proofs.Common.{◌≡◌, ℕ, ◌+◌, false, List, [], ◌∷◌, set, Option, Some, None, refl, sym, ap, ◌∙◌, subst, arith}
 use Rattle.std.specs.Prelude.{slice_get, All, Contains}
-use Rattle.std.specs.List.{AllZip}
 use Rattle.std.specs.Option.{option_map}
 use Rattle.std.proofs.lemmas.Option.{slice_get-map}
 use Rattle.hs_base.specs.declared.values.Value.{Value}
-use Rattle.hs_base.specs.Object.{Object, object_at}
+use Rattle.hs_base.specs.Object.{Object}
 use Rattle.hs_base.specs.State.{Frame, State}
 use Rattle.core_tree.specs.Sorts.{Sort}
 use Rattle.object_meaning.specs.Going.{write}
@@ -13,11 +12,10 @@ use Rattle.flat_code.specs.declared.instructions.Instr.{Instr}
 use Rattle.flat_code.specs.declared.instructions.Op.{Op}
 use Rattle.flat_code.specs.declared.program.Code.{Code}
 use Rattle.flat_code.specs.declared.program.Entry.{Entry}
-use Rattle.flat_code.specs.declared.program.StaticInit.{StaticInit}
-use Rattle.flat_code.specs.Table.{register_sorts, register_sort, all_there, hands, edges, scopes_after}
+use Rattle.flat_code.specs.Table.{register_sorts, all_there, hands, edges, scopes_after}
 use Rattle.flat_code.specs.WellFormed.{GivesTo}
 use Rattle.code_meaning.specs.CodeState.{CodeState, kept}
-use Rattle.code_soundness.specs.Objects.{IsOfSort, AreOfSorts, IsByte, AreObjects, IsStatic, HasStatics}
+use Rattle.code_soundness.specs.Objects.{IsOfSort, AreOfSorts, IsByte, AreObjects, HasStatics}
 use Rattle.code_soundness.specs.Good.{IsFrame, Waits, AreWaiting, IsGood}
 use Rattle.code_soundness.proofs.Lists.{zip_set}
 use Rattle.code_soundness.proofs.Pointing.{Grows, values_grow}

@@ -1,12 +1,12 @@
 -- New objects are whole.
-use Rattle.std.proofs.Common.{◌≡◌, ℕ, ℤ, ◌+◌, ◌*◌, ◌/◌, ◌%◌, ◌^◌, ◌<◌, ◌≤◌, List, [], ◌∷◌, ◌++◌, length, Option, Some, None, refl, sym, ap, ◌∙◌, subst, arith, inl}
-use Rattle.std.specs.Prelude.{All, replicate, slice_get}
-use Rattle.std.proofs.lemmas.List.{length-append, length-replicate, get_or-append-add}
+use Rattle.std.proofs.Common.{◌≡◌, ℕ, ℤ, ◌+◌, ◌*◌, ◌/◌, ◌^◌, ◌<◌, ◌≤◌, List, [], ◌∷◌, ◌++◌, length, Option, Some, None, refl, arith, inl}
+use Rattle.std.specs.Prelude.{slice_get}
+use Rattle.std.proofs.lemmas.List.{length-append, length-replicate}
 use Rattle.std.proofs.lemmas.List.Elements.{All-push, All-replicate, All-weaker}
 use Rattle.std.proofs.lemmas.Nat.{div-add-mod'}
 use Rattle.std.proofs.Math.Nat.{mul-le-mul_left}
 use Rattle.hs_base.specs.declared.values.Pointer.TheVariants as pointer
-use Rattle.hs_base.specs.Object.{Object, Sort, object_at, no_object}
+use Rattle.hs_base.specs.Object.{Object, Sort, object_at}
 use Rattle.hs_base.proofs.Wrapping.{low_bits_lt}
 use Rattle.c_types.specs.declared.layouts.Layout.{Layout}
 use Rattle.c_types.specs.Layouts.{AreSlots, IsSound, array_layout}
@@ -16,7 +16,7 @@ use Rattle.object_meaning.specs.Making.{blank, heap_object}
 use Rattle.object_meaning.proofs.Alive.{at_old}
 use Rattle.flat_code.specs.declared.program.Code.{Code}
 use Rattle.flat_code.specs.WellFormed.{IsWellFormed, IsLayout}
-use Rattle.code_meaning.specs.Entering.{layout_in, no_layout}
+use Rattle.code_meaning.specs.Entering.{layout_in}
 use Rattle.code_soundness.specs.Objects.{IsPointer, IsByte, IsObject, AreObjects}
 use Rattle.code_soundness.proofs.Lists.{all_at}
 use Rattle.code_soundness.proofs.Pointing.{Grows}

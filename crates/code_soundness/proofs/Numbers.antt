@@ -1,5 +1,5 @@
 -- What operations on integers answer is in range.
-use Rattle.std.proofs.Common.{◌≡◌, ◌≢◌, ℕ, ℤ, zero, suc, pos, negsuc, ◌<◌, ◌^◌, Bool, true, false, List, Option, Some, None, Result, Ok, refl, arith}
+use Rattle.std.proofs.Common.{ℕ, ℤ, zero, suc, pos, negsuc, ◌<◌, ◌^◌, Bool, true, false, List, Option, Some, None, arith}
 use Rattle.std.specs.Option.{option_map}
 use Rattle.std.proofs.lemmas.Int.{ints, SFits-int_wrap}
 use Rattle.std.specs.Int.{w8, w16, w32, w64}
@@ -8,8 +8,7 @@ use Rattle.hs_base.specs.declared.ends.IntKind.TheVariants.{I8, U8, I16, U16, I3
 use Rattle.hs_base.specs.declared.ends.TrapKind.{TrapKind}
 use Rattle.hs_base.specs.declared.ends.TrapKind.TheVariants as trap
 use Rattle.hs_base.specs.declared.values.Value.{Value}
-use Rattle.hs_base.specs.Access.{Refusal}
-use Rattle.hs_base.specs.Arithmetic.{for_divisor, quotient_of, remainder_of, places_of, left_shift_of, right_shift_of}
+use Rattle.hs_base.specs.Arithmetic.{for_divisor, places_of}
 use Rattle.hs_base.specs.Numbers.{low_bits, wrapped}
 use Rattle.hs_base.specs.Object.{Object}
 use Rattle.hs_base.proofs.Wrapping.{low_bits_lt}

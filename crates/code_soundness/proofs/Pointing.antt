@@ -1,9 +1,7 @@
 -- Pointers into objects, and what operations on pointers answer.
-use Rattle.std.proofs.Common.{◌≡◌, ◌≢◌, ℕ, ℤ, zero, suc, pos, negsuc, ◌+◌, ◌<◌, ◌≤◌, Bool, true, false, cond, nat_eq, List, length, Option, Some, None, Result, Ok, Err, refl, sym, ap, ◌∙◌, subst, arith}
-use Rattle.std.specs.Prelude.{nat_le, All, slice_get}
-use Rattle.std.specs.List.{AllZip}
+use Rattle.std.proofs.Common.{◌≡◌, ℕ, ℤ, pos, negsuc, ◌<◌, ◌≤◌, Bool, true, false, cond, nat_eq, List, length, Option, Some, None, Ok, Err, refl, arith}
+use Rattle.std.specs.Prelude.{nat_le}
 use Rattle.std.proofs.lemmas.Bool.{leb-true}
-use Rattle.std.proofs.lemmas.List.Elements.{All-weaker}
 use Rattle.hs_base.specs.declared.ends.IntKind.TheVariants.{I32}
 use Rattle.hs_base.specs.declared.ends.TrapKind.{TrapKind}
 use Rattle.hs_base.specs.declared.ends.TrapKind.TheVariants as trap
@@ -11,7 +9,7 @@ use Rattle.hs_base.specs.declared.values.Pointer.{Pointer}
 use Rattle.hs_base.specs.declared.values.Pointer.TheVariants as pointer
 use Rattle.hs_base.specs.declared.values.Value.{Value}
 use Rattle.hs_base.specs.declared.values.Value.TheVariants as value
-use Rattle.hs_base.specs.Access.{Refusal, Trapped}
+use Rattle.hs_base.specs.Access.{Trapped}
 use Rattle.hs_base.specs.Object.{Object, object_at}
 use Rattle.core_tree.specs.declared.statements.CmpOp.{CmpOp}
 use Rattle.core_tree.specs.declared.statements.CmpOp.TheVariants as cmp

@@ -1,11 +1,10 @@
 -- A return leads to a good state of the frame that waited, or ends the run.
-use Rattle.std.proofs.Common.{◌≡◌, ℕ, zero, suc, pos, ◌+◌, ◌<◌, ◌≤◌, List, [], ◌∷◌, length, set, map, Option, Some, None, refl, sym, ap, ◌∙◌, subst, arith}
+use Rattle.std.proofs.Common.{◌≡◌, ℕ, ◌+◌, List, [], ◌∷◌, length, set, map, Option, Some, None, refl, sym, ap, ◌∙◌, subst, arith}
 use Rattle.std.specs.Prelude.{slice_get}
 use Rattle.std.specs.List.{range_with_len}
 use Rattle.std.specs.Option.{option_and_then}
 use Rattle.hs_base.specs.declared.values.Value.{Value}
 use Rattle.hs_base.specs.Freeing.{end_numbers}
-use Rattle.hs_base.specs.Object.{Object}
 use Rattle.hs_base.specs.State.{Frame, State}
 use Rattle.c_types.specs.declared.layouts.Layout.{Layout}
 use Rattle.core_tree.specs.Sorts.{Sort}
@@ -15,12 +14,11 @@ use Rattle.flat_code.specs.declared.instructions.Instr.{Instr}
 use Rattle.flat_code.specs.declared.instructions.Op.{Op}
 use Rattle.flat_code.specs.declared.instructions.Op.TheVariants as op
 use Rattle.flat_code.specs.declared.program.Code.{Code}
-use Rattle.flat_code.specs.declared.program.Entry.{Entry}
 use Rattle.flat_code.specs.Table.{register_sorts, all_there, written, chosen}
 use Rattle.flat_code.specs.WellFormed.{IsWellFormed, IsAt, EachAnswer, GivesTo, handed_before}
 use Rattle.code_meaning.specs.CodeState.{CodeState, kept}
 use Rattle.code_meaning.specs.Entering.{layout_in, locals_of}
-use Rattle.code_meaning.specs.Returning.{answer_register, resumed, go_back, end_locals, give_back, running_locals}
+use Rattle.code_meaning.specs.Returning.{answer_register, go_back, end_locals, give_back, running_locals}
 use Rattle.code_soundness.specs.Freeless.{IsFreeless}
 use Rattle.code_soundness.specs.Objects.{IsOfSort, AreOfSorts}
 use Rattle.code_soundness.specs.Good.{IsFrame, Waits, AreWaiting, IsGood}

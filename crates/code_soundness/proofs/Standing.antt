@@ -1,5 +1,5 @@
 -- What an effect on a good state leads to is good, or it ends the run for another reason than want of life.
-use Rattle.std.proofs.Common.{◌≡◌, ◌≢◌, ℕ, zero, suc, pos, negsuc, ◌+◌, ◌<◌, ◌^◌, Bool, true, false, List, [], ◌∷◌, ◌++◌, length, map, Option, Some, None, Result, Ok, Err, refl, sym, ap, ◌∙◌, subst, arith}
+use Rattle.std.proofs.Common.{◌≡◌, ℕ, zero, suc, pos, negsuc, ◌+◌, ◌<◌, ◌^◌, Bool, true, false, List, [], ◌∷◌, ◌++◌, length, Option, Some, None, Result, Ok, Err, refl, sym, ap, ◌∙◌, subst, arith}
 use Rattle.std.specs.Prelude.{All, Contains}
 use Rattle.std.proofs.lemmas.Int.{ints}
 use Rattle.std.proofs.lemmas.List.Elements.{All-head, All-tail}
@@ -7,16 +7,15 @@ use Rattle.hs_base.specs.declared.values.Pointer.{Pointer}
 use Rattle.hs_base.specs.declared.values.Pointer.TheVariants as pointer
 use Rattle.hs_base.specs.declared.values.Value.{Value}
 use Rattle.hs_base.specs.declared.ends.IntKind.TheVariants.{I32}
-use Rattle.hs_base.specs.Access.{Refusal, ReadsDead}
+use Rattle.hs_base.specs.Access.{Refusal}
 use Rattle.hs_base.specs.Freeing.{check_numbers, buried, buried_standing}
 use Rattle.hs_base.specs.Object.{Object, Standing, Live}
 use Rattle.hs_base.specs.State.{State}
-use Rattle.hs_base.specs.Trace.{Event, Dangling}
 use Rattle.c_types.specs.declared.layouts.Layout.{Layout}
 use Rattle.c_types.specs.Layouts.{IsSound}
 use Rattle.core_tree.specs.Sorts.{Sort, Integer, Pointer as Address}
 use Rattle.object_meaning.specs.Values.{number, address, start_of}
-use Rattle.object_meaning.specs.Going.{write, onward, at_point, with_objects, ended_by, answers, changes, if_done}
+use Rattle.object_meaning.specs.Going.{write, onward, at_point, with_objects, answers, changes, if_done}
 use Rattle.object_meaning.specs.Making.{heap_object}
 use Rattle.object_meaning.specs.Heap.{make}
 use Rattle.object_meaning.specs.Printing.{print}
@@ -34,15 +33,14 @@ use Rattle.code_meaning.specs.CodeState.{CodeState, Next, kept, same_numbers, ot
 use Rattle.code_meaning.specs.Counting.{more, pinned, without_those_inside}
 use Rattle.code_meaning.specs.Entering.{with_step}
 use Rattle.code_meaning.specs.Checking.{enter, leave, decided}
-use Rattle.code_soundness.specs.Objects.{IsPointer, IsOfSort, IsByte, IsObject, AreObjects}
+use Rattle.code_soundness.specs.Objects.{IsPointer, IsOfSort, IsByte}
 use Rattle.code_soundness.specs.Good.{IsGood}
 use Rattle.code_soundness.specs.Laws.{StaysGood}
 use Rattle.code_soundness.proofs.Numbers.{natural_number, wrapped_number}
-use Rattle.code_soundness.proofs.Pointing.{Grows, grows_same, pointer_grows}
+use Rattle.code_soundness.proofs.Pointing.{grows_same, pointer_grows}
 use Rattle.code_soundness.proofs.Touching.{Changed}
 use Rattle.code_soundness.proofs.Texts.{Lives}
 use Rattle.code_soundness.proofs.Made.{heap_is, append_grows, one_more, new_start}
-use Rattle.code_soundness.proofs.Ready.{Ready}
 use Rattle.code_soundness.proofs.Frames.{IsReady, IsPlain, goes_on, write_good}
 
 -- objects that are all live stay as they are where the queued ones are buried

@@ -1,5 +1,5 @@
 -- The instruction that a good state is at leads to a good state.
-use Rattle.std.proofs.Common.{◌≡◌, ℕ, zero, suc, pos, ◌+◌, ◌<◌, ◌≤◌, Bool, true, false, List, [], ◌∷◌, ◌++◌, length, get_or, Option, Some, None, refl, sym, ap, ◌∙◌, subst, arith}
+use Rattle.std.proofs.Common.{◌≡◌, ℕ, pos, ◌+◌, Bool, true, List, [], ◌∷◌, ◌++◌, get_or, Option, Some, None, refl, sym, ap, ◌∙◌, subst, arith}
 use Rattle.std.specs.Prelude.{slice_get, slice_index, Contains, IsSome}
 use Rattle.std.specs.Option.{option_map}
 use Rattle.std.proofs.lemmas.Option.{slice_get-map}
@@ -7,7 +7,7 @@ use Rattle.hs_base.specs.declared.values.Pointer.TheVariants as pointer
 use Rattle.hs_base.specs.declared.values.Value.{Value}
 use Rattle.hs_base.specs.State.{State}
 use Rattle.hs_base.specs.Trace.{Event}
-use Rattle.core_tree.specs.Sorts.{Sort, Integer, Pointer as Address}
+use Rattle.core_tree.specs.Sorts.{Sort, Pointer as Address}
 use Rattle.object_meaning.specs.Values.{number, address, start_of, pointer_in, holds_stale}
 use Rattle.flat_code.specs.declared.instructions.Instr.{Instr}
 use Rattle.flat_code.specs.declared.instructions.Op.{Op}
@@ -19,14 +19,14 @@ use Rattle.flat_code.specs.WellFormed.{IsWellFormed, IsAt, handed_before}
 use Rattle.code_meaning.specs.CodeState.{CodeState, Next, with_handed}
 use Rattle.code_meaning.specs.CodeMeaning.{unsigned, handed_value, hand, act, hand_or_act, act_at, step}
 use Rattle.code_soundness.specs.Freeless.{IsFreeless, QueuesNothing}
-use Rattle.code_soundness.specs.Objects.{IsPointer, IsOfSort, AreOfSorts}
+use Rattle.code_soundness.specs.Objects.{IsOfSort, AreOfSorts}
 use Rattle.code_soundness.specs.Good.{IsGood}
 use Rattle.code_soundness.specs.Laws.{StaysGood}
 use Rattle.code_soundness.proofs.Lists.{zip_at, zip_push}
 use Rattle.code_soundness.proofs.Numbers.{unsigned_number}
 use Rattle.code_soundness.proofs.Pointing.{points}
 use Rattle.code_soundness.proofs.Touching.{not_stale}
-use Rattle.code_soundness.proofs.Ready.{Ready, instr_at, ready_at}
+use Rattle.code_soundness.proofs.Ready.{instr_at, ready_at}
 use Rattle.code_soundness.proofs.Frames.{IsReady, frame_moves}
 use Rattle.code_soundness.proofs.Calling.{there}
 use Rattle.code_soundness.proofs.Acting.{act_stays}

@@ -1,18 +1,17 @@
 -- An operation on objects that are live and whole is never refused for want of life, and leaves such objects.
-use Rattle.std.proofs.Common.{◌≡◌, ◌≢◌, ℕ, ℤ, zero, suc, ◌+◌, ◌-◌, ◌*◌, ◌/◌, ◌%◌, ◌<◌, ◌≤◌, Bool, true, false, not, ◌&&◌, nat_eq, nat_lt, List, [], ◌∷◌, ◌++◌, length, take, drop, get_or, set, Result, Ok, Err, refl, sym, ap, ◌∙◌, subst, arith}
+use Rattle.std.proofs.Common.{◌≡◌, ℕ, ℤ, zero, suc, ◌+◌, ◌-◌, ◌*◌, ◌/◌, ◌%◌, ◌<◌, ◌≤◌, Bool, true, false, not, ◌&&◌, nat_eq, nat_lt, List, [], ◌∷◌, length, take, drop, set, Result, Ok, refl, sym, ap, ◌∙◌, arith}
 use Rattle.std.specs.Prelude.{All, replicate}
 use Rattle.std.specs.List.{list_any}
 use Rattle.std.proofs.lemmas.Bool.{ltb-false, not-false, and_parts, or_from}
-use Rattle.std.proofs.lemmas.List.{length-set, length-take, length-drop, length-replicate}
+use Rattle.std.proofs.lemmas.List.{length-set, length-take, length-replicate}
 use Rattle.std.proofs.lemmas.List.Elements.{All-set, All-weaker, All-take, All-drop, All-replicate, All-nil, All-cons, All-head, All-tail}
 use Rattle.std.proofs.Math.Nat.{mod-lt}
 use Rattle.hs_base.specs.declared.ends.IntKind.{IntKind}
 use Rattle.hs_base.specs.declared.ends.TrapKind.{TrapKind}
 use Rattle.hs_base.specs.declared.values.Pointer.{Pointer}
 use Rattle.hs_base.specs.declared.values.Pointer.TheVariants as pointer
-use Rattle.hs_base.specs.declared.values.Value.{Value}
 use Rattle.hs_base.specs.Access as access
-use Rattle.hs_base.specs.Access.{Refusal, Trapped, ReadsDead, Place, if_so, and_then, access_in, access_integer, access_pointer, range_at, bytes_of, overlaid, with_integer, with_pointer, with_object, copy, copy_between, may_copy, may_set, cuts_slot, same_numbers, distances, filled, set_bytes, slots_below, slots_within}
+use Rattle.hs_base.specs.Access.{Refusal, Trapped, ReadsDead, Place, if_so, access_in, access_integer, access_pointer, range_at, bytes_of, overlaid, with_object, copy, copy_between, may_copy, may_set, cuts_slot, same_numbers, distances, filled, set_bytes, slots_below, slots_within}
 use Rattle.hs_base.specs.Numbers.{low_bits, width}
 use Rattle.hs_base.specs.Object.{Object, object_at, no_object, is_dead}
 use Rattle.hs_base.proofs.Words.{length-bytes_of}
