@@ -1,6 +1,12 @@
 //! What holds of every run.
 
+ghost use Rattle.code_soundness.specs.Example.{DigitIsWellFormed};
 ghost use Rattle.code_soundness.specs.Laws.{InstructionIsThere, MainGivesInteger, RunBeginsWell, RunsEnd, StepLeavesLess, StepStaysGood};
+
+/// An example of code of which the laws below speak.
+pub fn digit_is_well_formed()
+    ensures { DigitIsWellFormed }
+{}
 
 /// A good state is at an instruction of its function.
 pub fn instruction_is_there()
