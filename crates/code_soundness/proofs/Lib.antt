@@ -16,3 +16,4 @@ pub mod Falling
 pub mod Beginning
 pub mod Ending
 pub mod Answering
+pub mod Example

@@ -2,3 +2,4 @@ pub mod Freeless
 pub mod Objects
 pub mod Good
 pub mod Laws
+pub mod Example

@@ -1,10 +1,21 @@
 //! What holds of every run.
 
-ghost use Rattle.code_soundness.specs.Laws.{InstructionIsThere, MainGivesInteger, RunBeginsWell, RunsEnd, StepLeavesLess, StepStaysGood};
+ghost use Rattle.code_soundness.specs.Example.{DigitIsWellFormed};
+ghost use Rattle.code_soundness.specs.Laws.{InstructionIsThere, MainGivesInteger, OperandsAreThere, RunBeginsWell, RunsEnd, StepLeavesLess, StepStaysGood};
+
+/// An example of code of which the laws below speak.
+pub fn digit_is_well_formed()
+    ensures { DigitIsWellFormed }
+{}
 
 /// A good state is at an instruction of its function.
 pub fn instruction_is_there()
     ensures { InstructionIsThere }
+{}
+
+/// In a good state an operation that hands nothing over has what it takes: as many values as it takes, each of its sort.
+pub fn operands_are_there()
+    ensures { OperandsAreThere }
 {}
 
 /// Where no frame waits, a return gives an integer: the one with which the run ends.

@@ -12,6 +12,6 @@
 mod laws;
 
 pub use laws::{
-    instruction_is_there, main_gives_integer, run_begins_well, run_ends, step_leaves_less,
-    step_stays_good,
+    digit_is_well_formed, instruction_is_there, main_gives_integer, operands_are_there,
+    run_begins_well, run_ends, step_leaves_less, step_stays_good,
 };
