@@ -7,3 +7,4 @@ pub mod Walking
 pub mod Bodies
 pub mod Wholes
 pub mod Closing
+pub mod Starts

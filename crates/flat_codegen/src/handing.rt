@@ -73,14 +73,27 @@ fn operand_count(kind: &StmKind) -> usize
         | StmKind::Copy(..)
         | StmKind::Calloc(..)
         | StmKind::Realloc(..) => 2,
-        StmKind::Call(_, _, args) | StmKind::Lib(_, _, args) | StmKind::Printf(_, _, args) =>
-            args.len(),
+        StmKind::Call(_, _, args) | StmKind::Lib(_, _, args) | StmKind::Printf(_, _, args) => {
+            args.len()
+        }
+        StmKind::Set(..)
+        | StmKind::Conv(..)
+        | StmKind::Un(..)
+        | StmKind::Off(..)
+        | StmKind::Test(..)
+        | StmKind::Load(..)
+        | StmKind::Loadp(..)
+        | StmKind::Clear(..)
+        | StmKind::Zero(..)
+        | StmKind::Case(..)
+        | StmKind::Malloc(..)
+        | StmKind::Free(_)
+        | StmKind::Return(Some(_)) => 1,
         StmKind::Jump(_)
         | StmKind::Loop(_)
         | StmKind::Enter
         | StmKind::Leave
         | StmKind::Return(None) => 0,
-        _ => 1,
     }
 }
 
@@ -115,7 +128,7 @@ impl Emitter {
         self.push(line, hand(atom))
     }
 
-    /// Adds those that hand the operands of a statement over.
+    /// Adds the instructions that hand the operands of a statement over.
     fn hand_operands(&mut self, line: Line, kind: &StmKind) -> Result<(), NoMemory>
         requires { All IsNumber (flat_map atom_numbers (operands kind.now)) }
         ensures { IfOk result (λ _. self.new.code ≡ with_instrs self.old.code line (map hand_of (operands kind.now))) }
@@ -128,14 +141,14 @@ impl Emitter {
         Ok(())
     }
 
-    /// Adds those that hand over what a statement hands over.
+    /// Adds the instructions that hand over all that a statement hands over.
     pub(crate) fn hand_all(&mut self, line: Line, kind: &StmKind) -> Result<(), NoMemory>
         requires { HasNumbers kind.now }
         ensures { IfOk result (λ _. self.new.code ≡ with_instrs self.old.code line (map hand_of (handed_atoms kind.now))) }
     {
         self.hand_operands(line, kind)?;
         if let Some(number) = own_number(kind) {
-            self.hand(line, Atom::Int(number))?;
+            self.push(line, hand_integer(number))?;
         }
         Ok(())
     }

@@ -67,7 +67,7 @@ pub(crate) fn inits(alloc: Global, statics: &[Static]) -> Result<Items<StaticIni
     Ok(inits)
 }
 
-/// Their layouts.
+/// The layouts of statics.
 pub(crate) fn layouts(alloc: Global, statics: &[Static]) -> Result<Items<Layout>, NoMemory>
     ensures { IfOk result (λ layouts. layouts ≡ map (λ (static : CoreStatic). static.layout) statics.now) }
 {
