@@ -4,6 +4,7 @@
 mod access;
 mod arithmetic;
 mod finding;
+mod forms;
 mod memory;
 mod new_objects;
 mod statics;

@@ -14,8 +14,8 @@ ghost use Rattle.flat_objects.specs.Answering.{IsChanged};
 ghost use Rattle.flat_objects.specs.Adding.{IsAdded};
 ghost use Rattle.flat_objects.specs.Starting.{IsTaking, IsWritten, TakesBytes, with_first_bytes};
 
+use crate::forms::Form;
 use crate::memory::FlatObjects;
-use adjusters::Adjuster;
 use c_types::Layout;
 use heap_blocks::Heap;
 use hs_base::{FlatBytes, NoMemory, Steps};
@@ -23,13 +23,13 @@ use std::alloc::Global;
 use std::sync::ledger::Ledger;
 
 /// The slots of the elements of each layout.
-fn forms_of(alloc: Global, layouts: &[Layout]) -> Result<Vec<Adjuster>, NoMemory>
+fn forms_of(alloc: Global, layouts: &[Layout]) -> Result<Vec<Form>, NoMemory>
     requires { All (λ l. IsForm (element_of l)) layouts.now }
     ensures { IfOk result (λ forms. forms.items ≡ map element_of layouts.now) }
 {
     let mut forms = Vec::new(alloc);
     for layout in layouts {
-        forms.push(Adjuster::of(alloc, layout)?)?;
+        forms.push(Form::of(alloc, layout)?)?;
     }
     Ok(forms)
 }
