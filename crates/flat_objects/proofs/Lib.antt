@@ -17,3 +17,4 @@ mod Behind
 mod Added
 mod Made
 mod Started
+mod Pointed

@@ -2,7 +2,7 @@
 
 ghost use Rattle.std.specs.Prelude.{◌≡◌, ◌+◌, ◌%◌, ◌^◌, ◌<◌, ◌≤◌, ℕ, List, [], All, IfOk, IfSome, IfNone, Some, length, map, option_map, slice_get};
 ghost use Rattle.hs_base.specs.Object.{Object, Static, object_at};
-ghost use Rattle.hs_base.specs.Access.{with_object};
+ghost use Rattle.hs_base.specs.Access.{with_object, with_pointer};
 ghost use Rattle.c_types.specs.declared.layouts.Layout as layouts;
 ghost use Rattle.adjusters.specs.ObjectSlots.{element_of};
 ghost use Rattle.heap_blocks.specs.Held.{HasBounds, address_of, fit_of};
@@ -12,13 +12,13 @@ ghost use Rattle.flat_objects.specs.Memory.{IsForm};
 ghost use Rattle.flat_objects.specs.Keeping.{Keeps, blocks_of};
 ghost use Rattle.flat_objects.specs.Answering.{IsChanged};
 ghost use Rattle.flat_objects.specs.Adding.{IsAdded};
-ghost use Rattle.flat_objects.specs.Starting.{IsTaking, IsWritten, TakesBytes, with_first_bytes};
+ghost use Rattle.flat_objects.specs.Starting.{HasSlotFor, IsSlotFor, IsTaking, IsTakingPointers, IsWritten, TakesBytes, TakesPointers, with_first_bytes, with_first_pointers};
 
 use crate::forms::Form;
 use crate::memory::FlatObjects;
 use c_types::Layout;
 use heap_blocks::Heap;
-use hs_base::{FlatBytes, NoMemory, Steps};
+use hs_base::{FlatBytes, NoMemory, Pointer, Steps};
 use std::alloc::Global;
 use std::sync::ledger::Ledger;
 
@@ -104,5 +104,40 @@ impl FlatObjects {
         ensures { (places : ℕ → ℕ) (objects : List Object) (birth : ℕ) → TakesBytes self.old places objects birth addr bytes.now → IsChanged self.new places objects (with_object objects birth (with_first_bytes (object_at objects birth) bytes.now)) }
     {
         write_bytes(&mut self.bytes, addr, bytes, steps);
+    }
+
+    /// Writes the address of an offset of an object into a slot of another.
+    fn set_slot<L: Ledger>(
+        &mut self,
+        start: u32,
+        slot: u32,
+        target: u32,
+        offset: u32,
+        steps: &mut Steps<L>,
+    )
+        requires { IsSlotFor self.old start slot target offset }
+        ensures { (places : ℕ → ℕ) (objects : List Object) (birth other : ℕ) → HasSlotFor self.old places objects birth start slot other target offset → IsChanged self.new places objects (with_object objects birth (with_pointer (object_at objects birth) slot (Pointer.At other offset))) }
+    {
+        let addr = start + slot;
+        let value = target + offset;
+        self.bytes.write(addr, 4, u64::from(value), steps);
+    }
+
+    /// Writes the first pointers of a static at an address, whose pointers are null: the offset of each slot, the static
+    /// that is pointed to and the offset in that one. All statics stand at these addresses.
+    pub fn start_pointers<L: Ledger>(
+        &mut self,
+        addr: u32,
+        pointers: &[(u32, u32, u32)],
+        starts: &[u32],
+        steps: &mut Steps<L>,
+    )
+        requires { IsTakingPointers self.old addr pointers.now starts.now }
+        ensures { (places : ℕ → ℕ) (objects : List Object) (birth : ℕ) → TakesPointers self.old places objects birth addr pointers.now starts.now → IsChanged self.new places objects (with_object objects birth (with_first_pointers (object_at objects birth) pointers.now)) }
+    {
+        for pointer in pointers {
+            let (slot, target, offset) = *pointer;
+            self.set_slot(addr, slot, starts[target as usize], offset, steps);
+        }
     }
 }
