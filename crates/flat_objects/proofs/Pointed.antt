@@ -1,19 +1,16 @@
 -- The first pointers of statics.
-use Rattle.std.proofs.Common.{◌≡◌, ◌≢◌, ◌<◌, ◌≤◌, ◌+◌, ◌^◌, ℕ, zero, suc, List, [], ◌∷◌, ◌++◌, inl, inr, cond, length, get_or, set, take, sym, ap, ◌∙◌, refl, subst, arith, length-take}
+use Rattle.std.proofs.Common.{◌≡◌, ◌≢◌, ◌<◌, ◌≤◌, ◌+◌, ◌^◌, ℕ, List, [], ◌∷◌, ◌++◌, inl, inr, cond, length, get_or, set, take, sym, ap, ◌∙◌, refl, subst, arith, length-take}
 use Rattle.std.specs.Prelude.{All, AllPairs, Contains, map, nat_eq, slice_index}
 use Rattle.std.proofs.lemmas.Bool.{cases_eq, cases_order, cond-true, cond-false, eq-eqb, ne_eqb}
 use Rattle.std.proofs.lemmas.List.{ext_get_or, get_or-map, length-map, get_or-set_same, get_or-set_other, set-set, set-get_or, get_or_default, take_more, get_or-take}
 use Rattle.std.proofs.lemmas.List.Elements.{All-head, All-tail}
 use Rattle.std.proofs.Math.ListN.{length-set}
-use Rattle.hs_base.specs.declared.values.Pointer.{Pointer}
 use Rattle.hs_base.specs.declared.values.Pointer.TheVariants as pointer
 use Rattle.hs_base.specs.Access.{with_object, with_pointer, slots_below}
 use Rattle.hs_base.specs.Bytes.{put_word}
 use Rattle.hs_base.specs.Object.{Object, Standing, is_dead, no_object, object_at}
 use Rattle.object_meaning.specs.Making.{first_pointer}
 use Rattle.flat_objects.specs.Memory.{Memory, IsMemory}
-use Rattle.flat_objects.specs.Standing.{IsThere, IsAddressOf}
-use Rattle.flat_objects.specs.Keeping.{Keeps}
 use Rattle.flat_objects.specs.Answering.{IsChanged}
 use Rattle.flat_objects.specs.Starting.{HasSlotFor, IsFirstTarget, TakesPointers, with_first_pointers}
 use Rattle.flat_objects.proofs.Ascending.{Ascend, below_slot, slot_ends, slots_apart}

@@ -118,6 +118,7 @@ impl FlatObjects {
         requires { IsSlotFor self.old start slot target offset }
         ensures { (places : ℕ → ℕ) (objects : List Object) (birth other : ℕ) → HasSlotFor self.old places objects birth start slot other target offset → IsChanged self.new places objects (with_object objects birth (with_pointer (object_at objects birth) slot (Pointer.At other offset))) }
     {
+        let _ = &self.bytes;
         let addr = start + slot;
         let value = target + offset;
         self.bytes.write(addr, 4, u64::from(value), steps);
@@ -135,6 +136,7 @@ impl FlatObjects {
         requires { IsTakingPointers self.old addr pointers.now starts.now }
         ensures { (places : ℕ → ℕ) (objects : List Object) (birth : ℕ) → TakesPointers self.old places objects birth addr pointers.now starts.now → IsChanged self.new places objects (with_object objects birth (with_first_pointers (object_at objects birth) pointers.now)) }
     {
+        let _ = &self.bytes;
         for pointer in pointers {
             let (slot, target, offset) = *pointer;
             self.set_slot(addr, slot, starts[target as usize], offset, steps);
