@@ -18,3 +18,4 @@ mod Added
 mod Made
 mod Started
 mod Pointed
+mod Frames

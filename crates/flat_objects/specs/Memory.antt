@@ -3,7 +3,7 @@ use Rattle.std.specs.Prelude.{◌≡◌, ◌+◌, ◌^◌, ◌<◌, ◌≤◌, �
 use Rattle.c_types.specs.Layouts.{AreSlots}
 use Rattle.hs_base.specs.Object as object
 use Rattle.adjusters.specs.ObjectSlots.{Element}
-use Rattle.heap_blocks.specs.Held.{HeapModel}
+use Rattle.heap_blocks.specs.Held.{HeapModel, HasBounds}
 
 -- its bytes, the three ranges of addresses in which objects stand, and the elements of which objects are made, by number
 pub record Memory : Type 0 where
@@ -52,3 +52,10 @@ pub record IsMemory (locals heap : ℕ) (memory : Memory) : Type 0 where
   pub heap_end : end_of memory.heap ≤ length memory.bytes
   pub reach : length memory.bytes < 2 ^ 32
   pub forms : All IsForm memory.forms
+
+-- the ranges have the bounds that they had, and the elements are the same
+pub record SameFrame (before after : Memory) : Type 0 where
+  pub statics : HasBounds before.statics.base before.statics.len after.statics
+  pub locals : HasBounds before.locals.base before.locals.len after.locals
+  pub heap : HasBounds before.heap.base before.heap.len after.heap
+  pub forms : after.forms ≡ before.forms

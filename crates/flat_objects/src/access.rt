@@ -5,6 +5,7 @@ ghost use Rattle.hs_base.specs.Object.{Object};
 ghost use Rattle.hs_base.specs.Access.{access_integer, access_pointer};
 ghost use Rattle.hs_base.specs.Numbers.{low_bits, width};
 ghost use Rattle.object_meaning.specs.Memory.{loaded, loaded_pointer, stored, stored_pointer};
+ghost use Rattle.flat_objects.specs.Memory.{SameFrame};
 ghost use Rattle.flat_objects.specs.Standing.{IsAddressOf};
 ghost use Rattle.flat_objects.specs.Keeping.{KeepsAt, IsKept};
 ghost use Rattle.flat_objects.specs.Reaching.{Reaches};
@@ -115,7 +116,8 @@ impl FlatObjects {
         steps: &mut Steps<L>,
     ) -> Result<(), TrapKind>
         requires { IsKept self.old addr }
-        ensures { (places : ℕ → ℕ) (objects : List Object) (p : Pointer) → KeepsAt self.old places objects p addr → Changes places objects result self.old self.new (stored objects kind p n) }
+        ensures changes { (places : ℕ → ℕ) (objects : List Object) (p : Pointer) → KeepsAt self.old places objects p addr → Changes places objects result self.old self.new (stored objects kind p n) }
+        ensures frame { SameFrame self.old self.new }
     {
         let width = kind.bytes();
         self.access_integer(addr, width, steps)?;
@@ -131,7 +133,8 @@ impl FlatObjects {
         steps: &mut Steps<L>,
     ) -> Result<(), TrapKind>
         requires { IsKept self.old addr }
-        ensures { (places : ℕ → ℕ) (objects : List Object) (p q : Pointer) → KeepsAt self.old places objects p addr → IsAddressOf places objects q target → Changes places objects result self.old self.new (stored_pointer objects p q) }
+        ensures changes { (places : ℕ → ℕ) (objects : List Object) (p q : Pointer) → KeepsAt self.old places objects p addr → IsAddressOf places objects q target → Changes places objects result self.old self.new (stored_pointer objects p q) }
+        ensures frame { SameFrame self.old self.new }
     {
         self.access_pointer(addr, steps)?;
         self.bytes.write(addr, 4, u64::from(target), steps);

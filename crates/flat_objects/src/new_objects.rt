@@ -7,6 +7,7 @@ ghost use Rattle.adjusters.specs.ObjectSlots.{element_of};
 ghost use Rattle.heap_blocks.specs.Held.{address_of, fit_of};
 ghost use Rattle.object_meaning.specs.Making.{heap_object};
 ghost use Rattle.flat_objects.specs.Memory as memory;
+ghost use Rattle.flat_objects.specs.Memory.{SameFrame};
 ghost use Rattle.flat_objects.specs.Keeping.{Keeps, blocks_of};
 ghost use Rattle.flat_objects.specs.Adding.{IsAdded};
 
@@ -29,6 +30,7 @@ impl FlatObjects {
         ensures place { (places : ℕ → ℕ) (objects : List Object) → Keeps self.old places objects → result ≡ option_map (address_of self.old.heap) (fit_of self.old.heap (blocks_of self.old places objects memory.Heap) size) }
         ensures added { (places : ℕ → ℕ) (objects : List Object) (element : Layout) → Keeps self.old places objects → birth ≡ length objects → slice_get self.old.forms layout ≡ Some (element_of element) → IfSome result (IsAdded self.new places objects (heap_object line size element)) }
         ensures none { IfNone result (self.new ≡ self.old) }
+        ensures frame { SameFrame self.old self.new }
     {
         self.heap
             .place(&mut self.bytes, size, layout, line, birth, steps)

@@ -8,7 +8,7 @@ ghost use Rattle.adjusters.specs.ObjectSlots.{element_of};
 ghost use Rattle.heap_blocks.specs.Held.{HasBounds, address_of, fit_of};
 ghost use Rattle.object_meaning.specs.Making.{blank};
 ghost use Rattle.flat_objects.specs.Memory as memory;
-ghost use Rattle.flat_objects.specs.Memory.{IsForm};
+ghost use Rattle.flat_objects.specs.Memory.{IsForm, SameFrame};
 ghost use Rattle.flat_objects.specs.Keeping.{Keeps, blocks_of};
 ghost use Rattle.flat_objects.specs.Answering.{IsChanged};
 ghost use Rattle.flat_objects.specs.Adding.{IsAdded};
@@ -87,6 +87,7 @@ impl FlatObjects {
         ensures place { (places : ℕ → ℕ) (objects : List Object) → Keeps self.old places objects → result ≡ option_map (address_of self.old.statics) (fit_of self.old.statics (blocks_of self.old places objects memory.Statics) size) }
         ensures added { (places : ℕ → ℕ) (objects : List Object) (element : layouts.Layout) → Keeps self.old places objects → index ≡ length objects → slice_get self.old.forms layout ≡ Some (element_of element) → size ≡ element.size → IfSome result (IsAdded self.new places objects (blank (Static index) size element.slots)) }
         ensures none { IfNone result (self.new ≡ self.old) }
+        ensures frame { SameFrame self.old self.new }
     {
         self.statics.place(
             &mut self.bytes,
@@ -101,7 +102,8 @@ impl FlatObjects {
     /// Writes the first bytes of a static at an address, which has only zeros and null pointers.
     pub fn start_bytes<L: Ledger>(&mut self, addr: u32, bytes: &[u8], steps: &mut Steps<L>)
         requires { IsTaking self.old addr bytes.now }
-        ensures { (places : ℕ → ℕ) (objects : List Object) (birth : ℕ) → TakesBytes self.old places objects birth addr bytes.now → IsChanged self.new places objects (with_object objects birth (with_first_bytes (object_at objects birth) bytes.now)) }
+        ensures changes { (places : ℕ → ℕ) (objects : List Object) (birth : ℕ) → TakesBytes self.old places objects birth addr bytes.now → IsChanged self.new places objects (with_object objects birth (with_first_bytes (object_at objects birth) bytes.now)) }
+        ensures frame { SameFrame self.old self.new }
     {
         write_bytes(&mut self.bytes, addr, bytes, steps);
     }
@@ -116,7 +118,8 @@ impl FlatObjects {
         steps: &mut Steps<L>,
     )
         requires { IsSlotFor self.old start slot target offset }
-        ensures { (places : ℕ → ℕ) (objects : List Object) (birth other : ℕ) → HasSlotFor self.old places objects birth start slot other target offset → IsChanged self.new places objects (with_object objects birth (with_pointer (object_at objects birth) slot (Pointer.At other offset))) }
+        ensures changes { (places : ℕ → ℕ) (objects : List Object) (birth other : ℕ) → HasSlotFor self.old places objects birth start slot other target offset → IsChanged self.new places objects (with_object objects birth (with_pointer (object_at objects birth) slot (Pointer.At other offset))) }
+        ensures frame { SameFrame self.old self.new }
     {
         let _ = &self.bytes;
         let addr = start + slot;
@@ -134,7 +137,8 @@ impl FlatObjects {
         steps: &mut Steps<L>,
     )
         requires { IsTakingPointers self.old addr pointers.now starts.now }
-        ensures { (places : ℕ → ℕ) (objects : List Object) (birth : ℕ) → TakesPointers self.old places objects birth addr pointers.now starts.now → IsChanged self.new places objects (with_object objects birth (with_first_pointers (object_at objects birth) pointers.now)) }
+        ensures changes { (places : ℕ → ℕ) (objects : List Object) (birth : ℕ) → TakesPointers self.old places objects birth addr pointers.now starts.now → IsChanged self.new places objects (with_object objects birth (with_first_pointers (object_at objects birth) pointers.now)) }
+        ensures frame { SameFrame self.old self.new }
     {
         let _ = &self.bytes;
         for pointer in pointers {

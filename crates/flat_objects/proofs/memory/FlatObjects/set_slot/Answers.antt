@@ -8,6 +8,7 @@ use Rattle.flat_objects.specs.Answering.{IsChanged}
 use Rattle.flat_objects.specs.Starting.{HasSlotFor}
 use Rattle.flat_objects.proofs.Changing.{with_bytes}
 use Rattle.flat_objects.proofs.Pointed.{slot_room, target_small, slot_set}
+use Rattle.flat_objects.proofs.Frames.{frame_bytes}
 use Rattle.flat_objects.proofs.memory.FlatObjects.set_slot.Goals as goal
 
 pub overflow_add-addr : goal.overflow_add-addr
@@ -41,10 +42,15 @@ write-requires-clause-fits g c =
     let small = target_small c.self.inside.locals_from c.self.inside.heap_from memory c.self.invariant k.0 k.1 k.2 c.args.start c.args.slot k.3 c.args.target c.args.offset has in
     omega (arith, c.from.ensures)
 
-pub returns : goal.returns
-returns g c = λ places objects birth other told.
+pub returns-clause-changes : goal.returns-clause-changes
+returns-clause-changes g c = λ places objects birth other told.
     let memory : Memory = record { bytes = c.self.inside.bytes; statics = c.self.inside.statics; locals = c.self.inside.locals; heap = c.self.inside.heap; forms = c.self.inside.forms.items } in
     let has = subst (λ (m : Memory). HasSlotFor m places objects birth c.args.start c.args.slot other c.args.target c.args.offset) (sym c.self.view_is) told in
     let set = slot_set c.self.inside.locals_from c.self.inside.heap_from memory c.self.invariant places objects birth c.args.start c.args.slot other c.args.target c.args.offset has in
     let bytes : c.write.new.self ≡ put_word memory.bytes (c.args.start + c.args.slot) 4 (c.args.target + c.args.offset) = c.write.ensures.value ∙ ap (put_word memory.bytes (c.args.start + c.args.slot) 4) c.from.ensures in
     subst (λ (b : List ℕ). IsChanged (with_bytes memory b) places objects (with_object objects birth (with_pointer (object_at objects birth) c.args.slot (pointer.At other c.args.offset)))) (sym bytes) set
+
+pub returns-clause-frame : goal.returns-clause-frame
+returns-clause-frame g c =
+    let memory : Memory = record { bytes = c.self.inside.bytes; statics = c.self.inside.statics; locals = c.self.inside.locals; heap = c.self.inside.heap; forms = c.self.inside.forms.items } in
+    frame_bytes memory c.args.self.now c.write.new.self c.self.view_is
