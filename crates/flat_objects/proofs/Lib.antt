@@ -19,3 +19,4 @@ mod Made
 mod Started
 mod Pointed
 mod Frames
+pub mod Packing
