@@ -20,3 +20,4 @@ mod Started
 mod Pointed
 mod Frames
 pub mod Packing
+mod Still

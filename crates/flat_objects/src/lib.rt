@@ -29,3 +29,6 @@ mod words;
 
 pub use memory::FlatObjects;
 pub use words::Word;
+
+#[cfg(test)]
+mod tests;
