@@ -19,6 +19,10 @@ pub frame_statics : (m n : Memory) (bytes : List ℕ) (after : HeapModel) → m 
 frame_statics m n bytes after e bounds =
     subst (λ (x : Memory). SameFrame x (record m { statics = after; bytes = bytes })) e (record { statics = bounds; locals = (refl, refl); heap = (refl, refl); forms = refl })
 
+pub frame_locals : (m n : Memory) (bytes : List ℕ) (after : HeapModel) → m ≡ n → HasBounds m.locals.base m.locals.len after → SameFrame n (record m { locals = after; bytes = bytes })
+frame_locals m n bytes after e bounds =
+    subst (λ (x : Memory). SameFrame x (record m { locals = after; bytes = bytes })) e (record { statics = (refl, refl); locals = bounds; heap = (refl, refl); forms = refl })
+
 pub frame_again : (a b c : Memory) → SameFrame a b → SameFrame b c → SameFrame a c
 frame_again a b c one other = record {
   statics = (other.statics.0 ∙ one.statics.0, other.statics.1 ∙ one.statics.1);
