@@ -25,7 +25,7 @@ use Rattle.flat_objects.specs.Standing.{IsThere, IsAddressOf}
 use Rattle.flat_objects.specs.Keeping.{Keeps, StandsAt, IsHeaderOf, IsLineOf, IsStateOf, HasSlots, block_of, blocks_of, stands_in}
 use Rattle.flat_objects.specs.Adding.{with_place, IsAdded}
 use Rattle.flat_objects.proofs.Apart.{ranges_apart}
-use Rattle.flat_objects.proofs.Ascending.{slot_ends}
+use Rattle.flat_objects.proofs.Ascending.{Ascend, slot_ends}
 use Rattle.flat_objects.proofs.Blocks.{there_below, own_block, block_is_held, of_own_range}
 use Rattle.flat_objects.proofs.Changing.{IsOutside, word_kept, byte_kept, header_kept, part_outside}
 use Rattle.flat_objects.proofs.Members.{related}
@@ -35,7 +35,7 @@ use Rattle.flat_objects.proofs.Reached.{are_slots}
 -- An object whose bytes did not change
 
 stands_kept : (memory after : Memory) (places new_places : ℕ → ℕ) (objects new_objects : List Object) (birth addr : ℕ) (o : Object) (start long : ℕ) → StandsAt memory places objects birth addr o → ChangesOnly memory.bytes after.bytes start long → IsOutside (addr - 32) (o.size + 32) start long
-    → after.forms ≡ memory.forms → (heap_of after (range_of o.sort)).base ≡ (heap_of memory (range_of o.sort)).base → addr + o.size ≤ length memory.bytes → AreSlots 0 o.size o.slots
+    → after.forms ≡ memory.forms → (heap_of after (range_of o.sort)).base ≡ (heap_of memory (range_of o.sort)).base → addr + o.size ≤ length memory.bytes → Ascend 0 o.size o.slots
     → ((p : Pointer) (a : ℕ) → IsAddressOf places objects p a → IsAddressOf new_places new_objects p a) → StandsAt after new_places new_objects birth addr o
 stands_kept memory after places new_places objects new_objects birth addr o start long old changes out forms base inside slots addresses =
     let header = header_kept memory.bytes after.bytes start long (addr - 32) changes (part_outside (addr - 32) (o.size + 32) start long (addr - 32) 32 out (omega arith) (omega arith)) in

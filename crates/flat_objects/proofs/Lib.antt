@@ -17,3 +17,7 @@ mod Behind
 mod Added
 mod Made
 mod Started
+mod Pointed
+mod Frames
+pub mod Packing
+mod Still

@@ -44,6 +44,19 @@ module _ (locals heap : ℕ) (memory : Memory) (shape : IsMemory locals heap mem
       placed_object locals heap memory (record memory { statics = after; bytes = bytes }) shape places objects keeps (blank (object.Static index) size element.slots) (blank_is (object.Static index) size element.slots) fit result size layout line birth
       result_is holds bounds placed refl static_others birth_is refl refl tt (element_of element, got, sym (own_element element.size element.slots form.slots) ∙ ap (object_slots (element_of element)) (sym size_is))
 
+  local_others : (range : Range) → (Locals ≡ range → ⊥) → heap_of (record memory { locals = after; bytes = bytes }) range ≡ heap_of memory range
+  local_others Statics differ = refl
+  local_others Locals differ = absurd (differ refl)
+  local_others Heap differ = refl
+
+  pub local_added : (func index : ℕ) → size ≡ element.size → result ≡ option_map (address_of memory.locals) fit → Holds after (with_block (blocks_of memory places objects Locals) birth (block_size size) fit) → HasBounds memory.locals.base memory.locals.len after
+      → IfSome result (IsAdded (record memory { locals = after; bytes = bytes }) places objects (blank (object.Local func index) size element.slots))
+  local_added func index size_is result_is holds bounds =
+      let form : IsForm (element_of element) =
+      subst IsForm (get_or_from_slice_get memory.forms layout (element_of element) (element_of element) got) (shape.forms layout (element_of element) (slice_get_within memory.forms layout (element_of element) got)) in
+      placed_object locals heap memory (record memory { locals = after; bytes = bytes }) shape places objects keeps (blank (object.Local func index) size element.slots) (blank_is (object.Local func index) size element.slots) fit result size layout line birth
+      result_is holds bounds placed refl local_others birth_is refl refl tt (element_of element, got, sym (own_element element.size element.slots form.slots) ∙ ap (object_slots (element_of element)) (sym size_is))
+
 none_held : (memory : Memory) (places : ℕ → ℕ) → Holds memory.statics [] → Holds memory.locals [] → Holds memory.heap [] → (range : Range) → Holds (heap_of memory range) (blocks_of memory places [] range)
 none_held memory places statics locals heap Statics = statics
 none_held memory places statics locals heap Locals = locals

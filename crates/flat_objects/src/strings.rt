@@ -9,7 +9,6 @@ ghost use Rattle.flat_objects.specs.Keeping.{KeepsAt, IsKept};
 ghost use Rattle.flat_objects.specs.Answering.{Answers, AnswersLength};
 ghost use Rattle.flat_objects.specs.Texts.{KeepsText, IsKeptText, IsStringByte, StringByte};
 
-use crate::access::touches_slot;
 use crate::finding::Found;
 use crate::memory::FlatObjects;
 use hs_base::{Pointer, Steps, TrapKind};
@@ -56,7 +55,7 @@ impl FlatObjects {
         }
         let offset = found.offset + i as u32;
         let form = &self.forms[found.layout as usize];
-        if touches_slot(form, found.size, offset, 1) {
+        if form.touches_slot(found.size, offset, 1) {
             return Err(TrapKind::Layout);
         }
         Ok(self.bytes.read(found.start + offset, 1, steps) as u8)

@@ -5,6 +5,7 @@ use Rattle.heap_blocks.specs.Held.{address_of, fit_of}
 use Rattle.flat_objects.specs.Memory.{Memory, Heap}
 use Rattle.flat_objects.specs.Keeping.{Keeps, blocks_of}
 use Rattle.flat_objects.proofs.Made.{heap_added}
+use Rattle.flat_objects.proofs.Frames.{frame_heap}
 use Rattle.flat_objects.proofs.memory.FlatObjects.new_object.Goals as goal
 
 pub returns-clause-place : goal.returns-clause-place
@@ -24,3 +25,8 @@ returns-clause-added g c = λ places objects element keeps birth_is got.
     heap_added c.self.inside.locals_from c.self.inside.heap_from memory c.self.invariant places objects before c.place.new.bytes c.place.new.self element c.args.size c.args.layout c.args.line c.args.birth (fit_of memory.heap held c.args.size) c.place.result
     birth_is (subst (λ (m : Memory). slice_get m.forms c.args.layout ≡ Some (element_of element)) (sym same) got) c.place.ensures.placed
     (c.place.ensures.address held (before.held Heap)) (c.place.ensures.held held (before.held Heap)) c.place.ensures.bounds
+
+pub returns-clause-frame : goal.returns-clause-frame
+returns-clause-frame g c =
+    let memory : Memory = record { bytes = c.self.inside.bytes; statics = c.self.inside.statics; locals = c.self.inside.locals; heap = c.self.inside.heap; forms = c.self.inside.forms.items } in
+    frame_heap memory c.args.self.now c.place.new.bytes c.place.new.self c.self.view_is c.place.ensures.bounds

@@ -8,6 +8,7 @@ use Rattle.flat_objects.specs.Keeping.{Keeps, blocks_of}
 use Rattle.object_meaning.specs.Making.{blank}
 use Rattle.flat_objects.specs.Adding.{IsAdded}
 use Rattle.flat_objects.proofs.Made.{static_added}
+use Rattle.flat_objects.proofs.Frames.{frame_statics}
 use Rattle.flat_objects.proofs.memory.FlatObjects.new_static.Goals as goal
 
 pub returns-clause-place : goal.returns-clause-place
@@ -31,3 +32,8 @@ returns-clause-added g c = λ places objects element keeps birth_is got size_is.
     (c.from-2.ensures ∙ birth_is) (subst (λ (m : Memory). slice_get m.forms c.args.layout ≡ Some (element_of element)) (sym same) got) c.place.ensures.placed c.args.index (c.from.ensures ∙ size_is)
     (c.place.ensures.address held (before.held Statics)) (c.place.ensures.held held (before.held Statics)) c.place.ensures.bounds in
     subst (λ (n : ℕ). IfSome c.place.result (IsAdded next places objects (blank (Static c.args.index) n element.slots))) c.from.ensures told
+
+pub returns-clause-frame : goal.returns-clause-frame
+returns-clause-frame g c =
+    let memory : Memory = record { bytes = c.self.inside.bytes; statics = c.self.inside.statics; locals = c.self.inside.locals; heap = c.self.inside.heap; forms = c.self.inside.forms.items } in
+    frame_statics memory c.args.self.now c.place.new.bytes c.place.new.self c.self.view_is c.place.ensures.bounds
