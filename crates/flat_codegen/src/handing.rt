@@ -18,7 +18,7 @@ const FIRST_UNSIGNED: i128 = 9_223_372_036_854_775_808;
 /// 2^64.
 const TWO_TO_64: i128 = 18_446_744_073_709_551_616;
 
-/// An instruction without a third register.
+/// An instruction with these numbers, and 0 for the one that marks a result.
 pub(crate) fn instr(op: Op, a: u32, b: u32, imm: i64) -> Instr
     ensures { result ≡ instr op a b 0 imm }
 {
