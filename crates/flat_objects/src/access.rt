@@ -34,7 +34,8 @@ impl FlatObjects {
     fn reach<L: Ledger>(&self, addr: u32, n: u32, steps: &mut Steps<L>) -> Result<Found, TrapKind>
         requires kept { IsKept self.now addr }
         requires some { 0 < n }
-        ensures { (places : ℕ → ℕ) (objects : List Object) (p : Pointer) → KeepsAt self.now places objects p addr → Reaches self.now places objects p n result }
+        ensures reaches { (places : ℕ → ℕ) (objects : List Object) (p : Pointer) → KeepsAt self.now places objects p addr → Reaches self.now places objects p n result }
+        ensures work { steps.new ≤ steps.old + 11 }
     {
         if addr == 0 {
             return Err(TrapKind::Null);
@@ -60,6 +61,7 @@ impl FlatObjects {
         requires width { (n ≡ 1) ⊎ ((n ≡ 2) ⊎ ((n ≡ 4) ⊎ (n ≡ 8))) }
         ensures allows { (places : ℕ → ℕ) (objects : List Object) (p : Pointer) → KeepsAt self.now places objects p addr → Allows result (access_integer objects p n) }
         ensures inside { OnOk result (addr + n ≤ length self.now.bytes) }
+        ensures work { steps.new ≤ steps.old + 11 }
     {
         let found = self.reach(addr, n, steps)?;
         let form = &self.forms[found.layout as usize];
@@ -74,6 +76,7 @@ impl FlatObjects {
         requires { IsKept self.now addr }
         ensures allows { (places : ℕ → ℕ) (objects : List Object) (p : Pointer) → KeepsAt self.now places objects p addr → Allows result (access_pointer objects p) }
         ensures inside { OnOk result (addr + 4 ≤ length self.now.bytes) }
+        ensures work { steps.new ≤ steps.old + 11 }
     {
         let found = self.reach(addr, 4, steps)?;
         let form = &self.forms[found.layout as usize];
@@ -83,7 +86,7 @@ impl FlatObjects {
         Ok(())
     }
 
-    /// The integer of a kind at an address. It traps as an access does.
+    /// The integer of a kind at an address. It traps as an access does. At most twelve steps.
     pub fn load<L: Ledger>(
         &self,
         kind: IntKind,
@@ -91,23 +94,26 @@ impl FlatObjects {
         steps: &mut Steps<L>,
     ) -> Result<i128, TrapKind>
         requires { IsKept self.now addr }
-        ensures { (places : ℕ → ℕ) (objects : List Object) (p : Pointer) → KeepsAt self.now places objects p addr → AnswersNumber result (loaded objects kind p) }
+        ensures loads { (places : ℕ → ℕ) (objects : List Object) (p : Pointer) → KeepsAt self.now places objects p addr → AnswersNumber result (loaded objects kind p) }
+        ensures work { steps.new ≤ steps.old + 12 }
     {
         let width = kind.bytes();
         self.access_integer(addr, width, steps)?;
         Ok(kind.wrap(i128::from(self.bytes.read(addr, width, steps))))
     }
 
-    /// The pointer at an address. It traps as an access does.
+    /// The pointer at an address. It traps as an access does. At most twelve steps.
     pub fn load_pointer<L: Ledger>(&self, addr: u32, steps: &mut Steps<L>) -> Result<u32, TrapKind>
         requires { IsKept self.now addr }
-        ensures { (places : ℕ → ℕ) (objects : List Object) (p : Pointer) → KeepsAt self.now places objects p addr → AnswersAddress places objects result (loaded_pointer objects p) }
+        ensures loads { (places : ℕ → ℕ) (objects : List Object) (p : Pointer) → KeepsAt self.now places objects p addr → AnswersAddress places objects result (loaded_pointer objects p) }
+        ensures work { steps.new ≤ steps.old + 12 }
     {
         self.access_pointer(addr, steps)?;
         Ok(self.bytes.read(addr, 4, steps) as u32)
     }
 
-    /// Writes an integer at an address, converted to a kind. It traps as an access does, and then nothing changes.
+    /// Writes an integer at an address, converted to a kind. It traps as an access does, and then nothing changes. At most
+    /// twelve steps.
     pub fn store<L: Ledger>(
         &mut self,
         kind: IntKind,
@@ -118,6 +124,7 @@ impl FlatObjects {
         requires { IsKept self.old addr }
         ensures changes { (places : ℕ → ℕ) (objects : List Object) (p : Pointer) → KeepsAt self.old places objects p addr → Changes places objects result self.old self.new (stored objects kind p n) }
         ensures frame { SameFrame self.old self.new }
+        ensures work { steps.new ≤ steps.old + 12 }
     {
         let width = kind.bytes();
         self.access_integer(addr, width, steps)?;
@@ -125,7 +132,8 @@ impl FlatObjects {
         Ok(())
     }
 
-    /// Writes a pointer, by its address, at an address. It traps as an access does, and then nothing changes.
+    /// Writes a pointer, by its address, at an address. It traps as an access does, and then nothing changes. At most
+    /// twelve steps.
     pub fn store_pointer<L: Ledger>(
         &mut self,
         addr: u32,
@@ -135,6 +143,7 @@ impl FlatObjects {
         requires { IsKept self.old addr }
         ensures changes { (places : ℕ → ℕ) (objects : List Object) (p q : Pointer) → KeepsAt self.old places objects p addr → IsAddressOf places objects q target → Changes places objects result self.old self.new (stored_pointer objects p q) }
         ensures frame { SameFrame self.old self.new }
+        ensures work { steps.new ≤ steps.old + 12 }
     {
         self.access_pointer(addr, steps)?;
         self.bytes.write(addr, 4, u64::from(target), steps);

@@ -26,7 +26,8 @@ pub(crate) struct Found {
 impl FlatObjects {
     /// The start of the object whose block holds the byte at an address of a range.
     fn owner<L: Ledger>(&self, addr: u32, steps: &mut Steps<L>) -> Option<u32>
-        ensures { (range : Range) (held : List Block) → (heap_of self.now range).base ≤ addr → addr < end_of (heap_of self.now range) → Holds (heap_of self.now range) held → result ≡ owner_of (heap_of self.now range) held addr }
+        ensures owner { (range : Range) (held : List Block) → (heap_of self.now range).base ≤ addr → addr < end_of (heap_of self.now range) → Holds (heap_of self.now range) held → result ≡ owner_of (heap_of self.now range) held addr }
+        ensures work { steps.new ≤ steps.old + 4 }
     {
         if addr < self.locals_from {
             self.statics.owner(&self.bytes, addr, steps)
@@ -37,13 +38,14 @@ impl FlatObjects {
         }
     }
 
-    /// The object of an address that is not null, and its offset in it.
+    /// The object of an address that is not null, and its offset in it. At most eleven steps.
     pub(crate) fn find<L: Ledger>(&self, addr: u32, steps: &mut Steps<L>) -> Found
         requires kept { IsKept self.now addr }
         requires some { 0 < addr }
         ensures found { (places : ℕ → ℕ) (objects : List Object) (birth offset : ℕ) → KeepsAt self.now places objects (Pointer.At birth offset) addr → IsFound self.now places objects birth offset result }
         ensures inside { result.offset ≤ result.size }
         ensures small { result.start + result.size < 2 ^ 32 }
+        ensures work { steps.new ≤ steps.old + 11 }
     {
         let Some(start) = self.owner(addr, steps) else {
             unreachable!()

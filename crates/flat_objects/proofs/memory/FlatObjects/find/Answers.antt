@@ -8,7 +8,7 @@ use Rattle.flat_objects.proofs.memory.FlatObjects.find.Goals as goal
 pub unreachable-requires : goal.unreachable-requires
 unreachable-requires g c =
     let k = kept c.args.self.now c.args.addr c.requires.kept c.requires.some in
-    let owner = owned c.args.self.now k.places k.objects k.birth k.offset c.args.addr c.owner.result k.keeps k.at c.owner.ensures in
+    let owner = owned c.args.self.now k.places k.objects k.birth k.offset c.args.addr c.owner.result k.keeps k.at c.owner.ensures.owner in
     let none = c.in_default.is in
     cc
 
@@ -16,7 +16,7 @@ pub overflow_sub-start : goal.overflow_sub-start
 overflow_sub-start g c =
     let k = kept c.args.self.now c.args.addr c.requires.kept c.requires.some in
     let start : c.in-Some.start ≡ k.places k.birth =
-    same_Some c.in-Some.start (k.places k.birth) (sym c.in-Some.is ∙ owned c.args.self.now k.places k.objects k.birth k.offset c.args.addr c.owner.result k.keeps k.at c.owner.ensures) in
+    same_Some c.in-Some.start (k.places k.birth) (sym c.in-Some.is ∙ owned c.args.self.now k.places k.objects k.birth k.offset c.args.addr c.owner.result k.keeps k.at c.owner.ensures.owner) in
     let stands = k.keeps.standing k.birth k.at.there in
     omega (arith, stands.room)
 
@@ -24,7 +24,7 @@ pub read-header-requires-clause-inside : goal.read-header-requires-clause-inside
 read-header-requires-clause-inside g c =
     let k = kept c.args.self.now c.args.addr c.requires.kept c.requires.some in
     let start : c.in-Some.start ≡ k.places k.birth =
-    same_Some c.in-Some.start (k.places k.birth) (sym c.in-Some.is ∙ owned c.args.self.now k.places k.objects k.birth k.offset c.args.addr c.owner.result k.keeps k.at c.owner.ensures) in
+    same_Some c.in-Some.start (k.places k.birth) (sym c.in-Some.is ∙ owned c.args.self.now k.places k.objects k.birth k.offset c.args.addr c.owner.result k.keeps k.at c.owner.ensures.owner) in
     let stands = k.keeps.standing k.birth k.at.there in
     let shape = subst (IsMemory c.self.inside.locals_from c.self.inside.heap_from) c.self.view_is c.self.invariant in
     let inside = own_inside c.args.self.now k.places k.objects k.keeps k.birth k.at.there c.self.inside.locals_from c.self.inside.heap_from shape in
@@ -35,13 +35,13 @@ pub overflow_sub-result : goal.overflow_sub-result
 overflow_sub-result g c =
     let k = kept c.args.self.now c.args.addr c.requires.kept c.requires.some in
     let start : c.in-Some.start ≡ k.places k.birth =
-    same_Some c.in-Some.start (k.places k.birth) (sym c.in-Some.is ∙ owned c.args.self.now k.places k.objects k.birth k.offset c.args.addr c.owner.result k.keeps k.at c.owner.ensures) in
+    same_Some c.in-Some.start (k.places k.birth) (sym c.in-Some.is ∙ owned c.args.self.now k.places k.objects k.birth k.offset c.args.addr c.owner.result k.keeps k.at c.owner.ensures.owner) in
     omega (arith, k.at.address)
 
 pub returns-clause-found : goal.returns-clause-found
 returns-clause-found g c = λ places objects birth offset at.
     let start : c.in-Some.start ≡ places birth =
-    same_Some c.in-Some.start (places birth) (sym c.in-Some.is ∙ owned c.args.self.now places objects birth offset c.args.addr c.owner.result at.keeps at.stands c.owner.ensures) in
+    same_Some c.in-Some.start (places birth) (sym c.in-Some.is ∙ owned c.args.self.now places objects birth offset c.args.addr c.owner.result at.keeps at.stands c.owner.ensures.owner) in
     let bytes : c.self.inside.bytes ≡ c.args.self.now.bytes = ap (λ (m : Memory). m.bytes) c.self.view_is in
     found_at c.args.self.now places objects birth offset c.args.addr c.in-Some.start c.read-header.result at start (c.read-header.ensures.header ∙ ap (λ (b : List ℕ). header_at b (c.in-Some.start - 32)) bytes)
 

@@ -9,8 +9,8 @@ use Rattle.flat_objects.specs.Memory.{Memory, IsMemory}
 use Rattle.flat_objects.proofs.Loaded.{loaded_is}
 use Rattle.flat_objects.proofs.memory.FlatObjects.load.Goals as goal
 
-pub returns : goal.returns
-returns g c = λ places objects p at.
+pub returns-clause-loads : goal.returns-clause-loads
+returns-clause-loads g c = λ places objects p at.
     let shape = subst (IsMemory c.self.inside.locals_from c.self.inside.heap_from) c.self.view_is c.self.invariant in
     let allowed = c.in_ok-access_integer.ensures.allows places objects p at in
     let width_is : c.bytes-width.result ≡ width c.args.kind = c.bytes-width.ensures in
