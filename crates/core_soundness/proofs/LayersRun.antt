@@ -27,7 +27,7 @@ use Rattle.c_decls.specs.TypeNames.{Layer, PointerTo, ArrayOf, FunctionOf, word_
 use Rattle.c_decls.specs.Expressions.{line_of, typed, wanted, constant_from}
 use Rattle.elaboration.specs.Context.{Context, Running, Code, Variable, asked, told, entered, local_register}
 use Rattle.elaboration.specs.Conversions.{Spot, Memory}
-use Rattle.elaboration.specs.Locals.{is_pointer, is_twice, declared_as, next_is_memory, with_register, with_memory, counted, with_named, memory_param, register_param, function_param, prototype_param, is_prototype, with_param, local_in, with_local}
+use Rattle.elaboration.specs.Locals.{is_pointer, is_twice, declared_as, next_is_memory, with_register, with_memory, counted, with_named, memory_param, register_param, function_param, prototype_param, with_param, local_in, with_local}
 use Rattle.elaboration.specs.Declarators as d
 use Rattle.elaboration.specs.Declarators.{constant, with_type, maybe_name, unnamed, newly_named, begun_as, begun, completed_by, complete, ended, with_member, member, enumerator, enum_named, is_declared, param, left_params, specs, words_type, tag_type, members, member_names, enumerators, layers, suffix_layers, suffix_layer, params}
 use Rattle.core_soundness.proofs.Names.{More, MoreAll, more_refl, all_refl, with_tag_more}
