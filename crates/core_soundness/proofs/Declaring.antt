@@ -26,7 +26,7 @@ use Rattle.c_decls.specs.TypeNames.{Layer, PointerTo, ArrayOf, FunctionOf, word_
 use Rattle.c_decls.specs.Expressions.{line_of, typed, wanted, constant_from}
 use Rattle.elaboration.specs.Context.{Context, Running, asked, told, entered, local_register}
 use Rattle.elaboration.specs.Conversions.{Memory}
-use Rattle.elaboration.specs.Locals.{is_twice, declared_as, next_is_memory, with_register, with_memory, counted, with_named, memory_param, register_param, with_param, local_in, with_local}
+use Rattle.elaboration.specs.Locals.{is_twice, declared_as, next_is_memory, with_register, with_memory, counted, with_named, memory_param, register_param, function_param, prototype_param, is_prototype, with_param, local_in, with_local}
 use Rattle.elaboration.specs.Declarators as d
 use Rattle.elaboration.specs.Declarators.{constant, with_type, maybe_name, unnamed, newly_named, begun_as, begun, completed_by, complete, ended, with_member, member, enumerator, enum_named, is_declared, param, left_params, specs, words_type, tag_type, members, member_names, enumerators, layers, suffix_layers, suffix_layer, params}
 use Rattle.core_soundness.proofs.Names.{Safe, first_safe, More, frees, with_name_safe, entered_safe, left_safe, with_tag_more}
@@ -111,12 +111,19 @@ register_param_passes name type c s =
     let x = with_register name type c in
     passes_trans c x _ (register_passes name type c s) (named_passes name (n.Register type (length c.running.locals)) x refl tt s)
 
-pub with_param_passes : (name : Option (List ℕ)) (type : PlainType) (c : Context) → Safe c.scopes → Passes c (with_param name type c)
-with_param_passes name type c s = counted_passes c _ (by (next_is_memory type c))
+function_param_passes : (name : Option (List ℕ)) (type : PlainType) (c : Context) → Safe c.scopes → Passes c (function_param name type c)
+function_param_passes name type c s = by (next_is_memory type c)
   where
     by : (t : Bool) → Passes c (cond t (memory_param name type c) (register_param name type c))
     by true = memory_param_passes name type c s
     by false = register_param_passes name type c s
+
+pub with_param_passes : (name : Option (List ℕ)) (type : PlainType) (c : Context) → Safe c.scopes → Passes c (with_param name type c)
+with_param_passes name type c s = counted_passes c _ (by (is_prototype c.scopes))
+  where
+    by : (t : Bool) → Passes c (cond t (prototype_param name type c) (function_param name type c))
+    by true = named_passes name (n.Object type 0) c refl tt s
+    by false = function_param_passes name type c s
 
 local_in_passes : (t : Bool) (name : List ℕ) (type : PlainType) (c : Context) → Safe c.scopes → Passes c (local_in t name type c).0
 local_in_passes true name type c s =

@@ -1,5 +1,5 @@
 -- What declarators, specs and tags do to what fits (C99 6.7).
-use Rattle.std.proofs.Common.{◌≡◌, ◌<◌, not, option_map, ap, ◌∙◌, subst, ⊎_elim, length-append, ℕ, suc, ℤ, pos, ◌+ℤ◌, Bool, true, false, ◌||◌, cond, is_some, List, [], ◌∷◌, ◌++◌, length, reverse, unwrap_or, Option, Some, None, Result, Ok, Err, refl, arith}
+use Rattle.std.proofs.Common.{◌≡◌, ◌<◌, not, option_map, ap, sym, ◌≤◌, ◌∙◌, subst, ⊎_elim, length-append, ℕ, zero, suc, ℤ, pos, ◌+ℤ◌, Bool, true, false, ◌||◌, cond, is_some, List, [], ◌∷◌, ◌++◌, length, reverse, slice_get, unwrap_or, Option, Some, None, Result, Ok, Err, refl, arith}
 use Rattle.hs_base.specs.declared.ends.IntKind.TheVariants.{I32}
 use Rattle.hs_base.specs.Numbers.{wrapped}
 use Rattle.c_types.specs.declared.types.IntType.TheVariants as i
@@ -25,24 +25,25 @@ use Rattle.c_decls.specs.Typed.{is_void, is_record, is_function, is_scalar, has_
 use Rattle.c_decls.specs.TypeNames as names
 use Rattle.c_decls.specs.TypeNames.{Layer, PointerTo, ArrayOf, FunctionOf, word_type, record_type, is_union, with_new_tag, special_type, array_length, with_layers, with_param_layers, adjusted}
 use Rattle.c_decls.specs.Expressions.{line_of, typed, wanted, constant_from}
-use Rattle.elaboration.specs.Context.{Context, asked, told, entered, local_register}
+use Rattle.elaboration.specs.Context.{Context, Running, Code, Variable, asked, told, entered, local_register}
 use Rattle.elaboration.specs.Conversions.{Spot, Memory}
-use Rattle.elaboration.specs.Locals.{is_pointer, is_twice, declared_as, next_is_memory, with_register, with_memory, counted, with_named, memory_param, register_param, with_param, local_in, with_local}
+use Rattle.elaboration.specs.Locals.{is_pointer, is_twice, declared_as, next_is_memory, with_register, with_memory, counted, with_named, memory_param, register_param, function_param, prototype_param, with_param, local_in, with_local}
 use Rattle.elaboration.specs.Declarators as d
 use Rattle.elaboration.specs.Declarators.{constant, with_type, maybe_name, unnamed, newly_named, begun_as, begun, completed_by, complete, ended, with_member, member, enumerator, enum_named, is_declared, param, left_params, specs, words_type, tag_type, members, member_names, enumerators, layers, suffix_layers, suffix_layer, params}
 use Rattle.core_soundness.proofs.Names.{More, MoreAll, more_refl, all_refl, with_tag_more}
-use Rattle.core_soundness.proofs.Owners.{IsNoFunction, with_name_keeps, with_name_depth}
+use Rattle.core_soundness.proofs.Owners.{IsNoFunction, with_name_keeps, with_name_depth, tag_kept}
 use Rattle.core_soundness.proofs.Reached.{Reached, reached_ok, reached_refused, reached_after, reached_then, reached_unless, Led, led_ok, led_refused, led_after, led_unless}
 use Rattle.core_soundness.proofs.TypedNames.{After, typed_after, wanted_after, special_after}
 use Rattle.core_tree.specs.declared.program.Reg.{Reg as Register}
 use Rattle.core_tree.specs.Sorts.{Sort, sort_of}
-use Rattle.core_soundness.specs.Worlds.{World, world, local_sort, type_sort, is_local, Held, StandsAs, InnerFits, FileFits, TableFits, TablesFit, NamesFit}
+use Rattle.core_soundness.specs.Worlds.{World, world, local_sort, type_sort, is_local, Held, StandsAs, InnerFits, FileFits, TableFits, TablesFit, NamesFit, PiecesFit}
 use Rattle.core_soundness.proofs.Declaring.{tail_depth}
 use Rattle.core_soundness.proofs.Owners.{Pushed, push_get, get_left, get_last}
 use Rattle.core_soundness.proofs.Growing.{Grew, grew_refl, pieces_grew}
 use Rattle.core_soundness.proofs.Going.{goes_told}
 use Rattle.core_soundness.proofs.Sorting.{write_goes}
 use Rattle.core_soundness.proofs.Readying.{names_more, sort_kept}
+use Rattle.core_soundness.proofs.Prototypes.{Aside, aside_refl, left_aside, with_name_outside, own_params, params_beside}
 use Rattle.core_soundness.proofs.Running.{Fine, Runs, tail_more, runs_refl, runs_trans, on_runs, table_grew, names_left, entered_fine}
 
 pub pushed_fits : (P : PlainNamed → Type 0) (name : List ℕ) (v : PlainNamed) (t : Table) → P v → TableFits P t → TableFits P (t ++ (name, v) ∷ [])
@@ -67,13 +68,6 @@ with_name_any w s name v h q f = by s.inner f.inner
     by : (inner : List Table) → TablesFit (InnerFits w) inner → NamesFit w (scopes.with_name_in s.file inner name v)
     by [] g = record { file = pushed_fits (FileFits w) name v s.file q f.file; inner = tt }
     by (t ∷ ts) g = record { file = f.file; inner = (pushed_fits (InnerFits w) name v t h g.0, g.1) }
-
-with_name_outside : (s : ScopeList) (name : List ℕ) (v : PlainNamed) → MoreAll (scopes.tail s.inner) (scopes.tail (with_name s name v).inner)
-with_name_outside s name v = by s.inner
-  where
-    by : (inner : List Table) → MoreAll (scopes.tail inner) (scopes.tail (scopes.with_name_in s.file inner name v).inner)
-    by [] = tt
-    by (t ∷ ts) = all_refl ts
 
 pub first_fits : (w : World) (inner : List Table) → TablesFit (InnerFits w) inner → TableFits (InnerFits w) (first_or [] inner)
 first_fits w [] h = λ name v e. cc
@@ -100,9 +94,23 @@ rescoped answer c s keep deep out h f =
       addressed = refl;
       outside = out;
       depth = deep;
-      params = λ k. table_grew (world c) (world (record c { scopes = s })) c.params grew k;
+      params = λ flat k. table_grew (world c) (world (record c { scopes = s })) c.params grew k;
       walked = refl;
     }
+
+-- what a part inside a scope leaves as it was
+aside_grew : (c d : Context) → Aside c d → Grew (world c) (world d)
+aside_grew c d p = record {
+  locals = λ k reg e. subst (λ (run : Running). slice_get run.locals k ≡ Some reg) (sym p.running) e;
+  mems = subst (λ (run : Running). length c.running.mems ≤ length run.mems) (sym p.running) (omega arith);
+  integers = subst (λ (code : Code). c.code.most_integers ≤ code.most_integers) (sym p.code) (omega arith);
+  pointers = subst (λ (code : Code). c.code.most_pointers ≤ code.most_pointers) (sym p.code) (omega arith);
+  variables = omega (arith, ap (λ (l : List Variable). length l) p.variables);
+  literals = omega (arith, ap (λ (l : List (List ℕ)). length l) p.literals);
+  formats = λ k format e. subst (λ (run : Running). slice_get run.formats k ≡ Some format) (sym p.running) e;
+  calls = λ k call e. subst (λ (l : List (ℕ × ℕ)). slice_get l k ≡ Some call) (sym p.calls) e;
+  file = λ name type i e. tag_kept c.scopes.file d.scopes.file name (n.Function type i) (p.file name) e;
+}
 
 -- with one register more, and with one memory local more
 pub more_register : (answer : Option Sort) (name : Option (List ℕ)) (type : PlainType) (c : Context) → Fine c → Runs answer c (with_register name type c)
@@ -117,7 +125,7 @@ more_register answer name type c f =
       addressed = refl;
       outside = all_refl (scopes.tail c.scopes.inner);
       depth = refl;
-      params = λ k. table_grew (world c) (world d) c.params grew k;
+      params = λ flat k. table_grew (world c) (world d) c.params grew k;
       walked = refl;
     }
 
@@ -133,7 +141,7 @@ more_memory answer name type c f =
       addressed = refl;
       outside = all_refl (scopes.tail c.scopes.inner);
       depth = refl;
-      params = λ k. table_grew (world c) (world d) c.params grew k;
+      params = λ flat k. table_grew (world c) (world d) c.params grew k;
       walked = refl;
     }
 
@@ -183,12 +191,13 @@ register_param_runs answer name type k c deep s f =
     let xr = more_register answer name type c f in
     runs_trans answer c x _ xr (named_runs answer name (n.Register type (length c.running.locals)) k x deep tt (s, last_sort name type c) xr.fine)
 
-pub with_param_runs : (answer : Option Sort) (name : Option (List ℕ)) (type : PlainType) (k : ℕ) (c : Context) → length c.scopes.inner ≡ suc k → Fine c → Runs answer c (with_param name type c)
-with_param_runs answer name type k c deep f = counted_runs answer c _ (by (next_is_memory type c) refl)
+pub with_param_runs : (answer : Option Sort) (name : Option (List ℕ)) (type : PlainType) (c : Context) → length c.scopes.inner ≡ 1 → Fine c → Runs answer c (with_param name type c)
+with_param_runs answer name type c deep f =
+    subst (λ (t : Bool). Runs answer c (counted (cond t (prototype_param name type c) (function_param name type c)))) (sym (own_params c deep)) (counted_runs answer c _ (by (next_is_memory type c) refl))
   where
     by : (t : Bool) → next_is_memory type c ≡ t → Runs answer c (cond t (memory_param name type c) (register_param name type c))
-    by true e = memory_param_runs answer name type k c deep f
-    by false e = register_param_runs answer name type k c deep (scalar_of _ _ e) f
+    by true e = memory_param_runs answer name type 0 c deep f
+    by false e = register_param_runs answer name type 0 c deep (scalar_of _ _ e) f
 
 -- a local more, and where it is
 pub record Local_at (answer : Option Sort) (c : Context) (type : PlainType) (d : Context × Spot) : Type 0 where
@@ -290,12 +299,12 @@ module _ (answer : Option Sort) where
 
   -- parameters
 
-  param_runs : (line : ℕ) (name : Option (List ℕ)) (type : PlainType) (k : ℕ) (b c : Context) → length b.scopes.inner ≡ suc k → Runs answer b c → Reached (Runs answer b) (param line name type c)
-  param_runs line name type k b c deep p =
+  param_runs : (line : ℕ) (name : Option (List ℕ)) (type : PlainType) (b c : Context) → length b.scopes.inner ≡ 1 → Runs answer b c → Reached (Runs answer b) (param line name type c)
+  param_runs line name type b c deep p =
       reached_unless (Runs answer b) (is_void type) Incomplete line _
       (reached_unless (Runs answer b) (is_record type || is_function type) LeftOut line _
       (reached_unless (Runs answer b) (is_declared name c) DeclaredTwice line _
-      (reached_ok (Runs answer b) (with_param name type c, type) (runs_trans answer b c _ p (with_param_runs answer name type k c (p.depth ∙ deep) p.fine)))))
+      (reached_ok (Runs answer b) (with_param name type c, type) (runs_trans answer b c _ p (with_param_runs answer name type c (p.depth ∙ deep) p.fine)))))
 
   -- a list of parameters in a scope of its own
   left_params_runs : (c x : Context) → Runs answer (entered c) x → Runs answer c (left_params x)
@@ -307,9 +316,38 @@ module _ (answer : Option Sort) where
     addressed = p.addressed;
     outside = tail_more c.scopes.inner (scopes.tail x.scopes.inner) p.outside;
     depth = tail_depth x.scopes.inner (length c.scopes.inner) p.depth;
-    params = λ h. first_fits (world x) x.scopes.inner p.fine.names.inner;
+    params = λ flat h. first_fits (world x) x.scopes.inner p.fine.names.inner;
     walked = p.walked;
   }
+
+  -- a prototype's list: nothing is made of its parameters
+  prototype_runs : (c x : Context) → 1 ≤ length c.scopes.inner → Fine c → Aside (entered c) x → Runs answer c (left_params x)
+  prototype_runs c x deep f p =
+      let d = left_params x in
+      let grew = aside_grew c d (left_aside c x p) in
+      record {
+        grew = grew;
+        fine = record { names = names_more (world c) (world d) c.scopes d.scopes grew (record { file = p.file; inner = p.outside }) f.names; lined = subst (λ (run : Running). 1 ≤ run.line) (sym p.running) f.lined };
+        fits = λ k. subst (λ (code : Code). PiecesFit answer (world d) code.pieces) (sym p.code) (pieces_grew answer (world c) (world d) c.code.pieces grew k);
+        answer = ap (λ (run : Running). run.answer) p.running;
+        addressed = ap (λ (run : Running). run.addressed) p.running;
+        outside = tail_more c.scopes.inner (scopes.tail x.scopes.inner) p.outside;
+        depth = tail_depth x.scopes.inner (length c.scopes.inner) p.depth;
+        params = λ flat h. absurd (omega (arith, deep, flat));
+        walked = p.walked;
+      }
+
+  -- a list at file scope, and one inside another scope
+  list_runs : (line : ℕ) (parts : Trees) (b c : Context) → (length c.scopes.inner ≡ 0 → Reached (Runs answer (entered c)) (params parts (entered c))) → Runs answer b c → Reached (Runs answer b) (then (params parts (entered c)) (λ x. Ok (left_params x.0, FunctionOf line x.1)))
+  list_runs line parts b c own p = by (length c.scopes.inner) refl
+    where
+      by : (k : ℕ) → length c.scopes.inner ≡ k → Reached (Runs answer b) (then (params parts (entered c)) (λ x. Ok (left_params x.0, FunctionOf line x.1)))
+      by zero flat =
+          reached_then (Runs answer b) (Runs answer (entered c)) (params parts (entered c)) (λ x. Ok (left_params x.0, FunctionOf line x.1)) (own flat)
+          (λ x h. reached_ok (Runs answer b) (left_params x.0, FunctionOf line x.1) (runs_trans answer b c (left_params x.0) p (left_params_runs c x.0 h)))
+      by (suc k) deep =
+          reached_then (Runs answer b) (Aside (entered c)) (params parts (entered c)) (λ x. Ok (left_params x.0, FunctionOf line x.1)) (params_beside parts (entered c) (omega (arith, deep)) (entered c) (aside_refl (entered c)))
+          (λ x h. reached_ok (Runs answer b) (left_params x.0, FunctionOf line x.1) (runs_trans answer b c (left_params x.0) p (prototype_runs c x.0 (omega (arith, deep)) p.fine h)))
 
   mutual
     unfolding specs words_type tag_type members member_names enumerators layers suffix_layers suffix_layer params
@@ -384,18 +422,18 @@ module _ (answer : Option Sort) where
         (λ x h. reached_after (Runs answer b) (array_length (line_of e) x.1) (λ length. Ok (told x.0 c, ArrayOf line (Some length)))
         (λ long q. reached_ok (Runs answer b) (told x.0 c, ArrayOf line (Some long)) (told_runs x.0 b c (wanted_after (asked c) e (typed e (asked c)) (typed_after e (asked c)) x h) p)))
     suffix_runs (Node f.FunctionSuffix (At line ▹ Node f.Params parts ▹ none)) b c p =
-        reached_then (Runs answer b) (Runs answer (entered c)) (params parts (entered c)) (λ x. Ok (left_params x.0, FunctionOf line x.1)) (params_run parts (length c.scopes.inner) (entered c) (entered c) refl (runs_refl answer (entered c) (entered_fine c p.fine)))
-        (λ x h. reached_ok (Runs answer b) (left_params x.0, FunctionOf line x.1) (runs_trans answer b c (left_params x.0) p (left_params_runs c x.0 h)))
+        list_runs line parts b c (λ flat. params_run parts (entered c) (entered c) (omega (arith, flat)) (runs_refl answer (entered c) (entered_fine c p.fine))) p
     suffix_runs tree b c p =
-        reached_ok (Runs answer b) (record c { params = [] }, FunctionOf (line_of tree) types.none) (runs_trans answer b c _ p (record { grew = grew_refl (world c); fine = record { names = p.fine.names; lined = p.fine.lined }; fits = λ k. k; answer = refl; addressed = refl; outside = all_refl (scopes.tail c.scopes.inner); depth = refl; params = λ h name v e. cc; walked = refl }))
+        reached_ok (Runs answer b) (record c { params = [] }, FunctionOf (line_of tree) types.none) (runs_trans answer b c _ p (record { grew = grew_refl (world c); fine = record { names = p.fine.names; lined = p.fine.lined }; fits = λ k. k; answer = refl; addressed = refl; outside = all_refl (scopes.tail c.scopes.inner); depth = refl; params = λ flat h name v e. cc; walked = refl }))
 
-    pub params_run : (parts : Trees) (k : ℕ) (b c : Context) → length b.scopes.inner ≡ suc k → Runs answer b c → Reached (Runs answer b) (params parts c)
-    params_run none k b c deep p = reached_ok (Runs answer b) (c, types.none) p
-    params_run (Node f.Param (At line ▹ words ▹ declarator ▹ none) ▹ rest) k b c deep p =
+    -- the list of a function's own parameters
+    pub params_run : (parts : Trees) (b c : Context) → length b.scopes.inner ≡ 1 → Runs answer b c → Reached (Runs answer b) (params parts c)
+    params_run none b c deep p = reached_ok (Runs answer b) (c, types.none) p
+    params_run (Node f.Param (At line ▹ words ▹ declarator ▹ none) ▹ rest) b c deep p =
         reached_then (Runs answer b) (Runs answer b) (specs words c) (λ base. then (layers declarator base.0) (λ l. then (with_param_layers l.0.tags l.1 base.1) (λ type. then (param line (name_of declarator) (adjusted type) l.0) (λ x. then (params rest x.0) (λ more. Ok (more.0, first x.1 more.1)))))) (specs_run words b c p)
         (λ base h. reached_then (Runs answer b) (Runs answer b) (layers declarator base.0) (λ l. then (with_param_layers l.0.tags l.1 base.1) (λ type. then (param line (name_of declarator) (adjusted type) l.0) (λ x. then (params rest x.0) (λ more. Ok (more.0, first x.1 more.1))))) (layers_run declarator b base.0 h)
         (λ l q. reached_after (Runs answer b) (with_param_layers l.0.tags l.1 base.1) (λ type. then (param line (name_of declarator) (adjusted type) l.0) (λ x. then (params rest x.0) (λ more. Ok (more.0, first x.1 more.1))))
-        (λ type z. reached_then (Runs answer b) (Runs answer b) (param line (name_of declarator) (adjusted type) l.0) (λ x. then (params rest x.0) (λ more. Ok (more.0, first x.1 more.1))) (param_runs line (name_of declarator) (adjusted type) k b l.0 deep q)
-        (λ x y. reached_then (Runs answer b) (Runs answer b) (params rest x.0) (λ more. Ok (more.0, first x.1 more.1)) (params_run rest k b x.0 deep y)
+        (λ type z. reached_then (Runs answer b) (Runs answer b) (param line (name_of declarator) (adjusted type) l.0) (λ x. then (params rest x.0) (λ more. Ok (more.0, first x.1 more.1))) (param_runs line (name_of declarator) (adjusted type) b l.0 deep q)
+        (λ x y. reached_then (Runs answer b) (Runs answer b) (params rest x.0) (λ more. Ok (more.0, first x.1 more.1)) (params_run rest b x.0 deep y)
         (λ more v. reached_ok (Runs answer b) (more.0, first x.1 more.1) v)))))
-    params_run (tree ▹ rest) k b c deep p = reached_refused (Runs answer b) Operands (line_of tree)
+    params_run (tree ▹ rest) b c deep p = reached_refused (Runs answer b) Operands (line_of tree)

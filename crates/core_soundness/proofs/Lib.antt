@@ -44,6 +44,7 @@ mod CallSorts
 mod Readying
 mod Sitting
 mod Running
+mod Prototypes
 mod LayersRun
 mod FillsRun
 mod LocalsRun

@@ -139,7 +139,7 @@ functions_grew answer c index name g = by (nat_lt index (length c.functions))
   where
     by : (t : Bool) → Runs answer c (cond t c (record c { functions = c.functions ++ (record { name = name; defined = None }) ∷ [] }))
     by true = runs_refl answer c g
-    by false = record { grew = grew_refl (world c); fine = record { names = g.names; lined = g.lined }; fits = λ k. k; answer = refl; addressed = refl; outside = all_refl (scopes.tail c.scopes.inner); depth = refl; params = λ k. k; walked = refl }
+    by false = record { grew = grew_refl (world c); fine = record { names = g.names; lined = g.lined }; fits = λ k. k; answer = refl; addressed = refl; outside = all_refl (scopes.tail c.scopes.inner); depth = refl; params = λ flat k. k; walked = refl }
 
 pub function_runs : (answer : Option Sort) (line : ℕ) (name : List ℕ) (type : PlainType) (c z : Context) → length c.scopes.inner ≡ 0 → Fine c → declared_function line name type c ≡ Ok z → Runs answer c z
 function_runs answer line name type c z flat g q =
@@ -165,7 +165,7 @@ more_variables answer c v bytes g =
       addressed = refl;
       outside = all_refl (scopes.tail c.scopes.inner);
       depth = refl;
-      params = λ k. table_grew (world c) (world d) c.params grew k;
+      params = λ flat k. table_grew (world c) (world d) c.params grew k;
       walked = refl;
     }
 
@@ -217,7 +217,7 @@ started_runs answer index d g =
       addressed = refl;
       outside = all_refl (scopes.tail d.0.scopes.inner);
       depth = refl;
-      params = λ k. table_grew (world d.0) (world z) d.0.params grew k;
+      params = λ flat k. table_grew (world d.0) (world z) d.0.params grew k;
       walked = refl;
     }
 

@@ -54,7 +54,7 @@ all_refl (t ∷ ts) = (tags_refl t, all_refl ts)
 pub more_refl : (s : ScopeList) → More s s
 more_refl s = record { file = tags_refl s.file; inner = all_refl s.inner }
 
-tags_trans : (a b c : Table) → MoreTags a b → MoreTags b c → MoreTags a c
+pub tags_trans : (a b c : Table) → MoreTags a b → MoreTags b c → MoreTags a c
 tags_trans a b c x y name =
     ⊎_elim
     (λ (e : named_in name b ≡ named_in name a).

@@ -29,7 +29,7 @@ use Rattle.c_decls.specs.TypeNames.{Layer, PointerTo, ArrayOf, FunctionOf, word_
 use Rattle.c_decls.specs.Expressions.{line_of, typed, wanted, constant_from}
 use Rattle.elaboration.specs.Context.{Context, asked, told, entered, local_register}
 use Rattle.elaboration.specs.Conversions.{Memory}
-use Rattle.elaboration.specs.Locals.{is_twice, declared_as, next_is_memory, with_register, with_memory, with_named, memory_param, register_param, with_param}
+use Rattle.elaboration.specs.Locals.{is_twice, declared_as, next_is_memory, with_register, with_memory, with_named, memory_param, register_param, function_param, prototype_param, is_prototype, with_param}
 use Rattle.elaboration.specs.Declarators as d
 use Rattle.elaboration.specs.Declarators.{constant, with_type, maybe_name, begun_as, begun, completed_by, complete, ended, with_member, member, enumerator, enum_named, is_declared, param, left_params, specs, words_type, tag_type, members, member_names, enumerators, layers, suffix_layers, suffix_layer, params}
 use Rattle.core_soundness.proofs.Grown.{good}
@@ -66,11 +66,15 @@ register_param_near name type c h =
     near_on 1 0 2 (omega arith) (near_register name type c h) (named_near name (n.Register type (length c.running.locals)) (with_register name type c))
 
 with_param_near : (name : Option (List ℕ)) (type : PlainType) (c : Context) → IfSome name IsShort → Near 2 c (with_param name type c)
-with_param_near name type c h = by (next_is_memory type c)
+with_param_near name type c h = by (is_prototype c.scopes)
   where
-    by : (t : Bool) → Near 2 c (cond t (memory_param name type c) (register_param name type c))
-    by true = memory_param_near name type c h
-    by false = register_param_near name type c h
+    own : (t : Bool) → Near 2 c (cond t (memory_param name type c) (register_param name type c))
+    own true = memory_param_near name type c h
+    own false = register_param_near name type c h
+
+    by : (t : Bool) → Near 2 c (cond t (prototype_param name type c) (function_param name type c))
+    by true = near_on 0 0 2 (omega arith) (named_near name (n.Object type 0) c) (near_refl (prototype_param name type c))
+    by false = own (next_is_memory type c)
 
 param_near : (line : ℕ) (name : Option (List ℕ)) (type : PlainType) (c : Context) → IfSome name IsShort → Reached (Near 2 c) (param line name type c)
 param_near line name type c h =

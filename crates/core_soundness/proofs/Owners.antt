@@ -68,7 +68,7 @@ keeps_refl f = record { kept = λ name v e. e; same = λ name type i e. e }
 pub keeps_trans : (f g h : Table) → FileKeeps f g → FileKeeps g h → FileKeeps f h
 keeps_trans f g h x y = record { kept = λ name v e. y.kept name v (x.kept name v e); same = λ name type i e. x.same name type i (y.same name type i e) }
 
-tag_kept : (f g : Table) (name : List ℕ) (v : PlainNamed) → (named_in name g ≡ named_in name f) ⊎ IsNewTag name f g → named_in name f ≡ Some v → named_in name g ≡ Some v
+pub tag_kept : (f g : Table) (name : List ℕ) (v : PlainNamed) → (named_in name g ≡ named_in name f) ⊎ IsNewTag name f g → named_in name f ≡ Some v → named_in name g ≡ Some v
 tag_kept f g name v (inl e) h = e ∙ h
 tag_kept f g name v (inr new) h = let clash : None ≡ Some v = sym new.3 ∙ h in cc
 

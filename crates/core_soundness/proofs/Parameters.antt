@@ -25,16 +25,18 @@ use Rattle.c_decls.specs.Typed.{is_void, is_record, is_function, is_array, has_n
 use Rattle.c_decls.specs.TypeNames as names
 use Rattle.c_decls.specs.TypeNames.{Layer, PointerTo, ArrayOf, FunctionOf, word_type, special_type, array_length, array_of, layered, with_layers, with_param_layers, adjusted}
 use Rattle.c_decls.specs.Expressions.{line_of, typed, wanted, constant_from}
-use Rattle.elaboration.specs.Context.{Context, asked, told, entered, local_register}
+use Rattle.elaboration.specs.Context.{Context, Running, asked, told, entered, local_register}
 use Rattle.elaboration.specs.Conversions.{Spot, Local, Memory, write}
 use Rattle.core_tree.specs.declared.statements.Atom.{Atom}
 use Rattle.core_tree.specs.declared.statements.Atom.TheVariants as atom
-use Rattle.elaboration.specs.Locals.{is_pointer, declared_as, next_is_memory, with_register, with_memory, with_named, memory_param, register_param, with_param}
+use Rattle.elaboration.specs.Locals.{is_pointer, declared_as, next_is_memory, with_register, with_memory, with_named, memory_param, register_param, function_param, prototype_param, with_param}
 use Rattle.elaboration.specs.Declarators as d
 use Rattle.elaboration.specs.Declarators.{constant, with_type, maybe_name, unnamed, newly_named, begun_as, begun, completed_by, complete, ended, with_member, member, enumerator, enum_named, is_declared, param, left_params, specs, words_type, tag_type, members, member_names, enumerators, layers, suffix_layers, suffix_layer, params}
 use Rattle.core_soundness.specs.Worlds.{type_sort, param_sorts}
 use Rattle.core_soundness.proofs.Grown.{good, bad, ok_same, never}
 use Rattle.core_soundness.proofs.Agreeing.{came}
+use Rattle.core_soundness.proofs.Specifying.{levels_refl, begun_levels, member_levels, param_levels, specs_level, member_names_level, layers_level, suffix_levels}
+use Rattle.core_soundness.proofs.Prototypes.{Aside, aside_refl, own_params, specs_beside, layers_beside}
 use Rattle.core_soundness.proofs.Operating.{passed, kept_test, behind_test}
 
 -- the sorts of the parameters and locals so far
@@ -160,26 +162,6 @@ not_function tags (PointerTo line ∷ ls) base type e h =
 not_function tags (ArrayOf line length ∷ ls) base type e h =
     let x = came (layered tags (ArrayOf line length) base) (λ inner. with_layers tags ls inner) type e in not_function tags ls x.value type x.last h
 
-param_not_function : (tags : TagTable) (ls : List Layer) (base type : PlainType) → with_param_layers tags ls base ≡ Ok type → is_function type ≡ false → functions ls ≡ 0
-param_not_function tags [] base type e h = refl
-param_not_function tags (FunctionOf line params ∷ []) base type e h =
-    let inner = came (layered tags (FunctionOf line params) base) (λ inner. good inner) type e in
-    let made = passed _ _ line (Function base params) inner.value inner.is in
-    let same : Function base params ≡ type = made ∙ ok_same inner.value type inner.last in
-    let clash : true ≡ false = ap is_function same ∙ h in
-    cc
-param_not_function tags (FunctionOf line params ∷ next ∷ ls) base type e h =
-    let x = came (then (layered tags (FunctionOf line params) base) (λ type. bad {A = PlainType} (record { kind = LeftOut; line = line }))) (λ inner. with_param_layers tags (next ∷ ls) inner) type e in
-    let y = came (layered tags (FunctionOf line params) base) (λ type. bad {A = PlainType} (record { kind = LeftOut; line = line })) x.value x.is in
-    never _ _ x.value y.last
-param_not_function tags (PointerTo line ∷ ls) base type e h =
-    let x = came (layered tags (PointerTo line) base) (λ inner. with_param_layers tags ls inner) type e in param_not_function tags ls x.value type x.last h
-param_not_function tags (ArrayOf line None ∷ []) base type e h = refl
-param_not_function tags (ArrayOf line None ∷ next ∷ ls) base type e h =
-    let x = came (layered tags (ArrayOf line None) base) (λ inner. with_param_layers tags (next ∷ ls) inner) type e in param_not_function tags (next ∷ ls) x.value type x.last h
-param_not_function tags (ArrayOf line (Some length) ∷ ls) base type e h =
-    let x = came (layered tags (ArrayOf line (Some length)) base) (λ inner. with_param_layers tags ls inner) type e in param_not_function tags ls x.value type x.last h
-
 -- the function that layers make
 pub record MakesFunction (ls : List Layer) (answer : PlainType) (ps : PlainTypes) : Type 0 where
   pub single : functions ls ≡ 1
@@ -275,8 +257,9 @@ named_sorts : (name : Option (List ℕ)) (v : PlainNamed) (c : Context) → sort
 named_sorts None v c = refl
 named_sorts (Some name) v c = refl
 
-with_param_sorts : (name : Option (List ℕ)) (type : PlainType) (c : Context) → sorts (with_param name type c) ≡ sorts c ++ type_sort type ∷ []
-with_param_sorts name type c = by (next_is_memory type c)
+with_param_sorts : (name : Option (List ℕ)) (type : PlainType) (c : Context) → length c.scopes.inner ≡ 1 → sorts (with_param name type c) ≡ sorts c ++ type_sort type ∷ []
+with_param_sorts name type c deep =
+    subst (λ (t : Bool). sorts (cond t (prototype_param name type c) (function_param name type c)) ≡ sorts c ++ type_sort type ∷ []) (sym (own_params c deep)) (by (next_is_memory type c))
   where
     by : (t : Bool) → sorts (cond t (memory_param name type c) (register_param name type c)) ≡ sorts c ++ type_sort type ∷ []
     by true =
@@ -285,33 +268,23 @@ with_param_sorts name type c = by (next_is_memory type c)
         ∙ named_sorts name (n.Object type (length c.running.mems)) y ∙ one_register name type c
     by false = named_sorts name (n.Register type (length c.running.locals)) (with_register name type c) ∙ one_register name type c
 
--- a parameter is no function, and has a register of its sort
+-- a parameter has a register of its sort
 record Parameter (type : PlainType) (c : Context) (z : Context × PlainType) : Type 0 where
-  plain : is_function type ≡ false
   same : z.1 ≡ type
   added : sorts z.0 ≡ sorts c ++ type_sort type ∷ []
 
-or_right : (x y : Bool) → x || y ≡ false → y ≡ false
-or_right true y e = cc
-or_right false y e = e
-
-param_added : (line : ℕ) (name : Option (List ℕ)) (type : PlainType) (c : Context) (z : Context × PlainType) → param line name type c ≡ Ok z → Parameter type c z
-param_added line name type c z q =
+param_added : (line : ℕ) (name : Option (List ℕ)) (type : PlainType) (c : Context) (z : Context × PlainType) → length c.scopes.inner ≡ 1 → param line name type c ≡ Ok z → Parameter type c z
+param_added line name type c z deep q =
     let r2 : Checked (Context × PlainType) = unless (is_declared name c) DeclaredTwice line (good (with_param name type c, type)) in
     let r1 : Checked (Context × PlainType) = unless (is_record type || is_function type) LeftOut line r2 in
     let a = behind_test (is_void type) Incomplete line r1 z q in
     let b = behind_test (is_record type || is_function type) LeftOut line r2 z a in
     let made = passed (is_declared name c) DeclaredTwice line (with_param name type c, type) z b in
-    record { plain = or_right (is_record type) (is_function type) (kept_test (is_record type || is_function type) LeftOut line r2 z a); same = ap (λ (y : Context × PlainType). y.1) (sym made); added = ap (λ (y : Context × PlainType). sorts y.0) (sym made) ∙ with_param_sorts name type c }
+    record { same = ap (λ (y : Context × PlainType). y.1) (sym made); added = ap (λ (y : Context × PlainType). sorts y.0) (sym made) ∙ with_param_sorts name type c deep }
 
-adjusted_plain : (type : PlainType) → is_function (adjusted type) ≡ false → is_function type ≡ false
-adjusted_plain (types.Array element length) e = refl
-adjusted_plain types.Void e = e
-adjusted_plain (Int ty) e = e
-adjusted_plain (types.Pointer target) e = e
-adjusted_plain (Struct tag) e = e
-adjusted_plain (Union tag) e = e
-adjusted_plain (Function answer ps) e = e
+-- what stands inside a scope adds none
+aside_sorts : (c d : Context) → Aside c d → sorts d ≡ sorts c
+aside_sorts c d p = ap (λ (run : Running). map sort_of run.locals) p.running
 
 -- what is added to the registers, and what layers say of it
 pub record Adds (c d : Context) (ss : List Sort) : Type 0 where
@@ -346,42 +319,46 @@ unadded c z h e = h.adds.added ∙ ap (λ (l : List Sort). sorts c ++ l) (h.coun
 mutual
   unfolding specs words_type tag_type members member_names enumerators layers suffix_layers suffix_layer params
 
-  pub specs_sorts : (tree : Tree) (c : Context) (z : Context × PlainType) → specs tree c ≡ Ok z → sorts z.0 ≡ sorts c
-  specs_sorts (Node f.Specs (At line ▹ words)) c z q = words_sorts words line words c z q
-  specs_sorts tree c z q = never _ _ z q
+  pub specs_sorts : (tree : Tree) (c : Context) (z : Context × PlainType) → length c.scopes.inner ≡ 0 → specs tree c ≡ Ok z → sorts z.0 ≡ sorts c
+  specs_sorts (Node f.Specs (At line ▹ words)) c z flat q = words_sorts words line words c z flat q
+  specs_sorts tree c z flat q = never _ _ z q
 
-  words_sorts : (rest : Trees) (line : ℕ) (words : Trees) (c : Context) (z : Context × PlainType) → words_type line words rest c ≡ Ok z → sorts z.0 ≡ sorts c
-  words_sorts none line words c z q = ap (λ (y : Context × PlainType). sorts y.0) (sym (ok_same (c, word_type words) z q))
-  words_sorts (Leaf word ▹ rest) line words c z q = words_sorts rest line words c z q
-  words_sorts (At at ▹ rest) line words c z q = words_sorts rest line words c z q
-  words_sorts (Node form parts ▹ rest) line words c z q = tag_sorts (Node form parts) line c z q
+  words_sorts : (rest : Trees) (line : ℕ) (words : Trees) (c : Context) (z : Context × PlainType) → length c.scopes.inner ≡ 0 → words_type line words rest c ≡ Ok z → sorts z.0 ≡ sorts c
+  words_sorts none line words c z flat q = ap (λ (y : Context × PlainType). sorts y.0) (sym (ok_same (c, word_type words) z q))
+  words_sorts (Leaf word ▹ rest) line words c z flat q = words_sorts rest line words c z flat q
+  words_sorts (At at ▹ rest) line words c z flat q = words_sorts rest line words c z flat q
+  words_sorts (Node form parts ▹ rest) line words c z flat q = tag_sorts (Node form parts) line c z flat q
 
-  tag_sorts : (tree : Tree) (line : ℕ) (c : Context) (z : Context × PlainType) → tag_type line tree c ≡ Ok z → sorts z.0 ≡ sorts c
-  tag_sorts (Node (f.RecordBody sort) (At at ▹ Node f.MaybeName name ▹ Node f.Members parts ▹ none)) line c z q =
+  tag_sorts : (tree : Tree) (line : ℕ) (c : Context) (z : Context × PlainType) → length c.scopes.inner ≡ 0 → tag_type line tree c ≡ Ok z → sorts z.0 ≡ sorts c
+  tag_sorts (Node (f.RecordBody sort) (At at ▹ Node f.MaybeName name ▹ Node f.Members parts ▹ none)) line c z flat q =
       let start = begun sort (maybe_name name) c in
       let m = came (members parts [] start.0) (λ m. ended at sort start.1 m.0 m.1) z q in
-      ended_sorts at sort start.1 m.value.0 m.value.1 z m.last ∙ members_sorts parts [] start.0 m.value m.is ∙ begun_sorts sort (maybe_name name) c
-  tag_sorts (Node (f.EnumBody trailing) (At at ▹ Node f.MaybeName name ▹ Node f.Enumerators parts ▹ none)) line c z q =
+      ended_sorts at sort start.1 m.value.0 m.value.1 z m.last ∙ members_sorts parts [] start.0 m.value ((begun_levels sort (maybe_name name) c c (levels_refl c)).depth ∙ flat) m.is ∙ begun_sorts sort (maybe_name name) c
+  tag_sorts (Node (f.EnumBody trailing) (At at ▹ Node f.MaybeName name ▹ Node f.Enumerators parts ▹ none)) line c z flat q =
       let e = came (enumerators parts (pos 0) c) (λ e. enum_named at (maybe_name name) e) z q in
       enum_named_sorts at (maybe_name name) e.value z e.last ∙ enumerators_sorts parts (pos 0) c e.value e.is
-  tag_sorts tree line c z q = with_type_sorts (special_type line tree (asked c)) c z q
+  tag_sorts tree line c z flat q = with_type_sorts (special_type line tree (asked c)) c z q
 
-  members_sorts : (parts : Trees) (list : d.Members) (c : Context) (z : Context × d.Members) → members parts list c ≡ Ok z → sorts z.0 ≡ sorts c
-  members_sorts none list c z q = ap (λ (y : Context × d.Members). sorts y.0) (sym (ok_same (c, list) z q))
-  members_sorts (Node f.Member (At line ▹ words ▹ Node f.MemberNames declarators ▹ none) ▹ rest) list c z q =
+  members_sorts : (parts : Trees) (list : d.Members) (c : Context) (z : Context × d.Members) → length c.scopes.inner ≡ 0 → members parts list c ≡ Ok z → sorts z.0 ≡ sorts c
+  members_sorts none list c z flat q = ap (λ (y : Context × d.Members). sorts y.0) (sym (ok_same (c, list) z q))
+  members_sorts (Node f.Member (At line ▹ words ▹ Node f.MemberNames declarators ▹ none) ▹ rest) list c z flat q =
       let base = came (specs words c) (λ base. then (member_names line base.1 declarators list base.0) (λ m. members rest m.1 m.0)) z q in
       let m = came (member_names line base.value.1 declarators list base.value.0) (λ m. members rest m.1 m.0) z base.last in
-      members_sorts rest m.value.1 m.value.0 z m.last ∙ member_names_sorts declarators line base.value.1 list base.value.0 m.value m.is ∙ specs_sorts words c base.value base.is
-  members_sorts (tree ▹ rest) list c z q = never _ _ z q
+      let flat1 = (specs_level words c c (levels_refl c) base.value base.is).depth ∙ flat in
+      let flat2 = (member_names_level declarators line base.value.1 list base.value.0 base.value.0 (levels_refl base.value.0) m.value m.is).depth ∙ flat1 in
+      members_sorts rest m.value.1 m.value.0 z flat2 m.last ∙ member_names_sorts declarators line base.value.1 list base.value.0 m.value flat1 m.is ∙ specs_sorts words c base.value flat base.is
+  members_sorts (tree ▹ rest) list c z flat q = never _ _ z q
 
-  member_names_sorts : (parts : Trees) (line : ℕ) (base : PlainType) (list : d.Members) (c : Context) (z : Context × d.Members) → member_names line base parts list c ≡ Ok z → sorts z.0 ≡ sorts c
-  member_names_sorts none line base list c z q = ap (λ (y : Context × d.Members). sorts y.0) (sym (ok_same (c, list) z q))
-  member_names_sorts (declarator ▹ rest) line base list c z q =
+  member_names_sorts : (parts : Trees) (line : ℕ) (base : PlainType) (list : d.Members) (c : Context) (z : Context × d.Members) → length c.scopes.inner ≡ 0 → member_names line base parts list c ≡ Ok z → sorts z.0 ≡ sorts c
+  member_names_sorts none line base list c z flat q = ap (λ (y : Context × d.Members). sorts y.0) (sym (ok_same (c, list) z q))
+  member_names_sorts (declarator ▹ rest) line base list c z flat q =
       let l = came (layers declarator c) (λ l. then (with_layers l.0.tags l.1 base) (λ type. then (member line (name_of declarator) type list l.0) (λ m. member_names line base rest m.1 m.0))) z q in
       let t = came (with_layers l.value.0.tags l.value.1 base) (λ type. then (member line (name_of declarator) type list l.value.0) (λ m. member_names line base rest m.1 m.0)) z l.last in
       let m = came (member line (name_of declarator) t.value list l.value.0) (λ m. member_names line base rest m.1 m.0) z t.last in
       let s = member_sorts line (name_of declarator) t.value list l.value.0 m.value m.is in
-      member_names_sorts rest line base m.value.1 m.value.0 z m.last ∙ s.0 ∙ unadded c l.value (layers_added declarator c l.value l.is) (not_function l.value.0.tags l.value.1 base t.value t.is s.1)
+      let flat1 = (layers_level declarator c c (levels_refl c) l.value l.is).depth ∙ flat in
+      let flat2 = (member_levels line (name_of declarator) t.value list l.value.0 l.value.0 (levels_refl l.value.0) m.value m.is).depth ∙ flat1 in
+      member_names_sorts rest line base m.value.1 m.value.0 z flat2 m.last ∙ s.0 ∙ unadded c l.value (layers_added declarator c l.value flat l.is) (not_function l.value.0.tags l.value.1 base t.value t.is s.1)
 
   enumerators_sorts : (parts : Trees) (next : ℤ) (c z : Context) → enumerators parts next c ≡ Ok z → sorts z ≡ sorts c
   enumerators_sorts none next c z q = ap sorts (sym (ok_same c z q))
@@ -394,57 +371,59 @@ mutual
       enumerators_sorts rest e.value.1 e.value.0 z e.last ∙ enumerator_sorts line name k.value.1.value k.value.0 e.value e.is ∙ constant_sorts v c k.value k.is
   enumerators_sorts (tree ▹ rest) next c z q = never _ _ z q
 
-  pub layers_added : (tree : Tree) (c : Context) (z : Context × List Layer) → layers tree c ≡ Ok z → Layered c z
-  layers_added (Node (f.Pointer consts) (At line ▹ declarator ▹ none)) c z q =
+  pub layers_added : (tree : Tree) (c : Context) (z : Context × List Layer) → length c.scopes.inner ≡ 0 → layers tree c ≡ Ok z → Layered c z
+  layers_added (Node (f.Pointer consts) (At line ▹ declarator ▹ none)) c z flat q =
       let l = came (layers declarator c) (λ l. good (l.0, PointerTo line ∷ l.1)) z q in
-      let h = layers_added declarator c l.value l.is in
+      let h = layers_added declarator c l.value flat l.is in
       subst (Layered c) (ok_same (l.value.0, PointerTo line ∷ l.value.1) z l.last) (record { sorts_of = h.sorts_of; adds = h.adds; counts = record { none = λ e. h.counts.none e; one = λ e. h.counts.one e } })
-  layers_added (Node f.Direct (base ▹ Node f.Suffixes suffixes ▹ none)) c z q =
+  layers_added (Node f.Direct (base ▹ Node f.Suffixes suffixes ▹ none)) c z flat q =
       let l = came (layers base c) (λ l. then (suffix_layers suffixes l.0) (λ s. good (s.0, reverse s.1 ++ l.1))) z q in
       let s = came (suffix_layers suffixes l.value.0) (λ s. good (s.0, reverse s.1 ++ l.value.1)) z l.last in
-      let a = layers_added base c l.value l.is in
-      let b = suffixes_added suffixes l.value.0 s.value s.is in
+      let a = layers_added base c l.value flat l.is in
+      let b = suffixes_added suffixes l.value.0 s.value ((layers_level base c c (levels_refl c) l.value l.is).depth ∙ flat) s.is in
       subst (Layered c) (ok_same (s.value.0, reverse s.value.1 ++ l.value.1) z s.last)
       (record { sorts_of = a.sorts_of ++ b.sorts_of; adds = adds_trans c l.value.0 s.value.0 a.sorts_of b.sorts_of a.adds b.adds; counts = counts_behind l.value.1 s.value.1 a.sorts_of b.sorts_of a.counts b.counts })
-  layers_added (Node f.Parens (At line ▹ declarator ▹ none)) c z q = layers_added declarator c z q
-  layers_added tree c z q = no_layers c z (ok_same (c, []) z q)
+  layers_added (Node f.Parens (At line ▹ declarator ▹ none)) c z flat q = layers_added declarator c z flat q
+  layers_added tree c z flat q = no_layers c z (ok_same (c, []) z q)
 
-  suffixes_added : (parts : Trees) (c : Context) (z : Context × List Layer) → suffix_layers parts c ≡ Ok z → Layered c z
-  suffixes_added none c z q = no_layers c z (ok_same (c, []) z q)
-  suffixes_added (suffix ▹ rest) c z q =
+  suffixes_added : (parts : Trees) (c : Context) (z : Context × List Layer) → length c.scopes.inner ≡ 0 → suffix_layers parts c ≡ Ok z → Layered c z
+  suffixes_added none c z flat q = no_layers c z (ok_same (c, []) z q)
+  suffixes_added (suffix ▹ rest) c z flat q =
       let l = came (suffix_layer suffix c) (λ l. then (suffix_layers rest l.0) (λ more. good (more.0, l.1 ∷ more.1))) z q in
       let m = came (suffix_layers rest l.value.0) (λ more. good (more.0, l.value.1 ∷ more.1)) z l.last in
-      let a = suffix_added suffix c l.value l.is in
-      let b = suffixes_added rest l.value.0 m.value m.is in
+      let a = suffix_added suffix c l.value flat l.is in
+      let b = suffixes_added rest l.value.0 m.value ((suffix_levels suffix c c (levels_refl c) l.value l.is).depth ∙ flat) m.is in
       subst (Layered c) (ok_same (m.value.0, l.value.1 ∷ m.value.1) z m.last)
       (record { sorts_of = a.sorts_of ++ b.sorts_of; adds = adds_trans c l.value.0 m.value.0 a.sorts_of b.sorts_of a.adds b.adds; counts = counts_more l.value.1 m.value.1 a.sorts_of b.sorts_of a.counts b.counts })
 
-  suffix_added : (tree : Tree) (c : Context) (z : Context × Layer) → suffix_layer tree c ≡ Ok z → Single c z
-  suffix_added (Node f.ArraySuffix (At line ▹ Node f.MaybeLength none ▹ none)) c z q = subst (Single c) (ok_same (c, ArrayOf line None) z q) (single_none c (c, ArrayOf line None) refl refl)
-  suffix_added (Node f.ArraySuffix (At line ▹ Node f.MaybeLength (e ▹ none) ▹ none)) c z q =
+  suffix_added : (tree : Tree) (c : Context) (z : Context × Layer) → length c.scopes.inner ≡ 0 → suffix_layer tree c ≡ Ok z → Single c z
+  suffix_added (Node f.ArraySuffix (At line ▹ Node f.MaybeLength none ▹ none)) c z flat q = subst (Single c) (ok_same (c, ArrayOf line None) z q) (single_none c (c, ArrayOf line None) refl refl)
+  suffix_added (Node f.ArraySuffix (At line ▹ Node f.MaybeLength (e ▹ none) ▹ none)) c z flat q =
       let x = came (wanted e (typed e (asked c))) (λ x. then (array_length (line_of e) x.1) (λ length. good (told x.0 c, ArrayOf line (Some length)))) z q in
       let k = came (array_length (line_of e) x.value.1) (λ length. good (told x.value.0 c, ArrayOf line (Some length))) z x.last in
       subst (Single c) (ok_same (told x.value.0 c, ArrayOf line (Some k.value)) z k.last) (single_none c (told x.value.0 c, ArrayOf line (Some k.value)) refl refl)
-  suffix_added (Node f.FunctionSuffix (At line ▹ Node f.Params parts ▹ none)) c z q =
+  suffix_added (Node f.FunctionSuffix (At line ▹ Node f.Params parts ▹ none)) c z flat q =
       let p = came (params parts (entered c)) (λ p. good (left_params p.0, FunctionOf line p.1)) z q in
-      let a = params_added parts (entered c) p.value p.is in
+      let a = params_added parts (entered c) p.value (omega (arith, flat)) p.is in
       subst (Single c) (ok_same (left_params p.value.0, FunctionOf line p.value.1) z p.last)
       (record { sorts_of = param_sorts p.value.1; adds = record { added = a.added }; counts = record { none = λ e. absurd (omega (arith, e)); one = λ e. sym (append-nil (param_sorts p.value.1)) } })
-  suffix_added tree c z q =
+  suffix_added tree c z flat q =
       subst (Single c) (ok_same (record c { params = [] }, FunctionOf (line_of tree) types.none) z q)
       (record { sorts_of = []; adds = record { added = sym (append-nil (sorts c)) }; counts = record { none = λ e. refl; one = λ e. refl } })
 
-  params_added : (parts : Trees) (c : Context) (z : Context × PlainTypes) → params parts c ≡ Ok z → Adds c z.0 (param_sorts z.1)
-  params_added none c z q = subst (λ (y : Context × PlainTypes). Adds c y.0 (param_sorts y.1)) (ok_same (c, types.none) z q) (adds_none c c refl)
-  params_added (Node f.Param (At line ▹ words ▹ declarator ▹ none) ▹ rest) c z q =
+  params_added : (parts : Trees) (c : Context) (z : Context × PlainTypes) → length c.scopes.inner ≡ 1 → params parts c ≡ Ok z → Adds c z.0 (param_sorts z.1)
+  params_added none c z deep q = subst (λ (y : Context × PlainTypes). Adds c y.0 (param_sorts y.1)) (ok_same (c, types.none) z q) (adds_none c c refl)
+  params_added (Node f.Param (At line ▹ words ▹ declarator ▹ none) ▹ rest) c z deep q =
       let base = came (specs words c) (λ base. then (layers declarator base.0) (λ l. then (with_param_layers l.0.tags l.1 base.1) (λ type. then (param line (name_of declarator) (adjusted type) l.0) (λ p. then (params rest p.0) (λ more. good (more.0, first p.1 more.1)))))) z q in
       let l = came (layers declarator base.value.0) (λ l. then (with_param_layers l.0.tags l.1 base.value.1) (λ type. then (param line (name_of declarator) (adjusted type) l.0) (λ p. then (params rest p.0) (λ more. good (more.0, first p.1 more.1))))) z base.last in
       let t = came (with_param_layers l.value.0.tags l.value.1 base.value.1) (λ type. then (param line (name_of declarator) (adjusted type) l.value.0) (λ p. then (params rest p.0) (λ more. good (more.0, first p.1 more.1)))) z l.last in
       let p = came (param line (name_of declarator) (adjusted t.value) l.value.0) (λ p. then (params rest p.0) (λ more. good (more.0, first p.1 more.1))) z t.last in
       let m = came (params rest p.value.0) (λ more. good (more.0, first p.value.1 more.1)) z p.last in
-      let one = param_added line (name_of declarator) (adjusted t.value) l.value.0 p.value p.is in
-      let kept = unadded base.value.0 l.value (layers_added declarator base.value.0 l.value l.is) (param_not_function l.value.0.tags l.value.1 base.value.1 t.value t.is (adjusted_plain t.value one.plain)) in
-      let here : Adds c p.value.0 (type_sort p.value.1 ∷ []) = record { added = one.added ∙ ap (λ (s : List Sort). s ++ type_sort (adjusted t.value) ∷ []) (kept ∙ specs_sorts words c base.value base.is) ∙ ap (λ (x : PlainType). sorts c ++ type_sort x ∷ []) (sym one.same) } in
+      let inside = specs_beside words c (omega (arith, deep)) c (aside_refl c) base.value base.is in
+      let around = layers_beside declarator c (omega (arith, deep)) base.value.0 inside l.value l.is in
+      let one = param_added line (name_of declarator) (adjusted t.value) l.value.0 p.value (around.depth ∙ deep) p.is in
+      let more = (param_levels line (name_of declarator) (adjusted t.value) l.value.0 l.value.0 (omega (arith, deep, around.depth)) (levels_refl l.value.0) p.value p.is).depth ∙ around.depth ∙ deep in
+      let here : Adds c p.value.0 (type_sort p.value.1 ∷ []) = record { added = one.added ∙ ap (λ (s : List Sort). s ++ type_sort (adjusted t.value) ∷ []) (aside_sorts c l.value.0 around) ∙ ap (λ (x : PlainType). sorts c ++ type_sort x ∷ []) (sym one.same) } in
       subst (λ (y : Context × PlainTypes). Adds c y.0 (param_sorts y.1)) (ok_same (m.value.0, first p.value.1 m.value.1) z m.last)
-      (adds_trans c p.value.0 m.value.0 (type_sort p.value.1 ∷ []) (param_sorts m.value.1) here (params_added rest p.value.0 m.value m.is))
-  params_added (tree ▹ rest) c z q = never _ _ z q
+      (adds_trans c p.value.0 m.value.0 (type_sort p.value.1 ∷ []) (param_sorts m.value.1) here (params_added rest p.value.0 m.value more m.is))
+  params_added (tree ▹ rest) c z deep q = never _ _ z q

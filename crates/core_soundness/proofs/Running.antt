@@ -1,5 +1,5 @@
 -- What a part of a function does to what fits.
-use Rattle.std.proofs.Common.{◌≡◌, ◌≤◌, ℕ, Bool, true, false, cond, List, [], ◌∷◌, length, Option, Ok, refl, sym, ◌∙◌, subst}
+use Rattle.std.proofs.Common.{◌≡◌, ◌≤◌, ℕ, Bool, true, false, cond, List, [], ◌∷◌, length, Option, Ok, refl, sym, ◌∙◌, subst, arith}
 use Rattle.c_types.specs.Types.{PlainType}
 use Rattle.core_tree.specs.declared.statements.StmKind.TheVariants.{Enter, Leave}
 use Rattle.core_tree.specs.Sorts.{Sort}
@@ -7,14 +7,12 @@ use Rattle.c_tree.specs.Tree.{Tree}
 use Rattle.c_decls.specs.Named.{PlainNamed}
 use Rattle.c_decls.specs.ScopeList.{ScopeList, Table, entered as scope_entered}
 use Rattle.c_decls.specs.ScopeList as scopes
-use Rattle.c_decls.specs.Refusals.{Checked}
-use Rattle.elaboration.specs.Context.{Context, emit, anew, entered, left, scoped}
+use Rattle.elaboration.specs.Context.{Context, emit, anew, entered, left}
 use Rattle.elaboration.specs.Conversions.{Found, code_line, valued_from, valued}
 use Rattle.elaboration.specs.Reallocates.{reallocates, opened, closed}
 use Rattle.elaboration.specs.Expressions.{found}
 use Rattle.core_soundness.specs.Worlds.{World, world, InnerFits, TableFits, TablesFit, NamesFit}
 use Rattle.core_soundness.specs.Spoken.{Spoken}
-use Rattle.core_soundness.proofs.Grown.{good, ok_same}
 use Rattle.core_soundness.proofs.Names.{MoreAll, all_refl, all_trans}
 use Rattle.core_soundness.proofs.Owners.{more_depth}
 use Rattle.core_soundness.proofs.Declaring.{tail_depth}
@@ -34,7 +32,8 @@ pub record Fine (c : Context) : Type 0 where
   pub names : NamesFit (world c) c.scopes
   pub lined : 1 ≤ c.running.line
 
--- a part of a function that answers that; scopes around the innermost have new tags at most
+-- a part of a function that answers that; scopes around the innermost have new tags at most; at file scope the list that ended
+-- last fits
 pub record Runs (result : Option Sort) (c d : Context) : Type 0 where
   pub grew : Grew (world c) (world d)
   pub fine : Fine d
@@ -43,11 +42,11 @@ pub record Runs (result : Option Sort) (c d : Context) : Type 0 where
   pub addressed : d.running.addressed ≡ c.running.addressed
   pub outside : MoreAll (scopes.tail c.scopes.inner) (scopes.tail d.scopes.inner)
   pub depth : length d.scopes.inner ≡ length c.scopes.inner
-  pub params : ParamsFit c → ParamsFit d
+  pub params : length c.scopes.inner ≡ 0 → ParamsFit c → ParamsFit d
   pub walked : d.walked ≡ c.walked
 
 pub runs_refl : (answer : Option Sort) (c : Context) → Fine c → Runs answer c c
-runs_refl answer c h = record { grew = grew_refl (world c); fine = h; fits = λ k. k; answer = refl; addressed = refl; outside = all_refl (scopes.tail c.scopes.inner); depth = refl; params = λ k. k; walked = refl }
+runs_refl answer c h = record { grew = grew_refl (world c); fine = h; fits = λ k. k; answer = refl; addressed = refl; outside = all_refl (scopes.tail c.scopes.inner); depth = refl; params = λ flat k. k; walked = refl }
 
 pub runs_trans : (answer : Option Sort) (a b c : Context) → Runs answer a b → Runs answer b c → Runs answer a c
 runs_trans answer a b c x y = record {
@@ -58,7 +57,7 @@ runs_trans answer a b c x y = record {
   addressed = y.addressed ∙ x.addressed;
   outside = all_trans (scopes.tail a.scopes.inner) (scopes.tail b.scopes.inner) (scopes.tail c.scopes.inner) x.outside y.outside;
   depth = y.depth ∙ x.depth;
-  params = λ h. y.params (x.params h);
+  params = λ flat h. y.params (x.depth ∙ flat) (x.params flat h);
   walked = y.walked ∙ x.walked;
 }
 
@@ -80,7 +79,7 @@ goes_runs answer c d h g = record {
   addressed = g.kept.addressed;
   outside = tail_more c.scopes.inner d.scopes.inner g.more.inner;
   depth = more_depth c.scopes d.scopes g.more;
-  params = λ k. subst (TableFits (InnerFits (world d))) (sym g.kept.params) (table_grew (world c) (world d) c.params g.grew k);
+  params = λ flat k. subst (TableFits (InnerFits (world d))) (sym g.kept.params) (table_grew (world c) (world d) c.params g.grew k);
   walked = g.kept.walked;
 }
 
@@ -104,13 +103,8 @@ pub entered_fine : (c : Context) → Fine c → Fine (entered c)
 entered_fine c h = record { names = names_entered (world c) c.scopes h.names; lined = h.lined }
 
 -- what ran in a scope of its own
-pub runs_left : (answer : Option Sort) (c d : Context) → Runs answer (entered c) d → Runs answer c (left d)
-runs_left answer c d r = record { grew = r.grew; fine = record { names = names_left (world d) d.scopes r.fine.names; lined = r.fine.lined }; fits = r.fits; answer = r.answer; addressed = r.addressed; outside = tail_more c.scopes.inner (scopes.tail d.scopes.inner) r.outside; depth = tail_depth d.scopes.inner (length c.scopes.inner) r.depth; params = r.params; walked = r.walked }
-
-pub scoped_runs : (answer : Option Sort) (c : Context) (inside : Context → Checked Context) (z : Context) → ((d : Context) → inside (entered c) ≡ Ok d → Runs answer (entered c) d) → scoped c inside ≡ Ok z → Runs answer c z
-scoped_runs answer c inside z k q =
-    let d = came (inside (entered c)) (λ d. good (left d)) z q in
-    subst (Runs answer c) (ok_same (left d.value) z d.last) (runs_left answer c d.value (k d.value d.is))
+pub runs_left : (answer : Option Sort) (c d : Context) → 1 ≤ length c.scopes.inner → Runs answer (entered c) d → Runs answer c (left d)
+runs_left answer c d deep r = record { grew = r.grew; fine = record { names = names_left (world d) d.scopes r.fine.names; lined = r.fine.lined }; fits = r.fits; answer = r.answer; addressed = r.addressed; outside = tail_more c.scopes.inner (scopes.tail d.scopes.inner) r.outside; depth = tail_depth d.scopes.inner (length c.scopes.inner) r.depth; params = λ flat h. absurd (omega (arith, deep, flat)); walked = r.walked }
 
 -- full expressions
 

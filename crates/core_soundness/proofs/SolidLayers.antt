@@ -32,7 +32,7 @@ use Rattle.c_decls.specs.TypeNames.{Layer, PointerTo, ArrayOf, FunctionOf, word_
 use Rattle.c_decls.specs.Expressions.{line_of, typed, wanted, constant_from}
 use Rattle.elaboration.specs.Context.{Context, asked, told, entered, local_register}
 use Rattle.elaboration.specs.Conversions.{Memory}
-use Rattle.elaboration.specs.Locals.{is_twice, declared_as, next_is_memory, with_register, with_memory, counted, with_named, memory_param, register_param, with_param}
+use Rattle.elaboration.specs.Locals.{is_twice, declared_as, next_is_memory, with_register, with_memory, counted, with_named, memory_param, register_param, function_param, prototype_param, is_prototype, with_param}
 use Rattle.elaboration.specs.Declarators as d
 use Rattle.elaboration.specs.Declarators.{constant, with_type, maybe_name, unnamed, newly_named, begun_as, begun, completed_by, complete, ended, with_member, member, enumerator, enum_named, is_declared, param, left_params, specs, words_type, tag_type, members, member_names, enumerators, layers, suffix_layers, suffix_layer, params}
 use Rattle.core_soundness.specs.Whole.{Whole, AllWhole, MembersWhole, NamedWhole, TableWhole, TablesWhole}
@@ -132,7 +132,7 @@ pub counted_rises : (c x : Context) → Rises c x → Rises c (counted x)
 counted_rises c x r = record { solid = r.solid; more = r.more; kinds = r.kinds; code = r.code; cases = r.cases; walked = r.walked }
 
 param_made : (name : Option (List ℕ)) (type : PlainType) (c : Context) → Solid c → Whole (K c) type → is_some (layout_in c.tags type) ≡ true → Rises c (with_param name type c)
-param_made name type c h w s = counted_rises c _ (by (next_is_memory type c))
+param_made name type c h w s = counted_rises c _ (by (is_prototype c.scopes))
   where
     mem : ℕ
     mem = length c.running.mems
@@ -140,15 +140,19 @@ param_made name type c h w s = counted_rises c _ (by (next_is_memory type c))
     register : ℕ
     register = local_register (length c.running.locals)
 
-    by : (t : Bool) → Rises c (cond t (memory_param name type c) (register_param name type c))
-    by true =
+    own : (t : Bool) → Rises c (cond t (memory_param name type c) (register_param name type c))
+    own true =
         let x = with_register name type c in
         let y = with_memory (unwrap_or name []) type x in
         let z = with_named name (n.Object type (length c.running.mems)) y in
         let a = memory_rises (unwrap_or name []) type x h w s in
         let q = maybe_named name (n.Object type (length c.running.mems)) y a.solid w (λ ks. tt) in
         rises_trans c y _ (record { solid = a.solid; more = a.more; kinds = a.kinds; code = a.code; cases = a.cases; walked = a.walked }) (rises_trans y z _ q (write_rises c.running.line type (Memory (atom.Mem (length c.running.mems))) (atom.Reg (local_register (length c.running.locals))) z q.solid (λ k. (tt, tt))))
-    by false = let q = maybe_named name (n.Register type (length c.running.locals)) (with_register name type c) h w (λ ks. tt) in record { solid = q.solid; more = q.more; kinds = q.kinds; code = q.code; cases = q.cases; walked = q.walked }
+    own false = let q = maybe_named name (n.Register type (length c.running.locals)) (with_register name type c) h w (λ ks. tt) in record { solid = q.solid; more = q.more; kinds = q.kinds; code = q.code; cases = q.cases; walked = q.walked }
+
+    by : (t : Bool) → Rises c (cond t (prototype_param name type c) (function_param name type c))
+    by true = maybe_named name (n.Object type 0) c h w (λ ks. tt)
+    by false = own (next_is_memory type c)
 
 -- a parameter has a layout: it is an integer or a pointer
 param_sized : (k : Known) (type : PlainType) → is_void type ≡ false → is_record type || is_function type ≡ false → is_array type ≡ false → is_some (layout_of k type) ≡ true

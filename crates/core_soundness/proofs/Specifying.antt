@@ -25,7 +25,7 @@ use Rattle.c_decls.specs.TypeNames.{Layer, PointerTo, ArrayOf, FunctionOf, word_
 use Rattle.c_decls.specs.Expressions.{line_of, typed, wanted, constant_from}
 use Rattle.elaboration.specs.Context.{Context, asked, told, entered, local_register}
 use Rattle.elaboration.specs.Conversions.{Memory}
-use Rattle.elaboration.specs.Locals.{is_twice, declared_as, next_is_memory, with_register, with_memory, with_named, memory_param, register_param, with_param}
+use Rattle.elaboration.specs.Locals.{is_twice, declared_as, next_is_memory, with_register, with_memory, with_named, memory_param, register_param, function_param, prototype_param, is_prototype, with_param}
 use Rattle.elaboration.specs.Declarators as d
 use Rattle.elaboration.specs.Declarators.{constant, with_type, maybe_name, unnamed, newly_named, begun_as, begun, completed_by, complete, ended, with_member, member, enumerator, enum_named, is_declared, param, left_params, specs, words_type, tag_type, members, member_names, enumerators, layers, suffix_layers, suffix_layer, params}
 use Rattle.core_soundness.proofs.Names.{More, with_tag_more}
@@ -69,7 +69,7 @@ named_levels None named c deep = levels_refl c
 named_levels (Some name) named c deep = beside_levels c _ refl refl (inner_objects c.scopes name named deep) (with_name_depth c.scopes name named)
 
 with_param_levels : (name : Option (List ℕ)) (type : PlainType) (c : Context) → 1 ≤ length c.scopes.inner → Levels c (with_param name type c)
-with_param_levels name type c deep = let r = by (next_is_memory type c) in record { settled = record { variables = r.settled.variables; literals = r.settled.literals; objects = r.settled.objects }; depth = r.depth }
+with_param_levels name type c deep = let r = by (is_prototype c.scopes) in record { settled = record { variables = r.settled.variables; literals = r.settled.literals; objects = r.settled.objects }; depth = r.depth }
   where
     memory : Levels c (memory_param name type c)
     memory =
@@ -82,9 +82,13 @@ with_param_levels name type c deep = let r = by (next_is_memory type c) in recor
     register : Levels c (register_param name type c)
     register = let q = named_levels name (n.Register type (length c.running.locals)) (with_register name type c) deep in record { settled = record { variables = q.settled.variables; literals = q.settled.literals; objects = q.settled.objects }; depth = q.depth }
 
-    by : (t : Bool) → Levels c (cond t (memory_param name type c) (register_param name type c))
-    by true = memory
-    by false = register
+    own : (t : Bool) → Levels c (cond t (memory_param name type c) (register_param name type c))
+    own true = memory
+    own false = register
+
+    by : (t : Bool) → Levels c (cond t (prototype_param name type c) (function_param name type c))
+    by true = named_levels name (n.Object type 0) c deep
+    by false = own (next_is_memory type c)
 
 -- constants and tags
 
@@ -108,7 +112,7 @@ begun_as_levels sort name other b c p = newly_levels sort name b c p
 tags_levels : (b c : Context) (tags : TagTable) → Levels b c → Levels b (record c { tags = tags })
 tags_levels b c tags p = levels_trans b c _ p (beside_levels c _ refl refl (λ name type i e. e) refl)
 
-begun_levels : (sort : RecordSort) (name : Option (List ℕ)) (b c : Context) → Levels b c → Levels b (begun sort name c).0
+pub begun_levels : (sort : RecordSort) (name : Option (List ℕ)) (b c : Context) → Levels b c → Levels b (begun sort name c).0
 begun_levels sort None b c p = tags_levels b c _ p
 begun_levels sort (Some name) b c p = begun_as_levels sort name (named_in (tag_name name) (innermost c.scopes)) b c p
 
@@ -124,7 +128,7 @@ ended_levels line r.Struct (Struct number) b c list p = complete_levels line num
 ended_levels line r.Union (Union number) b c list p = complete_levels line number (Union number) b c list p
 ended_levels line sort type b c list p = reached_refused (Levels b) DeclaredTwice line
 
-member_levels : (line : ℕ) (name : Option (List ℕ)) (type : PlainType) (list : d.Members) (b c : Context) → Levels b c → Reached (Levels b) (member line name type list c)
+pub member_levels : (line : ℕ) (name : Option (List ℕ)) (type : PlainType) (list : d.Members) (b c : Context) → Levels b c → Reached (Levels b) (member line name type list c)
 member_levels line name type list b c p =
     reached_unless (Levels b) (is_function type) LeftOut line _
     (reached_unless (Levels b) (has_no_size c.tags type) Incomplete line _
@@ -144,7 +148,7 @@ enum_levels line (Some name) b c p =
 
 -- parameters
 
-param_levels : (line : ℕ) (name : Option (List ℕ)) (type : PlainType) (b c : Context) → 1 ≤ length c.scopes.inner → Levels b c → Reached (Levels b) (param line name type c)
+pub param_levels : (line : ℕ) (name : Option (List ℕ)) (type : PlainType) (b c : Context) → 1 ≤ length c.scopes.inner → Levels b c → Reached (Levels b) (param line name type c)
 param_levels line name type b c deep p =
     reached_unless (Levels b) (is_void type) Incomplete line _
     (reached_unless (Levels b) (is_record type || is_function type) LeftOut line _
@@ -186,7 +190,7 @@ mutual
       (λ m q. members_level rest m.1 b m.0 q))
   members_level (tree ▹ rest) list b c p = reached_refused (Levels b) Operands (line_of tree)
 
-  member_names_level : (parts : Trees) (line : ℕ) (base : PlainType) (list : d.Members) (b c : Context) → Levels b c → Reached (Levels b) (member_names line base parts list c)
+  pub member_names_level : (parts : Trees) (line : ℕ) (base : PlainType) (list : d.Members) (b c : Context) → Levels b c → Reached (Levels b) (member_names line base parts list c)
   member_names_level none line base list b c p = reached_ok (Levels b) (c, list) p
   member_names_level (declarator ▹ rest) line base list b c p =
       reached_then (Levels b) (Levels b) (layers declarator c) (λ l. then (with_layers l.0.tags l.1 base) (λ type. then (member line (name_of declarator) type list l.0) (λ m. member_names line base rest m.1 m.0))) (layers_level declarator b c p)
@@ -221,7 +225,7 @@ mutual
       (λ l h. reached_then (Levels b) (Levels b) (suffix_layers rest l.0) (λ more. Ok (more.0, l.1 ∷ more.1)) (suffixes_level rest b l.0 h)
       (λ more q. reached_ok (Levels b) (more.0, l.1 ∷ more.1) q))
 
-  suffix_levels : (tree : Tree) (b c : Context) → Levels b c → Reached (Levels b) (suffix_layer tree c)
+  pub suffix_levels : (tree : Tree) (b c : Context) → Levels b c → Reached (Levels b) (suffix_layer tree c)
   suffix_levels (Node f.ArraySuffix (At line ▹ Node f.MaybeLength none ▹ none)) b c p = reached_ok (Levels b) (c, ArrayOf line None) p
   suffix_levels (Node f.ArraySuffix (At line ▹ Node f.MaybeLength (e ▹ none) ▹ none)) b c p =
       reached_after (Levels b) (wanted e (typed e (asked c))) (λ x. then (array_length (line_of e) x.1) (λ length. Ok (told x.0 c, ArrayOf line (Some length))))

@@ -1,5 +1,5 @@
 -- What statements do to what fits (C99 6.8).
-use Rattle.std.proofs.Common.{◌≡◌, ◌≤◌, ◌+◌, ◌-◌, ℕ, ℤ, zero, suc, true, false, not, is_some, map, length, List, [], ◌∷◌, ◌++◌, Option, Some, None, Ok, refl, sym, ap, ◌∙◌, subst}
+use Rattle.std.proofs.Common.{◌≡◌, ◌≤◌, ◌+◌, ◌-◌, ℕ, ℤ, zero, suc, true, false, not, is_some, map, length, List, [], ◌∷◌, ◌++◌, Option, Some, None, Ok, refl, sym, ap, ◌∙◌, subst, arith}
 use Rattle.c_types.specs.declared.types.IntType.{IntType}
 use Rattle.c_types.specs.Types as types
 use Rattle.c_types.specs.Types.{PlainType, Void, kind_of}
@@ -106,7 +106,7 @@ return_fits answer line a c l g h = record {
   addressed = refl;
   outside = all_refl (tail c.scopes.inner);
   depth = refl;
-  params = λ k. k;
+  params = λ flat k. k;
   walked = refl;
 }
 
@@ -227,7 +227,7 @@ for_runs answer label t g h f s r = record {
   addressed = r.addressed ∙ step.addressed;
   outside = all_trans (tail t.scopes.inner) (tail g.scopes.inner) (tail h.scopes.inner) step.outside r.outside;
   depth = r.depth ∙ step.depth;
-  params = λ k. r.params (step.params k);
+  params = λ flat k. r.params (step.depth ∙ flat) (step.params flat k);
   walked = r.walked ∙ step.walked;
 }
   where
@@ -240,7 +240,7 @@ case_runs answer line a (Some ty) place v label c z g q =
     let value = wrapped (kind_of ty) v in
     let last : Checked Context = good (with_case place value label c) in
     subst (Runs answer c) (passed (has_case value c) CaseTwice line (with_case place value label c) z (behind_test (not a.labelled) LeftOut line (unless (has_case value c) CaseTwice line last) z q))
-    (record { grew = grew_refl (world c); fine = record { names = g.names; lined = g.lined }; fits = λ k. k; answer = refl; addressed = refl; outside = all_refl (tail c.scopes.inner); depth = refl; params = λ k. k; walked = refl })
+    (record { grew = grew_refl (world c); fine = record { names = g.names; lined = g.lined }; fits = λ k. k; answer = refl; addressed = refl; outside = all_refl (tail c.scopes.inner); depth = refl; params = λ flat k. k; walked = refl })
 
 default_runs : (answer : Option Sort) (line : ℕ) (a : Around) (label : ℕ) (c z : Context) → Fine c → defaulted line a label c ≡ Ok z → Runs answer c z
 default_runs answer line a label c z g q =
@@ -248,7 +248,7 @@ default_runs answer line a label c z g q =
     let r2 : Checked Context = unless (is_some c.running.otherwise) CaseTwice line (good d) in
     let r1 : Checked Context = unless (not a.labelled) LeftOut line r2 in
     subst (Runs answer c) (passed (is_some c.running.otherwise) CaseTwice line d z (behind_test (not a.labelled) LeftOut line r2 z (behind_test (not (is_some a.switched)) StrayBreak line r1 z q)))
-    (record { grew = grew_refl (world c); fine = record { names = g.names; lined = g.lined }; fits = λ k. k; answer = refl; addressed = refl; outside = all_refl (tail c.scopes.inner); depth = refl; params = λ k. k; walked = refl })
+    (record { grew = grew_refl (world c); fine = record { names = g.names; lined = g.lined }; fits = λ k. k; answer = refl; addressed = refl; outside = all_refl (tail c.scopes.inner); depth = refl; params = λ flat k. k; walked = refl })
 
 case_step : (line : ℕ) (a : Around) (o : Option IntType) (place : ℕ) (v : ℤ) (label : ℕ) (u : Taken) (c z : Context) → InStep u c → cased line a o place v label c ≡ Ok z → InStep u z
 case_step line a None place v label u c z s q = never _ _ z q
@@ -331,7 +331,7 @@ module _ (answer : Option Sort) (numbers : List ℕ) where
       let d = came (inner (entered c)) (λ d. good (left d)) z q in
       let r = k d.value d.is in
       ran_to (left_scope t u) c (left d.value) z d.last
-      (ran t (left_scope t u) c (left d.value) s (step_left t u c d.value s.step r.stands.step r.runs.addressed r.runs.fine.names.file r.runs.outside) (runs_left answer c d.value r.runs))
+      (ran t (left_scope t u) c (left d.value) s (step_left t u c d.value s.step r.stands.step r.runs.addressed r.runs.fine.names.file r.runs.outside) (runs_left answer c d.value (omega (arith, s.deep)) r.runs))
 
   leaves_on : (line label : ℕ) (e : Tree) (t : Taken) (c z : Context) → 1 ≤ line → Good numbers t e → Stands_in answer numbers t c → leaves_if_zero line label e c ≡ Ok z → Went_on answer numbers c (taken e t) z
   leaves_on line label e t c z l g s q =

@@ -13,7 +13,7 @@ use Rattle.c_decls.specs.Refusals.{unless}
 use Rattle.c_decls.specs.Typed.{is_scalar}
 use Rattle.elaboration.specs.Context.{Context, local_register}
 use Rattle.elaboration.specs.Conversions.{Memory, write}
-use Rattle.elaboration.specs.Locals.{is_same_again, is_file, is_twice_in, is_twice, declared_as, next_is_memory, with_register, with_memory, counted, with_named, memory_param, register_param, with_param, local_in, with_local}
+use Rattle.elaboration.specs.Locals.{is_same_again, is_file, is_twice_in, is_twice, declared_as, next_is_memory, with_register, with_memory, counted, with_named, memory_param, register_param, function_param, prototype_param, is_prototype, with_param, local_in, with_local}
 use Rattle.elaboration.specs.Addressed as walk
 use Rattle.elaboration.specs.Addressed.{Taken, Known, number_of, with_known}
 use Rattle.core_soundness.specs.Spoken.{is_register}
@@ -221,10 +221,10 @@ local_stepped name type t c deep fresh h = by (next_is_memory type c) refl
     by false e = one_local (Some name) (n.Register type (length c.running.locals)) t c (with_register (Some name) type c) refl refl refl fresh deep (λ r. not_register type c (among c.running.declared c.running.addressed) e) h
 
 pub param_stepped : (name : Option (List ℕ)) (type : PlainType) (t : Taken) (c : Context) → HasScope c.scopes.inner → IsNew name c → Follows t c → Stepped t c (walk.with_local name t) (with_param name type c)
-param_stepped name type t c deep fresh h = by (next_is_memory type c) refl
+param_stepped name type t c deep fresh h = by (is_prototype c.scopes)
   where
-    by : (b : Bool) → next_is_memory type c ≡ b → Stepped t c (walk.with_local name t) (counted (cond b (memory_param name type c) (register_param name type c)))
-    by true e =
+    own : (b : Bool) → next_is_memory type c ≡ b → Stepped t c (walk.with_local name t) (counted (cond b (memory_param name type c) (register_param name type c)))
+    own true e =
         let mem : ℕ = length c.running.mems in
         let d : Context = with_memory (unwrap_or name []) type (with_register name type c) in
         let x : Context = with_named name (n.Object type mem) d in
@@ -233,4 +233,8 @@ param_stepped name type t c deep fresh h = by (next_is_memory type c) refl
         let one = one_local name (n.Object type mem) t c d refl refl refl fresh deep (λ r. cc) h in
         stepped_trans t (walk.with_local name t) (walk.with_local name t) c (counted x) (counted w) one
         (keeps_stepped (walk.with_local name t) (walk.with_local name t) (counted x) (counted w) (refl, refl) (record { more = k.more; declared = ap (λ (j : ℕ). j + 1) k.declared; addressed = k.addressed }) one.follows)
-    by false e = one_local name (n.Register type (length c.running.locals)) t c (with_register name type c) refl refl refl fresh deep (λ r. not_register type c (among c.running.declared c.running.addressed) e) h
+    own false e = one_local name (n.Register type (length c.running.locals)) t c (with_register name type c) refl refl refl fresh deep (λ r. not_register type c (among c.running.declared c.running.addressed) e) h
+
+    by : (b : Bool) → Stepped t c (walk.with_local name t) (counted (cond b (prototype_param name type c) (function_param name type c)))
+    by true = one_local name (n.Object type 0) t c c refl refl refl fresh deep (λ r. cc) h
+    by false = own (next_is_memory type c) refl

@@ -133,59 +133,59 @@ record HasList (z : Context × List Layer) : Type 0 where
 none_fit : (P : PlainNamed → Type 0) → TableFits P []
 none_fit P name v e = cc
 
-list_suffix : (answer : Option Sort) (tree : Tree) (c : Context) (z : Context × Layer) → IsList tree → Fine c → suffix_layer tree c ≡ Ok z → HasList (z.0, z.1 ∷ [])
+list_suffix : (answer : Option Sort) (tree : Tree) (c : Context) (z : Context × Layer) → IsList tree → Fine c → length c.scopes.inner ≡ 0 → suffix_layer tree c ≡ Ok z → HasList (z.0, z.1 ∷ [])
 unfolding suffix_layer
-list_suffix answer (Node f.ArraySuffix parts) c z i g q = absurd i
-list_suffix answer (Node f.FunctionSuffix (At line ▹ Node f.Params parts ▹ t.none)) c z i g q =
+list_suffix answer (Node f.ArraySuffix parts) c z i g flat q = absurd i
+list_suffix answer (Node f.FunctionSuffix (At line ▹ Node f.Params parts ▹ t.none)) c z i g flat q =
     let p = came (params parts (entered c)) (λ p. good (left_params p.0, FunctionOf line p.1)) z q in
-    let r = params_run answer parts (length c.scopes.inner) (entered c) (entered c) refl (runs_refl answer (entered c) (entered_fine c g)) p.value p.is in
+    let r = params_run answer parts (entered c) (entered c) (omega (arith, flat)) (runs_refl answer (entered c) (entered_fine c g)) p.value p.is in
     subst (λ (y : Context × Layer). HasList (y.0, y.1 ∷ [])) (ok_same (left_params p.value.0, FunctionOf line p.value.1) z p.last)
     (record { some = omega arith; params = first_fits (world p.value.0) p.value.0.scopes.inner r.fine.names.inner })
-list_suffix answer tree c z i g q =
+list_suffix answer tree c z i g flat q =
     subst (λ (y : Context × Layer). HasList (y.0, y.1 ∷ [])) (ok_same (record c { params = [] }, FunctionOf (Rattle.c_decls.specs.Expressions.line_of tree) types.none) z q)
     (record { some = omega arith; params = none_fit (InnerFits (world c)) })
 
-suffixes_list : (parts : Trees) (answer : Option Sort) (c : Context) (z : Context × List Layer) → HasLists parts → Fine c → suffix_layers parts c ≡ Ok z → HasList z
+suffixes_list : (parts : Trees) (answer : Option Sort) (c : Context) (z : Context × List Layer) → HasLists parts → Fine c → length c.scopes.inner ≡ 0 → suffix_layers parts c ≡ Ok z → HasList z
 unfolding suffix_layers
-suffixes_list t.none answer c z i g q = absurd i
-suffixes_list (suffix ▹ rest) answer c z (inl i) g q =
+suffixes_list t.none answer c z i g flat q = absurd i
+suffixes_list (suffix ▹ rest) answer c z (inl i) g flat q =
     let l = came (suffix_layer suffix c) (λ l. then (suffix_layers rest l.0) (λ more. good (more.0, l.1 ∷ more.1))) z q in
     let m = came (suffix_layers rest l.value.0) (λ more. good (more.0, l.value.1 ∷ more.1)) z l.last in
-    let one = list_suffix answer suffix c l.value i g l.is in
+    let one = list_suffix answer suffix c l.value i g flat l.is in
     let r1 = suffix_runs answer suffix c c (runs_refl answer c g) l.value l.is in
     let r2 = suffixes_run answer rest l.value.0 l.value.0 (runs_refl answer l.value.0 r1.fine) m.value m.is in
-    subst HasList (ok_same (m.value.0, l.value.1 ∷ m.value.1) z m.last) (record { some = omega (arith, one.some, functions_one l.value.1 m.value.1); params = r2.params one.params })
-suffixes_list (suffix ▹ rest) answer c z (inr i) g q =
+    subst HasList (ok_same (m.value.0, l.value.1 ∷ m.value.1) z m.last) (record { some = omega (arith, one.some, functions_one l.value.1 m.value.1); params = r2.params (r1.depth ∙ flat) one.params })
+suffixes_list (suffix ▹ rest) answer c z (inr i) g flat q =
     let l = came (suffix_layer suffix c) (λ l. then (suffix_layers rest l.0) (λ more. good (more.0, l.1 ∷ more.1))) z q in
     let m = came (suffix_layers rest l.value.0) (λ more. good (more.0, l.value.1 ∷ more.1)) z l.last in
     let r1 = suffix_runs answer suffix c c (runs_refl answer c g) l.value l.is in
-    let one = suffixes_list rest answer l.value.0 m.value i r1.fine m.is in
+    let one = suffixes_list rest answer l.value.0 m.value i r1.fine (r1.depth ∙ flat) m.is in
     subst HasList (ok_same (m.value.0, l.value.1 ∷ m.value.1) z m.last) (record { some = omega (arith, one.some, functions_one l.value.1 m.value.1); params = one.params })
 
 joined_some : (ms ls : List Layer) → 1 ≤ functions ms + functions ls → 1 ≤ functions (reverse ms ++ ls)
 joined_some ms ls h = omega (arith, h, functions_joined (reverse ms) ls, functions_reversed ms)
 
-layers_list : (tree : Tree) (answer : Option Sort) (c : Context) (z : Context × List Layer) → HasParameters tree → Fine c → layers tree c ≡ Ok z → HasList z
+layers_list : (tree : Tree) (answer : Option Sort) (c : Context) (z : Context × List Layer) → HasParameters tree → Fine c → length c.scopes.inner ≡ 0 → layers tree c ≡ Ok z → HasList z
 unfolding layers HasParameters
-layers_list (Node (f.Pointer consts) (At line ▹ declarator ▹ t.none)) answer c z h g q =
+layers_list (Node (f.Pointer consts) (At line ▹ declarator ▹ t.none)) answer c z h g flat q =
     let l = came (layers declarator c) (λ l. good (l.0, Rattle.c_decls.specs.TypeNames.PointerTo line ∷ l.1)) z q in
-    let one = layers_list declarator answer c l.value h g l.is in
+    let one = layers_list declarator answer c l.value h g flat l.is in
     subst HasList (ok_same (l.value.0, Rattle.c_decls.specs.TypeNames.PointerTo line ∷ l.value.1) z l.last) (record { some = one.some; params = one.params })
-layers_list (Node f.Direct (base ▹ Node f.Suffixes suffixes ▹ t.none)) answer c z (inl h) g q =
+layers_list (Node f.Direct (base ▹ Node f.Suffixes suffixes ▹ t.none)) answer c z (inl h) g flat q =
     let l = came (layers base c) (λ l. then (suffix_layers suffixes l.0) (λ s. good (s.0, reverse s.1 ++ l.1))) z q in
     let s = came (suffix_layers suffixes l.value.0) (λ s. good (s.0, reverse s.1 ++ l.value.1)) z l.last in
-    let one = layers_list base answer c l.value h g l.is in
+    let one = layers_list base answer c l.value h g flat l.is in
     let r1 = layers_run answer base c c (runs_refl answer c g) l.value l.is in
     let r2 = suffixes_run answer suffixes l.value.0 l.value.0 (runs_refl answer l.value.0 r1.fine) s.value s.is in
-    subst HasList (ok_same (s.value.0, reverse s.value.1 ++ l.value.1) z s.last) (record { some = joined_some s.value.1 l.value.1 (omega (arith, one.some)); params = r2.params one.params })
-layers_list (Node f.Direct (base ▹ Node f.Suffixes suffixes ▹ t.none)) answer c z (inr h) g q =
+    subst HasList (ok_same (s.value.0, reverse s.value.1 ++ l.value.1) z s.last) (record { some = joined_some s.value.1 l.value.1 (omega (arith, one.some)); params = r2.params (r1.depth ∙ flat) one.params })
+layers_list (Node f.Direct (base ▹ Node f.Suffixes suffixes ▹ t.none)) answer c z (inr h) g flat q =
     let l = came (layers base c) (λ l. then (suffix_layers suffixes l.0) (λ s. good (s.0, reverse s.1 ++ l.1))) z q in
     let s = came (suffix_layers suffixes l.value.0) (λ s. good (s.0, reverse s.1 ++ l.value.1)) z l.last in
     let r1 = layers_run answer base c c (runs_refl answer c g) l.value l.is in
-    let one = suffixes_list suffixes answer l.value.0 s.value h r1.fine s.is in
+    let one = suffixes_list suffixes answer l.value.0 s.value h r1.fine (r1.depth ∙ flat) s.is in
     subst HasList (ok_same (s.value.0, reverse s.value.1 ++ l.value.1) z s.last) (record { some = joined_some s.value.1 l.value.1 (omega (arith, one.some)); params = one.params })
-layers_list (Node f.Parens (At line ▹ declarator ▹ t.none)) answer c z h g q = layers_list declarator answer c z h g q
-layers_list tree answer c z h g q = absurd h
+layers_list (Node f.Parens (At line ▹ declarator ▹ t.none)) answer c z h g flat q = layers_list declarator answer c z h g flat q
+layers_list tree answer c z h g flat q = absurd h
 
 -- a function's type is that of its name
 
@@ -288,7 +288,7 @@ defined_between line name answer ps (Node f.Body (Node f.Items parts ▹ At end 
     let begin = body_begun index (Function answer ps) d.value in
     let e = came (items parts around_body begin) (λ e. body_ended line name (Function answer ps) end e) z a2 in
     let all = runs_trans (result_sort answer) b l d.value r rd in
-    let st : Stands_in (result_sort answer) numbers start begin = record { fine = record { names = record { file = all.fine.names.file; inner = (rd.params params, tt) }; lined = all.fine.lined }; inside = 0; deep = refl; sorted = refl; step = body_step given line index name (Function answer ps) l d.value begins all.fine.names.file d.is; same = all.addressed ∙ addressed } in
+    let st : Stands_in (result_sort answer) numbers start begin = record { fine = record { names = record { file = all.fine.names.file; inner = (rd.params flat params, tt) }; lined = all.fine.lined }; inside = 0; deep = refl; sorted = refl; step = body_step given line index name (Function answer ps) l d.value begins all.fine.names.file d.is; same = all.addressed ∙ addressed } in
     let re = (items_run (result_sort answer) numbers parts start around_body begin e.value o.1 st e.is).runs in
     let prefix = locals_prefix l.running.locals e.value.running.locals (λ k reg x. re.grew.locals k reg (rd.grew.locals k reg x)) in
     let sl : Statics b e.value = statics_trans b d.value e.value (statics_of b d.value all.grew) (record { variables = re.grew.variables; literals = re.grew.literals; calls = re.grew.calls; file = re.grew.file }) in
@@ -325,13 +325,13 @@ definition_between line words declarator tree c z one p form_words form_name for
     let l = came (layers declarator base.value.0) (λ l. then (with_layers l.0.tags l.1 base.value.1) (λ type. named_definition line (name_of declarator) type tree l.0)) z base.last in
     let type = came (with_layers l.value.0.tags l.value.1 base.value.1) (λ type. named_definition line (name_of declarator) type tree l.value.0) z l.last in
     let first : (answer : Option Sort) → Runs answer b base.value.0 = λ answer. specs_run answer words b b (runs_refl answer b g) base.value base.is in
-    let added = layers_added declarator base.value.0 l.value l.is in
+    let added = layers_added declarator base.value.0 l.value ((first None).depth ∙ h.flat) l.is in
     named_between line (name_of declarator) type.value base.value.1 tree (params_of declarator) numbers c b l.value z h (record { variables = omega arith; literals = omega arith; calls = λ k x e. e; file = λ name t j e. e }) refl refl
     (record { inside = λ k i. i; written = p; formed = form_tree })
     (λ single. (layers_start declarator base.value.0 l.value form_name.0.0 form_name.1.0 listed (ap (λ (x : ℕ × List ℕ × Table). x.0) (specs_counts words b base.value base.is)) ((first None).depth ∙ h.flat) (first None).fine.names.file l.is).begun single)
     (λ answer. layers_run answer declarator b base.value.0 (first answer) l.value l.is) refl h.flat
-    (layers_list declarator None base.value.0 l.value has (first None).fine l.is)
-    (λ single. added.adds.added ∙ ap (λ (ss : List Sort). ss ++ added.sorts_of) (specs_sorts words b base.value base.is) ∙ added.counts.one single) type.is type.last
+    (layers_list declarator None base.value.0 l.value has (first None).fine ((first None).depth ∙ h.flat) l.is)
+    (λ single. added.adds.added ∙ ap (λ (ss : List Sort). ss ++ added.sorts_of) (specs_sorts words b base.value h.flat base.is) ∙ added.counts.one single) type.is type.last
 
 external_between : (tree : Tree) (c z : Context) → Written tree → Formed tree → HasParams tree → IsDefinition tree → Between c → external tree c ≡ Ok z → Between z
 unfolding external Written AllWritten Formed AllFormed

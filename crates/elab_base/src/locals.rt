@@ -8,7 +8,7 @@ ghost use Rattle.c_decls.specs.Named.{plain_named};
 ghost use Rattle.c_decls.specs.Refusals.{Meets};
 ghost use Rattle.c_decls.specs.ScopeList.{named_in, innermost};
 ghost use Rattle.elaboration.specs.Context.{local_register};
-ghost use Rattle.elaboration.specs.Locals.{is_pointer, declared_as, next_is_memory, with_register, with_memory, counted, with_named, memory_param, register_param, with_param, local_in, with_local};
+ghost use Rattle.elaboration.specs.Locals.{is_pointer, declared_as, next_is_memory, with_register, with_memory, counted, with_named, memory_param, register_param, function_param, prototype_param, with_param, local_in, with_local};
 ghost use Rattle.elab_base.specs.PlainFound.{plain_spot};
 ghost use Rattle.elab_base.specs.MaybeNames.{IsFree};
 
@@ -156,15 +156,35 @@ impl Elaborator {
         self.with_named(name, Named::Register { ty, index })
     }
 
-    /// Adds a parameter, which has a register.
+    /// Adds a parameter of the running function, which has a register.
+    fn function_param(&mut self, name: Option<&[u8]>, ty: CType) -> Result<(), NoMemory>
+        requires { IsFree (option_copied name) self.old.scopes }
+        ensures { IfOk result (λ _. self.new ≡ function_param (option_copied name.entry) (plain ty) self.old) }
+    {
+        if self.next_is_memory(&ty) {
+            self.memory_param(name, ty)
+        } else {
+            self.register_param(name, ty)
+        }
+    }
+
+    /// Adds a parameter of a prototype: its name stands for its type alone (C99 6.7.5.3).
+    fn prototype_param(&mut self, name: Option<&[u8]>, ty: CType) -> Result<(), NoMemory>
+        requires { IsFree (option_copied name) self.old.scopes }
+        ensures { IfOk result (λ _. self.new ≡ prototype_param (option_copied name.entry) (plain ty) self.old) }
+    {
+        self.with_named(name, Named::Object { ty, index: 0 })
+    }
+
+    /// Adds a parameter. A list inside another scope is that of a prototype (C99 6.2.1).
     pub fn with_param(&mut self, name: Option<&[u8]>, ty: CType) -> Result<(), NoMemory>
         requires { IsFree (option_copied name) self.old.scopes }
         ensures { IfOk result (λ _. self.new ≡ with_param (option_copied name.entry) (plain ty) self.old) }
     {
-        if self.next_is_memory(&ty) {
-            self.memory_param(name, ty)?;
+        if self.scopes.is_nested() {
+            self.prototype_param(name, ty)?;
         } else {
-            self.register_param(name, ty)?;
+            self.function_param(name, ty)?;
         }
         self.running.count_declared()
     }

@@ -76,6 +76,10 @@ statement line e = Node f.Expr (At line ▹ e ▹ none)
 abbrev return : ℕ → Tree → Tree
 return line e = Node f.Return (At line ▹ Node f.MaybeExpr (e ▹ none) ▹ none)
 
+-- `int DECLARATOR` in a parameter list
+abbrev param : ℕ → Tree → Tree
+param line declarator = Node f.Param (At line ▹ int_specs line ▹ declarator ▹ none)
+
 -- `int main(void) { .. }` from line 1 to a line
 abbrev main : ℕ → Trees → Trees
 main end parts =
@@ -139,6 +143,13 @@ undefined : answer (Node f.Declaration (At 1 ▹ int_specs 1 ▹ Node f.Names (N
     ≡ refused Undeclared 2
 unfolding int_wrap base_of digits_value suffix_of digit_value is_digit is_octal_digit is_hexadecimal_digit same pieces_of x.typed x.values x.typename x.layers x.suffix_layers x.suffix_layer x.param_types x.param_type sc.leads_to_name sc.name_of sc.name_among sc.has_typedef sc.is_scope sc.suffix_params sc.params_of sc.params_among g.shape o.unary_sign o.binary_sign o.assign_sign o.record_word o.operand_level v.code_line v.read_spot v.convert_integer v.tested v.write p.working p.operator_of p.before_integer p.move_pointer p.fixed_sum p.offset_of c.element_layout c.lib_name c.call_built_in ra.reallocates ra.any_reallocates ex.found ex.arguments ad.left ad.plain_name ad.taken ad.all_taken d.specs d.words_type d.tag_type d.members d.member_names d.enumerators d.layers d.suffix_layers d.suffix_layer d.params i.parts_of i.surplus i.all_surplus i.initialize i.initialize_parts n.entries n.declaration t.statement t.items q.external q.externals z.numbered
 undefined = refl
+
+-- the parameters of a prototype make no register and no memory local, and an address that is taken among them makes none of
+-- what is declared behind: `int main(void){typedef int f(int a, int b[sizeof &a]);int x=2;return x;}`
+prototype : answer (main 1 (Node f.Local (At 1 ▹ Node f.Specs (At 1 ▹ Leaf (w.Key k.Typedef) ▹ Leaf (w.Key k.Int) ▹ none) ▹ Node f.Names (Node f.Entry (Node f.Declared (named (codes "f") (Node f.FunctionSuffix (At 1 ▹ Node f.Params (param 1 (named (codes "a") none) ▹ param 1 (named (codes "b") (Node f.ArraySuffix (At 1 ▹ Node f.MaybeLength (Node f.SizeofExpr (At 1 ▹ Node (f.Unary u.Address) (At 1 ▹ name 1 (codes "a") ▹ none) ▹ none) ▹ none) ▹ none) ▹ none)) ▹ none) ▹ none) ▹ none) ▹ none) ▹ Node f.MaybeInit none ▹ none) ▹ none) ▹ none) ▹ local 1 (named (codes "x") none) (init 1 (number 1 (codes "2"))) ▹ return 1 (name 1 (codes "x")) ▹ none))
+    ≡ Ok (core (whole (Some (codes "x")) ∷ whole None ∷ []) (at 1 (Set 0 (atom.Int (pos 2))) ∷ at 1 (Set 1 (atom.Reg 0)) ∷ at 1 (Return (Some (atom.Reg 1))) ∷ at 1 (Return (Some (atom.Int (pos 0)))) ∷ []))
+unfolding int_wrap base_of digits_value suffix_of digit_value is_digit is_octal_digit is_hexadecimal_digit same pieces_of x.typed x.values x.typename x.layers x.suffix_layers x.suffix_layer x.param_types x.param_type sc.leads_to_name sc.name_of sc.name_among sc.has_typedef sc.is_scope sc.suffix_params sc.params_of sc.params_among g.shape o.unary_sign o.binary_sign o.assign_sign o.record_word o.operand_level v.code_line v.read_spot v.convert_integer v.tested v.write p.working p.operator_of p.before_integer p.move_pointer p.fixed_sum p.offset_of c.element_layout c.lib_name c.call_built_in ra.reallocates ra.any_reallocates ex.found ex.arguments ad.left ad.plain_name ad.taken ad.all_taken d.specs d.words_type d.tag_type d.members d.member_names d.enumerators d.layers d.suffix_layers d.suffix_layer d.params i.parts_of i.surplus i.all_surplus i.initialize i.initialize_parts n.entries n.declaration t.statement t.items q.external q.externals z.numbered
+prototype = refl
 
 -- what statics hold first
 

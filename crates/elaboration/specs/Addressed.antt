@@ -1,5 +1,5 @@
 -- Which parameters and locals of a function are taken the address of, by `&` before their name, also inside `sizeof`. They
--- are numbered in order of declaration.
+-- are numbered in order of declaration, with the parameters of prototypes among them.
 use Rattle.std.specs.Prelude.{ℕ, ◌+◌, Bool, true, false, ◌||◌, cond, bytes_eq, List, [], ◌∷◌, Option, Some, None}
 use Rattle.c_tree.specs.declared.operator.UnaryOp.TheVariants as u
 use Rattle.c_tree.specs.Words as w

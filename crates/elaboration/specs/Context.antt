@@ -52,8 +52,9 @@ abbrev pub no_code : Code
 no_code = record { pieces = []; labels = 0; integers = 0; pointers = 0; most_integers = 0; most_pointers = 0 }
 
 -- the running function: its line; the type that it answers; which of its parameters and locals, numbered in order of
--- declaration, are taken the address of, and how many are declared so far; its registers without temporaries; its memory
--- locals; the formats of its calls of `printf`; and the cases of the running switch, each with its label, and its default
+-- declaration with the parameters of prototypes among them, are taken the address of, and how many are declared so far; its
+-- registers without temporaries; its memory locals; the formats of its calls of `printf`; and the cases of the running
+-- switch, each with its label, and its default
 pub record Running : Type 0 where
   pub line : ℕ
   pub answer : PlainType

@@ -1,5 +1,5 @@
 -- Names that are declared, and the registers and memory of parameters and locals (C99 6.2.4, 6.7).
-use Rattle.std.specs.Prelude.{ℕ, ◌+◌, Bool, true, false, not, ◌&&◌, ◌||◌, nat_eq, cond, length, List, [], ◌∷◌, ◌++◌, Option, Some, None, unwrap_or, Ok}
+use Rattle.std.specs.Prelude.{ℕ, ◌+◌, Bool, true, false, not, ◌&&◌, ◌||◌, nat_eq, nat_lt, cond, length, List, [], ◌∷◌, ◌++◌, Option, Some, None, unwrap_or, Ok}
 use Rattle.std.specs.List.{list_any}
 use Rattle.c_types.specs.Types.{PlainType, Pointer}
 use Rattle.c_types.specs.Layouts.{no_layout}
@@ -81,10 +81,22 @@ abbrev pub register_param : Option (List ℕ) → PlainType → Context → Cont
 register_param name type c =
     with_named name (n.Register type (length c.running.locals)) (with_register name type c)
 
--- with one parameter more; each has a register
+-- a parameter of the running function: each has a register
+abbrev pub function_param : Option (List ℕ) → PlainType → Context → Context
+function_param name type c = cond (next_is_memory type c) (memory_param name type c) (register_param name type c)
+
+-- a parameter of a prototype is no object of the running function: its name stands for its type alone (C99 6.7.5.3)
+abbrev pub prototype_param : Option (List ℕ) → PlainType → Context → Context
+prototype_param name type c = with_named name (n.Object type 0) c
+
+-- whether a parameter list stands inside another scope, and so is that of a prototype (C99 6.2.1)
+abbrev pub is_prototype : ScopeList → Bool
+is_prototype scopes = nat_lt 1 (length scopes.inner)
+
+-- with one parameter more
 abbrev pub with_param : Option (List ℕ) → PlainType → Context → Context
 with_param name type c =
-    counted (cond (next_is_memory type c) (memory_param name type c) (register_param name type c))
+    counted (cond (is_prototype c.scopes) (prototype_param name type c) (function_param name type c))
 
 -- with one local more, and where it is
 abbrev pub local_in : Bool → List ℕ → PlainType → Context → Context × Spot

@@ -264,6 +264,22 @@ fn stacks(rt: HostRuntime) -> Result<(), Fail> {
     Ok(())
 }
 
+/// A prototype in a body costs no stack: the call of main costs 16 bytes.
+#[test]
+fn prototypes(rt: HostRuntime) -> Result<(), Fail> {
+    let alloc = rt.alloc();
+    let text = b"int main(void){typedef int f(int a,int b);return 7;}";
+    let said = b"a.c:1: out of stack\n  int main(void){typedef int f(int a,int b);return 7;}\n";
+    let rows: [(&str, &[u8], u8); 2] = [("15", said, 130), ("16", b"", 7)];
+    for (stack, said, status) in rows {
+        let seen = answer(alloc, &["run", "a.c", "--stack", stack], text, b"", 9)?;
+        assert_eq!(rt; seen.status, status);
+        assert_eq!(rt; seen.out.bytes(), b"".as_slice());
+        assert_eq!(rt; seen.err.bytes(), said);
+    }
+    Ok(())
+}
+
 /// Programs with an object at file scope, a pointer, an array, an address, a string, a free, and a delay are not built yet.
 #[test]
 fn programs_that_are_not_built(rt: HostRuntime) -> Result<(), Fail> {

@@ -26,11 +26,12 @@ fn answer(alloc: Global, command: &str, text: &[u8]) -> Result<(MemSink, MemSink
     Ok((out, err, status))
 }
 
-/// Layouts of structs and unions, and the functions of a core.
+/// Layouts of structs and unions, and the functions of a core. The parameters of a prototype make nothing, and an address
+/// that is taken among them is taken.
 #[test]
 fn lists(rt: HostRuntime) -> Result<(), Fail> {
     let alloc = rt.alloc();
-    let rows: [(&str, &[u8], &[u8]); 4] = [
+    let rows: [(&str, &[u8], &[u8]); 6] = [
         (
             "layout",
             b"struct s { char c; char *p; short n; };\nunion u { char *p; int *q; };\nstruct w { char c; long long v; };\nint main(void){return 0;}",
@@ -46,6 +47,16 @@ fn lists(rt: HostRuntime) -> Result<(), Fail> {
             "list",
             b"int main(void){int x=3;while(x)x=x-1;return x;}",
             b"func main regs 3 mems 0\nreg 0 int x\nreg 1 int -\nreg 2 int -\n0 1 set r0 3\n1 1 set r1 r0\n2 1 zero r1 7\n3 1 set r1 r0\n4 1 bin - i32 r2 r1 1\n5 1 set r0 r2\n6 1 loop 1\n7 1 set r1 r0\n8 1 return r1\n9 1 return 0\n",
+        ),
+        (
+            "list",
+            b"int main(void){typedef int f(int a,int b[sizeof &a]);int x=2;return x;}",
+            b"func main regs 2 mems 0\nreg 0 int x\nreg 1 int -\n0 1 set r0 2\n1 1 set r1 r0\n2 1 return r1\n3 1 return 0\n",
+        ),
+        (
+            "list",
+            b"int f(int b);int f(int a){typedef int g(int b[sizeof &a],int a);return a;}int main(void){return f(1);}",
+            b"func f regs 2 mems 1\nreg 0 int a\nreg 1 int -\nmem 0 a size 4\n0 1 store i32 m0 r0\n1 1 load i32 r1 m0\n2 1 return r1\n3 1 return 0\nfunc main regs 1 mems 0\nreg 0 int -\n0 1 call f r0 1\n1 1 return r0\n2 1 return 0\n",
         ),
     ];
     for (command, text, written) in rows {

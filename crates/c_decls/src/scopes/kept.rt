@@ -1,7 +1,7 @@
 //! Scopes inside the file scope: that of a parameter list, which is closed behind the list and stands again for the body
 //! (C99 6.2.1), and what is declared in any of them.
 
-ghost use Rattle.std.specs.Prelude.{◌≡◌, ◌↔◌, ◌∷◌, [], IfOk, IsTrue, is_some};
+ghost use Rattle.std.specs.Prelude.{◌≡◌, ◌↔◌, ◌∷◌, [], IfOk, IsTrue, is_some, length, nat_lt};
 ghost use Rattle.c_decls.specs.ScopeList.{first_or, found_from, left};
 
 use crate::scope::Scope;
@@ -41,6 +41,13 @@ impl Scopes {
         ensures { IsTrue result ↔ (self.now.inner ≡ []) }
     {
         self.inner.is_empty()
+    }
+
+    /// Whether the innermost scope stands inside another one than the file scope.
+    pub fn is_nested(&self) -> bool
+        ensures { result ≡ nat_lt 1 (length self.now.inner) }
+    {
+        self.inner.len() > 1
     }
 
     /// Whether a scope inside the file scope has a name.
