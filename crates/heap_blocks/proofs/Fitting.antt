@@ -15,7 +15,7 @@ use Rattle.heap_blocks.proofs.Marking.{IsOut, free_from_out, out_from_free}
 abbrev pub IsClear : ℕ → ℕ → Block → Type 0
 IsClear place n b = (place + n ≤ b.place) ⊎ (b.place + b.length ≤ place)
 
-abbrev clears : ℕ → ℕ → Block → Bool
+abbrev pub clears : ℕ → ℕ → Block → Bool
 clears place n b = nat_le (place + n) b.place || nat_le (b.place + b.length) place
 
 clears_true : (place n : ℕ) (b : Block) → IsClear place n b → clears place n b ≡ true
@@ -26,12 +26,12 @@ clears_only : (place n : ℕ) (b : Block) → clears place n b ≡ true → IsCl
 clears_only place n b h =
     ⊎_elim (λ k. inl (leb-true (place + n) b.place k)) (λ k. inr (leb-true (b.place + b.length) place k)) (or_cases (nat_le (place + n) b.place) (nat_le (b.place + b.length) place) h)
 
-all_clear : (place n : ℕ) (held : List Block) → All (IsClear place n) held → list_all (clears place n) held ≡ true
+pub all_clear : (place n : ℕ) (held : List Block) → All (IsClear place n) held → list_all (clears place n) held ≡ true
 all_clear place n [] h = refl
 all_clear place n (b ∷ held) h =
     and_from (clears place n b) (list_all (clears place n) held) (clears_true place n b (All-head (IsClear place n) b held h)) (all_clear place n held (All-tail (IsClear place n) b held h))
 
-clear_all : (place n : ℕ) (held : List Block) → list_all (clears place n) held ≡ true → All (IsClear place n) held
+pub clear_all : (place n : ℕ) (held : List Block) → list_all (clears place n) held ≡ true → All (IsClear place n) held
 clear_all place n [] h = All-nil (IsClear place n)
 clear_all place n (b ∷ held) h =
     let both = and_parts (clears place n b) (list_all (clears place n) held) h in
@@ -55,6 +55,27 @@ out_from_clear : (from count k : ℕ) (b : Block) → IsClear (from * 16) (count
 out_from_clear from count k b (inl h) low high = inl (omega arith)
 out_from_clear from count k b (inr h) low high = inr (omega arith)
 
+-- the lowest place that is free
+pub lowest_at : (held : List Block) (len n from start more gap : ℕ) → from ≡ start + gap → gap < more → is_free held len n (from * 16) ≡ true → ((k : ℕ) → start ≤ k → k < from → is_free held len n (k * 16) ≡ false)
+    → lowest_free held len n (start * 16) more ≡ Some (from * 16)
+lowest_at held len n from start zero gap is below free none = absurd (omega arith)
+lowest_at held len n from start (suc more) zero is below free none =
+    let here : start ≡ from = omega arith in
+    cond-true (is_free held len n (start * 16)) (Some (start * 16)) (lowest_free held len n (start * 16 + 16) more)
+    (subst (λ k. is_free held len n (k * 16) ≡ true) (sym here) free) ∙ ap (λ k. Some (k * 16)) here
+lowest_at held len n from start (suc more) (suc gap) is below free none =
+    let next : start * 16 + 16 ≡ (start + 1) * 16 = omega arith in
+    cond-false (is_free held len n (start * 16)) (Some (start * 16)) (lowest_free held len n (start * 16 + 16) more) (none start (omega arith) (omega arith))
+    ∙ ap (λ k. lowest_free held len n k more) next
+    ∙ lowest_at held len n from (start + 1) more gap (omega arith) (omega arith) free (λ k low high. none k (omega arith) high)
+
+pub lowest_none : (held : List Block) (len n start more : ℕ) → ((k : ℕ) → is_free held len n (k * 16) ≡ false) → lowest_free held len n (start * 16) more ≡ None
+lowest_none held len n start zero none = refl
+lowest_none held len n start (suc more) none =
+    let next : start * 16 + 16 ≡ (start + 1) * 16 = omega arith in
+    cond-false (is_free held len n (start * 16)) (Some (start * 16)) (lowest_free held len n (start * 16 + 16) more) (none start)
+    ∙ ap (λ k. lowest_free held len n k more) next ∙ lowest_none held len n (start + 1) more none
+
 module _ (heap : HeapModel) (held : List Block) (shape : IsHeap heap.base heap.len heap.marks) (holds : Holds heap held) where
   -- a free run is where a block of its length is free
   pub clear_run : (from count : ℕ) → 0 < count → IsFreeRun heap.marks from count → All (IsClear (from * 16) (count * 16)) held
@@ -62,7 +83,7 @@ module _ (heap : HeapModel) (held : List Block) (shape : IsHeap heap.base heap.l
       λ i d below. clear_from_out heap.len from count (get_or held i d) (holds.blocks i d below)
       (λ k low high. let marked = holds.marks k (omega (arith, run.inside)) in
       let free : mark_of held (k * 16) ≡ Free = same_Some (mark_of held (k * 16)) Free (sym marked ∙ run.free k low high) in
-      out_from_free heap.len held (k * 16) holds.blocks free i d below)
+      out_from_free held (k * 16) free i d below)
       some
 
   pub run_is_free : (from count : ℕ) → 0 < count → IsFreeRun heap.marks from count → is_free held heap.len (count * 16) (from * 16) ≡ true
@@ -79,29 +100,8 @@ module _ (heap : HeapModel) (held : List Block) (shape : IsHeap heap.base heap.l
       let inside : from + count ≤ length heap.marks = omega (arith, shape.long) in
       record {
         inside = inside;
-        free = λ k low high. holds.marks k (omega arith) ∙ ap Some (free_from_out heap.len held (k * 16) holds.blocks (λ i d below. out_from_clear from count k (get_or held i d) (clear i d below) low high));
+        free = λ k low high. holds.marks k (omega arith) ∙ ap Some (free_from_out held (k * 16) (λ i d below. out_from_clear from count k (get_or held i d) (clear i d below) low high));
       }
-
-  -- the lowest place that is free
-  lowest_at : (count from start more gap : ℕ) → from ≡ start + gap → gap < more → is_free held heap.len (count * 16) (from * 16) ≡ true → ((k : ℕ) → start ≤ k → k < from → is_free held heap.len (count * 16) (k * 16) ≡ false)
-      → lowest_free held heap.len (count * 16) (start * 16) more ≡ Some (from * 16)
-  lowest_at count from start zero gap is below free none = absurd (omega arith)
-  lowest_at count from start (suc more) zero is below free none =
-      let here : start ≡ from = omega arith in
-      cond-true (is_free held heap.len (count * 16) (start * 16)) (Some (start * 16)) (lowest_free held heap.len (count * 16) (start * 16 + 16) more)
-      (subst (λ n. is_free held heap.len (count * 16) (n * 16) ≡ true) (sym here) free) ∙ ap (λ n. Some (n * 16)) here
-  lowest_at count from start (suc more) (suc gap) is below free none =
-      let next : start * 16 + 16 ≡ (start + 1) * 16 = omega arith in
-      cond-false (is_free held heap.len (count * 16) (start * 16)) (Some (start * 16)) (lowest_free held heap.len (count * 16) (start * 16 + 16) more) (none start (omega arith) (omega arith))
-      ∙ ap (λ n. lowest_free held heap.len (count * 16) n more) next
-      ∙ lowest_at count from (start + 1) more gap (omega arith) (omega arith) free (λ k low high. none k (omega arith) high)
-
-  lowest_none : (count start more : ℕ) → ((k : ℕ) → is_free held heap.len (count * 16) (k * 16) ≡ false) → lowest_free held heap.len (count * 16) (start * 16) more ≡ None
-  lowest_none count start zero none = refl
-  lowest_none count start (suc more) none =
-      let next : start * 16 + 16 ≡ (start + 1) * 16 = omega arith in
-      cond-false (is_free held heap.len (count * 16) (start * 16)) (Some (start * 16)) (lowest_free held heap.len (count * 16) (start * 16 + 16) more) (none start)
-      ∙ ap (λ n. lowest_free held heap.len (count * 16) n more) next ∙ lowest_none count (start + 1) more none
 
   not_free : (from count : ℕ) → ¬ IsFreeRun heap.marks from count → is_free held heap.len (count * 16) (from * 16) ≡ false
   not_free from count none =
@@ -115,7 +115,7 @@ module _ (heap : HeapModel) (held : List Block) (shape : IsHeap heap.base heap.l
       let zero_is : 0 ≡ 0 * 16 = omega arith in
       ap (λ n. first_fit held heap.len n) length_is
       ∙ ap (λ n. lowest_free held heap.len (count * 16) n (heap.len / 16 + 1)) zero_is
-      ∙ lowest_at count from 0 (heap.len / 16 + 1) from (omega arith) (omega (arith, first.run.inside, shape.long)) (run_is_free from count some first.run) (λ k low high. not_free k count (first.first k high))
+      ∙ lowest_at held heap.len (count * 16) from 0 (heap.len / 16 + 1) from (omega arith) (omega (arith, first.run.inside, shape.long)) (run_is_free from count some first.run) (λ k low high. not_free k count (first.first k high))
 
   pub none_is_fit : (size : ℕ) → HasNoRun heap.marks (size / 16 + 3) → fit_of heap held size ≡ None
   none_is_fit size none =
@@ -124,4 +124,4 @@ module _ (heap : HeapModel) (held : List Block) (shape : IsHeap heap.base heap.l
       let zero_is : 0 ≡ 0 * 16 = omega arith in
       ap (λ n. first_fit held heap.len n) length_is
       ∙ ap (λ n. lowest_free held heap.len (count * 16) n (heap.len / 16 + 1)) zero_is
-      ∙ lowest_none count 0 (heap.len / 16 + 1) (λ k. not_free k count (none k))
+      ∙ lowest_none held heap.len (count * 16) 0 (heap.len / 16 + 1) (λ k. not_free k count (none k))

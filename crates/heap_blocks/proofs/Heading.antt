@@ -1,5 +1,5 @@
 -- The header that seven writes leave.
-use Rattle.std.proofs.Common.{◌≡◌, ◌≤◌, ◌<◌, ◌+◌, ◌-◌, ◌^◌, ℕ, List, length, sym, ap, ◌∙◌, subst, arith}
+use Rattle.std.proofs.Common.{◌≡◌, ◌≤◌, ◌<◌, ◌+◌, ◌-◌, ◌^◌, ◌⊎◌, inl, inr, ℕ, List, length, sym, ap, ◌∙◌, subst, arith}
 use Rattle.hs_base.specs.Bytes.{word, put_word}
 use Rattle.hs_base.proofs.Words.{word_same, length-put_word}
 use Rattle.heap_blocks.specs.declared.headers.Header.{Header}
@@ -52,15 +52,16 @@ header_written b0 b1 b2 b3 b4 b5 b6 b7 block h inside s1 s2 s3 s4 s5 s6 s7 e1 e2
     )
 
 -- a header is the same where its bytes are
-pub header_kept : (after before : List ℕ) (block at n : ℕ) → ChangesOnly before after at n → block + 32 ≤ at → header_at after block ≡ header_at before block
-header_kept after before block at n changed low =
-    let same = λ (from k : ℕ) (h : from + k ≤ block + 32). word_from_part after before from k (changed.below from k (omega arith)) in
+pub header_kept : (after before : List ℕ) (block at n : ℕ) → ChangesOnly before after at n → (block + 32 ≤ at) ⊎ (at + n ≤ block) → header_at after block ≡ header_at before block
+header_kept after before block at n changed beside =
+    let same : (from k : ℕ) → block ≤ from → from + k ≤ block + 32 → word after from k ≡ word before from k =
+    λ from k low high. word_from_part after before from k (elim beside [ inl h ↦ changed.below from k (omega arith) | inr h ↦ changed.above from k (omega arith) ]) in
     λ i. record {
-      birth = same block 8 (omega arith) i;
-      size = same (block + 8) 4 (omega arith) i;
-      layout = same (block + 12) 4 (omega arith) i;
-      line = same (block + 16) 4 (omega arith) i;
-      state = same (block + 20) 4 (omega arith) i;
-      freed = same (block + 24) 4 (omega arith) i;
-      next = same (block + 28) 4 (omega arith) i;
+      birth = same block 8 (omega arith) (omega arith) i;
+      size = same (block + 8) 4 (omega arith) (omega arith) i;
+      layout = same (block + 12) 4 (omega arith) (omega arith) i;
+      line = same (block + 16) 4 (omega arith) (omega arith) i;
+      state = same (block + 20) 4 (omega arith) (omega arith) i;
+      freed = same (block + 24) 4 (omega arith) (omega arith) i;
+      next = same (block + 28) 4 (omega arith) (omega arith) i;
     }

@@ -1,6 +1,6 @@
 -- What a heap holds after a block is placed or given back, and which block holds an address.
 use Rattle.std.proofs.Common.{◌≡◌, ◌≤◌, ◌<◌, ◌+◌, ◌*◌, ◌/◌, inl, inr, ℕ, List, [], ◌∷◌, ◌++◌, length, get_or, Some, sym, ap, ◌∙◌, arith}
-use Rattle.std.specs.Prelude.{slice_get}
+use Rattle.std.specs.Prelude.{All, slice_get}
 use Rattle.std.proofs.lemmas.Bool.{cases_lt}
 use Rattle.std.proofs.lemmas.List.Elements.{All-push}
 use Rattle.std.proofs.lemmas.List.Quantifiers.{all_pairs_push}
@@ -8,12 +8,13 @@ use Rattle.hs_base.specs.Bytes.{word}
 use Rattle.hs_base.specs.Place.{Block, block_size}
 use Rattle.heap_blocks.specs.declared.headers.Header.{Header}
 use Rattle.heap_blocks.specs.declared.marks.Mark.{Mark}
+use Rattle.heap_blocks.specs.declared.marks.Mark.TheVariants.{Of}
 use Rattle.heap_blocks.specs.Bytes.{ChangesOnly}
 use Rattle.heap_blocks.specs.Heads.{header_at}
-use Rattle.heap_blocks.specs.Runs.{IsFreeRun, IsMarked}
+use Rattle.heap_blocks.specs.Runs.{IsFreeRun, Filled}
 use Rattle.heap_blocks.specs.Held.{HeapModel, Holds, IsBlock, AreApart, IsHeap, HasHeader, HasHeaders, mark_of}
 use Rattle.heap_blocks.proofs.Pieces.{word_from_part}
-use Rattle.heap_blocks.proofs.Marking.{IsOut, mark_start, mark_inside, mark_more, mark_new}
+use Rattle.heap_blocks.proofs.Marking.{IsOut, mark_more, mark_new}
 use Rattle.heap_blocks.proofs.Fitting.{IsClear, clear_run}
 
 abbrev pub block_at : ℕ → ℕ → ℕ → Block
@@ -37,33 +38,30 @@ apart_from_clear from count birth b (inl h) = inr h
 apart_from_clear from count birth b (inr h) = inl h
 
 module _ (heap : HeapModel) (held : List Block) (shape : IsHeap heap.base heap.len heap.marks) (holds : Holds heap held) where
-  placed_mark : (after : List Mark) (birth from count n : ℕ) → 3 ≤ count → IsFreeRun heap.marks from count → IsMarked heap.marks after from count → n < length heap.marks
+  placed_mark : (after : List Mark) (birth from count n : ℕ) → 3 ≤ count → IsFreeRun heap.marks from count → Filled heap.marks after from count (Of from) → n < length heap.marks
       → slice_get after n ≡ Some (mark_of (held ++ block_at birth from count ∷ []) (n * 16))
-  placed_mark after birth from count n room run marked below =
+  placed_mark after birth from count n room run filled below =
       let b = block_at birth from count in
-      let block : IsBlock heap.len b = new_block heap.len birth from count (length heap.marks) room run.inside shape.long in
       let clear = clear_run heap held shape holds from count (omega arith) run in
-      let new = λ (h : from ≤ n) (k : n < from + count). mark_new heap.len held b (n * 16) holds.blocks (λ i d l. elim (clear i d l) [ inl q ↦ inl (omega arith) | inr q ↦ inr (omega arith) ]) in
-      let old = λ (out : IsOut (n * 16) b) (same : slice_get after n ≡ slice_get heap.marks n). same ∙ holds.marks n below ∙ ap Some (sym (mark_more heap.len held b (n * 16) block out)) in
+      let out_of : from ≤ n → n < from + count → All (IsOut (n * 16)) held = λ h k i d l. elim (clear i d l) [ inl q ↦ inl (omega arith) | inr q ↦ inr (omega arith) ] in
+      let old = λ (out : IsOut (n * 16) b) (same : slice_get after n ≡ slice_get heap.marks n). same ∙ holds.marks n below ∙ ap Some (sym (mark_more held b (n * 16) out)) in
+      let start : from * 16 / 16 ≡ from = omega arith in
       elim (cases_lt n from) [
-        | inl h ↦ old (inl (omega arith)) (marked.below n h)
+        | inl h ↦ old (inl (omega arith)) (filled.below n h)
         | inr h ↦ elim (cases_lt n (from + count)) [
-          | inr k ↦ old (inr (omega arith)) (marked.above n k)
-          | inl k ↦ elim (cases_lt from n) [
-            | inl q ↦ marked.inside n q k ∙ ap Some (sym (new h k ∙ mark_inside b [] (n * 16) (omega arith) (omega arith)))
-            | inr q ↦ let same : n ≡ from = omega arith in ap (slice_get after) same ∙ marked.start ∙ ap Some (sym (new h k ∙ mark_start b [] (n * 16) (omega arith)))
-          ]
+          | inr k ↦ old (inr (omega arith)) (filled.above n k)
+          | inl k ↦ filled.inside n h k ∙ ap Some (sym (mark_new held b (n * 16) (out_of h k) (record { above = omega arith; below = omega arith }) ∙ ap Of start))
         ]
       ]
 
-  pub holds_placed : (after : List Mark) (birth from count : ℕ) → 3 ≤ count → IsFreeRun heap.marks from count → IsMarked heap.marks after from count
+  pub holds_placed : (after : List Mark) (birth from count : ℕ) → 3 ≤ count → IsFreeRun heap.marks from count → Filled heap.marks after from count (Of from)
       → Holds (marked_heap heap after) (held ++ block_at birth from count ∷ [])
-  holds_placed after birth from count room run marked =
+  holds_placed after birth from count room run filled =
       let b = block_at birth from count in
       let block : IsBlock heap.len b = new_block heap.len birth from count (length heap.marks) room run.inside shape.long in
       let clear = clear_run heap held shape holds from count (omega arith) run in
       record {
-        marks = λ n below. placed_mark after birth from count n room run marked (omega (arith, marked.long));
+        marks = λ n below. placed_mark after birth from count n room run filled (omega (arith, filled.long));
         blocks = All-push (IsBlock heap.len) held b holds.blocks block;
         apart = all_pairs_push AreApart held b holds.apart (λ k d below. apart_from_clear from count birth (get_or held k d) (clear k d below));
       }

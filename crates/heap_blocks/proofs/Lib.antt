@@ -1,10 +1,12 @@
-mod Pieces
-mod Heading
+pub mod Pieces
+pub mod Heading
 mod Marking
 mod Fitting
 mod Searching
 mod Holding
 mod Returning
-mod Owning
+pub mod Owning
 mod Placing
-mod Objects
+pub mod Objects
+pub mod Rows
+pub mod Staying

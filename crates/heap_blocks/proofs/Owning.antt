@@ -1,46 +1,39 @@
 -- Which block holds an address, and what stays true of all heaps.
-use Rattle.std.proofs.Common.{◌≡◌, ◌≢◌, ◌≤◌, ◌<◌, ◌+◌, ◌*◌, ◌/◌, inl, inr, ℕ, true, false, List, [], ◌∷◌, length, get_or, Some, None, refl, sym, ap, ◌∙◌, arith}
-use Rattle.std.specs.Prelude.{All, find, option_map, nat_le, nat_lt, slice_get}
-use Rattle.std.proofs.lemmas.Bool.{cases_lt, cases_order, and_from, and_left, and_right, le-leb, lt-leb, lt-ltb, le-ltb, cond-true, cond-false}
-use Rattle.std.proofs.lemmas.List.Elements.{All-head, All-tail}
+use Rattle.std.proofs.Common.{◌≡◌, ◌≤◌, ◌<◌, ◌+◌, ◌*◌, ◌/◌, inl, inr, ℕ, zero, suc, true, false, List, [], ◌∷◌, length, get_or, Some, None, refl, sym, ap, subst, ◌∙◌, arith}
+use Rattle.std.specs.Prelude.{All, Contains, find, option_map, nat_le, nat_lt, slice_get}
+use Rattle.std.proofs.lemmas.Bool.{cases_Bool, cases_lt, cases_order, and_from, and_parts, and_left, and_right, le-leb, lt-leb, lt-ltb, le-ltb, leb-true, ltb-true, cond-true, cond-false}
+use Rattle.std.proofs.lemmas.List.Elements.{All-head, All-tail, All-from_get_or}
 use Rattle.std.proofs.lemmas.Option.{same_Some, slice_get_within}
 use Rattle.hs_base.specs.Place.{Block}
 use Rattle.heap_blocks.specs.declared.marks.Mark.{Mark}
-use Rattle.heap_blocks.specs.declared.marks.Mark.TheVariants.{Free, Start, Inside}
-use Rattle.heap_blocks.specs.Runs.{IsMarked, Filled, HasNoStart, IsNearestStart}
-use Rattle.heap_blocks.specs.Held.{HeapModel, Holds, IsBlock, IsHeap, address_of, has_address, owner_of, mark_of}
-use Rattle.heap_blocks.proofs.Marking.{IsIn, IsOut, in_or_out, out_from_free, mark_at, mark_out, mark_start, mark_inside}
+use Rattle.heap_blocks.specs.declared.marks.Mark.TheVariants.{Free, Of}
+use Rattle.heap_blocks.specs.Runs.{Filled}
+use Rattle.heap_blocks.specs.Held.{HeapModel, HasAddress, Holds, AreApart, IsBlock, IsHeap, address_of, has_address, owner_of, mark_of}
+use Rattle.heap_blocks.proofs.Marking.{IsIn, IsOut, in_or_out, out_from_free, mark_in, mark_out}
 
 -- What every heap keeps
 
-pub shape_marked : (base len : ℕ) (before after : List Mark) (from count : ℕ) → IsHeap base len before → 3 ≤ count → from + count ≤ length before → IsMarked before after from count → IsHeap base len after
-shape_marked base len before after from count shape room inside marked = record {
+pub shape_filled : (base len : ℕ) (before after : List Mark) (from count : ℕ) (mark : Mark) → IsHeap base len before → Filled before after from count mark → ((start : ℕ) → mark ≡ Of start → start * 16 + 48 ≤ len) → IsHeap base len after
+shape_filled base len before after from count mark shape filled room = record {
   aligned = shape.aligned;
   reach = shape.reach;
-  long = marked.long ∙ shape.long;
-  starts = λ n start. elim (cases_order n from) [
-    | inl e ↦ omega (arith, shape.long)
-    | inr (inl h) ↦ shape.starts n (sym (marked.below n h) ∙ start)
-    | inr (inr h) ↦ elim (cases_lt n (from + count)) [
-      | inl k ↦ let e : Some Inside ≡ Some Start = sym (marked.inside n h k) ∙ start in cc
-      | inr k ↦ shape.starts n (sym (marked.above n k) ∙ start)
+  long = filled.long ∙ shape.long;
+  starts = λ n start marked. elim (cases_lt n from) [
+    | inl h ↦ shape.starts n start (sym (filled.below n h) ∙ marked)
+    | inr h ↦ elim (cases_lt n (from + count)) [
+      | inl k ↦ room start (same_Some mark (Of start) (sym (filled.inside n h k) ∙ marked))
+      | inr k ↦ shape.starts n start (sym (filled.above n k) ∙ marked)
     ]
   ];
 }
 
+pub shape_placed : (base len : ℕ) (before after : List Mark) (from count : ℕ) → IsHeap base len before → 3 ≤ count → from + count ≤ length before → Filled before after from count (Of from) → IsHeap base len after
+shape_placed base len before after from count shape room inside filled =
+    shape_filled base len before after from count (Of from) shape filled (λ start same. let at : from ≡ start = cc in omega (arith, shape.long))
+
 pub shape_freed : (base len : ℕ) (before after : List Mark) (from count : ℕ) → IsHeap base len before → Filled before after from count Free → IsHeap base len after
-shape_freed base len before after from count shape filled = record {
-  aligned = shape.aligned;
-  reach = shape.reach;
-  long = filled.long ∙ shape.long;
-  starts = λ n start. elim (cases_lt n from) [
-    | inl h ↦ shape.starts n (sym (filled.below n h) ∙ start)
-    | inr h ↦ elim (cases_lt n (from + count)) [
-      | inl k ↦ let e : Some Free ≡ Some Start = sym (filled.inside n h k) ∙ start in cc
-      | inr k ↦ shape.starts n (sym (filled.above n k) ∙ start)
-    ]
-  ];
-}
+shape_freed base len before after from count shape filled =
+    shape_filled base len before after from count Free shape filled (λ start same. cc)
 
 -- Owners
 
@@ -75,64 +68,80 @@ module _ (heap : HeapModel) (addr n off : ℕ) (at : addr ≡ heap.base + off) (
   out_owner held blocks out =
       no_owner heap held addr (λ i d below. out_address heap.len (get_or held i d) (blocks i d below) (out i d below))
 
-  in_owner : (held : List Block) (place : ℕ) → All (IsBlock heap.len) held → mark_of held (n * 16) ≢ Free → All (λ b. IsIn (n * 16) b → b.place ≡ place) held → owner_of heap held addr ≡ Some (address_of heap place)
-  in_owner [] place blocks used known = absurd (used refl)
-  in_owner (b ∷ held) place blocks used known =
+  -- the first block by which a place is marked is the first that has its bytes
+  marked_owner : (held : List Block) (start : ℕ) → All (IsBlock heap.len) held → mark_of held (n * 16) ≡ Of start → owner_of heap held addr ≡ Some (address_of heap (start * 16))
+  marked_owner [] start blocks marked = cc
+  marked_owner (b ∷ held) start blocks marked =
       let test = has_address heap addr in
+      let address = option_map (λ (b : Block). address_of heap b.place) in
       let block = All-head (IsBlock heap.len) b held blocks in
       elim (in_or_out (n * 16) b) [
-        | inl i ↦ ap (option_map (λ (b : Block). address_of heap b.place)) (cond-true (test b) (Some b) (find test held) (in_address heap.len b block i))
-            ∙ ap (λ p. Some (address_of heap p)) (All-head (λ b. IsIn (n * 16) b → b.place ≡ place) b held known i)
-        | inr out ↦ ap (option_map (λ (b : Block). address_of heap b.place)) (cond-false (test b) (Some b) (find test held) (out_address heap.len b block out))
-            ∙ in_owner held place (All-tail (IsBlock heap.len) b held blocks) (λ free. used (mark_out heap.len b held (n * 16) block out ∙ free)) (All-tail (λ b. IsIn (n * 16) b → b.place ≡ place) b held known)
+        | inl i ↦ let same : Of (b.place / 16) ≡ Of start = sym (mark_in b held (n * 16) i) ∙ marked in
+            let started : b.place / 16 ≡ start = cc in
+            let place_is : b.place ≡ start * 16 = omega (arith, block.aligned) in
+            ap address (cond-true (test b) (Some b) (find test held) (in_address heap.len b block i)) ∙ ap (λ p. Some (address_of heap p)) place_is
+        | inr out ↦ ap address (cond-false (test b) (Some b) (find test held) (out_address heap.len b block out))
+            ∙ marked_owner held start (All-tail (IsBlock heap.len) b held blocks) (sym (mark_out b held (n * 16) out) ∙ marked)
       ]
 
   module _ (held : List Block) (shape : IsHeap heap.base heap.len heap.marks) (holds : Holds heap held) where
-    -- a block has a start at its first mark, and no other
-    start_at : (k : ℕ) (d : Block) (m : ℕ) → k < length held → (get_or held k d).place ≡ m * 16 → slice_get heap.marks m ≡ Some Start
-    start_at k d m below place_is =
-        let b = get_or held k d in
-        let block = holds.blocks k d below in
-        let i : IsIn (m * 16) b = record { above = omega arith; below = omega (arith, block.room) } in
-        holds.marks m (omega (arith, block.within, block.room, block.whole, block.aligned, shape.long))
-        ∙ ap Some (mark_at heap.len held k d (m * 16) holds.blocks holds.apart below i ∙ mark_start b [] (m * 16) place_is)
+    pub mark_owns : (start : ℕ) → slice_get heap.marks n ≡ Some (Of start) → owner_of heap held addr ≡ Some (address_of heap (start * 16))
+    mark_owns start here =
+        let below : n < length heap.marks = slice_get_within heap.marks n (Of start) here in
+        marked_owner held start holds.blocks (same_Some (mark_of held (n * 16)) (Of start) (sym (holds.marks n below) ∙ here))
 
-    no_start_within : (k : ℕ) (d : Block) (m : ℕ) → k < length held → (get_or held k d).place < m * 16 → m * 16 < (get_or held k d).place + (get_or held k d).length → slice_get heap.marks m ≡ Some Start → ⊥
-    no_start_within k d m below above within start =
-        let b = get_or held k d in
-        let block = holds.blocks k d below in
-        let i : IsIn (m * 16) b = record { above = omega arith; below = within } in
-        let marked = holds.marks m (slice_get_within heap.marks m Start start) in
-        let mark : mark_of held (m * 16) ≡ Inside = mark_at heap.len held k d (m * 16) holds.blocks holds.apart below i ∙ mark_inside b [] (m * 16) above within in
-        let e : Some Start ≡ Some Inside = sym start ∙ marked ∙ ap Some mark in
-        cc
-
-    pub start_owns : (start : ℕ) → IsNearestStart heap.marks n start → n < length heap.marks → owner_of heap held addr ≡ Some (address_of heap (start * 16))
-    start_owns start near below =
-        in_owner held (start * 16) holds.blocks (λ free. near.used (holds.marks n below ∙ ap Some free))
-        (λ k d less i. let b = get_or held k d in
-        let block = holds.blocks k d less in
-        let m = b.place / 16 in
-        let place_is : b.place ≡ m * 16 = omega (arith, block.aligned) in
-        elim (cases_order m start) [
-          | inl e ↦ place_is ∙ ap (λ j. j * 16) e
-          | inr (inl h) ↦ absurd (no_start_within k d start less (omega arith) (omega (arith, near.below, i.below)) near.starts)
-          | inr (inr h) ↦ absurd (near.nearest m h (omega (arith, i.above)) (start_at k d m less place_is))
-        ])
-
-    pub nothing_owns : HasNoStart heap.marks n → n < length heap.marks → owner_of heap held addr ≡ None
-    nothing_owns (inl free) below =
-        out_owner held holds.blocks (out_from_free heap.len held (n * 16) holds.blocks (same_Some (mark_of held (n * 16)) Free (sym (holds.marks n below) ∙ free)))
-    nothing_owns (inr none) below =
-        out_owner held holds.blocks (λ k d less. let b = get_or held k d in
-        let block = holds.blocks k d less in
-        let m = b.place / 16 in
-        let place_is : b.place ≡ m * 16 = omega (arith, block.aligned) in
-        elim (in_or_out (n * 16) b) [
-          | inl i ↦ absurd (none m (omega (arith, i.above)) (start_at k d m less place_is))
-          | inr out ↦ out
-        ])
+    pub free_owns : slice_get heap.marks n ≡ Some Free → owner_of heap held addr ≡ None
+    free_owns free =
+        let below : n < length heap.marks = slice_get_within heap.marks n Free free in
+        out_owner held holds.blocks (out_from_free held (n * 16) (same_Some (mark_of held (n * 16)) Free (sym (holds.marks n below) ∙ free)))
 
     pub past_owns : length heap.marks ≤ n → owner_of heap held addr ≡ None
     past_owns past =
         out_owner held holds.blocks (λ k d less. let block = holds.blocks k d less in inr (omega (arith, block.within, block.aligned, block.whole, shape.long)))
+
+-- The owner of an address of a block that is held
+
+owner_at : (heap : HeapModel) (addr place : ℕ) (held : List Block) (k : ℕ) (d : Block) → k < length held → has_address heap addr (get_or held k d) ≡ true → All (λ c. has_address heap addr c ≡ true → c.place ≡ place) held
+    → owner_of heap held addr ≡ Some (address_of heap place)
+owner_at heap addr place [] k d below here known = absurd (omega arith)
+owner_at heap addr place (c ∷ held) zero d below here known =
+    let test = has_address heap addr in
+    ap (option_map (λ (b : Block). address_of heap b.place)) (cond-true (test c) (Some c) (find test held) here)
+    ∙ ap (λ p. Some (address_of heap p)) (All-head (λ c. test c ≡ true → c.place ≡ place) c held known here)
+owner_at heap addr place (c ∷ held) (suc k) d below here known =
+    let test = has_address heap addr in
+    let address = option_map (λ (b : Block). address_of heap b.place) in
+    elim (cases_Bool (test c)) [
+      | inl hit ↦ ap address (cond-true (test c) (Some c) (find test held) hit)
+          ∙ ap (λ p. Some (address_of heap p)) (All-head (λ c. test c ≡ true → c.place ≡ place) c held known hit)
+      | inr miss ↦ ap address (cond-false (test c) (Some c) (find test held) miss)
+          ∙ owner_at heap addr place held k d (omega arith) here (All-tail (λ c. test c ≡ true → c.place ≡ place) c held known)
+    ]
+
+has_address_true : (heap : HeapModel) (addr : ℕ) (b : Block) → HasAddress heap addr b → has_address heap addr b ≡ true
+has_address_true heap addr b (low, high) =
+    and_from (nat_le (heap.base + b.place) addr) (nat_lt addr (heap.base + b.place + b.length)) (le-leb (heap.base + b.place) addr low) (lt-ltb addr (heap.base + b.place + b.length) high)
+
+has_address_only : (heap : HeapModel) (addr : ℕ) (b : Block) → has_address heap addr b ≡ true → HasAddress heap addr b
+has_address_only heap addr b h =
+    let both = and_parts (nat_le (heap.base + b.place) addr) (nat_lt addr (heap.base + b.place + b.length)) h in
+    (leb-true (heap.base + b.place) addr both.0, ltb-true addr (heap.base + b.place + b.length) both.1)
+
+-- blocks that are apart have no address in common
+not_both : {P : Type 0} (heap : HeapModel) (addr : ℕ) (a b : Block) → AreApart a b → HasAddress heap addr a → HasAddress heap addr b → P
+not_both heap addr a b (inl h) (low, high) (low', high') = absurd (omega arith)
+not_both heap addr a b (inr h) (low, high) (low', high') = absurd (omega arith)
+
+pub held_owns : (heap : HeapModel) (held : List Block) (b : Block) (addr : ℕ) → Holds heap held → Contains held b → HasAddress heap addr b → owner_of heap held addr ≡ Some (address_of heap b.place)
+held_owns heap held b addr holds is_held has =
+    let k = is_held.0 in
+    let same : get_or held k b ≡ b = is_held.2 in
+    let here : HasAddress heap addr (get_or held k b) = subst (HasAddress heap addr) (sym same) has in
+    owner_at heap addr b.place held k b is_held.1 (has_address_true heap addr (get_or held k b) here)
+    (All-from_get_or (λ c. has_address heap addr c ≡ true → c.place ≡ b.place) held b (λ i below hit.
+    let there = has_address_only heap addr (get_or held i b) hit in
+    elim (cases_order i k) [
+      | inl e ↦ ap (λ (c : Block). c.place) (ap (λ j. get_or held j b) e ∙ same)
+      | inr (inl h) ↦ not_both heap addr (get_or held i b) (get_or held k b) (holds.apart i k b h is_held.1) there here
+      | inr (inr h) ↦ not_both heap addr (get_or held k b) (get_or held i b) (holds.apart k i b h below) here there
+    ]))

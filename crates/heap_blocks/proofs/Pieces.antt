@@ -22,6 +22,13 @@ changes_written bytes addr width value inside = record {
 pub changes_nothing : (bytes : List ℕ) (addr n : ℕ) → ChangesOnly bytes bytes addr n
 changes_nothing bytes addr n = record { long = refl; below = λ from k h. refl; above = λ from k h. refl }
 
+pub changes_widened : (before after : List ℕ) (x m addr n : ℕ) → ChangesOnly before after x m → addr ≤ x → x + m ≤ addr + n → ChangesOnly before after addr n
+changes_widened before after x m addr n changed low high = record {
+  long = changed.long;
+  below = λ from k h. changed.below from k (omega arith);
+  above = λ from k h. changed.above from k (omega arith);
+}
+
 -- two changes, both within n bytes from an address
 pub changes_joined : (a b c : List ℕ) (x m y k addr n : ℕ) → ChangesOnly a b x m → ChangesOnly b c y k → addr ≤ x → x + m ≤ addr + n → addr ≤ y → y + k ≤ addr + n → ChangesOnly a c addr n
 changes_joined a b c x m y k addr n first second low high low' high' = record {

@@ -1,13 +1,14 @@
 -- What a placement answers and leaves, by first fit.
-use Rattle.std.proofs.Common.{◌≡◌, ◌≤◌, ◌+◌, ◌-◌, ◌*◌, ◌/◌, ℕ, List, [], ◌∷◌, ◌++◌, replicate, Some, None, sym, ap, ◌∙◌, subst, arith}
+use Rattle.std.proofs.Common.{◌≡◌, ◌≤◌, ◌+◌, ◌-◌, ◌*◌, ◌/◌, inl, ℕ, List, [], ◌∷◌, ◌++◌, replicate, Some, None, sym, ap, ◌∙◌, subst, arith}
 use Rattle.std.specs.Prelude.{option_map}
 use Rattle.hs_base.specs.Bytes.{part}
 use Rattle.hs_base.specs.Place.{Block, block_size, with_block}
 use Rattle.heap_blocks.specs.declared.headers.Header.{Header}
 use Rattle.heap_blocks.specs.declared.marks.Mark.{Mark}
+use Rattle.heap_blocks.specs.declared.marks.Mark.TheVariants.{Of}
 use Rattle.heap_blocks.specs.Bytes.{ChangesOnly}
 use Rattle.heap_blocks.specs.Heads.{header_at}
-use Rattle.heap_blocks.specs.Runs.{IsFirstRun, IsMarked, HasNoRun}
+use Rattle.heap_blocks.specs.Runs.{IsFirstRun, Filled, HasNoRun}
 use Rattle.heap_blocks.specs.Held.{HeapModel, Holds, HasHeaders, IsHeap, IsPlaced, address_of, fit_of}
 use Rattle.heap_blocks.proofs.Pieces.{changes_joined, zeros_front}
 use Rattle.heap_blocks.proofs.Heading.{header_kept}
@@ -20,7 +21,7 @@ pub block_placed : (b0 b1 b2 : List ℕ) (block n : ℕ) (h : Header) → 32 + n
 block_placed b0 b1 b2 block n h n_is room header first zeros second =
     let at : block + 32 - 32 ≡ block = omega arith in
     record {
-      header = ap (header_at b2) at ∙ header_kept b2 b1 block (block + 32) n second (omega arith) ∙ header;
+      header = ap (header_at b2) at ∙ header_kept b2 b1 block (block + 32) n second (inl (omega arith)) ∙ header;
       zero = zeros_front b2 (block + 32) n h.size room zeros;
       outside = subst (λ a. ChangesOnly b0 b2 a (block_size h.size)) (sym at) (changes_joined b0 b1 b2 block 32 (block + 32) n block (block_size h.size) first second (omega arith) (omega arith) (omega arith) (omega arith));
     }
@@ -37,7 +38,7 @@ module _ (heap : HeapModel) (held : List Block) (size : ℕ) (shape : IsHeap hea
       let same : addr ≡ heap.base + from * 16 + 32 = omega arith in
       ap Some same ∙ sym (ap (option_map (address_of heap)) (first_is_fit heap held shape holds size from first))
 
-  pub placed_holds : (from birth : ℕ) (after : List Mark) → IsFirstRun heap.marks (size / 16 + 3) from → IsMarked heap.marks after from (size / 16 + 3) → Holds (marked_heap heap after) (with_block held birth (block_size size) (fit_of heap held size))
+  pub placed_holds : (from birth : ℕ) (after : List Mark) → IsFirstRun heap.marks (size / 16 + 3) from → Filled heap.marks after from (size / 16 + 3) (Of from) → Holds (marked_heap heap after) (with_block held birth (block_size size) (fit_of heap held size))
   placed_holds from birth after first marked =
       subst (Holds (marked_heap heap after)) (sym (with_block_is birth from (first_is_fit heap held shape holds size from first)))
       (holds_placed heap held shape holds after birth from (size / 16 + 3) (omega arith) first.run marked)

@@ -16,7 +16,7 @@ use Rattle.heap_blocks.proofs.Holding.{marked_heap}
 abbrev keeps : Block → Block → Bool
 keeps b c = not (nat_eq c.birth b.birth)
 
-apart_swapped : (a b : Block) → AreApart a b → AreApart b a
+pub apart_swapped : (a b : Block) → AreApart a b → AreApart b a
 apart_swapped a b (inl h) = inr h
 apart_swapped a b (inr h) = inl h
 
@@ -57,12 +57,12 @@ module _ (heap : HeapModel) (held : List Block) (b : Block) (holds : Holds heap 
   free_there place inside =
       let kept = All-filter (keeps b) (λ c. keeps b c ≡ true → AreApart c b) held others in
       let passes = filter_passes (keeps b) held in
-      free_from_out heap.len (filter (keeps b) held) place (All-filter (keeps b) (IsBlock heap.len) held holds.blocks)
+      free_from_out (filter (keeps b) held) place
       (λ i d below. out_of_other (get_or (filter (keeps b) held) i d) b place (kept i d below (passes i d below)) inside)
 
   same_there : (place : ℕ) → IsOut place b → mark_of (without_block held b.birth) place ≡ mark_of held place
   same_there place out =
-      mark_kept heap.len (keeps b) held place holds.blocks (λ i d below gone. subst (IsOut place) (sym (only i d below gone)) out)
+      mark_kept (keeps b) held place (λ i d below gone. subst (IsOut place) (sym (only i d below gone)) out)
 
   pub holds_released : (after : List Mark) (from count : ℕ) → b.place ≡ from * 16 → b.length ≡ count * 16 → Filled heap.marks after from count Free → Holds (marked_heap heap after) (without_block held b.birth)
   holds_released after from count place_is length_is filled = record {

@@ -5,8 +5,8 @@ use Rattle.std.proofs.Math.ListN.{length-set}
 use Rattle.std.proofs.lemmas.Bool.{cases_lt}
 use Rattle.std.proofs.lemmas.Option.{same_Some, slice_get-get_or}
 use Rattle.heap_blocks.specs.declared.marks.Mark.{Mark}
-use Rattle.heap_blocks.specs.declared.marks.Mark.TheVariants.{Free, Start, Inside}
-use Rattle.heap_blocks.specs.Runs.{IsFreeRun, IsFirstRun, HasNoRun, Filled, IsMarked}
+use Rattle.heap_blocks.specs.declared.marks.Mark.TheVariants.{Free, Of}
+use Rattle.heap_blocks.specs.Runs.{IsFreeRun, IsFirstRun, HasNoRun, Filled}
 
 -- before a place stand so many free marks, fewer than are wanted, and no free run ends there
 pub record NoRunYet (marks : List Mark) (count index free : ℕ) : Type 0 where
@@ -25,8 +25,7 @@ no_run_begins marks count some = record {
 
 free_or_used : (mark : Mark) → (mark ≡ Free) ⊎ (mark ≢ Free)
 free_or_used Free = inl refl
-free_or_used Start = inr (λ e. cc)
-free_or_used Inside = inr (λ e. cc)
+free_or_used (Of start) = inr (λ e. cc)
 
 pub no_run_free : (marks : List Mark) (count index free : ℕ) (mark : Mark) → slice_get marks index ≡ Some mark → mark ≡ Free → free + 1 ≢ count → NoRunYet marks count index free → NoRunYet marks count (index + 1) (free + 1)
 no_run_free marks count index free mark here is other yet = record {
@@ -107,13 +106,4 @@ filled_more before after from count place mark at below filled = record {
       (cases_lt k place);
   below = λ k h. get_set_other after place k mark (λ e. omega arith) ∙ filled.below k h;
   above = λ k h. get_set_other after place k mark (λ e. omega arith) ∙ filled.above k (omega arith);
-}
-
-pub marked : (before after : List Mark) (from count : ℕ) → 0 < count → from + count ≤ length before → Filled before after from count Inside → IsMarked before (set after from Start) from count
-marked before after from count some inside filled = record {
-  long = length-set after from Start ∙ filled.long;
-  start = get_set_same after from Start (omega (arith, filled.long));
-  inside = λ k low high. get_set_other after from k Start (λ e. omega arith) ∙ filled.inside k (omega arith) high;
-  below = λ k h. get_set_other after from k Start (λ e. omega arith) ∙ filled.below k h;
-  above = λ k h. get_set_other after from k Start (λ e. omega arith) ∙ filled.above k h;
 }

@@ -1,10 +1,10 @@
 -- Which blocks a heap holds.
-use Rattle.std.specs.Prelude.{◌≡◌, ◌≢◌, ℕ, ◌+◌, ◌-◌, ◌*◌, ◌/◌, ◌%◌, ◌^◌, ◌<◌, ◌≤◌, ◌⊎◌, Bool, cond, ◌&&◌, nat_lt, nat_le, nat_eq, List, [], ◌∷◌, length, All, AllPairs, Contains, find, Option, Some, option_map, slice_get, replicate}
-use Rattle.hs_base.specs.Place.{Block, block_size, first_fit}
+use Rattle.std.specs.Prelude.{◌≡◌, ◌≢◌, ℕ, ◌+◌, ◌-◌, ◌*◌, ◌/◌, ◌%◌, ◌^◌, ◌<◌, ◌≤◌, ◌⊎◌, Bool, cond, ◌&&◌, nat_lt, nat_le, List, [], ◌∷◌, ◌++◌, length, All, AllPairs, Contains, find, Option, Some, option_map, slice_get, replicate}
+use Rattle.hs_base.specs.Place.{Block, block_size, first_fit, rounded_up}
 use Rattle.hs_base.specs.Bytes.{word, part}
 use Rattle.heap_blocks.specs.declared.headers.Header.{Header}
 use Rattle.heap_blocks.specs.declared.marks.Mark.{Mark}
-use Rattle.heap_blocks.specs.declared.marks.Mark.TheVariants.{Free, Start, Inside}
+use Rattle.heap_blocks.specs.declared.marks.Mark.TheVariants.{Free, Of}
 use Rattle.heap_blocks.specs.Bytes.{ChangesOnly}
 use Rattle.heap_blocks.specs.Heads.{header_at}
 
@@ -18,10 +18,10 @@ pub record HeapModel : Type 0 where
 abbrev pub is_in : ℕ → Block → Bool
 is_in place b = nat_le b.place place && nat_lt place (b.place + b.length)
 
--- the mark of a place where these blocks are held
+-- the mark of a place where these blocks are held: its block, by the 16 bytes at which that starts
 abbrev pub mark_of : List Block → ℕ → Mark
 mark_of [] place = Free
-mark_of (b ∷ held) place = cond (nat_eq b.place place) Start (cond (is_in place b) Inside (mark_of held place))
+mark_of (b ∷ held) place = cond (is_in place b) (Of (b.place / 16)) (mark_of held place)
 
 -- a block that stands at a multiple of 16 within a heap
 pub record IsBlock (len : ℕ) (b : Block) : Type 0 where
@@ -68,6 +68,15 @@ has_address heap addr b = nat_le (heap.base + b.place) addr && nat_lt addr (heap
 abbrev pub owner_of : HeapModel → List Block → ℕ → Option ℕ
 owner_of heap held addr = option_map (λ (b : Block). address_of heap b.place) (find (has_address heap addr) held)
 
+-- the block, from its header on, has the byte at an address
+abbrev pub HasAddress : HeapModel → ℕ → Block → Type 0
+HasAddress heap addr b = (heap.base + b.place ≤ addr) × (addr < heap.base + b.place + b.length)
+
+-- the block of an object of that size at an address lies within the heap
+pub record IsWithin (heap : HeapModel) (size addr : ℕ) : Type 0 where
+  pub start : heap.base + 32 ≤ addr
+  pub end : addr + rounded_up (size + 1) ≤ heap.base + heap.len
+
 -- what a placement does to the bytes of an object at an address, with its header and the length of its block
 pub record IsPlaced (before after : List ℕ) (addr length : ℕ) (h : Header) : Type 0 where
   pub header : header_at after (addr - 32) ≡ h
@@ -84,6 +93,11 @@ pub record IsObject (heap : HeapModel) (bytes : List ℕ) (addr : ℕ) (held : L
 abbrev pub IsHeldObject : HeapModel → List ℕ → ℕ → Type 0
 IsHeldObject heap bytes addr = (held : List Block) × (b : Block) × IsObject heap bytes addr held b
 
+-- the object at an address is that of a new block of that birth, for an object of that size, held behind these
+abbrev pub IsNewObject : HeapModel → List ℕ → List Block → ℕ → ℕ → ℕ → Type 0
+IsNewObject heap bytes held birth size addr =
+    (place : ℕ) × (let b : Block = record { birth = birth; place = place; length = block_size size } in IsObject heap bytes addr (held ++ b ∷ []) b)
+
 -- the heap has this base and this length
 abbrev pub HasBounds : ℕ → ℕ → HeapModel → Type 0
 HasBounds base len heap = (heap.base ≡ base) × (heap.len ≡ len)
@@ -93,4 +107,4 @@ pub record IsHeap (base len : ℕ) (marks : List Mark) : Type 0 where
   pub aligned : base % 16 ≡ 0
   pub reach : base + len < 2 ^ 32
   pub long : length marks ≡ len / 16
-  pub starts : (n : ℕ) → slice_get marks n ≡ Some Start → n * 16 + 48 ≤ len
+  pub starts : (n start : ℕ) → slice_get marks n ≡ Some (Of start) → start * 16 + 48 ≤ len

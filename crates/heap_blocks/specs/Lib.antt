@@ -2,3 +2,4 @@ pub mod Bytes
 pub mod Heads
 pub mod Runs
 pub mod Held
+pub mod Rows

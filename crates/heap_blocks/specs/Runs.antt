@@ -1,7 +1,7 @@
 -- Marks that are searched and set.
-use Rattle.std.specs.Prelude.{◌≡◌, ◌≢◌, ℕ, ◌+◌, ◌<◌, ◌≤◌, List, length, Some, slice_get, ◌⊎◌}
+use Rattle.std.specs.Prelude.{◌≡◌, ℕ, ◌+◌, ◌<◌, ◌≤◌, List, length, Some, slice_get}
 use Rattle.heap_blocks.specs.declared.marks.Mark.{Mark}
-use Rattle.heap_blocks.specs.declared.marks.Mark.TheVariants.{Free, Start, Inside}
+use Rattle.heap_blocks.specs.declared.marks.Mark.TheVariants.{Free}
 
 -- so many marks from a place on are there, and free
 pub record IsFreeRun (marks : List Mark) (from count : ℕ) : Type 0 where
@@ -22,22 +22,3 @@ pub record Filled (before after : List Mark) (from count : ℕ) (mark : Mark) : 
   pub inside : (k : ℕ) → from ≤ k → k < from + count → slice_get after k ≡ Some mark
   pub below : (k : ℕ) → k < from → slice_get after k ≡ slice_get before k
   pub above : (k : ℕ) → from + count ≤ k → slice_get after k ≡ slice_get before k
-
--- the marks of a block of so many stand from a place on, and the others are the same
-pub record IsMarked (before after : List Mark) (from count : ℕ) : Type 0 where
-  pub long : length after ≡ length before
-  pub start : slice_get after from ≡ Some Start
-  pub inside : (k : ℕ) → from < k → k < from + count → slice_get after k ≡ Some Inside
-  pub below : (k : ℕ) → k < from → slice_get after k ≡ slice_get before k
-  pub above : (k : ℕ) → from + count ≤ k → slice_get after k ≡ slice_get before k
-
--- a place is free, or no start stands at or below it
-abbrev pub HasNoStart : List Mark → ℕ → Type 0
-HasNoStart marks place = (slice_get marks place ≡ Some Free) ⊎ ((k : ℕ) → k ≤ place → slice_get marks k ≢ Some Start)
-
--- a place is not free, and the nearest start at or below it
-pub record IsNearestStart (marks : List Mark) (place start : ℕ) : Type 0 where
-  pub used : slice_get marks place ≢ Some Free
-  pub below : start ≤ place
-  pub starts : slice_get marks start ≡ Some Start
-  pub nearest : (k : ℕ) → start < k → k ≤ place → slice_get marks k ≢ Some Start

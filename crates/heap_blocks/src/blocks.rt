@@ -1,15 +1,15 @@
 //! The heap: which of its bytes are held.
 
-ghost use Rattle.std.specs.Prelude.{◌≡◌, ℕ, ◌+◌, ◌*◌, ◌/◌, ◌%◌, ◌^◌, ◌<◌, ◌≤◌, List, [], length, replicate, IfOk, IfSome, IfNone, MatchOption, option_map};
+ghost use Rattle.std.specs.Prelude.{◌≡◌, ℕ, ◌+◌, ◌*◌, ◌/◌, ◌%◌, ◌^◌, ◌<◌, ◌≤◌, List, [], length, replicate, Contains, IfOk, IfSome, IfNone, MatchOption, option_map};
 ghost use Rattle.hs_base.specs.Bytes.{part};
 ghost use Rattle.hs_base.specs.Place.{Block, block_size, rounded_up, with_block, without_block};
 ghost use Rattle.heap_blocks.specs.Bytes.{ChangesOnly};
 ghost use Rattle.heap_blocks.specs.Heads.{new_header};
 ghost use Rattle.heap_blocks.specs.Runs.{HasNoRun, IsFirstRun};
-ghost use Rattle.heap_blocks.specs.Held.{Holds, HasBounds, HasHeaders, HaveOwnBirths, IsHeldObject, IsObject, IsPlaced, address_of, fit_of, owner_of};
+ghost use Rattle.heap_blocks.specs.Held.{Holds, HasAddress, HasBounds, HasHeaders, HaveOwnBirths, IsHeldObject, IsNewObject, IsObject, IsPlaced, IsWithin, address_of, fit_of, owner_of};
 
 use crate::headers::{HEADER_SIZE, Header};
-use crate::marks::{Mark, fill_marks, first_run, mark_block, start_of};
+use crate::marks::{Mark, fill_marks, first_run};
 use hs_base::{FlatBytes, Line, NoMemory, Steps};
 use std::alloc::Global;
 use std::marker::Model;
@@ -77,6 +77,21 @@ impl Heap {
         })
     }
 
+    /// The address at which it begins, a multiple of 16.
+    pub fn base(&self) -> u32
+        ensures base { result ≡ self.now.base }
+        ensures aligned { result % 16 ≡ 0 }
+    {
+        self.base
+    }
+
+    /// The address behind its last byte.
+    pub fn end(&self) -> u32
+        ensures { result ≡ self.now.base + self.now.len }
+    {
+        self.base + self.len
+    }
+
     /// The lowest place for an object of a size, in 16 bytes from the base on.
     fn room(&self, size: u64) -> Option<usize>
         ensures { MatchOption result (HasNoRun self.now.marks (size / 16 + 3)) (IsFirstRun self.now.marks (size / 16 + 3)) }
@@ -105,18 +120,23 @@ impl Heap {
         ensures address { (held : List Block) → Holds self.old held → result ≡ option_map (address_of self.old) (fit_of self.old held size) }
         ensures held { (held : List Block) → Holds self.old held → Holds self.new (with_block held birth (block_size size) (fit_of self.old held size)) }
         ensures headers { (held : List Block) → Holds self.old held → HasHeaders self.old.base bytes.old held → HasHeaders self.new.base bytes.new (with_block held birth (block_size size) (fit_of self.old held size)) }
+        ensures object { (held : List Block) → Holds self.old held → HasHeaders self.old.base bytes.old held → IfSome result (IsNewObject self.new bytes.new held birth size) }
 
         // The bytes.
         ensures long { length bytes.new ≡ length bytes.old }
         ensures aligned { IfSome result (λ addr. addr % 16 ≡ 0) }
+        ensures within { IfSome result (IsWithin self.old size) }
         ensures placed { IfSome result (λ addr. IsPlaced bytes.old bytes.new addr (block_size size) (new_header birth size layout line)) }
+        ensures beside { ChangesOnly bytes.old bytes.new self.old.base self.old.len }
         ensures none { IfNone result ((self.new ≡ self.old) × (bytes.new ≡ bytes.old)) }
         ensures steps { MatchOption result (steps.new ≡ steps.old) (λ _. steps.new ≡ steps.old + (7 + rounded_up (size + 1) / 8)) }
     {
         let Some(from) = self.room(size) else {
             return None;
         };
-        mark_block(self.marks.as_mut_slice(), from, size as usize / 16 + 3);
+        let count = size as usize / 16 + 3;
+        let mark = Mark::Of(from as u32);
+        fill_marks(self.marks.as_mut_slice(), from, count, mark);
         let block = self.base + 16 * from as u32;
         let header = Header::new(birth, size as u32, layout, line);
         write_block(bytes, block, &header, steps);
@@ -132,6 +152,7 @@ impl Heap {
         ensures headers { (held : List Block) (b : Block) → IsObject self.old bytes.old addr held b → HasHeaders self.new.base bytes.new (without_block held b.birth) }
         ensures long { length bytes.new ≡ length bytes.old }
         ensures outside { (held : List Block) (b : Block) → IsObject self.old bytes.old addr held b → ChangesOnly bytes.old bytes.new (self.old.base + b.place) b.length }
+        ensures beside { ChangesOnly bytes.old bytes.new self.old.base self.old.len }
         ensures least { steps.old ≤ steps.new }
         ensures most { steps.new ≤ steps.old + 4 }
     {
@@ -146,7 +167,8 @@ impl Heap {
         );
     }
 
-    /// The address of the object whose block holds the byte at an address, if one does. At most four steps.
+    /// The address of the object whose block holds the byte at an address, if one does. It reads one mark, and no byte.
+    /// At most four steps.
     pub fn owner<L: Ledger>(
         &self,
         bytes: &FlatBytes,
@@ -154,6 +176,7 @@ impl Heap {
         steps: &mut Steps<L>,
     ) -> Option<u32>
         ensures owner { (held : List Block) → Holds self.now held → result ≡ owner_of self.now held addr }
+        ensures held { (held : List Block) (b : Block) → Holds self.now held → Contains held b → HasAddress self.now addr b → result ≡ Some (address_of self.now b.place) }
         ensures least { steps.old ≤ steps.new }
         ensures most { steps.new ≤ steps.old + 4 }
     {
@@ -164,9 +187,9 @@ impl Heap {
         if place >= self.marks.len() {
             return None;
         }
-        let Some(start) = start_of(self.marks.as_slice(), place) else {
-            return None;
-        };
-        Some(self.base + 16 * start as u32 + HEADER_SIZE)
+        match self.marks[place] {
+            Mark::Of(start) => Some(self.base + 16 * start + HEADER_SIZE),
+            Mark::Free => None,
+        }
     }
 }

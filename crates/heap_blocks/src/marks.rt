@@ -1,17 +1,15 @@
-//! One mark for each 16 bytes of the heap.
+//! One mark for each 16 bytes of the heap: free, or which block they belong to.
 
 ghost use Rattle.std.specs.Prelude.{◌≡◌, ◌≢◌, ◌<◌, ◌+◌, ◌^◌, ◌≤◌, length, MatchOption};
-ghost use Rattle.heap_blocks.specs.Runs.{IsFirstRun, IsNearestStart, Filled, IsMarked, HasNoRun, HasNoStart};
+ghost use Rattle.heap_blocks.specs.Runs.{IsFirstRun, Filled, HasNoRun};
 
 /// What stands in 16 bytes of the heap.
 #[derive(Clone, Copy, Debug, PartialEq, Eq)]
 pub enum Mark {
     /// No block.
     Free,
-    /// The first 16 bytes of a block.
-    Start,
-    /// Further bytes of a block.
-    Inside,
+    /// Bytes of the block that starts there, in 16 bytes from the heap's base on.
+    Of(u32),
 }
 
 /// How many marks in a row are free up to one, from how many were free before it.
@@ -22,7 +20,7 @@ fn run_through(free: usize, mark: Mark) -> usize
 {
     match mark {
         Mark::Free => free + 1,
-        Mark::Start | Mark::Inside => 0,
+        Mark::Of(_) => 0,
     }
 }
 
@@ -49,32 +47,4 @@ pub fn fill_marks(marks: &mut [Mark], from: usize, count: usize, mark: Mark)
     for place in from..from + count {
         marks[place] = mark;
     }
-}
-
-/// Marks a block of so many marks from a place on.
-pub fn mark_block(marks: &mut [Mark], from: usize, count: usize)
-    requires some { 0 < count }
-    requires inside { from + count ≤ length marks.old }
-    ensures { IsMarked marks.old marks.new from count }
-{
-    fill_marks(marks, from, count, Mark::Inside);
-    marks[from] = Mark::Start;
-}
-
-/// The place of the nearest start at or below a place that is not free.
-pub fn start_of(marks: &[Mark], place: usize) -> Option<usize>
-    requires { place < length marks.now }
-    ensures { MatchOption result (HasNoStart marks.now place) (IsNearestStart marks.now place) }
-{
-    if marks[place] == Mark::Free {
-        return None;
-    }
-    let mut start = place;
-    while marks[start] != Mark::Start {
-        if start == 0 {
-            return None;
-        }
-        start -= 1;
-    }
-    Some(start)
 }

@@ -62,6 +62,9 @@ fn fills_heap<L: Ledger, R: Abort>(
     owns(rt, heap, bytes, 96, Some(96), steps);
     owns(rt, heap, bytes, 111, Some(96), steps);
     owns(rt, heap, bytes, 112, Some(144), steps);
+    owns(rt, heap, bytes, 207, Some(192), steps);
+    owns(rt, heap, bytes, 208, Some(240), steps);
+    owns(rt, heap, bytes, 256, Some(240), steps);
     owns(rt, heap, bytes, 335, Some(304), steps);
     owns(rt, heap, bytes, 336, None, steps);
     owns(rt, heap, bytes, 1000, None, steps);
@@ -135,6 +138,30 @@ fn writes_block<L: Ledger, R: Abort>(
     assert_eq!(rt; Header::read(bytes, 176, steps), Header::new(3, 15, 5, 9));
 }
 
+// Two heaps in one memory, one behind the other: neither has the other's objects, and headers stay.
+fn shares_memory<L: Ledger, R: Abort>(
+    rt: &R,
+    alloc: Global,
+    steps: &mut Steps<L>,
+) -> Result<(), NoMemory> {
+    let mut bytes = FlatBytes::new(alloc, 400)?;
+    let mut low = Heap::new(alloc, 64, 96)?;
+    let mut high = Heap::new(alloc, 160, 240)?;
+    assert_eq!(rt; (low.base(), low.end()), (64, 160));
+    assert_eq!(rt; (high.base(), high.end()), (160, 400));
+    places(rt, &mut low, &mut bytes, 40, Some(96), steps);
+    places(rt, &mut high, &mut bytes, 40, Some(192), steps);
+    places(rt, &mut low, &mut bytes, 0, None, steps);
+    owns(rt, &low, &bytes, 143, Some(96), steps);
+    owns(rt, &low, &bytes, 160, None, steps);
+    owns(rt, &high, &bytes, 143, None, steps);
+    owns(rt, &high, &bytes, 160, Some(192), steps);
+    let header = Header::new(0x1_0000_0004, 40, 6, 10);
+    assert_eq!(rt; Header::read(&bytes, 64, steps), header);
+    assert_eq!(rt; Header::read(&bytes, 160, steps), header);
+    Ok(())
+}
+
 fn fills<L: Ledger, R: Abort>(rt: &R, alloc: Global, blank: Blank) -> Result<(), NoMemory>
     requires name { blank.name ≡ L.name }
     requires parts { blank.parts ≡ L.parts }
@@ -148,7 +175,7 @@ fn fills<L: Ledger, R: Abort>(rt: &R, alloc: Global, blank: Blank) -> Result<(),
     takes_holes(rt, &mut heap, &mut bytes, &mut steps);
     let mut heap = Heap::new(alloc, 64, 240)?;
     writes_block(rt, &mut heap, &mut bytes, &mut steps);
-    Ok(())
+    shares_memory(rt, alloc, &mut steps)
 }
 
 #[test]

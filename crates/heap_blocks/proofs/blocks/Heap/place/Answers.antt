@@ -1,13 +1,15 @@
-use Rattle.std.proofs.Common.{◌≡◌, ◌+◌, ◌*◌, ◌/◌, ◌∙◌, ℕ, List, Option, sym, ap, subst, arith}
+use Rattle.std.proofs.Common.{◌≡◌, ◌+◌, ◌*◌, ◌/◌, ◌∙◌, ℕ, List, Option, Some, sym, ap, subst, arith}
 use Rattle.std.specs.Prelude.{option_map}
 use Rattle.std.specs.Vec.{with_items}
 use Rattle.std.proofs.lemmas.List.{with_items_is}
 use Rattle.hs_base.specs.Place.{block_size, with_block}
 use Rattle.heap_blocks.specs.declared.headers.Header.{Header}
 use Rattle.heap_blocks.specs.declared.marks.Mark.{Mark}
-use Rattle.heap_blocks.specs.Runs.{IsFirstRun, IsMarked}
+use Rattle.heap_blocks.specs.declared.marks.Mark.TheVariants.{Of}
+use Rattle.heap_blocks.specs.Runs.{IsFirstRun, Filled}
 use Rattle.heap_blocks.specs.Held.{HeapModel, Holds, HasHeaders, IsHeap, address_of, fit_of}
 use Rattle.heap_blocks.proofs.Holding.{marked_heap}
+use Rattle.heap_blocks.proofs.Objects.{new_object}
 use Rattle.heap_blocks.proofs.Placing.{none_fits, placed_address, placed_headers, placed_holds}
 use Rattle.heap_blocks.proofs.blocks.Heap.place.Goals as goal
 
@@ -42,12 +44,12 @@ returns-clause-held g c = λ held holds.
     let same : heap ≡ c.args.self.now = c.self.view_is in
     let count = c.args.size / 16 + 3 in
     let first = subst (λ (h : HeapModel). IsFirstRun h.marks count c.in-Some.from) (sym same) c.in-Some.ensures in
-    let marked = subst (λ (l : List Mark). IsMarked l c.mark_block.new.marks c.in-Some.from count) c.as_mut_slice.ensures.value c.mark_block.ensures in
-    let marks : (with_items c.self.inside.marks c.mark_block.new.marks).items ≡ c.mark_block.new.marks =
-    with_items_is c.self.inside.marks c.mark_block.new.marks (c.mark_block.ensures.long ∙ c.as_mut_slice.ensures.len) in
+    let marked = subst (λ (l : List Mark). Filled l c.fill_marks.new.marks c.in-Some.from count (Of c.in-Some.from)) c.as_mut_slice.ensures.value c.fill_marks.ensures in
+    let marks : (with_items c.self.inside.marks c.fill_marks.new.marks).items ≡ c.fill_marks.new.marks =
+    with_items_is c.self.inside.marks c.fill_marks.new.marks (c.fill_marks.ensures.long ∙ c.as_mut_slice.ensures.len) in
     subst (λ (l : List Mark). Holds (marked_heap heap l) (with_block held c.args.birth (block_size c.args.size) (fit_of c.args.self.now held c.args.size))) (sym marks)
-    (subst (λ (h : HeapModel). Holds (marked_heap heap c.mark_block.new.marks) (with_block held c.args.birth (block_size c.args.size) (fit_of h held c.args.size))) same
-    (placed_holds heap held c.args.size c.self.invariant (subst (λ (h : HeapModel). Holds h held) (sym same) holds) c.in-Some.from c.args.birth c.mark_block.new.marks first marked))
+    (subst (λ (h : HeapModel). Holds (marked_heap heap c.fill_marks.new.marks) (with_block held c.args.birth (block_size c.args.size) (fit_of h held c.args.size))) same
+    (placed_holds heap held c.args.size c.self.invariant (subst (λ (h : HeapModel). Holds h held) (sym same) holds) c.in-Some.from c.args.birth c.fill_marks.new.marks first marked))
 
 pub returns-clause-headers : goal.returns-clause-headers
 returns-clause-headers g c = λ held holds headers.
@@ -56,3 +58,14 @@ returns-clause-headers g c = λ held holds headers.
     let base : c.self.inside.base ≡ heap.base = ap (λ (h : HeapModel). h.base) c.self.view_is in
     subst (λ (n : ℕ). HasHeaders n c.write_block.new.bytes (with_block held c.args.birth (block_size c.args.size) (fit_of heap held c.args.size))) (sym base)
     (placed_headers heap held c.args.size shape holds c.args.bytes.now c.write_block.new.bytes c.in-Some.from c.args.birth (c.self.inside.base + 16 * c.in-Some.from) c.new-header.result c.in-Some.ensures headers c.write_block.ensures.placed (omega arith) (ap (λ (h : Header). h.birth) c.new-header.ensures) (ap (λ (h : Header). h.size) c.new-header.ensures))
+
+pub returns-clause-object : goal.returns-clause-object
+returns-clause-object g c = λ held holds headers.
+    let old = c.args.self.now in
+    let fit = fit_of old held c.args.size in
+    let addr = c.self.inside.base + 16 * c.in-Some.from + 32 in
+    let base : c.self.inside.base ≡ old.base = ap (λ (h : HeapModel). h.base) c.self.view_is in
+    let new : HeapModel = record { base = c.self.inside.base; len = c.self.inside.len; marks = (with_items c.self.inside.marks c.fill_marks.new.marks).items } in
+    new_object new c.write_block.new.bytes held c.args.birth c.args.size addr fit
+    (subst (λ (n : ℕ). Some addr ≡ option_map (λ (p : ℕ). n + p + 32) fit) (sym base) (returns-clause-address g c held holds))
+    (returns-clause-held g c held holds) (returns-clause-headers g c held holds headers)
