@@ -1,0 +1,12 @@
+mod Members
+mod Blocks
+mod Owners
+mod Ascending
+mod Touching
+mod Trying
+mod Reached
+mod Wording
+mod Loaded
+mod Apart
+mod Changing
+mod Stored

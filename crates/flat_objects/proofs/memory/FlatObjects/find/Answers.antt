@@ -1,0 +1,49 @@
+use Rattle.std.proofs.Common.{◌≡◌, ◌≤◌, ◌+◌, ◌-◌, ◌∙◌, ℕ, List, length, Option, Some, sym, ap, arith, subst}
+use Rattle.std.proofs.lemmas.Option.{same_Some}
+use Rattle.hs_base.specs.Object.{object_at}
+use Rattle.heap_blocks.specs.declared.headers.Header.{Header}
+use Rattle.heap_blocks.specs.Heads.{header_at}
+use Rattle.flat_objects.specs.Memory.{Memory, IsMemory}
+use Rattle.flat_objects.specs.Keeping.{KeepsAt, IsKept}
+use Rattle.flat_objects.proofs.Owners.{Kept, kept, owned, own_inside, own_lies, found_at}
+use Rattle.flat_objects.proofs.memory.FlatObjects.find.Goals as goal
+
+pub unreachable-requires : goal.unreachable-requires
+unreachable-requires g c =
+    let k = kept c.args.self.now c.args.addr c.requires.kept c.requires.some in
+    let owner = owned c.args.self.now k.places k.objects k.birth k.offset c.args.addr c.owner.result k.keeps k.at c.owner.ensures in
+    let none = c.in_default.is in
+    cc
+
+pub overflow_sub-start : goal.overflow_sub-start
+overflow_sub-start g c =
+    let k = kept c.args.self.now c.args.addr c.requires.kept c.requires.some in
+    let start : c.in-Some.start ≡ k.places k.birth =
+    same_Some c.in-Some.start (k.places k.birth) (sym c.in-Some.is ∙ owned c.args.self.now k.places k.objects k.birth k.offset c.args.addr c.owner.result k.keeps k.at c.owner.ensures) in
+    let stands = k.keeps.standing k.birth k.at.there in
+    omega (arith, stands.room)
+
+pub read-header-requires-clause-inside : goal.read-header-requires-clause-inside
+read-header-requires-clause-inside g c =
+    let k = kept c.args.self.now c.args.addr c.requires.kept c.requires.some in
+    let start : c.in-Some.start ≡ k.places k.birth =
+    same_Some c.in-Some.start (k.places k.birth) (sym c.in-Some.is ∙ owned c.args.self.now k.places k.objects k.birth k.offset c.args.addr c.owner.result k.keeps k.at c.owner.ensures) in
+    let stands = k.keeps.standing k.birth k.at.there in
+    let shape = subst (IsMemory c.self.inside.locals_from c.self.inside.heap_from) c.self.view_is c.self.invariant in
+    let inside = own_inside c.args.self.now k.places k.objects k.keeps k.birth k.at.there c.self.inside.locals_from c.self.inside.heap_from shape in
+    let bytes : length c.self.inside.bytes ≡ length c.args.self.now.bytes = ap (λ (m : Memory). length m.bytes) c.self.view_is in
+    omega (arith, stands.room)
+
+pub overflow_sub-result : goal.overflow_sub-result
+overflow_sub-result g c =
+    let k = kept c.args.self.now c.args.addr c.requires.kept c.requires.some in
+    let start : c.in-Some.start ≡ k.places k.birth =
+    same_Some c.in-Some.start (k.places k.birth) (sym c.in-Some.is ∙ owned c.args.self.now k.places k.objects k.birth k.offset c.args.addr c.owner.result k.keeps k.at c.owner.ensures) in
+    omega (arith, k.at.address)
+
+pub returns : goal.returns
+returns g c = λ places objects birth offset at.
+    let start : c.in-Some.start ≡ places birth =
+    same_Some c.in-Some.start (places birth) (sym c.in-Some.is ∙ owned c.args.self.now places objects birth offset c.args.addr c.owner.result at.keeps at.stands c.owner.ensures) in
+    let bytes : c.self.inside.bytes ≡ c.args.self.now.bytes = ap (λ (m : Memory). m.bytes) c.self.view_is in
+    found_at c.args.self.now places objects birth offset c.args.addr c.in-Some.start c.read-header.result at start (c.read-header.ensures.header ∙ ap (λ (b : List ℕ). header_at b (c.in-Some.start - 32)) bytes)

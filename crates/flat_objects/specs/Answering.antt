@@ -1,0 +1,40 @@
+-- That the code answers what a definition says.
+use Rattle.std.specs.Prelude.{◌≡◌, ℕ, ℤ, List, Result, Ok, Err}
+use Rattle.hs_base.specs.declared.ends.TrapKind.{TrapKind}
+use Rattle.hs_base.specs.declared.values.Pointer.{Pointer}
+use Rattle.hs_base.specs.declared.values.Value.{Value}
+use Rattle.hs_base.specs.Access.{Refusal, Trapped, Place}
+use Rattle.hs_base.specs.Object.{Object}
+use Rattle.object_meaning.specs.Values.{number, address}
+use Rattle.flat_objects.specs.Memory.{Memory}
+use Rattle.flat_objects.specs.Standing.{IsAddressOf}
+use Rattle.flat_objects.specs.Keeping.{Keeps}
+
+-- the code traps as the definition does
+abbrev pub Traps : {A : Type 0} → TrapKind → Result A Refusal → Type 0
+Traps kind meant = meant ≡ Err (Trapped kind)
+
+-- the code answers a number as the definition does
+abbrev pub AnswersNumber : Result ℤ TrapKind → Result Value Refusal → Type 0
+AnswersNumber (Ok n) meant = meant ≡ Ok (number n)
+AnswersNumber (Err kind) meant = Traps kind meant
+
+-- the code answers an address that stands for the pointer of the definition
+abbrev pub AnswersAddress : (ℕ → ℕ) → List Object → Result ℕ TrapKind → Result Value Refusal → Type 0
+AnswersAddress places objects (Ok addr) meant = (p : Pointer) × (meant ≡ Ok (address p)) × IsAddressOf places objects p addr
+AnswersAddress places objects (Err kind) meant = Traps kind meant
+
+-- the code lets an access through where the definition does
+abbrev pub Allows : Result Unit TrapKind → Result Place Refusal → Type 0
+Allows (Ok u) meant = (at : Place) × (meant ≡ Ok at)
+Allows (Err kind) meant = Traps kind meant
+
+-- a memory keeps other objects than before at the same places, and each address that stood for a pointer still does
+pub record IsChanged (memory : Memory) (places : ℕ → ℕ) (before after : List Object) : Type 0 where
+  pub keeps : Keeps memory places after
+  pub stand : (p : Pointer) (addr : ℕ) → IsAddressOf places before p addr → IsAddressOf places after p addr
+
+-- the memory became one that keeps the objects of the definition, or it traps as the definition does and is the same
+abbrev pub Changes : (ℕ → ℕ) → List Object → Result Unit TrapKind → Memory → Memory → Result (List Object) Refusal → Type 0
+Changes places objects (Ok u) old new meant = (after : List Object) × (meant ≡ Ok after) × IsChanged new places objects after
+Changes places objects (Err kind) old new meant = Traps kind meant × (new ≡ old)

@@ -1,0 +1,55 @@
+-- A memory of objects, and what every one is like.
+use Rattle.std.specs.Prelude.{◌≡◌, ◌+◌, ◌%◌, ◌^◌, ◌<◌, ◌≤◌, ℕ, Bool, true, false, List, length, All}
+use Rattle.c_types.specs.Layouts.{AreSlots}
+use Rattle.hs_base.specs.Object as object
+use Rattle.adjusters.specs.ObjectSlots.{Element}
+use Rattle.heap_blocks.specs.Held.{HeapModel}
+
+-- its bytes, the three ranges of addresses in which objects stand, and the elements of which objects are made, by number
+pub record Memory : Type 0 where
+  pub bytes : List ℕ
+  pub statics : HeapModel
+  pub locals : HeapModel
+  pub heap : HeapModel
+  pub forms : List Element
+
+-- a range for each sort of objects
+pub data Range : Type 0 where
+  Statics : Range
+  Locals : Range
+  Heap : Range
+
+abbrev pub heap_of : Memory → Range → HeapModel
+heap_of memory Statics = memory.statics
+heap_of memory Locals = memory.locals
+heap_of memory Heap = memory.heap
+
+-- do objects of the sort stand in the range?
+abbrev pub is_of : Range → object.Sort → Bool
+is_of Statics (object.Static index) = true
+is_of Locals (object.Local func index) = true
+is_of Heap (object.Heap line) = true
+is_of _ _ = false
+
+abbrev pub range_of : object.Sort → Range
+range_of (object.Static index) = Statics
+range_of (object.Local func index) = Locals
+range_of (object.Heap line) = Heap
+
+abbrev pub end_of : HeapModel → ℕ
+end_of range = range.base + range.len
+
+-- its slots are ascending multiples of 4 inside it, and stay multiples of 4 where it is repeated
+pub record IsForm (form : Element) : Type 0 where
+  pub slots : AreSlots 0 form.size form.slots
+  pub whole : 0 < length form.slots → form.size % 4 ≡ 0
+
+-- the ranges stand side by side within the bytes, those of locals and of the heap from these addresses on
+pub record IsMemory (locals heap : ℕ) (memory : Memory) : Type 0 where
+  pub locals_from : memory.locals.base ≡ locals
+  pub heap_from : memory.heap.base ≡ heap
+  pub statics_end : end_of memory.statics ≤ locals
+  pub locals_end : end_of memory.locals ≤ heap
+  pub heap_end : end_of memory.heap ≤ length memory.bytes
+  pub reach : length memory.bytes < 2 ^ 32
+  pub forms : All IsForm memory.forms

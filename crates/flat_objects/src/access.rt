@@ -1,0 +1,166 @@
+//! Reading and writing objects (C99 6.5.3.2).
+
+ghost use Rattle.std.specs.Prelude.{◌≡◌, ◌+◌, ◌*◌, ◌%◌, ◌^◌, ◌<◌, ◌≤◌, ◌⊎◌, ℕ, List, OnOk, length};
+ghost use Rattle.hs_base.specs.Object.{Object};
+ghost use Rattle.hs_base.specs.Access.{access_integer, access_pointer, touches_slot};
+ghost use Rattle.hs_base.specs.Numbers.{low_bits, width};
+ghost use Rattle.adjusters.specs.ObjectSlots.{object_slots};
+ghost use Rattle.object_meaning.specs.Memory.{loaded, loaded_pointer, stored, stored_pointer};
+ghost use Rattle.flat_objects.specs.Memory.{IsForm};
+ghost use Rattle.flat_objects.specs.Standing.{IsAddressOf};
+ghost use Rattle.flat_objects.specs.Keeping.{KeepsAt, IsKept};
+ghost use Rattle.flat_objects.specs.Reaching.{Reaches};
+ghost use Rattle.flat_objects.specs.Answering.{Allows, AnswersNumber, AnswersAddress, Changes};
+
+use crate::finding::Found;
+use crate::memory::FlatObjects;
+use adjusters::Adjuster;
+use hs_base::{IntKind, Pointer, Steps, TrapKind};
+use std::sync::ledger::Ledger;
+
+/// Says whether 1, 2, 4 or 8 bytes at an offset that their number divides touch a slot of an object.
+fn touches_slot(form: &Adjuster, size: u32, offset: u32, n: u32) -> bool
+    requires form { IsForm form.now }
+    requires width { (n ≡ 1) ⊎ ((n ≡ 2) ⊎ ((n ≡ 4) ⊎ (n ≡ 8))) }
+    requires aligned { offset % n ≡ 0 }
+    requires inside { offset + n ≤ size }
+    ensures { result ≡ touches_slot (object_slots form.now size) offset n }
+{
+    if form.is_slot(size, offset / 4 * 4) {
+        return true;
+    }
+    n == 8 && form.is_slot(size, offset + 4)
+}
+
+/// The low bits of a number, as many as a kind has.
+fn low_bits(kind: IntKind, n: i128) -> u64
+    ensures value { result ≡ low_bits (8 * width kind) n }
+    ensures bound { result < 2 ^ (8 * width kind) }
+{
+    match kind {
+        IntKind::I8 | IntKind::U8 => n.rem_euclid(1 << 8) as u64,
+        IntKind::I16 | IntKind::U16 => n.rem_euclid(1 << 16) as u64,
+        IntKind::I32 | IntKind::U32 => n.rem_euclid(1 << 32) as u64,
+        IntKind::I64 | IntKind::U64 => n.rem_euclid(1 << 64) as u64,
+    }
+}
+
+impl FlatObjects {
+    /// Tries an access to so many bytes at an address: null, past the size, at an odd offset.
+    fn reach<L: Ledger>(
+        &self,
+        addr: u32,
+        n: u32,
+        steps: &mut Steps<L>,
+    ) -> Result<Found, TrapKind>
+        requires kept { IsKept self.now addr }
+        requires some { 0 < n }
+        ensures { (places : ℕ → ℕ) (objects : List Object) (p : Pointer) → KeepsAt self.now places objects p addr → Reaches self.now places objects p n result }
+    {
+        if addr == 0 {
+            return Err(TrapKind::Null);
+        }
+        let found = self.find(addr, steps);
+        if found.size - found.offset < n {
+            return Err(TrapKind::Bounds);
+        }
+        if found.offset % n != 0 {
+            return Err(TrapKind::Align);
+        }
+        Ok(found)
+    }
+
+    /// Tries an access to an integer of so many bytes.
+    fn access_integer<L: Ledger>(
+        &self,
+        addr: u32,
+        n: u32,
+        steps: &mut Steps<L>,
+    ) -> Result<(), TrapKind>
+        requires kept { IsKept self.now addr }
+        requires width { (n ≡ 1) ⊎ ((n ≡ 2) ⊎ ((n ≡ 4) ⊎ (n ≡ 8))) }
+        ensures allows { (places : ℕ → ℕ) (objects : List Object) (p : Pointer) → KeepsAt self.now places objects p addr → Allows result (access_integer objects p n) }
+        ensures inside { OnOk result (addr + n ≤ length self.now.bytes) }
+    {
+        let found = self.reach(addr, n, steps)?;
+        let form = &self.forms[found.layout as usize];
+        if touches_slot(form, found.size, found.offset, n) {
+            return Err(TrapKind::Layout);
+        }
+        Ok(())
+    }
+
+    /// Tries an access to a pointer.
+    fn access_pointer<L: Ledger>(&self, addr: u32, steps: &mut Steps<L>) -> Result<(), TrapKind>
+        requires { IsKept self.now addr }
+        ensures allows { (places : ℕ → ℕ) (objects : List Object) (p : Pointer) → KeepsAt self.now places objects p addr → Allows result (access_pointer objects p) }
+        ensures inside { OnOk result (addr + 4 ≤ length self.now.bytes) }
+    {
+        let found = self.reach(addr, 4, steps)?;
+        let form = &self.forms[found.layout as usize];
+        if !form.is_slot(found.size, found.offset) {
+            return Err(TrapKind::Layout);
+        }
+        Ok(())
+    }
+
+    /// The integer of a kind at an address. It traps as an access does.
+    pub fn load<L: Ledger>(
+        &self,
+        kind: IntKind,
+        addr: u32,
+        steps: &mut Steps<L>,
+    ) -> Result<i128, TrapKind>
+        requires { IsKept self.now addr }
+        ensures { (places : ℕ → ℕ) (objects : List Object) (p : Pointer) → KeepsAt self.now places objects p addr → AnswersNumber result (loaded objects kind p) }
+    {
+        let width = kind.bytes();
+        self.access_integer(addr, width, steps)?;
+        Ok(kind.wrap(i128::from(self.bytes.read(addr, width, steps))))
+    }
+
+    /// The pointer at an address. It traps as an access does.
+    pub fn load_pointer<L: Ledger>(
+        &self,
+        addr: u32,
+        steps: &mut Steps<L>,
+    ) -> Result<u32, TrapKind>
+        requires { IsKept self.now addr }
+        ensures { (places : ℕ → ℕ) (objects : List Object) (p : Pointer) → KeepsAt self.now places objects p addr → AnswersAddress places objects result (loaded_pointer objects p) }
+    {
+        self.access_pointer(addr, steps)?;
+        Ok(self.bytes.read(addr, 4, steps) as u32)
+    }
+
+    /// Writes an integer at an address, converted to a kind. It traps as an access does, and then nothing changes.
+    pub fn store<L: Ledger>(
+        &mut self,
+        kind: IntKind,
+        addr: u32,
+        n: i128,
+        steps: &mut Steps<L>,
+    ) -> Result<(), TrapKind>
+        requires { IsKept self.old addr }
+        ensures { (places : ℕ → ℕ) (objects : List Object) (p : Pointer) → KeepsAt self.old places objects p addr → Changes places objects result self.old self.new (stored objects kind p n) }
+    {
+        let width = kind.bytes();
+        self.access_integer(addr, width, steps)?;
+        self.bytes.write(addr, width, low_bits(kind, n), steps);
+        Ok(())
+    }
+
+    /// Writes a pointer, by its address, at an address. It traps as an access does, and then nothing changes.
+    pub fn store_pointer<L: Ledger>(
+        &mut self,
+        addr: u32,
+        target: u32,
+        steps: &mut Steps<L>,
+    ) -> Result<(), TrapKind>
+        requires { IsKept self.old addr }
+        ensures { (places : ℕ → ℕ) (objects : List Object) (p q : Pointer) → KeepsAt self.old places objects p addr → IsAddressOf places objects q target → Changes places objects result self.old self.new (stored_pointer objects p q) }
+    {
+        self.access_pointer(addr, steps)?;
+        self.bytes.write(addr, 4, u64::from(target), steps);
+        Ok(())
+    }
+}

@@ -1,0 +1,57 @@
+//! The object of an address.
+
+ghost use Rattle.std.specs.Prelude.{◌≡◌, ◌+◌, ◌<◌, ◌≤◌, ℕ, List};
+ghost use Rattle.hs_base.specs.Object.{Object};
+ghost use Rattle.hs_base.specs.Place.{Block};
+ghost use Rattle.heap_blocks.specs.Held.{Holds, owner_of};
+ghost use Rattle.flat_objects.specs.Memory.{Range, heap_of, end_of};
+ghost use Rattle.flat_objects.specs.Keeping.{KeepsAt, IsKept};
+ghost use Rattle.flat_objects.specs.Reaching.{IsFound};
+
+use crate::memory::FlatObjects;
+use heap_blocks::{HEADER_SIZE, Header};
+use hs_base::{Pointer, Steps};
+use std::sync::ledger::Ledger;
+
+/// An offset in an object: the address of the object's first byte, the offset, the object's size in bytes, and the number
+/// of the layout of its elements.
+#[derive(Clone, Copy, Debug, PartialEq, Eq)]
+pub(crate) struct Found {
+    pub(crate) start: u32,
+    pub(crate) offset: u32,
+    pub(crate) size: u32,
+    pub(crate) layout: u32,
+}
+
+impl FlatObjects {
+    /// The start of the object whose block holds the byte at an address of a range.
+    fn owner<L: Ledger>(&self, addr: u32, steps: &mut Steps<L>) -> Option<u32>
+        ensures { (range : Range) (held : List Block) → (heap_of self.now range).base ≤ addr → addr < end_of (heap_of self.now range) → Holds (heap_of self.now range) held → result ≡ owner_of (heap_of self.now range) held addr }
+    {
+        if addr < self.locals_from {
+            self.statics.owner(&self.bytes, addr, steps)
+        } else if addr < self.heap_from {
+            self.locals.owner(&self.bytes, addr, steps)
+        } else {
+            self.heap.owner(&self.bytes, addr, steps)
+        }
+    }
+
+    /// The object of an address that is not null, and its offset in it.
+    pub(crate) fn find<L: Ledger>(&self, addr: u32, steps: &mut Steps<L>) -> Found
+        requires kept { IsKept self.now addr }
+        requires some { 0 < addr }
+        ensures { (places : ℕ → ℕ) (objects : List Object) (birth offset : ℕ) → KeepsAt self.now places objects (Pointer.At birth offset) addr → IsFound self.now places objects birth offset result }
+    {
+        let Some(start) = self.owner(addr, steps) else {
+            unreachable!()
+        };
+        let header = Header::read(&self.bytes, start - HEADER_SIZE, steps);
+        Found {
+            start,
+            offset: addr - start,
+            size: header.size,
+            layout: header.layout,
+        }
+    }
+}

@@ -1,0 +1,32 @@
+//! The memory of a run.
+
+use adjusters::Adjuster;
+use heap_blocks::Heap;
+use hs_base::FlatBytes;
+use std::marker::Model;
+
+/// One memory of bytes with three ranges side by side: the statics, the memory locals and the heap. Each object that is not
+/// dead has a block in the range of its sort: a header, and behind it the object. A slot holds an address of 4 bytes.
+#[derive(Drop)]
+pub struct FlatObjects {
+    pub(crate) bytes: FlatBytes,
+    pub(crate) statics: Heap,
+    pub(crate) locals: Heap,
+    pub(crate) heap: Heap,
+    /// Where the range of memory locals begins.
+    pub(crate) locals_from: u32,
+    /// Where the heap begins.
+    pub(crate) heap_from: u32,
+    /// The slots of elements, by the number of the layout.
+    pub(crate) forms: Vec<Adjuster>,
+}
+
+impl Model for FlatObjects {
+    ghost use Rattle.flat_objects.specs.Memory.{Memory, IsMemory};
+
+    ghost Value = { Memory };
+
+    ghost view = { λ o. record { bytes = o.bytes; statics = o.statics; locals = o.locals; heap = o.heap; forms = o.forms.items } };
+
+    ghost invariant = { λ o. IsMemory o.locals_from o.heap_from (record { bytes = o.bytes; statics = o.statics; locals = o.locals; heap = o.heap; forms = o.forms.items }) };
+}
