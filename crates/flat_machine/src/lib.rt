@@ -1,0 +1,6 @@
+//! The machine that runs flat code over flat bytes.
+#![tactic(auto)]
+
+mod call;
+mod calls;
+mod words;
