@@ -1,3 +1,6 @@
 pub mod Words
 pub mod Kept
 pub mod Stacked
+pub mod Standing
+pub mod Leading
+pub mod Groups

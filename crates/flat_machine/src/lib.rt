@@ -3,4 +3,5 @@
 
 mod call;
 mod calls;
+mod state;
 mod words;
