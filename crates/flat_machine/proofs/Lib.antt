@@ -1,3 +1,5 @@
 pub mod Stacks
 pub mod WordLists
 pub mod Stays
+pub mod Plain
+pub mod Hands
