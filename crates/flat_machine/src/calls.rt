@@ -1,7 +1,7 @@
 //! The active calls.
 
 ghost use Rattle.std.specs.Prelude.{◌≡◌, ◌+◌, ◌*◌, ◌<◌, ◌≤◌, ◌^◌, ◌++◌, [], ◌∷◌, ℕ, IfOk, IsTrue, false, map, drop, length, slice_index_or};
-ghost use Rattle.flat_machine.specs.Kept.{Active, at_point, onward, put};
+ghost use Rattle.flat_machine.specs.Kept.{Active, GoesBack, at_point, onward, put};
 ghost use Rattle.flat_machine.specs.Words.{no_word, first_word};
 
 use crate::call::Call;
@@ -152,5 +152,18 @@ impl Calls {
             base,
             used: caller.used + cost,
         };
+    }
+
+    /// The newest of the waiting calls runs again, where there is one.
+    pub(crate) fn back(&mut self) -> bool
+        ensures yes { IsTrue result → GoesBack self.old self.new }
+        ensures no { result ≡ false → (self.old.waiting ≡ []) × (self.new ≡ self.old) }
+    {
+        let Some(caller) = self.waiting.pop() else {
+            return false;
+        };
+        self.words.truncate(self.running.base);
+        self.running = caller;
+        true
     }
 }

@@ -4,7 +4,10 @@
 mod arithmetic;
 mod call;
 mod calls;
+mod calling;
+mod counted;
 mod handing;
 mod jumps;
+mod memory;
 mod state;
 mod words;
