@@ -1,0 +1,17 @@
+pub mod Numbers
+pub mod Pointing
+pub mod Lists
+pub mod SlotCounts
+pub mod Touching
+pub mod Texts
+pub mod Made
+pub mod Ready
+pub mod Frames
+pub mod Standing
+pub mod Calling
+pub mod Returning
+pub mod Acting
+pub mod Stepping
+pub mod Falling
+pub mod Beginning
+pub mod Ending

@@ -1,0 +1,5 @@
+use Rattle.code_soundness.proofs.Beginning.{begins_well}
+use Rattle.code_soundness.proofs.laws.run_begins_well.Goals as goal
+
+pub returns : goal.returns
+returns c = λ code wf free holds input bytes n trace. begins_well code wf free holds input bytes n trace

@@ -1,0 +1,4 @@
+pub mod Freeless
+pub mod Objects
+pub mod Good
+pub mod Laws
