@@ -6,3 +6,8 @@ pub mod Hands
 pub mod Entered
 pub mod Backs
 pub mod Accesses
+pub mod Prints
+pub mod OneByte
+pub mod Cuts
+pub mod Reached
+pub mod Goods

@@ -4,4 +4,8 @@ pub mod Stacked
 pub mod Standing
 pub mod Leading
 pub mod Writing
+pub mod Running
 pub mod Groups
+pub mod Built
+pub mod Loaded
+pub mod Well

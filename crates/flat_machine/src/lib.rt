@@ -8,6 +8,8 @@ mod calling;
 mod counted;
 mod handing;
 mod jumps;
+mod loaded;
 mod memory;
+mod output;
 mod state;
 mod words;

@@ -73,7 +73,10 @@ impl State {
         let mut written = 0;
         for i in 0..pieces.len() {
             let piece = &pieces[i];
-            written += i128::from(put_piece(out, piece, self.integer(place))?);
+            match put_piece(out, piece, self.integer(place)) {
+                Ok(len) => written += i128::from(len),
+                Err(failed) => return Err(failed),
+            }
             place = place_behind(piece, place);
         }
         Ok(written)
@@ -92,7 +95,7 @@ impl State {
         requires numbers { All PrintsNoString pieces.now }
         ensures told { (line : ℕ) (places : ℕ → ℕ) (c : CodeState) (format taken : List ℕ) → Stands places c self.old → pieces.now ≡ pieces_of format → O.taken out.old ≡ Some taken → Seen self.old (same_numbers c.numbers (print_format line r format c.handed c.state)) c.state.input taken result self.new (Some c.state.input) (O.taken out.new) }
         ensures faults { (i : ℕ) → Counted result i i (O.faults out.old) (O.faults out.new) }
-        ensures moves { (line : ℕ) (places : ℕ → ℕ) (c : CodeState) (format : List ℕ) → Stands places c self.old → pieces.now ≡ pieces_of format → Moves (same_numbers c.numbers (print_format line r format c.handed c.state)) self.new result }
+        ensures moves { (line : ℕ) (places : ℕ → ℕ) (c : CodeState) (format : List ℕ) → Stands places c self.old → pieces.now ≡ pieces_of format → Moves self.old (same_numbers c.numbers (print_format line r format c.handed c.state)) self.new result }
     {
         match self.put_pieces(pieces, out) {
             Ok(n) => {
@@ -109,7 +112,7 @@ impl State {
         requires count { O.faults out.old + 1 < 2 ^ 64 }
         ensures told { (places : ℕ → ℕ) (c : CodeState) (taken : List ℕ) → Stands places c self.old → O.taken out.old ≡ Some taken → Seen self.old (same_numbers c.numbers (put_byte r (byte_in n) c.state)) c.state.input taken result self.new (Some c.state.input) (O.taken out.new) }
         ensures faults { (i : ℕ) → Counted result i i (O.faults out.old) (O.faults out.new) }
-        ensures moves { (places : ℕ → ℕ) (c : CodeState) → Stands places c self.old → Moves (same_numbers c.numbers (put_byte r (byte_in n) c.state)) self.new result }
+        ensures moves { (places : ℕ → ℕ) (c : CodeState) → Stands places c self.old → Moves self.old (same_numbers c.numbers (put_byte r (byte_in n) c.state)) self.new result }
     {
         let byte = byte_in(n);
         match put_all(out, &[byte]) {
@@ -127,7 +130,7 @@ impl State {
         requires count { I.faults input.old + 1 < 2 ^ 64 }
         ensures told { (places : ℕ → ℕ) (c : CodeState) (taken : List ℕ) → Stands places c self.old → I.left input.old ≡ Some c.state.input → Seen self.old (same_numbers c.numbers (get_byte r c.state.input c.state)) c.state.input taken result self.new (I.left input.new) (Some taken) }
         ensures faults { (o : ℕ) → Counted result (I.faults input.old) (I.faults input.new) o o }
-        ensures moves { (places : ℕ → ℕ) (c : CodeState) → Stands places c self.old → (left : List ℕ) × All IsByte left × Moves (same_numbers c.numbers (get_byte r left (with_input left c.state))) self.new result }
+        ensures moves { (places : ℕ → ℕ) (c : CodeState) → Stands places c self.old → (left : List ℕ) × All IsByte left × Moves self.old (same_numbers c.numbers (get_byte r left (with_input left c.state))) self.new result }
     {
         match input.next() {
             Ok(Some(byte)) => {
@@ -157,7 +160,7 @@ impl State {
         requires out { O.faults out.old + 1 < 2 ^ 64 }
         ensures told { (places : ℕ → ℕ) (c : CodeState) (taken : List ℕ) → Stands places c self.old → I.left input.old ≡ Some c.state.input → O.taken out.old ≡ Some taken → Seen self.old (same_numbers c.numbers (call_lib line name r c.handed c.state)) c.state.input taken result self.new (I.left input.new) (O.taken out.new) }
         ensures faults { Counted result (I.faults input.old) (I.faults input.new) (O.faults out.old) (O.faults out.new) }
-        ensures moves { (places : ℕ → ℕ) (c : CodeState) → Stands places c self.old → (left : List ℕ) × All IsByte left × Moves (same_numbers c.numbers (call_lib line name r c.handed (with_input left c.state))) self.new result }
+        ensures moves { (places : ℕ → ℕ) (c : CodeState) → Stands places c self.old → (left : List ℕ) × All IsByte left × Moves self.old (same_numbers c.numbers (call_lib line name r c.handed (with_input left c.state))) self.new result }
     {
         match name {
             LibName::Getchar => self.get(r, input),
