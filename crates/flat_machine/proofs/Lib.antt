@@ -11,3 +11,4 @@ pub mod OneByte
 pub mod Cuts
 pub mod Reached
 pub mod Goods
+pub mod Stepped

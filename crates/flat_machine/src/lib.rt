@@ -12,4 +12,5 @@ mod loaded;
 mod memory;
 mod output;
 mod state;
+mod steps;
 mod words;

@@ -1,0 +1,106 @@
+//! One instruction.
+
+ghost use Rattle.std.specs.Prelude.{◌≡◌, ◌+◌, ◌<◌, ◌≤◌, ◌^◌, [], ℕ, List, All, IfOk, Some, map, length, slice_get, slice_index, slice_index_or};
+ghost use Rattle.hs_base.specs.Trace.{Event};
+ghost use Rattle.c_print.specs.Format.{IsGiven};
+ghost use Rattle.c_print.specs.Pieces.{pieces_of};
+ghost use Rattle.flat_code.specs.WellFormed.{IsWellFormed};
+ghost use Rattle.flat_code.specs.declared.instructions.Op.TheVariants as ops;
+ghost use Rattle.flat_objects.specs.Keeping.{IsKept};
+ghost use Rattle.meaning_run.specs.Leading.{with_input};
+ghost use Rattle.meaning_state.specs.Printing.{PrintsNoString};
+ghost use Rattle.code_meaning.specs.CodeState.{CodeState};
+ghost use Rattle.code_meaning.specs.CodeMeaning.{handed_value, hand_or_act, step};
+ghost use Rattle.code_soundness.specs.Objects.{IsByte};
+ghost use Rattle.flat_machine.specs.Words.{address_at};
+ghost use Rattle.flat_machine.specs.Standing.{Stands};
+ghost use Rattle.flat_machine.specs.Groups.{IsHanding, IsValues, IsJump, IsMemory, IsAlone, IsIntegerLib};
+ghost use Rattle.flat_machine.specs.Built.{IsBuilt, IsBuiltOp};
+ghost use Rattle.flat_machine.specs.Loaded.{IsLoaded};
+ghost use Rattle.flat_machine.specs.Well.{IsWell};
+ghost use Rattle.flat_machine.specs.Leading.{Alone, Counted, Moves, Seen, WaitsAtCall, HasNoLocal, MayHand, MayCall};
+
+use crate::loaded::Loaded;
+use crate::state::State;
+use c_print::Piece;
+use flat_code::{Code, Instr, Op};
+use flat_objects::Word;
+use hs_base::{End, Items, Line, Sink, Source};
+
+/// The pieces at a place, and none where there are none.
+fn pieces_at(formats: &[Items<Piece>], k: u32) -> &[Piece]
+    ensures { result.now ≡ slice_index_or formats.now k [] }
+{
+    let k = k as usize;
+    if k < formats.len() {
+        formats[k].as_slice()
+    } else {
+        &[]
+    }
+}
+
+/// Calls a function.
+fn call(
+    state: &mut State,
+    code: &Code,
+    loaded: &Loaded,
+    line: Line,
+    instr: Instr,
+) -> Result<(), End>
+    requires point { state.old.calls.running.point + 1 < 2 ^ 64 }
+    requires built { IsBuilt code.now }
+    requires loaded { IsLoaded code.now loaded.now }
+    requires may { MayCall code.now instr state.old }
+    ensures { (places : ℕ → ℕ) (c : CodeState) → Stands places c state.old → instr.op ≡ ops.Call → Alone c.state.input state.old (hand_or_act code.now line instr (handed_value c.state.running instr ops.Call) c) state.new result }
+{
+    let f = instr.b as usize;
+    let Some(callee) = code.funcs.get(f) else {
+        unreachable!()
+    };
+    let Some(cost) = loaded.costs.get(f) else {
+        unreachable!()
+    };
+    state.act_call(line, instr, callee, *cost)
+}
+
+/// An instruction that neither writes nor reads a byte.
+fn act_alone(
+    state: &mut State,
+    code: &Code,
+    loaded: &Loaded,
+    line: Line,
+    instr: Instr,
+    op: Op,
+) -> Result<(), End>
+    requires point { state.old.calls.running.point + 1 < 2 ^ 64 }
+    requires built { IsBuilt code.now }
+    requires alone { IsAlone op }
+    requires loaded { IsLoaded code.now loaded.now }
+    requires hands { IsHanding op → MayHand instr op state.old }
+    requires kept { IsMemory op → IsKept state.old.memory (address_at state.old.handed 0) }
+    requires may { op ≡ ops.Call → MayCall code.now instr state.old }
+    requires waits { WaitsAtCall code.now state.old.calls.waiting }
+    requires locals { HasNoLocal code.now state.old.calls }
+    ensures { (places : ℕ → ℕ) (c : CodeState) → Stands places c state.old → instr.op ≡ op → Alone c.state.input state.old (hand_or_act code.now line instr (handed_value c.state.running instr op) c) state.new result }
+{
+    match op {
+        Op::HandReg | Op::HandInt | Op::HandUnsigned | Op::HandNull | Op::HandStatic => {
+            state.act_hand(instr, op);
+            Ok(())
+        }
+        Op::Set | Op::Conv(..) | Op::Un(..) | Op::Bin(..) | Op::Cmp(..) | Op::Test => {
+            state.act_values(line, instr, op)
+        }
+        Op::Jump | Op::Zero | Op::Case | Op::Loop => state.act_jump(line, instr, op),
+        Op::Load(..) | Op::Loadp | Op::Store(..) | Op::Storep => {
+            state.act_memory(line, instr, op)
+        }
+        Op::Call => call(state, code, loaded, line, instr),
+        Op::Return => state.act_return(code, Word::Number(0)),
+        Op::Give => {
+            let answer = state.word(0);
+            state.act_return(code, answer)
+        }
+        _ => unreachable!(),
+    }
+}
