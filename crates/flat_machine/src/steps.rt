@@ -20,6 +20,7 @@ ghost use Rattle.flat_machine.specs.Loaded.{IsLoaded};
 ghost use Rattle.flat_machine.specs.Well.{IsWell};
 ghost use Rattle.flat_machine.specs.Leading.{Alone, Counted, Moves, Seen, WaitsAtCall, HasNoLocal, MayHand, MayCall};
 
+use crate::calling::chosen;
 use crate::loaded::Loaded;
 use crate::state::State;
 use c_print::Piece;
@@ -102,5 +103,41 @@ fn act_alone(
             state.act_return(code, answer)
         }
         _ => unreachable!(),
+    }
+}
+
+/// One instruction of well formed code.
+pub(crate) fn one_step<I: Source, O: Sink>(
+    state: &mut State,
+    code: &Code,
+    loaded: &Loaded,
+    input: &mut I,
+    out: &mut O,
+) -> Result<(), End>
+    requires formed { IsWellFormed code.now }
+    requires built { IsBuilt code.now }
+    requires loaded { IsLoaded code.now loaded.now }
+    requires well { IsWell code.now state.old }
+    requires input { I.faults input.old + 1 < 2 ^ 64 }
+    requires out { O.faults out.old + 1 < 2 ^ 64 }
+    ensures told { (places : ℕ → ℕ) (c : CodeState) (trace : List Event) (taken : List ℕ) → Stands places c state.old → I.left input.old ≡ Some c.state.input → O.taken out.old ≡ Some taken → Seen state.old (step code.now trace c) c.state.input taken result state.new (I.left input.new) (O.taken out.new) }
+    ensures faults { Counted result (I.faults input.old) (I.faults input.new) (O.faults out.old) (O.faults out.new) }
+    ensures moves { (places : ℕ → ℕ) (c : CodeState) → Stands places c state.old → (left : List ℕ) × All IsByte left × Moves state.old (step code.now [] (record c { state = with_input left c.state })) state.new result }
+{
+    let point = state.point();
+    let Some(instr) = code.instrs.get(point) else {
+        unreachable!()
+    };
+    let Some(line) = code.lines.get(point) else {
+        unreachable!()
+    };
+    let instr = *instr;
+    match instr.op {
+        Op::Lib(name) => state.act_lib(*line, name, chosen(instr), input, out),
+        Op::Printf => {
+            let pieces = pieces_at(loaded.formats.as_slice(), instr.b);
+            state.act_printf(instr.a, pieces, out)
+        }
+        op => act_alone(state, code, loaded, *line, instr, op),
     }
 }

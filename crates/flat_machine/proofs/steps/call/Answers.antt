@@ -1,4 +1,5 @@
-use Rattle.std.proofs.Common.{sym, ◌∙◌, ap}
+use Rattle.std.proofs.Common.{refl, sym}
+use Rattle.flat_code.specs.declared.instructions.Op.TheVariants.{Call}
 use Rattle.flat_machine.proofs.Stepped.{no_callee, no_cost, cost_is, callee_arguments, taken_alone}
 use Rattle.flat_machine.proofs.steps.call.Goals as goal
 
@@ -21,4 +22,5 @@ act_call-requires-clause-arguments c =
     callee_arguments c.args.code.now c.args.instr c.args.state.now c.requires.may c.in-Some.callee.now (sym c.in-Some.ensures.item)
 
 pub returns : goal.returns
-returns c = λ places s h is. ?
+returns c = λ places s h is.
+    taken_alone c.args.code.now c.args.line c.args.instr Call s s.state.input c.args.state.now c.act_call.new.self c.act_call.result refl is (c.act_call.ensures c.args.code.now places s h (sym c.in-Some.ensures.item))
