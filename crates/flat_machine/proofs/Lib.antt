@@ -12,3 +12,4 @@ pub mod Cuts
 pub mod Reached
 pub mod Goods
 pub mod Stepped
+pub mod Loops
