@@ -13,3 +13,4 @@ pub mod Reached
 pub mod Goods
 pub mod Stepped
 pub mod Loops
+pub mod Starts

@@ -9,3 +9,4 @@ pub mod Groups
 pub mod Built
 pub mod Loaded
 pub mod Well
+pub mod First
