@@ -1,9 +1,9 @@
 -- Objects that are not dead stand apart.
-use Rattle.std.proofs.Common.{◌≡◌, ◌<◌, ◌≤◌, ◌+◌, ◌-◌, ◌⊎◌, inl, inr, ℕ, List, length, sym, ap, ◌∙◌, refl, subst, arith}
+use Rattle.std.proofs.Common.{◌≡◌, ◌≤◌, ◌+◌, ◌⊎◌, inl, inr, ℕ, List, ap, refl, subst, arith}
 use Rattle.std.specs.Prelude.{Contains}
 use Rattle.hs_base.specs.Object.{Object, object_at}
-use Rattle.hs_base.specs.Place.{Block, block_size}
-use Rattle.heap_blocks.specs.Held.{HeapModel, AreApart}
+use Rattle.hs_base.specs.Place.{Block}
+use Rattle.heap_blocks.specs.Held.{AreApart}
 use Rattle.flat_objects.specs.Memory.{Memory, Range, Statics, Locals, Heap, IsMemory, heap_of, range_of, end_of}
 use Rattle.flat_objects.specs.Standing.{IsThere}
 use Rattle.flat_objects.specs.Keeping.{Keeps, blocks_of}
@@ -16,12 +16,12 @@ abbrev pub EndsBefore : (ℕ → ℕ) → List Object → ℕ → ℕ → Type 0
 EndsBefore places objects b c = places b + (object_at objects b).size + 33 ≤ places c
 
 -- two ranges are the same, or one ends before the other
-abbrev RangesApart : Memory → Range → Range → Type 0
+abbrev pub RangesApart : Memory → Range → Range → Type 0
 RangesApart memory r s =
     (r ≡ s) ⊎ ((end_of (heap_of memory r) ≤ (heap_of memory s).base) ⊎ (end_of (heap_of memory s) ≤ (heap_of memory r).base))
 
 module _ (locals heap : ℕ) (memory : Memory) (shape : IsMemory locals heap memory) where
-  ranges_apart : (r s : Range) → RangesApart memory r s
+  pub ranges_apart : (r s : Range) → RangesApart memory r s
   ranges_apart Statics Statics = inl refl
   ranges_apart Statics Locals = inr (inl (omega (arith, shape.statics_end, shape.locals_from)))
   ranges_apart Statics Heap = inr (inl (omega (arith, shape.statics_end, shape.locals_end, shape.locals_from, shape.heap_from)))

@@ -1,19 +1,18 @@
 -- The blocks that a memory holds.
-use Rattle.std.proofs.Common.{◌≡◌, ◌<◌, ◌≤◌, ◌+◌, ◌-◌, ◌⊎◌, inl, inr, ℕ, zero, suc, Bool, true, false, List, [], ◌∷◌, length, get_or, Option, Some, None, refl, sym, ap, ◌∙◌, subst, arith, cond, zero-add}
-use Rattle.std.specs.Prelude.{map, filter, AllPairs, Contains, All, find, option_map, not, nat_le, nat_lt}
+use Rattle.std.proofs.Common.{◌≡◌, ◌<◌, ◌≤◌, ◌+◌, inl, inr, ℕ, zero, suc, true, List, [], ◌∷◌, length, get_or, Some, refl, ap, ◌∙◌, subst, arith, zero-add}
+use Rattle.std.specs.Prelude.{AllPairs, Contains, find, option_map, not, nat_le, nat_lt}
 use Rattle.std.specs.List.{enumerate_from}
 use Rattle.std.proofs.lemmas.Bool.{cases_lt, cond-true, cond-false, cases_Bool, and_from, and_parts, le-leb, lt-ltb, leb-true, ltb-true, not_from_false}
-use Rattle.std.proofs.lemmas.List.{get_or_past, get_or_default}
-use Rattle.std.proofs.lemmas.List.Elements.{All-contains}
+use Rattle.std.proofs.lemmas.List.{get_or_past}
 use Rattle.std.proofs.lemmas.List.FromFn.{length-enumerate_from, get_or-enumerate_from}
 use Rattle.hs_base.specs.Object as object
 use Rattle.hs_base.specs.Object.{Object, Sort, is_dead, no_object, object_at}
-use Rattle.hs_base.specs.Place.{Block, block_size}
-use Rattle.heap_blocks.specs.Held.{HeapModel, Holds, IsBlock, AreApart, address_of, has_address, owner_of}
-use Rattle.flat_objects.specs.Memory.{Memory, Range, heap_of, is_of, range_of}
+use Rattle.hs_base.specs.Place.{Block}
+use Rattle.heap_blocks.specs.Held.{HeapModel, Holds, AreApart, address_of, has_address, owner_of}
+use Rattle.flat_objects.specs.Memory.{Memory, heap_of, is_of, range_of}
 use Rattle.flat_objects.specs.Standing.{IsThere}
-use Rattle.flat_objects.specs.Keeping.{block_of, blocks_of, stands_in, Keeps}
-use Rattle.flat_objects.proofs.Members.{contains_kept, related}
+use Rattle.flat_objects.specs.Keeping.{block_of, blocks_of, stands_in}
+use Rattle.flat_objects.proofs.Members.{contains_kept}
 
 -- an object that is not dead was made
 pub there_below : (objects : List Object) (birth : ℕ) → IsThere objects birth → birth < length objects

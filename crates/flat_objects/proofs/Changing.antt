@@ -1,13 +1,13 @@
 -- What a memory keeps after the bytes of one object changed.
-use Rattle.std.proofs.Common.{◌≡◌, ◌<◌, ◌≤◌, ◌+◌, ◌-◌, ◌⊎◌, inl, inr, ℕ, zero, suc, Bool, true, false, cond, not, List, [], ◌∷◌, length, get_or, set, sym, ap, ◌∙◌, refl, subst, arith}
-use Rattle.std.specs.Prelude.{map, filter, Contains, slice_index, slice_index_or, ◌&&◌}
+use Rattle.std.proofs.Common.{◌≡◌, ◌<◌, ◌≤◌, ◌+◌, ◌-◌, ◌⊎◌, inl, inr, ℕ, zero, suc, Bool, true, false, cond, not, List, [], ◌∷◌, length, set, sym, ap, ◌∙◌, refl, subst, arith}
+use Rattle.std.specs.Prelude.{map, filter, slice_index, slice_index_or, ◌&&◌}
 use Rattle.std.specs.List.{enumerate_from}
 use Rattle.std.proofs.lemmas.Bool.{cases_eq}
 use Rattle.std.proofs.lemmas.List.{get_or-set_same, get_or-set_other, get_or_default}
 use Rattle.hs_base.specs.declared.values.Pointer.{Pointer}
 use Rattle.hs_base.specs.declared.values.Pointer.TheVariants as pointer
 use Rattle.hs_base.specs.Access.{with_object, touches_slot, little_endian}
-use Rattle.hs_base.specs.Bytes.{word, part}
+use Rattle.hs_base.specs.Bytes.{word}
 use Rattle.hs_base.specs.Object.{Object, Sort, Standing, is_dead, no_object, object_at}
 use Rattle.hs_base.specs.Place.{Block, block_size}
 use Rattle.hs_base.proofs.Words.{word_1}
@@ -17,10 +17,10 @@ use Rattle.heap_blocks.specs.Bytes.{ChangesOnly}
 use Rattle.heap_blocks.specs.Heads.{header_at}
 use Rattle.heap_blocks.specs.Held.{HeapModel, Holds}
 use Rattle.flat_objects.specs.Memory.{Memory, Range, Statics, Locals, Heap, IsMemory, heap_of, is_of, range_of}
-use Rattle.flat_objects.specs.Standing.{IsThere, IsAt, IsAddressOf}
+use Rattle.flat_objects.specs.Standing.{IsThere, IsAddressOf}
 use Rattle.flat_objects.specs.Keeping.{Keeps, StandsAt, IsHeaderOf, HasSlots, IsLineOf, IsStateOf, block_of, blocks_of, stands_in}
 use Rattle.flat_objects.specs.Answering.{IsChanged}
-use Rattle.flat_objects.proofs.Apart.{EndsBefore, objects_apart}
+use Rattle.flat_objects.proofs.Apart.{objects_apart}
 use Rattle.flat_objects.proofs.Ascending.{slot_ends}
 use Rattle.flat_objects.proofs.Blocks.{there_below}
 use Rattle.flat_objects.proofs.Owners.{own_inside}
@@ -41,7 +41,7 @@ pub byte_kept : (before after : List ℕ) (addr long from : ℕ) → ChangesOnly
 byte_kept before after addr long from changes out inside =
     sym (word_1 after from (omega (arith, changes.long))) ∙ word_kept before after addr long from 1 changes out ∙ word_1 before from (omega arith)
 
-part_outside : (from n addr long at m : ℕ) → IsOutside from n addr long → from ≤ at → at + m ≤ from + n → IsOutside at m addr long
+pub part_outside : (from n addr long at m : ℕ) → IsOutside from n addr long → from ≤ at → at + m ≤ from + n → IsOutside at m addr long
 part_outside from n addr long at m (inl h) low high = inl (omega arith)
 part_outside from n addr long at m (inr h) low high = inr (omega arith)
 
@@ -199,10 +199,10 @@ module _ (locals heap : ℕ) (memory : Memory) (shape : IsMemory locals heap mem
         bytes = λ k less clear. byte_kept memory.bytes bytes start size (places other + k) changes (out (places other + k) 1 (omega arith) (omega arith)) (omega arith) ∙ old.bytes k less clear;
         many = old.many;
         pointers = λ k less.
-          let ends = slot_ends 0 o.size o.slots (slice_index o.slots k) slots (k, less, get_or_default o.slots k (slice_index o.slots k) 0 less) in
-          let same = word_kept memory.bytes bytes start size (places other + slice_index o.slots k) 4 changes (out (places other + slice_index o.slots k) 4 (omega arith) (omega arith)) in
-          subst (IsAddressOf places (with_object objects birth new) (slice_index_or o.pointers k pointer.Null)) (sym same)
-          (addresses (slice_index_or o.pointers k pointer.Null) (word memory.bytes (places other + slice_index o.slots k) 4) (old.pointers k less));
+            let ends = slot_ends 0 o.size o.slots (slice_index o.slots k) slots (k, less, get_or_default o.slots k (slice_index o.slots k) 0 less) in
+            let same = word_kept memory.bytes bytes start size (places other + slice_index o.slots k) 4 changes (out (places other + slice_index o.slots k) 4 (omega arith) (omega arith)) in
+            subst (IsAddressOf places (with_object objects birth new) (slice_index_or o.pointers k pointer.Null)) (sym same)
+            (addresses (slice_index_or o.pointers k pointer.Null) (word memory.bytes (places other + slice_index o.slots k) 4) (old.pointers k less));
       }
 
   pub changed : IsChanged (with_bytes memory bytes) places objects (with_object objects birth new)
@@ -210,16 +210,16 @@ module _ (locals heap : ℕ) (memory : Memory) (shape : IsMemory locals heap mem
     keeps = record {
       held = still_held;
       standing = λ other other_there.
-        elim (cases_eq other birth) [
-          | inl e ↦
-              let now : new ≡ object_at (with_object objects birth new) other = sym (at_same objects birth there new) ∙ ap (object_at (with_object objects birth new)) (sym e) in
-              subst (λ (b : ℕ). StandsAt (with_bytes memory bytes) places (with_object objects birth new) b (places b) (object_at (with_object objects birth new) other)) (sym e)
-              (subst (StandsAt (with_bytes memory bytes) places (with_object objects birth new) birth (places birth)) now stands_changed)
-          | inr differ ↦
-              let same = at_other objects birth there new other differ in
-              subst (StandsAt (with_bytes memory bytes) places (with_object objects birth new) other (places other)) (sym same)
-              (stands_other other (ap (λ (o : Object). is_dead o.standing) (sym same) ∙ other_there) differ)
-        ];
+          elim (cases_eq other birth) [
+            | inl e ↦
+                let now : new ≡ object_at (with_object objects birth new) other = sym (at_same objects birth there new) ∙ ap (object_at (with_object objects birth new)) (sym e) in
+                subst (λ (b : ℕ). StandsAt (with_bytes memory bytes) places (with_object objects birth new) b (places b) (object_at (with_object objects birth new) other)) (sym e)
+                (subst (StandsAt (with_bytes memory bytes) places (with_object objects birth new) birth (places birth)) now stands_changed)
+            | inr differ ↦
+                let same = at_other objects birth there new other differ in
+                subst (StandsAt (with_bytes memory bytes) places (with_object objects birth new) other (places other)) (sym same)
+                (stands_other other (ap (λ (o : Object). is_dead o.standing) (sym same) ∙ other_there) differ)
+          ];
     };
     stand = addresses;
   }

@@ -10,3 +10,14 @@ mod Loaded
 mod Apart
 mod Changing
 mod Stored
+mod Distances
+mod Equal
+mod Reading
+mod Behind
+mod Added
+mod Made
+mod Started
+mod Pointed
+mod Frames
+pub mod Packing
+mod Still

@@ -1,6 +1,6 @@
 -- What is read of an object.
-use Rattle.std.proofs.Common.{◌≡◌, ◌<◌, ◌≤◌, ◌+◌, ◌-◌, ◌∙◌, ℕ, ℤ, pos, Bool, true, false, List, length, get_or, Ok, Err, Result, refl, sym, ap, subst, arith}
-use Rattle.std.specs.Prelude.{Contains, slice_index}
+use Rattle.std.proofs.Common.{◌≡◌, ◌<◌, ◌≤◌, ◌+◌, ◌∙◌, ℕ, ℤ, pos, false, List, length, get_or, Ok, Err, Result, refl, sym, ap, subst, arith}
+use Rattle.std.specs.Prelude.{slice_index}
 use Rattle.std.proofs.lemmas.Bool.{cond-false}
 use Rattle.std.proofs.lemmas.List.{get_or_default}
 use Rattle.hs_base.specs.declared.ends.IntKind.{IntKind}
@@ -11,17 +11,17 @@ use Rattle.hs_base.specs.Access as access
 use Rattle.hs_base.specs.Access.{Place, Refusal, ReadsDead, and_then, access_integer, access_pointer, integer_at, little_endian, touches_slot, slots_below}
 use Rattle.hs_base.specs.Bytes.{word, part}
 use Rattle.hs_base.specs.Numbers.{width, wrapped}
-use Rattle.hs_base.specs.Object.{Object, is_dead, object_at}
+use Rattle.hs_base.specs.Object.{Object, object_at}
 use Rattle.object_meaning.specs.Values.{number, address, is_stale}
 use Rattle.object_meaning.specs.Memory.{loaded, loaded_pointer, unless_stale}
 use Rattle.flat_objects.specs.Memory.{Memory, IsMemory}
-use Rattle.flat_objects.specs.Standing.{IsThere, IsAt, IsAddressOf}
-use Rattle.flat_objects.specs.Keeping.{Keeps, KeepsAt, StandsAt}
+use Rattle.flat_objects.specs.Standing.{IsAt, IsAddressOf}
+use Rattle.flat_objects.specs.Keeping.{KeepsAt, StandsAt}
 use Rattle.flat_objects.proofs.Ascending.{below_slot}
 use Rattle.flat_objects.proofs.Owners.{own_inside}
 use Rattle.flat_objects.proofs.Reached.{are_slots}
 use Rattle.flat_objects.proofs.Touching.{untouched_part, slot_is_there}
-use Rattle.flat_objects.proofs.Trying.{Let, LetInteger, LetPointer, let_integer, let_pointer}
+use Rattle.flat_objects.proofs.Trying.{Let, let_integer, let_pointer}
 use Rattle.flat_objects.proofs.Wording.{word_same_bytes}
 
 -- a word outside the slots is that of the object's bytes
@@ -76,6 +76,9 @@ module _ (locals heap : ℕ) (memory : Memory) (shape : IsMemory locals heap mem
       let word_is : word memory.bytes (places place.birth + slice_index o.slots k) 4 ≡ w =
       ap (λ s. word memory.bytes (places place.birth + s) 4) slot ∙ ap (λ a. word memory.bytes a 4) (sym s.address) ∙ sym w_is in
       let stands_for : IsAddressOf places objects q w =
-      subst (λ (m : ℕ). IsAddressOf places objects (get_or o.pointers m pointer.Null) w) (sym number_is) (subst (IsAddressOf places objects (get_or o.pointers k pointer.Null)) word_is (stands.pointers k some.1)) in
-      (q, ap (λ r. and_then {B = Value} r (λ at. unless_stale objects (access.pointer_at (object_at objects at.birth) at.offset))) allowed
-      ∙ cond-false (is_stale objects q) (Err ReadsDead) (Ok (address q)) (fresh q w stands_for), stands_for)
+      subst (λ (m : ℕ). IsAddressOf places objects (get_or o.pointers m pointer.Null) w) (sym number_is) (subst (IsAddressOf places objects (get_or o.pointers k pointer.Null)) word_is (stands.pointers k some.1)) in (
+        q,
+        ap (λ r. and_then {B = Value} r (λ at. unless_stale objects (access.pointer_at (object_at objects at.birth) at.offset))) allowed
+            ∙ cond-false (is_stale objects q) (Err ReadsDead) (Ok (address q)) (fresh q w stands_for),
+        stands_for,
+      )

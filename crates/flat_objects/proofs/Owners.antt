@@ -1,16 +1,15 @@
 -- Where objects stand, and which object owns an address.
-use Rattle.std.proofs.Common.{◌≡◌, ◌<◌, ◌≤◌, ◌+◌, ◌-◌, ◌^◌, ◌∙◌, ℕ, List, [], length, Option, Some, None, refl, sym, ap, subst, arith}
+use Rattle.std.proofs.Common.{◌≡◌, ◌<◌, ◌≤◌, ◌+◌, ◌-◌, ◌∙◌, ℕ, List, length, Option, Some, sym, ap, subst, arith}
 use Rattle.std.proofs.lemmas.List.Elements.{All-contains}
 use Rattle.hs_base.specs.declared.values.Pointer.TheVariants as pointer
 use Rattle.hs_base.specs.Object.{Object, object_at}
-use Rattle.hs_base.specs.Place.{Block, block_size}
+use Rattle.hs_base.specs.Place.{Block}
 use Rattle.heap_blocks.specs.declared.headers.Header.{Header}
 use Rattle.heap_blocks.specs.Heads.{header_at}
 use Rattle.heap_blocks.specs.Held.{HeapModel, Holds, IsBlock, address_of, owner_of}
-use Rattle.flat_objects.specs.declared.finding.Found.{Found}
 use Rattle.flat_objects.specs.Memory.{Memory, Range, Statics, Locals, Heap, IsMemory, heap_of, range_of, end_of}
 use Rattle.flat_objects.specs.Standing.{IsThere, IsAt}
-use Rattle.flat_objects.specs.Keeping.{StandsAt, Keeps, KeepsAt, IsKept, blocks_of}
+use Rattle.flat_objects.specs.Keeping.{Keeps, KeepsAt, IsKept, blocks_of}
 use Rattle.flat_objects.specs.Reaching.{IsFound}
 use Rattle.flat_objects.proofs.Blocks.{IsWithin, own_block, block_is_held, owner_is}
 
@@ -23,7 +22,7 @@ pub record LiesIn (range : HeapModel) (place size : ℕ) : Type 0 where
   pub above : range.base + 32 ≤ place
   pub below : place + size < end_of range
 
-range_inside : (locals heap : ℕ) (memory : Memory) → IsMemory locals heap memory → (range : Range) → end_of (heap_of memory range) ≤ length memory.bytes
+pub range_inside : (locals heap : ℕ) (memory : Memory) → IsMemory locals heap memory → (range : Range) → end_of (heap_of memory range) ≤ length memory.bytes
 range_inside locals heap memory shape Statics = omega (arith, shape.statics_end, shape.locals_end, shape.heap_end, shape.locals_from, shape.heap_from)
 range_inside locals heap memory shape Locals = omega (arith, shape.statics_end, shape.locals_end, shape.heap_end, shape.locals_from, shape.heap_from)
 range_inside locals heap memory shape Heap = shape.heap_end

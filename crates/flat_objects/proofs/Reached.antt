@@ -1,9 +1,8 @@
 -- What a found object says of an access to it.
-use Rattle.std.proofs.Common.{◌≡◌, ◌<◌, ◌≤◌, ◌+◌, ◌-◌, ◌%◌, ◌∙◌, ℕ, Bool, true, false, List, length, get_or, Some, Ok, refl, sym, ap, subst, arith}
-use Rattle.std.specs.Prelude.{slice_get, Contains}
+use Rattle.std.proofs.Common.{◌≡◌, ◌<◌, ◌≤◌, ◌+◌, ◌-◌, ◌%◌, ◌∙◌, ℕ, true, false, List, length, get_or, Ok, refl, sym, ap, subst, arith}
+use Rattle.std.specs.Prelude.{Contains}
 use Rattle.std.proofs.lemmas.Bool.{false_from_ne_true}
 use Rattle.std.proofs.lemmas.Option.{slice_get_within, get_or_from_slice_get}
-use Rattle.c_types.specs.Layouts.{AreSlots}
 use Rattle.hs_base.specs.declared.ends.TrapKind.TheVariants as trap
 use Rattle.hs_base.specs.declared.values.Pointer.{Pointer}
 use Rattle.hs_base.specs.declared.values.Pointer.TheVariants as pointer
@@ -16,7 +15,7 @@ use Rattle.flat_objects.specs.Standing.{IsAt, IsAddressOf}
 use Rattle.flat_objects.specs.Keeping.{KeepsAt, HasSlots}
 use Rattle.flat_objects.specs.Answering.{Traps}
 use Rattle.flat_objects.specs.Reaching.{IsFound, IsReached, IsBarred}
-use Rattle.flat_objects.proofs.Ascending.{object_has_slots}
+use Rattle.flat_objects.proofs.Ascending.{Ascend, object_has_slots}
 use Rattle.flat_objects.proofs.Owners.{own_inside}
 use Rattle.flat_objects.proofs.Touching.{slot_is_there, there_is_slot}
 use Rattle.flat_objects.proofs.Trying.{barred_bounds, barred_align, place_at, layout_integer, allowed_integer, layout_pointer, allowed_pointer}
@@ -57,11 +56,11 @@ slots_are forms layout o form size (f, got, is) read size_is =
     let same : form ≡ f = read ∙ get_or_from_slice_get forms layout f form got in
     (λ i. object_slots (same i) (size_is i)) ∙ sym is
 
-pub are_slots : (locals heap : ℕ) (memory : Memory) (layout : ℕ) (o : Object) → IsMemory locals heap memory → HasSlots memory.forms layout o → AreSlots 0 o.size o.slots
+pub are_slots : (locals heap : ℕ) (memory : Memory) (layout : ℕ) (o : Object) → IsMemory locals heap memory → HasSlots memory.forms layout o → Ascend 0 o.size o.slots
 are_slots locals heap memory layout o shape (form, got, is) =
     let below = slice_get_within memory.forms layout form got in
     let good : IsForm form = subst IsForm (get_or_from_slice_get memory.forms layout form form got) (shape.forms layout form below) in
-    subst (AreSlots 0 o.size) (sym is) (object_has_slots form o.size good)
+    subst (Ascend 0 o.size) (sym is) (object_has_slots form o.size good)
 
 module _ (memory : Memory) (places : ℕ → ℕ) (objects : List Object) (p : Pointer) (addr n : ℕ) (found : Found) (at : KeepsAt memory places objects p addr) (r : IsReached memory places objects p n found) where
   pub stands_at : IsAt places objects r.birth found.offset addr
@@ -85,9 +84,11 @@ module _ (memory : Memory) (places : ℕ → ℕ) (objects : List Object) (p : P
 
     pub let_integers : touches_slot (object_slots form found.size) found.offset n ≡ false → (at : Place) × (access_integer objects p n ≡ Ok at)
     let_integers clear =
-        let s = stands_at in
-        (place_at r.birth found.offset, ap (λ q. access_integer objects q n) r.target
-        ∙ allowed_integer objects r.birth found.offset n s.there (omega (arith, r.inside, r.finds.size)) r.aligned (ap (λ slots. touches_slot slots found.offset n) (sym own_slots) ∙ clear))
+        let s = stands_at in (
+          place_at r.birth found.offset,
+          ap (λ q. access_integer objects q n) r.target
+              ∙ allowed_integer objects r.birth found.offset n s.there (omega (arith, r.inside, r.finds.size)) r.aligned (ap (λ slots. touches_slot slots found.offset n) (sym own_slots) ∙ clear),
+        )
 
     pub pointer_trap : n ≡ 4 → (Contains (object_slots form found.size) found.offset → ⊥) → Traps trap.Layout (access_pointer objects p)
     pointer_trap four none =
@@ -102,6 +103,8 @@ module _ (memory : Memory) (places : ℕ → ℕ) (objects : List Object) (p : P
     let_pointers four some =
         let s = stands_at in
         let even : found.offset % 4 ≡ 0 = ap (λ m. found.offset % m) (sym four) ∙ r.aligned in
-        let o = object_at objects r.birth in
-        (place_at r.birth found.offset, ap (λ q. access_pointer objects q) r.target
-        ∙ allowed_pointer objects r.birth found.offset 4 s.there (omega (arith, r.inside, r.finds.size)) even (there_is_slot o.slots found.offset (subst (λ (slots : List ℕ). Contains slots found.offset) own_slots some)))
+        let o = object_at objects r.birth in (
+          place_at r.birth found.offset,
+          ap (λ q. access_pointer objects q) r.target
+              ∙ allowed_pointer objects r.birth found.offset 4 s.there (omega (arith, r.inside, r.finds.size)) even (there_is_slot o.slots found.offset (subst (λ (slots : List ℕ). Contains slots found.offset) own_slots some)),
+        )

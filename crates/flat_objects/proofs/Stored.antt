@@ -1,39 +1,39 @@
 -- What is written to an object.
-use Rattle.std.proofs.Common.{◌≡◌, ◌<◌, ◌≤◌, ◌+◌, ◌*◌, ◌^◌, ◌-◌, ◌⊎◌, ◌∙◌, inl, inr, ℕ, ℤ, Bool, true, false, List, length, get_or, set, Ok, Err, Result, refl, sym, ap, subst, arith}
+use Rattle.std.proofs.Common.{◌≡◌, ◌<◌, ◌≤◌, ◌+◌, ◌*◌, ◌^◌, ◌-◌, ◌⊎◌, ◌∙◌, inl, inr, ℕ, ℤ, false, List, length, get_or, set, Ok, Result, refl, sym, ap, subst, arith}
 use Rattle.std.specs.Prelude.{Contains, slice_index, slice_index_or}
-use Rattle.std.proofs.lemmas.Bool.{cases_lt, cases_eq, cases_order}
+use Rattle.std.proofs.lemmas.Bool.{cases_lt, cases_order}
 use Rattle.std.proofs.lemmas.List.{get_or_default, get_or-set_same, get_or-set_other}
 use Rattle.std.proofs.Math.ListN.{length-set}
 use Rattle.hs_base.specs.declared.ends.IntKind.{IntKind}
 use Rattle.hs_base.specs.declared.values.Pointer.{Pointer}
 use Rattle.hs_base.specs.declared.values.Pointer.TheVariants as pointer
 use Rattle.hs_base.specs.Access.{Place, Refusal, and_then, access_integer, access_pointer, with_integer, with_pointer, with_object, touches_slot, slots_below, little_endian, bytes_of, overlaid}
-use Rattle.hs_base.specs.Bytes.{word, part, put_word}
+use Rattle.hs_base.specs.Bytes.{word, put_word}
 use Rattle.hs_base.specs.Numbers.{width, low_bits}
 use Rattle.hs_base.specs.Object.{Object, object_at}
 use Rattle.hs_base.proofs.Words.{word_1, word_same, word_before, word_past, part_before, part_past, part_inside, length-put_word, length-bytes_of}
 use Rattle.heap_blocks.specs.Bytes.{ChangesOnly}
 use Rattle.object_meaning.specs.Memory.{stored, stored_pointer}
 use Rattle.flat_objects.specs.Memory.{Memory, IsMemory}
-use Rattle.flat_objects.specs.Standing.{IsThere, IsAt, IsAddressOf}
-use Rattle.flat_objects.specs.Keeping.{Keeps, KeepsAt, StandsAt}
+use Rattle.flat_objects.specs.Standing.{IsThere, IsAddressOf}
+use Rattle.flat_objects.specs.Keeping.{Keeps, KeepsAt}
 use Rattle.flat_objects.specs.Answering.{IsChanged}
 use Rattle.flat_objects.proofs.Ascending.{below_slot, slots_apart, slot_ends}
 use Rattle.flat_objects.proofs.Changing.{SameShape, StandsNew, with_bytes, changed, same_address, shapes}
 use Rattle.flat_objects.proofs.Loaded.{let_stands, let_inside}
 use Rattle.flat_objects.proofs.Reached.{are_slots}
-use Rattle.flat_objects.proofs.Touching.{Touched, touched, slot_is_there}
-use Rattle.flat_objects.proofs.Trying.{Let, LetInteger, LetPointer, let_integer, let_pointer}
+use Rattle.flat_objects.proofs.Touching.{touched, slot_is_there}
+use Rattle.flat_objects.proofs.Trying.{let_integer, let_pointer}
 
 -- Bytes after a write
 
 module _ (bytes : List ℕ) (addr n value : ℕ) (inside : addr + n ≤ length bytes) where
-  byte_before : (k : ℕ) → k < addr → slice_index (put_word bytes addr n value) k ≡ slice_index bytes k
+  pub byte_before : (k : ℕ) → k < addr → slice_index (put_word bytes addr n value) k ≡ slice_index bytes k
   byte_before k less =
       sym (word_1 (put_word bytes addr n value) k (omega (arith, length-put_word bytes addr n value inside)))
       ∙ word_before bytes addr n value k 1 inside (omega arith) ∙ word_1 bytes k (omega arith)
 
-  byte_past : (k : ℕ) → addr + n ≤ k → k < length bytes → slice_index (put_word bytes addr n value) k ≡ slice_index bytes k
+  pub byte_past : (k : ℕ) → addr + n ≤ k → k < length bytes → slice_index (put_word bytes addr n value) k ≡ slice_index bytes k
   byte_past k past less =
       sym (word_1 (put_word bytes addr n value) k (omega (arith, length-put_word bytes addr n value inside)))
       ∙ word_past bytes addr n value k 1 inside past ∙ word_1 bytes k (omega arith)
@@ -42,7 +42,7 @@ module _ (bytes : List ℕ) (addr n value : ℕ) (inside : addr + n ≤ length b
   unfolding word
   word_inside k low high = ap little_endian (part_inside bytes addr n value k 1 inside low (omega arith))
 
-  byte_inside : (k : ℕ) → addr ≤ k → k < addr + n → slice_index (put_word bytes addr n value) k ≡ slice_index (bytes_of n value) (k - addr)
+  pub byte_inside : (k : ℕ) → addr ≤ k → k < addr + n → slice_index (put_word bytes addr n value) k ≡ slice_index (bytes_of n value) (k - addr)
   byte_inside k low high =
       sym (word_1 (put_word bytes addr n value) k (omega (arith, length-put_word bytes addr n value inside)))
       ∙ word_inside k low high ∙ word_1 (bytes_of n value) (k - addr) (omega (arith, length-bytes_of n value))
@@ -90,23 +90,23 @@ module _ (locals heap : ℕ) (memory : Memory) (shape : IsMemory locals heap mem
         record {
           long = ap length (overlaid_is o.bytes offset n value) ∙ length-put_word o.bytes offset n value (omega (arith, old.long)) ∙ old.long;
           same = λ k less free.
-            written_alike memory.bytes o.bytes start offset n value k (omega (arith, old.long)) (omega (arith, old.long)) (omega (arith, old.long)) (λ _. old.bytes k less free)
-            ∙ ap (λ b. slice_index b k) (sym (overlaid_is o.bytes offset n value));
+              written_alike memory.bytes o.bytes start offset n value k (omega (arith, old.long)) (omega (arith, old.long)) (omega (arith, old.long)) (λ _. old.bytes k less free)
+              ∙ ap (λ b. slice_index b k) (sym (overlaid_is o.bytes offset n value));
           many = old.many;
           pointers = λ k less.
-            let slot = slice_index o.slots k in
-            let held : Contains o.slots slot = (k, less, get_or_default o.slots k slot 0 less) in
-            let ends = slot_ends 0 o.size o.slots slot slots held in
-            let same : word (put_word memory.bytes (start + offset) n value) (start + slot) 4 ≡ word memory.bytes (start + slot) 4 =
-            elim (cases_lt offset (slot + 4)) [
-              | inr before ↦ word_before memory.bytes (start + offset) n value (start + slot) 4 (omega arith) (omega arith)
-              | inl behind ↦ elim (cases_lt slot (offset + n)) [
-                | inr past ↦ word_past memory.bytes (start + offset) n value (start + slot) 4 (omega arith) (omega arith)
-                | inl front ↦ let t = touched o.slots offset n (record { slot = slot; there = held; before = front; behind = behind }) in absurd (cc)
-              ]
-            ] in
-            subst (IsAddressOf places (with_object objects birth with_number) (slice_index_or o.pointers k pointer.Null)) (sym same)
-            (same_address places objects (with_object objects birth with_number) (shapes objects birth there with_number (record { sort = refl; size = refl; slots = refl; standing = refl })) (slice_index_or o.pointers k pointer.Null) (word memory.bytes (start + slot) 4) (old.pointers k less));
+              let slot = slice_index o.slots k in
+              let held : Contains o.slots slot = (k, less, get_or_default o.slots k slot 0 less) in
+              let ends = slot_ends 0 o.size o.slots slot slots held in
+              let same : word (put_word memory.bytes (start + offset) n value) (start + slot) 4 ≡ word memory.bytes (start + slot) 4 =
+              elim (cases_lt offset (slot + 4)) [
+                | inr before ↦ word_before memory.bytes (start + offset) n value (start + slot) 4 (omega arith) (omega arith)
+                | inl behind ↦ elim (cases_lt slot (offset + n)) [
+                  | inr past ↦ word_past memory.bytes (start + offset) n value (start + slot) 4 (omega arith) (omega arith)
+                  | inl front ↦ let t = touched o.slots offset n (record { slot = slot; there = held; before = front; behind = behind }) in absurd (cc)
+                ]
+              ] in
+              subst (IsAddressOf places (with_object objects birth with_number) (slice_index_or o.pointers k pointer.Null)) (sym same)
+              (same_address places objects (with_object objects birth with_number) (shapes objects birth there with_number (record { sort = refl; size = refl; slots = refl; standing = refl })) (slice_index_or o.pointers k pointer.Null) (word memory.bytes (start + slot) 4) (old.pointers k less));
         }
 
     pub number_changed : IsChanged (with_bytes memory (put_word memory.bytes (places birth + offset) n value)) places objects (with_object objects birth with_number)
@@ -173,13 +173,13 @@ module _ (locals heap : ℕ) (memory : Memory) (shape : IsMemory locals heap mem
         record {
           long = old.long;
           same = λ m less free.
-            (elim (cases_lt m offset) [
-              | inl h ↦ byte_before memory.bytes (start + offset) 4 value (omega arith) (start + m) (omega arith)
-              | inr h ↦ elim (cases_lt m (offset + 4)) [
-                | inr past ↦ byte_past memory.bytes (start + offset) 4 value (omega arith) (start + m) (omega arith) (omega arith)
-                | inl within ↦ let t = touched o.slots m 1 (record { slot = offset; there = (k, below, get_or_default o.slots k offset 0 below ∙ slot_is); before = omega arith; behind = within }) in absurd (cc)
-              ]
-            ]) ∙ old.bytes m less free;
+              (elim (cases_lt m offset) [
+                | inl h ↦ byte_before memory.bytes (start + offset) 4 value (omega arith) (start + m) (omega arith)
+                | inr h ↦ elim (cases_lt m (offset + 4)) [
+                  | inr past ↦ byte_past memory.bytes (start + offset) 4 value (omega arith) (start + m) (omega arith) (omega arith)
+                  | inl within ↦ let t = touched o.slots m 1 (record { slot = offset; there = (k, below, get_or_default o.slots k offset 0 below ∙ slot_is); before = omega arith; behind = within }) in absurd (cc)
+                ]
+              ]) ∙ old.bytes m less free;
           many = length-set o.pointers k q ∙ old.many;
           pointers = λ j less. elim (cases_order j k) [ inl e ↦ target_same j less e | inr which ↦ target_other j less which ];
         }
@@ -201,11 +201,12 @@ module _ (locals heap : ℕ) (memory : Memory) (shape : IsMemory locals heap mem
       let h = let_integer objects p n place allowed in
       let s = let_stands locals heap memory shape places objects p addr at n place h.let_through in
       let inside = let_inside locals heap memory shape places objects p addr at n place h.let_through in
-      let change = number_changed locals heap memory shape places objects at.keeps place.birth h.let_through.there place.offset n value inside h.let_through.inside h.clear in
-      (with_object objects place.birth (record o { bytes = overlaid o.bytes place.offset (bytes_of n value) }),
+      let change = number_changed locals heap memory shape places objects at.keeps place.birth h.let_through.there place.offset n value inside h.let_through.inside h.clear in (
+        with_object objects place.birth (record o { bytes = overlaid o.bytes place.offset (bytes_of n value) }),
         ap (λ r. and_then {B = List Object} r (λ at. Ok (with_object objects at.birth (with_integer kind (object_at objects at.birth) at.offset z)))) allowed
-        ∙ ap (λ v. let answer : Result (List Object) Refusal = Ok (with_object objects place.birth (record o { bytes = overlaid o.bytes place.offset (bytes_of n v) })) in answer) (sym value_is),
-        subst (λ (a : ℕ). IsChanged (with_bytes memory (put_word memory.bytes a n value)) places objects (with_object objects place.birth (record o { bytes = overlaid o.bytes place.offset (bytes_of n value) }))) (sym s.address) change)
+            ∙ ap (λ v. let answer : Result (List Object) Refusal = Ok (with_object objects place.birth (record o { bytes = overlaid o.bytes place.offset (bytes_of n v) })) in answer) (sym value_is),
+        subst (λ (a : ℕ). IsChanged (with_bytes memory (put_word memory.bytes a n value)) places objects (with_object objects place.birth (record o { bytes = overlaid o.bytes place.offset (bytes_of n value) }))) (sym s.address) change,
+      )
 
   pub stored_pointer_is : (place : Place) (q : Pointer) (value : ℕ) → access_pointer objects p ≡ Ok place → value < 2 ^ 32 → IsAddressOf places objects q value
       → (after : List Object) × (stored_pointer objects p q ≡ Ok after) × IsChanged (with_bytes memory (put_word memory.bytes addr 4 value)) places objects after
@@ -220,8 +221,9 @@ module _ (locals heap : ℕ) (memory : Memory) (shape : IsMemory locals heap mem
       let slot : slice_index o.slots k ≡ place.offset = get_or_default o.slots k 0 place.offset some.1 ∙ some.2 in
       let number_is : length (slots_below o.slots place.offset) ≡ k =
       ap (λ s. length (slots_below o.slots s)) (sym some.2) ∙ below_slot 0 o.size o.slots k place.offset (are_slots locals heap memory _ o shape old.slots) some.1 in
-      let change = target_changed locals heap memory shape places objects at.keeps place.birth h.let_through.there place.offset k q value inside some.1 slot small stands_for in
-      (with_object objects place.birth (record o { pointers = set o.pointers k q }),
+      let change = target_changed locals heap memory shape places objects at.keeps place.birth h.let_through.there place.offset k q value inside some.1 slot small stands_for in (
+        with_object objects place.birth (record o { pointers = set o.pointers k q }),
         ap (λ r. and_then {B = List Object} r (λ at. Ok (with_object objects at.birth (with_pointer (object_at objects at.birth) at.offset q)))) allowed
-        ∙ ap (λ m. let answer : Result (List Object) Refusal = Ok (with_object objects place.birth (record o { pointers = set o.pointers m q })) in answer) number_is,
-        subst (λ (a : ℕ). IsChanged (with_bytes memory (put_word memory.bytes a 4 value)) places objects (with_object objects place.birth (record o { pointers = set o.pointers k q }))) (sym s.address) change)
+            ∙ ap (λ m. let answer : Result (List Object) Refusal = Ok (with_object objects place.birth (record o { pointers = set o.pointers m q })) in answer) number_is,
+        subst (λ (a : ℕ). IsChanged (with_bytes memory (put_word memory.bytes a 4 value)) places objects (with_object objects place.birth (record o { pointers = set o.pointers k q }))) (sym s.address) change,
+      )

@@ -1,7 +1,6 @@
 -- Which accesses touch a slot.
-use Rattle.std.proofs.Common.{◌≡◌, ◌<◌, ◌≤◌, ◌+◌, ◌*◌, ◌/◌, ◌%◌, ◌⊎◌, ◌↔◌, inl, inr, ℕ, Bool, true, false, List, length, get_or, refl, sym, ap, ◌∙◌, subst, arith}
+use Rattle.std.proofs.Common.{◌≡◌, ◌<◌, ◌≤◌, ◌+◌, ◌-◌, ◌*◌, ◌/◌, ◌%◌, ◌⊎◌, ◌↔◌, inl, inr, ℕ, Bool, true, false, List, get_or, refl, sym, ap, ◌∙◌, subst, arith}
 use Rattle.std.specs.Prelude.{Contains, IsTrue, nat_lt, nat_eq, ◌&&◌}
-use Rattle.std.specs.List.{list_any, Any}
 use Rattle.std.proofs.lemmas.Bool.{both_ways, and_from, and_parts, lt-ltb, ltb-true, eq-eqb, eqb-true, cases_eq, false_from_ne_true}
 use Rattle.std.proofs.lemmas.List.{get_or_default}
 use Rattle.std.proofs.lemmas.List.Folds.{Any-from_list_any, list_any_at}
@@ -89,3 +88,12 @@ told_not r P h e p = both_ways r e (h.1 p)
 pub second_decides : (size : ℕ) (slots : List ℕ) (offset n : ℕ) (r : Bool) → AreSlots 0 size slots → IsWidth n → offset % n ≡ 0 → (Contains slots (offset / 4 * 4) → ⊥) → n ≡ 8 → (IsTrue r ↔ Contains slots (offset + 4)) → r ≡ touches_slot slots offset n
 second_decides size slots offset n true are width aligned first eight h = sym (touches_second slots offset n eight (h.0 refl))
 second_decides size slots offset n false are width aligned first eight h = sym (touches_none size slots offset n are width aligned first (λ _ at. both_ways false refl (h.1 at)))
+
+-- each slot that may be touched was tried
+pub found_slot : (slots : List ℕ) (offset n slot : ℕ) (r : Bool) → (IsTrue r ↔ Contains slots slot) → r ≡ true → offset - 3 ≤ slot → slot < offset + n → true ≡ touches_slot slots offset n
+found_slot slots offset n slot r h e low high =
+    sym (touched slots offset n (record { slot = slot; there = h.0 e; before = high; behind = omega arith }))
+
+pub found_none : (slots : List ℕ) (offset n : ℕ) → ((slot : ℕ) → offset - 3 ≤ slot → slot < offset + n → Contains slots slot → ⊥) → false ≡ touches_slot slots offset n
+found_none slots offset n none =
+    sym (untouched slots offset n (λ t. none t.slot (omega (arith, t.behind)) t.before t.there))

@@ -1,11 +1,11 @@
 -- What an access comes to, test by test.
-use Rattle.std.proofs.Common.{◌≡◌, ◌<◌, ◌≤◌, ◌+◌, ◌%◌, ℕ, Bool, true, false, not, List, Result, Ok, Err, refl, sym, ap, ◌∙◌, subst, arith}
+use Rattle.std.proofs.Common.{◌≡◌, ◌<◌, ◌≤◌, ◌+◌, ◌%◌, ℕ, Bool, true, false, not, List, Result, Ok, Err, refl, ap, ◌∙◌, subst, arith}
 use Rattle.std.specs.Prelude.{nat_lt, nat_eq}
-use Rattle.std.proofs.lemmas.Bool.{lt-ltb, le-ltb, ltb-false, ne_eqb, eq-eqb, eqb-true, not_from_true, not_from_false, not-false}
+use Rattle.std.proofs.lemmas.Bool.{lt-ltb, le-ltb, ltb-false, ne_eqb, eq-eqb, not_from_true, not_from_false, not-false}
 use Rattle.hs_base.specs.declared.ends.TrapKind.TheVariants as trap
 use Rattle.hs_base.specs.declared.values.Pointer.{Pointer}
 use Rattle.hs_base.specs.declared.values.Pointer.TheVariants as pointer
-use Rattle.hs_base.specs.Access.{Refusal, Trapped, ReadsDead, Place, if_so, access_in, access_integer, access_pointer, touches_slot, is_slot}
+use Rattle.hs_base.specs.Access.{Refusal, Trapped, ReadsDead, Place, if_so, access_integer, access_pointer, touches_slot, is_slot}
 use Rattle.hs_base.specs.Object.{Object, is_dead, object_at}
 use Rattle.flat_objects.specs.Standing.{IsThere}
 use Rattle.flat_objects.specs.Reaching.{IsBarred}
@@ -74,9 +74,9 @@ module _ (objects : List Object) (birth offset n : ℕ) (there : IsThere objects
       let o = object_at objects birth in
       record {
         integer = tests_align (is_dead o.standing) (nat_lt o.size (offset + n)) (not (nat_eq (offset % n) 0)) (touches_slot o.slots offset n) (place_at birth offset) there (le-ltb o.size (offset + n) fits)
-        (not_from_false (nat_eq (offset % n) 0) (ne_eqb (offset % n) 0 odd));
+            (not_from_false (nat_eq (offset % n) 0) (ne_eqb (offset % n) 0 odd));
         pointer = λ four. tests_align (is_dead o.standing) (nat_lt o.size (offset + 4)) (not (nat_eq (offset % 4) 0)) (not (is_slot o.slots offset)) (place_at birth offset) there (le-ltb o.size (offset + 4) (omega arith))
-        (not_from_false (nat_eq (offset % 4) 0) (ne_eqb (offset % 4) 0 (λ e. odd (ap (λ m. offset % m) four ∙ e))));
+            (not_from_false (nat_eq (offset % 4) 0) (ne_eqb (offset % 4) 0 (λ e. odd (ap (λ m. offset % m) four ∙ e))));
       }
 
   pub layout_integer : offset + n ≤ (object_at objects birth).size → offset % n ≡ 0 → touches_slot (object_at objects birth).slots offset n ≡ true → access_integer objects (pointer.At birth offset) n ≡ Err (Trapped trap.Layout)

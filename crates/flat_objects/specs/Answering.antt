@@ -1,5 +1,5 @@
 -- That the code answers what a definition says.
-use Rattle.std.specs.Prelude.{◌≡◌, ℕ, ℤ, List, Result, Ok, Err}
+use Rattle.std.specs.Prelude.{◌≡◌, ℕ, ℤ, List, length, Result, Ok, Err}
 use Rattle.hs_base.specs.declared.ends.TrapKind.{TrapKind}
 use Rattle.hs_base.specs.declared.values.Pointer.{Pointer}
 use Rattle.hs_base.specs.declared.values.Value.{Value}
@@ -14,6 +14,11 @@ use Rattle.flat_objects.specs.Keeping.{Keeps}
 abbrev pub Traps : {A : Type 0} → TrapKind → Result A Refusal → Type 0
 Traps kind meant = meant ≡ Err (Trapped kind)
 
+-- the code answers what the definition does
+abbrev pub Answers : {A : Type 0} → Result A TrapKind → Result A Refusal → Type 0
+Answers (Ok a) meant = meant ≡ Ok a
+Answers (Err kind) meant = Traps kind meant
+
 -- the code answers a number as the definition does
 abbrev pub AnswersNumber : Result ℤ TrapKind → Result Value Refusal → Type 0
 AnswersNumber (Ok n) meant = meant ≡ Ok (number n)
@@ -23,6 +28,11 @@ AnswersNumber (Err kind) meant = Traps kind meant
 abbrev pub AnswersAddress : (ℕ → ℕ) → List Object → Result ℕ TrapKind → Result Value Refusal → Type 0
 AnswersAddress places objects (Ok addr) meant = (p : Pointer) × (meant ≡ Ok (address p)) × IsAddressOf places objects p addr
 AnswersAddress places objects (Err kind) meant = Traps kind meant
+
+-- the code answers the length of the definition's list
+abbrev pub AnswersLength : Result ℕ TrapKind → Result (List ℕ) Refusal → Type 0
+AnswersLength (Ok n) meant = (bytes : List ℕ) × (meant ≡ Ok bytes) × (n ≡ length bytes)
+AnswersLength (Err kind) meant = Traps kind meant
 
 -- the code lets an access through where the definition does
 abbrev pub Allows : Result Unit TrapKind → Result Place Refusal → Type 0

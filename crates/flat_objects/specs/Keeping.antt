@@ -1,5 +1,5 @@
 -- Which objects a memory keeps.
-use Rattle.std.specs.Prelude.{◌≡◌, ◌+◌, ◌-◌, ◌<◌, ◌≤◌, ◌&&◌, ℕ, Bool, true, false, not, List, length, map, filter, Some, slice_get, slice_index, slice_index_or}
+use Rattle.std.specs.Prelude.{◌≡◌, ◌+◌, ◌-◌, ◌<◌, ◌≤◌, ◌&&◌, ℕ, Bool, false, not, List, length, map, filter, Some, slice_get, slice_index, slice_index_or}
 use Rattle.std.specs.List.{enumerate_from}
 use Rattle.hs_base.specs.declared.values.Pointer.{Pointer}
 use Rattle.hs_base.specs.declared.values.Pointer.TheVariants.{Null}

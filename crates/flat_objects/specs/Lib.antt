@@ -3,3 +3,7 @@ pub mod Standing
 pub mod Keeping
 pub mod Reaching
 pub mod Answering
+pub mod Moving
+pub mod Texts
+pub mod Adding
+pub mod Starting

@@ -1,9 +1,9 @@
 -- A memory of objects, and what every one is like.
-use Rattle.std.specs.Prelude.{◌≡◌, ◌+◌, ◌%◌, ◌^◌, ◌<◌, ◌≤◌, ℕ, Bool, true, false, List, length, All}
+use Rattle.std.specs.Prelude.{◌≡◌, ◌+◌, ◌^◌, ◌<◌, ◌≤◌, ℕ, Bool, true, false, List, length, All}
 use Rattle.c_types.specs.Layouts.{AreSlots}
 use Rattle.hs_base.specs.Object as object
 use Rattle.adjusters.specs.ObjectSlots.{Element}
-use Rattle.heap_blocks.specs.Held.{HeapModel}
+use Rattle.heap_blocks.specs.Held.{HeapModel, HasBounds}
 
 -- its bytes, the three ranges of addresses in which objects stand, and the elements of which objects are made, by number
 pub record Memory : Type 0 where
@@ -39,10 +39,9 @@ range_of (object.Heap line) = Heap
 abbrev pub end_of : HeapModel → ℕ
 end_of range = range.base + range.len
 
--- its slots are ascending multiples of 4 inside it, and stay multiples of 4 where it is repeated
+-- its slots are ascending multiples of 4 that each end inside it
 pub record IsForm (form : Element) : Type 0 where
   pub slots : AreSlots 0 form.size form.slots
-  pub whole : 0 < length form.slots → form.size % 4 ≡ 0
 
 -- the ranges stand side by side within the bytes, those of locals and of the heap from these addresses on
 pub record IsMemory (locals heap : ℕ) (memory : Memory) : Type 0 where
@@ -53,3 +52,10 @@ pub record IsMemory (locals heap : ℕ) (memory : Memory) : Type 0 where
   pub heap_end : end_of memory.heap ≤ length memory.bytes
   pub reach : length memory.bytes < 2 ^ 32
   pub forms : All IsForm memory.forms
+
+-- the ranges have the bounds that they had, and the elements are the same
+pub record SameFrame (before after : Memory) : Type 0 where
+  pub statics : HasBounds before.statics.base before.statics.len after.statics
+  pub locals : HasBounds before.locals.base before.locals.len after.locals
+  pub heap : HasBounds before.heap.base before.heap.len after.heap
+  pub forms : after.forms ≡ before.forms

@@ -1,6 +1,6 @@
 -- What addresses and words of registers stand for, where the objects that are not dead stand at their places: the addresses
 -- of their first bytes, by birth. What `places` says of other births does not matter.
-use Rattle.std.specs.Prelude.{◌≡◌, ◌+◌, ◌≤◌, ℕ, Bool, false, List}
+use Rattle.std.specs.Prelude.{◌≡◌, ◌+◌, ◌≤◌, ℕ, false, List}
 use Rattle.hs_base.specs.declared.values.Pointer.{Pointer}
 use Rattle.hs_base.specs.declared.values.Pointer.TheVariants as pointer
 use Rattle.hs_base.specs.declared.values.Value.{Value}

@@ -1,12 +1,11 @@
 //! Reading and writing objects (C99 6.5.3.2).
 
-ghost use Rattle.std.specs.Prelude.{◌≡◌, ◌+◌, ◌*◌, ◌%◌, ◌^◌, ◌<◌, ◌≤◌, ◌⊎◌, ℕ, List, OnOk, length};
+ghost use Rattle.std.specs.Prelude.{◌≡◌, ◌+◌, ◌*◌, ◌^◌, ◌<◌, ◌≤◌, ◌⊎◌, ℕ, List, OnOk, length};
 ghost use Rattle.hs_base.specs.Object.{Object};
-ghost use Rattle.hs_base.specs.Access.{access_integer, access_pointer, touches_slot};
+ghost use Rattle.hs_base.specs.Access.{access_integer, access_pointer};
 ghost use Rattle.hs_base.specs.Numbers.{low_bits, width};
-ghost use Rattle.adjusters.specs.ObjectSlots.{object_slots};
 ghost use Rattle.object_meaning.specs.Memory.{loaded, loaded_pointer, stored, stored_pointer};
-ghost use Rattle.flat_objects.specs.Memory.{IsForm};
+ghost use Rattle.flat_objects.specs.Memory.{SameFrame};
 ghost use Rattle.flat_objects.specs.Standing.{IsAddressOf};
 ghost use Rattle.flat_objects.specs.Keeping.{KeepsAt, IsKept};
 ghost use Rattle.flat_objects.specs.Reaching.{Reaches};
@@ -14,23 +13,8 @@ ghost use Rattle.flat_objects.specs.Answering.{Allows, AnswersNumber, AnswersAdd
 
 use crate::finding::Found;
 use crate::memory::FlatObjects;
-use adjusters::Adjuster;
 use hs_base::{IntKind, Pointer, Steps, TrapKind};
 use std::sync::ledger::Ledger;
-
-/// Says whether 1, 2, 4 or 8 bytes at an offset that their number divides touch a slot of an object.
-fn touches_slot(form: &Adjuster, size: u32, offset: u32, n: u32) -> bool
-    requires form { IsForm form.now }
-    requires width { (n ≡ 1) ⊎ ((n ≡ 2) ⊎ ((n ≡ 4) ⊎ (n ≡ 8))) }
-    requires aligned { offset % n ≡ 0 }
-    requires inside { offset + n ≤ size }
-    ensures { result ≡ touches_slot (object_slots form.now size) offset n }
-{
-    if form.is_slot(size, offset / 4 * 4) {
-        return true;
-    }
-    n == 8 && form.is_slot(size, offset + 4)
-}
 
 /// The low bits of a number, as many as a kind has.
 fn low_bits(kind: IntKind, n: i128) -> u64
@@ -47,12 +31,7 @@ fn low_bits(kind: IntKind, n: i128) -> u64
 
 impl FlatObjects {
     /// Tries an access to so many bytes at an address: null, past the size, at an odd offset.
-    fn reach<L: Ledger>(
-        &self,
-        addr: u32,
-        n: u32,
-        steps: &mut Steps<L>,
-    ) -> Result<Found, TrapKind>
+    fn reach<L: Ledger>(&self, addr: u32, n: u32, steps: &mut Steps<L>) -> Result<Found, TrapKind>
         requires kept { IsKept self.now addr }
         requires some { 0 < n }
         ensures { (places : ℕ → ℕ) (objects : List Object) (p : Pointer) → KeepsAt self.now places objects p addr → Reaches self.now places objects p n result }
@@ -84,7 +63,7 @@ impl FlatObjects {
     {
         let found = self.reach(addr, n, steps)?;
         let form = &self.forms[found.layout as usize];
-        if touches_slot(form, found.size, found.offset, n) {
+        if form.touches_slot(found.size, found.offset, n) {
             return Err(TrapKind::Layout);
         }
         Ok(())
@@ -120,11 +99,7 @@ impl FlatObjects {
     }
 
     /// The pointer at an address. It traps as an access does.
-    pub fn load_pointer<L: Ledger>(
-        &self,
-        addr: u32,
-        steps: &mut Steps<L>,
-    ) -> Result<u32, TrapKind>
+    pub fn load_pointer<L: Ledger>(&self, addr: u32, steps: &mut Steps<L>) -> Result<u32, TrapKind>
         requires { IsKept self.now addr }
         ensures { (places : ℕ → ℕ) (objects : List Object) (p : Pointer) → KeepsAt self.now places objects p addr → AnswersAddress places objects result (loaded_pointer objects p) }
     {
@@ -141,7 +116,8 @@ impl FlatObjects {
         steps: &mut Steps<L>,
     ) -> Result<(), TrapKind>
         requires { IsKept self.old addr }
-        ensures { (places : ℕ → ℕ) (objects : List Object) (p : Pointer) → KeepsAt self.old places objects p addr → Changes places objects result self.old self.new (stored objects kind p n) }
+        ensures changes { (places : ℕ → ℕ) (objects : List Object) (p : Pointer) → KeepsAt self.old places objects p addr → Changes places objects result self.old self.new (stored objects kind p n) }
+        ensures frame { SameFrame self.old self.new }
     {
         let width = kind.bytes();
         self.access_integer(addr, width, steps)?;
@@ -157,7 +133,8 @@ impl FlatObjects {
         steps: &mut Steps<L>,
     ) -> Result<(), TrapKind>
         requires { IsKept self.old addr }
-        ensures { (places : ℕ → ℕ) (objects : List Object) (p q : Pointer) → KeepsAt self.old places objects p addr → IsAddressOf places objects q target → Changes places objects result self.old self.new (stored_pointer objects p q) }
+        ensures changes { (places : ℕ → ℕ) (objects : List Object) (p q : Pointer) → KeepsAt self.old places objects p addr → IsAddressOf places objects q target → Changes places objects result self.old self.new (stored_pointer objects p q) }
+        ensures frame { SameFrame self.old self.new }
     {
         self.access_pointer(addr, steps)?;
         self.bytes.write(addr, 4, u64::from(target), steps);

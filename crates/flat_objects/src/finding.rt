@@ -1,6 +1,6 @@
 //! The object of an address.
 
-ghost use Rattle.std.specs.Prelude.{◌≡◌, ◌+◌, ◌<◌, ◌≤◌, ℕ, List};
+ghost use Rattle.std.specs.Prelude.{◌≡◌, ◌+◌, ◌^◌, ◌<◌, ◌≤◌, ℕ, List};
 ghost use Rattle.hs_base.specs.Object.{Object};
 ghost use Rattle.hs_base.specs.Place.{Block};
 ghost use Rattle.heap_blocks.specs.Held.{Holds, owner_of};
@@ -41,7 +41,9 @@ impl FlatObjects {
     pub(crate) fn find<L: Ledger>(&self, addr: u32, steps: &mut Steps<L>) -> Found
         requires kept { IsKept self.now addr }
         requires some { 0 < addr }
-        ensures { (places : ℕ → ℕ) (objects : List Object) (birth offset : ℕ) → KeepsAt self.now places objects (Pointer.At birth offset) addr → IsFound self.now places objects birth offset result }
+        ensures found { (places : ℕ → ℕ) (objects : List Object) (birth offset : ℕ) → KeepsAt self.now places objects (Pointer.At birth offset) addr → IsFound self.now places objects birth offset result }
+        ensures inside { result.offset ≤ result.size }
+        ensures small { result.start + result.size < 2 ^ 32 }
     {
         let Some(start) = self.owner(addr, steps) else {
             unreachable!()

@@ -1,6 +1,6 @@
 //! The memory of a run.
 
-use adjusters::Adjuster;
+use crate::forms::Form;
 use heap_blocks::Heap;
 use hs_base::FlatBytes;
 use std::marker::Model;
@@ -18,7 +18,7 @@ pub struct FlatObjects {
     /// Where the heap begins.
     pub(crate) heap_from: u32,
     /// The slots of elements, by the number of the layout.
-    pub(crate) forms: Vec<Adjuster>,
+    pub(crate) forms: Vec<Form>,
 }
 
 impl Model for FlatObjects {

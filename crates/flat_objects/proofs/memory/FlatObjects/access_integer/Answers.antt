@@ -1,7 +1,6 @@
-use Rattle.std.proofs.Common.{◌≡◌, ◌+◌, ◌≤◌, ◌∙◌, List, ap, sym, subst, get_or, length}
-use Rattle.adjusters.specs.ObjectSlots.{Element}
+use Rattle.std.proofs.Common.{◌≡◌, ◌∙◌, ap, sym, subst, get_or}
 use Rattle.flat_objects.specs.Memory.{Memory, IsMemory}
-use Rattle.flat_objects.proofs.Reached.{let_integers, reached_inside, layout_trap}
+use Rattle.flat_objects.proofs.Reached.{let_integers, reached_inside}
 use Rattle.flat_objects.proofs.memory.FlatObjects.access_integer.Goals as goal
 
 pub returns-clause-allows : goal.returns-clause-allows

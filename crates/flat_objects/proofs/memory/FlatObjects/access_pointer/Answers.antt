@@ -1,6 +1,6 @@
-use Rattle.std.proofs.Common.{◌≡◌, ◌+◌, ◌≤◌, ◌∙◌, List, ap, sym, subst, refl, get_or, length}
+use Rattle.std.proofs.Common.{◌≡◌, ◌∙◌, ap, subst, refl, get_or}
 use Rattle.std.specs.Prelude.{Contains}
-use Rattle.adjusters.specs.ObjectSlots.{Element, object_slots}
+use Rattle.adjusters.specs.ObjectSlots.{object_slots}
 use Rattle.flat_objects.specs.Memory.{Memory, IsMemory}
 use Rattle.flat_objects.proofs.Reached.{let_pointers, reached_inside, pointer_trap}
 use Rattle.flat_objects.proofs.Touching.{told, told_not}

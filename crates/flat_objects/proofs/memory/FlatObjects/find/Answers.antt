@@ -1,11 +1,8 @@
-use Rattle.std.proofs.Common.{◌≡◌, ◌≤◌, ◌+◌, ◌-◌, ◌∙◌, ℕ, List, length, Option, Some, sym, ap, arith, subst}
+use Rattle.std.proofs.Common.{◌≡◌, ◌-◌, ◌∙◌, ℕ, List, length, sym, ap, arith, subst}
 use Rattle.std.proofs.lemmas.Option.{same_Some}
-use Rattle.hs_base.specs.Object.{object_at}
-use Rattle.heap_blocks.specs.declared.headers.Header.{Header}
 use Rattle.heap_blocks.specs.Heads.{header_at}
 use Rattle.flat_objects.specs.Memory.{Memory, IsMemory}
-use Rattle.flat_objects.specs.Keeping.{KeepsAt, IsKept}
-use Rattle.flat_objects.proofs.Owners.{Kept, kept, owned, own_inside, own_lies, found_at}
+use Rattle.flat_objects.proofs.Owners.{kept, owned, own_inside, found_at}
 use Rattle.flat_objects.proofs.memory.FlatObjects.find.Goals as goal
 
 pub unreachable-requires : goal.unreachable-requires
@@ -41,9 +38,23 @@ overflow_sub-result g c =
     same_Some c.in-Some.start (k.places k.birth) (sym c.in-Some.is ∙ owned c.args.self.now k.places k.objects k.birth k.offset c.args.addr c.owner.result k.keeps k.at c.owner.ensures) in
     omega (arith, k.at.address)
 
-pub returns : goal.returns
-returns g c = λ places objects birth offset at.
+pub returns-clause-found : goal.returns-clause-found
+returns-clause-found g c = λ places objects birth offset at.
     let start : c.in-Some.start ≡ places birth =
     same_Some c.in-Some.start (places birth) (sym c.in-Some.is ∙ owned c.args.self.now places objects birth offset c.args.addr c.owner.result at.keeps at.stands c.owner.ensures) in
     let bytes : c.self.inside.bytes ≡ c.args.self.now.bytes = ap (λ (m : Memory). m.bytes) c.self.view_is in
     found_at c.args.self.now places objects birth offset c.args.addr c.in-Some.start c.read-header.result at start (c.read-header.ensures.header ∙ ap (λ (b : List ℕ). header_at b (c.in-Some.start - 32)) bytes)
+
+pub returns-clause-inside : goal.returns-clause-inside
+returns-clause-inside g c =
+    let k = kept c.args.self.now c.args.addr c.requires.kept c.requires.some in
+    let found = returns-clause-found g c k.places k.objects k.birth k.offset (record { keeps = k.keeps; stands = k.at }) in
+    omega (arith, found.distance, found.size, k.at.inside)
+
+pub returns-clause-small : goal.returns-clause-small
+returns-clause-small g c =
+    let k = kept c.args.self.now c.args.addr c.requires.kept c.requires.some in
+    let found = returns-clause-found g c k.places k.objects k.birth k.offset (record { keeps = k.keeps; stands = k.at }) in
+    let shape = subst (IsMemory c.self.inside.locals_from c.self.inside.heap_from) c.self.view_is c.self.invariant in
+    let inside = own_inside c.args.self.now k.places k.objects k.keeps k.birth k.at.there c.self.inside.locals_from c.self.inside.heap_from shape in
+    omega (arith, found.start, found.size, shape.reach)

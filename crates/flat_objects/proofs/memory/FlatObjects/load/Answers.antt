@@ -1,4 +1,4 @@
-use Rattle.std.proofs.Common.{◌≡◌, ◌∙◌, ℤ, List, ap, sym, subst, rules, pos, to_z, of_z}
+use Rattle.std.proofs.Common.{◌≡◌, ◌∙◌, ap, sym, subst, rules, pos, to_z, of_z}
 use Rattle.std.proofs.lemmas.Int.{to_z-of_z}
 use mir.Syntax.{w128}
 use mir.Val.{SFits}

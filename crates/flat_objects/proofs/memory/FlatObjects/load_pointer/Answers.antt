@@ -1,4 +1,4 @@
-use Rattle.std.proofs.Common.{◌≡◌, ◌∙◌, ap, subst}
+use Rattle.std.proofs.Common.{◌∙◌, ap, subst}
 use Rattle.hs_base.specs.Bytes.{word}
 use Rattle.flat_objects.specs.Memory.{Memory, IsMemory}
 use Rattle.flat_objects.proofs.Loaded.{loaded_pointer_is}

@@ -1,4 +1,4 @@
-use Rattle.std.proofs.Common.{◌≡◌, ◌*◌, ◌∙◌, ℕ, List, ap, sym, subst, rules, to_z, of_z}
+use Rattle.std.proofs.Common.{◌≡◌, ◌*◌, ◌∙◌, ℕ, List, ap, sym, subst, rules}
 use Rattle.std.proofs.lemmas.Int.{to_z-of_z}
 use mir.Syntax.{w128}
 use mir.Val.{SFits}
@@ -10,10 +10,11 @@ use Rattle.flat_objects.specs.Keeping.{KeepsAt}
 use Rattle.flat_objects.specs.Answering.{IsChanged}
 use Rattle.flat_objects.proofs.Changing.{with_bytes}
 use Rattle.flat_objects.proofs.Stored.{stored_is}
+use Rattle.flat_objects.proofs.Frames.{frame_bytes}
 use Rattle.flat_objects.proofs.memory.FlatObjects.store.Goals as goal
 
-pub returns : goal.returns
-returns g c = λ places objects p at.
+pub returns-clause-changes : goal.returns-clause-changes
+returns-clause-changes g c = λ places objects p at.
     let memory : Memory = record { bytes = c.self.inside.bytes; statics = c.self.inside.statics; locals = c.self.inside.locals; heap = c.self.inside.heap; forms = c.self.inside.forms.items } in
     let same : memory ≡ c.args.self.now = c.self.view_is in
     let before = subst (λ (m : Memory). KeepsAt m places objects p c.args.addr) (sym same) at in
@@ -26,3 +27,8 @@ returns g c = λ places objects p at.
     let bytes : c.write.new.self ≡ put_word memory.bytes c.args.addr (width c.args.kind) c.low_bits.result =
     c.write.ensures.value ∙ ap (λ n. put_word memory.bytes c.args.addr n c.low_bits.result) width_is in
     (told.0, told.1, subst (λ (b : List ℕ). IsChanged (with_bytes memory b) places objects told.0) (sym bytes) told.2)
+
+pub returns-clause-frame : goal.returns-clause-frame
+returns-clause-frame g c =
+    let memory : Memory = record { bytes = c.self.inside.bytes; statics = c.self.inside.statics; locals = c.self.inside.locals; heap = c.self.inside.heap; forms = c.self.inside.forms.items } in
+    frame_bytes memory c.args.self.now c.write.new.self c.self.view_is

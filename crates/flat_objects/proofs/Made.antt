@@ -1,0 +1,84 @@
+-- New objects of the heap, statics, and a memory without objects.
+use Rattle.std.proofs.Common.{◌≡◌, ◌+◌, ◌/◌, ◌<◌, ◌^◌, ℕ, List, [], length, replicate, Option, Some, refl, sym, ap, ◌∙◌, subst, arith}
+use Rattle.std.specs.Prelude.{slice_get, option_map, map, IfSome, All}
+use Rattle.std.proofs.lemmas.List.{length-replicate}
+use Rattle.std.proofs.lemmas.List.Elements.{All-map}
+use Rattle.std.proofs.lemmas.Option.{slice_get_within, get_or_from_slice_get}
+use Rattle.hs_base.specs.Object as object
+use Rattle.hs_base.specs.Object.{Object}
+use Rattle.hs_base.specs.Place.{block_size, with_block}
+use Rattle.c_types.specs.declared.layouts.Layout.{Layout}
+use Rattle.c_types.specs.Layouts.{array_layout}
+use Rattle.adjusters.specs.ObjectSlots.{element_of, object_slots}
+use Rattle.heap_blocks.specs.Heads.{new_header}
+use Rattle.heap_blocks.specs.Held.{HeapModel, HasBounds, Holds, IsPlaced, address_of}
+use Rattle.object_meaning.specs.Making.{blank, heap_object}
+use Rattle.flat_objects.specs.Memory.{Memory, Range, Statics, Locals, Heap, IsMemory, IsForm, heap_of}
+use Rattle.flat_objects.specs.Keeping.{Keeps, blocks_of}
+use Rattle.flat_objects.specs.Adding.{IsAdded}
+use Rattle.flat_objects.proofs.Added.{placed_object, blank_is, own_element}
+
+module _ (locals heap : ℕ) (memory : Memory) (shape : IsMemory locals heap memory) (places : ℕ → ℕ) (objects : List Object) (keeps : Keeps memory places objects) (bytes : List ℕ) (after : HeapModel) (element : Layout) (size layout line birth : ℕ) (fit result : Option ℕ)
+    (birth_is : birth ≡ length objects) (got : slice_get memory.forms layout ≡ Some (element_of element)) (placed : IfSome result (λ addr. IsPlaced memory.bytes bytes addr (block_size size) (new_header birth size layout line))) where
+  heap_others : (range : Range) → (Heap ≡ range → ⊥) → heap_of (record memory { heap = after; bytes = bytes }) range ≡ heap_of memory range
+  heap_others Statics differ = refl
+  heap_others Locals differ = refl
+  heap_others Heap differ = absurd (differ refl)
+
+  pub heap_added : result ≡ option_map (address_of memory.heap) fit → Holds after (with_block (blocks_of memory places objects Heap) birth (block_size size) fit) → HasBounds memory.heap.base memory.heap.len after
+      → IfSome result (IsAdded (record memory { heap = after; bytes = bytes }) places objects (heap_object line size element))
+  heap_added result_is holds bounds =
+      placed_object locals heap memory (record memory { heap = after; bytes = bytes }) shape places objects keeps (heap_object line size element) (blank_is (object.Heap line) size (array_layout (size / element.size) element).slots) fit result size layout line birth
+      result_is holds bounds placed refl heap_others birth_is refl refl refl (element_of element, got, refl)
+
+  static_others : (range : Range) → (Statics ≡ range → ⊥) → heap_of (record memory { statics = after; bytes = bytes }) range ≡ heap_of memory range
+  static_others Statics differ = absurd (differ refl)
+  static_others Locals differ = refl
+  static_others Heap differ = refl
+
+  pub static_added : (index : ℕ) → size ≡ element.size → result ≡ option_map (address_of memory.statics) fit → Holds after (with_block (blocks_of memory places objects Statics) birth (block_size size) fit) → HasBounds memory.statics.base memory.statics.len after
+      → IfSome result (IsAdded (record memory { statics = after; bytes = bytes }) places objects (blank (object.Static index) size element.slots))
+  static_added index size_is result_is holds bounds =
+      let form : IsForm (element_of element) =
+      subst IsForm (get_or_from_slice_get memory.forms layout (element_of element) (element_of element) got) (shape.forms layout (element_of element) (slice_get_within memory.forms layout (element_of element) got)) in
+      placed_object locals heap memory (record memory { statics = after; bytes = bytes }) shape places objects keeps (blank (object.Static index) size element.slots) (blank_is (object.Static index) size element.slots) fit result size layout line birth
+      result_is holds bounds placed refl static_others birth_is refl refl tt (element_of element, got, sym (own_element element.size element.slots form.slots) ∙ ap (object_slots (element_of element)) (sym size_is))
+
+  local_others : (range : Range) → (Locals ≡ range → ⊥) → heap_of (record memory { locals = after; bytes = bytes }) range ≡ heap_of memory range
+  local_others Statics differ = refl
+  local_others Locals differ = absurd (differ refl)
+  local_others Heap differ = refl
+
+  pub local_added : (func index : ℕ) → size ≡ element.size → result ≡ option_map (address_of memory.locals) fit → Holds after (with_block (blocks_of memory places objects Locals) birth (block_size size) fit) → HasBounds memory.locals.base memory.locals.len after
+      → IfSome result (IsAdded (record memory { locals = after; bytes = bytes }) places objects (blank (object.Local func index) size element.slots))
+  local_added func index size_is result_is holds bounds =
+      let form : IsForm (element_of element) =
+      subst IsForm (get_or_from_slice_get memory.forms layout (element_of element) (element_of element) got) (shape.forms layout (element_of element) (slice_get_within memory.forms layout (element_of element) got)) in
+      placed_object locals heap memory (record memory { locals = after; bytes = bytes }) shape places objects keeps (blank (object.Local func index) size element.slots) (blank_is (object.Local func index) size element.slots) fit result size layout line birth
+      result_is holds bounds placed refl local_others birth_is refl refl tt (element_of element, got, sym (own_element element.size element.slots form.slots) ∙ ap (object_slots (element_of element)) (sym size_is))
+
+none_held : (memory : Memory) (places : ℕ → ℕ) → Holds memory.statics [] → Holds memory.locals [] → Holds memory.heap [] → (range : Range) → Holds (heap_of memory range) (blocks_of memory places [] range)
+none_held memory places statics locals heap Statics = statics
+none_held memory places statics locals heap Locals = locals
+none_held memory places statics locals heap Heap = heap
+
+-- a memory whose ranges hold no blocks keeps no objects
+pub keeps_none : (memory : Memory) (places : ℕ → ℕ) → Holds memory.statics [] → Holds memory.locals [] → Holds memory.heap [] → Keeps memory places []
+keeps_none memory places statics locals heap = record {
+  held = none_held memory places statics locals heap;
+  standing = λ birth there. absurd (cc);
+}
+
+pub new_memory : (statics locals : ℕ) (memory : Memory) (layouts : List Layout) (room : ℕ) → HasBounds 0 statics memory.statics → HasBounds statics locals memory.locals → HasBounds (statics + locals) room memory.heap → memory.bytes ≡ replicate (statics + locals + room) 0
+    → statics + locals + room < 2 ^ 32 → memory.forms ≡ map element_of layouts → All (λ l. IsForm (element_of l)) layouts → IsMemory statics (statics + locals) memory
+new_memory statics locals memory layouts room s l h bytes fits forms good =
+    let long : length memory.bytes ≡ statics + locals + room = ap length bytes ∙ length-replicate (statics + locals + room) 0 in
+    record {
+      locals_from = l.0;
+      heap_from = h.0;
+      statics_end = omega (arith, s.0, s.1);
+      locals_end = omega (arith, l.0, l.1);
+      heap_end = omega (arith, h.0, h.1);
+      reach = omega arith;
+      forms = subst (All IsForm) (sym forms) (All-map IsForm element_of layouts good);
+    }

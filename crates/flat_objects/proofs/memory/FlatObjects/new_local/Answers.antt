@@ -1,0 +1,39 @@
+use Rattle.std.proofs.Common.{◌≡◌, ◌∙◌, ℕ, Some, sym, ap, subst}
+use Rattle.std.specs.Prelude.{option_map, slice_get, IfSome}
+use Rattle.hs_base.specs.Object.{Local}
+use Rattle.adjusters.specs.ObjectSlots.{element_of}
+use Rattle.heap_blocks.specs.Held.{address_of, fit_of}
+use Rattle.flat_objects.specs.Memory.{Memory, Locals}
+use Rattle.flat_objects.specs.Keeping.{Keeps, blocks_of}
+use Rattle.object_meaning.specs.Making.{blank}
+use Rattle.flat_objects.specs.Adding.{IsAdded}
+use Rattle.flat_objects.proofs.Made.{local_added}
+use Rattle.flat_objects.proofs.Frames.{frame_locals}
+use Rattle.flat_objects.proofs.memory.FlatObjects.new_local.Goals as goal
+
+pub returns-clause-place : goal.returns-clause-place
+returns-clause-place g c = λ places objects keeps.
+    let memory : Memory = record { bytes = c.self.inside.bytes; statics = c.self.inside.statics; locals = c.self.inside.locals; heap = c.self.inside.heap; forms = c.self.inside.forms.items } in
+    let same : memory ≡ c.args.self.now = c.self.view_is in
+    let before = subst (λ (m : Memory). Keeps m places objects) (sym same) keeps in
+    subst (λ (m : Memory). c.place.result ≡ option_map (address_of m.locals) (fit_of m.locals (blocks_of m places objects Locals) c.args.size)) same
+    (c.place.ensures.address (blocks_of memory places objects Locals) (before.held Locals)
+    ∙ ap (λ n. option_map (address_of memory.locals) (fit_of memory.locals (blocks_of memory places objects Locals) n)) c.from.ensures)
+
+pub returns-clause-added : goal.returns-clause-added
+returns-clause-added g c = λ places objects element func index keeps birth_is got size_is.
+    let memory : Memory = record { bytes = c.self.inside.bytes; statics = c.self.inside.statics; locals = c.self.inside.locals; heap = c.self.inside.heap; forms = c.self.inside.forms.items } in
+    let same : memory ≡ c.args.self.now = c.self.view_is in
+    let before = subst (λ (m : Memory). Keeps m places objects) (sym same) keeps in
+    let held = blocks_of memory places objects Locals in
+    let next : Memory = record { bytes = c.place.new.bytes; statics = c.self.inside.statics; locals = c.place.new.self; heap = c.self.inside.heap; forms = c.self.inside.forms.items } in
+    let told =
+    local_added c.self.inside.locals_from c.self.inside.heap_from memory c.self.invariant places objects before c.place.new.bytes c.place.new.self element c.from.result c.args.layout 0 c.args.birth (fit_of memory.locals held c.from.result) c.place.result
+    birth_is (subst (λ (m : Memory). slice_get m.forms c.args.layout ≡ Some (element_of element)) (sym same) got) c.place.ensures.placed func index (c.from.ensures ∙ size_is)
+    (c.place.ensures.address held (before.held Locals)) (c.place.ensures.held held (before.held Locals)) c.place.ensures.bounds in
+    subst (λ (n : ℕ). IfSome c.place.result (IsAdded next places objects (blank (Local func index) n element.slots))) c.from.ensures told
+
+pub returns-clause-frame : goal.returns-clause-frame
+returns-clause-frame g c =
+    let memory : Memory = record { bytes = c.self.inside.bytes; statics = c.self.inside.statics; locals = c.self.inside.locals; heap = c.self.inside.heap; forms = c.self.inside.forms.items } in
+    frame_locals memory c.args.self.now c.place.new.bytes c.place.new.self c.self.view_is c.place.ensures.bounds

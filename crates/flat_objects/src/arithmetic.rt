@@ -1,0 +1,209 @@
+//! Addresses as operands. One stays within its object, from its start to one past its end (C99 6.5.6, 6.5.8, 6.5.9).
+
+ghost use Rattle.std.specs.Prelude.{◌≡◌, ◌+◌, ◌^◌, ◌<◌, ◌<ℤ◌, ◌*ℤ◌, ◌-ℤ◌, ℕ, ℤ, List, pos, neg_ℤ, int_div};
+ghost use Rattle.hs_base.specs.Numbers.{wrapped};
+ghost use Rattle.hs_base.specs.Object.{Object};
+ghost use Rattle.object_meaning.specs.Arithmetic.{compared, difference, moved_by, offsets, ordered, pointers_compared, truth};
+ghost use Rattle.object_meaning.specs.Values.{number};
+ghost use Rattle.flat_objects.specs.Standing.{IsAddressOf};
+ghost use Rattle.flat_objects.specs.Keeping.{KeepsAt, IsKept};
+ghost use Rattle.flat_objects.specs.Answering.{Answers, AnswersAddress, AnswersNumber};
+ghost use Rattle.flat_objects.specs.Moving.{IsFar, MovesTo};
+
+use crate::memory::FlatObjects;
+use core_tree::CmpOp;
+use hs_base::{IntKind, Pointer, Steps, TrapKind};
+use std::sync::ledger::Ledger;
+
+/// The address of a place in an object of a size, where it is from its start to one past its end.
+fn address_within(start: u32, size: u32, place: i128) -> Result<u32, TrapKind>
+    requires { start + size < 2 ^ 32 }
+    ensures { MovesTo start size place result }
+{
+    if 0 <= place && place <= i128::from(size) {
+        Ok(start + place as u32)
+    } else {
+        Err(TrapKind::Range)
+    }
+}
+
+/// Says whether a comparison holds of two offsets.
+fn compared(op: CmpOp, one: u32, other: u32) -> bool
+    ensures { result ≡ compared op (pos one) (pos other) }
+{
+    match op {
+        CmpOp::Eq => one == other,
+        CmpOp::Ne => one != other,
+        CmpOp::Lt => one < other,
+        CmpOp::Gt => one > other,
+        CmpOp::Le => one <= other,
+        CmpOp::Ge => one >= other,
+    }
+}
+
+/// The difference of two offsets in elements of a size, rounded toward zero.
+fn elements_between(one: u32, other: u32, element: i128) -> i128
+    requires { pos 0 <ℤ element }
+    ensures { result ≡ wrapped IntKind.I32 (int_div (pos one -ℤ pos other) element) }
+{
+    let bytes = i128::from(one) - i128::from(other);
+    IntKind::I32.wrap(bytes / element)
+}
+
+/// 1 or 0.
+fn truth(holds: bool) -> i128
+    ensures { number result ≡ truth holds }
+{
+    if holds { 1 } else { 0 }
+}
+
+impl FlatObjects {
+    /// An address moved by a distance of bytes. Null is moved by 0 alone.
+    pub fn moved<L: Ledger>(
+        &self,
+        addr: u32,
+        distance: i128,
+        steps: &mut Steps<L>,
+    ) -> Result<u32, TrapKind>
+        requires { IsKept self.now addr }
+        ensures { (places : ℕ → ℕ) (objects : List Object) (p : Pointer) → KeepsAt self.now places objects p addr → AnswersAddress places objects result (moved_by objects p distance) }
+    {
+        if addr == 0 {
+            return if distance == 0 {
+                Ok(0)
+            } else {
+                Err(TrapKind::Null)
+            };
+        }
+        let found = self.find(addr, steps);
+        match i128::from(found.offset).checked_add(distance) {
+            Some(place) => address_within(found.start, found.size, place),
+            None => Err(TrapKind::Range),
+        }
+    }
+
+    /// What an address traps with that is moved by a distance that is far beyond any object.
+    fn moved_far(&self, addr: u32) -> Result<u32, TrapKind>
+        ensures { (places : ℕ → ℕ) (objects : List Object) (p : Pointer) (distance : ℤ) → KeepsAt self.now places objects p addr → IsFar distance → AnswersAddress places objects result (moved_by objects p distance) }
+    {
+        let _ = &self.bytes;
+        Err(if addr == 0 {
+            TrapKind::Null
+        } else {
+            TrapKind::Range
+        })
+    }
+
+    /// An address moved up by so many elements of a size.
+    pub fn moved_up<L: Ledger>(
+        &self,
+        addr: u32,
+        count: i128,
+        size: i128,
+        steps: &mut Steps<L>,
+    ) -> Result<u32, TrapKind>
+        requires { IsKept self.now addr }
+        ensures { (places : ℕ → ℕ) (objects : List Object) (p : Pointer) → KeepsAt self.now places objects p addr → AnswersAddress places objects result (moved_by objects p (count *ℤ size)) }
+    {
+        match count.checked_mul(size) {
+            Some(distance) => self.moved(addr, distance, steps),
+            None => self.moved_far(addr),
+        }
+    }
+
+    /// An address moved down by so many elements of a size.
+    pub fn moved_down<L: Ledger>(
+        &self,
+        addr: u32,
+        count: i128,
+        size: i128,
+        steps: &mut Steps<L>,
+    ) -> Result<u32, TrapKind>
+        requires { IsKept self.now addr }
+        ensures { (places : ℕ → ℕ) (objects : List Object) (p : Pointer) → KeepsAt self.now places objects p addr → AnswersAddress places objects result (moved_by objects p (neg_ℤ (count *ℤ size))) }
+    {
+        let Some(up) = count.checked_mul(size) else {
+            return self.moved_far(addr);
+        };
+        match 0i128.checked_sub(up) {
+            Some(distance) => self.moved(addr, distance, steps),
+            None => self.moved_far(addr),
+        }
+    }
+
+    /// The offsets of two addresses in one object.
+    fn offsets<L: Ledger>(
+        &self,
+        p: u32,
+        q: u32,
+        steps: &mut Steps<L>,
+    ) -> Result<(u32, u32), TrapKind>
+        requires one { IsKept self.now p }
+        requires other { IsKept self.now q }
+        ensures { (places : ℕ → ℕ) (objects : List Object) (a b : Pointer) → KeepsAt self.now places objects a p → IsAddressOf places objects b q → Answers result (offsets a b) }
+    {
+        let _ = &self.bytes;
+        if p == 0 || q == 0 {
+            return Err(TrapKind::Null);
+        }
+        let one = self.find(p, steps);
+        let other = self.find(q, steps);
+        if one.start != other.start {
+            return Err(TrapKind::Objects);
+        }
+        Ok((one.offset, other.offset))
+    }
+
+    /// The difference of two addresses in elements of a size, rounded toward zero (C99 6.5.6 paragraph 9).
+    pub fn difference<L: Ledger>(
+        &self,
+        p: u32,
+        q: u32,
+        element: i128,
+        steps: &mut Steps<L>,
+    ) -> Result<i128, TrapKind>
+        requires one { IsKept self.now p }
+        requires other { IsKept self.now q }
+        requires element { pos 0 <ℤ element }
+        ensures { (places : ℕ → ℕ) (objects : List Object) (a b : Pointer) → KeepsAt self.now places objects a p → IsAddressOf places objects b q → AnswersNumber result (difference a b element) }
+    {
+        let (one, other) = self.offsets(p, q, steps)?;
+        Ok(elements_between(one, other, element))
+    }
+
+    /// Which of two addresses in one object is lower.
+    fn ordered<L: Ledger>(
+        &self,
+        op: CmpOp,
+        p: u32,
+        q: u32,
+        steps: &mut Steps<L>,
+    ) -> Result<i128, TrapKind>
+        requires one { IsKept self.now p }
+        requires other { IsKept self.now q }
+        ensures { (places : ℕ → ℕ) (objects : List Object) (a b : Pointer) → KeepsAt self.now places objects a p → IsAddressOf places objects b q → AnswersNumber result (ordered op a b) }
+    {
+        let (one, other) = self.offsets(p, q, steps)?;
+        Ok(truth(compared(op, one, other)))
+    }
+
+    /// A comparison of two addresses: 1 or 0. Any two are equal or not; only those in one object are ordered.
+    pub fn compare<L: Ledger>(
+        &self,
+        op: CmpOp,
+        p: u32,
+        q: u32,
+        steps: &mut Steps<L>,
+    ) -> Result<i128, TrapKind>
+        requires one { IsKept self.now p }
+        requires other { IsKept self.now q }
+        ensures { (places : ℕ → ℕ) (objects : List Object) (a b : Pointer) → KeepsAt self.now places objects a p → IsAddressOf places objects b q → AnswersNumber result (pointers_compared op a b) }
+    {
+        let _ = &self.bytes;
+        match op {
+            CmpOp::Eq => Ok(truth(p == q)),
+            CmpOp::Ne => Ok(truth(p != q)),
+            CmpOp::Lt | CmpOp::Gt | CmpOp::Le | CmpOp::Ge => self.ordered(op, p, q, steps),
+        }
+    }
+}

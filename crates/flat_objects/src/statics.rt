@@ -1,0 +1,149 @@
+//! A new memory, and the statics in it.
+
+ghost use Rattle.std.specs.Prelude.{◌≡◌, ◌+◌, ◌%◌, ◌^◌, ◌<◌, ◌≤◌, ℕ, List, [], All, IfOk, IfSome, IfNone, Some, length, map, option_map, slice_get};
+ghost use Rattle.hs_base.specs.Object.{Object, Static, object_at};
+ghost use Rattle.hs_base.specs.Access.{with_object, with_pointer};
+ghost use Rattle.c_types.specs.declared.layouts.Layout as layouts;
+ghost use Rattle.adjusters.specs.ObjectSlots.{element_of};
+ghost use Rattle.heap_blocks.specs.Held.{HasBounds, address_of, fit_of};
+ghost use Rattle.object_meaning.specs.Making.{blank};
+ghost use Rattle.flat_objects.specs.Memory as memory;
+ghost use Rattle.flat_objects.specs.Memory.{IsForm, SameFrame};
+ghost use Rattle.flat_objects.specs.Keeping.{Keeps, blocks_of};
+ghost use Rattle.flat_objects.specs.Answering.{IsChanged};
+ghost use Rattle.flat_objects.specs.Adding.{IsAdded};
+ghost use Rattle.flat_objects.specs.Starting.{HasSlotFor, IsSlotFor, IsTaking, IsTakingPointers, IsWritten, TakesBytes, TakesPointers, with_first_bytes, with_first_pointers};
+
+use crate::forms::Form;
+use crate::memory::FlatObjects;
+use c_types::Layout;
+use heap_blocks::Heap;
+use hs_base::{FlatBytes, NoMemory, Pointer, Steps};
+use std::alloc::Global;
+use std::sync::ledger::Ledger;
+
+/// The slots of the elements of each layout.
+fn forms_of(alloc: Global, layouts: &[Layout]) -> Result<Vec<Form>, NoMemory>
+    requires { All (λ l. IsForm (element_of l)) layouts.now }
+    ensures { IfOk result (λ forms. forms.items ≡ map element_of layouts.now) }
+{
+    let mut forms = Vec::new(alloc);
+    for layout in layouts {
+        forms.push(Form::of(alloc, layout)?)?;
+    }
+    Ok(forms)
+}
+
+/// Writes bytes from an address on.
+fn write_bytes<L: Ledger>(memory: &mut FlatBytes, start: u32, bytes: &[u8], steps: &mut Steps<L>)
+    requires inside { start + length bytes.now ≤ length memory.old }
+    requires fits { start + length bytes.now < 2 ^ 32 }
+    ensures { IsWritten memory.old memory.new start bytes.now }
+{
+    for (k, byte) in bytes.iter().enumerate() {
+        memory.write(start + k as u32, 1, u64::from(*byte), steps);
+    }
+}
+
+impl FlatObjects {
+    /// A memory without objects, with so many bytes for the statics, the memory locals and the heap, and for elements of
+    /// these layouts. It takes all memory that later calls need.
+    pub fn new(
+        alloc: Global,
+        layouts: &[Layout],
+        statics: u32,
+        locals: u32,
+        heap: u32,
+    ) -> Result<FlatObjects, NoMemory>
+        requires layouts { All (λ l. IsForm (element_of l)) layouts.now }
+        requires statics { statics % 16 ≡ 0 }
+        requires locals { locals % 16 ≡ 0 }
+        requires fits { statics + locals + heap < 2 ^ 32 }
+        ensures keeps { IfOk result (λ o. (places : ℕ → ℕ) → Keeps o places []) }
+        ensures forms { IfOk result (λ o. o.forms ≡ map element_of layouts.now) }
+        ensures bounds { IfOk result (λ o. HasBounds 0 statics o.statics × HasBounds statics locals o.locals × HasBounds (statics + locals) heap o.heap) }
+    {
+        let heap_from = statics + locals;
+        Ok(FlatObjects {
+            bytes: FlatBytes::new(alloc, heap_from + heap)?,
+            statics: Heap::new(alloc, 0, statics)?,
+            locals: Heap::new(alloc, statics, locals)?,
+            heap: Heap::new(alloc, heap_from, heap)?,
+            locals_from: statics,
+            heap_from,
+            forms: forms_of(alloc, layouts)?,
+        })
+    }
+
+    /// Places a static of a number by first fit and answers its address: one element of the layout of a number. All its
+    /// bytes are 0 and its pointers null. Where it has no place nothing changes.
+    pub fn new_static<L: Ledger>(
+        &mut self,
+        size: u32,
+        layout: u32,
+        index: u32,
+        steps: &mut Steps<L>,
+    ) -> Option<u32>
+        ensures place { (places : ℕ → ℕ) (objects : List Object) → Keeps self.old places objects → result ≡ option_map (address_of self.old.statics) (fit_of self.old.statics (blocks_of self.old places objects memory.Statics) size) }
+        ensures added { (places : ℕ → ℕ) (objects : List Object) (element : layouts.Layout) → Keeps self.old places objects → index ≡ length objects → slice_get self.old.forms layout ≡ Some (element_of element) → size ≡ element.size → IfSome result (IsAdded self.new places objects (blank (Static index) size element.slots)) }
+        ensures none { IfNone result (self.new ≡ self.old) }
+        ensures frame { SameFrame self.old self.new }
+    {
+        self.statics.place(
+            &mut self.bytes,
+            u64::from(size),
+            layout,
+            0,
+            u64::from(index),
+            steps,
+        )
+    }
+
+    /// Writes the first bytes of a static at an address, which has only zeros and null pointers.
+    pub fn start_bytes<L: Ledger>(&mut self, addr: u32, bytes: &[u8], steps: &mut Steps<L>)
+        requires { IsTaking self.old addr bytes.now }
+        ensures changes { (places : ℕ → ℕ) (objects : List Object) (birth : ℕ) → TakesBytes self.old places objects birth addr bytes.now → IsChanged self.new places objects (with_object objects birth (with_first_bytes (object_at objects birth) bytes.now)) }
+        ensures frame { SameFrame self.old self.new }
+    {
+        write_bytes(&mut self.bytes, addr, bytes, steps);
+    }
+
+    /// Writes the address of an offset of an object into a slot of another.
+    fn set_slot<L: Ledger>(
+        &mut self,
+        start: u32,
+        slot: u32,
+        target: u32,
+        offset: u32,
+        steps: &mut Steps<L>,
+    )
+        requires { IsSlotFor self.old start slot target offset }
+        ensures changes { (places : ℕ → ℕ) (objects : List Object) (birth other : ℕ) → HasSlotFor self.old places objects birth start slot other target offset → IsChanged self.new places objects (with_object objects birth (with_pointer (object_at objects birth) slot (Pointer.At other offset))) }
+        ensures frame { SameFrame self.old self.new }
+    {
+        let _ = &self.bytes;
+        let addr = start + slot;
+        let value = target + offset;
+        self.bytes.write(addr, 4, u64::from(value), steps);
+    }
+
+    /// Writes the first pointers of a static at an address, whose pointers are null: the offset of each slot, the static
+    /// that is pointed to and the offset in that one. All statics stand at these addresses.
+    pub fn start_pointers<L: Ledger>(
+        &mut self,
+        addr: u32,
+        pointers: &[(u32, u32, u32)],
+        starts: &[u32],
+        steps: &mut Steps<L>,
+    )
+        requires { IsTakingPointers self.old addr pointers.now starts.now }
+        ensures changes { (places : ℕ → ℕ) (objects : List Object) (birth : ℕ) → TakesPointers self.old places objects birth addr pointers.now starts.now → IsChanged self.new places objects (with_object objects birth (with_first_pointers (object_at objects birth) pointers.now)) }
+        ensures frame { SameFrame self.old self.new }
+    {
+        let _ = &self.bytes;
+        for pointer in pointers {
+            let (slot, target, offset) = *pointer;
+            self.set_slot(addr, slot, starts[target as usize], offset, steps);
+        }
+    }
+}

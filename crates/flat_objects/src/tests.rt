@@ -1,0 +1,83 @@
+// A heap object worked out by hand, and null.
+
+ghost use Rattle.std.specs.Prelude.{◌≡◌, ◌<◌};
+ghost use Rattle.flat_objects.specs.Keeping.{IsKept};
+
+use super::*;
+use c_types::Layout;
+use core_tree::CmpOp;
+use hs_base::{IntKind, Items, NoMemory, Steps, TrapKind};
+use std::alloc::Global;
+use std::marker::Brand;
+use std::process::Abort;
+use std::sync::ledger::{Blank, Ledger};
+use std::test::Fail;
+
+// What null answers.
+fn null_answers<L: Ledger, R: Abort>(rt: &R, memory: &FlatObjects, steps: &mut Steps<L>)
+    requires { IsKept memory.now 0 }
+{
+    let load = memory.load(IntKind::I32, 0, steps);
+    assert_eq!(rt; load, Err(TrapKind::Null));
+    let moved = memory.moved(0, 0, steps);
+    assert_eq!(rt; moved, Ok(0));
+    let moved = memory.moved_up(0, 1, 4, steps);
+    assert_eq!(rt; moved, Err(TrapKind::Null));
+    let same = memory.compare(CmpOp::Eq, 0, 0, steps);
+    assert_eq!(rt; same, Ok(1));
+    let length = memory.string_length(0, steps);
+    assert_eq!(rt; length, Err(TrapKind::Null));
+}
+
+// An integer is written at the start of an object of 6 bytes, and read in two kinds.
+fn writes_and_reads<L: Ledger, R: Abort>(
+    rt: &R,
+    memory: &mut FlatObjects,
+    addr: u32,
+    steps: &mut Steps<L>,
+)
+    requires { IsKept memory.old addr }
+{
+    let stored = memory.store(IntKind::I16, addr, -2, steps);
+    assert_eq!(rt; stored, Ok(()));
+    let load = memory.load(IntKind::I16, addr, steps);
+    assert_eq!(rt; load, Ok(-2));
+    let load = memory.load(IntKind::U8, addr, steps);
+    assert_eq!(rt; load, Ok(254));
+    let load = memory.load(IntKind::I64, addr, steps);
+    assert_eq!(rt; load, Err(TrapKind::Bounds));
+    let length = memory.string_length(addr, steps);
+    assert_eq!(rt; length, Ok(2));
+    let moved = memory.moved(addr, 6, steps);
+    assert_eq!(rt; moved, Ok(102));
+    let moved = memory.moved(addr, 7, steps);
+    assert_eq!(rt; moved, Err(TrapKind::Range));
+}
+
+// The statics have the addresses from 0 to 63, and the heap begins at 64.
+fn places<L: Ledger, R: Abort>(rt: &R, alloc: Global, blank: Blank) -> Result<(), NoMemory>
+    requires name { blank.name ≡ L.name }
+    requires parts { blank.parts ≡ L.parts }
+    requires some { 0 < blank.parts }
+{
+    let mut steps = Steps::<L>::new(blank);
+    let number = Layout {
+        size: 4,
+        align: 4,
+        slots: Items::new(alloc),
+    };
+    let mut memory = FlatObjects::new(alloc, &[number], 64, 0, 256)?;
+    null_answers(rt, &memory, &mut steps);
+    let Some(addr) = memory.new_object(6, 0, 3, 0, &mut steps) else {
+        panic!(rt; "the object has no place");
+    };
+    assert_eq!(rt; addr, 96);
+    writes_and_reads(rt, &mut memory, addr, &mut steps);
+    Ok(())
+}
+
+#[test]
+fn objects_stand_where_they_are_worked_out(rt: HostRuntime) -> Result<(), Fail> {
+    places::<Brand, _>(&rt, rt.alloc(), Blank::new(1))?;
+    Ok(())
+}
