@@ -14,3 +14,4 @@ pub mod Goods
 pub mod Stepped
 pub mod Loops
 pub mod Starts
+pub mod Movements

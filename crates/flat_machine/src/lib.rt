@@ -11,6 +11,7 @@ mod jumps;
 mod loaded;
 mod memory;
 mod output;
+mod pointers;
 mod running;
 mod state;
 mod steps;

@@ -1,6 +1,6 @@
 //! One instruction.
 
-ghost use Rattle.std.specs.Prelude.{◌≡◌, ◌+◌, ◌<◌, ◌≤◌, ◌^◌, [], ℕ, List, All, IfOk, Some, map, length, slice_get, slice_index, slice_index_or};
+ghost use Rattle.std.specs.Prelude.{◌≡◌, ◌+◌, ◌<◌, ◌<ℤ◌, ◌≤◌, ◌^◌, [], ℕ, pos, List, All, IfOk, Some, map, length, slice_get, slice_index, slice_index_or};
 ghost use Rattle.hs_base.specs.Trace.{Event};
 ghost use Rattle.c_print.specs.Format.{IsGiven};
 ghost use Rattle.c_print.specs.Pieces.{pieces_of};
@@ -14,7 +14,7 @@ ghost use Rattle.code_meaning.specs.CodeMeaning.{handed_value, hand_or_act, step
 ghost use Rattle.code_soundness.specs.Objects.{IsByte};
 ghost use Rattle.flat_machine.specs.Words.{address_at};
 ghost use Rattle.flat_machine.specs.Standing.{Stands};
-ghost use Rattle.flat_machine.specs.Groups.{IsHanding, IsValues, IsJump, IsMemory, IsAlone, IsIntegerLib};
+ghost use Rattle.flat_machine.specs.Groups.{IsHanding, IsValues, IsJump, IsMemory, IsPointers, IsAlone, IsIntegerLib};
 ghost use Rattle.flat_machine.specs.Built.{IsBuilt, IsBuiltOp};
 ghost use Rattle.flat_machine.specs.Loaded.{IsLoaded};
 ghost use Rattle.flat_machine.specs.Well.{IsWell};
@@ -79,6 +79,8 @@ fn act_alone(
     requires loaded { IsLoaded code.now loaded.now }
     requires hands { IsHanding op → MayHand instr op state.old }
     requires kept { IsMemory op → IsKept state.old.memory (address_at state.old.handed 0) }
+    requires pointers { IsPointers op → (k : ℕ) → IsKept state.old.memory (address_at state.old.handed k) }
+    requires element { op ≡ ops.Diff → pos 0 <ℤ instr.imm }
     requires may { op ≡ ops.Call → MayCall code.now instr state.old }
     requires waits { WaitsAtCall code.now state.old.calls.waiting }
     requires locals { HasNoLocal code.now state.old.calls }
@@ -96,6 +98,7 @@ fn act_alone(
         Op::Load(..) | Op::Loadp | Op::Store(..) | Op::Storep => {
             state.act_memory(line, instr, op)
         }
+        Op::Add | Op::Sub | Op::Diff | Op::Pcmp(..) => state.act_pointers(line, instr, op),
         Op::Call => call(state, code, loaded, line, instr),
         Op::Return => state.act_return(code, Word::Number(0)),
         Op::Give => {

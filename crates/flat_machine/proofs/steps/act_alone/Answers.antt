@@ -2,9 +2,9 @@ use Rattle.std.proofs.Common.{pos, get_or, refl, rules, sym, subst, ◌∙◌}
 use Rattle.flat_code.specs.declared.instructions.Op.TheVariants as op
 use Rattle.object_meaning.specs.Values.{number}
 use Rattle.flat_objects.specs.Standing.{StandsFor}
-use Rattle.flat_machine.specs.Groups.{IsValues, IsJump, IsMemory}
+use Rattle.flat_machine.specs.Groups.{IsValues, IsJump, IsMemory, IsPointers}
 use Rattle.flat_machine.proofs.WordLists.{word_at}
-use Rattle.flat_machine.proofs.Stepped.{values_taken, jump_taken, memory_taken, taken_alone}
+use Rattle.flat_machine.proofs.Stepped.{values_taken, jump_taken, memory_taken, pointers_taken, taken_alone}
 use Rattle.flat_machine.proofs.steps.act_alone.Goals as goal
 
 pub returns-in-Return : goal.returns-in-Return
@@ -37,3 +37,8 @@ pub returns-in-Load : goal.returns-in-Load
 returns-in-Load c = λ places s h is.
     let memory : IsMemory c.args.op = search rules in
     taken_alone c.args.code.now c.args.line c.args.instr c.args.op s s.state.input c.args.state.now c.act_memory.new.self c.act_memory.result (memory_taken s.state.running c.args.instr c.args.op memory) is (c.act_memory.ensures c.args.code.now places s h)
+
+pub returns-in-Add : goal.returns-in-Add
+returns-in-Add c = λ places s h is.
+    let pointers : IsPointers c.args.op = search rules in
+    taken_alone c.args.code.now c.args.line c.args.instr c.args.op s s.state.input c.args.state.now c.act_pointers.new.self c.act_pointers.result (pointers_taken s.state.running c.args.instr c.args.op pointers) is (c.act_pointers.ensures c.args.code.now places s h)

@@ -10,7 +10,7 @@ use Rattle.code_meaning.specs.CodeState.{same_numbers}
 use Rattle.code_meaning.specs.CodeMeaning.{step, act, handed_value, hand_or_act}
 use Rattle.flat_machine.proofs.Stays.{stands_input}
 use Rattle.flat_machine.proofs.OneByte.{no_bytes}
-use Rattle.flat_machine.proofs.Goods.{waits, no_locals, kept, built_here, may_hand, not_local, not_start, may_call, integer_lib, no_instr, no_line}
+use Rattle.flat_machine.proofs.Goods.{waits, no_locals, kept, built_here, may_hand, not_local, not_start, element_size, may_call, integer_lib, no_instr, no_line}
 use Rattle.flat_machine.proofs.Stepped.{lib_same, step_is, step_acts, seen_alone, moves_alone, counts_alone, alone_of, given_at, read_at, plain_at, found, found_line, seen_as, moves_as}
 use Rattle.flat_machine.proofs.steps.one_step.Goals as goal
 
@@ -96,7 +96,15 @@ act_alone-requires-clause-hands g c = λ hands.
     may_hand c.args.code.now c.requires.formed c.requires.built c.args.state.now c.requires.well c.in-Some.instr.now at c.in-Some.instr.now.op refl hands
 
 pub act_alone-requires-clause-kept : goal.act_alone-requires-clause-kept
-act_alone-requires-clause-kept g c = λ memory. kept c.args.code.now c.requires.formed c.requires.built c.args.state.now c.requires.well
+act_alone-requires-clause-kept g c = λ memory. kept c.args.code.now c.requires.formed c.requires.built c.args.state.now c.requires.well 0
+
+pub act_alone-requires-clause-pointers : goal.act_alone-requires-clause-pointers
+act_alone-requires-clause-pointers g c = λ pointers k. kept c.args.code.now c.requires.formed c.requires.built c.args.state.now c.requires.well k
+
+pub act_alone-requires-clause-element : goal.act_alone-requires-clause-element
+act_alone-requires-clause-element g c = λ is.
+    let at = found c.args.code.now.instrs c.point-point.result c.args.state.now.calls.running.point c.in-Some.instr.now c.point-point.ensures c.in-Some.ensures.item in
+    element_size c.args.code.now c.requires.formed c.requires.built c.args.state.now c.requires.well c.in-Some.instr.now at is
 
 pub act_alone-requires-clause-may : goal.act_alone-requires-clause-may
 act_alone-requires-clause-may g c = λ is.
