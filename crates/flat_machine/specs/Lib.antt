@@ -10,3 +10,4 @@ pub mod Built
 pub mod Loaded
 pub mod Well
 pub mod First
+pub mod Machined

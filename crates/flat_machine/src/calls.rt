@@ -124,14 +124,7 @@ impl Calls {
     }
 
     /// Calls a function: its call runs, and the one that was running waits. Its first registers take the arguments.
-    pub(crate) fn enter(
-        &mut self,
-        func: u32,
-        first: u32,
-        kinds: &[bool],
-        args: &[Word],
-        cost: u32,
-    )
+    pub(crate) fn enter(&mut self, func: u32, first: u32, kinds: &[bool], args: &[Word], cost: u32)
         requires point { self.old.running.point + 1 < 2 ^ 64 }
         requires room { self.old.used + cost ≤ self.old.room }
         requires cost { 16 + 8 * length kinds.now ≤ cost }
