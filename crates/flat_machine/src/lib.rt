@@ -26,6 +26,7 @@ mod pointers;
 mod running;
 mod state;
 mod steps;
+mod strings;
 mod words;
 
 pub use machine::Machine;

@@ -12,8 +12,10 @@ ghost use Rattle.object_meaning.specs.Printing.{arguments_behind};
 ghost use Rattle.meaning_state.specs.Printing.{piece_text, PrintsNoString};
 ghost use Rattle.meaning_run.specs.Leading.{with_input};
 ghost use Rattle.code_meaning.specs.CodeState.{CodeState, same_numbers};
+ghost use Rattle.flat_objects.specs.Keeping.{IsKept};
+ghost use Rattle.flat_machine.specs.Words.{address_at};
 ghost use Rattle.flat_machine.specs.Standing.{Stands};
-ghost use Rattle.flat_machine.specs.Groups.{IsIntegerLib};
+ghost use Rattle.flat_machine.specs.Groups.{IsBuiltLib};
 ghost use Rattle.flat_machine.specs.Leading.{Counted, Moves, Seen};
 ghost use Rattle.flat_machine.specs.Writing.{text_of, PutsPieces, WritesPieces};
 ghost use Rattle.code_soundness.specs.Objects.{IsByte};
@@ -145,7 +147,7 @@ impl State {
         }
     }
 
-    /// A call of a built-in function that takes no pointer; a register takes its answer.
+    /// A call of a built-in function; a register takes its answer.
     pub(crate) fn act_lib<I: Source, O: Sink>(
         &mut self,
         line: Line,
@@ -155,7 +157,8 @@ impl State {
         out: &mut O,
     ) -> Result<(), End>
         requires point { self.old.calls.running.point + 1 < 2 ^ 64 }
-        requires name { IsIntegerLib name }
+        requires name { IsBuiltLib name }
+        requires kept { (k : ℕ) → IsKept self.old.memory (address_at self.old.handed k) }
         requires input { I.faults input.old + 1 < 2 ^ 64 }
         requires out { O.faults out.old + 1 < 2 ^ 64 }
         ensures told { (places : ℕ → ℕ) (c : CodeState) (taken : List ℕ) → Stands places c self.old → I.left input.old ≡ Some c.state.input → O.taken out.old ≡ Some taken → Seen self.old (same_numbers c.numbers (call_lib line name r c.handed c.state)) c.state.input taken result self.new (I.left input.new) (O.taken out.new) }
@@ -167,6 +170,7 @@ impl State {
             LibName::Putchar => self.put_char(r, self.integer(0), out),
             LibName::Exit => Err(End::Exit(byte_in(self.integer(0)))),
             LibName::Abort => Err(End::Trap(TrapKind::Abort, line)),
+            LibName::Strlen | LibName::Strcmp => self.act_string(line, name, r),
             _ => unreachable!(),
         }
     }

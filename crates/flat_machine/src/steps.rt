@@ -14,7 +14,7 @@ ghost use Rattle.code_meaning.specs.CodeMeaning.{handed_value, hand_or_act, step
 ghost use Rattle.code_soundness.specs.Objects.{IsByte};
 ghost use Rattle.flat_machine.specs.Words.{address_at};
 ghost use Rattle.flat_machine.specs.Standing.{Stands};
-ghost use Rattle.flat_machine.specs.Groups.{IsHanding, IsValues, IsJump, IsMemory, IsPointers, IsAlone, IsIntegerLib};
+ghost use Rattle.flat_machine.specs.Groups.{IsHanding, IsValues, IsJump, IsMemory, IsPointers, IsAlone, IsBuiltLib};
 ghost use Rattle.flat_machine.specs.Built.{IsBuilt, IsBuiltOp};
 ghost use Rattle.flat_machine.specs.Loaded.{IsLoaded};
 ghost use Rattle.flat_machine.specs.Well.{IsWell};

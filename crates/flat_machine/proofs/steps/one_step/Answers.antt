@@ -29,6 +29,9 @@ act_lib-requires-clause-name g c =
     let at = found c.args.code.now.instrs c.point-point.result c.args.state.now.calls.running.point c.in-Some.instr.now c.point-point.ensures c.in-Some.ensures.item in
     integer_lib c.args.code.now c.requires.formed c.requires.built c.args.state.now c.requires.well c.in-Some.instr.now at c.in-Lib.name c.in-Lib.is
 
+pub act_lib-requires-clause-kept : goal.act_lib-requires-clause-kept
+act_lib-requires-clause-kept g c = kept c.args.code.now c.requires.formed c.requires.built c.args.state.now c.requires.well
+
 pub returns-in-Lib-clause-told : goal.returns-in-Lib-clause-told
 returns-in-Lib-clause-told g c = λ places s trace taken h l t.
     let at = found c.args.code.now.instrs c.point-point.result c.args.state.now.calls.running.point c.in-Some.instr.now c.point-point.ensures c.in-Some.ensures.item in

@@ -4,6 +4,9 @@ use mir.Syntax.{w128}
 use mir.Val.{SFits}
 use Rattle.flat_machine.proofs.WordLists.{integer_at_is}
 use Rattle.flat_machine.proofs.Stays.{stands_input}
+use Rattle.object_meaning.specs.Builtins.{call_lib}
+use Rattle.code_meaning.specs.CodeState.{CodeState, same_numbers}
+use Rattle.flat_machine.proofs.Stepped.{seen_alone, moves_alone}
 use Rattle.flat_machine.proofs.OneByte.{no_bytes, exit_seen, abort_seen}
 use Rattle.flat_machine.proofs.state.State.act_lib.Goals as goal
 
@@ -43,3 +46,15 @@ returns-in-Abort-clause-told g c = λ places s taken h l t.
 
 pub returns-in-Abort-clause-moves : goal.returns-in-Abort-clause-moves
 returns-in-Abort-clause-moves g c = λ places s h. ([], no_bytes, tt)
+
+pub returns-in-Strlen-clause-told : goal.returns-in-Strlen-clause-told
+returns-in-Strlen-clause-told g c = λ places s taken h l t.
+    rw (l, t) (seen_alone c.args.self.now (same_numbers s.numbers (call_lib c.args.line c.args.name c.args.r s.handed s.state)) s.state.input taken c.act_string.new.self c.act_string.result (c.act_string.ensures.leads places s h))
+
+pub returns-in-Strlen-clause-moves : goal.returns-in-Strlen-clause-moves
+returns-in-Strlen-clause-moves g c = λ places s h.
+    let none : CodeState = record s { state = record s.state { input = [] } } in
+    ([], no_bytes, moves_alone c.args.self.now (same_numbers s.numbers (call_lib c.args.line c.args.name c.args.r s.handed none.state)) [] c.act_string.new.self c.act_string.result (c.act_string.ensures.leads places none (stands_input places s c.args.self.now h [])))
+
+pub returns-in-Strlen-clause-faults : goal.returns-in-Strlen-clause-faults
+returns-in-Strlen-clause-faults g c = c.act_string.ensures.faults _ _
