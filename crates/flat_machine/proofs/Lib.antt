@@ -1,0 +1,17 @@
+pub mod Stacks
+pub mod WordLists
+pub mod Stays
+pub mod Plain
+pub mod Hands
+pub mod Entered
+pub mod Backs
+pub mod Accesses
+pub mod Prints
+pub mod OneByte
+pub mod Cuts
+pub mod Reached
+pub mod Goods
+pub mod Stepped
+pub mod Loops
+pub mod Starts
+pub mod Movements

@@ -1,0 +1,48 @@
+use Rattle.std.proofs.Common.{◌++◌, refl, sym, ◌∙◌}
+use Rattle.hs_base.specs.Trace.{bytes_out}
+use Rattle.flat_machine.proofs.Reached.{reached_more, reached_end}
+use Rattle.flat_machine.proofs.Loops.{well_next, less_next, room_next, less_state, run_counts}
+use Rattle.flat_machine.proofs.running.end_of_run.Goals as goal
+
+pub instructions-init : goal.instructions-init
+instructions-init g c = record {
+  input = refl;
+  out = refl;
+  well = c.requires.well;
+  room = refl;
+  told = λ left n room taken stack r. r;
+}
+
+pub instructions-preserved : goal.instructions-preserved
+instructions-preserved g c =
+    let faults = rw c.in-Ok.is at c.one_step.ensures.faults in
+    let moves = rw c.in-Ok.is at c.one_step.ensures.moves in
+    let told = rw c.in-Ok.is at c.one_step.ensures.told in
+    let known = c.instructions.invariant in
+    let room_is = room_next c.args.code.now c.requires.formed c.requires.built c.step_stays_good.ensures c.step_leaves_less.ensures c.instructions.state c.one_step.new.state known.well moves in
+    record {
+      input = faults.0 ∙ known.input;
+      out = faults.1 ∙ known.out;
+      well = well_next c.args.code.now c.requires.formed c.requires.built c.step_stays_good.ensures c.step_leaves_less.ensures c.instructions.state c.one_step.new.state known.well moves;
+      room = room_is ∙ known.room;
+      told = λ left n room taken stack first.
+          let r = known.told left n room taken stack first in
+          reached_more c.args.code.now left n room taken c.instructions.state c.one_step.new.state _ _ _ _ r (room_is ∙ known.room ∙ stack) (λ after now. less_state c.args.code.now c.requires.formed c.requires.built c.step_stays_good.ensures c.step_leaves_less.ensures c.instructions.state c.one_step.new.state known.well moves r.now after r.stands now) (told r.stands.places r.now r.trace (taken ++ bytes_out r.trace) r.stands.stands r.is_left r.is_taken);
+    }
+
+pub instructions-smaller : goal.instructions-smaller
+instructions-smaller g c =
+    let moves = rw c.in-Ok.is at c.one_step.ensures.moves in
+    less_next c.args.code.now c.requires.formed c.requires.built c.step_stays_good.ensures c.step_leaves_less.ensures c.instructions.state c.one_step.new.state c.instructions.invariant.well moves
+
+pub returns-in-Err-clause-told : goal.returns-in-Err-clause-told
+returns-in-Err-clause-told g c = λ left n room taken stack first.
+    let told = rw c.in-Err.is at c.one_step.ensures.told in
+    let known = c.instructions.invariant in
+    let r = known.told left n room taken stack first in
+    reached_end c.args.code.now left n room taken c.instructions.state c.one_step.new.state _ _ _ _ r (known.room ∙ stack) c.in-Err.end (told r.stands.places r.now r.trace (taken ++ bytes_out r.trace) r.stands.stands r.is_left r.is_taken)
+
+pub returns-in-Err-clause-faults : goal.returns-in-Err-clause-faults
+returns-in-Err-clause-faults g c =
+    let faults = rw (c.in-Err.is, c.instructions.invariant.input, c.instructions.invariant.out) at c.one_step.ensures.faults in
+    run_counts c.in-Err.end _ _ _ _ faults

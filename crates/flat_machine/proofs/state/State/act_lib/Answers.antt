@@ -1,0 +1,60 @@
+use Rattle.std.proofs.Common.{[], rules, refl, ap, ◌∙◌}
+use Rattle.std.proofs.lemmas.Int.{to_z-of_z}
+use mir.Syntax.{w128}
+use mir.Val.{SFits}
+use Rattle.flat_machine.proofs.WordLists.{integer_at_is}
+use Rattle.flat_machine.proofs.Stays.{stands_input}
+use Rattle.object_meaning.specs.Builtins.{call_lib}
+use Rattle.code_meaning.specs.CodeState.{CodeState, same_numbers}
+use Rattle.flat_machine.proofs.Stepped.{seen_alone, moves_alone}
+use Rattle.flat_machine.proofs.OneByte.{no_bytes, exit_seen, abort_seen}
+use Rattle.flat_machine.proofs.state.State.act_lib.Goals as goal
+
+pub returns-in-Getchar-clause-told : goal.returns-in-Getchar-clause-told
+returns-in-Getchar-clause-told g c = λ places s taken h l t. rw (c.in-Getchar.is, t) (c.get.ensures.told places s taken h l)
+
+pub returns-in-Getchar-clause-moves : goal.returns-in-Getchar-clause-moves
+returns-in-Getchar-clause-moves g c = λ places s h. rw c.in-Getchar.is (c.get.ensures.moves places s h)
+
+pub returns-in-Putchar-clause-told : goal.returns-in-Putchar-clause-told
+returns-in-Putchar-clause-told g c = λ places s taken h l t.
+    let fits : SFits w128 c.integer.result = search rules in
+    let told = rw (to_z-of_z w128 c.integer.result fits) at (c.put_char.ensures.told places s taken h t) in
+    let number = c.integer.ensures ∙ integer_at_is places s.state.objects s.handed c.args.self.now.handed 0 h.handed in
+    rw (c.in-Putchar.is, l, ← number) told
+
+pub returns-in-Putchar-clause-moves : goal.returns-in-Putchar-clause-moves
+returns-in-Putchar-clause-moves g c = λ places s h.
+    let fits : SFits w128 c.integer.result = search rules in
+    let moves = rw (to_z-of_z w128 c.integer.result fits) at (c.put_char.ensures.moves places (record s { state = record s.state { input = [] } }) (stands_input places s c.args.self.now h [])) in
+    let number = c.integer.ensures ∙ integer_at_is places s.state.objects s.handed c.args.self.now.handed 0 h.handed in
+    ([], no_bytes, rw (c.in-Putchar.is, ← number) moves)
+
+pub returns-in-Exit-clause-told : goal.returns-in-Exit-clause-told
+returns-in-Exit-clause-told g c = λ places s taken h l t.
+    let fits : SFits w128 c.integer-in-Exit.result = search rules in
+    let byte = rw (to_z-of_z w128 c.integer-in-Exit.result fits) at c.byte_in.ensures in
+    let number = c.integer-in-Exit.ensures ∙ integer_at_is places s.state.objects s.handed c.args.self.now.handed 0 h.handed in
+    rw c.in-Exit.is (exit_seen c.args.r places s c.args.self.now c.args.self.now h c.args.line c.byte_in.result c.integer-in-Exit.result taken _ _ byte number l t)
+
+pub returns-in-Exit-clause-moves : goal.returns-in-Exit-clause-moves
+returns-in-Exit-clause-moves g c = λ places s h. ([], no_bytes, tt)
+
+pub returns-in-Abort-clause-told : goal.returns-in-Abort-clause-told
+returns-in-Abort-clause-told g c = λ places s taken h l t.
+    rw c.in-Abort.is (abort_seen c.args.r places s c.args.self.now c.args.self.now h c.args.line taken _ _ l t)
+
+pub returns-in-Abort-clause-moves : goal.returns-in-Abort-clause-moves
+returns-in-Abort-clause-moves g c = λ places s h. ([], no_bytes, tt)
+
+pub returns-in-Strlen-clause-told : goal.returns-in-Strlen-clause-told
+returns-in-Strlen-clause-told g c = λ places s taken h l t.
+    rw (l, t) (seen_alone c.args.self.now (same_numbers s.numbers (call_lib c.args.line c.args.name c.args.r s.handed s.state)) s.state.input taken c.act_string.new.self c.act_string.result (c.act_string.ensures.leads places s h))
+
+pub returns-in-Strlen-clause-moves : goal.returns-in-Strlen-clause-moves
+returns-in-Strlen-clause-moves g c = λ places s h.
+    let none : CodeState = record s { state = record s.state { input = [] } } in
+    ([], no_bytes, moves_alone c.args.self.now (same_numbers s.numbers (call_lib c.args.line c.args.name c.args.r s.handed none.state)) [] c.act_string.new.self c.act_string.result (c.act_string.ensures.leads places none (stands_input places s c.args.self.now h [])))
+
+pub returns-in-Strlen-clause-faults : goal.returns-in-Strlen-clause-faults
+returns-in-Strlen-clause-faults g c = c.act_string.ensures.faults _ _

@@ -1,0 +1,56 @@
+use Rattle.std.proofs.Common.{rules, ◌∙◌, ap}
+use Rattle.std.proofs.lemmas.Int.{to_z-of_z}
+use mir.Syntax.{w128}
+use mir.Val.{SFits}
+use Rattle.object_meaning.specs.Values.{pointer_at}
+use Rattle.flat_machine.specs.Kept.{gone_on}
+use Rattle.flat_machine.proofs.Accesses.{kept_here, load_alone, load_traps, loadp_alone, loadp_traps, store_alone, store_traps, storep_alone, storep_traps}
+use Rattle.flat_machine.proofs.state.State.act_memory.Goals as goal
+
+pub returns-in-Ok : goal.returns-in-Ok
+returns-in-Ok c = λ code places s h.
+    let fits : SFits w128 c.in-Ok.n = search rules in
+    let gives = rw (to_z-of_z w128 c.in-Ok.n fits) at c.give.ensures in
+    let at = kept_here code c.args.line c.args.instr places s c.args.self.now h 0 c.address-addr.result c.address-addr.ensures in
+    rw c.in-Load.is (load_alone code c.args.line c.args.instr places s c.args.self.now h c.give.new.self c.in-Load.kind c.in-Ok.n (c.in-Ok.ensures places s.state.objects (pointer_at s.handed 0) at) gives)
+
+pub returns-in-Err : goal.returns-in-Err
+returns-in-Err c = λ code places s h.
+    let at = kept_here code c.args.line c.args.instr places s c.args.self.now h 0 c.address-addr.result c.address-addr.ensures in
+    rw c.in-Load.is (load_traps code c.args.line c.args.instr places s c.args.self.now h c.args.self.now c.in-Load.kind c.in-Err.kind (c.in-Err.ensures places s.state.objects (pointer_at s.handed 0) at))
+
+pub returns-in-Ok-load_pointer : goal.returns-in-Ok-load_pointer
+returns-in-Ok-load_pointer c = λ code places s h.
+    let at = kept_here code c.args.line c.args.instr places s c.args.self.now h 0 c.address-addr.result c.address-addr.ensures in
+    rw c.in-Loadp.is (loadp_alone code c.args.line c.args.instr places s c.args.self.now h c.give-in-Ok-load_pointer.new.self c.in-Ok-load_pointer.target (c.in-Ok-load_pointer.ensures places s.state.objects (pointer_at s.handed 0) at) c.give-in-Ok-load_pointer.ensures)
+
+pub returns-in-Err-load_pointer : goal.returns-in-Err-load_pointer
+returns-in-Err-load_pointer c = λ code places s h.
+    let at = kept_here code c.args.line c.args.instr places s c.args.self.now h 0 c.address-addr.result c.address-addr.ensures in
+    rw c.in-Loadp.is (loadp_traps code c.args.line c.args.instr places s c.args.self.now h c.args.self.now c.in-Err-load_pointer.kind (c.in-Err-load_pointer.ensures places s.state.objects (pointer_at s.handed 0) at))
+
+pub returns-in-Ok-store : goal.returns-in-Ok-store
+returns-in-Ok-store c = λ code places s h.
+    let fits : SFits w128 c.integer-n.result = search rules in
+    let at = kept_here code c.args.line c.args.instr places s c.args.self.now h 0 c.address-addr.result c.address-addr.ensures in
+    let changes = rw (to_z-of_z w128 c.integer-n.result fits) at (c.in-Ok-store.ensures.changes places s.state.objects (pointer_at s.handed 0) at) in
+    rw c.in-Store.is (store_alone code c.args.line c.args.instr places s c.args.self.now h c.store.new.self.memory c.go_on.new.self c.in-Store.kind c.integer-n.result c.integer-n.ensures changes (c.go_on.ensures ∙ ap gone_on c.store.ensures.others))
+
+pub returns-in-Err-store : goal.returns-in-Err-store
+returns-in-Err-store c = λ code places s h.
+    let fits : SFits w128 c.integer-n.result = search rules in
+    let at = kept_here code c.args.line c.args.instr places s c.args.self.now h 0 c.address-addr.result c.address-addr.ensures in
+    let changes = rw (to_z-of_z w128 c.integer-n.result fits) at (c.in-Err-store.ensures.changes places s.state.objects (pointer_at s.handed 0) at) in
+    rw c.in-Store.is (store_traps code c.args.line c.args.instr places s c.args.self.now h c.store.new.self.memory c.store.new.self c.in-Store.kind c.integer-n.result c.in-Err-store.kind c.integer-n.ensures changes)
+
+pub returns-in-Ok-store_pointer : goal.returns-in-Ok-store_pointer
+returns-in-Ok-store_pointer c = λ code places s h.
+    let at = kept_here code c.args.line c.args.instr places s c.args.self.now h 0 c.address-addr.result c.address-addr.ensures in
+    let target = (kept_here code c.args.line c.args.instr places s c.args.self.now h 1 c.address-target.result c.address-target.ensures).stands in
+    rw c.in-Storep.is (storep_alone code c.args.line c.args.instr places s c.args.self.now h c.store_pointer.new.self.memory c.go_on-in-Ok-store_pointer.new.self (c.in-Ok-store_pointer.ensures.changes places s.state.objects (pointer_at s.handed 0) (pointer_at s.handed 1) at target) (c.go_on-in-Ok-store_pointer.ensures ∙ ap gone_on c.store_pointer.ensures.others))
+
+pub returns-in-Err-store_pointer : goal.returns-in-Err-store_pointer
+returns-in-Err-store_pointer c = λ code places s h.
+    let at = kept_here code c.args.line c.args.instr places s c.args.self.now h 0 c.address-addr.result c.address-addr.ensures in
+    let target = (kept_here code c.args.line c.args.instr places s c.args.self.now h 1 c.address-target.result c.address-target.ensures).stands in
+    rw c.in-Storep.is (storep_traps code c.args.line c.args.instr places s c.args.self.now h c.store_pointer.new.self.memory c.store_pointer.new.self c.in-Err-store_pointer.kind (c.in-Err-store_pointer.ensures.changes places s.state.objects (pointer_at s.handed 0) (pointer_at s.handed 1) at target))

@@ -1,0 +1,115 @@
+use Rattle.std.proofs.Common.{rules, pos, sym, subst, refl, ◌∙◌}
+use Rattle.std.specs.Prelude.{◌<ℤ◌}
+use Rattle.std.proofs.lemmas.Int.{to_z-of_z}
+use mir.Syntax.{w64, w128}
+use mir.Val.{SFits}
+use Rattle.object_meaning.specs.Values.{pointer_at}
+use Rattle.flat_objects.specs.Keeping.{IsKept}
+use Rattle.flat_machine.proofs.Accesses.{kept_here}
+use Rattle.flat_machine.proofs.Movements.{add_alone, add_traps, sub_alone, sub_traps, diff_alone, diff_traps, pcmp_alone, pcmp_traps}
+use Rattle.flat_machine.proofs.state.State.act_pointers.Goals as goal
+
+-- What the calls require
+
+pub moved_up-requires : goal.moved_up-requires
+moved_up-requires c = subst (λ addr. IsKept c.args.self.now.memory addr) (sym c.address-p.ensures) (c.requires.kept 0)
+
+pub moved_down-requires : goal.moved_down-requires
+moved_down-requires c = subst (λ addr. IsKept c.args.self.now.memory addr) (sym c.address-p.ensures) (c.requires.kept 0)
+
+pub difference-requires-clause-one : goal.difference-requires-clause-one
+difference-requires-clause-one c = subst (λ addr. IsKept c.args.self.now.memory addr) (sym c.address-p.ensures) (c.requires.kept 0)
+
+pub difference-requires-clause-other : goal.difference-requires-clause-other
+difference-requires-clause-other c = subst (λ addr. IsKept c.args.self.now.memory addr) (sym c.address.ensures) (c.requires.kept 1)
+
+pub difference-requires-clause-element : goal.difference-requires-clause-element
+difference-requires-clause-element c =
+    let fits : SFits w64 c.args.instr.imm = search rules in
+    let value = rw (to_z-of_z w64 c.args.instr.imm fits) at c.from-in-Diff.ensures in
+    let fits_n : SFits w128 c.from-in-Diff.result = search rules in
+    rw (to_z-of_z w128 c.from-in-Diff.result fits_n) (subst (λ n. pos 0 <ℤ n) (sym value) (c.requires.element c.in-Diff.is))
+
+pub compare-requires-clause-one : goal.compare-requires-clause-one
+compare-requires-clause-one c = subst (λ addr. IsKept c.args.self.now.memory addr) (sym c.address-p.ensures) (c.requires.kept 0)
+
+pub compare-requires-clause-other : goal.compare-requires-clause-other
+compare-requires-clause-other c = subst (λ addr. IsKept c.args.self.now.memory addr) (sym c.address-in-Pcmp.ensures) (c.requires.kept 1)
+
+-- What they lead to
+
+pub returns-in-Ok : goal.returns-in-Ok
+returns-in-Ok c = λ code places s h.
+    let fits : SFits w64 c.args.instr.imm = search rules in
+    let size = rw (to_z-of_z w64 c.args.instr.imm fits) at c.from.ensures in
+    let fits_n : SFits w128 c.integer.result = search rules in
+    let fits_size : SFits w128 c.from.result = search rules in
+    let at = kept_here code c.args.line c.args.instr places s c.args.self.now h 0 c.address-p.result c.address-p.ensures in
+    let answers = rw (to_z-of_z w128 c.integer.result fits_n, to_z-of_z w128 c.from.result fits_size) at (c.in-Ok.ensures places s.state.objects (pointer_at s.handed 0) at) in
+    rw c.in-Add.is (add_alone code c.args.line c.args.instr places s c.args.self.now h c.give.new.self c.integer.result c.from.result c.in-Ok.addr c.integer.ensures size answers c.give.ensures)
+
+pub returns-in-Err : goal.returns-in-Err
+returns-in-Err c = λ code places s h.
+    let fits : SFits w64 c.args.instr.imm = search rules in
+    let size = rw (to_z-of_z w64 c.args.instr.imm fits) at c.from.ensures in
+    let fits_n : SFits w128 c.integer.result = search rules in
+    let fits_size : SFits w128 c.from.result = search rules in
+    let at = kept_here code c.args.line c.args.instr places s c.args.self.now h 0 c.address-p.result c.address-p.ensures in
+    let answers = rw (to_z-of_z w128 c.integer.result fits_n, to_z-of_z w128 c.from.result fits_size) at (c.in-Err.ensures places s.state.objects (pointer_at s.handed 0) at) in
+    rw c.in-Add.is (add_traps code c.args.line c.args.instr places s c.args.self.now h c.args.self.now c.integer.result c.from.result c.in-Err.kind c.integer.ensures size answers)
+
+pub returns-in-Ok-moved_down : goal.returns-in-Ok-moved_down
+returns-in-Ok-moved_down c = λ code places s h.
+    let fits : SFits w64 c.args.instr.imm = search rules in
+    let size = rw (to_z-of_z w64 c.args.instr.imm fits) at c.from-in-Sub.ensures in
+    let fits_n : SFits w128 c.integer-in-Sub.result = search rules in
+    let fits_size : SFits w128 c.from-in-Sub.result = search rules in
+    let at = kept_here code c.args.line c.args.instr places s c.args.self.now h 0 c.address-p.result c.address-p.ensures in
+    let answers = rw (to_z-of_z w128 c.integer-in-Sub.result fits_n, to_z-of_z w128 c.from-in-Sub.result fits_size) at (c.in-Ok-moved_down.ensures places s.state.objects (pointer_at s.handed 0) at) in
+    rw c.in-Sub.is (sub_alone code c.args.line c.args.instr places s c.args.self.now h c.give-in-Ok-moved_down.new.self c.integer-in-Sub.result c.from-in-Sub.result c.in-Ok-moved_down.addr c.integer-in-Sub.ensures size answers c.give-in-Ok-moved_down.ensures)
+
+pub returns-in-Err-moved_down : goal.returns-in-Err-moved_down
+returns-in-Err-moved_down c = λ code places s h.
+    let fits : SFits w64 c.args.instr.imm = search rules in
+    let size = rw (to_z-of_z w64 c.args.instr.imm fits) at c.from-in-Sub.ensures in
+    let fits_n : SFits w128 c.integer-in-Sub.result = search rules in
+    let fits_size : SFits w128 c.from-in-Sub.result = search rules in
+    let at = kept_here code c.args.line c.args.instr places s c.args.self.now h 0 c.address-p.result c.address-p.ensures in
+    let answers = rw (to_z-of_z w128 c.integer-in-Sub.result fits_n, to_z-of_z w128 c.from-in-Sub.result fits_size) at (c.in-Err-moved_down.ensures places s.state.objects (pointer_at s.handed 0) at) in
+    rw c.in-Sub.is (sub_traps code c.args.line c.args.instr places s c.args.self.now h c.args.self.now c.integer-in-Sub.result c.from-in-Sub.result c.in-Err-moved_down.kind c.integer-in-Sub.ensures size answers)
+
+pub returns-in-Ok-difference : goal.returns-in-Ok-difference
+returns-in-Ok-difference c = λ code places s h.
+    let fits : SFits w64 c.args.instr.imm = search rules in
+    let size = rw (to_z-of_z w64 c.args.instr.imm fits) at c.from-in-Diff.ensures in
+    let fits_size : SFits w128 c.from-in-Diff.result = search rules in
+    let fits_n : SFits w128 c.in-Ok-difference.n = search rules in
+    let gives = rw (to_z-of_z w128 c.in-Ok-difference.n fits_n) at c.give-in-Ok-difference.ensures in
+    let at = kept_here code c.args.line c.args.instr places s c.args.self.now h 0 c.address-p.result c.address-p.ensures in
+    let other = (kept_here code c.args.line c.args.instr places s c.args.self.now h 1 c.address.result c.address.ensures).stands in
+    let answers = rw (to_z-of_z w128 c.from-in-Diff.result fits_size) at (c.in-Ok-difference.ensures places s.state.objects (pointer_at s.handed 0) (pointer_at s.handed 1) at other) in
+    rw c.in-Diff.is (diff_alone code c.args.line c.args.instr places s c.args.self.now h c.give-in-Ok-difference.new.self c.from-in-Diff.result c.in-Ok-difference.n size answers gives)
+
+pub returns-in-Err-difference : goal.returns-in-Err-difference
+returns-in-Err-difference c = λ code places s h.
+    let fits : SFits w64 c.args.instr.imm = search rules in
+    let size = rw (to_z-of_z w64 c.args.instr.imm fits) at c.from-in-Diff.ensures in
+    let fits_size : SFits w128 c.from-in-Diff.result = search rules in
+    let at = kept_here code c.args.line c.args.instr places s c.args.self.now h 0 c.address-p.result c.address-p.ensures in
+    let other = (kept_here code c.args.line c.args.instr places s c.args.self.now h 1 c.address.result c.address.ensures).stands in
+    let answers = rw (to_z-of_z w128 c.from-in-Diff.result fits_size) at (c.in-Err-difference.ensures places s.state.objects (pointer_at s.handed 0) (pointer_at s.handed 1) at other) in
+    rw c.in-Diff.is (diff_traps code c.args.line c.args.instr places s c.args.self.now h c.args.self.now c.from-in-Diff.result c.in-Err-difference.kind size answers)
+
+pub returns-in-Ok-compare : goal.returns-in-Ok-compare
+returns-in-Ok-compare c = λ code places s h.
+    let fits_n : SFits w128 c.in-Ok-compare.n = search rules in
+    let gives = rw (to_z-of_z w128 c.in-Ok-compare.n fits_n) at c.give-in-Ok-compare.ensures in
+    let at = kept_here code c.args.line c.args.instr places s c.args.self.now h 0 c.address-p.result c.address-p.ensures in
+    let other = (kept_here code c.args.line c.args.instr places s c.args.self.now h 1 c.address-in-Pcmp.result c.address-in-Pcmp.ensures).stands in
+    rw c.in-Pcmp.is (pcmp_alone code c.args.line c.args.instr places s c.args.self.now h c.give-in-Ok-compare.new.self c.in-Pcmp.op c.in-Ok-compare.n (c.in-Ok-compare.ensures places s.state.objects (pointer_at s.handed 0) (pointer_at s.handed 1) at other) gives)
+
+pub returns-in-Err-compare : goal.returns-in-Err-compare
+returns-in-Err-compare c = λ code places s h.
+    let at = kept_here code c.args.line c.args.instr places s c.args.self.now h 0 c.address-p.result c.address-p.ensures in
+    let other = (kept_here code c.args.line c.args.instr places s c.args.self.now h 1 c.address-in-Pcmp.result c.address-in-Pcmp.ensures).stands in
+    rw c.in-Pcmp.is (pcmp_traps code c.args.line c.args.instr places s c.args.self.now h c.args.self.now c.in-Pcmp.op c.in-Err-compare.kind (c.in-Err-compare.ensures places s.state.objects (pointer_at s.handed 0) (pointer_at s.handed 1) at other))

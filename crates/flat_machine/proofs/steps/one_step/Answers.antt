@@ -1,0 +1,144 @@
+use Rattle.std.proofs.Common.{[], refl, ap, sym, subst, ◌∙◌, rules}
+use Rattle.std.specs.Prelude.{All, slice_index_or}
+use Rattle.c_print.specs.Format.{IsGiven}
+use Rattle.flat_code.specs.declared.instructions.Op.TheVariants as op
+use Rattle.flat_code.specs.Table.{chosen}
+use Rattle.meaning_state.specs.Printing.{PrintsNoString}
+use Rattle.object_meaning.specs.Builtins.{call_lib}
+use Rattle.meaning_run.specs.Leading.{with_input}
+use Rattle.code_meaning.specs.CodeState.{same_numbers}
+use Rattle.code_meaning.specs.CodeMeaning.{step, act, handed_value, hand_or_act}
+use Rattle.flat_machine.proofs.Stays.{stands_input}
+use Rattle.flat_machine.proofs.OneByte.{no_bytes}
+use Rattle.flat_machine.proofs.Goods.{waits, no_locals, kept, built_here, may_hand, not_local, not_start, element_size, may_call, integer_lib, no_instr, no_line}
+use Rattle.flat_machine.proofs.Stepped.{lib_same, step_is, step_acts, seen_alone, moves_alone, counts_alone, alone_of, given_at, read_at, plain_at, found, found_line, seen_as, moves_as}
+use Rattle.flat_machine.proofs.steps.one_step.Goals as goal
+
+pub unreachable-requires : goal.unreachable-requires
+unreachable-requires g c =
+    no_instr c.args.code.now c.requires.formed c.requires.built c.args.state.now c.requires.well c.point-point.result c.point-point.ensures c.in_default.ensures.item
+
+pub unreachable-requires-in_default-get : goal.unreachable-requires-in_default-get
+unreachable-requires-in_default-get g c =
+    no_line c.args.code.now c.requires.formed c.requires.built c.args.state.now c.requires.well c.point-point.result c.point-point.ensures c.in_default-get.ensures.item
+
+-- Built-in functions
+
+pub act_lib-requires-clause-name : goal.act_lib-requires-clause-name
+act_lib-requires-clause-name g c =
+    let at = found c.args.code.now.instrs c.point-point.result c.args.state.now.calls.running.point c.in-Some.instr.now c.point-point.ensures c.in-Some.ensures.item in
+    integer_lib c.args.code.now c.requires.formed c.requires.built c.args.state.now c.requires.well c.in-Some.instr.now at c.in-Lib.name c.in-Lib.is
+
+pub act_lib-requires-clause-kept : goal.act_lib-requires-clause-kept
+act_lib-requires-clause-kept g c = kept c.args.code.now c.requires.formed c.requires.built c.args.state.now c.requires.well
+
+pub returns-in-Lib-clause-told : goal.returns-in-Lib-clause-told
+returns-in-Lib-clause-told g c = λ places s trace taken h l t.
+    let at = found c.args.code.now.instrs c.point-point.result c.args.state.now.calls.running.point c.in-Some.instr.now c.point-point.ensures c.in-Some.ensures.item in
+    let line = found_line c.args.code.now.lines c.point-point.result c.args.state.now.calls.running.point c.in-Some-get.line.now c.point-point.ensures c.in-Some-get.ensures.item in
+    let name = integer_lib c.args.code.now c.requires.formed c.requires.built c.args.state.now c.requires.well c.in-Some.instr.now at c.in-Lib.name c.in-Lib.is in
+    let acts = step_acts c.args.code.now places s c.args.state.now h c.in-Some.instr.now at c.in-Some-get.line.now line trace (op.Lib c.in-Lib.name) c.in-Lib.is refl in
+    let next = call_lib c.in-Some-get.line.now c.in-Lib.name (chosen c.in-Some.instr.now) s.handed s.state in
+    let told = rw c.chosen.ensures at (c.act_lib.ensures.told places s taken h l t) in
+    seen_as c.args.state.now c.act_lib.new.self (same_numbers s.numbers next) (step c.args.code.now trace s) (acts ∙ sym (lib_same c.in-Lib.name name s.handed s.numbers next)) c.act_lib.result s.state.input taken _ _ told
+
+pub returns-in-Lib-clause-moves : goal.returns-in-Lib-clause-moves
+returns-in-Lib-clause-moves g c = λ places s h.
+    let at = found c.args.code.now.instrs c.point-point.result c.args.state.now.calls.running.point c.in-Some.instr.now c.point-point.ensures c.in-Some.ensures.item in
+    let line = found_line c.args.code.now.lines c.point-point.result c.args.state.now.calls.running.point c.in-Some-get.line.now c.point-point.ensures c.in-Some-get.ensures.item in
+    let name = integer_lib c.args.code.now c.requires.formed c.requires.built c.args.state.now c.requires.well c.in-Some.instr.now at c.in-Lib.name c.in-Lib.is in
+    let moves = rw c.chosen.ensures at (c.act_lib.ensures.moves places s h) in
+    let acts = step_acts c.args.code.now places (record s { state = with_input moves.0 s.state }) c.args.state.now (stands_input places s c.args.state.now h moves.0) c.in-Some.instr.now at c.in-Some-get.line.now line [] (op.Lib c.in-Lib.name) c.in-Lib.is refl in
+    let next = call_lib c.in-Some-get.line.now c.in-Lib.name (chosen c.in-Some.instr.now) s.handed (with_input moves.0 s.state) in
+    (moves.0, moves.1, moves_as c.args.state.now c.act_lib.new.self (same_numbers s.numbers next) (step c.args.code.now [] (record s { state = with_input moves.0 s.state })) (acts ∙ sym (lib_same c.in-Lib.name name s.handed s.numbers next)) c.act_lib.result moves.2)
+
+-- Printf
+
+pub act_printf-requires-clause-given : goal.act_printf-requires-clause-given
+act_printf-requires-clause-given g c =
+    let pieces = c.pieces_at-pieces.ensures ∙ ap (λ formats. slice_index_or formats c.in-Some.instr.now.b []) c.as_slice.ensures in
+    subst (All IsGiven) (sym pieces) (given_at c.args.code.now.formats c.args.loaded.now.formats c.requires.loaded.formats c.in-Some.instr.now.b)
+
+pub act_printf-requires-clause-numbers : goal.act_printf-requires-clause-numbers
+act_printf-requires-clause-numbers g c =
+    let pieces = c.pieces_at-pieces.ensures ∙ ap (λ formats. slice_index_or formats c.in-Some.instr.now.b []) c.as_slice.ensures in
+    let read = read_at c.args.code.now.formats c.args.loaded.now.formats c.requires.loaded.formats c.requires.formed.formats c.in-Some.instr.now.b in
+    subst (All PrintsNoString) (sym (pieces ∙ read)) (plain_at c.args.code.now.formats c.requires.built.formats c.in-Some.instr.now.b)
+
+pub returns-in-Printf-clause-told : goal.returns-in-Printf-clause-told
+returns-in-Printf-clause-told g c = λ places s trace taken h l t.
+    let at = found c.args.code.now.instrs c.point-point.result c.args.state.now.calls.running.point c.in-Some.instr.now c.point-point.ensures c.in-Some.ensures.item in
+    let line = found_line c.args.code.now.lines c.point-point.result c.args.state.now.calls.running.point c.in-Some-get.line.now c.point-point.ensures c.in-Some-get.ensures.item in
+    let pieces = c.pieces_at-pieces.ensures ∙ ap (λ formats. slice_index_or formats c.in-Some.instr.now.b []) c.as_slice.ensures in
+    let read = read_at c.args.code.now.formats c.args.loaded.now.formats c.requires.loaded.formats c.requires.formed.formats c.in-Some.instr.now.b in
+    let acts = step_acts c.args.code.now places s c.args.state.now h c.in-Some.instr.now at c.in-Some-get.line.now line trace op.Printf c.in-Printf.is refl in
+    let told = c.act_printf.ensures.told c.in-Some-get.line.now places s (slice_index_or c.args.code.now.formats c.in-Some.instr.now.b []) taken h (pieces ∙ read) t in
+    rw l (seen_as c.args.state.now c.act_printf.new.self _ (step c.args.code.now trace s) acts c.act_printf.result s.state.input taken _ _ told)
+
+pub returns-in-Printf-clause-moves : goal.returns-in-Printf-clause-moves
+returns-in-Printf-clause-moves g c = λ places s h.
+    let at = found c.args.code.now.instrs c.point-point.result c.args.state.now.calls.running.point c.in-Some.instr.now c.point-point.ensures c.in-Some.ensures.item in
+    let line = found_line c.args.code.now.lines c.point-point.result c.args.state.now.calls.running.point c.in-Some-get.line.now c.point-point.ensures c.in-Some-get.ensures.item in
+    let pieces = c.pieces_at-pieces.ensures ∙ ap (λ formats. slice_index_or formats c.in-Some.instr.now.b []) c.as_slice.ensures in
+    let read = read_at c.args.code.now.formats c.args.loaded.now.formats c.requires.loaded.formats c.requires.formed.formats c.in-Some.instr.now.b in
+    let stands = stands_input places s c.args.state.now h [] in
+    let acts = step_acts c.args.code.now places (record s { state = with_input [] s.state }) c.args.state.now stands c.in-Some.instr.now at c.in-Some-get.line.now line [] op.Printf c.in-Printf.is refl in
+    let moves = c.act_printf.ensures.moves c.in-Some-get.line.now places (record s { state = with_input [] s.state }) (slice_index_or c.args.code.now.formats c.in-Some.instr.now.b []) stands (pieces ∙ read) in
+    ([], no_bytes, moves_as c.args.state.now c.act_printf.new.self _ (step c.args.code.now [] (record s { state = with_input [] s.state })) acts c.act_printf.result moves)
+
+-- Every other instruction
+
+pub act_alone-requires-clause-alone : goal.act_alone-requires-clause-alone
+act_alone-requires-clause-alone g c =
+    let at = found c.args.code.now.instrs c.point-point.result c.args.state.now.calls.running.point c.in-Some.instr.now c.point-point.ensures c.in-Some.ensures.item in
+    alone_of c.in-Some.instr.now.op (built_here c.args.code.now c.requires.formed c.requires.built c.args.state.now c.requires.well c.in-Some.instr.now at) (not_local c.args.code.now c.requires.formed c.requires.built c.args.state.now c.requires.well c.in-Some.instr.now at) (not_start c.args.code.now c.requires.formed c.requires.built c.args.state.now c.requires.well c.in-Some.instr.now at) c.in_default-op.not-Lib c.in_default-op.not-Printf
+
+pub act_alone-requires-clause-hands : goal.act_alone-requires-clause-hands
+act_alone-requires-clause-hands g c = λ hands.
+    let at = found c.args.code.now.instrs c.point-point.result c.args.state.now.calls.running.point c.in-Some.instr.now c.point-point.ensures c.in-Some.ensures.item in
+    may_hand c.args.code.now c.requires.formed c.requires.built c.args.state.now c.requires.well c.in-Some.instr.now at c.in-Some.instr.now.op refl hands
+
+pub act_alone-requires-clause-kept : goal.act_alone-requires-clause-kept
+act_alone-requires-clause-kept g c = λ memory. kept c.args.code.now c.requires.formed c.requires.built c.args.state.now c.requires.well 0
+
+pub act_alone-requires-clause-pointers : goal.act_alone-requires-clause-pointers
+act_alone-requires-clause-pointers g c = λ pointers k. kept c.args.code.now c.requires.formed c.requires.built c.args.state.now c.requires.well k
+
+pub act_alone-requires-clause-element : goal.act_alone-requires-clause-element
+act_alone-requires-clause-element g c = λ is.
+    let at = found c.args.code.now.instrs c.point-point.result c.args.state.now.calls.running.point c.in-Some.instr.now c.point-point.ensures c.in-Some.ensures.item in
+    element_size c.args.code.now c.requires.formed c.requires.built c.args.state.now c.requires.well c.in-Some.instr.now at is
+
+pub act_alone-requires-clause-may : goal.act_alone-requires-clause-may
+act_alone-requires-clause-may g c = λ is.
+    let at = found c.args.code.now.instrs c.point-point.result c.args.state.now.calls.running.point c.in-Some.instr.now c.point-point.ensures c.in-Some.ensures.item in
+    may_call c.args.code.now c.requires.formed c.requires.built c.args.state.now c.requires.well c.in-Some.instr.now at is
+
+pub act_alone-requires-clause-waits : goal.act_alone-requires-clause-waits
+act_alone-requires-clause-waits g c = waits c.args.code.now c.requires.formed c.requires.built c.args.state.now c.requires.well
+
+pub act_alone-requires-clause-locals : goal.act_alone-requires-clause-locals
+act_alone-requires-clause-locals g c = no_locals c.args.code.now c.requires.formed c.requires.built c.args.state.now c.requires.well
+
+pub returns-in_default-op-clause-told : goal.returns-in_default-op-clause-told
+returns-in_default-op-clause-told g c = λ places s trace taken h l t.
+    let at = found c.args.code.now.instrs c.point-point.result c.args.state.now.calls.running.point c.in-Some.instr.now c.point-point.ensures c.in-Some.ensures.item in
+    let line = found_line c.args.code.now.lines c.point-point.result c.args.state.now.calls.running.point c.in-Some-get.line.now c.point-point.ensures c.in-Some-get.ensures.item in
+    let next = hand_or_act c.args.code.now c.in-Some-get.line.now c.in-Some.instr.now (handed_value s.state.running c.in-Some.instr.now c.in-Some.instr.now.op) s in
+    let acts = step_is c.args.code.now places s c.args.state.now h c.in-Some.instr.now at c.in-Some-get.line.now line trace in
+    let told = seen_alone c.args.state.now next s.state.input taken c.act_alone.new.state c.act_alone.result (c.act_alone.ensures places s h refl) in
+    rw (l, t) (seen_as c.args.state.now c.act_alone.new.state next (step c.args.code.now trace s) acts c.act_alone.result s.state.input taken _ _ told)
+
+pub returns-in_default-op-clause-moves : goal.returns-in_default-op-clause-moves
+returns-in_default-op-clause-moves g c = λ places s h.
+    let at = found c.args.code.now.instrs c.point-point.result c.args.state.now.calls.running.point c.in-Some.instr.now c.point-point.ensures c.in-Some.ensures.item in
+    let line = found_line c.args.code.now.lines c.point-point.result c.args.state.now.calls.running.point c.in-Some-get.line.now c.point-point.ensures c.in-Some-get.ensures.item in
+    let stands = stands_input places s c.args.state.now h [] in
+    let next = hand_or_act c.args.code.now c.in-Some-get.line.now c.in-Some.instr.now (handed_value s.state.running c.in-Some.instr.now c.in-Some.instr.now.op) (record s { state = with_input [] s.state }) in
+    let acts = step_is c.args.code.now places (record s { state = with_input [] s.state }) c.args.state.now stands c.in-Some.instr.now at c.in-Some-get.line.now line [] in
+    let moves = moves_alone c.args.state.now next [] c.act_alone.new.state c.act_alone.result (c.act_alone.ensures places (record s { state = with_input [] s.state }) stands refl) in
+    ([], no_bytes, moves_as c.args.state.now c.act_alone.new.state next (step c.args.code.now [] (record s { state = with_input [] s.state })) acts c.act_alone.result moves)
+
+pub returns-in_default-op-clause-faults : goal.returns-in_default-op-clause-faults
+returns-in_default-op-clause-faults g c =
+    counts_alone c.args.state.now _ c.requires.well.state.state.input c.act_alone.new.state c.act_alone.result _ _ (c.act_alone.ensures c.requires.well.places c.requires.well.state c.requires.well.stands refl)

@@ -1,0 +1,13 @@
+pub mod Words
+pub mod Kept
+pub mod Stacked
+pub mod Standing
+pub mod Leading
+pub mod Writing
+pub mod Running
+pub mod Groups
+pub mod Built
+pub mod Loaded
+pub mod Well
+pub mod First
+pub mod Machined

@@ -1,0 +1,111 @@
+//! Instructions that work on integers and registers (C99 6.3.1.3, 6.5.3.3, 6.5.5 to 6.5.14).
+
+ghost use Rattle.std.specs.Prelude.{◌≡◌, ◌+◌, ◌<◌, ◌^◌, ℕ, not, nat_eq};
+ghost use Rattle.object_meaning.specs.Arithmetic.{on_two, is_zero};
+ghost use Rattle.flat_code.specs.declared.program.Code.{Code as Program};
+ghost use Rattle.code_meaning.specs.CodeState.{CodeState};
+ghost use Rattle.code_meaning.specs.CodeMeaning.{act};
+ghost use Rattle.flat_machine.specs.Words.{truth_word};
+ghost use Rattle.flat_machine.specs.Standing.{Stands};
+ghost use Rattle.flat_machine.specs.Groups.{IsValues};
+ghost use Rattle.flat_machine.specs.Leading.{Alone, Operates};
+
+use crate::state::State;
+use core_tree::BinOp;
+use flat_code::{Instr, Op};
+use flat_objects::Word;
+use hs_base::{End, IntKind, Line, TrapKind};
+use meaning_state::{compared, on_one};
+
+/// The result of an operation on two integers (C99 6.5.5 to 6.5.7, 6.5.10 to 6.5.12). It traps at a zero divisor, and at a
+/// count that is below 0 or not below the width.
+fn on_two(op: BinOp, kind: IntKind, a: i128, b: i128) -> Result<i128, TrapKind>
+    ensures { Operates result (on_two op kind a b) }
+{
+    match op {
+        BinOp::Add => Ok(kind.add(a, b)),
+        BinOp::Sub => Ok(kind.sub(a, b)),
+        BinOp::Mul => Ok(kind.mul(a, b)),
+        BinOp::Div => kind.divide(a, b).ok_or(TrapKind::Divide),
+        BinOp::Rem => kind.remainder(a, b).ok_or(TrapKind::Divide),
+        BinOp::And => Ok(kind.and(a, b)),
+        BinOp::Or => Ok(kind.or(a, b)),
+        BinOp::Xor => Ok(kind.xor(a, b)),
+        BinOp::Shl => kind.shift_left(a, b).ok_or(TrapKind::Shift),
+        BinOp::Shr => kind.shift_right(a, b).ok_or(TrapKind::Shift),
+    }
+}
+
+/// 1 or 0.
+pub(crate) fn truth(holds: bool) -> Word
+    ensures { result ≡ truth_word holds }
+{
+    Word::Number(if holds { 1 } else { 0 })
+}
+
+/// Says whether an integer is 0.
+pub(crate) fn is_zero(n: i128) -> bool
+    ensures { result ≡ is_zero n }
+{
+    n == 0
+}
+
+/// Says whether an address is not that of null.
+fn is_some(addr: u32) -> bool
+    ensures { result ≡ not (nat_eq addr 0) }
+{
+    addr != 0
+}
+
+impl State {
+    /// A register takes the result of an operation on two integers.
+    fn operate(&mut self, line: Line, instr: Instr, op: BinOp, kind: IntKind) -> Result<(), End>
+        requires { self.old.calls.running.point + 1 < 2 ^ 64 }
+        ensures { (code : Program) (places : ℕ → ℕ) (c : CodeState) → Stands places c self.old → Alone c.state.input self.old (act code line instr (Op.Bin op kind) c.handed c.numbers c.state) self.new result }
+    {
+        match on_two(op, kind, self.integer(0), self.integer(1)) {
+            Ok(n) => {
+                self.give(Some(instr.a), Word::Number(n));
+                Ok(())
+            }
+            Err(kind) => Err(End::Trap(kind, line)),
+        }
+    }
+
+    /// An instruction of integers and registers.
+    pub(crate) fn act_values(&mut self, line: Line, instr: Instr, op: Op) -> Result<(), End>
+        requires point { self.old.calls.running.point + 1 < 2 ^ 64 }
+        requires values { IsValues op }
+        ensures { (code : Program) (places : ℕ → ℕ) (c : CodeState) → Stands places c self.old → Alone c.state.input self.old (act code line instr op c.handed c.numbers c.state) self.new result }
+    {
+        match op {
+            Op::Set => {
+                let word = self.word(0);
+                self.give(Some(instr.a), word);
+                Ok(())
+            }
+            Op::Conv(kind) => {
+                let n = kind.wrap(self.integer(0));
+                self.give(Some(instr.a), Word::Number(n));
+                Ok(())
+            }
+            Op::Un(op, kind) => {
+                let n = on_one(op, kind, self.integer(0));
+                self.give(Some(instr.a), Word::Number(n));
+                Ok(())
+            }
+            Op::Bin(op, kind) => self.operate(line, instr, op, kind),
+            Op::Cmp(op) => {
+                let holds = compared(op, self.integer(0), self.integer(1));
+                self.give(Some(instr.a), truth(holds));
+                Ok(())
+            }
+            Op::Test => {
+                let holds = is_some(self.address(0));
+                self.give(Some(instr.a), truth(holds));
+                Ok(())
+            }
+            _ => unreachable!(),
+        }
+    }
+}

@@ -1,0 +1,162 @@
+//! The active calls.
+
+ghost use Rattle.std.specs.Prelude.{◌≡◌, ◌+◌, ◌*◌, ◌<◌, ◌≤◌, ◌^◌, ◌++◌, [], ◌∷◌, ℕ, IfOk, IsTrue, false, map, drop, length, slice_index_or};
+ghost use Rattle.flat_machine.specs.Kept.{Active, GoesBack, at_point, onward, put};
+ghost use Rattle.flat_machine.specs.Words.{no_word, first_word};
+
+use crate::call::Call;
+use crate::words::{behind, push_all, push_first_words};
+use flat_objects::Word;
+use hs_base::NoMemory;
+use std::alloc::Global;
+use std::marker::Model;
+
+/// The active calls. Memory for a full stack is taken when they are made.
+#[derive(Drop)]
+pub(crate) struct Calls {
+    running: Call,
+    waiting: Vec<Call>,
+    words: Vec<Word>,
+    room: u32,
+}
+
+impl Model for Calls {
+    ghost use Rattle.std.specs.Prelude.{◌+◌, ◌*◌, ◌≤◌};
+    ghost use Rattle.std.specs.Vec.{vec_capacity};
+    ghost use Rattle.flat_machine.specs.Kept.{Active};
+    ghost use Rattle.flat_machine.specs.Stacked.{active_in, IsHeld};
+
+    ghost Value = { Active };
+
+    ghost view = { λ c. active_in c.words.items c.waiting.items c.running c.room };
+
+    ghost invariant = { λ c. IsHeld c.room c.words.items c.waiting.items c.running × (c.room ≤ 8 * vec_capacity c.words + 7) × (c.room ≤ 16 * vec_capacity c.waiting + 15) };
+}
+
+impl Calls {
+    /// The first call, which costs so much, on a stack of so many bytes.
+    pub(crate) fn start(
+        alloc: Global,
+        func: u32,
+        point: usize,
+        kinds: &[bool],
+        cost: u32,
+        room: u32,
+    ) -> Result<Calls, NoMemory>
+        requires cost { 16 + 8 * length kinds.now ≤ cost }
+        requires room { cost ≤ room }
+        ensures { IfOk result (λ c. c ≡ record { running = record { func = func; point = point; words = map first_word kinds.now }; waiting = []; used = cost; saved = []; room = room }) }
+    {
+        let mut words = Vec::with_capacity(alloc, room as usize / 8)?;
+        let waiting = Vec::with_capacity(alloc, room as usize / 16)?;
+        push_first_words(&mut words, kinds);
+        Ok(Calls {
+            running: Call {
+                func,
+                point,
+                base: 0,
+                used: cost,
+            },
+            waiting,
+            words,
+            room,
+        })
+    }
+
+    /// The bytes of stack that are left.
+    pub(crate) fn left(&self) -> u32
+        ensures { result + self.now.used ≡ self.now.room }
+    {
+        self.room - self.running.used
+    }
+
+    /// The number of the running function.
+    pub(crate) fn func(&self) -> u32
+        ensures { result ≡ self.now.running.func }
+    {
+        self.running.func
+    }
+
+    /// The instruction that the running call is at.
+    pub(crate) fn point(&self) -> usize
+        ensures { result ≡ self.now.running.point }
+    {
+        self.running.point
+    }
+
+    /// The word of a register of the running call.
+    pub(crate) fn word(&self, r: u32) -> Word
+        ensures { result ≡ slice_index_or self.now.running.words r no_word }
+    {
+        let r = r as usize;
+        if r < self.words.len() - self.running.base {
+            self.words[self.running.base + r]
+        } else {
+            Word::Number(0)
+        }
+    }
+
+    /// Goes on to the next instruction.
+    pub(crate) fn go_on(&mut self)
+        requires { self.old.running.point + 1 < 2 ^ 64 }
+        ensures { self.new ≡ onward self.old }
+    {
+        self.running.point += 1;
+    }
+
+    /// Goes to an instruction.
+    pub(crate) fn go_to(&mut self, point: u32)
+        ensures { self.new ≡ at_point self.old point }
+    {
+        self.running.point = point as usize;
+    }
+
+    /// A register of the running call takes a word, where there is one to take it.
+    pub(crate) fn put(&mut self, r: Option<u32>, word: Word)
+        ensures { self.new ≡ put self.old r word }
+    {
+        if let Some(r) = r {
+            let r = r as usize;
+            if r < self.words.len() - self.running.base {
+                self.words[self.running.base + r] = word;
+            }
+        }
+    }
+
+    /// Calls a function: its call runs, and the one that was running waits. Its first registers take the arguments.
+    pub(crate) fn enter(&mut self, func: u32, first: u32, kinds: &[bool], args: &[Word], cost: u32)
+        requires point { self.old.running.point + 1 < 2 ^ 64 }
+        requires room { self.old.used + cost ≤ self.old.room }
+        requires cost { 16 + 8 * length kinds.now ≤ cost }
+        requires arguments { length args.now ≤ length kinds.now }
+        ensures { self.new ≡ record { running = record { func = func; point = first; words = args.now ++ map first_word (drop (length args.now) kinds.now) }; waiting = self.old.running ∷ self.old.waiting; used = self.old.used + cost; saved = self.old.used ∷ self.old.saved; room = self.old.room } }
+    {
+        let caller = self.running;
+        let base = self.words.len();
+        push_all(&mut self.words, args);
+        push_first_words(&mut self.words, behind(kinds, args.len()));
+        match self.waiting.push(caller) {
+            Ok(()) => {}
+            Err(_) => unreachable!(),
+        }
+        self.running = Call {
+            func,
+            point: first as usize,
+            base,
+            used: caller.used + cost,
+        };
+    }
+
+    /// The newest of the waiting calls runs again, where there is one.
+    pub(crate) fn back(&mut self) -> bool
+        ensures yes { IsTrue result → GoesBack self.old self.new }
+        ensures no { result ≡ false → (self.old.waiting ≡ []) × (self.new ≡ self.old) }
+    {
+        let Some(caller) = self.waiting.pop() else {
+            return false;
+        };
+        self.words.truncate(self.running.base);
+        self.running = caller;
+        true
+    }
+}

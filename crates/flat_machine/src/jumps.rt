@@ -1,0 +1,63 @@
+//! Instructions that go to another instruction of the same function (C99 6.8.4, 6.8.5).
+
+ghost use Rattle.std.specs.Prelude.{◌≡◌, ◌+◌, ◌<◌, ◌^◌, ℕ};
+ghost use Rattle.flat_code.specs.declared.program.Code.{Code as Program};
+ghost use Rattle.code_meaning.specs.CodeState.{CodeState};
+ghost use Rattle.code_meaning.specs.CodeMeaning.{act};
+ghost use Rattle.flat_machine.specs.Kept.{branched};
+ghost use Rattle.flat_machine.specs.Standing.{Stands};
+ghost use Rattle.flat_machine.specs.Groups.{IsJump};
+ghost use Rattle.flat_machine.specs.Leading.{Alone};
+
+use crate::arithmetic::is_zero;
+use crate::state::State;
+use core_tree::CmpOp;
+use flat_code::{Instr, Op};
+use hs_base::{End, Line};
+use meaning_state::compared;
+
+impl State {
+    /// Goes to an instruction where a test holds, and else on.
+    fn branch(&mut self, holds: bool, point: u32)
+        requires { self.old.calls.running.point + 1 < 2 ^ 64 }
+        ensures { self.new ≡ branched holds self.old point }
+    {
+        if holds {
+            self.go_to(point);
+        } else {
+            self.go_on();
+        }
+    }
+
+    /// An instruction that goes to another one of its function.
+    pub(crate) fn act_jump(&mut self, line: Line, instr: Instr, op: Op) -> Result<(), End>
+        requires point { self.old.calls.running.point + 1 < 2 ^ 64 }
+        requires jump { IsJump op }
+        ensures { (code : Program) (places : ℕ → ℕ) (c : CodeState) → Stands places c self.old → Alone c.state.input self.old (act code line instr op c.handed c.numbers c.state) self.new result }
+    {
+        match op {
+            Op::Jump => {
+                self.go_to(instr.b);
+                Ok(())
+            }
+            Op::Zero => {
+                let holds = is_zero(self.integer(0));
+                self.branch(holds, instr.b);
+                Ok(())
+            }
+            Op::Case => {
+                let holds = compared(CmpOp::Eq, self.integer(0), self.integer(1));
+                self.branch(holds, instr.b);
+                Ok(())
+            }
+            Op::Loop => {
+                if !self.take_step() {
+                    return Err(End::Spent);
+                }
+                self.go_to(instr.b);
+                Ok(())
+            }
+            _ => unreachable!(),
+        }
+    }
+}

@@ -1,0 +1,32 @@
+//! The machine that runs flat code over flat bytes.
+//!
+//! [`Machine::run`] makes the instructions of a code one after another, over objects that are kept in bytes with addresses
+//! (`flat_objects`), on a stack of so many bytes. Its contract says what the meaning of code says
+//! (`code_meaning/specs/CodeMeaning.antt`), cut at the first call that does not fit the stack (`hs_base/specs/Cut.antt`): the
+//! bytes written and read, and the end. `specs/Built.antt` says which instructions are built.
+//!
+//! A word is a number or an address. `specs/Standing.antt` says which state of the meaning the machine stands for: its words
+//! stand for the values of that state, one by one, and its memory keeps the objects. Each instruction is proved over all
+//! states that the machine stands for, and leads to a machine that stands for the state behind it. No instruction takes
+//! memory or searches.
+#![tactic(auto)]
+
+mod arithmetic;
+mod call;
+mod calling;
+mod calls;
+mod counted;
+mod handing;
+mod jumps;
+mod loaded;
+mod machine;
+mod memory;
+mod output;
+mod pointers;
+mod running;
+mod state;
+mod steps;
+mod strings;
+mod words;
+
+pub use machine::Machine;

@@ -1,0 +1,65 @@
+//! Instructions that read and write objects (C99 6.5.3.2, 6.5.16).
+
+ghost use Rattle.std.specs.Prelude.{◌≡◌, ◌+◌, ◌<◌, ◌^◌, ℕ};
+ghost use Rattle.flat_code.specs.declared.program.Code.{Code as Program};
+ghost use Rattle.flat_objects.specs.Keeping.{IsKept};
+ghost use Rattle.code_meaning.specs.CodeState.{CodeState};
+ghost use Rattle.code_meaning.specs.CodeMeaning.{act};
+ghost use Rattle.flat_machine.specs.Words.{address_at};
+ghost use Rattle.flat_machine.specs.Standing.{Stands};
+ghost use Rattle.flat_machine.specs.Groups.{IsMemory};
+ghost use Rattle.flat_machine.specs.Leading.{Alone};
+
+use crate::state::State;
+use flat_code::{Instr, Op};
+use flat_objects::Word;
+use hs_base::{End, Line};
+
+impl State {
+    /// An instruction that reads or writes an object.
+    pub(crate) fn act_memory(&mut self, line: Line, instr: Instr, op: Op) -> Result<(), End>
+        requires point { self.old.calls.running.point + 1 < 2 ^ 64 }
+        requires memory { IsMemory op }
+        requires kept { IsKept self.old.memory (address_at self.old.handed 0) }
+        ensures { (code : Program) (places : ℕ → ℕ) (c : CodeState) → Stands places c self.old → Alone c.state.input self.old (act code line instr op c.handed c.numbers c.state) self.new result }
+    {
+        let addr = self.address(0);
+        match op {
+            Op::Load(kind) => match self.load(kind, addr) {
+                Ok(n) => {
+                    self.give(Some(instr.a), Word::Number(n));
+                    Ok(())
+                }
+                Err(kind) => Err(End::Trap(kind, line)),
+            },
+            Op::Loadp => match self.load_pointer(addr) {
+                Ok(target) => {
+                    self.give(Some(instr.a), Word::Address(target));
+                    Ok(())
+                }
+                Err(kind) => Err(End::Trap(kind, line)),
+            },
+            Op::Store(kind) => {
+                let n = self.integer(1);
+                match self.store(kind, addr, n) {
+                    Ok(()) => {
+                        self.go_on();
+                        Ok(())
+                    }
+                    Err(kind) => Err(End::Trap(kind, line)),
+                }
+            }
+            Op::Storep => {
+                let target = self.address(1);
+                match self.store_pointer(addr, target) {
+                    Ok(()) => {
+                        self.go_on();
+                        Ok(())
+                    }
+                    Err(kind) => Err(End::Trap(kind, line)),
+                }
+            }
+            _ => unreachable!(),
+        }
+    }
+}

@@ -1,0 +1,61 @@
+//! Instructions that move, subtract and compare pointers (C99 6.5.6, 6.5.8, 6.5.9).
+
+ghost use Rattle.std.specs.Prelude.{◌≡◌, ◌+◌, ◌<◌, ◌<ℤ◌, ◌^◌, ℕ, pos};
+ghost use Rattle.flat_code.specs.declared.instructions.Op.TheVariants as ops;
+ghost use Rattle.flat_code.specs.declared.program.Code.{Code as Program};
+ghost use Rattle.flat_objects.specs.Keeping.{IsKept};
+ghost use Rattle.code_meaning.specs.CodeState.{CodeState};
+ghost use Rattle.code_meaning.specs.CodeMeaning.{act};
+ghost use Rattle.flat_machine.specs.Words.{address_at};
+ghost use Rattle.flat_machine.specs.Standing.{Stands};
+ghost use Rattle.flat_machine.specs.Groups.{IsPointers};
+ghost use Rattle.flat_machine.specs.Leading.{Alone};
+
+use crate::state::State;
+use flat_code::{Instr, Op};
+use flat_objects::Word;
+use hs_base::{End, Line};
+
+impl State {
+    /// An instruction that moves, subtracts or compares pointers.
+    pub(crate) fn act_pointers(&mut self, line: Line, instr: Instr, op: Op) -> Result<(), End>
+        requires point { self.old.calls.running.point + 1 < 2 ^ 64 }
+        requires pointers { IsPointers op }
+        requires kept { (k : ℕ) → IsKept self.old.memory (address_at self.old.handed k) }
+        requires element { op ≡ ops.Diff → pos 0 <ℤ instr.imm }
+        ensures { (code : Program) (places : ℕ → ℕ) (c : CodeState) → Stands places c self.old → Alone c.state.input self.old (act code line instr op c.handed c.numbers c.state) self.new result }
+    {
+        let p = self.address(0);
+        match op {
+            Op::Add => match self.moved_up(p, self.integer(1), i128::from(instr.imm)) {
+                Ok(addr) => {
+                    self.give(Some(instr.a), Word::Address(addr));
+                    Ok(())
+                }
+                Err(kind) => Err(End::Trap(kind, line)),
+            },
+            Op::Sub => match self.moved_down(p, self.integer(1), i128::from(instr.imm)) {
+                Ok(addr) => {
+                    self.give(Some(instr.a), Word::Address(addr));
+                    Ok(())
+                }
+                Err(kind) => Err(End::Trap(kind, line)),
+            },
+            Op::Diff => match self.difference(p, self.address(1), i128::from(instr.imm)) {
+                Ok(n) => {
+                    self.give(Some(instr.a), Word::Number(n));
+                    Ok(())
+                }
+                Err(kind) => Err(End::Trap(kind, line)),
+            },
+            Op::Pcmp(op) => match self.compare(op, p, self.address(1)) {
+                Ok(n) => {
+                    self.give(Some(instr.a), Word::Number(n));
+                    Ok(())
+                }
+                Err(kind) => Err(End::Trap(kind, line)),
+            },
+            _ => unreachable!(),
+        }
+    }
+}

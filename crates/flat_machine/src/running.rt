@@ -1,0 +1,104 @@
+//! Runs: one instruction after another, until the end.
+
+ghost use Rattle.std.specs.Prelude.{◌≡◌, ◌+◌, ◌<◌, ◌^◌, ℕ, List, IfOk, IfErr, Some};
+ghost use Rattle.hs_base.specs.Cut.{Room};
+ghost use Rattle.flat_code.specs.WellFormed.{IsWellFormed};
+ghost use Rattle.code_soundness.specs.Laws.{HoldsBytes};
+ghost use Rattle.flat_machine.specs.Built.{IsBuilt};
+ghost use Rattle.flat_machine.specs.Loaded.{IsLoaded};
+ghost use Rattle.flat_machine.specs.Well.{IsWell};
+ghost use Rattle.flat_machine.specs.First.{IsFirst};
+ghost use Rattle.flat_machine.specs.Running.{Reached, RunAnswers, RunCounts};
+
+use crate::loaded::Loaded;
+use crate::state::State;
+use crate::steps::one_step;
+use code_soundness::{run_begins_well, step_leaves_less, step_stays_good};
+use flat_code::Code;
+use hs_base::{End, Sink, Source};
+
+/// Makes instructions until the run ends.
+pub(crate) fn end_of_run<I: Source, O: Sink>(
+    state: &mut State,
+    code: &Code,
+    loaded: &Loaded,
+    input: &mut I,
+    out: &mut O,
+) -> End
+    requires formed { IsWellFormed code.now }
+    requires built { IsBuilt code.now }
+    requires loaded { IsLoaded code.now loaded.now }
+    requires well { IsWell code.now state.old }
+    requires input { I.faults input.old + 1 < 2 ^ 64 }
+    requires out { O.faults out.old + 1 < 2 ^ 64 }
+    ensures told { (left : List ℕ) (n : ℕ) (room : Room) (taken : List ℕ) → state.old.calls.room ≡ room.stack → Reached code.now left n room taken state.old (I.left input.old) (O.taken out.old) → RunAnswers code.now left n room taken result (I.left input.new) (O.taken out.new) }
+    ensures faults { RunCounts result (I.faults input.old) (I.faults input.new) (O.faults out.old) (O.faults out.new) }
+{
+    step_stays_good();
+    step_leaves_less();
+    'instructions: loop {
+        match one_step(state, code, loaded, input, out) {
+            Ok(()) => {}
+            Err(end) => return end,
+        }
+    }
+}
+
+/// The first instruction: calls main, if a step is left and the stack has room for it.
+fn begin(state: &mut State, code: &Code, loaded: &Loaded, stack: u32) -> Result<(), End>
+    requires formed { IsWellFormed code.now }
+    requires built { IsBuilt code.now }
+    requires bytes { HoldsBytes code.now }
+    requires loaded { IsLoaded code.now loaded.now }
+    requires first { IsFirst code.now stack state.old }
+    ensures well { IfOk result (λ _. IsWell code.now state.new) }
+    ensures room { IfOk result (λ _. state.new.calls.room ≡ stack) }
+    ensures reaches { IfOk result (λ _. (input : List ℕ) (n : ℕ) (room : Room) (taken : List ℕ) → n ≡ state.old.steps → room.stack ≡ stack → Reached code.now input n room taken state.new (Some input) (Some taken)) }
+    ensures ends { IfErr result (λ e. (input : List ℕ) (n : ℕ) (room : Room) (taken : List ℕ) → n ≡ state.old.steps → room.stack ≡ stack → RunAnswers code.now input n room taken e (Some input) (Some taken)) }
+    ensures faults { IfErr result (λ e. (i o : ℕ) → RunCounts e i i o o) }
+{
+    run_begins_well();
+    let func = state.func() as usize;
+    let Some(line) = code.lines.get(0) else {
+        unreachable!()
+    };
+    let Some(main) = code.funcs.get(func) else {
+        unreachable!()
+    };
+    let Some(cost) = loaded.costs.get(func) else {
+        unreachable!()
+    };
+    if !state.take_step() {
+        return Err(End::Spent);
+    }
+    if *cost > u64::from(stack) {
+        return Err(End::OutOfStack(*line));
+    }
+    state.go_to(main.first);
+    Ok(())
+}
+
+/// Runs code from its first instruction on, on a stack of so many bytes.
+pub(crate) fn whole_run<I: Source, O: Sink>(
+    state: &mut State,
+    code: &Code,
+    loaded: &Loaded,
+    stack: u32,
+    input: &mut I,
+    out: &mut O,
+) -> End
+    requires formed { IsWellFormed code.now }
+    requires built { IsBuilt code.now }
+    requires bytes { HoldsBytes code.now }
+    requires loaded { IsLoaded code.now loaded.now }
+    requires first { IsFirst code.now stack state.old }
+    requires input { I.faults input.old + 1 < 2 ^ 64 }
+    requires out { O.faults out.old + 1 < 2 ^ 64 }
+    ensures told { (left : List ℕ) (n : ℕ) (room : Room) (taken : List ℕ) → n ≡ state.old.steps → room.stack ≡ stack → I.left input.old ≡ Some left → O.taken out.old ≡ Some taken → RunAnswers code.now left n room taken result (I.left input.new) (O.taken out.new) }
+    ensures faults { RunCounts result (I.faults input.old) (I.faults input.new) (O.faults out.old) (O.faults out.new) }
+{
+    match begin(state, code, loaded, stack) {
+        Ok(()) => end_of_run(state, code, loaded, input, out),
+        Err(end) => end,
+    }
+}

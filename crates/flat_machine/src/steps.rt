@@ -1,0 +1,146 @@
+//! One instruction.
+
+ghost use Rattle.std.specs.Prelude.{◌≡◌, ◌+◌, ◌<◌, ◌<ℤ◌, ◌≤◌, ◌^◌, [], ℕ, pos, List, All, IfOk, Some, map, length, slice_get, slice_index, slice_index_or};
+ghost use Rattle.hs_base.specs.Trace.{Event};
+ghost use Rattle.c_print.specs.Format.{IsGiven};
+ghost use Rattle.c_print.specs.Pieces.{pieces_of};
+ghost use Rattle.flat_code.specs.WellFormed.{IsWellFormed};
+ghost use Rattle.flat_code.specs.declared.instructions.Op.TheVariants as ops;
+ghost use Rattle.flat_objects.specs.Keeping.{IsKept};
+ghost use Rattle.meaning_run.specs.Leading.{with_input};
+ghost use Rattle.meaning_state.specs.Printing.{PrintsNoString};
+ghost use Rattle.code_meaning.specs.CodeState.{CodeState};
+ghost use Rattle.code_meaning.specs.CodeMeaning.{handed_value, hand_or_act, step};
+ghost use Rattle.code_soundness.specs.Objects.{IsByte};
+ghost use Rattle.flat_machine.specs.Words.{address_at};
+ghost use Rattle.flat_machine.specs.Standing.{Stands};
+ghost use Rattle.flat_machine.specs.Groups.{IsHanding, IsValues, IsJump, IsMemory, IsPointers, IsAlone, IsBuiltLib};
+ghost use Rattle.flat_machine.specs.Built.{IsBuilt, IsBuiltOp};
+ghost use Rattle.flat_machine.specs.Loaded.{IsLoaded};
+ghost use Rattle.flat_machine.specs.Well.{IsWell};
+ghost use Rattle.flat_machine.specs.Leading.{Alone, Counted, Moves, Seen, WaitsAtCall, HasNoLocal, MayHand, MayCall};
+
+use crate::calling::chosen;
+use crate::loaded::Loaded;
+use crate::state::State;
+use c_print::Piece;
+use flat_code::{Code, Instr, Op};
+use flat_objects::Word;
+use hs_base::{End, Items, Line, Sink, Source};
+
+/// The pieces at a place, and none where there are none.
+fn pieces_at(formats: &[Items<Piece>], k: u32) -> &[Piece]
+    ensures { result.now ≡ slice_index_or formats.now k [] }
+{
+    let k = k as usize;
+    if k < formats.len() {
+        formats[k].as_slice()
+    } else {
+        &[]
+    }
+}
+
+/// Calls a function.
+fn call(
+    state: &mut State,
+    code: &Code,
+    loaded: &Loaded,
+    line: Line,
+    instr: Instr,
+) -> Result<(), End>
+    requires point { state.old.calls.running.point + 1 < 2 ^ 64 }
+    requires built { IsBuilt code.now }
+    requires loaded { IsLoaded code.now loaded.now }
+    requires may { MayCall code.now instr state.old }
+    ensures { (places : ℕ → ℕ) (c : CodeState) → Stands places c state.old → instr.op ≡ ops.Call → Alone c.state.input state.old (hand_or_act code.now line instr (handed_value c.state.running instr ops.Call) c) state.new result }
+{
+    let f = instr.b as usize;
+    let Some(callee) = code.funcs.get(f) else {
+        unreachable!()
+    };
+    let Some(cost) = loaded.costs.get(f) else {
+        unreachable!()
+    };
+    state.act_call(line, instr, callee, *cost)
+}
+
+/// An instruction that neither writes nor reads a byte.
+fn act_alone(
+    state: &mut State,
+    code: &Code,
+    loaded: &Loaded,
+    line: Line,
+    instr: Instr,
+    op: Op,
+) -> Result<(), End>
+    requires point { state.old.calls.running.point + 1 < 2 ^ 64 }
+    requires built { IsBuilt code.now }
+    requires alone { IsAlone op }
+    requires loaded { IsLoaded code.now loaded.now }
+    requires hands { IsHanding op → MayHand instr op state.old }
+    requires kept { IsMemory op → IsKept state.old.memory (address_at state.old.handed 0) }
+    requires pointers { IsPointers op → (k : ℕ) → IsKept state.old.memory (address_at state.old.handed k) }
+    requires element { op ≡ ops.Diff → pos 0 <ℤ instr.imm }
+    requires may { op ≡ ops.Call → MayCall code.now instr state.old }
+    requires waits { WaitsAtCall code.now state.old.calls.waiting }
+    requires locals { HasNoLocal code.now state.old.calls }
+    ensures { (places : ℕ → ℕ) (c : CodeState) → Stands places c state.old → instr.op ≡ op → Alone c.state.input state.old (hand_or_act code.now line instr (handed_value c.state.running instr op) c) state.new result }
+{
+    match op {
+        Op::HandReg | Op::HandInt | Op::HandUnsigned | Op::HandNull | Op::HandStatic => {
+            state.act_hand(instr, op);
+            Ok(())
+        }
+        Op::Set | Op::Conv(..) | Op::Un(..) | Op::Bin(..) | Op::Cmp(..) | Op::Test => {
+            state.act_values(line, instr, op)
+        }
+        Op::Jump | Op::Zero | Op::Case | Op::Loop => state.act_jump(line, instr, op),
+        Op::Load(..) | Op::Loadp | Op::Store(..) | Op::Storep => {
+            state.act_memory(line, instr, op)
+        }
+        Op::Add | Op::Sub | Op::Diff | Op::Pcmp(..) => state.act_pointers(line, instr, op),
+        Op::Call => call(state, code, loaded, line, instr),
+        Op::Return => state.act_return(code, Word::Number(0)),
+        Op::Give => {
+            let answer = state.word(0);
+            state.act_return(code, answer)
+        }
+        _ => unreachable!(),
+    }
+}
+
+/// One instruction of well formed code.
+pub(crate) fn one_step<I: Source, O: Sink>(
+    state: &mut State,
+    code: &Code,
+    loaded: &Loaded,
+    input: &mut I,
+    out: &mut O,
+) -> Result<(), End>
+    requires formed { IsWellFormed code.now }
+    requires built { IsBuilt code.now }
+    requires loaded { IsLoaded code.now loaded.now }
+    requires well { IsWell code.now state.old }
+    requires input { I.faults input.old + 1 < 2 ^ 64 }
+    requires out { O.faults out.old + 1 < 2 ^ 64 }
+    ensures told { (places : ℕ → ℕ) (c : CodeState) (trace : List Event) (taken : List ℕ) → Stands places c state.old → I.left input.old ≡ Some c.state.input → O.taken out.old ≡ Some taken → Seen state.old (step code.now trace c) c.state.input taken result state.new (I.left input.new) (O.taken out.new) }
+    ensures faults { Counted result (I.faults input.old) (I.faults input.new) (O.faults out.old) (O.faults out.new) }
+    ensures moves { (places : ℕ → ℕ) (c : CodeState) → Stands places c state.old → (left : List ℕ) × All IsByte left × Moves state.old (step code.now [] (record c { state = with_input left c.state })) state.new result }
+{
+    let point = state.point();
+    let Some(instr) = code.instrs.get(point) else {
+        unreachable!()
+    };
+    let Some(line) = code.lines.get(point) else {
+        unreachable!()
+    };
+    let instr = *instr;
+    match instr.op {
+        Op::Lib(name) => state.act_lib(*line, name, chosen(instr), input, out),
+        Op::Printf => {
+            let pieces = pieces_at(loaded.formats.as_slice(), instr.b);
+            state.act_printf(instr.a, pieces, out)
+        }
+        op => act_alone(state, code, loaded, *line, instr, op),
+    }
+}
