@@ -11,9 +11,9 @@ use Rattle.c_tree.specs.Operators.{binary_sign, operand_level}
 use Rattle.c_tree.specs.Places.{Place, Expression, Arguments}
 use Rattle.c_tree.specs.Tree.{Tree, At, Node, none, ◌▹◌}
 use Rattle.c_tree.specs.Words.{Mark}
-use Rattle.c_parser.specs.State.{State, past}
-use Rattle.c_parser.specs.Reading.{Reader, grown}
-use Rattle.c_parser.specs.Rooms.{less, read}
+use Rattle.grammar_reading.specs.State.{State, past}
+use Rattle.grammar_reading.specs.Reading.{Reader, grown}
+use Rattle.grammar_reading.specs.Rooms.{less, read}
 use Rattle.c_parser.proofs.Steps.{less_step}
 
 -- what is read with one room less is read inside

@@ -1,6 +1,4 @@
 pub mod Logs
-pub mod sound
-pub mod complete
 pub mod TokenWords
 pub mod Steps
 pub mod Parts

@@ -9,7 +9,7 @@ use Rattle.c_tree.specs.Tree.{At, Node}
 use Rattle.c_tree.specs.StatementView.{trees}
 use Rattle.c_tree.specs.View.{literal_leaves}
 use Rattle.c_tree.specs.Words as w
-use Rattle.c_parser.specs.Reading.{snoc}
+use Rattle.grammar_reading.specs.Reading.{snoc}
 
 pub trees_behind : {A : Type 0} (view : A → Tree) (list : List A) (last : A) → trees view (list ++ last ∷ []) ≡ snoc (trees view list) (view last)
 trees_behind view [] last = refl

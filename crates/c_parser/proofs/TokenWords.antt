@@ -7,10 +7,10 @@ use Rattle.c_tree.specs.declared.word.Keyword.{Keyword}
 use Rattle.c_tree.specs.declared.word.Sign.{Sign}
 use Rattle.c_tree.specs.Words.{Word, keyword_bytes, sign_bytes}
 use Rattle.c_tree.specs.Words as w
-use Rattle.c_parser.specs.Known.{keyword_among, sign_among, keywords, signs, word_by, word_of}
-use Rattle.c_parser.specs.State.{State, kind_of_word, first_kind, first_word, first_bytes, kind_at, word_at, bytes_at}
-use Rattle.c_parser.specs.declared.kind.Kind.{Kind}
-use Rattle.c_parser.specs.declared.kind.Kind.TheVariants as kinds
+use Rattle.grammar_reading.specs.Known.{keyword_among, sign_among, keywords, signs, word_by, word_of}
+use Rattle.grammar_reading.specs.State.{State, kind_of_word, first_kind, first_word, first_bytes, kind_at, word_at, bytes_at}
+use Rattle.grammar_reading.specs.declared.kind.Kind.{Kind}
+use Rattle.grammar_reading.specs.declared.kind.Kind.TheVariants as kinds
 
 -- a kind of tokens that keep their spelling
 is_spelled : Kind → Bool

@@ -1,6 +1,6 @@
 -- What a reader of the code gives, against what reading gives.
 use Rattle.std.specs.Prelude.{◌≡◌, ⊤, Option, Some, None, Result, Ok, Err}
-use Rattle.c_parser.specs.State.{State}
+use Rattle.grammar_reading.specs.State.{State}
 use Rattle.c_parser.specs.declared.error.ReadError.{ReadError}
 use Rattle.c_parser.specs.declared.error.ReadError.TheVariants as errors
 

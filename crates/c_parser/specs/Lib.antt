@@ -1,13 +1,5 @@
-pub mod Known
-pub mod State
-pub mod Reading
-pub mod Expressions
-pub mod Declarators
-pub mod Statements
-pub mod Rooms
 pub mod Names
 pub mod Gives
-pub mod Laws
 pub mod Signs
 pub mod Held
 pub mod Tallies

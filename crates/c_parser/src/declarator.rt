@@ -6,14 +6,14 @@ ghost use Rattle.c_tree.specs.Places as place;
 ghost use Rattle.c_tree.specs.Tree.{Node, none};
 ghost use Rattle.c_tree.specs.View.{declarator_tree, base_tree};
 ghost use Rattle.c_tree.specs.StatementView.{trees, maybe, expr_view, specs_view, typename_view, suffix_view, param_view};
-ghost use Rattle.c_parser.specs.Declarators as spec;
+ghost use Rattle.grammar_reading.specs.Declarators as spec;
 ghost use Rattle.c_parser.specs.Gives.{Reads, Ended};
-ghost use Rattle.c_parser.specs.Reading.{fixed, commas_from, goes_on};
-ghost use Rattle.c_parser.specs.Rooms.{less, read};
+ghost use Rattle.grammar_reading.specs.Reading.{fixed, commas_from, goes_on};
+ghost use Rattle.grammar_reading.specs.Rooms.{less, read};
 ghost use Rattle.c_parser.specs.Sorts.{sort_place};
-ghost use Rattle.c_parser.specs.State.{kind_at, left_at};
+ghost use Rattle.grammar_reading.specs.State.{kind_at, left_at};
 ghost use Rattle.c_parser.specs.Pieces.{begins_suffix as spec_begins, suffix_at, kept_suffix_at, open_function_at};
-ghost use Rattle.c_parser.specs.declared.kind.Kind.TheVariants as kinds;
+ghost use Rattle.grammar_reading.specs.declared.kind.Kind.TheVariants as kinds;
 
 use crate::deep::{
     DeepBase, DeepDeclarator, DeepMaybeExpr, DeepParam, DeepParams, DeepSuffix, DeepSuffixes,
@@ -21,11 +21,12 @@ use crate::deep::{
 };
 use crate::error::ReadError;
 use crate::expression::expression;
-use crate::kind::{Kind, NameSort, is_mark};
+use crate::kind::{NameSort, is_mark};
 use crate::levels::CONDITION;
 use crate::reader::Reader;
 use crate::specifiers::plain_specs;
 use c_tree::{Base, Keyword, Param, Sign, Suffix, TypeName};
+use grammar_reading::Kind;
 use std::alloc::Global;
 
 /// A declarator; all its layers lie on each path through it.

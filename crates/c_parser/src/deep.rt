@@ -8,7 +8,7 @@ ghost use Rattle.c_tree.specs.Tree.{Node, none, ◌▹◌};
 ghost use Rattle.c_tree.specs.View.{spec_tree, declarator_tree, base_tree, enumerator_tree};
 ghost use Rattle.c_tree.specs.StatementView.{trees, maybe, expr_view, typename_view, specs_view, tag_view, member_view, suffix_view, param_view};
 ghost use Rattle.c_parser.specs.Names.{name_now};
-ghost use Rattle.c_parser.specs.Declarators.{is_leaf};
+ghost use Rattle.grammar_reading.specs.Declarators.{is_leaf};
 ghost use Rattle.c_parser.specs.Held.{maybe_trees};
 
 use c_tree::{

@@ -7,10 +7,10 @@ ghost use Rattle.std.specs.Prelude.{◌≡◌, ◌<◌, ◌≤◌, IfOk};
 ghost use Rattle.c_tree.specs.Forms as form;
 ghost use Rattle.c_tree.specs.Places.{Expression};
 ghost use Rattle.c_tree.specs.StatementView.{expr_view};
-ghost use Rattle.c_parser.specs.Expressions as spec;
+ghost use Rattle.grammar_reading.specs.Expressions as spec;
 ghost use Rattle.c_parser.specs.Gives.{Reads};
-ghost use Rattle.c_parser.specs.Reading.{grown};
-ghost use Rattle.c_parser.specs.Rooms.{less, read};
+ghost use Rattle.grammar_reading.specs.Reading.{grown};
+ghost use Rattle.grammar_reading.specs.Rooms.{less, read};
 ghost use Rattle.c_parser.specs.Signs.{is_unary_kind as unary_kind};
 
 use crate::deep::DeepExpr;

@@ -1,45 +1,14 @@
 //! What the next token is to a reader.
 
 ghost use Rattle.std.specs.Prelude.{◌≡◌};
-ghost use Rattle.c_parser.specs.State as spec;
+ghost use Rattle.grammar_reading.specs.State as spec;
 ghost use Rattle.c_tree.specs.Operators as tree;
 
 use c_tree::{Keyword, RecordSort, Sign};
-
-/// What a token is, without its spelling.
-#[derive(Clone, Copy, Debug, PartialEq, Eq)]
-pub enum Kind {
-    /// A keyword that the grammar names.
-    Key(Keyword),
-    /// A sign that the grammar names.
-    Mark(Sign),
-    Name,
-    Int,
-    Char,
-    Str,
-    /// A token that the grammar does not name.
-    Other,
-    /// There is no token left.
-    End,
-}
-
-/// How the next token goes on specs.
-#[derive(Clone, Copy, Debug, PartialEq, Eq)]
-pub enum SpecStart {
-    /// By a keyword.
-    Word,
-    /// By a name that is a type.
-    TypedefName,
-    /// By a struct or a union.
-    Record(RecordSort),
-    /// By an enumeration.
-    Enum,
-    /// Not at all.
-    End,
-}
+use grammar_reading::Kind;
 
 /// Says whether a token is a keyword.
-#[tactic(auto, unfolding(crate::specs::State::keyword_number))]
+#[tactic(auto, unfolding(grammar_reading::specs::State::keyword_number))]
 pub fn is_key(kind: Kind, keyword: Keyword) -> bool
     ensures { result ≡ spec.kind_is_key keyword kind }
 {
@@ -50,7 +19,7 @@ pub fn is_key(kind: Kind, keyword: Keyword) -> bool
 }
 
 /// Says whether a token is a sign.
-#[tactic(auto, unfolding(crate::specs::State::sign_number))]
+#[tactic(auto, unfolding(grammar_reading::specs::State::sign_number))]
 pub fn is_mark(kind: Kind, sign: Sign) -> bool
     ensures { result ≡ spec.kind_is_mark sign kind }
 {
@@ -61,7 +30,7 @@ pub fn is_mark(kind: Kind, sign: Sign) -> bool
 }
 
 /// Says whether specs begin with a keyword.
-#[tactic(auto, unfolding(crate::specs::State::is_spec_key))]
+#[tactic(auto, unfolding(grammar_reading::specs::State::is_spec_key))]
 pub fn is_spec_key(keyword: Keyword) -> bool
     ensures { result ≡ spec.is_spec_key keyword }
 {

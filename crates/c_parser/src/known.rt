@@ -2,12 +2,12 @@
 
 ghost use Rattle.std.specs.Prelude.{◌≡◌};
 ghost use Rattle.c_tree.specs.Words.{keyword_bytes, sign_bytes};
-ghost use Rattle.c_parser.specs.Known as spec;
-ghost use Rattle.c_parser.specs.State.{kind_of_word};
+ghost use Rattle.grammar_reading.specs.Known as spec;
+ghost use Rattle.grammar_reading.specs.State.{kind_of_word};
 
-use crate::kind::Kind;
 use c_lexer::{Token, TokenKind};
 use c_tree::{Keyword, Sign};
+use grammar_reading::Kind;
 
 const KEYWORDS: [Keyword; 27] = [
     Keyword::Void,
@@ -210,7 +210,7 @@ fn sign_among(signs: &[Sign], bytes: &[u8]) -> Kind
 }
 
 /// What a token is.
-#[tactic(auto, unfolding(crate::specs::Known::word_by))]
+#[tactic(auto, unfolding(grammar_reading::specs::Known::word_by))]
 pub fn kind_of(token: &Token) -> Kind
     ensures { result ≡ kind_of_word (spec.word_of token.now) }
 {

@@ -6,7 +6,7 @@ ghost use Rattle.c_tree.specs.Forms as form;
 ghost use Rattle.c_tree.specs.Tree.{At, Node, none, ◌▹◌};
 ghost use Rattle.c_tree.specs.View.{declarator_tree, base_tree};
 ghost use Rattle.c_tree.specs.StatementView.{trees, suffix_view};
-ghost use Rattle.c_parser.specs.Reading.{snoc};
+ghost use Rattle.grammar_reading.specs.Reading.{snoc};
 
 use crate::deep::{DeepBase, DeepDeclarator, DeepDeclarators, DeepSuffix, DeepSuffixes};
 use c_tree::{Base, Declarator};

@@ -3,7 +3,7 @@
 ghost use Rattle.std.specs.Prelude.{◌≡◌, max, [], IfOk};
 ghost use Rattle.c_tree.specs.View.{spec_tree, declarator_tree, enumerator_tree};
 ghost use Rattle.c_tree.specs.StatementView.{trees, expr_view, member_view, param_view};
-ghost use Rattle.c_parser.specs.Reading.{snoc};
+ghost use Rattle.grammar_reading.specs.Reading.{snoc};
 
 use crate::deep::{
     DeepEnumerator, DeepEnumerators, DeepExpr, DeepExprs, DeepMember, DeepMembers, DeepParam,

@@ -6,10 +6,10 @@ ghost use Rattle.c_tree.specs.Places as place;
 ghost use Rattle.c_tree.specs.Tree.{Node, none, ◌▹◌};
 ghost use Rattle.c_tree.specs.View.{declarator_tree};
 ghost use Rattle.c_tree.specs.StatementView.{trees, maybe, init_view, entry_view, names_view};
-ghost use Rattle.c_parser.specs.Declarators as spec;
+ghost use Rattle.grammar_reading.specs.Declarators as spec;
 ghost use Rattle.c_parser.specs.Gives.{Reads};
-ghost use Rattle.c_parser.specs.Reading.{fixed, commas_from, goes_on, snoc};
-ghost use Rattle.c_parser.specs.Rooms.{less, read};
+ghost use Rattle.grammar_reading.specs.Reading.{fixed, commas_from, goes_on, snoc};
+ghost use Rattle.grammar_reading.specs.Rooms.{less, read};
 
 use crate::declarator::declarator;
 use crate::error::ReadError;

@@ -5,25 +5,25 @@
 ghost use Rattle.std.specs.Prelude.{◌≡◌, ◌<◌, ◌≤◌, IfOk};
 ghost use Rattle.c_tree.specs.Forms as form;
 ghost use Rattle.c_tree.specs.StatementView.{expr_view};
-ghost use Rattle.c_parser.specs.Expressions as spec;
+ghost use Rattle.grammar_reading.specs.Expressions as spec;
 ghost use Rattle.c_parser.specs.Gives.{Reads};
-ghost use Rattle.c_parser.specs.State.{kind_at};
-ghost use Rattle.c_parser.specs.declared.kind.Kind.TheVariants as kinds;
-ghost use Rattle.c_parser.specs.Reading.{fixed};
-ghost use Rattle.c_parser.specs.Rooms.{less};
+ghost use Rattle.grammar_reading.specs.State.{kind_at};
+ghost use Rattle.grammar_reading.specs.declared.kind.Kind.TheVariants as kinds;
+ghost use Rattle.grammar_reading.specs.Reading.{fixed};
+ghost use Rattle.grammar_reading.specs.Rooms.{less};
 ghost use Rattle.c_parser.specs.Signs.{prefix_form};
 
 use crate::declarator::typename;
 use crate::deep::DeepExpr;
 use crate::error::ReadError;
 use crate::expression::expression;
-use crate::kind::Kind;
 use crate::levels::{CAST, COMMA, UNARY};
 use crate::operators::{Prefix, before_operand, unary_sign};
 use crate::postfix::postfix;
 use crate::reader::Reader;
 use crate::strings::strings;
 use c_tree::{Keyword, Sign, UnaryOp};
+use grammar_reading::Kind;
 use std::alloc::Global;
 
 /// A cast, or a unary expression.

@@ -2,11 +2,11 @@
 
 ghost use Rattle.std.specs.Prelude.{◌≡◌, ◌<◌, ◌+◌};
 ghost use Rattle.c_tree.specs.Operators as tree;
-ghost use Rattle.c_parser.specs.Expressions as spec;
+ghost use Rattle.grammar_reading.specs.Expressions as spec;
 ghost use Rattle.c_parser.specs.Signs.{prefix_forms, postfix_forms};
 
-use crate::kind::Kind;
 use c_tree::{AssignOp, BinaryOp, Sign, UnaryOp};
+use grammar_reading::Kind;
 
 /// What stands before an operand.
 #[derive(Clone, Copy, Debug, PartialEq, Eq)]
@@ -35,7 +35,7 @@ pub enum Postfix {
     Dec,
 }
 
-#[tactic(auto, unfolding(crate::specs::Expressions::unary_op))]
+#[tactic(auto, unfolding(grammar_reading::specs::Expressions::unary_op))]
 fn prefix_of(sign: Sign) -> Option<Prefix>
     ensures { prefix_forms result ≡ spec.unary_op sign }
 {
@@ -62,7 +62,7 @@ pub fn before_operand(kind: Kind) -> Option<Prefix>
     }
 }
 
-#[tactic(auto, unfolding(crate::specs::Expressions::postfix_op))]
+#[tactic(auto, unfolding(grammar_reading::specs::Expressions::postfix_op))]
 fn postfix_of(sign: Sign) -> Option<Postfix>
     ensures { postfix_forms result ≡ spec.postfix_op sign }
 {
@@ -87,7 +87,7 @@ pub fn behind_operand(kind: Kind) -> Option<Postfix>
     }
 }
 
-#[tactic(auto, unfolding(crate::specs::Expressions::binary_op))]
+#[tactic(auto, unfolding(grammar_reading::specs::Expressions::binary_op))]
 fn binary_of(sign: Sign) -> Option<BinaryOp>
     ensures { result ≡ spec.binary_op sign }
 {
@@ -157,7 +157,7 @@ pub fn binary(kind: Kind, level: usize) -> Option<BinaryOp>
     }
 }
 
-#[tactic(auto, unfolding(crate::specs::Expressions::assign_op))]
+#[tactic(auto, unfolding(grammar_reading::specs::Expressions::assign_op))]
 fn assign_of(sign: Sign) -> Option<AssignOp>
     ensures { result ≡ spec.assign_op sign }
 {

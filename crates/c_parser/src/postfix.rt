@@ -8,12 +8,12 @@ ghost use Rattle.c_tree.specs.Forms as form;
 ghost use Rattle.c_tree.specs.Places.{Arguments};
 ghost use Rattle.c_tree.specs.Tree.{Node, none};
 ghost use Rattle.c_tree.specs.StatementView.{trees, expr_view};
-ghost use Rattle.c_parser.specs.Expressions as spec;
+ghost use Rattle.grammar_reading.specs.Expressions as spec;
 ghost use Rattle.c_parser.specs.Gives.{Reads};
-ghost use Rattle.c_parser.specs.Reading.{grown, commas_from, goes_on};
-ghost use Rattle.c_parser.specs.Rooms.{less, read};
+ghost use Rattle.grammar_reading.specs.Reading.{grown, commas_from, goes_on};
+ghost use Rattle.grammar_reading.specs.Rooms.{less, read};
 ghost use Rattle.c_parser.specs.Signs.{postfix_form};
-ghost use Rattle.c_parser.specs.State.{left_at};
+ghost use Rattle.grammar_reading.specs.State.{left_at};
 
 use crate::deep::{DeepExpr, DeepExprs};
 use crate::error::ReadError;

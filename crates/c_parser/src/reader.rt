@@ -1,16 +1,16 @@
 //! Tokens from left to right, and the names that are declared.
 
-ghost use Rattle.std.specs.Prelude.{◌≡◌, ◌<◌, ◌+◌, ◌^◌, ◌-◌, ◌&&◌, not, length, take, IfOk};
-ghost use Rattle.c_parser.specs.Declarators.{leading_consts, past_consts, maybe_name_at};
-ghost use Rattle.c_parser.specs.Reading.{goes_on_inside, nothing_read, parts_of};
+ghost use Rattle.std.specs.Prelude.{◌≡◌, ◌<◌, ◌+◌, ◌^◌, ◌-◌, ◌&&◌, not, if◌then◌else◌, length, take, IfOk};
+ghost use Rattle.grammar_reading.specs.Declarators.{leading_consts, past_consts, maybe_name_at};
+ghost use Rattle.grammar_reading.specs.Reading.{goes_on_inside, nothing_read, parts_of};
 ghost use Rattle.c_tree.specs.Grammar.{closed};
 ghost use Rattle.c_tree.specs.Tree.{none};
 ghost use Rattle.c_tree.specs.declared.word.Sign.TheVariants as sign;
 ghost use Rattle.c_tree.specs.declared.word.Keyword.TheVariants as keyword;
-ghost use Rattle.c_parser.specs.Rooms.{less, start_of};
+ghost use Rattle.grammar_reading.specs.Rooms.{less, start_of};
 ghost use Rattle.c_tree.specs.View.{maybe_name};
-ghost use Rattle.c_parser.specs.State as state;
-ghost use Rattle.c_parser.specs.Expressions as spec;
+ghost use Rattle.grammar_reading.specs.State as state;
+ghost use Rattle.grammar_reading.specs.Expressions as spec;
 ghost use Rattle.c_parser.specs.Gives.{Passes, Reads};
 ghost use Rattle.c_tree.specs.View.{name_leaf};
 ghost use Rattle.c_tree.specs.Words.{Key, Mark};
@@ -19,10 +19,11 @@ ghost use Rattle.c_parser.specs.Names.{name_now, oldest};
 
 use crate::declared::{Entry, Named, Names, copied, declare_all};
 use crate::error::ReadError;
-use crate::kind::{Kind, is_key, is_mark, is_name, is_spec_key};
+use crate::kind::{is_key, is_mark, is_name, is_spec_key};
 use crate::known::kind_of;
 use c_lexer::Token;
 use c_tree::{Keyword, Sign};
+use grammar_reading::Kind;
 use hs_base::{Items, Line, NoMemory};
 use std::alloc::Global;
 use std::marker::Model;
@@ -76,7 +77,7 @@ fn first_kind(words: &[Token]) -> Kind
 
 impl<'a> Model for Reader<'a> {
     ghost use Rattle.std.specs.Prelude.{◌≡◌};
-    ghost use Rattle.c_parser.specs.State.{State, first_kind};
+    ghost use Rattle.grammar_reading.specs.State.{State, first_kind};
     ghost use Rattle.c_parser.specs.Names.{known_names};
 
     ghost Value = { State };
@@ -214,6 +215,19 @@ impl<'a> Reader<'a> {
         }
         self.skip();
         Ok(())
+    }
+
+    /// Passes the `else` of an `if` that was read up to here, and says whether it stands here: an `else` belongs to the nearest
+    /// `if` in front (C99 6.8.4.1), whatever stands around that one and whatever statement is behind.
+    pub fn take_else(&mut self) -> bool
+        ensures taken { result ≡ state.at_key keyword.Else self.old }
+        ensures behind { self.new ≡ (if result then state.skip self.old else self.old) }
+    {
+        if !self.is_key(Keyword::Else) {
+            return false;
+        }
+        self.skip();
+        true
     }
 
     /// Says whether the next token, a name, is a type.

@@ -5,14 +5,14 @@ ghost use Rattle.c_tree.specs.Forms as form;
 ghost use Rattle.c_tree.specs.Tree.{Leaf, Node};
 ghost use Rattle.c_tree.specs.View.{literal_leaves};
 ghost use Rattle.c_tree.specs.Words.{Str};
-ghost use Rattle.c_parser.specs.Expressions as spec;
+ghost use Rattle.grammar_reading.specs.Expressions as spec;
 ghost use Rattle.c_parser.specs.Gives.{Reads};
 ghost use Rattle.c_parser.specs.Pieces.{is_literal as spec_is_literal};
-ghost use Rattle.c_parser.specs.Reading.{snoc};
+ghost use Rattle.grammar_reading.specs.Reading.{snoc};
 
 use crate::error::ReadError;
-use crate::kind::Kind;
 use crate::reader::Reader;
+use grammar_reading::Kind;
 use hs_base::{Items, NoMemory};
 use std::alloc::Global;
 

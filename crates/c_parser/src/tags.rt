@@ -7,10 +7,10 @@ ghost use Rattle.c_tree.specs.Places as place;
 ghost use Rattle.c_tree.specs.Tree.{Node};
 ghost use Rattle.c_tree.specs.View.{enumerator_tree, declarator_tree};
 ghost use Rattle.c_tree.specs.StatementView.{trees, maybe, expr_view, tag_view, member_view};
-ghost use Rattle.c_parser.specs.Declarators as spec;
+ghost use Rattle.grammar_reading.specs.Declarators as spec;
 ghost use Rattle.c_parser.specs.Gives.{Reads};
-ghost use Rattle.c_parser.specs.Reading.{ending, parts_of, fixed};
-ghost use Rattle.c_parser.specs.Rooms.{less, read};
+ghost use Rattle.grammar_reading.specs.Reading.{ending, parts_of, fixed};
+ghost use Rattle.grammar_reading.specs.Rooms.{less, read};
 
 use crate::declarator::declarator;
 use crate::deep::{

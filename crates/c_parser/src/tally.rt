@@ -2,7 +2,7 @@
 
 ghost use Rattle.std.specs.Prelude.{◌≡◌, ◌<◌, ◌≤◌, ◌+◌, ◌^◌};
 ghost use Rattle.c_tree.specs.Allowed as rules;
-ghost use Rattle.c_parser.specs.Declarators as spec;
+ghost use Rattle.grammar_reading.specs.Declarators as spec;
 ghost use Rattle.c_parser.specs.Tallies.{tally_of, total};
 
 use c_tree::Keyword;

@@ -6,11 +6,11 @@ ghost use Rattle.c_tree.specs.Depth.{depth as depth_of};
 ghost use Rattle.c_tree.specs.Tree.{Leaf, Node, none, ◌▹◌};
 ghost use Rattle.c_tree.specs.View.{spec_tree, key_leaf, name_leaf};
 ghost use Rattle.c_tree.specs.StatementView.{trees, tag_view};
-ghost use Rattle.c_parser.specs.Declarators as spec;
-ghost use Rattle.c_parser.specs.Reading.{snoc};
-ghost use Rattle.c_parser.specs.State.{word_at};
+ghost use Rattle.grammar_reading.specs.Declarators as spec;
+ghost use Rattle.grammar_reading.specs.Reading.{snoc};
+ghost use Rattle.grammar_reading.specs.State.{word_at};
 ghost use Rattle.c_parser.specs.Tallies.{tally_of, total};
-ghost use Rattle.c_parser.specs.declared.kind.SpecStart.TheVariants as starts;
+ghost use Rattle.grammar_reading.specs.declared.kind.SpecStart.TheVariants as starts;
 
 use crate::deep::{DeepTag, DeepWords};
 use c_tree::{Keyword, Spec};
@@ -76,7 +76,7 @@ impl DeepWords {
 }
 
 /// The word of specs that a keyword is.
-#[tactic(auto, unfolding(crate::specs::Declarators::spec_key, c_tree::specs::View::spec_tree))]
+#[tactic(auto, unfolding(grammar_reading::specs::Declarators::spec_key, c_tree::specs::View::spec_tree))]
 fn key_spec(keyword: Keyword) -> Spec
     requires { spec.spec_key keyword ≡ starts.Word }
     ensures { spec_tree result ≡ key_leaf keyword }

@@ -10,9 +10,9 @@ use Rattle.c_tree.specs.StatementView.{trees, expr_view, suffix_view, member_vie
 use Rattle.c_tree.specs.Tree.{Tree, Node}
 use Rattle.c_tree.specs.View.{spec_tree}
 use Rattle.c_tree.specs.Words.{Mark}
-use Rattle.c_parser.specs.State.{past}
-use Rattle.c_parser.specs.Reading.{snoc}
-use Rattle.c_parser.specs.Rooms.{less, read}
+use Rattle.grammar_reading.specs.State.{past}
+use Rattle.grammar_reading.specs.Reading.{snoc}
+use Rattle.grammar_reading.specs.Rooms.{less, read}
 use Rattle.c_parser.proofs.Grown.{less_is, grown_call, grown_cond, grown_binary}
 use Rattle.c_parser.proofs.Loops.{specs_begin, members_begin}
 use Rattle.c_parser.proofs.Scoping.{function_ends}

@@ -3,8 +3,8 @@ use Rattle.c_tree.specs.StatementView.{stmt_view}
 use Rattle.c_tree.specs.Forms as f
 use Rattle.c_tree.specs.Places.{Statement}
 use Rattle.c_parser.specs.Pieces.{open_at}
-use Rattle.c_parser.specs.Reading.{fixed, scoped}
-use Rattle.c_parser.specs.Rooms.{less, read}
+use Rattle.grammar_reading.specs.Reading.{fixed, scoped}
+use Rattle.grammar_reading.specs.Rooms.{less, read}
 use Rattle.c_parser.proofs.Scoping.{branch_ends, block_ends, open_ends, scope_fails, fails_on}
 use Rattle.c_parser.proofs.statement.+statements.Goals as goal
 

@@ -1,5 +1,5 @@
 use Rattle.std.proofs.Common.{◌≡◌, ◌≤◌, ◌+◌, length}
-use Rattle.c_parser.specs.Declarators.{leading_consts, past_consts}
+use Rattle.grammar_reading.specs.Declarators.{leading_consts, past_consts}
 use Rattle.c_parser.proofs.reader.Reader.consts.Given as goal
 
 abbrev pub invariant-consts : goal.invariant-consts
