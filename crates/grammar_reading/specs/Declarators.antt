@@ -1,5 +1,5 @@
 -- Reading specs, tags, declarators and initializers (C99 6.7).
-use Rattle.std.specs.Prelude.{ℕ, zero, suc, ◌+◌, Bool, true, false, ◌&&◌, ◌||◌, not, ◌==◌, nat_le, nat_lt, if◌then◌else◌, List, [], ◌∷◌, take, length, Option, Some, None}
+use Rattle.std.specs.Prelude.{ℕ, zero, suc, ◌+◌, Bool, true, false, ◌&&◌, ◌||◌, not, ◌==◌, nat_le, if◌then◌else◌, List, [], ◌∷◌, take, Option, Some, None}
 use Rattle.c_lexer.specs.declared.token.Token.{Token}
 use Rattle.c_tree.specs.declared.operator.RecordSort.{RecordSort}
 use Rattle.c_tree.specs.declared.operator.RecordSort.TheVariants as r
@@ -13,14 +13,14 @@ use Rattle.c_tree.specs.Forms as f
 use Rattle.c_tree.specs.Grammar.{shape}
 use Rattle.c_tree.specs.Places.{Place, Expression}
 use Rattle.c_tree.specs.Places as p
-use Rattle.c_tree.specs.Scopes.{is_type, has_typedef, name_of, name_among}
+use Rattle.c_tree.specs.Scopes.{is_type, has_typedef, name_among}
 use Rattle.c_tree.specs.Tree.{Tree, Trees, Leaf, At, Node, none, ◌▹◌}
 use Rattle.grammar_reading.specs.declared.kind.Kind.{Kind}
 use Rattle.grammar_reading.specs.declared.kind.Kind.TheVariants as kinds
 use Rattle.grammar_reading.specs.declared.kind.SpecStart.{SpecStart}
 use Rattle.grammar_reading.specs.declared.kind.SpecStart.TheVariants as starts
 use Rattle.grammar_reading.specs.State.{State, first_kind, behind_first, kind_is_key, kind_at, line_at, word_at, bytes_at, left_at, at_mark, at_key, at_name, skip, with_flag, declaring, with_new_params, with_params_of}
-use Rattle.grammar_reading.specs.Reading.{◌>>=◌, Reader, fixed, node, snoc, parts_of, optional_part, leaf, guarded, goes_on, goes_on_inside, commas_from, list_from, ending}
+use Rattle.grammar_reading.specs.Reading.{◌>>=◌, Reader, fixed, snoc, parts_of, optional_part, leaf, guarded, goes_on, goes_on_inside, commas_from, list_from, ending}
 use Rattle.grammar_reading.specs.Expressions.{name_at, expression_at}
 
 -- Specs

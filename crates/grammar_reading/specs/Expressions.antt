@@ -1,5 +1,5 @@
 -- Reading expressions (C99 6.5).
-use Rattle.std.specs.Prelude.{ℕ, zero, suc, ◌+◌, ◌-◌, Bool, true, false, nat_eq, nat_le, not, if◌then◌else◌, List, [], ◌∷◌, length, Option, Some, None}
+use Rattle.std.specs.Prelude.{ℕ, zero, suc, ◌+◌, ◌-◌, Bool, true, false, nat_eq, nat_le, if◌then◌else◌, Option, Some, None}
 use Rattle.c_tree.specs.declared.operator.UnaryOp.TheVariants as u
 use Rattle.c_tree.specs.declared.operator.BinaryOp.{BinaryOp}
 use Rattle.c_tree.specs.declared.operator.BinaryOp.TheVariants as b
@@ -10,16 +10,15 @@ use Rattle.c_tree.specs.declared.word.Sign.{Sign}
 use Rattle.c_tree.specs.declared.word.Sign.TheVariants as s
 use Rattle.c_tree.specs.Forms.{Form}
 use Rattle.c_tree.specs.Forms as f
-use Rattle.c_tree.specs.Grammar.{form_home, shape}
+use Rattle.c_tree.specs.Grammar.{form_home}
 use Rattle.c_tree.specs.Operators.{operand_level}
 use Rattle.c_tree.specs.Places.{Place, Expression}
-use Rattle.c_tree.specs.Places as p
 use Rattle.c_tree.specs.Scopes.{is_type}
-use Rattle.c_tree.specs.Tree.{Tree, Trees, Leaf, At, Node, none, ◌▹◌}
+use Rattle.c_tree.specs.Tree.{Tree, Trees, Leaf, At, Node, none}
 use Rattle.grammar_reading.specs.declared.kind.Kind.{Kind}
 use Rattle.grammar_reading.specs.declared.kind.Kind.TheVariants as kinds
-use Rattle.grammar_reading.specs.State.{State, kind_at, line_at, word_at, bytes_at, left_at, at_mark, at_key, skip, opens_type}
-use Rattle.grammar_reading.specs.Reading.{◌>>=◌, Reader, guarded, fixed, node, snoc, parts_of, leaf, token_node, grown, goes_on, commas_from}
+use Rattle.grammar_reading.specs.State.{kind_at, line_at, word_at, bytes_at, left_at, at_mark, at_key, skip, opens_type}
+use Rattle.grammar_reading.specs.Reading.{◌>>=◌, Reader, guarded, fixed, snoc, leaf, token_node, grown, goes_on, commas_from}
 
 -- Operators by their signs
 

@@ -1,5 +1,5 @@
 -- Reading with so much room, and reading a text.
-use Rattle.std.specs.Prelude.{ℕ, zero, suc, Bool, true, false, nat_eq, if◌then◌else◌, List, [], ◌∷◌, length, Option, Some, None}
+use Rattle.std.specs.Prelude.{ℕ, zero, suc, nat_eq, if◌then◌else◌, List, [], length, Option, Some, None}
 use Rattle.c_lexer.specs.declared.token.Token.{Token}
 use Rattle.c_tree.specs.Depth.{most}
 use Rattle.c_tree.specs.Places.{Place, Expression}
@@ -7,9 +7,9 @@ use Rattle.c_tree.specs.Places as p
 use Rattle.c_tree.specs.Scopes.{first_scope}
 use Rattle.c_tree.specs.Tree.{Tree, Trees, none}
 use Rattle.grammar_reading.specs.State.{State, left_at}
-use Rattle.grammar_reading.specs.Reading.{Reader, snoc, guarded, nothing_read}
+use Rattle.grammar_reading.specs.Reading.{Reader, snoc, guarded}
 use Rattle.grammar_reading.specs.Expressions.{name_at, expression_at, arguments_at}
-use Rattle.grammar_reading.specs.Declarators.{specs_at, declarator_at, typename_at, params_at, maybe_length_at, maybe_name_at, members_at, enumerators_at, inits_at, some_names_at, names_at}
+use Rattle.grammar_reading.specs.Declarators.{specs_at, declarator_at, typename_at, params_at, maybe_length_at, maybe_name_at, members_at, enumerators_at, inits_at, names_at}
 use Rattle.grammar_reading.specs.Statements.{statement_at, items_at, branch_at, maybe_expr_at, for_start_at, external_at}
 
 -- a tree of a place with so much room

@@ -1,21 +1,20 @@
 -- Reading statements and external declarations (C99 6.8 and 6.9).
-use Rattle.std.specs.Prelude.{ℕ, zero, suc, Bool, true, false, ◌&&◌, not, is_some, if◌then◌else◌, List, [], ◌∷◌, Option, Some, None}
-use Rattle.c_lexer.specs.declared.token.Token.{Token}
+use Rattle.std.specs.Prelude.{ℕ, zero, suc, Bool, true, false, ◌&&◌, not, is_some, if◌then◌else◌, [], ◌∷◌, Some, None}
 use Rattle.c_tree.specs.declared.word.Keyword.{Keyword}
 use Rattle.c_tree.specs.declared.word.Keyword.TheVariants as k
 use Rattle.c_tree.specs.declared.word.Sign.TheVariants as s
 use Rattle.c_tree.specs.Forms.{Form}
 use Rattle.c_tree.specs.Forms as f
-use Rattle.c_tree.specs.Grammar.{Item, Part, key, shape}
+use Rattle.c_tree.specs.Grammar.{Part, key, shape}
 use Rattle.c_tree.specs.Places.{Place, Expression}
 use Rattle.c_tree.specs.Places as p
 use Rattle.c_tree.specs.Scopes.{params_of}
 use Rattle.c_tree.specs.Tree.{Tree, Trees, At, Node, none, ◌▹◌}
 use Rattle.grammar_reading.specs.declared.kind.Kind.{Kind}
 use Rattle.grammar_reading.specs.declared.kind.Kind.TheVariants as kinds
-use Rattle.grammar_reading.specs.State.{State, kind_at, line_at, left_at, at_mark, at_key, skip, starts_type, back_to, with_flag, in_body, past}
-use Rattle.grammar_reading.specs.Reading.{◌>>=◌, Reader, fixed, node, joined, snoc, parts_of, optional_part, guarded, scoped, unflagged, goes_on, commas_by, commas_from, list_from}
-use Rattle.grammar_reading.specs.Declarators.{part_at, specs_at, some_names_at, names_at, declared_at, entry_from, entry_at}
+use Rattle.grammar_reading.specs.State.{State, kind_at, line_at, left_at, at_mark, at_key, starts_type, back_to, in_body, past}
+use Rattle.grammar_reading.specs.Reading.{◌>>=◌, Reader, fixed, joined, parts_of, optional_part, guarded, scoped, unflagged, goes_on, commas_by, commas_from, list_from}
+use Rattle.grammar_reading.specs.Declarators.{part_at, specs_at, some_names_at, declared_at, entry_from, entry_at}
 use Rattle.c_tree.specs.Words.{Mark}
 
 -- the form of a statement that begins with a keyword; of any other an expression is evaluated

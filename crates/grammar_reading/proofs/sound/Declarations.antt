@@ -1,30 +1,29 @@
 -- Parameters, members, enumerators, initializers and names of declarations that are read.
-use Rattle.std.proofs.Common.{◌≡◌, ℕ, zero, suc, ◌+◌, ◌<◌, ◌≤◌, Bool, true, false, inl, inr, List, [], ◌∷◌, ◌++◌, take, length, Option, Some, None, refl, sym, ap, ◌∙◌, subst, arith}
-use Rattle.std.specs.Prelude.{max, if◌then◌else◌, ⊤, not, ◌&&◌, ◌||◌}
-use Rattle.std.proofs.lemmas.Bool.{true≢false, false≢true, and_parts}
+use Rattle.std.proofs.Common.{◌≡◌, ℕ, zero, suc, ◌<◌, Bool, true, false, inl, inr, List, [], ◌∷◌, ◌++◌, take, length, Option, Some, None, refl, sym, ap, ◌∙◌, subst, arith}
+use Rattle.std.specs.Prelude.{if◌then◌else◌, not, ◌&&◌, ◌||◌}
+use Rattle.std.proofs.lemmas.Bool.{and_parts}
 use Rattle.c_tree.specs.declared.word.Sign.TheVariants as s
-use Rattle.c_tree.specs.Words.{Word, Mark}
 use Rattle.c_tree.specs.Forms.{Form}
 use Rattle.c_tree.specs.Forms as f
-use Rattle.c_tree.specs.Grammar.{Item, Says, Here, Part, mark, closed, form_home, shape, rows, some, commas, home}
+use Rattle.c_tree.specs.Grammar.{Item, Part, closed, form_home, shape, rows, some}
 use Rattle.c_tree.specs.Places.{Place, Expression}
 use Rattle.c_tree.specs.Places as p
-use Rattle.c_tree.specs.Scopes.{Known, Scope, is_scope, places, declare, name_of, name_among, leads_to_name, params_of, params_among, after, after_all, left}
-use Rattle.c_tree.specs.Allowed.{Takes, Allowed, AllAllowed, obeys, is_none, has_parts}
+use Rattle.c_tree.specs.Scopes.{Scope, is_scope, places, declare, name_among, leads_to_name, params_of, after, after_all, left}
+use Rattle.c_tree.specs.Allowed.{Takes, Allowed, AllAllowed, obeys, is_none}
 use Rattle.c_tree.specs.Spelling.{spell, spell_all, filled, Spells}
-use Rattle.c_tree.specs.Depth.{depth, weight, greatest_depth, is_of_declarator}
-use Rattle.c_tree.specs.Tree.{Tree, Trees, Leaf, At, Node, none, ◌▹◌, count}
+use Rattle.c_tree.specs.Depth.{weight, is_of_declarator}
+use Rattle.c_tree.specs.Tree.{Tree, Trees, Node, none, ◌▹◌, count}
 use Rattle.grammar_reading.specs.State.{State, left_at, at_name, at_mark, skip, declaring}
-use Rattle.grammar_reading.specs.Reading.{◌>>=◌, Reader, fixed, node, optional_part, parts_of, in_front, guarded, goes_on, goes_on_inside, commas_from, list_from, ending}
+use Rattle.grammar_reading.specs.Reading.{Reader, fixed, optional_part, parts_of, in_front, guarded, goes_on, goes_on_inside, commas_from, list_from}
 use Rattle.grammar_reading.specs.Expressions as e
 use Rattle.grammar_reading.specs.Declarators as d
-use Rattle.grammar_reading.proofs.sound.Options.{none_some, some_same, bind_some, either, if_some}
-use Rattle.grammar_reading.proofs.sound.Took.{Took, PartsTook, Sound, AllSound, all_sound, parts_took, Opens, Also, KeepsParams, has_specs, has_words, is_specs, heres, took_both, took_one, took_none}
-use Rattle.grammar_reading.proofs.sound.Nodes.{is_plain, took_node, node_some, front_some, depth_flat, scope_eq, made, behind_after}
-use Rattle.grammar_reading.proofs.sound.Lists.{CommasTook, ListTook, commas_took, list_took, light_commas, took_light, rows_specs}
+use Rattle.grammar_reading.proofs.sound.Options.{none_some, some_same, bind_some, either}
+use Rattle.grammar_reading.proofs.sound.Took.{Took, PartsTook, Sound, AllSound, all_sound, parts_took, Opens, Also, KeepsParams, has_specs, has_words, heres, took_both, took_one, took_none}
+use Rattle.grammar_reading.proofs.sound.Nodes.{is_plain, took_node, node_some, depth_flat, made, behind_after}
+use Rattle.grammar_reading.proofs.sound.Lists.{CommasTook, commas_took, list_took, light_commas, took_light, rows_specs}
 use Rattle.grammar_reading.proofs.sound.Expressions.{guarded_some, expression_took, argument_took, name_took, some_rows}
-use Rattle.grammar_reading.proofs.sound.Specs.{plain_specs_took, specs_took, EndingTook, ending_took}
-use Rattle.grammar_reading.proofs.sound.Layers.{left_inner, params_single, name_single}
+use Rattle.grammar_reading.proofs.sound.Specs.{plain_specs_took, specs_took, ending_took}
+use Rattle.grammar_reading.proofs.sound.Layers.{left_inner, params_single}
 use Rattle.grammar_reading.proofs.sound.Declarators.{declarator_took, keeps_same}
 
 -- Forms that count nothing

@@ -1,37 +1,37 @@
 -- Declarators that are read.
-use Rattle.std.proofs.Common.{append-nil, ◌≡◌, ℕ, zero, suc, ◌+◌, ◌-◌, ◌<◌, ◌≤◌, Bool, true, false, inl, inr, List, [], ◌∷◌, ◌++◌, replicate, take, length, Option, Some, None, refl, sym, ap, ◌∙◌, subst, arith}
-use Rattle.std.specs.Prelude.{max, if◌then◌else◌, ⊤, not, ◌&&◌, nat_le, IsSome}
+use Rattle.std.proofs.Common.{append-nil, ◌≡◌, ℕ, zero, suc, ◌-◌, ◌<◌, ◌≤◌, Bool, true, false, inl, inr, List, [], ◌∷◌, ◌++◌, replicate, take, length, Option, Some, None, refl, sym, ap, ◌∙◌, subst, arith}
+use Rattle.std.specs.Prelude.{max, if◌then◌else◌, ⊤, not, ◌&&◌, nat_le}
 use Rattle.std.proofs.lemmas.Bool.{true≢false, false≢true, leb-true, and_from}
 use Rattle.c_lexer.specs.declared.token.Token.{Token}
 use Rattle.c_tree.specs.declared.word.Keyword.{Keyword}
 use Rattle.c_tree.specs.declared.word.Keyword.TheVariants as k
 use Rattle.c_tree.specs.declared.word.Sign.{Sign}
 use Rattle.c_tree.specs.declared.word.Sign.TheVariants as s
-use Rattle.c_tree.specs.Words.{Word, Key, Mark, Name}
+use Rattle.c_tree.specs.Words.{Word, Key, Mark}
 use Rattle.c_tree.specs.Forms.{Form}
 use Rattle.c_tree.specs.Forms as f
-use Rattle.c_tree.specs.Grammar.{Item, Says, Here, Part, key, mark, form_home, shape, rows, home, word_home, keyword_home}
+use Rattle.c_tree.specs.Grammar.{Item, Here, Part, key, mark, form_home, shape, rows, home, word_home, keyword_home}
 use Rattle.c_tree.specs.Places.{Place, Expression}
 use Rattle.c_tree.specs.Places as p
-use Rattle.c_tree.specs.Scopes.{Known, Scope, is_scope, places, name_of, name_among, params_of, params_among, suffix_params, leads_to_name, after, after_all, left, word_name}
-use Rattle.c_tree.specs.Allowed.{Takes, IsDeclarator, IsBase, Allowed, AllAllowed, obeys, is_void, words_of}
-use Rattle.c_tree.specs.Spelling.{Piece, Said, Line, spell, spell_all, filled, Spells, words}
+use Rattle.c_tree.specs.Scopes.{Known, Scope, is_scope, places, name_of, params_of, params_among, suffix_params, leads_to_name, after, after_all, left, word_name}
+use Rattle.c_tree.specs.Allowed.{Takes, IsBase, AllAllowed, obeys, is_void, words_of}
+use Rattle.c_tree.specs.Spelling.{Said, Line, spell, spell_all, filled, Spells, words}
 use Rattle.c_tree.specs.Depth.{depth}
 use Rattle.c_tree.specs.Tree.{Tree, Trees, Leaf, At, Node, none, ◌▹◌, count}
 use Rattle.grammar_reading.specs.declared.kind.Kind.{Kind}
 use Rattle.grammar_reading.specs.declared.kind.Kind.TheVariants as kinds
 use Rattle.grammar_reading.specs.Known.{word_of}
 use Rattle.grammar_reading.specs.State.{State, keyword_number, sign_number, first_kind, kind_is_key, kind_is_mark, kind_of_word, behind_first, kind_at, line_at, word_at, bytes_at, left_at, at_mark, at_key, past, skip, with_new_params, with_params_of, new_names}
-use Rattle.grammar_reading.specs.Reading.{◌>>=◌, Reader, fixed, node, snoc, parts_of, leaf, in_front}
+use Rattle.grammar_reading.specs.Reading.{◌>>=◌, Reader, fixed, snoc, parts_of, leaf, in_front}
 use Rattle.grammar_reading.specs.Declarators as d
 use Rattle.grammar_reading.proofs.sound.Options.{none_some, some_same, bind_some, either, if_some}
-use Rattle.grammar_reading.proofs.sound.Words.{Has, past_some}
-use Rattle.grammar_reading.proofs.sound.Kinds.{Tells, tells}
+use Rattle.grammar_reading.proofs.sound.Words.{past_some}
+use Rattle.grammar_reading.proofs.sound.Kinds.{tells}
 use Rattle.grammar_reading.proofs.sound.Back.{word_back, SpellsWords, spells_words, words_both}
 use Rattle.grammar_reading.proofs.sound.Took.{Took, PartsTook, Sound, all_sound, parts_took, Also, Opens, has_specs, AreParams, KeepsParams, took_both, took_one, took_line, took_word, took_none}
-use Rattle.grammar_reading.proofs.sound.Nodes.{node_some, front_some, took_leaf, made, scope_eq}
+use Rattle.grammar_reading.proofs.sound.Nodes.{node_some, front_some, took_leaf, made}
 use Rattle.grammar_reading.proofs.sound.Lists.{rows_snoc, rows_specs}
-use Rattle.grammar_reading.proofs.sound.Adds.{Adds, after_adds, take_front}
+use Rattle.grammar_reading.proofs.sound.Adds.{after_adds, take_front}
 use Rattle.grammar_reading.proofs.sound.Layers.{Layered, layer_node, left_inner, moved, IsSort, Named, sort_takes, takes_sort, sort_also, also_sort, sort_outside, name_behind_line, params_behind_line, name_direct, params_direct, consts_took}
 
 -- More room

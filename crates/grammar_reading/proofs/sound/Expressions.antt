@@ -1,7 +1,7 @@
 -- Expressions that are read.
-use Rattle.std.proofs.Common.{◌≡◌, ℕ, zero, suc, ◌+◌, ◌<◌, ◌≤◌, Bool, true, false, inl, inr, List, [], ◌∷◌, drop, Option, Some, None, refl, sym, ap, ◌∙◌, subst, arith}
-use Rattle.std.specs.Prelude.{max, if◌then◌else◌, ⊤, nat_le, nat_eq, not, ◌-◌}
-use Rattle.std.proofs.lemmas.Bool.{eqb-true, leb-true, leb-false, not_from_false, false≢true}
+use Rattle.std.proofs.Common.{◌≡◌, ℕ, zero, suc, ◌+◌, ◌<◌, ◌≤◌, Bool, true, false, inl, inr, [], ◌∷◌, drop, Option, Some, None, refl, sym, ap, ◌∙◌, subst, arith}
+use Rattle.std.specs.Prelude.{if◌then◌else◌, nat_le, nat_eq, not, ◌-◌}
+use Rattle.std.proofs.lemmas.Bool.{eqb-true, leb-true, leb-false, false≢true}
 use Rattle.c_tree.specs.declared.operator.UnaryOp.{UnaryOp}
 use Rattle.c_tree.specs.declared.operator.UnaryOp.TheVariants as u
 use Rattle.c_tree.specs.declared.operator.BinaryOp.{BinaryOp}
@@ -9,31 +9,30 @@ use Rattle.c_tree.specs.declared.operator.AssignOp.{AssignOp}
 use Rattle.c_tree.specs.declared.word.Keyword.TheVariants as k
 use Rattle.c_tree.specs.declared.word.Sign.{Sign}
 use Rattle.c_tree.specs.declared.word.Sign.TheVariants as s
-use Rattle.c_tree.specs.Words as w
 use Rattle.c_tree.specs.Forms.{Form}
 use Rattle.c_tree.specs.Forms as f
-use Rattle.c_tree.specs.Grammar.{Item, Says, Here, Part, form_home, shape, some, rows, home, word_home}
+use Rattle.c_tree.specs.Grammar.{Here, Part, form_home, shape, some, rows, word_home}
 use Rattle.c_tree.specs.Operators.{operand_level, binary_level}
 use Rattle.c_tree.specs.Places.{Place, Expression}
 use Rattle.c_tree.specs.Places as p
-use Rattle.c_tree.specs.Scopes.{is_type, is_scope, places, name_of, name_among, word_name}
-use Rattle.c_tree.specs.Allowed.{Takes, IsExpression, Allowed, AllAllowed, obeys, is_type_name}
-use Rattle.c_tree.specs.Depth.{depth, weight}
+use Rattle.c_tree.specs.Scopes.{is_type, is_scope, name_of, name_among}
+use Rattle.c_tree.specs.Allowed.{Takes, IsExpression, Allowed, obeys, is_type_name}
+use Rattle.c_tree.specs.Depth.{weight}
 use Rattle.c_tree.specs.Tree.{Tree, Trees, Leaf, At, Node, none, ◌▹◌, count}
 use Rattle.grammar_reading.specs.declared.kind.Kind.{Kind}
 use Rattle.grammar_reading.specs.declared.kind.Kind.TheVariants as kinds
 use Rattle.grammar_reading.specs.State.{State, kind_at, line_at, word_at, bytes_at, left_at, at_mark, at_key, skip, opens_type}
-use Rattle.grammar_reading.specs.Reading.{◌>>=◌, Reader, guarded, fixed, node, snoc, parts_of, leaf, token_node, grown, goes_on, commas_from}
+use Rattle.grammar_reading.specs.Reading.{Reader, guarded, fixed, snoc, parts_of, grown}
 use Rattle.grammar_reading.specs.Expressions as e
 use Rattle.grammar_reading.proofs.sound.Options.{none_some, some_same, bind_some, either, if_some}
 use Rattle.grammar_reading.proofs.sound.Words.{Has}
-use Rattle.grammar_reading.proofs.sound.Kinds.{Tells, tells}
-use Rattle.grammar_reading.proofs.sound.Took.{Took, PartsTook, Sound, AllSound, all_sound, Also, took_both, took_one, took_line, took_none}
-use Rattle.grammar_reading.proofs.sound.Nodes.{IsExprForm, IsGrownForm, took_leaf, looser, placed, expr_parts, expr_fixed, expr_grown, node_some, front_some, depth_flat, scope_eq}
+use Rattle.grammar_reading.proofs.sound.Kinds.{tells}
+use Rattle.grammar_reading.proofs.sound.Took.{Took, PartsTook, Sound, all_sound, Also, took_both, took_one, took_line, took_none}
+use Rattle.grammar_reading.proofs.sound.Nodes.{IsExprForm, IsGrownForm, took_leaf, looser, placed, expr_parts, expr_fixed, expr_grown, node_some, front_some, depth_flat}
 use Rattle.c_tree.specs.Scopes.{after, left}
 use Rattle.c_tree.specs.Spelling.{spell}
 use Rattle.c_tree.specs.Depth.{is_of_declarator}
-use Rattle.grammar_reading.proofs.sound.Lists.{ListTook, CommasTook, rows_snoc, rows_specs, commas_took, light_commas, took_light}
+use Rattle.grammar_reading.proofs.sound.Lists.{ListTook, rows_snoc, rows_specs, took_light}
 
 pub guarded_some : (room : ℕ) (read : Reader) (state : State) (x : Tree × State) → guarded room read state ≡ Some x → (0 < room) × (read state ≡ Some x)
 guarded_some zero read state x h = none_some h

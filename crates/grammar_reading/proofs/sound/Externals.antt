@@ -1,28 +1,27 @@
 -- External declarations that are read.
-use Rattle.std.proofs.Common.{◌≡◌, ℕ, zero, suc, ◌+◌, ◌<◌, ◌≤◌, Bool, true, false, inl, inr, List, [], ◌∷◌, ◌++◌, Option, Some, None, refl, sym, ap, ◌∙◌, subst, arith, append_assoc, append-nil}
-use Rattle.std.specs.Prelude.{max, if◌then◌else◌, ⊤, not, ◌&&◌, ◌||◌, IsSome, is_some}
-use Rattle.std.proofs.lemmas.Bool.{true≢false, false≢true, and_parts, not-true}
+use Rattle.std.proofs.Common.{◌≡◌, ℕ, zero, suc, ◌<◌, true, false, inl, inr, List, [], ◌∷◌, ◌++◌, Option, Some, None, refl, sym, ap, ◌∙◌, subst, arith, append_assoc, append-nil}
+use Rattle.std.specs.Prelude.{not, ◌&&◌, is_some}
+use Rattle.std.proofs.lemmas.Bool.{false≢true, and_parts, not-true}
 use Rattle.c_lexer.specs.declared.token.Token.{Token}
 use Rattle.c_tree.specs.declared.word.Sign.TheVariants as s
 use Rattle.c_tree.specs.Words.{Word, Mark}
 use Rattle.c_tree.specs.Forms.{Form}
 use Rattle.c_tree.specs.Forms as f
-use Rattle.c_tree.specs.Grammar.{Item, Says, Here, Part, mark, form_home, shape, home}
+use Rattle.c_tree.specs.Grammar.{Here, Part, mark, form_home, shape}
 use Rattle.c_tree.specs.Places.{Place, Expression}
 use Rattle.c_tree.specs.Places as p
-use Rattle.c_tree.specs.Scopes.{Known, Scope, is_scope, places, after, after_all, left, params_of, with_params}
-use Rattle.c_tree.specs.Allowed.{Takes, Allowed, AllAllowed, obeys, IsDefinition, IsExternal}
+use Rattle.c_tree.specs.Scopes.{Scope, is_scope, after, left, params_of, with_params}
+use Rattle.c_tree.specs.Allowed.{Takes, Allowed, AllAllowed, obeys, IsExternal}
 use Rattle.c_tree.specs.Spelling.{Piece, Said, Line, spell, spell_all, filled, Spells}
 use Rattle.c_tree.specs.Depth.{depth, weight, greatest_depth, layers, below, is_of_declarator}
-use Rattle.c_tree.specs.Tree.{Tree, Trees, Leaf, At, Node, none, ◌▹◌, count}
+use Rattle.c_tree.specs.Tree.{Tree, Trees, At, Node, none, ◌▹◌}
 use Rattle.c_tree.proofs.Spelled.{spells_both}
-use Rattle.grammar_reading.specs.State.{State, line_at, left_at, at_mark, skip, past, back_to, with_flag, in_body}
-use Rattle.grammar_reading.specs.Reading.{◌>>=◌, Reader, fixed, node, parts_of, goes_on, commas_by, commas_from}
+use Rattle.grammar_reading.specs.State.{State, line_at, left_at, at_mark, past, back_to, with_flag, in_body}
+use Rattle.grammar_reading.specs.Reading.{◌>>=◌, Reader, fixed, parts_of, goes_on, commas_by, commas_from}
 use Rattle.grammar_reading.specs.Declarators as d
 use Rattle.grammar_reading.specs.Statements as t
-use Rattle.grammar_reading.proofs.sound.Options.{none_some, some_same, bind_some, either, if_some}
-use Rattle.grammar_reading.proofs.sound.Words.{Has}
-use Rattle.grammar_reading.proofs.sound.Took.{Took, PartsTook, Sound, all_sound, parts_took, Also, AreParams, KeepsParams, took_both, took_one, took_line, took_word, filled_both}
+use Rattle.grammar_reading.proofs.sound.Options.{some_same, bind_some, either}
+use Rattle.grammar_reading.proofs.sound.Took.{Took, Sound, all_sound, parts_took, Also, AreParams, KeepsParams, took_both, took_one, took_line, took_word, filled_both}
 use Rattle.grammar_reading.proofs.sound.Nodes.{node_some, depth_flat, made}
 use Rattle.grammar_reading.proofs.sound.Lists.{commas_by_took}
 use Rattle.grammar_reading.proofs.sound.Specs.{specs_took}

@@ -1,14 +1,12 @@
 -- The kind of the next word tells the word.
-use Rattle.std.proofs.Common.{◌≡◌, ℕ, List, [], ◌∷◌, refl, sym, ap, ◌∙◌, subst}
+use Rattle.std.proofs.Common.{◌≡◌, List, [], ◌∷◌, refl, sym, ap, ◌∙◌, subst}
 use Rattle.std.specs.Prelude.{⊤}
 use Rattle.c_lexer.specs.declared.token.Token.{Token}
-use Rattle.c_tree.specs.declared.word.Keyword.{Keyword}
-use Rattle.c_tree.specs.declared.word.Sign.{Sign}
 use Rattle.c_tree.specs.Words.{Word, Key, Mark, Name, Int, Char, Str, Other, word_bytes}
 use Rattle.grammar_reading.specs.Known.{word_of}
 use Rattle.grammar_reading.specs.declared.kind.Kind.{Kind}
 use Rattle.grammar_reading.specs.declared.kind.Kind.TheVariants as kinds
-use Rattle.grammar_reading.specs.State.{State, first_word, first_kind, first_bytes, kind_of_word}
+use Rattle.grammar_reading.specs.State.{first_word, first_kind, first_bytes, kind_of_word}
 use Rattle.grammar_reading.proofs.sound.Words.{Has, word_of_is}
 
 -- what a kind says of the first word

@@ -1,24 +1,23 @@
 -- Layers of declarators as nodes, and their names and parameters.
-use Rattle.std.proofs.Common.{◌≡◌, ℕ, zero, suc, ◌+◌, ◌<◌, ◌≤◌, Bool, true, false, List, [], ◌∷◌, ◌++◌, replicate, Option, Some, None, refl, sym, ap, ◌∙◌, subst, arith}
-use Rattle.std.specs.Prelude.{max, if◌then◌else◌, ⊤, not, IsSome}
-use Rattle.std.proofs.lemmas.Bool.{true≢false, false≢true}
+use Rattle.std.proofs.Common.{◌≡◌, ℕ, zero, suc, ◌<◌, Bool, true, false, List, [], ◌∷◌, replicate, Option, Some, None, refl, sym, ap, ◌∙◌, subst, arith}
+use Rattle.std.specs.Prelude.{if◌then◌else◌, ⊤, IsSome}
 use Rattle.c_lexer.specs.declared.token.Token.{Token}
 use Rattle.c_tree.specs.declared.word.Keyword.TheVariants as k
 use Rattle.c_tree.specs.declared.word.Sign.TheVariants as s
-use Rattle.c_tree.specs.Words.{Word, Key, Mark, Name}
+use Rattle.c_tree.specs.Words.{Key}
 use Rattle.c_tree.specs.Forms.{Form}
 use Rattle.c_tree.specs.Forms as f
-use Rattle.c_tree.specs.Grammar.{Item, Says, Here, Part, key, mark, form_home, shape, rows, home}
+use Rattle.c_tree.specs.Grammar.{Item, key, shape, home}
 use Rattle.c_tree.specs.Places.{Place, Expression}
 use Rattle.c_tree.specs.Places as p
-use Rattle.c_tree.specs.Scopes.{Known, Scope, is_scope, places, name_of, name_among, first_name, first_list, params_of, params_among, suffix_params, leads_to_name, after, after_all, left}
-use Rattle.c_tree.specs.Allowed.{Takes, IsDeclarator, IsBase, Allowed, AllAllowed, obeys, is_void, words_of}
-use Rattle.c_tree.specs.Spelling.{spell, spell_all, filled, Spells, words}
+use Rattle.c_tree.specs.Scopes.{Scope, is_scope, places, name_of, name_among, first_name, first_list, params_of, params_among, suffix_params, leads_to_name, after, after_all, left}
+use Rattle.c_tree.specs.Allowed.{Takes, IsDeclarator, Allowed, AllAllowed, obeys}
+use Rattle.c_tree.specs.Spelling.{spell, spell_all, filled, Spells}
 use Rattle.c_tree.specs.Depth.{depth}
 use Rattle.c_tree.specs.Tree.{Tree, Trees, Leaf, At, Node, none, ◌▹◌, count}
-use Rattle.grammar_reading.specs.State.{State, first_kind, kind_is_key, behind_first, kind_at, line_at, word_at, at_mark, at_key, past, skip, with_new_params, with_params_of, new_names}
+use Rattle.grammar_reading.specs.State.{State, first_kind, kind_is_key, at_mark, past}
 use Rattle.grammar_reading.specs.Declarators.{leading_consts, behind_consts, past_consts}
-use Rattle.grammar_reading.proofs.sound.Took.{Took, PartsTook, Also, Opens, has_words, has_specs, is_specs, AreParams, KeepsParams, took_both, took_one, took_line, took_word, took_none}
+use Rattle.grammar_reading.proofs.sound.Took.{Took, PartsTook, Also, Opens, has_words, has_specs, is_specs, KeepsParams, took_both, took_word, took_none}
 use Rattle.grammar_reading.proofs.sound.Nodes.{scope_eq, behind_after, made}
 
 -- a tree of a declarator: its depth is tested later

@@ -1,21 +1,19 @@
 -- Lists of parts, with commas or without.
-use Rattle.std.proofs.Common.{◌≡◌, ℕ, zero, suc, ◌+◌, ◌<◌, ◌≤◌, Bool, true, false, List, [], ◌∷◌, ◌++◌, Option, Some, None, refl, sym, ap, ◌∙◌, subst, arith}
-use Rattle.std.specs.Prelude.{max, if◌then◌else◌, ⊤, ◌&&◌, ◌||◌, not, replicate}
-use Rattle.std.proofs.lemmas.Bool.{and_parts, true≢false}
+use Rattle.std.proofs.Common.{◌≡◌, ℕ, zero, suc, ◌<◌, ◌≤◌, Bool, true, false, List, [], ◌∷◌, ◌++◌, Some, None, refl, sym, ap, ◌∙◌, subst, arith}
+use Rattle.std.specs.Prelude.{if◌then◌else◌, ◌||◌}
 use Rattle.c_tree.specs.declared.word.Sign.TheVariants as s
-use Rattle.c_tree.specs.Words.{Word, Mark}
+use Rattle.c_tree.specs.Words.{Mark}
 use Rattle.c_tree.specs.Forms.{Form}
 use Rattle.c_tree.specs.Places.{Place}
 use Rattle.c_tree.specs.Scopes.{is_scope, places}
 use Rattle.c_tree.specs.Allowed.{Takes}
 use Rattle.c_tree.specs.Depth.{weight}
-use Rattle.c_tree.specs.Tree.{Tree, Trees, Leaf, At, Node, none, ◌▹◌, count}
-use Rattle.c_tree.specs.Grammar.{Item, Says, Here, Part, mark, rows, behind_commas, commas, shape}
-use Rattle.grammar_reading.specs.State.{State, past, skip, at_mark, left_at}
-use Rattle.grammar_reading.specs.Reading.{◌>>=◌, Reader, joined, snoc, commas_by, commas_from, list_by, list_from}
+use Rattle.c_tree.specs.Tree.{Tree, Trees, Node, none, ◌▹◌, count}
+use Rattle.c_tree.specs.Grammar.{Item, Part, mark, rows, behind_commas, commas, shape}
+use Rattle.grammar_reading.specs.State.{State, past, skip, at_mark}
+use Rattle.grammar_reading.specs.Reading.{Reader, joined, snoc, commas_by, commas_from, list_by, list_from}
 use Rattle.grammar_reading.proofs.sound.Options.{none_some, some_same, bind_some}
-use Rattle.grammar_reading.proofs.sound.Words.{Has, at_mark_first}
-use Rattle.grammar_reading.proofs.sound.Took.{Took, PartsTook, Sound, Opens, Also, has_words, has_specs, is_specs, took_both, took_one, took_word, took_none}
+use Rattle.grammar_reading.proofs.sound.Took.{Took, PartsTook, Sound, Opens, Also, has_words, has_specs, is_specs, took_both, took_one, took_word}
 use Rattle.grammar_reading.proofs.sound.Nodes.{is_plain, took_node}
 
 pub snoc_joined : (parts : Trees) (tree : Tree) → joined parts (tree ▹ none) ≡ snoc parts tree

@@ -1,23 +1,22 @@
 -- A node of a form, made of the parts that were read.
-use Rattle.std.proofs.Common.{◌≡◌, ℕ, zero, suc, ◌+◌, ◌<◌, ◌≤◌, Bool, true, false, List, [], ◌∷◌, ◌++◌, drop, Option, Some, None, refl, sym, ap, ◌∙◌, subst, arith}
-use Rattle.std.specs.Prelude.{max, if◌then◌else◌, ⊤, nat_lt}
+use Rattle.std.proofs.Common.{◌≡◌, ℕ, zero, suc, ◌+◌, ◌<◌, ◌≤◌, Bool, true, false, List, [], ◌∷◌, drop, Option, Some, None, refl, sym, ap, ◌∙◌, subst, arith}
+use Rattle.std.specs.Prelude.{if◌then◌else◌, nat_lt}
 use Rattle.std.proofs.lemmas.Bool.{ltb-true, true≢false}
 use Rattle.c_tree.specs.Forms.{Form}
 use Rattle.c_tree.specs.Forms as f
 use Rattle.c_tree.specs.Places.{Place, Expression}
-use Rattle.c_tree.specs.Places as p
 use Rattle.c_tree.specs.Tree.{Tree, Trees, Leaf, At, Node, none, ◌▹◌, count}
-use Rattle.c_tree.specs.Grammar.{Item, Says, Here, Part, shape, home, form_home}
-use Rattle.c_tree.specs.Spelling.{Said, spell, spell_all, filled, Spells}
+use Rattle.c_tree.specs.Grammar.{Item, Here, Part, shape, home, form_home}
+use Rattle.c_tree.specs.Spelling.{spell, spell_all, filled, Spells}
 use Rattle.c_tree.specs.Scopes.{Known, Scope, is_scope, places, after, after_all, left}
 use Rattle.c_tree.specs.Allowed.{Takes, IsExpression, Allowed, AllAllowed, obeys}
 use Rattle.c_tree.specs.Depth.{depth, greatest_depth, layers, layers_all, layer, below, greatest_below, weight, is_of_declarator}
 use Rattle.grammar_reading.specs.State.{State, word_at, line_at, skip, back_to}
-use Rattle.grammar_reading.specs.Reading.{Reader, parts_of, node, fixed, in_front, grown, joined}
+use Rattle.grammar_reading.specs.Reading.{Reader, parts_of, node, fixed, in_front, grown}
 use Rattle.grammar_reading.specs.Laws.{behind}
-use Rattle.grammar_reading.proofs.sound.Options.{none_some, some_same, bind_some, if_some}
+use Rattle.grammar_reading.proofs.sound.Options.{none_some, some_same, if_some}
 use Rattle.grammar_reading.proofs.sound.Words.{Has, takes_first}
-use Rattle.grammar_reading.proofs.sound.Took.{Took, PartsTook, Sound, AllSound, Opens, Also, has_specs, has_words, is_specs, opens, heres, open_has, parts_took, took_both, took_one, took_line}
+use Rattle.grammar_reading.proofs.sound.Took.{Took, PartsTook, Sound, AllSound, Opens, Also, has_specs, has_words, opens, heres, open_has, parts_took, took_both, took_one, took_line}
 
 -- Forms by what they do
 

@@ -1,15 +1,12 @@
 -- What is read at a place is a tree that may stand there.
-use Rattle.std.proofs.Common.{◌≡◌, ℕ, zero, suc, ◌+◌, ◌<◌, ◌≤◌, Option, Some, None, refl, sym, ap, ◌∙◌, subst, arith}
+use Rattle.std.proofs.Common.{ℕ, zero, suc, arith}
 use Rattle.c_tree.specs.Places.{Place, Expression}
 use Rattle.c_tree.specs.Places as p
-use Rattle.c_tree.specs.Tree.{Tree}
-use Rattle.c_tree.specs.Depth.{depth}
-use Rattle.grammar_reading.specs.State.{State}
 use Rattle.grammar_reading.specs.Reading.{Reader}
-use Rattle.grammar_reading.specs.Rooms.{read_at, less, read}
-use Rattle.grammar_reading.specs.Laws.{IsRead, TreesAreRead}
+use Rattle.grammar_reading.specs.Rooms.{read_at, less}
+use Rattle.grammar_reading.specs.Laws.{TreesAreRead}
 use Rattle.grammar_reading.proofs.sound.Options.{none_some}
-use Rattle.grammar_reading.proofs.sound.Took.{Took, Sound}
+use Rattle.grammar_reading.proofs.sound.Took.{Sound}
 use Rattle.grammar_reading.proofs.sound.Expressions.{name_took}
 use Rattle.grammar_reading.proofs.sound.Specs.{specs_took}
 use Rattle.grammar_reading.proofs.sound.Declarators.{declarator_took}

@@ -1,34 +1,32 @@
 -- Specs and tags that are read.
-use Rattle.std.proofs.Common.{◌≡◌, ℕ, zero, suc, ◌+◌, ◌<◌, ◌≤◌, Bool, true, false, inl, inr, List, [], ◌∷◌, ◌++◌, take, Option, Some, None, refl, sym, ap, ◌∙◌, subst, arith}
-use Rattle.std.specs.Prelude.{max, if◌then◌else◌, ⊤, not, ◌&&◌, ◌||◌, ◌==◌}
+use Rattle.std.proofs.Common.{◌≡◌, ℕ, zero, suc, ◌<◌, Bool, true, false, inl, inr, List, [], ◌∷◌, ◌++◌, take, Option, Some, None, refl, sym, ap, ◌∙◌, subst, arith}
+use Rattle.std.specs.Prelude.{⊤, not, ◌&&◌, ◌||◌, ◌==◌}
 use Rattle.std.proofs.lemmas.Bool.{eqb-true, and_parts, false≢true}
 use Rattle.c_tree.specs.declared.operator.RecordSort.{RecordSort}
 use Rattle.c_tree.specs.declared.word.Keyword.{Keyword}
 use Rattle.c_tree.specs.declared.word.Keyword.TheVariants as k
 use Rattle.c_tree.specs.declared.word.Sign.TheVariants as s
-use Rattle.c_tree.specs.Words.{Word, Key, Mark, Name}
 use Rattle.c_tree.specs.Forms.{Form}
 use Rattle.c_tree.specs.Forms as f
-use Rattle.c_tree.specs.Grammar.{Item, Says, Here, Part, key, mark, closed, form_home, shape, rows, here_rows, home, word_home, keyword_home}
+use Rattle.c_tree.specs.Grammar.{Item, Here, closed, form_home, shape, rows, here_rows, home, word_home, keyword_home}
 use Rattle.c_tree.specs.Places.{Place, Expression}
 use Rattle.c_tree.specs.Places as p
 use Rattle.c_tree.specs.Scopes.{Scope, is_type, is_scope, places, name_of, name_among, after, after_all, left, has_typedef}
-use Rattle.c_tree.specs.Allowed.{Tally, no_words, with_keyword, with_word, with_part, tally, are_specs, storage_of, Takes, Allowed, AllAllowed, obeys, is_type_name}
+use Rattle.c_tree.specs.Allowed.{Tally, no_words, with_part, tally, are_specs, Takes, Allowed, AllAllowed, obeys, is_type_name}
 use Rattle.c_tree.specs.Spelling.{spell}
-use Rattle.c_tree.specs.Depth.{depth, weight, greatest_depth, is_of_declarator}
+use Rattle.c_tree.specs.Depth.{weight, is_of_declarator}
 use Rattle.c_tree.specs.Tree.{Tree, Trees, Leaf, At, Node, none, ◌▹◌, count}
 use Rattle.grammar_reading.specs.declared.kind.Kind.{Kind}
 use Rattle.grammar_reading.specs.declared.kind.Kind.TheVariants as kinds
 use Rattle.grammar_reading.specs.declared.kind.SpecStart.{SpecStart}
 use Rattle.grammar_reading.specs.declared.kind.SpecStart.TheVariants as starts
 use Rattle.grammar_reading.specs.State.{State, kind_at, line_at, word_at, bytes_at, left_at, at_mark, skip, with_flag}
-use Rattle.grammar_reading.specs.Reading.{◌>>=◌, Reader, fixed, node, joined, snoc, parts_of, nothing_read, ending_by, ending}
-use Rattle.grammar_reading.specs.Expressions as e
+use Rattle.grammar_reading.specs.Reading.{Reader, fixed, joined, snoc, parts_of, nothing_read, ending_by, ending}
 use Rattle.grammar_reading.specs.Declarators as d
 use Rattle.grammar_reading.proofs.sound.Options.{none_some, some_same, bind_some, either, if_some}
 use Rattle.grammar_reading.proofs.sound.Words.{Has}
-use Rattle.grammar_reading.proofs.sound.Kinds.{Tells, tells}
-use Rattle.grammar_reading.proofs.sound.Took.{Took, PartsTook, Sound, AllSound, all_sound, parts_took, Also, has_specs, took_both, took_one, took_line, took_none}
+use Rattle.grammar_reading.proofs.sound.Kinds.{tells}
+use Rattle.grammar_reading.proofs.sound.Took.{Took, PartsTook, Sound, all_sound, parts_took, Also, has_specs, took_both, took_one, took_line}
 use Rattle.grammar_reading.proofs.sound.Nodes.{took_leaf, took_node, node_some, depth_flat, scope_eq, made}
 use Rattle.grammar_reading.proofs.sound.Lists.{rows_snoc, rows_specs, took_light}
 use Rattle.grammar_reading.proofs.sound.Expressions.{name_leaf, name_took}

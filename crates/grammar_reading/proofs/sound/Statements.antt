@@ -1,33 +1,32 @@
 -- Statements that are read.
-use Rattle.std.proofs.Common.{◌≡◌, ℕ, zero, suc, ◌+◌, ◌<◌, ◌≤◌, Bool, true, false, inl, inr, List, [], ◌∷◌, ◌++◌, Option, Some, None, refl, sym, ap, ◌∙◌, subst, arith}
-use Rattle.std.specs.Prelude.{max, if◌then◌else◌, ⊤, not, ◌&&◌, ◌||◌}
-use Rattle.std.proofs.lemmas.Bool.{true≢false, false≢true, and_parts}
+use Rattle.std.proofs.Common.{◌≡◌, ℕ, zero, suc, ◌+◌, ◌<◌, Bool, true, false, inl, inr, List, [], ◌∷◌, Some, refl, sym, ap, ◌∙◌, subst, arith}
+use Rattle.std.specs.Prelude.{if◌then◌else◌, ◌&&◌}
+use Rattle.std.proofs.lemmas.Bool.{true≢false, false≢true}
 use Rattle.c_tree.specs.declared.word.Keyword.{Keyword}
 use Rattle.c_tree.specs.declared.word.Keyword.TheVariants as k
 use Rattle.c_tree.specs.declared.word.Sign.TheVariants as s
-use Rattle.c_tree.specs.Words.{Word, Key, Mark}
 use Rattle.c_tree.specs.Forms.{Form}
 use Rattle.c_tree.specs.Forms as f
-use Rattle.c_tree.specs.Grammar.{Item, Says, Here, Part, key, mark, expr, form_home, shape, rows, home}
+use Rattle.c_tree.specs.Grammar.{Item, Says, Here, Part, key, mark, expr, form_home, shape, rows}
 use Rattle.c_tree.specs.Places.{Place, Expression}
 use Rattle.c_tree.specs.Places as p
-use Rattle.c_tree.specs.Scopes.{Known, Scope, is_scope, places, after, after_all, left}
-use Rattle.c_tree.specs.Allowed.{Takes, IsItem, Allowed, AllAllowed, obeys, is_none, is_open, ends_in_statement, ends_open, last_ends_open}
+use Rattle.c_tree.specs.Scopes.{Scope, is_scope, places, after, after_all, left}
+use Rattle.c_tree.specs.Allowed.{Takes, IsItem, Allowed, AllAllowed, is_none, is_open, ends_in_statement, ends_open, last_ends_open}
 use Rattle.c_tree.specs.Spelling.{spell, spell_all, filled, Spells}
-use Rattle.c_tree.specs.Depth.{depth, weight, greatest_depth, is_of_declarator}
-use Rattle.c_tree.specs.Tree.{Tree, Trees, Leaf, At, Node, none, ◌▹◌, count}
+use Rattle.c_tree.specs.Depth.{weight, greatest_depth}
+use Rattle.c_tree.specs.Tree.{Tree, Trees, At, Node, none, ◌▹◌, count}
 use Rattle.grammar_reading.specs.declared.kind.Kind.{Kind}
 use Rattle.grammar_reading.specs.declared.kind.Kind.TheVariants as kinds
-use Rattle.grammar_reading.specs.State.{State, line_at, kind_at, left_at, at_mark, at_key, skip, past, starts_type, back_to, with_flag}
-use Rattle.grammar_reading.specs.Reading.{◌>>=◌, Reader, fixed, node, optional_part, parts_of, in_front, joined, guarded, scoped, unflagged, list_from}
+use Rattle.grammar_reading.specs.State.{State, line_at, kind_at, left_at, at_mark, at_key, past, starts_type, back_to, with_flag}
+use Rattle.grammar_reading.specs.Reading.{Reader, fixed, parts_of, in_front, joined, guarded, scoped, unflagged}
 use Rattle.grammar_reading.specs.Statements as t
-use Rattle.grammar_reading.proofs.sound.Options.{none_some, some_same, bind_some, either, if_some}
-use Rattle.grammar_reading.proofs.sound.Took.{Took, PartsTook, Sound, AllSound, all_sound, parts_took, Opens, Also, has_specs, has_words, is_specs, heres, took_both, took_one, took_none}
-use Rattle.grammar_reading.proofs.sound.Nodes.{is_plain, is_closed, plain, took_node, took_closed, node_some, front_some, depth_flat, scope_eq, made, behind_after}
-use Rattle.grammar_reading.proofs.sound.Lists.{ListTook, list_took, took_light, rows_specs}
+use Rattle.grammar_reading.proofs.sound.Options.{none_some, some_same, bind_some, either}
+use Rattle.grammar_reading.proofs.sound.Took.{Took, PartsTook, Sound, all_sound, parts_took, Also, has_specs, has_words, heres, took_both, took_none}
+use Rattle.grammar_reading.proofs.sound.Nodes.{is_plain, is_closed, plain, took_node, took_closed, node_some, front_some, depth_flat, made, behind_after}
+use Rattle.grammar_reading.proofs.sound.Lists.{list_took, took_light, rows_specs}
 use Rattle.grammar_reading.proofs.sound.Expressions.{guarded_some}
 use Rattle.grammar_reading.proofs.sound.Specs.{specs_took}
-use Rattle.grammar_reading.proofs.sound.Declarations.{IsLight, light_fixed, light_optional, no_words_open, part_took, some_names_took}
+use Rattle.grammar_reading.proofs.sound.Declarations.{light_fixed, light_optional, no_words_open, part_took, some_names_took}
 
 -- The last part of a statement
 

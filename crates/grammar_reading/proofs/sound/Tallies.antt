@@ -1,11 +1,11 @@
 -- The words of specs, counted one behind another.
-use Rattle.std.proofs.Common.{◌≡◌, ℕ, zero, suc, ◌+◌, ◌<◌, ◌≤◌, Bool, true, false, refl, sym, ap, ◌∙◌, subst, arith}
+use Rattle.std.proofs.Common.{◌≡◌, suc, ◌<◌, ◌≤◌, Bool, true, false, refl, sym, ap, ◌∙◌, subst, arith}
 use Rattle.std.specs.Prelude.{◌||◌}
-use Rattle.std.proofs.lemmas.Bool.{true≢false, false≢true}
+use Rattle.std.proofs.lemmas.Bool.{false≢true}
 use Rattle.c_tree.specs.declared.word.Keyword.{Keyword}
 use Rattle.c_tree.specs.declared.word.Keyword.TheVariants as k
 use Rattle.c_tree.specs.Words.{Word, Key, Mark, Name, Int, Char, Str, Other}
-use Rattle.c_tree.specs.Allowed.{Tally, no_words, with_keyword, with_word, with_part, tally}
+use Rattle.c_tree.specs.Allowed.{Tally, with_keyword, with_word, with_part, tally}
 use Rattle.c_tree.specs.Scopes.{has_typedef, word_is_typedef}
 use Rattle.c_tree.specs.Tree.{Tree, Trees, Leaf, At, Node, none, ◌▹◌}
 use Rattle.grammar_reading.specs.Reading.{snoc}

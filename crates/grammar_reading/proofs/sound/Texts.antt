@@ -1,25 +1,24 @@
 -- Texts that are read.
-use Rattle.std.proofs.Common.{◌≡◌, ℕ, zero, suc, ◌+◌, ◌<◌, ◌≤◌, Bool, true, false, inl, inr, List, [], ◌∷◌, ◌++◌, length, Option, Some, None, refl, sym, ap, ◌∙◌, subst, arith, append_assoc, append-nil}
-use Rattle.std.specs.Prelude.{max, if◌then◌else◌, ⊤, nat_eq}
+use Rattle.std.proofs.Common.{◌≡◌, ℕ, zero, suc, ◌≤◌, Bool, true, false, List, [], ◌∷◌, ◌++◌, length, Option, Some, None, refl, sym, ap, ◌∙◌, subst, arith, append_assoc, append-nil}
+use Rattle.std.specs.Prelude.{max, if◌then◌else◌, nat_eq}
 use Rattle.std.proofs.lemmas.Bool.{eqb-true}
 use Rattle.c_lexer.specs.declared.token.Token.{Token}
 use Rattle.c_tree.specs.Words.{Word}
 use Rattle.c_tree.specs.Forms as f
-use Rattle.c_tree.specs.Grammar.{Item, Part, form_home, shape, rows}
+use Rattle.c_tree.specs.Grammar.{form_home, shape, rows}
 use Rattle.c_tree.specs.Places as p
 use Rattle.c_tree.specs.Scopes.{Scope, first_scope, after}
 use Rattle.c_tree.specs.Allowed.{IsExternal, AreExternals}
 use Rattle.c_tree.specs.Spelling.{Piece, Said, Line, spell, spell_all, filled, Spells}
 use Rattle.c_tree.specs.Depth.{depth, weight, greatest_depth, is_of_declarator, most}
 use Rattle.c_tree.specs.HasTree.{HasTree}
-use Rattle.c_tree.specs.Tree.{Tree, Trees, Leaf, At, Node, none, ◌▹◌, count}
+use Rattle.c_tree.specs.Tree.{Tree, Trees, Node, none, ◌▹◌, count}
 use Rattle.c_tree.proofs.Spelled.{spells_both}
 use Rattle.grammar_reading.specs.State.{State, left_at}
-use Rattle.grammar_reading.specs.Reading.{joined, snoc}
+use Rattle.grammar_reading.specs.Reading.{snoc}
 use Rattle.grammar_reading.specs.Rooms.{Text, Whole, Stops, less, text_by, text_from, start_of, read_unit}
 use Rattle.grammar_reading.specs.Statements.{external_at}
 use Rattle.grammar_reading.specs.Laws.{WholeTextsAreRead, FrontsAreRead}
-use Rattle.grammar_reading.proofs.sound.Options.{none_some}
 use Rattle.grammar_reading.proofs.sound.Took.{greatest_both}
 use Rattle.grammar_reading.proofs.sound.Nodes.{depth_flat}
 use Rattle.grammar_reading.proofs.sound.Lists.{snoc_joined}

@@ -1,24 +1,22 @@
 -- What it is to have read a tree, and some parts, and that one behind another is read in turn.
-use Rattle.std.proofs.Common.{◌≡◌, ℕ, zero, suc, ◌+◌, ◌<◌, ◌≤◌, Bool, true, false, List, [], ◌∷◌, ◌++◌, Option, Some, None, refl, sym, ap, ◌∙◌, subst, arith, append_assoc}
-use Rattle.std.specs.Prelude.{max, if◌then◌else◌, ⊤, ◌&&◌, ◌||◌, not}
+use Rattle.std.proofs.Common.{◌≡◌, ℕ, ◌+◌, ◌<◌, Bool, true, false, List, [], ◌∷◌, ◌++◌, Option, Some, None, refl, sym, ap, ◌∙◌, subst, arith, append_assoc}
+use Rattle.std.specs.Prelude.{max, if◌then◌else◌, ⊤, ◌&&◌, ◌||◌}
 use Rattle.std.proofs.lemmas.Bool.{and_parts, or_parts, true≢false}
 use Rattle.c_lexer.specs.declared.token.Token.{Token}
 use Rattle.c_tree.specs.declared.word.Keyword.TheVariants as k
 use Rattle.c_tree.specs.declared.word.Sign.TheVariants as s
-use Rattle.c_tree.specs.Words.{Word, Key, Mark, Name, Int, Char, Str, Other}
-use Rattle.c_tree.specs.Forms.{Form}
-use Rattle.c_tree.specs.Forms as f
+use Rattle.c_tree.specs.Words.{Word}
 use Rattle.c_tree.specs.Places.{Place, Expression}
 use Rattle.c_tree.specs.Places as p
-use Rattle.c_tree.specs.Tree.{Tree, Trees, Leaf, At, Node, none, ◌▹◌, count}
-use Rattle.c_tree.specs.Grammar.{Item, Says, Here, Part, shape, home}
-use Rattle.c_tree.specs.Spelling.{Piece, Said, Line, spell, spell_all, filled, Spells}
+use Rattle.c_tree.specs.Tree.{Tree, Trees, At, none, ◌▹◌}
+use Rattle.c_tree.specs.Grammar.{Item, Says, Here, Part, home}
+use Rattle.c_tree.specs.Spelling.{Said, spell, spell_all, filled, Spells}
 use Rattle.c_tree.specs.Scopes.{Known, Scope, is_scope, places, after, after_all, params_of}
 use Rattle.c_tree.specs.Allowed.{Takes, Allowed, AllAllowed, ends_open}
 use Rattle.c_tree.specs.Depth.{depth, greatest_depth, layers, below}
 use Rattle.c_tree.proofs.Spelled.{spells_both}
 use Rattle.grammar_reading.specs.State.{State, past, line_at, word_at, skip, at_key, at_mark}
-use Rattle.grammar_reading.specs.Reading.{Reader, parts_of, in_front, joined, snoc}
+use Rattle.grammar_reading.specs.Reading.{Reader, parts_of, in_front, joined}
 use Rattle.grammar_reading.specs.Laws.{behind}
 use Rattle.grammar_reading.proofs.sound.Options.{none_some, some_same, bind_some}
 use Rattle.grammar_reading.proofs.sound.Words.{Has, takes_first, takes_line, past_some}

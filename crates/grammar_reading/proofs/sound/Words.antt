@@ -1,5 +1,5 @@
 -- Which word a token is.
-use Rattle.std.proofs.Common.{◌≡◌, ℕ, zero, suc, Bool, true, false, List, [], ◌∷◌, Option, Some, None, refl, sym, ap, ◌∙◌, subst}
+use Rattle.std.proofs.Common.{◌≡◌, ℕ, zero, suc, Bool, true, false, List, [], ◌∷◌, Option, Some, None, refl, sym, ap, ◌∙◌}
 use Rattle.std.specs.Prelude.{bytes_eq, nat_eq, if◌then◌else◌, ⊤}
 use Rattle.std.proofs.lemmas.Bool.{eqb-true, false≢true}
 use Rattle.std.proofs.lemmas.Slice.Eq.{bytes_eq-Decides}
@@ -13,10 +13,8 @@ use Rattle.c_tree.specs.declared.word.Sign.TheVariants as s
 use Rattle.c_tree.specs.Words.{Word, Key, Mark, Name, Int, Char, Str, Other, word_kind, word_bytes, keyword_bytes, sign_bytes}
 use Rattle.c_tree.specs.Spelling.{IsWord, Said, Line, Spells}
 use Rattle.grammar_reading.specs.Known.{keywords, signs, keyword_among, sign_among, word_by, word_of}
-use Rattle.grammar_reading.specs.declared.kind.Kind.{Kind}
-use Rattle.grammar_reading.specs.declared.kind.Kind.TheVariants as kinds
-use Rattle.grammar_reading.specs.State.{State, first_word, first_kind, first_line, behind_first, kind_of_word, keyword_number, sign_number, kind_is_key, kind_is_mark, at_word, past, word_at, kind_at, line_at, skip}
-use Rattle.grammar_reading.proofs.sound.Options.{some_same, none_some, if_some}
+use Rattle.grammar_reading.specs.State.{State, first_word, first_kind, first_line, behind_first, kind_of_word, keyword_number, sign_number, kind_is_key, kind_is_mark, at_word, past, word_at, skip}
+use Rattle.grammar_reading.proofs.sound.Options.{some_same, if_some}
 
 -- a word is one of a kind with a spelling
 abbrev Is : TokenKind → List ℕ → Word → Type 0
