@@ -1,9 +1,9 @@
 -- One external declaration more of a text, or none.
-use Rattle.std.proofs.Common.{◌≡◌, ◌≢◌, ℕ, zero, suc, ◌-◌, ◌<◌, Bool, false, nat_eq, if◌then◌else◌, Some, List, length, ◌+◌, refl, ap, ◌∙◌, arith}
+use Rattle.std.proofs.Common.{◌≡◌, ◌≢◌, ℕ, zero, suc, ◌-◌, ◌<◌, false, nat_eq, if◌then◌else◌, Some, List, length, ◌+◌, refl, ap, ◌∙◌, arith}
 use Rattle.c_tree.specs.Depth.{most}
 use Rattle.c_tree.specs.Tree.{Tree, Trees, none}
 use Rattle.c_lexer.specs.declared.token.Token.{Token}
-use Rattle.grammar_reading.specs.Rooms.{Text, Whole, less, text_from, text_by, start_of, read_unit}
+use Rattle.grammar_reading.specs.Rooms.{Whole, less, text_from, text_by, start_of, read_unit}
 use Rattle.c_parser.specs.declared.error.ParseError.{ParseError}
 use Rattle.c_parser.specs.declared.error.ParseError.TheVariants as errors
 use Rattle.grammar_reading.specs.State.{State, left_at, line_at}

@@ -1,9 +1,5 @@
-pub mod Names
-pub mod Gives
-pub mod Signs
-pub mod Held
-pub mod Tallies
 pub mod Sorts
 pub mod Told
 pub mod Parses
 pub mod Pieces
+pub mod Nodes

@@ -1,5 +1,5 @@
 -- What is told where there is no tree.
-use Rattle.std.specs.Prelude.{◌≡◌, ⊤, Option, Some, None}
+use Rattle.std.specs.Prelude.{◌≡◌, ⊤, None}
 use Rattle.c_tree.specs.Depth.{most}
 use Rattle.c_parser.specs.declared.error.ParseError.{ParseError}
 use Rattle.c_parser.specs.declared.error.ParseError.TheVariants as errors

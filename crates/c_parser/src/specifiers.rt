@@ -8,23 +8,23 @@ ghost use Rattle.c_tree.specs.Tree.{Leaf, At, Node, none, ◌▹◌};
 ghost use Rattle.c_tree.specs.View.{spec_tree};
 ghost use Rattle.c_tree.specs.StatementView.{trees, specs_view};
 ghost use Rattle.grammar_reading.specs.Declarators as spec;
-ghost use Rattle.c_parser.specs.Gives.{Reads, Ended};
-ghost use Rattle.c_parser.specs.Held.{is_typedef_word};
+ghost use Rattle.parser_parts.specs.Gives.{Reads, Ended};
+ghost use Rattle.c_parser.specs.Nodes.{is_typedef_word};
 ghost use Rattle.c_parser.specs.Pieces.{is_end as spec_is_end, one_word_at};
 ghost use Rattle.grammar_reading.specs.Reading.{snoc};
 ghost use Rattle.grammar_reading.specs.Rooms.{less};
 ghost use Rattle.grammar_reading.specs.State.{word_at, kind_at, line_at, left_at};
-ghost use Rattle.c_parser.specs.Tallies.{tally_of, total};
+ghost use Rattle.parser_parts.specs.Tallies.{tally_of, total};
 ghost use Rattle.grammar_reading.specs.declared.kind.SpecStart.TheVariants as starts;
 
-use crate::deep::{DeepSpecs, DeepWords};
-use crate::error::ReadError;
-use crate::reader::Reader;
 use crate::tags::{enumeration, record};
-use crate::tally::{Tally, has_type_word, may_stand, with_keyword, with_whole};
 use c_tree::{Keyword, RecordSort, Spec, Specs};
 use grammar_reading::{Kind, SpecStart};
 use hs_base::NoMemory;
+use parser_parts::{
+    DeepSpecs, DeepWords, ReadError, Reader, Tally, has_type_word, may_stand, with_keyword,
+    with_whole,
+};
 use std::alloc::Global;
 
 /// The specs of a declaration, which say whether its names are typedef names.

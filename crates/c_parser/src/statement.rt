@@ -2,29 +2,28 @@
 //!
 //! Each function gives what the definition of its form in `specs/Statements.antt` reads; `room` is how deep the tree may be.
 
-ghost use Rattle.std.specs.Prelude.{◌≡◌, ◌<◌, true, IfOk};
+ghost use Rattle.std.specs.Prelude.{◌≡◌, ◌<◌, IfOk};
 ghost use Rattle.c_tree.specs.Forms as form;
 ghost use Rattle.c_tree.specs.Places.{Statement, Branch, Items as ItemsPlace};
 ghost use Rattle.c_tree.specs.declared.word.Keyword.TheVariants as k;
 ghost use Rattle.c_tree.specs.Tree.{Node, At, none, ◌▹◌};
 ghost use Rattle.c_tree.specs.StatementView.{trees, expr_view, stmt_view};
 ghost use Rattle.grammar_reading.specs.State.{at_key};
-ghost use Rattle.c_parser.specs.Gives.{Reads};
+ghost use Rattle.parser_parts.specs.Gives.{Reads};
 ghost use Rattle.grammar_reading.specs.Reading.{fixed, scoped, snoc};
 ghost use Rattle.grammar_reading.specs.Rooms.{less, read};
 ghost use Rattle.grammar_reading.specs.Statements as spec;
 ghost use Rattle.c_parser.specs.Pieces.{open_at};
 
-use crate::error::ReadError;
 use crate::expression::expression;
 use crate::levels::{COMMA, CONDITION};
 use crate::pieces::{
     break_out, continue_on, empty, evaluation, for_start, local, maybe_expr, return_with,
 };
-use crate::reader::Reader;
 use c_tree::{Expr, Keyword, Sign, Stmt};
 use grammar_reading::Kind;
 use hs_base::{Line, NoMemory};
+use parser_parts::{ReadError, Reader};
 use std::alloc::Global;
 
 /// A statement.
@@ -354,7 +353,7 @@ pub fn items(alloc: Global, reader: &mut Reader, room: usize) -> Result<Vec<Stmt
 }
 
 /// Puts a statement behind others.
-#[tactic(auto, using(crate::proofs::Parts::trees_behind))]
+#[tactic(auto, using(parser_parts::proofs::Parts::trees_behind))]
 fn push(list: &mut Vec<Stmt>, stmt: Stmt) -> Result<(), NoMemory>
     ensures { IfOk result (λ _. trees stmt_view list.new.items ≡ snoc (trees stmt_view list.old.items) (stmt_view stmt)) }
 {

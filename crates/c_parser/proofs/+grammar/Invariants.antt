@@ -13,7 +13,7 @@ use Rattle.grammar_reading.specs.Expressions.{comma_from, binary_from, postfix_f
 use Rattle.grammar_reading.specs.Reading.{commas_from, list_from, goes_on, goes_on_inside}
 use Rattle.grammar_reading.specs.Rooms.{less, read}
 use Rattle.grammar_reading.specs.State.{at_mark, left_at, line_at}
-use Rattle.c_parser.specs.Tallies.{tally_of, total}
+use Rattle.parser_parts.specs.Tallies.{tally_of, total}
 use Rattle.c_parser.proofs.+grammar.Given as goal
 
 abbrev pub decreases-expression::expression : goal.decreases-expression::expression

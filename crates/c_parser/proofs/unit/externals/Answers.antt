@@ -1,4 +1,4 @@
-use Rattle.std.proofs.Common.{◌≡◌, ◌≢◌, ◌-◌, ap, sym, ◌∙◌, arith}
+use Rattle.std.proofs.Common.{◌≢◌, ◌-◌, ap, sym, ◌∙◌, arith}
 use Rattle.c_tree.specs.StatementView.{trees, decl_view}
 use Rattle.grammar_reading.specs.Rooms.{text_from}
 use Rattle.grammar_reading.specs.State.{left_at}

@@ -1,6 +1,5 @@
-use Rattle.std.proofs.Common.{◌≡◌, ◌∙◌, sym, refl}
+use Rattle.std.proofs.Common.{◌∙◌, sym, refl}
 use Rattle.c_tree.specs.StatementView.{trees, decl_view}
-use Rattle.grammar_reading.specs.Rooms.{text_from, read_unit}
 use Rattle.c_parser.proofs.Parsing.{only_tree, refused}
 use Rattle.c_parser.proofs.Texts.{unit_told}
 use Rattle.c_parser.proofs.unit.parse.Goals as goal
