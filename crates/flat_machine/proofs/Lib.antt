@@ -15,3 +15,7 @@ pub mod Stepped
 pub mod Loops
 pub mod Starts
 pub mod Movements
+pub mod Tables
+pub mod Placing
+pub mod Started
+pub mod Firsts

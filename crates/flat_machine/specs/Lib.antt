@@ -11,3 +11,4 @@ pub mod Loaded
 pub mod Well
 pub mod First
 pub mod Machined
+pub mod Loading

@@ -21,6 +21,8 @@ pub struct Machine {
     loaded: Loaded,
     stack: u32,
     ended: Option<End>,
+    /// The steps that the run was allowed.
+    budget: u64,
 }
 
 impl Model for Machine {
@@ -28,10 +30,23 @@ impl Model for Machine {
 
     ghost Value = { Machined };
 
-    ghost view = { λ m. record { kept = m.state; loaded = m.loaded; stack = m.stack; ended = m.ended } };
+    ghost view = { λ m. record { kept = m.state; loaded = m.loaded; stack = m.stack; ended = m.ended; budget = m.budget } };
 }
 
 impl Machine {
+    /// A machine before its run.
+    pub(crate) fn new(state: State, loaded: Loaded, stack: u32) -> Machine
+        ensures { result ≡ record { kept = state; loaded = loaded; stack = stack; ended = None; budget = 0 } }
+    {
+        Machine {
+            state,
+            loaded,
+            stack,
+            ended: None,
+            budget: 0,
+        }
+    }
+
     /// Runs the code that was loaded, with at most so many steps. Where input and output are told, it writes exactly the
     /// bytes that the meaning of code writes before its first call that does not fit the stack, takes exactly the bytes that
     /// it reads, and answers its end, or the line of that call. It ends by a fault of the input or the output exactly where
@@ -59,6 +74,7 @@ impl Machine {
             return end;
         }
         self.state.allow(budget);
+        self.budget = budget;
         let end = whole_run(&mut self.state, code, &self.loaded, self.stack, input, out);
         self.ended = Some(end);
         end
