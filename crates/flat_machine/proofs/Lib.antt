@@ -19,3 +19,5 @@ pub mod Tables
 pub mod Placing
 pub mod Started
 pub mod Firsts
+pub mod Spending
+pub mod Lasting

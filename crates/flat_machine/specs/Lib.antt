@@ -12,3 +12,4 @@ pub mod Well
 pub mod First
 pub mod Machined
 pub mod Loading
+pub mod Lasting
