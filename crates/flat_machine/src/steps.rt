@@ -52,7 +52,7 @@ fn call(
     requires built { IsBuilt code.now }
     requires loaded { IsLoaded code.now loaded.now }
     requires may { MayCall code.now instr state.old }
-    ensures { (places : ℕ → ℕ) (c : CodeState) → Stands places c state.old → instr.op ≡ ops.Call → Alone c.state.input state.old (hand_or_act code.now line instr (handed_value c.state.running instr ops.Call) c) state.new result }
+    ensures { (places : ℕ → ℕ) (c : CodeState) → Stands places c state.old → instr.op ≡ ops.Call → Alone places c state.old (hand_or_act code.now line instr (handed_value c.state.running instr ops.Call) c) state.new result }
 {
     let f = instr.b as usize;
     let Some(callee) = code.funcs.get(f) else {
@@ -84,7 +84,7 @@ fn act_alone(
     requires may { op ≡ ops.Call → MayCall code.now instr state.old }
     requires waits { WaitsAtCall code.now state.old.calls.waiting }
     requires locals { HasNoLocal code.now state.old.calls }
-    ensures { (places : ℕ → ℕ) (c : CodeState) → Stands places c state.old → instr.op ≡ op → Alone c.state.input state.old (hand_or_act code.now line instr (handed_value c.state.running instr op) c) state.new result }
+    ensures { (places : ℕ → ℕ) (c : CodeState) → Stands places c state.old → instr.op ≡ op → Alone places c state.old (hand_or_act code.now line instr (handed_value c.state.running instr op) c) state.new result }
 {
     match op {
         Op::HandReg | Op::HandInt | Op::HandUnsigned | Op::HandNull | Op::HandStatic => {

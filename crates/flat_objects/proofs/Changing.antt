@@ -2,6 +2,7 @@
 use Rattle.std.proofs.Common.{◌≡◌, ◌<◌, ◌≤◌, ◌+◌, ◌-◌, ◌⊎◌, inl, inr, ℕ, zero, suc, Bool, true, false, cond, not, List, [], ◌∷◌, length, set, sym, ap, ◌∙◌, refl, subst, arith}
 use Rattle.std.specs.Prelude.{map, filter, slice_index, slice_index_or, ◌&&◌}
 use Rattle.std.specs.List.{enumerate_from}
+use Rattle.std.proofs.Math.ListN.{length-set}
 use Rattle.std.proofs.lemmas.Bool.{cases_eq}
 use Rattle.std.proofs.lemmas.List.{get_or-set_same, get_or-set_other, get_or_default}
 use Rattle.hs_base.specs.declared.values.Pointer.{Pointer}
@@ -224,6 +225,7 @@ module _ (locals heap : ℕ) (memory : Memory) (shape : IsMemory locals heap mem
                 (stands_other other (ap (λ (o : Object). is_dead o.standing) (sym same) ∙ other_there) differ)
           ];
     };
+    many = length-set objects birth new;
     blocks = other_blocks;
     stand = addresses;
   }

@@ -39,10 +39,11 @@ abbrev pub Allows : Result Unit TrapKind → Result Place Refusal → Type 0
 Allows (Ok u) meant = (at : Place) × (meant ≡ Ok at)
 Allows (Err kind) meant = Traps kind meant
 
--- a memory keeps other objects than before at the same places and in the same blocks, and each address that stood for a pointer
--- still does
+-- a memory keeps other objects than before, as many at the same places and in the same blocks, and each address that stood for a
+-- pointer still does
 pub record IsChanged (memory : Memory) (places : ℕ → ℕ) (before after : List Object) : Type 0 where
   pub keeps : Keeps memory places after
+  pub many : length after ≡ length before
   pub blocks : (any : Memory) (range : Range) → blocks_of any places after range ≡ blocks_of any places before range
   pub stand : (p : Pointer) (addr : ℕ) → IsAddressOf places before p addr → IsAddressOf places after p addr
 
