@@ -15,3 +15,4 @@ pub mod Stepped
 pub mod Loops
 pub mod Starts
 pub mod Movements
+pub mod Makings

@@ -20,6 +20,7 @@ mod handing;
 mod jumps;
 mod loaded;
 mod machine;
+mod making;
 mod memory;
 mod output;
 mod pointers;
