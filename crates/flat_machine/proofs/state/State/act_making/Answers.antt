@@ -3,7 +3,7 @@ use Rattle.std.proofs.lemmas.Int.{to_z-of_z}
 use mir.Syntax.{w128}
 use mir.Val.{SFits}
 use Rattle.code_meaning.specs.Entering.{layout_in}
-use Rattle.flat_machine.proofs.Makings.{product_fits, malloc_alone, calloc_alone}
+use Rattle.flat_machine.proofs.Makings.{malloc_alone, calloc_alone}
 use Rattle.flat_machine.proofs.state.State.act_making.Goals as goal
 
 pub returns-in-Malloc : goal.returns-in-Malloc
