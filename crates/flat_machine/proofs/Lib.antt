@@ -21,3 +21,4 @@ pub mod Started
 pub mod Firsts
 pub mod Spending
 pub mod Lasting
+pub mod Makings

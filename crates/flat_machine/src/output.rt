@@ -95,7 +95,7 @@ impl State {
         requires count { O.faults out.old + 1 < 2 ^ 64 }
         requires given { All IsGiven pieces.now }
         requires numbers { All PrintsNoString pieces.now }
-        ensures told { (line : ℕ) (places : ℕ → ℕ) (c : CodeState) (format taken : List ℕ) → Stands places c self.old → pieces.now ≡ pieces_of format → O.taken out.old ≡ Some taken → Seen self.old (same_numbers c.numbers (print_format line r format c.handed c.state)) c.state.input taken result self.new (Some c.state.input) (O.taken out.new) }
+        ensures told { (line : ℕ) (places : ℕ → ℕ) (c : CodeState) (format taken : List ℕ) → Stands places c self.old → pieces.now ≡ pieces_of format → O.taken out.old ≡ Some taken → Seen places c self.old (same_numbers c.numbers (print_format line r format c.handed c.state)) c.state.input taken result self.new (Some c.state.input) (O.taken out.new) }
         ensures faults { (i : ℕ) → Counted result i i (O.faults out.old) (O.faults out.new) }
         ensures moves { (line : ℕ) (places : ℕ → ℕ) (c : CodeState) (format : List ℕ) → Stands places c self.old → pieces.now ≡ pieces_of format → Moves self.old (same_numbers c.numbers (print_format line r format c.handed c.state)) self.new result }
     {
@@ -112,7 +112,7 @@ impl State {
     fn put_char<O: Sink>(&mut self, r: Option<u32>, n: i128, out: &mut O) -> Result<(), End>
         requires point { self.old.calls.running.point + 1 < 2 ^ 64 }
         requires count { O.faults out.old + 1 < 2 ^ 64 }
-        ensures told { (places : ℕ → ℕ) (c : CodeState) (taken : List ℕ) → Stands places c self.old → O.taken out.old ≡ Some taken → Seen self.old (same_numbers c.numbers (put_byte r (byte_in n) c.state)) c.state.input taken result self.new (Some c.state.input) (O.taken out.new) }
+        ensures told { (places : ℕ → ℕ) (c : CodeState) (taken : List ℕ) → Stands places c self.old → O.taken out.old ≡ Some taken → Seen places c self.old (same_numbers c.numbers (put_byte r (byte_in n) c.state)) c.state.input taken result self.new (Some c.state.input) (O.taken out.new) }
         ensures faults { (i : ℕ) → Counted result i i (O.faults out.old) (O.faults out.new) }
         ensures moves { (places : ℕ → ℕ) (c : CodeState) → Stands places c self.old → Moves self.old (same_numbers c.numbers (put_byte r (byte_in n) c.state)) self.new result }
     {
@@ -130,7 +130,7 @@ impl State {
     fn get<I: Source>(&mut self, r: Option<u32>, input: &mut I) -> Result<(), End>
         requires point { self.old.calls.running.point + 1 < 2 ^ 64 }
         requires count { I.faults input.old + 1 < 2 ^ 64 }
-        ensures told { (places : ℕ → ℕ) (c : CodeState) (taken : List ℕ) → Stands places c self.old → I.left input.old ≡ Some c.state.input → Seen self.old (same_numbers c.numbers (get_byte r c.state.input c.state)) c.state.input taken result self.new (I.left input.new) (Some taken) }
+        ensures told { (places : ℕ → ℕ) (c : CodeState) (taken : List ℕ) → Stands places c self.old → I.left input.old ≡ Some c.state.input → Seen places c self.old (same_numbers c.numbers (get_byte r c.state.input c.state)) c.state.input taken result self.new (I.left input.new) (Some taken) }
         ensures faults { (o : ℕ) → Counted result (I.faults input.old) (I.faults input.new) o o }
         ensures moves { (places : ℕ → ℕ) (c : CodeState) → Stands places c self.old → (left : List ℕ) × All IsByte left × Moves self.old (same_numbers c.numbers (get_byte r left (with_input left c.state))) self.new result }
     {
@@ -161,7 +161,7 @@ impl State {
         requires kept { (k : ℕ) → IsKept self.old.memory (address_at self.old.handed k) }
         requires input { I.faults input.old + 1 < 2 ^ 64 }
         requires out { O.faults out.old + 1 < 2 ^ 64 }
-        ensures told { (places : ℕ → ℕ) (c : CodeState) (taken : List ℕ) → Stands places c self.old → I.left input.old ≡ Some c.state.input → O.taken out.old ≡ Some taken → Seen self.old (same_numbers c.numbers (call_lib line name r c.handed c.state)) c.state.input taken result self.new (I.left input.new) (O.taken out.new) }
+        ensures told { (places : ℕ → ℕ) (c : CodeState) (taken : List ℕ) → Stands places c self.old → I.left input.old ≡ Some c.state.input → O.taken out.old ≡ Some taken → Seen places c self.old (same_numbers c.numbers (call_lib line name r c.handed c.state)) c.state.input taken result self.new (I.left input.new) (O.taken out.new) }
         ensures faults { Counted result (I.faults input.old) (I.faults input.new) (O.faults out.old) (O.faults out.new) }
         ensures moves { (places : ℕ → ℕ) (c : CodeState) → Stands places c self.old → (left : List ℕ) × All IsByte left × Moves self.old (same_numbers c.numbers (call_lib line name r c.handed (with_input left c.state))) self.new result }
     {

@@ -25,7 +25,7 @@ impl State {
         requires point { self.old.calls.running.point + 1 < 2 ^ 64 }
         requires name { IsStringLib name }
         requires kept { (k : ℕ) → IsKept self.old.memory (address_at self.old.handed k) }
-        ensures leads { (places : ℕ → ℕ) (c : CodeState) → Stands places c self.old → Alone c.state.input self.old (same_numbers c.numbers (call_lib line name r c.handed c.state)) self.new result }
+        ensures leads { (places : ℕ → ℕ) (c : CodeState) → Stands places c self.old → Alone places c self.old (same_numbers c.numbers (call_lib line name r c.handed c.state)) self.new result }
         ensures faults { (i o : ℕ) → Counted result i i o o }
     {
         let p = self.address(0);
