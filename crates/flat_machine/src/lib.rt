@@ -23,6 +23,8 @@ mod machine;
 mod memory;
 mod output;
 mod pointers;
+mod printing;
+mod put_error;
 mod running;
 mod state;
 mod steps;
