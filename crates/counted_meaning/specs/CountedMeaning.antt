@@ -15,7 +15,7 @@ use Rattle.object_meaning.specs.Values.{number_of, pointer_of, pointer_at, size_
 use Rattle.object_meaning.specs.Making.{static_objects}
 use Rattle.object_meaning.specs.Holding.{statement_at}
 use Rattle.object_meaning.specs.Meaning as object
-use Rattle.object_meaning.specs.Meaning.{values_of, returned, first_call, enough}
+use Rattle.object_meaning.specs.Meaning.{values_of, returned, enough}
 use Rattle.counted_meaning.specs.Pinning.{Pins, pinned}
 use Rattle.counted_meaning.specs.CountedState.{CountedState, Next, same_numbers, other_numbers}
 use Rattle.counted_meaning.specs.Counting.{more, birth_in, renumbered}
@@ -69,9 +69,13 @@ step core pins trace c = act_at core pins (statement_at core c.state.running) c
 abbrev pub first_numbers : List Object → ℕ → ℕ
 first_numbers statics birth = pointers_inside birth statics
 
+-- the first call of main: no frame waits for it
+abbrev pub first_call : Core → List ℕ → ℕ → Next
+first_call core input n = same_numbers (first_numbers (static_objects core.statics)) (object.first_call core input n)
+
 -- the run once main was called, or where there is no step for that
 abbrev pub begun : Core → List ℕ → ℕ → Run
-begun core input n = runs.led [] (same_numbers (first_numbers (static_objects core.statics)) (first_call core input n))
+begun core input n = runs.led [] (first_call core input n)
 
 -- the meaning: the run after all its statements
 abbrev pub meaning : Core → Pins → List ℕ → ℕ → Run
