@@ -1,9 +1,9 @@
 -- What a statement leads to in both meanings agrees.
-use Rattle.std.proofs.Common.{◌≡◌, ℕ, zero, suc, ◌+◌, ◌-◌, Bool, true, false, List, [], ◌∷◌, ◌++◌, length, Option, Some, None, Result, Ok, Err, refl, sym, ap, ◌∙◌, subst, arith}
+use Rattle.std.proofs.Common.{◌≡◌, ℕ, zero, suc, ◌+◌, Bool, true, false, List, [], ◌∷◌, length, Option, Some, Result, Ok, Err, refl, sym, subst, arith}
 use Rattle.std.specs.Prelude.{slice_get}
 use Rattle.hs_base.specs.declared.values.Value.{Value}
 use Rattle.hs_base.specs.Access.{Refusal}
-use Rattle.hs_base.specs.Object.{Object, object_at}
+use Rattle.hs_base.specs.Object.{Object}
 use Rattle.hs_base.specs.State.{State}
 use Rattle.hs_base.specs.Trace.{Event}
 use Rattle.hs_base.specs.Runs as runs
@@ -14,7 +14,7 @@ use Rattle.object_meaning.specs.Values.{address, start_of}
 use Rattle.object_meaning.specs.Going as object
 use Rattle.object_meaning.specs.Going.{goes, at_point, onward, write, with_objects, with_step, answers, changes}
 use Rattle.object_meaning.specs.Making.{heap_object, with_new}
-use Rattle.object_meaning.specs.Heap.{birth_of, make}
+use Rattle.object_meaning.specs.Heap.{make}
 use Rattle.object_meaning.specs.Meaning.{branch}
 use Rattle.counted_meaning.specs.Pinning.{Pins}
 use Rattle.counted_meaning.specs.CountedState.{CountedState, Next, kept, numbered}

@@ -1,21 +1,19 @@
 -- Holders in registers are the pointers in pinned registers.
-use Rattle.std.proofs.Common.{◌≡◌, ℕ, zero, suc, pos, ◌+◌, ◌<◌, ◌≤◌, Bool, true, false, cond, not, ◌&&◌, ◌||◌, nat_eq, List, [], ◌∷◌, length, map, get_or, Some, refl, sym, ap, ◌∙◌, subst, arith, ⊎_elim}
-use Rattle.std.specs.Prelude.{filter, slice_get, Contains, IsTrue}
+use Rattle.std.proofs.Common.{◌≡◌, ℕ, zero, suc, pos, ◌+◌, ◌<◌, Bool, true, false, cond, ◌&&◌, nat_eq, List, [], ◌∷◌, length, map, get_or, refl, sym, ap, ◌∙◌, subst, arith, ⊎_elim}
+use Rattle.std.specs.Prelude.{filter, Contains}
 use Rattle.std.specs.List.{IsDistinct, AllByRecursion, sum_by, enumerate_from}
-use Rattle.std.proofs.lemmas.Bool.{cases_Bool, cases_eq, eq-eqb, eqb-true, false≢true, true≢false, or_cases, or_left, or_right, or_from, false_from_ne_true}
+use Rattle.std.proofs.lemmas.Bool.{eq-eqb, eqb-true, false≢true, true≢false, or_cases, or_left, or_right, or_from, false_from_ne_true}
 use Rattle.std.proofs.lemmas.List.{length-map}
 use Rattle.std.proofs.lemmas.List.Sums.{sum_by-cons}
-use Rattle.hs_base.specs.declared.values.Pointer.{Pointer}
 use Rattle.hs_base.specs.declared.values.Pointer.TheVariants as pointer
 use Rattle.hs_base.specs.declared.values.Value.{Value}
 use Rattle.hs_base.specs.Freeing.{is_pointer_to, pointers_to}
 use Rattle.hs_base.specs.State.{Frame}
 use Rattle.core_tree.specs.declared.program.Func.{Func}
-use Rattle.core_tree.specs.Lives.{is_live}
 use Rattle.object_meaning.specs.Values.{number, pointer_in}
 use Rattle.object_meaning.specs.Holding.{is_among, in_registers}
 use Rattle.counted_meaning.specs.Pinning.{AreThose, pointer_of_register, holds_pointer}
-use Rattle.counts_are_holders.proofs.Weighing.{Once, weigh, weigh_same, filter_weigh, sum_among}
+use Rattle.counts_are_holders.proofs.Weighing.{Once, weigh_same, filter_weigh, sum_among}
 use Rattle.counts_are_holders.proofs.Objects.{same_bool}
 
 -- a register for integers holds no pointer

@@ -1,5 +1,5 @@
 -- Registers for integers hold none of a run's pointers, and each waiting frame waits at the call of the next newer one.
-use Rattle.std.proofs.Common.{◌≡◌, ℕ, zero, suc, pos, ◌+◌, ◌<◌, ◌≤◌, Bool, true, false, cond, List, [], ◌∷◌, ◌++◌, length, map, take, drop, get_or, set, Option, Some, None, refl, sym, ap, ◌∙◌, subst, arith, ⊎_elim}
+use Rattle.std.proofs.Common.{◌≡◌, ℕ, zero, suc, pos, Bool, true, false, cond, List, [], ◌∷◌, ◌++◌, length, map, take, drop, get_or, set, Option, Some, None, refl, sym, ap, ◌∙◌, subst, arith, ⊎_elim}
 use Rattle.std.specs.Prelude.{slice_get, option_map}
 use Rattle.std.specs.Option.{option_map_or}
 use Rattle.std.proofs.lemmas.Bool.{cases_lt, cases_eq, true≢false}
@@ -14,7 +14,7 @@ use Rattle.core_tree.specs.declared.statements.Atom.{Atom}
 use Rattle.core_tree.specs.declared.statements.Atom.TheVariants as atom
 use Rattle.core_tree.specs.declared.statements.StmKind.TheVariants as stm
 use Rattle.core_tree.specs.Sorts.{Sort, Integer, Pointer, sort_of, register_sort, atom_sort, GivesResult}
-use Rattle.object_meaning.specs.Values.{number, first_value, value_of, pointer_in}
+use Rattle.object_meaning.specs.Values.{number, address, first_value, value_of, pointer_in}
 use Rattle.object_meaning.specs.Going.{with_register}
 use Rattle.counted_meaning.specs.Pinning.{holds_pointer}
 use Rattle.counts_are_holders.proofs.Weighing.{Once}
@@ -69,6 +69,16 @@ no_integer : {A : Type 0} (o : Option A) → option_map (λ _. Pointer) o ≡ So
 no_integer None h = cc
 no_integer (Some x) h = cc
 
+first_plain : (b : Bool) → pointer_in (cond b (address pointer.Null) (number (pos 0))) ≡ pointer.Null
+first_plain true = refl
+first_plain false = refl
+
+-- first values are no pointers to objects
+pub first_sorts : (regs : List Register) (r : ℕ) → option_map_or (λ (reg : Register). reg.pointer) (slice_get regs r) false ≡ false → pointer_in (get_or (map first_value regs) r (number (pos 0))) ≡ pointer.Null
+first_sorts [] r h = refl
+first_sorts (reg ∷ regs) zero h = first_plain reg.pointer
+first_sorts (reg ∷ regs) (suc r) h = first_sorts regs r h
+
 module _ (core : Core) (func : Func) (frame : Frame) (sorts : HasSorts func frame.regs) where
   pub integer_value : (a : Atom) → atom_sort core func a ≡ Some Integer → pointer_in (value_of frame a) ≡ pointer.Null
   integer_value (atom.Reg r) h = sorts r (integer_of_sort (slice_get func.regs r) h)
@@ -81,15 +91,6 @@ module _ (core : Core) (func : Func) (frame : Frame) (sorts : HasSorts func fram
   pub value_fits : (taker : Func) (r : ℕ) (a : Atom) (sort : Sort) → register_sort taker r ≡ Some sort → atom_sort core func a ≡ Some sort → FitsIn taker (Some r) (value_of frame a)
   value_fits taker r a Integer h i = λ n. integer_value a i
   value_fits taker r a Pointer h i = gives_pointer taker r h (value_of frame a)
-
-  first_plain : (b : Bool) → b ≡ false → pointer_in (cond b (value_of frame atom.Null) (number (pos 0))) ≡ pointer.Null
-  first_plain true h = refl
-  first_plain false h = refl
-
-  first_sorts : (regs : List Register) (r : ℕ) → option_map_or (λ (reg : Register). reg.pointer) (slice_get regs r) false ≡ false → pointer_in (get_or (map first_value regs) r (number (pos 0))) ≡ pointer.Null
-  first_sorts [] r h = refl
-  first_sorts (reg ∷ regs) zero h = first_plain reg.pointer h
-  first_sorts (reg ∷ regs) (suc r) h = first_sorts regs r h
 
   argument_plain : (reg : Register) (a : Atom) → reg.pointer ≡ false → atom_sort core func a ≡ Some (sort_of reg) → pointer_in (value_of frame a) ≡ pointer.Null
   argument_plain reg a n e = integer_value a (e ∙ ap (λ b. Some (cond b Pointer Integer)) n)
@@ -128,7 +129,7 @@ pub record Orderly (core : Core) (running : Frame) (waiting : List Frame) (queue
 abbrev pub InOrder : Core → State → Type 0
 InOrder core s = Orderly core s.running s.waiting s.queue
 
-same_func : (core : Core) (f : ℕ) (one other : Func) → slice_get core.funcs f ≡ Some one → slice_get core.funcs f ≡ Some other → one ≡ other
+pub same_func : (core : Core) (f : ℕ) (one other : Func) → slice_get core.funcs f ≡ Some one → slice_get core.funcs f ≡ Some other → one ≡ other
 same_func core f one other h i = cc
 
 -- a register takes a value, and the frame may come to another point

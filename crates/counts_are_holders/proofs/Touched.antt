@@ -1,5 +1,5 @@
 -- What operations on objects do to the pointers inside them, and which of their answers are no pointers.
-use Rattle.std.proofs.Common.{◌≡◌, ℕ, ℤ, zero, suc, pos, ◌+◌, ◌-◌, ◌%◌, Bool, true, false, not, nat_eq, nat_lt, List, length, Option, Some, None, Result, Ok, Err, refl, sym, ap, ◌∙◌, subst, arith}
+use Rattle.std.proofs.Common.{◌≡◌, ℕ, ℤ, zero, suc, pos, ◌+◌, ◌%◌, Bool, true, false, not, nat_eq, nat_lt, List, Option, Some, None, Result, Ok, Err, refl, subst}
 use Rattle.std.specs.List.{list_any}
 use Rattle.hs_base.specs.declared.ends.IntKind.{IntKind}
 use Rattle.hs_base.specs.declared.ends.TrapKind.{TrapKind}
@@ -13,7 +13,7 @@ use Rattle.core_tree.specs.declared.statements.BinOp.{BinOp}
 use Rattle.core_tree.specs.declared.statements.BinOp.TheVariants as bin
 use Rattle.core_tree.specs.declared.statements.CmpOp.{CmpOp}
 use Rattle.core_tree.specs.declared.statements.CmpOp.TheVariants as cmp
-use Rattle.object_meaning.specs.Values.{number, pointer_in, is_stale}
+use Rattle.object_meaning.specs.Values.{pointer_in, is_stale}
 use Rattle.object_meaning.specs.Arithmetic.{or_traps, on_two, truth, compared, offsets, difference, ordered, pointers_compared}
 use Rattle.object_meaning.specs.Memory.{loaded, stored, stored_pointer, pointers_in_range, copied}
 use Rattle.object_meaning.proofs.Alive.{Alive}
