@@ -1,5 +1,5 @@
 -- Pins as they are listed, one register and one point more.
-use Rattle.std.proofs.Common.{◌≡◌, ℕ, zero, suc, ◌+◌, ◌<◌, Bool, true, false, cond, ◌&&◌, List, [], ◌∷◌, ◌++◌, length, map, get_or, Option, Some, None, refl, sym, ap, ◌∙◌, subst, arith}
+use Rattle.std.proofs.Common.{◌≡◌, ℕ, zero, suc, ◌+◌, ◌<◌, Bool, true, false, cond, ◌&&◌, List, [], ◌∷◌, ◌++◌, length, map, take, get_or, Option, Some, None, refl, sym, ap, ◌∙◌, subst, arith}
 use Rattle.std.specs.Prelude.{◌↔◌, filter, slice_get, IsTrue}
 use Rattle.std.specs.List.{flat_map, range_with_len}
 use Rattle.std.specs.Option.{option_map_or}
@@ -87,6 +87,20 @@ table_at (t ∷ tables) [] h k table func lt e i = absurd h
 table_at (t ∷ tables) (f ∷ funcs) h zero table func lt e i =
     subst (λ (g : Func). IsTableOf table g) (sym i) (subst (λ (t : List (List Bool)). IsTableOf t f) (sym e) h.0)
 table_at (t ∷ tables) (f ∷ funcs) h (suc k) table func lt e i = table_at tables funcs h.1 k table func (omega (arith, lt)) e i
+
+tables_suc : (tables : List (List (List Bool))) (funcs : List Func) (n : ℕ) (table : List (List Bool)) (func : Func) → AreTables tables (take n funcs) → n < length funcs → func ≡ get_or funcs n func → IsTableOf table func → AreTables (tables ++ table ∷ []) (take (suc n) funcs)
+tables_suc tables [] n table func h lt e t = absurd (omega (arith, lt))
+tables_suc [] (f ∷ funcs) zero table func h lt e t = (subst (λ (g : Func). IsTableOf table g) e t, tt)
+tables_suc (one ∷ tables) (f ∷ funcs) zero table func h lt e t = absurd h
+tables_suc [] (f ∷ funcs) (suc n) table func h lt e t = absurd h
+tables_suc (one ∷ tables) (f ∷ funcs) (suc n) table func h lt e t =
+    (h.0, tables_suc tables funcs n table func h.1 (omega (arith, lt)) e t)
+
+-- one table more
+pub tables_more : (tables : List (List (List Bool))) (funcs : List Func) (n : ℕ) (table : List (List Bool)) (func : Func) (new : List (List (List Bool))) → AreTables tables (take n funcs) → n < length funcs → func ≡ get_or funcs n func → IsTableOf table func → new ≡ tables ++ table ∷ [] → AreTables new (take (n + 1) funcs)
+tables_more tables funcs n table func new h lt e t i =
+    let more : suc n ≡ n + 1 = omega arith in
+    subst (λ ts. AreTables ts (take (n + 1) funcs)) (sym i) (subst (λ k. AreTables (tables ++ table ∷ []) (take k funcs)) more (tables_suc tables funcs n table func h lt e t))
 
 -- Live registers
 

@@ -127,7 +127,11 @@ fn kind_copy(alloc: Global, kind: &StmKind) -> Result<StmKind, NoMemory>
         StmKind::Realloc(r, p, n, t) => Ok(StmKind::Realloc(*r, *p, *n, layout_copy(alloc, t)?)),
         StmKind::Free(p) => Ok(StmKind::Free(*p)),
         StmKind::Lib(name, r, args) => Ok(StmKind::Lib(*name, *r, atoms_copy(alloc, args)?)),
-        StmKind::Printf(r, format, args) => Ok(StmKind::Printf(*r, *format, atoms_copy(alloc, args)?)),
+        StmKind::Printf(r, format, args) => Ok(StmKind::Printf(
+            *r,
+            *format,
+            atoms_copy(alloc, args)?,
+        )),
         StmKind::Enter => Ok(StmKind::Enter),
         StmKind::Leave => Ok(StmKind::Leave),
         StmKind::Return(a) => Ok(StmKind::Return(*a)),

@@ -9,7 +9,7 @@ use crate::copies::core_copy;
 use core_tree::{Core, Func, Stm, StmKind};
 use counted_meaning::Pin;
 use hs_base::{Items, NoMemory};
-use local_liveness::LiveTable;
+use local_liveness::{LiveTable, live_at};
 use std::alloc::Global;
 
 /// A core with its pins: for each of its functions, the registers that count at its points.
@@ -53,7 +53,13 @@ fn counts_at(func: &Func, table: &LiveTable, point: u32, kind: &StmKind, reg: u3
 }
 
 /// Adds the pins of a point.
-fn add_pins(pins: &mut Vec<Pin>, func: &Func, table: &LiveTable, point: u32, stm: &Stm) -> Result<(), NoMemory>
+fn add_pins(
+    pins: &mut Vec<Pin>,
+    func: &Func,
+    table: &LiveTable,
+    point: u32,
+    stm: &Stm,
+) -> Result<(), NoMemory>
     requires table { IsTableOf table.now func.now }
     requires point { point < length func.now.body }
     ensures { IfOk result (λ _. pins.new.items ≡ pins.old.items ++ pins_below func.now point stm.now.kind (length func.now.regs)) }
@@ -80,7 +86,11 @@ fn pins_of(alloc: Global, func: &Func, table: &LiveTable) -> Result<Items<Pin>, 
 }
 
 /// The pins of all functions.
-fn all_pins(alloc: Global, funcs: &[Func], live: &[LiveTable]) -> Result<Items<Items<Pin>>, NoMemory>
+fn all_pins(
+    alloc: Global,
+    funcs: &[Func],
+    live: &[LiveTable],
+) -> Result<Items<Items<Pin>>, NoMemory>
     requires { AreTables live.now funcs.now }
     ensures { IfOk result (λ pins. pins ≡ map func_pins funcs.now) }
 {
@@ -89,6 +99,22 @@ fn all_pins(alloc: Global, funcs: &[Func], live: &[LiveTable]) -> Result<Items<I
         pins.push(pins_of(alloc, func, &live[place])?)?;
     }
     Ok(Items::from(pins))
+}
+
+/// The tables of the live registers of a core's functions, as [`insert`] takes them.
+///
+/// # Errors
+///
+/// [`NoMemory`], where there is none for the tables.
+pub fn live_tables(alloc: Global, core: &Core) -> Result<Items<LiveTable>, NoMemory>
+    ensures { IfOk result (λ live. AreTables live core.now.funcs) }
+{
+    let mut live = Vec::with_capacity(alloc, core.funcs.len())?;
+    for func in core.funcs.as_slice() {
+        let table = live_at(alloc, func)?;
+        live.push(table)?;
+    }
+    Ok(Items::from(live))
 }
 
 /// A core with its pins, from the tables of the live registers of its functions.
