@@ -6,6 +6,9 @@
 //! place in the heap (`hs_base/specs/Cut.antt`): the bytes written and read, and the end. `specs/Built.antt` says which
 //! instructions are built.
 //!
+//! [`Machine::load`] makes one before its first instruction: with the statics of the code in its memory, and with all memory that
+//! the run takes.
+//!
 //! A word is a number or an address. `specs/Standing.antt` says which state of the meaning the machine stands for: its words
 //! stand for the values of that state, one by one, and its memory keeps the objects. Each instruction is proved over all
 //! states that the machine stands for, and leads to a machine that stands for the state behind it. No instruction takes
@@ -19,6 +22,7 @@ mod calls;
 mod counted;
 mod handing;
 mod jumps;
+mod load;
 mod loaded;
 mod machine;
 mod making;
@@ -27,6 +31,7 @@ mod output;
 mod pointers;
 mod running;
 mod state;
+mod statics;
 mod steps;
 mod strings;
 mod words;
