@@ -29,6 +29,8 @@ mod making;
 mod memory;
 mod output;
 mod pointers;
+mod printing;
+mod put_error;
 mod running;
 mod state;
 mod statics;

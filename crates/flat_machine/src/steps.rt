@@ -8,7 +8,6 @@ ghost use Rattle.flat_code.specs.WellFormed.{IsWellFormed};
 ghost use Rattle.flat_code.specs.declared.instructions.Op.TheVariants as ops;
 ghost use Rattle.flat_objects.specs.Keeping.{IsKept};
 ghost use Rattle.meaning_run.specs.Leading.{with_input};
-ghost use Rattle.meaning_state.specs.Printing.{PrintsNoString};
 ghost use Rattle.code_meaning.specs.CodeState.{CodeState};
 ghost use Rattle.code_meaning.specs.CodeMeaning.{handed_value, hand_or_act, step};
 ghost use Rattle.code_soundness.specs.Objects.{IsByte};
@@ -141,7 +140,7 @@ pub(crate) fn one_step<I: Source, O: Sink>(
         Op::Lib(name) => state.act_lib(*line, name, chosen(instr), input, out),
         Op::Printf => {
             let pieces = pieces_at(loaded.formats.as_slice(), instr.b);
-            state.act_printf(instr.a, pieces, out)
+            state.act_printf(*line, instr.a, pieces, out)
         }
         op => act_alone(state, code, loaded, *line, instr, op),
     }

@@ -3,7 +3,6 @@ use Rattle.std.specs.Prelude.{All, slice_index_or}
 use Rattle.c_print.specs.Format.{IsGiven}
 use Rattle.flat_code.specs.declared.instructions.Op.TheVariants as op
 use Rattle.flat_code.specs.Table.{chosen}
-use Rattle.meaning_state.specs.Printing.{PrintsNoString}
 use Rattle.object_meaning.specs.Builtins.{call_lib}
 use Rattle.meaning_run.specs.Leading.{with_input}
 use Rattle.code_meaning.specs.CodeState.{same_numbers}
@@ -11,7 +10,7 @@ use Rattle.code_meaning.specs.CodeMeaning.{step, act, handed_value, hand_or_act}
 use Rattle.flat_machine.proofs.Stays.{stands_input}
 use Rattle.flat_machine.proofs.OneByte.{no_bytes}
 use Rattle.flat_machine.proofs.Goods.{waits, no_locals, kept, built_here, may_hand, not_local, not_start, element_size, may_make, may_call, integer_lib, no_instr, no_line}
-use Rattle.flat_machine.proofs.Stepped.{lib_same, step_is, step_acts, seen_alone, moves_alone, counts_alone, alone_of, given_at, read_at, plain_at, found, found_line, seen_as, moves_as}
+use Rattle.flat_machine.proofs.Stepped.{lib_same, step_is, step_acts, seen_alone, moves_alone, counts_alone, alone_of, given_at, read_at, found, found_line, seen_as, moves_as}
 use Rattle.flat_machine.proofs.steps.one_step.Goals as goal
 
 pub unreachable-requires : goal.unreachable-requires
@@ -59,11 +58,8 @@ act_printf-requires-clause-given g c =
     let pieces = c.pieces_at-pieces.ensures ∙ ap (λ formats. slice_index_or formats c.in-Some.instr.now.b []) c.as_slice.ensures in
     subst (All IsGiven) (sym pieces) (given_at c.args.code.now.formats c.args.loaded.now.formats c.requires.loaded.formats c.in-Some.instr.now.b)
 
-pub act_printf-requires-clause-numbers : goal.act_printf-requires-clause-numbers
-act_printf-requires-clause-numbers g c =
-    let pieces = c.pieces_at-pieces.ensures ∙ ap (λ formats. slice_index_or formats c.in-Some.instr.now.b []) c.as_slice.ensures in
-    let read = read_at c.args.code.now.formats c.args.loaded.now.formats c.requires.loaded.formats c.requires.formed.formats c.in-Some.instr.now.b in
-    subst (All PrintsNoString) (sym (pieces ∙ read)) (plain_at c.args.code.now.formats c.requires.built.formats c.in-Some.instr.now.b)
+pub act_printf-requires-clause-kept : goal.act_printf-requires-clause-kept
+act_printf-requires-clause-kept g c = kept c.args.code.now c.requires.formed c.requires.built c.args.state.now c.requires.well
 
 pub returns-in-Printf-clause-told : goal.returns-in-Printf-clause-told
 returns-in-Printf-clause-told g c = λ places s trace taken h l t.
@@ -72,7 +68,7 @@ returns-in-Printf-clause-told g c = λ places s trace taken h l t.
     let pieces = c.pieces_at-pieces.ensures ∙ ap (λ formats. slice_index_or formats c.in-Some.instr.now.b []) c.as_slice.ensures in
     let read = read_at c.args.code.now.formats c.args.loaded.now.formats c.requires.loaded.formats c.requires.formed.formats c.in-Some.instr.now.b in
     let acts = step_acts c.args.code.now places s c.args.state.now h c.in-Some.instr.now at c.in-Some-get.line.now line trace op.Printf c.in-Printf.is refl in
-    let told = c.act_printf.ensures.told c.in-Some-get.line.now places s (slice_index_or c.args.code.now.formats c.in-Some.instr.now.b []) taken h (pieces ∙ read) t in
+    let told = c.act_printf.ensures.told places s (slice_index_or c.args.code.now.formats c.in-Some.instr.now.b []) taken h (pieces ∙ read) t in
     rw l (seen_as c.args.state.now c.act_printf.new.self _ (step c.args.code.now trace s) acts c.act_printf.result places s s.state.input taken _ _ told)
 
 pub returns-in-Printf-clause-moves : goal.returns-in-Printf-clause-moves
@@ -83,7 +79,7 @@ returns-in-Printf-clause-moves g c = λ places s h.
     let read = read_at c.args.code.now.formats c.args.loaded.now.formats c.requires.loaded.formats c.requires.formed.formats c.in-Some.instr.now.b in
     let stands = stands_input places s c.args.state.now h [] in
     let acts = step_acts c.args.code.now places (record s { state = with_input [] s.state }) c.args.state.now stands c.in-Some.instr.now at c.in-Some-get.line.now line [] op.Printf c.in-Printf.is refl in
-    let moves = c.act_printf.ensures.moves c.in-Some-get.line.now places (record s { state = with_input [] s.state }) (slice_index_or c.args.code.now.formats c.in-Some.instr.now.b []) stands (pieces ∙ read) in
+    let moves = c.act_printf.ensures.moves places (record s { state = with_input [] s.state }) (slice_index_or c.args.code.now.formats c.in-Some.instr.now.b []) stands (pieces ∙ read) in
     ([], no_bytes, moves_as c.args.state.now c.act_printf.new.self _ (step c.args.code.now [] (record s { state = with_input [] s.state })) acts c.act_printf.result moves)
 
 -- Every other instruction

@@ -30,6 +30,11 @@ returns-in-Putchar-clause-moves g c = λ places s h.
     let number = c.integer.ensures ∙ integer_at_is places s.state.objects s.handed c.args.self.now.handed 0 h.handed in
     ([], no_bytes, rw (c.in-Putchar.is, ← number) moves)
 
+pub returns-in-Puts-clause-moves : goal.returns-in-Puts-clause-moves
+returns-in-Puts-clause-moves g c = λ places s h.
+    let none : CodeState = record s { state = record s.state { input = [] } } in
+    ([], no_bytes, rw c.in-Puts.is (c.act_puts.ensures.moves places none (stands_input places s c.args.self.now h [])))
+
 pub returns-in-Exit-clause-told : goal.returns-in-Exit-clause-told
 returns-in-Exit-clause-told g c = λ places s taken h l t.
     let fits : SFits w128 c.integer-in-Exit.result = search rules in
