@@ -51,7 +51,8 @@ impl Machine {
     /// Runs the code that was loaded, with at most so many steps. Where input and output are told, it writes exactly the
     /// bytes that the meaning of code writes before its first call that does not fit the stack, takes exactly the bytes that
     /// it reads, and answers its end, or the line of that call. It ends by a fault of the input or the output exactly where
-    /// that object failed in this call. [`Machine::steps_made`] tells how many steps it made. A machine that has ended answers the same end again, and touches nothing.
+    /// that object failed in this call. [`Machine::steps_made`] tells how many steps it made. A machine that has ended answers
+    /// the same end again, and touches nothing.
     pub fn run<I: Source, O: Sink>(
         &mut self,
         code: &Code,
