@@ -1,14 +1,11 @@
 -- The machine runs the code of the example.
 use Rattle.std.proofs.Common.{◌≡◌, ℕ, zero, suc, pos, List, [], Some, refl, subst}
-use Rattle.std.specs.Prelude.{All, slice_get}
-use Rattle.std.proofs.lemmas.List.Elements.{All-nil}
-use Rattle.c_print.specs.Pieces.{pieces_of}
+use Rattle.std.specs.Prelude.{slice_get}
 use Rattle.core_tree.specs.declared.statements.LibName.TheVariants.{Putchar}
 use Rattle.flat_code.specs.declared.instructions.Instr.{Instr}
 use Rattle.flat_code.specs.declared.instructions.Op.TheVariants.{Start, HandInt, Lib, Give}
 use Rattle.flat_code.specs.declared.program.Entry.{Entry}
 use Rattle.code_soundness.specs.Example.{instr, main, digit}
-use Rattle.meaning_state.specs.Printing.{PrintsNoString}
 use Rattle.flat_machine.specs.Built.{IsBuilt, IsBuiltOp}
 
 built_at : (point : ℕ) (i : Instr) → slice_get digit.instrs point ≡ Some i → IsBuiltOp i.op
@@ -27,5 +24,4 @@ pub digit_built : IsBuilt digit
 digit_built = record {
   instructions = λ f entry point i at. built_at point i at.here;
   locals = no_locals;
-  formats = All-nil (λ (format : List ℕ). All PrintsNoString (pieces_of format));
 }

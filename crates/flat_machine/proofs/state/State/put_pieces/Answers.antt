@@ -1,6 +1,6 @@
 use Rattle.std.proofs.Common.{◌+◌, ◌∙◌, arith}
 use Rattle.std.proofs.lemmas.Int.{ints}
-use Rattle.flat_machine.proofs.Prints.{progress_first, progress_more, progress_ends, progress_over}
+use Rattle.flat_machine.proofs.Prints.{progress_more, progress_ends, progress_over}
 use Rattle.flat_machine.proofs.state.State.put_pieces.Goals as goal
 
 pub returns-in-Err-clause-puts : goal.returns-in-Err-clause-puts
