@@ -1,9 +1,9 @@
 -- The listed pins are exact.
-use Rattle.std.proofs.Common.{◌≡◌, ℕ, zero, suc, ◌+◌, ◌<◌, ◌≤◌, Bool, true, false, cond, nat_eq, ◌&&◌, List, [], ◌∷◌, ◌++◌, length, map, get_or, Option, Some, None, refl, sym, ap, ◌∙◌, subst, arith, ⊎_elim, ◌⊎◌, inl, inr}
-use Rattle.std.specs.Prelude.{filter, slice_get, Contains, IsTrue}
+use Rattle.std.proofs.Common.{◌≡◌, ℕ, zero, suc, ◌+◌, ◌<◌, Bool, true, false, cond, nat_eq, List, [], ◌∷◌, ◌++◌, length, map, get_or, Option, Some, None, refl, sym, ap, ◌∙◌, subst, arith}
+use Rattle.std.specs.Prelude.{filter, slice_get, Contains}
 use Rattle.std.specs.List.{IsDistinct, AllByRecursion, flat_map, range_with_len}
 use Rattle.std.specs.Option.{option_map_or}
-use Rattle.std.proofs.lemmas.Bool.{cases_Bool, cases_eq, cases_lt, eq-eqb, ne_eqb, and_parts, true≢false}
+use Rattle.std.proofs.lemmas.Bool.{eq-eqb, ne_eqb, and_parts, true≢false}
 use Rattle.std.proofs.lemmas.List.{append-nil}
 use Rattle.std.proofs.lemmas.Option.{slice_get_within}
 use Rattle.core_tree.specs.declared.program.Core.{Core}
@@ -15,8 +15,7 @@ use Rattle.core_tree.specs.declared.statements.StmKind.TheVariants as stm
 use Rattle.core_tree.specs.Lives.{is_live}
 use Rattle.counted_meaning.specs.declared.pins.Pin.{Pin}
 use Rattle.counted_meaning.specs.Pinning.{Pins, pins_in, pins_of, holds_pointer, holds_on, counts_at, AreThose, AreExact}
-use Rattle.object_meaning.specs.Holding.{takes_answer}
-use Rattle.count_insertion.specs.Inserted.{pin_of, pins_below, pins_at, func_pins}
+use Rattle.count_insertion.specs.Inserted.{pin_of, pins_at, func_pins}
 
 -- Pins of a point
 
