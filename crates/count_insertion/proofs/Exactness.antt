@@ -157,10 +157,13 @@ at_map [] f func h = absurd (cc)
 at_map (g ∷ funcs) zero func h = let e : g ≡ func = cc in ap func_pins e
 at_map (g ∷ funcs) (suc f) func h = at_map funcs f func h
 
--- the pins of all functions are exact
+-- the pins of a point are the registers that count there, in their order
+pub listed_in_order : (core : Core) (pins : Pins) → pins ≡ map func_pins core.funcs → (f : ℕ) (func : Func) → slice_get core.funcs f ≡ Some func → (point : ℕ) (stm : Stm) → slice_get func.body point ≡ Some stm → pins_of pins f point ≡ filter (counts_at func point stm.kind) (range_with_len 0 (length func.regs))
+listed_in_order core pins e f func here point stm at =
+    ap (λ ps. pins_in (get_or ps f []) point) e ∙ ap (λ ps. pins_in ps point) (at_map core.funcs f func here) ∙ registers_are func point stm at
+
+-- and so they are exact
 pub listed_exact : (core : Core) (pins : Pins) → pins ≡ map func_pins core.funcs → AreExact core pins
 listed_exact core pins e f func here point stm at =
     let test = counts_at func point stm.kind in
-    let n = length func.regs in
-    let listed : pins_of pins f point ≡ filter test (range_with_len 0 n) = ap (λ ps. pins_in (get_or ps f []) point) e ∙ ap (λ ps. pins_in ps point) (at_map core.funcs f func here) ∙ registers_are func point stm at in
-    subst (λ rs. AreThose test rs) (sym listed) (those_below test n (counts_within func point stm.kind))
+    subst (λ rs. AreThose test rs) (sym (listed_in_order core pins e f func here point stm at)) (those_below test (length func.regs) (counts_within func point stm.kind))
