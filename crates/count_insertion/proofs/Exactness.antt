@@ -1,9 +1,9 @@
 -- The listed pins are exact.
-use Rattle.std.proofs.Common.{◌≡◌, ℕ, zero, suc, ◌+◌, ◌<◌, ◌≤◌, Bool, true, false, cond, nat_eq, ◌&&◌, List, [], ◌∷◌, ◌++◌, length, map, get_or, Option, Some, None, refl, sym, ap, ◌∙◌, subst, arith, ⊎_elim, ◌⊎◌, inl, inr}
-use Rattle.std.specs.Prelude.{filter, slice_get, Contains, IsTrue}
+use Rattle.std.proofs.Common.{◌≡◌, ℕ, zero, suc, ◌+◌, ◌<◌, Bool, true, false, cond, nat_eq, List, [], ◌∷◌, ◌++◌, length, map, get_or, Option, Some, None, refl, sym, ap, ◌∙◌, subst, arith}
+use Rattle.std.specs.Prelude.{filter, slice_get, Contains}
 use Rattle.std.specs.List.{IsDistinct, AllByRecursion, flat_map, range_with_len}
 use Rattle.std.specs.Option.{option_map_or}
-use Rattle.std.proofs.lemmas.Bool.{cases_Bool, cases_eq, cases_lt, eq-eqb, ne_eqb, and_parts, true≢false}
+use Rattle.std.proofs.lemmas.Bool.{eq-eqb, ne_eqb, and_parts, true≢false}
 use Rattle.std.proofs.lemmas.List.{append-nil}
 use Rattle.std.proofs.lemmas.Option.{slice_get_within}
 use Rattle.core_tree.specs.declared.program.Core.{Core}
@@ -15,8 +15,7 @@ use Rattle.core_tree.specs.declared.statements.StmKind.TheVariants as stm
 use Rattle.core_tree.specs.Lives.{is_live}
 use Rattle.counted_meaning.specs.declared.pins.Pin.{Pin}
 use Rattle.counted_meaning.specs.Pinning.{Pins, pins_in, pins_of, holds_pointer, holds_on, counts_at, AreThose, AreExact}
-use Rattle.object_meaning.specs.Holding.{takes_answer}
-use Rattle.count_insertion.specs.Inserted.{pin_of, pins_below, pins_at, func_pins}
+use Rattle.count_insertion.specs.Inserted.{pin_of, pins_at, func_pins}
 
 -- Pins of a point
 
@@ -158,10 +157,13 @@ at_map [] f func h = absurd (cc)
 at_map (g ∷ funcs) zero func h = let e : g ≡ func = cc in ap func_pins e
 at_map (g ∷ funcs) (suc f) func h = at_map funcs f func h
 
--- the pins of all functions are exact
+-- the pins of a point are the registers that count there, in their order
+pub listed_in_order : (core : Core) (pins : Pins) → pins ≡ map func_pins core.funcs → (f : ℕ) (func : Func) → slice_get core.funcs f ≡ Some func → (point : ℕ) (stm : Stm) → slice_get func.body point ≡ Some stm → pins_of pins f point ≡ filter (counts_at func point stm.kind) (range_with_len 0 (length func.regs))
+listed_in_order core pins e f func here point stm at =
+    ap (λ ps. pins_in (get_or ps f []) point) e ∙ ap (λ ps. pins_in ps point) (at_map core.funcs f func here) ∙ registers_are func point stm at
+
+-- and so they are exact
 pub listed_exact : (core : Core) (pins : Pins) → pins ≡ map func_pins core.funcs → AreExact core pins
 listed_exact core pins e f func here point stm at =
     let test = counts_at func point stm.kind in
-    let n = length func.regs in
-    let listed : pins_of pins f point ≡ filter test (range_with_len 0 n) = ap (λ ps. pins_in (get_or ps f []) point) e ∙ ap (λ ps. pins_in ps point) (at_map core.funcs f func here) ∙ registers_are func point stm at in
-    subst (λ rs. AreThose test rs) (sym listed) (those_below test n (counts_within func point stm.kind))
+    subst (λ rs. AreThose test rs) (sym (listed_in_order core pins e f func here point stm at)) (those_below test (length func.regs) (counts_within func point stm.kind))

@@ -117,7 +117,8 @@ pub fn live_tables(alloc: Global, core: &Core) -> Result<Items<LiveTable>, NoMem
     Ok(Items::from(live))
 }
 
-/// A core with its pins, from the tables of the live registers of its functions.
+/// A core with its pins, from the tables of the live registers of its functions. The pins of a function stand in the order of
+/// their points, and those of a point in the order of their registers.
 ///
 /// # Errors
 ///
@@ -126,7 +127,7 @@ pub fn insert(alloc: Global, core: &Core, live: &Items<LiveTable>) -> Result<Cou
     requires { AreTables live.now core.now.funcs }
     ensures core { IfOk result (λ counted. counted.core ≡ core.now) }
     ensures pins { IfOk result (λ counted. AreExact core.now counted.pins) }
-    ensures functions { IfOk result (λ counted. length counted.pins ≡ length core.now.funcs) }
+    ensures listed { IfOk result (λ counted. counted.pins ≡ map func_pins core.now.funcs) }
 {
     let pins = all_pins(alloc, core.funcs.as_slice(), live.as_slice())?;
     Ok(Counted {

@@ -1,11 +1,14 @@
 -- What a core means, with a number for each object in place of its holders.
 use Rattle.std.specs.Prelude.{ℕ, Bool, true, false, List, [], Option, Some, None}
 use Rattle.std.specs.List.{list_any}
+use Rattle.hs_base.specs.declared.values.Value.{Value}
 use Rattle.hs_base.specs.Freeing.{pointers_inside}
 use Rattle.hs_base.specs.Object.{Object}
 use Rattle.hs_base.specs.State.{State}
 use Rattle.hs_base.specs.Trace.{Event, Ending, Dangling}
 use Rattle.hs_base.specs.Runs as runs
+use Rattle.core_tree.specs.declared.statements.LibName.{LibName}
+use Rattle.core_tree.specs.declared.statements.LibName.TheVariants as lib
 use Rattle.core_tree.specs.declared.statements.Stm.{Stm}
 use Rattle.core_tree.specs.declared.statements.StmKind.{StmKind}
 use Rattle.core_tree.specs.declared.statements.StmKind.TheVariants as stm
@@ -27,9 +30,16 @@ use Rattle.counted_meaning.specs.Returning.{give_back}
 abbrev pub Run : Type 0
 Run = runs.Ran CountedState Event Ending
 
+-- the numbers behind a built-in function: of those that write, the object at the first argument changed
+abbrev pub behind_lib : LibName → List Value → (ℕ → ℕ) → State → State → ℕ → ℕ
+behind_lib lib.Memcpy values numbers before after = renumbered (birth_in (pointer_at values 0)) numbers before after
+behind_lib lib.Memmove values numbers before after = renumbered (birth_in (pointer_at values 0)) numbers before after
+behind_lib lib.Memset values numbers before after = renumbered (birth_in (pointer_at values 0)) numbers before after
+behind_lib name values numbers before after = numbers
+
 -- what a statement of each kind does: what it does in the object meaning, and to the numbers. A store and a copy change one
 -- object, a frame that calls waits with its pins, and a free, the end of a scope and a return ask the numbers; with every other
--- kind they stay. A built-in function changes the object at its first argument, or none
+-- kind they stay
 abbrev pub act : Core → Pins → ℕ → StmKind → (ℕ → ℕ) → State → Next
 act core pins line (stm.Storep p q) n s =
     other_numbers (renumbered (birth_in (pointer_of s p)) n) n (object.act core line (stm.Storep p q) s)
@@ -38,7 +48,7 @@ act core pins line (stm.Copy p q size) n s =
 act core pins line (stm.Clear p size) n s =
     other_numbers (renumbered (birth_in (pointer_of s p)) n) n (object.act core line (stm.Clear p size) s)
 act core pins line (stm.Lib name r args) n s =
-    other_numbers (renumbered (birth_in (pointer_at (values_of s args) 0)) n) n (object.act core line (stm.Lib name r args) s)
+    other_numbers (behind_lib name (values_of s args) n) n (object.act core line (stm.Lib name r args) s)
 act core pins line (stm.Call f r args) n s =
     other_numbers (λ before _. more n (pinned pins before.running)) n (object.act core line (stm.Call f r args) s)
 act core pins line (stm.Realloc r p size element) n s =

@@ -4,7 +4,7 @@ use Rattle.std.specs.Prelude.{slice_get}
 use Rattle.hs_base.specs.declared.ends.IntKind.TheVariants.{I32}
 use Rattle.hs_base.specs.declared.values.Pointer.{Pointer}
 use Rattle.hs_base.specs.declared.values.Value.{Value}
-use Rattle.hs_base.specs.Access.{Refusal}
+use Rattle.hs_base.specs.Access.{Refusal, and_then}
 use Rattle.hs_base.specs.Numbers.{wrapped}
 use Rattle.hs_base.specs.Object.{Object}
 use Rattle.hs_base.specs.State.{State}
@@ -38,8 +38,8 @@ use Rattle.counted_meaning.specs.Pinning.{Pins, AreExact}
 use Rattle.counted_meaning.specs.CountedState.{kept, same_numbers}
 use Rattle.counted_meaning.specs.Counting.{birth_in, renumbered}
 use Rattle.counted_meaning.specs.CountedMeaning as counted
+use Rattle.counted_meaning.specs.CountedMeaning.{behind_lib}
 use Rattle.counts_are_holders.specs.Counts.{AreCounts}
-use Rattle.counts_are_holders.proofs.Objects.{same_renumbers}
 use Rattle.counts_are_holders.proofs.Pins.{HasSorts}
 use Rattle.counts_are_holders.proofs.Sorting.{FitsIn, InOrder, gives_pointer, gives_pointer_result, plain_fits, value_fits}
 use Rattle.counts_are_holders.proofs.Touched.{OnDone, any_done, then_done, IsPlain, Any, any_said, truth_plain, on_two_plain, difference_plain, compared_plain, loaded_plain, stored_same, Changes, stored_pointer_changes, copied_changes, set_changes}
@@ -61,35 +61,27 @@ module _ (core : Core) (sound : IsSound core) (pins : Pins) (exact : AreExact co
   writes : (events : List Event) (r : Option ℕ) (v : Value) → FitsIn func r v → Plain core pins s func good.here order numbers counts (goes s events (write s r v))
   writes events r v fits = write_plain core pins s func good.here order numbers counts s.input events r v fits
 
-  -- Built-in functions: one object may have changed
+  -- Built-in functions
 
-  module _ (b : ℕ) where
-    abbrev Changing : object_going.Next → Type 0
-    Changing n = Alters core pins numbers (renumbered b numbers) numbers n
+  filled_alters : (b : ℕ) (r : Option ℕ) (p : Pointer) → FitsIn func r (address p) → (result : Result (List Object) Refusal) → OnDone (Changes s.objects b) result → Alters core pins numbers (renumbered b numbers) numbers (filled line r p result s)
+  filled_alters b r p fits (Ok objects) h =
+      (counts, renumbered_counts core pins s func good.here order numbers counts b (write (with_objects s objects) r (address p)) h refl, write_order core pins s func good.here order numbers counts objects s.input r (address p) fits)
+  filled_alters b r p fits (Err e) h = (counts, counts)
 
-    still : (input : List ℕ) (events : List Event) (r : Option ℕ) (v : Value) → FitsIn func r v → Changing (goes s events (write (record s { input = input }) r v))
-    still input events r v fits =
-        (counts, renumbered_counts core pins s func good.here order numbers counts b (write (record s { input = input }) r v) (same_renumbers s.objects b) refl, write_order core pins s func good.here order numbers counts s.objects input r v fits)
+  get_plain : (r : Option ℕ) (input : List ℕ) → Plain core pins s func good.here order numbers counts (get_byte r input s)
+  get_plain r [] = writes (In None ∷ []) r (number (negsuc 0)) (plain_fits func r (number (negsuc 0)) refl)
+  get_plain r (byte ∷ rest) =
+      write_plain core pins s func good.here order numbers counts rest (In (Some byte) ∷ []) r (number (pos byte)) (plain_fits func r (number (pos byte)) refl)
 
-    filled_alters : (r : Option ℕ) (p : Pointer) → FitsIn func r (address p) → (result : Result (List Object) Refusal) → OnDone (Changes s.objects b) result → Changing (filled line r p result s)
-    filled_alters r p fits (Ok objects) h =
-        (counts, renumbered_counts core pins s func good.here order numbers counts b (write (with_objects s objects) r (address p)) h refl, write_order core pins s func good.here order numbers counts objects s.input r (address p) fits)
-    filled_alters r p fits (Err e) h = (counts, counts)
+  puts_plain : (r : Option ℕ) (result : Result (List ℕ) Refusal) → Plain core pins s func good.here order numbers counts (if_done line s result (λ text. put_line r text s))
+  puts_plain r (Ok text) = writes (map Out (text ++ 10 ∷ [])) r (number (pos 0)) (plain_fits func r (number (pos 0)) refl)
+  puts_plain r (Err e) = (counts, counts)
 
-    answers_alter : (r : Option ℕ) (result : Result Value Refusal) → OnDone IsPlain result → Changing (answers line s r result)
-    answers_alter r (Ok v) h = still s.input [] r v (plain_fits func r v h)
-    answers_alter r (Err e) h = (counts, counts)
+  answers_alter : (r : Option ℕ) (result : Result Value Refusal) → OnDone IsPlain result → Plain core pins s func good.here order numbers counts (answers line s r result)
+  answers_alter r result h =
+      answers_plain core pins s func good.here order numbers counts line r result (done_fits func r result h)
 
-    get_alters : (r : Option ℕ) (input : List ℕ) → Changing (get_byte r input s)
-    get_alters r [] = still s.input (In None ∷ []) r (number (negsuc 0)) (plain_fits func r (number (negsuc 0)) refl)
-    get_alters r (byte ∷ rest) =
-        still rest (In (Some byte) ∷ []) r (number (pos byte)) (plain_fits func r (number (pos byte)) refl)
-
-    puts_alters : (r : Option ℕ) (result : Result (List ℕ) Refusal) → Changing (if_done line s result (λ text. put_line r text s))
-    puts_alters r (Ok text) = still s.input (map Out (text ++ 10 ∷ [])) r (number (pos 0)) (plain_fits func r (number (pos 0)) refl)
-    puts_alters r (Err e) = (counts, counts)
-
-  lib_alters : (name : LibName) (r : Option ℕ) (values : List Value) → GivesResult func (lib_gives name) r → Changing (birth_in (pointer_at values 0)) (call_lib line name r values s)
+  lib_alters : (name : LibName) (r : Option ℕ) (values : List Value) → GivesResult func (lib_gives name) r → Alters core pins numbers (behind_lib name values numbers) numbers (call_lib line name r values s)
   lib_alters lib.Exit r values h = (counts, counts)
   lib_alters lib.Abort r values h = (counts, counts)
   lib_alters lib.Memcpy r values h =
@@ -99,14 +91,13 @@ module _ (core : Core) (sound : IsSound core) (pins : Pins) (exact : AreExact co
   lib_alters lib.Memset r values h =
       filled_alters (birth_in (pointer_at values 0)) r (pointer_at values 0) (gives_pointer_result func r h (address (pointer_at values 0))) _ (set_changes s.objects (pointer_at values 0) (byte_in (number_at values 1)) (size_in (number_at values 2)))
   lib_alters lib.Strlen r values h =
-      answers_alter (birth_in (pointer_at values 0)) r _ (then_done Any IsPlain (string_at s.objects (pointer_at values 0)) _ (any_said (string_at s.objects (pointer_at values 0))) (λ text _. refl))
+      answers_alter r (and_then (string_at s.objects (pointer_at values 0)) (λ text. Ok (number (pos (length text))))) (then_done Any IsPlain (string_at s.objects (pointer_at values 0)) _ (any_said (string_at s.objects (pointer_at values 0))) (λ text _. refl))
   lib_alters lib.Strcmp r values h =
-      answers_alter (birth_in (pointer_at values 0)) r _ (then_done Any IsPlain (order_of s.objects (pointer_at values 0) (pointer_at values 1)) _ (any_said (order_of s.objects (pointer_at values 0) (pointer_at values 1))) (λ order _. refl))
-  lib_alters lib.Getchar r values h = get_alters (birth_in (pointer_at values 0)) r s.input
+      answers_alter r (and_then (order_of s.objects (pointer_at values 0) (pointer_at values 1)) (λ order. Ok (number order))) (then_done Any IsPlain (order_of s.objects (pointer_at values 0) (pointer_at values 1)) _ (any_said (order_of s.objects (pointer_at values 0) (pointer_at values 1))) (λ order _. refl))
+  lib_alters lib.Getchar r values h = get_plain r s.input
   lib_alters lib.Putchar r values h =
-      still (birth_in (pointer_at values 0)) s.input (Out (byte_in (number_at values 0)) ∷ []) r (number (pos (byte_in (number_at values 0)))) (plain_fits func r (number (pos (byte_in (number_at values 0)))) refl)
-  lib_alters lib.Puts r values h =
-      puts_alters (birth_in (pointer_at values 0)) r (string_at s.objects (pointer_at values 0))
+      writes (Out (byte_in (number_at values 0)) ∷ []) r (number (pos (byte_in (number_at values 0)))) (plain_fits func r (number (pos (byte_in (number_at values 0)))) refl)
+  lib_alters lib.Puts r values h = puts_plain r (string_at s.objects (pointer_at values 0))
 
   print_plain : (r : ℕ) (bytes : List ℕ) (why : Option Refusal) → Plain core pins s func good.here order numbers counts (print line r bytes why s)
   print_plain r bytes None = writes (map Out bytes) (Some r) (number (wrapped I32 (pos (length bytes)))) (λ n. refl)
@@ -170,7 +161,7 @@ module _ (core : Core) (sound : IsSound core) (pins : Pins) (exact : AreExact co
   act_agrees (stm.Free p) at h =
       free_agrees core pins exact s func good.here _ at (λ q. refl) order good.sane numbers counts line (pointer_of s p)
   act_agrees (stm.Lib name r args) at h =
-      alters_agree core pins numbers (renumbered (birth_in (pointer_at (values_of s args) 0)) numbers) numbers _ (lib_alters name r (values_of s args) h.0)
+      alters_agree core pins numbers (behind_lib name (values_of s args) numbers) numbers _ (lib_alters name r (values_of s args) h.0)
   act_agrees (stm.Printf r k args) at h = plain _ (print_plain r _ _)
   act_agrees stm.Enter at h = plain (object.act core line stm.Enter s) (counts, counts, on_order core pins s func good.here order numbers counts (s.running.point + 1))
   act_agrees stm.Leave at h =

@@ -58,7 +58,7 @@ flat_reverse f (x ∷ xs) =
 -- Registers that count
 
 -- a register that points to an object is one for pointers
-points_from : (func : Func) (frame : Frame) → HasSorts func frame.regs → (x r : ℕ) → is_pointer_to x (pointer_of_register frame r) ≡ true → holds_pointer func r ≡ true
+pub points_from : (func : Func) (frame : Frame) → HasSorts func frame.regs → (x r : ℕ) → is_pointer_to x (pointer_of_register frame r) ≡ true → holds_pointer func r ≡ true
 points_from func frame sorts x r h =
     ⊎_elim
     (λ yes. yes)

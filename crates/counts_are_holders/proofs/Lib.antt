@@ -5,6 +5,7 @@ pub mod Sorting
 pub mod Touched
 pub mod Agreeing
 pub mod Checks
+pub mod Listed
 pub mod Freed
 pub mod Calling
 pub mod Acting

@@ -1,4 +1,4 @@
-use Rattle.std.proofs.Common.{◌≡◌, ◌<◌, length, arith}
+use Rattle.std.proofs.Common.{◌<◌, length, arith}
 use Rattle.count_insertion.proofs.Listing.{tables_long, table_at}
 use Rattle.count_insertion.proofs.pinning.all_pins.Goals as goal
 

@@ -1,4 +1,3 @@
-use Rattle.std.proofs.Common.{◌<◌, length, arith}
 use Rattle.count_insertion.proofs.Listing.{tables_more}
 use Rattle.count_insertion.proofs.pinning.live_tables.Goals as goal
 
