@@ -83,8 +83,8 @@ IsRead wanted (Ok command) = wanted ≡ Some (command_shown command)
 IsRead wanted (Err Usage) = wanted ≡ None
 IsRead wanted (Err NoMemory) = ⊤
 
--- the steps of a task are at most the most that an option may give
+-- the stack and the steps of a task are at most the most that an option may give
 abbrev pub IsLimited : Task → Type 0
-IsLimited (Run stack steps) = steps ≤ 1000000000
+IsLimited (Run stack steps) = (stack ≤ 67108864) × (steps ≤ 1000000000)
 IsLimited (Mean steps) = steps ≤ 1000000000
 IsLimited _ = ⊤

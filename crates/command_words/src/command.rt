@@ -133,7 +133,8 @@ fn asked<'a>(name: &str, found: &ArgMatches<'a>) -> Result<Command<'a>, WordsErr
 /// # Errors
 ///
 /// [`WordsError::Usage`] exactly where the words are not taken, but for want of memory, which is
-/// [`WordsError::NoMemory`]. The steps of a task that is read are at most 1,000,000,000.
+/// [`WordsError::NoMemory`]. The steps of a task that is read are at most 1,000,000,000, and its stack has at most 67,108,864
+/// bytes.
 pub fn read<'a>(alloc: Global, words: &'a [&'a str]) -> Result<Command<'a>, WordsError>
     ensures read { IsRead (command_of (map (λ w. w.now) words.entry.now)) result }
     ensures limits { IfOk result (λ command. IsLimited (task_shown command.task)) }

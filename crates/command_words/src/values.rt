@@ -53,7 +53,8 @@ pub(crate) fn steps(word: Option<&str>) -> Option<u64>
 
 /// The bytes of the stack: the value of the option, from 0 to 67,108,864, or the default.
 pub(crate) fn stack(word: Option<&str>) -> Option<u32>
-    ensures { result ≡ stack_in (option_map (λ w. w.now) word.entry) }
+    ensures value { result ≡ stack_in (option_map (λ w. w.now) word.entry) }
+    ensures bound { MatchOption result ⊤ (λ n. n ≤ 67108864) }
 {
     let bytes = value(word, 0, MOST_STACK, DEFAULT_STACK)?;
     Some(bytes as u32)
