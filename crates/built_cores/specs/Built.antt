@@ -8,8 +8,9 @@ use Rattle.core_tree.specs.declared.statements.Stm.{Stm}
 use Rattle.core_tree.specs.declared.statements.StmKind.{StmKind}
 use Rattle.core_tree.specs.declared.statements.StmKind.TheVariants as stm
 
--- the built-in functions that are built: those that write no range of bytes
+-- the built-in functions that are built: those that write no range of bytes and no string
 abbrev pub IsBuiltLib : LibName → Type 0
+IsBuiltLib lib.Puts = ⊥
 IsBuiltLib lib.Memcpy = ⊥
 IsBuiltLib lib.Memmove = ⊥
 IsBuiltLib lib.Memset = ⊥

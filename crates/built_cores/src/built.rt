@@ -11,6 +11,7 @@ fn is_built_lib(name: LibName) -> bool
     ensures { IsTrue result ↔ IsBuiltLib name }
 {
     match name {
+        LibName::Puts => false,
         LibName::Memcpy | LibName::Memmove | LibName::Memset => false,
         _ => true,
     }
