@@ -37,7 +37,7 @@ bare shape = record shape {
 abbrev pub program : App
 program = on_top bare (new_app (codes "heapsafe"))
 
--- `run` and `mean`, and `print FILE`, `layout FILE`, `list FILE`
+-- `run` and `mean`, and `print FILE`, `layout FILE`, `list FILE`, `live FILE`
 abbrev pub command_set : App
 command_set =
-    with_subcommand (with_subcommand (with_subcommand (with_subcommand (with_subcommand program run.top) mean.top) (plain (codes "print")).top) (plain (codes "layout")).top) (plain (codes "list")).top
+    with_subcommand (with_subcommand (with_subcommand (with_subcommand (with_subcommand (with_subcommand program run.top) mean.top) (plain (codes "print")).top) (plain (codes "layout")).top) (plain (codes "list")).top) (plain (codes "live")).top

@@ -11,13 +11,15 @@ use Rattle.command_words.specs.declared.error.WordsError.{WordsError}
 use Rattle.command_words.specs.declared.error.WordsError.TheVariants.{Usage, NoMemory}
 
 -- what is done with a text: it is run on a stack of so many bytes with at most so many steps, or its meaning is evaluated
--- with so many; or its canonical spelling is written, the layouts of its structs and unions, or its core
+-- with so many; or its canonical spelling is written, the layouts of its structs and unions, its core, or the registers that
+-- are live after each point of it
 pub data Task : Type 0 where
   Run : (stack steps : ℕ) → Task
   Mean : (steps : ℕ) → Task
   Print : Task
   Layout : Task
   List : Task
+  Live : Task
 
 pub record Command : Type 0 where
   pub file : Listed ℕ
@@ -55,7 +57,7 @@ plain_in task rows = option_and_then (λ file. with_file file task) (first_of (c
 -- the task of a command with a file alone
 abbrev pub task_named : Text → Option Task
 task_named name =
-    cond (bytes_eq name (codes "print")) (Some Print) (cond (bytes_eq name (codes "layout")) (Some Layout) (cond (bytes_eq name (codes "list")) (Some List) None))
+    cond (bytes_eq name (codes "print")) (Some Print) (cond (bytes_eq name (codes "layout")) (Some Layout) (cond (bytes_eq name (codes "list")) (Some List) (cond (bytes_eq name (codes "live")) (Some Live) None)))
 
 abbrev pub asked : Text → Listed Row → Option Command
 asked name rows =
@@ -73,6 +75,7 @@ task_shown (tasks.Mean steps) = Mean steps
 task_shown tasks.Print = Print
 task_shown tasks.Layout = Layout
 task_shown tasks.List = List
+task_shown tasks.Live = Live
 
 abbrev pub command_shown : code.Command → Command
 command_shown command = record { file = command.file.now; task = task_shown command.task }

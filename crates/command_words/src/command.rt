@@ -31,6 +31,8 @@ pub enum Task {
     Layout,
     /// The functions of its core are written.
     List,
+    /// The registers that are live after each point of its core are written.
+    Live,
 }
 
 /// What is done with a file, if the word can be its name.
@@ -107,6 +109,9 @@ fn task_named(name: &str) -> Option<Task>
     }
     if name == "list" {
         return Some(Task::List);
+    }
+    if name == "live" {
+        return Some(Task::Live);
     }
     None
 }

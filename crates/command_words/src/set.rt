@@ -38,6 +38,7 @@ pub(crate) fn command_set<'a>(alloc: Global) -> Result<Command<'a>, AllocError>
     let print = Command::new(alloc, "print").arg(file(alloc))?;
     let layout = Command::new(alloc, "layout").arg(file(alloc))?;
     let list = Command::new(alloc, "list").arg(file(alloc))?;
+    let live = Command::new(alloc, "live").arg(file(alloc))?;
     Command::new(alloc, "heapsafe")
         .no_binary_name(true)
         .disable_help_flag(true)
@@ -48,5 +49,6 @@ pub(crate) fn command_set<'a>(alloc: Global) -> Result<Command<'a>, AllocError>
         .subcommand(mean)?
         .subcommand(print)?
         .subcommand(layout)?
-        .subcommand(list)
+        .subcommand(list)?
+        .subcommand(live)
 }

@@ -12,14 +12,14 @@ fn shown<'a>(read: Result<Command<'a>, WordsError>) -> Option<(&'a str, u32, u64
     match task {
         Task::Run { stack, steps } => Some((file, stack, steps)),
         Task::Mean { steps } => Some((file, 0, steps)),
-        Task::Print | Task::Layout | Task::List => Some((file, 0, 0)),
+        Task::Print | Task::Layout | Task::List | Task::Live => Some((file, 0, 0)),
     }
 }
 
 /// Options stand before or after the file, with a blank or `=`; leading zeros are allowed; behind `--` stands a file.
 #[test]
 fn words_that_are_taken(rt: HostRuntime) -> Result<(), Fail> {
-    let rows: [(&[&str], &str, u32, u64); 15] = [
+    let rows: [(&[&str], &str, u32, u64); 16] = [
         (&["run", "a.c"], "a.c", 1_048_576, 100_000_000),
         (&["run", "a.c", "--steps", "5"], "a.c", 1_048_576, 5),
         (&["run", "--steps", "5", "a.c"], "a.c", 1_048_576, 5),
@@ -45,6 +45,7 @@ fn words_that_are_taken(rt: HostRuntime) -> Result<(), Fail> {
         (&["print", "--", "a.c"], "a.c", 0, 0),
         (&["layout", "a.c"], "a.c", 0, 0),
         (&["list", "a.c"], "a.c", 0, 0),
+        (&["live", "--", "a.c"], "a.c", 0, 0),
     ];
     for (words, file, stack, steps) in rows {
         assert_eq!(rt; shown(read(rt.alloc(), words)), Some((file, stack, steps)));
@@ -56,7 +57,7 @@ fn words_that_are_taken(rt: HostRuntime) -> Result<(), Fail> {
 /// without its value, and a number out of its limits.
 #[test]
 fn words_that_are_not_taken(rt: HostRuntime) -> Result<(), Fail> {
-    let rows: [&[&str]; 30] = [
+    let rows: [&[&str]; 32] = [
         &[],
         &["run"],
         &["print"],
@@ -87,6 +88,8 @@ fn words_that_are_not_taken(rt: HostRuntime) -> Result<(), Fail> {
         &["mean", "a.c", "--steps", "0"],
         &["mean", "a.c", "--stack", "5"],
         &["print", "a.c", "--steps", "5"],
+        &["live"],
+        &["live", "a.c", "b.c"],
     ];
     for words in rows {
         assert!(rt; matches!(read(rt.alloc(), words), Err(WordsError::Usage)));

@@ -44,8 +44,11 @@ returns c =
     let list_is : app_of c.in_ok-list.list ≡ plain (codes "list") = c.in_ok-list.ensures.shape c.file-5.ensures.local
     ∙ ap₂ with_rule c.new-5.ensures.app c.file-5.ensures.rule in
     let list_local = c.in_ok-list.ensures.globals ∙ ap₂ either c.new-5.ensures.local c.file-5.ensures.local in
+    let live_is : app_of c.in_ok-live.live ≡ plain (codes "live") = c.in_ok-live.ensures.shape c.file-6.ensures.local
+    ∙ ap₂ with_rule c.new-6.ensures.app c.file-6.ensures.rule in
+    let live_local = c.in_ok-live.ensures.globals ∙ ap₂ either c.new-6.ensures.local c.file-6.ensures.local in
     let one : app_of c.no_binary_name.result ≡ on_top words_alone (new_app (codes "heapsafe")) =
-    ap app_of_fields c.no_binary_name.ensures ∙ ap (on_top words_alone) c.new-6.ensures.app in
+    ap app_of_fields c.no_binary_name.ensures ∙ ap (on_top words_alone) c.new-7.ensures.app in
     let two : app_of c.disable_help_flag.result ≡ on_top helpless (on_top words_alone (new_app (codes "heapsafe"))) =
     ap app_of_fields c.disable_help_flag.ensures ∙ ap (on_top helpless) one in
     let three = ap app_of_fields c.disable_version_flag.ensures ∙ ap (on_top versionless) two in
@@ -56,4 +59,5 @@ returns c =
     let with_mean = c.in_ok-subcommand-2.ensures.shape mean_local ∙ ap₂ with_subcommand with_run (ap (λ (a : App). a.top) mean_is) in
     let with_print = c.in_ok-subcommand-3.ensures.shape print_local ∙ ap₂ with_subcommand with_mean (ap (λ (a : App). a.top) print_is) in
     let with_layout = c.in_ok-subcommand-4.ensures.shape layout_local ∙ ap₂ with_subcommand with_print (ap (λ (a : App). a.top) layout_is) in
-    IfOk-weaker c.subcommand-5.result _ _ (λ r h. h.shape list_local ∙ ap₂ with_subcommand with_layout (ap (λ (a : App). a.top) list_is)) c.subcommand-5.ensures
+    let with_list = c.in_ok-subcommand-5.ensures.shape list_local ∙ ap₂ with_subcommand with_layout (ap (λ (a : App). a.top) list_is) in
+    IfOk-weaker c.subcommand-6.result _ _ (λ r h. h.shape live_local ∙ ap₂ with_subcommand with_list (ap (λ (a : App). a.top) live_is)) c.subcommand-6.ensures

@@ -1,0 +1,26 @@
+use Rattle.std.proofs.Common.{◌≡◌, ◌++◌, ℕ, Vec, Global, length, sym, ap, ◌∙◌, arith}
+use Rattle.core_tree.specs.Lives.{is_live}
+use Rattle.live_list.proofs.Growing.{same_answer, words_below, live_more, dead_more}
+use Rattle.live_list.proofs.lines.put_registers.Goals as goal
+use Rattle.live_list.proofs.lines.put_registers.Goals.{then-is_live+in_ok-put_register, else-is_live}
+
+pub loop-register-preserved : goal.loop-register-preserved
+loop-register-preserved c =
+    let body = c.args.func.now.body in
+    let told : c.is_live.result ≡ is_live body c.args.point c.loop-register.register =
+    same_answer body c.args.point c.loop-register.register c.is_live.result (c.is_live.ensures.live c.args.func.now c.requires.table) in
+    elim c.if-is_live.branch [
+      | then-is_live+in_ok-put_register w ↦
+          ap (λ (t : Vec ℕ Global). t.items) w.text-is
+          ∙ live_more body c.args.point c.loop-register.register c.args.text.now.items c.loop-register.text.items w.put_register.new.text.items
+          c.loop-register.invariant (sym told ∙ w.if-is_live.true) w.in_ok-put_register.ensures
+      | else-is_live w ↦
+          ap (λ (t : Vec ℕ Global). t.items) w.text-is
+          ∙ dead_more body c.args.point c.loop-register.register c.args.text.now.items c.loop-register.text.items c.loop-register.invariant (sym told ∙ w.if-is_live.false)
+    ]
+
+pub returns : goal.returns
+returns c =
+    let all : c.loop-register.register ≡ length c.args.func.now.regs =
+    let long = c.len.ensures in let fits = c.in_ok-registers.ensures in omega (arith, long, fits) in
+    c.loop-register.invariant ∙ ap (λ n. c.args.text.now.items ++ words_below c.args.func.now.body c.args.point n) all
