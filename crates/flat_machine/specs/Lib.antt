@@ -11,3 +11,5 @@ pub mod Loaded
 pub mod Well
 pub mod First
 pub mod Machined
+pub mod Loading
+pub mod Lasting

@@ -5,6 +5,9 @@
 //! (`code_meaning/specs/CodeMeaning.antt`), cut at the first call that does not fit the stack (`hs_base/specs/Cut.antt`): the
 //! bytes written and read, and the end. `specs/Built.antt` says which instructions are built.
 //!
+//! [`Machine::load`] makes one before its first instruction: with the statics of the code in its memory, and with all memory that
+//! the run takes.
+//!
 //! A word is a number or an address. `specs/Standing.antt` says which state of the meaning the machine stands for: its words
 //! stand for the values of that state, one by one, and its memory keeps the objects. Each instruction is proved over all
 //! states that the machine stands for, and leads to a machine that stands for the state behind it. No instruction takes
@@ -18,6 +21,7 @@ mod calls;
 mod counted;
 mod handing;
 mod jumps;
+mod load;
 mod loaded;
 mod machine;
 mod memory;
@@ -25,6 +29,7 @@ mod output;
 mod pointers;
 mod running;
 mod state;
+mod statics;
 mod steps;
 mod strings;
 mod words;

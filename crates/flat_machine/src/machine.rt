@@ -4,8 +4,9 @@ ghost use Rattle.std.specs.Prelude.{◌≡◌, ◌+◌, ◌<◌, ◌^◌, ℕ, L
 ghost use Rattle.flat_code.specs.WellFormed.{IsWellFormed};
 ghost use Rattle.code_soundness.specs.Laws.{HoldsBytes};
 ghost use Rattle.flat_machine.specs.Built.{IsBuilt};
-ghost use Rattle.flat_machine.specs.Machined.{IsOf};
+ghost use Rattle.flat_machine.specs.Machined.{IsOf, steps_made};
 ghost use Rattle.flat_machine.specs.Running.{RunAnswers, RunCounts};
+ghost use Rattle.flat_machine.specs.Lasting.{MakesSteps};
 
 use crate::loaded::Loaded;
 use crate::running::whole_run;
@@ -21,6 +22,8 @@ pub struct Machine {
     loaded: Loaded,
     stack: u32,
     ended: Option<End>,
+    /// The steps that the run was allowed.
+    budget: u64,
 }
 
 impl Model for Machine {
@@ -28,14 +31,27 @@ impl Model for Machine {
 
     ghost Value = { Machined };
 
-    ghost view = { λ m. record { kept = m.state; loaded = m.loaded; stack = m.stack; ended = m.ended } };
+    ghost view = { λ m. record { kept = m.state; loaded = m.loaded; stack = m.stack; ended = m.ended; budget = m.budget } };
 }
 
 impl Machine {
+    /// A machine before its run.
+    pub(crate) fn new(state: State, loaded: Loaded, stack: u32) -> Machine
+        ensures { result ≡ record { kept = state; loaded = loaded; stack = stack; ended = None; budget = 0 } }
+    {
+        Machine {
+            state,
+            loaded,
+            stack,
+            ended: None,
+            budget: 0,
+        }
+    }
+
     /// Runs the code that was loaded, with at most so many steps. Where input and output are told, it writes exactly the
     /// bytes that the meaning of code writes before its first call that does not fit the stack, takes exactly the bytes that
     /// it reads, and answers its end, or the line of that call. It ends by a fault of the input or the output exactly where
-    /// that object failed in this call. A machine that has ended answers the same end again, and touches nothing.
+    /// that object failed in this call. [`Machine::steps_made`] tells how many steps it made. A machine that has ended answers the same end again, and touches nothing.
     pub fn run<I: Source, O: Sink>(
         &mut self,
         code: &Code,
@@ -50,6 +66,7 @@ impl Machine {
         requires input { I.faults input.old + 1 < 2 ^ 64 }
         requires out { O.faults out.old + 1 < 2 ^ 64 }
         ensures told { self.old.ended ≡ None → (left : List ℕ) (heap : ℕ) (taken : List ℕ) → I.left input.old ≡ Some left → O.taken out.old ≡ Some taken → RunAnswers code.now left budget (record { heap = heap; stack = self.old.stack }) taken result (I.left input.new) (O.taken out.new) }
+        ensures made { self.old.ended ≡ None → (left : List ℕ) (heap : ℕ) (taken : List ℕ) → I.left input.old ≡ Some left → O.taken out.old ≡ Some taken → MakesSteps code.now left budget (record { heap = heap; stack = self.old.stack }) result (steps_made self.new) }
         ensures faults { self.old.ended ≡ None → RunCounts result (I.faults input.old) (I.faults input.new) (O.faults out.old) (O.faults out.new) }
         ensures ends { self.new.ended ≡ Some result }
         ensures loaded { IsOf code.now self.new }
@@ -59,8 +76,16 @@ impl Machine {
             return end;
         }
         self.state.allow(budget);
+        self.budget = budget;
         let end = whole_run(&mut self.state, code, &self.loaded, self.stack, input, out);
         self.ended = Some(end);
         end
+    }
+
+    /// How many steps the run has made: none before it.
+    pub fn steps_made(&self) -> u64
+        ensures { result ≡ steps_made self.now }
+    {
+        self.budget.saturating_sub(self.state.steps())
     }
 }

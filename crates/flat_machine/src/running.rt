@@ -1,6 +1,6 @@
 //! Runs: one instruction after another, until the end.
 
-ghost use Rattle.std.specs.Prelude.{◌≡◌, ◌+◌, ◌<◌, ◌^◌, ℕ, List, IfOk, IfErr, Some};
+ghost use Rattle.std.specs.Prelude.{◌≡◌, ◌+◌, ◌-◌, ◌<◌, ◌^◌, ℕ, List, IfOk, IfErr, Some};
 ghost use Rattle.hs_base.specs.Cut.{Room};
 ghost use Rattle.flat_code.specs.WellFormed.{IsWellFormed};
 ghost use Rattle.code_soundness.specs.Laws.{HoldsBytes};
@@ -9,6 +9,7 @@ ghost use Rattle.flat_machine.specs.Loaded.{IsLoaded};
 ghost use Rattle.flat_machine.specs.Well.{IsWell};
 ghost use Rattle.flat_machine.specs.First.{IsFirst};
 ghost use Rattle.flat_machine.specs.Running.{Reached, RunAnswers, RunCounts};
+ghost use Rattle.flat_machine.specs.Lasting.{MakesSteps, left_at};
 
 use crate::loaded::Loaded;
 use crate::state::State;
@@ -16,6 +17,17 @@ use crate::steps::one_step;
 use code_soundness::{run_begins_well, step_leaves_less, step_stays_good};
 use flat_code::Code;
 use hs_base::{End, Sink, Source};
+
+/// The steps left at an end, where so many were left before the last instruction: a call for which the stack has no room has
+/// taken its step.
+fn left_at(end: End, left: u64) -> u64
+    ensures { result ≡ left_at end left }
+{
+    match end {
+        End::OutOfStack(_) => left.saturating_sub(1),
+        _ => left,
+    }
+}
 
 /// Makes instructions until the run ends.
 pub(crate) fn end_of_run<I: Source, O: Sink>(
@@ -32,14 +44,19 @@ pub(crate) fn end_of_run<I: Source, O: Sink>(
     requires input { I.faults input.old + 1 < 2 ^ 64 }
     requires out { O.faults out.old + 1 < 2 ^ 64 }
     ensures told { (left : List ℕ) (n : ℕ) (room : Room) (taken : List ℕ) → state.old.calls.room ≡ room.stack → Reached code.now left n room taken state.old (I.left input.old) (O.taken out.old) → RunAnswers code.now left n room taken result (I.left input.new) (O.taken out.new) }
+    ensures made { (left : List ℕ) (n : ℕ) (room : Room) (taken : List ℕ) → state.old.calls.room ≡ room.stack → Reached code.now left n room taken state.old (I.left input.old) (O.taken out.old) → MakesSteps code.now left n room result (n - state.new.steps) }
     ensures faults { RunCounts result (I.faults input.old) (I.faults input.new) (O.faults out.old) (O.faults out.new) }
 {
     step_stays_good();
     step_leaves_less();
     'instructions: loop {
+        let left = state.steps();
         match one_step(state, code, loaded, input, out) {
             Ok(()) => {}
-            Err(end) => return end,
+            Err(end) => {
+                state.allow(left_at(end, left));
+                return end;
+            }
         }
     }
 }
@@ -55,6 +72,7 @@ fn begin(state: &mut State, code: &Code, loaded: &Loaded, stack: u32) -> Result<
     ensures room { IfOk result (λ _. state.new.calls.room ≡ stack) }
     ensures reaches { IfOk result (λ _. (input : List ℕ) (n : ℕ) (room : Room) (taken : List ℕ) → n ≡ state.old.steps → room.stack ≡ stack → Reached code.now input n room taken state.new (Some input) (Some taken)) }
     ensures ends { IfErr result (λ e. (input : List ℕ) (n : ℕ) (room : Room) (taken : List ℕ) → n ≡ state.old.steps → room.stack ≡ stack → RunAnswers code.now input n room taken e (Some input) (Some taken)) }
+    ensures made { IfErr result (λ e. (input : List ℕ) (n : ℕ) (room : Room) → n ≡ state.old.steps → room.stack ≡ stack → MakesSteps code.now input n room e (n - state.new.steps)) }
     ensures faults { IfErr result (λ e. (i o : ℕ) → RunCounts e i i o o) }
 {
     run_begins_well();
@@ -95,6 +113,7 @@ pub(crate) fn whole_run<I: Source, O: Sink>(
     requires input { I.faults input.old + 1 < 2 ^ 64 }
     requires out { O.faults out.old + 1 < 2 ^ 64 }
     ensures told { (left : List ℕ) (n : ℕ) (room : Room) (taken : List ℕ) → n ≡ state.old.steps → room.stack ≡ stack → I.left input.old ≡ Some left → O.taken out.old ≡ Some taken → RunAnswers code.now left n room taken result (I.left input.new) (O.taken out.new) }
+    ensures made { (left : List ℕ) (n : ℕ) (room : Room) (taken : List ℕ) → n ≡ state.old.steps → room.stack ≡ stack → I.left input.old ≡ Some left → O.taken out.old ≡ Some taken → MakesSteps code.now left n room result (n - state.new.steps) }
     ensures faults { RunCounts result (I.faults input.old) (I.faults input.new) (O.faults out.old) (O.faults out.new) }
 {
     match begin(state, code, loaded, stack) {

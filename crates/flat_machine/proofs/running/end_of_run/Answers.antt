@@ -1,5 +1,8 @@
-use Rattle.std.proofs.Common.{◌++◌, refl, sym, ◌∙◌}
+use Rattle.std.proofs.Common.{◌≡◌, ◌-◌, ℕ, ◌++◌, ap, refl, subst, sym, ◌∙◌}
 use Rattle.hs_base.specs.Trace.{bytes_out}
+use Rattle.flat_machine.specs.Kept.{Kept}
+use Rattle.flat_machine.specs.Lasting.{MakesSteps, left_at}
+use Rattle.flat_machine.proofs.Lasting.{made_end}
 use Rattle.flat_machine.proofs.Reached.{reached_more, reached_end}
 use Rattle.flat_machine.proofs.Loops.{well_next, less_next, room_next, less_state, run_counts}
 use Rattle.flat_machine.proofs.running.end_of_run.Goals as goal
@@ -46,3 +49,12 @@ pub returns-in-Err-clause-faults : goal.returns-in-Err-clause-faults
 returns-in-Err-clause-faults g c =
     let faults = rw (c.in-Err.is, c.instructions.invariant.input, c.instructions.invariant.out) at c.one_step.ensures.faults in
     run_counts c.in-Err.end _ _ _ _ faults
+
+pub returns-in-Err-clause-made : goal.returns-in-Err-clause-made
+returns-in-Err-clause-made g c = λ left n room taken stack first.
+    let told = rw c.in-Err.is at c.one_step.ensures.told in
+    let known = c.instructions.invariant in
+    let r = known.told left n room taken stack first in
+    let steps : c.allow.new.self.steps ≡ left_at c.in-Err.end c.instructions.state.steps = ap (λ (x : Kept). x.steps) c.allow.ensures ∙ c.left_at.ensures ∙ ap (left_at c.in-Err.end) c.steps-left.ensures in
+    subst (λ (m : ℕ). MakesSteps c.args.code.now left n room c.in-Err.end (n - m)) (sym steps)
+    (made_end c.args.code.now left n room taken c.instructions.state _ _ r _ _ c.one_step.new.state (known.room ∙ stack) c.in-Err.end (told r.stands.places r.now r.trace (taken ++ bytes_out r.trace) r.stands.stands r.is_left r.is_taken))

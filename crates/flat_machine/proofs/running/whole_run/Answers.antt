@@ -9,3 +9,10 @@ returns-in-Ok-clause-told g c = λ left n room taken same stack l t.
 pub returns-in-Err-clause-told : goal.returns-in-Err-clause-told
 returns-in-Err-clause-told g c = λ left n room taken same stack l t.
     rw (l, t) (c.in-Err.ensures.ends left n room taken same stack)
+
+pub returns-in-Ok-clause-made : goal.returns-in-Ok-clause-made
+returns-in-Ok-clause-made g c = λ left n room taken same stack l t.
+    c.end_of_run.ensures.made left n room taken (c.in-Ok.ensures.room ∙ sym stack) (reached_told c.args.code.now left n room taken c.begin.new.state _ _ l t (c.in-Ok.ensures.reaches left n room taken same stack))
+
+pub returns-in-Err-clause-made : goal.returns-in-Err-clause-made
+returns-in-Err-clause-made g c = λ left n room taken same stack l t. c.in-Err.ensures.made left n room same stack

@@ -1,0 +1,179 @@
+//! The statics of a code in a new memory (C99 6.2.4, 6.7.8).
+
+ghost use Rattle.std.specs.Prelude.{◌≡◌, ◌+◌, ◌<◌, ◌≤◌, [], ℕ, IfOk, length};
+ghost use Rattle.hs_base.specs.Place.{block_size};
+ghost use Rattle.flat_code.specs.WellFormed.{IsWellFormed};
+ghost use Rattle.flat_objects.specs.Memory.{SameFrame};
+ghost use Rattle.flat_objects.specs.Keeping.{Keeps};
+ghost use Rattle.code_meaning.specs.Entering.{layout_in};
+ghost use Rattle.flat_machine.specs.Loading.{HasPlaced, HasRoom, HasStarted, blocks_length};
+
+use c_types::Layout;
+use flat_code::{Code, StaticInit};
+use flat_objects::FlatObjects;
+use hs_base::{Limits, NoMemory, Steps};
+use std::alloc::Global;
+use std::marker::Brand;
+use std::sync::ledger::{Blank, Ledger};
+
+/// The layout of a static.
+fn layout_of<'a>(code: &'a Code, start: &StaticInit) -> &'a Layout
+    requires { start.now.layout < length code.now.layouts }
+    ensures { result.now ≡ layout_in code.now start.now.layout }
+{
+    let Some(layout) = code.layouts.get(start.layout as usize) else {
+        unreachable!()
+    };
+    layout
+}
+
+/// How many bytes the block of an object of a size has.
+fn block_length(size: u32) -> u32
+    requires { size ≤ 268435456 }
+    ensures { result ≡ block_size size }
+{
+    32 + (size + 16) / 16 * 16
+}
+
+/// How many bytes the blocks of all statics have together.
+fn statics_length(code: &Code) -> u32
+    requires { IsWellFormed code.now }
+    ensures { result ≡ blocks_length code.now (length code.now.statics) }
+{
+    let mut length = 0;
+    for k in 0..code.statics.len() {
+        let layout = layout_of(code, &code.statics.as_slice()[k]);
+        length += block_length(layout.size);
+    }
+    length
+}
+
+/// Places the static behind so many that are placed, and adds its address.
+fn place_static<L: Ledger>(
+    objects: &mut FlatObjects,
+    code: &Code,
+    k: usize,
+    addrs: &mut Vec<u32>,
+    steps: &mut Steps<L>,
+) -> Result<(), NoMemory>
+    requires formed { IsWellFormed code.now }
+    requires room { HasRoom code.now objects.old }
+    requires placed { HasPlaced code.now objects.old addrs.old.items k }
+    requires more { k < length code.now.statics }
+    ensures placed { IfOk result (λ _. HasPlaced code.now objects.new addrs.new.items (k + 1)) }
+    ensures frame { SameFrame objects.old objects.new }
+{
+    let Some(start) = code.statics.get(k) else {
+        unreachable!()
+    };
+    let size = layout_of(code, start).size;
+    let Some(addr) = objects.new_static(size, start.layout, k as u32, steps) else {
+        unreachable!()
+    };
+    addrs.push(addr)?;
+    Ok(())
+}
+
+/// Places all statics, which are blank, and answers their addresses.
+fn place_statics<L: Ledger>(
+    alloc: Global,
+    objects: &mut FlatObjects,
+    code: &Code,
+    steps: &mut Steps<L>,
+) -> Result<Vec<u32>, NoMemory>
+    requires formed { IsWellFormed code.now }
+    requires room { HasRoom code.now objects.old }
+    requires empty { (places : ℕ → ℕ) → Keeps objects.old places [] }
+    ensures placed { IfOk result (λ addrs. HasPlaced code.now objects.new addrs.items (length code.now.statics)) }
+    ensures frame { SameFrame objects.old objects.new }
+{
+    let mut addrs = Vec::new(alloc);
+    for k in 0..code.statics.len() {
+        place_static(objects, code, k, &mut addrs, steps)?;
+    }
+    Ok(addrs)
+}
+
+/// Gives a static the bytes and the pointers that it holds first. All statics are placed at these addresses.
+fn start_static<L: Ledger>(
+    objects: &mut FlatObjects,
+    code: &Code,
+    k: usize,
+    addrs: &[u32],
+    steps: &mut Steps<L>,
+)
+    requires formed { IsWellFormed code.now }
+    requires started { HasStarted code.now objects.old addrs.now k }
+    requires more { k < length code.now.statics }
+    ensures started { HasStarted code.now objects.new addrs.now (k + 1) }
+    ensures frame { SameFrame objects.old objects.new }
+{
+    let Some(start) = code.statics.get(k) else {
+        unreachable!()
+    };
+    let addr = addrs[k];
+    objects.start_bytes(addr, start.bytes.as_slice(), steps);
+    objects.start_pointers(addr, start.pointers.as_slice(), addrs, steps);
+}
+
+/// Gives all statics what they hold first. They are placed at these addresses.
+fn start_statics<L: Ledger>(
+    objects: &mut FlatObjects,
+    code: &Code,
+    addrs: &[u32],
+    steps: &mut Steps<L>,
+)
+    requires formed { IsWellFormed code.now }
+    requires placed { HasPlaced code.now objects.old addrs.now (length code.now.statics) }
+    ensures started { HasStarted code.now objects.new addrs.now (length code.now.statics) }
+    ensures frame { SameFrame objects.old objects.new }
+{
+    for k in 0..code.statics.len() {
+        start_static(objects, code, k, addrs, steps);
+    }
+}
+
+fn memory_with<L: Ledger>(
+    alloc: Global,
+    code: &Code,
+    limits: Limits,
+    blank: Blank,
+) -> Result<(FlatObjects, Vec<u32>), NoMemory>
+    requires name { blank.name ≡ L.name }
+    requires parts { blank.parts ≡ L.parts }
+    requires some { 0 < blank.parts }
+    requires formed { IsWellFormed code.now }
+    requires heap { limits.heap ≤ 268435456 }
+    requires stack { limits.stack ≤ 67108864 }
+    ensures started { IfOk result (λ made. HasStarted code.now made.0 made.1.items (length code.now.statics)) }
+    ensures heap { IfOk result (λ made. made.0.heap.len ≡ limits.heap) }
+{
+    let mut steps = Steps::<L>::new(blank);
+    let locals = (limits.stack + 15) / 16 * 16;
+    let mut objects = FlatObjects::new(
+        alloc,
+        code.layouts.as_slice(),
+        statics_length(code),
+        locals,
+        limits.heap,
+    )?;
+    let addrs = place_statics(alloc, &mut objects, code, &mut steps)?;
+    start_statics(&mut objects, code, addrs.as_slice(), &mut steps);
+    Ok((objects, addrs))
+}
+
+/// A memory with the statics of a code, which hold what they hold first, and their addresses. Its heap has the size of the
+/// limits, and its range of memory locals that of the stack, rounded up.
+pub(crate) fn memory(
+    alloc: Global,
+    code: &Code,
+    limits: Limits,
+) -> Result<(FlatObjects, Vec<u32>), NoMemory>
+    requires formed { IsWellFormed code.now }
+    requires heap { limits.heap ≤ 268435456 }
+    requires stack { limits.stack ≤ 67108864 }
+    ensures started { IfOk result (λ made. HasStarted code.now made.0 made.1.items (length code.now.statics)) }
+    ensures heap { IfOk result (λ made. made.0.heap.len ≡ limits.heap) }
+{
+    memory_with::<Brand>(alloc, code, limits, Blank::new(1))
+}
