@@ -8,18 +8,15 @@ use Rattle.core_tree.specs.declared.statements.Stm.{Stm}
 use Rattle.core_tree.specs.declared.statements.StmKind.{StmKind}
 use Rattle.core_tree.specs.declared.statements.StmKind.TheVariants as stm
 
--- the built-in functions that are built: those that write no range of bytes and no string
+-- the built-in functions that are built: those that write no range of bytes
 abbrev pub IsBuiltLib : LibName → Type 0
-IsBuiltLib lib.Puts = ⊥
 IsBuiltLib lib.Memcpy = ⊥
 IsBuiltLib lib.Memmove = ⊥
 IsBuiltLib lib.Memset = ⊥
 IsBuiltLib name = Unit {0}
 
--- a statement that is built: none on the heap and on scopes, and none on ranges of bytes
+-- a statement that is built: none that frees or grows objects, none on scopes, and none on ranges of bytes
 abbrev pub IsBuiltStatement : StmKind → Type 0
-IsBuiltStatement (stm.Malloc r n t) = ⊥
-IsBuiltStatement (stm.Calloc r m n t) = ⊥
 IsBuiltStatement (stm.Realloc r p n t) = ⊥
 IsBuiltStatement (stm.Free p) = ⊥
 IsBuiltStatement (stm.Copy p q n) = ⊥

@@ -11,7 +11,6 @@ fn is_built_lib(name: LibName) -> bool
     ensures { IsTrue result ↔ IsBuiltLib name }
 {
     match name {
-        LibName::Puts => false,
         LibName::Memcpy | LibName::Memmove | LibName::Memset => false,
         _ => true,
     }
@@ -22,7 +21,6 @@ fn is_built_statement(kind: &StmKind) -> bool
     ensures { IsTrue result ↔ IsBuiltStatement kind.now }
 {
     match kind {
-        StmKind::Malloc(..) | StmKind::Calloc(..) => false,
         StmKind::Realloc(..) | StmKind::Free(..) => false,
         StmKind::Copy(..) | StmKind::Clear(..) => false,
         StmKind::Enter | StmKind::Leave => false,
@@ -50,8 +48,8 @@ fn is_built_function(func: &Func) -> bool
     func.mems.is_empty() && are_built_statements(func.body.as_slice())
 }
 
-/// Says whether a core has no memory local, and only statements that are built: none that frees, grows, copies or clears an
-/// object, and none that makes one.
+/// Says whether a core has no memory local, and only statements that are built: none that frees or grows objects, none on
+/// scopes, and none on ranges of bytes.
 pub fn is_built(core: &Core) -> bool
     ensures { IsTrue result ↔ IsBuilt core.now }
 {

@@ -9,7 +9,7 @@ use Rattle.c_tree.specs.declared.tree.Declarator.{Declarator}
 use Rattle.c_tree.specs.declared.tree.Declarator.TheVariants as d
 use Rattle.c_tree.specs.Forms as f
 use Rattle.c_tree.specs.Scopes.{params_of, params_among, suffix_params, leads_to_name, first_list}
-use Rattle.c_tree.specs.Tree.{Tree, Trees, Leaf, At, Node, none, ◌▹◌}
+use Rattle.c_tree.specs.Tree.{Trees, Leaf, At, Node, none, ◌▹◌}
 use Rattle.c_tree.specs.View.{declarator_tree, base_tree}
 use Rattle.c_tree.specs.Words.{Word}
 

@@ -1,8 +1,7 @@
 -- Nodes that grow behind a left part, from what their words and parts read.
-use Rattle.std.proofs.Common.{◌≡◌, ℕ, ◌-◌, ◌<◌, Option, Some, None, refl, ◌∙◌, ap, sym}
+use Rattle.std.proofs.Common.{◌≡◌, ℕ, ◌-◌, ◌<◌, Option, Some, refl, ◌∙◌}
 use Rattle.std.proofs.lemmas.Bool.{lt-ltb}
 use Rattle.c_tree.specs.declared.operator.BinaryOp.{BinaryOp}
-use Rattle.c_tree.specs.declared.word.Sign.{Sign}
 use Rattle.c_tree.specs.declared.word.Sign.TheVariants as s
 use Rattle.c_tree.specs.Depth.{depth}
 use Rattle.c_tree.specs.Forms as f
@@ -11,9 +10,9 @@ use Rattle.c_tree.specs.Operators.{binary_sign, operand_level}
 use Rattle.c_tree.specs.Places.{Place, Expression, Arguments}
 use Rattle.c_tree.specs.Tree.{Tree, At, Node, none, ◌▹◌}
 use Rattle.c_tree.specs.Words.{Mark}
-use Rattle.c_parser.specs.State.{State, past}
-use Rattle.c_parser.specs.Reading.{Reader, grown}
-use Rattle.c_parser.specs.Rooms.{less, read}
+use Rattle.grammar_reading.specs.State.{State, past}
+use Rattle.grammar_reading.specs.Reading.{Reader, grown}
+use Rattle.grammar_reading.specs.Rooms.{less, read}
 use Rattle.c_parser.proofs.Steps.{less_step}
 
 -- what is read with one room less is read inside

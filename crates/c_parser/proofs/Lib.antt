@@ -1,13 +1,7 @@
-pub mod Logs
-pub mod sound
-pub mod complete
-pub mod TokenWords
 pub mod Steps
-pub mod Parts
 pub mod Unary
 pub mod Grown
 pub mod Typedefs
-pub mod Consts
 pub mod Functions
 pub mod Texts
 pub mod Loops

@@ -1,5 +1,5 @@
 -- One turn of the loops over string literals, suffixes and the words of specs.
-use Rattle.std.proofs.Common.{◌≡◌, ℕ, zero, suc, ◌-◌, ◌<◌, Bool, true, false, if◌then◌else◌, List, Option, Some, None, refl, ap, sym, ◌∙◌}
+use Rattle.std.proofs.Common.{◌≡◌, ℕ, suc, ◌-◌, ◌<◌, Bool, true, false, if◌then◌else◌, List, Option, Some, None, refl, ap, sym, ◌∙◌}
 use Rattle.c_tree.specs.Allowed.{Tally, no_words}
 use Rattle.c_tree.specs.Forms as f
 use Rattle.c_tree.specs.Places.{Place}
@@ -8,17 +8,17 @@ use Rattle.c_tree.specs.Words as w
 use Rattle.c_tree.specs.declared.word.Keyword.{Keyword}
 use Rattle.c_tree.specs.declared.word.Keyword.TheVariants as k
 use Rattle.c_tree.specs.declared.word.Sign.TheVariants as s
-use Rattle.c_parser.specs.declared.kind.Kind.{Kind}
-use Rattle.c_parser.specs.declared.kind.Kind.TheVariants as kinds
-use Rattle.c_parser.specs.declared.kind.SpecStart.{SpecStart}
-use Rattle.c_parser.specs.declared.kind.SpecStart.TheVariants as starts
-use Rattle.c_parser.specs.State.{State, kind_at, word_at, bytes_at, left_at, line_at, at_mark, skip}
-use Rattle.c_parser.specs.Reading.{◌>>=◌, Reader, snoc, list_from}
-use Rattle.c_parser.specs.Expressions.{strings_from, strings_by}
-use Rattle.c_parser.specs.Declarators.{specs_from, specs_by, spec_at, spec_by, spec_key, may_stand, with_key, with_whole, record_at, enum_at, member_at, members_at, suffixes_from, suffixes_by, keep_params}
-use Rattle.c_parser.specs.Pieces.{is_literal, begins_suffix, is_end, suffix_by, suffix_at, kept_suffix_at, one_word_at}
+use Rattle.grammar_reading.specs.declared.kind.Kind.{Kind}
+use Rattle.grammar_reading.specs.declared.kind.Kind.TheVariants as kinds
+use Rattle.grammar_reading.specs.declared.kind.SpecStart.{SpecStart}
+use Rattle.grammar_reading.specs.declared.kind.SpecStart.TheVariants as starts
+use Rattle.grammar_reading.specs.State.{State, kind_at, word_at, bytes_at, left_at, line_at, at_mark, skip}
+use Rattle.grammar_reading.specs.Reading.{◌>>=◌, Reader, snoc, list_from}
+use Rattle.grammar_reading.specs.Expressions.{strings_from, strings_by}
+use Rattle.grammar_reading.specs.Declarators.{specs_from, specs_by, spec_at, spec_by, spec_key, may_stand, with_key, with_whole, record_at, enum_at, member_at, members_at, suffixes_from, suffixes_by, keep_params}
+use Rattle.c_parser.specs.Pieces.{is_literal, begins_suffix, is_end, suffix_by, kept_suffix_at, one_word_at}
 use Rattle.c_parser.proofs.Steps.{strings_step, suffixes_step, specs_step}
-use Rattle.c_parser.proofs.TokenWords.{str_word, name_word}
+use Rattle.parser_parts.proofs.TokenWords.{str_word, name_word}
 
 -- what is read, and then changed, and what goes on from there
 bind_on : {A B C : Type 0} (r : Option A) (f : A → B) (k : B → Option C) (y : B) → r >>= (λ x. Some (f x)) ≡ Some y → r >>= (λ x. k (f x)) ≡ k y

@@ -11,19 +11,19 @@ use Rattle.c_tree.specs.Places as p
 use Rattle.c_tree.specs.Tree.{Tree, Trees, Leaf, At, Node, none, ◌▹◌, count}
 use Rattle.c_tree.specs.Scopes.{Known, Scope, declare, name_among, left, is_scope, places, after, after_all}
 use Rattle.c_tree.specs.Words.{Word}
-use Rattle.c_parser.specs.State.{State, line_at, at_word, skip, past, back_to, in_body, with_new_params, at_key}
-use Rattle.c_parser.specs.Reading.{◌>>=◌, Reader, PartsReader, in_front, node, joined, parts_of, fixed, guarded, scoped}
-use Rattle.c_parser.specs.Rooms.{less, read}
-use Rattle.c_parser.specs.Laws.{behind}
-use Rattle.c_parser.specs.Gives.{Fails}
-use Rattle.c_parser.specs.Names.{oldest}
-use Rattle.c_parser.specs.declared.error.ReadError.{ReadError}
-use Rattle.c_parser.specs.declared.error.ReadError.TheVariants as errors
-use Rattle.c_parser.specs.Declarators.{is_void_list, function_suffix_at}
-use Rattle.c_parser.specs.Statements.{else_by, if_at, body_at}
+use Rattle.grammar_reading.specs.State.{State, line_at, at_word, skip, past, back_to, in_body, with_new_params, at_key}
+use Rattle.grammar_reading.specs.Reading.{◌>>=◌, Reader, in_front, node, joined, parts_of, fixed, scoped}
+use Rattle.grammar_reading.specs.Rooms.{less, read}
+use Rattle.grammar_reading.specs.Laws.{behind}
+use Rattle.parser_parts.specs.Gives.{Fails}
+use Rattle.parser_parts.specs.Names.{oldest}
+use Rattle.parser_parts.specs.declared.error.ReadError.{ReadError}
+use Rattle.parser_parts.specs.declared.error.ReadError.TheVariants as errors
+use Rattle.grammar_reading.specs.Declarators.{is_void_list, function_suffix_at}
+use Rattle.grammar_reading.specs.Statements.{else_by, if_at, body_at}
 use Rattle.c_parser.specs.Pieces.{open_at, open_function_at}
-use Rattle.c_parser.proofs.sound.Options.{none_some, some_same, bind_some}
-use Rattle.c_parser.proofs.sound.Rooms.{trees_are_read}
+use Rattle.grammar_reading.proofs.sound.Options.{none_some, some_same, bind_some}
+use Rattle.grammar_reading.proofs.sound.Rooms.{trees_are_read}
 
 -- some names are more than others
 abbrev More : List Known → List Known → Type 0

@@ -1,15 +1,15 @@
 -- One external declaration more of a text, or none.
-use Rattle.std.proofs.Common.{◌≡◌, ◌≢◌, ℕ, zero, suc, ◌-◌, ◌<◌, Bool, false, nat_eq, if◌then◌else◌, Some, List, length, ◌+◌, refl, ap, ◌∙◌, arith}
+use Rattle.std.proofs.Common.{◌≡◌, ◌≢◌, ℕ, zero, suc, ◌-◌, ◌<◌, false, nat_eq, if◌then◌else◌, Some, List, length, ◌+◌, refl, ap, ◌∙◌, arith}
 use Rattle.c_tree.specs.Depth.{most}
 use Rattle.c_tree.specs.Tree.{Tree, Trees, none}
 use Rattle.c_lexer.specs.declared.token.Token.{Token}
-use Rattle.c_parser.specs.Rooms.{Text, Whole, less, text_from, text_by, start_of, read_unit}
+use Rattle.grammar_reading.specs.Rooms.{Whole, less, text_from, text_by, start_of, read_unit}
 use Rattle.c_parser.specs.declared.error.ParseError.{ParseError}
 use Rattle.c_parser.specs.declared.error.ParseError.TheVariants as errors
-use Rattle.c_parser.specs.State.{State, left_at, line_at}
+use Rattle.grammar_reading.specs.State.{State, left_at, line_at}
 use Rattle.c_parser.specs.Told.{IsMissing, IsStopped}
-use Rattle.c_parser.specs.Reading.{snoc}
-use Rattle.c_parser.specs.Statements.{external_at}
+use Rattle.grammar_reading.specs.Reading.{snoc}
+use Rattle.grammar_reading.specs.Statements.{external_at}
 
 pub text_step : (turns : ℕ) (parts : Trees) (state : State) → 0 < turns → text_from turns parts state ≡ (if nat_eq (left_at state) 0 then Whole parts else text_by (text_from (turns - 1)) parts state (external_at (less most) most state))
 text_step zero parts state h = absurd (omega (arith, h))

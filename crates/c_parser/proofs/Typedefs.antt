@@ -9,7 +9,7 @@ use Rattle.c_tree.specs.declared.tree.Spec.{Spec}
 use Rattle.c_tree.specs.declared.tree.Spec.TheVariants as c
 use Rattle.c_tree.specs.declared.tree.TagKind.{TagKind}
 use Rattle.c_tree.specs.declared.tree.TagKind.TheVariants as t
-use Rattle.c_parser.specs.Held.{is_typedef_word}
+use Rattle.c_parser.specs.Nodes.{is_typedef_word}
 
 pub typedef_none : has_typedef none ≡ false
 unfolding has_typedef

@@ -7,8 +7,8 @@ use Rattle.c_tree.specs.Grammar.{form_home}
 use Rattle.c_tree.specs.View.{expr_tree}
 use Rattle.c_tree.specs.declared.tree.ExprKind.{ExprKind}
 use Rattle.c_tree.specs.declared.tree.ExprKind.TheVariants as e
-use Rattle.c_parser.specs.Expressions.{is_unary}
-use Rattle.c_parser.specs.Signs.{is_unary_kind}
+use Rattle.grammar_reading.specs.Expressions.{is_unary}
+use Rattle.c_parser.specs.Nodes.{is_unary_kind}
 
 binary_is_loose : (op : BinaryOp) → nat_le (suc (operand_level op)) (suc zero) ≡ false
 unfolding operand_level

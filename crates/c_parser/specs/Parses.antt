@@ -1,5 +1,5 @@
 -- What the tree of a text's tokens is, or why there is none (C99 6.9).
-use Rattle.std.specs.Prelude.{◌≡◌, ⊤, List, Result, Ok, Err}
+use Rattle.std.specs.Prelude.{◌≡◌, ⊤, List}
 use Rattle.c_lexer.specs.declared.token.Token.{Token}
 use Rattle.c_tree.specs.Tree.{Trees}
 use Rattle.c_tree.specs.HasTree.{HasTree, GoesWrong}

@@ -1,20 +1,20 @@
 -- Parts of reading, as the functions of the code have them.
-use Rattle.std.specs.Prelude.{ℕ, zero, Bool, true, false, if◌then◌else◌, Option, Some, None}
+use Rattle.std.specs.Prelude.{ℕ, Bool, true, false, if◌then◌else◌, Option, Some, None}
 use Rattle.c_tree.specs.Allowed.{Tally}
 use Rattle.c_tree.specs.declared.word.Keyword.{Keyword}
 use Rattle.c_tree.specs.declared.word.Keyword.TheVariants as k
 use Rattle.c_tree.specs.declared.word.Sign.TheVariants as s
 use Rattle.c_tree.specs.Forms as f
 use Rattle.c_tree.specs.Places.{Place}
-use Rattle.c_tree.specs.Tree.{Tree, Trees, Leaf, Node, none, ◌▹◌}
-use Rattle.c_parser.specs.declared.kind.Kind.{Kind}
-use Rattle.c_parser.specs.declared.kind.Kind.TheVariants as kinds
-use Rattle.c_parser.specs.declared.kind.SpecStart.{SpecStart}
-use Rattle.c_parser.specs.declared.kind.SpecStart.TheVariants as starts
-use Rattle.c_parser.specs.State.{State, kind_at, word_at, skip}
-use Rattle.c_parser.specs.Reading.{◌>>=◌, Reader, nothing_read, fixed, snoc}
-use Rattle.c_parser.specs.Declarators.{is_void_list, function_suffix_at, keep_params, with_key, with_whole, record_at, enum_at}
-use Rattle.c_parser.specs.Statements.{if_at}
+use Rattle.c_tree.specs.Tree.{Trees, Leaf, Node, none, ◌▹◌}
+use Rattle.grammar_reading.specs.declared.kind.Kind.{Kind}
+use Rattle.grammar_reading.specs.declared.kind.Kind.TheVariants as kinds
+use Rattle.grammar_reading.specs.declared.kind.SpecStart.{SpecStart}
+use Rattle.grammar_reading.specs.declared.kind.SpecStart.TheVariants as starts
+use Rattle.grammar_reading.specs.State.{State, kind_at, word_at, skip}
+use Rattle.grammar_reading.specs.Reading.{◌>>=◌, Reader, fixed, snoc}
+use Rattle.grammar_reading.specs.Declarators.{is_void_list, function_suffix_at, keep_params, with_key, with_whole, record_at, enum_at}
+use Rattle.grammar_reading.specs.Statements.{if_at}
 
 -- whether a token is a string literal
 abbrev pub is_literal : Kind → Bool

@@ -1,11 +1,11 @@
 -- What is told where there is no tree.
-use Rattle.std.specs.Prelude.{◌≡◌, ⊤, Option, Some, None}
+use Rattle.std.specs.Prelude.{◌≡◌, ⊤, None}
 use Rattle.c_tree.specs.Depth.{most}
 use Rattle.c_parser.specs.declared.error.ParseError.{ParseError}
 use Rattle.c_parser.specs.declared.error.ParseError.TheVariants as errors
-use Rattle.c_parser.specs.State.{State, line_at}
-use Rattle.c_parser.specs.Statements.{external_at}
-use Rattle.c_parser.specs.Rooms.{Text, Whole, Stops, less}
+use Rattle.grammar_reading.specs.State.{State, line_at}
+use Rattle.grammar_reading.specs.Statements.{external_at}
+use Rattle.grammar_reading.specs.Rooms.{Text, Whole, Stops, less}
 
 -- no external declaration is read here, and this is the line; want of memory is free
 abbrev pub IsMissing : State → ParseError → Type 0

@@ -6,26 +6,25 @@ ghost use Rattle.c_tree.specs.Places as place;
 ghost use Rattle.c_tree.specs.Tree.{Node, none};
 ghost use Rattle.c_tree.specs.View.{declarator_tree, base_tree};
 ghost use Rattle.c_tree.specs.StatementView.{trees, maybe, expr_view, specs_view, typename_view, suffix_view, param_view};
-ghost use Rattle.c_parser.specs.Declarators as spec;
-ghost use Rattle.c_parser.specs.Gives.{Reads, Ended};
-ghost use Rattle.c_parser.specs.Reading.{fixed, commas_from, goes_on};
-ghost use Rattle.c_parser.specs.Rooms.{less, read};
+ghost use Rattle.grammar_reading.specs.Declarators as spec;
+ghost use Rattle.parser_parts.specs.Gives.{Reads, Ended};
+ghost use Rattle.grammar_reading.specs.Reading.{fixed, commas_from, goes_on};
+ghost use Rattle.grammar_reading.specs.Rooms.{less, read};
 ghost use Rattle.c_parser.specs.Sorts.{sort_place};
-ghost use Rattle.c_parser.specs.State.{kind_at, left_at};
+ghost use Rattle.grammar_reading.specs.State.{kind_at, left_at};
 ghost use Rattle.c_parser.specs.Pieces.{begins_suffix as spec_begins, suffix_at, kept_suffix_at, open_function_at};
-ghost use Rattle.c_parser.specs.declared.kind.Kind.TheVariants as kinds;
+ghost use Rattle.grammar_reading.specs.declared.kind.Kind.TheVariants as kinds;
 
-use crate::deep::{
-    DeepBase, DeepDeclarator, DeepMaybeExpr, DeepParam, DeepParams, DeepSuffix, DeepSuffixes,
-    DeepTypename,
-};
-use crate::error::ReadError;
 use crate::expression::expression;
-use crate::kind::{Kind, NameSort, is_mark};
+use crate::kind::NameSort;
 use crate::levels::CONDITION;
-use crate::reader::Reader;
 use crate::specifiers::plain_specs;
 use c_tree::{Base, Keyword, Param, Sign, Suffix, TypeName};
+use grammar_reading::Kind;
+use parser_parts::{
+    DeepBase, DeepDeclarator, DeepMaybeExpr, DeepParam, DeepParams, DeepSuffix, DeepSuffixes,
+    DeepTypename, ReadError, Reader, is_mark,
+};
 use std::alloc::Global;
 
 /// A declarator; all its layers lie on each path through it.
@@ -153,7 +152,7 @@ fn enclosed<'a>(
 }
 
 /// A name, where the sort of declarator may have one.
-#[tactic(auto, using(crate::proofs::TokenWords::name_words), unfolding(c_tree::specs::Depth::below, c_tree::specs::Depth::layers, c_tree::specs::Depth::layers_all, c_tree::specs::Depth::greatest_depth, c_tree::specs::Depth::greatest_below, c_tree::specs::Depth::is_of_declarator, c_tree::specs::Depth::layer, c_tree::specs::Scopes::name_of, c_tree::specs::Scopes::name_among, c_tree::specs::Scopes::leads_to_name, c_tree::specs::Scopes::params_of, c_tree::specs::Scopes::params_among, c_tree::specs::Scopes::suffix_params))]
+#[tactic(auto, using(parser_parts::proofs::TokenWords::name_words), unfolding(c_tree::specs::Depth::below, c_tree::specs::Depth::layers, c_tree::specs::Depth::layers_all, c_tree::specs::Depth::greatest_depth, c_tree::specs::Depth::greatest_below, c_tree::specs::Depth::is_of_declarator, c_tree::specs::Depth::layer, c_tree::specs::Scopes::name_of, c_tree::specs::Scopes::name_among, c_tree::specs::Scopes::leads_to_name, c_tree::specs::Scopes::params_of, c_tree::specs::Scopes::params_among, c_tree::specs::Scopes::suffix_params))]
 fn name<'a>(
     alloc: Global,
     reader: &mut Reader<'a>,

@@ -7,20 +7,19 @@ ghost use Rattle.std.specs.Prelude.{◌≡◌, ◌<◌, ◌≤◌, IfOk};
 ghost use Rattle.c_tree.specs.Forms as form;
 ghost use Rattle.c_tree.specs.Places.{Expression};
 ghost use Rattle.c_tree.specs.StatementView.{expr_view};
-ghost use Rattle.c_parser.specs.Expressions as spec;
-ghost use Rattle.c_parser.specs.Gives.{Reads};
-ghost use Rattle.c_parser.specs.Reading.{grown};
-ghost use Rattle.c_parser.specs.Rooms.{less, read};
-ghost use Rattle.c_parser.specs.Signs.{is_unary_kind as unary_kind};
+ghost use Rattle.grammar_reading.specs.Expressions as spec;
+ghost use Rattle.parser_parts.specs.Gives.{Reads};
+ghost use Rattle.grammar_reading.specs.Reading.{grown};
+ghost use Rattle.grammar_reading.specs.Rooms.{less, read};
+ghost use Rattle.c_parser.specs.Nodes.{is_unary_kind as unary_kind};
 
-use crate::deep::DeepExpr;
-use crate::error::ReadError;
 use crate::levels::{ASSIGNMENT, COMMA, CONDITION};
 use crate::operand::{cast, unary};
-use crate::operators::{assign, assign_sign, binary, binary_sign, operand_level};
 use crate::postfix::postfix;
-use crate::reader::Reader;
 use c_tree::{AssignOp, BinaryOp, Expr, ExprKind, Sign};
+use parser_parts::{
+    DeepExpr, ReadError, Reader, assign, assign_sign, binary, binary_sign, operand_level,
+};
 use std::alloc::Global;
 
 /// An expression of at most a level.

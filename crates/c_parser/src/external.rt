@@ -10,20 +10,19 @@ ghost use Rattle.c_tree.specs.Depth.{most};
 ghost use Rattle.c_tree.specs.Tree.{Node, none, ◌▹◌};
 ghost use Rattle.c_tree.specs.View.{declarator_tree};
 ghost use Rattle.c_tree.specs.StatementView.{specs_view, names_view, body_view, decl_view};
-ghost use Rattle.c_parser.specs.Gives.{Reads};
-ghost use Rattle.c_parser.specs.Reading.{fixed};
-ghost use Rattle.c_parser.specs.Rooms.{less};
-ghost use Rattle.c_parser.specs.State.{at_mark};
-ghost use Rattle.c_parser.specs.Statements as spec;
+ghost use Rattle.parser_parts.specs.Gives.{Reads};
+ghost use Rattle.grammar_reading.specs.Reading.{fixed};
+ghost use Rattle.grammar_reading.specs.Rooms.{less};
+ghost use Rattle.grammar_reading.specs.State.{at_mark};
+ghost use Rattle.grammar_reading.specs.Statements as spec;
 
-use crate::error::ReadError;
 use crate::function::is_function;
 use crate::names::{declared, entry_rest, names_more};
-use crate::reader::Reader;
 use crate::specifiers::specs;
 use crate::statement::items;
 use c_tree::{Decl, Declarator, Init, Sign, Specs, Stmt};
 use hs_base::{Items, Line};
+use parser_parts::{ReadError, Reader};
 use std::alloc::Global;
 
 /// The body of a function.

@@ -1,100 +1,9 @@
-//! What the next token is to a reader.
+//! Sorts of declarators, and the words of tags.
 
 ghost use Rattle.std.specs.Prelude.{◌≡◌};
-ghost use Rattle.c_parser.specs.State as spec;
 ghost use Rattle.c_tree.specs.Operators as tree;
 
-use c_tree::{Keyword, RecordSort, Sign};
-
-/// What a token is, without its spelling.
-#[derive(Clone, Copy, Debug, PartialEq, Eq)]
-pub enum Kind {
-    /// A keyword that the grammar names.
-    Key(Keyword),
-    /// A sign that the grammar names.
-    Mark(Sign),
-    Name,
-    Int,
-    Char,
-    Str,
-    /// A token that the grammar does not name.
-    Other,
-    /// There is no token left.
-    End,
-}
-
-/// How the next token goes on specs.
-#[derive(Clone, Copy, Debug, PartialEq, Eq)]
-pub enum SpecStart {
-    /// By a keyword.
-    Word,
-    /// By a name that is a type.
-    TypedefName,
-    /// By a struct or a union.
-    Record(RecordSort),
-    /// By an enumeration.
-    Enum,
-    /// Not at all.
-    End,
-}
-
-/// Says whether a token is a keyword.
-#[tactic(auto, unfolding(crate::specs::State::keyword_number))]
-pub fn is_key(kind: Kind, keyword: Keyword) -> bool
-    ensures { result ≡ spec.kind_is_key keyword kind }
-{
-    match kind {
-        Kind::Key(other) => other as u8 == keyword as u8,
-        _ => false,
-    }
-}
-
-/// Says whether a token is a sign.
-#[tactic(auto, unfolding(crate::specs::State::sign_number))]
-pub fn is_mark(kind: Kind, sign: Sign) -> bool
-    ensures { result ≡ spec.kind_is_mark sign kind }
-{
-    match kind {
-        Kind::Mark(other) => other as u8 == sign as u8,
-        _ => false,
-    }
-}
-
-/// Says whether specs begin with a keyword.
-#[tactic(auto, unfolding(crate::specs::State::is_spec_key))]
-pub fn is_spec_key(keyword: Keyword) -> bool
-    ensures { result ≡ spec.is_spec_key keyword }
-{
-    match keyword {
-        Keyword::Void
-        | Keyword::Char
-        | Keyword::Short
-        | Keyword::Int
-        | Keyword::Long
-        | Keyword::Signed
-        | Keyword::Unsigned
-        | Keyword::Struct
-        | Keyword::Union
-        | Keyword::Enum
-        | Keyword::Static
-        | Keyword::Extern
-        | Keyword::Typedef
-        | Keyword::Const => true,
-        Keyword::DelayFrees
-        | Keyword::If
-        | Keyword::Else
-        | Keyword::While
-        | Keyword::Do
-        | Keyword::For
-        | Keyword::Switch
-        | Keyword::Case
-        | Keyword::Default
-        | Keyword::Break
-        | Keyword::Continue
-        | Keyword::Return
-        | Keyword::Sizeof => false,
-    }
-}
+use c_tree::{Keyword, RecordSort};
 
 /// Whether a declarator has a name.
 #[derive(Clone, Copy, Debug, PartialEq, Eq)]
@@ -102,16 +11,6 @@ pub enum NameSort {
     Named,
     Abstract,
     Either,
-}
-
-/// Says whether a token is a name.
-pub fn is_name(kind: Kind) -> bool
-    ensures { result ≡ spec.kind_is_name kind }
-{
-    match kind {
-        Kind::Name => true,
-        _ => false,
-    }
 }
 
 /// The word before the tag of a struct or a union.

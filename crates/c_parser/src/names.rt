@@ -6,19 +6,18 @@ ghost use Rattle.c_tree.specs.Places as place;
 ghost use Rattle.c_tree.specs.Tree.{Node, none, ◌▹◌};
 ghost use Rattle.c_tree.specs.View.{declarator_tree};
 ghost use Rattle.c_tree.specs.StatementView.{trees, maybe, init_view, entry_view, names_view};
-ghost use Rattle.c_parser.specs.Declarators as spec;
-ghost use Rattle.c_parser.specs.Gives.{Reads};
-ghost use Rattle.c_parser.specs.Reading.{fixed, commas_from, goes_on, snoc};
-ghost use Rattle.c_parser.specs.Rooms.{less, read};
+ghost use Rattle.grammar_reading.specs.Declarators as spec;
+ghost use Rattle.parser_parts.specs.Gives.{Reads};
+ghost use Rattle.grammar_reading.specs.Reading.{fixed, commas_from, goes_on, snoc};
+ghost use Rattle.grammar_reading.specs.Rooms.{less, read};
 
 use crate::declarator::declarator;
-use crate::error::ReadError;
 use crate::expression::expression;
 use crate::kind::NameSort;
 use crate::levels::ASSIGNMENT;
-use crate::reader::Reader;
 use c_tree::{Declarator, Init, Sign};
 use hs_base::{Items, NoMemory};
+use parser_parts::{ReadError, Reader};
 use std::alloc::Global;
 
 /// An initializer.
@@ -84,7 +83,7 @@ fn inits(alloc: Global, reader: &mut Reader, room: usize) -> Result<Vec<Init>, R
 }
 
 /// Puts an initializer behind others.
-#[tactic(auto, using(crate::proofs::Parts::trees_behind))]
+#[tactic(auto, using(parser_parts::proofs::Parts::trees_behind))]
 fn push_init(list: &mut Vec<Init>, next: Init) -> Result<(), NoMemory>
     ensures { IfOk result (λ _. trees init_view list.new.items ≡ snoc (trees init_view list.old.items) (init_view next)) }
 {
@@ -98,7 +97,7 @@ fn maybe_init(alloc: Global, reader: &mut Reader, room: usize) -> Result<Option<
     requires room { room < 401 }
     ensures { Reads (maybe form.MaybeInit init_view) result reader.new (spec.maybe_init_at (less room) room reader.old) }
 {
-    if !reader.is_mark(Sign::Equal) || reader.is_typedef() {
+    if !reader.has_init() {
         return Ok(None);
     }
     reader.mark(Sign::Equal)?;
@@ -172,7 +171,7 @@ pub fn names_more(
 }
 
 /// Puts a name behind others.
-#[tactic(auto, using(crate::proofs::Parts::trees_behind))]
+#[tactic(auto, using(parser_parts::proofs::Parts::trees_behind))]
 fn push_entry(
     list: &mut Items<(Declarator, Option<Init>)>,
     next: (Declarator, Option<Init>),

@@ -5,25 +5,22 @@
 ghost use Rattle.std.specs.Prelude.{◌≡◌, ◌<◌, ◌≤◌, IfOk};
 ghost use Rattle.c_tree.specs.Forms as form;
 ghost use Rattle.c_tree.specs.StatementView.{expr_view};
-ghost use Rattle.c_parser.specs.Expressions as spec;
-ghost use Rattle.c_parser.specs.Gives.{Reads};
-ghost use Rattle.c_parser.specs.State.{kind_at};
-ghost use Rattle.c_parser.specs.declared.kind.Kind.TheVariants as kinds;
-ghost use Rattle.c_parser.specs.Reading.{fixed};
-ghost use Rattle.c_parser.specs.Rooms.{less};
-ghost use Rattle.c_parser.specs.Signs.{prefix_form};
+ghost use Rattle.grammar_reading.specs.Expressions as spec;
+ghost use Rattle.parser_parts.specs.Gives.{Reads};
+ghost use Rattle.grammar_reading.specs.State.{kind_at};
+ghost use Rattle.grammar_reading.specs.declared.kind.Kind.TheVariants as kinds;
+ghost use Rattle.grammar_reading.specs.Reading.{fixed};
+ghost use Rattle.grammar_reading.specs.Rooms.{less};
+ghost use Rattle.parser_parts.specs.Signs.{prefix_form};
 
 use crate::declarator::typename;
-use crate::deep::DeepExpr;
-use crate::error::ReadError;
 use crate::expression::expression;
-use crate::kind::Kind;
 use crate::levels::{CAST, COMMA, UNARY};
-use crate::operators::{Prefix, before_operand, unary_sign};
 use crate::postfix::postfix;
-use crate::reader::Reader;
 use crate::strings::strings;
 use c_tree::{Keyword, Sign, UnaryOp};
+use grammar_reading::Kind;
+use parser_parts::{DeepExpr, Prefix, ReadError, Reader, before_operand, unary_sign};
 use std::alloc::Global;
 
 /// A cast, or a unary expression.
@@ -225,7 +222,7 @@ fn parens(alloc: Global, reader: &mut Reader, room: usize) -> Result<DeepExpr, R
 }
 
 /// A name that is no type.
-#[tactic(auto, using(crate::proofs::TokenWords::name_words), unfolding(c_tree::specs::Grammar::shape))]
+#[tactic(auto, using(parser_parts::proofs::TokenWords::name_words), unfolding(c_tree::specs::Grammar::shape))]
 fn name(alloc: Global, reader: &mut Reader, room: usize) -> Result<DeepExpr, ReadError>
     requires room { room < 401 }
     requires some { 0 < room }
@@ -243,7 +240,7 @@ fn name(alloc: Global, reader: &mut Reader, room: usize) -> Result<DeepExpr, Rea
 }
 
 /// An integer constant.
-#[tactic(auto, using(crate::proofs::TokenWords::int_words), unfolding(c_tree::specs::Grammar::shape))]
+#[tactic(auto, using(parser_parts::proofs::TokenWords::int_words), unfolding(c_tree::specs::Grammar::shape))]
 fn int(alloc: Global, reader: &mut Reader, room: usize) -> Result<DeepExpr, ReadError>
     requires room { room < 401 }
     requires some { 0 < room }
@@ -258,7 +255,7 @@ fn int(alloc: Global, reader: &mut Reader, room: usize) -> Result<DeepExpr, Read
 }
 
 /// A character constant.
-#[tactic(auto, using(crate::proofs::TokenWords::char_words), unfolding(c_tree::specs::Grammar::shape))]
+#[tactic(auto, using(parser_parts::proofs::TokenWords::char_words), unfolding(c_tree::specs::Grammar::shape))]
 fn character(alloc: Global, reader: &mut Reader, room: usize) -> Result<DeepExpr, ReadError>
     requires room { room < 401 }
     requires some { 0 < room }

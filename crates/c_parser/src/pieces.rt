@@ -6,18 +6,17 @@ ghost use Rattle.std.specs.Prelude.{◌≡◌, ◌<◌};
 ghost use Rattle.c_tree.specs.Forms as form;
 ghost use Rattle.c_tree.specs.Places.{ForStart as ForStartPlace, MaybeExpr};
 ghost use Rattle.c_tree.specs.StatementView.{maybe_expr as maybe_expr_view, start_view, stmt_view};
-ghost use Rattle.c_parser.specs.Gives.{Reads};
-ghost use Rattle.c_parser.specs.Reading.{fixed, unflagged};
-ghost use Rattle.c_parser.specs.Rooms.{less, read};
-ghost use Rattle.c_parser.specs.Statements as spec;
+ghost use Rattle.parser_parts.specs.Gives.{Reads};
+ghost use Rattle.grammar_reading.specs.Reading.{fixed, unflagged};
+ghost use Rattle.grammar_reading.specs.Rooms.{less, read};
+ghost use Rattle.grammar_reading.specs.Statements as spec;
 
-use crate::error::ReadError;
 use crate::expression::expression;
 use crate::levels::COMMA;
 use crate::names::{names, some_names};
-use crate::reader::Reader;
 use crate::specifiers::specs;
 use c_tree::{Expr, ForStart, Keyword, Sign, Stmt};
+use parser_parts::{ReadError, Reader};
 use std::alloc::Global;
 
 /// `;`

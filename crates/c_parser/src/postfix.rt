@@ -8,21 +8,18 @@ ghost use Rattle.c_tree.specs.Forms as form;
 ghost use Rattle.c_tree.specs.Places.{Arguments};
 ghost use Rattle.c_tree.specs.Tree.{Node, none};
 ghost use Rattle.c_tree.specs.StatementView.{trees, expr_view};
-ghost use Rattle.c_parser.specs.Expressions as spec;
-ghost use Rattle.c_parser.specs.Gives.{Reads};
-ghost use Rattle.c_parser.specs.Reading.{grown, commas_from, goes_on};
-ghost use Rattle.c_parser.specs.Rooms.{less, read};
-ghost use Rattle.c_parser.specs.Signs.{postfix_form};
-ghost use Rattle.c_parser.specs.State.{left_at};
+ghost use Rattle.grammar_reading.specs.Expressions as spec;
+ghost use Rattle.parser_parts.specs.Gives.{Reads};
+ghost use Rattle.grammar_reading.specs.Reading.{grown, commas_from, goes_on};
+ghost use Rattle.grammar_reading.specs.Rooms.{less, read};
+ghost use Rattle.parser_parts.specs.Signs.{postfix_form};
+ghost use Rattle.grammar_reading.specs.State.{left_at};
 
-use crate::deep::{DeepExpr, DeepExprs};
-use crate::error::ReadError;
 use crate::expression::expression;
 use crate::levels::{ASSIGNMENT, COMMA};
 use crate::operand::primary;
-use crate::operators::{Postfix, behind_operand};
-use crate::reader::Reader;
 use c_tree::Sign;
+use parser_parts::{DeepExpr, DeepExprs, Postfix, ReadError, Reader, behind_operand};
 use std::alloc::Global;
 
 /// A primary expression and what stands behind it.

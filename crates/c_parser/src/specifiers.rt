@@ -7,24 +7,24 @@ ghost use Rattle.c_tree.specs.Scopes as scopes;
 ghost use Rattle.c_tree.specs.Tree.{Leaf, At, Node, none, ◌▹◌};
 ghost use Rattle.c_tree.specs.View.{spec_tree};
 ghost use Rattle.c_tree.specs.StatementView.{trees, specs_view};
-ghost use Rattle.c_parser.specs.Declarators as spec;
-ghost use Rattle.c_parser.specs.Gives.{Reads, Ended};
-ghost use Rattle.c_parser.specs.Held.{is_typedef_word};
+ghost use Rattle.grammar_reading.specs.Declarators as spec;
+ghost use Rattle.parser_parts.specs.Gives.{Reads, Ended};
+ghost use Rattle.c_parser.specs.Nodes.{is_typedef_word};
 ghost use Rattle.c_parser.specs.Pieces.{is_end as spec_is_end, one_word_at};
-ghost use Rattle.c_parser.specs.Reading.{snoc};
-ghost use Rattle.c_parser.specs.Rooms.{less};
-ghost use Rattle.c_parser.specs.State.{word_at, kind_at, line_at, left_at};
-ghost use Rattle.c_parser.specs.Tallies.{tally_of, total};
-ghost use Rattle.c_parser.specs.declared.kind.SpecStart.TheVariants as starts;
+ghost use Rattle.grammar_reading.specs.Reading.{snoc};
+ghost use Rattle.grammar_reading.specs.Rooms.{less};
+ghost use Rattle.grammar_reading.specs.State.{word_at, kind_at, line_at, left_at};
+ghost use Rattle.parser_parts.specs.Tallies.{tally_of, total};
+ghost use Rattle.grammar_reading.specs.declared.kind.SpecStart.TheVariants as starts;
 
-use crate::deep::{DeepSpecs, DeepWords};
-use crate::error::ReadError;
-use crate::kind::{Kind, SpecStart};
-use crate::reader::Reader;
 use crate::tags::{enumeration, record};
-use crate::tally::{Tally, has_type_word, may_stand, with_keyword, with_whole};
 use c_tree::{Keyword, RecordSort, Spec, Specs};
+use grammar_reading::{Kind, SpecStart};
 use hs_base::NoMemory;
+use parser_parts::{
+    DeepSpecs, DeepWords, ReadError, Reader, Tally, has_type_word, may_stand, with_keyword,
+    with_whole,
+};
 use std::alloc::Global;
 
 /// The specs of a declaration, which say whether its names are typedef names.
@@ -192,7 +192,7 @@ fn ended_specs(
 }
 
 /// How the next token goes on specs with these words.
-#[tactic(auto, unfolding(crate::specs::Declarators::spec_key))]
+#[tactic(auto, unfolding(grammar_reading::specs::Declarators::spec_key))]
 fn spec_start(reader: &Reader, tally: Tally) -> SpecStart
     ensures { result ≡ spec.spec_at (tally_of tally) reader.now }
 {
@@ -210,7 +210,7 @@ fn spec_start(reader: &Reader, tally: Tally) -> SpecStart
 }
 
 /// How a keyword goes on specs.
-#[tactic(auto, unfolding(crate::specs::Declarators::spec_key))]
+#[tactic(auto, unfolding(grammar_reading::specs::Declarators::spec_key))]
 fn spec_key(keyword: Keyword) -> SpecStart
     ensures { result ≡ spec.spec_key keyword }
 {

@@ -2,29 +2,28 @@
 //!
 //! Each function gives what the definition of its form in `specs/Statements.antt` reads; `room` is how deep the tree may be.
 
-ghost use Rattle.std.specs.Prelude.{◌≡◌, ◌<◌, true, IfOk};
+ghost use Rattle.std.specs.Prelude.{◌≡◌, ◌<◌, IfOk};
 ghost use Rattle.c_tree.specs.Forms as form;
 ghost use Rattle.c_tree.specs.Places.{Statement, Branch, Items as ItemsPlace};
 ghost use Rattle.c_tree.specs.declared.word.Keyword.TheVariants as k;
 ghost use Rattle.c_tree.specs.Tree.{Node, At, none, ◌▹◌};
 ghost use Rattle.c_tree.specs.StatementView.{trees, expr_view, stmt_view};
-ghost use Rattle.c_parser.specs.State.{at_key};
-ghost use Rattle.c_parser.specs.Gives.{Reads};
-ghost use Rattle.c_parser.specs.Reading.{fixed, scoped, snoc};
-ghost use Rattle.c_parser.specs.Rooms.{less, read};
-ghost use Rattle.c_parser.specs.Statements as spec;
+ghost use Rattle.grammar_reading.specs.State.{at_key};
+ghost use Rattle.parser_parts.specs.Gives.{Reads};
+ghost use Rattle.grammar_reading.specs.Reading.{fixed, scoped, snoc};
+ghost use Rattle.grammar_reading.specs.Rooms.{less, read};
+ghost use Rattle.grammar_reading.specs.Statements as spec;
 ghost use Rattle.c_parser.specs.Pieces.{open_at};
 
-use crate::error::ReadError;
 use crate::expression::expression;
-use crate::kind::Kind;
 use crate::levels::{COMMA, CONDITION};
 use crate::pieces::{
     break_out, continue_on, empty, evaluation, for_start, local, maybe_expr, return_with,
 };
-use crate::reader::Reader;
 use c_tree::{Expr, Keyword, Sign, Stmt};
+use grammar_reading::Kind;
 use hs_base::{Line, NoMemory};
+use parser_parts::{ReadError, Reader};
 use std::alloc::Global;
 
 /// A statement.
@@ -57,7 +56,7 @@ fn unguarded(alloc: Global, reader: &mut Reader, room: usize) -> Result<Stmt, Re
 
 /// A statement that may begin with a keyword.
 #[cycle(statements)]
-#[tactic(auto, unfolding(crate::specs::Statements::statement_key))]
+#[tactic(auto, unfolding(grammar_reading::specs::Statements::statement_key))]
 fn by_keyword(
     alloc: Global,
     reader: &mut Reader,
@@ -199,8 +198,9 @@ fn branching(alloc: Global, reader: &mut Reader, room: usize) -> Result<Stmt, Re
     Ok(stmt)
 }
 
-/// The rest of an `if`: an `else` belongs to the nearest.
+/// The rest of an `if`, with its `else` where it has one.
 #[cycle(statements)]
+#[tactic(auto, using(crate::proofs::Steps::less_step))]
 fn otherwise(
     alloc: Global,
     reader: &mut Reader,
@@ -213,29 +213,10 @@ fn otherwise(
     requires some { 0 < room }
     ensures { Reads stmt_view result reader.new (spec.else_by (less room) room (At line ▹ expr_view test ▹ stmt_view body ▹ none) (at_key k.Else reader.old) reader.old) }
 {
-    if reader.is_key(Keyword::Else) {
-        return with_else(alloc, reader, room, line, test, body);
+    if !reader.take_else() {
+        let stmt = Stmt::branch(alloc, line, test, body, None)?;
+        return Ok(stmt);
     }
-    let stmt = Stmt::branch(alloc, line, test, body, None)?;
-    Ok(stmt)
-}
-
-/// The `else` of an `if`.
-#[cycle(statements)]
-#[tactic(auto, using(crate::proofs::Steps::less_step))]
-fn with_else(
-    alloc: Global,
-    reader: &mut Reader,
-    room: usize,
-    line: Line,
-    test: Expr,
-    body: Stmt,
-) -> Result<Stmt, ReadError>
-    requires room { room < 401 }
-    requires some { 0 < room }
-    ensures { Reads stmt_view result reader.new (spec.else_by (less room) room (At line ▹ expr_view test ▹ stmt_view body ▹ none) true reader.old) }
-{
-    reader.key(Keyword::Else)?;
     let other = branch(alloc, reader, room - 1)?;
     let stmt = Stmt::branch(alloc, line, test, body, Some(other))?;
     Ok(stmt)
@@ -372,7 +353,7 @@ pub fn items(alloc: Global, reader: &mut Reader, room: usize) -> Result<Vec<Stmt
 }
 
 /// Puts a statement behind others.
-#[tactic(auto, using(crate::proofs::Parts::trees_behind))]
+#[tactic(auto, using(parser_parts::proofs::Parts::trees_behind))]
 fn push(list: &mut Vec<Stmt>, stmt: Stmt) -> Result<(), NoMemory>
     ensures { IfOk result (λ _. trees stmt_view list.new.items ≡ snoc (trees stmt_view list.old.items) (stmt_view stmt)) }
 {

@@ -5,15 +5,14 @@ ghost use Rattle.c_tree.specs.Forms as form;
 ghost use Rattle.c_tree.specs.Tree.{Leaf, Node};
 ghost use Rattle.c_tree.specs.View.{literal_leaves};
 ghost use Rattle.c_tree.specs.Words.{Str};
-ghost use Rattle.c_parser.specs.Expressions as spec;
-ghost use Rattle.c_parser.specs.Gives.{Reads};
+ghost use Rattle.grammar_reading.specs.Expressions as spec;
+ghost use Rattle.parser_parts.specs.Gives.{Reads};
 ghost use Rattle.c_parser.specs.Pieces.{is_literal as spec_is_literal};
-ghost use Rattle.c_parser.specs.Reading.{snoc};
+ghost use Rattle.grammar_reading.specs.Reading.{snoc};
 
-use crate::error::ReadError;
-use crate::kind::Kind;
-use crate::reader::Reader;
+use grammar_reading::Kind;
 use hs_base::{Items, NoMemory};
+use parser_parts::{ReadError, Reader};
 use std::alloc::Global;
 
 /// String literals, by their spellings.
@@ -36,7 +35,7 @@ pub fn strings(alloc: Global, reader: &mut Reader) -> Result<Items<Items<u8>>, R
 }
 
 /// Puts a string literal behind others.
-#[tactic(auto, using(crate::proofs::Parts::leaves_behind))]
+#[tactic(auto, using(parser_parts::proofs::Parts::leaves_behind))]
 fn push(list: &mut Items<Items<u8>>, literal: Items<u8>) -> Result<(), NoMemory>
     ensures { IfOk result (λ _. literal_leaves list.new ≡ snoc (literal_leaves list.old) (Leaf (Str literal))) }
 {

@@ -7,23 +7,21 @@ ghost use Rattle.c_tree.specs.Places as place;
 ghost use Rattle.c_tree.specs.Tree.{Node};
 ghost use Rattle.c_tree.specs.View.{enumerator_tree, declarator_tree};
 ghost use Rattle.c_tree.specs.StatementView.{trees, maybe, expr_view, tag_view, member_view};
-ghost use Rattle.c_parser.specs.Declarators as spec;
-ghost use Rattle.c_parser.specs.Gives.{Reads};
-ghost use Rattle.c_parser.specs.Reading.{ending, parts_of, fixed};
-ghost use Rattle.c_parser.specs.Rooms.{less, read};
+ghost use Rattle.grammar_reading.specs.Declarators as spec;
+ghost use Rattle.parser_parts.specs.Gives.{Reads};
+ghost use Rattle.grammar_reading.specs.Reading.{ending, parts_of, fixed};
+ghost use Rattle.grammar_reading.specs.Rooms.{less, read};
 
 use crate::declarator::declarator;
-use crate::deep::{
-    DeepDeclarators, DeepEnumerator, DeepEnumerators, DeepMaybeExpr, DeepMember, DeepMembers,
-    DeepTag,
-};
-use crate::error::ReadError;
 use crate::expression::expression;
 use crate::kind::{NameSort, record_word};
 use crate::levels::CONDITION;
-use crate::reader::Reader;
 use crate::specifiers::plain_specs;
 use c_tree::{Enumerator, Keyword, Member, RecordSort, Sign, Tag};
+use parser_parts::{
+    DeepDeclarators, DeepEnumerator, DeepEnumerators, DeepMaybeExpr, DeepMember, DeepMembers,
+    DeepTag, ReadError, Reader,
+};
 use std::alloc::Global;
 
 /// A struct or a union.

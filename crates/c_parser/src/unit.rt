@@ -4,18 +4,19 @@ ghost use Rattle.std.specs.Prelude.{◌≡◌, Some, IfOk, IfErr};
 ghost use Rattle.c_tree.specs.Depth.{most};
 ghost use Rattle.c_tree.specs.Tree.{none};
 ghost use Rattle.c_tree.specs.StatementView.{trees, decl_view, unit_view};
-ghost use Rattle.c_parser.specs.Reading.{snoc};
+ghost use Rattle.grammar_reading.specs.Reading.{snoc};
 ghost use Rattle.c_parser.specs.Parses.{IsOnlyTree, IsRefused};
-ghost use Rattle.c_parser.specs.Rooms.{less, Whole, text_from};
-ghost use Rattle.c_parser.specs.Statements.{external_at};
+ghost use Rattle.grammar_reading.specs.Rooms.{less, Whole, text_from};
+ghost use Rattle.grammar_reading.specs.Statements.{external_at};
 ghost use Rattle.c_parser.specs.Told.{IsMissing, IsStopped};
 
-use crate::error::{ParseError, ReadError};
+use crate::error::ParseError;
 use crate::external::external;
-use crate::reader::Reader;
 use c_lexer::Token;
 use c_tree::{Decl, Unit};
+use grammar_reading::{texts_are_read, trees_of_texts_are_read};
 use hs_base::{Items, NoMemory};
+use parser_parts::{ReadError, Reader};
 use std::alloc::Global;
 
 /// How deep a tree may be.
@@ -31,6 +32,8 @@ pub fn parse(alloc: Global, tokens: &[Token]) -> Result<Unit, ParseError>
     ensures tree { IfOk result (λ unit. IsOnlyTree tokens.now (unit_view unit)) }
     ensures refused { IfErr result (IsRefused tokens.now) }
 {
+    texts_are_read();
+    trees_of_texts_are_read();
     let mut reader = Reader::new(alloc, tokens)?;
     match externals(alloc, &mut reader, tokens.len() + 1) {
         Ok(decls) => Ok(Unit { decls }),
@@ -75,7 +78,7 @@ fn next(alloc: Global, reader: &mut Reader) -> Result<Decl, ParseError>
 }
 
 /// Puts a declaration behind others.
-#[tactic(auto, using(crate::proofs::Parts::trees_behind))]
+#[tactic(auto, using(parser_parts::proofs::Parts::trees_behind))]
 fn push(list: &mut Items<Decl>, decl: Decl) -> Result<(), NoMemory>
     ensures { IfOk result (λ _. trees decl_view list.new ≡ snoc (trees decl_view list.old) (decl_view decl)) }
 {

@@ -21,14 +21,13 @@ use Rattle.flat_code.specs.declared.program.Code.{Code}
 use Rattle.flat_code.specs.WellFormed.{EachEntry, EachInstr}
 use Rattle.flat_machine.specs.Built as machine
 use Rattle.flat_machine.specs.Groups as groups
-use Rattle.flat_codegen.specs.Laws.{PrintsNoStrings}
 
 built_lib : (name : LibName) → IsBuiltLib name → groups.IsBuiltLib name
 built_lib lib.Exit h = tt
 built_lib lib.Abort h = tt
 built_lib lib.Getchar h = tt
 built_lib lib.Putchar h = tt
-built_lib lib.Puts h = h
+built_lib lib.Puts h = tt
 built_lib lib.Strlen h = tt
 built_lib lib.Strcmp h = tt
 built_lib lib.Memcpy h = h
@@ -37,8 +36,6 @@ built_lib lib.Memset h = h
 
 -- what a statement that is built does is built
 built_op : (place : ℕ → ℕ) (kind : StmKind) (n : ℕ) → IsBuiltStatement kind → machine.IsBuiltOp (doing place kind n).op
-built_op place (stm.Malloc r m t) n h = h
-built_op place (stm.Calloc r m k t) n h = h
 built_op place (stm.Realloc r p m t) n h = h
 built_op place (stm.Free p) n h = h
 built_op place (stm.Copy p q m) n h = h
@@ -85,5 +82,5 @@ module _ (core : Core) (built : IsBuilt core) where
         let o = owner core code is f entry here in
         map_none (slice_get code.layouts) entry.mems (o.matches.mems ∙ ap (map (λ (m : Mem). Some m.layout)) (function f o.func o.here).locals)
 
-    pub code_built : PrintsNoStrings code → machine.IsBuilt code
-    code_built formats = record { instructions = instructions; locals = locals; formats = formats }
+    pub code_built : machine.IsBuilt code
+    code_built = record { instructions = instructions; locals = locals }

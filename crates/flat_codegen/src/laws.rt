@@ -2,7 +2,7 @@
 
 ghost use Rattle.flat_codegen.specs.Laws.{BuiltIsFreeless, CodeIsBuilt};
 
-/// The code of a core that is built is code that the machine runs, where it prints no string.
+/// The code of a core that is built is code that the machine runs.
 pub fn code_is_built()
     ensures { CodeIsBuilt }
 {}

@@ -11,7 +11,6 @@ ghost use Rattle.compiled_code.specs.Compiled.{IsCompiled};
 ghost use Rattle.compiled_meaning.specs.Freeless.{IsFreeless};
 ghost use Rattle.compiled_meaning.specs.SameRun.{SameRun};
 ghost use Rattle.flat_code.specs.WellFormed.{AreShort, IsWellFormed};
-ghost use Rattle.flat_codegen.specs.Laws.{PrintsNoStrings};
 ghost use Rattle.flat_machine.specs.Built.{IsBuilt as IsBuiltCode};
 
 use crate::emitter::Emitter;
@@ -93,7 +92,7 @@ pub fn compile_core(alloc: Global, core: &Core) -> Result<Code, NoMemory>
     ensures compiled { IfOk result (λ code. IsCompiled core.now code) }
     ensures formed { IfOk result IsWellFormed }
     ensures bytes { IfOk result HoldsBytes }
-    ensures built { IfOk result (λ code. IsBuilt core.now → PrintsNoStrings code → IsBuiltCode code) }
+    ensures built { IfOk result (λ code. IsBuilt core.now → IsBuiltCode code) }
     ensures means { IfOk result (λ code. IsFreeless core.now → (input : List ℕ) (n : ℕ) → SameRun (core_meaning core.now input n) (code_meaning code input n)) }
 {
     codes_are_well_formed();

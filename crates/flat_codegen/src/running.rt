@@ -1,6 +1,6 @@
 //! Running the code of a core.
 
-ghost use Rattle.std.specs.Prelude.{◌≡◌, ◌+◌, ◌<◌, ◌^◌, ℕ, List, IfSome, None, Some};
+ghost use Rattle.std.specs.Prelude.{◌≡◌, ◌+◌, ◌<◌, ◌≤◌, ◌^◌, ℕ, List, IfSome, None, Some};
 ghost use Rattle.built_cores.specs.Built.{IsBuilt};
 ghost use Rattle.code_soundness.specs.Laws.{HoldsBytes};
 ghost use Rattle.compiled_code.specs.Compiled.{IsCompiled};
@@ -34,9 +34,10 @@ pub fn execute<I: Source, O: Sink>(
     requires built { IsBuiltCode code.now }
     requires bytes { HoldsBytes code.now }
     requires loaded { IsOf code.now machine.old }
+    requires budget { budget ≤ 1000000000 }
     requires input { I.faults input.old + 1 < 2 ^ 64 }
     requires out { O.faults out.old + 1 < 2 ^ 64 }
-    ensures told { machine.old.ended ≡ None → (core : Core) → IsSound core → IsBuilt core → IsCompiled core code.now → (left : List ℕ) (heap : ℕ) (taken : List ℕ) → I.left input.old ≡ Some left → O.taken out.old ≡ Some taken → RunAnswers core left budget (record { heap = heap; stack = machine.old.stack }) taken result (I.left input.new) (O.taken out.new) }
+    ensures told { machine.old.ended ≡ None → (core : Core) → IsSound core → IsBuilt core → IsCompiled core code.now → (left taken : List ℕ) → I.left input.old ≡ Some left → O.taken out.old ≡ Some taken → RunAnswers core left budget (record { heap = machine.old.kept.memory.heap.len; stack = machine.old.stack }) taken result (I.left input.new) (O.taken out.new) }
     ensures faults { machine.old.ended ≡ None → RunCounts result (I.faults input.old) (I.faults input.new) (O.faults out.old) (O.faults out.new) }
     ensures ends { machine.new.ended ≡ Some result }
     ensures loaded { IsOf code.now machine.new }

@@ -6,6 +6,7 @@ pub mod Hands
 pub mod Entered
 pub mod Backs
 pub mod Accesses
+pub mod Texts
 pub mod Prints
 pub mod OneByte
 pub mod Cuts
@@ -21,3 +22,4 @@ pub mod Started
 pub mod Firsts
 pub mod Spending
 pub mod Lasting
+pub mod Makings

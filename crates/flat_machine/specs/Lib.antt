@@ -3,6 +3,7 @@ pub mod Kept
 pub mod Stacked
 pub mod Standing
 pub mod Leading
+pub mod Putting
 pub mod Writing
 pub mod Running
 pub mod Groups

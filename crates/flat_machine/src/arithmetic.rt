@@ -61,7 +61,7 @@ impl State {
     /// A register takes the result of an operation on two integers.
     fn operate(&mut self, line: Line, instr: Instr, op: BinOp, kind: IntKind) -> Result<(), End>
         requires { self.old.calls.running.point + 1 < 2 ^ 64 }
-        ensures { (code : Program) (places : ℕ → ℕ) (c : CodeState) → Stands places c self.old → Alone c.state.input self.old (act code line instr (Op.Bin op kind) c.handed c.numbers c.state) self.new result }
+        ensures { (code : Program) (places : ℕ → ℕ) (c : CodeState) → Stands places c self.old → Alone places c self.old (act code line instr (Op.Bin op kind) c.handed c.numbers c.state) self.new result }
     {
         match on_two(op, kind, self.integer(0), self.integer(1)) {
             Ok(n) => {
@@ -76,7 +76,7 @@ impl State {
     pub(crate) fn act_values(&mut self, line: Line, instr: Instr, op: Op) -> Result<(), End>
         requires point { self.old.calls.running.point + 1 < 2 ^ 64 }
         requires values { IsValues op }
-        ensures { (code : Program) (places : ℕ → ℕ) (c : CodeState) → Stands places c self.old → Alone c.state.input self.old (act code line instr op c.handed c.numbers c.state) self.new result }
+        ensures { (code : Program) (places : ℕ → ℕ) (c : CodeState) → Stands places c self.old → Alone places c self.old (act code line instr op c.handed c.numbers c.state) self.new result }
     {
         match op {
             Op::Set => {

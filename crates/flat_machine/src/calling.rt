@@ -46,7 +46,7 @@ impl State {
         requires locals { callee.now.mems ≡ [] }
         requires cost { cost ≡ call_cost (length callee.now.kinds) [] }
         requires arguments { length self.old.handed ≤ length callee.now.kinds }
-        ensures { (code : Program) (places : ℕ → ℕ) (c : CodeState) → Stands places c self.old → slice_get code.funcs instr.b ≡ Some callee.now → Alone c.state.input self.old (act code line instr Op.Call c.handed c.numbers c.state) self.new result }
+        ensures { (code : Program) (places : ℕ → ℕ) (c : CodeState) → Stands places c self.old → slice_get code.funcs instr.b ≡ Some callee.now → Alone places c self.old (act code line instr Op.Call c.handed c.numbers c.state) self.new result }
     {
         if !self.take_step() {
             return Err(End::Spent);
@@ -62,7 +62,7 @@ impl State {
     pub(crate) fn act_return(&mut self, code: &Code, answer: Word) -> Result<(), End>
         requires call { WaitsAtCall code.now self.old.calls.waiting }
         requires locals { HasNoLocal code.now self.old.calls }
-        ensures { (line : ℕ) (places : ℕ → ℕ) (c : CodeState) (v : Value) → Stands places c self.old → StandsFor places c.state.objects v answer → Alone c.state.input self.old (give_back code.now line v c.numbers c.state) self.new result }
+        ensures { (line : ℕ) (places : ℕ → ℕ) (c : CodeState) (v : Value) → Stands places c self.old → StandsFor places c.state.objects v answer → Alone places c self.old (give_back code.now line v c.numbers c.state) self.new result }
     {
         if !self.back() {
             return Err(End::Exit(byte_in(integer_in(answer))));

@@ -27,7 +27,7 @@ impl State {
         requires room { length self.old.handed < self.old.most }
         requires handing { IsHanding op }
         requires here { op ≡ ops.HandStatic → instr.a < length self.old.statics }
-        ensures { (code : Program) (line : ℕ) (places : ℕ → ℕ) (c : CodeState) → Stands places c self.old → Alone c.state.input self.old (hand_or_act code line instr (handed_value c.state.running instr op) c) self.new (Ok tt) }
+        ensures { (code : Program) (line : ℕ) (places : ℕ → ℕ) (c : CodeState) → Stands places c self.old → Alone places c self.old (hand_or_act code line instr (handed_value c.state.running instr op) c) self.new (Ok tt) }
     {
         match op {
             Op::HandReg => {

@@ -33,7 +33,7 @@ impl State {
     pub(crate) fn act_jump(&mut self, line: Line, instr: Instr, op: Op) -> Result<(), End>
         requires point { self.old.calls.running.point + 1 < 2 ^ 64 }
         requires jump { IsJump op }
-        ensures { (code : Program) (places : ℕ → ℕ) (c : CodeState) → Stands places c self.old → Alone c.state.input self.old (act code line instr op c.handed c.numbers c.state) self.new result }
+        ensures { (code : Program) (places : ℕ → ℕ) (c : CodeState) → Stands places c self.old → Alone places c self.old (act code line instr op c.handed c.numbers c.state) self.new result }
     {
         match op {
             Op::Jump => {

@@ -1,9 +1,10 @@
 //! The machine that runs flat code over flat bytes.
 //!
 //! [`Machine::run`] makes the instructions of a code one after another, over objects that are kept in bytes with addresses
-//! (`flat_objects`), on a stack of so many bytes. Its contract says what the meaning of code says
-//! (`code_meaning/specs/CodeMeaning.antt`), cut at the first call that does not fit the stack (`hs_base/specs/Cut.antt`): the
-//! bytes written and read, and the end. `specs/Built.antt` says which instructions are built.
+//! (`flat_objects`), on a stack and with a heap of so many bytes. Its contract says what the meaning of code says
+//! (`code_meaning/specs/CodeMeaning.antt`), cut at the first call that does not fit the stack or the first object that has no
+//! place in the heap (`hs_base/specs/Cut.antt`): the bytes written and read, and the end. `specs/Built.antt` says which
+//! instructions are built.
 //!
 //! [`Machine::load`] makes one before its first instruction: with the statics of the code in its memory, and with all memory that
 //! the run takes.
@@ -11,7 +12,7 @@
 //! A word is a number or an address. `specs/Standing.antt` says which state of the meaning the machine stands for: its words
 //! stand for the values of that state, one by one, and its memory keeps the objects. Each instruction is proved over all
 //! states that the machine stands for, and leads to a machine that stands for the state behind it. No instruction takes
-//! memory or searches.
+//! memory of the host, and none searches but one that makes an object, for its place in the heap.
 #![tactic(auto)]
 
 mod arithmetic;
@@ -24,9 +25,12 @@ mod jumps;
 mod load;
 mod loaded;
 mod machine;
+mod making;
 mod memory;
 mod output;
 mod pointers;
+mod printing;
+mod put_error;
 mod running;
 mod state;
 mod statics;

@@ -1,6 +1,6 @@
 //! The machine.
 
-ghost use Rattle.std.specs.Prelude.{◌≡◌, ◌+◌, ◌<◌, ◌^◌, ℕ, List, IfSome, None, Some};
+ghost use Rattle.std.specs.Prelude.{◌≡◌, ◌+◌, ◌<◌, ◌≤◌, ◌^◌, ℕ, List, IfSome, None, Some};
 ghost use Rattle.flat_code.specs.WellFormed.{IsWellFormed};
 ghost use Rattle.code_soundness.specs.Laws.{HoldsBytes};
 ghost use Rattle.flat_machine.specs.Built.{IsBuilt};
@@ -49,9 +49,10 @@ impl Machine {
     }
 
     /// Runs the code that was loaded, with at most so many steps. Where input and output are told, it writes exactly the
-    /// bytes that the meaning of code writes before its first call that does not fit the stack, takes exactly the bytes that
-    /// it reads, and answers its end, or the line of that call. It ends by a fault of the input or the output exactly where
-    /// that object failed in this call. [`Machine::steps_made`] tells how many steps it made. A machine that has ended answers the same end again, and touches nothing.
+    /// bytes that the meaning of code writes before its first call that does not fit the stack or its first object that has no
+    /// place in the heap, takes exactly the bytes that it reads, and answers its end, or the line of that call or object. It
+    /// ends by a fault of the input or the output exactly where that object failed in this call. [`Machine::steps_made`] tells
+    /// how many steps it made. A machine that has ended answers the same end again, and touches nothing.
     pub fn run<I: Source, O: Sink>(
         &mut self,
         code: &Code,
@@ -63,10 +64,11 @@ impl Machine {
         requires built { IsBuilt code.now }
         requires bytes { HoldsBytes code.now }
         requires loaded { IsOf code.now self.old }
+        requires budget { budget ≤ 1000000000 }
         requires input { I.faults input.old + 1 < 2 ^ 64 }
         requires out { O.faults out.old + 1 < 2 ^ 64 }
-        ensures told { self.old.ended ≡ None → (left : List ℕ) (heap : ℕ) (taken : List ℕ) → I.left input.old ≡ Some left → O.taken out.old ≡ Some taken → RunAnswers code.now left budget (record { heap = heap; stack = self.old.stack }) taken result (I.left input.new) (O.taken out.new) }
-        ensures made { self.old.ended ≡ None → (left : List ℕ) (heap : ℕ) (taken : List ℕ) → I.left input.old ≡ Some left → O.taken out.old ≡ Some taken → MakesSteps code.now left budget (record { heap = heap; stack = self.old.stack }) result (steps_made self.new) }
+        ensures told { self.old.ended ≡ None → (left taken : List ℕ) → I.left input.old ≡ Some left → O.taken out.old ≡ Some taken → RunAnswers code.now left budget (record { heap = self.old.kept.memory.heap.len; stack = self.old.stack }) taken result (I.left input.new) (O.taken out.new) }
+        ensures made { self.old.ended ≡ None → (left taken : List ℕ) → I.left input.old ≡ Some left → O.taken out.old ≡ Some taken → MakesSteps code.now left budget (record { heap = self.old.kept.memory.heap.len; stack = self.old.stack }) result (steps_made self.new) }
         ensures faults { self.old.ended ≡ None → RunCounts result (I.faults input.old) (I.faults input.new) (O.faults out.old) (O.faults out.new) }
         ensures ends { self.new.ended ≡ Some result }
         ensures loaded { IsOf code.now self.new }

@@ -21,7 +21,7 @@ impl State {
         requires point { self.old.calls.running.point + 1 < 2 ^ 64 }
         requires memory { IsMemory op }
         requires kept { IsKept self.old.memory (address_at self.old.handed 0) }
-        ensures { (code : Program) (places : ℕ → ℕ) (c : CodeState) → Stands places c self.old → Alone c.state.input self.old (act code line instr op c.handed c.numbers c.state) self.new result }
+        ensures { (code : Program) (places : ℕ → ℕ) (c : CodeState) → Stands places c self.old → Alone places c self.old (act code line instr op c.handed c.numbers c.state) self.new result }
     {
         let addr = self.address(0);
         match op {

@@ -1,15 +1,8 @@
-//! Instructions that write and read bytes (C99 7.19.6.3, 7.19.7, 7.20.4).
+//! Instructions that write and read bytes (C99 7.19.7, 7.20.4).
 
-ghost use Rattle.std.specs.Prelude.{◌≡◌, ◌+◌, ◌<◌, ◌≤◌, ◌^◌, ℕ, List, All, IfOk, Some, map, drop, length};
-ghost use Rattle.hs_base.specs.Outside.{CountsFaults};
-ghost use Rattle.hs_base.specs.PutAll.{PutsAll};
-ghost use Rattle.hs_base.specs.declared.values.Value as spec;
-ghost use Rattle.c_print.specs.Format.{IsGiven};
-ghost use Rattle.c_print.specs.Pieces.{pieces_of};
+ghost use Rattle.std.specs.Prelude.{◌≡◌, ◌+◌, ◌<◌, ◌^◌, ℕ, List, All, Some};
+ghost use Rattle.core_tree.specs.declared.statements.LibName.TheVariants as libs;
 ghost use Rattle.object_meaning.specs.Builtins.{byte_in, call_lib, get_byte, put_byte};
-ghost use Rattle.object_meaning.specs.Meaning.{print_format};
-ghost use Rattle.object_meaning.specs.Printing.{arguments_behind};
-ghost use Rattle.meaning_state.specs.Printing.{piece_text, PrintsNoString};
 ghost use Rattle.meaning_run.specs.Leading.{with_input};
 ghost use Rattle.code_meaning.specs.CodeState.{CodeState, same_numbers};
 ghost use Rattle.flat_objects.specs.Keeping.{IsKept};
@@ -17,94 +10,30 @@ ghost use Rattle.flat_machine.specs.Words.{address_at};
 ghost use Rattle.flat_machine.specs.Standing.{Stands};
 ghost use Rattle.flat_machine.specs.Groups.{IsBuiltLib};
 ghost use Rattle.flat_machine.specs.Leading.{Counted, Moves, Seen};
-ghost use Rattle.flat_machine.specs.Writing.{text_of, PutsPieces, WritesPieces};
 ghost use Rattle.code_soundness.specs.Objects.{IsByte};
 
 use crate::calling::byte_in;
 use crate::state::State;
-use c_print::{Piece, put_number};
 use core_tree::LibName;
 use flat_objects::Word;
-use hs_base::{End, Failed, IntKind, Line, Sink, Source, TrapKind, put_all};
-
-/// Writes plain text, or an item with a number, which is converted to the item's kind; answers how many bytes that is. After
-/// a failure, which is the last call on the sink, a part of the bytes was taken.
-fn put_piece<O: Sink>(out: &mut O, piece: &Piece, n: i128) -> Result<u64, Failed>
-    requires count { O.faults out.old + 1 < 2 ^ 64 }
-    requires given { IsGiven piece.now }
-    requires number { PrintsNoString piece.now }
-    ensures bytes { PutsAll (O.taken out.old) (O.taken out.new) (piece_text piece.now n) result }
-    ensures len { IfOk result (λ k. k ≡ length (piece_text piece.now n)) }
-    ensures cause { CountsFaults (O.faults out.old) (O.faults out.new) result }
-{
-    match piece {
-        Piece::Plain(text) => {
-            put_all(out, text.as_slice())?;
-            Ok(text.len() as u64)
-        }
-        Piece::Item { kind, .. } => {
-            let len = put_number(out, piece, kind.wrap(n))?;
-            Ok(u64::from(len))
-        }
-    }
-}
-
-/// The place of the arguments behind a piece: an item takes one, plain text none.
-fn place_behind(piece: &Piece, place: usize) -> usize
-    requires { place + 1 < 2 ^ 64 }
-    ensures arguments { (values : List spec.Value) → drop result values ≡ arguments_behind piece.now (drop place values) }
-    ensures bound { result ≤ place + 1 }
-{
-    match piece {
-        Piece::Plain(_) => place,
-        Piece::Item { .. } => place + 1,
-    }
-}
+use hs_base::{End, Line, Sink, Source, TrapKind, put_all};
 
 impl State {
-    /// Writes pieces with what was handed over, and answers how many bytes that is.
-    fn put_pieces<O: Sink>(&self, pieces: &[Piece], out: &mut O) -> Result<i128, Failed>
-        requires count { O.faults out.old + 1 < 2 ^ 64 }
-        requires given { All IsGiven pieces.now }
-        requires numbers { All PrintsNoString pieces.now }
-        ensures writes { WritesPieces (text_of pieces.now self.now.handed) result }
-        ensures puts { (taken : List ℕ) → O.taken out.old ≡ Some taken → PutsPieces (text_of pieces.now self.now.handed) taken (O.taken out.new) result }
-        ensures cause { CountsFaults (O.faults out.old) (O.faults out.new) result }
-    {
-        let mut place = 0;
-        let mut written = 0;
-        for i in 0..pieces.len() {
-            let piece = &pieces[i];
-            match put_piece(out, piece, self.integer(place)) {
-                Ok(len) => written += i128::from(len),
-                Err(failed) => return Err(failed),
-            }
-            place = place_behind(piece, place);
-        }
-        Ok(written)
-    }
-
-    /// A call of printf with a format of these pieces, none of which prints a string.
-    pub(crate) fn act_printf<O: Sink>(
-        &mut self,
-        r: u32,
-        pieces: &[Piece],
-        out: &mut O,
-    ) -> Result<(), End>
+    /// `puts`.
+    fn act_puts<O: Sink>(&mut self, line: Line, r: Option<u32>, out: &mut O) -> Result<(), End>
         requires point { self.old.calls.running.point + 1 < 2 ^ 64 }
         requires count { O.faults out.old + 1 < 2 ^ 64 }
-        requires given { All IsGiven pieces.now }
-        requires numbers { All PrintsNoString pieces.now }
-        ensures told { (line : ℕ) (places : ℕ → ℕ) (c : CodeState) (format taken : List ℕ) → Stands places c self.old → pieces.now ≡ pieces_of format → O.taken out.old ≡ Some taken → Seen self.old (same_numbers c.numbers (print_format line r format c.handed c.state)) c.state.input taken result self.new (Some c.state.input) (O.taken out.new) }
+        requires kept { IsKept self.old.memory (address_at self.old.handed 0) }
+        ensures told { (places : ℕ → ℕ) (c : CodeState) (taken : List ℕ) → Stands places c self.old → O.taken out.old ≡ Some taken → Seen places c self.old (same_numbers c.numbers (call_lib line libs.Puts r c.handed c.state)) c.state.input taken result self.new (Some c.state.input) (O.taken out.new) }
         ensures faults { (i : ℕ) → Counted result i i (O.faults out.old) (O.faults out.new) }
-        ensures moves { (line : ℕ) (places : ℕ → ℕ) (c : CodeState) (format : List ℕ) → Stands places c self.old → pieces.now ≡ pieces_of format → Moves self.old (same_numbers c.numbers (print_format line r format c.handed c.state)) self.new result }
+        ensures moves { (places : ℕ → ℕ) (c : CodeState) → Stands places c self.old → Moves self.old (same_numbers c.numbers (call_lib line libs.Puts r c.handed c.state)) self.new result }
     {
-        match self.put_pieces(pieces, out) {
-            Ok(n) => {
-                self.give(Some(r), Word::Number(IntKind::I32.wrap(n)));
+        match self.put_line(self.address(0), out) {
+            Ok(()) => {
+                self.give(r, Word::Number(0));
                 Ok(())
             }
-            Err(_) => Err(End::OutputFault),
+            Err(error) => Err(error.end(line)),
         }
     }
 
@@ -112,7 +41,7 @@ impl State {
     fn put_char<O: Sink>(&mut self, r: Option<u32>, n: i128, out: &mut O) -> Result<(), End>
         requires point { self.old.calls.running.point + 1 < 2 ^ 64 }
         requires count { O.faults out.old + 1 < 2 ^ 64 }
-        ensures told { (places : ℕ → ℕ) (c : CodeState) (taken : List ℕ) → Stands places c self.old → O.taken out.old ≡ Some taken → Seen self.old (same_numbers c.numbers (put_byte r (byte_in n) c.state)) c.state.input taken result self.new (Some c.state.input) (O.taken out.new) }
+        ensures told { (places : ℕ → ℕ) (c : CodeState) (taken : List ℕ) → Stands places c self.old → O.taken out.old ≡ Some taken → Seen places c self.old (same_numbers c.numbers (put_byte r (byte_in n) c.state)) c.state.input taken result self.new (Some c.state.input) (O.taken out.new) }
         ensures faults { (i : ℕ) → Counted result i i (O.faults out.old) (O.faults out.new) }
         ensures moves { (places : ℕ → ℕ) (c : CodeState) → Stands places c self.old → Moves self.old (same_numbers c.numbers (put_byte r (byte_in n) c.state)) self.new result }
     {
@@ -130,7 +59,7 @@ impl State {
     fn get<I: Source>(&mut self, r: Option<u32>, input: &mut I) -> Result<(), End>
         requires point { self.old.calls.running.point + 1 < 2 ^ 64 }
         requires count { I.faults input.old + 1 < 2 ^ 64 }
-        ensures told { (places : ℕ → ℕ) (c : CodeState) (taken : List ℕ) → Stands places c self.old → I.left input.old ≡ Some c.state.input → Seen self.old (same_numbers c.numbers (get_byte r c.state.input c.state)) c.state.input taken result self.new (I.left input.new) (Some taken) }
+        ensures told { (places : ℕ → ℕ) (c : CodeState) (taken : List ℕ) → Stands places c self.old → I.left input.old ≡ Some c.state.input → Seen places c self.old (same_numbers c.numbers (get_byte r c.state.input c.state)) c.state.input taken result self.new (I.left input.new) (Some taken) }
         ensures faults { (o : ℕ) → Counted result (I.faults input.old) (I.faults input.new) o o }
         ensures moves { (places : ℕ → ℕ) (c : CodeState) → Stands places c self.old → (left : List ℕ) × All IsByte left × Moves self.old (same_numbers c.numbers (get_byte r left (with_input left c.state))) self.new result }
     {
@@ -161,13 +90,14 @@ impl State {
         requires kept { (k : ℕ) → IsKept self.old.memory (address_at self.old.handed k) }
         requires input { I.faults input.old + 1 < 2 ^ 64 }
         requires out { O.faults out.old + 1 < 2 ^ 64 }
-        ensures told { (places : ℕ → ℕ) (c : CodeState) (taken : List ℕ) → Stands places c self.old → I.left input.old ≡ Some c.state.input → O.taken out.old ≡ Some taken → Seen self.old (same_numbers c.numbers (call_lib line name r c.handed c.state)) c.state.input taken result self.new (I.left input.new) (O.taken out.new) }
+        ensures told { (places : ℕ → ℕ) (c : CodeState) (taken : List ℕ) → Stands places c self.old → I.left input.old ≡ Some c.state.input → O.taken out.old ≡ Some taken → Seen places c self.old (same_numbers c.numbers (call_lib line name r c.handed c.state)) c.state.input taken result self.new (I.left input.new) (O.taken out.new) }
         ensures faults { Counted result (I.faults input.old) (I.faults input.new) (O.faults out.old) (O.faults out.new) }
         ensures moves { (places : ℕ → ℕ) (c : CodeState) → Stands places c self.old → (left : List ℕ) × All IsByte left × Moves self.old (same_numbers c.numbers (call_lib line name r c.handed (with_input left c.state))) self.new result }
     {
         match name {
             LibName::Getchar => self.get(r, input),
             LibName::Putchar => self.put_char(r, self.integer(0), out),
+            LibName::Puts => self.act_puts(line, r, out),
             LibName::Exit => Err(End::Exit(byte_in(self.integer(0)))),
             LibName::Abort => Err(End::Trap(TrapKind::Abort, line)),
             LibName::Strlen | LibName::Strcmp => self.act_string(line, name, r),

@@ -23,7 +23,7 @@ impl State {
         requires pointers { IsPointers op }
         requires kept { (k : ℕ) → IsKept self.old.memory (address_at self.old.handed k) }
         requires element { op ≡ ops.Diff → pos 0 <ℤ instr.imm }
-        ensures { (code : Program) (places : ℕ → ℕ) (c : CodeState) → Stands places c self.old → Alone c.state.input self.old (act code line instr op c.handed c.numbers c.state) self.new result }
+        ensures { (code : Program) (places : ℕ → ℕ) (c : CodeState) → Stands places c self.old → Alone places c self.old (act code line instr op c.handed c.numbers c.state) self.new result }
     {
         let p = self.address(0);
         match op {

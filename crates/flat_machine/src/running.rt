@@ -1,6 +1,6 @@
 //! Runs: one instruction after another, until the end.
 
-ghost use Rattle.std.specs.Prelude.{◌≡◌, ◌+◌, ◌-◌, ◌<◌, ◌^◌, ℕ, List, IfOk, IfErr, Some};
+ghost use Rattle.std.specs.Prelude.{◌≡◌, ◌+◌, ◌-◌, ◌<◌, ◌≤◌, ◌^◌, ℕ, List, IfOk, IfErr, Some};
 ghost use Rattle.hs_base.specs.Cut.{Room};
 ghost use Rattle.flat_code.specs.WellFormed.{IsWellFormed};
 ghost use Rattle.code_soundness.specs.Laws.{HoldsBytes};
@@ -68,9 +68,10 @@ fn begin(state: &mut State, code: &Code, loaded: &Loaded, stack: u32) -> Result<
     requires bytes { HoldsBytes code.now }
     requires loaded { IsLoaded code.now loaded.now }
     requires first { IsFirst code.now stack state.old }
+    requires budget { state.old.steps ≤ 1000000000 }
     ensures well { IfOk result (λ _. IsWell code.now state.new) }
     ensures room { IfOk result (λ _. state.new.calls.room ≡ stack) }
-    ensures reaches { IfOk result (λ _. (input : List ℕ) (n : ℕ) (room : Room) (taken : List ℕ) → n ≡ state.old.steps → room.stack ≡ stack → Reached code.now input n room taken state.new (Some input) (Some taken)) }
+    ensures reaches { IfOk result (λ _. (input : List ℕ) (n : ℕ) (room : Room) (taken : List ℕ) → n ≡ state.old.steps → room.stack ≡ stack → room.heap ≡ state.old.memory.heap.len → Reached code.now input n room taken state.new (Some input) (Some taken)) }
     ensures ends { IfErr result (λ e. (input : List ℕ) (n : ℕ) (room : Room) (taken : List ℕ) → n ≡ state.old.steps → room.stack ≡ stack → RunAnswers code.now input n room taken e (Some input) (Some taken)) }
     ensures made { IfErr result (λ e. (input : List ℕ) (n : ℕ) (room : Room) → n ≡ state.old.steps → room.stack ≡ stack → MakesSteps code.now input n room e (n - state.new.steps)) }
     ensures faults { IfErr result (λ e. (i o : ℕ) → RunCounts e i i o o) }
@@ -110,10 +111,11 @@ pub(crate) fn whole_run<I: Source, O: Sink>(
     requires bytes { HoldsBytes code.now }
     requires loaded { IsLoaded code.now loaded.now }
     requires first { IsFirst code.now stack state.old }
+    requires budget { state.old.steps ≤ 1000000000 }
     requires input { I.faults input.old + 1 < 2 ^ 64 }
     requires out { O.faults out.old + 1 < 2 ^ 64 }
-    ensures told { (left : List ℕ) (n : ℕ) (room : Room) (taken : List ℕ) → n ≡ state.old.steps → room.stack ≡ stack → I.left input.old ≡ Some left → O.taken out.old ≡ Some taken → RunAnswers code.now left n room taken result (I.left input.new) (O.taken out.new) }
-    ensures made { (left : List ℕ) (n : ℕ) (room : Room) (taken : List ℕ) → n ≡ state.old.steps → room.stack ≡ stack → I.left input.old ≡ Some left → O.taken out.old ≡ Some taken → MakesSteps code.now left n room result (n - state.new.steps) }
+    ensures told { (left : List ℕ) (n : ℕ) (room : Room) (taken : List ℕ) → n ≡ state.old.steps → room.stack ≡ stack → room.heap ≡ state.old.memory.heap.len → I.left input.old ≡ Some left → O.taken out.old ≡ Some taken → RunAnswers code.now left n room taken result (I.left input.new) (O.taken out.new) }
+    ensures made { (left : List ℕ) (n : ℕ) (room : Room) (taken : List ℕ) → n ≡ state.old.steps → room.stack ≡ stack → room.heap ≡ state.old.memory.heap.len → I.left input.old ≡ Some left → O.taken out.old ≡ Some taken → MakesSteps code.now left n room result (n - state.new.steps) }
     ensures faults { RunCounts result (I.faults input.old) (I.faults input.new) (O.faults out.old) (O.faults out.new) }
 {
     match begin(state, code, loaded, stack) {

@@ -8,17 +8,16 @@ ghost use Rattle.flat_code.specs.WellFormed.{IsWellFormed};
 ghost use Rattle.flat_code.specs.declared.instructions.Op.TheVariants as ops;
 ghost use Rattle.flat_objects.specs.Keeping.{IsKept};
 ghost use Rattle.meaning_run.specs.Leading.{with_input};
-ghost use Rattle.meaning_state.specs.Printing.{PrintsNoString};
 ghost use Rattle.code_meaning.specs.CodeState.{CodeState};
 ghost use Rattle.code_meaning.specs.CodeMeaning.{handed_value, hand_or_act, step};
 ghost use Rattle.code_soundness.specs.Objects.{IsByte};
 ghost use Rattle.flat_machine.specs.Words.{address_at};
 ghost use Rattle.flat_machine.specs.Standing.{Stands};
-ghost use Rattle.flat_machine.specs.Groups.{IsHanding, IsValues, IsJump, IsMemory, IsPointers, IsAlone, IsBuiltLib};
+ghost use Rattle.flat_machine.specs.Groups.{IsHanding, IsValues, IsJump, IsMemory, IsPointers, IsMaking, IsAlone, IsBuiltLib};
 ghost use Rattle.flat_machine.specs.Built.{IsBuilt, IsBuiltOp};
 ghost use Rattle.flat_machine.specs.Loaded.{IsLoaded};
 ghost use Rattle.flat_machine.specs.Well.{IsWell};
-ghost use Rattle.flat_machine.specs.Leading.{Alone, Counted, Moves, Seen, WaitsAtCall, HasNoLocal, MayHand, MayCall};
+ghost use Rattle.flat_machine.specs.Leading.{Alone, Counted, Moves, Seen, WaitsAtCall, HasNoLocal, MayHand, MayMake, MayCall};
 
 use crate::calling::chosen;
 use crate::loaded::Loaded;
@@ -52,7 +51,7 @@ fn call(
     requires built { IsBuilt code.now }
     requires loaded { IsLoaded code.now loaded.now }
     requires may { MayCall code.now instr state.old }
-    ensures { (places : ℕ → ℕ) (c : CodeState) → Stands places c state.old → instr.op ≡ ops.Call → Alone c.state.input state.old (hand_or_act code.now line instr (handed_value c.state.running instr ops.Call) c) state.new result }
+    ensures { (places : ℕ → ℕ) (c : CodeState) → Stands places c state.old → instr.op ≡ ops.Call → Alone places c state.old (hand_or_act code.now line instr (handed_value c.state.running instr ops.Call) c) state.new result }
 {
     let f = instr.b as usize;
     let Some(callee) = code.funcs.get(f) else {
@@ -81,10 +80,11 @@ fn act_alone(
     requires kept { IsMemory op → IsKept state.old.memory (address_at state.old.handed 0) }
     requires pointers { IsPointers op → (k : ℕ) → IsKept state.old.memory (address_at state.old.handed k) }
     requires element { op ≡ ops.Diff → pos 0 <ℤ instr.imm }
+    requires makes { IsMaking op → MayMake code.now instr state.old }
     requires may { op ≡ ops.Call → MayCall code.now instr state.old }
     requires waits { WaitsAtCall code.now state.old.calls.waiting }
     requires locals { HasNoLocal code.now state.old.calls }
-    ensures { (places : ℕ → ℕ) (c : CodeState) → Stands places c state.old → instr.op ≡ op → Alone c.state.input state.old (hand_or_act code.now line instr (handed_value c.state.running instr op) c) state.new result }
+    ensures { (places : ℕ → ℕ) (c : CodeState) → Stands places c state.old → instr.op ≡ op → Alone places c state.old (hand_or_act code.now line instr (handed_value c.state.running instr op) c) state.new result }
 {
     match op {
         Op::HandReg | Op::HandInt | Op::HandUnsigned | Op::HandNull | Op::HandStatic => {
@@ -99,6 +99,7 @@ fn act_alone(
             state.act_memory(line, instr, op)
         }
         Op::Add | Op::Sub | Op::Diff | Op::Pcmp(..) => state.act_pointers(line, instr, op),
+        Op::Malloc | Op::Calloc => state.act_making(line, instr, op),
         Op::Call => call(state, code, loaded, line, instr),
         Op::Return => state.act_return(code, Word::Number(0)),
         Op::Give => {
@@ -123,7 +124,7 @@ pub(crate) fn one_step<I: Source, O: Sink>(
     requires well { IsWell code.now state.old }
     requires input { I.faults input.old + 1 < 2 ^ 64 }
     requires out { O.faults out.old + 1 < 2 ^ 64 }
-    ensures told { (places : ℕ → ℕ) (c : CodeState) (trace : List Event) (taken : List ℕ) → Stands places c state.old → I.left input.old ≡ Some c.state.input → O.taken out.old ≡ Some taken → Seen state.old (step code.now trace c) c.state.input taken result state.new (I.left input.new) (O.taken out.new) }
+    ensures told { (places : ℕ → ℕ) (c : CodeState) (trace : List Event) (taken : List ℕ) → Stands places c state.old → I.left input.old ≡ Some c.state.input → O.taken out.old ≡ Some taken → Seen places c state.old (step code.now trace c) c.state.input taken result state.new (I.left input.new) (O.taken out.new) }
     ensures faults { Counted result (I.faults input.old) (I.faults input.new) (O.faults out.old) (O.faults out.new) }
     ensures moves { (places : ℕ → ℕ) (c : CodeState) → Stands places c state.old → (left : List ℕ) × All IsByte left × Moves state.old (step code.now [] (record c { state = with_input left c.state })) state.new result }
 {
@@ -139,7 +140,7 @@ pub(crate) fn one_step<I: Source, O: Sink>(
         Op::Lib(name) => state.act_lib(*line, name, chosen(instr), input, out),
         Op::Printf => {
             let pieces = pieces_at(loaded.formats.as_slice(), instr.b);
-            state.act_printf(instr.a, pieces, out)
+            state.act_printf(*line, instr.a, pieces, out)
         }
         op => act_alone(state, code, loaded, *line, instr, op),
     }

@@ -1,20 +1,78 @@
-//! Built-in functions that read strings (C99 7.21.4.2, 7.21.6.3).
+//! Strings that are read and written (C99 7.19.7.10, 7.21.4.2, 7.21.6.3).
 
-ghost use Rattle.std.specs.Prelude.{◌+◌, ◌<◌, ◌^◌, ℕ};
-ghost use Rattle.flat_objects.specs.Keeping.{IsKept};
+ghost use Rattle.std.specs.Prelude.{◌≡◌, ◌+◌, ◌<◌, ◌≤◌, ◌^◌, ℕ, List, drop, length, take};
+ghost use Rattle.hs_base.specs.Object.{Object};
+ghost use Rattle.hs_base.specs.Outside.{CountsFaults};
+ghost use Rattle.hs_base.specs.PutAll.{PutsAll};
+ghost use Rattle.hs_base.specs.declared.values.Pointer.{Pointer};
+ghost use Rattle.flat_objects.specs.Keeping.{KeepsAt, IsKept};
 ghost use Rattle.object_meaning.specs.Builtins.{call_lib};
 ghost use Rattle.code_meaning.specs.CodeState.{CodeState, same_numbers};
 ghost use Rattle.flat_machine.specs.Words.{address_at};
 ghost use Rattle.flat_machine.specs.Standing.{Stands};
 ghost use Rattle.flat_machine.specs.Groups.{IsStringLib};
 ghost use Rattle.flat_machine.specs.Leading.{Alone, Counted};
+ghost use Rattle.flat_machine.specs.Putting.{CountsPut, PutsText};
+ghost use Rattle.flat_machine.specs.Writing.{line_at, HasString, IsString};
 
+use crate::put_error::PutError;
 use crate::state::State;
 use core_tree::LibName;
 use flat_objects::Word;
-use hs_base::{End, Line};
+use hs_base::{End, Failed, Line, Sink, put_all};
+
+/// How many bytes of a string are written at once.
+const CHUNK: usize = 64;
 
 impl State {
+    /// The bytes of the string at an address from a place on, as many as are asked for.
+    fn chunk(&self, addr: u32, from: u32, count: u32) -> [u8; CHUNK]
+        requires short { count ≤ 64 }
+        requires fits { from + count < 2 ^ 32 }
+        requires string { (len : ℕ) × HasString self.now.memory addr len × (from + count ≤ len) }
+        ensures { (places : ℕ → ℕ) (objects : List Object) (p : Pointer) (text : List ℕ) → IsString self.now.memory places objects p addr text → from + count ≤ length text → take count result ≡ take count (drop from text) }
+    {
+        let mut chunk = [0; CHUNK];
+        for i in 0..count {
+            chunk[i as usize] = self.string_byte(addr, from + i);
+        }
+        chunk
+    }
+
+    /// Writes the string of so many bytes at an address. After a failure, which is the last call on the sink, a part of it
+    /// was taken.
+    pub(crate) fn put_string<O: Sink>(&self, addr: u32, len: u32, out: &mut O) -> Result<(), Failed>
+        requires count { O.faults out.old + 1 < 2 ^ 64 }
+        requires string { HasString self.now.memory addr len }
+        ensures bytes { (places : ℕ → ℕ) (objects : List Object) (p : Pointer) (text : List ℕ) → IsString self.now.memory places objects p addr text → len ≡ length text → PutsAll (O.taken out.old) (O.taken out.new) text result }
+        ensures cause { CountsFaults (O.faults out.old) (O.faults out.new) result }
+    {
+        let mut done = 0;
+        while done < len {
+            let count = (len - done).min(CHUNK as u32);
+            let chunk = self.chunk(addr, done, count);
+            put_all(out, &chunk[..count as usize])?;
+            done += count;
+        }
+        Ok(())
+    }
+
+    /// Writes the string at an address and a line end. Nothing is written where the string traps.
+    pub(crate) fn put_line<O: Sink>(&self, addr: u32, out: &mut O) -> Result<(), PutError>
+        requires count { O.faults out.old + 1 < 2 ^ 64 }
+        requires kept { IsKept self.now.memory addr }
+        ensures puts { (places : ℕ → ℕ) (objects : List Object) (p : Pointer) → KeepsAt self.now.memory places objects p addr → PutsText (O.taken out.old) (O.taken out.new) (line_at objects p) result }
+        ensures cause { CountsPut (O.faults out.old) (O.faults out.new) result }
+    {
+        let len = match self.string_length(addr) {
+            Ok(len) => len,
+            Err(kind) => return Err(PutError::Trapped(kind)),
+        };
+        self.put_string(addr, len, out)?;
+        put_all(out, b"\n")?;
+        Ok(())
+    }
+
     /// A call of a built-in function that reads strings; a register takes its answer.
     pub(crate) fn act_string(
         &mut self,
@@ -25,7 +83,7 @@ impl State {
         requires point { self.old.calls.running.point + 1 < 2 ^ 64 }
         requires name { IsStringLib name }
         requires kept { (k : ℕ) → IsKept self.old.memory (address_at self.old.handed k) }
-        ensures leads { (places : ℕ → ℕ) (c : CodeState) → Stands places c self.old → Alone c.state.input self.old (same_numbers c.numbers (call_lib line name r c.handed c.state)) self.new result }
+        ensures leads { (places : ℕ → ℕ) (c : CodeState) → Stands places c self.old → Alone places c self.old (same_numbers c.numbers (call_lib line name r c.handed c.state)) self.new result }
         ensures faults { (i o : ℕ) → Counted result i i o o }
     {
         let p = self.address(0);

@@ -222,6 +222,14 @@ module _ (locals heap : ℕ) (memory next : Memory) (shape : IsMemory locals hea
             subst (λ (h : HeapModel). Holds h (blocks_of next new_places (objects ++ new ∷ []) range)) (sym (placed.others range differ)) (subst (Holds (heap_of memory range)) (sym blocks) (keeps.held range))
       ]
 
+  -- the same seen from the memory behind
+  blocks_behind : (range : Range) → blocks_of next new_places (objects ++ new ∷ []) range ≡ blocks_of next places objects range ++ map (block_of new_places (heap_of next range).base) (filter (stands_in range) ((length objects, new) ∷ []))
+  blocks_behind range =
+      let birth : 0 + length objects ≡ length objects = omega arith in
+      blocks_joined range
+      ∙ ap (λ n. blocks_of memory places objects range ++ map (block_of new_places (heap_of memory range).base) (filter (stands_in range) ((n, new) ∷ []))) birth
+      ∙ ap (λ b. map (block_of places b) (filter (stands_in range) (enumerate_from 0 objects)) ++ map (block_of new_places b) (filter (stands_in range) ((length objects, new) ∷ []))) (sym (same_base range))
+
   -- the new block and the old objects
   new_within : place + block_size new.size ≤ (heap_of memory (range_of new.sort)).len
   new_within =
@@ -308,6 +316,7 @@ module _ (locals heap : ℕ) (memory next : Memory) (shape : IsMemory locals hea
                 (subst (StandsAt next new_places (objects ++ new ∷ []) (length objects) addr) same new_stands))
           ];
     };
+    blocks = blocks_behind;
     stand = addresses;
   }
 

@@ -2,6 +2,7 @@
 use Rattle.std.proofs.Common.{◌≡◌, ◌<◌, ◌≤◌, ◌+◌, ◌-◌, ◌⊎◌, inl, inr, ℕ, zero, suc, Bool, true, false, cond, not, List, [], ◌∷◌, length, set, sym, ap, ◌∙◌, refl, subst, arith}
 use Rattle.std.specs.Prelude.{map, filter, slice_index, slice_index_or, ◌&&◌}
 use Rattle.std.specs.List.{enumerate_from}
+use Rattle.std.proofs.Math.ListN.{length-set}
 use Rattle.std.proofs.lemmas.Bool.{cases_eq}
 use Rattle.std.proofs.lemmas.List.{get_or-set_same, get_or-set_other, get_or_default}
 use Rattle.hs_base.specs.declared.values.Pointer.{Pointer}
@@ -145,13 +146,16 @@ outside_other place size start long at n (inr h) low high = inr (omega arith)
 module _ (locals heap : ℕ) (memory : Memory) (shape : IsMemory locals heap memory) (places : ℕ → ℕ) (objects : List Object) (keeps : Keeps memory places objects) (birth : ℕ) (there : IsThere objects birth)
     (new : Object) (like : SameShape (object_at objects birth) new) (bytes : List ℕ) (changes : ChangesOnly memory.bytes bytes (places birth) (object_at objects birth).size)
     (stands_new : StandsNew bytes places (with_object objects birth new) (places birth) new) where
+  other_blocks : (any : Memory) (range : Range) → blocks_of any places (with_object objects birth new) range ≡ blocks_of any places objects range
+  other_blocks any range =
+      kept_after_set (block_of places (heap_of any range).base) (stands_in range) new 0 objects birth
+      (λ m. ap (λ n. let b : Block = record { birth = m; place = places m - ((heap_of any range).base + 32); length = block_size n } in b) like.size)
+      (λ m. (λ i. is_of range (like.sort i) && not (is_dead (like.standing i))))
+
   same_blocks : (range : Range) → blocks_of (with_bytes memory bytes) places (with_object objects birth new) range ≡ blocks_of memory places objects range
   same_blocks range =
-      let o = object_at objects birth in
       ap (λ (h : HeapModel). map (block_of places h.base) (filter (stands_in range) (enumerate_from 0 (with_object objects birth new)))) (same_range memory bytes range)
-      ∙ kept_after_set (block_of places (heap_of memory range).base) (stands_in range) new 0 objects birth
-      (λ m. ap (λ n. let b : Block = record { birth = m; place = places m - ((heap_of memory range).base + 32); length = block_size n } in b) like.size)
-      (λ m. (λ i. is_of range (like.sort i) && not (is_dead (like.standing i))))
+      ∙ other_blocks memory range
 
   still_held : (range : Range) → Holds (heap_of (with_bytes memory bytes) range) (blocks_of (with_bytes memory bytes) places (with_object objects birth new) range)
   still_held range =
@@ -221,5 +225,7 @@ module _ (locals heap : ℕ) (memory : Memory) (shape : IsMemory locals heap mem
                 (stands_other other (ap (λ (o : Object). is_dead o.standing) (sym same) ∙ other_there) differ)
           ];
     };
+    many = length-set objects birth new;
+    blocks = other_blocks;
     stand = addresses;
   }

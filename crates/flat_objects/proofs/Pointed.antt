@@ -112,7 +112,7 @@ module _ (places : ℕ → ℕ) (objects : List Object) (birth addr : ℕ) (poin
       ext_get_or pointer.Null o.pointers (map (first_pointer []) o.slots) (old.many ∙ sym (length-map o.slots (first_pointer [])))
       (λ i less. takes.null i pointer.Null less ∙ sym (get_or-map (first_pointer []) o.slots i 0 pointer.Null (omega (arith, old.many)))) in
       let same : objects ≡ after_first 0 = sym (set-get_or objects birth no_object) ∙ ap (λ ps. with_object objects birth (record o { pointers = ps })) none in
-      subst (IsChanged memory places objects) same (record { keeps = takes.keeps; stand = λ p a h. h })
+      subst (IsChanged memory places objects) same (record { keeps = takes.keeps; many = refl; blocks = λ any range. refl; stand = λ p a h. h })
 
   like_first : (n : ℕ) → SameShape (object_at objects birth) (with_first_pointers (object_at objects birth) (take n pointers))
   like_first n = record { sort = refl; size = refl; slots = refl; standing = refl }
@@ -152,4 +152,4 @@ module _ (places : ℕ → ℕ) (objects : List Object) (birth addr : ℕ) (poin
         let all : with_object (after_first j) birth (with_pointer (object_at (after_first j) birth) p.0 (pointer.At p.1 p.2)) ≡ after_first (j + 1) =
         ap (with_object (after_first j) birth) object ∙ set-set objects birth (with_first_pointers o (take j pointers)) (with_first_pointers o (take (j + 1) pointers)) in
         let told = subst (IsChanged next places (after_first j)) all change in
-        record { keeps = told.keeps; stand = λ q a h. told.stand q a (so_far.stand q a h) }
+        record { keeps = told.keeps; many = told.many ∙ so_far.many; blocks = λ any range. told.blocks any range ∙ so_far.blocks any range; stand = λ q a h. told.stand q a (so_far.stand q a h) }

@@ -6,9 +6,9 @@ use Rattle.hs_base.specs.declared.values.Value.{Value}
 use Rattle.hs_base.specs.Access.{Refusal, Trapped, Place}
 use Rattle.hs_base.specs.Object.{Object}
 use Rattle.object_meaning.specs.Values.{number, address}
-use Rattle.flat_objects.specs.Memory.{Memory}
+use Rattle.flat_objects.specs.Memory.{Memory, Range}
 use Rattle.flat_objects.specs.Standing.{IsAddressOf}
-use Rattle.flat_objects.specs.Keeping.{Keeps}
+use Rattle.flat_objects.specs.Keeping.{Keeps, blocks_of}
 
 -- the code traps as the definition does
 abbrev pub Traps : {A : Type 0} → TrapKind → Result A Refusal → Type 0
@@ -39,9 +39,12 @@ abbrev pub Allows : Result Unit TrapKind → Result Place Refusal → Type 0
 Allows (Ok u) meant = (at : Place) × (meant ≡ Ok at)
 Allows (Err kind) meant = Traps kind meant
 
--- a memory keeps other objects than before at the same places, and each address that stood for a pointer still does
+-- a memory keeps other objects than before, as many at the same places and in the same blocks, and each address that stood for a
+-- pointer still does
 pub record IsChanged (memory : Memory) (places : ℕ → ℕ) (before after : List Object) : Type 0 where
   pub keeps : Keeps memory places after
+  pub many : length after ≡ length before
+  pub blocks : (any : Memory) (range : Range) → blocks_of any places after range ≡ blocks_of any places before range
   pub stand : (p : Pointer) (addr : ℕ) → IsAddressOf places before p addr → IsAddressOf places after p addr
 
 -- the memory became one that keeps the objects of the definition, or it traps as the definition does and is the same

@@ -1,1 +1,1 @@
-mod Built
+pub mod Built

@@ -1,5 +1,5 @@
 -- Nodes that grow by two parts or more, and the end of a parameter list, which takes back what was declared in it.
-use Rattle.std.proofs.Common.{◌≡◌, ◌+◌, ◌-◌, ◌<◌, ℕ, suc, Some, refl, sym, ap, ◌∙◌, subst, arith}
+use Rattle.std.proofs.Common.{◌≡◌, ◌+◌, ◌-◌, ◌<◌, ℕ, Some, refl, sym, ap, ◌∙◌, subst, arith}
 use Rattle.c_tree.specs.Allowed.{no_words}
 use Rattle.c_tree.specs.declared.word.Sign.{Sign}
 use Rattle.c_tree.specs.Depth.{depth}
@@ -10,9 +10,9 @@ use Rattle.c_tree.specs.StatementView.{trees, expr_view, suffix_view, member_vie
 use Rattle.c_tree.specs.Tree.{Tree, Node}
 use Rattle.c_tree.specs.View.{spec_tree}
 use Rattle.c_tree.specs.Words.{Mark}
-use Rattle.c_parser.specs.State.{past}
-use Rattle.c_parser.specs.Reading.{snoc}
-use Rattle.c_parser.specs.Rooms.{less, read}
+use Rattle.grammar_reading.specs.State.{past}
+use Rattle.grammar_reading.specs.Reading.{snoc}
+use Rattle.grammar_reading.specs.Rooms.{less, read}
 use Rattle.c_parser.proofs.Grown.{less_is, grown_call, grown_cond, grown_binary}
 use Rattle.c_parser.proofs.Loops.{specs_begin, members_begin}
 use Rattle.c_parser.proofs.Scoping.{function_ends}

@@ -8,12 +8,12 @@ use Rattle.c_tree.specs.Places.{Members, Declarator, Enumerators}
 use Rattle.c_tree.specs.StatementView.{trees, expr_view, suffix_view, param_view, member_view}
 use Rattle.c_tree.specs.Tree.{At, none, ◌▹◌}
 use Rattle.c_tree.specs.View.{spec_tree, declarator_tree, enumerator_tree}
-use Rattle.c_parser.specs.Declarators.{suffixes_from, param_at, specs_from, member_at, declarator_at, member_names_at, enumerator_at}
-use Rattle.c_parser.specs.Expressions.{comma_from, binary_from, postfix_from, argument_at}
-use Rattle.c_parser.specs.Reading.{commas_from, list_from, goes_on, goes_on_inside}
-use Rattle.c_parser.specs.Rooms.{less, read}
-use Rattle.c_parser.specs.State.{at_mark, left_at, line_at}
-use Rattle.c_parser.specs.Tallies.{tally_of, total}
+use Rattle.grammar_reading.specs.Declarators.{suffixes_from, param_at, specs_from, member_at, declarator_at, member_names_at, enumerator_at}
+use Rattle.grammar_reading.specs.Expressions.{comma_from, binary_from, postfix_from, argument_at}
+use Rattle.grammar_reading.specs.Reading.{commas_from, list_from, goes_on, goes_on_inside}
+use Rattle.grammar_reading.specs.Rooms.{less, read}
+use Rattle.grammar_reading.specs.State.{at_mark, left_at, line_at}
+use Rattle.parser_parts.specs.Tallies.{tally_of, total}
 use Rattle.c_parser.proofs.+grammar.Given as goal
 
 abbrev pub decreases-expression::expression : goal.decreases-expression::expression

@@ -2,9 +2,9 @@ use Rattle.std.proofs.Common.{◌≡◌, ◌*◌, ◌+◌}
 use Rattle.c_tree.specs.Forms as f
 use Rattle.c_tree.specs.Places.{Inits}
 use Rattle.c_tree.specs.StatementView.{trees, init_view}
-use Rattle.c_parser.specs.Declarators.{init_at}
-use Rattle.c_parser.specs.Reading.{commas_from, goes_on_inside}
-use Rattle.c_parser.specs.Rooms.{less, read}
+use Rattle.grammar_reading.specs.Declarators.{init_at}
+use Rattle.grammar_reading.specs.Reading.{commas_from, goes_on_inside}
+use Rattle.grammar_reading.specs.Rooms.{less, read}
 use Rattle.c_parser.proofs.names.+init.Given as goal
 
 abbrev pub decreases-init : goal.decreases-init

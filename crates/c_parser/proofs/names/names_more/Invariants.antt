@@ -1,9 +1,9 @@
 use Rattle.std.proofs.Common.{◌≡◌}
 use Rattle.c_tree.specs.Forms as f
 use Rattle.c_tree.specs.StatementView.{trees, entry_view}
-use Rattle.c_parser.specs.Declarators.{entry_at}
-use Rattle.c_parser.specs.Reading.{commas_from, goes_on}
-use Rattle.c_parser.specs.Rooms.{less}
+use Rattle.grammar_reading.specs.Declarators.{entry_at}
+use Rattle.grammar_reading.specs.Reading.{commas_from, goes_on}
+use Rattle.grammar_reading.specs.Rooms.{less}
 use Rattle.c_parser.proofs.names.names_more.Given as goal
 
 -- what reading the rest behind the names so far gives is what reading them all gives

@@ -1,11 +1,6 @@
 -- The end of a scope takes back what was declared in it.
 use Rattle.c_tree.specs.StatementView.{stmt_view}
-use Rattle.c_tree.specs.Forms as f
-use Rattle.c_tree.specs.Places.{Statement}
-use Rattle.c_parser.specs.Pieces.{open_at}
-use Rattle.c_parser.specs.Reading.{fixed, scoped}
-use Rattle.c_parser.specs.Rooms.{less, read}
-use Rattle.c_parser.proofs.Scoping.{branch_ends, block_ends, open_ends, scope_fails, fails_on}
+use Rattle.c_parser.proofs.Scoping.{branch_ends, block_ends, open_ends}
 use Rattle.c_parser.proofs.statement.+statements.Goals as goal
 
 pub branch-returns : goal.branch-returns

@@ -4,10 +4,10 @@ use Rattle.c_tree.specs.declared.word.Sign.TheVariants as s
 use Rattle.c_tree.specs.Forms as f
 use Rattle.c_tree.specs.Places.{Items}
 use Rattle.c_tree.specs.StatementView.{trees, stmt_view}
-use Rattle.c_parser.specs.Reading.{list_from}
-use Rattle.c_parser.specs.Rooms.{less, read}
-use Rattle.c_parser.specs.State.{at_mark}
-use Rattle.c_parser.specs.Statements as spec
+use Rattle.grammar_reading.specs.Reading.{list_from}
+use Rattle.grammar_reading.specs.Rooms.{less, read}
+use Rattle.grammar_reading.specs.State.{at_mark}
+use Rattle.grammar_reading.specs.Statements as spec
 use Rattle.c_parser.proofs.statement.+statements.Given as goal
 
 abbrev pub decreases-statement : goal.decreases-statement
@@ -42,9 +42,6 @@ decreases-branching l = l.room * 20 + 5
 
 abbrev pub decreases-otherwise : goal.decreases-otherwise
 decreases-otherwise l = l.room * 20 + 4
-
-abbrev pub decreases-with_else : goal.decreases-with_else
-decreases-with_else l = l.room * 20 + 3
 
 abbrev pub decreases-while_loop : goal.decreases-while_loop
 decreases-while_loop l = l.room * 20 + 5

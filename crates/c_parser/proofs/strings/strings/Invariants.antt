@@ -1,6 +1,6 @@
 use Rattle.std.proofs.Common.{◌≡◌}
 use Rattle.c_tree.specs.View.{literal_leaves}
-use Rattle.c_parser.specs.Expressions.{strings_from, strings_at}
+use Rattle.grammar_reading.specs.Expressions.{strings_from, strings_at}
 use Rattle.c_parser.proofs.strings.strings.Given as goal
 
 -- what reading the rest behind the literals so far gives is what reading them all gives

@@ -1,7 +1,7 @@
-use Rattle.std.proofs.Common.{◌≡◌, ◌≢◌, ◌-◌, ap, sym, ◌∙◌, arith}
+use Rattle.std.proofs.Common.{◌≢◌, ◌-◌, ap, sym, ◌∙◌, arith}
 use Rattle.c_tree.specs.StatementView.{trees, decl_view}
-use Rattle.c_parser.specs.Rooms.{text_from}
-use Rattle.c_parser.specs.State.{left_at}
+use Rattle.grammar_reading.specs.Rooms.{text_from}
+use Rattle.grammar_reading.specs.State.{left_at}
 use Rattle.c_parser.proofs.Texts.{one_read}
 use Rattle.c_parser.proofs.unit.externals.Goals as goal
 

@@ -2,7 +2,7 @@
 use Rattle.std.proofs.Common.{◌≡◌}
 use Rattle.c_tree.specs.StatementView.{trees, decl_view}
 use Rattle.c_tree.specs.Tree.{none}
-use Rattle.c_parser.specs.Rooms.{text_from}
+use Rattle.grammar_reading.specs.Rooms.{text_from}
 use Rattle.c_parser.proofs.unit.externals.Given as goal
 
 abbrev pub invariant-all : goal.invariant-all

@@ -12,7 +12,7 @@ use Rattle.built_cores.specs.Built.{IsBuilt}
 use Rattle.compiled_meaning.specs.Laws.{CodeMeansCore}
 use Rattle.compiled_meaning.specs.SameRun.{SameRun}
 use Rattle.flat_machine.specs.Built as machine
-use Rattle.flat_codegen.specs.Laws.{CodeIsBuilt, PrintsNoStrings}
+use Rattle.flat_codegen.specs.Laws.{CodeIsBuilt}
 use Rattle.flat_codegen.proofs.program.compile_core.Goals as goal
 
 means_core : (core : Core) (r : Result Code NoMemory) → CodeMeansCore → IsSound core → IfOk r (λ code. IsCompiled core code) → IfOk r (λ code. IsFreeless core → (input : List ℕ) (n : ℕ) → SameRun (core_meaning core input n) (code_meaning code input n))
@@ -23,7 +23,7 @@ pub returns-clause-means : goal.returns-clause-means
 returns-clause-means c =
     means_core c.args.core.now c.code_of.result c.code_means_core.ensures c.requires c.code_of.ensures.compiled
 
-is_built : (core : Core) (r : Result Code NoMemory) → CodeIsBuilt → IfOk r (λ code. IsCompiled core code) → IfOk r (λ code. IsBuilt core → PrintsNoStrings code → machine.IsBuilt code)
+is_built : (core : Core) (r : Result Code NoMemory) → CodeIsBuilt → IfOk r (λ code. IsCompiled core code) → IfOk r (λ code. IsBuilt core → machine.IsBuilt code)
 is_built core (Ok code) law is = λ built. law core code built is
 is_built core (Err e) law is = tt
 

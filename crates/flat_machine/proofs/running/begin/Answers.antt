@@ -40,7 +40,7 @@ returns-clause-well c =
     let yes = c.take_step.ensures.yes c.if-not-take_step.false in
     let steps : c.args.state.now.steps ≡ suc c.take_step.new.self.steps = omega (arith, yes.0) in
     let goes = c.go_to.ensures ∙ ap (λ (x : Entry). gone_to c.take_step.new.self x.first) main in
-    well_called c.args.code.now c.requires.formed c.requires.built c.args.stack c.args.state.now c.requires.first c.in-Some.line.now c.in-Some.ensures.item c.run_begins_well.ensures c.requires.bytes c.take_step.new.self.steps steps c.in-Some-get-2.cost.now cost c.take_step.new.self c.go_to.new.self yes.1 goes
+    well_called c.args.code.now c.requires.formed c.requires.built c.args.stack c.args.state.now c.requires.first c.in-Some.line.now c.in-Some.ensures.item c.run_begins_well.ensures c.requires.bytes c.take_step.new.self.steps steps c.in-Some-get-2.cost.now cost c.requires.budget c.take_step.new.self c.go_to.new.self yes.1 goes
 
 pub returns-clause-room : goal.returns-clause-room
 returns-clause-room c =
@@ -53,7 +53,7 @@ returns-clause-room c =
     room_called c.args.code.now c.requires.formed c.requires.built c.args.stack c.args.state.now c.requires.first c.in-Some.line.now c.in-Some.ensures.item [] c.take_step.new.self.steps steps c.in-Some-get-2.cost.now cost c.take_step.new.self c.go_to.new.self yes.1 goes le
 
 pub returns-clause-reaches : goal.returns-clause-reaches
-returns-clause-reaches c = λ input n room taken same stack.
+returns-clause-reaches c = λ input n room taken same stack heap.
     let main = main_is_there c.args.code.now c.args.stack c.args.state.now c.requires.first c.func-func.result c.in-Some-get.main.now c.func-func.ensures c.in-Some-get.ensures.item in
     let cost = cost_is c.args.loaded.now.costs c.args.code.now c.requires.loaded.costs c.func-func.result c.in-Some-get-2.cost.now c.in-Some-get.main.now (sym c.in-Some-get.ensures.item) c.in-Some-get-2.ensures.item ∙ ap plain_cost main in
     let yes = c.take_step.ensures.yes c.if-not-take_step.false in
@@ -61,7 +61,7 @@ returns-clause-reaches c = λ input n room taken same stack.
     let goes = c.go_to.ensures ∙ ap (λ (x : Entry). gone_to c.take_step.new.self x.first) main in
     let le : c.in-Some-get-2.cost.now ≤ room.stack = omega (arith, c.if-cost-from.false, c.from.ensures, stack) in
     let less = less_called c.args.code.now c.requires.formed c.requires.built c.args.stack c.args.state.now c.requires.first c.in-Some.line.now c.in-Some.ensures.item c.run_begins_well.ensures c.requires.bytes c.take_step.new.self.steps steps c.in-Some-get-2.cost.now cost in
-    reached_called c.args.code.now c.requires.formed c.requires.built c.args.stack c.args.state.now c.requires.first c.in-Some.line.now c.in-Some.ensures.item input c.take_step.new.self.steps steps c.in-Some-get-2.cost.now cost c.take_step.new.self c.go_to.new.self yes.1 goes n room taken same le less
+    reached_called c.args.code.now c.requires.formed c.requires.built c.args.stack c.args.state.now c.requires.first c.in-Some.line.now c.in-Some.ensures.item input c.take_step.new.self.steps steps c.in-Some-get-2.cost.now cost c.take_step.new.self c.go_to.new.self yes.1 goes n room taken same heap le less
 
 pub returns-then-not-take_step-clause-made : goal.returns-then-not-take_step-clause-made
 returns-then-not-take_step-clause-made c = λ input n room same stack.

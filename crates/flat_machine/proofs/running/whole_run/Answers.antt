@@ -3,16 +3,16 @@ use Rattle.flat_machine.proofs.Starts.{reached_told}
 use Rattle.flat_machine.proofs.running.whole_run.Goals as goal
 
 pub returns-in-Ok-clause-told : goal.returns-in-Ok-clause-told
-returns-in-Ok-clause-told g c = λ left n room taken same stack l t.
-    c.end_of_run.ensures.told left n room taken (c.in-Ok.ensures.room ∙ sym stack) (reached_told c.args.code.now left n room taken c.begin.new.state _ _ l t (c.in-Ok.ensures.reaches left n room taken same stack))
+returns-in-Ok-clause-told g c = λ left n room taken same stack heap l t.
+    c.end_of_run.ensures.told left n room taken (c.in-Ok.ensures.room ∙ sym stack) (reached_told c.args.code.now left n room taken c.begin.new.state _ _ l t (c.in-Ok.ensures.reaches left n room taken same stack heap))
 
 pub returns-in-Err-clause-told : goal.returns-in-Err-clause-told
-returns-in-Err-clause-told g c = λ left n room taken same stack l t.
+returns-in-Err-clause-told g c = λ left n room taken same stack heap l t.
     rw (l, t) (c.in-Err.ensures.ends left n room taken same stack)
 
 pub returns-in-Ok-clause-made : goal.returns-in-Ok-clause-made
-returns-in-Ok-clause-made g c = λ left n room taken same stack l t.
-    c.end_of_run.ensures.made left n room taken (c.in-Ok.ensures.room ∙ sym stack) (reached_told c.args.code.now left n room taken c.begin.new.state _ _ l t (c.in-Ok.ensures.reaches left n room taken same stack))
+returns-in-Ok-clause-made g c = λ left n room taken same stack heap l t.
+    c.end_of_run.ensures.made left n room taken (c.in-Ok.ensures.room ∙ sym stack) (reached_told c.args.code.now left n room taken c.begin.new.state _ _ l t (c.in-Ok.ensures.reaches left n room taken same stack heap))
 
 pub returns-in-Err-clause-made : goal.returns-in-Err-clause-made
-returns-in-Err-clause-made g c = λ left n room taken same stack l t. c.in-Err.ensures.made left n room same stack
+returns-in-Err-clause-made g c = λ left n room taken same stack heap l t. c.in-Err.ensures.made left n room same stack

@@ -5,5 +5,5 @@ use Rattle.flat_machine.proofs.statics.place_statics.Given as goal
 abbrev pub invariant-loop-k : goal.invariant-loop-k
 invariant-loop-k g l = record {
   placed : HasPlaced l.code l.objects l.addrs.items l.k;
-  frame : SameFrame l.fn.objects l.objects
+  frame : SameFrame l.fn.objects l.objects;
 }

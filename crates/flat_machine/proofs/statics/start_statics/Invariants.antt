@@ -5,5 +5,5 @@ use Rattle.flat_machine.proofs.statics.start_statics.Given as goal
 abbrev pub invariant-loop-k : goal.invariant-loop-k
 invariant-loop-k g l = record {
   started : HasStarted l.code l.objects l.addrs l.k;
-  frame : SameFrame l.fn.objects l.objects
+  frame : SameFrame l.fn.objects l.objects;
 }

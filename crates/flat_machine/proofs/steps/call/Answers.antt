@@ -23,4 +23,4 @@ act_call-requires-clause-arguments c =
 
 pub returns : goal.returns
 returns c = λ places s h is.
-    taken_alone c.args.code.now c.args.line c.args.instr Call s s.state.input c.args.state.now c.act_call.new.self c.act_call.result refl is (c.act_call.ensures c.args.code.now places s h (sym c.in-Some.ensures.item))
+    taken_alone c.args.code.now c.args.line c.args.instr Call s places c.args.state.now c.act_call.new.self c.act_call.result refl is (c.act_call.ensures c.args.code.now places s h (sym c.in-Some.ensures.item))

@@ -3,15 +3,14 @@ use Rattle.std.specs.Prelude.{All, slice_index_or}
 use Rattle.c_print.specs.Format.{IsGiven}
 use Rattle.flat_code.specs.declared.instructions.Op.TheVariants as op
 use Rattle.flat_code.specs.Table.{chosen}
-use Rattle.meaning_state.specs.Printing.{PrintsNoString}
 use Rattle.object_meaning.specs.Builtins.{call_lib}
 use Rattle.meaning_run.specs.Leading.{with_input}
 use Rattle.code_meaning.specs.CodeState.{same_numbers}
 use Rattle.code_meaning.specs.CodeMeaning.{step, act, handed_value, hand_or_act}
 use Rattle.flat_machine.proofs.Stays.{stands_input}
 use Rattle.flat_machine.proofs.OneByte.{no_bytes}
-use Rattle.flat_machine.proofs.Goods.{waits, no_locals, kept, built_here, may_hand, not_local, not_start, element_size, may_call, integer_lib, no_instr, no_line}
-use Rattle.flat_machine.proofs.Stepped.{lib_same, step_is, step_acts, seen_alone, moves_alone, counts_alone, alone_of, given_at, read_at, plain_at, found, found_line, seen_as, moves_as}
+use Rattle.flat_machine.proofs.Goods.{waits, no_locals, kept, built_here, may_hand, not_local, not_start, element_size, may_make, may_call, integer_lib, no_instr, no_line}
+use Rattle.flat_machine.proofs.Stepped.{lib_same, step_is, step_acts, seen_alone, moves_alone, counts_alone, alone_of, given_at, read_at, found, found_line, seen_as, moves_as}
 use Rattle.flat_machine.proofs.steps.one_step.Goals as goal
 
 pub unreachable-requires : goal.unreachable-requires
@@ -40,7 +39,7 @@ returns-in-Lib-clause-told g c = λ places s trace taken h l t.
     let acts = step_acts c.args.code.now places s c.args.state.now h c.in-Some.instr.now at c.in-Some-get.line.now line trace (op.Lib c.in-Lib.name) c.in-Lib.is refl in
     let next = call_lib c.in-Some-get.line.now c.in-Lib.name (chosen c.in-Some.instr.now) s.handed s.state in
     let told = rw c.chosen.ensures at (c.act_lib.ensures.told places s taken h l t) in
-    seen_as c.args.state.now c.act_lib.new.self (same_numbers s.numbers next) (step c.args.code.now trace s) (acts ∙ sym (lib_same c.in-Lib.name name s.handed s.numbers next)) c.act_lib.result s.state.input taken _ _ told
+    seen_as c.args.state.now c.act_lib.new.self (same_numbers s.numbers next) (step c.args.code.now trace s) (acts ∙ sym (lib_same c.in-Lib.name name s.handed s.numbers next)) c.act_lib.result places s s.state.input taken _ _ told
 
 pub returns-in-Lib-clause-moves : goal.returns-in-Lib-clause-moves
 returns-in-Lib-clause-moves g c = λ places s h.
@@ -59,11 +58,8 @@ act_printf-requires-clause-given g c =
     let pieces = c.pieces_at-pieces.ensures ∙ ap (λ formats. slice_index_or formats c.in-Some.instr.now.b []) c.as_slice.ensures in
     subst (All IsGiven) (sym pieces) (given_at c.args.code.now.formats c.args.loaded.now.formats c.requires.loaded.formats c.in-Some.instr.now.b)
 
-pub act_printf-requires-clause-numbers : goal.act_printf-requires-clause-numbers
-act_printf-requires-clause-numbers g c =
-    let pieces = c.pieces_at-pieces.ensures ∙ ap (λ formats. slice_index_or formats c.in-Some.instr.now.b []) c.as_slice.ensures in
-    let read = read_at c.args.code.now.formats c.args.loaded.now.formats c.requires.loaded.formats c.requires.formed.formats c.in-Some.instr.now.b in
-    subst (All PrintsNoString) (sym (pieces ∙ read)) (plain_at c.args.code.now.formats c.requires.built.formats c.in-Some.instr.now.b)
+pub act_printf-requires-clause-kept : goal.act_printf-requires-clause-kept
+act_printf-requires-clause-kept g c = kept c.args.code.now c.requires.formed c.requires.built c.args.state.now c.requires.well
 
 pub returns-in-Printf-clause-told : goal.returns-in-Printf-clause-told
 returns-in-Printf-clause-told g c = λ places s trace taken h l t.
@@ -72,8 +68,8 @@ returns-in-Printf-clause-told g c = λ places s trace taken h l t.
     let pieces = c.pieces_at-pieces.ensures ∙ ap (λ formats. slice_index_or formats c.in-Some.instr.now.b []) c.as_slice.ensures in
     let read = read_at c.args.code.now.formats c.args.loaded.now.formats c.requires.loaded.formats c.requires.formed.formats c.in-Some.instr.now.b in
     let acts = step_acts c.args.code.now places s c.args.state.now h c.in-Some.instr.now at c.in-Some-get.line.now line trace op.Printf c.in-Printf.is refl in
-    let told = c.act_printf.ensures.told c.in-Some-get.line.now places s (slice_index_or c.args.code.now.formats c.in-Some.instr.now.b []) taken h (pieces ∙ read) t in
-    rw l (seen_as c.args.state.now c.act_printf.new.self _ (step c.args.code.now trace s) acts c.act_printf.result s.state.input taken _ _ told)
+    let told = c.act_printf.ensures.told places s (slice_index_or c.args.code.now.formats c.in-Some.instr.now.b []) taken h (pieces ∙ read) t in
+    rw l (seen_as c.args.state.now c.act_printf.new.self _ (step c.args.code.now trace s) acts c.act_printf.result places s s.state.input taken _ _ told)
 
 pub returns-in-Printf-clause-moves : goal.returns-in-Printf-clause-moves
 returns-in-Printf-clause-moves g c = λ places s h.
@@ -83,7 +79,7 @@ returns-in-Printf-clause-moves g c = λ places s h.
     let read = read_at c.args.code.now.formats c.args.loaded.now.formats c.requires.loaded.formats c.requires.formed.formats c.in-Some.instr.now.b in
     let stands = stands_input places s c.args.state.now h [] in
     let acts = step_acts c.args.code.now places (record s { state = with_input [] s.state }) c.args.state.now stands c.in-Some.instr.now at c.in-Some-get.line.now line [] op.Printf c.in-Printf.is refl in
-    let moves = c.act_printf.ensures.moves c.in-Some-get.line.now places (record s { state = with_input [] s.state }) (slice_index_or c.args.code.now.formats c.in-Some.instr.now.b []) stands (pieces ∙ read) in
+    let moves = c.act_printf.ensures.moves places (record s { state = with_input [] s.state }) (slice_index_or c.args.code.now.formats c.in-Some.instr.now.b []) stands (pieces ∙ read) in
     ([], no_bytes, moves_as c.args.state.now c.act_printf.new.self _ (step c.args.code.now [] (record s { state = with_input [] s.state })) acts c.act_printf.result moves)
 
 -- Every other instruction
@@ -109,6 +105,11 @@ act_alone-requires-clause-element g c = λ is.
     let at = found c.args.code.now.instrs c.point-point.result c.args.state.now.calls.running.point c.in-Some.instr.now c.point-point.ensures c.in-Some.ensures.item in
     element_size c.args.code.now c.requires.formed c.requires.built c.args.state.now c.requires.well c.in-Some.instr.now at is
 
+pub act_alone-requires-clause-makes : goal.act_alone-requires-clause-makes
+act_alone-requires-clause-makes g c = λ making.
+    let at = found c.args.code.now.instrs c.point-point.result c.args.state.now.calls.running.point c.in-Some.instr.now c.point-point.ensures c.in-Some.ensures.item in
+    may_make c.args.code.now c.requires.formed c.requires.built c.args.state.now c.requires.well c.in-Some.instr.now at c.in-Some.instr.now.op refl making
+
 pub act_alone-requires-clause-may : goal.act_alone-requires-clause-may
 act_alone-requires-clause-may g c = λ is.
     let at = found c.args.code.now.instrs c.point-point.result c.args.state.now.calls.running.point c.in-Some.instr.now c.point-point.ensures c.in-Some.ensures.item in
@@ -126,8 +127,8 @@ returns-in_default-op-clause-told g c = λ places s trace taken h l t.
     let line = found_line c.args.code.now.lines c.point-point.result c.args.state.now.calls.running.point c.in-Some-get.line.now c.point-point.ensures c.in-Some-get.ensures.item in
     let next = hand_or_act c.args.code.now c.in-Some-get.line.now c.in-Some.instr.now (handed_value s.state.running c.in-Some.instr.now c.in-Some.instr.now.op) s in
     let acts = step_is c.args.code.now places s c.args.state.now h c.in-Some.instr.now at c.in-Some-get.line.now line trace in
-    let told = seen_alone c.args.state.now next s.state.input taken c.act_alone.new.state c.act_alone.result (c.act_alone.ensures places s h refl) in
-    rw (l, t) (seen_as c.args.state.now c.act_alone.new.state next (step c.args.code.now trace s) acts c.act_alone.result s.state.input taken _ _ told)
+    let told = seen_alone places s c.args.state.now next taken c.act_alone.new.state c.act_alone.result (c.act_alone.ensures places s h refl) in
+    rw (l, t) (seen_as c.args.state.now c.act_alone.new.state next (step c.args.code.now trace s) acts c.act_alone.result places s s.state.input taken _ _ told)
 
 pub returns-in_default-op-clause-moves : goal.returns-in_default-op-clause-moves
 returns-in_default-op-clause-moves g c = λ places s h.
@@ -136,9 +137,9 @@ returns-in_default-op-clause-moves g c = λ places s h.
     let stands = stands_input places s c.args.state.now h [] in
     let next = hand_or_act c.args.code.now c.in-Some-get.line.now c.in-Some.instr.now (handed_value s.state.running c.in-Some.instr.now c.in-Some.instr.now.op) (record s { state = with_input [] s.state }) in
     let acts = step_is c.args.code.now places (record s { state = with_input [] s.state }) c.args.state.now stands c.in-Some.instr.now at c.in-Some-get.line.now line [] in
-    let moves = moves_alone c.args.state.now next [] c.act_alone.new.state c.act_alone.result (c.act_alone.ensures places (record s { state = with_input [] s.state }) stands refl) in
+    let moves = moves_alone places (record s { state = with_input [] s.state }) c.args.state.now next c.act_alone.new.state c.act_alone.result (c.act_alone.ensures places (record s { state = with_input [] s.state }) stands refl) in
     ([], no_bytes, moves_as c.args.state.now c.act_alone.new.state next (step c.args.code.now [] (record s { state = with_input [] s.state })) acts c.act_alone.result moves)
 
 pub returns-in_default-op-clause-faults : goal.returns-in_default-op-clause-faults
 returns-in_default-op-clause-faults g c =
-    counts_alone c.args.state.now _ c.requires.well.state.state.input c.act_alone.new.state c.act_alone.result _ _ (c.act_alone.ensures c.requires.well.places c.requires.well.state c.requires.well.stands refl)
+    counts_alone c.requires.well.places c.requires.well.state c.args.state.now _ c.act_alone.new.state c.act_alone.result _ _ (c.act_alone.ensures c.requires.well.places c.requires.well.state c.requires.well.stands refl)

@@ -1,9 +1,10 @@
-use Rattle.std.proofs.Common.{◌≡◌, ap, sym}
+use Rattle.std.proofs.Common.{◌≡◌, ap, sym, ◌∙◌}
 use Rattle.flat_machine.specs.Kept.{Kept}
 use Rattle.flat_machine.specs.Machined.{Machined}
 use Rattle.flat_machine.proofs.machine.Machine.run.Goals as goal
 
 pub returns-clause-made : goal.returns-clause-made
-returns-clause-made g c = λ fresh left heap taken l t.
+returns-clause-made g c = λ fresh left taken l t.
     let stack : c.args.self.now.stack ≡ c.self.inside.stack = ap (λ (m : Machined). m.stack) (sym c.self.view_is) in
-    c.whole_run-end.ensures.made left c.args.budget (record { heap = heap; stack = c.args.self.now.stack }) taken (sym (ap (λ (k : Kept). k.steps) c.allow.ensures)) stack l t
+    let heap = ap (λ (m : Machined). m.kept.memory.heap.len) (sym c.self.view_is) ∙ sym (ap (λ (k : Kept). k.memory.heap.len) c.allow.ensures) in
+    c.whole_run-end.ensures.made left c.args.budget (record { heap = c.args.self.now.kept.memory.heap.len; stack = c.args.self.now.stack }) taken (sym (ap (λ (k : Kept). k.steps) c.allow.ensures)) stack heap l t

@@ -30,6 +30,11 @@ returns-in-Putchar-clause-moves g c = λ places s h.
     let number = c.integer.ensures ∙ integer_at_is places s.state.objects s.handed c.args.self.now.handed 0 h.handed in
     ([], no_bytes, rw (c.in-Putchar.is, ← number) moves)
 
+pub returns-in-Puts-clause-moves : goal.returns-in-Puts-clause-moves
+returns-in-Puts-clause-moves g c = λ places s h.
+    let none : CodeState = record s { state = record s.state { input = [] } } in
+    ([], no_bytes, rw c.in-Puts.is (c.act_puts.ensures.moves places none (stands_input places s c.args.self.now h [])))
+
 pub returns-in-Exit-clause-told : goal.returns-in-Exit-clause-told
 returns-in-Exit-clause-told g c = λ places s taken h l t.
     let fits : SFits w128 c.integer-in-Exit.result = search rules in
@@ -49,12 +54,12 @@ returns-in-Abort-clause-moves g c = λ places s h. ([], no_bytes, tt)
 
 pub returns-in-Strlen-clause-told : goal.returns-in-Strlen-clause-told
 returns-in-Strlen-clause-told g c = λ places s taken h l t.
-    rw (l, t) (seen_alone c.args.self.now (same_numbers s.numbers (call_lib c.args.line c.args.name c.args.r s.handed s.state)) s.state.input taken c.act_string.new.self c.act_string.result (c.act_string.ensures.leads places s h))
+    rw (l, t) (seen_alone places s c.args.self.now (same_numbers s.numbers (call_lib c.args.line c.args.name c.args.r s.handed s.state)) taken c.act_string.new.self c.act_string.result (c.act_string.ensures.leads places s h))
 
 pub returns-in-Strlen-clause-moves : goal.returns-in-Strlen-clause-moves
 returns-in-Strlen-clause-moves g c = λ places s h.
     let none : CodeState = record s { state = record s.state { input = [] } } in
-    ([], no_bytes, moves_alone c.args.self.now (same_numbers s.numbers (call_lib c.args.line c.args.name c.args.r s.handed none.state)) [] c.act_string.new.self c.act_string.result (c.act_string.ensures.leads places none (stands_input places s c.args.self.now h [])))
+    ([], no_bytes, moves_alone places none c.args.self.now (same_numbers s.numbers (call_lib c.args.line c.args.name c.args.r s.handed none.state)) c.act_string.new.self c.act_string.result (c.act_string.ensures.leads places none (stands_input places s c.args.self.now h [])))
 
 pub returns-in-Strlen-clause-faults : goal.returns-in-Strlen-clause-faults
 returns-in-Strlen-clause-faults g c = c.act_string.ensures.faults _ _

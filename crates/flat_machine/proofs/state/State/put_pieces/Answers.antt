@@ -1,26 +1,23 @@
-use Rattle.std.proofs.Common.{map, ◌∙◌, sym, subst, arith, rules}
-use Rattle.std.proofs.lemmas.Int.{ints, to_z-of_z}
-use mir.Syntax.{w128}
-use mir.Val.{SFits}
-use Rattle.meaning_state.specs.Printing.{PrintsNoString}
-use Rattle.flat_machine.specs.Writing.{plain_value}
-use Rattle.flat_machine.proofs.Prints.{progress_fault, progress_more, plain_integer}
+use Rattle.std.proofs.Common.{◌+◌, ◌∙◌, arith}
+use Rattle.std.proofs.lemmas.Int.{ints}
+use Rattle.flat_machine.proofs.Prints.{progress_first, progress_more, progress_ends, progress_over}
 use Rattle.flat_machine.proofs.state.State.put_pieces.Goals as goal
 
 pub returns-in-Err-clause-puts : goal.returns-in-Err-clause-puts
-returns-in-Err-clause-puts g c = λ taken h.
-    let fits : SFits w128 c.integer.result = search rules in
-    let bytes = rw (to_z-of_z w128 c.integer.result fits) at c.in-Err.ensures.bytes in
-    let plain = subst PrintsNoString (sym c.index-pieces-i.is) (c.requires.numbers c.loop-i.i c.index-pieces-i.result (omega arith)) in
-    progress_fault c.args.pieces.now (map plain_value c.args.self.now.handed) c.loop-i.i c.loop-i.place _ _ _ c.loop-i.invariant.progress c.index-pieces-i.result (omega arith) c.index-pieces-i.is _ c.in-Err.failed plain c.integer.result (c.integer.ensures ∙ plain_integer c.args.self.now.handed c.loop-i.place) bytes taken h
+returns-in-Err-clause-puts g c = λ places objects values k.
+    progress_ends objects c.args.pieces.now values c.loop-i.i c.loop-i.place _ _ _ (c.loop-i.invariant.progress places objects values k) c.index-pieces-i.result (omega arith) c.index-pieces-i.is _ c.in-Err.error (c.in-Err.ensures.puts places objects values k)
 
 pub loop-i-preserved : goal.loop-i-preserved
 loop-i-preserved g c =
-    let fits : SFits w128 c.integer.result = search rules in
-    let bytes = rw (to_z-of_z w128 c.integer.result fits) at c.in-Ok.ensures.bytes in
-    let size = rw (to_z-of_z w128 c.integer.result fits) at c.in-Ok.ensures.len in
-    let plain = subst PrintsNoString (sym c.index-pieces-i.is) (c.requires.numbers c.loop-i.i c.index-pieces-i.result (omega arith)) in
-    record {
+    let n = c.loop-i.invariant.count in record {
       faults = c.in-Ok.ensures.cause ∙ c.loop-i.invariant.faults;
-      progress = progress_more c.args.pieces.now (map plain_value c.args.self.now.handed) c.loop-i.i c.loop-i.place _ _ _ c.loop-i.invariant.progress c.index-pieces-i.result (omega arith) c.index-pieces-i.is _ c.place_behind-place.result c.in-Ok.len _ plain c.integer.result (c.integer.ensures ∙ plain_integer c.args.self.now.handed c.loop-i.place) bytes size (omega arith) (omega (arith, ints, c.loop-i.invariant.progress.written_is)) (c.place_behind-place.ensures.arguments (map plain_value c.args.self.now.handed)) (omega arith);
+      place = omega (arith, c.loop-i.invariant.place);
+      count = (n.0 + c.in-Ok.len, omega (arith, ints, n.1), omega (arith, n.2));
+      progress = λ places objects values k.
+          let p = c.loop-i.invariant.progress places objects values k in
+          progress_more objects c.args.pieces.now values c.loop-i.i c.loop-i.place _ _ _ p c.index-pieces-i.result (omega arith) c.index-pieces-i.is _ c.place_behind-place.result c.in-Ok.len _ (c.in-Ok.ensures.puts places objects values k) (c.in-Ok.ensures.len places objects values k) (omega (arith, ints, p.written_is)) (c.place_behind-place.ensures.arguments values);
     }
+
+pub returns-clause-puts : goal.returns-clause-puts
+returns-clause-puts g c = λ places objects values k.
+    progress_over objects c.args.pieces.now values c.loop-i.i c.loop-i.place _ _ _ (c.loop-i.invariant.progress places objects values k) (omega arith)

@@ -1,0 +1,196 @@
+//! printf (C99 7.19.6.3).
+
+ghost use Rattle.std.specs.Prelude.{◌≡◌, ◌+◌, ◌<◌, ◌≤◌, ◌^◌, ℕ, List, All, IfOk, IfSome, None, Some, drop, length};
+ghost use Rattle.hs_base.specs.Object.{Object};
+ghost use Rattle.hs_base.specs.Outside.{CountsFaults};
+ghost use Rattle.hs_base.specs.PutAll.{PutsAll};
+ghost use Rattle.hs_base.specs.declared.values.Pointer.{Pointer};
+ghost use Rattle.hs_base.specs.declared.values.Value as spec;
+ghost use Rattle.c_print.specs.Format.{IsGiven};
+ghost use Rattle.c_print.specs.Pieces.{pieces_of};
+ghost use Rattle.object_meaning.specs.Meaning.{print_format};
+ghost use Rattle.object_meaning.specs.Printing.{arguments_behind, printed};
+ghost use Rattle.meaning_state.specs.Printing.{piece_text, PrintsNoString};
+ghost use Rattle.code_meaning.specs.CodeState.{CodeState, same_numbers};
+ghost use Rattle.flat_objects.specs.Keeping.{KeepsAt, IsKept};
+ghost use Rattle.flat_machine.specs.Words.{address_at};
+ghost use Rattle.flat_machine.specs.Standing.{Stands};
+ghost use Rattle.flat_machine.specs.Leading.{Counted, Moves, Seen};
+ghost use Rattle.flat_machine.specs.Putting.{CountsPut, IsLengthOf, PutsText};
+ghost use Rattle.flat_machine.specs.Writing.{padded, padded_at, text_at, HasString, IsString, KeepsWords, PrintsString, PutsPrinted};
+
+use crate::put_error::PutError;
+use crate::state::State;
+use c_print::{Piece, put_number, put_repeated};
+use flat_objects::Word;
+use hs_base::{End, Failed, IntKind, Line, Sink, put_all};
+
+/// How a string stands in its width.
+#[derive(Clone, Copy)]
+pub(crate) struct StringField {
+    left: bool,
+    width: u32,
+}
+
+/// How an item that prints a string stands in its width, and nothing where a piece prints none.
+fn string_field(piece: &Piece) -> Option<StringField>
+    requires { IsGiven piece.now }
+    ensures string { IfSome result (PrintsString piece.now) }
+    ensures other { result ≡ None → PrintsNoString piece.now }
+{
+    match piece {
+        Piece::Plain(_) => None,
+        Piece::Item {
+            left,
+            width,
+            conv,
+            ..
+        } => {
+            if *conv == b's' {
+                Some(StringField {
+                    left: *left,
+                    width: *width,
+                })
+            } else {
+                None
+            }
+        }
+    }
+}
+
+/// Writes plain text, or an item with a number, which is converted to the item's kind; answers how many bytes that is. After
+/// a failure, which is the last call on the sink, a part of the bytes was taken.
+fn put_number_piece<O: Sink>(out: &mut O, piece: &Piece, n: i128) -> Result<u64, Failed>
+    requires count { O.faults out.old + 1 < 2 ^ 64 }
+    requires given { IsGiven piece.now }
+    requires number { PrintsNoString piece.now }
+    ensures bytes { PutsAll (O.taken out.old) (O.taken out.new) (piece_text piece.now n) result }
+    ensures len { IfOk result (λ k. k ≡ length (piece_text piece.now n)) }
+    ensures cause { CountsFaults (O.faults out.old) (O.faults out.new) result }
+{
+    match piece {
+        Piece::Plain(text) => {
+            put_all(out, text.as_slice())?;
+            Ok(text.len() as u64)
+        }
+        Piece::Item { kind, .. } => {
+            let len = put_number(out, piece, kind.wrap(n))?;
+            Ok(u64::from(len))
+        }
+    }
+}
+
+/// The place of the arguments behind a piece: an item takes one, plain text none.
+fn place_behind(piece: &Piece, place: usize) -> usize
+    requires { place + 1 < 2 ^ 64 }
+    ensures arguments { (values : List spec.Value) → drop result values ≡ arguments_behind piece.now (drop place values) }
+    ensures bound { result ≤ place + 1 }
+{
+    match piece {
+        Piece::Plain(_) => place,
+        Piece::Item { .. } => place + 1,
+    }
+}
+
+impl State {
+    /// Writes the string of so many bytes at an address, filled by spaces to a width; answers how many bytes that is.
+    fn put_padded<O: Sink>(
+        &self,
+        addr: u32,
+        len: u32,
+        field: StringField,
+        out: &mut O,
+    ) -> Result<u64, Failed>
+        requires count { O.faults out.old + 1 < 2 ^ 64 }
+        requires string { HasString self.now.memory addr len }
+        ensures bytes { (places : ℕ → ℕ) (objects : List Object) (p : Pointer) (text : List ℕ) → IsString self.now.memory places objects p addr text → len ≡ length text → PutsAll (O.taken out.old) (O.taken out.new) (padded field text) result }
+        ensures len { IfOk result (λ n. (text : List ℕ) → len ≡ length text → n ≡ length (padded field text)) }
+        ensures cause { CountsFaults (O.faults out.old) (O.faults out.new) result }
+    {
+        let fill = field.width.saturating_sub(len);
+        if field.left {
+            self.put_string(addr, len, out)?;
+            put_repeated(out, b' ', fill)?;
+        } else {
+            put_repeated(out, b' ', fill)?;
+            self.put_string(addr, len, out)?;
+        }
+        Ok(u64::from(len) + u64::from(fill))
+    }
+
+    /// Writes the string at an address as an item does; answers how many bytes that is. Nothing is written where the string
+    /// traps.
+    fn put_text<O: Sink>(&self, addr: u32, field: StringField, out: &mut O) -> Result<u64, PutError>
+        requires count { O.faults out.old + 1 < 2 ^ 64 }
+        requires kept { IsKept self.now.memory addr }
+        ensures puts { (places : ℕ → ℕ) (objects : List Object) (p : Pointer) → KeepsAt self.now.memory places objects p addr → PutsText (O.taken out.old) (O.taken out.new) (padded_at objects p field) result }
+        ensures len { (places : ℕ → ℕ) (objects : List Object) (p : Pointer) → KeepsAt self.now.memory places objects p addr → IfOk result (IsLengthOf (padded_at objects p field)) }
+        ensures cause { CountsPut (O.faults out.old) (O.faults out.new) result }
+    {
+        match self.string_length(addr) {
+            Ok(len) => Ok(self.put_padded(addr, len, field, out)?),
+            Err(kind) => Err(PutError::Trapped(kind)),
+        }
+    }
+
+    /// Writes a piece with the argument at a place; answers how many bytes that is.
+    fn put_piece<O: Sink>(&self, piece: &Piece, place: usize, out: &mut O) -> Result<u64, PutError>
+        requires count { O.faults out.old + 1 < 2 ^ 64 }
+        requires given { IsGiven piece.now }
+        requires kept { IsKept self.now.memory (address_at self.now.handed place) }
+        ensures puts { (places : ℕ → ℕ) (objects : List Object) (values : List spec.Value) → KeepsWords self.now.memory places objects values self.now.handed → PutsText (O.taken out.old) (O.taken out.new) (text_at objects piece.now values place) result }
+        ensures len { (places : ℕ → ℕ) (objects : List Object) (values : List spec.Value) → KeepsWords self.now.memory places objects values self.now.handed → IfOk result (IsLengthOf (text_at objects piece.now values place)) }
+        ensures cause { CountsPut (O.faults out.old) (O.faults out.new) result }
+    {
+        match string_field(piece) {
+            Some(field) => self.put_text(self.address(place), field, out),
+            None => Ok(put_number_piece(out, piece, self.integer(place))?),
+        }
+    }
+
+    /// Writes pieces with what was handed over, one after another; answers how many bytes that is.
+    fn put_pieces<O: Sink>(&self, pieces: &[Piece], out: &mut O) -> Result<i128, PutError>
+        requires count { O.faults out.old + 1 < 2 ^ 64 }
+        requires given { All IsGiven pieces.now }
+        requires kept { (k : ℕ) → IsKept self.now.memory (address_at self.now.handed k) }
+        ensures puts { (places : ℕ → ℕ) (objects : List Object) (values : List spec.Value) → KeepsWords self.now.memory places objects values self.now.handed → PutsPrinted (O.taken out.old) (O.taken out.new) (printed objects pieces.now values) result }
+        ensures cause { CountsPut (O.faults out.old) (O.faults out.new) result }
+    {
+        let mut place = 0;
+        let mut written = 0;
+        for i in 0..pieces.len() {
+            let piece = &pieces[i];
+            match self.put_piece(piece, place, out) {
+                Ok(len) => written += i128::from(len),
+                Err(error) => return Err(error),
+            }
+            place = place_behind(piece, place);
+        }
+        Ok(written)
+    }
+
+    /// A call of printf with a format of these pieces.
+    pub(crate) fn act_printf<O: Sink>(
+        &mut self,
+        line: Line,
+        r: u32,
+        pieces: &[Piece],
+        out: &mut O,
+    ) -> Result<(), End>
+        requires point { self.old.calls.running.point + 1 < 2 ^ 64 }
+        requires count { O.faults out.old + 1 < 2 ^ 64 }
+        requires given { All IsGiven pieces.now }
+        requires kept { (k : ℕ) → IsKept self.old.memory (address_at self.old.handed k) }
+        ensures told { (places : ℕ → ℕ) (c : CodeState) (format taken : List ℕ) → Stands places c self.old → pieces.now ≡ pieces_of format → O.taken out.old ≡ Some taken → Seen places c self.old (same_numbers c.numbers (print_format line r format c.handed c.state)) c.state.input taken result self.new (Some c.state.input) (O.taken out.new) }
+        ensures faults { (i : ℕ) → Counted result i i (O.faults out.old) (O.faults out.new) }
+        ensures moves { (places : ℕ → ℕ) (c : CodeState) (format : List ℕ) → Stands places c self.old → pieces.now ≡ pieces_of format → Moves self.old (same_numbers c.numbers (print_format line r format c.handed c.state)) self.new result }
+    {
+        match self.put_pieces(pieces, out) {
+            Ok(n) => {
+                self.give(Some(r), Word::Number(IntKind::I32.wrap(n)));
+                Ok(())
+            }
+            Err(error) => Err(error.end(line)),
+        }
+    }
+}

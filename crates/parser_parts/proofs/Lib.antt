@@ -1,0 +1,4 @@
+pub mod Logs
+pub mod TokenWords
+pub mod Parts
+pub mod Consts

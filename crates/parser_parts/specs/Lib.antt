@@ -1,0 +1,5 @@
+pub mod Names
+pub mod Gives
+pub mod Signs
+pub mod Held
+pub mod Tallies
