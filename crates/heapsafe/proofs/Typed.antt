@@ -7,7 +7,7 @@ use Rattle.c_decls.specs.Refusals.{Checked, Meets}
 use Rattle.c_decls.specs.declared.refusal.TypeError.{TypeError}
 use Rattle.c_decls.specs.declared.refusal.TypeError.TheVariants as type
 use Rattle.heapsafe.specs.declared.program.Way.{Way}
-use Rattle.heapsafe.specs.Shown.{layouts_shown, core_shown, not_built, no_memory}
+use Rattle.heapsafe.specs.Shown.{layouts_shown, core_shown, live_shown, not_built, no_memory}
 use Rattle.heapsafe.specs.Program.{Input, AnswersWay}
 use Rattle.heapsafe.specs.Answer.{AnswersCore, AnswersTypes}
 use Rattle.heapsafe.specs.Saying.{Gives, untyped}
@@ -20,6 +20,10 @@ untyped_tags type.NoMemory file text wanted is = inr refl
 pub untyped_core : (error : TypeError) (file text : List ℕ) (wanted : Checked Core) → Meets {A = Core} (λ core. core) (Err error) wanted → (untyped error file text ≡ core_shown file text wanted) ⊎ (untyped error file text ≡ no_memory)
 untyped_core (type.Bad kind line) file text wanted is = inl (sym (ap (core_shown file text) is))
 untyped_core type.NoMemory file text wanted is = inr refl
+
+pub untyped_live : (error : TypeError) (file text : List ℕ) (wanted : Checked Core) → Meets {A = Core} (λ core. core) (Err error) wanted → (untyped error file text ≡ live_shown file text wanted) ⊎ (untyped error file text ≡ no_memory)
+untyped_live (type.Bad kind line) file text wanted is = inl (sym (ap (live_shown file text) is))
+untyped_live type.NoMemory file text wanted is = inr refl
 
 pub untyped_program : (error : TypeError) (file text : List ℕ) (wanted : Checked Core) (input : Input) (way : Way) → Meets {A = Core} (λ core. core) (Err error) wanted → AnswersTypes file text wanted input way (untyped error file text) ⊎ (untyped error file text ≡ no_memory)
 untyped_program (type.Bad kind line) file text wanted input way is =

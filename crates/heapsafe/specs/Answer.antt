@@ -10,11 +10,11 @@ use Rattle.elaboration.specs.Elaboration.{tags_of}
 use Rattle.c_elab.specs.Core.{core_in}
 use Rattle.core_tree.specs.declared.program.Core.{Core}
 use Rattle.core_runner.specs.Built.{IsBuilt}
-use Rattle.command_words.specs.Commands.{Command, Task, Run, Mean, Print, Layout, List as ListCore, command_of}
+use Rattle.command_words.specs.Commands.{Command, Task, Run, Mean, Print, Layout, List as ListCore, Live, command_of}
 use Rattle.heapsafe.specs.declared.program.Way.{Way}
 use Rattle.heapsafe.specs.declared.program.Way.TheVariants as way
 use Rattle.heapsafe.specs.Reading.{most_bytes}
-use Rattle.heapsafe.specs.Shown.{Shown, usage, text_too_long, bad_place, bad_syntax, bad_type, not_built, printed, layouts_shown, core_shown}
+use Rattle.heapsafe.specs.Shown.{Shown, usage, text_too_long, bad_place, bad_syntax, bad_type, not_built, printed, layouts_shown, core_shown, live_shown}
 use Rattle.heapsafe.specs.Program.{Input, AnswersWay}
 
 -- a core of integers and functions has its program's answer, and any other is not built
@@ -34,6 +34,7 @@ Does file text externals input (Mean steps) a = AnswersTypes file text (core_in 
 Does file text externals input Print a = a ≡ printed externals
 Does file text externals input Layout a = a ≡ layouts_shown file text (tags_of externals)
 Does file text externals input ListCore a = a ≡ core_shown file text (core_in externals)
+Does file text externals input Live a = a ≡ live_shown file text (core_in externals)
 
 -- a text without a tree is refused, by the line of the first external declaration that has none
 pub record AnswersTokens (file text : List ℕ) (tokens : List Token) (input : Input) (task : Task) (a : Shown) : Type 0 where

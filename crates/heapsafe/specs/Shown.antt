@@ -11,6 +11,7 @@ use Rattle.c_decls.specs.Refusals as types
 use Rattle.core_tree.specs.declared.program.Core.{Core}
 use Rattle.core_tree.specs.Listing.{listing}
 use Rattle.layout_list.specs.Listing.{layout_listing}
+use Rattle.live_list.specs.Listing.{live_listing}
 
 -- the bytes that are read from the input, those that are written to the two streams, and the status
 pub record Shown : Type 0 where
@@ -66,7 +67,8 @@ not_built file = refusal file (codes "not built") 135
 abbrev pub written : List ℕ → Shown
 written text = record { read = []; out = text; err = []; status = 0 }
 
--- the canonical spelling, the layouts of structs and unions, and the functions of the core
+-- the canonical spelling, the layouts of structs and unions, the functions of the core, and the registers that are live after
+-- each point of it
 abbrev pub printed : Trees → Shown
 printed externals = written (canonical externals)
 
@@ -77,3 +79,7 @@ layouts_shown file text (Err refusal) = bad_type file text refusal
 abbrev pub core_shown : List ℕ → List ℕ → Checked Core → Shown
 core_shown file text (Ok core) = written (listing core)
 core_shown file text (Err refusal) = bad_type file text refusal
+
+abbrev pub live_shown : List ℕ → List ℕ → Checked Core → Shown
+live_shown file text (Ok core) = written (live_listing core)
+live_shown file text (Err refusal) = bad_type file text refusal

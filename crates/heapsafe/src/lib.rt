@@ -33,7 +33,7 @@ use program::{Way, run_program};
 use reading::{ReadError, read_text};
 use refusal::{Refusal, refuse, refuse_text, refuse_tokens};
 use std::alloc::Global;
-use written::{core_list, layouts, print};
+use written::{core_list, core_live, layouts, print};
 
 /// The refusal for a text that was not read.
 fn reading_refusal(error: ReadError, file: &str) -> Refusal<'_>
@@ -88,6 +88,7 @@ fn with_tree<I: Source, O: Sink, E: Sink>(
         Task::Print => print(alloc, unit, out, err),
         Task::Layout => layouts(alloc, file, text, unit, out, err),
         Task::List => core_list(alloc, file, text, unit, out, err),
+        Task::Live => core_live(alloc, file, text, unit, out, err),
     }
 }
 

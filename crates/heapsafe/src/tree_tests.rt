@@ -133,7 +133,7 @@ fn texts_without_a_tree(rt: HostRuntime) -> Result<(), Fail> {
         ),
     ];
     for (text, said) in rows {
-        for command in ["print", "run", "mean", "layout", "list"] {
+        for command in ["print", "run", "mean", "layout", "list", "live"] {
             let (out, err, status) = answer(alloc, command, text)?;
             assert_eq!(rt; status, 124);
             assert_eq!(rt; out.bytes(), b"".as_slice());

@@ -1,4 +1,5 @@
-//! What is answered for texts with a tree by their types: layouts, the functions of the core, or the first refusal.
+//! What is answered for texts with a tree by their types: layouts, the functions of the core, its live registers, or the first
+//! refusal.
 
 use crate::heapsafe;
 use hs_base::{Items, MemSink, SureSource, SureTexts};
@@ -26,12 +27,12 @@ fn answer(alloc: Global, command: &str, text: &[u8]) -> Result<(MemSink, MemSink
     Ok((out, err, status))
 }
 
-/// Layouts of structs and unions, and the functions of a core. The parameters of a prototype make nothing, and an address
-/// that is taken among them is taken.
+/// Layouts of structs and unions, the functions of a core, and its live registers. The parameters of a prototype make nothing,
+/// and an address that is taken among them is taken.
 #[test]
 fn lists(rt: HostRuntime) -> Result<(), Fail> {
     let alloc = rt.alloc();
-    let rows: [(&str, &[u8], &[u8]); 6] = [
+    let rows: [(&str, &[u8], &[u8]); 8] = [
         (
             "layout",
             b"struct s { char c; char *p; short n; };\nunion u { char *p; int *q; };\nstruct w { char c; long long v; };\nint main(void){return 0;}",
@@ -57,6 +58,16 @@ fn lists(rt: HostRuntime) -> Result<(), Fail> {
             "list",
             b"int f(int b);int f(int a){typedef int g(int b[sizeof &a],int a);return a;}int main(void){return f(1);}",
             b"func f regs 2 mems 1\nreg 0 int a\nreg 1 int -\nmem 0 a size 4\n0 1 store i32 m0 r0\n1 1 load i32 r1 m0\n2 1 return r1\n3 1 return 0\nfunc main regs 1 mems 0\nreg 0 int -\n0 1 call f r0 1\n1 1 return r0\n2 1 return 0\n",
+        ),
+        (
+            "live",
+            b"int main(void){int x=3;while(x)x=x-1;return x;}",
+            b"func main\n0: r0\n1: r0 r1\n2: r0\n3: r1\n4: r2\n5: r0\n6: r0\n7: r1\n8:\n9:\n",
+        ),
+        (
+            "live",
+            b"int f(int b);int f(int a){typedef int g(int b[sizeof &a],int a);return a;}int main(void){return f(1);}",
+            b"func f\n0:\n1: r1\n2:\n3:\nfunc main\n0: r0\n1:\n2:\n",
         ),
     ];
     for (command, text, written) in rows {
@@ -148,7 +159,7 @@ fn texts_that_are_refused(rt: HostRuntime) -> Result<(), Fail> {
         ),
     ];
     for (text, said) in rows {
-        for command in ["run", "mean", "layout", "list"] {
+        for command in ["run", "mean", "layout", "list", "live"] {
             let (out, err, status) = answer(alloc, command, text)?;
             assert_eq!(rt; status, 125);
             assert_eq!(rt; out.bytes(), b"".as_slice());

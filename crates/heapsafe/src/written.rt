@@ -1,4 +1,5 @@
-//! Answers that are texts: the canonical spelling, the layouts of structs and unions, the functions of the core.
+//! Answers that are texts: the canonical spelling, the layouts of structs and unions, the functions of the core, the live
+//! registers.
 
 ghost use Rattle.std.specs.Prelude.{◌≡◌, ◌+◌, ◌<◌, ◌^◌, ℕ, List, Some};
 ghost use Rattle.c_tree.specs.StatementView.{unit_view};
@@ -6,7 +7,8 @@ ghost use Rattle.c_elab.specs.Core.{core_in};
 ghost use Rattle.core_tree.specs.Listing.{listing};
 ghost use Rattle.elaboration.specs.Elaboration.{tags_of};
 ghost use Rattle.layout_list.specs.Listing.{layout_listing};
-ghost use Rattle.heapsafe.specs.Shown.{core_shown, layouts_shown, output_fault, printed, written};
+ghost use Rattle.live_list.specs.Listing.{live_listing};
+ghost use Rattle.heapsafe.specs.Shown.{core_shown, layouts_shown, live_shown, output_fault, printed, written};
 ghost use Rattle.heapsafe.specs.Saying.{Faults, Gives, Says};
 
 use crate::refusal::{Refusal, refuse, refuse_types};
@@ -16,6 +18,7 @@ use c_types::Tags;
 use core_tree::{Core, list};
 use hs_base::{Sink, put_all};
 use layout_list::list_layouts;
+use live_list::list_live;
 use std::alloc::Global;
 
 /// Writes a text to the output.
@@ -112,6 +115,41 @@ pub(crate) fn core_list<O: Sink, E: Sink>(
 {
     match elab(alloc, unit) {
         Ok(core) => write_core(alloc, &core, out, err),
+        Err(error) => refuse_types(err, error, file, text),
+    }
+}
+
+/// Writes the registers that are live after each point of a core.
+fn write_live<O: Sink, E: Sink>(alloc: Global, core: &Core, out: &mut O, err: &mut E) -> u8
+    requires out { O.faults out.old + 1 < 2 ^ 64 }
+    requires err { E.faults err.old + 1 < 2 ^ 64 }
+    ensures exact { (left o e : List ℕ) → O.taken out.old ≡ Some o → E.taken err.old ≡ Some e → O.faults out.new ≡ O.faults out.old → E.faults err.new ≡ E.faults err.old → Gives (λ a. a ≡ written (live_listing core.now)) left o e (Some left) (O.taken out.new) (E.taken err.new) result }
+    ensures faults { (t i : ℕ) → Faults t t i i (O.faults out.old) (O.faults out.new) (E.faults err.old) (E.faults err.new) result }
+    ensures output_fault { O.faults out.old < O.faults out.new → Says (E.taken err.old) (E.taken err.new) (E.faults err.old) (E.faults err.new) output_fault.err 133 result }
+{
+    match list_live(alloc, core) {
+        Ok(text) => write_text(text.as_slice(), out, err),
+        Err(_) => refuse(err, Refusal::NoMemory),
+    }
+}
+
+/// Writes the registers that are live after each point of a text's core.
+pub(crate) fn core_live<O: Sink, E: Sink>(
+    alloc: Global,
+    file: &str,
+    text: &[u8],
+    unit: &Unit,
+    out: &mut O,
+    err: &mut E,
+) -> u8
+    requires out { O.faults out.old + 1 < 2 ^ 64 }
+    requires err { E.faults err.old + 1 < 2 ^ 64 }
+    ensures exact { (left o e : List ℕ) → O.taken out.old ≡ Some o → E.taken err.old ≡ Some e → O.faults out.new ≡ O.faults out.old → E.faults err.new ≡ E.faults err.old → Gives (λ a. a ≡ live_shown file.now text.now (core_in (unit_view unit.now))) left o e (Some left) (O.taken out.new) (E.taken err.new) result }
+    ensures faults { (t i : ℕ) → Faults t t i i (O.faults out.old) (O.faults out.new) (E.faults err.old) (E.faults err.new) result }
+    ensures output_fault { O.faults out.old < O.faults out.new → Says (E.taken err.old) (E.taken err.new) (E.faults err.old) (E.faults err.new) output_fault.err 133 result }
+{
+    match elab(alloc, unit) {
+        Ok(core) => write_live(alloc, &core, out, err),
         Err(error) => refuse_types(err, error, file, text),
     }
 }

@@ -33,6 +33,11 @@ returns-in-List-clause-exact g c = λ left o e k h i same_out same_err.
     subst (λ (t : Task). Gives (Does c.args.file.now c.args.text.now (unit_view c.args.unit.now) (input_of left (g.I.Source.faults c.args.input.now) (g.I.Source.faults c.args.input.now)) (task_shown t)) left o e (g.I.Source.left c.args.input.now) (g.O.Sink.taken c.core_list.new.out) (g.E.Sink.taken c.core_list.new.err) c.core_list.result) (sym c.in-List.is)
     (gives_left _ left o e _ _ _ _ k (c.core_list.ensures.exact left o e h i same_out same_err))
 
+pub returns-in-Live-clause-exact : goal.returns-in-Live-clause-exact
+returns-in-Live-clause-exact g c = λ left o e k h i same_out same_err.
+    subst (λ (t : Task). Gives (Does c.args.file.now c.args.text.now (unit_view c.args.unit.now) (input_of left (g.I.Source.faults c.args.input.now) (g.I.Source.faults c.args.input.now)) (task_shown t)) left o e (g.I.Source.left c.args.input.now) (g.O.Sink.taken c.core_live.new.out) (g.E.Sink.taken c.core_live.new.err) c.core_live.result) (sym c.in-Live.is)
+    (gives_left _ left o e _ _ _ _ k (c.core_live.ensures.exact left o e h i same_out same_err))
+
 pub returns-in-Print-clause-faults : goal.returns-in-Print-clause-faults
 returns-in-Print-clause-faults g c = λ t. c.print.ensures.faults t (g.I.Source.faults c.args.input.now)
 
@@ -41,3 +46,6 @@ returns-in-Layout-clause-faults g c = λ t. c.layouts.ensures.faults t (g.I.Sour
 
 pub returns-in-List-clause-faults : goal.returns-in-List-clause-faults
 returns-in-List-clause-faults g c = λ t. c.core_list.ensures.faults t (g.I.Source.faults c.args.input.now)
+
+pub returns-in-Live-clause-faults : goal.returns-in-Live-clause-faults
+returns-in-Live-clause-faults g c = λ t. c.core_live.ensures.faults t (g.I.Source.faults c.args.input.now)

@@ -1,0 +1,18 @@
+use Rattle.std.proofs.Common.{◌≡◌, Some, refl, sym, ap}
+use Rattle.c_tree.specs.StatementView.{unit_view}
+use Rattle.c_elab.specs.Core.{core_in}
+use Rattle.heapsafe.specs.Shown.{Shown, live_shown}
+use Rattle.heapsafe.specs.Saying.{untyped}
+use Rattle.heapsafe.proofs.Told.{gives_said, gives_same}
+use Rattle.heapsafe.proofs.Typed.{untyped_live, untyped_silent}
+use Rattle.heapsafe.proofs.written.core_live.Goals as goal
+
+pub returns-in-Ok-clause-exact : goal.returns-in-Ok-clause-exact
+returns-in-Ok-clause-exact g c = λ left o e h i same_out same_err.
+    gives_same _ (live_shown c.args.file.now c.args.text.now (core_in (unit_view c.args.unit.now))) left o e _ _ _ _ (sym (ap (live_shown c.args.file.now c.args.text.now) c.in-Ok.ensures.core)) (c.write_live.ensures.exact left o e h i same_out same_err)
+
+pub returns-in-Err-clause-exact : goal.returns-in-Err-clause-exact
+returns-in-Err-clause-exact g c = λ left o e h i same_out same_err.
+    gives_said (λ (a : Shown). a ≡ live_shown c.args.file.now c.args.text.now (core_in (unit_view c.args.unit.now))) (untyped c.in-Err.error c.args.file.now c.args.text.now) left o e (Some left) _ _ _ _ _ _
+    (untyped_live c.in-Err.error c.args.file.now c.args.text.now (core_in (unit_view c.args.unit.now)) c.in-Err.ensures.core)
+    (untyped_silent c.in-Err.error c.args.file.now c.args.text.now) refl h i same_err c.refuse_types.ensures.says
