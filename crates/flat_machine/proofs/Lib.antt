@@ -16,10 +16,10 @@ pub mod Stepped
 pub mod Loops
 pub mod Starts
 pub mod Movements
+pub mod Makings
 pub mod Tables
 pub mod Placing
 pub mod Started
 pub mod Firsts
 pub mod Spending
 pub mod Lasting
-pub mod Makings

@@ -1,7 +1,8 @@
 //! The statics of a code in a new memory (C99 6.2.4, 6.7.8).
 
-ghost use Rattle.std.specs.Prelude.{◌≡◌, ◌+◌, ◌<◌, ◌≤◌, [], ℕ, IfOk, length};
+ghost use Rattle.std.specs.Prelude.{◌≡◌, ◌+◌, ◌<◌, ◌≤◌, [], ℕ, IfOk, length, map};
 ghost use Rattle.hs_base.specs.Place.{block_size};
+ghost use Rattle.adjusters.specs.ObjectSlots.{element_of};
 ghost use Rattle.flat_code.specs.WellFormed.{IsWellFormed};
 ghost use Rattle.flat_objects.specs.Memory.{SameFrame};
 ghost use Rattle.flat_objects.specs.Keeping.{Keeps};
@@ -147,6 +148,7 @@ fn memory_with<L: Ledger>(
     requires stack { limits.stack ≤ 67108864 }
     ensures started { IfOk result (λ made. HasStarted code.now made.0 made.1.items (length code.now.statics)) }
     ensures heap { IfOk result (λ made. made.0.heap.len ≡ limits.heap) }
+    ensures forms { IfOk result (λ made. made.0.forms ≡ map element_of code.now.layouts) }
 {
     let mut steps = Steps::<L>::new(blank);
     let locals = (limits.stack + 15) / 16 * 16;
@@ -174,6 +176,7 @@ pub(crate) fn memory(
     requires stack { limits.stack ≤ 67108864 }
     ensures started { IfOk result (λ made. HasStarted code.now made.0 made.1.items (length code.now.statics)) }
     ensures heap { IfOk result (λ made. made.0.heap.len ≡ limits.heap) }
+    ensures forms { IfOk result (λ made. made.0.forms ≡ map element_of code.now.layouts) }
 {
     memory_with::<Brand>(alloc, code, limits, Blank::new(1))
 }

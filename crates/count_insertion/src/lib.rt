@@ -1,0 +1,16 @@
+//! The pins of a core: which registers count at the points where an object may be freed.
+//!
+//! [`insert`] takes a core and the live registers of its functions ([`live_tables`]), and gives a copy of the core with a list of [`Pin`]s for
+//! each function. The pins are exact (`AreExact` in `counted_meaning/specs/Pinning.antt`): at a call, at the end of a scope
+//! and where an object is freed or grown they are the pointer registers that are live behind it, without the one that takes
+//! the answer of the call, and no other point has any. With such pins counts are holders (`counts_are_holders`).
+#![tactic(auto)]
+
+mod copies;
+mod pinning;
+
+pub use counted_meaning::Pin;
+pub use pinning::{Counted, insert, live_tables};
+
+#[cfg(test)]
+mod tests;

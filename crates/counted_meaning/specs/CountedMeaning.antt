@@ -1,0 +1,83 @@
+-- What a core means, with a number for each object in place of its holders.
+use Rattle.std.specs.Prelude.{ℕ, Bool, true, false, List, [], Option, Some, None}
+use Rattle.std.specs.List.{list_any}
+use Rattle.hs_base.specs.Freeing.{pointers_inside}
+use Rattle.hs_base.specs.Object.{Object}
+use Rattle.hs_base.specs.State.{State}
+use Rattle.hs_base.specs.Trace.{Event, Ending, Dangling}
+use Rattle.hs_base.specs.Runs as runs
+use Rattle.core_tree.specs.declared.statements.Stm.{Stm}
+use Rattle.core_tree.specs.declared.statements.StmKind.{StmKind}
+use Rattle.core_tree.specs.declared.statements.StmKind.TheVariants as stm
+use Rattle.core_tree.specs.declared.program.Core.{Core}
+use Rattle.core_tree.specs.Statements.{operands}
+use Rattle.object_meaning.specs.Values.{number_of, pointer_of, pointer_at, size_in, holds_stale}
+use Rattle.object_meaning.specs.Making.{static_objects}
+use Rattle.object_meaning.specs.Holding.{statement_at}
+use Rattle.object_meaning.specs.Meaning as object
+use Rattle.object_meaning.specs.Meaning.{values_of, returned, enough}
+use Rattle.counted_meaning.specs.Pinning.{Pins, pinned}
+use Rattle.counted_meaning.specs.CountedState.{CountedState, Next, same_numbers, other_numbers}
+use Rattle.counted_meaning.specs.Counting.{more, birth_in, renumbered}
+use Rattle.counted_meaning.specs.Checking.{leave}
+use Rattle.counted_meaning.specs.Freeing.{free, grow}
+use Rattle.counted_meaning.specs.Returning.{give_back}
+
+-- a run so far
+abbrev pub Run : Type 0
+Run = runs.Ran CountedState Event Ending
+
+-- what a statement of each kind does: what it does in the object meaning, and to the numbers. A store and a copy change one
+-- object, a frame that calls waits with its pins, and a free, the end of a scope and a return ask the numbers; with every other
+-- kind they stay. A built-in function changes the object at its first argument, or none
+abbrev pub act : Core → Pins → ℕ → StmKind → (ℕ → ℕ) → State → Next
+act core pins line (stm.Storep p q) n s =
+    other_numbers (renumbered (birth_in (pointer_of s p)) n) n (object.act core line (stm.Storep p q) s)
+act core pins line (stm.Copy p q size) n s =
+    other_numbers (renumbered (birth_in (pointer_of s p)) n) n (object.act core line (stm.Copy p q size) s)
+act core pins line (stm.Clear p size) n s =
+    other_numbers (renumbered (birth_in (pointer_of s p)) n) n (object.act core line (stm.Clear p size) s)
+act core pins line (stm.Lib name r args) n s =
+    other_numbers (renumbered (birth_in (pointer_at (values_of s args) 0)) n) n (object.act core line (stm.Lib name r args) s)
+act core pins line (stm.Call f r args) n s =
+    other_numbers (λ before _. more n (pinned pins before.running)) n (object.act core line (stm.Call f r args) s)
+act core pins line (stm.Realloc r p size element) n s =
+    grow core pins line r (pointer_of s p) (size_in (number_of s size)) element n s
+act core pins line (stm.Free p) n s = free core pins line (pointer_of s p) n s
+act core pins line stm.Leave n s = leave core pins s.scopes n s
+act core pins line (stm.Return a) n s = give_back core pins line (returned s a) n s
+act core pins line kind n s = same_numbers n (object.act core line kind s)
+
+-- a statement that reads a pointer to a dead object from a register does nothing else
+abbrev pub unless_reads_stale : Bool → Core → Pins → Stm → CountedState → Next
+unless_reads_stale true core pins stm c = runs.Stops c [] c Dangling
+unless_reads_stale false core pins stm c = act core pins stm.line stm.kind c.numbers c.state
+
+-- there is a statement at each point that a run of a sound core comes to
+abbrev pub act_at : Core → Pins → Option Stm → CountedState → Next
+act_at core pins None c = runs.Stops c [] c Dangling
+act_at core pins (Some stm) c =
+    unless_reads_stale (list_any (holds_stale c.state.objects) (values_of c.state (operands stm.kind))) core pins stm c
+
+-- the statement that the running frame is at
+abbrev pub step : Core → Pins → List Event → CountedState → Next
+step core pins trace c = act_at core pins (statement_at core c.state.running) c
+
+-- Runs
+
+-- the numbers before a run: the pointers inside the statics count
+abbrev pub first_numbers : List Object → ℕ → ℕ
+first_numbers statics birth = pointers_inside birth statics
+
+-- the first call of main: no frame waits for it
+abbrev pub first_call : Core → List ℕ → ℕ → Next
+first_call core input n = same_numbers (first_numbers (static_objects core.statics)) (object.first_call core input n)
+
+-- the run once main was called, or where there is no step for that
+abbrev pub begun : Core → List ℕ → ℕ → Run
+begun core input n = runs.led [] (first_call core input n)
+
+-- the meaning: the run after all its statements
+abbrev pub meaning : Core → Pins → List ℕ → ℕ → Run
+meaning core pins input n =
+    let r = begun core input n in runs.after (step core pins) r (enough core r.state.state)

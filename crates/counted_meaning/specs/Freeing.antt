@@ -1,0 +1,58 @@
+-- Objects are freed and grown (C99 7.20.3).
+use Rattle.std.specs.Prelude.{ℕ, min, List, [], length, Some, Result, Ok, Err}
+use Rattle.hs_base.specs.declared.ends.Reason.{Reason}
+use Rattle.hs_base.specs.declared.values.Pointer.{Pointer}
+use Rattle.hs_base.specs.declared.values.Pointer.TheVariants as pointer
+use Rattle.hs_base.specs.Access.{Refusal}
+use Rattle.hs_base.specs.Freeing.{freed_at}
+use Rattle.hs_base.specs.Object.{Object, object_at}
+use Rattle.hs_base.specs.State.{State}
+use Rattle.c_types.specs.declared.layouts.Layout.{Layout}
+use Rattle.core_tree.specs.declared.program.Core.{Core}
+use Rattle.object_meaning.specs.Values.{address, start_of}
+use Rattle.object_meaning.specs.Going.{put, with_objects}
+use Rattle.object_meaning.specs.Making.{with_new}
+use Rattle.object_meaning.specs.Memory.{copied}
+use Rattle.object_meaning.specs.Heap as object
+use Rattle.object_meaning.specs.Heap.{birth_of, enqueue}
+use Rattle.counted_meaning.specs.Pinning.{Pins}
+use Rattle.counted_meaning.specs.CountedState.{Next, same_numbers}
+use Rattle.counted_meaning.specs.Counting.{renumbered}
+use Rattle.counted_meaning.specs.Checking.{in_scope}
+
+-- an object that may be freed is queued, and else the run stops
+abbrev pub free_named : Core → Pins → ℕ → Result ℕ Reason → (ℕ → ℕ) → State → Next
+free_named core pins line (Ok birth) numbers s =
+    in_scope core pins s.scopes numbers s [] numbers (enqueue line birth s)
+free_named core pins line (Err reason) numbers s = same_numbers numbers (object.free_named core line (Err reason) s)
+
+-- a free of null does nothing
+abbrev pub free : Core → Pins → ℕ → Pointer → (ℕ → ℕ) → State → Next
+free core pins line pointer.Null numbers s = same_numbers numbers (object.free core line pointer.Null s)
+free core pins line (pointer.At birth offset) numbers s =
+    free_named core pins line (freed_at s.objects birth offset) numbers s
+
+-- the old object's bytes are in the new one, and so are its pointers: the old one is queued, and a register takes the start of
+-- the new one
+abbrev pub grown : Core → Pins → ℕ → ℕ → ℕ → ℕ → State → (ℕ → ℕ) → State → Result (List Object) Refusal → Next
+grown core pins line r size old before numbers s (Ok objects) =
+    let new = length before.objects in
+    let t = with_objects s objects in
+    in_scope core pins s.scopes numbers before (birth_of line size before) (renumbered new numbers s t) (put (enqueue line old t) (Some r) (address (start_of new)))
+grown core pins line r size old before numbers s (Err e) =
+    same_numbers numbers (object.grown core line r size old before s (Err e))
+
+-- an object that may be freed is copied to a new one as far as both go, and else the run stops
+abbrev pub grow_named : Core → Pins → ℕ → ℕ → Result ℕ Reason → ℕ → Layout → (ℕ → ℕ) → State → Next
+grow_named core pins line r (Ok old) size element numbers s =
+    let t = with_new line size element s in
+    grown core pins line r size old s numbers t (copied t.objects (start_of (length s.objects)) (start_of old) (min (object_at s.objects old).size size))
+grow_named core pins line r (Err reason) size element numbers s =
+    same_numbers numbers (object.grow_named core line r (Err reason) size element s)
+
+-- growing null makes a new object
+abbrev pub grow : Core → Pins → ℕ → ℕ → Pointer → ℕ → Layout → (ℕ → ℕ) → State → Next
+grow core pins line r pointer.Null size element numbers s =
+    same_numbers numbers (object.grow core line r pointer.Null size element s)
+grow core pins line r (pointer.At birth offset) size element numbers s =
+    grow_named core pins line r (freed_at s.objects birth offset) size element numbers s

@@ -1,0 +1,12 @@
+pub mod Weighing
+pub mod Objects
+pub mod Pins
+pub mod Sorting
+pub mod Touched
+pub mod Agreeing
+pub mod Checks
+pub mod Freed
+pub mod Calling
+pub mod Acting
+pub mod Running
+pub mod Runs
