@@ -11,9 +11,10 @@ file = record (new_rule (codes "FILE")) { required = true }
 abbrev pub option : Text → Rule
 option name = record (new_rule name) { long = Some name }
 
--- `run FILE [--stack N] [--steps N]`
+-- `run FILE [--heap N] [--stack N] [--steps N]`
 abbrev pub run : App
-run = with_rule (with_rule (with_rule (new_app (codes "run")) file) (option (codes "stack"))) (option (codes "steps"))
+run =
+    with_rule (with_rule (with_rule (with_rule (new_app (codes "run")) file) (option (codes "heap"))) (option (codes "stack"))) (option (codes "steps"))
 
 -- `mean FILE [--steps N]`
 abbrev pub mean : App

@@ -10,11 +10,11 @@ use Rattle.command_words.specs.declared.command.Task.TheVariants as tasks
 use Rattle.command_words.specs.declared.error.WordsError.{WordsError}
 use Rattle.command_words.specs.declared.error.WordsError.TheVariants.{Usage, NoMemory}
 
--- what is done with a text: it is run on a stack of so many bytes with at most so many steps, or its meaning is evaluated
--- with so many; or its canonical spelling is written, the layouts of its structs and unions, its core, or the registers that
+-- what is done with a text: it is run on a heap and a stack of so many bytes with at most so many steps, or its meaning
+-- is evaluated with so many; or its canonical spelling is written, the layouts of its structs and unions, its core, or the registers that
 -- are live after each point of it
 pub data Task : Type 0 where
-  Run : (stack steps : ℕ) → Task
+  Run : (heap stack steps : ℕ) → Task
   Mean : (steps : ℕ) → Task
   Print : Task
   Layout : Task
@@ -34,6 +34,10 @@ value_in least most default (Some word) = within least most (number_in word)
 abbrev pub steps_in : Option Text → Option ℕ
 steps_in word = value_in 1 1000000000 100000000 word
 
+-- how many bytes its heap has
+abbrev pub heap_in : Option Text → Option ℕ
+heap_in word = value_in 0 268435456 16777216 word
+
 -- how many bytes its stack has
 abbrev pub stack_in : Option Text → Option ℕ
 stack_in word = value_in 0 67108864 1048576 word
@@ -45,7 +49,7 @@ with_file file task = cond (is_file file) (Some (record { file = file; task = ta
 -- what a command asks for, by the values of its arguments
 abbrev pub run_in : Listed Row → Option Command
 run_in rows =
-    option_and_then (λ file. option_and_then (λ stack. option_and_then (λ steps. with_file file (Run stack steps)) (steps_in (first_of (codes "steps") rows))) (stack_in (first_of (codes "stack") rows))) (first_of (codes "FILE") rows)
+    option_and_then (λ file. option_and_then (λ heap. option_and_then (λ stack. option_and_then (λ steps. with_file file (Run heap stack steps)) (steps_in (first_of (codes "steps") rows))) (stack_in (first_of (codes "stack") rows))) (heap_in (first_of (codes "heap") rows))) (first_of (codes "FILE") rows)
 
 abbrev pub mean_in : Listed Row → Option Command
 mean_in rows =
@@ -70,7 +74,7 @@ command_of words =
 
 -- the code's command as the definition has it
 abbrev pub task_shown : code_task.Task → Task
-task_shown (tasks.Run stack steps) = Run stack steps
+task_shown (tasks.Run heap stack steps) = Run heap stack steps
 task_shown (tasks.Mean steps) = Mean steps
 task_shown tasks.Print = Print
 task_shown tasks.Layout = Layout
@@ -86,8 +90,8 @@ IsRead wanted (Ok command) = wanted ≡ Some (command_shown command)
 IsRead wanted (Err Usage) = wanted ≡ None
 IsRead wanted (Err NoMemory) = ⊤
 
--- the steps of a task are at most the most that an option may give
+-- the numbers of a task are at most the most that an option may give
 abbrev pub IsLimited : Task → Type 0
-IsLimited (Run stack steps) = steps ≤ 1000000000
+IsLimited (Run heap stack steps) = (heap ≤ 268435456) × (stack ≤ 67108864) × (steps ≤ 1000000000)
 IsLimited (Mean steps) = steps ≤ 1000000000
 IsLimited _ = ⊤

@@ -6,7 +6,7 @@ ghost use Rattle.command_words.specs.Commands.{command_of, command_shown, task_s
 
 use crate::error::WordsError;
 use crate::set::command_set;
-use crate::values::{is_file, stack, steps};
+use crate::values::{heap, is_file, stack, steps};
 use clap::ArgMatches;
 use clap::error::ErrorKind;
 use std::alloc::Global;
@@ -21,8 +21,8 @@ pub struct Command<'a> {
 /// What is done with a text.
 #[derive(Clone, Copy)]
 pub enum Task {
-    /// It is run on a stack of so many bytes, with at most so many steps.
-    Run { stack: u32, steps: u64 },
+    /// It is run on a heap and a stack of so many bytes, with at most so many steps.
+    Run { heap: u32, stack: u32, steps: u64 },
     /// Its meaning is evaluated, with at most so many steps.
     Mean { steps: u64 },
     /// Its canonical spelling is written.
@@ -62,11 +62,14 @@ fn run<'a>(found: &ArgMatches<'a>) -> Result<Command<'a>, WordsError>
     let Some(file) = value_of(found, "FILE") else {
         return Err(WordsError::Usage);
     };
+    let Some(heap) = heap(value_of(found, "heap")) else {
+        return Err(WordsError::Usage);
+    };
     let Some(stack) = stack(value_of(found, "stack")) else {
         return Err(WordsError::Usage);
     };
     match steps(value_of(found, "steps")) {
-        Some(steps) => with_file(file, Task::Run { stack, steps }),
+        Some(steps) => with_file(file, Task::Run { heap, stack, steps }),
         None => Err(WordsError::Usage),
     }
 }
@@ -138,7 +141,8 @@ fn asked<'a>(name: &str, found: &ArgMatches<'a>) -> Result<Command<'a>, WordsErr
 /// # Errors
 ///
 /// [`WordsError::Usage`] exactly where the words are not taken, but for want of memory, which is
-/// [`WordsError::NoMemory`]. The steps of a task that is read are at most 1,000,000,000.
+/// [`WordsError::NoMemory`]. The steps of a task that is read are at most 1,000,000,000, its heap has at most 268,435,456 bytes
+/// and its stack at most 67,108,864.
 pub fn read<'a>(alloc: Global, words: &'a [&'a str]) -> Result<Command<'a>, WordsError>
     ensures read { IsRead (command_of (map (λ w. w.now) words.entry.now)) result }
     ensures limits { IfOk result (λ command. IsLimited (task_shown command.task)) }

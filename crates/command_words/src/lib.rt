@@ -1,4 +1,4 @@
-//! The words of the command line: `run FILE [--stack N] [--steps N]`, `mean FILE [--steps N]`, `print FILE`,
+//! The words of the command line: `run FILE [--heap N] [--stack N] [--steps N]`, `mean FILE [--steps N]`, `print FILE`,
 //! `layout FILE`, `list FILE` and `live FILE`.
 //!
 //! [`read`] gives what the words ask for. They are read by `clap` for the one set of commands that

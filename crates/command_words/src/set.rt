@@ -27,10 +27,12 @@ fn option<'a>(alloc: Global, name: &'a str) -> Arg<'a>
 pub(crate) fn command_set<'a>(alloc: Global) -> Result<Command<'a>, AllocError>
     ensures { IfOk result (λ c. app_of c ≡ command_set) }
 {
+    let heap = option(alloc, "heap");
     let stack = option(alloc, "stack");
     let steps = option(alloc, "steps");
     let run = Command::new(alloc, "run")
         .arg(file(alloc))?
+        .arg(heap)?
         .arg(stack)?
         .arg(steps)?;
     let budget = option(alloc, "steps");

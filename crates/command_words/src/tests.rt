@@ -4,51 +4,107 @@ use crate::command::{Command, Task, read};
 use crate::error::WordsError;
 use std::test::Fail;
 
-/// A command as a file with a stack and a number of steps, each 0 where it takes none.
-fn shown<'a>(read: Result<Command<'a>, WordsError>) -> Option<(&'a str, u32, u64)> {
+/// A command as a file with a heap, a stack and a number of steps, each 0 where it takes none.
+fn shown<'a>(read: Result<Command<'a>, WordsError>) -> Option<(&'a str, u32, u32, u64)> {
     let Ok(Command { file, task }) = read else {
         return None;
     };
     match task {
-        Task::Run { stack, steps } => Some((file, stack, steps)),
-        Task::Mean { steps } => Some((file, 0, steps)),
-        Task::Print | Task::Layout | Task::List | Task::Live => Some((file, 0, 0)),
+        Task::Run { heap, stack, steps } => Some((file, heap, stack, steps)),
+        Task::Mean { steps } => Some((file, 0, 0, steps)),
+        Task::Print | Task::Layout | Task::List | Task::Live => Some((file, 0, 0, 0)),
     }
 }
 
 /// Options stand before or after the file, with a blank or `=`; leading zeros are allowed; behind `--` stands a file.
 #[test]
 fn words_that_are_taken(rt: HostRuntime) -> Result<(), Fail> {
-    let rows: [(&[&str], &str, u32, u64); 16] = [
-        (&["run", "a.c"], "a.c", 1_048_576, 100_000_000),
-        (&["run", "a.c", "--steps", "5"], "a.c", 1_048_576, 5),
-        (&["run", "--steps", "5", "a.c"], "a.c", 1_048_576, 5),
-        (&["run", "--steps=007", "a.c"], "a.c", 1_048_576, 7),
+    let rows: [(&[&str], &str, u32, u32, u64); 19] = [
+        (&["run", "a.c"], "a.c", 16_777_216, 1_048_576, 100_000_000),
+        (
+            &["run", "a.c", "--steps", "5"],
+            "a.c",
+            16_777_216,
+            1_048_576,
+            5,
+        ),
+        (
+            &["run", "--steps", "5", "a.c"],
+            "a.c",
+            16_777_216,
+            1_048_576,
+            5,
+        ),
+        (
+            &["run", "--steps=007", "a.c"],
+            "a.c",
+            16_777_216,
+            1_048_576,
+            7,
+        ),
         (
             &["run", "a.c", "--steps=1000000000", "--stack=0"],
             "a.c",
+            16_777_216,
             0,
             1_000_000_000,
         ),
         (
             &["run", "--stack", "67108864", "a.c", "--steps", "1"],
             "a.c",
+            16_777_216,
             67_108_864,
             1,
         ),
-        (&["run", "--", "a.c"], "a.c", 1_048_576, 100_000_000),
-        (&["run", "a.c", "--"], "a.c", 1_048_576, 100_000_000),
-        (&["mean", "a.c"], "a.c", 0, 100_000_000),
-        (&["mean", "--steps", "5", "a.c"], "a.c", 0, 5),
-        (&["print", "run"], "run", 0, 0),
-        (&["print", "mean"], "mean", 0, 0),
-        (&["print", "--", "a.c"], "a.c", 0, 0),
-        (&["layout", "a.c"], "a.c", 0, 0),
-        (&["list", "a.c"], "a.c", 0, 0),
-        (&["live", "--", "a.c"], "a.c", 0, 0),
+        (
+            &["run", "a.c", "--heap", "0"],
+            "a.c",
+            0,
+            1_048_576,
+            100_000_000,
+        ),
+        (
+            &["run", "--heap=268435456", "a.c"],
+            "a.c",
+            268_435_456,
+            1_048_576,
+            100_000_000,
+        ),
+        (
+            &["run", "--steps", "3", "--heap", "1", "--stack", "2", "a.c"],
+            "a.c",
+            1,
+            2,
+            3,
+        ),
+        (
+            &["run", "--", "a.c"],
+            "a.c",
+            16_777_216,
+            1_048_576,
+            100_000_000,
+        ),
+        (
+            &["run", "a.c", "--"],
+            "a.c",
+            16_777_216,
+            1_048_576,
+            100_000_000,
+        ),
+        (&["mean", "a.c"], "a.c", 0, 0, 100_000_000),
+        (&["mean", "--steps", "5", "a.c"], "a.c", 0, 0, 5),
+        (&["print", "run"], "run", 0, 0, 0),
+        (&["print", "mean"], "mean", 0, 0, 0),
+        (&["print", "--", "a.c"], "a.c", 0, 0, 0),
+        (&["layout", "a.c"], "a.c", 0, 0, 0),
+        (&["list", "a.c"], "a.c", 0, 0, 0),
+        (&["live", "--", "a.c"], "a.c", 0, 0, 0),
     ];
-    for (words, file, stack, steps) in rows {
-        assert_eq!(rt; shown(read(rt.alloc(), words)), Some((file, stack, steps)));
+    for (words, file, heap, stack, steps) in rows {
+        assert_eq!(rt;
+            shown(read(rt.alloc(), words)),
+            Some((file, heap, stack, steps))
+        );
     }
     Ok(())
 }
@@ -57,7 +113,7 @@ fn words_that_are_taken(rt: HostRuntime) -> Result<(), Fail> {
 /// without its value, and a number out of its limits.
 #[test]
 fn words_that_are_not_taken(rt: HostRuntime) -> Result<(), Fail> {
-    let rows: [&[&str]; 32] = [
+    let rows: [&[&str]; 34] = [
         &[],
         &["run"],
         &["print"],
@@ -83,10 +139,12 @@ fn words_that_are_not_taken(rt: HostRuntime) -> Result<(), Fail> {
         &["run", "a.c", "--step", "5"],
         &["run", "a.c", "--stack", "67108865"],
         &["run", "a.c", "--stack", "5", "--stack", "5"],
-        &["run", "a.c", "--heap", "5"],
+        &["run", "a.c", "--heap", "268435457"],
+        &["run", "a.c", "--heap", "5", "--heap", "5"],
         &["mean"],
         &["mean", "a.c", "--steps", "0"],
         &["mean", "a.c", "--stack", "5"],
+        &["mean", "a.c", "--heap", "5"],
         &["print", "a.c", "--steps", "5"],
         &["live"],
         &["live", "a.c", "b.c"],

@@ -2,13 +2,19 @@
 
 ghost use Rattle.std.specs.Prelude.{◌≡◌, ◌≤◌, ⊤, MatchOption, option_map};
 ghost use Rattle.command_words.specs.Numbers.{is_file, number_in};
-ghost use Rattle.command_words.specs.Commands.{stack_in, steps_in, value_in};
+ghost use Rattle.command_words.specs.Commands.{heap_in, stack_in, steps_in, value_in};
 
 /// How many steps a run may make where the words do not say.
 const DEFAULT_STEPS: u64 = 100_000_000;
 
 /// How many steps a run may make at most.
 const MOST_STEPS: u64 = 1_000_000_000;
+
+/// How many bytes the heap of a run has where the words do not say.
+const DEFAULT_HEAP: u64 = 16_777_216;
+
+/// How many bytes the heap of a run has at most.
+const MOST_HEAP: u64 = 268_435_456;
 
 /// How many bytes the stack of a run has where the words do not say.
 const DEFAULT_STACK: u64 = 1_048_576;
@@ -51,9 +57,19 @@ pub(crate) fn steps(word: Option<&str>) -> Option<u64>
     value(word, 1, MOST_STEPS, DEFAULT_STEPS)
 }
 
+/// The bytes of the heap: the value of the option, from 0 to 268,435,456, or the default.
+pub(crate) fn heap(word: Option<&str>) -> Option<u32>
+    ensures value { result ≡ heap_in (option_map (λ w. w.now) word.entry) }
+    ensures bound { MatchOption result ⊤ (λ n. n ≤ 268435456) }
+{
+    let bytes = value(word, 0, MOST_HEAP, DEFAULT_HEAP)?;
+    Some(bytes as u32)
+}
+
 /// The bytes of the stack: the value of the option, from 0 to 67,108,864, or the default.
 pub(crate) fn stack(word: Option<&str>) -> Option<u32>
-    ensures { result ≡ stack_in (option_map (λ w. w.now) word.entry) }
+    ensures value { result ≡ stack_in (option_map (λ w. w.now) word.entry) }
+    ensures bound { MatchOption result ⊤ (λ n. n ≤ 67108864) }
 {
     let bytes = value(word, 0, MOST_STACK, DEFAULT_STACK)?;
     Some(bytes as u32)

@@ -1,3 +1,5 @@
 pub mod Emitting
 pub mod Placing
 pub mod Statics
+pub mod Running
+pub mod Laws

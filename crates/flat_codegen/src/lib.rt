@@ -1,17 +1,22 @@
-//! The code of a core.
+//! The code of a core, and its run.
 //!
 //! [`compile_core`] walks over the statics and the functions of a core once, in order, and adds what each of them needs to
 //! the code that stands so far. Instructions, lines, layouts and formats grow at their ends alone, so what was said of an
 //! earlier statement stays true. `compiled_code` says what the code of a core is, and `specs/Emitting.antt` what each step
-//! here adds.
+//! here adds. [`execute`] runs such code on a machine, and its contract speaks of the core: the machine does what the code
+//! means (`flat_machine`), and the code means what the core means (`compiled_meaning`).
 #![tactic(auto)]
 
 mod doing;
 mod emitter;
 mod functions;
 mod handing;
+mod laws;
 mod places;
 mod program;
+mod running;
 mod statics;
 
+pub use laws::{built_is_freeless, code_is_built};
 pub use program::compile_core;
+pub use running::execute;

@@ -1,6 +1,8 @@
 //! The code of a core as a whole.
 
 ghost use Rattle.std.specs.Prelude.{◌≡◌, ◌<◌, ◌^◌, ℕ, List, pos, IfOk, slice_get};
+ghost use Rattle.built_cores.specs.Built.{IsBuilt};
+ghost use Rattle.code_soundness.specs.Laws.{HoldsBytes};
 ghost use Rattle.core_tree.specs.Sound.{IsSound, is_main, main_of};
 ghost use Rattle.object_meaning.specs.Meaning.{line_of, meaning as core_meaning};
 ghost use Rattle.code_meaning.specs.CodeMeaning.{meaning as code_meaning};
@@ -9,9 +11,11 @@ ghost use Rattle.compiled_code.specs.Compiled.{IsCompiled};
 ghost use Rattle.compiled_meaning.specs.Freeless.{IsFreeless};
 ghost use Rattle.compiled_meaning.specs.SameRun.{SameRun};
 ghost use Rattle.flat_code.specs.WellFormed.{AreShort, IsWellFormed};
+ghost use Rattle.flat_machine.specs.Built.{IsBuilt as IsBuiltCode};
 
 use crate::emitter::Emitter;
 use crate::handing::instr;
+use crate::laws::code_is_built;
 use crate::statics::{inits, layouts};
 use compiled_form::codes_are_well_formed;
 use compiled_meaning::code_means_core;
@@ -64,6 +68,7 @@ fn code_of(alloc: Global, core: &Core) -> Result<Code, NoMemory>
     requires { IsSound core.now }
     ensures compiled { IfOk result (λ code. IsCompiled core.now code) }
     ensures short { IfOk result AreShort }
+    ensures bytes { IfOk result HoldsBytes }
 {
     let statics = inits(alloc, core.statics.as_slice())?;
     let layouts = layouts(alloc, core.statics.as_slice())?;
@@ -75,18 +80,23 @@ fn code_of(alloc: Global, core: &Core) -> Result<Code, NoMemory>
     Ok(code)
 }
 
-/// The code of a sound core. It is well formed, and where the core frees nothing and has no memory local its run is that of
-/// the core: the same trace, the same end and the same last state, but for the points that frames are at.
+/// The code of a sound core. It is well formed, and where the core is built it is code that the machine runs. Where the core
+/// frees nothing and has no memory local its run is that of the core: the same trace, the same end and the same last state,
+/// but for the points that frames are at.
 ///
 /// # Errors
 ///
 /// [`NoMemory`] only for want of memory.
 pub fn compile_core(alloc: Global, core: &Core) -> Result<Code, NoMemory>
     requires { IsSound core.now }
+    ensures compiled { IfOk result (λ code. IsCompiled core.now code) }
     ensures formed { IfOk result IsWellFormed }
+    ensures bytes { IfOk result HoldsBytes }
+    ensures built { IfOk result (λ code. IsBuilt core.now → IsBuiltCode code) }
     ensures means { IfOk result (λ code. IsFreeless core.now → (input : List ℕ) (n : ℕ) → SameRun (core_meaning core.now input n) (code_meaning code input n)) }
 {
     codes_are_well_formed();
     code_means_core();
+    code_is_built();
     code_of(alloc, core)
 }

@@ -1,9 +1,11 @@
 //! The statics of a core.
 
-ghost use Rattle.std.specs.Prelude.{◌≡◌, ℕ, IfOk, IsPermutation, IsSortedByKey, map, take};
+ghost use Rattle.std.specs.Prelude.{◌≡◌, ℕ, All, IfOk, IsPermutation, IsSortedByKey, map, take};
 ghost use Rattle.std.specs.Ordering.{nat_cmp};
+ghost use Rattle.code_soundness.specs.Objects.{IsByte};
 ghost use Rattle.core_tree.specs.declared.program.Static.{Static as CoreStatic};
 ghost use Rattle.compiled_code.specs.Compiled.{IsTrimmed};
+ghost use Rattle.flat_code.specs.declared.program.StaticInit.{StaticInit as Init};
 ghost use Rattle.flat_codegen.specs.Statics.{IsInit, AreInits};
 
 use crate::emitter::{fit, layout_copy};
@@ -27,7 +29,8 @@ fn length_without_zeros(bytes: &[u8]) -> usize
 
 /// A copy of some bytes without the zeros at the end.
 fn trimmed(alloc: Global, bytes: &[u8]) -> Result<Items<u8>, NoMemory>
-    ensures { IfOk result (λ trimmed. IsTrimmed bytes.now trimmed) }
+    ensures same { IfOk result (λ trimmed. IsTrimmed bytes.now trimmed) }
+    ensures bytes { IfOk result (λ trimmed. All IsByte trimmed) }
 {
     let mut copy = bytes.to_vec(alloc)?;
     copy.truncate(length_without_zeros(bytes));
@@ -46,7 +49,8 @@ fn by_slots(alloc: Global, pointers: &[(u32, u32, u32)]) -> Result<Items<(u32, u
 
 /// What a static holds first, where its layout has a number.
 fn init(alloc: Global, layout: u32, one: &Static) -> Result<StaticInit, NoMemory>
-    ensures { IfOk result (λ init. IsInit layout one.now init) }
+    ensures first { IfOk result (λ init. IsInit layout one.now init) }
+    ensures bytes { IfOk result (λ init. All IsByte init.bytes) }
 {
     Ok(StaticInit {
         layout,
@@ -57,7 +61,8 @@ fn init(alloc: Global, layout: u32, one: &Static) -> Result<StaticInit, NoMemory
 
 /// What statics hold first. The layout of each has the static's own number.
 pub(crate) fn inits(alloc: Global, statics: &[Static]) -> Result<Items<StaticInit>, NoMemory>
-    ensures { IfOk result (λ inits. AreInits statics.now inits) }
+    ensures first { IfOk result (λ inits. AreInits statics.now inits) }
+    ensures bytes { IfOk result (λ inits. All (λ (init : Init). All IsByte init.bytes) inits) }
 {
     let mut inits = Items::new(alloc);
     for one in statics {

@@ -4,16 +4,19 @@ use Rattle.std.specs.Prelude.{nat_lt}
 use Rattle.std.proofs.lemmas.Bool.{lt-ltb, le-ltb}
 use Rattle.hs_base.specs.declared.ends.End.{End}
 use Rattle.hs_base.specs.declared.ends.End.TheVariants as end
+use Rattle.hs_base.specs.declared.ends.Limits.{Limits}
+use Rattle.hs_base.specs.Cut.{Room}
 use Rattle.hs_base.specs.Trace.{Event, In, bytes_in, bytes_out}
 use Rattle.bad_free_report.specs.Report.{end_report}
 use Rattle.core_tree.specs.declared.program.Core.{Core}
 use Rattle.meaning_run.specs.Meant.{StopsAtIn, Stopped, MeanAnswers, MeanCounts}
 use Rattle.meaning_run.specs.Meant as meant_specs
-use Rattle.core_runner.specs.Running.{RunAnswers, RunCounts, room_of}
-use Rattle.core_runner.specs.Running as run_specs
+use Rattle.flat_codegen.specs.Running.{RunAnswers}
+use Rattle.flat_codegen.specs.Running as run_specs
+use Rattle.flat_machine.specs.Running.{RunCounts}
 use Rattle.heapsafe.specs.declared.program.Way.TheVariants.{Run, Mean}
 use Rattle.heapsafe.specs.Shown.{input_fault, no_memory, output_fault}
-use Rattle.heapsafe.specs.Program.{Done, AnswersProgram, AnswersWay, ended, input_of, meant, run_on, status_of, unfinished}
+use Rattle.heapsafe.specs.Program.{Done, AnswersProgram, AnswersWay, ended, input_of, meant, run_within, status_of, unfinished}
 use Rattle.heapsafe.specs.Saying.{Faults, Gives, Says}
 use Rattle.heapsafe.proofs.Told.{gives, said_faults}
 
@@ -28,6 +31,10 @@ stopped_is : (file text : List ℕ) (core : Core) (done : Done) (before : List E
 stopped_is file text core done before byte rest i i' more is =
     let s = ended file text core before end.InputFault in
     subst (λ b. AnswersProgram file text core b done s) (sym (lt-ltb i i' (omega arith))) (before, byte, rest, is, refl)
+
+-- the heap and the stack that a run has
+abbrev room_of : Limits → Room
+room_of limits = record { heap = limits.heap; stack = limits.stack }
 
 module _ (file text : List ℕ) (core : Core) (left o e : List ℕ) (left' out err err' : Option (List ℕ)) (i i' p p' f f' result : ℕ) (told : err ≡ Some e) (same : f' ≡ f) where
   -- the report of an end was said
@@ -44,20 +51,20 @@ module _ (file text : List ℕ) (core : Core) (left o e : List ℕ) (left' out e
       gives (AnswersProgram file text core (nat_lt i i') done) (ended file text core s.before end.InputFault) left o e s.left left' out err err' f f' result
       (inl (stopped_is file text core done s.before s.byte s.rest i i' more s.is)) s.is_left s.is_read s.is_taken told same said
 
-  whole_run : (stack steps : ℕ) (x : End) → run_specs.Whole core left steps (room_of 16777216 stack) o x left' out → i' ≡ i → Reported x → Gives (AnswersWay file text core (input_of left i i') (Run stack steps)) left o e left' out err' result
-  whole_run stack steps x w stays said =
-      whole (run_on stack core left steps) x w.left stays w.end w.is_taken w.is_left w.is_read said
+  whole_run : (limits : Limits) (steps : ℕ) (x : End) → run_specs.Whole core left steps (room_of limits) o x left' out → i' ≡ i → Reported x → Gives (AnswersWay file text core (input_of left i i') (Run limits steps)) left o e left' out err' result
+  whole_run limits steps x w stays said =
+      whole (run_within limits core left steps) x w.left stays w.end w.is_taken w.is_left w.is_read said
 
-  pub gives_run : (stack steps : ℕ) (x : End) → RunAnswers core left steps (room_of 16777216 stack) o x left' out → RunCounts x i i' p p' → p' ≡ p → Reported x → Gives (AnswersWay file text core (input_of left i i') (Run stack steps)) left o e left' out err' result
-  gives_run stack steps (end.Exit code) w counts stays said = whole_run stack steps (end.Exit code) w counts.0 said
-  gives_run stack steps (end.Trap kind line) w counts stays said = whole_run stack steps (end.Trap kind line) w counts.0 said
-  gives_run stack steps (end.BadFree why holder) w counts stays said = whole_run stack steps (end.BadFree why holder) w counts.0 said
-  gives_run stack steps (end.Escape func local line) w counts stays said = whole_run stack steps (end.Escape func local line) w counts.0 said
-  gives_run stack steps end.Spent w counts stays said = whole_run stack steps end.Spent w counts.0 said
-  gives_run stack steps (end.OutOfHeap line) w counts stays said = whole_run stack steps (end.OutOfHeap line) w counts.0 said
-  gives_run stack steps (end.OutOfStack line) w counts stays said = whole_run stack steps (end.OutOfStack line) w counts.0 said
-  gives_run stack steps end.InputFault s counts stays said = stopped (run_on stack core left steps) counts.0 s said
-  gives_run stack steps end.OutputFault s counts stays said = absurd (omega (arith, counts.1, stays))
+  pub gives_run : (limits : Limits) (steps : ℕ) (x : End) → RunAnswers core left steps (room_of limits) o x left' out → RunCounts x i i' p p' → p' ≡ p → Reported x → Gives (AnswersWay file text core (input_of left i i') (Run limits steps)) left o e left' out err' result
+  gives_run limits steps (end.Exit code) w counts stays said = whole_run limits steps (end.Exit code) w counts.0 said
+  gives_run limits steps (end.Trap kind line) w counts stays said = whole_run limits steps (end.Trap kind line) w counts.0 said
+  gives_run limits steps (end.BadFree why holder) w counts stays said = whole_run limits steps (end.BadFree why holder) w counts.0 said
+  gives_run limits steps (end.Escape func local line) w counts stays said = whole_run limits steps (end.Escape func local line) w counts.0 said
+  gives_run limits steps end.Spent w counts stays said = whole_run limits steps end.Spent w counts.0 said
+  gives_run limits steps (end.OutOfHeap line) w counts stays said = whole_run limits steps (end.OutOfHeap line) w counts.0 said
+  gives_run limits steps (end.OutOfStack line) w counts stays said = whole_run limits steps (end.OutOfStack line) w counts.0 said
+  gives_run limits steps end.InputFault s counts stays said = stopped (run_within limits core left steps) counts.0 s said
+  gives_run limits steps end.OutputFault s counts stays said = absurd (omega (arith, counts.1, stays))
 
   -- the evaluator's answers are among those that are allowed to `mean`
   abbrev Means : ℕ → Type 0

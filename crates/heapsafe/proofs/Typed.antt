@@ -2,7 +2,7 @@
 use Rattle.std.proofs.Common.{◌≡◌, ◌⊎◌, inl, inr, ℕ, List, Option, Ok, Err, refl, sym, ap, subst}
 use Rattle.c_types.specs.TagTable.{TagTable}
 use Rattle.core_tree.specs.declared.program.Core.{Core}
-use Rattle.core_runner.specs.Built.{IsBuilt}
+use Rattle.built_cores.specs.Built.{IsBuilt}
 use Rattle.c_decls.specs.Refusals.{Checked, Meets}
 use Rattle.c_decls.specs.declared.refusal.TypeError.{TypeError}
 use Rattle.c_decls.specs.declared.refusal.TypeError.TheVariants as type
@@ -39,7 +39,7 @@ pub gives_typed : (file text : List ℕ) (wanted : Checked Core) (core : Core) (
 gives_typed file text wanted core input way left o e left' out err result same g =
     subst (λ (w : Checked Core). Gives (AnswersTypes file text w input way) left o e left' out err result) (sym same) g
 
--- a core of integers and functions
+-- a core that is built
 pub gives_built : (file text : List ℕ) (core : Core) (input : Input) (way : Way) (left o e : List ℕ) (left' out err : Option (List ℕ)) (result : ℕ) → IsBuilt core → Gives (AnswersWay file text core input way) left o e left' out err result → Gives (AnswersCore file text core input way) left o e left' out err result
 gives_built file text core input way left o e left' out err result built g =
     gives_more (AnswersWay file text core input way) (AnswersCore file text core input way)

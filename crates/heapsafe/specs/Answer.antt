@@ -9,7 +9,7 @@ use Rattle.c_decls.specs.Refusals.{Checked}
 use Rattle.elaboration.specs.Elaboration.{tags_of}
 use Rattle.c_elab.specs.Core.{core_in}
 use Rattle.core_tree.specs.declared.program.Core.{Core}
-use Rattle.core_runner.specs.Built.{IsBuilt}
+use Rattle.built_cores.specs.Built.{IsBuilt}
 use Rattle.command_words.specs.Commands.{Command, Task, Run, Mean, Print, Layout, List as ListCore, Live, command_of}
 use Rattle.heapsafe.specs.declared.program.Way.{Way}
 use Rattle.heapsafe.specs.declared.program.Way.TheVariants as way
@@ -17,7 +17,7 @@ use Rattle.heapsafe.specs.Reading.{most_bytes}
 use Rattle.heapsafe.specs.Shown.{Shown, usage, text_too_long, bad_place, bad_syntax, bad_type, not_built, printed, layouts_shown, core_shown, live_shown}
 use Rattle.heapsafe.specs.Program.{Input, AnswersWay}
 
--- a core of integers and functions has its program's answer, and any other is not built
+-- a core that is built has its program's answer, and any other is not built
 pub record AnswersCore (file text : List ℕ) (core : Core) (input : Input) (way : Way) (a : Shown) : Type 0 where
   pub built : IsBuilt core → AnswersWay file text core input way a
   pub unbuilt : (IsBuilt core → ⊥) → a ≡ not_built file
@@ -29,7 +29,8 @@ AnswersTypes file text (Err refusal) input way a = a ≡ bad_type file text refu
 
 -- what is answered for a text with this tree
 abbrev pub Does : List ℕ → List ℕ → Trees → Input → Task → Shown → Type 0
-Does file text externals input (Run stack steps) a = AnswersTypes file text (core_in externals) input (way.Run stack steps) a
+Does file text externals input (Run heap stack steps) a =
+    AnswersTypes file text (core_in externals) input (way.Run (record { heap = heap; stack = stack }) steps) a
 Does file text externals input (Mean steps) a = AnswersTypes file text (core_in externals) input (way.Mean steps) a
 Does file text externals input Print a = a ≡ printed externals
 Does file text externals input Layout a = a ≡ layouts_shown file text (tags_of externals)
@@ -61,7 +62,7 @@ Answers words texts input a = AnswersCommand (command_of words) texts input a
 
 -- a task that runs no program
 abbrev pub RunsNone : Task → Type 0
-RunsNone (Run stack steps) = ⊥
+RunsNone (Run heap stack steps) = ⊥
 RunsNone (Mean steps) = ⊥
 RunsNone _ = ⊤
 

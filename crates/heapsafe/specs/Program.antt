@@ -1,6 +1,7 @@
 -- What a program reads, writes and answers, by the meaning of its core.
-use Rattle.std.specs.Prelude.{◌≡◌, ◌⊎◌, ◌++◌, ◌≤◌, ⊤, ℕ, Bool, nat_lt, List, ◌∷◌, Option, Some, MatchBool, codes}
+use Rattle.std.specs.Prelude.{◌≡◌, ◌⊎◌, ◌++◌, ◌≤◌, ℕ, Bool, nat_lt, List, ◌∷◌, Option, Some, MatchBool, codes}
 use Rattle.hs_base.specs.declared.ends.End.{End}
+use Rattle.hs_base.specs.declared.ends.Limits.{Limits}
 use Rattle.hs_base.specs.declared.ends.End.TheVariants as end
 use Rattle.hs_base.specs.Trace.{Event, In, bytes_in, bytes_out}
 use Rattle.hs_base.specs.Cut.{cut, ending_of}
@@ -42,11 +43,11 @@ pub record Done : Type 0 where
 abbrev pub meant : Core → List ℕ → ℕ → Done
 meant core input steps = let m = meaning core input steps in record { events = m.trace; ends = end_in m.ended }
 
--- the same, up to the first event for which a heap of 16777216 bytes, or the stack, has no room
-abbrev pub run_on : ℕ → Core → List ℕ → ℕ → Done
-run_on stack core input steps =
+-- the same, up to the first event for which the heap or the stack has no room
+abbrev pub run_within : Limits → Core → List ℕ → ℕ → Done
+run_within limits core input steps =
     let m = meaning core input steps in
-    let kept = cut (record { heap = 16777216; stack = stack }) m.trace in
+    let kept = cut (record { heap = limits.heap; stack = limits.stack }) m.trace in
     record { events = kept.kept; ends = end_in (ending_of kept.refused m.ended) }
 
 -- the bytes that events read and write, with the report and the status of an end
@@ -75,13 +76,13 @@ AnswersProgram file text core fails done a =
 
 -- `run` does what the meaning does while heap and stack have room; `mean` does all of it, or wants memory after a first part
 abbrev pub AnswersWay : List ℕ → List ℕ → Core → Input → Way → Shown → Type 0
-AnswersWay file text core input (Run stack steps) a =
-    AnswersProgram file text core input.fails (run_on stack core input.bytes steps) a
+AnswersWay file text core input (Run limits steps) a =
+    AnswersProgram file text core input.fails (run_within limits core input.bytes steps) a
 AnswersWay file text core input (Mean steps) a =
     let done = meant core input.bytes steps in
     AnswersProgram file text core input.fails done a ⊎ ((before : List Event) × (rest : List Event) × (done.events ≡ before ++ rest) × (a ≡ unfinished before))
 
--- the steps of `mean` are within the bound that the evaluator takes
+-- heap, stack and steps are within the bounds that the machine and the evaluator take
 abbrev pub IsBounded : Way → Type 0
-IsBounded (Run stack steps) = ⊤
+IsBounded (Run limits steps) = (limits.heap ≤ 268435456) × (limits.stack ≤ 67108864) × (steps ≤ 1000000000)
 IsBounded (Mean steps) = steps ≤ 1000000000

@@ -28,7 +28,7 @@ use c_parser::parse;
 use c_tree::Unit;
 use command_words::{Command, Task, WordsError};
 use core_soundness::tokens_are_within;
-use hs_base::{Sink, Source, Texts};
+use hs_base::{Limits, Sink, Source, Texts};
 use program::{Way, run_program};
 use reading::{ReadError, read_text};
 use refusal::{Refusal, refuse, refuse_text, refuse_tokens};
@@ -69,8 +69,9 @@ fn with_tree<I: Source, O: Sink, E: Sink>(
     ensures stays { RunsNone (task_shown task) → input.new ≡ input.old }
 {
     match task {
-        Task::Run { stack, steps } => {
-            let way = Way::Run { stack, steps };
+        Task::Run { heap, stack, steps } => {
+            let limits = Limits { heap, stack };
+            let way = Way::Run { limits, steps };
             run_program(alloc, file, text, unit, way, input, out, err)
         }
         Task::Mean { steps } => {

@@ -1,10 +1,12 @@
-//! Running the program of a text: on a stack, or by the meaning of its core.
+//! Running the program of a text: on a machine, or by the meaning of its core.
 
-ghost use Rattle.std.specs.Prelude.{◌≡◌, ◌+◌, ◌<◌, ◌≤◌, ◌^◌, ℕ, List, Some};
+ghost use Rattle.std.specs.Prelude.{◌≡◌, ◌+◌, ◌<◌, ◌≤◌, ◌^◌, ℕ, List, Some, IfOk, OnErr};
 ghost use Rattle.c_tree.specs.StatementView.{unit_view};
 ghost use Rattle.c_elab.specs.Core.{IsOfTokens, core_in};
 ghost use Rattle.core_tree.specs.Sound.{IsSound};
-ghost use Rattle.core_runner.specs.Built.{IsBuilt};
+ghost use Rattle.built_cores.specs.Built.{IsBuilt};
+ghost use Rattle.flat_codegen.specs.Running.{RunAnswers};
+ghost use Rattle.flat_machine.specs.Running.{RunCounts};
 ghost use Rattle.bad_free_report.specs.Report.{end_report};
 ghost use Rattle.heapsafe.specs.Shown.{input_fault, output_fault};
 ghost use Rattle.heapsafe.specs.Program.{AnswersWay, IsBounded, input_of, status_of};
@@ -13,19 +15,21 @@ ghost use Rattle.heapsafe.specs.Saying.{Faults, Gives, Says};
 
 use crate::refusal::{OUTPUT_FAULT, Refusal, refuse, refuse_types};
 use bad_free_report::report;
+use built_cores::is_built;
 use c_elab::elab;
 use c_tree::Unit;
-use core_runner::{is_built, run};
 use core_tree::Core;
-use hs_base::{End, Sink, Source};
+use flat_codegen::{compile_core, execute};
+use flat_machine::Machine;
+use hs_base::{End, Limits, NoMemory, Sink, Source};
 use meaning_run::mean;
 use std::alloc::Global;
 
 /// How a program is run, and with how many steps.
 #[derive(Clone, Copy)]
 pub(crate) enum Way {
-    /// By the runner, on a stack of so many bytes.
-    Run { stack: u32, steps: u64 },
+    /// On a machine, within these limits.
+    Run { limits: Limits, steps: u64 },
     /// By the evaluator of the meaning, which knows no limits of heap and stack.
     Mean { steps: u64 },
 }
@@ -58,13 +62,41 @@ fn finish<E: Sink>(end: &End, core: &Core, file: &str, text: &[u8], err: &mut E)
     }
 }
 
-/// Runs a core on a stack, and reports its end.
+/// Makes the code of a core, loads it, and runs it. Memory may be wanted before the first instruction alone: then the input
+/// and the output are as before.
+fn run_code<I: Source, O: Sink>(
+    alloc: Global,
+    core: &Core,
+    limits: Limits,
+    steps: u64,
+    input: &mut I,
+    out: &mut O,
+) -> Result<End, NoMemory>
+    requires sound { IsSound core.now }
+    requires built { IsBuilt core.now }
+    requires heap { limits.heap ≤ 268435456 }
+    requires stack { limits.stack ≤ 67108864 }
+    requires steps { steps ≤ 1000000000 }
+    requires input { I.faults input.old + 1 < 2 ^ 64 }
+    requires out { O.faults out.old + 1 < 2 ^ 64 }
+    ensures told { IfOk result (λ end. (left taken : List ℕ) → I.left input.old ≡ Some left → O.taken out.old ≡ Some taken → RunAnswers core.now left steps (record { heap = limits.heap; stack = limits.stack }) taken end (I.left input.new) (O.taken out.new)) }
+    ensures faults { IfOk result (λ end. RunCounts end (I.faults input.old) (I.faults input.new) (O.faults out.old) (O.faults out.new)) }
+    ensures input_stays { OnErr result (input.new ≡ input.old) }
+    ensures out_stays { OnErr result (out.new ≡ out.old) }
+{
+    let code = compile_core(alloc, core)?;
+    let mut machine = Machine::load(alloc, &code, limits)?;
+    let end = execute(&mut machine, &code, input, out, steps);
+    Ok(end)
+}
+
+/// Runs a core on a machine, and reports its end.
 fn run_core<I: Source, O: Sink, E: Sink>(
     alloc: Global,
     file: &str,
     text: &[u8],
     core: &Core,
-    stack: u32,
+    limits: Limits,
     steps: u64,
     input: &mut I,
     out: &mut O,
@@ -72,15 +104,18 @@ fn run_core<I: Source, O: Sink, E: Sink>(
 ) -> u8
     requires sound { IsSound core.now }
     requires built { IsBuilt core.now }
+    requires heap { limits.heap ≤ 268435456 }
+    requires stack { limits.stack ≤ 67108864 }
+    requires steps { steps ≤ 1000000000 }
     requires input { I.faults input.old + 1 < 2 ^ 64 }
     requires out { O.faults out.old + 1 < 2 ^ 64 }
     requires err { E.faults err.old + 1 < 2 ^ 64 }
-    ensures exact { (left o e : List ℕ) → I.left input.old ≡ Some left → O.taken out.old ≡ Some o → E.taken err.old ≡ Some e → O.faults out.new ≡ O.faults out.old → E.faults err.new ≡ E.faults err.old → Gives (AnswersWay file.now text.now core.now (input_of left (I.faults input.old) (I.faults input.new)) (Way.Run stack steps)) left o e (I.left input.new) (O.taken out.new) (E.taken err.new) result }
+    ensures exact { (left o e : List ℕ) → I.left input.old ≡ Some left → O.taken out.old ≡ Some o → E.taken err.old ≡ Some e → O.faults out.new ≡ O.faults out.old → E.faults err.new ≡ E.faults err.old → Gives (AnswersWay file.now text.now core.now (input_of left (I.faults input.old) (I.faults input.new)) (Way.Run limits steps)) left o e (I.left input.new) (O.taken out.new) (E.taken err.new) result }
     ensures faults { (t : ℕ) → Faults t t (I.faults input.old) (I.faults input.new) (O.faults out.old) (O.faults out.new) (E.faults err.old) (E.faults err.new) result }
     ensures input_fault { I.faults input.old < I.faults input.new → Says (E.taken err.old) (E.taken err.new) (E.faults err.old) (E.faults err.new) input_fault.err 132 result }
     ensures output_fault { O.faults out.old < O.faults out.new → Says (E.taken err.old) (E.taken err.new) (E.faults err.old) (E.faults err.new) output_fault.err 133 result }
 {
-    match run(alloc, core, stack, input, out, steps) {
+    match run_code(alloc, core, limits, steps, input, out) {
         Ok(end) => finish(&end, core, file, text, err),
         Err(_) => refuse(err, Refusal::NoMemory),
     }
@@ -126,7 +161,7 @@ fn go<I: Source, O: Sink, E: Sink>(
 ) -> u8
     requires sound { IsSound core.now }
     requires built { IsBuilt core.now }
-    requires steps { IsBounded way }
+    requires limits { IsBounded way }
     requires input { I.faults input.old + 1 < 2 ^ 64 }
     requires out { O.faults out.old + 1 < 2 ^ 64 }
     requires err { E.faults err.old + 1 < 2 ^ 64 }
@@ -136,14 +171,14 @@ fn go<I: Source, O: Sink, E: Sink>(
     ensures output_fault { O.faults out.old < O.faults out.new → Says (E.taken err.old) (E.taken err.new) (E.faults err.old) (E.faults err.new) output_fault.err 133 result }
 {
     match way {
-        Way::Run { stack, steps } => {
-            run_core(alloc, file, text, core, stack, steps, input, out, err)
+        Way::Run { limits, steps } => {
+            run_core(alloc, file, text, core, limits, steps, input, out, err)
         }
         Way::Mean { steps } => mean_core(alloc, file, text, core, steps, input, out, err),
     }
 }
 
-/// Runs a core of integers and functions; another one is not built.
+/// Runs a core that is built; another one is not.
 fn with_core<I: Source, O: Sink, E: Sink>(
     alloc: Global,
     file: &str,
@@ -155,7 +190,7 @@ fn with_core<I: Source, O: Sink, E: Sink>(
     err: &mut E,
 ) -> u8
     requires sound { IsSound core.now }
-    requires steps { IsBounded way }
+    requires limits { IsBounded way }
     requires input { I.faults input.old + 1 < 2 ^ 64 }
     requires out { O.faults out.old + 1 < 2 ^ 64 }
     requires err { E.faults err.old + 1 < 2 ^ 64 }
@@ -182,7 +217,7 @@ pub(crate) fn run_program<I: Source, O: Sink, E: Sink>(
     err: &mut E,
 ) -> u8
     requires text { IsOfTokens (unit_view unit.now) }
-    requires steps { IsBounded way }
+    requires limits { IsBounded way }
     requires input { I.faults input.old + 1 < 2 ^ 64 }
     requires out { O.faults out.old + 1 < 2 ^ 64 }
     requires err { E.faults err.old + 1 < 2 ^ 64 }

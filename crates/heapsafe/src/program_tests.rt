@@ -1,5 +1,5 @@
-//! What programs of integers and functions write and answer, and what they leave of their input. Expected values are by C99
-//! and by the rules of steps and of the stack.
+//! What programs write and answer, and what they leave of their input. Expected values are by C99 and by the rules of
+//! pointers, of steps, of the heap and of the stack.
 
 use crate::heapsafe;
 use hs_base::{Items, MemSink, MemSource, SureTexts};
@@ -280,18 +280,203 @@ fn prototypes(rt: HostRuntime) -> Result<(), Fail> {
     Ok(())
 }
 
-/// Programs with an object at file scope, a pointer, an array, an address, a string, a free, and a delay are not built yet.
+/// Programs with objects at file scope, pointers, strings and their built-in functions, each with its output, its error stream
+/// and its status.
+#[test]
+fn objects(rt: HostRuntime) -> Result<(), Fail> {
+    let alloc = rt.alloc();
+    let rows: [(&[u8], &[u8], &[u8], u8); 16] = [
+        (b"int i;int main(void){i=i+5;return i;}", b"", b"", 5),
+        (
+            b"int a[4];\nint main(void){ int *p = a; int i;\nfor (i = 0; i < 4; i++) *p++ = i;\nreturn p - a;}",
+            b"",
+            b"",
+            4,
+        ),
+        (
+            b"int a[4];\nint main(void){ int *p = a; int i;\nfor (i = 0; i < 5; i++) *p++ = i;\nreturn p - a;}",
+            b"",
+            b"a.c:3: trap: range\n  for (i = 0; i < 5; i++) *p++ = i;\n",
+            128,
+        ),
+        (
+            b"int a[4];\nint main(void){\nint *p = a + 4;\nreturn *p;}",
+            b"",
+            b"a.c:4: trap: bounds\n  return *p;}\n",
+            128,
+        ),
+        (
+            b"int main(void){int *p = 0;\n*p = 1;}",
+            b"",
+            b"a.c:2: trap: null\n  *p = 1;}\n",
+            128,
+        ),
+        (
+            b"int a;int b;\nint main(void){return &a < &b;}",
+            b"",
+            b"a.c:2: trap: objects\n  int main(void){return &a < &b;}\n",
+            128,
+        ),
+        (
+            b"char s[8];\nint main(void){ char *p = s + 1; int *q = (int *)p;\nreturn *q;}",
+            b"",
+            b"a.c:3: trap: align\n  return *q;}\n",
+            128,
+        ),
+        (
+            b"int a[2];int b[2];int main(void){return (a+2==b)+2*(&a[1]==a+1)+4*(a==0);}",
+            b"",
+            b"",
+            2,
+        ),
+        (
+            b"struct n { int k; struct n *next; };\nstruct n b = {7, 0};\nstruct n a = {3, &b};\nint main(void){ struct n *p = &a; int sum = 0;\nwhile (p) { sum = sum + p->k; p = p->next; }\nreturn sum;}",
+            b"",
+            b"",
+            10,
+        ),
+        (
+            b"int g;\nint *p = &g;\nint set(int *q, int k){ *q = k; return *p; }\nint main(void){return set(&g, 9);}",
+            b"",
+            b"",
+            9,
+        ),
+        (
+            b"int main(void){puts(\"ok\");return puts(\"\");}",
+            b"ok\n\n",
+            b"",
+            0,
+        ),
+        (
+            b"char s[4] = \"abc\";\nint main(void){s[1] = 'x'; puts(s); puts(s + 2); return strlen(s);}",
+            b"axc\nc\n",
+            b"",
+            3,
+        ),
+        (
+            b"int main(void){return 4 * (strcmp(\"a\",\"b\") + 1) + strcmp(\"ab\",\"a\") + strcmp(\"c\",\"c\");}",
+            b"",
+            b"",
+            1,
+        ),
+        (
+            b"int main(void){\nprintf(\"%d %u %d %d %lld|%5d|%-4s|%03d|%c%%\\n\", 2147483647 + 1, -1, -7 / 2, -7 % 2, 1LL << 40, -42, \"ab\", -5, 'z');\nreturn 0;}",
+            b"-2147483648 4294967295 -3 -1 1099511627776|  -42|ab  |-05|z%\n",
+            b"",
+            0,
+        ),
+        (
+            b"char s[2] = {'a', 'b'};\nint main(void){\nprintf(\"<%c>%s\", 'x', s);\nreturn 0;}",
+            b"<x>",
+            b"a.c:3: trap: bounds\n  printf(\"<%c>%s\", 'x', s);\n",
+            128,
+        ),
+        (
+            b"union u { char *p; int *q; };\nint main(void){return 0;}",
+            b"",
+            b"",
+            0,
+        ),
+    ];
+    for (text, written, said, status) in rows {
+        for command in ["run", "mean"] {
+            let seen = answer(alloc, &[command, "a.c"], text, b"", 9)?;
+            assert_eq!(rt; seen.status, status);
+            assert_eq!(rt; seen.out.bytes(), written);
+            assert_eq!(rt; seen.err.bytes(), said);
+        }
+    }
+    Ok(())
+}
+
+/// Programs with objects of the heap, each with its error stream and its status. The meaning has a heap without end.
+#[test]
+fn heaps(rt: HostRuntime) -> Result<(), Fail> {
+    let alloc = rt.alloc();
+    let two = b"int main(void){\nchar *a = malloc(16);\nchar *b = malloc(15);\nreturn 0;}";
+    let past = b"int main(void){\nchar *p = malloc(5);\np[4] = 1;\np[5] = 1;\nreturn 0;}";
+    let slot = b"int main(void){\nvoid *v = malloc(8);\nchar **q = v;\n*q = 0;\nreturn 0;}";
+    let large = b"int main(void){\nchar *p = malloc(-1);\nreturn 0;}";
+    let many = b"int main(void){\nchar *p = calloc(65536, 65536);\nreturn 0;}";
+    let sum =
+        b"int main(void){int i;int s=0;int *p=malloc(5*sizeof(int));for(i=0;i<5;i++)p[i]=i;for(i=0;i<5;i++)s+=p[i];return s;}";
+    let zeros = b"int main(void){char *p=calloc(3,2);p[0]=5;return p[0]+p[5];}";
+    let rows: [(&[&str], &[u8], &[u8], u8); 12] = [
+        (&["run", "a.c", "--heap", "112"], two, b"", 0),
+        (
+            &["run", "a.c", "--heap", "111"],
+            two,
+            b"a.c:3: out of heap\n  char *b = malloc(15);\n",
+            129,
+        ),
+        (
+            &["run", "a.c", "--heap", "0"],
+            two,
+            b"a.c:2: out of heap\n  char *a = malloc(16);\n",
+            129,
+        ),
+        (&["mean", "a.c"], two, b"", 0),
+        (
+            &["run", "a.c"],
+            past,
+            b"a.c:4: trap: bounds\n  p[5] = 1;\n",
+            128,
+        ),
+        (
+            &["mean", "a.c"],
+            past,
+            b"a.c:4: trap: bounds\n  p[5] = 1;\n",
+            128,
+        ),
+        (
+            &["run", "a.c"],
+            slot,
+            b"a.c:4: trap: layout\n  *q = 0;\n",
+            128,
+        ),
+        (
+            &["mean", "a.c"],
+            slot,
+            b"a.c:4: trap: layout\n  *q = 0;\n",
+            128,
+        ),
+        (
+            &["run", "a.c"],
+            large,
+            b"a.c:2: out of heap\n  char *p = malloc(-1);\n",
+            129,
+        ),
+        (
+            &["run", "a.c"],
+            many,
+            b"a.c:2: out of heap\n  char *p = calloc(65536, 65536);\n",
+            129,
+        ),
+        (&["run", "a.c"], sum, b"", 10),
+        (&["run", "a.c"], zeros, b"", 5),
+    ];
+    for (words, text, said, status) in rows {
+        let seen = answer(alloc, words, text, b"", 9)?;
+        assert_eq!(rt; seen.status, status);
+        assert_eq!(rt; seen.out.bytes(), b"".as_slice());
+        assert_eq!(rt; seen.err.bytes(), said);
+    }
+    Ok(())
+}
+
+/// Programs with an array in a body, an address of a parameter, a free, a delay, a realloc, a set of bytes, and a copy of a
+/// struct are not built yet.
 #[test]
 fn programs_that_are_not_built(rt: HostRuntime) -> Result<(), Fail> {
     let alloc = rt.alloc();
     let rows: [&[u8]; 7] = [
-        b"int i;int main(void){return i;}",
-        b"int main(void){int *p=0;return p==0;}",
         b"int main(void){int a[2];return 0;}",
         b"int f(int i){return &i==0;}int main(void){return f(1);}",
-        b"int main(void){puts(\"x\");return 0;}",
         b"int main(void){free(0);return 0;}",
         b"int main(void){__delay_frees{}return 0;}",
+        b"int main(void){char *p=realloc(0,1);return 0;}",
+        b"char s[2];int main(void){memset(s,1,2);return 0;}",
+        b"struct s{int n;};struct s a;struct s b;int main(void){a=b;return 0;}",
     ];
     for text in rows {
         for command in ["run", "mean"] {

@@ -26,15 +26,17 @@ either a b = a || b
 pub returns : goal.returns
 returns c =
     let run_is : app_of c.in_ok-run.run' ≡ run = c.in_ok-run.ensures.shape c.option-steps.ensures.local
-    ∙ ap₂ with_rule (c.in_ok-arg-2.ensures.shape c.option-stack.ensures.local
-    ∙ ap₂ with_rule (c.in_ok-arg.ensures.shape c.file.ensures.local ∙ ap₂ with_rule c.new.ensures.app c.file.ensures.rule) c.option-stack.ensures.rule) c.option-steps.ensures.rule in
+    ∙ ap₂ with_rule (c.in_ok-arg-3.ensures.shape c.option-stack.ensures.local
+    ∙ ap₂ with_rule (c.in_ok-arg-2.ensures.shape c.option-heap.ensures.local
+    ∙ ap₂ with_rule (c.in_ok-arg.ensures.shape c.file.ensures.local ∙ ap₂ with_rule c.new.ensures.app c.file.ensures.rule) c.option-heap.ensures.rule) c.option-stack.ensures.rule) c.option-steps.ensures.rule in
     let run_local = c.in_ok-run.ensures.globals
+    ∙ ap₂ either (c.in_ok-arg-3.ensures.globals
     ∙ ap₂ either (c.in_ok-arg-2.ensures.globals
-    ∙ ap₂ either (c.in_ok-arg.ensures.globals ∙ ap₂ either c.new.ensures.local c.file.ensures.local) c.option-stack.ensures.local) c.option-steps.ensures.local in
+    ∙ ap₂ either (c.in_ok-arg.ensures.globals ∙ ap₂ either c.new.ensures.local c.file.ensures.local) c.option-heap.ensures.local) c.option-stack.ensures.local) c.option-steps.ensures.local in
     let mean_is : app_of c.in_ok-mean.mean ≡ mean = c.in_ok-mean.ensures.shape c.option-budget.ensures.local
-    ∙ ap₂ with_rule (c.in_ok-arg-3.ensures.shape c.file-2.ensures.local ∙ ap₂ with_rule c.new-2.ensures.app c.file-2.ensures.rule) c.option-budget.ensures.rule in
+    ∙ ap₂ with_rule (c.in_ok-arg-4.ensures.shape c.file-2.ensures.local ∙ ap₂ with_rule c.new-2.ensures.app c.file-2.ensures.rule) c.option-budget.ensures.rule in
     let mean_local = c.in_ok-mean.ensures.globals
-    ∙ ap₂ either (c.in_ok-arg-3.ensures.globals ∙ ap₂ either c.new-2.ensures.local c.file-2.ensures.local) c.option-budget.ensures.local in
+    ∙ ap₂ either (c.in_ok-arg-4.ensures.globals ∙ ap₂ either c.new-2.ensures.local c.file-2.ensures.local) c.option-budget.ensures.local in
     let print_is : app_of c.in_ok-print.print ≡ plain (codes "print") = c.in_ok-print.ensures.shape c.file-3.ensures.local
     ∙ ap₂ with_rule c.new-3.ensures.app c.file-3.ensures.rule in
     let print_local = c.in_ok-print.ensures.globals ∙ ap₂ either c.new-3.ensures.local c.file-3.ensures.local in

@@ -4,6 +4,9 @@ use Rattle.core_tree.specs.declared.program.Func.{Func}
 use Rattle.core_tree.specs.declared.program.Static.{Static}
 use Rattle.core_tree.specs.Sound.{EachStatement, HasNumbers}
 use Rattle.flat_codegen.specs.Emitting.{with_instrs}
+use Rattle.code_soundness.specs.Laws.{HoldsBytes}
+use Rattle.flat_code.specs.declared.program.Code.{Code}
+use Rattle.flat_codegen.proofs.Bytes.{IsOfBytes, bytes_hold}
 use Rattle.flat_codegen.proofs.Closing.{walked, are_short, main_inside, all_numbers}
 use Rattle.flat_codegen.proofs.program.code_of.Goals as goal
 
@@ -25,8 +28,15 @@ returns-clause-compiled c =
     let layouts = c.in_ok-layouts.ensures ∙ ap (map (λ (static : Static). static.layout)) c.as_slice-2.ensures in
     let pushed = c.in_ok-push.ensures ∙ ap (λ i. with_instrs c.new-emitter.result.code c.line_of.result (i ∷ [])) c.start.ensures in
     let last = c.in_ok-code.ensures.code ∙ c.in_ok-functions.ensures in
-    walked core c.requires c.as_slice.result.now c.as_slice.ensures c.as_slice-3.result.now c.as_slice-3.ensures c.main_of-main.result c.main_of-main.ensures c.in_ok-statics.statics c.in_ok-statics.ensures c.in_ok-layouts.layouts layouts c.line_of.result c.line_of.ensures c.new-emitter.result.code c.push.new.self.code c.in_ok-code.code c.new-emitter.ensures pushed last
+    walked core c.requires c.as_slice.result.now c.as_slice.ensures c.as_slice-3.result.now c.as_slice-3.ensures c.main_of-main.result c.main_of-main.ensures c.in_ok-statics.statics c.in_ok-statics.ensures.first c.in_ok-layouts.layouts layouts c.line_of.result c.line_of.ensures c.new-emitter.result.code c.push.new.self.code c.in_ok-code.code c.new-emitter.ensures pushed last
 
 pub returns-clause-short : goal.returns-clause-short
 returns-clause-short c =
     are_short c.args.core.now c.requires c.in_ok-code.code (returns-clause-compiled c) (c.in_ok-code.ensures.short.0) (c.in_ok-code.ensures.short.1) (c.in_ok-code.ensures.short.2)
+
+-- the statics of the code are those that it began with
+pub returns-clause-bytes : goal.returns-clause-bytes
+returns-clause-bytes c =
+    let begun : HoldsBytes c.new-emitter.result.code = subst HoldsBytes (sym c.new-emitter.ensures) c.in_ok-statics.ensures.bytes in
+    let pushed : HoldsBytes c.push.new.self.code = subst HoldsBytes (sym c.in_ok-push.ensures) begun in
+    bytes_hold c.push.new.self.code c.in_ok-code.code c.as_slice-3.result.now (c.in_ok-code.ensures.code ∙ c.in_ok-functions.ensures) pushed

@@ -8,8 +8,8 @@ use Rattle.heapsafe.proofs.program.run_core.Goals as goal
 
 pub returns-in-Ok-clause-exact : goal.returns-in-Ok-clause-exact
 returns-in-Ok-clause-exact g c = λ left o e k h i same_out same_err.
-    gives_run c.args.file.now c.args.text.now c.args.core.now left o e _ _ _ _ _ _ _ _ _ _ _ i same_err c.args.stack c.args.steps c.in-Ok.end
-    (c.in-Ok.ensures.told 16777216 left o k h) c.in-Ok.ensures.faults same_out c.finish.ensures.says
+    gives_run c.args.file.now c.args.text.now c.args.core.now left o e _ _ _ _ _ _ _ _ _ _ _ i same_err c.args.limits c.args.steps c.in-Ok.end
+    (c.in-Ok.ensures.told left o k h) c.in-Ok.ensures.faults same_out c.finish.ensures.says
 
 pub returns-in-Ok-clause-faults : goal.returns-in-Ok-clause-faults
 returns-in-Ok-clause-faults g c = λ t.
@@ -25,8 +25,8 @@ returns-in-Ok-clause-output_fault g c = λ more.
 
 pub returns-in-Err-clause-exact : goal.returns-in-Err-clause-exact
 returns-in-Err-clause-exact g c = λ left o e k h i same_out same_err.
-    let input = input_of left (g.I.Source.faults c.args.input.now) (g.I.Source.faults c.run.new.input) in
-    gives_said (AnswersWay c.args.file.now c.args.text.now c.args.core.now input (Run c.args.stack c.args.steps)) no_memory left o e _ _ _ _ _ _ _ (inr refl) (record { read = refl; out = refl })
+    let input = input_of left (g.I.Source.faults c.args.input.now) (g.I.Source.faults c.run_code.new.input) in
+    gives_said (AnswersWay c.args.file.now c.args.text.now c.args.core.now input (Run c.args.limits c.args.steps)) no_memory left o e _ _ _ _ _ _ _ (inr refl) (record { read = refl; out = refl })
     (ap g.I.Source.left c.in-Err.ensures.input_stays ∙ k) (ap g.O.Sink.taken c.in-Err.ensures.out_stays ∙ h) i same_err c.refuse.ensures.says
 
 pub returns-in-Err-clause-faults : goal.returns-in-Err-clause-faults

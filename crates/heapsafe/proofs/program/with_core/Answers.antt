@@ -1,5 +1,5 @@
 use Rattle.std.proofs.Common.{inl, refl}
-use Rattle.core_runner.specs.Built.{IsBuilt}
+use Rattle.built_cores.specs.Built.{IsBuilt}
 use Rattle.std.specs.Prelude.{IsTrue}
 use Rattle.heapsafe.specs.Shown.{not_built}
 use Rattle.heapsafe.specs.Program.{input_of}
