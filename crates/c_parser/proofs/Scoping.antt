@@ -1,5 +1,5 @@
 -- Reading only adds names to the scope, so a scope ends by taking its names back.
-use Rattle.std.proofs.Common.{◌≡◌, ℕ, zero, suc, ◌+◌, ◌-◌, Bool, true, false, if◌then◌else◌, List, [], ◌∷◌, ◌++◌, drop, take, length, Option, Some, None, refl, ap, sym, subst, ◌∙◌, append_assoc, length-append, arith}
+use Rattle.std.proofs.Common.{◌≡◌, ℕ, zero, suc, ◌+◌, ◌-◌, Bool, true, false, if◌then◌else◌, List, [], ◌∷◌, ◌++◌, drop, take, length, Option, Some, None, Result, Ok, Err, refl, ap, sym, subst, ◌∙◌, append_assoc, length-append, arith}
 use Rattle.std.proofs.Math.Seq.{drop-append_seam}
 use Rattle.c_tree.specs.declared.word.Keyword.{Keyword}
 use Rattle.c_tree.specs.declared.word.Keyword.TheVariants as k
@@ -15,7 +15,9 @@ use Rattle.grammar_reading.specs.State.{State, line_at, at_word, skip, past, bac
 use Rattle.grammar_reading.specs.Reading.{◌>>=◌, Reader, in_front, node, joined, parts_of, fixed, scoped}
 use Rattle.grammar_reading.specs.Rooms.{less, read}
 use Rattle.grammar_reading.specs.Laws.{behind}
-use Rattle.parser_parts.specs.Gives.{Fails}
+use Rattle.parser_parts.specs.Gives.{Fails, Reads}
+use Rattle.parser_parts.specs.declared.reader.Outer.{Outer}
+use Rattle.c_parser.specs.Ends.{Ends}
 use Rattle.parser_parts.specs.Names.{oldest}
 use Rattle.parser_parts.specs.declared.error.ReadError.{ReadError}
 use Rattle.parser_parts.specs.declared.error.ReadError.TheVariants as errors
@@ -174,21 +176,33 @@ scope_ends reader adds before inside behind tree count flag c e h same =
     ap (λ (r : Option (Tree × State)). r >>= (λ x. Some (backing before x))) h
     ∙ ap (λ s. Some (tree, s)) (closes before inside count flag c e (adds before inside tree h) ∙ sym same)
 
--- a branch, a block, a statement with parts of its own
-pub branch_ends : (room : ℕ) (before inside behind : State) (tree : Tree) (count : ℕ) (flag : Bool) → count ≡ length before.scope.names → flag ≡ before.scope.typedef →
-    read room p.Statement before ≡ Some (tree, inside) → behind ≡ closed_scope count flag inside → scoped (read room p.Statement) before ≡ Some (tree, behind)
-branch_ends room = scope_ends (read room p.Statement) (read_adds room p.Statement)
-
-pub block_ends : (room : ℕ) (before inside behind : State) (tree : Tree) (count : ℕ) (flag : Bool) → count ≡ length before.scope.names → flag ≡ before.scope.typedef →
-    fixed (less room) f.Block before ≡ Some (tree, inside) → behind ≡ closed_scope count flag inside → scoped (fixed (less room) f.Block) before ≡ Some (tree, behind)
-block_ends room = scope_ends (fixed (less room) f.Block) (fixed_adds (less room) (less_adds room) f.Block)
-
-pub open_ends : (room : ℕ) (keyword : Keyword) (before inside behind : State) (tree : Tree) (count : ℕ) (flag : Bool) → count ≡ length before.scope.names → flag ≡ before.scope.typedef →
-    open_at (less room) room keyword before ≡ Some (tree, inside) → behind ≡ closed_scope count flag inside → scoped (open_at (less room) room keyword) before ≡ Some (tree, behind)
-open_ends room keyword = scope_ends (open_at (less room) room keyword) (open_adds (less room) (less_adds room) room keyword)
-
-pub scope_fails : (reader : Reader) (before : State) → reader before ≡ None → scoped reader before ≡ None
+scope_fails : (reader : Reader) (before : State) → reader before ≡ None → scoped reader before ≡ None
 scope_fails reader before h = ap (λ (r : Option (Tree × State)). r >>= (λ x. Some (backing before x))) h
+
+-- the end of a scope: what was read in it, or why nothing was
+scope_ended : {X : Type 0} (view : X → Tree) (reader : Reader) → OnlyAdds reader → (before inside behind : State) (outer : Outer) (read result : Result X ReadError) → outer.count ≡ length before.scope.names → outer.typedef ≡ before.scope.typedef →
+    Reads view read inside (reader before) → Ends outer read result inside behind → Reads view result behind (scoped reader before)
+scope_ended view reader adds before inside behind outer (Ok x) (Ok given) c e h ends =
+    scope_ends reader adds before inside behind (view given) outer.count outer.typedef c e (h ∙ ap (λ y. Some (view y, inside)) (sym ends.0)) ends.1
+scope_ended view reader adds before inside behind outer (Ok x) (Err errors.NoMemory) c e h ends = tt
+scope_ended view reader adds before inside behind outer (Ok x) (Err errors.Syntax) c e h ends = cc
+scope_ended view reader adds before inside behind outer (Err error) (Ok given) c e h ends = absurd ends
+scope_ended view reader adds before inside behind outer (Err error) (Err errors.NoMemory) c e h ends = tt
+scope_ended view reader adds before inside behind outer (Err errors.NoMemory) (Err errors.Syntax) c e h ends = cc
+scope_ended view reader adds before inside behind outer (Err errors.Syntax) (Err errors.Syntax) c e h ends = scope_fails reader before h
+
+-- a branch, a block, a statement with parts of its own
+pub branch_ended : {X : Type 0} (view : X → Tree) (room : ℕ) (before inside behind : State) (outer : Outer) (got result : Result X ReadError) → outer.count ≡ length before.scope.names → outer.typedef ≡ before.scope.typedef →
+    Reads view got inside (read room p.Statement before) → Ends outer got result inside behind → Reads view result behind (scoped (read room p.Statement) before)
+branch_ended view room = scope_ended view (read room p.Statement) (read_adds room p.Statement)
+
+pub block_ended : {X : Type 0} (view : X → Tree) (room : ℕ) (before inside behind : State) (outer : Outer) (got result : Result X ReadError) → outer.count ≡ length before.scope.names → outer.typedef ≡ before.scope.typedef →
+    Reads view got inside (fixed (less room) f.Block before) → Ends outer got result inside behind → Reads view result behind (scoped (fixed (less room) f.Block) before)
+block_ended view room = scope_ended view (fixed (less room) f.Block) (fixed_adds (less room) (less_adds room) f.Block)
+
+pub open_ended : {X : Type 0} (view : X → Tree) (room : ℕ) (keyword : Keyword) (before inside behind : State) (outer : Outer) (got result : Result X ReadError) → outer.count ≡ length before.scope.names → outer.typedef ≡ before.scope.typedef →
+    Reads view got inside (open_at (less room) room keyword before) → Ends outer got result inside behind → Reads view result behind (scoped (open_at (less room) room keyword) before)
+open_ended view room keyword = scope_ended view (open_at (less room) room keyword) (open_adds (less room) (less_adds room) room keyword)
 
 -- a body: the parameters are declared in it
 pub body_ends : (room : ℕ) (before start inside behind : State) (tree : Tree) (count : ℕ) (flag : Bool) → count ≡ length before.scope.names → flag ≡ before.scope.typedef → start ≡ in_body before →

@@ -3,3 +3,4 @@ pub mod Told
 pub mod Parses
 pub mod Pieces
 pub mod Nodes
+pub mod Ends

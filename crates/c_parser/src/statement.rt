@@ -2,17 +2,20 @@
 //!
 //! Each function gives what the definition of its form in `specs/Statements.antt` reads; `room` is how deep the tree may be.
 
-ghost use Rattle.std.specs.Prelude.{◌≡◌, ◌<◌, IfOk};
+ghost use Rattle.std.specs.Prelude.{◌≡◌, ◌<◌, zero, [], ◌∷◌, drop, IfOk};
 ghost use Rattle.c_tree.specs.Forms as form;
 ghost use Rattle.c_tree.specs.Places.{Statement, Branch, Items as ItemsPlace};
+ghost use Rattle.c_tree.specs.Grammar.{Part, mark, shape};
 ghost use Rattle.c_tree.specs.declared.word.Keyword.TheVariants as k;
+ghost use Rattle.c_tree.specs.declared.word.Sign.TheVariants as s;
 ghost use Rattle.c_tree.specs.Tree.{Node, At, none, ◌▹◌};
-ghost use Rattle.c_tree.specs.StatementView.{trees, expr_view, stmt_view};
+ghost use Rattle.c_tree.specs.StatementView.{trees, expr_view, maybe_expr as maybe_expr_view, stmt_view};
 ghost use Rattle.grammar_reading.specs.State.{at_key};
 ghost use Rattle.parser_parts.specs.Gives.{Reads};
-ghost use Rattle.grammar_reading.specs.Reading.{fixed, scoped, snoc};
+ghost use Rattle.grammar_reading.specs.Reading.{fixed, parts_of, scoped, snoc};
 ghost use Rattle.grammar_reading.specs.Rooms.{less, read};
 ghost use Rattle.grammar_reading.specs.Statements as spec;
+ghost use Rattle.c_parser.specs.Ends.{Ends};
 ghost use Rattle.c_parser.specs.Pieces.{open_at};
 
 use crate::expression::expression;
@@ -23,7 +26,7 @@ use crate::pieces::{
 use c_tree::{Expr, Keyword, Sign, Stmt};
 use grammar_reading::Kind;
 use hs_base::{Line, NoMemory};
-use parser_parts::{ReadError, Reader};
+use parser_parts::{Outer, ReadError, Reader};
 use std::alloc::Global;
 
 /// A statement.
@@ -96,9 +99,8 @@ fn compound(
     ensures { Reads stmt_view result reader.new (scoped (open_at (less room) room keyword) reader.old) }
 {
     let outer = reader.enter();
-    let stmt = open(alloc, reader, room, keyword)?;
-    reader.leave(outer)?;
-    Ok(stmt)
+    let read = open(alloc, reader, room, keyword);
+    ended(reader, outer, read)
 }
 
 /// The same, whose names still hold.
@@ -131,9 +133,21 @@ fn branch(alloc: Global, reader: &mut Reader, room: usize) -> Result<Stmt, ReadE
     ensures { Reads stmt_view result reader.new (read room Branch reader.old) }
 {
     let outer = reader.enter();
-    let stmt = statement(alloc, reader, room)?;
+    let read = statement(alloc, reader, room);
+    ended(reader, outer, read)
+}
+
+/// Ends the scope of what was read in it. For any type, since dropping a statement is long to prove.
+fn ended<T: Drop>(
+    reader: &mut Reader,
+    outer: Outer,
+    read: Result<T, ReadError>,
+) -> Result<T, ReadError>
+    ensures { Ends outer read result reader.old reader.new }
+{
+    let tree = read?;
     reader.leave(outer)?;
-    Ok(stmt)
+    Ok(tree)
 }
 
 /// `{ items }`
@@ -144,9 +158,8 @@ fn block(alloc: Global, reader: &mut Reader, room: usize) -> Result<Stmt, ReadEr
     ensures { Reads stmt_view result reader.new (scoped (fixed (less room) form.Block) reader.old) }
 {
     let outer = reader.enter();
-    let stmt = open_block(alloc, reader, room)?;
-    reader.leave(outer)?;
-    Ok(stmt)
+    let read = open_block(alloc, reader, room);
+    ended(reader, outer, read)
 }
 
 /// The same, whose names still hold.
@@ -192,8 +205,7 @@ fn branching(alloc: Global, reader: &mut Reader, room: usize) -> Result<Stmt, Re
     reader.key(Keyword::If)?;
     reader.mark(Sign::LeftParen)?;
     let test = expression(alloc, reader, room - 1, COMMA)?;
-    reader.mark(Sign::RightParen)?;
-    let body = branch(alloc, reader, room - 1)?;
+    let body = enclosed_body(alloc, reader, room)?;
     let stmt = otherwise(alloc, reader, room, line, test.tree, body)?;
     Ok(stmt)
 }
@@ -234,8 +246,7 @@ fn while_loop(alloc: Global, reader: &mut Reader, room: usize) -> Result<Stmt, R
     reader.key(Keyword::While)?;
     reader.mark(Sign::LeftParen)?;
     let test = expression(alloc, reader, room - 1, COMMA)?;
-    reader.mark(Sign::RightParen)?;
-    let body = branch(alloc, reader, room - 1)?;
+    let body = enclosed_body(alloc, reader, room)?;
     let stmt = Stmt::while_loop(alloc, line, test.tree, body)?;
     Ok(stmt)
 }
@@ -272,13 +283,61 @@ fn for_loop(alloc: Global, reader: &mut Reader, room: usize) -> Result<Stmt, Rea
     reader.key(Keyword::For)?;
     reader.mark(Sign::LeftParen)?;
     let start = for_start(alloc, reader, room - 1)?;
+    let rest = for_rest(alloc, reader, room)?;
+    let stmt = Stmt::for_loop(alloc, line, start, rest.test, rest.step, rest.body)?;
+    Ok(stmt)
+}
+
+/// What stands behind the start of a `for`.
+#[derive(Drop)]
+struct ForRest {
+    test: Option<Expr>,
+    step: Option<Expr>,
+    body: Stmt,
+}
+
+/// `test; step) body`
+#[cycle(statements)]
+#[tactic(auto, using(crate::proofs::Steps::less_step), unfolding(c_tree::specs::Grammar::shape))]
+fn for_rest(alloc: Global, reader: &mut Reader, room: usize) -> Result<ForRest, ReadError>
+    requires room { room < 401 }
+    requires some { 0 < room }
+    ensures { Reads (λ x. maybe_expr_view x.test ▹ maybe_expr_view x.step ▹ stmt_view x.body ▹ none) result reader.new (parts_of (less room) (drop 4 (shape form.For zero)) reader.old) }
+{
     let test = maybe_expr(alloc, reader, room - 1)?;
+    let (step, body) = for_step(alloc, reader, room)?;
+    Ok(ForRest { test, step, body })
+}
+
+/// `; step) body`
+#[cycle(statements)]
+#[tactic(auto, using(crate::proofs::Steps::less_step), unfolding(c_tree::specs::Grammar::shape))]
+fn for_step(
+    alloc: Global,
+    reader: &mut Reader,
+    room: usize,
+) -> Result<(Option<Expr>, Stmt), ReadError>
+    requires room { room < 401 }
+    requires some { 0 < room }
+    ensures { Reads (λ x. maybe_expr_view x.0 ▹ stmt_view x.1 ▹ none) result reader.new (parts_of (less room) (drop 5 (shape form.For zero)) reader.old) }
+{
     reader.mark(Sign::Semicolon)?;
     let step = maybe_expr(alloc, reader, room - 1)?;
+    let body = enclosed_body(alloc, reader, room)?;
+    Ok((step, body))
+}
+
+/// `) body`
+#[cycle(statements)]
+#[tactic(auto, using(crate::proofs::Steps::less_step))]
+fn enclosed_body(alloc: Global, reader: &mut Reader, room: usize) -> Result<Stmt, ReadError>
+    requires room { room < 401 }
+    requires some { 0 < room }
+    ensures { Reads (λ body. stmt_view body ▹ none) result reader.new (parts_of (less room) (mark s.RightParen ∷ Part Branch ∷ []) reader.old) }
+{
     reader.mark(Sign::RightParen)?;
     let body = branch(alloc, reader, room - 1)?;
-    let stmt = Stmt::for_loop(alloc, line, start, test, step, body)?;
-    Ok(stmt)
+    Ok(body)
 }
 
 /// `switch (value) body`
@@ -293,8 +352,7 @@ fn switch(alloc: Global, reader: &mut Reader, room: usize) -> Result<Stmt, ReadE
     reader.key(Keyword::Switch)?;
     reader.mark(Sign::LeftParen)?;
     let value = expression(alloc, reader, room - 1, COMMA)?;
-    reader.mark(Sign::RightParen)?;
-    let body = branch(alloc, reader, room - 1)?;
+    let body = enclosed_body(alloc, reader, room)?;
     let stmt = Stmt::switch(alloc, line, value.tree, body)?;
     Ok(stmt)
 }

@@ -52,6 +52,15 @@ decreases-do_loop l = l.room * 20 + 5
 abbrev pub decreases-for_loop : goal.decreases-for_loop
 decreases-for_loop l = l.room * 20 + 5
 
+abbrev pub decreases-for_rest : goal.decreases-for_rest
+decreases-for_rest l = l.room * 20 + 4
+
+abbrev pub decreases-for_step : goal.decreases-for_step
+decreases-for_step l = l.room * 20 + 3
+
+abbrev pub decreases-enclosed_body : goal.decreases-enclosed_body
+decreases-enclosed_body l = l.room * 20 + 2
+
 abbrev pub decreases-switch : goal.decreases-switch
 decreases-switch l = l.room * 20 + 5
 
