@@ -1,5 +1,5 @@
 -- The code of a core that is built is code that the machine runs.
-use Rattle.std.proofs.Common.{◌≡◌, ℕ, List, [], ◌∷◌, map, Option, Some, None, refl, sym, ◌∙◌, ap}
+use Rattle.std.proofs.Common.{◌≡◌, ℕ, List, [], ◌∷◌, map, Some, None, refl, ◌∙◌, ap}
 use Rattle.std.specs.Prelude.{slice_get}
 use Rattle.core_tree.specs.declared.program.Core.{Core}
 use Rattle.core_tree.specs.declared.program.Func.{Func}
@@ -13,7 +13,7 @@ use Rattle.built_cores.specs.Built.{IsBuilt, IsBuiltFunction, IsBuiltLib, IsBuil
 use Rattle.compiled_code.specs.Compiled.{IsCompiled}
 use Rattle.compiled_form.proofs.Doing.{doing}
 use Rattle.compiled_form.proofs.Handing.{each_hand}
-use Rattle.compiled_form.proofs.Spots.{Spot, each_instr, owner, places}
+use Rattle.compiled_form.proofs.Spots.{each_instr, owner, places}
 use Rattle.compiled_form.proofs.Tables.{holds_at}
 use Rattle.compiled_meaning.specs.Freeless.{IsFreeless, QueuesNothing}
 use Rattle.flat_code.specs.declared.instructions.Instr.{Instr}

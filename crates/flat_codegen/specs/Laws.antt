@@ -1,6 +1,5 @@
 -- Laws of cores that are built, and of their code.
 use Rattle.core_tree.specs.declared.program.Core.{Core}
-use Rattle.core_tree.specs.Sound.{IsSound}
 use Rattle.built_cores.specs.Built.{IsBuilt}
 use Rattle.compiled_code.specs.Compiled.{IsCompiled}
 use Rattle.compiled_meaning.specs.Freeless.{IsFreeless}

@@ -5,8 +5,7 @@ use Rattle.core_tree.specs.declared.program.Static.{Static}
 use Rattle.core_tree.specs.Sound.{EachStatement, HasNumbers}
 use Rattle.flat_codegen.specs.Emitting.{with_instrs}
 use Rattle.code_soundness.specs.Laws.{HoldsBytes}
-use Rattle.flat_code.specs.declared.program.Code.{Code}
-use Rattle.flat_codegen.proofs.Bytes.{IsOfBytes, bytes_hold}
+use Rattle.flat_codegen.proofs.Bytes.{bytes_hold}
 use Rattle.flat_codegen.proofs.Closing.{walked, are_short, main_inside, all_numbers}
 use Rattle.flat_codegen.proofs.program.code_of.Goals as goal
 
