@@ -17,7 +17,7 @@ use Rattle.object_meaning.specs.Making.{with_new}
 use Rattle.object_meaning.specs.Memory.{copied}
 use Rattle.object_meaning.specs.Heap.{birth_of, make, enqueue}
 use Rattle.code_meaning.specs.CodeState.{Next, kept, same_numbers}
-use Rattle.code_meaning.specs.Counting.{renumbered}
+use Rattle.counted_meaning.specs.Counting.{renumbered}
 use Rattle.code_meaning.specs.Checking.{in_scope}
 
 -- a free that stops the run
@@ -26,7 +26,7 @@ refused line reason numbers s = runs.Stops (kept numbers s) [] (kept numbers s) 
 
 -- an object that may be freed is queued, and else the run stops
 abbrev pub free_named : Code → ℕ → Result ℕ Reason → (ℕ → ℕ) → State → Next
-free_named code line (Ok birth) numbers s = in_scope code s.scopes s [] numbers (enqueue line birth s)
+free_named code line (Ok birth) numbers s = in_scope code s.scopes numbers s [] numbers (enqueue line birth s)
 free_named code line (Err reason) numbers s = refused line reason numbers s
 
 -- a free of null does nothing
@@ -39,7 +39,7 @@ abbrev pub grown : Code → ℕ → ℕ → ℕ → ℕ → State → (ℕ → �
 grown code line r size old before numbers s (Ok objects) =
     let new = length before.objects in
     let t = with_objects s objects in
-    in_scope code s.scopes before (birth_of line size before) (renumbered new numbers s t) (put (enqueue line old t) (Some r) (address (start_of new)))
+    in_scope code s.scopes numbers before (birth_of line size before) (renumbered new numbers s t) (put (enqueue line old t) (Some r) (address (start_of new)))
 grown code line r size old before numbers s (Err e) =
     runs.Stops (kept numbers before) (birth_of line size before) (kept numbers s) (ended_by line e)
 

@@ -1,5 +1,5 @@
 pub mod CodeState
-pub mod Counting
+pub mod Pinning
 pub mod Entering
 pub mod Returning
 pub mod Checking

@@ -18,9 +18,11 @@ use Rattle.flat_code.specs.declared.program.Code.{Code}
 use Rattle.flat_code.specs.declared.program.Entry.{Entry}
 use Rattle.flat_code.specs.declared.program.StaticInit.{StaticInit}
 use Rattle.object_meaning.specs.Meaning.{line_of}
+use Rattle.counted_meaning.specs.Pinning.{Pins}
 use Rattle.compiled_code.specs.Handing.{instr, hand_of, handed_atoms, code_length}
 use Rattle.compiled_code.specs.Places.{body_length, first_of, place_of}
 use Rattle.compiled_code.specs.Doing.{Does}
+use Rattle.compiled_code.specs.Sites.{sites_of}
 
 -- a statement stands at a place, and its line beside each of its instructions
 pub record IsStatement (core : Core) (code : Code) (f : ℕ) (func : Func) (place : ℕ) (stm : Stm) : Type 0 where
@@ -63,7 +65,7 @@ abbrev pub IsFormatIn : Core → List ℕ → Type 0
 IsFormatIn core format =
     Any (λ (func : Func). Any (λ (stm : Stm). format_of func stm.kind ≡ Some format) func.body) core.funcs
 
-pub record IsCompiled (core : Core) (code : Code) : Type 0 where
+pub record IsCompiled (core : Core) (pins : Pins) (code : Code) : Type 0 where
   -- the run begins by a call of main, at the line of its definition
   pub start : slice_get code.instrs 0 ≡ Some (instr op.Start 0 0 0 (pos (main_of core)))
   pub start_line : slice_get code.lines 0 ≡ Some (line_of (slice_get core.funcs (main_of core)))
@@ -78,5 +80,5 @@ pub record IsCompiled (core : Core) (code : Code) : Type 0 where
   -- every layout is one of the core's, and every format is one that a statement of it writes
   pub layouts : All (IsLayoutIn core) code.layouts
   pub formats : All (IsFormatIn core) code.formats
-  -- nothing is freed
-  pub sites : code.sites ≡ []
+  -- the pins of each statement stand in its site
+  pub sites : code.sites ≡ sites_of core pins

@@ -1,4 +1,5 @@
 pub mod Handing
 pub mod Places
 pub mod Doing
+pub mod Sites
 pub mod Compiled

@@ -1,2 +1,4 @@
 pub mod Table
+pub mod Lives
+pub mod Sites
 pub mod WellFormed
