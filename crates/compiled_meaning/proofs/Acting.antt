@@ -1,5 +1,5 @@
 -- The last instruction of a statement does what the statement does.
-use Rattle.std.proofs.Common.{◌≡◌, ℕ, ℤ, ◌+◌, ◌*◌, ◌<◌, ◌≤◌, pos, List, [], map, length, Option, Some, None, Result, refl, sym, ap, ◌∙◌, subst, arith}
+use Rattle.std.proofs.Common.{◌≡◌, ℕ, ℤ, ◌+◌, ◌*◌, ◌<◌, ◌≤◌, pos, true, List, [], map, length, Option, Some, None, Result, refl, sym, ap, ◌∙◌, subst, arith}
 use Rattle.std.specs.Prelude.{slice_get, slice_index_or, unwrap_or, ◌*ℤ◌}
 use Rattle.std.specs.Option.{option_map_or}
 use Rattle.std.proofs.lemmas.Option.{unwrap_or-slice_get}
@@ -20,32 +20,41 @@ use Rattle.core_tree.specs.Sound.{IsSound, LeadsOn}
 use Rattle.flat_code.specs.declared.instructions.Instr.{Instr}
 use Rattle.flat_code.specs.declared.instructions.Op.TheVariants as op
 use Rattle.flat_code.specs.declared.program.Code.{Code}
+use Rattle.flat_code.specs.Sites.{site_of}
 use Rattle.object_meaning.specs.Values.{number, value_of, pointer_of, number_of, size_in}
 use Rattle.object_meaning.specs.Going as going
 use Rattle.object_meaning.specs.Going.{at_point, write, answers, changes}
 use Rattle.object_meaning.specs.Arithmetic.{moved_by}
 use Rattle.object_meaning.specs.Heap.{make}
 use Rattle.object_meaning.specs.Builtins.{call_lib}
-use Rattle.object_meaning.specs.Calls as core_calls
-use Rattle.object_meaning.specs.Meaning as meaning
 use Rattle.object_meaning.specs.Meaning.{format_in, values_of, returned, print_format}
 use Rattle.object_meaning.proofs.Lively.{needed}
 use Rattle.object_meaning.proofs.Frames.{Holds}
+use Rattle.counted_meaning.specs.Pinning.{Pins, pins_of, pinned}
+use Rattle.counted_meaning.specs.CountedState as counted
+use Rattle.counted_meaning.specs.Counting.{more, birth_in, renumbered}
+use Rattle.counted_meaning.specs.Returning as counted_returning
+use Rattle.counted_meaning.specs.CountedMeaning as counted_meaning
 use Rattle.code_meaning.specs.CodeState.{Next, same_numbers, other_numbers}
 use Rattle.code_meaning.specs.CodeMeaning as code_meaning
 use Rattle.code_meaning.specs.Entering as entering
 use Rattle.code_meaning.specs.Entering.{layout_in, no_layout}
+use Rattle.code_meaning.specs.Freeing as freeing
 use Rattle.code_meaning.specs.Returning as returning
 use Rattle.compiled_code.specs.Handing.{instr, handed_atoms, code_length}
 use Rattle.compiled_code.specs.Places.{place_of}
 use Rattle.compiled_code.specs.Compiled.{IsCompiled}
 use Rattle.compiled_code.specs.Doing.{to, to_chosen, Does}
-use Rattle.compiled_meaning.specs.Freeless.{IsFreeless}
+use Rattle.compiled_code.specs.Sites.{may_free}
+use Rattle.counts_are_holders.proofs.Sorting.{InOrder, gives_pointer}
+use Rattle.counts_are_holders.proofs.Listed.{AreListed}
 use Rattle.compiled_meaning.proofs.Places.{place_at, place_is, place_next, place_later, place_within}
 use Rattle.compiled_meaning.proofs.Moved.{moved}
-use Rattle.compiled_meaning.proofs.Keeping.{Follows, with_same, with_others, IsLast, alike, writes, answers_both, changes_both, goes_to, branches, takes_step, goes_back}
-use Rattle.compiled_meaning.proofs.Library.{make_both, prints_both, lib_both}
+use Rattle.compiled_meaning.proofs.Sited.{pins_there}
+use Rattle.compiled_meaning.proofs.Keeping.{Follows, renumbered_same, with_same, with_others, IsLast, alike, writes, answers_both, changes_both, goes_to, branches, takes_step, goes_back}
+use Rattle.compiled_meaning.proofs.Library.{behind_both, make_both, prints_both, lib_both}
 use Rattle.compiled_meaning.proofs.Scopes.{enter_follows, leave_follows}
+use Rattle.compiled_meaning.proofs.Freeing.{free_follows, grow_follows}
 use Rattle.compiled_meaning.proofs.Calling.{call_follows}
 use Rattle.compiled_meaning.proofs.Returns.{give_follows}
 
@@ -54,10 +63,13 @@ called : (core : Core) (func : Func) (args : List Atom) (o : Option Func) → Ta
 called core func args None h = absurd h
 called core func args (Some g) h = (g, refl)
 
+layout_is : (code : Code) (k : ℕ) (element : Layout) → slice_get code.layouts k ≡ Some element → layout_in code k ≡ element
+layout_is code k element e = ap (λ o. option_map_or (λ (l : Layout). l) o no_layout) e
+
 times_one : (n : ℤ) → n *ℤ pos 1 ≡ n
 times_one n = omega (arith, ints)
 
-module _ (core : Core) (code : Code) (sound : IsSound core) (freeless : IsFreeless core) (compiled : IsCompiled core code) (s : State) (empty : s.queue ≡ []) (func : Func) (good : Holds core func needed s.scopes s) (line : ℕ) (numbers : ℕ → ℕ) where
+module _ (core : Core) (pins : Pins) (code : Code) (sound : IsSound core) (listed : AreListed core pins) (compiled : IsCompiled core pins code) (s : State) (func : Func) (good : Holds core func needed s.scopes s) (order : InOrder core s) (line : ℕ) (numbers : ℕ → ℕ) where
   abbrev pub At : StmKind → Type 0
   At kind = slice_get func.body s.running.point ≡ Some (record { line = line; kind = kind })
 
@@ -74,40 +86,38 @@ module _ (core : Core) (code : Code) (sound : IsSound core) (freeless : IsFreele
       record {
         here = omega arith;
         next = omega (arith, place_next core f func good.here s.running.point _ at);
-        within = omega (arith, place_within core f func good.here code compiled s.running.point _ at);
+        within = omega (arith, place_within core f func good.here pins code compiled s.running.point _ at);
       }
 
   abbrev pub Values : StmKind → List Value
   Values kind = map (value_of s.running) (handed_atoms kind)
 
-  abbrev Same : StmKind → going.Next → Next → Type 0
+  abbrev Same : StmKind → counted.Next → Next → Type 0
   Same kind = Follows core code s (code_length kind)
 
   -- Families of statements
 
-  writes_one : (kind : StmKind) → At kind → (r : ℕ) (v : Value) → Same kind (going.goes s [] (write s (Some r) v)) (same_numbers numbers (going.goes (there kind) [] (write (there kind) (Some r) v)))
+  writes_one : (kind : StmKind) → At kind → (r : ℕ) (v : Value) → Same kind (counted.same_numbers numbers (going.goes s [] (write s (Some r) v))) (same_numbers numbers (going.goes (there kind) [] (write (there kind) (Some r) v)))
   writes_one kind at r v =
       let last = is_last kind at in
-      let h = writes core code s (last_of kind) (code_length kind) last empty s (alike core code s (last_of kind) (code_length kind) last empty) (Some r) v s (there kind) [] in
-      (h.0, refl, h.1)
+      let h = writes core code s (last_of kind) (code_length kind) last s (alike core code s (last_of kind) (code_length kind) last) (Some r) v [] in
+      (h.0, refl, h.2, refl)
 
-  answers_one : (kind : StmKind) → At kind → (r : ℕ) (result : Result Value Refusal) → Same kind (answers line s (Some r) result) (same_numbers numbers (answers line (there kind) (Some r) result))
+  answers_one : (kind : StmKind) → At kind → (r : ℕ) (result : Result Value Refusal) → Same kind (counted.same_numbers numbers (answers line s (Some r) result)) (same_numbers numbers (answers line (there kind) (Some r) result))
   answers_one kind at r result =
-      with_same core code s (code_length kind) _ _ numbers (answers_both core code s (last_of kind) (code_length kind) (is_last kind at) empty line (Some r) result)
+      with_same core code s (code_length kind) _ _ numbers (answers_both core code s (last_of kind) (code_length kind) (is_last kind at) line (Some r) result)
 
-  changes_one : (kind : StmKind) → At kind → (others : State → State → ℕ → ℕ) (result : Result (List Object) Refusal) → Same kind (changes line s result) (other_numbers others numbers (changes line (there kind) result))
-  changes_one kind at others result =
-      with_others core code s (code_length kind) _ _ others numbers (changes_both core code s (last_of kind) (code_length kind) (is_last kind at) empty line result)
+  changes_one : (kind : StmKind) → At kind → (changed : ℕ) (result : Result (List Object) Refusal) → Same kind (counted.other_numbers (renumbered changed numbers) numbers (changes line s result)) (other_numbers (renumbered changed numbers) numbers (changes line (there kind) result))
+  changes_one kind at changed result =
+      with_others core code s (code_length kind) _ _ _ _ numbers (renumbered_same changed numbers) (changes_both core code s (last_of kind) (code_length kind) (is_last kind at) line result)
 
-  changes_same : (kind : StmKind) → At kind → (result : Result (List Object) Refusal) → Same kind (changes line s result) (same_numbers numbers (changes line (there kind) result))
+  changes_same : (kind : StmKind) → At kind → (result : Result (List Object) Refusal) → Same kind (counted.same_numbers numbers (changes line s result)) (same_numbers numbers (changes line (there kind) result))
   changes_same kind at result =
-      with_same core code s (code_length kind) _ _ numbers (changes_both core code s (last_of kind) (code_length kind) (is_last kind at) empty line result)
+      with_same core code s (code_length kind) _ _ numbers (changes_both core code s (last_of kind) (code_length kind) (is_last kind at) line result)
 
-  makes : (kind : StmKind) → At kind → (r n k : ℕ) (element : Layout) → slice_get code.layouts k ≡ Some element → Same kind (make line r n element s) (same_numbers numbers (make line r n (layout_in code k) (there kind)))
+  makes : (kind : StmKind) → At kind → (r n k : ℕ) (element : Layout) → slice_get code.layouts k ≡ Some element → Same kind (counted.same_numbers numbers (make line r n element s)) (same_numbers numbers (make line r n (layout_in code k) (there kind)))
   makes kind at r n k element e =
-      let is : layout_in code k ≡ element = ap (λ o. option_map_or (λ (l : Layout). l) o no_layout) e in
-      let h = make_both core code s (last_of kind) (code_length kind) (is_last kind at) empty line r n element in
-      subst (λ l. Same kind (make line r n element s) (same_numbers numbers (make line r n l (there kind)))) (sym is) (h.0, refl, h.1)
+      subst (λ l. Same kind (counted.same_numbers numbers (make line r n element s)) (same_numbers numbers (make line r n l (there kind)))) (sym (layout_is code k element e)) (with_same core code s (code_length kind) (make line r n element s) (make line r n element (there kind)) numbers (make_both core code s (last_of kind) (code_length kind) (is_last kind at) line r n element))
 
   later : (l : ℕ) → s.running.point < l → place_at core s.running.func (s.running.point + 1) ≤ place_at core s.running.func l
   later l lt = place_later core s.running.func func good.here s.running.point l lt
@@ -122,7 +132,7 @@ module _ (core : Core) (code : Code) (sound : IsSound core) (freeless : IsFreele
   -- what an instruction does behind the operands of a statement
   abbrev pub Effect : StmKind → Instr → Type 0
   Effect kind i =
-      Same kind (meaning.act core line kind s) (code_meaning.act code line i i.op (Values kind) numbers (there kind))
+      Same kind (counted_meaning.act core pins line kind numbers s) (code_meaning.act code line i i.op (Values kind) numbers (there kind))
 
   by_does : (kind : StmKind) (i k : Instr) → i ≡ k → Effect kind k → Effect kind i
   by_does kind i k e h = subst (Effect kind) (sym e) h
@@ -131,49 +141,60 @@ module _ (core : Core) (code : Code) (sound : IsSound core) (freeless : IsFreele
   jumps l at =
       let kind = stm.Jump l in
       let lt = ahead kind at 0 0 (omega arith) in
-      let h = goes_to core code s (last_of kind) (code_length kind) (is_last kind at) empty l lt (later l lt) in
-      (h.0, refl, h.1)
+      let h = goes_to core code s (last_of kind) (code_length kind) (is_last kind at) l lt (later l lt) in
+      (h.0, refl, h.2, refl)
 
   jumps_zero : (a : Atom) (l : ℕ) → At (stm.Zero a l) → Effect (stm.Zero a l) (instr op.Zero 0 (place_at core s.running.func l) 0 (pos 0))
   jumps_zero a l at =
       let kind = stm.Zero a l in
       let lt = ahead kind at 1 0 (omega arith) in
-      with_same core code s (code_length kind) _ _ numbers (branches core code s (last_of kind) (code_length kind) (is_last kind at) empty _ l lt (later l lt))
+      with_same core code s (code_length kind) _ _ numbers (branches core code s (last_of kind) (code_length kind) (is_last kind at) _ l lt (later l lt))
 
   jumps_case : (a : Atom) (v : ℤ) (l : ℕ) → At (stm.Case a v l) → Effect (stm.Case a v l) (instr op.Case 0 (place_at core s.running.func l) 0 (pos 0))
   jumps_case a v l at =
       let kind = stm.Case a v l in
       let lt = ahead kind at 1 0 (omega arith) in
-      with_same core code s (code_length kind) _ _ numbers (branches core code s (last_of kind) (code_length kind) (is_last kind at) empty _ l lt (later l lt))
+      with_same core code s (code_length kind) _ _ numbers (branches core code s (last_of kind) (code_length kind) (is_last kind at) _ l lt (later l lt))
 
   loops : (l : ℕ) → At (stm.Loop l) → Effect (stm.Loop l) (instr op.Loop 0 (place_at core s.running.func l) 0 (pos 0))
   loops l at =
       let kind = stm.Loop l in
-      takes_step core code s (last_of kind) (code_length kind) (is_last kind at) empty numbers s.steps _ _ refl (λ m e. let h = goes_back core code s (last_of kind) (code_length kind) (is_last kind at) empty m l e in (h.0, refl, h.1))
+      takes_step core code s (last_of kind) (code_length kind) (is_last kind at) (λ before after. numbers) numbers s.steps _ _ refl (λ m e. let h = goes_back core code s (last_of kind) (code_length kind) (is_last kind at) m l e in (h.0, refl, h.2, refl))
 
-  calls : (g : ℕ) (r : Option ℕ) (args : List Atom) → At (stm.Call g r args) → Same (stm.Call g r args) (meaning.act core line (stm.Call g r args) s) (entering.with_step s.steps numbers (there (stm.Call g r args)) (entering.call code line g (Values (stm.Call g r args)) numbers))
+  -- the pins of the statement where it may free, in code
+  own : (kind : StmKind) → At kind → may_free kind ≡ true → unwrap_or (site_of code.sites (last_of kind)) [] ≡ pins_of pins s.running.func s.running.point
+  own kind at frees =
+      pins_there core pins code compiled s.running.func func good.here s.running.point (record { line = line; kind = kind }) at frees (last_of kind) refl
+
+  calls : (g : ℕ) (r : Option ℕ) (args : List Atom) → At (stm.Call g r args) → Same (stm.Call g r args) (counted_meaning.act core pins line (stm.Call g r args) numbers s) (entering.with_step s.steps numbers (there (stm.Call g r args)) (entering.call code line g (Values (stm.Call g r args)) numbers))
   calls g r args at =
       let kind = stm.Call g r args in
       let typed = (sound.functions s.running.func func good.here).typed s.running.point _ at in
       let callee = called core func args (slice_get core.funcs g) typed.1 in
-      takes_step core code s (last_of kind) (code_length kind) (is_last kind at) empty numbers s.steps _ _ refl (λ m e. call_follows core code compiled freeless g callee.0 callee.1 s (last_of kind) (code_length kind) (is_last kind at) empty line (values_of s args) numbers m e)
+      takes_step core code s (last_of kind) (code_length kind) (is_last kind at) (λ before after. more numbers (pinned pins before.running)) numbers s.steps _ _ refl (λ m e. call_follows core pins code compiled g callee.0 callee.1 s (last_of kind) (code_length kind) (is_last kind at) (own kind at refl) line (values_of s args) numbers m e)
 
-  libs : (name : LibName) (r : Option ℕ) (args : List Atom) (others : State → State → ℕ → ℕ) → At (stm.Lib name r args) → Same (stm.Lib name r args) (meaning.act core line (stm.Lib name r args) s) (other_numbers others numbers (call_lib line name r (Values (stm.Lib name r args)) (there (stm.Lib name r args))))
-  libs name r args others at =
+  libs : (name : LibName) (r : Option ℕ) (args : List Atom) → At (stm.Lib name r args) → Same (stm.Lib name r args) (counted_meaning.act core pins line (stm.Lib name r args) numbers s) (other_numbers (code_meaning.behind_lib name (Values (stm.Lib name r args)) numbers) numbers (call_lib line name r (Values (stm.Lib name r args)) (there (stm.Lib name r args))))
+  libs name r args at =
       let kind = stm.Lib name r args in
-      with_others core code s (code_length kind) _ _ others numbers (lib_both core code s (last_of kind) (code_length kind) (is_last kind at) empty line name r (values_of s args))
+      with_others core code s (code_length kind) _ _ _ _ numbers (behind_both name (values_of s args) numbers) (lib_both core code s (last_of kind) (code_length kind) (is_last kind at) line name r (values_of s args))
 
   prints : (r k : ℕ) (args : List Atom) (n : ℕ) → At (stm.Printf r k args) → slice_get code.formats n ≡ slice_get func.formats k → Effect (stm.Printf r k args) (instr op.Printf r n 0 (pos 0))
   prints r k args n at e =
       let kind = stm.Printf r k args in
       let none : List ℕ = [] in
       let is : format_in (slice_get core.funcs s.running.func) k ≡ slice_index_or code.formats n none = ap (λ o. format_in o k) good.here ∙ sym (unwrap_or-slice_get func.formats k none) ∙ ap (λ o. unwrap_or o none) (sym e) ∙ unwrap_or-slice_get code.formats n none in
-      subst (λ format. Same kind (print_format line r format (values_of s args) s) (same_numbers numbers (print_format line r (slice_index_or code.formats n none) (values_of s args) (there kind)))) (sym is) (with_same core code s (code_length kind) _ _ numbers (prints_both core code s (last_of kind) (code_length kind) (is_last kind at) empty line r (slice_index_or code.formats n none) (values_of s args)))
+      subst (λ format. Same kind (counted.same_numbers numbers (print_format line r format (values_of s args) s)) (same_numbers numbers (print_format line r (slice_index_or code.formats n none) (values_of s args) (there kind)))) (sym is) (with_same core code s (code_length kind) _ _ numbers (prints_both core code s (last_of kind) (code_length kind) (is_last kind at) line r (slice_index_or code.formats n none) (values_of s args)))
 
-  gives : (a : Option Atom) → At (stm.Return a) → (v : Value) → v ≡ returned s a → Same (stm.Return a) (meaning.act core line (stm.Return a) s) (returning.give_back code line v numbers (there (stm.Return a)))
+  grows : (r : ℕ) (p n : Atom) (element : Layout) → At (stm.Realloc r p n element) → (k : ℕ) → slice_get code.layouts k ≡ Some element → Effect (stm.Realloc r p n element) (instr op.Realloc r k 0 (pos 0))
+  grows r p n element at k e =
+      let kind = stm.Realloc r p n element in
+      let typed = (sound.functions s.running.func func good.here).typed s.running.point _ at in
+      subst (λ l. Same kind (counted_meaning.act core pins line kind numbers s) (freeing.grow code line r (pointer_of s p) (size_in (number_of s n)) l numbers (there kind))) (sym (layout_is code k element e)) (grow_follows core pins code compiled listed s func good.here order _ at (λ q. refl) (last_of kind) (code_length kind) (is_last kind at) (own kind at refl) line numbers r (gives_pointer func r typed.0) (size_in (number_of s n)) element (pointer_of s p))
+
+  gives : (a : Option Atom) → At (stm.Return a) → (v : Value) → v ≡ returned s a → Same (stm.Return a) (counted_meaning.act core pins line (stm.Return a) numbers s) (returning.give_back code line v numbers (there (stm.Return a)))
   gives a at v e =
       let kind = stm.Return a in
-      subst (λ w. Same kind (core_calls.give_back core line w s) (returning.give_back code line v numbers (there kind))) e (give_follows core code compiled freeless s (last_of kind) (code_length kind) (is_last kind at) empty func good.here numbers line v s.running.first_local good.others good.waits)
+      subst (λ w. Same kind (counted_returning.give_back core pins line w numbers s) (returning.give_back code line v numbers (there kind))) e (give_follows core pins code compiled listed s (last_of kind) (code_length kind) (is_last kind at) func good.here line a at numbers v s.running.first_local good.others good.waits)
 
   -- Each statement in turn
 
@@ -187,16 +208,19 @@ module _ (core : Core) (code : Code) (sound : IsSound core) (freeless : IsFreele
   act_follows (stm.Sub r p a n) at i d = by_does (stm.Sub r p a n) i (instr op.Sub r 0 0 n) d (answers_one (stm.Sub r p a n) at r _)
   act_follows (stm.Off r p c) at i d =
       let kind = stm.Off r p c in
-      by_does kind i (instr op.Add r 0 0 (pos 1)) d (subst (λ n. Same kind (answers line s (Some r) (moved_by s.objects (pointer_of s p) c)) (same_numbers numbers (answers line (there kind) (Some r) (moved_by s.objects (pointer_of s p) n)))) (sym (times_one c)) (answers_one kind at r (moved_by s.objects (pointer_of s p) c)))
+      by_does kind i (instr op.Add r 0 0 (pos 1)) d (subst (λ n. Same kind (counted.same_numbers numbers (answers line s (Some r) (moved_by s.objects (pointer_of s p) c))) (same_numbers numbers (answers line (there kind) (Some r) (moved_by s.objects (pointer_of s p) n)))) (sym (times_one c)) (answers_one kind at r (moved_by s.objects (pointer_of s p) c)))
   act_follows (stm.Diff r p q n) at i d = by_does (stm.Diff r p q n) i (instr op.Diff r 0 0 n) d (answers_one (stm.Diff r p q n) at r _)
   act_follows (stm.Pcmp o r p q) at i d = by_does (stm.Pcmp o r p q) i (to r (op.Pcmp o)) d (answers_one (stm.Pcmp o r p q) at r _)
   act_follows (stm.Test r p) at i d = by_does (stm.Test r p) i (to r op.Test) d (writes_one (stm.Test r p) at r _)
   act_follows (stm.Load k r p) at i d = by_does (stm.Load k r p) i (to r (op.Load k)) d (answers_one (stm.Load k r p) at r _)
   act_follows (stm.Loadp r p) at i d = by_does (stm.Loadp r p) i (to r op.Loadp) d (answers_one (stm.Loadp r p) at r _)
   act_follows (stm.Store k p a) at i d = by_does (stm.Store k p a) i (to 0 (op.Store k)) d (changes_same (stm.Store k p a) at _)
-  act_follows (stm.Storep p q) at i d = by_does (stm.Storep p q) i (to 0 op.Storep) d (changes_one (stm.Storep p q) at _ _)
-  act_follows (stm.Copy p q n) at i d = by_does (stm.Copy p q n) i (to 0 op.Copy) d (changes_one (stm.Copy p q n) at _ _)
-  act_follows (stm.Clear p n) at i d = by_does (stm.Clear p n) i (to 0 op.Clear) d (changes_one (stm.Clear p n) at _ _)
+  act_follows (stm.Storep p q) at i d =
+      by_does (stm.Storep p q) i (to 0 op.Storep) d (changes_one (stm.Storep p q) at (birth_in (pointer_of s p)) _)
+  act_follows (stm.Copy p q n) at i d =
+      by_does (stm.Copy p q n) i (to 0 op.Copy) d (changes_one (stm.Copy p q n) at (birth_in (pointer_of s p)) _)
+  act_follows (stm.Clear p n) at i d =
+      by_does (stm.Clear p n) i (to 0 op.Clear) d (changes_one (stm.Clear p n) at (birth_in (pointer_of s p)) _)
   act_follows (stm.Jump l) at i d =
       by_does (stm.Jump l) i _ (d ∙ ap (λ p. instr op.Jump 0 p 0 (pos 0)) (target l)) (jumps l at)
   act_follows (stm.Zero a l) at i d =
@@ -214,18 +238,20 @@ module _ (core : Core) (code : Code) (sound : IsSound core) (freeless : IsFreele
   act_follows (stm.Calloc r m n element) at i d =
       by_does (stm.Calloc r m n element) i (instr op.Calloc r d.0 0 (pos 0)) d.1 (makes (stm.Calloc r m n element) at r (size_in (number_of s m) * size_in (number_of s n)) d.0 element d.2)
   act_follows (stm.Realloc r p n element) at i d =
-      absurd (freeless.statements s.running.func func good.here s.running.point _ at)
-  act_follows (stm.Free p) at i d = absurd (freeless.statements s.running.func func good.here s.running.point _ at)
+      by_does (stm.Realloc r p n element) i (instr op.Realloc r d.0 0 (pos 0)) d.1 (grows r p n element at d.0 d.2)
+  act_follows (stm.Free p) at i d =
+      let kind = stm.Free p in
+      by_does kind i (to 0 op.Free) d (free_follows core pins code compiled listed s func good.here order _ at (λ q. refl) (last_of kind) (code_length kind) (is_last kind at) (own kind at refl) line numbers (pointer_of s p))
   act_follows (stm.Lib name None args) at i d =
-      by_does (stm.Lib name None args) i (to_chosen None (op.Lib name) 0) d (libs name None args _ at)
+      by_does (stm.Lib name None args) i (to_chosen None (op.Lib name) 0) d (libs name None args at)
   act_follows (stm.Lib name (Some r) args) at i d =
-      by_does (stm.Lib name (Some r) args) i (to_chosen (Some r) (op.Lib name) 0) d (libs name (Some r) args _ at)
+      by_does (stm.Lib name (Some r) args) i (to_chosen (Some r) (op.Lib name) 0) d (libs name (Some r) args at)
   act_follows (stm.Printf r k args) at i d =
       by_does (stm.Printf r k args) i (instr op.Printf r d.0 0 (pos 0)) d.1 (prints r k args d.0 at d.2)
   act_follows stm.Enter at i d =
-      by_does stm.Enter i (to 0 op.Enter) d (enter_follows core code s (last_of stm.Enter) (code_length stm.Enter) (is_last stm.Enter at) empty numbers)
+      by_does stm.Enter i (to 0 op.Enter) d (enter_follows core code s (last_of stm.Enter) (code_length stm.Enter) (is_last stm.Enter at) numbers)
   act_follows stm.Leave at i d =
-      by_does stm.Leave i (to 0 op.Leave) d (leave_follows core code s (last_of stm.Leave) (code_length stm.Leave) (is_last stm.Leave at) empty numbers s.scopes)
+      by_does stm.Leave i (to 0 op.Leave) d (leave_follows core pins code compiled listed s func good.here order _ at (λ q. refl) (last_of stm.Leave) (code_length stm.Leave) (is_last stm.Leave at) (own stm.Leave at refl) numbers s.scopes)
   act_follows (stm.Return None) at i d =
       by_does (stm.Return None) i (to 0 op.Return) d (gives None at (number (pos 0)) refl)
   act_follows (stm.Return (Some a)) at i d =

@@ -1,6 +1,8 @@
 -- A function is entered in code as it is in its core.
-use Rattle.std.proofs.Common.{◌≡◌, ℕ, Bool, List, [], ◌∷◌, ◌++◌, map, drop, length, Some, refl, sym, ap, ◌∙◌, arith}
+use Rattle.std.proofs.Common.{◌≡◌, ℕ, ◌+◌, Bool, List, [], ◌∷◌, ◌++◌, map, drop, length, Some, refl, sym, ap, ◌∙◌, arith}
 use Rattle.std.specs.Prelude.{slice_get}
+use Rattle.std.specs.List.{enumerate_from}
+use Rattle.std.specs.Option.{option_map_or}
 use Rattle.std.proofs.lemmas.List.{drop-map, length-map}
 use Rattle.hs_base.specs.declared.values.Value.{Value}
 use Rattle.hs_base.specs.Cost.{call_cost}
@@ -13,22 +15,41 @@ use Rattle.core_tree.specs.declared.program.Reg.{Reg}
 use Rattle.flat_code.specs.declared.program.Code.{Code}
 use Rattle.flat_code.specs.declared.program.Entry.{Entry}
 use Rattle.object_meaning.specs.Values as core_values
+use Rattle.object_meaning.specs.Making as making
 use Rattle.object_meaning.specs.Calls as core_calls
+use Rattle.counted_meaning.specs.Pinning.{Pins}
 use Rattle.code_meaning.specs.Entering as entering
 use Rattle.compiled_code.specs.Compiled.{IsCompiled, IsEntry}
-use Rattle.compiled_meaning.specs.Freeless.{IsFreeless}
 use Rattle.compiled_meaning.proofs.Places.{place_at, place_is}
 use Rattle.compiled_meaning.proofs.Moved.{moved_frame}
-
-none_mapped : {A B : Type 0} (f : A → B) (xs : List A) → map f xs ≡ [] → xs ≡ []
-none_mapped f [] e = refl
-none_mapped f (x ∷ xs) e = absurd (cc)
 
 firsts : (regs : List Reg) → map entering.first_value (map (λ (r : Reg). r.pointer) regs) ≡ map core_values.first_value regs
 firsts [] = refl
 firsts (r ∷ regs) = ap (λ vs. core_values.first_value r ∷ vs) (firsts regs)
 
-module _ (core : Core) (code : Code) (compiled : IsCompiled core code) (freeless : IsFreeless core) (g : ℕ) (callee : Func) (here : slice_get core.funcs g ≡ Some callee) where
+abbrev layouts : List Mem → List Layout
+layouts mems = map (λ (m : Mem). m.layout) mems
+
+-- layouts by their numbers
+numbered : (code : Code) (numbers : List ℕ) (mems : List Mem) → map (slice_get code.layouts) numbers ≡ map (λ (m : Mem). Some m.layout) mems → map (entering.layout_in code) numbers ≡ layouts mems
+numbered code [] [] e = refl
+numbered code [] (m ∷ mems) e = absurd (cc)
+numbered code (n ∷ numbers) [] e = absurd (cc)
+numbered code (n ∷ numbers) (m ∷ mems) e =
+    let first : slice_get code.layouts n ≡ Some m.layout = cc in
+    let rest : map (slice_get code.layouts) numbers ≡ map (λ (m : Mem). Some m.layout) mems = cc in
+    ap (λ o. option_map_or (λ (l : Layout). l) o entering.no_layout ∷ map (entering.layout_in code) numbers) first
+    ∙ ap (λ ls. m.layout ∷ ls) (numbered code numbers mems rest)
+
+sizes : (mems : List Mem) → map (λ (l : Layout). l.size) (layouts mems) ≡ map (λ (m : Mem). m.layout.size) mems
+sizes [] = refl
+sizes (m ∷ mems) = ap (λ ns. m.layout.size ∷ ns) (sizes mems)
+
+objects : (g k : ℕ) (mems : List Mem) → map (entering.local_object g) (enumerate_from k (layouts mems)) ≡ map (making.local_object g) (enumerate_from k mems)
+objects g k [] = refl
+objects g k (m ∷ mems) = ap (λ os. making.local_object g (k, m) ∷ os) (objects g (k + 1) mems)
+
+module _ (core : Core) (pins : Pins) (code : Code) (compiled : IsCompiled core pins code) (g : ℕ) (callee : Func) (here : slice_get core.funcs g ≡ Some callee) where
   entry : Entry
   entry = (compiled.functions g callee here).0
 
@@ -40,15 +61,21 @@ module _ (core : Core) (code : Code) (compiled : IsCompiled core code) (freeless
   unfolding entry
   is_entry = (compiled.functions g callee here).2
 
-  pub core_locals : core_calls.locals_of (slice_get core.funcs g) ≡ []
-  core_locals = ap core_calls.locals_of here ∙ freeless.locals g callee here
+  -- the memory locals of a core, and their layouts in code
+  abbrev mems : List Mem
+  mems = core_calls.locals_of (slice_get core.funcs g)
 
-  no_mems : entry.mems ≡ []
-  no_mems =
-      none_mapped (slice_get code.layouts) entry.mems (is_entry.mems ∙ ap (λ (mems : List Mem). map (λ (m : Mem). Some m.layout) mems) (freeless.locals g callee here))
+  locals_same : entering.locals_of code (slice_get code.funcs g) ≡ layouts mems
+  locals_same =
+      ap (entering.locals_of code) found
+      ∙ numbered code entry.mems callee.mems is_entry.mems
+      ∙ ap (λ o. layouts (core_calls.locals_of o)) (sym here)
 
-  pub code_locals : entering.locals_of code (slice_get code.funcs g) ≡ []
-  code_locals = ap (entering.locals_of code) found ∙ ap (map (entering.layout_in code)) no_mems
+  pub objects_same : map (entering.local_object g) (enumerate_from 0 (entering.locals_of code (slice_get code.funcs g))) ≡ making.local_objects g mems
+  objects_same = ap (λ ls. map (entering.local_object g) (enumerate_from 0 ls)) locals_same ∙ objects g 0 mems
+
+  pub count_same : length (entering.locals_of code (slice_get code.funcs g)) ≡ length mems
+  count_same = ap (λ (ls : List Layout). length ls) locals_same ∙ length-map mems (λ (m : Mem). m.layout)
 
   kinds : entering.kinds_of (slice_get code.funcs g) ≡ map (λ (r : Reg). r.pointer) callee.regs
   kinds = ap entering.kinds_of found ∙ is_entry.kinds
@@ -76,5 +103,4 @@ module _ (core : Core) (code : Code) (compiled : IsCompiled core code) (freeless
   cost_same =
       let many : length (entering.kinds_of (slice_get code.funcs g)) ≡ length (core_calls.registers_of (slice_get core.funcs g)) = ap (λ (ks : List Bool). length ks) kinds ∙ length-map callee.regs (λ (r : Reg). r.pointer) ∙ ap (λ (regs : List Reg). length regs) (sym registers) in
       ap (λ n. call_cost n (map (λ (l : Layout). l.size) (entering.locals_of code (slice_get code.funcs g)))) many
-      ∙ ap (λ ls. call_cost (length (core_calls.registers_of (slice_get core.funcs g))) (map (λ (l : Layout). l.size) ls)) code_locals
-      ∙ ap (λ ms. call_cost (length (core_calls.registers_of (slice_get core.funcs g))) (map (λ (m : Mem). m.layout.size) ms)) (sym core_locals)
+      ∙ ap (call_cost (length (core_calls.registers_of (slice_get core.funcs g)))) (ap (map (λ (l : Layout). l.size)) locals_same ∙ sizes mems)

@@ -1,10 +1,14 @@
 pub mod Following
 pub mod Places
 pub mod Moved
+pub mod Sited
+pub mod Listing
 pub mod Handing
 pub mod Keeping
 pub mod Library
+pub mod Holders
 pub mod Scopes
+pub mod Freeing
 pub mod Entries
 pub mod Calling
 pub mod Returns

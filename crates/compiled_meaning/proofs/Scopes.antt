@@ -1,37 +1,76 @@
--- Scopes are opened and closed alike where nothing is queued.
-use Rattle.std.proofs.Common.{◌≡◌, ℕ, zero, suc, ◌+◌, Bool, List, [], ◌∷◌, Option, Some, None, refl}
-use Rattle.hs_base.specs.Freeing.{first_held, check_numbers}
+-- Scopes are opened and closed alike, and a check decides alike.
+use Rattle.std.proofs.Common.{◌≡◌, ℕ, zero, suc, ◌+◌, List, [], map, Option, Some, None, refl, sym, ap, subst}
+use Rattle.std.specs.Prelude.{slice_get, unwrap_or}
+use Rattle.hs_base.specs.declared.ends.Reason.TheVariants as reason
+use Rattle.hs_base.specs.declared.values.Value.{Value}
+use Rattle.hs_base.specs.Freeing.{check_numbers, line_of_free, buried}
+use Rattle.hs_base.specs.Object.{Object, object_at}
 use Rattle.hs_base.specs.State.{State}
+use Rattle.hs_base.specs.Trace.{Event, BadFree}
 use Rattle.core_tree.specs.declared.program.Core.{Core}
+use Rattle.core_tree.specs.declared.program.Func.{Func}
+use Rattle.core_tree.specs.declared.statements.Stm.{Stm}
 use Rattle.flat_code.specs.declared.program.Code.{Code}
+use Rattle.flat_code.specs.Sites.{site_of}
+use Rattle.object_meaning.specs.Holding.{first_of}
 use Rattle.object_meaning.specs.Scoping as scoping
-use Rattle.object_meaning.specs.Scoping.{bury, is_held}
-use Rattle.code_meaning.specs.Counting.{more, pinned}
+use Rattle.object_meaning.specs.Scoping.{bury}
+use Rattle.counted_meaning.specs.Pinning.{Pins, pins_of, pointer_of_register, holds_on, counts_at}
+use Rattle.counted_meaning.specs.CountedState as counted
+use Rattle.counted_meaning.specs.Counting.{more, without_those_inside}
+use Rattle.counted_meaning.specs.Checking as counted_checking
 use Rattle.code_meaning.specs.Checking as checking
+use Rattle.compiled_code.specs.Compiled.{IsCompiled}
+use Rattle.counts_are_holders.proofs.Pins.{HasSorts}
+use Rattle.counts_are_holders.proofs.Sorting.{InOrder}
+use Rattle.counts_are_holders.proofs.Listed.{AreListed}
 use Rattle.compiled_meaning.proofs.Moved.{moved_same}
-use Rattle.compiled_meaning.proofs.Keeping.{Follows, IsLast, acting, arrives}
+use Rattle.compiled_meaning.proofs.Keeping.{Alike, Follows, IsLast, acting, arrives}
+use Rattle.compiled_meaning.proofs.Holders.{holders_same}
 
-none_held : (held : ℕ → Bool) (queue : List ℕ) → queue ≡ [] → first_held held queue ≡ None
-none_held held [] e = refl
-none_held held (birth ∷ queue) e = absurd (cc)
+-- a scope is opened
+pub enter_follows : (core : Core) (code : Code) (s : State) (q j : ℕ) (last : IsLast core code s q j) (numbers : ℕ → ℕ) → Follows core code s j (counted.same_numbers numbers (scoping.enter s)) (checking.enter numbers (acting core code s q j last s))
+enter_follows core code s q j last numbers =
+    (refl, refl, arrives core code s q j last (record s { scopes = s.scopes + 1 }) (record { func = refl; point = refl; waiting = refl; steps = refl }), refl)
 
-module _ (core : Core) (code : Code) (s : State) (q j : ℕ) (last : IsLast core code s q j) (empty : s.queue ≡ []) (numbers : ℕ → ℕ) where
-  abbrev there : State
-  there = acting core code s q j last empty s
+module _ (core : Core) (pins : Pins) (code : Code) (compiled : IsCompiled core pins code) (listed : AreListed core pins) (s : State) (func : Func) (here : slice_get core.funcs s.running.func ≡ Some func) (order : InOrder core s) (stm : Stm) (at : slice_get func.body s.running.point ≡ Some stm) (all : (r : ℕ) → counts_at func s.running.point stm.kind r ≡ holds_on func s.running.point r) (q j : ℕ) (last : IsLast core code s q j) (own : unwrap_or (site_of code.sites q) [] ≡ pins_of pins s.running.func s.running.point) where
+  abbrev there : State → State
+  there t = acting core code s q j last t
 
-  pub enter_follows : Follows core code s j (scoping.enter s) (checking.enter numbers there)
-  enter_follows =
-      (refl, refl, arrives core code s q j last empty (record s { scopes = s.scopes + 1 }) (record { func = refl; point = refl; waiting = refl; steps = refl; queue = empty }))
+  -- the state at a check: a statement may have changed the objects, a register, the queue and the scopes
+  abbrev changed : List Object → List Value → List ℕ → ℕ → State
+  changed objects regs queue scopes =
+      record s { objects = objects; running = record s.running { regs = regs }; queue = queue; scopes = scopes }
 
-  decided_follows : (one other : Option ℕ) → one ≡ None → other ≡ None → Follows core code s j (scoping.decided core one s [] s) (checking.decided code other there [] numbers there)
-  decided_follows None None e f =
-      (refl, refl, arrives core code s q j last empty (bury s) (record { func = refl; point = refl; waiting = refl; steps = refl; queue = refl }))
-  decided_follows (Some b) other e f = absurd (cc)
-  decided_follows None (Some b) e f = absurd (cc)
+  changed_alike : (objects : List Object) (regs : List Value) (queue : List ℕ) (scopes : ℕ) → Alike s (changed objects regs queue scopes)
+  changed_alike objects regs queue scopes = record { func = refl; point = refl; waiting = refl; steps = refl }
 
-  pub leave_follows : (scopes : ℕ) → Follows core code s j (scoping.leave core scopes s) (checking.leave code scopes numbers there)
-  leave_follows zero = (refl, refl, moved_same core s q)
-  leave_follows (suc zero) =
-      decided_follows (first_held (is_held core s) s.queue) (check_numbers there.objects there.queue (more numbers (pinned code there.running))) (none_held _ s.queue empty) (none_held _ s.queue empty)
-  leave_follows (suc (suc n)) =
-      (refl, refl, arrives core code s q j last empty (record s { scopes = suc n }) (record { func = refl; point = refl; waiting = refl; steps = refl; queue = empty }))
+  module _ (objects : List Object) (regs : List Value) (sorts : HasSorts func regs) (queue : List ℕ) (first numbers : ℕ → ℕ) (b c : State) (events : List Event) where
+    -- it gives the queued objects back, or names the first holder of one that is held
+    decided_follows : (scopes : ℕ) (o : Option ℕ) → (let t = changed objects regs queue scopes in Follows core code s j (counted.numbered first (λ _ after. without_those_inside objects queue numbers) numbers (scoping.decided core o b events t)) (checking.decided code o first c events numbers (there t)))
+    decided_follows scopes None =
+        (refl, refl, arrives core code s q j last (bury (changed objects regs queue scopes)) (changed_alike (buried objects) regs [] 0), refl)
+    decided_follows scopes (Some birth) =
+        let holders = holders_same core pins code compiled birth listed s func here order stm at all q own objects regs sorts queue in
+        (refl, ap (λ hs. BadFree reason.Held (line_of_free (object_at objects birth).standing) (first_of hs)) holders, moved_same core (changed objects regs queue scopes) q, refl)
+
+    -- the check, with the same pins
+    pub checked_follows : (scopes : ℕ) → (let t = changed objects regs queue scopes in Follows core code s j (counted_checking.checked core pins first b events numbers t) (checking.checked code first c events numbers (there t)))
+    checked_follows scopes =
+        let t = changed objects regs queue scopes in
+        let decide : List ℕ → Option ℕ = λ registers. check_numbers objects queue (more numbers (map (pointer_of_register t.running) registers)) in
+        subst (λ o. Follows core code s j (counted_checking.checked core pins first b events numbers t) (checking.decided code o first c events numbers (there t))) (sym (ap decide own)) (decided_follows scopes (decide (pins_of pins s.running.func s.running.point)))
+
+    -- a free goes on, or has a scope of its own
+    pub in_scope_follows : (n scopes : ℕ) → (let t = changed objects regs queue scopes in Follows core code s j (counted_checking.in_scope core pins n first b events numbers t) (checking.in_scope code n first c events numbers (there t)))
+    in_scope_follows zero scopes = checked_follows 1
+    in_scope_follows (suc n) scopes =
+        (refl, refl, arrives core code s q j last (changed objects regs queue scopes) (changed_alike objects regs queue scopes), refl)
+
+  -- a scope is closed
+  pub leave_follows : (numbers : ℕ → ℕ) (n : ℕ) → Follows core code s j (counted_checking.leave core pins n numbers s) (checking.leave code n numbers (there s))
+  leave_follows numbers zero = (refl, refl, moved_same core s q, refl)
+  leave_follows numbers (suc zero) =
+      checked_follows s.objects s.running.regs (order.sorts func here) s.queue numbers numbers s (there s) [] s.scopes
+  leave_follows numbers (suc (suc n)) =
+      (refl, refl, arrives core code s q j last (record s { scopes = suc n }) (record { func = refl; point = refl; waiting = refl; steps = refl }), refl)

@@ -17,6 +17,7 @@ use Rattle.flat_code.specs.declared.program.Code.{Code}
 use Rattle.flat_code.specs.declared.program.StaticInit.{StaticInit}
 use Rattle.object_meaning.specs.Making as making
 use Rattle.object_meaning.specs.Making.{first_pointer}
+use Rattle.counted_meaning.specs.Pinning.{Pins}
 use Rattle.code_meaning.specs.CodeMeaning as code_meaning
 use Rattle.code_meaning.specs.Entering.{layout_in, no_layout}
 use Rattle.compiled_code.specs.Compiled.{IsCompiled, IsTrimmed, IsStatic}
@@ -74,8 +75,8 @@ module _ (code : Code) where
       ∙ ap (λ o. o ∷ map (code_meaning.static_object code) (enumerate_from (n + 1) inits)) first.2
       ∙ ap (λ os. making.static_object (n, static) ∷ os) (all_same statics inits (n + 1) (omega (arith, e)) (λ k. h (suc k)))
 
-  pub statics_same : (core : Core) → IsSound core → IsCompiled core code → code_meaning.static_objects code ≡ making.static_objects core.statics
-  statics_same core sound compiled =
+  pub statics_same : (core : Core) (pins : Pins) → IsSound core → IsCompiled core pins code → code_meaning.static_objects code ≡ making.static_objects core.statics
+  statics_same core pins sound compiled =
       all_same core.statics code.statics 0 compiled.few_statics (λ k n static at. let init = compiled.statics k static at in
       let lt = slice_get_within core.statics k static at in
       let is = subst (core_sound.IsStatic core) (get_or_from_slice_get core.statics k static static at) (sound.statics k static lt) in

@@ -24,12 +24,20 @@ use Rattle.object_meaning.specs.Going as going
 use Rattle.object_meaning.specs.Going.{at_point}
 use Rattle.object_meaning.specs.Holding.{statement_in, statement_at}
 use Rattle.object_meaning.specs.Meaning as meaning
-use Rattle.object_meaning.specs.Meaning.{unless_reads_stale}
 use Rattle.object_meaning.proofs.Lively.{needed}
 use Rattle.object_meaning.proofs.Frames.{Holds, Good}
 use Rattle.object_meaning.proofs.Standing.{Stays}
 use Rattle.object_meaning.proofs.Operands.{operands_fresh}
 use Rattle.object_meaning.proofs.Acting.{step_stays_at, found}
+use Rattle.counted_meaning.specs.Pinning.{Pins, AreExact}
+use Rattle.counted_meaning.specs.CountedState as counted
+use Rattle.counted_meaning.specs.CountedState.{CountedState}
+use Rattle.counted_meaning.specs.CountedMeaning as counted_meaning
+use Rattle.counts_are_holders.specs.Counts.{AreCounts}
+use Rattle.counts_are_holders.proofs.Sorting.{InOrder}
+use Rattle.counts_are_holders.proofs.Agreeing.{Agrees}
+use Rattle.counts_are_holders.proofs.Acting.{step_agrees}
+use Rattle.counts_are_holders.proofs.Listed.{AreListed}
 use Rattle.code_meaning.specs.CodeState.{CodeState, Next}
 use Rattle.code_meaning.specs.CodeMeaning as code_meaning
 use Rattle.code_meaning.specs.CodeMeaning.{enough, handed_value, hand_or_act}
@@ -37,7 +45,6 @@ use Rattle.compiled_code.specs.Handing.{handed_atoms, code_length}
 use Rattle.compiled_code.specs.Places.{place_of}
 use Rattle.compiled_code.specs.Compiled.{IsCompiled, IsStatement}
 use Rattle.compiled_code.specs.Doing.{Does}
-use Rattle.compiled_meaning.specs.Freeless.{IsFreeless}
 use Rattle.compiled_meaning.specs.SameRun.{SameState}
 use Rattle.compiled_meaning.proofs.Following as following
 use Rattle.compiled_meaning.proofs.Following.{Tied}
@@ -77,26 +84,46 @@ takes core code f func frame (stm.Return None) i d = ap (λ (k : Instr). handed_
 takes core code f func frame (stm.Return (Some a)) i d = ap (λ (k : Instr). handed_value frame k k.op) d
 takes core code f func frame kind i d = ap (λ (k : Instr). handed_value frame k k.op) d
 
-module _ (core : Core) (code : Code) where
-  -- the code is where a core is in a good state with nothing queued
-  abbrev pub Stands : State → CodeState → Type 0
-  Stands s c = Good core s × (s.queue ≡ []) × (c.state ≡ moved core s) × (c.handed ≡ [])
+-- Good states
 
-  abbrev pub Ends : State → CodeState → Type 0
-  Ends s c = SameState s c.state
+module _ (core : Core) (pins : Pins) where
+  -- a good state of the core, in order, with numbers that count
+  abbrev pub Counts : CountedState → Type 0
+  Counts a = Good core a.state × InOrder core a.state × AreCounts pins a
+
+  -- what a statement leads to
+  abbrev pub Keeps : counted.Next → Type 0
+  Keeps (runs.Goes b es t) = Counts t
+  Keeps (runs.Stops b es t e) = Unit {0}
+
+  pub keeps_from : (n : going.Next) (m : counted.Next) → Stays core n → Agrees core pins n m → Keeps m
+  keeps_from (runs.Goes b es t) (runs.Goes c fs u) stays h =
+      (subst (Good core) (sym h.2.state) stays, subst (InOrder core) (sym h.2.state) h.3, h.2.counts)
+  keeps_from (runs.Stops b es t e) (runs.Stops c fs u d) stays h = tt
+  keeps_from (runs.Goes b es t) (runs.Stops c fs u d) stays h = absurd h
+  keeps_from (runs.Stops b es t e) (runs.Goes c fs u) stays h = absurd h
+
+module _ (core : Core) (pins : Pins) (code : Code) where
+  -- the code is where a core is in a good state, with its numbers
+  abbrev pub Stands : CountedState → CodeState → Type 0
+  Stands a c =
+      Counts core pins a × (c.state ≡ moved core a.state) × (c.handed ≡ []) × (c.numbers ≡ a.numbers)
+
+  abbrev pub Ends : CountedState → CodeState → Type 0
+  Ends a c = SameState a.state c.state × (c.numbers ≡ a.numbers)
 
   abbrev pub left : CodeState → ℕ
   left c = enough code c.state
 
-  pub tied : (s : State) (j : ℕ) (trace : List Event) (m : going.Next) (n : Next) → Stays core m → Follows core code s j m n → j ≤ enough code (moved core s) → Tied Stands Ends left (enough code (moved core s)) j (runs.led trace m) (runs.led trace n)
+  tied : (s : State) (j : ℕ) (trace : List Event) (m : counted.Next) (n : Next) → Keeps core pins m → Follows core code s j m n → j ≤ enough code (moved core s) → Tied Stands Ends left (enough code (moved core s)) j (runs.led trace m) (runs.led trace n)
   tied s j trace (runs.Goes b es t) (runs.Goes c fs u) good f le =
-      (ap (λ es. trace ++ es) f.0, (refl, (good, f.2.queue, f.2.same, f.1), omega (arith, ap (enough code) f.2.same, f.2.left)))
+      (ap (λ es. trace ++ es) f.0, (refl, (good, f.2.same, f.1, f.3), omega (arith, ap (enough code) f.2.same, f.2.left)))
   tied s j trace (runs.Stops b es t e) (runs.Stops c fs u d) good f le =
-      (ap (λ es. trace ++ es) f.0, (ap (λ e. Some e) f.1, f.2, le))
+      (ap (λ es. trace ++ es) f.0, (ap (λ e. Some e) f.1, (f.2, f.3), le))
   tied s j trace (runs.Goes b es t) (runs.Stops c fs u d) good f le = absurd f
   tied s j trace (runs.Stops b es t e) (runs.Goes c fs u) good f le = absurd f
 
-module _ (core : Core) (code : Code) (sound : IsSound core) (freeless : IsFreeless core) (compiled : IsCompiled core code) (s : State) (empty : s.queue ≡ []) (func : Func) (good : Holds core func needed s.scopes s) (numbers : ℕ → ℕ) (line : ℕ) (kind : StmKind) (at : slice_get func.body s.running.point ≡ Some (record { line = line; kind = kind })) where
+module _ (core : Core) (pins : Pins) (code : Code) (sound : IsSound core) (exact : AreExact core pins) (listed : AreListed core pins) (compiled : IsCompiled core pins code) (s : State) (func : Func) (good : Holds core func needed s.scopes s) (order : InOrder core s) (numbers : ℕ → ℕ) (counts : AreCounts pins (counted.kept numbers s)) (line : ℕ) (kind : StmKind) (at : slice_get func.body s.running.point ≡ Some (record { line = line; kind = kind })) where
   abbrev stm_at : Stm
   stm_at = record { line = line; kind = kind }
 
@@ -142,27 +169,30 @@ module _ (core : Core) (code : Code) (sound : IsSound core) (freeless : IsFreele
       ∙ ap (λ q. runs.moved (code_meaning.step code) q q.ended) (handed trace)
       ∙ ap (runs.led trace) (acted trace)
 
-  core_acts : (trace : List Event) → meaning.step core trace s ≡ meaning.act core line kind s
+  core_acts : (trace : List Event) → counted_meaning.step core pins trace (counted.kept numbers s) ≡ counted_meaning.act core pins line kind numbers s
   core_acts trace =
       let there : statement_at core s.running ≡ Some stm_at = ap (λ o. statement_in o s.running.point) good.here ∙ at in
-      ap (λ o. meaning.act_at core o s) there ∙ ap (λ b. unless_reads_stale b core stm_at s) fresh
+      ap (λ o. counted_meaning.act_at core pins o (counted.kept numbers s)) there
+      ∙ ap (λ b. counted_meaning.unless_reads_stale b core pins stm_at (counted.kept numbers s)) fresh
 
-  pub statement_follows : (trace : List Event) → Tied (Stands core code) (Ends core code) (left core code) (enough code (moved core s)) (code_length kind) (runs.led trace (meaning.step core trace s)) (runs.after (code_meaning.step code) (following.going trace (holding code (moved core s) numbers place [])) (code_length kind))
+  pub statement_follows : (trace : List Event) → Tied (Stands core pins code) (Ends core pins code) (left core pins code) (enough code (moved core s)) (code_length kind) (runs.led trace (counted_meaning.step core pins trace (counted.kept numbers s))) (runs.after (code_meaning.step code) (following.going trace (holding code (moved core s) numbers place [])) (code_length kind))
   statement_follows trace =
-      let stays = subst (Stays core) (core_acts trace) (step_stays_at core sound trace s (func, good)) in
-      let last = is_last core code sound freeless compiled s empty func good line numbers kind at in
-      let follows = act_follows core code sound freeless compiled s empty func good line numbers kind at is_statement.does.0 is_statement.does.2 in
-      let both = tied core code s (code_length kind) trace _ _ stays follows (omega (arith, last.here, last.within)) in
-      subst (λ n. Tied (Stands core code) (Ends core code) (left core code) (enough code (moved core s)) (code_length kind) (runs.led trace n) (runs.after (code_meaning.step code) (following.going trace (holding code (moved core s) numbers place [])) (code_length kind))) (sym (core_acts trace)) (subst (λ (r : code_meaning.Run). Tied (Stands core code) (Ends core code) (left core code) (enough code (moved core s)) (code_length kind) (runs.led trace (meaning.act core line kind s)) r) (sym (made trace)) both)
+      let agrees = step_agrees core sound pins exact trace s (func, good) order numbers counts in
+      let keeps = subst (Keeps core pins) (core_acts trace) (keeps_from core pins (meaning.step core trace s) (counted_meaning.step core pins trace (counted.kept numbers s)) (step_stays_at core sound trace s (func, good)) agrees) in
+      let last = is_last core pins code sound listed compiled s func good order line numbers kind at in
+      let follows = act_follows core pins code sound listed compiled s func good order line numbers kind at is_statement.does.0 is_statement.does.2 in
+      let both = tied core pins code s (code_length kind) trace _ _ keeps follows (omega (arith, last.here, last.within)) in
+      subst (λ n. Tied (Stands core pins code) (Ends core pins code) (left core pins code) (enough code (moved core s)) (code_length kind) (runs.led trace n) (runs.after (code_meaning.step code) (following.going trace (holding code (moved core s) numbers place [])) (code_length kind))) (sym (core_acts trace)) (subst (λ (r : code_meaning.Run). Tied (Stands core pins code) (Ends core pins code) (left core pins code) (enough code (moved core s)) (code_length kind) (runs.led trace (counted_meaning.act core pins line kind numbers s)) r) (sym (made trace)) both)
 
-module _ (core : Core) (code : Code) (sound : IsSound core) (freeless : IsFreeless core) (compiled : IsCompiled core code) where
+module _ (core : Core) (pins : Pins) (code : Code) (sound : IsSound core) (exact : AreExact core pins) (listed : AreListed core pins) (compiled : IsCompiled core pins code) where
   -- each statement is followed by its instructions
-  pub one_follows : (trace : List Event) (s : State) (c : CodeState) → Stands core code s c → (j : ℕ) × Tied (Stands core code) (Ends core code) (left core code) (enough code c.state) j (runs.led trace (meaning.step core trace s)) (runs.after (code_meaning.step code) (following.going trace c) j)
-  one_follows trace s c h =
-      let func = h.0.0 in
-      let good = h.0.1 in
+  pub one_follows : (trace : List Event) (a : CountedState) (c : CodeState) → Stands core pins code a c → (j : ℕ) × Tied (Stands core pins code) (Ends core pins code) (left core pins code) (enough code c.state) j (runs.led trace (counted_meaning.step core pins trace a)) (runs.after (code_meaning.step code) (following.going trace c) j)
+  one_follows trace a c h =
+      let s = a.state in
+      let func = h.0.0.0 in
+      let good = h.0.0.1 in
       let at = found func.body s.running.point good.inside in
-      let begun : CodeState = record { state = moved core s; handed = []; numbers = c.numbers } in
-      let same : c ≡ begun = ap (λ (t : State). let d : CodeState = record { state = t; handed = c.handed; numbers = c.numbers } in d) h.2 ∙ ap (λ (vs : List Value). let d : CodeState = record { state = moved core s; handed = vs; numbers = c.numbers } in d) h.3 in
-      let follows = statement_follows core code sound freeless compiled s h.1 func good c.numbers at.0.line at.0.kind at.1 trace in
-      (code_length at.0.kind, subst (λ (d : CodeState). Tied (Stands core code) (Ends core code) (left core code) (enough code d.state) (code_length at.0.kind) (runs.led trace (meaning.step core trace s)) (runs.after (code_meaning.step code) (following.going trace d) (code_length at.0.kind))) (sym same) follows)
+      let begun : CodeState = record { state = moved core s; handed = []; numbers = a.numbers } in
+      let same : c ≡ begun = ap (λ (t : State). let d : CodeState = record { state = t; handed = c.handed; numbers = c.numbers } in d) h.1 ∙ ap (λ (vs : List Value). let d : CodeState = record { state = moved core s; handed = vs; numbers = c.numbers } in d) h.2 ∙ ap (λ (n : ℕ → ℕ). let d : CodeState = record { state = moved core s; handed = []; numbers = n } in d) h.3 in
+      let follows = statement_follows core pins code sound exact listed compiled s func good h.0.1 a.numbers h.0.2 at.0.line at.0.kind at.1 trace in
+      (code_length at.0.kind, subst (λ (d : CodeState). Tied (Stands core pins code) (Ends core pins code) (left core pins code) (enough code d.state) (code_length at.0.kind) (runs.led trace (counted_meaning.step core pins trace a)) (runs.after (code_meaning.step code) (following.going trace d) (code_length at.0.kind))) (sym same) follows)

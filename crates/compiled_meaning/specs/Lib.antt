@@ -1,3 +1,2 @@
-pub mod Freeless
 pub mod SameRun
 pub mod Laws

@@ -1,7 +1,7 @@
 -- When two runs are the same but for the points that their frames are at.
-use Rattle.std.specs.Prelude.{◌≡◌, List, [], ◌∷◌}
+use Rattle.std.specs.Prelude.{◌≡◌, ℕ, List, [], ◌∷◌}
 use Rattle.hs_base.specs.State.{Frame, State}
-use Rattle.object_meaning.specs.Meaning as core
+use Rattle.counted_meaning.specs.CountedMeaning as core
 use Rattle.code_meaning.specs.CodeMeaning as code
 
 -- two frames of the same call: their points may differ
@@ -26,8 +26,9 @@ pub record SameState (one other : State) : Type 0 where
   pub input : one.input ≡ other.input
   pub steps : one.steps ≡ other.steps
 
--- a run of a core and one of a code; what a code's state has beside the state of the meaning is not compared
+-- a run of a core by numbers and one of a code; what a code has handed over is not compared
 pub record SameRun (of_core : core.Run) (of_code : code.Run) : Type 0 where
   pub trace : of_core.trace ≡ of_code.trace
   pub ended : of_core.ended ≡ of_code.ended
-  pub state : SameState of_core.state of_code.state.state
+  pub state : SameState of_core.state.state of_code.state.state
+  pub numbers : (birth : ℕ) → of_core.state.numbers birth ≡ of_code.state.numbers birth

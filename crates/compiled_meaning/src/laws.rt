@@ -2,8 +2,9 @@
 
 ghost use Rattle.compiled_meaning.specs.Laws.{CodeMeansCore};
 
-/// The run of the code of a sound core that frees nothing is that of the core, for every input and number of steps: the same
-/// trace, the same end, and the same last state but for the points that its frames are at.
+/// The run of the code of a sound core with exact pins, which ascend at each point, is the run of the core by numbers, for every
+/// input and number of steps: the same trace, the same end, the same number for each object, and the same last state but for
+/// the points that its frames are at.
 pub fn code_means_core()
     ensures { CodeMeansCore }
 {}

@@ -102,7 +102,7 @@ both_tests true false false h = refl
 both_tests false true false h = refl
 both_tests false false false h = refl
 
-holder_within : (func : Func) (r : ℕ) → holds_pointer func r ≡ true → r < length func.regs
+pub holder_within : (func : Func) (r : ℕ) → holds_pointer func r ≡ true → r < length func.regs
 holder_within func r h = by_option (slice_get func.regs r) refl h where
   by_option : (o : Option Register) → slice_get func.regs r ≡ o → option_map_or (λ (reg : Register). reg.pointer) o false ≡ true → r < length func.regs
   by_option None e h = absurd (true≢false (sym h))

@@ -53,7 +53,7 @@ module _ (core : Core) (pins : Pins) where
       let start_counts = λ (x : ℕ). let statics = statics_living x (enumerate_from 0 core.statics) in let e : counted.first_numbers (static_objects core.statics) x ≡ inside_living x (static_objects core.statics) + 0 = omega (arith, statics) in e in
       (start_counts, λ x. omega (arith, start_counts x, locals_living (static_objects core.statics) (main_of core) x (locals_of (slice_get core.funcs (main_of core)))), record { sorts = main_sorts; calls = tt; once = tt })
 
-  first_agrees : (input : List ℕ) (n : ℕ) → Agrees core pins (object.first_call core input n) (counted.first_call core input n)
+  pub first_agrees : (input : List ℕ) (n : ℕ) → Agrees core pins (object.first_call core input n) (counted.first_call core input n)
   first_agrees input n =
       let numbers = counted.first_numbers (static_objects core.statics) in
       alters_agree core pins numbers (λ before after. numbers) numbers (object.first_call core input n) (first_alters input n)

@@ -1,0 +1,71 @@
+-- Objects are freed and grown in code as in the core.
+use Rattle.std.proofs.Common.{◌≡◌, ℕ, List, [], ◌∷◌, ◌++◌, length, set, Some, Result, Ok, Err, refl}
+use Rattle.std.specs.Prelude.{slice_get, unwrap_or}
+use Rattle.hs_base.specs.declared.ends.Reason.{Reason}
+use Rattle.hs_base.specs.declared.values.Pointer.{Pointer}
+use Rattle.hs_base.specs.declared.values.Pointer.TheVariants as pointer
+use Rattle.hs_base.specs.declared.values.Value.{Value}
+use Rattle.hs_base.specs.Access.{Refusal}
+use Rattle.hs_base.specs.Freeing.{freed_at, queued}
+use Rattle.hs_base.specs.Object.{Object}
+use Rattle.hs_base.specs.State.{State}
+use Rattle.c_types.specs.declared.layouts.Layout.{Layout}
+use Rattle.core_tree.specs.declared.program.Core.{Core}
+use Rattle.core_tree.specs.declared.program.Func.{Func}
+use Rattle.core_tree.specs.declared.statements.Stm.{Stm}
+use Rattle.flat_code.specs.declared.program.Code.{Code}
+use Rattle.flat_code.specs.Sites.{site_of}
+use Rattle.object_meaning.specs.Values.{address, start_of}
+use Rattle.object_meaning.specs.Going.{with_objects}
+use Rattle.object_meaning.specs.Making.{with_new}
+use Rattle.object_meaning.specs.Heap.{birth_of, make}
+use Rattle.counted_meaning.specs.Pinning.{Pins, pins_of, holds_on, counts_at}
+use Rattle.counted_meaning.specs.Counting.{renumbered}
+use Rattle.counted_meaning.specs.Freeing as counted
+use Rattle.code_meaning.specs.Freeing as freeing
+use Rattle.compiled_code.specs.Compiled.{IsCompiled}
+use Rattle.counts_are_holders.proofs.Pins.{HasSorts}
+use Rattle.counts_are_holders.proofs.Sorting.{FitsIn, InOrder, set_sorts}
+use Rattle.counts_are_holders.proofs.Listed.{AreListed}
+use Rattle.compiled_meaning.proofs.Moved.{moved_same}
+use Rattle.compiled_meaning.proofs.Keeping.{Follows, with_same, IsLast, acting, alike, arrives}
+use Rattle.compiled_meaning.proofs.Library.{make_both}
+use Rattle.compiled_meaning.proofs.Scopes.{in_scope_follows}
+
+module _ (core : Core) (pins : Pins) (code : Code) (compiled : IsCompiled core pins code) (listed : AreListed core pins) (s : State) (func : Func) (here : slice_get core.funcs s.running.func ≡ Some func) (order : InOrder core s) (stm : Stm) (at : slice_get func.body s.running.point ≡ Some stm) (all : (r : ℕ) → counts_at func s.running.point stm.kind r ≡ holds_on func s.running.point r) (q j : ℕ) (last : IsLast core code s q j) (own : unwrap_or (site_of code.sites q) [] ≡ pins_of pins s.running.func s.running.point) (line : ℕ) (numbers : ℕ → ℕ) where
+  abbrev there : State
+  there = acting core code s q j last s
+
+  sorts : HasSorts func s.running.regs
+  sorts = order.sorts func here
+
+  -- Frees
+
+  named_follows : (result : Result ℕ Reason) → Follows core code s j (counted.free_named core pins line result numbers s) (freeing.free_named code line result numbers there)
+  named_follows (Ok birth) =
+      in_scope_follows core pins code compiled listed s func here order stm at all q j last own (queued s.objects birth line) s.running.regs sorts (s.queue ++ birth ∷ []) numbers numbers s there [] s.scopes s.scopes
+  named_follows (Err reason) = (refl, refl, moved_same core s q, refl)
+
+  pub free_follows : (p : Pointer) → Follows core code s j (counted.free core pins line p numbers s) (freeing.free code line p numbers there)
+  free_follows pointer.Null = (refl, refl, arrives core code s q j last s (alike core code s q j last), refl)
+  free_follows (pointer.At birth offset) = named_follows (freed_at s.objects birth offset)
+
+  -- Growing
+
+  module _ (r : ℕ) (fits : (v : Value) → FitsIn func (Some r) v) (n : ℕ) (element : Layout) where
+    grown_follows : (old : ℕ) (result : Result (List Object) Refusal) → Follows core code s j (counted.grown core pins line r n old s numbers (with_new line n element s) result) (freeing.grown code line r n old there numbers (with_new line n element there) result)
+    grown_follows old (Ok objects) =
+        let made = with_new line n element s in
+        let new = length s.objects in
+        let v = address (start_of new) in
+        in_scope_follows core pins code compiled listed s func here order stm at all q j last own (queued objects old line) (set s.running.regs r v) (set_sorts func s.running.regs sorts r v (fits v)) (s.queue ++ old ∷ []) numbers (renumbered new numbers made (with_objects made objects)) s there (birth_of line n s) s.scopes s.scopes
+    grown_follows old (Err e) = (refl, refl, moved_same core (with_new line n element s) q, refl)
+
+    grow_named_follows : (result : Result ℕ Reason) → Follows core code s j (counted.grow_named core pins line r result n element numbers s) (freeing.grow_named code line r result n element numbers there)
+    grow_named_follows (Ok old) = grown_follows old _
+    grow_named_follows (Err reason) = (refl, refl, moved_same core s q, refl)
+
+    pub grow_follows : (p : Pointer) → Follows core code s j (counted.grow core pins line r p n element numbers s) (freeing.grow code line r p n element numbers there)
+    grow_follows pointer.Null =
+        with_same core code s j (make line r n element s) (make line r n element there) numbers (make_both core code s q j last line r n element)
+    grow_follows (pointer.At birth offset) = grow_named_follows (freed_at s.objects birth offset)
