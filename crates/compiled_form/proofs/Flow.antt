@@ -15,6 +15,7 @@ use Rattle.flat_code.specs.declared.program.Code.{Code}
 use Rattle.flat_code.specs.declared.program.Entry.{Entry}
 use Rattle.flat_code.specs.Table.{hands, edges, scopes_after}
 use Rattle.flat_code.specs.WellFormed.{LeadsOn, ClosesWhatIsOpen, StartsAfresh, handed_before, end_of}
+use Rattle.counted_meaning.specs.Pinning.{Pins}
 use Rattle.compiled_code.specs.Handing.{hand_of}
 use Rattle.compiled_code.specs.Compiled.{IsCompiled}
 use Rattle.compiled_form.proofs.Doing.{doing, does_not_hand, same_edges}
@@ -65,7 +66,7 @@ leads_on place (stm.Return (Some a)) n point at e later h = All-nil (λ next. at
 leads_on place kind n point at e later h =
     leads (λ next. at < next) place kind n point at e (All-weaker (λ next. point < next) (λ next. at < place next) later (statements.edges kind point) h)
 
-module _ (core : Core) (code : Code) (sound : IsSound core) (is : IsCompiled core code) (s : Spot core code is) where
+module _ (core : Core) {pins : Pins} (code : Code) (sound : IsSound core) (is : IsCompiled core pins code) (s : Spot core code is) where
   pub next_start : places core code is s (s.point + 1) ≡ last core code is s + 1
   next_start = place_more core s.f s.func s.here s.point s.stm s.found
 

@@ -16,6 +16,7 @@ use Rattle.flat_code.specs.declared.instructions.Op.TheVariants as op
 use Rattle.flat_code.specs.declared.program.Code.{Code}
 use Rattle.flat_code.specs.declared.program.Entry.{Entry}
 use Rattle.flat_code.specs.WellFormed.{EachEntry, EachAnswer, IsFunction, IsStart, handed_before}
+use Rattle.counted_meaning.specs.Pinning.{Pins}
 use Rattle.compiled_code.specs.Handing.{instr}
 use Rattle.compiled_code.specs.Compiled.{IsCompiled}
 use Rattle.compiled_form.proofs.Handed.{fresh_start}
@@ -49,7 +50,7 @@ layouts_there layouts (n ∷ ns) (mem ∷ mems) h =
     let first : slice_get layouts n ≡ Some mem.layout = cc in
     All-cons (λ n. IsSome (slice_get layouts n)) n ns (is_there (slice_get layouts n) mem.layout first) (layouts_there layouts ns mems (cc))
 
-module _ (core : Core) (code : Code) (sound : IsSound core) (is : IsCompiled core code) where
+module _ (core : Core) {pins : Pins} (code : Code) (sound : IsSound core) (is : IsCompiled core pins code) where
   pub functions : EachEntry code (IsFunction code)
   functions f entry listed =
       let o = owner core code is f entry listed in

@@ -14,6 +14,7 @@ use Rattle.flat_code.specs.declared.program.Code.{Code}
 use Rattle.flat_code.specs.declared.program.Entry.{Entry}
 use Rattle.flat_code.specs.Table.{hands, handed_sort}
 use Rattle.flat_code.specs.WellFormed.{with_handed, handed_before}
+use Rattle.counted_meaning.specs.Pinning.{Pins}
 use Rattle.compiled_code.specs.Handing.{hand_of, handed_atoms}
 use Rattle.compiled_code.specs.Places.{first_of}
 use Rattle.compiled_code.specs.Compiled.{IsCompiled, IsEntry}
@@ -27,7 +28,7 @@ one_more_handed code entry n i h t = rw (add-one, h, with_handed, t) refl
 pub none_handed : (code : Code) (entry : Entry) (n : ℕ) (i : Instr) → slice_get code.instrs n ≡ Some i → hands i.op ≡ false → handed_before code entry (n + 1) ≡ []
 none_handed code entry n i h t = rw (add-one, h, with_handed, t) refl
 
-module _ (core : Core) (code : Code) (sound : IsSound core) (is : IsCompiled core code) where
+module _ (core : Core) {pins : Pins} (code : Code) (sound : IsSound core) (is : IsCompiled core pins code) where
   -- nothing is handed over behind the instruction that does what a statement does
   pub fresh_behind : (entry : Entry) (f : ℕ) (func : Func) (here : slice_get core.funcs f ≡ Some func) (point : ℕ) (stm : Stm) → slice_get func.body point ≡ Some stm → handed_before code entry (place core f func here point + length (handed_atoms stm.kind) + 1) ≡ []
   fresh_behind entry f func here point stm found =

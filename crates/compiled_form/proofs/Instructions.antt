@@ -13,14 +13,17 @@ use Rattle.flat_code.specs.declared.program.Code.{Code}
 use Rattle.flat_code.specs.declared.program.Entry.{Entry}
 use Rattle.flat_code.specs.Table.{hands}
 use Rattle.flat_code.specs.WellFormed.{IsInstr, EachInstr, HandsOrTakes, HasResult, NamesWhatIsThere, Takes, end_of}
+use Rattle.counted_meaning.specs.Pinning.{Pins, AreExact}
 use Rattle.compiled_code.specs.Handing.{instr, hand_of}
 use Rattle.compiled_code.proofs.Numbered.{InRange, AllInRange, handed_in_range}
 use Rattle.compiled_code.specs.Compiled.{IsCompiled}
+use Rattle.compiled_code.specs.Sites.{AreAscending}
 use Rattle.compiled_form.proofs.Doing.{doing, does_not_hand, Numbers}
 use Rattle.compiled_form.proofs.Flow.{hand_leads, hand_leads_on, hand_starts_afresh, first_inside, last_inside, leads_inside, leads_ahead, leads_afresh}
 use Rattle.compiled_form.proofs.Handed.{handed_all}
 use Rattle.compiled_form.proofs.Handing.{each_hand}
 use Rattle.compiled_form.proofs.Returns.{answered}
+use Rattle.compiled_form.proofs.Sites.{hand_site, does_site}
 use Rattle.compiled_form.proofs.Sorts.{hands_over, handed_is}
 use Rattle.compiled_form.proofs.Spots.{Spot, places, start, last, atoms, each_instr}
 use Rattle.compiled_form.proofs.Typing.{atoms_there, takes_its_operands, gives_its_result, names_what_is_there}
@@ -46,7 +49,7 @@ one_in_range [] k a all h = absurd (none-some a h)
 one_in_range (x ∷ atoms) zero a all h = subst InRange (same_Some x a h) all.0
 one_in_range (x ∷ atoms) (suc k) a all h = one_in_range atoms k a all.1 h
 
-module _ (core : Core) (code : Code) (sound : IsSound core) (is : IsCompiled core code) where
+module _ (core : Core) {pins : Pins} (code : Code) (sound : IsSound core) (exact : AreExact core pins) (ascending : AreAscending pins) (is : IsCompiled core pins code) where
   hands_what_is_there : (s : Spot core code is) (k : ℕ) (a : Atom) → slice_get (atoms core code is s) k ≡ Some a → HandsOrTakes code s.entry (start core code is s + k) (hand_of a) (hands (hand_of a).op)
   hands_what_is_there s k a h =
       let typed = (sound.functions s.f s.func s.here).typed s.point s.stm s.found in
@@ -70,6 +73,7 @@ module _ (core : Core) (code : Code) (sound : IsSound core) (is : IsCompiled cor
         inside = hand_leads (λ next. (s.entry.first ≤ next) × (next < end_of code s.f)) a at (omega (arith, low), omega (arith, less, high));
         ahead = hand_leads_on a at;
         afresh = hand_starts_afresh code s.entry a at;
+        site = hand_site core code sound is s k a h;
       }
 
   takes_what_is_handed : (s : Spot core code is) (n : ℕ) → Numbers code s.func s.stm.kind n → HandsOrTakes code s.entry (last core code is s) (doing (places core code is s) s.stm.kind n) (hands (doing (places core code is s) s.stm.kind n).op)
@@ -95,6 +99,7 @@ module _ (core : Core) (code : Code) (sound : IsSound core) (is : IsCompiled cor
         inside = leads_inside core code sound is s n;
         ahead = leads_ahead core code sound is s n;
         afresh = leads_afresh core code sound is s n;
+        site = does_site core code sound is exact ascending s n;
       }
 
   pub instructions : EachInstr code (IsInstr code)

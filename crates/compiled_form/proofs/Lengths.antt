@@ -11,6 +11,7 @@ use Rattle.core_tree.specs.Statements.{operands}
 use Rattle.core_tree.specs.Sound.{IsSound, code_size}
 use Rattle.flat_code.specs.declared.program.Code.{Code}
 use Rattle.flat_code.specs.WellFormed.{IsShort, AreShort}
+use Rattle.counted_meaning.specs.Pinning.{Pins}
 use Rattle.compiled_code.specs.Handing.{code_length}
 use Rattle.compiled_code.specs.Compiled.{IsCompiled}
 use Rattle.compiled_form.proofs.Parts.{before_all}
@@ -39,7 +40,7 @@ func_is_short func =
     let less = sum_by-le-sum_by weight (λ (s : Stm). size s + size s) func.body (λ s. kind_is_short s.kind) in
     omega (arith, less, twice size func.body)
 
-module _ (core : Core) (code : Code) (sound : IsSound core) (is : IsCompiled core code) where
+module _ (core : Core) {pins : Pins} (code : Code) (sound : IsSound core) (is : IsCompiled core pins code) where
   instrs_are_short : IsShort code.instrs
   instrs_are_short =
       let less = sum_by-le-sum_by func_length (λ (func : Func). code_size func + code_size func) core.funcs func_is_short in

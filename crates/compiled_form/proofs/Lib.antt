@@ -13,6 +13,11 @@ pub mod Scopes
 pub mod Instructions
 pub mod Functions
 pub mod Tables
+pub mod Reading
+pub mod Lives
+pub mod Pinned
+pub mod Ascending
+pub mod Sites
 pub mod Statics
 pub mod Lengths
 pub mod Formed

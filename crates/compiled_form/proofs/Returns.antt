@@ -13,6 +13,7 @@ use Rattle.flat_code.specs.declared.instructions.Instr.{Instr}
 use Rattle.flat_code.specs.declared.program.Code.{Code}
 use Rattle.flat_code.specs.declared.program.Entry.{Entry}
 use Rattle.flat_code.specs.WellFormed.{handed_before, OfAnswer, EachAnswer, GivesTo}
+use Rattle.counted_meaning.specs.Pinning.{Pins}
 use Rattle.compiled_code.specs.Handing.{hand_of, handed_atoms}
 use Rattle.compiled_code.specs.Compiled.{IsCompiled, IsEntry}
 use Rattle.compiled_form.proofs.Doing.{doing}
@@ -30,7 +31,7 @@ module _ (P : Option Sort → Type 0) where
   answer_of core func place (stm.Return (Some a)) n h = h (Some a) refl
   answer_of core func place kind n h = tt
 
-module _ (core : Core) (code : Code) (sound : IsSound core) (is : IsCompiled core code) where
+module _ (core : Core) {pins : Pins} (code : Code) (sound : IsSound core) (is : IsCompiled core pins code) where
   -- what holds of what each return of a function has holds of what its returns in the code give
   pub each_answer : (P : Option Sort → Type 0) (g : ℕ) (callee : Func) → slice_get core.funcs g ≡ Some callee → EachReturn callee (λ a. P (answer_sort core callee a)) → EachAnswer code g P
   each_answer P g callee here returns =

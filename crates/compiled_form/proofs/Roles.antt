@@ -10,6 +10,7 @@ use Rattle.core_tree.specs.declared.statements.Stm.{Stm}
 use Rattle.core_tree.specs.declared.statements.StmKind.{StmKind}
 use Rattle.flat_code.specs.declared.instructions.Instr.{Instr}
 use Rattle.flat_code.specs.declared.program.Code.{Code}
+use Rattle.counted_meaning.specs.Pinning.{Pins}
 use Rattle.compiled_code.specs.Handing.{hand_of, handed_atoms}
 use Rattle.compiled_code.specs.Compiled.{IsCompiled}
 use Rattle.compiled_form.proofs.Doing.{doing, as_doing, Numbers}
@@ -24,7 +25,7 @@ abbrev pub DoesAll : Code → Func → (ℕ → ℕ) → StmKind → ℕ → Ins
 DoesAll code func place kind k i =
     (n : ℕ) × (k ≡ length (handed_atoms kind)) × (doing place kind n ≡ i) × Numbers code func kind n
 
-module _ (core : Core) (code : Code) (is : IsCompiled core code) (f : ℕ) (func : Func) (here : slice_get core.funcs f ≡ Some func) (point : ℕ) (stm : Stm) (found : slice_get func.body point ≡ Some stm) where
+module _ (core : Core) {pins : Pins} (code : Code) (is : IsCompiled core pins code) (f : ℕ) (func : Func) (here : slice_get core.funcs f ≡ Some func) (point : ℕ) (stm : Stm) (found : slice_get func.body point ≡ Some stm) where
   abbrev at : ℕ
   at = place core f func here point
 

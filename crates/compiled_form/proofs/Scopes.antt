@@ -19,6 +19,7 @@ use Rattle.flat_code.specs.declared.program.Entry.{Entry}
 use Rattle.flat_code.specs.Table.{edges, scopes_after}
 use Rattle.flat_code.specs.WellFormed.{IsAt, Opens, HasScopes, ClosesWhatIsOpen}
 use Rattle.flat_code.specs.WellFormed as form
+use Rattle.counted_meaning.specs.Pinning.{Pins}
 use Rattle.compiled_code.specs.Handing.{hand_of, handed_atoms}
 use Rattle.compiled_code.specs.Compiled.{IsCompiled, IsEntry}
 use Rattle.compiled_form.proofs.Doing.{doing, same_scopes, same_edges}
@@ -26,16 +27,16 @@ use Rattle.compiled_form.proofs.Flow.{hand_edges, hand_scopes, hand_closes_nothi
 use Rattle.compiled_form.proofs.Roles.{Hands, DoesAll, role}
 use Rattle.compiled_form.proofs.Places.{element, place, place_more, same_point}
 
-contains_one : (x y : ℕ) → Contains (x ∷ []) y → x ≡ y
+pub contains_one : (x y : ℕ) → Contains (x ∷ []) y → x ≡ y
 contains_one x y h = let e : h.0 ≡ 0 = omega (arith, h.1) in rw e at h.2
 
-contains_map : {X Y : Type 0} (f : X → Y) (xs : List X) (y : Y) → Contains (map f xs) y → (x : X) × Contains xs x × (f x ≡ y)
+pub contains_map : {X Y : Type 0} (f : X → Y) (xs : List X) (y : Y) → Contains (map f xs) y → (x : X) × Contains xs x × (f x ≡ y)
 contains_map f xs y h =
     let inside : h.0 < length xs = omega (arith, length-map xs f, h.1) in
     let x = element xs h.0 inside in
     (x.0, (h.0, inside, get_or_from_slice_get xs h.0 x.0 x.0 x.1), ap f (sym (get_or_from_slice_get xs h.0 x.0 x.0 x.1)) ∙ sym (get_or-map f xs h.0 x.0 y inside) ∙ h.2)
 
-module _ (core : Core) (code : Code) (sound : IsSound core) (is : IsCompiled core code) (f : ℕ) (func : Func) (here : slice_get core.funcs f ≡ Some func) (entry : Entry) (e : IsEntry core code f func entry) where
+module _ (core : Core) {pins : Pins} (code : Code) (sound : IsSound core) (is : IsCompiled core pins code) (f : ℕ) (func : Func) (here : slice_get core.funcs f ≡ Some func) (entry : Entry) (e : IsEntry core code f func entry) where
   abbrev at : ℕ → ℕ
   at = place core f func here
 

@@ -15,6 +15,7 @@ use Rattle.flat_code.specs.declared.instructions.Op.TheVariants as op
 use Rattle.flat_code.specs.declared.program.Code.{Code}
 use Rattle.flat_code.specs.declared.program.Entry.{Entry}
 use Rattle.flat_code.specs.Table.{sort_of, register_sorts, register_sort, parameter_sorts, hands, handed_sort}
+use Rattle.counted_meaning.specs.Pinning.{Pins}
 use Rattle.compiled_code.specs.Handing.{instr, hand_of}
 use Rattle.compiled_code.specs.Compiled.{IsEntry, IsCompiled}
 use Rattle.compiled_form.proofs.Handing.{each_hand}
@@ -45,7 +46,7 @@ same_there (x ∷ xs) (y ∷ ys) (suc k) e = same_there xs ys k (omega arith)
 pub hands_over : (a : Atom) → hands (hand_of a).op ≡ true
 hands_over a = each_hand (λ (i : Instr). hands i.op ≡ true) (λ r. refl) (λ n. refl) (λ n. refl) refl (λ k. refl) (λ k. refl) a
 
-module _ (core : Core) (code : Code) (is : IsCompiled core code) (f : ℕ) (func : Func) (entry : Entry) (e : IsEntry core code f func entry) where
+module _ (core : Core) {pins : Pins} (code : Code) (is : IsCompiled core pins code) (f : ℕ) (func : Func) (entry : Entry) (e : IsEntry core code f func entry) where
   pub registers_are : register_sorts entry ≡ map core_sorts.sort_of func.regs
   registers_are = ap (map sort_of) e.kinds ∙ same_sorts func.regs
 

@@ -12,6 +12,7 @@ use Rattle.flat_code.specs.declared.instructions.Instr.{Instr}
 use Rattle.flat_code.specs.declared.program.Code.{Code}
 use Rattle.flat_code.specs.declared.program.Entry.{Entry}
 use Rattle.flat_code.specs.WellFormed.{end_of, EachInstr}
+use Rattle.counted_meaning.specs.Pinning.{Pins}
 use Rattle.compiled_code.specs.Handing.{hand_of, handed_atoms}
 use Rattle.compiled_code.specs.Places.{first_of}
 use Rattle.compiled_code.specs.Compiled.{IsCompiled, IsEntry}
@@ -19,7 +20,7 @@ use Rattle.compiled_form.proofs.Doing.{doing, Numbers}
 use Rattle.compiled_form.proofs.Places.{element, place, InStatement, in_statement}
 use Rattle.compiled_form.proofs.Roles.{Hands, DoesAll, role}
 
-module _ (core : Core) (code : Code) (is : IsCompiled core code) where
+module _ (core : Core) {pins : Pins} (code : Code) (is : IsCompiled core pins code) where
   -- the function of an entry
   pub record Owner (f : ℕ) (entry : Entry) : Type 0 where
     pub func : Func

@@ -19,6 +19,7 @@ use Rattle.core_tree.specs.Sound as cores
 use Rattle.flat_code.specs.declared.program.Code.{Code}
 use Rattle.flat_code.specs.declared.program.StaticInit.{StaticInit}
 use Rattle.flat_code.specs.WellFormed.{IsFirst, IsTarget, static_size}
+use Rattle.counted_meaning.specs.Pinning.{Pins}
 use Rattle.compiled_code.specs.Compiled.{IsCompiled, IsStatic}
 use Rattle.compiled_form.proofs.Places.{element}
 use Rattle.compiled_form.proofs.Tables.{holds_at}
@@ -42,7 +43,7 @@ trimmed_zero (b ∷ bytes) n (suc k) h = trimmed_zero bytes n k h
 eq_flips : (x y : ℕ) → nat_eq x y ≡ nat_eq y x
 eq_flips x y = grind (arith, nat_tests)
 
-module _ (core : Core) (code : Code) (sound : IsSound core) (is : IsCompiled core code) where
+module _ (core : Core) {pins : Pins} (code : Code) (sound : IsSound core) (is : IsCompiled core pins code) where
   size_is : (static : Static) (init : StaticInit) → IsStatic code static init → static_size code init ≡ static.layout.size
   size_is static init h = ap (λ (o : Option Layout). option_map_or (λ (l : Layout). l.size) o 0) h.layout
 

@@ -22,19 +22,20 @@ use Rattle.core_tree.proofs.TypeLayouts.{type_layout_sound, type_layout_small}
 use Rattle.object_meaning.specs.Meaning.{line_of}
 use Rattle.flat_code.specs.declared.program.Code.{Code}
 use Rattle.flat_code.specs.WellFormed.{IsLayout, IsShort}
+use Rattle.counted_meaning.specs.Pinning.{Pins}
 use Rattle.compiled_code.specs.Compiled.{IsCompiled, IsLayoutIn, IsFormatIn, format_of}
 use Rattle.compiled_form.proofs.Functions.{main_func}
 use Rattle.compiled_form.proofs.Places.{first_more, in_function, InStatement, in_statement}
 
 -- some element of a list, with its place
-found_at : {X : Type 0} (P : X → Type 0) (xs : List X) → Any P xs → (k : ℕ) × (x : X) × (slice_get xs k ≡ Some x) × P x
+pub found_at : {X : Type 0} (P : X → Type 0) (xs : List X) → Any P xs → (k : ℕ) × (x : X) × (slice_get xs k ≡ Some x) × P x
 found_at P xs h = (h.0, h.1, slice_get-get_or xs h.0 h.1 h.2 ∙ ap (λ x. Some x) h.3, h.4)
 
 pub holds_at : {X : Type 0} (P : X → Type 0) (xs : List X) (k : ℕ) (x : X) → All P xs → slice_get xs k ≡ Some x → P x
 holds_at P xs k x all h =
     subst P (get_or_from_slice_get xs k x x h) (all k x (slice_get_within xs k x h))
 
-module _ (core : Core) (code : Code) (sound : IsSound core) (is : IsCompiled core code) where
+module _ (core : Core) {pins : Pins} (code : Code) (sound : IsSound core) (is : IsCompiled core pins code) where
   -- Layouts
 
   static_type : (layout : Layout) → Any (λ (static : Static). static.layout ≡ layout) core.statics → IsLayoutOfType layout

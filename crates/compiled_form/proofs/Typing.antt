@@ -20,6 +20,7 @@ use Rattle.flat_code.specs.declared.program.Code.{Code}
 use Rattle.flat_code.specs.declared.program.Entry.{Entry}
 use Rattle.flat_code.specs.Table.{register_sort, all_there, call_takes, format_takes}
 use Rattle.flat_code.specs.WellFormed.{Takes, GivesTo, HasResult, EachAnswer, NamesWhatIsThere, IsElementSize, IsElement}
+use Rattle.counted_meaning.specs.Pinning.{Pins}
 use Rattle.compiled_code.specs.Handing.{handed_atoms}
 use Rattle.compiled_code.specs.Compiled.{IsCompiled, IsEntry}
 use Rattle.compiled_form.proofs.Doing.{doing, chooses, chosen_is, Numbers}
@@ -105,7 +106,7 @@ module _ (core : Core) (func : Func) where
   atoms_there (stm.Return None) h = none_there
   atoms_there (stm.Return (Some a)) h = one_there a h.0 h.1
 
-module _ (core : Core) (code : Code) (is : IsCompiled core code) (f : ℕ) (func : Func) (entry : Entry) (e : IsEntry core code f func entry) where
+module _ (core : Core) {pins : Pins} (code : Code) (is : IsCompiled core pins code) (f : ℕ) (func : Func) (entry : Entry) (e : IsEntry core code f func entry) where
   -- What is taken
 
   call_is_taken : (g : ℕ) (args : List Atom) (callee : Option Func) → slice_get core.funcs g ≡ callee → TakesCall core func args callee → map (atom_sort core func) args ≡ all_there (call_takes (slice_get code.funcs g))

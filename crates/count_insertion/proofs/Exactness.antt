@@ -1,11 +1,13 @@
--- The listed pins are exact.
-use Rattle.std.proofs.Common.{◌≡◌, ℕ, zero, suc, ◌+◌, ◌<◌, Bool, true, false, cond, nat_eq, List, [], ◌∷◌, ◌++◌, length, map, get_or, Option, Some, None, refl, sym, ap, ◌∙◌, subst, arith}
-use Rattle.std.specs.Prelude.{filter, slice_get, Contains}
+-- The listed pins are exact, and those of each point ascend.
+use Rattle.std.proofs.Common.{◌≡◌, ℕ, zero, suc, ◌+◌, ◌<◌, Bool, true, false, cond, nat_eq, List, [], ◌∷◌, ◌++◌, length, map, get_or, Option, Some, None, refl, sym, ap, ◌∙◌, subst, arith, ⊎_elim}
+use Rattle.std.specs.Prelude.{◌≤◌, filter, slice_get, AllPairs, Contains}
 use Rattle.std.specs.List.{IsDistinct, AllByRecursion, flat_map, range_with_len}
 use Rattle.std.specs.Option.{option_map_or}
 use Rattle.std.proofs.lemmas.Bool.{eq-eqb, ne_eqb, and_parts, true≢false}
 use Rattle.std.proofs.lemmas.List.{append-nil}
-use Rattle.std.proofs.lemmas.Option.{slice_get_within}
+use Rattle.std.proofs.lemmas.List.FromFn.{length-range_with_len, get_or-range_with_len}
+use Rattle.std.proofs.lemmas.List.Kept.{AllPairs-filter}
+use Rattle.std.proofs.lemmas.Option.{slice_get_within, slice_get_cases}
 use Rattle.core_tree.specs.declared.program.Core.{Core}
 use Rattle.core_tree.specs.declared.program.Func.{Func}
 use Rattle.core_tree.specs.declared.program.Reg.{Reg as Register}
@@ -78,7 +80,14 @@ module _ (func : Func) (point : ℕ) where
       ∙ ap (λ rs. rs ++ pins_in (flat_map of_point (range_with_len (a + 1) n)) point) (none_at a (λ i. omega (arith, e, i)) (slice_get func.body a))
       ∙ one_of (a + 1) n k (omega (arith, e)) (omega (arith, lt))
 
-  registers_are : (stm : Stm) → slice_get func.body point ≡ Some stm → pins_in (func_pins func) point ≡ filter (counts_at func point stm.kind) (range_with_len 0 (length func.regs))
+  none_before : (a n : ℕ) → a + n ≤ point → pins_in (flat_map of_point (range_with_len a n)) point ≡ []
+  none_before a zero h = refl
+  none_before a (suc n) h =
+      pins_in-append (of_point a) (flat_map of_point (range_with_len (a + 1) n)) point
+      ∙ ap (λ rs. rs ++ pins_in (flat_map of_point (range_with_len (a + 1) n)) point) (none_at a (λ e. omega (arith, e, h)) (slice_get func.body a))
+      ∙ none_before (a + 1) n (omega (arith, h))
+
+  pub registers_are : (stm : Stm) → slice_get func.body point ≡ Some stm → pins_in (func_pins func) point ≡ filter (counts_at func point stm.kind) (range_with_len 0 (length func.regs))
   registers_are stm at =
       one_of 0 (length func.body) point (omega arith) (slice_get_within func.body point stm at)
       ∙ ap (λ o. pins_in (pins_at func point o) point) at
@@ -167,3 +176,42 @@ pub listed_exact : (core : Core) (pins : Pins) → pins ≡ map func_pins core.f
 listed_exact core pins e f func here point stm at =
     let test = counts_at func point stm.kind in
     subst (λ rs. AreThose test rs) (sym (listed_in_order core pins e f func here point stm at)) (those_below test (length func.regs) (counts_within func point stm.kind))
+
+-- Pins ascend
+
+abbrev Below : ℕ → ℕ → Type 0
+Below one other = one < other
+
+none_ascend : AllPairs Below []
+none_ascend = λ i j d less below. absurd (omega (arith, below))
+
+range_ascends : (a n : ℕ) → AllPairs Below (range_with_len a n)
+range_ascends a n i j d less below =
+    let inside : j < n = omega (arith, length-range_with_len a n, below) in
+    omega (arith, get_or-range_with_len a n i d (omega (arith, less, inside)), get_or-range_with_len a n j d inside, less)
+
+-- those of a point, in order
+point_ascends : (func : Func) (point : ℕ) (stm : Stm) → slice_get func.body point ≡ Some stm → AllPairs Below (pins_in (func_pins func) point)
+point_ascends func point stm at =
+    let test = counts_at func point stm.kind in
+    let all = range_with_len 0 (length func.regs) in
+    subst (AllPairs Below) (sym (registers_are func point stm at)) (AllPairs-filter Below test all (range_ascends 0 (length func.regs)))
+
+-- the pins of each point of a function ascend, and where it has no such point there are none
+func_ascends : (func : Func) (point : ℕ) → AllPairs Below (pins_in (func_pins func) point)
+func_ascends func point =
+    ⊎_elim
+    (λ (at : (stm : Stm) × (point < length func.body) × (slice_get func.body point ≡ Some stm) × (get_or func.body point stm ≡ stm)).
+    point_ascends func point at.0 at.2)
+    (λ (past : (length func.body ≤ point) × (slice_get func.body point ≡ None)).
+    subst (AllPairs Below) (sym (none_before func point 0 (length func.body) (omega (arith, past.0)))) none_ascend)
+    (slice_get_cases func.body point).1
+
+one_of_each : (P : List Pin → Type 0) → P [] → ((func : Func) → P (func_pins func)) → (funcs : List Func) (f : ℕ) → P (get_or (map func_pins funcs) f [])
+one_of_each P none each [] f = none
+one_of_each P none each (func ∷ funcs) zero = each func
+one_of_each P none each (func ∷ funcs) (suc f) = one_of_each P none each funcs f
+
+pub listed_ascending : (core : Core) (pins : Pins) → pins ≡ map func_pins core.funcs → (f point : ℕ) → AllPairs Below (pins_of pins f point)
+listed_ascending core pins e f point =
+    subst (λ ps. AllPairs Below (pins_of ps f point)) (sym e) (one_of_each (λ ps. AllPairs Below (pins_in ps point)) none_ascend (λ func. func_ascends func point) core.funcs f)

@@ -7,9 +7,11 @@
 #![tactic(auto)]
 
 mod copies;
+mod laws;
 mod pinning;
 
 pub use counted_meaning::Pin;
+pub use laws::listed_pins_are_exact;
 pub use pinning::{Counted, insert, live_tables};
 
 #[cfg(test)]
