@@ -17,6 +17,6 @@ mod program;
 mod running;
 mod statics;
 
-pub use laws::{built_is_freeless, code_is_built};
+pub use laws::code_is_built;
 pub use program::compile_core;
 pub use running::execute;

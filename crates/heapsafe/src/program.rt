@@ -19,7 +19,8 @@ use built_cores::is_built;
 use c_elab::elab;
 use c_tree::Unit;
 use core_tree::Core;
-use flat_codegen::{compile_core, execute};
+use count_insertion::{insert, live_tables, listed_pins_are_exact};
+use flat_codegen::{compile, execute};
 use flat_machine::Machine;
 use hs_base::{End, Limits, NoMemory, Sink, Source};
 use meaning_run::mean;
@@ -62,7 +63,7 @@ fn finish<E: Sink>(end: &End, core: &Core, file: &str, text: &[u8], err: &mut E)
     }
 }
 
-/// Makes the code of a core, loads it, and runs it. Memory may be wanted before the first instruction alone: then the input
+/// Finds where the pointers of a core count, makes its code, loads it, and runs it. Memory may be wanted before the first instruction alone: then the input
 /// and the output are as before.
 fn run_code<I: Source, O: Sink>(
     alloc: Global,
@@ -84,7 +85,10 @@ fn run_code<I: Source, O: Sink>(
     ensures input_stays { OnErr result (input.new ≡ input.old) }
     ensures out_stays { OnErr result (out.new ≡ out.old) }
 {
-    let code = compile_core(alloc, core)?;
+    listed_pins_are_exact();
+    let live = live_tables(alloc, core)?;
+    let counted = insert(alloc, core, &live)?;
+    let code = compile(alloc, &counted)?;
     let mut machine = Machine::load(alloc, &code, limits)?;
     let end = execute(&mut machine, &code, input, out, steps);
     Ok(end)
