@@ -11,7 +11,7 @@ use Rattle.flat_code.specs.Table.{hands}
 use Rattle.flat_code.specs.WellFormed.{IsWellFormed, IsAt, handed_before, Takes, OfAnswer}
 use Rattle.code_meaning.specs.CodeState.{CodeState}
 use Rattle.code_meaning.specs.CodeMeaning.{main_in}
-use Rattle.code_soundness.specs.Objects.{AreOfSorts}
+use Rattle.code_soundness.specs.Objects.{AreOperands}
 use Rattle.code_soundness.specs.Good.{AreWaiting, IsGood}
 use Rattle.code_soundness.specs.Laws.{HasOperands, GivesInteger}
 use Rattle.code_soundness.proofs.Ready.{Ready, ready_at}
@@ -28,8 +28,8 @@ module _ (code : Code) (wf : IsWellFormed code) (c : CodeState) (good : IsGood c
 
   operands : (o : Op) → Takes code good.entry i o sorts → HasOperands code c good.entry i o
   operands op.Give h =
-      (h.0, subst (λ (x : List (Option Sort)). AreOfSorts c.state.objects x c.handed) h.1 good.handed)
-  operands o h = subst (λ (x : List (Option Sort)). AreOfSorts c.state.objects x c.handed) h good.handed
+      (h.0, subst (λ (x : List (Option Sort)). AreOperands c.state.objects x c.handed) h.1 good.handed)
+  operands o h = subst (λ (x : List (Option Sort)). AreOperands c.state.objects x c.handed) h good.handed
 
   pub has_operands : hands i.op ≡ false → HasOperands code c good.entry i i.op
   has_operands e =
@@ -41,13 +41,13 @@ module _ (code : Code) (wf : IsWellFormed code) (c : CodeState) (good : IsGood c
       let sort = ready.takes refl in
       let is : Some sort.0 ≡ Some Integer = subst (λ (x : List (Option Sort)). OfAnswer IsInteger op.Give x) sort.1 h in
       let one : sorts ≡ Some Integer ∷ [] = sort.1 ∙ ap (λ (x : Option Sort). x ∷ []) is in
-      subst (λ (x : List (Option Sort)). AreOfSorts c.state.objects x c.handed) one good.handed
+      subst (λ (x : List (Option Sort)). AreOperands c.state.objects x c.handed) one good.handed
   gives o ready h = tt
 
   -- the running frame is of main
   pub main_gives : c.state.waiting ≡ [] → GivesInteger c i.op
   main_gives none =
       let s = wf.start in
-      let last = subst (λ (frames : List Frame). AreWaiting code c.state.objects c.state.running.func good.others frames) none good.waiting in
+      let last = subst (λ (frames : List Frame). AreWaiting code c.state.objects c.state.running.func c.state.running.first_local good.others frames) none good.waiting in
       let main : c.state.running.func ≡ s.1 = last.1 ∙ ap main_in s.3 ∙ ap unsigned_abs s.4.number in
       gives i.op (ready_at code wf c.state.running.func good.entry c.state.running.point i at) (s.4.answers c.state.running.func good.entry c.state.running.point i at main)

@@ -13,7 +13,8 @@ pub fn instruction_is_there()
     ensures { InstructionIsThere }
 {}
 
-/// In a good state an operation that hands nothing over has what it takes: as many values as it takes, each of its sort.
+/// In a good state an operation that hands nothing over has what it takes: as many values as it takes, each of its sort and
+/// no pointer to a dead object.
 pub fn operands_are_there()
     ensures { OperandsAreThere }
 {}
