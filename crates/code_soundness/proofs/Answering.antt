@@ -1,20 +1,22 @@
--- What an instruction of a good state takes; and the first of all frames gives an integer.
+-- What an instruction of a good state hands over and takes; and the first of all frames gives an integer.
 use Rattle.std.proofs.Common.{◌≡◌, false, List, [], ◌∷◌, Option, Some, refl, ap, ◌∙◌, subst}
 use Rattle.std.specs.Prelude.{slice_get, unsigned_abs}
+use Rattle.hs_base.specs.declared.values.Value.{Value}
 use Rattle.hs_base.specs.State.{Frame}
 use Rattle.core_tree.specs.Sorts.{Sort, Integer}
 use Rattle.flat_code.specs.declared.instructions.Instr.{Instr}
 use Rattle.flat_code.specs.declared.instructions.Op.{Op}
 use Rattle.flat_code.specs.declared.instructions.Op.TheVariants as op
 use Rattle.flat_code.specs.declared.program.Code.{Code}
-use Rattle.flat_code.specs.Table.{hands}
+use Rattle.flat_code.specs.Table.{hands, handed_sort}
 use Rattle.flat_code.specs.WellFormed.{IsWellFormed, IsAt, handed_before, Takes, OfAnswer}
 use Rattle.code_meaning.specs.CodeState.{CodeState}
-use Rattle.code_meaning.specs.CodeMeaning.{main_in}
-use Rattle.code_soundness.specs.Objects.{AreOperands}
+use Rattle.code_meaning.specs.CodeMeaning.{main_in, handed_value}
+use Rattle.code_soundness.specs.Objects.{IsOperand, AreOperands}
 use Rattle.code_soundness.specs.Good.{AreWaiting, IsGood}
 use Rattle.code_soundness.specs.Laws.{HasOperands, GivesInteger}
 use Rattle.code_soundness.proofs.Ready.{Ready, ready_at}
+use Rattle.code_soundness.proofs.Stepping.{handed_is}
 
 module _ (code : Code) (wf : IsWellFormed code) (c : CodeState) (good : IsGood code c) (i : Instr) (here : slice_get code.instrs c.state.running.point ≡ Some i) where
   abbrev sorts : List (Option Sort)
@@ -34,6 +36,10 @@ module _ (code : Code) (wf : IsWellFormed code) (c : CodeState) (good : IsGood c
   pub has_operands : hands i.op ≡ false → HasOperands code c good.entry i i.op
   has_operands e =
       operands i.op ((ready_at code wf c.state.running.func good.entry c.state.running.point i at).takes e)
+
+  pub hands_operand : (v : Value) → handed_value c.state.running i i.op ≡ Some v → IsOperand c.state.objects (handed_sort code good.entry i i.op) v
+  hands_operand =
+      handed_is code wf c good i at i.op (ready_at code wf c.state.running.func good.entry c.state.running.point i at)
 
   gives : (o : Op) → Ready code c.state.running.func good.entry c.state.running.point i o → OfAnswer IsInteger o sorts → GivesInteger c o
   gives op.Return ready h = absurd (cc)

@@ -193,10 +193,6 @@ module _ (code : Code) (s : State) (inside : s.running.point < length code.instr
 
   -- Returns
 
-  point_again : (answer : Value) (r : Option ℕ) (frame : Frame) → (with_register r answer frame).point ≡ frame.point
-  point_again answer None frame = refl
-  point_again answer (Some r) frame = refl
-
   back_less_at : (answer : Value) (waiting : List Frame) (objects : List Object) (n : ℕ → ℕ) → waiting ≡ s.waiting → Less (go_back code answer waiting n (record s { objects = objects }))
   back_less_at answer [] objects n e = tt
   back_less_at answer (caller ∷ rest) objects n e =

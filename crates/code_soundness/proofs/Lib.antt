@@ -12,6 +12,7 @@ pub mod Dropping
 pub mod Pinned
 pub mod Ready
 pub mod Frames
+pub mod Counted
 pub mod Standing
 pub mod Checks
 pub mod Freeing

@@ -1,6 +1,6 @@
 -- Registers that count at an instruction, and the pins that list them.
 use Rattle.std.proofs.Common.{◌≡◌, ℕ, zero, suc, pos, ◌+◌, ◌<◌, Bool, true, false, cond, List, [], ◌∷◌, map, get_or, Option, Some, length, refl, sym, subst, arith, ⊎_elim, ◌⊎◌, inl, inr}
-use Rattle.std.specs.Prelude.{slice_get, unwrap_or}
+use Rattle.std.specs.Prelude.{slice_get, Contains, unwrap_or}
 use Rattle.std.proofs.lemmas.List.Sums.{sum_by-cons}
 use Rattle.hs_base.specs.declared.values.Pointer.{Pointer}
 use Rattle.hs_base.specs.declared.values.Pointer.TheVariants as pointer
@@ -17,7 +17,7 @@ use Rattle.flat_code.specs.Table.{register_sorts, register_sort, all_there}
 use Rattle.flat_code.specs.Sites.{has_site, Counts, HasSite}
 use Rattle.flat_code.specs.WellFormed.{IsWellFormed, IsAt}
 use Rattle.counted_meaning.specs.Pinning.{pointer_of_register}
-use Rattle.code_meaning.specs.Pinning.{pinned}
+use Rattle.code_meaning.specs.Pinning.{pins_at, pinned}
 use Rattle.code_soundness.specs.Objects.{IsOfSort, AreOfSorts}
 use Rattle.code_soundness.specs.Counts.{in_pins}
 
@@ -67,6 +67,17 @@ uncounted code wf f entry frame i at has b none r counts =
     let here = (site.2.exact r).0 counts in
     let same : pointers_to b (map (pointer_of_register frame) pins) ≡ 0 = subst (λ (o : Option (List ℕ)). pointers_to b (map (pointer_of_register frame) (unwrap_or o [])) ≡ 0) site.1 none in
     unpinned frame b pins same r here.0 here.1 here.2
+
+-- each pin of a frame counts
+pins_count_at : (code : Code) (entry : Entry) (frame : Frame) (i : Instr) (has : Bool) → HasSite code entry frame.point i has → (r : ℕ) → Contains (pins_at code frame) r → Counts code entry frame.point i r
+pins_count_at code entry frame i true site r c =
+    (site.2.exact r).1 (subst (λ (o : Option (List ℕ)). Contains (unwrap_or o []) r) site.1 c)
+pins_count_at code entry frame i false none r c =
+    let nothing = subst (λ (o : Option (List ℕ)). Contains (unwrap_or o []) r) none c in absurd (omega (arith, nothing.1))
+
+pub pins_count : (code : Code) → IsWellFormed code → (f : ℕ) (entry : Entry) (frame : Frame) (i : Instr) → IsAt code f entry frame.point i → (r : ℕ) → Contains (pins_at code frame) r → Counts code entry frame.point i r
+pins_count code wf f entry frame i at r c =
+    pins_count_at code entry frame i (has_site i.op) (wf.instructions f entry frame.point i at).site r c
 
 -- the pins of frames, one by one
 pub pins_cons : (code : Code) (b : ℕ) (frame : Frame) (frames : List Frame) → in_pins code b (frame ∷ frames) ≡ pointers_to b (pinned code frame) + in_pins code b frames

@@ -2,12 +2,12 @@
 use Rattle.std.proofs.Common.{◌≡◌, ℕ, pos, ◌+◌, Bool, true, List, [], ◌∷◌, ◌++◌, get_or, Option, Some, None, refl, sym, ap, ◌∙◌, subst, arith}
 use Rattle.std.specs.Prelude.{slice_get, slice_index, Contains, IsSome}
 use Rattle.std.specs.Option.{option_map}
-use Rattle.std.proofs.lemmas.Option.{slice_get-map}
+use Rattle.std.proofs.lemmas.Option.{same_Some, slice_get-map}
 use Rattle.hs_base.specs.declared.values.Pointer.TheVariants as pointer
 use Rattle.hs_base.specs.declared.values.Value.{Value}
 use Rattle.hs_base.specs.State.{State}
 use Rattle.hs_base.specs.Trace.{Event}
-use Rattle.core_tree.specs.Sorts.{Sort, Pointer as Address}
+use Rattle.core_tree.specs.Sorts.{Sort, Integer, Pointer as Address}
 use Rattle.object_meaning.specs.Values.{number, address, start_of, pointer_in, holds_stale}
 use Rattle.flat_code.specs.declared.instructions.Instr.{Instr}
 use Rattle.flat_code.specs.declared.instructions.Op.{Op}
@@ -80,11 +80,6 @@ module _ (code : Code) (wf : IsWellFormed code) (c : CodeState) (good : IsGood c
         input = good.input;
       }
 
-  -- the value is not stale
-  hand_stays : (o : Op) → Does o → hands o ≡ true → Contains (edges i o s.running.point) (s.running.point + 1) → scopes_after o good.scopes ≡ good.scopes → written i o ≡ None → (v : Value) → IsOperand s.objects (handed_sort code good.entry i o) v → StaysGood code (hand (holds_stale s.objects v) v c)
-  hand_stays o ready h edge same none v is =
-      subst (λ (b : Bool). StaysGood code (hand b v c)) (sym (not_stale s.objects (pointer_in v) is.1)) (handed_good o ready h edge same none v is)
-
   register_is : Does op.HandReg → IsOperand s.objects (register_sort good.entry i.a) (get_or s.running.regs i.a (number (pos 0)))
   register_is ready =
       let sort = there (register_sort good.entry i.a) (ready.handing refl) in
@@ -100,18 +95,38 @@ module _ (code : Code) (wf : IsWellFormed code) (c : CodeState) (good : IsGood c
   local_is (Some layout) e h =
       (tt, (live_there s.objects (s.running.first_local + i.a) (good.locals.each i.a layout e).live, omega arith))
 
+  -- what is handed over is of its sort and no stale pointer
+  pub handed_is : (o : Op) → Does o → (v : Value) → handed_value s.running i o ≡ Some v → IsOperand s.objects (handed_sort code good.entry i o) v
+  handed_is op.HandReg ready v e =
+      subst (IsOperand s.objects (register_sort good.entry i.a)) (same_Some _ v e) (register_is ready)
+  handed_is op.HandInt ready v e = subst (IsOperand s.objects (Some Integer)) (same_Some _ v e) (ready.names, tt)
+  handed_is op.HandUnsigned ready v e =
+      subst (IsOperand s.objects (Some Integer)) (same_Some _ v e) (unsigned_number i.imm, tt)
+  handed_is op.HandNull ready v e = subst (IsOperand s.objects (Some Address)) (same_Some _ v e) (tt, tt)
+  handed_is op.HandStatic ready v e =
+      subst (IsOperand s.objects (option_map (λ _. Address) (slice_get code.statics i.a))) (same_Some _ v e) (static_is (slice_get code.statics i.a) refl (ready.handing refl))
+  handed_is op.HandLocal ready v e =
+      subst (IsOperand s.objects (option_map (λ _. Address) (slice_get good.entry.mems i.a))) (same_Some _ v e) (local_is (slice_get good.entry.mems i.a) refl (ready.handing refl))
+  handed_is o ready v e = absurd (cc)
+
+  hand_stays : (o : Op) → Does o → hands o ≡ true → Contains (edges i o s.running.point) (s.running.point + 1) → scopes_after o good.scopes ≡ good.scopes → written i o ≡ None → (v : Value) → handed_value s.running i o ≡ Some v → StaysGood code (hand (holds_stale s.objects v) v c)
+  hand_stays o ready h edge same none v e =
+      let is = handed_is o ready v e in
+      subst (λ (b : Bool). StaysGood code (hand b v c)) (sym (not_stale s.objects (pointer_in v) is.1)) (handed_good o ready h edge same none v is)
+
   does_stays : (line : ℕ) (o : Op) → Does o → StaysGood code (done_by code line i c o (handed_value s.running i o))
-  does_stays line op.HandReg ready = hand_stays op.HandReg ready refl (0, omega arith, refl) refl refl _ (register_is ready)
+  does_stays line op.HandReg ready =
+      hand_stays op.HandReg ready refl (0, omega arith, refl) refl refl (get_or s.running.regs i.a (number (pos 0))) refl
   does_stays line op.HandInt ready =
-      hand_stays op.HandInt ready refl (0, omega arith, refl) refl refl (number i.imm) (ready.names, tt)
+      hand_stays op.HandInt ready refl (0, omega arith, refl) refl refl (number i.imm) refl
   does_stays line op.HandUnsigned ready =
-      hand_stays op.HandUnsigned ready refl (0, omega arith, refl) refl refl (number (unsigned i.imm)) (unsigned_number i.imm, tt)
+      hand_stays op.HandUnsigned ready refl (0, omega arith, refl) refl refl (number (unsigned i.imm)) refl
   does_stays line op.HandNull ready =
-      hand_stays op.HandNull ready refl (0, omega arith, refl) refl refl (address pointer.Null) (tt, tt)
+      hand_stays op.HandNull ready refl (0, omega arith, refl) refl refl (address pointer.Null) refl
   does_stays line op.HandStatic ready =
-      hand_stays op.HandStatic ready refl (0, omega arith, refl) refl refl _ (static_is (slice_get code.statics i.a) refl (ready.handing refl))
+      hand_stays op.HandStatic ready refl (0, omega arith, refl) refl refl (address (start_of i.a)) refl
   does_stays line op.HandLocal ready =
-      hand_stays op.HandLocal ready refl (0, omega arith, refl) refl refl _ (local_is (slice_get good.entry.mems i.a) refl (ready.handing refl))
+      hand_stays op.HandLocal ready refl (0, omega arith, refl) refl refl (address (start_of (s.running.first_local + i.a))) refl
   does_stays line o ready = act_stays code wf c good i at line o ready refl
 
   pub at_stays : StaysGood code (act_at code (Some i) c)

@@ -15,6 +15,7 @@
 mod laws;
 
 pub use laws::{
-    digit_is_well_formed, instruction_is_there, main_gives_integer, operands_are_there,
-    run_begins_well, run_ends, step_leaves_less, step_stays_good,
+    digit_is_well_formed, instruction_is_there, main_gives_integer, operand_is_handed,
+    operands_are_there, run_begins_well, run_ends, running_pins_are_fresh, step_leaves_less,
+    step_stays_good, waiting_pins_are_fresh,
 };
