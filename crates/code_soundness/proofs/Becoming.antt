@@ -51,6 +51,7 @@ pub record Alike (old new : List Object) : Type 0 where
 pub alike_same : (objects : List Object) → Alike objects objects
 alike_same objects = record { long = refl; sort = λ b. refl; size = λ b. refl; slots = λ b. refl; standing = λ b. refl }
 
+-- none of them dies
 pub alike_grows : (old new : List Object) → Alike old new → Grows old new
 alike_grows old new a = record {
   longer = omega (arith, a.long);
@@ -76,14 +77,17 @@ Apart old dying top = (b : ℕ) → b < top → is_heap (object_at old b).sort �
 pub none_apart : (old : List Object) (top : ℕ) → Apart old [] top
 none_apart old top = λ b lt heap. refl
 
+-- what is live is not dead
 pub live_there : (objects : List Object) (b : ℕ) → (object_at objects b).standing ≡ Live → IsThere objects b
 live_there objects b h = ap is_dead h
 
+-- the test of a pointer that is not stale
 pub not_stale : (objects : List Object) (p : Pointer) → IsPointer objects p → is_stale objects p ≡ false
 not_stale objects pointer.Null h = refl
 not_stale objects (pointer.At b offset) h = h.0
 
 module _ (old new : List Object) (dying : List ℕ) (g : Becomes old new dying) where
+  -- a pointer to none of those that die stays one that is not stale
   pub pointer_becomes : (p : Pointer) → IsPointer old p → Spares dying p → IsPointer new p
   pointer_becomes pointer.Null h s = tt
   pointer_becomes (pointer.At b offset) h s =
@@ -93,6 +97,7 @@ module _ (old new : List Object) (dying : List ℕ) (g : Becomes old new dying) 
       (cases_Bool (is_among dying b))
 
   module _ (code : Code) where
+    -- the statics stay
     pub statics_become : (top : ℕ) → length code.statics ≤ top → Apart old dying top → HasStatics code old → HasStatics code new
     statics_become top long apart h k static e =
         let s = h k static e in
@@ -106,6 +111,7 @@ module _ (old new : List Object) (dying : List ℕ) (g : Becomes old new dying) 
           slots = g.slots k made ∙ s.slots;
         }
 
+    -- so do the memory locals of a frame that waits
     pub locals_become : (entry : Entry) (top : ℕ) (frame : Frame) → top ≤ length old → Apart old dying top → HasLocals code old entry top frame → HasLocals code new entry top frame
     locals_become entry top frame long apart h = record {
       each = λ k layout e.
@@ -146,5 +152,6 @@ running_become code old new dying g entry frame apart born h =
           ⊎_elim (λ lt. l.ended b f k from lt is) (λ le. born b f k le before is) (cases_lt b (length old));
     }
 
+-- where none dies every such pointer stays one
 pub pointer_grows : (old new : List Object) → Grows old new → (p : Pointer) → IsPointer old p → IsPointer new p
 pointer_grows old new g p h = pointer_becomes old new [] g p h (none_dies p)

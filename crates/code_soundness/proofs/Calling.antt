@@ -44,6 +44,7 @@ firsts_are : (kinds : List Bool) → AreOfSorts (all_there (map sort_of kinds)) 
 firsts_are [] = tt
 firsts_are (b ∷ kinds) = (first_is b, firsts_are kinds)
 
+-- the arguments, and the other registers at their first values, are of their sorts
 first_registers : (kinds : List Bool) (n : ℕ) (arguments : List Value) → AreOfSorts (all_there (take n (map sort_of kinds))) arguments → AreOfSorts (all_there (map sort_of kinds)) (arguments ++ map first_value (drop (length arguments) kinds))
 first_registers kinds zero [] h = firsts_are kinds
 first_registers kinds zero (v ∷ arguments) h = absurd h
@@ -66,6 +67,7 @@ firsts_lead objects [] r = tt
 firsts_lead objects (b ∷ kinds) zero = subst (IsPointer objects) (sym (first_null b)) tt
 firsts_lead objects (b ∷ kinds) (suc r) = firsts_lead objects kinds r
 
+-- nor are the arguments
 pub registers_lead : (objects : List Object) (sorts : List (Option Sort)) (arguments : List Value) (kinds : List Bool) → AreOperands objects sorts arguments → (r : ℕ) → IsPointer objects (pointer_in (get_or (arguments ++ map first_value kinds) r (number (pos 0))))
 registers_lead objects [] [] kinds h r = firsts_lead objects kinds r
 registers_lead objects [] (v ∷ arguments) kinds h r = absurd h

@@ -29,7 +29,7 @@ use Rattle.code_soundness.specs.Objects.{IsThere}
 use Rattle.code_soundness.specs.Counts.{in_pins}
 use Rattle.code_soundness.specs.Laws.{StaysGood}
 use Rattle.code_soundness.proofs.Becoming.{Spares, grows_same, none_born}
-use Rattle.code_soundness.proofs.Queues.{queued_within, sane_of}
+use Rattle.code_soundness.proofs.Queues.{queued_lives, sane_of}
 use Rattle.code_soundness.proofs.Dropping.{Drops, buried_drops, buried_queue, drops_objects}
 use Rattle.code_soundness.proofs.Pinned.{by_register, uncounted}
 use Rattle.code_soundness.proofs.Ready.{Ready}
@@ -40,6 +40,7 @@ pub none_held : (f : ℕ → ℕ) (births : List ℕ) → first_held (λ b. not 
 none_held f births none b i =
     eqb-true (f b) 0 (not-false (nat_eq (f b) 0) (none_first (λ c. not (nat_eq (f c) 0)) births none b i))
 
+-- no holders
 pub no_holder : (holders : List Holder) → length holders ≡ 0 → NoHolder holders
 no_holder [] h = refl
 no_holder (x ∷ holders) h = absurd (omega (arith, h))
@@ -56,7 +57,7 @@ module _ (code : Code) (wf : IsWellFormed code) (entry : Entry) (scopes others :
   drops = buried_drops t.objects t.queue sane
 
   queue_lives : (b : ℕ) → is_among t.queue b ≡ true → IsThere t.objects b
-  queue_lives b i = queued_within t.objects b (sane.in_queue b i)
+  queue_lives b i = queued_lives t.objects b (sane.in_queue b i)
 
   module _ (none : check_numbers t.objects t.queue (more n (pinned code t.running)) ≡ None) where
     -- no pointer that counts leads to a queued object
@@ -79,6 +80,7 @@ module _ (code : Code) (wf : IsWellFormed code) (entry : Entry) (scopes others :
     buried_holds =
         holds_become code entry scopes others wf (IsLive code) n t h (buried t.objects) t.queue drops.becomes (λ b lt heap. false_from_ne_true _ (λ i. true≢false (sym (sane.queued b (sane.in_queue b i)).1 ∙ heap))) (none_born t.objects (buried t.objects) (omega (arith, drops.long))) (λ b dies. (nowhere b dies).1) spares (drops_objects t.objects (buried t.objects) t.queue drops (λ b dies. no_holder _ (nowhere b dies).0) h.objects) [] (buried_queue t.objects t.queue sane) 0 t.input h.input t.steps (without_those_inside t.objects t.queue n) (λ x. omega (arith, h.numbers x, buried_living t.objects t.queue sane once x))
 
+  -- the queued objects are buried, or the run stops
   pub decided_stays : (o : Op) → Ready code t.running.func entry t.running.point i o → hands o ≡ false → Contains (edges i o t.running.point) (t.running.point + 1) → 0 ≡ scopes_after o scopes + others → (held : Option ℕ) → check_numbers t.objects t.queue (more n (pinned code t.running)) ≡ held → (first : ℕ → ℕ) (before : State) (events : List Event) → StaysGood code (decided code held first before events n t)
   decided_stays o ready takes edge depth (Some b) e first before events = λ i. cc
   decided_stays o ready takes edge depth None e first before events =

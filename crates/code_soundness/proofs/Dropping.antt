@@ -52,6 +52,7 @@ module _ (old new : List Object) (dying : List ℕ) (d : Drops old new dying) (n
         heap = λ q. ap is_heap (d.becomes.sort b lt) ∙ o.heap (d.queued b q);
       }
 
+  -- where no object that stays holds a pointer to one that dies, all are whole
   pub drops_objects : AreObjects new
   drops_objects = All-from_get_or (IsObject new) new no_object (λ b lt. dropped b (omega (arith, d.long, lt)))
 
@@ -66,6 +67,7 @@ module _ (objects : List Object) (queue : List ℕ) (sane : Sane objects queue) 
   in_buried : (P : Object → Type 0) (b : ℕ) → P (record (object_at objects b) { standing = buried_standing (object_at objects b).standing }) → P (object_at (buried objects) b)
   in_buried P b h = subst P (sym (at_buried objects b)) h
 
+  -- the queued objects are those that die
   pub buried_drops : Drops objects (buried objects) queue
   buried_drops =
       let l = buried_loses objects queue sane in
@@ -89,6 +91,7 @@ module _ (objects : List Object) (queue : List ℕ) (sane : Sane objects queue) 
         unqueued : (b : ℕ) → is_queued (object_at (buried objects) b).standing ≡ false
         unqueued b = in_buried (λ (o : Object). is_queued o.standing ≡ false) b (never_queued (object_at objects b).standing)
 
+  -- none is left
   pub buried_queue : IsQueue (buried objects) []
   buried_queue = record {
     exact = λ b. in_buried (λ (o : Object). false ≡ is_queued o.standing) b (sym (never_queued (object_at objects b).standing));
@@ -103,6 +106,7 @@ dead_at objects b = record (object_at objects b) { standing = Dead }
 abbrev ended_one : List Object → ℕ → List Object
 ended_one objects x = with_object objects x (dead_at objects x)
 
+-- one of them
 dies_at : (objects : List Object) (x : ℕ) → object_at (ended_one objects x) x ≡ dead_at objects x
 dies_at objects x =
     ⊎_elim
@@ -113,6 +117,7 @@ dies_at objects x =
     still ∙ ap (λ (o : Object). let dead : Object = record o { standing = Dead } in dead) (sym past))
     (cases_lt x (length objects))
 
+-- P of each object behind the end of some, by whether it is one of them
 at_ended : (P : Object → Type 0) (objects : List Object) (locals : List ℕ) (b : ℕ) → (is_among locals b ≡ false → P (object_at objects b)) → (is_among locals b ≡ true → P (dead_at objects b)) → P (object_at (ended objects locals) b)
 at_ended P objects [] b out in' = out refl
 at_ended P objects (x ∷ locals) b out in' =
@@ -132,6 +137,7 @@ ended_length objects (x ∷ locals) =
     ended_length (ended_one objects x) locals ∙ length-set objects x (dead_at objects x)
 
 module _ (objects : List Object) (locals : List ℕ) where
+  -- the locals are those that die
   pub ended_drops : Drops objects (ended objects locals) locals
   ended_drops = record {
     becomes = record {

@@ -55,6 +55,7 @@ module _ (code : Code) (wf : IsWellFormed code) (old new : List Object) (dying :
         locals = locals_become old new dying g code w.entry top frame long apart w.locals;
       }
 
+  -- all of them, from newest to oldest
   pub waiting_become : (callee top total : ℕ) (frames : List Frame) → top ≤ length old → Apart old dying top → ((b : ℕ) → is_among dying b ≡ true → in_pins code b frames ≡ 0) → AreWaiting code old callee top total frames → AreWaiting code new callee top total frames
   waiting_become callee top total [] long apart none h = h
   waiting_become callee top total (frame ∷ frames) long apart none h =
@@ -63,6 +64,7 @@ module _ (code : Code) (wf : IsWellFormed code) (old new : List Object) (dying :
 
 -- A register that is written
 
+-- P of each register once one is written
 set_register : (P : Value → Type 0) → P (number (pos 0)) → (regs : List Value) (r q : ℕ) (v : Value) → P v → ((q ≡ r → ⊥) → P (get_or regs q (number (pos 0)))) → P (get_or (set regs r v) q (number (pos 0)))
 set_register P none regs r q v f other =
     ⊎_elim
@@ -79,6 +81,7 @@ abbrev pub with_value : List Value → Option ℕ → Value → List Value
 with_value regs None v = regs
 with_value regs (Some r) v = set regs r v
 
+-- the registers hold what they are for once a result is written
 pub registers_put : (entry : Entry) (regs : List Value) → AreOfSorts (all_there (register_sorts entry)) regs → (result : Option Sort) (r : Option ℕ) → GivesTo entry result r → (v : Value) → ((sort : Sort) → result ≡ Some sort → IsOfSort (Some sort) v) → AreOfSorts (all_there (register_sorts entry)) (with_value regs r v)
 registers_put entry regs h result None gives v is = h
 registers_put entry regs h None (Some r) gives v is = absurd gives
@@ -185,6 +188,7 @@ module _ (code : Code) (entry : Entry) (scopes others : ℕ) where
 
   -- the run moves on to where an instruction leads
   module _ (n : ℕ → ℕ) (t : State) (h : Holds (IsLive code) n t) (i : Instr) (here : slice_get code.instrs t.running.point ≡ Some i) (o : Op) (ready : Ready code t.running.func entry t.running.point i o) where
+    -- from what is live behind the instruction to what is needed there
     pub moves : hands o ≡ false → (next : ℕ) → Contains (edges i o t.running.point) next → t.scopes ≡ scopes_after o scopes + others → (t.scopes ≡ 0 → t.queue ≡ []) → IsGood code (kept n (at_point t next))
     moves takes next edge depth emptied =
         let own : Contains (edges i i.op t.running.point) next = subst (λ (x : Op). Contains (edges i x t.running.point) next) (sym ready.is) edge in

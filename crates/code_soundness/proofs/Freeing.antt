@@ -62,6 +62,7 @@ frees_cond objects b true false false again twice elsewhere h i j = tt
 frees_cond objects b true true start again twice elsewhere h i j = tt
 frees_cond objects b false dead start again twice elsewhere h i j = tt
 
+-- what a free names
 frees : (objects : List Object) (b offset : ℕ) → Frees objects (freed_at objects b offset)
 frees objects b offset =
     frees_cond objects b (is_heap (object_at objects b).sort) (is_dead (object_at objects b).standing) (nat_eq offset 0) (is_queued (object_at objects b).standing) _ _ refl refl refl
@@ -105,6 +106,7 @@ module _ (code : Code) (wf : IsWellFormed code) (c : CodeState) (good : IsGood c
       in_scope_stays code wf good.entry good.scopes good.others c.numbers (enqueue line b s) (queues (IsLive code) c.numbers s (unwritten code wf c good i at op.Free ready refl s.scopes) b line may) i at has free op.Free ready refl next refl good.depth s.scopes refl c.numbers s []
   named_stays ready line (Err reason) may = λ e. cc
 
+  -- a free of null, or of an object
   pub free_stays : Does op.Free → (line : ℕ) (p : Pointer) → StaysGood code (free code line p c.numbers s)
   free_stays ready line pointer.Null =
       goes_to code wf c good i at op.Free ready refl refl refl (s.running.point + 1) next s.steps
@@ -157,6 +159,7 @@ module _ (code : Code) (wf : IsWellFormed code) (c : CodeState) (good : IsGood c
         grown_stays old (made_may old may) (copied made.objects (start_of (length s.objects)) (start_of old) most) (copied_done made.objects made_holds.objects (start_of (length s.objects)) (start_of old) most to from) (copied_changes made.objects (start_of (length s.objects)) (start_of old) most)
     grow_named_stays (Err reason) may = λ e. cc
 
+    -- null grows to a new object
     pub grow_stays : (p : Pointer) → StaysGood code (grow code line i.a p size element c.numbers s)
     grow_stays pointer.Null =
         make_stays code wf c good i at op.Realloc ready i.a (record { takes = refl; edge = next; same = refl; writes = refl }) ready.result line size small element sound

@@ -25,6 +25,7 @@ module _ (code : Code) (point next r : ℕ) (edge : Contains (edges_at code poin
     is_read = l.is_read;
   }
 
+  -- a register that is needed where an instruction leads is live behind it
   pub live_back : IsNeeded code next r → IsLive code point r
   live_back h = ⊎_elim (λ reads. by_read reads) (λ both. by_path both.0 both.1) h
 
@@ -35,11 +36,13 @@ module _ (code : Code) (point : ℕ) (i : Instr) (at : slice_get code.instrs poi
       let e : reads_at code point i.a ≡ reads i i.op i.a = ap (λ (o : Option Instr). option_map_or (λ (j : Instr). reads j j.op i.a) o false) at in
       inl (e ∙ ap (λ (o : Op). reads i o i.a) is ∙ eq-eqb i.a i.a refl)
 
+  -- a register that is live behind it and not written there
   pub needed_live : (r : ℕ) → writes i i.op r ≡ false → IsLive code point r → IsNeeded code point r
   needed_live r w l =
       let e : writes_at code point r ≡ writes i i.op r = ap (λ (o : Option Instr). option_map_or (λ (j : Instr). writes j j.op r) o false) at in
       inr (e ∙ w, l)
 
+  -- where it leads
   pub edge_here : (next : ℕ) → Contains (edges i i.op point) next → Contains (edges_at code point) next
   edge_here next h =
       let e : edges_at code point ≡ edges i i.op point = ap (λ (o : Option Instr). option_map_or (λ (j : Instr). edges j j.op point) o []) at in

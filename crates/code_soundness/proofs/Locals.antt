@@ -21,6 +21,7 @@ use Rattle.code_soundness.specs.Good.{HasLocals}
 use Rattle.code_soundness.proofs.Lists.{all_at}
 use Rattle.code_soundness.proofs.Made.{blank_is, layout_sound}
 
+-- a layout is no larger than an object
 layout_small_at : (code : Code) → IsWellFormed code → (n : ℕ) (o : Option Layout) → slice_get code.layouts n ≡ o → (layout_in code n).size < 2 ^ 64
 layout_small_at code wf n None e = rw e (omega arith)
 layout_small_at code wf n (Some l) e =
@@ -37,11 +38,13 @@ module _ (code : Code) (f : ℕ) where
       length-map (enumerate_from n (map (layout_in code) mems)) (local_object f) ∙ length-enumerate_from n (map (layout_in code) mems)
       ∙ length-map mems (layout_in code)
 
+  -- they are whole
   pub locals_are : IsWellFormed code → (objects : List Object) (n : ℕ) (mems : List ℕ) → All (IsObject objects) (locals_from n mems)
   locals_are wf objects n [] = All-nil (IsObject objects)
   locals_are wf objects n (m ∷ mems) =
       All-cons (IsObject objects) (local_object f (n, layout_in code m)) (locals_from (n + 1) mems) (blank_is objects _ (layout_in code m).size (layout_in code m).slots (layout_small_at code wf m (slice_get code.layouts m) refl) (layout_sound code wf m).slots) (locals_are wf objects (n + 1) mems)
 
+  -- none is queued
   pub locals_unqueued : (n : ℕ) (mems : List ℕ) (k : ℕ) → is_queued (object_at (locals_from n mems) k).standing ≡ false
   locals_unqueued n [] k = refl
   locals_unqueued n (m ∷ mems) zero = refl
@@ -52,6 +55,7 @@ module _ (code : Code) (f : ℕ) where
   no_pointers_in x n (m ∷ mems) =
       omega (arith, sum_by-cons (living x) (local_object f (n, layout_in code m)) (locals_from (n + 1) mems), no_pointers x (length (layout_in code m).slots), no_pointers_in x (n + 1) mems)
 
+  -- and none has a pointer
   pub locals_living : (objects : List Object) (mems : List ℕ) (x : ℕ) → inside_living x (objects ++ locals_from 0 mems) ≡ inside_living x objects
   locals_living objects mems x = omega (arith, append_living objects (locals_from 0 mems) x, no_pointers_in x 0 mems)
 

@@ -48,6 +48,7 @@ heap_is objects line size element small sound = blank_is objects _ size _ small 
 
 -- Objects behind the others
 
+-- those that were made before stay as they are
 pub append_grows : (objects more : List Object) → Grows objects (objects ++ more)
 append_grows objects more = record {
   longer = omega (arith, length-append objects more);
@@ -78,6 +79,7 @@ append_queue objects more queue q none = record {
 
 -- A new heap object
 
+-- one more, that is whole
 pub one_more : (objects : List Object) (o : Object) → AreObjects objects → IsObject (objects ++ o ∷ []) o → AreObjects (objects ++ o ∷ [])
 one_more objects o whole is =
     append_objects objects (o ∷ []) whole (All-cons (IsObject (objects ++ o ∷ [])) o [] is (All-nil _))

@@ -52,6 +52,7 @@ none_in : (frame : Frame) (b q : ℕ) (registers : List ℕ) → pointers_to b (
 none_in frame b q registers none =
     count_none _ _ (omega (arith, none, sum_by-cons (λ p. cond (is_pointer_to b p) 1 0) (pointer_of_register frame q) (map (pointer_of_register frame) registers)))
 
+-- where none of some registers points to an object, each of them points elsewhere
 unpinned : (frame : Frame) (b : ℕ) (registers : List ℕ) → pointers_to b (map (pointer_of_register frame) registers) ≡ 0 → (r k : ℕ) → k < length registers → get_or registers k r ≡ r → is_pointer_to b (pointer_of_register frame r) ≡ false
 unpinned frame b [] none r k lt e = absurd (omega arith)
 unpinned frame b (q ∷ registers) none r zero lt e =
@@ -75,6 +76,7 @@ pins_count_at code entry frame i true site r c =
 pins_count_at code entry frame i false none r c =
     let nothing = subst (λ (o : Option (List ℕ)). Contains (unwrap_or o []) r) none c in absurd (omega (arith, nothing.1))
 
+-- the same of the instruction of the frame
 pub pins_count : (code : Code) → IsWellFormed code → (f : ℕ) (entry : Entry) (frame : Frame) (i : Instr) → IsAt code f entry frame.point i → (r : ℕ) → Contains (pins_at code frame) r → Counts code entry frame.point i r
 pins_count code wf f entry frame i at r c =
     pins_count_at code entry frame i (has_site i.op) (wf.instructions f entry frame.point i at).site r c

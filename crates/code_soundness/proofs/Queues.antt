@@ -6,7 +6,7 @@ use Rattle.std.proofs.lemmas.List.{length-set}
 use Rattle.std.proofs.lemmas.List.Elements.{All-set, All-weaker}
 use Rattle.hs_base.specs.declared.values.Pointer.TheVariants as pointer
 use Rattle.hs_base.specs.Freeing.{is_heap, queued}
-use Rattle.hs_base.specs.Object.{Object, Live, Queued, Dead, is_dead, is_queued, object_at}
+use Rattle.hs_base.specs.Object.{Object, Standing, Live, Queued, Dead, is_dead, is_queued, object_at}
 use Rattle.object_meaning.specs.Holding.{is_among}
 use Rattle.object_meaning.proofs.Alive.{Sane, at_set, is_within, among_left, among_last, among_cases}
 use Rattle.counts_are_holders.proofs.Objects.{same_bool}
@@ -15,21 +15,25 @@ use Rattle.code_soundness.proofs.Becoming.{Grows, Alike, Born, none_born, not_st
 use Rattle.code_soundness.proofs.Lists.{all_or}
 use Rattle.code_soundness.proofs.Touching.{object_grows, object_is, slots_point}
 
--- what is queued was made
-pub queued_within : (objects : List Object) (b : ℕ) → is_queued (object_at objects b).standing ≡ true → is_dead (object_at objects b).standing ≡ false
-queued_within objects b q = lives (object_at objects b) q where
-  lives : (o : Object) → is_queued o.standing ≡ true → is_dead o.standing ≡ false
-  lives o q = elim o.standing as (λ s. is_queued s ≡ true → is_dead s ≡ false) [ Live ↦ (λ e. refl) | Queued line ↦ (λ e. refl) | Dead ↦ (λ e. sym e) ] q
+-- what is queued is not dead
+lives : (st : Standing) → is_queued st ≡ true → is_dead st ≡ false
+lives Live q = refl
+lives (Queued line) q = refl
+lives Dead q = sym q
+
+pub queued_lives : (objects : List Object) (b : ℕ) → is_queued (object_at objects b).standing ≡ true → is_dead (object_at objects b).standing ≡ false
+queued_lives objects b q = lives (object_at objects b).standing q
 
 -- the objects and the queue are as the holders of an object want them
 pub sane_of : (objects : List Object) (queue : List ℕ) → AreObjects objects → IsQueue objects queue → Sane objects queue
 sane_of objects queue whole q = record {
   slots = λ b alive k.
       not_stale objects (get_or (object_at objects b).pointers k pointer.Null) (all_or (IsPointer objects) (object_at objects b).pointers k pointer.Null (slots_point objects whole b alive) tt);
-  queued = λ b is. (q.exact b ∙ is, (object_is objects whole b (is_within objects b (queued_within objects b is))).heap is);
+  queued = λ b is. (q.exact b ∙ is, (object_is objects whole b (is_within objects b (queued_lives objects b is))).heap is);
   in_queue = λ b i. sym (q.exact b) ∙ i;
 }
 
+-- other bytes and pointers leave the queue
 pub alike_queue : (old new : List Object) (queue : List ℕ) → Alike old new → IsQueue old queue → IsQueue new queue
 alike_queue old new queue a q =
     record { exact = λ b. q.exact b ∙ ap is_queued (sym (a.standing b)); once = q.once }
@@ -40,6 +44,7 @@ all_push : (P : ℕ → Type 0) (xs : List ℕ) (x : ℕ) → AllByRecursion P x
 all_push P [] x h p = (p, tt)
 all_push P (y ∷ xs) x h p = (h.0, all_push P xs x h.1 p)
 
+-- a birth that is not among them comes last
 distinct_push : (queue : List ℕ) (b : ℕ) → IsDistinct nat_eq queue → is_among queue b ≡ false → IsDistinct nat_eq (queue ++ b ∷ [])
 unfolding IsDistinct
 distinct_push [] b h out = (tt, tt)
@@ -51,6 +56,7 @@ pub distinct_none : IsDistinct nat_eq []
 unfolding IsDistinct
 distinct_none = tt
 
+-- it is the only one more
 among_other : (queue : List ℕ) (b c : ℕ) → (c ≡ b → ⊥) → is_among (queue ++ b ∷ []) c ≡ is_among queue c
 among_other queue b c n =
     same_bool _ _ (λ i. ⊎_elim (λ old. old) (λ e. absurd (n e)) (among_cases queue b c i)) (λ i. among_left queue (b ∷ []) c i)
@@ -82,6 +88,7 @@ module _ (objects : List Object) (whole : AreObjects objects) (queue : List ℕ)
   pub queued_born : Born objects freed
   queued_born = none_born objects freed (omega (arith, length-set objects b with_line))
 
+  -- its content is the same
   pub queued_objects : AreObjects freed
   queued_objects =
       let old = object_is objects whole b (is_within objects b there) in

@@ -46,15 +46,18 @@ use Rattle.code_soundness.proofs.Checks.{none_held, no_holder}
 
 -- Births one after another
 
+-- what is before them is not
 out_range : (a n b : ℕ) → b < a → is_among (range_with_len a n) b ≡ false
 out_range a zero b lt = refl
 out_range a (suc n) b lt =
     or_from (nat_eq a b) (is_among (range_with_len (a + 1) n) b) (ne_eqb a b (λ e. omega (arith, e))) (out_range (a + 1) n b (omega arith))
 
+-- each once
 once_range : (a n : ℕ) → Once (range_with_len a n)
 once_range a zero = tt
 once_range a (suc n) = (out_range (a + 1) n a (omega arith), once_range (a + 1) n)
 
+-- what is among them
 in_range : (a n b : ℕ) → is_among (range_with_len a n) b ≡ true → (k : ℕ) × (k < n) × (b ≡ a + k)
 in_range a zero b h = absurd (false≢true h)
 in_range a (suc n) b h =
@@ -63,6 +66,7 @@ in_range a (suc n) b h =
     (λ there. let r = in_range (a + 1) n b there in let e = r.2 in (suc r.0, omega (arith, r.1), omega (arith, e)))
     (or_cases (nat_eq a b) (is_among (range_with_len (a + 1) n) b) h)
 
+-- each of them is among them
 range_has : (a n k : ℕ) → k < n → is_among (range_with_len a n) (a + k) ≡ true
 range_has a zero k lt = absurd (omega arith)
 range_has a (suc n) zero lt =
@@ -110,6 +114,7 @@ module _ (code : Code) (wf : IsWellFormed code) (objects : List Object) (callee 
 
 -- The end of the locals
 
+-- no pointer to an object among one
 one_elsewhere : (b : Bool) → 0 + cond b 1 0 ≡ 0 → b ≡ false
 one_elsewhere true h = absurd (omega (arith, h))
 one_elsewhere false h = refl
@@ -234,5 +239,6 @@ module _ (code : Code) (wf : IsWellFormed code) (c : CodeState) (good : IsGood c
     end_stays (Some b) e = λ i. cc
     end_stays None e = back_stays e closed result each is s.waiting (waiting_left e) (left_counts e)
 
+    -- a return
     pub give_stays : StaysGood code (give_back code line answer c.numbers s)
     give_stays = end_stays (end_numbers s.objects locals (Some (pointer_in answer)) c.numbers) refl

@@ -100,6 +100,7 @@ module _ (code : Code) (wf : IsWellFormed code) (c : CodeState) (good : IsGood c
   writes o ready result r plain gives v is =
       write_good o ready result r plain gives s.objects (grows_same s.objects) (none_born s.objects s.objects (omega arith)) good.objects good.queue s.input good.input v is c.numbers good.numbers
 
+  -- the answer of an operation
   pub answers_stays : (o : Op) → IsReady o → (result : Option Sort) (r : Option ℕ) → IsPlain o r → GivesTo good.entry result r → (line : ℕ) (answer : Result Value Refusal) → Done (IsOperand s.objects result) answer → StaysGood code (same_numbers c.numbers (answers line s r answer))
   answers_stays o ready result r plain gives line (Ok v) h = writes o ready result r plain gives v h
   answers_stays o ready result r plain gives line (Err e) h = refused line e h
@@ -126,11 +127,13 @@ module _ (code : Code) (wf : IsWellFormed code) (c : CodeState) (good : IsGood c
       change_good o ready (Some Integer) None plain tt objects h (number (pos 0)) nothing c.numbers (λ x. omega (arith, good.numbers x, same x))
   stores_stays o ready plain line (Err e) h same = refused line e h
 
+  -- the object at a pointer has other pointers
   pub changes_stays : (o : Op) → IsReady o → IsPlain o None → (line b : ℕ) (result : Result (List Object) Refusal) → Done (Changed s.objects good.objects) result → OnDone (Changes s.objects b) result → StaysGood code (other_numbers (renumbered b c.numbers) c.numbers (changes line s result))
   changes_stays o ready plain line b (Ok objects) h d =
       change_good o ready (Some Integer) None plain tt objects h (number (pos 0)) nothing (renumbered b c.numbers s (with_objects s objects)) (changed_counts b (with_objects s objects) d refl)
   changes_stays o ready plain line b (Err e) h d = refused line e h
 
+  -- the same, with its pointer as the answer
   pub filled_stays : (o : Op) → IsReady o → (r : Option ℕ) → IsPlain o r → GivesTo good.entry (Some Address) r → (line b : ℕ) (p : Pointer) → IsPointer s.objects p → (result : Result (List Object) Refusal) → Done (Changed s.objects good.objects) result → OnDone (Changes s.objects b) result → StaysGood code (other_numbers (renumbered b c.numbers) c.numbers (filled line r p result s))
   filled_stays o ready r plain gives line b p is (Ok objects) h d =
       change_good o ready (Some Address) r plain gives objects h (address p) (tt, is) (renumbered b c.numbers s (with_objects s objects)) (changed_counts b (with_objects s objects) d refl)
@@ -163,6 +166,7 @@ module _ (code : Code) (wf : IsWellFormed code) (c : CodeState) (good : IsGood c
       let h = holds_grow code good.entry good.scopes good.others wf (IsNeeded code) c.numbers s before s.objects (grows_same s.objects) (none_born s.objects s.objects (omega arith)) good.objects s.queue good.queue scopes s.input good.input s.steps c.numbers good.numbers in
       holds_put code good.entry good.scopes good.others c.numbers t h i at.here (Some Integer) None tt (ap (written i) ready.is ∙ none) (number (pos 0)) (λ sort e. subst (λ (x : Option Sort). IsOfSort x (number (pos 0))) e nothing.0) tt
 
+  -- an inner scope is closed, or one is opened
   pub rescoped : (o : Op) → IsReady o → hands o ≡ false → written i o ≡ None → Contains (edges i o s.running.point) (s.running.point + 1) → (m : ℕ) → suc m ≡ scopes_after o good.scopes + good.others → IsGood code (kept c.numbers (onward (record s { scopes = suc m })))
   rescoped o ready takes none edge m depth =
       let t : State = record s { scopes = suc m } in
@@ -188,6 +192,7 @@ module _ (code : Code) (wf : IsWellFormed code) (c : CodeState) (good : IsGood c
       writes o ready (Some Integer) r plain gives v (integer_is s.objects v h)
   gives_stays o ready r plain gives line (Err e) h = refused line e h
 
+  -- an integer is the answer
   pub puts_number : (o : Op) → IsReady o → (r : Option ℕ) → IsPlain o r → GivesTo good.entry (Some Integer) r → (v : Value) → IsInteger v → IsGood code (kept c.numbers (write s r v))
   puts_number o ready r plain gives v is =
       writes o ready (Some Integer) r plain gives v (integer_is s.objects v is)
