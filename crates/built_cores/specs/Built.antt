@@ -15,14 +15,11 @@ IsBuiltLib lib.Memmove = ⊥
 IsBuiltLib lib.Memset = ⊥
 IsBuiltLib name = Unit {0}
 
--- a statement that is built: none that frees or grows objects, none on scopes, and none on ranges of bytes
+-- a statement that is built: none that grows objects, and none on ranges of bytes
 abbrev pub IsBuiltStatement : StmKind → Type 0
 IsBuiltStatement (stm.Realloc r p n t) = ⊥
-IsBuiltStatement (stm.Free p) = ⊥
 IsBuiltStatement (stm.Copy p q n) = ⊥
 IsBuiltStatement (stm.Clear p n) = ⊥
-IsBuiltStatement stm.Enter = ⊥
-IsBuiltStatement stm.Leave = ⊥
 IsBuiltStatement (stm.Lib name r args) = IsBuiltLib name
 IsBuiltStatement kind = Unit {0}
 

@@ -21,9 +21,7 @@ fn is_built_statement(kind: &StmKind) -> bool
     ensures { IsTrue result ↔ IsBuiltStatement kind.now }
 {
     match kind {
-        StmKind::Realloc(..) | StmKind::Free(..) => false,
-        StmKind::Copy(..) | StmKind::Clear(..) => false,
-        StmKind::Enter | StmKind::Leave => false,
+        StmKind::Realloc(..) | StmKind::Copy(..) | StmKind::Clear(..) => false,
         StmKind::Lib(name, _, _) => is_built_lib(*name),
         _ => true,
     }
@@ -48,8 +46,8 @@ fn is_built_function(func: &Func) -> bool
     func.mems.is_empty() && are_built_statements(func.body.as_slice())
 }
 
-/// Says whether a core has no memory local, and only statements that are built: none that frees or grows objects, none on
-/// scopes, and none on ranges of bytes.
+/// Says whether a core has no memory local, and only statements that are built: none that grows objects, and none on ranges
+/// of bytes.
 pub fn is_built(core: &Core) -> bool
     ensures { IsTrue result ↔ IsBuilt core.now }
 {

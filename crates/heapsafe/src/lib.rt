@@ -194,6 +194,8 @@ pub fn heapsafe<T: Texts, I: Source, O: Sink, E: Sink>(
 }
 
 #[cfg(test)]
+mod free_tests;
+#[cfg(test)]
 mod program_tests;
 #[cfg(test)]
 mod tests;
