@@ -4,16 +4,18 @@ ghost use Rattle.std.specs.Prelude.{◌≡◌, ◌+◌, ◌<◌, ◌≤◌, ◌^
 ghost use Rattle.built_cores.specs.Built.{IsBuilt};
 ghost use Rattle.code_soundness.specs.Laws.{HoldsBytes};
 ghost use Rattle.compiled_code.specs.Compiled.{IsCompiled};
+ghost use Rattle.compiled_code.specs.Sites.{AreAscending};
 ghost use Rattle.core_tree.specs.Sound.{IsSound};
 ghost use Rattle.core_tree.specs.declared.program.Core.{Core};
+ghost use Rattle.counted_meaning.specs.Pinning.{AreExact, Pins};
 ghost use Rattle.flat_code.specs.WellFormed.{IsWellFormed};
 ghost use Rattle.flat_codegen.specs.Running.{RunAnswers};
 ghost use Rattle.flat_machine.specs.Built.{IsBuilt as IsBuiltCode};
 ghost use Rattle.flat_machine.specs.Machined.{IsOf};
 ghost use Rattle.flat_machine.specs.Running.{RunCounts};
 
-use crate::laws::built_is_freeless;
 use compiled_meaning::code_means_core;
+use counts_are_holders::counted_means_core;
 use flat_code::Code;
 use flat_machine::Machine;
 use hs_base::{End, Sink, Source};
@@ -37,13 +39,13 @@ pub fn execute<I: Source, O: Sink>(
     requires budget { budget ≤ 1000000000 }
     requires input { I.faults input.old + 1 < 2 ^ 64 }
     requires out { O.faults out.old + 1 < 2 ^ 64 }
-    ensures told { machine.old.ended ≡ None → (core : Core) → IsSound core → IsBuilt core → IsCompiled core code.now → (left taken : List ℕ) → I.left input.old ≡ Some left → O.taken out.old ≡ Some taken → RunAnswers core left budget (record { heap = machine.old.kept.memory.heap.len; stack = machine.old.stack }) taken result (I.left input.new) (O.taken out.new) }
+    ensures told { machine.old.ended ≡ None → (core : Core) (pins : Pins) → IsSound core → AreExact core pins → AreAscending pins → IsBuilt core → IsCompiled core pins code.now → (left taken : List ℕ) → I.left input.old ≡ Some left → O.taken out.old ≡ Some taken → RunAnswers core left budget (record { heap = machine.old.kept.memory.heap.len; stack = machine.old.stack }) taken result (I.left input.new) (O.taken out.new) }
     ensures faults { machine.old.ended ≡ None → RunCounts result (I.faults input.old) (I.faults input.new) (O.faults out.old) (O.faults out.new) }
     ensures ends { machine.new.ended ≡ Some result }
     ensures loaded { IsOf code.now machine.new }
     ensures again { IfSome machine.old.ended (λ e. (result ≡ e) × (machine.new ≡ machine.old) × (input.new ≡ input.old) × (out.new ≡ out.old)) }
 {
     code_means_core();
-    built_is_freeless();
+    counted_means_core();
     machine.run(code, input, out, budget)
 }
