@@ -1,5 +1,5 @@
 -- The lists of the code of a sound core are short.
-use Rattle.std.proofs.Common.{◌≡◌, ℕ, ◌+◌, ◌≤◌, List, [], ◌∷◌, length, refl, arith}
+use Rattle.std.proofs.Common.{◌≡◌, ℕ, ◌+◌, ◌*◌, ◌≤◌, List, [], ◌∷◌, length, refl, arith}
 use Rattle.std.specs.List.{sum_by}
 use Rattle.std.proofs.lemmas.List.Sums.{sum_by-cons, sum_by-le-sum_by}
 use Rattle.core_tree.specs.declared.program.Core.{Core}
@@ -40,11 +40,20 @@ func_is_short func =
     let less = sum_by-le-sum_by weight (λ (s : Stm). size s + size s) func.body (λ s. kind_is_short s.kind) in
     omega (arith, less, twice size func.body)
 
+module _ (core : Core) {pins : Pins} (code : Code) (is : IsCompiled core pins code) where
+  -- at most two for each statement and each operand, and the first one
+  instrs_are_few : length code.instrs ≤ 1 + (sum_by code_size core.funcs + sum_by code_size core.funcs)
+  instrs_are_few =
+      let less = sum_by-le-sum_by func_length (λ (func : Func). code_size func + code_size func) core.funcs func_is_short in
+      omega (arith, is.few_instrs, before_all func_length core.funcs, less, twice code_size core.funcs)
+
+  -- and so at most 14 for each, one for each function and one at the start
+  pub few_instructions : length code.instrs ≤ 14 * sum_by code_size core.funcs + length core.funcs + 1
+  few_instructions = omega (arith, instrs_are_few)
+
 module _ (core : Core) {pins : Pins} (code : Code) (sound : IsSound core) (is : IsCompiled core pins code) where
   instrs_are_short : IsShort code.instrs
-  instrs_are_short =
-      let less = sum_by-le-sum_by func_length (λ (func : Func). code_size func + code_size func) core.funcs func_is_short in
-      omega (arith, is.few_instrs, before_all func_length core.funcs, less, twice code_size core.funcs, sound.code)
+  instrs_are_short = omega (arith, instrs_are_few core code is, sound.code)
 
   pub lists_are_short : IsShort code.layouts → IsShort code.formats → AreShort code
   lists_are_short few_layouts few_formats =

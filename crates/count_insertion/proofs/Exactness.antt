@@ -161,7 +161,7 @@ counts_within func point (stm.Free p) r h = on_within func point r h
 counts_within func point stm.Leave r h = on_within func point r h
 counts_within func point kind r h = absurd (true≢false (sym h))
 
-at_map : (funcs : List Func) (f : ℕ) (func : Func) → slice_get funcs f ≡ Some func → get_or (map func_pins funcs) f [] ≡ func_pins func
+pub at_map : (funcs : List Func) (f : ℕ) (func : Func) → slice_get funcs f ≡ Some func → get_or (map func_pins funcs) f [] ≡ func_pins func
 at_map [] f func h = absurd (cc)
 at_map (g ∷ funcs) zero func h = let e : g ≡ func = cc in ap func_pins e
 at_map (g ∷ funcs) (suc f) func h = at_map funcs f func h

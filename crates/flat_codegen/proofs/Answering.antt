@@ -12,12 +12,12 @@ use Rattle.meaning_run.specs.Meant.{end_in, StopsAtIn, Stopped}
 use Rattle.flat_machine.specs.Running as machine
 use Rattle.flat_codegen.specs.Running as core_runs
 
-module _ (core : Core) (code : Code) (input : List ℕ) (n : ℕ) (traces : (core_meaning core input n).trace ≡ (code_meaning code input n).trace) (ends : (core_meaning core input n).ended ≡ (code_meaning code input n).ended) (room : Room) (taken : List ℕ) (left' taken' : Option (List ℕ)) where
+module _ (core : Core) (code : Code) (input : List ℕ) (n : ℕ) (trace : (core_meaning core input n).trace ≡ (code_meaning code input n).trace) (ended : (core_meaning core input n).ended ≡ (code_meaning code input n).ended) (room : Room) (taken : List ℕ) (left' taken' : Option (List ℕ)) where
   same_cut : machine.cut_of code input n room ≡ core_runs.cut_of core input n room
-  same_cut = ap (cut room) (sym traces)
+  same_cut = ap (cut room) (sym trace)
 
   same_end : end_in (ending_of (core_runs.cut_of core input n room).refused (core_meaning core input n).ended) ≡ end_in (ending_of (machine.cut_of code input n room).refused (code_meaning code input n).ended)
-  same_end = λ i. end_in (ending_of (sym same_cut i).refused (ends i))
+  same_end = λ i. end_in (ending_of (sym same_cut i).refused (ended i))
 
   whole : (e : End) → machine.Whole code input n room taken e left' taken' → core_runs.Whole core input n room taken e left' taken'
   whole e w = record {

@@ -10,12 +10,12 @@ use Rattle.core_tree.specs.declared.statements.Stm.{Stm}
 use Rattle.core_tree.specs.declared.statements.StmKind.{StmKind}
 use Rattle.core_tree.specs.declared.statements.StmKind.TheVariants as stm
 use Rattle.built_cores.specs.Built.{IsBuilt, IsBuiltFunction, IsBuiltLib, IsBuiltStatement}
+use Rattle.counted_meaning.specs.Pinning.{Pins}
 use Rattle.compiled_code.specs.Compiled.{IsCompiled}
 use Rattle.compiled_form.proofs.Doing.{doing}
 use Rattle.compiled_form.proofs.Handing.{each_hand}
 use Rattle.compiled_form.proofs.Spots.{each_instr, owner, places}
 use Rattle.compiled_form.proofs.Tables.{holds_at}
-use Rattle.compiled_meaning.specs.Freeless.{IsFreeless, QueuesNothing}
 use Rattle.flat_code.specs.declared.instructions.Instr.{Instr}
 use Rattle.flat_code.specs.declared.program.Code.{Code}
 use Rattle.flat_code.specs.WellFormed.{EachEntry, EachInstr}
@@ -47,11 +47,6 @@ built_op place (stm.Return None) n h = tt
 built_op place (stm.Return (Some a)) n h = tt
 built_op place kind n h = tt
 
-queues_nothing : (kind : StmKind) → IsBuiltStatement kind → QueuesNothing kind
-queues_nothing (stm.Realloc r p m t) h = h
-queues_nothing (stm.Free p) h = h
-queues_nothing kind h = tt
-
 map_none : {X Y : Type 0} (f : X → Y) (xs : List X) → map f xs ≡ [] → xs ≡ []
 map_none f [] h = refl
 map_none f (x ∷ xs) h = absurd (cc)
@@ -64,13 +59,7 @@ module _ (core : Core) (built : IsBuilt core) where
   statement f point func stm here found =
       holds_at (λ (stm : Stm). IsBuiltStatement stm.kind) func.body point stm (function f func here).statements found
 
-  pub freeless : IsFreeless core
-  freeless = record {
-    statements = λ f func here point stm found. queues_nothing stm.kind (statement f point func stm here found);
-    locals = λ f func here. (function f func here).locals;
-  }
-
-  module _ (code : Code) (is : IsCompiled core code) where
+  module _ {pins : Pins} (code : Code) (is : IsCompiled core pins code) where
     instructions : EachInstr code (λ f entry point i. machine.IsBuiltOp i.op)
     instructions =
         each_instr core code is (λ f entry point i. machine.IsBuiltOp i.op)

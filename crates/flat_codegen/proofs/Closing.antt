@@ -1,8 +1,9 @@
 -- What was emitted is the code of the core, and its lists are short.
-use Rattle.std.proofs.Common.{◌≡◌, ℕ, ◌+◌, ◌<◌, ◌≤◌, suc, Bool, true, false, cond, List, [], ◌∷◌, Option, Some, None, refl, ap, sym, ◌∙◌, subst, length, map, arith}
+use Rattle.std.proofs.Common.{◌≡◌, ℕ, ◌+◌, ◌<◌, ◌≤◌, suc, Bool, true, false, cond, List, [], ◌∷◌, Option, Some, None, refl, ap, sym, ◌∙◌, subst, length, map, take, arith}
 use Rattle.std.specs.Prelude.{slice_get, All, fold, pos}
+use Rattle.std.specs.List.{enumerate_from, flat_map}
 use Rattle.std.specs.Option.{option_map}
-use Rattle.std.proofs.lemmas.List.{length-map}
+use Rattle.std.proofs.lemmas.List.{length-map, take_all}
 use Rattle.std.proofs.lemmas.Option.{slice_get_within, slice_get-map, slice_get_read, get_or_from_slice_get}
 use Rattle.c_types.specs.declared.layouts.Layout.{Layout}
 use Rattle.core_tree.specs.declared.program.Core.{Core}
@@ -23,7 +24,10 @@ use Rattle.flat_code.specs.declared.program.Entry.{Entry}
 use Rattle.flat_code.specs.declared.program.StaticInit.{StaticInit}
 use Rattle.flat_code.specs.WellFormed.{IsShort, AreShort}
 use Rattle.compiled_code.specs.Handing.{instr}
+use Rattle.counted_meaning.specs.Pinning.{Pins}
+use Rattle.count_insertion.specs.Inserted.{func_pins}
 use Rattle.compiled_code.specs.Compiled.{IsCompiled, IsFormatIn, format_of}
+use Rattle.compiled_code.specs.Sites.{func_sites}
 use Rattle.flat_codegen.specs.Emitting.{before_functions, with_instrs, with_function}
 use Rattle.flat_codegen.specs.Statics.{AreInits}
 use Rattle.flat_codegen.proofs.Gets.{get_within, all_at, same_get}
@@ -48,8 +52,8 @@ begun core inits =
     with_instrs (before_functions inits (map (λ (static : Static). static.layout) core.statics)) (line_of (slice_get core.funcs (main_of core))) (instr op.Start 0 0 0 (pos (main_of core)) ∷ [])
 
 -- before the first function
-no_functions : (core : Core) (sound : IsSound core) (inits : List StaticInit) → FuncsSoFar core (formats_there core sound) (begun core inits) 0 (begun core inits)
-no_functions core sound inits = record {
+no_functions : (core : Core) (pins : Pins) (listed : pins ≡ map func_pins core.funcs) (sound : IsSound core) (inits : List StaticInit) → FuncsSoFar core pins listed (formats_there core sound) (begun core inits) 0 (begun core inits)
+no_functions core pins listed sound inits = record {
   grows = extends_same (begun core inits);
   count = refl;
   next = refl;
@@ -63,10 +67,11 @@ no_functions core sound inits = record {
 }
 
 -- the code of all functions is that of the core
-pub is_compiled : (core : Core) → IsSound core → (inits : List StaticInit) → AreInits core.statics inits → IsCompiled core (fold with_function (begun core inits) core.funcs)
-is_compiled core sound inits made =
+is_compiled : (core : Core) (pins : Pins) → pins ≡ map func_pins core.funcs → IsSound core → (inits : List StaticInit) → AreInits core.statics inits → IsCompiled core pins (fold with_function (begun core inits) core.funcs)
+is_compiled core pins listed sound inits made =
     let code = fold with_function (begun core inits) core.funcs in
-    let h : FuncsSoFar core (formats_there core sound) (begun core inits) (length core.funcs) code = whole_core core (formats_there core sound) (begun core inits) (no_functions core sound inits) in
+    let h : FuncsSoFar core pins listed (formats_there core sound) (begun core inits) (length core.funcs) code = whole_core core pins listed (formats_there core sound) (begun core inits) (no_functions core pins listed sound inits) in
+    let all : take (length core.funcs) core.funcs ≡ core.funcs = take_all (length core.funcs) core.funcs (omega arith) in
     record {
       start = h.grows.instrs 0 _ refl;
       start_line = h.grows.lines 0 _ refl;
@@ -85,7 +90,7 @@ is_compiled core sound inits made =
           (init.0, there, record { layout = layout; bytes = init.2.bytes; same_pointers = init.2.same_pointers; by_slots = init.2.by_slots });
       layouts = h.layouts;
       formats = h.formats;
-      sites = h.sites;
+      sites = h.sites ∙ ap (λ (funcs : List Func). flat_map (func_sites core pins) (enumerate_from 0 funcs)) all;
     }
 
 -- the format that a statement writes is one of its function's
@@ -104,7 +109,7 @@ short_format core sound text h =
     subst IsShort (get_or_from_slice_get func.formats found.0 text [] found.1) (all found.0 [] (slice_get_within func.formats found.0 text found.1))
 
 -- and so are all lists
-pub are_short : (core : Core) → IsSound core → (code : Code) → IsCompiled core code → IsShort code.instrs → IsShort code.layouts → IsShort code.formats → AreShort code
+pub are_short : (core : Core) {pins : Pins} → IsSound core → (code : Code) → IsCompiled core pins code → IsShort code.instrs → IsShort code.layouts → IsShort code.formats → AreShort code
 are_short core sound code h instrs layouts formats = record {
   instrs = instrs;
   funcs = omega (arith, h.few_funcs, sound.short_funcs);
@@ -144,13 +149,13 @@ all_numbers core sound = all_at (λ (func : Func). EachStatement func.body (λ p
     (λ f func at. λ point stm e. (sound.functions f func at).numbers point stm e)
 
 -- the same by the steps of the walk
-pub walked : (core : Core) → IsSound core → (statics : List Static) → statics ≡ core.statics → (funcs : List Func) → funcs ≡ core.funcs → (main : ℕ) → main ≡ main_of core →
+pub walked : (core : Core) (pins : Pins) → pins ≡ map func_pins core.funcs → IsSound core → (statics : List Static) → statics ≡ core.statics → (funcs : List Func) → funcs ≡ core.funcs → (main : ℕ) → main ≡ main_of core →
     (inits : List StaticInit) → AreInits statics inits → (layouts : List Layout) → layouts ≡ map (λ (static : Static). static.layout) core.statics →
     (line : ℕ) → line ≡ line_of (slice_get core.funcs main) →
-    (first next last : Code) → first ≡ before_functions inits layouts → next ≡ with_instrs first line (instr op.Start 0 0 0 (pos main) ∷ []) → last ≡ fold with_function next funcs → IsCompiled core last
-walked core sound statics s funcs fs main m inits made layouts l line ln first next last a b c =
+    (first next last : Code) → first ≡ before_functions inits layouts → next ≡ with_instrs first line (instr op.Start 0 0 0 (pos main) ∷ []) → last ≡ fold with_function next funcs → IsCompiled core pins last
+walked core pins listed sound statics s funcs fs main m inits made layouts l line ln first next last a b c =
     let begins : next ≡ begun core inits =
     b ∙ (λ i. with_instrs (a i) (ln i) (instr op.Start 0 0 0 (pos main) ∷ []))
     ∙ (λ i. with_instrs (before_functions inits (l i)) (line_of (slice_get core.funcs (m i))) (instr op.Start 0 0 0 (pos (m i)) ∷ [])) in
     let all : last ≡ fold with_function (begun core inits) core.funcs = c ∙ (λ i. fold with_function (begins i) (fs i)) in
-    subst (IsCompiled core) (sym all) (is_compiled core sound inits (subst (λ (xs : List Static). AreInits xs inits) s made))
+    subst (IsCompiled core pins) (sym all) (is_compiled core pins listed sound inits (subst (λ (xs : List Static). AreInits xs inits) s made))

@@ -4,6 +4,8 @@ pub mod Stepping
 pub mod Kept
 pub mod Standing
 pub mod Walking
+pub mod Numbering
+pub mod Pins
 pub mod Bodies
 pub mod Wholes
 pub mod Closing

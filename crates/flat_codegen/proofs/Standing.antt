@@ -76,22 +76,22 @@ pub length-block : (place : ℕ → ℕ) (n m : ℕ) (kind : StmKind) → length
 length-block place n m kind = block_length (handed_atoms kind) (doing place n m kind)
 
 -- a layout and a format that were just added have the numbers that were next
-numbered : (core : Core) (code : Code) (f : ℕ) (func : Func) (place : ℕ → ℕ) (stm : Stm) →
-    Numbered core (with_statement place func code stm) f func place (length code.layouts) (length code.formats) stm.kind
-numbered core code f func place stm = record {
+numbered : (core : Core) (code : Code) (f : ℕ) (func : Func) (place : ℕ → ℕ) (stm : Stm) (pins : List ℕ) →
+    Numbered core (with_statement place func code stm pins) f func place (length code.layouts) (length code.formats) stm.kind
+numbered core code f func place stm pins = record {
   layouts = λ t e. ap (λ (ts : List Layout). slice_get (code.layouts ++ ts) (length code.layouts)) e ∙ get_next code.layouts t [];
   formats = λ t e. ap (λ (o : Option (List ℕ)). slice_get (code.formats ++ option_to_list o) (length code.formats)) e ∙ get_next code.formats t [];
 }
 
 -- a statement that was just emitted stands there
-pub statement_stands : (core : Core) (code : Code) (f : ℕ) (func : Func) (place : ℕ → ℕ) (stm : Stm) → ((l : ℕ) → place l ≡ place_of core f func.body l) →
-    HasFormat func stm.kind → length code.lines ≡ length code.instrs → IsStatement core (with_statement place func code stm) f func (length code.instrs) stm
-statement_stands core code f func place stm right s same =
+pub statement_stands : (core : Core) (code : Code) (f : ℕ) (func : Func) (place : ℕ → ℕ) (stm : Stm) (pins : List ℕ) → ((l : ℕ) → place l ≡ place_of core f func.body l) →
+    HasFormat func stm.kind → length code.lines ≡ length code.instrs → IsStatement core (with_statement place func code stm pins) f func (length code.instrs) stm
+statement_stands core code f func place stm pins right s same =
     let kind = stm.kind in
     let all = block place (length code.layouts) (length code.formats) kind in
     let taker = doing place (length code.layouts) (length code.formats) kind in
     record {
       hands = λ k a e. get_part code.instrs all (length code.instrs) k (hand_of a) refl (hand_at (handed_atoms kind) taker k a e);
-      does = (taker, get_part code.instrs all (length code.instrs) (length (handed_atoms kind)) taker refl (taker_at (handed_atoms kind) taker), does_it core (with_statement place func code stm) f func place (length code.layouts) (length code.formats) right kind s (numbered core code f func place stm));
+      does = (taker, get_part code.instrs all (length code.instrs) (length (handed_atoms kind)) taker refl (taker_at (handed_atoms kind) taker), does_it core (with_statement place func code stm pins) f func place (length code.layouts) (length code.formats) right kind s (numbered core code f func place stm pins));
       lines = λ k h. get_part code.lines (map (λ _. stm.line) all) (length code.instrs) k stm.line (sym same) (lines_alike stm.line all k (let n : length all ≡ code_length kind = length-block place (length code.layouts) (length code.formats) kind in omega arith));
     }

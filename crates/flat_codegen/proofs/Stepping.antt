@@ -3,6 +3,7 @@ use Rattle.std.proofs.Common.{◌≡◌, ℕ, ◌+◌, ◌<◌, ◌≤◌, List,
 use Rattle.std.proofs.lemmas.List.{map-append, append-nil}
 use Rattle.core_tree.specs.declared.statements.Atom.{Atom}
 use Rattle.core_tree.specs.declared.statements.Atom.TheVariants.{Int}
+use Rattle.core_tree.specs.declared.program.Func.{Func}
 use Rattle.core_tree.specs.declared.statements.Stm.{Stm}
 use Rattle.core_tree.specs.declared.statements.StmKind.{StmKind}
 use Rattle.core_tree.specs.declared.statements.StmKind.TheVariants.{Off, Copy, Clear, Case}
@@ -11,14 +12,18 @@ use Rattle.core_tree.specs.Sound.{own_numbers}
 use Rattle.compiled_code.specs.Handing.{hand_of, handed_atoms}
 use Rattle.compiled_code.specs.Places.{body_length}
 use Rattle.flat_code.specs.declared.program.Code.{Code}
-use Rattle.flat_codegen.specs.Emitting.{with_instrs, place_from}
+use Rattle.counted_meaning.specs.Pinning.{pins_in}
+use Rattle.count_insertion.specs.Inserted.{func_pins}
+use Rattle.flat_codegen.specs.Emitting.{with_instrs, with_statement, with_point, place_from}
 use Rattle.flat_codegen.specs.Placing.{place_at}
 use Rattle.flat_codegen.proofs.Adding.{instrs_twice}
 use Rattle.flat_codegen.proofs.Gets.{take_one_more}
-use Rattle.std.specs.Prelude.{slice_get}
-use Rattle.std.specs.List.{range_with_len}
+use Rattle.flat_codegen.proofs.Numbering.{numbered_next}
+use Rattle.std.specs.Prelude.{slice_get, fold}
+use Rattle.std.specs.List.{enumerate_from, range_with_len}
+use Rattle.std.proofs.lemmas.List.Sums.{fold_push}
 use Rattle.std.proofs.lemmas.List.{take_all, get_or_past, get_or_default}
-use Rattle.std.proofs.lemmas.Option.{unwrap_or-slice_get}
+use Rattle.std.proofs.lemmas.Option.{unwrap_or-slice_get, slice_get_read}
 use Rattle.std.proofs.lemmas.Bool.{cases_lt}
 
 -- one operand more is handed over
@@ -58,3 +63,16 @@ numbers_more a (suc n) =
     let e : a + suc n ≡ (a + 1) + n = omega arith in
     let s : suc n + 1 ≡ suc (n + 1) = omega arith in
     ap (λ k. a ∷ (range_with_len (a + 1) n ++ k ∷ [])) e ∙ ap (λ l. a ∷ l) (numbers_more (a + 1) n) ∙ ap (range_with_len a) (sym s)
+
+-- a statement that was read at a point
+pub read_at : (stms body : List Stm) → stms ≡ body → (n : ℕ) (stm : Stm) → n < length stms → stm ≡ get_or stms n stm → slice_get body n ≡ Some stm
+read_at stms body e n stm inside is =
+    ap (λ (xs : List Stm). slice_get xs n) (sym e) ∙ slice_get_read stms (length stms) n stm refl inside is
+
+-- one statement more
+pub points_more : (place : ℕ → ℕ) (func : Func) (start code new : Code) (n : ℕ) (stm : Stm) (registers : List ℕ) → slice_get func.body n ≡ Some stm → code ≡ fold (with_point place func) start (enumerate_from 0 (take n func.body)) →
+    registers ≡ pins_in (func_pins func) n → new ≡ with_statement place func code stm registers → new ≡ fold (with_point place func) start (enumerate_from 0 (take (n + 1) func.body))
+points_more place func start code new n stm registers at so_far pins e =
+    let next : suc n ≡ n + 1 = omega arith in
+    e ∙ (λ i. with_statement place func (so_far i) stm (pins i))
+    ∙ sym (ap (fold (with_point place func) start) (sym (ap (λ k. enumerate_from 0 (take k func.body)) next) ∙ numbered_next func.body n stm at) ∙ fold_push (with_point place func) start (enumerate_from 0 (take n func.body)) (n, stm))

@@ -1,7 +1,7 @@
 -- The functions that were emitted stand one behind the other.
 use Rattle.std.proofs.Common.{◌≡◌, ℕ, ◌+◌, ◌<◌, ◌≤◌, suc, List, [], ◌∷◌, ◌++◌, Some, refl, ap, sym, ◌∙◌, subst, length, map, take, arith, length-append, append_assoc}
 use Rattle.std.specs.Prelude.{slice_get, All, Any, fold}
-use Rattle.std.specs.List.{range_with_len, sum_by}
+use Rattle.std.specs.List.{enumerate_from, flat_map, range_with_len, sum_by}
 use Rattle.std.specs.Option.{option_map}
 use Rattle.std.proofs.Common.{⊎_elim, inl, inr}
 use Rattle.std.proofs.lemmas.List.{take_all, length-map}
@@ -16,12 +16,17 @@ use Rattle.core_tree.specs.declared.program.Static.{Static}
 use Rattle.core_tree.specs.declared.statements.Stm.{Stm}
 use Rattle.flat_code.specs.declared.program.Code.{Code}
 use Rattle.flat_code.specs.declared.program.Entry.{Entry}
+use Rattle.counted_meaning.specs.Pinning.{Pins, pins_in, pins_of}
+use Rattle.count_insertion.specs.Inserted.{func_pins}
+use Rattle.count_insertion.proofs.Exactness.{at_map}
 use Rattle.compiled_code.specs.Places.{body_length, first_of, place_of}
 use Rattle.compiled_code.specs.Compiled.{IsStatement, IsEntry, IsLayoutIn, IsFormatIn}
+use Rattle.compiled_code.specs.Sites.{statement_sites, func_sites}
 use Rattle.flat_codegen.specs.Emitting.{place_from, entry_of, with_entry, with_function}
 use Rattle.flat_codegen.proofs.Gets.{get_left, get_next, get_within, any_at, all_at, sum_one_more, same_get}
 use Rattle.flat_codegen.proofs.Kept.{Extends, HasFormat, extends_twice, keeps_statement, keeps_entry}
 use Rattle.flat_codegen.proofs.Bodies.{BodySoFar, whole_body}
+use Rattle.flat_codegen.proofs.Numbering.{made_next}
 use Rattle.flat_codegen.proofs.Walking.{fold_keeps}
 
 -- the layouts of memory locals have the next numbers
@@ -64,7 +69,7 @@ pub statics_in : (core : Core) → All (IsLayoutIn core) (map (λ (s : Static). 
 statics_in core = all_at (IsLayoutIn core) (map (λ (s : Static). s.layout) core.statics)
     (λ k layout e. inl (any_mapped (λ (s : Static). s.layout) core.statics k layout e))
 
-module _ (core : Core) (written : (f point : ℕ) (func : Func) (stm : Stm) → slice_get core.funcs f ≡ Some func → slice_get func.body point ≡ Some stm → HasFormat func stm.kind) where
+module _ (core : Core) (pins : Pins) (listed : pins ≡ map func_pins core.funcs) (written : (f point : ℕ) (func : Func) (stm : Stm) → slice_get core.funcs f ≡ Some func → slice_get func.body point ≡ Some stm → HasFormat func stm.kind) where
   -- so many functions stand in code that began as some
   pub record FuncsSoFar (old : Code) (n : ℕ) (code : Code) : Type 0 where
     pub grows : Extends old code
@@ -76,7 +81,19 @@ module _ (core : Core) (written : (f point : ℕ) (func : Func) (stm : Stm) → 
     pub layouts : All (IsLayoutIn core) code.layouts
     pub formats : All (IsFormatIn core) code.formats
     pub statics : code.statics ≡ old.statics
-    pub sites : code.sites ≡ old.sites
+    pub sites : code.sites ≡ old.sites ++ flat_map (func_sites core pins) (enumerate_from 0 (take n core.funcs))
+
+  -- the pins of a function are those that are listed for it
+  own_pins : (f : ℕ) (func : Func) → slice_get core.funcs f ≡ Some func → (point : ℕ) → pins_of pins f point ≡ pins_in (func_pins func) point
+  own_pins f func at point =
+      ap (λ ps. pins_of ps f point) listed ∙ ap (λ ps. pins_in ps point) (at_map core.funcs f func at)
+
+  -- the sites of one function more
+  sites_more : (old : Code) (n : ℕ) (func : Func) (code new : Code) → slice_get core.funcs n ≡ Some func → FuncsSoFar old n code → new.sites ≡ code.sites ++ func_sites core pins (n, func) → new.sites ≡ old.sites ++ flat_map (func_sites core pins) (enumerate_from 0 (take (suc n) core.funcs))
+  sites_more old n func code new at h e =
+      let before = flat_map (func_sites core pins) (enumerate_from 0 (take n core.funcs)) in
+      e ∙ ap (λ sites. sites ++ func_sites core pins (n, func)) h.sites ∙ append_assoc old.sites before (func_sites core pins (n, func))
+      ∙ ap (λ sites. old.sites ++ sites) (sym (made_next (func_sites core pins) core.funcs n func at))
 
   -- one function more stands
   one_more : (old : Code) (n : ℕ) (func : Func) (code : Code) → slice_get core.funcs n ≡ Some func → FuncsSoFar old n code → FuncsSoFar old (suc n) (with_function code func)
@@ -87,7 +104,7 @@ module _ (core : Core) (written : (f point : ℕ) (func : Func) (stm : Stm) → 
       let mid = with_entry code func in
       let new = with_function code func in
       let layouts : All (IsLayoutIn core) mid.layouts = All-append (IsLayoutIn core) code.layouts (map (λ (m : Mem). m.layout) func.mems) h.layouts (mems_in core n func at) in
-      let body : BodySoFar core n func at place right mine mid (length func.body) new = whole_body core n func at place right mine mid h.same layouts h.formats in
+      let body : BodySoFar core pins n func at (own_pins n func at) place right mine mid (length func.body) new = whole_body core pins n func at (own_pins n func at) place right mine mid h.next h.same layouts h.formats in
       let grows : Extends code new = extends_twice code mid new (extends_entry code func) body.grows in
       let all : take (length func.body) func.body ≡ func.body = take_all (length func.body) func.body (omega arith) in
       let longer : length new.instrs ≡ length code.instrs + body_length func.body = body.count ∙ ap (λ (b : List Stm). length code.instrs + body_length b) all in
@@ -126,7 +143,7 @@ module _ (core : Core) (written : (f point : ℕ) (func : Func) (stm : Stm) → 
         layouts = body.layouts;
         formats = body.formats;
         statics = body.statics ∙ h.statics;
-        sites = body.sites ∙ h.sites;
+        sites = sites_more old n func code new at h (body.sites ∙ ap (λ (body : List Stm). code.sites ++ flat_map (statement_sites core pins n func) (enumerate_from 0 body)) all);
       }
 
   -- all of them

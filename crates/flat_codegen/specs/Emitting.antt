@@ -1,6 +1,6 @@
 -- What each step adds to the code that stands so far.
-use Rattle.std.specs.Prelude.{◌+◌, ◌++◌, ◌∷◌, [], ℕ, ℤ, pos, List, Option, Some, None, length, map, fold, unwrap_or, take}
-use Rattle.std.specs.List.{range_with_len}
+use Rattle.std.specs.Prelude.{◌+◌, ◌++◌, ◌∷◌, [], ℕ, ℤ, pos, cond, List, Option, Some, None, length, map, fold, unwrap_or, take}
+use Rattle.std.specs.List.{enumerate_from, range_with_len}
 use Rattle.std.specs.Option.{option_to_list}
 use Rattle.c_types.specs.declared.layouts.Layout.{Layout}
 use Rattle.core_tree.specs.declared.program.Func.{Func}
@@ -16,10 +16,14 @@ use Rattle.flat_code.specs.declared.instructions.Op.{Op}
 use Rattle.flat_code.specs.declared.instructions.Op.TheVariants as op
 use Rattle.flat_code.specs.declared.program.Code.{Code}
 use Rattle.flat_code.specs.declared.program.Entry.{Entry}
+use Rattle.flat_code.specs.declared.program.Site.{Site}
 use Rattle.flat_code.specs.declared.program.StaticInit.{StaticInit}
+use Rattle.counted_meaning.specs.Pinning.{pins_in}
+use Rattle.count_insertion.specs.Inserted.{func_pins}
 use Rattle.compiled_code.specs.Handing.{hand_of, handed_atoms}
 use Rattle.compiled_code.specs.Places.{body_length}
 use Rattle.compiled_code.specs.Compiled.{format_of}
+use Rattle.compiled_code.specs.Sites.{may_free, site_at}
 
 -- the code with its statics and their layouts alone
 abbrev pub before_functions : List StaticInit → List Layout → Code
@@ -36,6 +40,9 @@ with_layouts code layouts = record code { layouts = code.layouts ++ layouts }
 
 abbrev pub with_formats : Code → List (List ℕ) → Code
 with_formats code formats = record code { formats = code.formats ++ formats }
+
+abbrev pub with_sites : Code → List Site → Code
+with_sites code sites = record code { sites = code.sites ++ sites }
 
 -- what an instruction does for a statement
 abbrev pub op_of : StmKind → Op
@@ -112,10 +119,18 @@ doing place layout format kind =
 abbrev pub block : (ℕ → ℕ) → ℕ → ℕ → StmKind → List Instr
 block place layout format kind = map hand_of (handed_atoms kind) ++ doing place layout format kind ∷ []
 
--- the code with a statement at its end, and its layout and format
-abbrev pub with_statement : (ℕ → ℕ) → Func → Code → Stm → Code
-with_statement place func code stm =
-    with_instrs (with_formats (with_layouts code (element_layouts stm.kind)) (option_to_list (format_of func stm.kind))) stm.line (block place (length code.layouts) (length code.formats) stm.kind)
+-- the site of a statement whose operands are handed over, so that what it does comes next
+abbrev pub next_site : Code → StmKind → List ℕ → List Site
+next_site code kind pins = cond (may_free kind) (record { instr = length code.instrs; pins = pins } ∷ []) []
+
+-- the code with a statement at its end, its layout and its format, and its site with these pins
+abbrev pub with_statement : (ℕ → ℕ) → Func → Code → Stm → List ℕ → Code
+with_statement place func code stm pins =
+    with_sites (with_instrs (with_formats (with_layouts code (element_layouts stm.kind)) (option_to_list (format_of func stm.kind))) stm.line (block place (length code.layouts) (length code.formats) stm.kind)) (site_at (length code.instrs) stm.kind pins)
+
+-- the same for the statement at a point of a function, with the pins that are listed
+abbrev pub with_point : (ℕ → ℕ) → Func → Code → ℕ × Stm → Code
+with_point place func code at = with_statement place func code at.1 (pins_in (func_pins func) at.0)
 
 -- the place of a point in a body that begins at an instruction
 abbrev pub place_from : ℕ → List Stm → ℕ → ℕ
@@ -134,4 +149,4 @@ with_entry code func =
 -- the code with a function
 abbrev pub with_function : Code → Func → Code
 with_function code func =
-    fold (with_statement (place_from (length code.instrs) func.body) func) (with_entry code func) func.body
+    fold (with_point (place_from (length code.instrs) func.body) func) (with_entry code func) (enumerate_from 0 func.body)

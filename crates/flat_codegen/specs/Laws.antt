@@ -1,8 +1,8 @@
--- Laws of the code of cores that are built.
+-- The law of the code of cores that are built.
 use Rattle.core_tree.specs.declared.program.Core.{Core}
 use Rattle.built_cores.specs.Built.{IsBuilt}
-use Rattle.compiled_code.specs.Compiled.{IsCompiled}
 use Rattle.counted_meaning.specs.Pinning.{Pins}
+use Rattle.compiled_code.specs.Compiled.{IsCompiled}
 use Rattle.flat_code.specs.declared.program.Code.{Code}
 use Rattle.flat_machine.specs.Built as machine
 

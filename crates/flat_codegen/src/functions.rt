@@ -1,21 +1,24 @@
 //! The functions of a core.
 
 ghost use Rattle.std.specs.Prelude.{◌≡◌, IfOk, All, fold, length, map, option_copied};
-ghost use Rattle.std.specs.List.{range_with_len};
+ghost use Rattle.std.specs.List.{enumerate_from, range_with_len};
 ghost use Rattle.std.specs.Option.{option_to_list};
 ghost use Rattle.core_tree.specs.declared.program.Func.{Func as CoreFunc};
 ghost use Rattle.core_tree.specs.declared.program.Mem.{Mem as CoreMem};
 ghost use Rattle.core_tree.specs.declared.program.Reg.{Reg as CoreReg};
 ghost use Rattle.core_tree.specs.Sound.{HasNumbers, EachStatement, element_layouts};
 ghost use Rattle.compiled_code.specs.Compiled.{format_of};
-ghost use Rattle.flat_codegen.specs.Emitting.{with_layouts, with_statement, with_entry, with_function};
+ghost use Rattle.count_insertion.specs.Inserted.{func_pins};
+ghost use Rattle.flat_codegen.specs.Emitting.{with_layouts, with_statement, with_point, with_entry, with_function};
 ghost use Rattle.flat_codegen.specs.Placing.{place_in};
 
 use crate::doing::Names;
 use crate::emitter::{Emitter, fit};
 use crate::places::Places;
+use crate::sites::{count_at, registers_of};
 use c_types::Layout;
 use core_tree::{Func, Mem, Reg, Stm, StmKind};
+use counted_meaning::Pin;
 use flat_code::Entry;
 use hs_base::{Items, NoMemory};
 use std::alloc::Global;
@@ -83,10 +86,16 @@ impl Emitter {
         Ok(())
     }
 
-    /// Adds a statement.
-    fn statement(&mut self, func: &Func, places: &Places, stm: &Stm) -> Result<(), NoMemory>
+    /// Adds a statement with the pins of its point.
+    fn statement(
+        &mut self,
+        func: &Func,
+        places: &Places,
+        stm: &Stm,
+        pins: Items<u32>,
+    ) -> Result<(), NoMemory>
         requires { HasNumbers stm.now.kind }
-        ensures { IfOk result (λ _. self.new.code ≡ with_statement (place_in places.now) func.now self.old.code stm.now) }
+        ensures { IfOk result (λ _. self.new.code ≡ with_statement (place_in places.now) func.now self.old.code stm.now pins) }
     {
         let names = Names {
             places,
@@ -100,38 +109,47 @@ impl Emitter {
             self.format(format.as_slice())?;
         }
         self.hand_all(stm.line, &stm.kind)?;
+        self.site(&stm.kind, pins)?;
         self.push(stm.line, names.doing(&stm.kind))
     }
 
-    /// Adds the statements of a function.
-    fn body(&mut self, func: &Func, places: &Places) -> Result<(), NoMemory>
-        requires { EachStatement func.now.body (λ point stm. HasNumbers stm.kind) }
-        ensures { IfOk result (λ _. self.new.code ≡ fold (with_statement (place_in places.now) func.now) self.old.code func.now.body) }
+    /// Adds the statements of a function. Its pins stand in the order of its points, so those of each point are the first
+    /// that are left.
+    fn body(&mut self, func: &Func, places: &Places, pins: &[Pin]) -> Result<(), NoMemory>
+        requires numbers { EachStatement func.now.body (λ point stm. HasNumbers stm.kind) }
+        requires listed { pins.now ≡ func_pins func.now }
+        ensures { IfOk result (λ _. self.new.code ≡ fold (with_point (place_in places.now) func.now) self.old.code (enumerate_from 0 func.now.body)) }
     {
-        for stm in func.body.as_slice() {
-            self.statement(func, places, stm)?;
+        let mut left = pins;
+        for (point, stm) in func.body.as_slice().iter().enumerate() {
+            let count = count_at(left, fit(point)?);
+            let registers = registers_of(self.alloc, &left[..count])?;
+            self.statement(func, places, stm, registers)?;
+            left = &left[count..];
         }
         Ok(())
     }
 
-    /// Adds a function.
-    fn function(&mut self, func: &Func) -> Result<(), NoMemory>
-        requires { EachStatement func.now.body (λ point stm. HasNumbers stm.kind) }
+    /// Adds a function with its pins.
+    fn function(&mut self, func: &Func, pins: &[Pin]) -> Result<(), NoMemory>
+        requires numbers { EachStatement func.now.body (λ point stm. HasNumbers stm.kind) }
+        requires listed { pins.now ≡ func_pins func.now }
         ensures { IfOk result (λ _. self.new.code ≡ with_function self.old.code func.now) }
     {
         let first = fit(self.code.instrs.len())?;
         let places = Places::of_body(self.alloc, first, func.body.as_slice())?;
         self.entry(first, func)?;
-        self.body(func, &places)
+        self.body(func, &places, pins)
     }
 
-    /// Adds functions.
-    pub(crate) fn functions(&mut self, funcs: &[Func]) -> Result<(), NoMemory>
-        requires { All (λ (func : CoreFunc). EachStatement func.body (λ point stm. HasNumbers stm.kind)) funcs.now }
+    /// Adds functions, each with its pins.
+    pub(crate) fn functions(&mut self, funcs: &[Func], pins: &[Items<Pin>]) -> Result<(), NoMemory>
+        requires numbers { All (λ (func : CoreFunc). EachStatement func.body (λ point stm. HasNumbers stm.kind)) funcs.now }
+        requires listed { pins.now ≡ map func_pins funcs.now }
         ensures { IfOk result (λ _. self.new.code ≡ fold with_function self.old.code funcs.now) }
     {
-        for func in funcs {
-            self.function(func)?;
+        for (place, func) in funcs.iter().enumerate() {
+            self.function(func, pins[place].as_slice())?;
         }
         Ok(())
     }

@@ -1,4 +1,4 @@
-//! What holds of every core that is built, and of its code.
+//! What holds of the code of every core that is built.
 
 ghost use Rattle.flat_codegen.specs.Laws.{CodeIsBuilt};
 

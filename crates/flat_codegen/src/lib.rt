@@ -1,8 +1,9 @@
 //! The code of a core, and its run.
 //!
-//! [`compile_core`] walks over the statics and the functions of a core once, in order, and adds what each of them needs to
-//! the code that stands so far. Instructions, lines, layouts and formats grow at their ends alone, so what was said of an
-//! earlier statement stays true. `compiled_code` says what the code of a core is, and `specs/Emitting.antt` what each step
+//! [`compile`] walks over the statics and the functions of a core once, in order, and adds what each of them needs to the
+//! code that stands so far. Instructions, lines, layouts, formats and sites grow at their ends alone, so what was said of an
+//! earlier statement stays true. The pins of a function stand in the order of its points, so the walk takes those of each
+//! point from their front. `compiled_code` says what the code of a core is, and `specs/Emitting.antt` what each step
 //! here adds. [`execute`] runs such code on a machine, and its contract speaks of the core: the machine does what the code
 //! means (`flat_machine`), and the code means what the core means (`compiled_meaning`).
 #![tactic(auto)]
@@ -15,8 +16,9 @@ mod laws;
 mod places;
 mod program;
 mod running;
+mod sites;
 mod statics;
 
 pub use laws::code_is_built;
-pub use program::compile_core;
+pub use program::compile;
 pub use running::execute;

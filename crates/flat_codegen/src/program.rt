@@ -1,14 +1,16 @@
 //! The code of a core as a whole.
 
-ghost use Rattle.std.specs.Prelude.{◌≡◌, ◌<◌, ◌^◌, ℕ, List, pos, IfOk, slice_get};
+ghost use Rattle.std.specs.Prelude.{◌≡◌, ◌<◌, ◌≤◌, ◌+◌, ◌*◌, ◌^◌, ℕ, List, length, map, pos, IfOk, slice_get};
+ghost use Rattle.std.specs.List.{sum_by};
 ghost use Rattle.built_cores.specs.Built.{IsBuilt};
 ghost use Rattle.code_soundness.specs.Laws.{HoldsBytes};
-ghost use Rattle.core_tree.specs.Sound.{IsSound, is_main, main_of};
-ghost use Rattle.object_meaning.specs.Meaning.{line_of, meaning as core_meaning};
+ghost use Rattle.core_tree.specs.Sound.{IsSound, code_size, is_main, main_of};
+ghost use Rattle.object_meaning.specs.Meaning.{line_of};
+ghost use Rattle.counted_meaning.specs.CountedMeaning.{meaning as core_meaning};
+ghost use Rattle.count_insertion.specs.Inserted.{func_pins};
 ghost use Rattle.code_meaning.specs.CodeMeaning.{meaning as code_meaning};
 ghost use Rattle.compiled_code.specs.Handing.{instr};
 ghost use Rattle.compiled_code.specs.Compiled.{IsCompiled};
-ghost use Rattle.compiled_meaning.specs.Freeless.{IsFreeless};
 ghost use Rattle.compiled_meaning.specs.SameRun.{SameRun};
 ghost use Rattle.flat_code.specs.WellFormed.{AreShort, IsWellFormed};
 ghost use Rattle.flat_machine.specs.Built.{IsBuilt as IsBuiltCode};
@@ -20,6 +22,7 @@ use crate::statics::{inits, layouts};
 use compiled_form::codes_are_well_formed;
 use compiled_meaning::code_means_core;
 use core_tree::{Core, Func};
+use count_insertion::{Counted, listed_pins_are_exact};
 use flat_code::{Code, Instr, Op};
 use hs_base::{Line, NoMemory};
 use std::alloc::Global;
@@ -63,40 +66,46 @@ fn start(main: usize) -> Instr
     instr(Op::Start, 0, 0, main as i64)
 }
 
-/// The code of a core, as the statements of the core say it.
-fn code_of(alloc: Global, core: &Core) -> Result<Code, NoMemory>
-    requires { IsSound core.now }
-    ensures compiled { IfOk result (λ code. IsCompiled core.now code) }
+/// The code of a core, as the statements of the core and its pins say it.
+fn code_of(alloc: Global, counted: &Counted) -> Result<Code, NoMemory>
+    requires sound { IsSound counted.now.core }
+    requires listed { counted.now.pins ≡ map func_pins counted.now.core.funcs }
+    ensures compiled { IfOk result (λ code. IsCompiled counted.now.core counted.now.pins code) }
     ensures short { IfOk result AreShort }
     ensures bytes { IfOk result HoldsBytes }
 {
+    let core = &counted.core;
     let statics = inits(alloc, core.statics.as_slice())?;
     let layouts = layouts(alloc, core.statics.as_slice())?;
     let mut emitter = Emitter::new(alloc, statics, layouts);
     let main = main_of(core);
     emitter.push(line_of(core, main), start(main))?;
-    emitter.functions(core.funcs.as_slice())?;
+    emitter.functions(core.funcs.as_slice(), counted.pins.as_slice())?;
     let code = emitter.finish()?;
     Ok(code)
 }
 
-/// The code of a sound core. It is well formed, and where the core is built it is code that the machine runs. Where the core
-/// frees nothing and has no memory local its run is that of the core: the same trace, the same end and the same last state,
-/// but for the points that frames are at.
+/// The code of a sound core with the pins that `count_insertion` lists for it. It is well formed, and where the core is built
+/// it is code that the machine runs. Its run is that of the core by numbers: the same trace, the same end, the same number for
+/// each object, and the same last state, but for the points that frames are at. There are at most 14 instructions for each
+/// statement and each operand of the core, one for each function and one at the start.
 ///
 /// # Errors
 ///
 /// [`NoMemory`] only for want of memory.
-pub fn compile_core(alloc: Global, core: &Core) -> Result<Code, NoMemory>
-    requires { IsSound core.now }
-    ensures compiled { IfOk result (λ code. IsCompiled core.now code) }
+pub fn compile(alloc: Global, counted: &Counted) -> Result<Code, NoMemory>
+    requires sound { IsSound counted.now.core }
+    requires listed { counted.now.pins ≡ map func_pins counted.now.core.funcs }
+    ensures compiled { IfOk result (λ code. IsCompiled counted.now.core counted.now.pins code) }
     ensures formed { IfOk result IsWellFormed }
     ensures bytes { IfOk result HoldsBytes }
-    ensures built { IfOk result (λ code. IsBuilt core.now → IsBuiltCode code) }
-    ensures means { IfOk result (λ code. IsFreeless core.now → (input : List ℕ) (n : ℕ) → SameRun (core_meaning core.now input n) (code_meaning code input n)) }
+    ensures few { IfOk result (λ code. length code.instrs ≤ 14 * sum_by code_size counted.now.core.funcs + length counted.now.core.funcs + 1) }
+    ensures built { IfOk result (λ code. IsBuilt counted.now.core → IsBuiltCode code) }
+    ensures means { IfOk result (λ code. (input : List ℕ) (n : ℕ) → SameRun (core_meaning counted.now.core counted.now.pins input n) (code_meaning code input n)) }
 {
     codes_are_well_formed();
     code_means_core();
     code_is_built();
-    code_of(alloc, core)
+    listed_pins_are_exact();
+    code_of(alloc, counted)
 }

@@ -3,5 +3,5 @@ use Rattle.std.specs.Prelude.{fold}
 use Rattle.flat_codegen.specs.Emitting.{with_function}
 use Rattle.flat_codegen.proofs.emitter.Emitter.functions.Given as goal
 
-abbrev pub invariant-loop-func : goal.invariant-loop-func
-invariant-loop-func l = l.self.code ≡ fold with_function l.fn.self.code (take l.func-index l.funcs)
+abbrev pub invariant-loop-place : goal.invariant-loop-place
+invariant-loop-place l = l.self.code ≡ fold with_function l.fn.self.code (take l.place l.funcs)

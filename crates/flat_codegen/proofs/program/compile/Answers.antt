@@ -1,0 +1,57 @@
+-- What is compiled of a core is well formed and means what the core means, by the laws on all such code.
+use Rattle.std.proofs.Common.{◌+◌, ◌*◌, ◌≤◌, ℕ, List, length}
+use Rattle.std.specs.Prelude.{Result, Ok, Err, IfOk}
+use Rattle.std.specs.List.{sum_by}
+use Rattle.core_tree.specs.Sound.{code_size}
+use Rattle.flat_code.specs.declared.program.Code.{Code}
+use Rattle.flat_code.specs.WellFormed.{AreShort, IsWellFormed}
+use Rattle.hs_base.specs.declared.items.NoMemory.{NoMemory}
+use Rattle.counted_meaning.specs.CountedMeaning.{meaning as core_meaning}
+use Rattle.code_meaning.specs.CodeMeaning.{meaning as code_meaning}
+use Rattle.compiled_code.specs.Compiled.{IsCompiled}
+use Rattle.built_cores.specs.Built.{IsBuilt}
+use Rattle.compiled_form.proofs.Lengths.{few_instructions}
+use Rattle.compiled_meaning.specs.SameRun.{SameRun}
+use Rattle.flat_machine.specs.Built as machine
+use Rattle.flat_codegen.proofs.program.compile.Goals as goal
+
+-- what follows for each code follows for one that may not be there
+follows : (P Q : Code → Type 0) (r : Result Code NoMemory) → ((code : Code) → P code → Q code) → IfOk r P → IfOk r Q
+follows P Q (Ok code) h is = h code is
+follows P Q (Err e) h is = tt
+
+follow_both : (P Q R : Code → Type 0) (r : Result Code NoMemory) → ((code : Code) → P code → Q code → R code) → IfOk r P → IfOk r Q → IfOk r R
+follow_both P Q R (Ok code) h is holds = h code is holds
+follow_both P Q R (Err e) h is holds = tt
+
+pub returns-clause-formed : goal.returns-clause-formed
+returns-clause-formed c =
+    let core = c.args.counted.now.core in
+    let pins = c.args.counted.now.pins in
+    let exact = c.listed_pins_are_exact.ensures.exact core pins c.requires.listed in
+    let ascending = c.listed_pins_are_exact.ensures.ascending core pins c.requires.listed in
+    follow_both (IsCompiled core pins) AreShort IsWellFormed c.code_of.result
+    (λ code is short. c.codes_are_well_formed.ensures core pins code c.requires.sound exact ascending is short.layouts short.formats.0)
+    c.code_of.ensures.compiled c.code_of.ensures.short
+
+pub returns-clause-few : goal.returns-clause-few
+returns-clause-few c =
+    let core = c.args.counted.now.core in
+    let pins = c.args.counted.now.pins in
+    follows (IsCompiled core pins) (λ code. length code.instrs ≤ 14 * sum_by code_size core.funcs + length core.funcs + 1) c.code_of.result (λ code is. few_instructions core code is) c.code_of.ensures.compiled
+
+pub returns-clause-built : goal.returns-clause-built
+returns-clause-built c =
+    let core = c.args.counted.now.core in
+    let pins = c.args.counted.now.pins in
+    follows (IsCompiled core pins) (λ code. IsBuilt core → machine.IsBuilt code) c.code_of.result
+    (λ code is built. c.code_is_built.ensures core pins code built is) c.code_of.ensures.compiled
+
+pub returns-clause-means : goal.returns-clause-means
+returns-clause-means c =
+    let core = c.args.counted.now.core in
+    let pins = c.args.counted.now.pins in
+    let exact = c.listed_pins_are_exact.ensures.exact core pins c.requires.listed in
+    let ascending = c.listed_pins_are_exact.ensures.ascending core pins c.requires.listed in
+    follows (IsCompiled core pins) (λ code. (input : List ℕ) (n : ℕ) → SameRun (core_meaning core pins input n) (code_meaning code input n)) c.code_of.result
+    (λ code is. c.code_means_core.ensures core pins code c.requires.sound exact ascending is) c.code_of.ensures.compiled
