@@ -1,0 +1,107 @@
+-- What the definitions of copies and sets answer at a range.
+use Rattle.std.proofs.Common.{◌≡◌, ◌<◌, ◌≤◌, ◌+◌, ◌-◌, inl, inr, ℕ, zero, suc, Bool, true, false, cond, not, List, [], length, Result, Ok, Err, refl, sym, ap, ◌∙◌, subst, arith, slice_index_or}
+use Rattle.std.specs.Prelude.{nat_lt, nat_le, nat_eq, ◌&&◌, ◌||◌, option_map, Some, slice_get}
+use Rattle.std.proofs.lemmas.Bool.{and_left, and_right, cases_lt, cond-false, cond-true, le-ltb, lt-ltb}
+use Rattle.hs_base.specs.declared.ends.TrapKind.{TrapKind}
+use Rattle.hs_base.specs.declared.ends.TrapKind.TheVariants as trap
+use Rattle.hs_base.specs.declared.values.Pointer.{Pointer}
+use Rattle.hs_base.specs.declared.values.Pointer.TheVariants as pointer
+use Rattle.hs_base.specs.Access.{Place, Refusal, Trapped, ReadsDead, and_then, copied, copy, copy_between, cuts_slot, distances, filled, if_so, range_at, same_numbers, set_bytes, slots_within, with_object}
+use Rattle.hs_base.specs.Object.{Object, is_dead, object_at}
+use Rattle.adjusters.specs.ObjectSlots.{Element}
+use Rattle.typed_copies.specs.declared.Ranged.{Ranged}
+use Rattle.typed_copies.specs.Slots.{slots_agree, slots_allow}
+use Rattle.typed_copies.specs.Copying.{Answers, IsRangeIn, slots_of}
+
+-- Ranges
+
+abbrev pub place_of : {forms : List Element} {objects : List Object} {p : Pointer} {range : Ranged} → IsRangeIn forms objects p range → Place
+place_of {forms} {objects} {p} {range} at = record { birth = at.birth; offset = range.offset }
+
+module _ (forms : List Element) (objects : List Object) (p : Pointer) (range : Ranged) (n : ℕ) (at : IsRangeIn forms objects p range) where
+  -- a range is tried by its object's size
+  tried : range_at objects p n ≡ if_so (nat_lt range.size (range.offset + n)) (Trapped trap.Bounds) (Ok (record { birth = at.birth; offset = range.offset }))
+  tried =
+      let o = object_at objects at.birth in
+      let past = λ (size : ℕ). if_so {A = Place} (nat_lt size (range.offset + n)) (Trapped trap.Bounds) (Ok (record { birth = at.birth; offset = range.offset })) in
+      ap (λ q. range_at objects q n) at.target ∙ cond-false (is_dead o.standing) (Err ReadsDead) (past o.size) at.there ∙ ap past at.size
+
+  pub range_inside : range.offset + n ≤ range.size → range_at objects p n ≡ Ok (record { birth = at.birth; offset = range.offset })
+  range_inside inside = tried ∙ cond-false (nat_lt range.size (range.offset + n)) (Err (Trapped trap.Bounds)) (Ok (record { birth = at.birth; offset = range.offset })) (le-ltb range.size (range.offset + n) inside)
+
+  pub range_past : range.size < range.offset + n → range_at objects p n ≡ Err (Trapped trap.Bounds)
+  range_past past = tried ∙ cond-true (nat_lt range.size (range.offset + n)) (Err (Trapped trap.Bounds)) (Ok (record { birth = at.birth; offset = range.offset })) (lt-ltb range.size (range.offset + n) past)
+
+-- Copies
+
+abbrev pub copied_by : List Object → Pointer → Pointer → ℕ → Result (List Object) Refusal
+copied_by objects p q n = and_then (range_at objects p n) (λ to. and_then (range_at objects q n) (λ from. copy_between objects n to from))
+
+copies : (objects : List Object) (p q : Pointer) (n : ℕ) → 0 < n → copy objects p q n ≡ copied_by objects p q n
+copies objects p q zero some = absurd (omega arith)
+copies objects p q (suc m) some = refl
+
+pub copy_of_none : (objects : List Object) (p q : Pointer) (n : ℕ) → n ≡ 0 → copy objects p q n ≡ Ok objects
+copy_of_none objects p q n none = ap (copy objects p q) none
+
+module _ (forms : List Element) (objects : List Object) (p q : Pointer) (dst src : Ranged) (n : ℕ) (to : IsRangeIn forms objects p dst) (from : IsRangeIn forms objects q src) where
+  pub copy_past_destination : dst.size < dst.offset + n → 0 < n → copy objects p q n ≡ Err (Trapped trap.Bounds)
+  copy_past_destination past some =
+      copies objects p q n some ∙ ap (λ r. and_then {B = List Object} r (λ to. and_then (range_at objects q n) (λ from. copy_between objects n to from))) (range_past forms objects p dst n to past)
+
+  pub copy_past_source : dst.offset + n ≤ dst.size → src.size < src.offset + n → 0 < n → copy objects p q n ≡ Err (Trapped trap.Bounds)
+  copy_past_source inside past some =
+      copies objects p q n some ∙ ap (λ r. and_then {B = List Object} r (λ to. and_then (range_at objects q n) (λ from. copy_between objects n to from))) (range_inside forms objects p dst n to inside)
+      ∙ ap (λ r. and_then {B = List Object} r (λ from. copy_between objects n (record { birth = to.birth; offset = dst.offset }) from)) (range_past forms objects q src n from past)
+
+  abbrev pub after_copy : List Object
+  after_copy = with_object objects to.birth (copied (object_at objects to.birth) dst.offset (object_at objects from.birth) src.offset n)
+
+  -- inside both objects the slots decide
+  pub copy_inside : dst.offset + n ≤ dst.size → src.offset + n ≤ src.size → 0 < n
+      → copy objects p q n ≡ if_so (not (slots_agree (slots_of forms dst) dst.offset (slots_of forms src) src.offset n)) (Trapped trap.Layout) (Ok after_copy)
+  copy_inside into out some =
+      copies objects p q n some ∙ ap (λ r. and_then {B = List Object} r (λ to. and_then (range_at objects q n) (λ from. copy_between objects n to from))) (range_inside forms objects p dst n to into)
+      ∙ ap (λ r. and_then {B = List Object} r (λ from. copy_between objects n (record { birth = to.birth; offset = dst.offset }) from)) (range_inside forms objects q src n from out)
+      ∙ ap (λ d. if_so (not (slots_agree d dst.offset (object_at objects from.birth).slots src.offset n)) (Trapped trap.Layout) (Ok after_copy)) to.slots
+      ∙ ap (λ s. if_so (not (slots_agree (slots_of forms dst) dst.offset s src.offset n)) (Trapped trap.Layout) (Ok after_copy)) from.slots
+
+  pub copy_refused : dst.offset + n ≤ dst.size → src.offset + n ≤ src.size → 0 < n → slots_agree (slots_of forms dst) dst.offset (slots_of forms src) src.offset n ≡ false → copy objects p q n ≡ Err (Trapped trap.Layout)
+  copy_refused into out some differ = copy_inside into out some ∙ ap (λ b. if_so (not b) (Trapped trap.Layout) (Ok after_copy)) differ
+
+  pub copy_allowed : dst.offset + n ≤ dst.size → src.offset + n ≤ src.size → 0 < n → slots_agree (slots_of forms dst) dst.offset (slots_of forms src) src.offset n ≡ true → copy objects p q n ≡ Ok after_copy
+  copy_allowed into out some agree = copy_inside into out some ∙ ap (λ b. if_so (not b) (Trapped trap.Layout) (Ok after_copy)) agree
+
+-- Sets
+
+abbrev pub set_by : List Object → Pointer → ℕ → ℕ → Result (List Object) Refusal
+set_by objects p byte n =
+    and_then (range_at objects p n) (λ at. let o = object_at objects at.birth in if_so (not (slots_allow o.slots at.offset byte n)) (Trapped trap.Layout) (Ok (with_object objects at.birth (filled o at.offset byte n))))
+
+sets : (objects : List Object) (p : Pointer) (byte n : ℕ) → 0 < n → set_bytes objects p byte n ≡ set_by objects p byte n
+sets objects p byte zero some = absurd (omega arith)
+sets objects p byte (suc m) some = refl
+
+pub set_of_none : (objects : List Object) (p : Pointer) (byte n : ℕ) → n ≡ 0 → set_bytes objects p byte n ≡ Ok objects
+set_of_none objects p byte n none = ap (set_bytes objects p byte) none
+
+module _ (forms : List Element) (objects : List Object) (p : Pointer) (dst : Ranged) (byte n : ℕ) (to : IsRangeIn forms objects p dst) where
+  abbrev pub set_next : Place → Result (List Object) Refusal
+  set_next at = let o = object_at objects at.birth in if_so (not (slots_allow o.slots at.offset byte n)) (Trapped trap.Layout) (Ok (with_object objects at.birth (filled o at.offset byte n)))
+
+  pub set_past : dst.size < dst.offset + n → 0 < n → set_bytes objects p byte n ≡ Err (Trapped trap.Bounds)
+  set_past past some = sets objects p byte n some ∙ ap (λ r. and_then r set_next) (range_past forms objects p dst n to past)
+
+  abbrev pub after_set : List Object
+  after_set = with_object objects to.birth (filled (object_at objects to.birth) dst.offset byte n)
+
+  set_inside : dst.offset + n ≤ dst.size → 0 < n → set_bytes objects p byte n ≡ if_so (not (slots_allow (slots_of forms dst) dst.offset byte n)) (Trapped trap.Layout) (Ok after_set)
+  set_inside into some =
+      sets objects p byte n some ∙ ap (λ r. and_then r set_next) (range_inside forms objects p dst n to into)
+      ∙ ap (λ d. if_so (not (slots_allow d dst.offset byte n)) (Trapped trap.Layout) (Ok after_set)) to.slots
+
+  pub set_refused : dst.offset + n ≤ dst.size → 0 < n → slots_allow (slots_of forms dst) dst.offset byte n ≡ false → set_bytes objects p byte n ≡ Err (Trapped trap.Layout)
+  set_refused into some differ = set_inside into some ∙ ap (λ b. if_so (not b) (Trapped trap.Layout) (Ok after_set)) differ
+
+  pub set_allowed : dst.offset + n ≤ dst.size → 0 < n → slots_allow (slots_of forms dst) dst.offset byte n ≡ true → set_bytes objects p byte n ≡ Ok after_set
+  set_allowed into some allow = set_inside into some ∙ ap (λ b. if_so (not b) (Trapped trap.Layout) (Ok after_set)) allow
