@@ -15,9 +15,6 @@ use Rattle.typed_copies.specs.Copying.{Answers, IsRangeIn, slots_of}
 
 -- Ranges
 
-abbrev pub place_of : {forms : List Element} {objects : List Object} {p : Pointer} {range : Ranged} → IsRangeIn forms objects p range → Place
-place_of {forms} {objects} {p} {range} at = record { birth = at.birth; offset = range.offset }
-
 module _ (forms : List Element) (objects : List Object) (p : Pointer) (range : Ranged) (n : ℕ) (at : IsRangeIn forms objects p range) where
   -- a range is tried by its object's size
   tried : range_at objects p n ≡ if_so (nat_lt range.size (range.offset + n)) (Trapped trap.Bounds) (Ok (record { birth = at.birth; offset = range.offset }))
@@ -28,9 +25,6 @@ module _ (forms : List Element) (objects : List Object) (p : Pointer) (range : R
 
   pub range_inside : range.offset + n ≤ range.size → range_at objects p n ≡ Ok (record { birth = at.birth; offset = range.offset })
   range_inside inside = tried ∙ cond-false (nat_lt range.size (range.offset + n)) (Err (Trapped trap.Bounds)) (Ok (record { birth = at.birth; offset = range.offset })) (le-ltb range.size (range.offset + n) inside)
-
-  pub range_past : range.size < range.offset + n → range_at objects p n ≡ Err (Trapped trap.Bounds)
-  range_past past = tried ∙ cond-true (nat_lt range.size (range.offset + n)) (Err (Trapped trap.Bounds)) (Ok (record { birth = at.birth; offset = range.offset })) (lt-ltb range.size (range.offset + n) past)
 
 -- Copies
 
@@ -45,15 +39,6 @@ pub copy_of_none : (objects : List Object) (p q : Pointer) (n : ℕ) → n ≡ 0
 copy_of_none objects p q n none = ap (copy objects p q) none
 
 module _ (forms : List Element) (objects : List Object) (p q : Pointer) (dst src : Ranged) (n : ℕ) (to : IsRangeIn forms objects p dst) (from : IsRangeIn forms objects q src) where
-  pub copy_past_destination : dst.size < dst.offset + n → 0 < n → copy objects p q n ≡ Err (Trapped trap.Bounds)
-  copy_past_destination past some =
-      copies objects p q n some ∙ ap (λ r. and_then {B = List Object} r (λ to. and_then (range_at objects q n) (λ from. copy_between objects n to from))) (range_past forms objects p dst n to past)
-
-  pub copy_past_source : dst.offset + n ≤ dst.size → src.size < src.offset + n → 0 < n → copy objects p q n ≡ Err (Trapped trap.Bounds)
-  copy_past_source inside past some =
-      copies objects p q n some ∙ ap (λ r. and_then {B = List Object} r (λ to. and_then (range_at objects q n) (λ from. copy_between objects n to from))) (range_inside forms objects p dst n to inside)
-      ∙ ap (λ r. and_then {B = List Object} r (λ from. copy_between objects n (record { birth = to.birth; offset = dst.offset }) from)) (range_past forms objects q src n from past)
-
   abbrev pub after_copy : List Object
   after_copy = with_object objects to.birth (copied (object_at objects to.birth) dst.offset (object_at objects from.birth) src.offset n)
 
@@ -65,9 +50,6 @@ module _ (forms : List Element) (objects : List Object) (p q : Pointer) (dst src
       ∙ ap (λ r. and_then {B = List Object} r (λ from. copy_between objects n (record { birth = to.birth; offset = dst.offset }) from)) (range_inside forms objects q src n from out)
       ∙ ap (λ d. if_so (not (slots_agree d dst.offset (object_at objects from.birth).slots src.offset n)) (Trapped trap.Layout) (Ok after_copy)) to.slots
       ∙ ap (λ s. if_so (not (slots_agree (slots_of forms dst) dst.offset s src.offset n)) (Trapped trap.Layout) (Ok after_copy)) from.slots
-
-  pub copy_refused : dst.offset + n ≤ dst.size → src.offset + n ≤ src.size → 0 < n → slots_agree (slots_of forms dst) dst.offset (slots_of forms src) src.offset n ≡ false → copy objects p q n ≡ Err (Trapped trap.Layout)
-  copy_refused into out some differ = copy_inside into out some ∙ ap (λ b. if_so (not b) (Trapped trap.Layout) (Ok after_copy)) differ
 
   pub copy_allowed : dst.offset + n ≤ dst.size → src.offset + n ≤ src.size → 0 < n → slots_agree (slots_of forms dst) dst.offset (slots_of forms src) src.offset n ≡ true → copy objects p q n ≡ Ok after_copy
   copy_allowed into out some agree = copy_inside into out some ∙ ap (λ b. if_so (not b) (Trapped trap.Layout) (Ok after_copy)) agree
@@ -89,9 +71,6 @@ module _ (forms : List Element) (objects : List Object) (p : Pointer) (dst : Ran
   abbrev pub set_next : Place → Result (List Object) Refusal
   set_next at = let o = object_at objects at.birth in if_so (not (slots_allow o.slots at.offset byte n)) (Trapped trap.Layout) (Ok (with_object objects at.birth (filled o at.offset byte n)))
 
-  pub set_past : dst.size < dst.offset + n → 0 < n → set_bytes objects p byte n ≡ Err (Trapped trap.Bounds)
-  set_past past some = sets objects p byte n some ∙ ap (λ r. and_then r set_next) (range_past forms objects p dst n to past)
-
   abbrev pub after_set : List Object
   after_set = with_object objects to.birth (filled (object_at objects to.birth) dst.offset byte n)
 
@@ -99,9 +78,6 @@ module _ (forms : List Element) (objects : List Object) (p : Pointer) (dst : Ran
   set_inside into some =
       sets objects p byte n some ∙ ap (λ r. and_then r set_next) (range_inside forms objects p dst n to into)
       ∙ ap (λ d. if_so (not (slots_allow d dst.offset byte n)) (Trapped trap.Layout) (Ok after_set)) to.slots
-
-  pub set_refused : dst.offset + n ≤ dst.size → 0 < n → slots_allow (slots_of forms dst) dst.offset byte n ≡ false → set_bytes objects p byte n ≡ Err (Trapped trap.Layout)
-  set_refused into some differ = set_inside into some ∙ ap (λ b. if_so (not b) (Trapped trap.Layout) (Ok after_set)) differ
 
   pub set_allowed : dst.offset + n ≤ dst.size → 0 < n → slots_allow (slots_of forms dst) dst.offset byte n ≡ true → set_bytes objects p byte n ≡ Ok after_set
   set_allowed into some allow = set_inside into some ∙ ap (λ b. if_so (not b) (Trapped trap.Layout) (Ok after_set)) allow

@@ -1,6 +1,5 @@
 -- The slots of an object ascend, each ending before the next.
 use Rattle.std.proofs.Common.{◌≡◌, ◌<◌, ◌≤◌, ◌+◌, ◌*◌, ◌/◌, ℕ, zero, suc, List, [], ◌∷◌, ◌++◌, length, get_or, subst, arith}
-use Rattle.std.specs.Prelude.{Contains}
 use Rattle.std.specs.List.{flat_map, range_with_len}
 use Rattle.std.proofs.Math.Nat.{div-mul-le_self}
 use Rattle.c_types.specs.Layouts.{AreSlots, moved}
@@ -65,9 +64,6 @@ pub ends_at : (low high : ℕ) (slots : List ℕ) (k d : ℕ) → Ascend low hig
 ends_at low high [] k d h less = absurd (omega arith)
 ends_at low high (s ∷ slots) zero d h less = h.1
 ends_at low high (s ∷ slots) (suc k) d h less = ends_at (s + 4) high slots k d h.2 (omega arith)
-
-pub slot_ends : (low high : ℕ) (slots : List ℕ) (s : ℕ) → Ascend low high slots → Contains slots s → s + 4 ≤ high
-slot_ends low high slots s h at = subst (λ (n : ℕ). n + 4 ≤ high) at.2 (ends_at low high slots at.0 s h at.1)
 
 -- a slot ends before each later one
 pub slots_apart : (low high : ℕ) (slots : List ℕ) (i j d : ℕ) → Ascend low high slots → i < j → j < length slots → get_or slots i d + 4 ≤ get_or slots j d

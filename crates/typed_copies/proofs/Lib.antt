@@ -5,5 +5,6 @@ pub mod Worded
 pub mod Following
 pub mod Overlaid
 pub mod Replaced
-mod Allowed
+pub mod Allowed
+mod Touched
 mod Outcomes

@@ -16,12 +16,8 @@ use Rattle.typed_copies.specs.Copying.{IsCleared, IsCopied, form_at}
 use Rattle.typed_copies.proofs.Overlaid.{moved_none, overlaid_none, part_len, word_moved, word_null}
 use Rattle.typed_copies.proofs.Replaced.{follow_nulls, follow_replaced, replaced_now, words_replaced}
 use Rattle.typed_copies.proofs.Selecting.{first_is, many_within}
+use Rattle.typed_copies.proofs.Touched.{touches_alike}
 use Rattle.typed_copies.proofs.Worded.{word_in_at, words_in_len, words_len}
-
--- the element that was read is that of the number
-pub form_is : (forms items : List Element) (number : ℕ) (form : Element) → items ≡ forms → number < length forms → form ≡ get_or items number form → form ≡ form_at forms number
-form_is forms items number form same inside read =
-    read ∙ ap (λ l. get_or l number form) same ∙ get_or_default forms number form (record { size = 0; slots = [] }) inside
 
 -- Copies
 
@@ -80,6 +76,7 @@ module _ (d s : List ℕ) (dst src : Ranged) (n : ℕ) (old : List ℕ) (into : 
       subst (λ (m : ℕ). Follow before after (take m (drop into.first words)) incoming) (sym many_come) (subst (Follow before after (words_in old dst.start d into)) come follow) in
       record {
         bytes = is;
+        slots = touches_alike d dst.offset s src.offset n into co.out co.written co.read co.same;
         words = now ∙ sym (λ i. overlaid words (first i) (take (number i) (drop (source i) (words_at old src.start s))));
         counts = subst (Follow before after words) (sym now) (follow_replaced before after words into.first incoming fit some);
       }
@@ -102,6 +99,7 @@ copied_none d s dst src n bytes counts none =
     let read = drop (length (slots_below s src.offset)) (words_at bytes src.start s) in
     subst (λ (m : ℕ). IsCopied d s dst src m bytes bytes counts counts) (sym none) (record {
       bytes = sym (moved_none bytes (dst.start + dst.offset) (src.start + src.offset));
+      slots = λ k less. absurd (omega arith);
       words = sym (ap (λ l. overlaid words (length (slots_below d dst.offset)) (take (length l) read)) (none_within s src.offset) ∙ overlaid_none words (length (slots_below d dst.offset)));
       counts = follow_itself counts words;
     })

@@ -195,13 +195,6 @@ moved_back bytes current to from k n up some less inside is =
 pub moved_last : (bytes : List ℕ) (to from n : ℕ) → overlaid bytes (to + n) (part bytes (from + n) (n - n)) ≡ bytes
 moved_last bytes to from n = let none : n - n ≡ 0 = omega arith in ap (λ j. overlaid bytes (to + n) (part bytes (from + n) j)) none ∙ moved_none bytes (to + n) (from + n)
 
-pub moved_all : (bytes : List ℕ) (to from n k : ℕ) → k ≡ 0 → overlaid bytes (to + k) (part bytes (from + k) (n - k)) ≡ overlaid bytes to (part bytes from n)
-moved_all bytes to from n k none =
-    let a : to + k ≡ to = omega arith in
-    let b : from + k ≡ from = omega arith in
-    let c : n - k ≡ n = omega arith in
-    λ i. overlaid bytes (a i) (part bytes (b i) (c i))
-
 pub set_byte_more : (bytes current : List ℕ) (to byte k : ℕ) → to + k < length bytes → byte < 256 → current ≡ overlaid bytes to (replicate k byte) → put_word current (to + k) 1 byte ≡ overlaid bytes to (replicate (k + 1) byte)
 set_byte_more bytes current to byte k inside small is =
     let new = replicate k byte in

@@ -101,6 +101,3 @@ follow_nulls before after words n gone = record {
   exact = λ granule. omega (arith, gone.exact granule, sum_by-replicate (λ w. one_if (points_into granule w)) n 0);
   all = omega (arith, gone.all, sum_by-replicate (λ w. one_if (is_address w)) n 0);
 }
-
-pub gone_and_come : (a b c : Table) (old new : List ℕ) → Follow a b old [] → Follow b c [] new → Follow a c old new
-gone_and_come a b c old new first second = subst (λ (l : List ℕ). Follow a c l new) (append-nil old) (follow_both a b c old [] [] new first second)

@@ -3,7 +3,7 @@ use Rattle.std.specs.Prelude.{◌≡◌, ◌+◌, ◌<◌, ◌≤◌, ℕ, false
 use Rattle.hs_base.specs.declared.ends.TrapKind.{TrapKind}
 use Rattle.hs_base.specs.declared.values.Pointer.{Pointer}
 use Rattle.hs_base.specs.declared.values.Pointer.TheVariants as pointer
-use Rattle.hs_base.specs.Access.{Refusal, Trapped, overlaid, slots_below, slots_within}
+use Rattle.hs_base.specs.Access.{Refusal, Trapped, overlaid, slots_below, slots_within, touches_slot}
 use Rattle.hs_base.specs.Bytes.{part}
 use Rattle.hs_base.specs.Object.{Object, is_dead, object_at}
 use Rattle.adjusters.specs.ObjectSlots.{Element, object_slots}
@@ -45,15 +45,26 @@ Answers (Err kind) meant = meant ≡ Err (Trapped kind)
 
 -- What is left
 
--- n bytes of the destination are those that the source had, as through a buffer, and all others are the same; the slots d of the
--- destination have the words that the slots s of the source had within the range; the counts follow
+-- as many bytes as before, as many counts, and the same bound on their sum
+pub record SameFrame (old new : List ℕ) (before after : Table) : Type 0 where
+  pub bytes : length new ≡ length old
+  pub counts : length after.counts ≡ length before.counts
+  pub most : after.most ≡ before.most
+
+-- n bytes were copied between two objects with these slots: the destination has those that the source had, as through a buffer
 pub record IsCopied (d s : List ℕ) (dst src : Ranged) (n : ℕ) (old new : List ℕ) (before after : Table) : Type 0 where
+  -- no other byte has changed
   pub bytes : new ≡ overlaid old (dst.start + dst.offset) (part old (src.start + src.offset) n)
+  -- a byte of it lies in a slot exactly where that of the source does
+  pub slots : (k : ℕ) → k < n → touches_slot d (dst.offset + k) 1 ≡ touches_slot s (src.offset + k) 1
+  -- the slots within the range have the words that those of the source had
   pub words : words_at new dst.start d ≡ overlaid (words_at old dst.start d) (length (slots_below d dst.offset)) (take (length (slots_within s src.offset n)) (drop (length (slots_below s src.offset)) (words_at old src.start s)))
   pub counts : Follow before after (words_at old dst.start d) (words_at new dst.start d)
 
--- n bytes of the destination are one value, and all others are the same; the slots d within the range are null; the counts follow
+-- n bytes of an object with these slots were set to one value
 pub record IsCleared (d : List ℕ) (dst : Ranged) (byte n : ℕ) (old new : List ℕ) (before after : Table) : Type 0 where
+  -- no other byte has changed
   pub bytes : new ≡ overlaid old (dst.start + dst.offset) (replicate n byte)
+  -- the slots within the range are null
   pub words : words_at new dst.start d ≡ overlaid (words_at old dst.start d) (length (slots_below d dst.offset)) (replicate (length (slots_within d dst.offset n)) 0)
   pub counts : Follow before after (words_at old dst.start d) (words_at new dst.start d)

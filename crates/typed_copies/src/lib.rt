@@ -24,7 +24,7 @@ ghost use Rattle.hs_base.specs.Object.{Object};
 ghost use Rattle.adjusters.specs.ObjectSlots.{Element, object_slots};
 ghost use Rattle.typed_copies.specs.Slots.{AreWithin, slots_agree};
 ghost use Rattle.typed_copies.specs.Pointers.{ArePointers, Cover, Follow, HaveRoom, words_in};
-ghost use Rattle.typed_copies.specs.Copying.{Answers, IsCleared, IsCopied, IsInside, IsRangeIn, form_at, slots_of, words_of};
+ghost use Rattle.typed_copies.specs.Copying.{Answers, IsCleared, IsCopied, IsInside, IsRangeIn, SameFrame, form_at, slots_of, words_of};
 
 mod counting;
 mod moving;
@@ -113,6 +113,7 @@ fn transfer<L: Ledger>(
     ensures layout { IfErr result (λ kind. kind ≡ TrapKind.Layout) }
     ensures copied { OnOk result (IsCopied (slots_of forms.now dst) (slots_of forms.now src) dst src n bytes.old bytes.new counts.old counts.new) }
     ensures refused { OnErr result ((bytes.new ≡ bytes.old) × (counts.new ≡ counts.old)) }
+    ensures frame { SameFrame bytes.old bytes.new counts.old counts.new }
     ensures work { steps.new ≤ steps.old + 3 * n }
 {
     if n == 0 {
@@ -165,6 +166,7 @@ pub fn copy<L: Ledger>(
     ensures answers { (objects : List Object) (p q : values.Pointer) → IsRangeIn forms.now objects p dst → IsRangeIn forms.now objects q src → Answers result (access.copy objects p q n) }
     ensures copied { OnOk result (IsCopied (slots_of forms.now dst) (slots_of forms.now src) dst src n bytes.old bytes.new counts.old counts.new) }
     ensures refused { OnErr result ((bytes.new ≡ bytes.old) × (counts.new ≡ counts.old)) }
+    ensures frame { SameFrame bytes.old bytes.new counts.old counts.new }
     ensures work { steps.new ≤ steps.old + 3 * n }
 {
     if dst.size - dst.offset < n {
@@ -199,6 +201,7 @@ pub fn clear<L: Ledger>(
     ensures answers { (objects : List Object) (p : values.Pointer) → IsRangeIn forms.now objects p dst → Answers result (access.set_bytes objects p byte n) }
     ensures cleared { OnOk result (IsCleared (slots_of forms.now dst) dst byte n bytes.old bytes.new counts.old counts.new) }
     ensures refused { OnErr result ((bytes.new ≡ bytes.old) × (counts.new ≡ counts.old)) }
+    ensures frame { SameFrame bytes.old bytes.new counts.old counts.new }
     ensures work { steps.new ≤ steps.old + 2 * n }
 {
     if dst.size - dst.offset < n {
@@ -242,6 +245,7 @@ pub fn grow<L: Ledger>(
     ensures layout { IfErr result (λ kind. kind ≡ TrapKind.Layout) }
     ensures copied { OnOk result (IsCopied (slots_of forms.now dst) (slots_of forms.now src) dst src (min src.size dst.size) bytes.old bytes.new counts.old counts.new) }
     ensures refused { OnErr result ((bytes.new ≡ bytes.old) × (counts.new ≡ counts.old)) }
+    ensures frame { SameFrame bytes.old bytes.new counts.old counts.new }
     ensures work { steps.new ≤ steps.old + 3 * min src.size dst.size }
 {
     transfer(
@@ -254,3 +258,6 @@ pub fn grow<L: Ledger>(
         steps,
     )
 }
+
+#[cfg(test)]
+mod tests;

@@ -1,10 +1,13 @@
-use Rattle.std.proofs.Common.{◌≡◌, ◌<◌, ◌≤◌, ◌+◌, ◌∙◌, ℕ, true, List, length, get_or, sym, subst, arith}
+use Rattle.std.proofs.Common.{◌≡◌, ◌<◌, ◌≤◌, ◌+◌, ◌∙◌, ℕ, true, List, length, get_or, sym, ap, subst, arith}
+use Rattle.hs_base.specs.Access.{overlaid}
+use Rattle.hs_base.specs.Bytes.{part}
 use Rattle.adjusters.specs.ObjectSlots.{Element, object_slots}
 use Rattle.typed_copies.specs.Slots.{slots_agree}
 use Rattle.typed_copies.specs.Pointers.{ArePointers, Cover, HaveRoom, words_at, words_in}
 use Rattle.typed_copies.specs.Copying.{IsCopied, slots_of}
 use Rattle.typed_copies.proofs.Allowed.{after_copy, copy_allowed, copy_of_none}
 use Rattle.typed_copies.proofs.Outcomes.{copied_is, copied_none, pointers_come}
+use Rattle.typed_copies.proofs.Overlaid.{moved_long}
 use Rattle.typed_copies.proofs.Replaced.{cover_part, room_part}
 use Rattle.typed_copies.proofs.Worded.{slot_inside}
 use Rattle.typed_copies.proofs.transfer.Goals as goal
@@ -63,3 +66,13 @@ returns-clause-copied g c =
     subst (λ (form : Element). IsCopied (object_slots form dst.size) (slots_of c.args.forms.now src) dst src c.args.n old new before after) c.adjuster_of-d_form.ensures.element
     (subst (λ (form : Element). IsCopied d (object_slots form src.size) dst src c.args.n old new before after) c.adjuster_of-s_form.ensures.element
     (copied_is d s dst src c.args.n old c.in-Some.into c.in-Some.ensures.some (λ k less. slot_inside c.adjuster_of-d_form.result.now dst.size k c.adjuster_of-d_form.ensures.formed less) c.requires.destination.end c.requires.into (omega (arith, c.requires.source.end, c.requires.from)) new before after c.replace.ensures.moved c.replace.ensures.follow))
+
+pub returns-clause-frame : goal.returns-clause-frame
+returns-clause-frame g c =
+    let to = c.args.dst.start + c.args.dst.offset in
+    let from = c.args.src.start + c.args.src.offset in
+    record {
+      bytes = ap length c.replace.ensures.moved ∙ moved_long c.args.bytes.now to from c.args.n (omega (arith, c.requires.destination.end, c.requires.into)) (omega (arith, c.requires.source.end, c.requires.from));
+      counts = c.replace.ensures.follow.long;
+      most = c.replace.ensures.follow.most;
+    }
