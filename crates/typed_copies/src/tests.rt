@@ -264,7 +264,7 @@ impl World {
 
     // Writes bytes from an address on.
     fn put<L: Ledger>(&mut self, start: u32, bytes: &[u8], steps: &mut Steps<L>) -> Result<(), Fail> {
-        if start > 64 || bytes.len() > 64 {
+        if start > 104 || bytes.len() > 24 {
             return Err(Fail::from("outside"));
         }
         for (k, byte) in bytes.iter().enumerate() {
@@ -293,7 +293,7 @@ impl World {
         counts: &[u32],
         steps: &mut Steps<L>,
     ) -> Result<(), Fail> {
-        if start > 64 || bytes.len() > 64 || counts.len() > 8 {
+        if start > 104 || bytes.len() > 24 || counts.len() > 8 {
             return Err(Fail::from("outside"));
         }
         for (k, want) in bytes.iter().enumerate() {
