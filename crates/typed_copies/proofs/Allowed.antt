@@ -1,17 +1,15 @@
 -- What the definitions of copies and sets answer at a range.
-use Rattle.std.proofs.Common.{◌≡◌, ◌<◌, ◌≤◌, ◌+◌, ◌-◌, inl, inr, ℕ, zero, suc, Bool, true, false, cond, not, List, [], length, Result, Ok, Err, refl, sym, ap, ◌∙◌, subst, arith, slice_index_or}
-use Rattle.std.specs.Prelude.{nat_lt, nat_le, nat_eq, ◌&&◌, ◌||◌, option_map, Some, slice_get}
-use Rattle.std.proofs.lemmas.Bool.{and_left, and_right, cases_lt, cond-false, cond-true, le-ltb, lt-ltb}
-use Rattle.hs_base.specs.declared.ends.TrapKind.{TrapKind}
+use Rattle.std.proofs.Common.{◌≡◌, ◌<◌, ◌≤◌, ◌+◌, ℕ, zero, suc, true, not, List, Result, Ok, Err, refl, ap, ◌∙◌, arith}
+use Rattle.std.specs.Prelude.{nat_lt}
+use Rattle.std.proofs.lemmas.Bool.{cond-false, le-ltb}
 use Rattle.hs_base.specs.declared.ends.TrapKind.TheVariants as trap
 use Rattle.hs_base.specs.declared.values.Pointer.{Pointer}
-use Rattle.hs_base.specs.declared.values.Pointer.TheVariants as pointer
-use Rattle.hs_base.specs.Access.{Place, Refusal, Trapped, ReadsDead, and_then, copied, copy, copy_between, cuts_slot, distances, filled, if_so, range_at, same_numbers, set_bytes, slots_within, with_object}
+use Rattle.hs_base.specs.Access.{Place, Refusal, Trapped, ReadsDead, and_then, copied, copy, copy_between, filled, if_so, range_at, set_bytes, with_object}
 use Rattle.hs_base.specs.Object.{Object, is_dead, object_at}
 use Rattle.adjusters.specs.ObjectSlots.{Element}
 use Rattle.typed_copies.specs.declared.Ranged.{Ranged}
 use Rattle.typed_copies.specs.Slots.{slots_agree, slots_allow}
-use Rattle.typed_copies.specs.Copying.{Answers, IsRangeIn, slots_of}
+use Rattle.typed_copies.specs.Copying.{IsRangeIn, slots_of}
 
 -- Ranges
 

@@ -72,7 +72,6 @@ slots_apart low high (s ∷ slots) i zero d h less inside = absurd (omega arith)
 slots_apart low high (s ∷ slots) zero (suc j) d h less inside = above_low (s + 4) high slots j d h.2 (omega arith)
 slots_apart low high (s ∷ slots) (suc i) (suc j) d h less inside = slots_apart (s + 4) high slots i j d h.2 (omega arith) (omega arith)
 
-
 -- as many as the size has room for
 room_for : (low high : ℕ) (slots : List ℕ) → Ascend low high slots → low ≤ high → low + 4 * length slots ≤ high
 room_for low high [] h less = omega arith

@@ -1,18 +1,17 @@
 -- What a copy and a set leave.
-use Rattle.std.proofs.Common.{◌≡◌, ◌<◌, ◌≤◌, ◌+◌, ◌-◌, ◌*◌, ◌⊎◌, inl, inr, ℕ, false, List, [], ◌∷◌, length, get_or, take, drop, replicate, refl, sym, ap, ◌∙◌, subst, arith}
-use Rattle.std.specs.Prelude.{nat_le, ◌&&◌, All, slice_index_or}
+use Rattle.std.proofs.Common.{◌≡◌, ◌<◌, ◌≤◌, ◌+◌, ◌-◌, ◌⊎◌, inl, inr, ℕ, false, List, [], ◌∷◌, length, get_or, take, drop, replicate, refl, sym, ap, ◌∙◌, subst, arith}
+use Rattle.std.specs.Prelude.{nat_le, ◌&&◌}
 use Rattle.std.proofs.lemmas.Bool.{and_left, and_right, cases_lt, cond-false, lt-leb}
-use Rattle.std.proofs.lemmas.List.{get_or_default, get_or-replicate, length-replicate}
+use Rattle.std.proofs.lemmas.List.{get_or-replicate, length-replicate}
 use Rattle.std.proofs.lemmas.List.Elements.{All-drop, All-take}
 use Rattle.hs_base.specs.Access.{overlaid, slots_below, slots_within}
 use Rattle.hs_base.specs.Bytes.{part, word}
-use Rattle.adjusters.specs.ObjectSlots.{Element}
 use Rattle.count_table.specs.Table.{Table}
 use Rattle.typed_copies.specs.declared.Ranged.{Ranged}
 use Rattle.typed_copies.specs.declared.slots.Within.{Within}
 use Rattle.typed_copies.specs.Slots.{AreWithin, Correspond}
 use Rattle.typed_copies.specs.Pointers.{ArePointers, Follow, words_at, words_in}
-use Rattle.typed_copies.specs.Copying.{IsCleared, IsCopied, form_at}
+use Rattle.typed_copies.specs.Copying.{IsCleared, IsCopied}
 use Rattle.typed_copies.proofs.Overlaid.{moved_none, overlaid_none, part_len, word_moved, word_null}
 use Rattle.typed_copies.proofs.Replaced.{follow_nulls, follow_replaced, replaced_now, words_replaced}
 use Rattle.typed_copies.proofs.Selecting.{first_is, many_within}

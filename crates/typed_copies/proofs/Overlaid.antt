@@ -1,6 +1,6 @@
 -- A list with another in place of as many items.
-use Rattle.std.proofs.Common.{◌≡◌, ◌<◌, ◌≤◌, ◌+◌, ◌-◌, ℕ, suc, List, [], ◌∷◌, ◌++◌, length, length-append, length-take, length-drop, append_assoc, add-one, get_or, get_or-take, get_or-drop, take, drop, set, replicate, refl, sym, ap, ◌∙◌, arith}
-use Rattle.std.proofs.lemmas.List.{append-nil, drop_at, drop_more, ext_get_or, get_or_append_left, get_or-append-add, get_or-replicate, length-replicate, length_push, replicate_more, set_at, take_at, take_more, take-append-drop}
+use Rattle.std.proofs.Common.{◌≡◌, ◌<◌, ◌≤◌, ◌+◌, ◌-◌, ℕ, suc, List, [], ◌∷◌, ◌++◌, length, length-append, length-take, length-drop, append_assoc, get_or, get_or-take, get_or-drop, take, drop, set, replicate, refl, sym, ap, ◌∙◌, arith}
+use Rattle.std.proofs.lemmas.List.{append-nil, drop_more, ext_get_or, get_or_append_left, get_or-append-add, get_or-replicate, length-replicate, length_push, replicate_more, set_at, take_more, take-append-drop}
 use Rattle.hs_base.specs.Access.{little_endian, overlaid}
 use Rattle.hs_base.specs.Bytes.{part, put_word, word}
 use Rattle.hs_base.proofs.Words.{stored_byte}
@@ -97,8 +97,8 @@ module _ (bytes : List ℕ) (place : ℕ) (new : List ℕ) (inside : place + len
   unfolding word
   word_inside j n ends = ap little_endian (part_inside j n ends)
 
-pub moved_long : (bytes : List ℕ) (to from n : ℕ) → to + n ≤ length bytes → from + n ≤ length bytes → length (overlaid bytes to (part bytes from n)) ≡ length bytes
-moved_long bytes to from n into out = let len = part_len bytes from n out in overlaid_len bytes to (part bytes from n) (omega arith)
+pub moved_long : (bytes new : List ℕ) (to from n : ℕ) → to + n ≤ length bytes → from + n ≤ length bytes → new ≡ overlaid bytes to (part bytes from n) → length new ≡ length bytes
+moved_long bytes new to from n into out is = let len = part_len bytes from n out in ap length is ∙ overlaid_len bytes to (part bytes from n) (omega arith)
 
 -- a word of bytes that were moved, and of bytes that were set to 0
 pub word_moved : (bytes : List ℕ) (to from n j m : ℕ) → to + n ≤ length bytes → from + n ≤ length bytes → j + m ≤ n → word (overlaid bytes to (part bytes from n)) (to + j) m ≡ word bytes (from + j) m

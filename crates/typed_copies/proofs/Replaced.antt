@@ -1,10 +1,9 @@
 -- What replaced bytes do to the words in slots, and to the counts.
-use Rattle.std.proofs.Common.{◌≡◌, ◌<◌, ◌≤◌, ◌+◌, ◌-◌, ◌*◌, ◌/◌, inl, inr, ℕ, zero, suc, Bool, cond, not, List, [], ◌∷◌, ◌++◌, length, length-take, length-drop, get_or, take, drop, replicate, sum, refl, sym, ap, ◌∙◌, subst, arith}
-use Rattle.std.specs.Prelude.{nat_eq, count_by, All}
+use Rattle.std.proofs.Common.{◌≡◌, ◌<◌, ◌≤◌, ◌+◌, ◌-◌, inl, inr, ℕ, not, List, [], ◌++◌, length, length-take, get_or, take, drop, replicate, sum, refl, sym, ap, ◌∙◌, arith}
+use Rattle.std.specs.Prelude.{nat_eq}
 use Rattle.std.specs.List.{sum_by}
 use Rattle.std.proofs.lemmas.Bool.{cases_lt}
-use Rattle.std.proofs.lemmas.List.{append-nil, append_assoc, drop_at, drop-drop, ext_get_or, length-replicate, take_at}
-use Rattle.std.proofs.lemmas.List.Elements.{All-drop, All-take}
+use Rattle.std.proofs.lemmas.List.{append_assoc, drop_at, drop-drop, ext_get_or, take_at}
 use Rattle.std.proofs.lemmas.List.Filters.{length-filter_both}
 use Rattle.std.proofs.lemmas.List.Folds.{sum_by-replicate}
 use Rattle.std.proofs.lemmas.List.Sums.{length-filter, sum_by-append, sum_by-take-drop, sum_by-take-le}
@@ -13,10 +12,10 @@ use Rattle.hs_base.specs.Bytes.{word}
 use Rattle.count_table.specs.Table.{Table}
 use Rattle.typed_copies.specs.declared.slots.Within.{Within}
 use Rattle.typed_copies.specs.Slots.{AreWithin}
-use Rattle.typed_copies.specs.Pointers.{Cover, Follow, HaveRoom, addresses, into_granule, nulls, words_at, words_in}
-use Rattle.typed_copies.proofs.Following.{follow_both, is_address, one_if, points_into}
+use Rattle.typed_copies.specs.Pointers.{Cover, Follow, HaveRoom, addresses, nulls, words_at}
+use Rattle.typed_copies.proofs.Following.{is_address, one_if, points_into}
 use Rattle.typed_copies.proofs.Overlaid.{at_before, at_behind, at_inside, overlaid_len, word_before, word_behind}
-use Rattle.typed_copies.proofs.Worded.{word_at, words_in_len, words_len}
+use Rattle.typed_copies.proofs.Worded.{word_at, words_len}
 
 -- Words
 
@@ -39,7 +38,7 @@ module _ (old : List ℕ) (start offset n size : ℕ) (bytes slots : List ℕ) (
         | inr from ↦ elim (cases_lt k (w.first + w.count)) [
           | inl within ↦ let e : w.first + (k - w.first) ≡ k = omega arith in
               ap (λ i. word after (start + get_or slots i 0) 4) (sym e) ∙ same (k - w.first) (omega arith)
-                  ∙ sym (at_inside words w.first new space (k - w.first) 0 (omega arith)) ∙ ap (λ i. get_or (overlaid words w.first new) i 0) e
+              ∙ sym (at_inside words w.first new space (k - w.first) 0 (omega arith)) ∙ ap (λ i. get_or (overlaid words w.first new) i 0) e
           | inr behind ↦ word_behind old (start + offset) bytes room (start + get_or slots k 0) 4 (let h = are.behind k behind below in omega arith) (omega arith)
               ∙ sym (word_at old start slots k below) ∙ sym (at_behind words w.first new space k 0 (omega arith))
         ]

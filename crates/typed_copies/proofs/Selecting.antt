@@ -1,6 +1,6 @@
 -- The slots below an offset and those within a range, as the definition of accesses lists them.
 use Rattle.std.proofs.Common.{◌≡◌, ◌<◌, ◌≤◌, ◌+◌, ◌-◌, ◌*◌, inl, inr, ℕ, zero, suc, Bool, true, false, List, [], ◌∷◌, length, get_or, take, drop, refl, sym, ap, ◌∙◌, subst, arith, length-take, length-drop, get_or-take, get_or-drop}
-use Rattle.std.specs.Prelude.{nat_lt, nat_le, nat_eq, ◌&&◌, map, filter}
+use Rattle.std.specs.Prelude.{nat_lt, nat_le, nat_eq, ◌&&◌, filter}
 use Rattle.std.proofs.lemmas.Bool.{and_from, and_left, and_parts, and_right, cases_lt, cond-false, cond-true, eq-eqb, eqb-true, false_from_ne_true, le-leb, le-ltb, lt-leb, lt-ltb}
 use Rattle.std.proofs.lemmas.List.{ext_get_or, get_or-map, length-map, nil_from_length}
 use Rattle.hs_base.specs.Access.{distances, same_numbers, slots_below, slots_within}

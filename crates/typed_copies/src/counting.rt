@@ -1,6 +1,6 @@
 //! Counts that follow the pointers in slots.
 
-ghost use Rattle.std.specs.Prelude.{◌≡◌, ◌+◌, ◌*◌, ◌/◌, ◌^◌, ◌<◌, ◌≤◌, ℕ, ◌∷◌, [], All, length, sum, slice_index};
+ghost use Rattle.std.specs.Prelude.{◌+◌, ◌*◌, ◌/◌, ◌^◌, ◌<◌, ◌≤◌, ℕ, ◌∷◌, [], All, length, sum, slice_index};
 ghost use Rattle.c_types.specs.Layouts.{AreSlots};
 ghost use Rattle.adjusters.specs.ObjectSlots.{object_slots};
 ghost use Rattle.typed_copies.specs.Pointers.{Follow, into_granule, words_in};

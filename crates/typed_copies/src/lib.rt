@@ -10,11 +10,11 @@
 //! which order, are `copy` and `set_bytes` of `hs_base/specs/Access.antt`; that no pointer is null and no object is dead is
 //! tested by the caller. A refusal changes nothing. `specs/Copying.antt` says what a call leaves.
 //!
-//! Each byte that is read or written is a step, and so is each change of a count. The slots of a range are found by halving,
-//! so that the work grows with the range alone.
+//! Each read or write is a step, and so is each change of a count; there are at most three for each byte of the range. The
+//! first slot of a range is found by halving the slots of its object, which takes no step.
 #![tactic(auto)]
 
-ghost use Rattle.std.specs.Prelude.{◌≡◌, ◌+◌, ◌*◌, ◌^◌, ◌<◌, ◌≤◌, ℕ, All, List, length, min, IfErr, OnErr, OnOk};
+ghost use Rattle.std.specs.Prelude.{◌≡◌, ◌+◌, ◌*◌, ◌^◌, ◌<◌, ◌≤◌, All, List, length, min, IfErr, OnErr, OnOk};
 ghost use Rattle.c_types.specs.Layouts.{AreSlots};
 ghost use Rattle.hs_base.specs.declared.values.Pointer as values;
 ghost use Rattle.hs_base.specs.Access as access;
@@ -22,7 +22,7 @@ ghost use Rattle.hs_base.specs.Access.{overlaid};
 ghost use Rattle.hs_base.specs.Bytes.{part};
 ghost use Rattle.hs_base.specs.Object.{Object};
 ghost use Rattle.adjusters.specs.ObjectSlots.{Element, object_slots};
-ghost use Rattle.typed_copies.specs.Slots.{AreWithin, slots_agree};
+ghost use Rattle.typed_copies.specs.Slots.{AreWithin};
 ghost use Rattle.typed_copies.specs.Pointers.{ArePointers, Cover, Follow, HaveRoom, words_in};
 ghost use Rattle.typed_copies.specs.Copying.{Answers, IsCleared, IsCopied, IsInside, IsRangeIn, SameFrame, form_at, slots_of, words_of};
 

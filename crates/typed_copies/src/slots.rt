@@ -1,6 +1,6 @@
 //! The slots of an object that lie within a range.
 
-ghost use Rattle.std.specs.Prelude.{◌≡◌, ◌+◌, ◌<◌, ◌≤◌, ◌&&◌, ◌⊎◌, ℕ, true, false, nat_lt, IsTrue, ◌↔◌, IfNone, IfSome, OnSome};
+ghost use Rattle.std.specs.Prelude.{◌≡◌, ◌+◌, ◌≤◌, ◌&&◌, ◌⊎◌, ℕ, true, false, nat_lt, IsTrue, ◌↔◌, IfNone, IfSome, OnSome};
 ghost use Rattle.std.specs.List.{list_any};
 ghost use Rattle.c_types.specs.Layouts.{AreSlots};
 ghost use Rattle.hs_base.specs.Access.{cuts_slot};

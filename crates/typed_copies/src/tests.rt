@@ -17,9 +17,13 @@ use std::test::Fail;
 
 // The elements: a byte, a pointer before a number, a pointer behind one, a pointer, and a pointer before two bytes.
 const BYTES: u32 = 0;
+
 const POINTER_FIRST: u32 = 1;
+
 const POINTER_LAST: u32 = 2;
+
 const POINTERS: u32 = 3;
+
 const ODD: u32 = 4;
 
 // A memory of 128 bytes, with a count for each 16 of them.
@@ -198,15 +202,7 @@ impl World {
         if !self.is_ready(alloc, forms, dst, steps)? || !self.is_ready(alloc, forms, src, steps)? {
             return Err(Fail::from("not ready"));
         }
-        Ok(crate::copy(
-            &mut self.bytes,
-            &mut self.counts,
-            forms,
-            dst,
-            src,
-            n,
-            steps,
-        ))
+        Ok(crate::copy(&mut self.bytes, &mut self.counts, forms, dst, src, n, steps))
     }
 
     // The answer of a set.
@@ -252,18 +248,16 @@ impl World {
         if dst.offset != 0 || src.offset != 0 {
             return Err(Fail::from("not at the start"));
         }
-        Ok(crate::grow(
-            &mut self.bytes,
-            &mut self.counts,
-            forms,
-            dst,
-            src,
-            steps,
-        ))
+        Ok(crate::grow(&mut self.bytes, &mut self.counts, forms, dst, src, steps))
     }
 
     // Writes bytes from an address on.
-    fn put<L: Ledger>(&mut self, start: u32, bytes: &[u8], steps: &mut Steps<L>) -> Result<(), Fail> {
+    fn put<L: Ledger>(
+        &mut self,
+        start: u32,
+        bytes: &[u8],
+        steps: &mut Steps<L>,
+    ) -> Result<(), Fail> {
         if start > 104 || bytes.len() > 24 {
             return Err(Fail::from("outside"));
         }
@@ -275,7 +269,12 @@ impl World {
     }
 
     // Writes a pointer at an address, and counts it.
-    fn point<L: Ledger>(&mut self, addr: u32, target: u32, steps: &mut Steps<L>) -> Result<(), Fail> {
+    fn point<L: Ledger>(
+        &mut self,
+        addr: u32,
+        target: u32,
+        steps: &mut Steps<L>,
+    ) -> Result<(), Fail> {
         if addr > 124 || target > 127 || self.counts.total(0, 8, steps) >= 64 {
             return Err(Fail::from("outside"));
         }
@@ -501,9 +500,7 @@ fn sets_make_null<L: Ledger, R: Abort>(
             steps,
         )?;
         assert_eq!(rt; answer, want, "{n} bytes at {offset} to {byte}");
-        let want = [
-            17, 0, 0, 0, 255, 255, 255, 255, 33, 0, 0, 0, 0, 0, 0, 0,
-        ];
+        let want = [17, 0, 0, 0, 255, 255, 255, 255, 33, 0, 0, 0, 0, 0, 0, 0];
         world.expect(rt, 64, &want, &[0, 1, 1, 0, 0, 0, 0, 0], steps)?;
     }
     let null = world.clear(alloc, forms, at(64, 16, 0, POINTER_FIRST), 0, 6, steps)?;

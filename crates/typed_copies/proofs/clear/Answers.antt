@@ -1,4 +1,4 @@
-use Rattle.std.proofs.Common.{◌≡◌, ◌<◌, ◌≤◌, ◌+◌, ◌∙◌, true, List, [], length, get_or, sym, subst, arith}
+use Rattle.std.proofs.Common.{◌≡◌, ◌∙◌, true, sym, subst, arith}
 use Rattle.adjusters.specs.ObjectSlots.{Element, object_slots}
 use Rattle.typed_copies.specs.Slots.{slots_allow}
 use Rattle.typed_copies.specs.Pointers.{Cover, words_at, words_in}

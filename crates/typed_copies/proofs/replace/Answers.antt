@@ -1,4 +1,4 @@
-use Rattle.std.proofs.Common.{◌≡◌, ◌+◌, ◌<◌, ◌^◌, length, ap, arith}
+use Rattle.std.proofs.Common.{◌+◌, arith}
 use Rattle.adjusters.specs.ObjectSlots.{object_slots}
 use Rattle.typed_copies.specs.Pointers.{words_in}
 use Rattle.typed_copies.proofs.Ascending.{object_has_slots}
@@ -10,8 +10,8 @@ use Rattle.typed_copies.proofs.replace.Goals as goal
 
 pub put_on-requires-clause-reach : goal.put_on-requires-clause-reach
 put_on-requires-clause-reach g c =
-    let long = moved_long c.args.bytes.now (c.args.dst.start + c.args.dst.offset) c.args.from c.args.n (omega (arith, c.requires.object, c.requires.range)) c.requires.from in
-    omega (arith, ap length c.move_bytes.ensures.moved, c.requires.reach)
+    let long = moved_long c.args.bytes.now c.move_bytes.new.bytes (c.args.dst.start + c.args.dst.offset) c.args.from c.args.n (omega (arith, c.requires.object, c.requires.range)) c.requires.from c.move_bytes.ensures.moved in
+    omega (arith, c.requires.reach)
 
 pub put_on-requires-clause-room : goal.put_on-requires-clause-room
 put_on-requires-clause-room g c =

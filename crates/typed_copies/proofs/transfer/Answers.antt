@@ -1,6 +1,4 @@
-use Rattle.std.proofs.Common.{◌≡◌, ◌<◌, ◌≤◌, ◌+◌, ◌∙◌, ℕ, true, List, length, get_or, sym, ap, subst, arith}
-use Rattle.hs_base.specs.Access.{overlaid}
-use Rattle.hs_base.specs.Bytes.{part}
+use Rattle.std.proofs.Common.{◌≡◌, ◌+◌, ◌∙◌, true, sym, subst, arith}
 use Rattle.adjusters.specs.ObjectSlots.{Element, object_slots}
 use Rattle.typed_copies.specs.Slots.{slots_agree}
 use Rattle.typed_copies.specs.Pointers.{ArePointers, Cover, HaveRoom, words_at, words_in}
@@ -72,7 +70,7 @@ returns-clause-frame g c =
     let to = c.args.dst.start + c.args.dst.offset in
     let from = c.args.src.start + c.args.src.offset in
     record {
-      bytes = ap length c.replace.ensures.moved ∙ moved_long c.args.bytes.now to from c.args.n (omega (arith, c.requires.destination.end, c.requires.into)) (omega (arith, c.requires.source.end, c.requires.from));
+      bytes = moved_long c.args.bytes.now c.replace.new.bytes to from c.args.n (omega (arith, c.requires.destination.end, c.requires.into)) (omega (arith, c.requires.source.end, c.requires.from)) c.replace.ensures.moved;
       counts = c.replace.ensures.follow.long;
       most = c.replace.ensures.follow.most;
     }

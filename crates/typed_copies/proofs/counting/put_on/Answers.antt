@@ -1,8 +1,7 @@
-use Rattle.std.proofs.Common.{◌≡◌, ◌+◌, ◌<◌, ◌/◌, ◌∙◌, ℕ, [], List, length, get_or, take, sym, ap, subst, arith}
-use Rattle.std.proofs.lemmas.List.{take_all}
+use Rattle.std.proofs.Common.{◌≡◌, ◌+◌, ◌<◌, ◌/◌, ◌∙◌, ℕ, length, get_or, sym, ap, subst, arith}
 use Rattle.hs_base.specs.Bytes.{word}
 use Rattle.adjusters.specs.ObjectSlots.{object_slots}
-use Rattle.typed_copies.specs.Pointers.{Follow, words_in}
+use Rattle.typed_copies.specs.Pointers.{words_in}
 use Rattle.typed_copies.proofs.Ascending.{few_slots}
 use Rattle.typed_copies.proofs.Worded.{slot_inside, word_in_at, words_in_len}
 use Rattle.typed_copies.proofs.Following.{next_comes}

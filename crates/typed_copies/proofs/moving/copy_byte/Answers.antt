@@ -1,5 +1,4 @@
-use Rattle.std.proofs.Common.{◌≡◌, ◌∙◌, set, get_or, sym, ap, subst, arith}
-use Rattle.hs_base.specs.Bytes.{word, put_word}
+use Rattle.std.proofs.Common.{◌≡◌, ◌∙◌, set, get_or, sym, ap, arith}
 use Rattle.hs_base.proofs.Words.{stored_byte, word_1}
 use Rattle.typed_copies.proofs.moving.copy_byte.Goals as goal
 

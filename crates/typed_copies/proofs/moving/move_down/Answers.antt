@@ -1,4 +1,4 @@
-use Rattle.std.proofs.Common.{◌≡◌, ◌+◌, ◌∙◌, get_or, set, sym, ap, arith}
+use Rattle.std.proofs.Common.{◌+◌, ◌∙◌, get_or, set, sym, ap, arith}
 use Rattle.typed_copies.proofs.Overlaid.{moved_more, moved_none}
 use Rattle.typed_copies.proofs.moving.move_down.Goals as goal
 

@@ -1,4 +1,4 @@
-use Rattle.std.proofs.Common.{◌≡◌, ◌+◌, ◌∙◌, sym, arith}
+use Rattle.std.proofs.Common.{◌∙◌, sym, arith}
 use Rattle.typed_copies.proofs.Overlaid.{moved_back, moved_last}
 use Rattle.typed_copies.proofs.moving.move_up.Goals as goal
 

@@ -1,5 +1,5 @@
 use Rattle.std.proofs.Common.{◌≡◌, ℕ, Bool, true, false, List}
-use Rattle.std.specs.Prelude.{IsTrue, ◌&&◌, not}
+use Rattle.std.specs.Prelude.{◌&&◌, not}
 use Rattle.std.proofs.lemmas.Bool.{both_ways}
 use Rattle.hs_base.specs.Access.{cuts_slot, distances, same_numbers}
 use Rattle.adjusters.specs.ObjectSlots.{object_slots}

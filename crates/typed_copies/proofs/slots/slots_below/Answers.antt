@@ -1,4 +1,4 @@
-use Rattle.std.proofs.Common.{◌≡◌, ◌+◌, ◌-◌, ◌/◌, ◌<◌, ◌≤◌, inl, inr, ℕ, List, length, get_or, ap, sym, arith}
+use Rattle.std.proofs.Common.{◌+◌, ◌-◌, ◌/◌, ◌<◌, ◌≤◌, inl, inr, ℕ, List, length, get_or, ap, arith}
 use Rattle.std.proofs.lemmas.Bool.{cases_order}
 use Rattle.adjusters.specs.ObjectSlots.{object_slots}
 use Rattle.typed_copies.proofs.Ascending.{Ascend, object_has_slots, slots_apart}

@@ -1,4 +1,4 @@
-use Rattle.std.proofs.Common.{◌≡◌, ◌+◌, ◌∙◌, sym}
+use Rattle.std.proofs.Common.{◌∙◌, sym}
 use Rattle.adjusters.specs.ObjectSlots.{object_slots}
 use Rattle.typed_copies.proofs.Cutting.{between, cut_first, cut_last, cut_nowhere, in_order}
 use Rattle.typed_copies.proofs.slots.slots_within.Goals as goal

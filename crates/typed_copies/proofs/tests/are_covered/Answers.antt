@@ -1,4 +1,4 @@
-use Rattle.std.proofs.Common.{◌≡◌, ◌<◌, ◌≤◌, ◌+◌, ◌*◌, ◌/◌, inl, inr, ℕ, List, length, get_or, arith}
+use Rattle.std.proofs.Common.{◌≡◌, ◌<◌, ◌≤◌, ◌/◌, inl, inr, ℕ, List, get_or, arith}
 use Rattle.std.specs.Prelude.{All, nat_eq, not}
 use Rattle.std.proofs.lemmas.Bool.{and_right, cases_lt, cond-false, ne_eqb}
 use Rattle.std.proofs.lemmas.List.Sums.{sum_by-le}

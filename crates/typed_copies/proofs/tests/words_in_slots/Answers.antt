@@ -1,4 +1,4 @@
-use Rattle.std.proofs.Common.{◌≡◌, ◌<◌, ◌+◌, ◌∷◌, ◌++◌, [], ◌∙◌, length, get_or, take, sym, ap, arith}
+use Rattle.std.proofs.Common.{◌≡◌, ◌<◌, ◌+◌, ◌∷◌, ◌++◌, [], ◌∙◌, length, get_or, sym, ap, arith}
 use Rattle.std.proofs.lemmas.List.{take_more}
 use Rattle.hs_base.specs.Bytes.{word}
 use Rattle.adjusters.specs.ObjectSlots.{object_slots}
