@@ -13,6 +13,7 @@ use Rattle.typed_copies.proofs.Ascending.{Ascend, slots_apart}
 abbrev pub is_over : ℕ → ℕ → Bool
 is_over edge s = nat_lt s edge && nat_lt edge (s + 4)
 
+-- an edge inside a slot is found
 cut_by : (slots : List ℕ) (edge k : ℕ) → k < length slots → get_or slots k 0 < edge → edge < get_or slots k 0 + 4 → list_any (is_over edge) slots ≡ true
 cut_by slots edge k inside below above =
     let s = get_or slots k 0 in
@@ -26,6 +27,7 @@ uncut_at slots edge none k inside below =
       | inr past ↦ past
     ]
 
+-- an edge that is behind a slot or before it is not inside
 over_none : (s edge : ℕ) → (s < edge → s + 4 ≤ edge) → is_over edge s ≡ false
 over_none s edge past =
     elim (cases_lt s edge) [
@@ -33,6 +35,7 @@ over_none s edge past =
       | inr behind ↦ and_left (nat_lt s edge) (nat_lt edge (s + 4)) (le-ltb s edge behind)
     ]
 
+-- an edge behind each slot that begins below it is inside none
 pub uncut : (slots : List ℕ) (edge : ℕ) → ((k : ℕ) → k < length slots → get_or slots k 0 < edge → get_or slots k 0 + 4 ≤ edge) → list_any (is_over edge) slots ≡ false
 uncut slots edge past =
     list_any_none (is_over edge) slots (All-from_get_or (λ s. is_over edge s ≡ false) slots 0 (λ k inside. over_none (get_or slots k 0) edge (past k inside)))
@@ -51,6 +54,7 @@ last_decides size slots edge below ascend splits some =
       ]))
     ]
 
+-- an edge below which no slot begins is inside none
 pub none_below : (slots : List ℕ) (edge below : ℕ) → Splits slots edge below → below ≡ 0 → false ≡ list_any (is_over edge) slots
 none_below slots edge below splits none =
     sym (uncut slots edge (λ k inside under. absurd (let up = splits.above k (omega arith) inside in omega arith)))
@@ -62,21 +66,26 @@ or_swap false true true d = refl
 or_swap false true false d = refl
 or_swap false false c d = refl
 
+-- a slot that passes one of two tests
 any_or : (p q : ℕ → Bool) (xs : List ℕ) → list_any (λ s. p s || q s) xs ≡ (list_any p xs || list_any q xs)
 any_or p q [] = refl
 any_or p q (x ∷ xs) = ap (λ r. (p x || q x) || r) (any_or p q xs) ∙ or_swap (p x) (q x) (list_any p xs) (list_any q xs)
 
+-- a range whose first edge is inside a slot
 pub cut_first : (slots : List ℕ) (offset n : ℕ) → list_any (is_over offset) slots ≡ true → cuts_slot slots offset n ≡ true
 cut_first slots offset n cut = any_or (is_over offset) (is_over (offset + n)) slots ∙ or_left (list_any (is_over offset) slots) (list_any (is_over (offset + n)) slots) cut
 
+-- a range whose last edge is inside a slot
 pub cut_last : (slots : List ℕ) (offset n : ℕ) → list_any (is_over (offset + n)) slots ≡ true → cuts_slot slots offset n ≡ true
 cut_last slots offset n cut = any_or (is_over offset) (is_over (offset + n)) slots ∙ or_right (list_any (is_over offset) slots) (list_any (is_over (offset + n)) slots) cut
 
+-- a range with no edge inside a slot
 pub cut_nowhere : (slots : List ℕ) (offset n : ℕ) → list_any (is_over offset) slots ≡ false → list_any (is_over (offset + n)) slots ≡ false → cuts_slot slots offset n ≡ false
 cut_nowhere slots offset n first last = any_or (is_over offset) (is_over (offset + n)) slots ∙ or_from (list_any (is_over offset) slots) (list_any (is_over (offset + n)) slots) first last
 
 -- the slots between the edges of a range that cuts none
 module _ (slots : List ℕ) (offset n first end : ℕ) (start : Splits slots offset first) (stop : Splits slots (offset + n) end) where
+  -- no more slots begin below the first edge than below the last
   pub in_order : first ≤ end
   in_order =
       elim (cases_lt end first) [
@@ -84,6 +93,7 @@ module _ (slots : List ℕ) (offset n first end : ℕ) (start : Splits slots off
         | inr fine ↦ fine
       ]
 
+  -- the slots from the first edge to the last lie whole within
   pub between : list_any (is_over offset) slots ≡ false → list_any (is_over (offset + n)) slots ≡ false → AreWithin slots offset n (record { first = first; count = end - first })
   between no_first no_last =
       let order = in_order in

@@ -11,15 +11,19 @@ use Rattle.typed_copies.specs.Pointers.{Follow, into_granule}
 abbrev pub points_into : ℕ → ℕ → Bool
 points_into granule w = not (nat_eq w 0) && nat_eq (w / 16) granule
 
+-- is the word an address?
 abbrev pub is_address : ℕ → Bool
 is_address w = not (nat_eq w 0)
 
+-- 1 for true
 abbrev pub one_if : Bool → ℕ
 one_if b = cond b 1 0
 
+-- an address counts in its granule
 points_there : (w : ℕ) → 0 < w → one_if (points_into (w / 16) w) ≡ 1
 points_there w some = cond-true (points_into (w / 16) w) 1 0 (and_from (is_address w) (nat_eq (w / 16) (w / 16)) (not_from_false (nat_eq w 0) (ne_eqb w 0 (λ e. omega arith))) (eq-eqb (w / 16) (w / 16) refl))
 
+-- counts that follow some words and then others follow both
 pub follow_both : (a b c : Table) (old new old' new' : List ℕ) → Follow a b old new → Follow b c old' new' → Follow a c (old ++ old') (new ++ new')
 follow_both a b c old new old' new' first second = record {
   most = omega (arith, first.most, second.most);

@@ -25,12 +25,15 @@ module _ (d s : List ℕ) (dst src : Ranged) (n : ℕ) (old : List ℕ) (into : 
   abbrev pub incoming : List ℕ
   incoming = words_in old src.start s co.out
 
+  -- as many as there are slots to take them
   many_come : length incoming ≡ into.count
   many_come = words_in_len old src.start s co.out co.read.inside ∙ co.same.many
 
+  -- the bytes after the move
   abbrev pub moved : List ℕ
   moved = overlaid old (dst.start + dst.offset) (part old (src.start + src.offset) n)
 
+  -- a slot has the word of the slot at the same distance
   word_comes : (k : ℕ) → k < into.count → word moved (dst.start + get_or d (into.first + k) 0) 4 ≡ get_or incoming k 0
   word_comes k less =
       let there : k < co.out.count = omega (arith, co.same.many) in
@@ -44,18 +47,22 @@ module _ (d s : List ℕ) (dst src : Ranged) (n : ℕ) (old : List ℕ) (into : 
       ap (λ a. word moved a 4) at ∙ word_moved old (dst.start + dst.offset) (src.start + src.offset) n j 4 (omega arith) from (omega arith)
       ∙ ap (λ a. word old a 4) at' ∙ sym (word_in_at old src.start s co.out k co.read.inside there)
 
+  -- the words that come stand in place of those that go
   pub words_moved : words_at moved dst.start d ≡ overlaid (words_at old dst.start d) into.first incoming
   words_moved =
       words_replaced old dst.start dst.offset n dst.size (part old (src.start + src.offset) n) d into co.written (part_len old (src.start + src.offset) n from) inside room ends incoming many_come word_comes
 
+  -- there are slots for them
   fit : into.first + length incoming ≤ length (words_at old dst.start d)
   fit = omega (arith, many_come, words_len old dst.start d, co.written.inside)
 
+  -- what stands in these slots then
   pub come_is : words_in moved dst.start d into ≡ incoming
   come_is =
       ap (λ l. take into.count (drop into.first l)) words_moved
       ∙ ap (λ m. take m (drop into.first (overlaid (words_at old dst.start d) into.first incoming))) (sym many_come) ∙ replaced_now (words_at old dst.start d) into.first incoming fit
 
+  -- the words that come are pointers where those of the source are
   pub pointers_come : (counts : Table) → ArePointers old counts (words_at old src.start s) → ArePointers old counts (words_in moved dst.start d into)
   pointers_come counts are =
       subst (ArePointers old counts) (sym come_is) (record {
@@ -63,6 +70,7 @@ module _ (d s : List ℕ) (dst src : Ranged) (n : ℕ) (old : List ℕ) (into : 
         granules = are.granules;
       })
 
+  -- what a copy leaves
   pub copied_is : (new : List ℕ) (before after : Table) → new ≡ moved → Follow before after (words_in old dst.start d into) (words_in new dst.start d into) → IsCopied d s dst src n old new before after
   copied_is new before after is follow =
       let words = words_at old dst.start d in
@@ -80,6 +88,7 @@ module _ (d s : List ℕ) (dst src : Ranged) (n : ℕ) (old : List ℕ) (into : 
         counts = subst (Follow before after words) (sym now) (follow_replaced before after words into.first incoming fit some);
       }
 
+-- no slot lies within no bytes
 none_within : (slots : List ℕ) (offset : ℕ) → slots_within slots offset 0 ≡ []
 none_within [] offset = refl
 none_within (s ∷ slots) offset =
@@ -89,9 +98,11 @@ none_within (s ∷ slots) offset =
     ] in
     cond-false (nat_le offset s && nat_le (s + 4) (offset + 0)) (s ∷ slots_within slots offset 0) (slots_within slots offset 0) out ∙ none_within slots offset
 
+-- nothing goes and nothing comes
 follow_itself : (table : Table) (words : List ℕ) → Follow table table words words
 follow_itself table words = record { most = refl; long = refl; exact = λ granule. refl; all = refl }
 
+-- a copy of no bytes leaves all as it is
 pub copied_none : (d s : List ℕ) (dst src : Ranged) (n : ℕ) (bytes : List ℕ) (counts : Table) → n ≡ 0 → IsCopied d s dst src n bytes bytes counts counts
 copied_none d s dst src n bytes counts none =
     let words = words_at bytes dst.start d in
@@ -105,6 +116,7 @@ copied_none d s dst src n bytes counts none =
 
 -- Sets
 
+-- a set of no bytes leaves all as it is
 pub cleared_none : (d : List ℕ) (dst : Ranged) (byte n : ℕ) (bytes : List ℕ) (counts : Table) → n ≡ 0 → IsCleared d dst byte n bytes bytes counts counts
 cleared_none d dst byte n bytes counts none =
     let words = words_at bytes dst.start d in
@@ -115,9 +127,11 @@ cleared_none d dst byte n bytes counts none =
     })
 
 module _ (d : List ℕ) (dst : Ranged) (byte n : ℕ) (old : List ℕ) (within : Within) (are : AreWithin d dst.offset n within) (ends : (k : ℕ) → k < length d → get_or d k 0 + 4 ≤ dst.size) (inside : dst.start + dst.size ≤ length old) (room : dst.offset + n ≤ dst.size) (null : (byte ≡ 0) ⊎ (within.count ≡ 0)) where
+  -- the bytes after the set
   abbrev pub filled : List ℕ
   filled = overlaid old (dst.start + dst.offset) (replicate n byte)
 
+  -- a slot that was set to 0 is null
   word_goes : (k : ℕ) → k < within.count → word filled (dst.start + get_or d (within.first + k) 0) 4 ≡ get_or (replicate within.count 0) k 0
   word_goes k less =
       let j = get_or d (within.first + k) 0 - dst.offset in
@@ -130,6 +144,7 @@ module _ (d : List ℕ) (dst : Ranged) (byte n : ℕ) (old : List ℕ) (within :
             ∙ word_null old (dst.start + dst.offset) n j (omega arith) (omega arith) ∙ sym (get_or-replicate within.count k 0 0 less)
       ]
 
+  -- what a set leaves
   pub cleared_is : (new : List ℕ) (before after : Table) → new ≡ filled → Follow before after (words_in old dst.start d within) [] → IsCleared d dst byte n old new before after
   cleared_is new before after is follow =
       let words = words_at old dst.start d in

@@ -7,23 +7,28 @@ use Rattle.hs_base.proofs.Words.{stored_byte}
 
 -- Parts
 
+-- a part of four zeros
 zeros : part (replicate 4 0) 0 4 ≡ replicate 4 0
 unfolding part
 zeros = refl
 
+-- the length of a part
 pub part_len : (bytes : List ℕ) (addr n : ℕ) → addr + n ≤ length bytes → length (part bytes addr n) ≡ n
 unfolding part
 part_len bytes addr n inside = length-take n (drop addr bytes) ∙ omega (arith, length-drop addr bytes)
 
+-- a part of no bytes
 part_none : (bytes : List ℕ) (addr : ℕ) → part bytes addr 0 ≡ []
 unfolding part
 part_none bytes addr = refl
 
+-- a part with one byte more behind it
 part_more : (bytes : List ℕ) (addr n : ℕ) → addr + n < length bytes → part bytes addr (n + 1) ≡ part bytes addr n ++ get_or bytes (addr + n) 0 ∷ []
 unfolding part
 part_more bytes addr n inside =
     take_more (drop addr bytes) n 0 (omega (arith, length-drop addr bytes)) ∙ ap (λ b. take n (drop addr bytes) ++ b ∷ []) (get_or-drop addr bytes n 0)
 
+-- a part with one byte more before it
 part_from : (bytes : List ℕ) (addr n : ℕ) → addr < length bytes → part bytes addr (suc n) ≡ get_or bytes addr 0 ∷ part bytes (addr + 1) n
 unfolding part
 part_from bytes addr n inside = ap (take (suc n)) (drop_more bytes addr 0 inside)
@@ -31,24 +36,29 @@ part_from bytes addr n inside = ap (take (suc n)) (drop_more bytes addr 0 inside
 -- What stands in the list
 
 module _ {A : Type 0} (items : List A) (place : ℕ) (new : List A) (inside : place + length new ≤ length items) where
+  -- the length of what stands up to the end of the new items
   front_len : length (take place items ++ new) ≡ place + length new
   front_len = length-append (take place items) new ∙ omega (arith, length-take place items)
 
+  -- as many items as before
   pub overlaid_len : length (overlaid items place new) ≡ length items
   overlaid_len = length-append (take place items ++ new) (drop (place + length new) items) ∙ omega (arith, front_len, length-drop (place + length new) items)
 
+  -- an item before the new ones
   pub at_before : (k : ℕ) (d : A) → k < place → get_or (overlaid items place new) k d ≡ get_or items k d
   at_before k d less =
       get_or_append_left (take place items ++ new) (drop (place + length new) items) d k (omega (arith, front_len))
       ∙ get_or_append_left (take place items) new d k (omega (arith, length-take place items))
       ∙ get_or-take place items k d less
 
+  -- one of the new ones
   pub at_inside : (k : ℕ) (d : A) → k < length new → get_or (overlaid items place new) (place + k) d ≡ get_or new k d
   at_inside k d less =
       let at : place + k ≡ length (take place items) + k = omega (arith, length-take place items) in
       get_or_append_left (take place items ++ new) (drop (place + length new) items) d (place + k) (omega (arith, front_len))
       ∙ ap (λ i. get_or (take place items ++ new) i d) at ∙ get_or-append-add (take place items) new k d
 
+  -- an item behind them
   pub at_behind : (k : ℕ) (d : A) → place + length new ≤ k → get_or (overlaid items place new) k d ≡ get_or items k d
   at_behind k d more =
       let at : k ≡ length (take place items ++ new) + (k - (place + length new)) = omega (arith, front_len) in
@@ -58,6 +68,7 @@ module _ {A : Type 0} (items : List A) (place : ℕ) (new : List A) (inside : pl
 
 -- Parts and words of the bytes
 
+-- a byte of a part
 part_at : (bytes : List ℕ) (addr n k d : ℕ) → k < n → get_or (part bytes addr n) k d ≡ get_or bytes (addr + k) d
 unfolding part
 part_at bytes addr n k d less = get_or-take n (drop addr bytes) k d less ∙ get_or-drop addr bytes k d
@@ -71,32 +82,39 @@ same_part xs ys a b n inside inside' same =
     part_at xs a n k 0 less' ∙ same k less' ∙ sym (part_at ys b n k 0 less'))
 
 module _ (bytes : List ℕ) (place : ℕ) (new : List ℕ) (inside : place + length new ≤ length bytes) where
+  -- a part before the new bytes
   pub part_before : (at n : ℕ) → at + n ≤ place → part (overlaid bytes place new) at n ≡ part bytes at n
   part_before at n before =
       same_part (overlaid bytes place new) bytes at at n (omega (arith, overlaid_len bytes place new inside)) (omega arith) (λ k less. at_before bytes place new inside (at + k) 0 (omega arith))
 
+  -- a part behind them
   pub part_behind : (at n : ℕ) → place + length new ≤ at → at + n ≤ length bytes → part (overlaid bytes place new) at n ≡ part bytes at n
   part_behind at n behind ends =
       same_part (overlaid bytes place new) bytes at at n (omega (arith, overlaid_len bytes place new inside)) ends (λ k less. at_behind bytes place new inside (at + k) 0 (omega arith))
 
+  -- a part of them
   part_inside : (j n : ℕ) → j + n ≤ length new → part (overlaid bytes place new) (place + j) n ≡ part new j n
   part_inside j n ends =
       same_part (overlaid bytes place new) new (place + j) j n (omega (arith, overlaid_len bytes place new inside)) ends (λ k less.
       let at : place + j + k ≡ place + (j + k) = omega arith in
       ap (λ i. get_or (overlaid bytes place new) i 0) at ∙ at_inside bytes place new inside (j + k) 0 (omega arith))
 
+  -- a word before the new bytes
   pub word_before : (at n : ℕ) → at + n ≤ place → word (overlaid bytes place new) at n ≡ word bytes at n
   unfolding word
   word_before at n before = ap little_endian (part_before at n before)
 
+  -- a word behind them
   pub word_behind : (at n : ℕ) → place + length new ≤ at → at + n ≤ length bytes → word (overlaid bytes place new) at n ≡ word bytes at n
   unfolding word
   word_behind at n behind ends = ap little_endian (part_behind at n behind ends)
 
+  -- a word of them
   word_inside : (j n : ℕ) → j + n ≤ length new → word (overlaid bytes place new) (place + j) n ≡ word new j n
   unfolding word
   word_inside j n ends = ap little_endian (part_inside j n ends)
 
+-- a move keeps the length
 pub moved_long : (bytes new : List ℕ) (to from n : ℕ) → to + n ≤ length bytes → from + n ≤ length bytes → new ≡ overlaid bytes to (part bytes from n) → length new ≡ length bytes
 moved_long bytes new to from n into out is = let len = part_len bytes from n out in ap length is ∙ overlaid_len bytes to (part bytes from n) (omega arith)
 
@@ -110,11 +128,13 @@ word_moved bytes to from n j m into out ends =
     let at : from + (j + k) ≡ from + j + k = omega arith in
     part_at bytes from n (j + k) 0 (omega arith) ∙ ap (λ i. get_or bytes i 0) at))
 
+-- a word of zeros
 zero_word : (n j : ℕ) → j + 4 ≤ n → word (replicate n 0) j 4 ≡ 0
 unfolding word
 zero_word n j ends =
     ap little_endian (same_part (replicate n 0) (replicate 4 0) j 0 4 (omega (arith, length-replicate {A = ℕ} n 0)) (omega (arith, length-replicate {A = ℕ} 4 0)) (λ k less. get_or-replicate n (j + k) 0 0 (omega arith) ∙ sym (get_or-replicate 4 (0 + k) 0 0 (omega arith))) ∙ zeros)
 
+-- a word of bytes that were set to 0
 pub word_null : (bytes : List ℕ) (to n j : ℕ) → to + n ≤ length bytes → j + 4 ≤ n → word (overlaid bytes to (replicate n 0)) (to + j) 4 ≡ 0
 word_null bytes to n j into ends =
     let len : length (replicate {A = ℕ} n 0) ≡ n = length-replicate n 0 in
@@ -122,11 +142,13 @@ word_null bytes to n j into ends =
 
 -- Another item
 
+-- no new items
 pub overlaid_none : {A : Type 0} (items : List A) (place : ℕ) → overlaid items place [] ≡ items
 overlaid_none items place =
     let at : place + 0 ≡ place = omega arith in
     ap (λ l. l ++ drop (place + 0) items) (append-nil (take place items)) ∙ ap (λ i. take place items ++ drop i items) at ∙ take-append-drop place items
 
+-- one more behind the new ones
 overlaid_more : (items : List ℕ) (place : ℕ) (new : List ℕ) (x : ℕ) → place + length new < length items → set (overlaid items place new) (place + length new) x ≡ overlaid items place (new ++ x ∷ [])
 overlaid_more items place new x inside =
     let i = place + length new in
@@ -139,6 +161,7 @@ overlaid_more items place new x inside =
     ∙ sym (append_assoc front (x ∷ []) (drop (place + length (new ++ x ∷ [])) items))
     ∙ ap (λ l. l ++ drop (place + length (new ++ x ∷ [])) items) (append_assoc (take place items) new (x ∷ []))
 
+-- one more before them
 overlaid_front : (items : List ℕ) (place : ℕ) (new : List ℕ) (x : ℕ) → place < length items → set (overlaid items (place + 1) new) place x ≡ overlaid items place (x ∷ new)
 overlaid_front items place new x inside =
     let front = take place items in
@@ -155,9 +178,11 @@ overlaid_front items place new x inside =
 
 -- Bytes that are moved one by one, from the lowest up and from the highest down, and bytes that are set
 
+-- no byte is moved yet
 pub moved_none : (bytes : List ℕ) (to from : ℕ) → overlaid bytes to (part bytes from 0) ≡ bytes
 moved_none bytes to from = ap (overlaid bytes to) (part_none bytes from) ∙ overlaid_none bytes to
 
+-- one byte more is moved down
 pub moved_more : (bytes : List ℕ) (to from k : ℕ) → to ≤ from → from + k < length bytes
     → set (overlaid bytes to (part bytes from k)) (to + k) (get_or (overlaid bytes to (part bytes from k)) (from + k) 0) ≡ overlaid bytes to (part bytes from (k + 1))
 moved_more bytes to from k down inside =
@@ -183,6 +208,7 @@ moved_front bytes to from k n up inside =
     ∙ ap (λ i. overlaid bytes (to + k) (get_or bytes (from + k) 0 ∷ part bytes i n)) (sym from_one)
     ∙ ap (overlaid bytes (to + k)) (sym (part_from bytes (from + k) n (omega arith)))
 
+-- one byte more is moved up
 pub moved_back : (bytes current : List ℕ) (to from k n : ℕ) → from ≤ to → 0 < k → k ≤ n → to + n ≤ length bytes → current ≡ overlaid bytes (to + k) (part bytes (from + k) (n - k))
     → set current (to + (k - 1)) (get_or current (from + (k - 1)) 0) ≡ overlaid bytes (to + (k - 1)) (part bytes (from + (k - 1)) (n - (k - 1)))
 moved_back bytes current to from k n up some less inside is =
@@ -192,9 +218,11 @@ moved_back bytes current to from k n up some less inside is =
     let now = is ∙ ap (λ j. overlaid bytes (to + j) (part bytes (from + j) (n - k))) next in
     ap (λ l. set l (to + m) (get_or l (from + m) 0)) now ∙ moved_front bytes to from m (n - k) up (omega arith) ∙ ap (λ j. overlaid bytes (to + m) (part bytes (from + m) j)) one_more
 
+-- no byte is moved yet, from the highest down
 pub moved_last : (bytes : List ℕ) (to from n : ℕ) → overlaid bytes (to + n) (part bytes (from + n) (n - n)) ≡ bytes
 moved_last bytes to from n = let none : n - n ≡ 0 = omega arith in ap (λ j. overlaid bytes (to + n) (part bytes (from + n) j)) none ∙ moved_none bytes (to + n) (from + n)
 
+-- one byte more is set
 pub set_byte_more : (bytes current : List ℕ) (to byte k : ℕ) → to + k < length bytes → byte < 256 → current ≡ overlaid bytes to (replicate k byte) → put_word current (to + k) 1 byte ≡ overlaid bytes to (replicate (k + 1) byte)
 set_byte_more bytes current to byte k inside small is =
     let new = replicate k byte in

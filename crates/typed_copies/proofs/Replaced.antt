@@ -21,6 +21,7 @@ use Rattle.typed_copies.proofs.Worded.{word_at, words_len}
 
 -- the words of an object where n of its bytes from an offset were replaced
 module _ (old : List ℕ) (start offset n size : ℕ) (bytes slots : List ℕ) (w : Within) (are : AreWithin slots offset n w) (long : length bytes ≡ n) (inside : start + size ≤ length old) (fits : offset + n ≤ size) (ends : (k : ℕ) → k < length slots → get_or slots k 0 + 4 ≤ size) where
+  -- words before the range and behind it are the same, and those within are given
   pub words_replaced : (new : List ℕ) → length new ≡ w.count → ((k : ℕ) → k < w.count → word (overlaid old (start + offset) bytes) (start + get_or slots (w.first + k) 0) 4 ≡ get_or new k 0)
       → words_at (overlaid old (start + offset) bytes) start slots ≡ overlaid (words_at old start slots) w.first new
   words_replaced new many same =
@@ -46,6 +47,7 @@ module _ (old : List ℕ) (start offset n size : ℕ) (bytes slots : List ℕ) (
 
 -- Sums over a list in which some items were replaced
 
+-- what was replaced is out of the sum, and what is new is in it
 sum_replaced : (f : ℕ → ℕ) (items : List ℕ) (first : ℕ) (new : List ℕ) → first + length new ≤ length items → sum_by f (overlaid items first new) + sum_by f (take (length new) (drop first items)) ≡ sum_by f items + sum_by f new
 sum_replaced f items first new inside =
     let front = take first items in
@@ -54,6 +56,7 @@ sum_replaced f items first new inside =
     let rest = ap (sum_by f) (drop-drop (length new) first items) in
     omega (arith, sum_by-append f (front ++ new) back, sum_by-append f front new, sum_by-take-drop f items first, sum_by-take-drop f (drop first items) (length new), rest)
 
+-- the sum over a part is no greater
 part_of_sum : (f : ℕ → ℕ) (items : List ℕ) (first count : ℕ) → sum_by f (take count (drop first items)) ≤ sum_by f items
 part_of_sum f items first count = omega (arith, sum_by-take-le f (drop first items) count, sum_by-take-drop f items first)
 
@@ -77,9 +80,11 @@ replaced_now words first new inside =
 
 -- Part of an object's words
 
+-- counts that cover some words cover a part of them
 pub cover_part : (counts : Table) (words : List ℕ) (first count : ℕ) → Cover counts words → Cover counts (take count (drop first words))
 cover_part counts words first count covered = λ granule. omega (arith, covered granule, part_of_sum (λ w. one_if (points_into granule w)) words first count)
 
+-- room for some words is room for a part of them
 pub room_part : (counts : Table) (words : List ℕ) (first count : ℕ) → HaveRoom counts words → HaveRoom counts (take count (drop first words))
 room_part counts words first count room = omega (arith, room, part_of_sum (λ w. one_if (nat_eq w 0)) words first count)
 

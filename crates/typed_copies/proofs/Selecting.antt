@@ -44,11 +44,13 @@ module _ (slots : List ℕ) (offset n : ℕ) (w : Within) (are : AreWithin slots
         | inr past ↦ let far = are.behind k past inside in omega arith
       ]
 
+  -- so many slots begin below the offset
   pub first_is : length (slots_below slots offset) ≡ w.first
   first_is =
       let within = are.inside in
       counted slots offset w.first (omega arith) (λ k less. let ends = are.before k less in omega arith) from_first
 
+  -- the slots within the range follow one another
   pub within_is : slots_within slots offset n ≡ take w.count (drop w.first slots)
   within_is =
       filter_run (λ s. nat_le offset s && nat_le (s + 4) (offset + n)) slots w.first w.count are.inside
@@ -56,15 +58,19 @@ module _ (slots : List ℕ) (offset n : ℕ) (w : Within) (are : AreWithin slots
       (λ k less. let s = get_or slots (w.first + k) 0 in and_from (nat_le offset s) (nat_le (s + 4) (offset + n)) (le-leb offset s (are.low k less)) (le-leb (s + 4) (offset + n) (are.high k less)))
       (λ k more inside. let s = get_or slots k 0 in let far = are.behind k more inside in and_right (nat_le offset s) (nat_le (s + 4) (offset + n)) (lt-leb (s + 4) (offset + n) (omega arith)))
 
+  -- how many follow one another
   run_len : length (take w.count (drop w.first slots)) ≡ w.count
   run_len = let within = are.inside in length-take w.count (drop w.first slots) ∙ omega (arith, length-drop w.first slots)
 
+  -- how many lie within the range
   pub many_within : length (slots_within slots offset n) ≡ w.count
   many_within = ap length within_is ∙ run_len
 
+  -- how many distances there are
   pub distances_len : length (distances slots offset n) ≡ w.count
   distances_len = length-map (slots_within slots offset n) (λ s. s - offset) ∙ many_within
 
+  -- the distance of one of them
   pub distance_at : (k : ℕ) → k < w.count → get_or (distances slots offset n) k 0 ≡ get_or slots (w.first + k) 0 - offset
   distance_at k less =
       get_or-map (λ s. s - offset) (slots_within slots offset n) k 0 0 (omega (arith, many_within))
@@ -73,6 +79,7 @@ module _ (slots : List ℕ) (offset n : ℕ) (w : Within) (are : AreWithin slots
 
 -- slots have 4 bytes each, so few lie within a range
 module _ (size : ℕ) (slots : List ℕ) (offset n : ℕ) (w : Within) (are : AreWithin slots offset n w) (ascend : Ascend 0 size slots) where
+  -- each stands 4 bytes further at least
   spread : (k : ℕ) → k < w.count → offset + 4 * k ≤ get_or slots (w.first + k) 0
   spread zero less = let low = are.low 0 less in omega arith
   spread (suc k) less =
@@ -80,6 +87,7 @@ module _ (size : ℕ) (slots : List ℕ) (offset n : ℕ) (w : Within) (are : Ar
       let apart = slots_apart 0 size slots (w.first + k) (w.first + suc k) 0 ascend (omega arith) (let within = are.inside in omega arith) in
       omega arith
 
+  -- a range has a slot for each 4 bytes at most
   pub few_within : 4 * w.count ≤ n
   few_within =
       elim (cases_lt 0 w.count) [
@@ -89,10 +97,12 @@ module _ (size : ℕ) (slots : List ℕ) (offset n : ℕ) (w : Within) (are : Ar
 
 -- Distances
 
+-- numbers are the same as themselves
 same_refl : (xs : List ℕ) → same_numbers xs xs ≡ true
 same_refl [] = refl
 same_refl (x ∷ xs) = and_from (nat_eq x x) (same_numbers xs xs) (eq-eqb x x refl) (same_refl xs)
 
+-- numbers that are the same are equal
 numbers_same : (xs ys : List ℕ) → same_numbers xs ys ≡ true → xs ≡ ys
 numbers_same [] [] h = refl
 numbers_same [] (y ∷ ys) h = cc
@@ -104,6 +114,7 @@ numbers_same (x ∷ xs) (y ∷ ys) h =
     λ i. first i ∷ rest i
 
 module _ (d : List ℕ) (to : ℕ) (s : List ℕ) (from n : ℕ) (into out : Within) (written : AreWithin d to n into) (read : AreWithin s from n out) where
+  -- slots at the same distances agree
   pub distances_agree : AtSameDistances d to into s from out → same_numbers (distances d to n) (distances s from n) ≡ true
   distances_agree at =
       let len_d = distances_len d to n into written in
@@ -111,6 +122,7 @@ module _ (d : List ℕ) (to : ℕ) (s : List ℕ) (from n : ℕ) (into out : Wit
       let e : distances d to n ≡ distances s from n = ext_get_or 0 (distances d to n) (distances s from n) (omega (arith, at.many)) (λ k less. let here : k < into.count = omega arith in distance_at d to n into written k here ∙ at.same k here ∙ sym (distance_at s from n out read k (omega (arith, at.many)))) in
       subst (λ (l : List ℕ). same_numbers (distances d to n) l ≡ true) e (same_refl (distances d to n))
 
+  -- slots at other distances do not
   pub distances_differ : (AtSameDistances d to into s from out → ⊥) → same_numbers (distances d to n) (distances s from n) ≡ false
   distances_differ differ =
       let len_d = distances_len d to n into written in

@@ -35,11 +35,13 @@ touches_too d to s from n into out written read at k less touched =
       ]
     ]
 
+-- two tests that follow from one another
 same_answer : (a b : Bool) → (a ≡ true → b ≡ true) → (b ≡ true → a ≡ true) → a ≡ b
 same_answer true b there back = sym (there refl)
 same_answer false true there back = back refl
 same_answer false false there back = refl
 
+-- a byte of one range lies in a slot exactly where that of the other does
 pub touches_alike : (d : List ℕ) (to : ℕ) (s : List ℕ) (from n : ℕ) (into out : Within) → AreWithin d to n into → AreWithin s from n out → AtSameDistances d to into s from out → (k : ℕ) → k < n → touches_slot d (to + k) 1 ≡ touches_slot s (from + k) 1
 touches_alike d to s from n into out written read at k less =
     let back : AtSameDistances s from out d to into = record { many = sym at.many; same = λ j below. sym (at.same j (omega (arith, at.many))) } in

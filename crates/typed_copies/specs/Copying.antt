@@ -15,10 +15,11 @@ use Rattle.typed_copies.specs.Pointers.{Follow, words_at}
 abbrev pub form_at : List Element → ℕ → Element
 form_at forms number = slice_index_or forms number (record { size = 0; slots = [] })
 
--- the slots of the object of a range, and the words in them
+-- the slots of the object of a range
 abbrev pub slots_of : List Element → Ranged → List ℕ
 slots_of forms range = object_slots (form_at forms range.form) range.size
 
+-- the words in these slots
 abbrev pub words_of : List Element → List ℕ → Ranged → List ℕ
 words_of forms bytes range = words_at bytes range.start (slots_of forms range)
 
@@ -59,6 +60,7 @@ pub record IsCopied (d s : List ℕ) (dst src : Ranged) (n : ℕ) (old new : Lis
   pub slots : (k : ℕ) → k < n → touches_slot d (dst.offset + k) 1 ≡ touches_slot s (src.offset + k) 1
   -- the slots within the range have the words that those of the source had
   pub words : words_at new dst.start d ≡ overlaid (words_at old dst.start d) (length (slots_below d dst.offset)) (take (length (slots_within s src.offset n)) (drop (length (slots_below s src.offset)) (words_at old src.start s)))
+  -- the counts follow the pointers in the destination
   pub counts : Follow before after (words_at old dst.start d) (words_at new dst.start d)
 
 -- n bytes of an object with these slots were set to one value
@@ -67,4 +69,5 @@ pub record IsCleared (d : List ℕ) (dst : Ranged) (byte n : ℕ) (old new : Lis
   pub bytes : new ≡ overlaid old (dst.start + dst.offset) (replicate n byte)
   -- the slots within the range are null
   pub words : words_at new dst.start d ≡ overlaid (words_at old dst.start d) (length (slots_below d dst.offset)) (replicate (length (slots_within d dst.offset n)) 0)
+  -- the counts follow the pointers in it
   pub counts : Follow before after (words_at old dst.start d) (words_at new dst.start d)

@@ -158,11 +158,13 @@ pub fn copy<L: Ledger>(
     requires destination { IsInside forms.now bytes.old dst }
     requires source { IsInside forms.now bytes.old src }
 
-    // What stands in the slots: that of the source may be pointed to, that of the destination counts, and there is room for
-    // as many pointers as may come.
+    // The words in the source's slots are null or addresses inside the bytes. The counts cover the pointers in the
+    // destination's slots, and have room for one more in each of these slots that is null.
     requires pointers { ArePointers bytes.old counts.old (words_of forms.now bytes.old src) }
     requires covered { Cover counts.old (words_of forms.now bytes.old dst) }
     requires room { HaveRoom counts.old (words_of forms.now bytes.old dst) }
+
+    // For all objects that have the ranges.
     ensures answers { (objects : List Object) (p q : values.Pointer) → IsRangeIn forms.now objects p dst → IsRangeIn forms.now objects q src → Answers result (access.copy objects p q n) }
     ensures copied { OnOk result (IsCopied (slots_of forms.now dst) (slots_of forms.now src) dst src n bytes.old bytes.new counts.old counts.new) }
     ensures refused { OnErr result ((bytes.new ≡ bytes.old) × (counts.new ≡ counts.old)) }
