@@ -1,0 +1,10 @@
+pub mod Ascending
+mod Cutting
+mod Selecting
+pub mod Worded
+pub mod Following
+pub mod Overlaid
+pub mod Replaced
+pub mod Allowed
+mod Touched
+mod Outcomes

@@ -1,0 +1,10 @@
+use Rattle.std.proofs.Common.{◌≡◌, ◌+◌, ◌-◌, ◌*◌}
+use Rattle.hs_base.specs.Access.{overlaid}
+use Rattle.hs_base.specs.Bytes.{part}
+use Rattle.typed_copies.proofs.moving.move_up.Given as goal
+
+abbrev pub invariant-loop-k : goal.invariant-loop-k
+invariant-loop-k g l = record {
+  moved : l.bytes ≡ overlaid l.initial.bytes (l.to + l.k) (part l.initial.bytes (l.from + l.k) (l.n - l.k));
+  steps : l.steps ≡ l.initial.steps + 2 * (l.n - l.k);
+}
