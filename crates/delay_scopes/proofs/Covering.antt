@@ -23,13 +23,6 @@ pub record AreOff (bytes : List ℕ) (forms : List Element) (queue : List ℕ) (
   pub work : steps ≤ start + sum_by (steps_off forms bytes) (take k queue)
 
 module _ (scopes : ScopesModel) (bytes : List ℕ) (before : Table) (forms : List Element) (queue : List ℕ) (covered : AreCovered scopes bytes before forms queue) where
-  pub off_begins : (start block : ℕ) → block ≡ scopes.first → AreOff bytes forms queue before before start start 0 block
-  off_begins start block at = record {
-    at = at ∙ covered.chain.first;
-    lowered = lowers_none before;
-    work = omega arith;
-  }
-
   module _ (now : Table) (start steps k block : ℕ) (below : k < scopes.waiting) (off : AreOff bytes forms queue before now start steps k block) where
     pub object_covered : (addr : ℕ) → addr ≡ block + 32 → IsCovered bytes now forms addr
     object_covered addr is =
@@ -54,11 +47,3 @@ module _ (scopes : ScopesModel) (bytes : List ℕ) (before : Table) (forms : Lis
           lowered = lowers_object (words_in forms bytes) queue k before now after within off.lowered (subst (λ a. LowersBy (words_in forms bytes a) now after) same lowered);
           work = omega (arith, off.work);
         }
-
-  pub off_all : (now : Table) (start steps k block : ℕ) → scopes.waiting ≤ k → AreOff bytes forms queue before now start steps k block
-      → LowersBy (words_inside forms bytes queue) before now × (steps ≤ start + sum_by (steps_off forms bytes) queue)
-  off_all now start steps k block past off =
-      let all : take k queue ≡ queue = take_all k queue (omega (arith, covered.chain.many)) in (
-        subst (λ (l : List ℕ). LowersBy (words_inside forms bytes l) before now) all off.lowered,
-        subst (λ (l : List ℕ). steps ≤ start + sum_by (steps_off forms bytes) l) all off.work,
-      )

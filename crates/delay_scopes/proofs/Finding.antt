@@ -27,9 +27,6 @@ pub record NoneYet (bytes : List ℕ) (counts : List ℕ) (queue : List ℕ) (st
   pub work : steps ≤ start + sum_by (steps_seen bytes) (take k queue)
 
 module _ (scopes : ScopesModel) (bytes : List ℕ) (counts : List ℕ) (queue : List ℕ) (chain : IsChain scopes bytes queue) where
-  pub none_at_first : (start block : ℕ) → block ≡ scopes.first → NoneYet bytes counts queue start start 0 block
-  none_at_first start block at = record { at = at ∙ chain.first; rest = refl; work = omega arith }
-
   module _ (start steps k block : ℕ) (below : k < scopes.waiting) (yet : NoneYet bytes counts queue start steps k block) where
     next_test : first_held (has_count bytes counts) (get_or queue k 0 ∷ drop (k + 1) queue) ≡ first_held (has_count bytes counts) queue
     next_test =
@@ -67,15 +64,4 @@ module _ (scopes : ScopesModel) (bytes : List ℕ) (counts : List ℕ) (queue : 
         let many : length (granules_of bytes addr) ≡ length (granules_of bytes (get_or queue k 0)) = ap (λ a. length (granules_of bytes a)) same in
         let more = sum_by_more (steps_seen bytes) queue k 0 (in_queue scopes bytes queue chain k block below yet.at) in
         let part = sum_by-take-le (steps_seen bytes) queue (k + 1) in
-        omega (arith, yet.work)
-
-  module _ (start steps k block : ℕ) (past : scopes.waiting ≤ k) (yet : NoneYet bytes counts queue start steps k block) where
-    pub none_at_all : None ≡ first_held (has_count bytes counts) queue
-    none_at_all =
-        let nothing : drop k queue ≡ [] = drop_all k queue (omega (arith, chain.many)) in
-        sym (ap (first_held (has_count bytes counts)) nothing) ∙ yet.rest
-
-    pub work_at_all : steps ≤ start + sum_by (steps_seen bytes) queue
-    work_at_all =
-        let part = sum_by-take-le (steps_seen bytes) queue k in
         omega (arith, yet.work)

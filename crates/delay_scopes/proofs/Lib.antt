@@ -8,3 +8,7 @@ mod Working
 mod Counting
 mod Starts
 mod Queueing
+mod Returning
+mod Ready
+mod Others
+mod Trying

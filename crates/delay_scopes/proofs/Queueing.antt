@@ -17,7 +17,7 @@ use Rattle.heap_blocks.proofs.Staying.{headers_written}
 use Rattle.delay_scopes.specs.Queue.{ScopesModel, HasQueue, IsQueued, IsStart, KeepsQueue, appended, block_in, header_of}
 use Rattle.delay_scopes.specs.Freed.{AreBeside, IsQueuedNow, linked_header, queued_header}
 use Rattle.delay_scopes.proofs.Counting.{room_for_more}
-use Rattle.delay_scopes.proofs.Starts.{birth_is, length_is, start_block, start_inside, starts_apart}
+use Rattle.delay_scopes.proofs.Starts.{birth_is, length_is, start_block, start_ends, starts_apart}
 
 -- headers of different starts have no byte in common
 headers_apart : (heap : HeapModel) (a b : Block) (x y : ℕ) → x ≡ heap.base + a.place + 32 → y ≡ heap.base + b.place + 32 → IsBlock heap.len a → IsBlock heap.len b → AreApart a b → (x - 32 + 32 ≤ y - 32) ⊎ (y ≤ x - 32)
@@ -37,9 +37,6 @@ module _ (scopes : ScopesModel) (heap : HeapModel) (before : List ℕ) (held : L
   module _ (some : 0 < scopes.waiting) where
     last_in : length queue - 1 < length queue
     last_in = omega (arith, kept.queued.many)
-
-    last_object : ℕ
-    last_object = get_or queue (length queue - 1) 0
 
     last_start : IsStart heap.base held (get_or queue (length queue - 1) 0)
     last_start = start_at (length queue - 1) last_in
@@ -186,7 +183,7 @@ module _ (scopes : ScopesModel) (heap : HeapModel) (before : List ℕ) (held : L
         queue_after : HasQueue now heap.base after held (queue ++ addr ∷ [])
         queue_after =
             let long = length_push queue addr in
-            let own = start_inside heap held addr kept.holds start before kept.headers inside reach in
+            let ends = start_ends heap held addr kept.holds start before kept.headers inside in
             record {
               many = ap (λ (s : ScopesModel). s.waiting) appends ∙ omega (arith, kept.queued.many);
               first = first_appended;
@@ -195,7 +192,7 @@ module _ (scopes : ScopesModel) (heap : HeapModel) (before : List ℕ) (held : L
               queued = All-push (IsQueued heap.base after held) queue addr (All-from_get_or (IsQueued heap.base after held) queue 0 still_queued) (record {
                 start = start;
                 state = ap (λ (h : Header). h.state) new_header;
-                reach = omega (arith, ap (λ (h : Header). h.size) new_header, own.reach);
+                reach = omega (arith, ap (λ (h : Header). h.size) new_header, start.address);
               });
               distinct = all_pairs_push (λ a b. a ≢ b) queue addr kept.queued.distinct (λ k d below e. new_here k d below (sym e));
               linked = next_linked;

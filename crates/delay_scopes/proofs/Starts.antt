@@ -63,10 +63,11 @@ module _ (heap : HeapModel) (held : List Block) (addr : ℕ) (holds : Holds heap
     length_is =
         ap (λ a. block_size (header_at bytes a).size) block_is ∙ block_header.size
 
-    pub start_inside : heap.base + heap.len < 2 ^ 32 → IsInside bytes addr
-    start_inside reach =
-        let ends : addr - 32 + block_size (header_of bytes addr).size ≤ heap.base + heap.len = omega (arith, block_is, length_is, start_block.within) in
-        record { start = omega (arith, start.address); inside = omega arith; reach = omega (arith, start.address) }
+    pub start_ends : addr - 32 + block_size (header_of bytes addr).size ≤ heap.base + heap.len
+    start_ends = omega (arith, block_is, length_is, start_block.within)
+
+    pub start_inside : addr + (header_of bytes addr).size < 2 ^ 32 → IsInside bytes addr
+    start_inside reach = record { start = omega (arith, start.address); inside = omega (arith, start_ends, inside); reach = reach }
 
 swapped : (a b : Block) → AreApart a b → AreApart b a
 swapped a b (inl h) = inr h

@@ -1,7 +1,11 @@
-use Rattle.std.proofs.Common.{◌≤◌, ◌+◌, ◌-◌, ◌∙◌, sym, arith}
+use Rattle.std.proofs.Common.{◌≤◌, ◌+◌, ◌-◌, ◌∙◌, refl, sym, arith}
+use Rattle.std.proofs.lemmas.Bool.{false≢true}
 use Rattle.delay_scopes.proofs.Queueing.{kept_after, last_fits, last_inside, queued_now, room_in_queue}
 use Rattle.delay_scopes.proofs.Starts.{start_block}
 use Rattle.delay_scopes.proofs.scopes.Scopes.queue.Goals as goal
+
+pub returns-then-not-is_start-clause-answer : goal.returns-then-not-is_start-clause-answer
+returns-then-not-is_start-clause-answer g c = λ held holds. (refl, (λ start. false≢true (sym c.if-not-is_start.true ∙ (c.is_start.ensures.start held holds).1 start)))
 
 pub overflow_sub-block : goal.overflow_sub-block
 overflow_sub-block g c =
