@@ -1,7 +1,7 @@
 -- Walks over the queue, from one header to the next.
-use Rattle.std.proofs.Common.{◌≡◌, ◌≤◌, ◌<◌, ◌+◌, ◌-◌, ◌^◌, ℕ, List, length, get_or, sym, ap, ◌∙◌, subst, arith}
+use Rattle.std.proofs.Common.{◌≡◌, ◌≤◌, ◌<◌, ◌+◌, ◌^◌, ℕ, List, length, get_or, ap, ◌∙◌, arith}
 use Rattle.heap_blocks.specs.Heads.{header_at}
-use Rattle.delay_scopes.specs.Queue.{ScopesModel, block_in, header_of}
+use Rattle.delay_scopes.specs.Queue.{ScopesModel, block_in}
 use Rattle.delay_scopes.specs.Walks.{IsChain, IsInside}
 
 module _ (scopes : ScopesModel) (bytes : List ℕ) (queue : List ℕ) (chain : IsChain scopes bytes queue) (k block : ℕ) (below : k < scopes.waiting) (at : block ≡ block_in queue k) where

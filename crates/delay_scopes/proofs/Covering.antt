@@ -1,7 +1,6 @@
 -- The pointers inside the queued objects are taken off, object by object.
 use Rattle.std.proofs.Common.{◌≡◌, ◌≤◌, ◌<◌, ◌+◌, ◌*◌, ℕ, List, length, get_or, take, sym, ap, ◌∙◌, subst, arith}
 use Rattle.std.specs.List.{sum_by}
-use Rattle.std.proofs.lemmas.List.{take_all}
 use Rattle.std.proofs.lemmas.List.Sums.{sum_by_more}
 use Rattle.heap_blocks.specs.Heads.{header_at}
 use Rattle.adjusters.specs.ObjectSlots.{Element}
@@ -10,7 +9,7 @@ use Rattle.delay_scopes.specs.Queue.{ScopesModel, block_in}
 use Rattle.delay_scopes.specs.Pointers.{LowersBy, slots_of, words_in, words_inside}
 use Rattle.delay_scopes.specs.Walks.{AreCovered, IsCovered}
 use Rattle.delay_scopes.proofs.Chaining.{in_queue, object_inside, object_is, next_is}
-use Rattle.delay_scopes.proofs.Lowering.{covers_object, lowers_none, lowers_object}
+use Rattle.delay_scopes.proofs.Lowering.{covers_object, lowers_object}
 
 -- the steps for an object: its size, its layout and the next block, and two for each slot
 abbrev pub steps_off : List Element → List ℕ → ℕ → ℕ

@@ -8,8 +8,8 @@ use Rattle.std.proofs.lemmas.List.Elements.{All-cons, All-contains, All-contains
 use Rattle.hs_base.specs.Bytes.{part}
 use Rattle.hs_base.specs.Place.{Block, block_size, without_block}
 use Rattle.heap_blocks.specs.declared.headers.Header.{Header}
-use Rattle.heap_blocks.specs.Held.{HeapModel, AreApart, Holds, IsBlock}
-use Rattle.delay_scopes.specs.Queue.{ScopesModel, HasQueue, IsStart, KeepsQueue, header_of}
+use Rattle.heap_blocks.specs.Held.{HeapModel, AreApart, Holds}
+use Rattle.delay_scopes.specs.Queue.{ScopesModel, HasQueue, KeepsQueue, header_of}
 use Rattle.delay_scopes.specs.Freed.{AreBeside}
 use Rattle.delay_scopes.specs.Pointers.{into_granule}
 use Rattle.delay_scopes.specs.Check.{ChangesWithin, births_of, granules_of, left_to}

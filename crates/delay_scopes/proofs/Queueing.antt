@@ -1,8 +1,8 @@
 -- What a free leaves that queues an object.
 use Rattle.std.proofs.Common.{◌≡◌, ◌≢◌, ◌≤◌, ◌<◌, ◌+◌, ◌-◌, ◌^◌, ◌⊎◌, inl, inr, ⊎_elim, ℕ, List, [], ◌∷◌, ◌++◌, length, get_or, refl, sym, ap, ◌∙◌, subst, arith}
-use Rattle.std.specs.Prelude.{All, AllPairs, nat_eq}
+use Rattle.std.specs.Prelude.{All, nat_eq}
 use Rattle.std.proofs.lemmas.Bool.{cases_lt, cases_order, cond-true, cond-false, eq-eqb, ne_eqb}
-use Rattle.std.proofs.lemmas.List.{get_or_append_left, get_or_default, get_or_past, get_or_push, length_push}
+use Rattle.std.proofs.lemmas.List.{get_or_append_left, get_or_past, get_or_push, length_push}
 use Rattle.std.proofs.lemmas.List.Elements.{All-from_get_or, All-push}
 use Rattle.std.proofs.lemmas.List.Quantifiers.{all_pairs_push}
 use Rattle.hs_base.specs.Bytes.{part}
@@ -15,7 +15,7 @@ use Rattle.heap_blocks.proofs.Heading.{header_kept}
 use Rattle.heap_blocks.proofs.Pieces.{changes_widened}
 use Rattle.heap_blocks.proofs.Staying.{headers_written}
 use Rattle.delay_scopes.specs.Queue.{ScopesModel, HasQueue, IsQueued, IsStart, KeepsQueue, appended, block_in, header_of}
-use Rattle.delay_scopes.specs.Freed.{AreBeside, IsQueuedNow, linked_header, queued_header}
+use Rattle.delay_scopes.specs.Freed.{IsQueuedNow, linked_header, queued_header}
 use Rattle.delay_scopes.proofs.Counting.{room_for_more}
 use Rattle.delay_scopes.proofs.Starts.{birth_is, length_is, start_block, start_ends, starts_apart}
 
@@ -59,9 +59,9 @@ module _ (scopes : ScopesModel) (heap : HeapModel) (before : List ℕ) (held : L
     room_in_queue =
         let block = start_block heap held addr kept.holds start in
         let more = room_for_more (2 ^ 32) addr queue kept.queued.distinct
-            (λ k d below. let queued = kept.queued.queued k d below in omega (arith, queued.start.address))
-            (λ k d below. let queued = kept.queued.queued k d below in omega (arith, queued.reach))
-            new_here (omega (arith, start.address)) (omega (arith, start.address, block.within, block.room)) in
+        (λ k d below. let queued = kept.queued.queued k d below in omega (arith, queued.start.address))
+        (λ k d below. let queued = kept.queued.queued k d below in omega (arith, queued.reach))
+        new_here (omega (arith, start.address)) (omega (arith, start.address, block.within, block.room)) in
         omega (arith, kept.queued.many)
 
     module _ (middle : List ℕ) (wrote : header_at middle (addr - 32) ≡ queued_header (header_at before (addr - 32)) line) (changed : ChangesOnly before middle (addr - 32 + 20) 12) where
@@ -133,10 +133,10 @@ module _ (scopes : ScopesModel) (heap : HeapModel) (before : List ℕ) (held : L
             let old = kept.queued.queued k 0 below in
             elim (cases_lt (k + 1) (length queue)) [
               | inl more ↦ record {
-                  start = old.start;
-                  state = ap (λ (h : Header). h.state) (old_header k more) ∙ old.state;
-                  reach = omega (arith, ap (λ (h : Header). h.size) (old_header k more), old.reach);
-                }
+                start = old.start;
+                state = ap (λ (h : Header). h.state) (old_header k more) ∙ old.state;
+                reach = omega (arith, ap (λ (h : Header). h.size) (old_header k more), old.reach);
+              }
               | inr none ↦
                   let some : 0 < scopes.waiting = omega (arith, kept.queued.many) in
                   let last : k ≡ length queue - 1 = omega arith in

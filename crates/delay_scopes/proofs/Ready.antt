@@ -1,5 +1,5 @@
 -- What the check stands on, for its walks.
-use Rattle.std.proofs.Common.{◌≡◌, ◌≤◌, ◌<◌, ◌+◌, ◌*◌, inl, inr, ℕ, suc, Bool, List, [], ◌∷◌, length, get_or, Option, Some, None, Err, sym, ap, ◌∙◌, subst, arith}
+use Rattle.std.proofs.Common.{◌≡◌, ◌≤◌, ◌<◌, ◌+◌, ◌*◌, inl, inr, ℕ, suc, Bool, List, [], ◌∷◌, length, get_or, Option, Some, Err, sym, ap, ◌∙◌, arith}
 use Rattle.std.specs.Prelude.{All, Contains, nat_eq, not}
 use Rattle.std.specs.List.{sum_by}
 use Rattle.std.proofs.lemmas.Bool.{cases_Bool, cond-true, cond-false}

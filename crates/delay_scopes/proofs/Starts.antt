@@ -1,6 +1,6 @@
 -- The starts of the objects of held blocks.
-use Rattle.std.proofs.Common.{◌≡◌, ◌≢◌, ◌≤◌, ◌<◌, ◌+◌, ◌-◌, ◌^◌, inl, inr, ℕ, zero, suc, true, false, List, [], ◌∷◌, length, get_or, Option, Some, None, refl, sym, ap, ◌∙◌, subst, arith}
-use Rattle.std.specs.Prelude.{◌↔◌, All, Contains, find, nat_eq, option_map}
+use Rattle.std.proofs.Common.{◌≡◌, ◌≢◌, ◌≤◌, ◌<◌, ◌+◌, ◌-◌, ◌^◌, inl, inr, ℕ, suc, true, List, [], ◌∷◌, length, get_or, Option, Some, None, refl, sym, ap, ◌∙◌, subst, arith}
+use Rattle.std.specs.Prelude.{◌↔◌, Contains, find, nat_eq, option_map}
 use Rattle.std.specs.Option.{option_eq}
 use Rattle.std.proofs.lemmas.Bool.{cases_Bool, cases_order, cond-true, cond-false, eq-eqb, eqb-true, false≢true}
 use Rattle.std.proofs.lemmas.List.{get_or_default}
@@ -26,10 +26,10 @@ start_from_owner heap (b ∷ held) addr owns =
     let address = option_map (λ (b : Block). address_of heap b.place) in
     elim (cases_Bool (test b)) [
       | inl hit ↦ record {
-          block = b;
-          contains = (0, omega arith, refl);
-          address = same_Some addr (address_of heap b.place) (owns ∙ ap address (cond-true (test b) (Some b) (find test held) hit));
-        }
+        block = b;
+        contains = (0, omega arith, refl);
+        address = same_Some addr (address_of heap b.place) (owns ∙ ap address (cond-true (test b) (Some b) (find test held) hit));
+      }
       | inr miss ↦ let rest = start_from_owner heap held addr (owns ∙ ap address (cond-false (test b) (Some b) (find test held) miss)) in
           record { block = rest.block; contains = contains_later rest.block b held rest.contains; address = rest.address }
     ]

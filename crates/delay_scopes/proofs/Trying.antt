@@ -1,5 +1,5 @@
 -- What the tests do before a check: blocks with pointers in them, and counts of these.
-use Rattle.std.proofs.Common.{◌≡◌, ◌≢◌, ◌≤◌, ◌<◌, ◌+◌, ◌-◌, ◌*◌, ℕ, List, [], ◌∷◌, ◌++◌, length, get_or, take, sym, ap, ◌∙◌, subst, arith}
+use Rattle.std.proofs.Common.{◌≡◌, ◌≢◌, ◌≤◌, ◌<◌, ◌+◌, ◌*◌, ℕ, List, [], ◌∷◌, ◌++◌, length, get_or, take, sym, ◌∙◌, subst, arith}
 use Rattle.std.specs.Prelude.{All}
 use Rattle.std.proofs.lemmas.List.{take_more}
 use Rattle.std.proofs.lemmas.List.Elements.{All-cons, All-nil, All-push}
@@ -13,7 +13,7 @@ use Rattle.heap_blocks.proofs.Staying.{headers_within}
 use Rattle.count_table.specs.Table.{Table}
 use Rattle.adjusters.specs.ObjectSlots.{Element}
 use Rattle.delay_scopes.specs.Queue.{ScopesModel, KeepsQueue, header_of}
-use Rattle.delay_scopes.specs.Pointers.{LowersBy, into_granule, words_in}
+use Rattle.delay_scopes.specs.Pointers.{LowersBy, words_in}
 use Rattle.delay_scopes.specs.Check.{IsReady, IsReadyForSome}
 use Rattle.delay_scopes.proofs.Lowering.{into_both}
 

@@ -12,7 +12,7 @@ use Rattle.adjusters.specs.ObjectSlots.{Element}
 use Rattle.count_table.specs.Table.{Table}
 use Rattle.delay_scopes.specs.Queue.{ScopesModel, KeepsQueue, header_of}
 use Rattle.delay_scopes.specs.Freed.{AreBeside}
-use Rattle.delay_scopes.specs.Pointers.{LowersBy, into_granule, slots_of, words_inside}
+use Rattle.delay_scopes.specs.Pointers.{into_granule, slots_of, words_inside}
 
 -- What is asked
 

@@ -17,6 +17,9 @@ use hs_base::{BadFree, FlatBytes, Items, Line, Reason, Steps};
 use std::marker::Model;
 use std::sync::ledger::Ledger;
 
+/// The depth of the outermost scope.
+const OUTERMOST: u64 = 1;
+
 /// Says whether an object of a heap starts at an address. At most four steps.
 fn is_start<L: Ledger>(heap: &Heap, bytes: &FlatBytes, addr: u32, steps: &mut Steps<L>) -> bool
     ensures start { (held : List Block) → Holds heap.now held → IsTrue result ↔ IsStart heap.now.base held addr }
@@ -182,7 +185,7 @@ impl Scopes {
         ensures named { (held : List Block) (queue : List ℕ) → self.old.depth ≡ 1 → IsReady self.old heap.old bytes.old counts.old forms.now held queue → OnErr result (self.new ≡ record self.old { named = checked forms.now bytes.old counts.old.counts queue }) }
         ensures err { OnErr result ((heap.new ≡ heap.old) × (bytes.new ≡ bytes.old)) }
     {
-        if self.depth > 1 {
+        if self.depth > OUTERMOST {
             self.depth -= 1;
             return Ok(());
         }

@@ -173,12 +173,7 @@ fn has_objects<L: Ledger, R: Abort>(
 }
 
 // Addresses that are no start, inside blocks and outside the heap, and one that is freed twice.
-fn refuses<L: Ledger, R: Abort>(
-    rt: &R,
-    heap: &Heap,
-    bytes: &mut FlatBytes,
-    steps: &mut Steps<L>,
-)
+fn refuses<L: Ledger, R: Abort>(rt: &R, heap: &Heap, bytes: &mut FlatBytes, steps: &mut Steps<L>)
     requires reach { heap.now.base + heap.now.len ≤ length bytes.old }
     requires held { (held : List Block) × Holds heap.now held × HasHeaders heap.now.base bytes.old held × HaveOwnBirths held }
 {
@@ -188,7 +183,15 @@ fn refuses<L: Ledger, R: Abort>(
     frees_badly(rt, &mut scopes, heap, bytes, 64, Reason::NotStart, steps);
     frees_badly(rt, &mut scopes, heap, bytes, 192, Reason::NotStart, steps);
     frees_badly(rt, &mut scopes, heap, bytes, 0, Reason::NotStart, steps);
-    frees_badly(rt, &mut scopes, heap, bytes, u32::MAX, Reason::NotStart, steps);
+    frees_badly(
+        rt,
+        &mut scopes,
+        heap,
+        bytes,
+        u32::MAX,
+        Reason::NotStart,
+        steps,
+    );
     frees(rt, &mut scopes, heap, bytes, 96, 5, steps);
     frees_badly(rt, &mut scopes, heap, bytes, 96, Reason::Again, steps);
 }

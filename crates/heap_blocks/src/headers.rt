@@ -140,12 +140,7 @@ impl Header {
     }
 
     /// Writes into the header of a block which block was queued behind it. No other byte changes. One step.
-    pub fn write_next<L: Ledger>(
-        bytes: &mut FlatBytes,
-        block: u32,
-        next: u32,
-        steps: &mut Steps<L>,
-    )
+    pub fn write_next<L: Ledger>(bytes: &mut FlatBytes, block: u32, next: u32, steps: &mut Steps<L>)
         requires inside { block + HEADER_SIZE ≤ length bytes.old }
         requires fits { block + HEADER_SIZE < 2 ^ 32 }
         ensures header { header_at bytes.new block ≡ record (header_at bytes.old block) { next = next } }

@@ -1,6 +1,5 @@
-use Rattle.std.proofs.Common.{◌≡◌, ◌≤◌, ◌<◌, ◌+◌, ◌*◌, ℕ, List, [], ◌∷◌, length, get_or, take, sym, ap, ◌∙◌, subst, arith}
+use Rattle.std.proofs.Common.{◌≤◌, ◌<◌, ℕ, List, [], ◌∷◌, length, get_or, sym, ap, subst, arith}
 use Rattle.std.proofs.lemmas.List.{take_all}
-use Rattle.hs_base.specs.Bytes.{word}
 use Rattle.adjusters.specs.ObjectSlots.{object_slots}
 use Rattle.delay_scopes.specs.Pointers.{LowersBy, into_granule, words_in}
 use Rattle.delay_scopes.proofs.Lowering.{covers_next, lowers_more}

@@ -1,4 +1,4 @@
-use Rattle.std.proofs.Common.{◌≡◌, ◌∙◌, Some, sym}
+use Rattle.std.proofs.Common.{◌∙◌, sym}
 use Rattle.delay_scopes.proofs.Starts.{owner_of_start, owner_test, start_from_owner}
 use Rattle.delay_scopes.proofs.scopes.is_start.Goals as goal
 

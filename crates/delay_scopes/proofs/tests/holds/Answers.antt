@@ -1,4 +1,4 @@
-use Rattle.std.proofs.Common.{◌≡◌, ◌<◌, ◌+◌, ◌∙◌, [], ◌∷◌, ap, arith}
+use Rattle.std.proofs.Common.{◌<◌, ◌∙◌, [], ◌∷◌, ap, arith}
 use Rattle.delay_scopes.specs.Queue.{ScopesModel}
 use Rattle.delay_scopes.proofs.Trying.{ready_still}
 use Rattle.delay_scopes.proofs.tests.holds.Goals as goal

@@ -1,4 +1,4 @@
-use Rattle.std.proofs.Common.{◌≡◌, ◌≤◌, ◌+◌, ◌-◌, ◌*◌, ℕ, length, ap, ◌∙◌, arith}
+use Rattle.std.proofs.Common.{◌≡◌, ◌+◌, ◌-◌, ◌*◌, ℕ, length, ap, ◌∙◌, arith}
 use Rattle.std.specs.Prelude.{not, nat_eq, slice_index}
 use Rattle.std.specs.List.{sum_by}
 use Rattle.hs_base.specs.Freeing.{first_held}

@@ -7,14 +7,14 @@ use Rattle.delay_scopes.proofs.scopes.Scopes.leave.Goals as goal
 pub check-requires-clause-covered : goal.check-requires-clause-covered
 check-requires-clause-covered g c =
     let deep : c.self.inside.depth ≡ c.args.self.now.depth = ap (λ (s : ScopesModel). s.depth) c.self.view_is in
-    let depth : c.args.self.now.depth ≡ 1 = omega (arith, c.if-self-gt1.false, c.requires.open) in
+    let depth : c.args.self.now.depth ≡ 1 = omega (arith, c.if-self-gt-OUTERMOST.false, c.requires.open) in
     let ready = c.requires.ready depth in
     (ready.1, ready_covered c.args.self.now c.args.heap.now c.args.bytes.now c.args.counts.now c.args.forms.now ready.0 ready.1 ready.2)
 
 pub overflow_sub-held : goal.overflow_sub-held
 overflow_sub-held g c =
     let deep : c.self.inside.depth ≡ c.args.self.now.depth = ap (λ (s : ScopesModel). s.depth) c.self.view_is in
-    let depth : c.args.self.now.depth ≡ 1 = omega (arith, c.if-self-gt1.false, c.requires.open) in
+    let depth : c.args.self.now.depth ≡ 1 = omega (arith, c.if-self-gt-OUTERMOST.false, c.requires.open) in
     let ready = c.requires.ready depth in
     let found = c.in-Some.ensures.answer ready.1 (ready_covered c.args.self.now c.args.heap.now c.args.bytes.now c.args.counts.now c.args.forms.now ready.0 ready.1 ready.2) in
     let inside = held_inside c.args.self.now c.args.heap.now c.args.bytes.now c.args.counts.now c.args.forms.now ready.0 ready.1 ready.2 c.in-Some.held found in
@@ -23,7 +23,7 @@ overflow_sub-held g c =
 pub read_freed-requires-clause-inside : goal.read_freed-requires-clause-inside
 read_freed-requires-clause-inside g c =
     let deep : c.self.inside.depth ≡ c.args.self.now.depth = ap (λ (s : ScopesModel). s.depth) c.self.view_is in
-    let depth : c.args.self.now.depth ≡ 1 = omega (arith, c.if-self-gt1.false, c.requires.open) in
+    let depth : c.args.self.now.depth ≡ 1 = omega (arith, c.if-self-gt-OUTERMOST.false, c.requires.open) in
     let ready = c.requires.ready depth in
     let found = c.in-Some.ensures.answer ready.1 (ready_covered c.args.self.now c.args.heap.now c.args.bytes.now c.args.counts.now c.args.forms.now ready.0 ready.1 ready.2) in
     let inside = held_inside c.args.self.now c.args.heap.now c.args.bytes.now c.args.counts.now c.args.forms.now ready.0 ready.1 ready.2 c.in-Some.held found in
@@ -50,7 +50,7 @@ returns-in-Some-clause-named g c = λ held queue depth ready.
 pub release_all-requires : goal.release_all-requires
 release_all-requires g c =
     let deep : c.self.inside.depth ≡ c.args.self.now.depth = ap (λ (s : ScopesModel). s.depth) c.self.view_is in
-    let depth : c.args.self.now.depth ≡ 1 = omega (arith, c.if-self-gt1.false, c.requires.open) in
+    let depth : c.args.self.now.depth ≡ 1 = omega (arith, c.if-self-gt-OUTERMOST.false, c.requires.open) in
     let ready = c.requires.ready depth in
     (ready.0, ready.1, ready_release c.args.self.now c.args.heap.now c.args.bytes.now c.args.counts.now c.args.forms.now ready.0 ready.1 ready.2)
 

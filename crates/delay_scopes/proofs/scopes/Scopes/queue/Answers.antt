@@ -1,4 +1,4 @@
-use Rattle.std.proofs.Common.{◌≤◌, ◌+◌, ◌-◌, ◌∙◌, refl, sym, arith}
+use Rattle.std.proofs.Common.{◌∙◌, refl, sym, arith}
 use Rattle.std.proofs.lemmas.Bool.{false≢true}
 use Rattle.delay_scopes.proofs.Queueing.{kept_after, last_fits, last_inside, queued_now, room_in_queue}
 use Rattle.delay_scopes.proofs.Starts.{start_block}

@@ -1,4 +1,4 @@
-use Rattle.std.proofs.Common.{◌≡◌, ◌≤◌, ◌<◌, ◌+◌, ℕ, List, length, take, ap, refl, subst, arith}
+use Rattle.std.proofs.Common.{◌≡◌, ◌≤◌, ◌<◌, ◌+◌, ℕ, List, length, ap, refl, subst, arith}
 use Rattle.std.proofs.lemmas.List.{take_all}
 use Rattle.delay_scopes.specs.Queue.{ScopesModel}
 use Rattle.delay_scopes.specs.Check.{IsReleased}
