@@ -11,4 +11,5 @@ mod Queueing
 mod Returning
 mod Ready
 mod Others
+mod Keeping
 mod Trying

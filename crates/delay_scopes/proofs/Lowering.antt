@@ -69,9 +69,6 @@ lowers_null table w null = record {
 
 -- Words after words
 
-pub lowers_none : (table : Table) → LowersBy [] table table
-lowers_none table = record { most = refl; long = refl; exact = λ granule. omega arith }
-
 pub into_both : (granule : ℕ) (xs ys : List ℕ) → into_granule granule (xs ++ ys) ≡ into_granule granule xs + into_granule granule ys
 into_both granule xs ys = sum_by-append (λ w. cond (leads_into granule w) 1 0) xs ys
 

@@ -1,4 +1,4 @@
--- What stays where writes and releases touch other blocks.
+-- What stays where the queued blocks are given back.
 use Rattle.std.proofs.Common.{◌≡◌, ◌≢◌, ◌≤◌, ◌<◌, ◌+◌, ◌-◌, ◌⊎◌, inl, inr, ⊎_elim, ℕ, true, List, [], ◌∷◌, length, get_or, sym, ap, ◌∙◌, subst, arith}
 use Rattle.std.specs.Prelude.{All, Contains, fold, nat_eq, not, slice_index}
 use Rattle.std.specs.List.{sum_by}
@@ -7,33 +7,15 @@ use Rattle.std.proofs.lemmas.List.{get_or-map, get_or_default, length-map}
 use Rattle.std.proofs.lemmas.List.Elements.{All-cons, All-contains, All-contains_itself, All-filter, All-from_get_or, All-nil, filter_passes}
 use Rattle.hs_base.specs.Bytes.{part}
 use Rattle.hs_base.specs.Place.{Block, block_size, without_block}
-use Rattle.heap_blocks.specs.declared.headers.Header.{Header}
-use Rattle.heap_blocks.specs.Held.{HeapModel, AreApart, Holds}
-use Rattle.delay_scopes.specs.Queue.{ScopesModel, HasQueue, KeepsQueue, header_of}
+use Rattle.heap_blocks.specs.Heads.{header_at}
+use Rattle.heap_blocks.specs.Held.{HeapModel, AreApart, Holds, IsBlock}
+use Rattle.delay_scopes.specs.Queue.{ScopesModel, KeepsQueue, header_of}
 use Rattle.delay_scopes.specs.Freed.{AreBeside}
 use Rattle.delay_scopes.specs.Pointers.{into_granule}
 use Rattle.delay_scopes.specs.Check.{ChangesWithin, births_of, granules_of, left_to}
-use Rattle.delay_scopes.proofs.Starts.{birth_is, length_is, start_block}
+use Rattle.delay_scopes.proofs.Returning.{header_from_parts}
+use Rattle.delay_scopes.proofs.Starts.{birth_is, length_is, start_block, swapped}
 use Rattle.delay_scopes.proofs.Working.{sum_by_both}
-
--- Queues
-
-pub queue_stays : (scopes : ScopesModel) (base : ℕ) (before after : List ℕ) (held held' : List Block) (queue : List ℕ) → HasQueue scopes base before held queue → All (λ addr. header_of after addr ≡ header_of before addr) queue
-    → ((b : Block) → Contains held b → Contains held' b) → HasQueue scopes base after held' queue
-queue_stays scopes base before after held held' queue has same more = record {
-  many = has.many;
-  first = has.first;
-  last = has.last;
-  queued = λ k d below.
-      let old = has.queued k d below in
-      record {
-        start = record { block = old.start.block; contains = more old.start.block old.start.contains; address = old.start.address };
-        state = ap (λ (h : Header). h.state) (same k d below) ∙ old.state;
-        reach = omega (arith, ap (λ (h : Header). h.size) (same k d below), old.reach);
-      };
-  distinct = has.distinct;
-  linked = λ k below. ap (λ (h : Header). h.next) (same k 0 below) ∙ has.linked k below;
-}
 
 -- Blocks that stay
 
@@ -47,10 +29,6 @@ left_of_held held (birth ∷ births) b contains =
       All-contains (Contains held) (without_block held birth) b (All-filter keeps (Contains held) held (All-contains_itself held)) rest.0,
       All-cons (λ n. b.birth ≢ n) birth births (eqb-false b.birth birth (not-true (nat_eq b.birth birth) passes)) rest.1,
     )
-
-swapped : (a b : Block) → AreApart a b → AreApart b a
-swapped a b (inl h) = inr h
-swapped a b (inr h) = inl h
 
 blocks_apart : (heap : HeapModel) (held : List Block) (a b : Block) → Holds heap held → Contains held a → Contains held b → a.birth ≢ b.birth → AreApart a b
 blocks_apart heap held a b holds in_a in_b other =
@@ -82,6 +60,12 @@ module _ (scopes : ScopesModel) (heap : HeapModel) (before after : List ℕ) (he
       λ e. left.1 i 0 within (e ∙ sym (birth ∙ birth_is heap held addr kept.holds start before kept.headers inside)) in
       beside_block heap.base b start.block addr from k (block_size (header_of before addr).size) start.address (length_is heap held addr kept.holds start before kept.headers inside) low high
       (blocks_apart heap held b start.block kept.holds left.0 start.contains other)))
+
+  -- its header
+  pub left_header_stays : (b : Block) → Contains (fold without_block held (births_of before queue)) b → header_at after (heap.base + b.place) ≡ header_at before (heap.base + b.place)
+  left_header_stays b contains =
+      let own = All-contains (IsBlock heap.len) held b kept.holds.blocks (left_of_held held (births_of before queue) b contains).0 in
+      header_from_parts before after (heap.base + b.place) (λ from k low high. left_block_stays b from k contains low (omega (arith, own.room)))
 
   -- bytes beside the heap
   pub beside_heap_stays : (from k : ℕ) → (from + k ≤ heap.base) ⊎ (heap.base + heap.len ≤ from) → part after from k ≡ part before from k

@@ -5,7 +5,7 @@ use Rattle.std.proofs.lemmas.Bool.{cases_order}
 use Rattle.std.proofs.lemmas.List.{get_or-map, get_or-take, get_or_default, length-map, length-take-le, map_more}
 use Rattle.std.proofs.lemmas.List.Elements.{All-from_get_or, All-head, All-tail}
 use Rattle.std.proofs.lemmas.List.Sums.{fold_push}
-use Rattle.hs_base.specs.Bytes.{word}
+use Rattle.hs_base.specs.Bytes.{part, word}
 use Rattle.hs_base.specs.Place.{Block, block_size, without_block}
 use Rattle.heap_blocks.specs.declared.headers.Header.{Header}
 use Rattle.heap_blocks.specs.Bytes.{ChangesOnly}
@@ -45,20 +45,26 @@ still_contains held b (birth ∷ births) contains others =
 
 -- Bytes
 
--- the header of an object whose block is none of those within which bytes changed
-pub header_outside : (queue : List ℕ) (before after : List ℕ) (addr : ℕ) → ChangesWithin queue before after → All (λ a. AreBeside (addr - 32) 32 (a - 32) (block_size (header_of before a).size)) queue → header_of after addr ≡ header_of before addr
-header_outside queue before after addr changes beside =
-    let same : (from k : ℕ) → addr - 32 ≤ from → from + k ≤ addr - 32 + 32 → word after from k ≡ word before from k =
-    λ from k low high. word_from_part after before from k (changes.outside from k (λ i d below. ⊎_elim (λ (h : addr - 32 + 32 ≤ get_or queue i d - 32). inl (omega arith)) (λ (h : get_or queue i d - 32 + block_size (header_of before (get_or queue i d)).size ≤ addr - 32). inr (omega arith)) (beside i d below))) in
+-- a header whose bytes are the same
+pub header_from_parts : (before after : List ℕ) (block : ℕ) → ((from k : ℕ) → block ≤ from → from + k ≤ block + 32 → part after from k ≡ part before from k) → header_at after block ≡ header_at before block
+header_from_parts before after block parts =
+    let same : (from k : ℕ) → block ≤ from → from + k ≤ block + 32 → word after from k ≡ word before from k =
+    λ from k low high. word_from_part after before from k (parts from k low high) in
     λ i. record {
-      birth = same (addr - 32) 8 (omega arith) (omega arith) i;
-      size = same (addr - 32 + 8) 4 (omega arith) (omega arith) i;
-      layout = same (addr - 32 + 12) 4 (omega arith) (omega arith) i;
-      line = same (addr - 32 + 16) 4 (omega arith) (omega arith) i;
-      state = same (addr - 32 + 20) 4 (omega arith) (omega arith) i;
-      freed = same (addr - 32 + 24) 4 (omega arith) (omega arith) i;
-      next = same (addr - 32 + 28) 4 (omega arith) (omega arith) i;
+      birth = same block 8 (omega arith) (omega arith) i;
+      size = same (block + 8) 4 (omega arith) (omega arith) i;
+      layout = same (block + 12) 4 (omega arith) (omega arith) i;
+      line = same (block + 16) 4 (omega arith) (omega arith) i;
+      state = same (block + 20) 4 (omega arith) (omega arith) i;
+      freed = same (block + 24) 4 (omega arith) (omega arith) i;
+      next = same (block + 28) 4 (omega arith) (omega arith) i;
     }
+
+-- the header of an object whose block is none of those within which bytes changed
+header_outside : (queue : List ℕ) (before after : List ℕ) (addr : ℕ) → ChangesWithin queue before after → All (λ a. AreBeside (addr - 32) 32 (a - 32) (block_size (header_of before a).size)) queue → header_of after addr ≡ header_of before addr
+header_outside queue before after addr changes beside =
+    header_from_parts before after (addr - 32)
+    (λ from k low high. changes.outside from k (λ i d below. ⊎_elim (λ (h : addr - 32 + 32 ≤ get_or queue i d - 32). inl (omega arith)) (λ (h : get_or queue i d - 32 + block_size (header_of before (get_or queue i d)).size ≤ addr - 32). inr (omega arith)) (beside i d below)))
 
 beside_other : (base : ℕ) (a b : Block) (x y n : ℕ) → x ≡ base + a.place + 32 → y ≡ base + b.place + 32 → n ≡ b.length → 32 ≤ a.length → AreApart a b → AreBeside (x - 32) 32 (y - 32) n
 beside_other base a b x y n at at' long room (inl h) = inl (omega arith)

@@ -69,7 +69,7 @@ module _ (heap : HeapModel) (held : List Block) (addr : ℕ) (holds : Holds heap
     pub start_inside : addr + (header_of bytes addr).size < 2 ^ 32 → IsInside bytes addr
     start_inside reach = record { start = omega (arith, start.address); inside = omega (arith, start_ends, inside); reach = reach }
 
-swapped : (a b : Block) → AreApart a b → AreApart b a
+pub swapped : (a b : Block) → AreApart a b → AreApart b a
 swapped a b (inl h) = inr h
 swapped a b (inr h) = inl h
 

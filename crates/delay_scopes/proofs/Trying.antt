@@ -1,5 +1,5 @@
 -- What the tests do before a check: blocks with pointers in them, and counts of these.
-use Rattle.std.proofs.Common.{◌≡◌, ◌≢◌, ◌≤◌, ◌<◌, ◌+◌, ◌*◌, ℕ, List, [], ◌∷◌, ◌++◌, length, get_or, take, sym, ◌∙◌, subst, arith}
+use Rattle.std.proofs.Common.{◌≡◌, ◌≢◌, ◌≤◌, ◌<◌, ◌+◌, ◌*◌, ℕ, List, [], ◌∷◌, ◌++◌, length, get_or, take, None, sym, ap, ◌∙◌, subst, arith}
 use Rattle.std.specs.Prelude.{All}
 use Rattle.std.proofs.lemmas.List.{take_more}
 use Rattle.std.proofs.lemmas.List.Elements.{All-cons, All-nil, All-push}
@@ -14,7 +14,7 @@ use Rattle.count_table.specs.Table.{Table}
 use Rattle.adjusters.specs.ObjectSlots.{Element}
 use Rattle.delay_scopes.specs.Queue.{ScopesModel, KeepsQueue, header_of}
 use Rattle.delay_scopes.specs.Pointers.{LowersBy, words_in}
-use Rattle.delay_scopes.specs.Check.{IsReady, IsReadyForSome}
+use Rattle.delay_scopes.specs.Check.{IsReady, IsReadyForSome, no_scopes}
 use Rattle.delay_scopes.proofs.Lowering.{into_both}
 
 -- the youngest block, with a word in the first bytes of its object
@@ -40,15 +40,15 @@ raised_more words k a b c below first second =
       exact = λ granule. omega (arith, into_both granule (take k words) (get_or words k 0 ∷ []), first.exact granule, second.exact granule);
     })
 
--- a queue with no object
-pub nothing_queued : (scopes : ScopesModel) (heap : HeapModel) (bytes : List ℕ) (held : List Block) → scopes.waiting ≡ 0 → scopes.first ≡ 0 → scopes.last ≡ 0 → Holds heap held → HasHeaders heap.base bytes held → KeepsQueue scopes heap bytes held []
-nothing_queued scopes heap bytes held waiting first last holds headers = record {
+-- a scope is opened, and nothing is queued yet
+pub nothing_queued : (old new : ScopesModel) (heap : HeapModel) (bytes : List ℕ) (held : List Block) → old ≡ no_scopes None → (let opened : ScopesModel = record old { depth = old.depth + 1 } in new ≡ opened) → Holds heap held → HasHeaders heap.base bytes held → KeepsQueue new heap bytes held []
+nothing_queued old new heap bytes held none opened holds headers = record {
   holds = holds;
   headers = headers;
   queued = record {
-    many = waiting;
-    first = first;
-    last = last;
+    many = ap (λ (s : ScopesModel). s.waiting) opened ∙ ap (λ (s : ScopesModel). s.waiting) none;
+    first = ap (λ (s : ScopesModel). s.first) opened ∙ ap (λ (s : ScopesModel). s.first) none;
+    last = ap (λ (s : ScopesModel). s.last) opened ∙ ap (λ (s : ScopesModel). s.last) none;
     queued = λ k d below. absurd (omega arith);
     distinct = λ i j d less below. absurd (omega arith);
     linked = λ k below. absurd (omega arith);

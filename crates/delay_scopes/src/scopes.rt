@@ -174,12 +174,12 @@ impl Scopes {
 
         // The end of the outermost one, for each list of blocks that the heap holds and each queue.
         ensures answer { (held : List Block) (queue : List ℕ) → self.old.depth ≡ 1 → IsReady self.old heap.old bytes.old counts.old forms.now held queue → result ≡ answer_of bytes.old (checked forms.now bytes.old counts.old.counts queue) }
-        ensures counts { (held : List Block) (queue : List ℕ) → self.old.depth ≡ 1 → IsReady self.old heap.old bytes.old counts.old forms.now held queue → LowersBy (words_inside forms.now bytes.old queue) counts.old counts.new }
         ensures work { (held : List Block) (queue : List ℕ) → self.old.depth ≡ 1 → IsReady self.old heap.old bytes.old counts.old forms.now held queue → steps.new ≤ steps.old + work_of forms.now bytes.old queue }
 
         // With no object held.
         ensures closed { self.old.depth ≡ 1 → OnOk result (self.new ≡ no_scopes self.old.named) }
         ensures released { (held : List Block) (queue : List ℕ) → self.old.depth ≡ 1 → IsReady self.old heap.old bytes.old counts.old forms.now held queue → OnOk result (IsReleased heap.old heap.new bytes.old bytes.new held queue) }
+        ensures counts { (held : List Block) (queue : List ℕ) → self.old.depth ≡ 1 → IsReady self.old heap.old bytes.old counts.old forms.now held queue → OnOk result (LowersBy (words_inside forms.now bytes.old queue) counts.old counts.new) }
 
         // With one.
         ensures named { (held : List Block) (queue : List ℕ) → self.old.depth ≡ 1 → IsReady self.old heap.old bytes.old counts.old forms.now held queue → OnErr result (self.new ≡ record self.old { named = checked forms.now bytes.old counts.old.counts queue }) }

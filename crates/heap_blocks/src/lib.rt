@@ -9,7 +9,8 @@
 //! Contracts speak of the blocks that are held as a list in the order of placing, as the definitions of placement in
 //! `hs_base` do. `Holds` (`specs/Held.antt`) says that a heap holds exactly these blocks, and every clause stands for
 //! each list that it holds. `HasHeaders` says that the bytes have the headers of these blocks. A [`Header`] is read and
-//! written as a whole; a block's address is that of its header, and its object's address is [`HEADER_SIZE`] more.
+//! written as a whole, and its single fields as far as a queue of freed objects needs them; a block's address is that of
+//! its header, and its object's address is [`HEADER_SIZE`] more.
 //!
 //! Several heaps may share one memory, side by side: no call changes bytes outside the heap. What holds of blocks between
 //! calls is in [`laws`]: which writes leave all headers, and that blocks of which none is given back stand one behind the

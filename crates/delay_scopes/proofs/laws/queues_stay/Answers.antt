@@ -1,4 +1,4 @@
-use Rattle.delay_scopes.proofs.Others.{queue_stays}
+use Rattle.delay_scopes.proofs.Keeping.{queue_stays}
 use Rattle.delay_scopes.proofs.laws.queues_stay.Goals as goal
 
 pub returns : goal.returns
