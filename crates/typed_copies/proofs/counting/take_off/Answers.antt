@@ -15,12 +15,12 @@ overflow_add-within g c =
 pub overflow_add-range : goal.overflow_add-range
 overflow_add-range g c =
     let ends = slot_inside c.args.form.now c.args.range.size (c.args.within.first + c.loop-k.k) c.requires.form (omega (arith, c.requires.within)) in
-    omega (arith, c.slot-slot.ensures, c.requires.inside, c.requires.reach)
+    omega (arith, c.slot-slot.ensures.slot, c.requires.inside, c.requires.reach)
 
 pub read-addr-requires-clause-inside : goal.read-addr-requires-clause-inside
 read-addr-requires-clause-inside g c =
     let ends = slot_inside c.args.form.now c.args.range.size (c.args.within.first + c.loop-k.k) c.requires.form (omega (arith, c.requires.within)) in
-    omega (arith, c.slot-slot.ensures, c.requires.inside)
+    omega (arith, c.slot-slot.ensures.slot, c.requires.inside)
 
 pub take_one-requires : goal.take_one-requires
 take_one-requires g c =
@@ -28,7 +28,7 @@ take_one-requires g c =
     let ws = words_in c.args.bytes.now c.args.range.start slots c.args.within in
     let here : get_or ws c.loop-k.k 0 ≡ c.read-addr.result =
     word_in_at c.args.bytes.now c.args.range.start slots c.args.within c.loop-k.k c.requires.within c.loop-k-test.true
-    ∙ ap (λ s. word c.args.bytes.now (c.args.range.start + s) 4) (sym c.slot-slot.ensures) ∙ sym c.read-addr.ensures.value in
+    ∙ ap (λ s. word c.args.bytes.now (c.args.range.start + s) 4) (sym c.slot-slot.ensures.slot) ∙ sym c.read-addr.ensures.value in
     subst (λ (w : ℕ). 0 < w → 0 < get_or c.loop-k.counts.counts (w / 16) 0) here
     (still_counted c.args.counts.now c.loop-k.counts ws c.loop-k.k (let len = words_in_len c.args.bytes.now c.args.range.start slots c.args.within c.requires.within in omega (arith, c.loop-k-test.true)) c.loop-k.invariant.follow c.requires.covered)
 
@@ -37,7 +37,7 @@ loop-k-preserved g c =
     let slots = object_slots c.args.form.now c.args.range.size in
     let ws = words_in c.args.bytes.now c.args.range.start slots c.args.within in
     let here : c.read-addr.result ≡ get_or ws c.loop-k.k 0 =
-    c.read-addr.ensures.value ∙ ap (λ s. word c.args.bytes.now (c.args.range.start + s) 4) c.slot-slot.ensures
+    c.read-addr.ensures.value ∙ ap (λ s. word c.args.bytes.now (c.args.range.start + s) 4) c.slot-slot.ensures.slot
     ∙ sym (word_in_at c.args.bytes.now c.args.range.start slots c.args.within c.loop-k.k c.requires.within c.loop-k-test.true) in
     record {
       follow = next_goes c.args.counts.now c.loop-k.counts c.take_one.new.counts ws c.loop-k.k c.read-addr.result (let len = words_in_len c.args.bytes.now c.args.range.start slots c.args.within c.requires.within in omega (arith, c.loop-k-test.true)) here c.loop-k.invariant.follow c.take_one.ensures.follow;

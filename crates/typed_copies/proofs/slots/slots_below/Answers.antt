@@ -26,7 +26,7 @@ loop-low-preserved-then-slot-offset c =
     let slots = object_slots c.args.form.now c.args.size in
     let m = c.loop-low.low + (c.loop-low.high - c.loop-low.low) / 2 in
     let within = c.loop-low.invariant.inside in
-    let here : get_or slots m 0 < c.args.offset = omega (arith, c.slot.ensures, c.if-slot-offset.true) in
+    let here : get_or slots m 0 < c.args.offset = omega (arith, c.slot.ensures.slot, c.if-slot-offset.true) in
     record {
       order = omega arith;
       inside = within;
@@ -39,7 +39,7 @@ loop-low-preserved c =
     let slots = object_slots c.args.form.now c.args.size in
     let m = c.loop-low.low + (c.loop-low.high - c.loop-low.low) / 2 in
     let within = c.loop-low.invariant.inside in
-    let here : c.args.offset ≤ get_or slots m 0 = omega (arith, c.slot.ensures, c.if-slot-offset.false) in
+    let here : c.args.offset ≤ get_or slots m 0 = omega (arith, c.slot.ensures.slot, c.if-slot-offset.false) in
     record {
       order = omega arith;
       inside = omega arith;

@@ -9,12 +9,12 @@ use Rattle.typed_copies.proofs.tests.words_in_slots.Goals as goal
 pub overflow_add-range : goal.overflow_add-range
 overflow_add-range g c =
     let ends = slot_inside c.args.form.now c.args.range.size c.loop-k.k c.requires.formed (omega (arith, c.count-k-end.ensures)) in
-    omega (arith, c.slot-slot.ensures, c.requires.inside, c.requires.reach)
+    omega (arith, c.slot-slot.ensures.slot, c.requires.inside, c.requires.reach)
 
 pub read-requires-clause-inside : goal.read-requires-clause-inside
 read-requires-clause-inside g c =
     let ends = slot_inside c.args.form.now c.args.range.size c.loop-k.k c.requires.formed (omega (arith, c.count-k-end.ensures)) in
-    omega (arith, c.slot-slot.ensures, c.requires.inside)
+    omega (arith, c.slot-slot.ensures.slot, c.requires.inside)
 
 pub loop-k-preserved : goal.loop-k-preserved
 loop-k-preserved g c =
@@ -22,5 +22,5 @@ loop-k-preserved g c =
     let words = words_at c.args.bytes.now c.args.range.start slots in
     let less : c.loop-k.k < length slots = omega (arith, c.count-k-end.ensures) in
     let here : c.read.result ≡ get_or words c.loop-k.k 0 =
-    c.read.ensures.value ∙ ap (λ s. word c.args.bytes.now (c.args.range.start + s) 4) c.slot-slot.ensures ∙ sym (word_at c.args.bytes.now c.args.range.start slots c.loop-k.k less) in
+    c.read.ensures.value ∙ ap (λ s. word c.args.bytes.now (c.args.range.start + s) 4) c.slot-slot.ensures.slot ∙ sym (word_at c.args.bytes.now c.args.range.start slots c.loop-k.k less) in
     c.in_ok-push.ensures.items ∙ (λ i. c.loop-k.invariant i ++ here i ∷ []) ∙ sym (take_more words c.loop-k.k 0 (omega (arith, words_len c.args.bytes.now c.args.range.start slots)))
