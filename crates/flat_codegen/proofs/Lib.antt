@@ -12,4 +12,6 @@ pub mod Closing
 pub mod Starts
 pub mod BuiltCodes
 pub mod Answering
+pub mod Cuts
+pub mod Lasting
 pub mod Bytes

@@ -54,4 +54,4 @@ returns-clause-means c =
     let exact = c.listed_pins_are_exact.ensures.exact core pins c.requires.listed in
     let ascending = c.listed_pins_are_exact.ensures.ascending core pins c.requires.listed in
     follows (IsCompiled core pins) (λ code. (input : List ℕ) (n : ℕ) → SameRun (core_meaning core pins input n) (code_meaning code input n)) c.code_of.result
-    (λ code is. c.code_means_core.ensures core pins code c.requires.sound exact ascending is) c.code_of.ensures.compiled
+    (λ code is. c.code_means_core.ensures.meaning core pins code c.requires.sound exact ascending is) c.code_of.ensures.compiled
