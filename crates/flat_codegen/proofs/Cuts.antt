@@ -1,5 +1,5 @@
 -- Traces of which nothing is cut off.
-use Rattle.std.proofs.Common.{◌≡◌, Bool, true, false, cond, List, [], ◌∷◌, ◌++◌, Option, Some, None, refl, sym, ap, ◌∙◌, subst}
+use Rattle.std.proofs.Common.{◌≡◌, Bool, true, false, cond, List, [], ◌∷◌, ◌++◌, Option, Some, None, refl, sym, ap, ◌∙◌}
 use Rattle.std.proofs.lemmas.List.{append-nil, append_assoc}
 use Rattle.hs_base.specs.Trace.{Event}
 use Rattle.hs_base.specs.Cut.{Room, Cut, fits, cut_from, cut}
@@ -11,13 +11,13 @@ abbrev pub IsWhole : Room → List Event → Type 0
 IsWhole room trace = cut room trace ≡ whole trace
 
 -- a cut goes on where it left nothing out, and else stays
-abbrev goes_on : Room → Cut → Option Event → List Event → Cut
+abbrev pub goes_on : Room → Cut → Option Event → List Event → Cut
 goes_on room c (Some e) events = c
 goes_on room c None events = cut_from room c.kept events
 
 module _ (room : Room) where
   -- what is cut at an event
-  abbrev at_event : Bool → List Event → Event → List Event → Cut
+  abbrev pub at_event : Bool → List Event → Event → List Event → Cut
   at_event test before e events =
       cond test (cut_from room (before ++ e ∷ []) events) (let c : Cut = record { kept = before; refused = Some e } in c)
 
@@ -25,7 +25,7 @@ module _ (room : Room) where
   joined_at true before e events more h = h
   joined_at false before e events more h = refl
 
-  joined : (before events more : List Event) → cut_from room before (events ++ more) ≡ goes_on room (cut_from room before events) (cut_from room before events).refused more
+  pub joined : (before events more : List Event) → cut_from room before (events ++ more) ≡ goes_on room (cut_from room before events) (cut_from room before events).refused more
   joined before [] more = refl
   joined before (e ∷ events) more =
       joined_at (fits room before e) before e events more (joined (before ++ e ∷ []) events more)

@@ -1,5 +1,5 @@
 -- The cut run of a core's code ends in the state in which the cut run of the core ends, but for points.
-use Rattle.std.proofs.Common.{◌≡◌, ℕ, zero, suc, ◌+◌, ◌-◌, Bool, cond, List, [], ◌∷◌, ◌++◌, Option, Some, None, refl, sym, ap, ◌∙◌, subst}
+use Rattle.std.proofs.Common.{◌≡◌, ℕ, zero, suc, ◌+◌, ◌-◌, cond, List, [], ◌∷◌, ◌++◌, Option, Some, None, refl, sym, ap, ◌∙◌, subst}
 use Rattle.hs_base.specs.declared.ends.End.{End}
 use Rattle.hs_base.specs.declared.ends.End.TheVariants as end
 use Rattle.hs_base.specs.State.{State}
