@@ -23,6 +23,7 @@ pub record IsCutRun (core : Core) (input : List ℕ) (n : ℕ) (room : Room) : T
   pub ended : (cut_run core input n room).ended ≡ ending_of (cut_of core input n room).refused (meaning core input n).ended
   pub whole : (cut_of core input n room).refused ≡ None → cut_run core input n room ≡ meaning core input n
 
+-- the cut run of every sound core is the cut of its meaning
 abbrev pub CutRunsAreCut : Type 0
 CutRunsAreCut =
     (core : Core) → IsSound core → (input : List ℕ) (n : ℕ) (room : Room) → IsCutRun core input n room

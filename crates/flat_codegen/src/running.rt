@@ -25,7 +25,8 @@ use hs_base::{End, Sink, Source};
 /// own). Where input and output are told, it writes exactly the bytes that the core writes before its first event for which
 /// the heap or the stack has no room, takes exactly the bytes that it reads, and answers its end, or that of that event. All
 /// output is put before a byte of input is asked for and before the run ends. It ends by a fault of the input or the output
-/// exactly where that object failed in this call. A machine that has ended answers the same end again, and touches nothing.
+/// exactly where that object failed in this call. [`Machine::steps_made`] tells how many steps it made: `budget` less those that
+/// are left in the last state of the core's run, cut so. A machine that has ended answers the same end again, and touches nothing.
 pub fn execute<I: Source, O: Sink>(
     machine: &mut Machine,
     code: &Code,
