@@ -101,7 +101,7 @@ module _ (core : Core) (pins : Pins) (code : Code) (sound : IsSound core) (liste
   writes_one kind at r v =
       let last = is_last kind at in
       let h = writes core code s (last_of kind) (code_length kind) last s (alike core code s (last_of kind) (code_length kind) last) (Some r) v [] in
-      (h.0, refl, h.2, refl)
+      (h.0, refl, h.2, refl, (h.1, refl))
 
   answers_one : (kind : StmKind) → At kind → (r : ℕ) (result : Result Value Refusal) → Same kind (counted.same_numbers numbers (answers line s (Some r) result)) (same_numbers numbers (answers line (there kind) (Some r) result))
   answers_one kind at r result =
@@ -142,7 +142,7 @@ module _ (core : Core) (pins : Pins) (code : Code) (sound : IsSound core) (liste
       let kind = stm.Jump l in
       let lt = ahead kind at 0 0 (omega arith) in
       let h = goes_to core code s (last_of kind) (code_length kind) (is_last kind at) l lt (later l lt) in
-      (h.0, refl, h.2, refl)
+      (h.0, refl, h.2, refl, (h.1, refl))
 
   jumps_zero : (a : Atom) (l : ℕ) → At (stm.Zero a l) → Effect (stm.Zero a l) (instr op.Zero 0 (place_at core s.running.func l) 0 (pos 0))
   jumps_zero a l at =
@@ -159,7 +159,7 @@ module _ (core : Core) (pins : Pins) (code : Code) (sound : IsSound core) (liste
   loops : (l : ℕ) → At (stm.Loop l) → Effect (stm.Loop l) (instr op.Loop 0 (place_at core s.running.func l) 0 (pos 0))
   loops l at =
       let kind = stm.Loop l in
-      takes_step core code s (last_of kind) (code_length kind) (is_last kind at) (λ before after. numbers) numbers s.steps _ _ refl (λ m e. let h = goes_back core code s (last_of kind) (code_length kind) (is_last kind at) m l e in (h.0, refl, h.2, refl))
+      takes_step core code s (last_of kind) (code_length kind) (is_last kind at) (λ before after. numbers) numbers s.steps _ _ refl (λ m e. let h = goes_back core code s (last_of kind) (code_length kind) (is_last kind at) m l e in (h.0, refl, h.2, refl, (h.1, refl)))
 
   -- the pins of the statement where it may free, in code
   own : (kind : StmKind) → At kind → may_free kind ≡ true → unwrap_or (site_of code.sites (last_of kind)) [] ≡ pins_of pins s.running.func s.running.point

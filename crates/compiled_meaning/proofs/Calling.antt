@@ -18,7 +18,7 @@ use Rattle.counted_meaning.specs.Counting.{more}
 use Rattle.code_meaning.specs.CodeMeaning.{code_left}
 use Rattle.code_meaning.specs.Entering as entering
 use Rattle.compiled_code.specs.Compiled.{IsCompiled}
-use Rattle.compiled_meaning.proofs.Moved.{waiting_frame, moved}
+use Rattle.compiled_meaning.proofs.Moved.{waiting_frame, moved, moved_same}
 use Rattle.compiled_meaning.proofs.Keeping.{Follows, IsLast, acting}
 use Rattle.compiled_meaning.proofs.Entries.{objects_same, frame_same, cost_same}
 
@@ -51,4 +51,5 @@ module _ (core : Core) (pins : Pins) (code : Code) (compiled : IsCompiled core p
             left = omega (arith, last.here, last.next, last.within, ap (λ k. k * (length code.instrs + 1)) e, sum_by-cons (code_left code) (waiting_frame core s.running) (map (waiting_frame core) s.waiting));
           },
           ap (λ rs. more numbers (map (pointer_of_register s.running) rs)) own,
+          (moved_same core t q, refl),
         )

@@ -1,6 +1,7 @@
 -- Where each move of one run is followed by some moves of another, the whole run is.
 use Rattle.std.proofs.Common.{◌≡◌, ℕ, zero, suc, ◌+◌, ◌≤◌, List, Option, Some, None, refl, sym, ap, ◌∙◌, subst, arith}
 use Rattle.hs_base.specs.Runs.{Next, Ran, led, moved, after}
+use Rattle.counts_are_holders.proofs.Running.{StatesAgree}
 
 -- a run that goes on from a trace and a state
 abbrev pub going : {S E X : Type 0} → List E → S → Ran S E X
@@ -27,6 +28,11 @@ module _ {A B E X : Type 0} (R L : A → B → Type 0) (left : B → ℕ) where
   -- a run and the run that follows it, which has made so many of its moves: the same trace, and either both have ended or none
   abbrev pub Tied : ℕ → ℕ → Ran A E X → Ran B E X → Type 0
   Tied total j r q = (q.trace ≡ r.trace) × TiedAt total j r.ended r q
+
+  -- runs whose states agree so
+  pub tied_at : (total j : ℕ) → j ≤ total → (o : Option X) (r : Ran A E X) (q : Ran B E X) → q.ended ≡ o → StatesAgree (λ a b. R a b × (left b + j ≤ total)) L o r.state q.state → TiedAt total j o r q
+  tied_at total j le (Some e) r q h s = (h, s, le)
+  tied_at total j le None r q h s = (h, s.0, s.1)
 
   module _ (f : List E → A → Next A E X) (g : List E → B → Next B E X) (one : (trace : List E) (a : A) (b : B) → R a b → (j : ℕ) × Tied (left b) j (led trace (f trace a)) (after g (going trace b) j)) where
     whole : (r : Ran A E X) (q : Ran B E X) → q.trace ≡ r.trace → q.ended ≡ None → q ≡ going r.trace q.state

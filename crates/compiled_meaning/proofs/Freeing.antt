@@ -43,11 +43,11 @@ module _ (core : Core) (pins : Pins) (code : Code) (compiled : IsCompiled core p
 
   named_follows : (result : Result ℕ Reason) → Follows core code s j (counted.free_named core pins line result numbers s) (freeing.free_named code line result numbers there)
   named_follows (Ok birth) =
-      in_scope_follows core pins code compiled listed s func here order stm at all q j last own (queued s.objects birth line) s.running.regs sorts (s.queue ++ birth ∷ []) numbers numbers s there [] s.scopes s.scopes
-  named_follows (Err reason) = (refl, refl, moved_same core s q, refl)
+      in_scope_follows core pins code compiled listed s func here order stm at all q j last own (queued s.objects birth line) s.running.regs sorts (s.queue ++ birth ∷ []) numbers numbers s there (moved_same core s q) [] s.scopes s.scopes
+  named_follows (Err reason) = (refl, refl, moved_same core s q, refl, (moved_same core s q, refl))
 
   pub free_follows : (p : Pointer) → Follows core code s j (counted.free core pins line p numbers s) (freeing.free code line p numbers there)
-  free_follows pointer.Null = (refl, refl, arrives core code s q j last s (alike core code s q j last), refl)
+  free_follows pointer.Null = (refl, refl, arrives core code s q j last s (alike core code s q j last), refl, (moved_same core s q, refl))
   free_follows (pointer.At birth offset) = named_follows (freed_at s.objects birth offset)
 
   -- Growing
@@ -58,12 +58,12 @@ module _ (core : Core) (pins : Pins) (code : Code) (compiled : IsCompiled core p
         let made = with_new line n element s in
         let new = length s.objects in
         let v = address (start_of new) in
-        in_scope_follows core pins code compiled listed s func here order stm at all q j last own (queued objects old line) (set s.running.regs r v) (set_sorts func s.running.regs sorts r v (fits v)) (s.queue ++ old ∷ []) numbers (renumbered new numbers made (with_objects made objects)) s there (birth_of line n s) s.scopes s.scopes
-    grown_follows old (Err e) = (refl, refl, moved_same core (with_new line n element s) q, refl)
+        in_scope_follows core pins code compiled listed s func here order stm at all q j last own (queued objects old line) (set s.running.regs r v) (set_sorts func s.running.regs sorts r v (fits v)) (s.queue ++ old ∷ []) numbers (renumbered new numbers made (with_objects made objects)) s there (moved_same core s q) (birth_of line n s) s.scopes s.scopes
+    grown_follows old (Err e) = (refl, refl, moved_same core (with_new line n element s) q, refl, (moved_same core s q, refl))
 
     grow_named_follows : (result : Result ℕ Reason) → Follows core code s j (counted.grow_named core pins line r result n element numbers s) (freeing.grow_named code line r result n element numbers there)
     grow_named_follows (Ok old) = grown_follows old _
-    grow_named_follows (Err reason) = (refl, refl, moved_same core s q, refl)
+    grow_named_follows (Err reason) = (refl, refl, moved_same core s q, refl, (moved_same core s q, refl))
 
     pub grow_follows : (p : Pointer) → Follows core code s j (counted.grow core pins line r p n element numbers s) (freeing.grow code line r p n element numbers there)
     grow_follows pointer.Null =

@@ -7,7 +7,7 @@ use Rattle.std.proofs.lemmas.List.{append-nil, append_assoc}
 use Rattle.std.proofs.lemmas.Int.{ints, int_rem_euclid_is}
 use Rattle.hs_base.specs.declared.values.Value.{Value}
 use Rattle.hs_base.specs.State.{Frame, State}
-use Rattle.hs_base.specs.Trace.{Event}
+use Rattle.hs_base.specs.Trace.{Event, Ending}
 use Rattle.hs_base.specs.Runs as runs
 use Rattle.hs_base.proofs.Running.{after_zero}
 use Rattle.core_tree.specs.declared.statements.Atom.{Atom}
@@ -17,6 +17,7 @@ use Rattle.flat_code.specs.declared.instructions.Instr.{Instr}
 use Rattle.flat_code.specs.declared.program.Code.{Code}
 use Rattle.object_meaning.specs.Values.{number, value_of, holds_stale}
 use Rattle.object_meaning.specs.Going.{at_point}
+use Rattle.counts_are_holders.specs.Laws.{testing}
 use Rattle.code_meaning.specs.CodeState.{CodeState}
 use Rattle.code_meaning.specs.CodeMeaning.{unsigned, handed_value, hand, hand_or_act, act_at, step}
 use Rattle.flat_code.specs.declared.instructions.Op.TheVariants as op
@@ -57,31 +58,32 @@ same_value frame point atom.Null = refl
 same_value frame point (atom.Static k) = refl
 same_value frame point (atom.Mem k) = refl
 
-module _ (code : Code) (t : State) (numbers : ℕ → ℕ) where
+module _ (t : State) (numbers : ℕ → ℕ) where
   -- at an instruction, with some values handed over
   abbrev pub holding : ℕ → List Value → CodeState
   holding point values = record { state = at_point t point; handed = values; numbers = numbers }
 
+module _ (code : Code) (fits : List Event → Event → Bool) (refused : Event → Ending) (t : State) (numbers : ℕ → ℕ) where
   abbrev pub Hands : ℕ → List Atom → Type 0
   Hands point atoms = (k : ℕ) (a : Atom) → slice_get atoms k ≡ Some a → slice_get code.instrs (point + k) ≡ Some (hand_of a)
 
-  one_handed : (trace : List Event) (point : ℕ) (values : List Value) (a : Atom) → slice_get code.instrs point ≡ Some (hand_of a) → InRange a → holds_stale t.objects (value_of t.running a) ≡ false → runs.led trace (step code trace (holding point values)) ≡ going trace (holding (point + 1) (values ++ value_of t.running a ∷ []))
+  one_handed : (trace : List Event) (point : ℕ) (values : List Value) (a : Atom) → slice_get code.instrs point ≡ Some (hand_of a) → InRange a → holds_stale t.objects (value_of t.running a) ≡ false → runs.led trace (testing fits refused (step code) trace (holding t numbers point values)) ≡ going trace (holding t numbers (point + 1) (values ++ value_of t.running a ∷ []))
   one_handed trace point values a at range fresh =
-      let c = holding point values in
+      let c = holding t numbers point values in
       let line = slice_index code.lines point in
       let i = hand_of a in
       let v = value_of t.running a in
       let is = handed_is c.state.running a range ∙ ap (λ w. Some w) (same_value t.running point a) in
-      ap (λ o. runs.led trace (act_at code o c)) at
-      ∙ ap (λ o. runs.led trace (hand_or_act code line i o c)) is
-      ∙ ap (λ b. runs.led trace (hand b v c)) fresh
-      ∙ ap (λ tr. going tr (holding (point + 1) (values ++ v ∷ []))) (append-nil trace)
+      ap (λ o. runs.led trace (runs.tested fits refused trace (act_at code o c))) at
+      ∙ ap (λ o. runs.led trace (runs.tested fits refused trace (hand_or_act code line i o c))) is
+      ∙ ap (λ b. runs.led trace (runs.tested fits refused trace (hand b v c))) fresh
+      ∙ ap (λ tr. going tr (holding t numbers (point + 1) (values ++ v ∷ []))) (append-nil trace)
 
   -- all operands are handed over, each by one instruction
-  pub all_handed : (trace : List Event) (point : ℕ) (values : List Value) (atoms : List Atom) → Hands point atoms → AllInRange atoms → list_any (holds_stale t.objects) (map (value_of t.running) atoms) ≡ false → runs.after (step code) (going trace (holding point values)) (length atoms) ≡ going trace (holding (point + length atoms) (values ++ map (value_of t.running) atoms))
+  pub all_handed : (trace : List Event) (point : ℕ) (values : List Value) (atoms : List Atom) → Hands point atoms → AllInRange atoms → list_any (holds_stale t.objects) (map (value_of t.running) atoms) ≡ false → runs.after (testing fits refused (step code)) (going trace (holding t numbers point values)) (length atoms) ≡ going trace (holding t numbers (point + length atoms) (values ++ map (value_of t.running) atoms))
   all_handed trace point values [] at range fresh =
       let same : point + 0 ≡ point = omega arith in
-      after_zero (step code) (going trace (holding point values)) ∙ ap (λ vs. going trace (holding point vs)) (sym (append-nil values)) ∙ ap (λ p. going trace (holding p (values ++ []))) (sym same)
+      after_zero (testing fits refused (step code)) (going trace (holding t numbers point values)) ∙ ap (λ vs. going trace (holding t numbers point vs)) (sym (append-nil values)) ∙ ap (λ p. going trace (holding t numbers p (values ++ []))) (sym same)
   all_handed trace point values (a ∷ atoms) at range fresh =
       let v = value_of t.running a in
       let here : point + 0 ≡ point = omega arith in
@@ -90,8 +92,8 @@ module _ (code : Code) (t : State) (numbers : ℕ → ℕ) where
       let there : Hands (point + 1) atoms = λ k b e. let sum : point + suc k ≡ point + 1 + k = omega arith in subst (λ p. slice_get code.instrs p ≡ Some (hand_of b)) sum (at (suc k) b e) in
       let rest = all_handed trace (point + 1) (values ++ v ∷ []) atoms there range.1 both.1 in
       let sum : point + 1 + length atoms ≡ point + suc (length atoms) = omega arith in
-      after_first (step code) (going trace (holding point values)) (length atoms)
-      ∙ ap (λ r. runs.after (step code) r (length atoms)) first
+      after_first (testing fits refused (step code)) (going trace (holding t numbers point values)) (length atoms)
+      ∙ ap (λ r. runs.after (testing fits refused (step code)) r (length atoms)) first
       ∙ rest
-      ∙ ap (λ p. going trace (holding p ((values ++ v ∷ []) ++ map (value_of t.running) atoms))) sum
-      ∙ ap (λ vs. going trace (holding (point + suc (length atoms)) vs)) (append_assoc values (v ∷ []) (map (value_of t.running) atoms))
+      ∙ ap (λ p. going trace (holding t numbers p ((values ++ v ∷ []) ++ map (value_of t.running) atoms))) sum
+      ∙ ap (λ vs. going trace (holding t numbers (point + suc (length atoms)) vs)) (append_assoc values (v ∷ []) (map (value_of t.running) atoms))

@@ -3,6 +3,7 @@ pub mod Places
 pub mod Moved
 pub mod Sited
 pub mod Listing
+pub mod Testing
 pub mod Handing
 pub mod Keeping
 pub mod Library
@@ -17,3 +18,4 @@ pub mod Stepping
 pub mod FirstPointers
 pub mod Statics
 pub mod Beginning
+pub mod Meanings

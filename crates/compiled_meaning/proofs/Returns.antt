@@ -88,7 +88,8 @@ module _ (core : Core) (pins : Pins) (code : Code) (compiled : IsCompiled core p
 
   -- the newest waiting frame goes on, and its pins count no longer
   back_follows : (objects : List Object) (n : ℕ → ℕ) (waiting : List Frame) → waiting ≡ s.waiting → (top total : ℕ) → Waits core s.objects top total waiting → Follows core code s j (counted.go_back core pins v waiting n (with_objects s objects)) (returning.go_back code v (map (waiting_frame core) waiting) n (with_objects there objects))
-  back_follows objects n [] e top total w = (refl, refl, moved_same core (with_objects s objects) q, refl)
+  back_follows objects n [] e top total w =
+      (refl, refl, moved_same core (with_objects s objects) q, refl, (moved_same core (with_objects s objects) q, refl))
   back_follows objects n (caller ∷ rest) e top total w =
       let same = resumed_same core pins code compiled caller s.objects top w.0 w.3 v in
       let own = pins_waiting core pins code compiled caller.func w.3.func w.3.here caller.point _ w.3.at refl in (
@@ -99,6 +100,7 @@ module _ (core : Core) (pins : Pins) (code : Code) (compiled : IsCompiled core p
           left = omega (arith, last.here, last.within, ap (code_left code) same, ap (λ frames. sum_by (code_left code) (map (waiting_frame core) frames)) e, sum_by-cons (code_left code) (waiting_frame core caller) (map (waiting_frame core) rest));
         },
         ap (λ registers. fewer n (map (pointer_of_register caller) registers)) own,
+        (moved_same core (with_objects s objects) q, refl),
       )
 
   abbrev locals : List ℕ
@@ -115,7 +117,7 @@ module _ (core : Core) (pins : Pins) (code : Code) (compiled : IsCompiled core p
 
   -- the memory locals end, or the first that escapes stops the run
   ends_follow : (o : Option ℕ) (top total : ℕ) → Waits core s.objects top total s.waiting → Follows core code s j (counted.end_locals core pins line v o numbers s) (returning.end_locals code line v locals o numbers there)
-  ends_follow (Some birth) top total w = (refl, refl, moved_same core s q, refl)
+  ends_follow (Some birth) top total w = (refl, refl, moved_same core s q, refl, (moved_same core s q, refl))
   ends_follow None top total w =
       back_follows (ended s.objects locals) (without_those_inside s.objects locals numbers) s.waiting refl top total w
 

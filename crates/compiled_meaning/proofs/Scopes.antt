@@ -21,6 +21,7 @@ use Rattle.counted_meaning.specs.Counting.{more, without_those_inside}
 use Rattle.counted_meaning.specs.Checking as counted_checking
 use Rattle.code_meaning.specs.Checking as checking
 use Rattle.compiled_code.specs.Compiled.{IsCompiled}
+use Rattle.compiled_meaning.specs.SameRun.{SameState}
 use Rattle.counts_are_holders.proofs.Pins.{HasSorts}
 use Rattle.counts_are_holders.proofs.Sorting.{InOrder}
 use Rattle.counts_are_holders.proofs.Listed.{AreListed}
@@ -31,7 +32,7 @@ use Rattle.compiled_meaning.proofs.Holders.{holders_same}
 -- a scope is opened
 pub enter_follows : (core : Core) (code : Code) (s : State) (q j : ℕ) (last : IsLast core code s q j) (numbers : ℕ → ℕ) → Follows core code s j (counted.same_numbers numbers (scoping.enter s)) (checking.enter numbers (acting core code s q j last s))
 enter_follows core code s q j last numbers =
-    (refl, refl, arrives core code s q j last (record s { scopes = s.scopes + 1 }) (record { func = refl; point = refl; waiting = refl; steps = refl }), refl)
+    (refl, refl, arrives core code s q j last (record s { scopes = s.scopes + 1 }) (record { func = refl; point = refl; waiting = refl; steps = refl }), refl, (moved_same core s q, refl))
 
 module _ (core : Core) (pins : Pins) (code : Code) (compiled : IsCompiled core pins code) (listed : AreListed core pins) (s : State) (func : Func) (here : slice_get core.funcs s.running.func ≡ Some func) (order : InOrder core s) (stm : Stm) (at : slice_get func.body s.running.point ≡ Some stm) (all : (r : ℕ) → counts_at func s.running.point stm.kind r ≡ holds_on func s.running.point r) (q j : ℕ) (last : IsLast core code s q j) (own : unwrap_or (site_of code.sites q) [] ≡ pins_of pins s.running.func s.running.point) where
   abbrev there : State → State
@@ -45,14 +46,14 @@ module _ (core : Core) (pins : Pins) (code : Code) (compiled : IsCompiled core p
   changed_alike : (objects : List Object) (regs : List Value) (queue : List ℕ) (scopes : ℕ) → Alike s (changed objects regs queue scopes)
   changed_alike objects regs queue scopes = record { func = refl; point = refl; waiting = refl; steps = refl }
 
-  module _ (objects : List Object) (regs : List Value) (sorts : HasSorts func regs) (queue : List ℕ) (first numbers : ℕ → ℕ) (b c : State) (events : List Event) where
+  module _ (objects : List Object) (regs : List Value) (sorts : HasSorts func regs) (queue : List ℕ) (first numbers : ℕ → ℕ) (b c : State) (same : SameState b c) (events : List Event) where
     -- it gives the queued objects back, or names the first holder of one that is held
     decided_follows : (scopes : ℕ) (o : Option ℕ) → (let t = changed objects regs queue scopes in Follows core code s j (counted.numbered first (λ _ after. without_those_inside objects queue numbers) numbers (scoping.decided core o b events t)) (checking.decided code o first c events numbers (there t)))
     decided_follows scopes None =
-        (refl, refl, arrives core code s q j last (bury (changed objects regs queue scopes)) (changed_alike (buried objects) regs [] 0), refl)
+        (refl, refl, arrives core code s q j last (bury (changed objects regs queue scopes)) (changed_alike (buried objects) regs [] 0), refl, (same, refl))
     decided_follows scopes (Some birth) =
         let holders = holders_same core pins code compiled birth listed s func here order stm at all q own objects regs sorts queue in
-        (refl, ap (λ hs. BadFree reason.Held (line_of_free (object_at objects birth).standing) (first_of hs)) holders, moved_same core (changed objects regs queue scopes) q, refl)
+        (refl, ap (λ hs. BadFree reason.Held (line_of_free (object_at objects birth).standing) (first_of hs)) holders, moved_same core (changed objects regs queue scopes) q, refl, (same, refl))
 
     -- the check, with the same pins
     pub checked_follows : (scopes : ℕ) → (let t = changed objects regs queue scopes in Follows core code s j (counted_checking.checked core pins first b events numbers t) (checking.checked code first c events numbers (there t)))
@@ -65,12 +66,12 @@ module _ (core : Core) (pins : Pins) (code : Code) (compiled : IsCompiled core p
     pub in_scope_follows : (n scopes : ℕ) → (let t = changed objects regs queue scopes in Follows core code s j (counted_checking.in_scope core pins n first b events numbers t) (checking.in_scope code n first c events numbers (there t)))
     in_scope_follows zero scopes = checked_follows 1
     in_scope_follows (suc n) scopes =
-        (refl, refl, arrives core code s q j last (changed objects regs queue scopes) (changed_alike objects regs queue scopes), refl)
+        (refl, refl, arrives core code s q j last (changed objects regs queue scopes) (changed_alike objects regs queue scopes), refl, (same, refl))
 
   -- a scope is closed
   pub leave_follows : (numbers : ℕ → ℕ) (n : ℕ) → Follows core code s j (counted_checking.leave core pins n numbers s) (checking.leave code n numbers (there s))
-  leave_follows numbers zero = (refl, refl, moved_same core s q, refl)
+  leave_follows numbers zero = (refl, refl, moved_same core s q, refl, (moved_same core s q, refl))
   leave_follows numbers (suc zero) =
-      checked_follows s.objects s.running.regs (order.sorts func here) s.queue numbers numbers s (there s) [] s.scopes
+      checked_follows s.objects s.running.regs (order.sorts func here) s.queue numbers numbers s (there s) (moved_same core s q) [] s.scopes
   leave_follows numbers (suc (suc n)) =
-      (refl, refl, arrives core code s q j last (record s { scopes = suc n }) (record { func = refl; point = refl; waiting = refl; steps = refl }), refl)
+      (refl, refl, arrives core code s q j last (record s { scopes = suc n }) (record { func = refl; point = refl; waiting = refl; steps = refl }), refl, (moved_same core s q, refl))

@@ -1,12 +1,12 @@
 -- The instructions of a statement together do what the statement does.
-use Rattle.std.proofs.Common.{◌≡◌, ℕ, ◌+◌, ◌≤◌, false, List, [], ◌∷◌, ◌++◌, map, length, Some, None, refl, sym, ap, ◌∙◌, subst, arith}
+use Rattle.std.proofs.Common.{◌≡◌, ℕ, ◌+◌, ◌≤◌, Bool, false, List, [], ◌∷◌, map, length, Some, None, refl, sym, ap, ◌∙◌, subst, arith}
 use Rattle.std.specs.Prelude.{slice_get, slice_index}
 use Rattle.std.specs.List.{list_any}
 use Rattle.std.proofs.lemmas.Option.{get_or_from_slice_get}
 use Rattle.hs_base.specs.declared.values.Value.{Value}
 use Rattle.hs_base.specs.Object.{Object}
 use Rattle.hs_base.specs.State.{State, Frame}
-use Rattle.hs_base.specs.Trace.{Event}
+use Rattle.hs_base.specs.Trace.{Event, Ending}
 use Rattle.hs_base.specs.Runs as runs
 use Rattle.hs_base.proofs.Running.{after_more}
 use Rattle.core_tree.specs.declared.program.Core.{Core}
@@ -34,10 +34,12 @@ use Rattle.counted_meaning.specs.CountedState as counted
 use Rattle.counted_meaning.specs.CountedState.{CountedState}
 use Rattle.counted_meaning.specs.CountedMeaning as counted_meaning
 use Rattle.counts_are_holders.specs.Counts.{AreCounts}
+use Rattle.counts_are_holders.specs.Laws.{testing}
 use Rattle.counts_are_holders.proofs.Sorting.{InOrder}
 use Rattle.counts_are_holders.proofs.Agreeing.{Agrees}
 use Rattle.counts_are_holders.proofs.Acting.{step_agrees}
 use Rattle.counts_are_holders.proofs.Listed.{AreListed}
+use Rattle.counts_are_holders.proofs.Running.{Agree, led_agree, tested_agree}
 use Rattle.code_meaning.specs.CodeState.{CodeState, Next}
 use Rattle.code_meaning.specs.CodeMeaning as code_meaning
 use Rattle.code_meaning.specs.CodeMeaning.{enough, handed_value, hand_or_act}
@@ -45,14 +47,13 @@ use Rattle.compiled_code.specs.Handing.{handed_atoms, code_length}
 use Rattle.compiled_code.specs.Places.{place_of}
 use Rattle.compiled_code.specs.Compiled.{IsCompiled, IsStatement}
 use Rattle.compiled_code.specs.Doing.{Does}
-use Rattle.compiled_meaning.specs.SameRun.{SameState}
 use Rattle.compiled_meaning.proofs.Following as following
-use Rattle.compiled_meaning.proofs.Following.{Tied}
+use Rattle.compiled_meaning.proofs.Following.{Tied, tied_at}
 use Rattle.compiled_meaning.proofs.Places.{place_at, place_is}
 use Rattle.compiled_meaning.proofs.Moved.{moved}
 use Rattle.compiled_code.proofs.Numbered.{handed_in_range}
 use Rattle.compiled_meaning.proofs.Handing.{same_value, holding, all_handed}
-use Rattle.compiled_meaning.proofs.Keeping.{Follows}
+use Rattle.compiled_meaning.proofs.Keeping.{Matches, Follows}
 use Rattle.compiled_meaning.proofs.Acting.{is_last, act_follows}
 
 -- the points of a frame do not matter to its operands
@@ -109,21 +110,32 @@ module _ (core : Core) (pins : Pins) (code : Code) where
   Stands a c =
       Counts core pins a × (c.state ≡ moved core a.state) × (c.handed ≡ []) × (c.numbers ≡ a.numbers)
 
-  abbrev pub Ends : CountedState → CodeState → Type 0
-  Ends a c = SameState a.state c.state × (c.numbers ≡ a.numbers)
-
   abbrev pub left : CodeState → ℕ
   left c = enough code c.state
 
-  tied : (s : State) (j : ℕ) (trace : List Event) (m : counted.Next) (n : Next) → Keeps core pins m → Follows core code s j m n → j ≤ enough code (moved core s) → Tied Stands Ends left (enough code (moved core s)) j (runs.led trace m) (runs.led trace n)
-  tied s j trace (runs.Goes b es t) (runs.Goes c fs u) good f le =
-      (ap (λ es. trace ++ es) f.0, (refl, (good, f.2.same, f.1, f.3), omega (arith, ap (enough code) f.2.same, f.2.left)))
-  tied s j trace (runs.Stops b es t e) (runs.Stops c fs u d) good f le =
-      (ap (λ es. trace ++ es) f.0, (ap (λ e. Some e) f.1, (f.2, f.3), le))
-  tied s j trace (runs.Goes b es t) (runs.Stops c fs u d) good f le = absurd f
-  tied s j trace (runs.Stops b es t e) (runs.Goes c fs u) good f le = absurd f
+  -- the same, with so many instructions made of a total
+  abbrev pub Within : ℕ → ℕ → CountedState → CodeState → Type 0
+  Within total j a c = Stands a c × (left c + j ≤ total)
 
-module _ (core : Core) (pins : Pins) (code : Code) (sound : IsSound core) (exact : AreExact core pins) (listed : AreListed core pins) (compiled : IsCompiled core pins code) (s : State) (func : Func) (good : Holds core func needed s.scopes s) (order : InOrder core s) (numbers : ℕ → ℕ) (counts : AreCounts pins (counted.kept numbers s)) (line : ℕ) (kind : StmKind) (at : slice_get func.body s.running.point ≡ Some (record { line = line; kind = kind })) where
+  -- what a statement and the last of its instructions lead to
+  agree : (s : State) (j : ℕ) (m : counted.Next) (n : Next) → Keeps core pins m → Follows core code s j m n → Agree (Within (enough code (moved core s)) j) Matches m n
+  agree s j (runs.Goes b es t) (runs.Goes c fs u) good f =
+      (f.4, f.0, ((good, f.2.same, f.1, f.3), omega (arith, ap (enough code) f.2.same, f.2.left)))
+  agree s j (runs.Stops b es t e) (runs.Stops c fs u d) good f = (f.4, f.0, (f.2, f.3), f.1)
+  agree s j (runs.Goes b es t) (runs.Stops c fs u d) good f = absurd f
+  agree s j (runs.Stops b es t e) (runs.Goes c fs u) good f = absurd f
+
+  module _ (fits : List Event → Event → Bool) (refused : Event → Ending) where
+    -- the same where each event is tested
+    pub tied : (total j : ℕ) (trace : List Event) (m : counted.Next) (n : Next) → j ≤ total → Agree (Within total j) Matches m n → Tied Stands Matches left total j (runs.led trace (runs.tested fits refused trace m)) (runs.led trace (runs.tested fits refused trace n))
+    tied total j trace m n le h =
+        let tests = tested_agree (Within total j) Matches fits refused trace m n h in
+        let both = led_agree (Within total j) Matches trace _ _ tests in
+        let r = runs.led trace (runs.tested fits refused trace m) in
+        let q = runs.led trace (runs.tested fits refused trace n) in
+        (both.0, tied_at Stands Matches left total j le r.ended r q both.1 both.2)
+
+module _ (core : Core) (pins : Pins) (code : Code) (sound : IsSound core) (exact : AreExact core pins) (listed : AreListed core pins) (compiled : IsCompiled core pins code) (fits : List Event → Event → Bool) (refused : Event → Ending) (s : State) (func : Func) (good : Holds core func needed s.scopes s) (order : InOrder core s) (numbers : ℕ → ℕ) (counts : AreCounts pins (counted.kept numbers s)) (line : ℕ) (kind : StmKind) (at : slice_get func.body s.running.point ≡ Some (record { line = line; kind = kind })) where
   abbrev stm_at : Stm
   stm_at = record { line = line; kind = kind }
 
@@ -144,30 +156,30 @@ module _ (core : Core) (pins : Pins) (code : Code) (sound : IsSound core) (exact
   fresh =
       operands_fresh core func s.scopes s good stm_at at ((sound.functions s.running.func func good.here).typed s.running.point stm_at at)
 
-  handed : (trace : List Event) → runs.after (code_meaning.step code) (following.going trace (holding code (moved core s) numbers place [])) (length atoms) ≡ following.going trace (holding code (moved core s) numbers (place + length atoms) (map (value_of s.running) atoms))
+  handed : (trace : List Event) → runs.after (testing fits refused (code_meaning.step code)) (following.going trace (holding (moved core s) numbers place [])) (length atoms) ≡ following.going trace (holding (moved core s) numbers (place + length atoms) (map (value_of s.running) atoms))
   handed trace =
       let values = same_values s.running place atoms in
-      all_handed code (moved core s) numbers trace place [] atoms is_statement.hands (handed_in_range kind ((sound.functions s.running.func func good.here).numbers s.running.point stm_at at)) (ap (list_any (holds_stale s.objects)) values ∙ handed_fresh s.objects s.running kind fresh)
-      ∙ ap (λ vs. following.going trace (holding code (moved core s) numbers (place + length atoms) vs)) values
+      all_handed code fits refused (moved core s) numbers trace place [] atoms is_statement.hands (handed_in_range kind ((sound.functions s.running.func func good.here).numbers s.running.point stm_at at)) (ap (list_any (holds_stale s.objects)) values ∙ handed_fresh s.objects s.running kind fresh)
+      ∙ ap (λ vs. following.going trace (holding (moved core s) numbers (place + length atoms) vs)) values
 
   line_is : slice_index code.lines (place + length atoms) ≡ line
   line_is = get_or_from_slice_get code.lines _ line 0 (is_statement.lines (length atoms) (omega arith))
 
-  acted : (trace : List Event) → code_meaning.step code trace (holding code (moved core s) numbers (place + length atoms) (map (value_of s.running) atoms)) ≡ code_meaning.act code line is_statement.does.0 is_statement.does.0.op (map (value_of s.running) atoms) numbers (at_point (moved core s) (place + length atoms))
+  acted : (trace : List Event) → code_meaning.step code trace (holding (moved core s) numbers (place + length atoms) (map (value_of s.running) atoms)) ≡ code_meaning.act code line is_statement.does.0 is_statement.does.0.op (map (value_of s.running) atoms) numbers (at_point (moved core s) (place + length atoms))
   acted trace =
-      let c = holding code (moved core s) numbers (place + length atoms) (map (value_of s.running) atoms) in
+      let c = holding (moved core s) numbers (place + length atoms) (map (value_of s.running) atoms) in
       let i = is_statement.does.0 in
       ap (λ o. code_meaning.act_at code o c) is_statement.does.1
       ∙ ap (λ l. hand_or_act code l i (handed_value c.state.running i i.op) c) line_is
       ∙ ap (λ o. hand_or_act code line i o c) (takes core code s.running.func func c.state.running kind i is_statement.does.2)
 
   -- all instructions of the statement
-  made : (trace : List Event) → runs.after (code_meaning.step code) (following.going trace (holding code (moved core s) numbers place [])) (code_length kind) ≡ runs.led trace (code_meaning.act code line is_statement.does.0 is_statement.does.0.op (map (value_of s.running) atoms) numbers (at_point (moved core s) (place + length atoms)))
+  made : (trace : List Event) → runs.after (testing fits refused (code_meaning.step code)) (following.going trace (holding (moved core s) numbers place [])) (code_length kind) ≡ runs.led trace (runs.tested fits refused trace (code_meaning.act code line is_statement.does.0 is_statement.does.0.op (map (value_of s.running) atoms) numbers (at_point (moved core s) (place + length atoms))))
   made trace =
-      let r = following.going trace (holding code (moved core s) numbers place []) in
-      after_more (code_meaning.step code) r (length atoms)
-      ∙ ap (λ q. runs.moved (code_meaning.step code) q q.ended) (handed trace)
-      ∙ ap (runs.led trace) (acted trace)
+      let r = following.going trace (holding (moved core s) numbers place []) in
+      after_more (testing fits refused (code_meaning.step code)) r (length atoms)
+      ∙ ap (λ q. runs.moved (testing fits refused (code_meaning.step code)) q q.ended) (handed trace)
+      ∙ ap (λ n. runs.led trace (runs.tested fits refused trace n)) (acted trace)
 
   core_acts : (trace : List Event) → counted_meaning.step core pins trace (counted.kept numbers s) ≡ counted_meaning.act core pins line kind numbers s
   core_acts trace =
@@ -175,18 +187,18 @@ module _ (core : Core) (pins : Pins) (code : Code) (sound : IsSound core) (exact
       ap (λ o. counted_meaning.act_at core pins o (counted.kept numbers s)) there
       ∙ ap (λ b. counted_meaning.unless_reads_stale b core pins stm_at (counted.kept numbers s)) fresh
 
-  pub statement_follows : (trace : List Event) → Tied (Stands core pins code) (Ends core pins code) (left core pins code) (enough code (moved core s)) (code_length kind) (runs.led trace (counted_meaning.step core pins trace (counted.kept numbers s))) (runs.after (code_meaning.step code) (following.going trace (holding code (moved core s) numbers place [])) (code_length kind))
+  pub statement_follows : (trace : List Event) → Tied (Stands core pins code) Matches (left core pins code) (enough code (moved core s)) (code_length kind) (runs.led trace (testing fits refused (counted_meaning.step core pins) trace (counted.kept numbers s))) (runs.after (testing fits refused (code_meaning.step code)) (following.going trace (holding (moved core s) numbers place [])) (code_length kind))
   statement_follows trace =
       let agrees = step_agrees core sound pins exact trace s (func, good) order numbers counts in
       let keeps = subst (Keeps core pins) (core_acts trace) (keeps_from core pins (meaning.step core trace s) (counted_meaning.step core pins trace (counted.kept numbers s)) (step_stays_at core sound trace s (func, good)) agrees) in
       let last = is_last core pins code sound listed compiled s func good order line numbers kind at in
       let follows = act_follows core pins code sound listed compiled s func good order line numbers kind at is_statement.does.0 is_statement.does.2 in
-      let both = tied core pins code s (code_length kind) trace _ _ keeps follows (omega (arith, last.here, last.within)) in
-      subst (λ n. Tied (Stands core pins code) (Ends core pins code) (left core pins code) (enough code (moved core s)) (code_length kind) (runs.led trace n) (runs.after (code_meaning.step code) (following.going trace (holding code (moved core s) numbers place [])) (code_length kind))) (sym (core_acts trace)) (subst (λ (r : code_meaning.Run). Tied (Stands core pins code) (Ends core pins code) (left core pins code) (enough code (moved core s)) (code_length kind) (runs.led trace (counted_meaning.act core pins line kind numbers s)) r) (sym (made trace)) both)
+      let both = tied core pins code fits refused (enough code (moved core s)) (code_length kind) trace _ _ (omega (arith, last.here, last.within)) (agree core pins code s (code_length kind) _ _ keeps follows) in
+      subst (λ n. Tied (Stands core pins code) Matches (left core pins code) (enough code (moved core s)) (code_length kind) (runs.led trace (runs.tested fits refused trace n)) (runs.after (testing fits refused (code_meaning.step code)) (following.going trace (holding (moved core s) numbers place [])) (code_length kind))) (sym (core_acts trace)) (subst (λ (r : code_meaning.Run). Tied (Stands core pins code) Matches (left core pins code) (enough code (moved core s)) (code_length kind) (runs.led trace (runs.tested fits refused trace (counted_meaning.act core pins line kind numbers s))) r) (sym (made trace)) both)
 
-module _ (core : Core) (pins : Pins) (code : Code) (sound : IsSound core) (exact : AreExact core pins) (listed : AreListed core pins) (compiled : IsCompiled core pins code) where
+module _ (core : Core) (pins : Pins) (code : Code) (sound : IsSound core) (exact : AreExact core pins) (listed : AreListed core pins) (compiled : IsCompiled core pins code) (fits : List Event → Event → Bool) (refused : Event → Ending) where
   -- each statement is followed by its instructions
-  pub one_follows : (trace : List Event) (a : CountedState) (c : CodeState) → Stands core pins code a c → (j : ℕ) × Tied (Stands core pins code) (Ends core pins code) (left core pins code) (enough code c.state) j (runs.led trace (counted_meaning.step core pins trace a)) (runs.after (code_meaning.step code) (following.going trace c) j)
+  pub one_follows : (trace : List Event) (a : CountedState) (c : CodeState) → Stands core pins code a c → (j : ℕ) × Tied (Stands core pins code) Matches (left core pins code) (enough code c.state) j (runs.led trace (testing fits refused (counted_meaning.step core pins) trace a)) (runs.after (testing fits refused (code_meaning.step code)) (following.going trace c) j)
   one_follows trace a c h =
       let s = a.state in
       let func = h.0.0.0 in
@@ -194,5 +206,5 @@ module _ (core : Core) (pins : Pins) (code : Code) (sound : IsSound core) (exact
       let at = found func.body s.running.point good.inside in
       let begun : CodeState = record { state = moved core s; handed = []; numbers = a.numbers } in
       let same : c ≡ begun = ap (λ (t : State). let d : CodeState = record { state = t; handed = c.handed; numbers = c.numbers } in d) h.1 ∙ ap (λ (vs : List Value). let d : CodeState = record { state = moved core s; handed = vs; numbers = c.numbers } in d) h.2 ∙ ap (λ (n : ℕ → ℕ). let d : CodeState = record { state = moved core s; handed = []; numbers = n } in d) h.3 in
-      let follows = statement_follows core pins code sound exact listed compiled s func good h.0.1 a.numbers h.0.2 at.0.line at.0.kind at.1 trace in
-      (code_length at.0.kind, subst (λ (d : CodeState). Tied (Stands core pins code) (Ends core pins code) (left core pins code) (enough code d.state) (code_length at.0.kind) (runs.led trace (counted_meaning.step core pins trace a)) (runs.after (code_meaning.step code) (following.going trace d) (code_length at.0.kind))) (sym same) follows)
+      let follows = statement_follows core pins code sound exact listed compiled fits refused s func good h.0.1 a.numbers h.0.2 at.0.line at.0.kind at.1 trace in
+      (code_length at.0.kind, subst (λ (d : CodeState). Tied (Stands core pins code) Matches (left core pins code) (enough code d.state) (code_length at.0.kind) (runs.led trace (testing fits refused (counted_meaning.step core pins) trace a)) (runs.after (testing fits refused (code_meaning.step code)) (following.going trace d) (code_length at.0.kind))) (sym same) follows)

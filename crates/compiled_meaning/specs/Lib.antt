@@ -1,2 +1,3 @@
 pub mod SameRun
+pub mod Testing
 pub mod Laws

@@ -12,4 +12,8 @@ pub mod Closing
 pub mod Starts
 pub mod BuiltCodes
 pub mod Answering
+pub mod FirstEvents
+pub mod Cuts
+pub mod CutRuns
+pub mod Lasting
 pub mod Bytes

@@ -5,7 +5,8 @@
 //! earlier statement stays true. The pins of a function stand in the order of its points, so the walk takes those of each
 //! point from their front. `compiled_code` says what the code of a core is, and `specs/Emitting.antt` what each step
 //! here adds. [`execute`] runs such code on a machine, and its contract speaks of the core: the machine does what the code
-//! means (`flat_machine`), and the code means what the core means (`compiled_meaning`).
+//! means (`flat_machine`), and the code means what the core means (`compiled_meaning`). `specs/Lasting.antt` says in which state
+//! a run that the heap and the stack cut off ends, and so how many steps it makes.
 #![tactic(auto)]
 
 mod doing;
@@ -19,6 +20,6 @@ mod running;
 mod sites;
 mod statics;
 
-pub use laws::code_is_built;
+pub use laws::{code_is_built, cut_runs_are_cut};
 pub use program::compile;
 pub use running::execute;

@@ -1,8 +1,9 @@
 //! The code of a core as a whole.
 
-ghost use Rattle.std.specs.Prelude.{◌≡◌, ◌<◌, ◌≤◌, ◌+◌, ◌*◌, ◌^◌, ℕ, List, length, map, pos, IfOk, slice_get};
+ghost use Rattle.std.specs.Prelude.{◌≡◌, ◌<◌, ◌≤◌, ◌+◌, ◌*◌, ◌^◌, ℕ, Bool, List, length, map, pos, IfOk, slice_get};
 ghost use Rattle.std.specs.List.{sum_by};
 ghost use Rattle.built_cores.specs.Built.{IsBuilt};
+ghost use Rattle.hs_base.specs.Trace.{Ending, Event};
 ghost use Rattle.code_soundness.specs.Laws.{HoldsBytes};
 ghost use Rattle.core_tree.specs.Sound.{IsSound, code_size, is_main, main_of};
 ghost use Rattle.object_meaning.specs.Meaning.{line_of};
@@ -12,6 +13,7 @@ ghost use Rattle.code_meaning.specs.CodeMeaning.{meaning as code_meaning};
 ghost use Rattle.compiled_code.specs.Handing.{instr};
 ghost use Rattle.compiled_code.specs.Compiled.{IsCompiled};
 ghost use Rattle.compiled_meaning.specs.SameRun.{SameRun};
+ghost use Rattle.compiled_meaning.specs.Testing.{tested_code, tested_core};
 ghost use Rattle.flat_code.specs.WellFormed.{AreShort, IsWellFormed};
 ghost use Rattle.flat_machine.specs.Built.{IsBuilt as IsBuiltCode};
 
@@ -87,8 +89,9 @@ fn code_of(alloc: Global, counted: &Counted) -> Result<Code, NoMemory>
 
 /// The code of a sound core with the pins that `count_insertion` lists for it. It is well formed, and where the core is built
 /// it is code that the machine runs. Its run is that of the core by numbers: the same trace, the same end, the same number for
-/// each object, and the same last state, but for the points that frames are at. There are at most 14 instructions for each
-/// statement and each operand of the core, one for each function and one at the start.
+/// each object, and the same last state, but for the points that frames are at, also where a test of the events cuts both runs
+/// off. There are at most 14 instructions for each statement and each operand of the core, one for each function and one at
+/// the start.
 ///
 /// # Errors
 ///
@@ -102,6 +105,7 @@ pub fn compile(alloc: Global, counted: &Counted) -> Result<Code, NoMemory>
     ensures few { IfOk result (λ code. length code.instrs ≤ 14 * sum_by code_size counted.now.core.funcs + length counted.now.core.funcs + 1) }
     ensures built { IfOk result (λ code. IsBuilt counted.now.core → IsBuiltCode code) }
     ensures means { IfOk result (λ code. (input : List ℕ) (n : ℕ) → SameRun (core_meaning counted.now.core counted.now.pins input n) (code_meaning code input n)) }
+    ensures tested { IfOk result (λ code. (fits : List Event → Event → Bool) (refused : Event → Ending) (input : List ℕ) (n : ℕ) → SameRun (tested_core counted.now.core counted.now.pins fits refused input n) (tested_code code fits refused input n)) }
 {
     codes_are_well_formed();
     code_means_core();

@@ -9,9 +9,10 @@ ghost use Rattle.core_tree.specs.Sound.{IsSound};
 ghost use Rattle.core_tree.specs.declared.program.Core.{Core};
 ghost use Rattle.counted_meaning.specs.Pinning.{AreExact, Pins};
 ghost use Rattle.flat_code.specs.WellFormed.{IsWellFormed};
+ghost use Rattle.flat_codegen.specs.Lasting.{MakesSteps};
 ghost use Rattle.flat_codegen.specs.Running.{RunAnswers};
 ghost use Rattle.flat_machine.specs.Built.{IsBuilt as IsBuiltCode};
-ghost use Rattle.flat_machine.specs.Machined.{IsOf};
+ghost use Rattle.flat_machine.specs.Machined.{IsOf, steps_made};
 ghost use Rattle.flat_machine.specs.Running.{RunCounts};
 
 use compiled_meaning::code_means_core;
@@ -24,7 +25,8 @@ use hs_base::{End, Sink, Source};
 /// own). Where input and output are told, it writes exactly the bytes that the core writes before its first event for which
 /// the heap or the stack has no room, takes exactly the bytes that it reads, and answers its end, or that of that event. All
 /// output is put before a byte of input is asked for and before the run ends. It ends by a fault of the input or the output
-/// exactly where that object failed in this call. A machine that has ended answers the same end again, and touches nothing.
+/// exactly where that object failed in this call. [`Machine::steps_made`] tells how many steps it made: `budget` less those that
+/// are left in the last state of the core's run, cut so. A machine that has ended answers the same end again, and touches nothing.
 pub fn execute<I: Source, O: Sink>(
     machine: &mut Machine,
     code: &Code,
@@ -40,6 +42,7 @@ pub fn execute<I: Source, O: Sink>(
     requires input { I.faults input.old + 1 < 2 ^ 64 }
     requires out { O.faults out.old + 1 < 2 ^ 64 }
     ensures told { machine.old.ended ≡ None → (core : Core) (pins : Pins) → IsSound core → AreExact core pins → AreAscending pins → IsBuilt core → IsCompiled core pins code.now → (left taken : List ℕ) → I.left input.old ≡ Some left → O.taken out.old ≡ Some taken → RunAnswers core left budget (record { heap = machine.old.kept.memory.heap.len; stack = machine.old.stack }) taken result (I.left input.new) (O.taken out.new) }
+    ensures made { machine.old.ended ≡ None → (core : Core) (pins : Pins) → IsSound core → AreExact core pins → AreAscending pins → IsCompiled core pins code.now → (left taken : List ℕ) → I.left input.old ≡ Some left → O.taken out.old ≡ Some taken → MakesSteps core left budget (record { heap = machine.old.kept.memory.heap.len; stack = machine.old.stack }) result (steps_made machine.new) }
     ensures faults { machine.old.ended ≡ None → RunCounts result (I.faults input.old) (I.faults input.new) (O.faults out.old) (O.faults out.new) }
     ensures ends { machine.new.ended ≡ Some result }
     ensures loaded { IsOf code.now machine.new }

@@ -1,17 +1,19 @@
 -- What is compiled of a core is well formed and means what the core means, by the laws on all such code.
-use Rattle.std.proofs.Common.{◌+◌, ◌*◌, ◌≤◌, ℕ, List, length}
+use Rattle.std.proofs.Common.{◌+◌, ◌*◌, ◌≤◌, ℕ, Bool, List, length}
 use Rattle.std.specs.Prelude.{Result, Ok, Err, IfOk}
 use Rattle.std.specs.List.{sum_by}
 use Rattle.core_tree.specs.Sound.{code_size}
 use Rattle.flat_code.specs.declared.program.Code.{Code}
 use Rattle.flat_code.specs.WellFormed.{AreShort, IsWellFormed}
 use Rattle.hs_base.specs.declared.items.NoMemory.{NoMemory}
+use Rattle.hs_base.specs.Trace.{Event, Ending}
 use Rattle.counted_meaning.specs.CountedMeaning.{meaning as core_meaning}
 use Rattle.code_meaning.specs.CodeMeaning.{meaning as code_meaning}
 use Rattle.compiled_code.specs.Compiled.{IsCompiled}
 use Rattle.built_cores.specs.Built.{IsBuilt}
 use Rattle.compiled_form.proofs.Lengths.{few_instructions}
 use Rattle.compiled_meaning.specs.SameRun.{SameRun}
+use Rattle.compiled_meaning.specs.Testing.{tested_core, tested_code}
 use Rattle.flat_machine.specs.Built as machine
 use Rattle.flat_codegen.proofs.program.compile.Goals as goal
 
@@ -54,4 +56,13 @@ returns-clause-means c =
     let exact = c.listed_pins_are_exact.ensures.exact core pins c.requires.listed in
     let ascending = c.listed_pins_are_exact.ensures.ascending core pins c.requires.listed in
     follows (IsCompiled core pins) (λ code. (input : List ℕ) (n : ℕ) → SameRun (core_meaning core pins input n) (code_meaning code input n)) c.code_of.result
-    (λ code is. c.code_means_core.ensures core pins code c.requires.sound exact ascending is) c.code_of.ensures.compiled
+    (λ code is. c.code_means_core.ensures.meaning core pins code c.requires.sound exact ascending is) c.code_of.ensures.compiled
+
+pub returns-clause-tested : goal.returns-clause-tested
+returns-clause-tested c =
+    let core = c.args.counted.now.core in
+    let pins = c.args.counted.now.pins in
+    let exact = c.listed_pins_are_exact.ensures.exact core pins c.requires.listed in
+    let ascending = c.listed_pins_are_exact.ensures.ascending core pins c.requires.listed in
+    follows (IsCompiled core pins) (λ code. (fits : List Event → Event → Bool) (refused : Event → Ending) (input : List ℕ) (n : ℕ) → SameRun (tested_core core pins fits refused input n) (tested_code code fits refused input n)) c.code_of.result
+    (λ code is fits refused input n. (c.code_means_core.ensures.tested core pins code c.requires.sound exact ascending is fits refused input n).2) c.code_of.ensures.compiled

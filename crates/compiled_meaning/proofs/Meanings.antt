@@ -1,0 +1,47 @@
+-- The meanings are the runs whose events are all let through.
+use Rattle.std.proofs.Common.{◌≡◌, ℕ, Bool, true, List, [], ap, ◌∙◌, subst}
+use Rattle.hs_base.specs.Trace.{Event, Ending, Dangling}
+use Rattle.hs_base.specs.Runs as runs
+use Rattle.core_tree.specs.declared.program.Core.{Core}
+use Rattle.flat_code.specs.declared.program.Code.{Code}
+use Rattle.object_meaning.specs.Meaning as meaning
+use Rattle.counted_meaning.specs.Pinning.{Pins}
+use Rattle.counted_meaning.specs.CountedMeaning as counted_meaning
+use Rattle.counts_are_holders.specs.Laws.{testing}
+use Rattle.code_meaning.specs.CodeMeaning as code_meaning
+use Rattle.compiled_meaning.specs.SameRun.{SameRun}
+use Rattle.compiled_meaning.specs.Testing.{tested_core, tested_code}
+use Rattle.compiled_meaning.specs.Laws.{CodeMeansCore, TestedCodeMeansCore}
+use Rattle.compiled_meaning.proofs.Testing.{untested}
+use Rattle.compiled_meaning.proofs.Beginning.{core_ends, same_tested}
+
+abbrev all_fit : List Event → Event → Bool
+all_fit trace e = true
+
+abbrev refused : Event → Ending
+refused e = Dangling
+
+untested_step : {S : Type 0} (step : List Event → S → runs.Next S Event Ending) → testing all_fit refused step ≡ step
+untested_step step = λ i trace s. untested refused trace (step trace s) i
+
+core_is : (core : Core) (pins : Pins) (input : List ℕ) (n : ℕ) → tested_core core pins all_fit refused input n ≡ counted_meaning.meaning core pins input n
+core_is core pins input n =
+    let run : counted_meaning.Run → counted_meaning.Run = λ r. runs.after (testing all_fit refused (counted_meaning.step core pins)) r (meaning.enough core r.state.state) in
+    let r = counted_meaning.begun core input n in
+    ap (λ next. run (runs.led [] next)) (untested refused [] (counted_meaning.first_call core input n))
+    ∙ ap (λ step. runs.after step r (meaning.enough core r.state.state)) (untested_step (counted_meaning.step core pins))
+
+code_is : (code : Code) (input : List ℕ) (n : ℕ) → tested_code code all_fit refused input n ≡ code_meaning.meaning code input n
+code_is code input n =
+    let c = code_meaning.start code input n in
+    ap (λ step. runs.after step (runs.fresh c) (code_meaning.enough code c.state)) (untested_step (code_meaning.step code))
+
+pub tested_means_core : TestedCodeMeansCore
+tested_means_core core pins code sound exact ascending compiled fits refused input n =
+    let ended = core_ends core pins code sound exact ascending compiled fits refused input n in
+    (ended.0, ended.1, same_tested core pins code sound exact ascending compiled fits refused input n)
+
+pub means_core : CodeMeansCore
+means_core core pins code sound exact ascending compiled input n =
+    let same = same_tested core pins code sound exact ascending compiled all_fit refused input n in
+    subst (λ (r : counted_meaning.Run). SameRun r (code_meaning.meaning code input n)) (core_is core pins input n) (subst (SameRun (tested_core core pins all_fit refused input n)) (code_is code input n) same)

@@ -1,0 +1,22 @@
+-- Runs that stop before the first event that a test refuses.
+use Rattle.std.specs.Prelude.{ℕ, Bool, List, []}
+use Rattle.hs_base.specs.Trace.{Event, Ending}
+use Rattle.hs_base.specs.Runs.{fresh, led, after, tested}
+use Rattle.core_tree.specs.declared.program.Core.{Core}
+use Rattle.flat_code.specs.declared.program.Code.{Code}
+use Rattle.object_meaning.specs.Meaning as object
+use Rattle.counted_meaning.specs.Pinning.{Pins}
+use Rattle.counted_meaning.specs.CountedMeaning as counted
+use Rattle.code_meaning.specs.CodeMeaning as code_meaning
+use Rattle.counts_are_holders.specs.Laws.{testing}
+
+-- that of a core by numbers
+abbrev pub tested_core : Core → Pins → (List Event → Event → Bool) → (Event → Ending) → List ℕ → ℕ → counted.Run
+tested_core core pins fits refused input n =
+    let r = led [] (tested fits refused [] (counted.first_call core input n)) in
+    after (testing fits refused (counted.step core pins)) r (object.enough core r.state.state)
+
+-- that of a code
+abbrev pub tested_code : Code → (List Event → Event → Bool) → (Event → Ending) → List ℕ → ℕ → code_meaning.Run
+tested_code code fits refused input n =
+    let c = code_meaning.start code input n in after (testing fits refused (code_meaning.step code)) (fresh c) (code_meaning.enough code c.state)
