@@ -153,7 +153,7 @@ impl Scopes {
     /// Closes a scope. The end of an inner one does nothing else. At the end of the outermost one the pointers inside the
     /// queued objects are taken off the counts; then the first queued object to whose block a count is left is a bad free
     /// at its own line, and with none the queued blocks are given back. A bad free leaves scopes, heap and bytes as they
-    /// were, but for the name of the object that is held; the counts are then of no more use.
+    /// were, but for the name of the object that is held; the counts are then without these pointers.
     ///
     /// The end of an inner scope takes no step, and the check for each queued object at most 16, 2 for each granule of
     /// its block and 4 for each of its slots.
@@ -175,11 +175,11 @@ impl Scopes {
         // The end of the outermost one, for each list of blocks that the heap holds and each queue.
         ensures answer { (held : List Block) (queue : List ℕ) → self.old.depth ≡ 1 → IsReady self.old heap.old bytes.old counts.old forms.now held queue → result ≡ answer_of bytes.old (checked forms.now bytes.old counts.old.counts queue) }
         ensures work { (held : List Block) (queue : List ℕ) → self.old.depth ≡ 1 → IsReady self.old heap.old bytes.old counts.old forms.now held queue → steps.new ≤ steps.old + work_of forms.now bytes.old queue }
+        ensures counts { (held : List Block) (queue : List ℕ) → self.old.depth ≡ 1 → IsReady self.old heap.old bytes.old counts.old forms.now held queue → LowersBy (words_inside forms.now bytes.old queue) counts.old counts.new }
 
         // With no object held.
         ensures closed { self.old.depth ≡ 1 → OnOk result (self.new ≡ no_scopes self.old.named) }
         ensures released { (held : List Block) (queue : List ℕ) → self.old.depth ≡ 1 → IsReady self.old heap.old bytes.old counts.old forms.now held queue → OnOk result (IsReleased heap.old heap.new bytes.old bytes.new held queue) }
-        ensures counts { (held : List Block) (queue : List ℕ) → self.old.depth ≡ 1 → IsReady self.old heap.old bytes.old counts.old forms.now held queue → OnOk result (LowersBy (words_inside forms.now bytes.old queue) counts.old counts.new) }
 
         // With one.
         ensures named { (held : List Block) (queue : List ℕ) → self.old.depth ≡ 1 → IsReady self.old heap.old bytes.old counts.old forms.now held queue → OnErr result (self.new ≡ record self.old { named = checked forms.now bytes.old counts.old.counts queue }) }

@@ -15,6 +15,13 @@ use hs_base::{BadFree, Line, Steps};
 use std::sync::ledger::Ledger;
 
 impl FlatObjects {
+    /// How many scopes are open.
+    pub fn scopes(&self) -> u64
+        ensures { result ≡ self.now.scopes.depth }
+    {
+        self.scopes.depth()
+    }
+
     /// Opens a scope.
     pub fn enter(&mut self)
         requires { self.old.scopes.depth < 2 ^ 64 - 1 }

@@ -42,6 +42,10 @@ returns-in-Some-clause-work g c = λ held queue depth ready.
     let left = work_left c.args.forms.now c.args.bytes.now queue in
     omega (arith, c.in-Some.ensures.work queue covered, c.read_freed.ensures.steps)
 
+pub returns-in-Some-clause-counts : goal.returns-in-Some-clause-counts
+returns-in-Some-clause-counts g c = λ held queue depth ready.
+    c.in-Some.ensures.counts queue (ready_covered c.args.self.now c.args.heap.now c.args.bytes.now c.args.counts.now c.args.forms.now held queue ready)
+
 pub returns-in-Some-clause-named : goal.returns-in-Some-clause-named
 returns-in-Some-clause-named g c = λ held queue depth ready.
     let found = c.in-Some.ensures.answer queue (ready_covered c.args.self.now c.args.heap.now c.args.bytes.now c.args.counts.now c.args.forms.now held queue ready) in
