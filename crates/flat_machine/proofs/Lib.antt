@@ -1,5 +1,6 @@
 pub mod Stacks
 pub mod WordLists
+pub mod Stales
 pub mod Stays
 pub mod Plain
 pub mod Hands
@@ -9,6 +10,7 @@ pub mod Accesses
 pub mod Texts
 pub mod Prints
 pub mod OneByte
+pub mod Inputs
 pub mod Cuts
 pub mod Reached
 pub mod Goods
@@ -21,5 +23,6 @@ pub mod Tables
 pub mod Placing
 pub mod Started
 pub mod Firsts
+pub mod Walked
 pub mod Spending
 pub mod Lasting

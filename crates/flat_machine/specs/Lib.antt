@@ -5,11 +5,11 @@ pub mod Standing
 pub mod Leading
 pub mod Putting
 pub mod Writing
-pub mod Running
 pub mod Groups
 pub mod Built
 pub mod Loaded
 pub mod Well
+pub mod Running
 pub mod First
 pub mod Machined
 pub mod Loading

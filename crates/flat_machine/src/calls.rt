@@ -1,7 +1,7 @@
 //! The active calls.
 
 ghost use Rattle.std.specs.Prelude.{◌≡◌, ◌+◌, ◌*◌, ◌<◌, ◌≤◌, ◌^◌, ◌++◌, [], ◌∷◌, ℕ, IfOk, IsTrue, false, map, drop, length, slice_index_or};
-ghost use Rattle.flat_machine.specs.Kept.{Active, GoesBack, at_point, onward, put};
+ghost use Rattle.flat_machine.specs.Kept.{Active, GoesBack, at_point, onward, put, registers_of};
 ghost use Rattle.flat_machine.specs.Words.{no_word, first_word};
 
 use crate::call::Call;
@@ -68,6 +68,13 @@ impl Calls {
         ensures { result + self.now.used ≡ self.now.room }
     {
         self.room - self.running.used
+    }
+
+    /// The registers of all calls fit the stack, in 8 bytes each.
+    pub(crate) fn registers_fit(&self)
+        ensures { 8 * registers_of self.now ≤ self.now.room }
+    {
+        let _room = self.room;
     }
 
     /// The number of the running function.

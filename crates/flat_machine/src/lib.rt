@@ -32,6 +32,7 @@ mod pointers;
 mod printing;
 mod put_error;
 mod running;
+mod sites;
 mod state;
 mod statics;
 mod steps;

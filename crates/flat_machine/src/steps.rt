@@ -16,8 +16,8 @@ ghost use Rattle.flat_machine.specs.Standing.{Stands};
 ghost use Rattle.flat_machine.specs.Groups.{IsHanding, IsValues, IsJump, IsMemory, IsPointers, IsMaking, IsAlone, IsBuiltLib};
 ghost use Rattle.flat_machine.specs.Built.{IsBuilt, IsBuiltOp};
 ghost use Rattle.flat_machine.specs.Loaded.{IsLoaded};
-ghost use Rattle.flat_machine.specs.Well.{IsWell};
-ghost use Rattle.flat_machine.specs.Leading.{Alone, Counted, Moves, Seen, WaitsAtCall, HasNoLocal, MayHand, MayMake, MayCall};
+ghost use Rattle.flat_machine.specs.Well.{IsGoodSoFar, IsWell};
+ghost use Rattle.flat_machine.specs.Leading.{Alone, Counted, Moves, Seen, WaitsAtCall, HasNoLocal, HandsFresh, MayHand, MayMake, MayCall};
 
 use crate::calling::chosen;
 use crate::loaded::Loaded;
@@ -84,7 +84,7 @@ fn act_alone(
     requires may { op ≡ ops.Call → MayCall code.now instr state.old }
     requires waits { WaitsAtCall code.now state.old.calls.waiting }
     requires locals { HasNoLocal code.now state.old.calls }
-    ensures { (places : ℕ → ℕ) (c : CodeState) → Stands places c state.old → instr.op ≡ op → Alone places c state.old (hand_or_act code.now line instr (handed_value c.state.running instr op) c) state.new result }
+    ensures { (places : ℕ → ℕ) (c : CodeState) → Stands places c state.old → HandsFresh instr op c → instr.op ≡ op → Alone places c state.old (hand_or_act code.now line instr (handed_value c.state.running instr op) c) state.new result }
 {
     match op {
         Op::HandReg | Op::HandInt | Op::HandUnsigned | Op::HandNull | Op::HandStatic => {
@@ -124,9 +124,9 @@ pub(crate) fn one_step<I: Source, O: Sink>(
     requires well { IsWell code.now state.old }
     requires input { I.faults input.old + 1 < 2 ^ 64 }
     requires out { O.faults out.old + 1 < 2 ^ 64 }
-    ensures told { (places : ℕ → ℕ) (c : CodeState) (trace : List Event) (taken : List ℕ) → Stands places c state.old → I.left input.old ≡ Some c.state.input → O.taken out.old ≡ Some taken → Seen places c state.old (step code.now trace c) c.state.input taken result state.new (I.left input.new) (O.taken out.new) }
+    ensures told { (places : ℕ → ℕ) (c : CodeState) (trace : List Event) (taken : List ℕ) → Stands places c state.old → IsGoodSoFar code.now c → I.left input.old ≡ Some c.state.input → O.taken out.old ≡ Some taken → Seen places c state.old (step code.now trace c) c.state.input taken result state.new (I.left input.new) (O.taken out.new) }
     ensures faults { Counted result (I.faults input.old) (I.faults input.new) (O.faults out.old) (O.faults out.new) }
-    ensures moves { (places : ℕ → ℕ) (c : CodeState) → Stands places c state.old → (left : List ℕ) × All IsByte left × Moves state.old (step code.now [] (record c { state = with_input left c.state })) state.new result }
+    ensures moves { (places : ℕ → ℕ) (c : CodeState) → Stands places c state.old → IsGoodSoFar code.now c → (left : List ℕ) × All IsByte left × Moves state.old (step code.now [] (record c { state = with_input left c.state })) state.new result }
 {
     let point = state.point();
     let Some(instr) = code.instrs.get(point) else {
