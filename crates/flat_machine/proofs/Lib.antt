@@ -2,6 +2,7 @@ pub mod Stacks
 pub mod WordLists
 pub mod Stales
 pub mod Stays
+pub mod Pins
 pub mod Plain
 pub mod Hands
 pub mod Entered
@@ -19,6 +20,7 @@ pub mod Loops
 pub mod Starts
 pub mod Movements
 pub mod Makings
+pub mod Checked
 pub mod Tables
 pub mod Placing
 pub mod Started

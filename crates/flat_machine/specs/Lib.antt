@@ -2,6 +2,8 @@ pub mod Words
 pub mod Kept
 pub mod Stacked
 pub mod Standing
+pub mod Pinning
+pub mod Holding
 pub mod Leading
 pub mod Putting
 pub mod Writing

@@ -1,7 +1,7 @@
 //! The active calls.
 
-ghost use Rattle.std.specs.Prelude.{◌≡◌, ◌+◌, ◌*◌, ◌<◌, ◌≤◌, ◌^◌, ◌++◌, [], ◌∷◌, ℕ, IfOk, IsTrue, false, map, drop, length, slice_index_or};
-ghost use Rattle.flat_machine.specs.Kept.{Active, GoesBack, at_point, onward, put, registers_of};
+ghost use Rattle.std.specs.Prelude.{◌≡◌, ◌+◌, ◌*◌, ◌/◌, ◌<◌, ◌≤◌, ◌^◌, ◌++◌, [], ◌∷◌, ℕ, IfOk, IsTrue, false, map, drop, length, slice_index_or};
+ghost use Rattle.flat_machine.specs.Kept.{Active, GoesBack, at_point, call_number, onward, put, registers_of};
 ghost use Rattle.flat_machine.specs.Words.{no_word, first_word};
 
 use crate::call::Call;
@@ -68,6 +68,71 @@ impl Calls {
         ensures { result + self.now.used ≡ self.now.room }
     {
         self.room - self.running.used
+    }
+
+    /// How many calls wait.
+    pub(crate) fn waiting(&self) -> usize
+        ensures { result ≡ length self.now.waiting }
+    {
+        self.waiting.len()
+    }
+
+    /// A call, where they are numbered from the oldest on.
+    fn call_of(&self, k: usize) -> Call
+        ensures func { result.func ≡ (call_number self.now k).func }
+        ensures point { result.point ≡ (call_number self.now k).point }
+    {
+        if k < self.waiting.len() {
+            self.waiting[k]
+        } else {
+            self.running
+        }
+    }
+
+    /// The number of the function of a call, where calls are numbered from the oldest on.
+    pub(crate) fn func_of(&self, k: usize) -> u32
+        ensures { result ≡ (call_number self.now k).func }
+    {
+        self.call_of(k).func
+    }
+
+    /// The instruction that a call is at.
+    pub(crate) fn point_of(&self, k: usize) -> usize
+        ensures { result ≡ (call_number self.now k).point }
+    {
+        self.call_of(k).point
+    }
+
+    /// Where the words of a call that waits end.
+    fn end_of(&self, k: usize) -> usize {
+        if k + 1 < self.waiting.len() {
+            self.waiting[k + 1].base
+        } else {
+            self.running.base
+        }
+    }
+
+    /// The word of a register of a call.
+    pub(crate) fn word_of(&self, k: usize, r: u32) -> Word
+        ensures { result ≡ slice_index_or (call_number self.now k).words r no_word }
+    {
+        if k >= self.waiting.len() {
+            return self.word(r);
+        }
+        let r = r as usize;
+        let base = self.waiting[k].base;
+        if r < self.end_of(k) - base {
+            self.words[base + r]
+        } else {
+            Word::Number(0)
+        }
+    }
+
+    /// How many registers all calls can have at once.
+    pub(crate) fn most_registers(&self) -> u32
+        ensures { result ≡ self.now.room / 8 }
+    {
+        self.room / 8
     }
 
     /// The registers of all calls fit the stack, in 8 bytes each.
