@@ -1,15 +1,18 @@
 -- A run begins in a good state.
-use Rattle.std.proofs.Common.{◌≡◌, ℕ, zero, suc, ◌+◌, Bool, true, false, cond, nat_eq, List, [], ◌∷◌, length, map, get_or, Option, Some, None, refl, sym, ap, ◌∙◌, subst, arith}
+use Rattle.std.proofs.Common.{◌≡◌, ℕ, zero, suc, ◌+◌, ◌≤◌, Bool, true, false, cond, nat_eq, List, [], ◌∷◌, length, map, get_or, Option, Some, None, refl, sym, ap, ◌∙◌, subst, arith}
 use Rattle.std.specs.Prelude.{slice_get, slice_index, All, replicate, unsigned_abs, IsSomeAnd}
 use Rattle.std.specs.List.{enumerate_from}
 use Rattle.std.specs.Option.{option_map_or}
+use Rattle.std.proofs.lemmas.Bool.{false≢true}
+use Rattle.std.proofs.lemmas.List.Sums.{sum_by-cons}
 use Rattle.std.proofs.lemmas.Option.{slice_get_within}
 use Rattle.std.proofs.lemmas.List.{length-map, length-replicate}
 use Rattle.std.proofs.lemmas.List.Elements.{All-nil, All-cons, All-replicate, All-map}
 use Rattle.std.proofs.lemmas.List.FromFn.{length-enumerate_from}
 use Rattle.hs_base.specs.declared.values.Pointer.{Pointer}
 use Rattle.hs_base.specs.declared.values.Pointer.TheVariants as pointer
-use Rattle.hs_base.specs.Object.{Object, no_object, object_at}
+use Rattle.hs_base.specs.Freeing.{pointers_to, pointers_inside}
+use Rattle.hs_base.specs.Object.{Object, is_queued, no_object, object_at}
 use Rattle.hs_base.specs.Trace.{Event}
 use Rattle.c_types.specs.declared.layouts.Layout.{Layout}
 use Rattle.c_types.specs.Layouts.{AreSlots}
@@ -24,11 +27,13 @@ use Rattle.flat_code.specs.Table.{all_there, parameter_sorts}
 use Rattle.flat_code.specs.WellFormed.{IsWellFormed, IsFirst, IsTarget, IsLayout, IsStart}
 use Rattle.code_meaning.specs.CodeState.{CodeState, Next}
 use Rattle.code_meaning.specs.Entering.{layout_in, no_layout, with_step, begin}
-use Rattle.code_meaning.specs.CodeMeaning.{static_object, static_objects, main_in, start, act, hand_or_act, handed_value, act_at, step}
-use Rattle.code_soundness.specs.Freeless.{IsFreeless}
-use Rattle.code_soundness.specs.Objects.{IsPointer, AreOfSorts, IsByte, IsObject, AreObjects, HasStatics}
+use Rattle.code_meaning.specs.CodeMeaning.{static_object, static_objects, main_in, first_numbers, start, act, hand_or_act, handed_value, act_at, step}
+use Rattle.counts_are_holders.specs.Counts.{living, inside_living}
+use Rattle.code_soundness.specs.Objects.{IsPointer, AreOperands, IsByte, IsObject, AreObjects, HasStatics, IsQueue}
 use Rattle.code_soundness.specs.Laws.{BeginsWell, HoldsBytes, LeavesLess}
 use Rattle.code_soundness.proofs.Lists.{all_at, overlaid_length, overlaid_all}
+use Rattle.code_soundness.proofs.Becoming.{live_there}
+use Rattle.code_soundness.proofs.Queues.{distinct_none}
 use Rattle.code_soundness.proofs.Calling.{enters}
 use Rattle.code_soundness.proofs.Stepping.{done_by, done_is}
 use Rattle.code_soundness.proofs.Falling.{act_less}
@@ -73,7 +78,7 @@ module _ (code : Code) (wf : IsWellFormed code) where
   has_statics k static e =
       let is = static_at k static e in
       record {
-        made = omega (arith, statics_length, slice_get_within code.statics k static e);
+        live = ap (λ (o : Object). o.standing) is;
         sort = ap (λ (o : Object). o.sort) is;
         size = ap (λ (o : Object). o.size) is;
         slots = ap (λ (o : Object). o.slots) is;
@@ -82,7 +87,7 @@ module _ (code : Code) (wf : IsWellFormed code) where
   target_is : (p : ℕ × ℕ × ℕ) → IsTarget code p → IsPointer statics (pointer.At p.1 p.2)
   target_is p h =
       let s = has_statics p.1 h.0 h.1 in
-      (s.made, omega (arith, s.size, size_is h.0 (slice_get code.layouts h.0.layout), h.2))
+      (live_there statics p.1 s.live, omega (arith, s.size, size_is h.0 (slice_get code.layouts h.0.layout), h.2))
 
   first_is : (pointers : List (ℕ × ℕ × ℕ)) → All (IsTarget code) pointers → (slot : ℕ) → IsPointer statics (first_pointer pointers slot)
   first_is [] h slot = tt
@@ -102,13 +107,14 @@ module _ (code : Code) (wf : IsWellFormed code) where
       let zeros : List ℕ = replicate (layout_in code static.layout).size 0 in
       let long : length zeros ≡ (layout_in code static.layout).size = length-replicate (layout_in code static.layout).size 0 in
       record {
-        live = refl;
         size = omega (arith, size, layout.size);
         filled = overlaid_length zeros 0 static.bytes (omega (arith, long, size, h.inside)) ∙ long;
         bytes = overlaid_all IsByte zeros 0 static.bytes (All-replicate IsByte (layout_in code static.layout).size 0 (omega arith)) bytes;
         slots = subst (λ (y : Layout). AreSlots 0 y.size y.slots) (sym is) layout.sound.slots;
         each_slot = length-map (layout_in code static.layout).slots (first_pointer static.pointers);
-        pointers = pointers_are (first_pointer static.pointers) (first_is static.pointers h.targets) (layout_in code static.layout).slots;
+        pointers = λ alive.
+            pointers_are (first_pointer static.pointers) (first_is static.pointers h.targets) (layout_in code static.layout).slots;
+        heap = λ q. absurd (false≢true q);
       }
 
   pub statics_whole : HoldsBytes code → AreObjects statics
@@ -117,6 +123,25 @@ module _ (code : Code) (wf : IsWellFormed code) where
       let h = all_at (λ (x : StaticInit). IsSomeAnd (slice_get code.layouts x.layout) (IsFirst code x)) code.statics k static wf.statics e in
       static_with (0 + k) static (all_at (λ (x : StaticInit). All IsByte x.bytes) code.statics k static bytes e) (slice_get code.layouts static.layout) refl h)
 
+  -- none of them is queued, and what their numbers count
+
+  unqueued : (n : ℕ) (xs : List StaticInit) (b : ℕ) → is_queued (object_at (map (static_object code) (enumerate_from n xs)) b).standing ≡ false
+  unqueued n [] b = refl
+  unqueued n (x ∷ xs) zero = refl
+  unqueued n (x ∷ xs) (suc b) = unqueued (n + 1) xs b
+
+  pub no_queue : IsQueue statics []
+  no_queue = record { exact = λ b. sym (unqueued 0 code.statics b); once = distinct_none }
+
+  all_living : (x n : ℕ) (xs : List StaticInit) → pointers_inside x (map (static_object code) (enumerate_from n xs)) ≡ inside_living x (map (static_object code) (enumerate_from n xs))
+  all_living x n [] = refl
+  all_living x n (y ∷ xs) =
+      let rest = map (static_object code) (enumerate_from (n + 1) xs) in
+      omega (arith, sum_by-cons (λ (o : Object). pointers_to x o.pointers) (static_object code (n, y)) rest, sum_by-cons (living x) (static_object code (n, y)) rest, all_living x (n + 1) xs)
+
+  pub first_counts : (x : ℕ) → first_numbers statics x ≡ inside_living x statics + 0
+  first_counts x = omega (arith, all_living x 0 code.statics)
+
 -- The first instruction
 
 -- no value is handed over at the first instruction
@@ -124,26 +149,30 @@ at_start : (code : Code) (line : ℕ) (i : Instr) (c : CodeState) (P : Next → 
 at_start code line i c P e h =
     done_is code line i c P (handed_value c.state.running i i.op) (subst (λ (o : Op). P (done_by code line i c o (handed_value c.state.running i o))) (sym e) h)
 
-module _ (code : Code) (wf : IsWellFormed code) (free : IsFreeless code) (holds : HoldsBytes code) (input : List ℕ) (bytes : All IsByte input) where
+module _ (code : Code) (wf : IsWellFormed code) (holds : HoldsBytes code) (input : List ℕ) (bytes : All IsByte input) where
   module _ (i : Instr) (main : ℕ) (entry : Entry) (here : slice_get code.instrs 0 ≡ Some i) (is : IsStart code i main entry) where
     main_is : main_in (slice_get code.instrs 0) ≡ main
     main_is = ap main_in here ∙ ap unsigned_abs is.number
 
-    no_parameters : AreOfSorts (static_objects code) (all_there (parameter_sorts entry)) []
+    no_parameters : AreOperands (static_objects code) (all_there (parameter_sorts entry)) []
     no_parameters = rw is.params tt
 
-    begins_at : (line m : ℕ) (n : ℕ → ℕ) → BeginsWell code (begin code line main n (record (start code input 0).state { steps = m }))
-    begins_at line m n =
-        enters code wf free main entry is.function (static_objects code) [] [] [] 0 input m n (statics_whole code wf holds) (has_statics code wf) no_parameters (refl, sym main_is) refl bytes
+    abbrev first : ℕ → ℕ
+    first = (start code input 0).numbers
 
-    step_begins : (line steps : ℕ) (n : ℕ → ℕ) → BeginsWell code (with_step steps n (start code input steps).state (begin code line main n))
-    step_begins line zero n = refl
-    step_begins line (suc m) n = begins_at line m n
+    begins_at : (line m : ℕ) → BeginsWell code (begin code line main first (record (start code input 0).state { steps = m }))
+    begins_at line m =
+        let long : length code.statics ≤ length (static_objects code) = omega (arith, statics_length code wf) in
+        enters code wf main entry is.function (static_objects code) [] [] [] 0 input m first (statics_whole code wf holds) (has_statics code wf) long (no_queue code wf) (λ e. refl) no_parameters (refl, sym main_is) (first_counts code wf) bytes
+
+    step_begins : (line steps : ℕ) → BeginsWell code (with_step steps first (start code input steps).state (begin code line main first))
+    step_begins line zero = refl
+    step_begins line (suc m) = begins_at line m
 
     act_begins : (line steps : ℕ) → BeginsWell code (act code line i op.Start [] (start code input steps).numbers (start code input steps).state)
     act_begins line steps =
         let e : unsigned_abs i.imm ≡ main = ap unsigned_abs is.number in
-        subst (λ (f : ℕ). BeginsWell code (with_step steps (start code input steps).numbers (start code input steps).state (begin code line f (start code input steps).numbers))) (sym e) (step_begins line steps (start code input steps).numbers)
+        subst (λ (f : ℕ). BeginsWell code (with_step steps first (start code input steps).state (begin code line f first))) (sym e) (step_begins line steps)
 
     begins : (steps : ℕ) (trace : List Event) → BeginsWell code (step code trace (start code input steps))
     begins steps trace =

@@ -11,7 +11,6 @@ use Rattle.flat_code.specs.WellFormed.{IsWellFormed, LeadsOn}
 use Rattle.object_meaning.specs.Values.{holds_stale}
 use Rattle.code_meaning.specs.CodeState.{CodeState, Next}
 use Rattle.code_meaning.specs.CodeMeaning.{Run, handed_value, hand_or_act, act_at, step, start, enough, meaning}
-use Rattle.code_soundness.specs.Freeless.{IsFreeless}
 use Rattle.code_soundness.specs.Objects.{IsByte}
 use Rattle.code_soundness.specs.Good.{IsGood}
 use Rattle.code_soundness.specs.Laws.{StaysGood, LeavesLess, BeginsWell, HoldsBytes}
@@ -33,7 +32,7 @@ falls code wf c good trace =
     let ahead = (wf.instructions c.state.running.func good.entry c.state.running.point i.0 i.1).ahead in
     subst (λ (o : Option Instr). LeavesLess code c (act_at code o c)) (sym i.1.here) (doing_less code wf c good line i.0 i.1.here ahead (handed_value c.state.running i.0 i.0.op))
 
-module _ (code : Code) (wf : IsWellFormed code) (free : IsFreeless code) (total : ℕ) where
+module _ (code : Code) (wf : IsWellFormed code) (total : ℕ) where
   -- a run so far is good and less is left, or it has ended for another reason than want of life
   abbrev Going : ℕ → Option Ending → CodeState → Type 0
   Going k None c = IsGood code c × (enough code c.state + k ≤ total)
@@ -46,10 +45,10 @@ module _ (code : Code) (wf : IsWellFormed code) (free : IsFreeless code) (total 
   moved_goes : (k : ℕ) (r : Run) (o : Option Ending) → r.ended ≡ o → Going k o r.state → Going (suc k) (runs.moved (step code) r o).ended (runs.moved (step code) r o).state
   moved_goes k r (Some e) i h = subst (λ (o : Option Ending). Going (suc k) o r.state) (sym i) h
   moved_goes k r None i h =
-      next_goes k r.trace r.state (step code r.trace r.state) (stays code wf free r.state h.0 r.trace) (falls code wf r.state h.0 r.trace) h.1
+      next_goes k r.trace r.state (step code r.trace r.state) (stays code wf r.state h.0 r.trace) (falls code wf r.state h.0 r.trace) h.1
 
 -- the run behind its first instruction, and behind so many more
-module _ (code : Code) (wf : IsWellFormed code) (free : IsFreeless code) (holds : HoldsBytes code) (input : List ℕ) (bytes : All IsByte input) (n : ℕ) where
+module _ (code : Code) (wf : IsWellFormed code) (holds : HoldsBytes code) (input : List ℕ) (bytes : All IsByte input) (n : ℕ) where
   abbrev first : CodeState
   first = start code input n
 
@@ -57,9 +56,9 @@ module _ (code : Code) (wf : IsWellFormed code) (free : IsFreeless code) (holds 
   total = enough code first.state
 
   abbrev So : ℕ → Run → Type 0
-  So k r = Going code wf free total k r.ended r.state
+  So k r = Going code wf total k r.ended r.state
 
-  begun_goes : (x : Next) → BeginsWell code x → LeavesLess code first x → Going code wf free total 1 (runs.led [] x).ended (runs.led [] x).state
+  begun_goes : (x : Next) → BeginsWell code x → LeavesLess code first x → Going code wf total 1 (runs.led [] x).ended (runs.led [] x).state
   begun_goes (runs.Goes before events after) good less = (good, omega (arith, less))
   begun_goes (runs.Stops before events after e) spent less = λ d. not_both (sym spent ∙ d) where
     not_both : Spent ≡ Dangling → ⊥
@@ -68,12 +67,12 @@ module _ (code : Code) (wf : IsWellFormed code) (free : IsFreeless code) (holds 
   after_goes : (k : ℕ) → So (suc k) (runs.after (step code) (runs.fresh first) (suc k))
   unfolding runs.after
   after_goes zero =
-      let b = begins_well code wf free holds input bytes n [] in begun_goes (step code [] first) b.0 b.1
+      let b = begins_well code wf holds input bytes n [] in begun_goes (step code [] first) b.0 b.1
   after_goes (suc k) =
       let r = runs.after (step code) (runs.fresh first) (suc k) in
-      moved_goes code wf free total (suc k) r r.ended refl (after_goes k)
+      moved_goes code wf total (suc k) r r.ended refl (after_goes k)
 
-  ends_at : (r : Run) (o : Option Ending) → r.ended ≡ o → Going code wf free total total o r.state → (e : Ending) × (r.ended ≡ Some e) × (e ≢ Dangling)
+  ends_at : (r : Run) (o : Option Ending) → r.ended ≡ o → Going code wf total total o r.state → (e : Ending) × (r.ended ≡ Some e) × (e ≢ Dangling)
   ends_at r (Some e) i h = (e, i, h)
   ends_at r None i h = absurd (omega (arith, h.1))
 

@@ -1,4 +1,4 @@
--- The code of the example is well formed and frees nothing.
+-- The code of the example is well formed.
 use Rattle.std.proofs.Common.{◌≡◌, ℕ, zero, suc, pos, ◌+◌, ◌<◌, ◌≤◌, List, [], ◌∷◌, Option, Some, refl, sym, ◌∙◌, subst, arith, lit<, lit≤}
 use Rattle.std.proofs.lemmas.Int.{ints}
 use Rattle.std.proofs.lemmas.List.Elements.{All-nil, All-cons}
@@ -11,7 +11,6 @@ use Rattle.flat_code.specs.declared.instructions.Op.TheVariants.{Start, HandInt,
 use Rattle.flat_code.specs.declared.program.Entry.{Entry}
 use Rattle.flat_code.specs.Table.{scopes_after}
 use Rattle.flat_code.specs.WellFormed.{IsWellFormed, IsFunction, IsInstr, EachEntry, EachInstr, EachAnswer, OfAnswer, ClosesWhatIsOpen, Opens, start, goes, IsShort, handed_before}
-use Rattle.code_soundness.specs.Freeless.{IsFreeless, QueuesNothing}
 use Rattle.code_soundness.specs.Example.{instr, main, digit, DigitIsWellFormed}
 
 -- P of one
@@ -74,6 +73,7 @@ hand point n next small is low high = record {
   inside = one_of (λ (k : ℕ). (1 ≤ k) × (k < 5)) (point + 1) (omega arith, omega arith);
   ahead = one_of (λ (k : ℕ). point < k) (point + 1) (omega arith);
   afresh = tt;
+  site = refl;
 }
 
 put : IsInstr digit 0 main 2 (instr (Lib Putchar) (pos 0))
@@ -84,6 +84,7 @@ put = record {
   inside = one_of (λ (k : ℕ). (1 ≤ k) × (k < 5)) 3 (omega arith, omega arith);
   ahead = one_of (λ (k : ℕ). 2 < k) 3 (omega arith);
   afresh = one_of (λ (k : ℕ). handed_before digit main k ≡ []) 3 refl;
+  site = refl;
 }
 
 give : IsInstr digit 0 main 4 (instr Give (pos 0))
@@ -94,6 +95,7 @@ give = record {
   inside = All-nil _;
   ahead = All-nil _;
   afresh = All-nil _;
+  site = refl;
 }
 
 well_formed : IsWellFormed digit
@@ -119,7 +121,8 @@ well_formed = record {
   statics = All-nil _;
   static_bytes = lit≤ tt;
   formats = All-nil _;
-  sites = refl;
+  sites_ascend = λ i j d lt within. absurd (omega arith);
+  sites_inside = All-nil _;
   short = record {
     instrs = lit< tt;
     funcs = lit< tt;
@@ -130,11 +133,5 @@ well_formed = record {
   };
 }
 
-freeless : IsFreeless digit
-freeless = record {
-  instructions = each (λ f entry point i. QueuesNothing i.op) tt tt tt tt;
-  locals = only (λ f (entry : Entry). entry.mems ≡ []) refl;
-}
-
 pub digit_is : DigitIsWellFormed
-digit_is = (well_formed, freeless, All-nil _)
+digit_is = (well_formed, All-nil _)

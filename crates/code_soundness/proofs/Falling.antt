@@ -1,5 +1,5 @@
 -- Each instruction that does not end the run makes `enough` smaller.
-use Rattle.std.proofs.Common.{◌≡◌, ℕ, zero, suc, ◌+◌, ◌*◌, ◌-◌, ◌<◌, Bool, true, false, List, [], ◌∷◌, length, get_or, Option, Some, None, Result, Ok, Err, pos, negsuc, refl, ap, arith}
+use Rattle.std.proofs.Common.{◌≡◌, ℕ, zero, suc, ◌+◌, ◌*◌, ◌<◌, Bool, true, false, List, [], ◌∷◌, length, get_or, Option, Some, None, Result, Ok, Err, pos, negsuc, refl, ap, arith}
 use Rattle.std.specs.Prelude.{unsigned_abs}
 use Rattle.std.specs.List.{sum_by}
 use Rattle.std.proofs.lemmas.List.Sums.{sum_by-cons}
@@ -33,7 +33,8 @@ use Rattle.flat_code.specs.declared.program.Code.{Code}
 use Rattle.flat_code.specs.Table.{chosen}
 use Rattle.flat_code.specs.WellFormed.{LeadsOn}
 use Rattle.code_meaning.specs.CodeState.{CodeState, Next, same_numbers, other_numbers}
-use Rattle.code_meaning.specs.Counting.{more, pinned, renumbered}
+use Rattle.counted_meaning.specs.Counting.{more, renumbered}
+use Rattle.code_meaning.specs.Pinning.{pinned}
 use Rattle.code_meaning.specs.Entering.{with_step, call, begin}
 use Rattle.code_meaning.specs.Returning.{go_back, end_locals, give_back, running_locals}
 use Rattle.code_meaning.specs.Checking.{leave, decided, in_scope}
@@ -111,22 +112,22 @@ module _ (code : Code) (s : State) (inside : s.running.point < length code.instr
 
   -- Scopes
 
-  decided_less : (held : Option ℕ) (before t : State) (events : List Event) (n : ℕ → ℕ) → Alike s t → Less (decided code held before events n t)
-  decided_less None before t events n h =
+  decided_less : (held : Option ℕ) (first : ℕ → ℕ) (before t : State) (events : List Event) (n : ℕ → ℕ) → Alike s t → Less (decided code held first before events n t)
+  decided_less None first before t events n h =
       onward_less (record t { objects = buried t.objects; queue = []; scopes = 0 }) (record { point = h.point; waiting = h.waiting; steps = h.steps })
-  decided_less (Some birth) before t events n h = tt
+  decided_less (Some birth) first before t events n h = tt
 
   leave_less : (scopes : ℕ) (n : ℕ → ℕ) → Less (leave code scopes n s)
   leave_less zero n = tt
   leave_less (suc zero) n =
-      decided_less (check_numbers s.objects s.queue (more n (pinned code s.running))) s s [] n alike
+      decided_less (check_numbers s.objects s.queue (more n (pinned code s.running))) n s s [] n alike
   leave_less (suc (suc m)) n = onward_less (record s { scopes = suc m }) (record { point = refl; waiting = refl; steps = refl })
 
-  in_scope_less : (scopes : ℕ) (before t : State) (events : List Event) (n : ℕ → ℕ) → Alike s t → Less (in_scope code scopes before events n t)
-  in_scope_less zero before t events n h =
+  in_scope_less : (scopes : ℕ) (first : ℕ → ℕ) (before t : State) (events : List Event) (n : ℕ → ℕ) → Alike s t → Less (in_scope code scopes first before events n t)
+  in_scope_less zero first before t events n h =
       let u : State = record t { scopes = 1 } in
-      decided_less (check_numbers u.objects u.queue (more n (pinned code u.running))) before u events n (record { point = h.point; waiting = h.waiting; steps = h.steps })
-  in_scope_less (suc m) before t events n h = onward_less t h
+      decided_less (check_numbers u.objects u.queue (more n (pinned code u.running))) first before u events n (record { point = h.point; waiting = h.waiting; steps = h.steps })
+  in_scope_less (suc m) first before t events n h = onward_less t h
 
   -- Heap objects
 
@@ -136,7 +137,7 @@ module _ (code : Code) (s : State) (inside : s.running.point < length code.instr
 
   free_named_less : (line : ℕ) (named : Result ℕ Reason) (n : ℕ → ℕ) → Less (free_named code line named n s)
   free_named_less line (Ok birth) n =
-      in_scope_less s.scopes s (enqueue line birth s) [] n (record { point = refl; waiting = refl; steps = refl })
+      in_scope_less s.scopes n s (enqueue line birth s) [] n (record { point = refl; waiting = refl; steps = refl })
   free_named_less line (Err reason) n = tt
 
   free_less : (line : ℕ) (p : Pointer) (n : ℕ → ℕ) → Less (free code line p n s)
@@ -145,7 +146,7 @@ module _ (code : Code) (s : State) (inside : s.running.point < length code.instr
 
   grown_less : (line r size old : ℕ) (t : State) → Alike s t → (n : ℕ → ℕ) (result : Result (List Object) Refusal) → Less (grown code line r size old s n t result)
   grown_less line r size old t h n (Ok objects) =
-      in_scope_less t.scopes s (put (enqueue line old (with_objects t objects)) (Some r) (address (start_of (length s.objects)))) (birth_of line size s) (renumbered (length s.objects) n t (with_objects t objects)) (record { point = h.point; waiting = h.waiting; steps = h.steps })
+      in_scope_less t.scopes n s (put (enqueue line old (with_objects t objects)) (Some r) (address (start_of (length s.objects)))) (birth_of line size s) (renumbered (length s.objects) n t (with_objects t objects)) (record { point = h.point; waiting = h.waiting; steps = h.steps })
   grown_less line r size old t h n (Err e) = tt
 
   grow_named_less : (line r : ℕ) (named : Result ℕ Reason) (size : ℕ) (element : Layout) (n : ℕ → ℕ) → Less (grow_named code line r named size element n s)
@@ -191,10 +192,6 @@ module _ (code : Code) (s : State) (inside : s.running.point < length code.instr
   lib_less line lib.Puts r values = puts_less line r _
 
   -- Returns
-
-  point_again : (answer : Value) (r : Option ℕ) (frame : Frame) → (with_register r answer frame).point ≡ frame.point
-  point_again answer None frame = refl
-  point_again answer (Some r) frame = refl
 
   back_less_at : (answer : Value) (waiting : List Frame) (objects : List Object) (n : ℕ → ℕ) → waiting ≡ s.waiting → Less (go_back code answer waiting n (record s { objects = objects }))
   back_less_at answer [] objects n e = tt

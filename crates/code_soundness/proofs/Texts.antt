@@ -13,10 +13,11 @@ use Rattle.object_meaning.specs.Values.{pointer_at}
 use Rattle.object_meaning.specs.Strings.{behind, byte_behind, string_from, string_at, order_from, order_of, room_at}
 use Rattle.object_meaning.specs.Printing.{Printed, item_text, arguments_behind, in_front, printed}
 use Rattle.object_meaning.proofs.Touching.{Done, trapped, then_done}
+use Rattle.object_meaning.proofs.Alive.{is_within}
 use Rattle.object_meaning.proofs.Giving.{Any}
 use Rattle.code_soundness.specs.Objects.{IsPointer, AreObjects}
-use Rattle.code_soundness.proofs.Numbers.{natural_number}
-use Rattle.code_soundness.proofs.Touching.{IsMade, made, Reaches, access_integer_done, object_is}
+use Rattle.code_soundness.proofs.Numbers.{done_weaker, natural_number}
+use Rattle.code_soundness.proofs.Touching.{Leads, leads, Reaches, access_integer_done, object_is}
 
 -- what is printed is not refused for want of life
 abbrev pub Lives : Option Refusal → Type 0
@@ -26,18 +27,14 @@ Lives (Some e) = e ≢ ReadsDead
 less_than_one : IsNumber (negsuc 0)
 less_than_one = (omega (arith, ints), omega (arith, ints))
 
-done_weaker : {A : Type 0} (P Q : A → Type 0) → ((a : A) → P a → Q a) → (r : Result A Refusal) → Done P r → Done Q r
-done_weaker P Q f (Ok a) h = f a h
-done_weaker P Q f (Err e) h = h
-
 module _ (objects : List Object) (whole : AreObjects objects) where
-  behind_made : (p : Pointer) (i : ℕ) → IsMade objects whole p → IsMade objects whole (behind p i)
-  behind_made pointer.Null i h = tt
-  behind_made (pointer.At b offset) i h = h
+  behind_leads : (p : Pointer) (i : ℕ) → Leads objects whole p → Leads objects whole (behind p i)
+  behind_leads pointer.Null i h = tt
+  behind_leads (pointer.At b offset) i h = h
 
-  byte_done : (p : Pointer) (i : ℕ) → IsMade objects whole p → Done Any (byte_behind objects p i)
+  byte_done : (p : Pointer) (i : ℕ) → Leads objects whole p → Done Any (byte_behind objects p i)
   byte_done p i h =
-      then_done (Reaches objects whole 1) Any _ _ (access_integer_done objects whole (behind p i) 1 (behind_made p i h)) (λ at reached. tt)
+      then_done (Reaches objects whole 1) Any _ _ (access_integer_done objects whole (behind p i) 1 (behind_leads p i h)) (λ at reached. tt)
 
   abbrev IsBelow : ℕ → List ℕ → Type 0
   IsBelow most text = length text < most
@@ -47,7 +44,7 @@ module _ (objects : List Object) (whole : AreObjects objects) where
   with_byte_done byte most rest false h =
       then_done (IsBelow most) (IsBelow (suc most)) rest _ h (λ bytes lt. omega arith)
 
-  string_from_done : (p : Pointer) (i most : ℕ) → IsMade objects whole p → Done (IsBelow most) (string_from objects p i most)
+  string_from_done : (p : Pointer) (i most : ℕ) → Leads objects whole p → Done (IsBelow most) (string_from objects p i most)
   string_from_done p i zero h = trapped _
   string_from_done p i (suc most) h =
       then_done Any (IsBelow (suc most)) (byte_behind objects p i) _ (byte_done p i h) (λ byte _. with_byte_done byte most (string_from objects p (i + 1) most) (nat_eq byte 0) (string_from_done p (i + 1) most h))
@@ -57,7 +54,7 @@ module _ (objects : List Object) (whole : AreObjects objects) where
       done_weaker (IsBelow 1) (IsBelow (2 ^ 64)) (λ text lt. omega arith) (string_from objects pointer.Null 0 1) (string_from_done pointer.Null 0 1 tt)
   string_done (pointer.At b offset) h =
       let size = (object_at objects b).size in
-      let small = (object_is objects whole b h.0).size in
+      let small = (object_is objects whole b (is_within objects b h.0)).size in
       done_weaker (IsBelow (size + 1)) (IsBelow (2 ^ 64)) (λ text lt. omega arith) (string_from objects (pointer.At b offset) 0 (size + 1)) (string_from_done (pointer.At b offset) 0 (size + 1) h.0)
 
   order_cond : (a b c : Bool) (x y z : ℤ) (rest : Result ℤ Refusal) → IsNumber x → IsNumber y → IsNumber z → Done IsNumber rest → Done IsNumber (cond a (Ok x) (cond b (Ok y) (cond c (Ok z) rest)))
@@ -66,18 +63,18 @@ module _ (objects : List Object) (whole : AreObjects objects) where
   order_cond false false true x y z rest i j k h = k
   order_cond false false false x y z rest i j k h = h
 
-  order_from_done : (p q : Pointer) (i most : ℕ) → IsMade objects whole p → IsMade objects whole q → Done IsNumber (order_from objects p q i most)
+  order_from_done : (p q : Pointer) (i most : ℕ) → Leads objects whole p → Leads objects whole q → Done IsNumber (order_from objects p q i most)
   order_from_done p q i zero h j = trapped _
   order_from_done p q i (suc most) h j =
       then_done Any IsNumber (byte_behind objects p i) _ (byte_done p i h) (λ a _. then_done Any IsNumber (byte_behind objects q i) _ (byte_done q i j) (λ b _. order_cond (nat_lt a b) (nat_lt b a) (nat_eq a 0) _ _ _ (order_from objects p q (i + 1) most) less_than_one (natural_number 1 (omega arith)) (natural_number 0 (omega arith)) (order_from_done p q (i + 1) most h j)))
 
   pub order_done : (p q : Pointer) → IsPointer objects p → IsPointer objects q → Done IsNumber (order_of objects p q)
   order_done p q h j =
-      order_from_done p q 0 (room_at objects p) (made objects whole p h) (made objects whole q j)
+      order_from_done p q 0 (room_at objects p) (leads objects whole p h) (leads objects whole q j)
 
   -- Formats
 
-  -- each of some values that is a pointer points to an object
+  -- none of some values is a stale pointer
   abbrev pub AllPoint : List Value → Type 0
   AllPoint values = (k : ℕ) → IsPointer objects (pointer_at values k)
 

@@ -7,7 +7,6 @@ use Rattle.flat_code.specs.declared.instructions.Op.TheVariants.{Start, HandInt,
 use Rattle.flat_code.specs.declared.program.Code.{Code}
 use Rattle.flat_code.specs.declared.program.Entry.{Entry}
 use Rattle.flat_code.specs.WellFormed.{IsWellFormed}
-use Rattle.code_soundness.specs.Freeless.{IsFreeless}
 use Rattle.code_soundness.specs.Laws.{HoldsBytes}
 
 -- an instruction that names at most a number
@@ -31,4 +30,4 @@ digit = record {
 
 -- the laws speak of it
 abbrev pub DigitIsWellFormed : Type 0
-DigitIsWellFormed = IsWellFormed digit × IsFreeless digit × HoldsBytes digit
+DigitIsWellFormed = IsWellFormed digit × HoldsBytes digit

@@ -1,5 +1,5 @@
-pub mod Freeless
 pub mod Objects
+pub mod Counts
 pub mod Good
 pub mod Laws
 pub mod Example

@@ -1,7 +1,7 @@
 //! What holds of every run.
 
 ghost use Rattle.code_soundness.specs.Example.{DigitIsWellFormed};
-ghost use Rattle.code_soundness.specs.Laws.{InstructionIsThere, MainGivesInteger, OperandsAreThere, RunBeginsWell, RunsEnd, StepLeavesLess, StepStaysGood};
+ghost use Rattle.code_soundness.specs.Laws.{HandsAnOperand, InstructionIsThere, MainGivesInteger, OperandsAreThere, RunBeginsWell, RunningPinsAreFresh, RunsEnd, StepLeavesLess, StepStaysGood, WaitingPinsAreFresh};
 
 /// An example of code of which the laws below speak.
 pub fn digit_is_well_formed()
@@ -13,9 +13,26 @@ pub fn instruction_is_there()
     ensures { InstructionIsThere }
 {}
 
-/// In a good state an operation that hands nothing over has what it takes: as many values as it takes, each of its sort.
+/// In a good state an operation that hands nothing over has what it takes: as many values as it takes, each of its sort and
+/// no pointer to a dead object.
 pub fn operands_are_there()
     ensures { OperandsAreThere }
+{}
+
+/// In a good state what an instruction hands over is of its sort, and no pointer to a dead object.
+pub fn operand_is_handed()
+    ensures { HandsAnOperand }
+{}
+
+/// In a good state no pin of the running frame points to a dead object, but for a register that the instruction writes, as
+/// that of an object that grows.
+pub fn running_pins_are_fresh()
+    ensures { RunningPinsAreFresh }
+{}
+
+/// In a good state no pin of a frame that waits points to a dead object.
+pub fn waiting_pins_are_fresh()
+    ensures { WaitingPinsAreFresh }
 {}
 
 /// Where no frame waits, a return gives an integer: the one with which the run ends.
