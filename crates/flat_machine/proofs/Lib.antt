@@ -1,8 +1,10 @@
 pub mod Stacks
+pub mod Numbered
 pub mod WordLists
 pub mod Stales
 pub mod Stays
 pub mod Pins
+pub mod Holders
 pub mod Plain
 pub mod Hands
 pub mod Entered

@@ -1,6 +1,6 @@
 //! The active calls.
 
-ghost use Rattle.std.specs.Prelude.{◌≡◌, ◌+◌, ◌*◌, ◌/◌, ◌<◌, ◌≤◌, ◌^◌, ◌++◌, [], ◌∷◌, ℕ, IfOk, IsTrue, false, map, drop, length, slice_index_or};
+ghost use Rattle.std.specs.Prelude.{◌≡◌, ◌+◌, ◌*◌, ◌/◌, ◌<◌, ◌≤◌, ◌^◌, ◌++◌, [], ◌∷◌, ℕ, IfOk, IsTrue, false, map, drop, take, length, slice_index_or};
 ghost use Rattle.flat_machine.specs.Kept.{Active, GoesBack, at_point, call_number, onward, put, registers_of};
 ghost use Rattle.flat_machine.specs.Words.{no_word, first_word};
 
@@ -10,6 +10,26 @@ use flat_objects::Word;
 use hs_base::NoMemory;
 use std::alloc::Global;
 use std::marker::Model;
+
+/// A call among those that wait, and the running one behind them.
+fn call_in(waiting: &[Call], running: Call, k: usize) -> Call
+    ensures { result ≡ slice_index_or waiting.now k running }
+{
+    if k < waiting.len() { waiting[k] } else { running }
+}
+
+/// The word of a register, of which the words from one place to another are.
+fn word_in(words: &[Word], base: usize, end: usize, r: u32) -> Word
+    ensures { result ≡ slice_index_or (drop base (take end words.now)) r no_word }
+{
+    let end = end.min(words.len());
+    let r = r as usize;
+    if base < end && r < end - base {
+        words[base + r]
+    } else {
+        Word::Number(0)
+    }
+}
 
 /// The active calls. Memory for a full stack is taken when they are made.
 #[derive(Drop)]
@@ -77,39 +97,18 @@ impl Calls {
         self.waiting.len()
     }
 
-    /// A call, where they are numbered from the oldest on.
-    fn call_of(&self, k: usize) -> Call
-        ensures func { result.func ≡ (call_number self.now k).func }
-        ensures point { result.point ≡ (call_number self.now k).point }
-    {
-        if k < self.waiting.len() {
-            self.waiting[k]
-        } else {
-            self.running
-        }
-    }
-
     /// The number of the function of a call, where calls are numbered from the oldest on.
     pub(crate) fn func_of(&self, k: usize) -> u32
         ensures { result ≡ (call_number self.now k).func }
     {
-        self.call_of(k).func
+        call_in(self.waiting.as_slice(), self.running, k).func
     }
 
     /// The instruction that a call is at.
     pub(crate) fn point_of(&self, k: usize) -> usize
         ensures { result ≡ (call_number self.now k).point }
     {
-        self.call_of(k).point
-    }
-
-    /// Where the words of a call that waits end.
-    fn end_of(&self, k: usize) -> usize {
-        if k + 1 < self.waiting.len() {
-            self.waiting[k + 1].base
-        } else {
-            self.running.base
-        }
+        call_in(self.waiting.as_slice(), self.running, k).point
     }
 
     /// The word of a register of a call.
@@ -119,13 +118,9 @@ impl Calls {
         if k >= self.waiting.len() {
             return self.word(r);
         }
-        let r = r as usize;
-        let base = self.waiting[k].base;
-        if r < self.end_of(k) - base {
-            self.words[base + r]
-        } else {
-            Word::Number(0)
-        }
+        let base = call_in(self.waiting.as_slice(), self.running, k).base;
+        let end = call_in(self.waiting.as_slice(), self.running, k + 1).base;
+        word_in(self.words.as_slice(), base, end, r)
     }
 
     /// How many registers all calls can have at once.
