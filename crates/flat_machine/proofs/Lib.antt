@@ -23,6 +23,7 @@ pub mod Starts
 pub mod Movements
 pub mod Makings
 pub mod Checked
+pub mod Frees
 pub mod Tables
 pub mod Placing
 pub mod Started
