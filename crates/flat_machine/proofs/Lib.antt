@@ -24,6 +24,7 @@ pub mod Movements
 pub mod Makings
 pub mod Checked
 pub mod Frees
+pub mod Counts
 pub mod Tables
 pub mod Placing
 pub mod Started
