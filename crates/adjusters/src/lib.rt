@@ -6,7 +6,7 @@
 //! after it was made. `specs/ObjectSlots.antt` lists the slots of an object; each answer is that of this list.
 #![tactic(auto)]
 
-ghost use Rattle.std.specs.Prelude.{◌≡◌, ◌↔◌, ◌<◌, length, slice_index, AllPairs, Contains, IfOk, IsTrue};
+ghost use Rattle.std.specs.Prelude.{◌≡◌, ◌↔◌, ◌+◌, ◌%◌, ◌<◌, ◌≤◌, length, slice_index, AllPairs, Contains, IfOk, IsTrue};
 ghost use Rattle.c_types.specs.Layouts.{AreSlots};
 ghost use Rattle.adjusters.specs.ObjectSlots.{element_of, object_slots};
 
@@ -63,11 +63,20 @@ impl Adjuster {
     /// The offset of the slot of a number in an object of a size, counted from 0 in ascending order.
     pub fn slot(&self, size: u32, k: u32) -> u32
         requires { k < length (object_slots self.now size) }
-        ensures { result ≡ slice_index (object_slots self.now size) k }
+        ensures slot { result ≡ slice_index (object_slots self.now size) k }
+        ensures inside { result + 4 ≤ size }
     {
         let element_size = self.size;
         let in_element = self.slots.len() as u32;
         k / in_element * element_size + self.slots[(k % in_element) as usize]
+    }
+
+    /// Whether the slots of objects of every size are multiples of 4: an element has slots at multiples of 4, and where
+    /// its size is one too, so are those of the elements behind it.
+    pub fn is_even(&self) -> bool
+        ensures { IsTrue result ↔ (0 < length self.now.slots → self.now.size % 4 ≡ 0) }
+    {
+        self.slots.is_empty() || self.size % 4 == 0
     }
 
     /// Whether a slot stands at an offset in an object of a size.

@@ -69,6 +69,8 @@ fn objects_of_thirty_elements(rt: HostRuntime) -> Result<(), Fail> {
             return Err(Fail::from("no slots"));
         }
         let adjuster = Adjuster::of(alloc, &element)?;
+        let is_even = element.slots.is_empty() || element.size % 4 == 0;
+        assert_eq!(rt; adjuster.is_even(), is_even);
         for object in 0..=200u32 {
             expect_slots(&rt, &adjuster, &element, object);
         }

@@ -1,6 +1,6 @@
 -- What a memory keeps after an object was placed.
-use Rattle.std.proofs.Common.{◌≡◌, ◌<◌, ◌≤◌, ◌+◌, ◌*◌, ◌-◌, ◌⊎◌, inl, inr, ℕ, zero, suc, Bool, true, false, cond, not, ◌/◌, Option, Some, None, List, [], ◌∷◌, ◌++◌, length, get_or, drop, replicate, sym, ap, ◌∙◌, refl, subst, arith, length-append}
-use Rattle.std.specs.Prelude.{map, filter, Contains, slice_index, slice_index_or, nat_eq, option_map, IfSome}
+use Rattle.std.proofs.Common.{◌≡◌, ◌<◌, ◌≤◌, ◌+◌, ◌*◌, ◌-◌, ◌⊎◌, inl, inr, ℕ, zero, suc, Bool, true, false, cond, not, ◌/◌, List, [], ◌∷◌, ◌++◌, length, get_or, drop, replicate, sym, ap, ◌∙◌, refl, subst, arith, length-append}
+use Rattle.std.specs.Prelude.{map, filter, Contains, slice_index, slice_index_or, nat_eq}
 use Rattle.std.specs.List.{enumerate_from, flat_map, range_with_len}
 use Rattle.std.proofs.Math.Nat.{div_self}
 use Rattle.std.proofs.lemmas.Bool.{cases_lt, cond-true, cond-false, eq-eqb, ne_eqb, and_left, and_from, not_from_false}
@@ -11,18 +11,18 @@ use Rattle.hs_base.specs.declared.values.Pointer.TheVariants as pointer
 use Rattle.hs_base.specs.Bytes.{word, part}
 use Rattle.hs_base.specs.Object as object
 use Rattle.hs_base.specs.Object.{Object, Sort, Standing, is_dead, no_object, object_at}
-use Rattle.hs_base.specs.Place.{Block, block_size, with_block}
+use Rattle.hs_base.specs.Place.{Block, block_size}
 use Rattle.hs_base.proofs.Words.{word_none, word_more}
 use Rattle.c_types.specs.Layouts.{AreSlots, moved}
 use Rattle.adjusters.specs.ObjectSlots.{Element, object_slots}
 use Rattle.heap_blocks.specs.declared.headers.Header.{Header}
 use Rattle.heap_blocks.specs.Bytes.{ChangesOnly}
-use Rattle.heap_blocks.specs.Heads.{header_at, new_header}
-use Rattle.heap_blocks.specs.Held.{HeapModel, HasBounds, Holds, IsBlock, IsPlaced, AreApart, address_of}
+use Rattle.heap_blocks.specs.Heads.{header_at}
+use Rattle.heap_blocks.specs.Held.{HeapModel, HasBounds, Holds, IsBlock, AreApart}
 use Rattle.object_meaning.specs.Making.{blank}
 use Rattle.flat_objects.specs.Memory.{Memory, Range, Statics, Locals, Heap, IsMemory, heap_of, is_of, range_of}
 use Rattle.flat_objects.specs.Standing.{IsThere, IsAddressOf}
-use Rattle.flat_objects.specs.Keeping.{Keeps, StandsAt, IsHeaderOf, IsLineOf, IsStateOf, HasSlots, block_of, blocks_of, stands_in}
+use Rattle.flat_objects.specs.Keeping.{Keeps, StandsAt, IsHeaderOf, HasSlots, block_of, blocks_of, stands_in}
 use Rattle.flat_objects.specs.Adding.{with_place, IsAdded}
 use Rattle.flat_objects.proofs.Apart.{ranges_apart}
 use Rattle.flat_objects.proofs.Ascending.{Ascend, slot_ends}
@@ -133,6 +133,8 @@ pub record IsBlank (o : Object) : Type 0 where
 -- the object was placed in its range, at a place there
 pub record IsPlacement (memory next : Memory) (places : ℕ → ℕ) (objects : List Object) (new : Object) (place addr : ℕ) : Type 0 where
   pub forms : next.forms ≡ memory.forms
+  pub counts : next.counts ≡ memory.counts
+  pub scopes : next.scopes ≡ memory.scopes
   pub others : (range : Range) → (range_of new.sort ≡ range → ⊥) → heap_of next range ≡ heap_of memory range
   pub bounds : HasBounds (heap_of memory (range_of new.sort)).base (heap_of memory (range_of new.sort)).len (heap_of next (range_of new.sort))
   pub address : addr ≡ (heap_of memory (range_of new.sort)).base + place + 32
@@ -142,10 +144,10 @@ pub record IsPlacement (memory next : Memory) (places : ℕ → ℕ) (objects : 
   pub slots : HasSlots memory.forms (header_at next.bytes (addr - 32)).layout new
   pub zero : part next.bytes addr new.size ≡ replicate new.size 0
 
-contains_left : {X : Type 0} (xs ys : List X) (x : X) → Contains xs x → Contains (xs ++ ys) x
+pub contains_left : {X : Type 0} (xs ys : List X) (x : X) → Contains xs x → Contains (xs ++ ys) x
 contains_left xs ys x at = (at.0, omega (arith, at.1, length-append xs ys), get_or_append_left xs ys x at.0 at.1 ∙ at.2)
 
-contains_last : {X : Type 0} (xs : List X) (x : X) → Contains (xs ++ x ∷ []) x
+pub contains_last : {X : Type 0} (xs : List X) (x : X) → Contains (xs ++ x ∷ []) x
 contains_last xs x = (length xs, omega (arith, length-append xs (x ∷ [])), get_or_at xs x [] x (length xs) refl)
 
 same_or_not : (r s : Range) → (r ≡ s) ⊎ (r ≡ s → ⊥)
@@ -180,7 +182,7 @@ module _ (locals heap : ℕ) (memory next : Memory) (shape : IsMemory locals hea
   addresses : (p : Pointer) (a : ℕ) → IsAddressOf places objects p a → IsAddressOf new_places (objects ++ new ∷ []) p a
   addresses = addresses_old objects new places addr
 
-  same_base : (range : Range) → (heap_of next range).base ≡ (heap_of memory range).base
+  pub same_base : (range : Range) → (heap_of next range).base ≡ (heap_of memory range).base
   same_base range =
       elim (same_or_not (range_of new.sort) range) [
         | inl e ↦ subst (λ (r : Range). (heap_of next r).base ≡ (heap_of memory r).base) e placed.bounds.0
@@ -188,7 +190,7 @@ module _ (locals heap : ℕ) (memory next : Memory) (shape : IsMemory locals hea
       ]
 
   -- the blocks
-  blocks_joined : (range : Range) → blocks_of next new_places (objects ++ new ∷ []) range ≡ blocks_of memory places objects range ++ map (block_of new_places (heap_of memory range).base) (filter (stands_in range) ((0 + length objects, new) ∷ []))
+  pub blocks_joined : (range : Range) → blocks_of next new_places (objects ++ new ∷ []) range ≡ blocks_of memory places objects range ++ map (block_of new_places (heap_of memory range).base) (filter (stands_in range) ((0 + length objects, new) ∷ []))
   blocks_joined range =
       ap (λ b. map (block_of new_places b) (filter (stands_in range) (enumerate_from 0 (objects ++ new ∷ [])))) (same_base range)
       ∙ blocks_more places new_places (heap_of memory range).base (stands_in range) new 0 objects (λ birth below. place_other places (length objects) addr birth (λ e. omega arith))
@@ -245,7 +247,7 @@ module _ (locals heap : ℕ) (memory next : Memory) (shape : IsMemory locals hea
       let base : (own_range memory objects birth).base ≡ (heap_of memory (range_of new.sort)).base = ap (λ r. (heap_of memory r).base) same in
       inr (omega (arith, (keeps.standing birth there).room, placed.address))
 
-  old_outside : (birth : ℕ) → IsThere objects birth → IsOutside (places birth - 32) ((object_at objects birth).size + 32) (addr - 32) (block_size new.size)
+  pub old_outside : (birth : ℕ) → IsThere objects birth → IsOutside (places birth - 32) ((object_at objects birth).size + 32) (addr - 32) (block_size new.size)
   old_outside birth there =
       let below = there_below objects birth there in
       let lies = own_lies memory places objects keeps birth there in
@@ -319,39 +321,6 @@ module _ (locals heap : ℕ) (memory next : Memory) (shape : IsMemory locals hea
     blocks = blocks_behind;
     stand = addresses;
   }
-
--- What a call of a heap's placement says
-
-pub placed_object : (locals heap : ℕ) (memory next : Memory) → IsMemory locals heap memory → (places : ℕ → ℕ) (objects : List Object) → Keeps memory places objects → (new : Object) → IsBlank new → (fit result : Option ℕ) (size layout line birth : ℕ)
-    → result ≡ option_map (address_of (heap_of memory (range_of new.sort))) fit
-    → Holds (heap_of next (range_of new.sort)) (with_block (blocks_of memory places objects (range_of new.sort)) birth (block_size size) fit)
-    → HasBounds (heap_of memory (range_of new.sort)).base (heap_of memory (range_of new.sort)).len (heap_of next (range_of new.sort))
-    → IfSome result (λ addr. IsPlaced memory.bytes next.bytes addr (block_size size) (new_header birth size layout line))
-    → next.forms ≡ memory.forms → ((range : Range) → (range_of new.sort ≡ range → ⊥) → heap_of next range ≡ heap_of memory range)
-    → birth ≡ length objects → new.size ≡ size → new.standing ≡ object.Live → IsLineOf new.sort line → HasSlots memory.forms layout new
-    → IfSome result (IsAdded next places objects new)
-placed_object locals heap memory next shape places objects keeps new blank fit None size layout line birth result_is holds bounds placed forms others birth_is size_is live born slots = tt
-placed_object locals heap memory next shape places objects keeps new blank None (Some addr) size layout line birth result_is holds bounds placed forms others birth_is size_is live born slots = absurd (cc)
-placed_object locals heap memory next shape places objects keeps new blank (Some place) (Some addr) size layout line birth result_is holds bounds placed forms others birth_is size_is live born slots =
-    let address : addr ≡ (heap_of memory (range_of new.sort)).base + place + 32 = cc in
-    let header : header_at next.bytes (addr - 32) ≡ new_header birth size layout line = placed.header in
-    added locals heap memory next shape places objects keeps new blank place addr (record {
-      forms = forms;
-      others = others;
-      bounds = bounds;
-      address = address;
-      holds = subst (λ (n : ℕ). Holds (heap_of next (range_of new.sort)) (blocks_of memory places objects (range_of new.sort) ++ record { birth = length objects; place = place; length = block_size n } ∷ [])) (sym size_is)
-          (subst (λ (b : ℕ). Holds (heap_of next (range_of new.sort)) (blocks_of memory places objects (range_of new.sort) ++ record { birth = b; place = place; length = block_size size } ∷ [])) birth_is holds);
-      changes = subst (λ (n : ℕ). ChangesOnly memory.bytes next.bytes (addr - 32) (block_size n)) (sym size_is) placed.outside;
-      header = record {
-        born = ap (λ (h : Header). h.birth) header ∙ birth_is;
-        size = ap (λ (h : Header). h.size) header ∙ sym size_is;
-        line = subst (IsLineOf new.sort) (sym (ap (λ (h : Header). h.line) header)) born;
-        state = subst (λ (s : Standing). IsStateOf s (header_at next.bytes (addr - 32))) (sym live) (ap (λ (h : Header). h.state) header);
-      };
-      slots = subst (λ (n : ℕ). HasSlots memory.forms n new) (sym (ap (λ (h : Header). h.layout) header)) slots;
-      zero = ap (part next.bytes addr) size_is ∙ placed.zero ∙ ap (λ n. replicate n 0) (sym size_is);
-    })
 
 -- Blank objects
 

@@ -143,6 +143,23 @@ outside_other : (place size start long at n : ℕ) → (place + size + 33 ≤ st
 outside_other place size start long at n (inl h) low high = inl (omega arith)
 outside_other place size start long at n (inr h) low high = inr (omega arith)
 
+-- the headers of all objects stay
+pub headers_same : (locals heap : ℕ) (memory : Memory) → IsMemory locals heap memory → (places : ℕ → ℕ) (objects : List Object) → Keeps memory places objects → (birth : ℕ) → IsThere objects birth → (bytes : List ℕ) → ChangesOnly memory.bytes bytes (places birth) (object_at objects birth).size
+    → (other : ℕ) → IsThere objects other → header_at bytes (places other - 32) ≡ header_at memory.bytes (places other - 32)
+headers_same locals heap memory shape places objects keeps birth there bytes changes other other_there =
+    let start = places birth in
+    let size = (object_at objects birth).size in
+    let old = keeps.standing other other_there in
+    elim (cases_eq other birth) [
+      | inl e ↦
+          let same : places other ≡ start = ap places e in
+          header_kept memory.bytes bytes start size (places other - 32) changes (inl (omega (arith, old.room)))
+      | inr differ ↦
+          let apart = objects_apart locals heap memory shape places objects keeps other birth other_there there differ in
+          header_kept memory.bytes bytes start size (places other - 32) changes
+          (outside_other (places other) (object_at objects other).size start size (places other - 32) 32 apart (omega arith) (omega (arith, old.room)))
+    ]
+
 module _ (locals heap : ℕ) (memory : Memory) (shape : IsMemory locals heap memory) (places : ℕ → ℕ) (objects : List Object) (keeps : Keeps memory places objects) (birth : ℕ) (there : IsThere objects birth)
     (new : Object) (like : SameShape (object_at objects birth) new) (bytes : List ℕ) (changes : ChangesOnly memory.bytes bytes (places birth) (object_at objects birth).size)
     (stands_new : StandsNew bytes places (with_object objects birth new) (places birth) new) where

@@ -15,9 +15,19 @@ mod Equal
 mod Reading
 mod Behind
 mod Added
+mod Placed
 mod Made
 mod Started
 mod Pointed
 mod Frames
+mod HeldBlocks
+mod Again
+mod Queueing
+mod Numbers
+mod Released
+mod Answered
 pub mod Packing
+pub mod Tallies
+mod Counted
+mod Tracked
 mod Still

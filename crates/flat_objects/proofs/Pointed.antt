@@ -7,17 +7,20 @@ use Rattle.std.proofs.lemmas.List.Elements.{All-head, All-tail}
 use Rattle.std.proofs.Math.ListN.{length-set}
 use Rattle.hs_base.specs.declared.values.Pointer.TheVariants as pointer
 use Rattle.hs_base.specs.Access.{with_object, with_pointer, slots_below}
-use Rattle.hs_base.specs.Bytes.{put_word}
+use Rattle.hs_base.specs.Bytes.{word, put_word}
 use Rattle.hs_base.specs.Object.{Object, Standing, is_dead, no_object, object_at}
 use Rattle.object_meaning.specs.Making.{first_pointer}
 use Rattle.flat_objects.specs.Memory.{Memory, IsMemory}
+use Rattle.flat_objects.specs.Standing.{IsAddressOf}
 use Rattle.flat_objects.specs.Answering.{IsChanged}
+use Rattle.flat_objects.specs.Counting.{Frees, Tracks, one_less, one_more}
 use Rattle.flat_objects.specs.Starting.{HasSlotFor, IsFirstTarget, TakesPointers, with_first_pointers}
 use Rattle.flat_objects.proofs.Ascending.{Ascend, below_slot, slot_ends, slots_apart}
 use Rattle.flat_objects.proofs.Changing.{SameShape, with_bytes, at_same, shapes}
+use Rattle.flat_objects.proofs.Counted.{MayPut, put_memory, with_counts}
 use Rattle.flat_objects.proofs.Owners.{own_inside}
 use Rattle.flat_objects.proofs.Reached.{are_slots}
-use Rattle.flat_objects.proofs.Stored.{target_changed}
+use Rattle.flat_objects.proofs.Stored.{put_changed, put_requires, put_tracked}
 
 -- One slot
 
@@ -35,19 +38,49 @@ module _ (locals heap : ℕ) (memory : Memory) (shape : IsMemory locals heap mem
       let inside = own_inside memory places objects has.keeps target has.target_there locals heap shape in
       omega (arith, has.target_starts, has.inside, shape.reach)
 
-  pub slot_set : IsChanged (with_bytes memory (put_word memory.bytes (start + slot) 4 (target_start + offset))) places objects (with_object objects birth (with_pointer (object_at objects birth) slot (pointer.At target offset)))
-  slot_set =
+  abbrev number : ℕ
+  number = has.held.0
+
+  slot_is : slice_index (object_at objects birth).slots number ≡ slot
+  slot_is = get_or_default (object_at objects birth).slots number 0 slot has.held.1 ∙ has.held.2
+
+  own_start : start + slot ≡ places birth + slot
+  own_start = ap (λ s. s + slot) has.starts
+
+  stands_for : IsAddressOf places objects (pointer.At target offset) (target_start + offset)
+  stands_for = record { there = has.target_there; inside = has.inside; address = ap (λ s. s + offset) has.target_starts }
+
+  pub slot_requires : (frees : Frees) → Tracks memory places objects frees → MayPut memory.counts (word memory.bytes (start + slot) 4) (target_start + offset)
+  slot_requires frees tracks =
+      let inside = own_inside memory places objects has.keeps birth has.there locals heap shape in
+      put_requires locals heap memory shape places objects has.keeps birth has.there slot number (pointer.At target offset) (target_start + offset) inside has.held.1 slot_is target_small stands_for
+      (word memory.bytes (start + slot) 4) (ap (λ a. word memory.bytes a 4) own_start) frees tracks
+
+  with_number : with_pointer (object_at objects birth) slot (pointer.At target offset) ≡ record (object_at objects birth) { pointers = set (object_at objects birth).pointers number (pointer.At target offset) }
+  with_number =
       let o = object_at objects birth in
       let old = has.keeps.standing birth has.there in
-      let k = has.held.0 in
-      let slot_is : slice_index o.slots k ≡ slot = get_or_default o.slots k 0 slot has.held.1 ∙ has.held.2 in
-      let number_is : length (slots_below o.slots slot) ≡ k =
-      ap (λ s. length (slots_below o.slots s)) (sym has.held.2) ∙ below_slot 0 o.size o.slots k slot (are_slots locals heap memory _ o shape old.slots) has.held.1 in
+      let number_is : length (slots_below o.slots slot) ≡ number =
+      ap (λ s. length (slots_below o.slots s)) (sym has.held.2) ∙ below_slot 0 o.size o.slots number slot (are_slots locals heap memory _ o shape old.slots) has.held.1 in
+      ap (λ n. let x : Object = record o { pointers = set o.pointers n (pointer.At target offset) } in x) number_is
+
+  pub slot_set : IsChanged (put_memory memory (start + slot) (target_start + offset)) places objects (with_object objects birth (with_pointer (object_at objects birth) slot (pointer.At target offset)))
+  slot_set =
       let inside = own_inside memory places objects has.keeps birth has.there locals heap shape in
-      let change = target_changed locals heap memory shape places objects has.keeps birth has.there slot k (pointer.At target offset) (target_start + offset) inside has.held.1 slot_is target_small
-      (record { there = has.target_there; inside = has.inside; address = ap (λ s. s + offset) has.target_starts }) in
-      subst (λ (a : ℕ). IsChanged (with_bytes memory (put_word memory.bytes (a + slot) 4 (target_start + offset))) places objects (with_object objects birth (with_pointer o slot (pointer.At target offset)))) (sym has.starts)
-      (subst (λ (n : ℕ). IsChanged (with_bytes memory (put_word memory.bytes (places birth + slot) 4 (target_start + offset))) places objects (with_object objects birth (record o { pointers = set o.pointers n (pointer.At target offset) }))) (sym number_is) change)
+      let old = word memory.bytes (start + slot) 4 in
+      let change = put_changed locals heap memory shape places objects has.keeps birth has.there slot number (pointer.At target offset) (target_start + offset) inside has.held.1 slot_is target_small stands_for
+      old (ap (λ a. word memory.bytes a 4) own_start) in
+      subst (λ (a : ℕ). IsChanged (with_counts (with_bytes memory (put_word memory.bytes a 4 (target_start + offset))) (one_more (one_less memory.counts old) (target_start + offset))) places objects (with_object objects birth (with_pointer (object_at objects birth) slot (pointer.At target offset)))) (sym own_start)
+      (subst (λ (x : Object). IsChanged (with_counts (with_bytes memory (put_word memory.bytes (places birth + slot) 4 (target_start + offset))) (one_more (one_less memory.counts old) (target_start + offset))) places objects (with_object objects birth x)) (sym with_number) change)
+
+  pub slot_tracked : (frees : Frees) → Tracks memory places objects frees → Tracks (put_memory memory (start + slot) (target_start + offset)) places (with_object objects birth (with_pointer (object_at objects birth) slot (pointer.At target offset))) frees
+  slot_tracked frees tracks =
+      let inside = own_inside memory places objects has.keeps birth has.there locals heap shape in
+      let old = word memory.bytes (start + slot) 4 in
+      let tracked = put_tracked locals heap memory shape places objects has.keeps birth has.there slot number (pointer.At target offset) (target_start + offset) inside has.held.1 slot_is target_small stands_for
+      old (ap (λ a. word memory.bytes a 4) own_start) frees tracks in
+      subst (λ (a : ℕ). Tracks (with_counts (with_bytes memory (put_word memory.bytes a 4 (target_start + offset))) (one_more (one_less memory.counts old) (target_start + offset))) places (with_object objects birth (with_pointer (object_at objects birth) slot (pointer.At target offset))) frees) (sym own_start)
+      (subst (λ (x : Object). Tracks (with_counts (with_bytes memory (put_word memory.bytes (places birth + slot) 4 (target_start + offset))) (one_more (one_less memory.counts old) (target_start + offset))) places (with_object objects birth x) frees) (sym with_number) tracked)
 
 -- One pointer more in the list
 
@@ -104,15 +137,21 @@ module _ (places : ℕ → ℕ) (objects : List Object) (birth addr : ℕ) (poin
   abbrev pub after_first : ℕ → List Object
   after_first n = with_object objects birth (with_first_pointers (object_at objects birth) (take n pointers))
 
-  pub pointers_none : (memory : Memory) → TakesPointers memory places objects birth addr pointers starts → IsChanged memory places objects (after_first 0)
-  pointers_none memory takes =
+  first_none : (memory : Memory) → TakesPointers memory places objects birth addr pointers starts → objects ≡ after_first 0
+  first_none memory takes =
       let o = object_at objects birth in
       let old = takes.keeps.standing birth takes.there in
       let none : o.pointers ≡ map (first_pointer []) o.slots =
       ext_get_or pointer.Null o.pointers (map (first_pointer []) o.slots) (old.many ∙ sym (length-map o.slots (first_pointer [])))
       (λ i less. takes.null i pointer.Null less ∙ sym (get_or-map (first_pointer []) o.slots i 0 pointer.Null (omega (arith, old.many)))) in
-      let same : objects ≡ after_first 0 = sym (set-get_or objects birth no_object) ∙ ap (λ ps. with_object objects birth (record o { pointers = ps })) none in
-      subst (IsChanged memory places objects) same (record { keeps = takes.keeps; many = refl; blocks = λ any range. refl; stand = λ p a h. h })
+      sym (set-get_or objects birth no_object) ∙ ap (λ ps. with_object objects birth (record o { pointers = ps })) none
+
+  pub pointers_none : (memory : Memory) → TakesPointers memory places objects birth addr pointers starts → IsChanged memory places objects (after_first 0)
+  pointers_none memory takes =
+      subst (IsChanged memory places objects) (first_none memory takes) (record { keeps = takes.keeps; many = refl; blocks = λ any range. refl; stand = λ p a h. h })
+
+  pub pointers_none_tracked : (memory : Memory) → TakesPointers memory places objects birth addr pointers starts → (frees : Frees) → Tracks memory places objects frees → Tracks memory places (after_first 0) frees
+  pointers_none_tracked memory takes frees tracks = subst (λ (os : List Object). Tracks memory places os frees) (first_none memory takes) tracks
 
   like_first : (n : ℕ) → SameShape (object_at objects birth) (with_first_pointers (object_at objects birth) (take n pointers))
   like_first n = record { sort = refl; size = refl; slots = refl; standing = refl }
@@ -134,8 +173,8 @@ module _ (places : ℕ → ℕ) (objects : List Object) (birth addr : ℕ) (poin
           inside = omega (arith, target.inside, (like p.1).size);
         }
 
-    pub pointers_next : (high : ℕ) → Ascend 0 high (object_at objects birth).slots → IsChanged next places (after_first j) (with_object (after_first j) birth (with_pointer (object_at (after_first j) birth) p.0 (pointer.At p.1 p.2))) → IsChanged next places objects (after_first (j + 1))
-    pointers_next high ascend change =
+    next_first : (high : ℕ) → Ascend 0 high (object_at objects birth).slots → with_object (after_first j) birth (with_pointer (object_at (after_first j) birth) p.0 (pointer.At p.1 p.2)) ≡ after_first (j + 1)
+    next_first high ascend =
         let o = object_at objects birth in
         let held : Contains o.slots p.0 = subst (λ (q : First). Contains o.slots q.0) (sym p_is) (takes.slots j p less) in
         let k = held.0 in
@@ -149,7 +188,12 @@ module _ (places : ℕ → ℕ) (objects : List Object) (birth addr : ℕ) (poin
         ∙ ap (λ n. let x : Object = record o { pointers = set (map (first_pointer (take j pointers)) o.slots) n (pointer.At p.1 p.2) } in x) number_is
         ∙ ap (λ ps. let x : Object = record o { pointers = ps } in x) (pointers_more high o.slots (take j pointers) p k ascend held.1 slot_is none)
         ∙ ap (with_first_pointers o) list in
-        let all : with_object (after_first j) birth (with_pointer (object_at (after_first j) birth) p.0 (pointer.At p.1 p.2)) ≡ after_first (j + 1) =
-        ap (with_object (after_first j) birth) object ∙ set-set objects birth (with_first_pointers o (take j pointers)) (with_first_pointers o (take (j + 1) pointers)) in
-        let told = subst (IsChanged next places (after_first j)) all change in
+        ap (with_object (after_first j) birth) object ∙ set-set objects birth (with_first_pointers o (take j pointers)) (with_first_pointers o (take (j + 1) pointers))
+
+    pub pointers_next : (high : ℕ) → Ascend 0 high (object_at objects birth).slots → IsChanged next places (after_first j) (with_object (after_first j) birth (with_pointer (object_at (after_first j) birth) p.0 (pointer.At p.1 p.2))) → IsChanged next places objects (after_first (j + 1))
+    pointers_next high ascend change =
+        let told = subst (IsChanged next places (after_first j)) (next_first high ascend) change in
         record { keeps = told.keeps; many = told.many ∙ so_far.many; blocks = λ any range. told.blocks any range ∙ so_far.blocks any range; stand = λ q a h. told.stand q a (so_far.stand q a h) }
+
+    pub pointers_next_tracked : (high : ℕ) → Ascend 0 high (object_at objects birth).slots → (frees : Frees) → Tracks next places (with_object (after_first j) birth (with_pointer (object_at (after_first j) birth) p.0 (pointer.At p.1 p.2))) frees → Tracks next places (after_first (j + 1)) frees
+    pointers_next_tracked high ascend frees tracks = subst (λ (os : List Object). Tracks next places os frees) (next_first high ascend) tracks

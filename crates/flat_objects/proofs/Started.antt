@@ -14,6 +14,7 @@ use Rattle.heap_blocks.specs.Bytes.{ChangesOnly}
 use Rattle.flat_objects.specs.Memory.{Memory, IsMemory}
 use Rattle.flat_objects.specs.Standing.{IsAddressOf}
 use Rattle.flat_objects.specs.Answering.{IsChanged}
+use Rattle.flat_objects.specs.Counting.{Frees, Tracks}
 use Rattle.flat_objects.specs.Starting.{IsWritten, TakesBytes, with_first_bytes}
 use Rattle.flat_objects.proofs.Added.{word_zero}
 use Rattle.flat_objects.proofs.Ascending.{slot_ends}
@@ -21,6 +22,7 @@ use Rattle.flat_objects.proofs.Changing.{StandsNew, with_bytes, changed, byte_ke
 use Rattle.flat_objects.proofs.Owners.{own_inside}
 use Rattle.flat_objects.proofs.Reached.{are_slots}
 use Rattle.flat_objects.proofs.Stored.{byte_before, changes_within}
+use Rattle.flat_objects.proofs.Tracked.{tracks_within}
 
 -- Bytes that are written one after another
 
@@ -154,3 +156,8 @@ module _ (locals heap : ℕ) (memory : Memory) (shape : IsMemory locals heap mem
     bytes_started =
         changed locals heap memory shape places objects takes.keeps birth takes.there new (record { sort = refl; size = refl; slots = refl; standing = refl }) after
         (changes_more memory.bytes after (places birth) (length bytes) (object_at objects birth).size takes.fits.inside written.changes) new_bytes_stand
+
+    pub bytes_tracked : (frees : Frees) → Tracks memory places objects frees → Tracks (with_bytes memory after) places (with_object objects birth new) frees
+    bytes_tracked frees tracks =
+        tracks_within locals heap memory shape places objects takes.keeps birth takes.there new (record { sort = refl; size = refl; slots = refl; standing = refl }) after
+        (changes_more memory.bytes after (places birth) (length bytes) (object_at objects birth).size takes.fits.inside written.changes) bytes_started frees tracks refl

@@ -1,7 +1,6 @@
 -- An address that is kept before a write is kept after it.
-use Rattle.std.proofs.Common.{◌≡◌, ℕ, List, Ok, Err, Result, sym, subst}
+use Rattle.std.proofs.Common.{ℕ, List, Ok, Err, Result, sym, subst}
 use Rattle.hs_base.specs.declared.ends.TrapKind.{TrapKind}
-use Rattle.hs_base.specs.declared.ends.IntKind.{IntKind}
 use Rattle.hs_base.specs.declared.values.Pointer.{Pointer}
 use Rattle.hs_base.specs.Access.{Refusal}
 use Rattle.hs_base.specs.Object.{Object}

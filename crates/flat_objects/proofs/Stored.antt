@@ -18,11 +18,14 @@ use Rattle.flat_objects.specs.Memory.{Memory, IsMemory}
 use Rattle.flat_objects.specs.Standing.{IsThere, IsAddressOf}
 use Rattle.flat_objects.specs.Keeping.{Keeps, KeepsAt}
 use Rattle.flat_objects.specs.Answering.{IsChanged}
+use Rattle.flat_objects.specs.Counting.{Frees, Tracks, one_less, one_more}
 use Rattle.flat_objects.proofs.Ascending.{below_slot, slots_apart, slot_ends}
 use Rattle.flat_objects.proofs.Changing.{SameShape, StandsNew, with_bytes, changed, same_address, shapes}
+use Rattle.flat_objects.proofs.Counted.{MayPut, granule_inside, less_most, more_most, slot_counted, slot_counts, slot_room_left, with_counts}
 use Rattle.flat_objects.proofs.Loaded.{let_stands, let_inside}
 use Rattle.flat_objects.proofs.Reached.{are_slots}
 use Rattle.flat_objects.proofs.Touching.{touched, slot_is_there}
+use Rattle.flat_objects.proofs.Tracked.{changed_counting, tracks_counted, tracks_within}
 use Rattle.flat_objects.proofs.Trying.{let_integer, let_pointer}
 
 -- Bytes after a write
@@ -114,6 +117,11 @@ module _ (locals heap : ℕ) (memory : Memory) (shape : IsMemory locals heap mem
         changed locals heap memory shape places objects keeps birth there with_number (record { sort = refl; size = refl; slots = refl; standing = refl }) (put_word memory.bytes (places birth + offset) n value)
         (changes_within memory.bytes (places birth + offset) n value (omega arith) (places birth) (object_at objects birth).size (omega arith) (omega arith)) number_stands
 
+    pub number_tracked : (frees : Frees) → Tracks memory places objects frees → Tracks (with_bytes memory (put_word memory.bytes (places birth + offset) n value)) places (with_object objects birth with_number) frees
+    number_tracked frees tracks =
+        tracks_within locals heap memory shape places objects keeps birth there with_number (record { sort = refl; size = refl; slots = refl; standing = refl }) (put_word memory.bytes (places birth + offset) n value)
+        (changes_within memory.bytes (places birth + offset) n value (omega arith) (places birth) (object_at objects birth).size (omega arith) (omega arith)) number_changed frees tracks refl
+
   -- a pointer, in the slot of a number
   module _ (k : ℕ) (q : Pointer) (value : ℕ) (inside : places birth + (object_at objects birth).size < length memory.bytes) (below : k < length (object_at objects birth).slots) (slot_is : slice_index (object_at objects birth).slots k ≡ offset)
       (small : value < 2 ^ 32) (stands_for : IsAddressOf places objects q value) where
@@ -190,40 +198,115 @@ module _ (locals heap : ℕ) (memory : Memory) (shape : IsMemory locals heap mem
         changed locals heap memory shape places objects keeps birth there with_target like_before (put_word memory.bytes (places birth + offset) 4 value)
         (changes_within memory.bytes (places birth + offset) 4 value (omega arith) (places birth) (object_at objects birth).size (omega arith) (omega arith)) target_stands
 
+    -- the memory with its counts after the pointer was put there
+    module _ (old : ℕ) (old_is : old ≡ word memory.bytes (places birth + offset) 4) where
+      was_for : IsAddressOf places objects (slice_index_or (object_at objects birth).pointers k pointer.Null) old
+      was_for =
+          let now = (keeps.standing birth there).pointers k below in
+          subst (IsAddressOf places objects (slice_index_or (object_at objects birth).pointers k pointer.Null)) (sym (old_is ∙ ap (λ s. word memory.bytes (places birth + s) 4) (sym slot_is))) now
+
+      pub put_changed : IsChanged (with_counts (with_bytes memory (put_word memory.bytes (places birth + offset) 4 value)) (one_more (one_less memory.counts old) value)) places objects (with_object objects birth with_target)
+      put_changed =
+          changed_counting (with_bytes memory (put_word memory.bytes (places birth + offset) 4 value)) (one_more (one_less memory.counts old) value) places objects (with_object objects birth with_target) target_changed
+
+      module _ (frees : Frees) (tracks : Tracks memory places objects frees) where
+        pub put_requires : MayPut memory.counts old value
+        put_requires = record {
+          goes_from = granule_inside locals heap memory shape places objects keeps frees tracks (slice_index_or (object_at objects birth).pointers k pointer.Null) old was_for;
+          goes = slot_counts locals heap memory shape places objects keeps frees tracks birth there k below q old value was_for stands_for;
+          comes_to = granule_inside locals heap memory shape places objects keeps frees tracks q value stands_for;
+          room = slot_room_left locals heap memory shape places objects keeps frees tracks birth there k below q old value was_for stands_for;
+        }
+
+        pub put_tracked : Tracks (with_counts (with_bytes memory (put_word memory.bytes (places birth + offset) 4 value)) (one_more (one_less memory.counts old) value)) places (with_object objects birth with_target) frees
+        put_tracked =
+            let fits = slot_inside in
+            tracks_counted locals heap memory shape places objects keeps birth there with_target like_before (put_word memory.bytes (places birth + offset) 4 value)
+            (changes_within memory.bytes (places birth + offset) 4 value (omega arith) (places birth) (object_at objects birth).size (omega arith) (omega arith)) target_changed frees tracks
+            (one_more (one_less memory.counts old) value) (more_most (one_less memory.counts old) value ∙ less_most memory.counts old)
+            (slot_counted locals heap memory shape places objects keeps frees tracks birth there k below q old value was_for stands_for)
+
 -- The definitions
 
+-- an answer that goes on goes on with one list of objects
+pub same_after : {r : Result (List Object) Refusal} (a b : List Object) → r ≡ Ok a → r ≡ Ok b → a ≡ b
+same_after a b one other = cc
+
 module _ (locals heap : ℕ) (memory : Memory) (shape : IsMemory locals heap memory) (places : ℕ → ℕ) (objects : List Object) (p : Pointer) (addr : ℕ) (at : KeepsAt memory places objects p addr) where
+  -- what is stored, and what the memory keeps and tracks then
+  pub record IsStored (next : Memory) (meant : Result (List Object) Refusal) : Type 0 where
+    pub after : List Object
+    pub means : meant ≡ Ok after
+    pub change : IsChanged next places objects after
+    pub tracks : (frees : Frees) → Tracks memory places objects frees → Tracks next places after frees
+
   pub stored_is : (kind : IntKind) (place : Place) (value : ℕ) (z : ℤ) → access_integer objects p (width kind) ≡ Ok place → value ≡ low_bits (8 * width kind) z
-      → (after : List Object) × (stored objects kind p z ≡ Ok after) × IsChanged (with_bytes memory (put_word memory.bytes addr (width kind) value)) places objects after
+      → IsStored (with_bytes memory (put_word memory.bytes addr (width kind) value)) (stored objects kind p z)
   stored_is kind place value z allowed value_is =
       let n = width kind in
       let o = object_at objects place.birth in
       let h = let_integer objects p n place allowed in
       let s = let_stands locals heap memory shape places objects p addr at n place h.let_through in
       let inside = let_inside locals heap memory shape places objects p addr at n place h.let_through in
-      let change = number_changed locals heap memory shape places objects at.keeps place.birth h.let_through.there place.offset n value inside h.let_through.inside h.clear in (
-        with_object objects place.birth (record o { bytes = overlaid o.bytes place.offset (bytes_of n value) }),
-        ap (λ r. and_then {B = List Object} r (λ at. Ok (with_object objects at.birth (with_integer kind (object_at objects at.birth) at.offset z)))) allowed
-            ∙ ap (λ v. let answer : Result (List Object) Refusal = Ok (with_object objects place.birth (record o { bytes = overlaid o.bytes place.offset (bytes_of n v) })) in answer) (sym value_is),
-        subst (λ (a : ℕ). IsChanged (with_bytes memory (put_word memory.bytes a n value)) places objects (with_object objects place.birth (record o { bytes = overlaid o.bytes place.offset (bytes_of n value) }))) (sym s.address) change,
-      )
+      let new = with_object objects place.birth (record o { bytes = overlaid o.bytes place.offset (bytes_of n value) }) in
+      record {
+        after = new;
+        means = ap (λ r. and_then {B = List Object} r (λ at. Ok (with_object objects at.birth (with_integer kind (object_at objects at.birth) at.offset z)))) allowed
+            ∙ ap (λ v. let answer : Result (List Object) Refusal = Ok (with_object objects place.birth (record o { bytes = overlaid o.bytes place.offset (bytes_of n v) })) in answer) (sym value_is);
+        change = subst (λ (a : ℕ). IsChanged (with_bytes memory (put_word memory.bytes a n value)) places objects new) (sym s.address)
+            (number_changed locals heap memory shape places objects at.keeps place.birth h.let_through.there place.offset n value inside h.let_through.inside h.clear);
+        tracks = λ frees tracked. subst (λ (a : ℕ). Tracks (with_bytes memory (put_word memory.bytes a n value)) places new frees) (sym s.address)
+            (number_tracked locals heap memory shape places objects at.keeps place.birth h.let_through.there place.offset n value inside h.let_through.inside h.clear frees tracked);
+      }
 
-  pub stored_pointer_is : (place : Place) (q : Pointer) (value : ℕ) → access_pointer objects p ≡ Ok place → value < 2 ^ 32 → IsAddressOf places objects q value
-      → (after : List Object) × (stored_pointer objects p q ≡ Ok after) × IsChanged (with_bytes memory (put_word memory.bytes addr 4 value)) places objects after
-  stored_pointer_is place q value allowed small stands_for =
+  -- the slot at which a pointer is stored
+  record IsSlot (place : Place) : Type 0 where
+    there : IsThere objects place.birth
+    number : ℕ
+    below : number < length (object_at objects place.birth).slots
+    slot : slice_index (object_at objects place.birth).slots number ≡ place.offset
+    number_is : length (slots_below (object_at objects place.birth).slots place.offset) ≡ number
+    address : addr ≡ places place.birth + place.offset
+    inside : places place.birth + (object_at objects place.birth).size < length memory.bytes
+
+  slot_of : (place : Place) → access_pointer objects p ≡ Ok place → IsSlot place
+  slot_of place allowed =
       let o = object_at objects place.birth in
       let h = let_pointer objects p place allowed in
       let s = let_stands locals heap memory shape places objects p addr at 4 place h.let_through in
       let inside = let_inside locals heap memory shape places objects p addr at 4 place h.let_through in
       let old = at.keeps.standing place.birth h.let_through.there in
       let some = slot_is_there o.slots place.offset h.slot in
-      let k = some.0 in
-      let slot : slice_index o.slots k ≡ place.offset = get_or_default o.slots k 0 place.offset some.1 ∙ some.2 in
-      let number_is : length (slots_below o.slots place.offset) ≡ k =
-      ap (λ s. length (slots_below o.slots s)) (sym some.2) ∙ below_slot 0 o.size o.slots k place.offset (are_slots locals heap memory _ o shape old.slots) some.1 in
-      let change = target_changed locals heap memory shape places objects at.keeps place.birth h.let_through.there place.offset k q value inside some.1 slot small stands_for in (
-        with_object objects place.birth (record o { pointers = set o.pointers k q }),
-        ap (λ r. and_then {B = List Object} r (λ at. Ok (with_object objects at.birth (with_pointer (object_at objects at.birth) at.offset q)))) allowed
-            ∙ ap (λ m. let answer : Result (List Object) Refusal = Ok (with_object objects place.birth (record o { pointers = set o.pointers m q })) in answer) number_is,
-        subst (λ (a : ℕ). IsChanged (with_bytes memory (put_word memory.bytes a 4 value)) places objects (with_object objects place.birth (record o { pointers = set o.pointers k q }))) (sym s.address) change,
-      )
+      record {
+        there = h.let_through.there;
+        number = some.0;
+        below = some.1;
+        slot = get_or_default o.slots some.0 0 place.offset some.1 ∙ some.2;
+        number_is = ap (λ s. length (slots_below o.slots s)) (sym some.2) ∙ below_slot 0 o.size o.slots some.0 place.offset (are_slots locals heap memory _ o shape old.slots) some.1;
+        address = s.address;
+        inside = inside;
+      }
+
+  module _ (place : Place) (q : Pointer) (value : ℕ) (allowed : access_pointer objects p ≡ Ok place) (small : value < 2 ^ 32) (stands_for : IsAddressOf places objects q value) where
+    pub stored_requires : (frees : Frees) → Tracks memory places objects frees → MayPut memory.counts (word memory.bytes addr 4) value
+    stored_requires frees tracks =
+        let slot = slot_of place allowed in
+        put_requires locals heap memory shape places objects at.keeps place.birth slot.there place.offset slot.number q value slot.inside slot.below slot.slot small stands_for (word memory.bytes addr 4) (ap (λ a. word memory.bytes a 4) slot.address) frees tracks
+
+    pub stored_pointer_is : IsStored (with_counts (with_bytes memory (put_word memory.bytes addr 4 value)) (one_more (one_less memory.counts (word memory.bytes addr 4)) value)) (stored_pointer objects p q)
+    stored_pointer_is =
+        let o = object_at objects place.birth in
+        let slot = slot_of place allowed in
+        let k = slot.number in
+        let old = word memory.bytes addr 4 in
+        let old_is : old ≡ word memory.bytes (places place.birth + place.offset) 4 = ap (λ a. word memory.bytes a 4) slot.address in
+        let new = with_object objects place.birth (record o { pointers = set o.pointers k q }) in
+        record {
+          after = new;
+          means = ap (λ r. and_then {B = List Object} r (λ at. Ok (with_object objects at.birth (with_pointer (object_at objects at.birth) at.offset q)))) allowed
+              ∙ ap (λ m. let answer : Result (List Object) Refusal = Ok (with_object objects place.birth (record o { pointers = set o.pointers m q })) in answer) slot.number_is;
+          change = subst (λ (a : ℕ). IsChanged (with_counts (with_bytes memory (put_word memory.bytes a 4 value)) (one_more (one_less memory.counts old) value)) places objects new) (sym slot.address)
+              (put_changed locals heap memory shape places objects at.keeps place.birth slot.there place.offset k q value slot.inside slot.below slot.slot small stands_for old old_is);
+          tracks = λ frees tracked. subst (λ (a : ℕ). Tracks (with_counts (with_bytes memory (put_word memory.bytes a 4 value)) (one_more (one_less memory.counts old) value)) places new frees) (sym slot.address)
+              (put_tracked locals heap memory shape places objects at.keeps place.birth slot.there place.offset k q value slot.inside slot.below slot.slot small stands_for old old_is frees tracked);
+        }

@@ -3,6 +3,8 @@ pub mod Standing
 pub mod Keeping
 pub mod Reaching
 pub mod Answering
+pub mod Counting
+pub mod Freeing
 pub mod Moving
 pub mod Texts
 pub mod Adding

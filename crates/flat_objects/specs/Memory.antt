@@ -1,16 +1,21 @@
 -- A memory of objects, and what every one is like.
-use Rattle.std.specs.Prelude.{◌≡◌, ◌+◌, ◌^◌, ◌<◌, ◌≤◌, ℕ, Bool, true, false, List, length, All}
+use Rattle.std.specs.Prelude.{◌≡◌, ◌+◌, ◌-◌, ◌*◌, ◌/◌, ◌%◌, ◌^◌, ◌<◌, ◌≤◌, ℕ, Bool, true, false, List, length, All}
 use Rattle.c_types.specs.Layouts.{AreSlots}
 use Rattle.hs_base.specs.Object as object
 use Rattle.adjusters.specs.ObjectSlots.{Element}
+use Rattle.count_table.specs.Table.{Table}
+use Rattle.delay_scopes.specs.Queue.{ScopesModel}
 use Rattle.heap_blocks.specs.Held.{HeapModel, HasBounds}
 
--- its bytes, the three ranges of addresses in which objects stand, and the elements of which objects are made, by number
+-- its bytes, the three ranges of addresses in which objects stand, how many pointers count for each granule of 16 bytes, the open
+-- scopes with the queue of freed objects, and the elements of which objects are made, by number
 pub record Memory : Type 0 where
   pub bytes : List ℕ
   pub statics : HeapModel
   pub locals : HeapModel
   pub heap : HeapModel
+  pub counts : Table
+  pub scopes : ScopesModel
   pub forms : List Element
 
 -- a range for each sort of objects
@@ -39,6 +44,10 @@ range_of (object.Heap line) = Heap
 abbrev pub end_of : HeapModel → ℕ
 end_of range = range.base + range.len
 
+-- how many pointers can be pinned at once: what is left of the sum of all counts beside a pointer for each 4 bytes
+abbrev pub pin_room : Memory → ℕ
+pin_room memory = memory.counts.most - length memory.bytes / 4
+
 -- its slots are ascending multiples of 4 that each end inside it
 pub record IsForm (form : Element) : Type 0 where
   pub slots : AreSlots 0 form.size form.slots
@@ -51,11 +60,18 @@ pub record IsMemory (locals heap : ℕ) (memory : Memory) : Type 0 where
   pub locals_end : end_of memory.locals ≤ heap
   pub heap_end : end_of memory.heap ≤ length memory.bytes
   pub reach : length memory.bytes < 2 ^ 32
+  -- they begin at the start of a granule
+  pub aligned : (range : Range) → (heap_of memory range).base % 16 ≡ 0
+  -- there is a count for each granule, and room for a pointer in each 4 bytes
+  pub granules : length memory.bytes < 16 * length memory.counts.counts
+  pub room : length memory.bytes / 4 ≤ memory.counts.most
   pub forms : All IsForm memory.forms
 
--- the ranges have the bounds that they had, and the elements are the same
+-- the ranges have the bounds that they had, as many pointers can count, and the elements are the same
 pub record SameFrame (before after : Memory) : Type 0 where
   pub statics : HasBounds before.statics.base before.statics.len after.statics
   pub locals : HasBounds before.locals.base before.locals.len after.locals
   pub heap : HasBounds before.heap.base before.heap.len after.heap
+  pub long : length after.bytes ≡ length before.bytes
+  pub most : after.counts.most ≡ before.counts.most
   pub forms : after.forms ≡ before.forms

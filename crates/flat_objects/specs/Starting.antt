@@ -8,6 +8,7 @@ use Rattle.object_meaning.specs.Making.{first_pointer}
 use Rattle.flat_objects.specs.Memory.{Memory}
 use Rattle.flat_objects.specs.Standing.{IsThere}
 use Rattle.flat_objects.specs.Keeping.{Keeps}
+use Rattle.flat_objects.specs.Counting.{Frees, Tracks}
 
 -- bytes were written from an address on
 pub record IsWritten (before after : List ℕ) (start : ℕ) (bytes : List ℕ) : Type 0 where
@@ -59,9 +60,10 @@ pub record TakesPointers (memory : Memory) (places : ℕ → ℕ) (objects : Lis
   pub distinct : AllPairs (λ a b. a.0 ≢ b.0) pointers
   pub targets : All (IsFirstTarget places objects starts) pointers
 
+-- the same for some objects, whose counts the memory tracks
 abbrev pub IsTakingPointers : Memory → ℕ → List (ℕ × ℕ × ℕ) → List ℕ → Type 0
 IsTakingPointers memory addr pointers starts =
-    (places : ℕ → ℕ) × (objects : List Object) × (birth : ℕ) × TakesPointers memory places objects birth addr pointers starts
+    (places : ℕ → ℕ) × (objects : List Object) × (birth : ℕ) × (frees : Frees) × TakesPointers memory places objects birth addr pointers starts × Tracks memory places objects frees
 
 -- a slot of one object and an offset of another that is there
 pub record HasSlotFor (memory : Memory) (places : ℕ → ℕ) (objects : List Object) (birth start slot target target_start offset : ℕ) : Type 0 where
@@ -73,6 +75,7 @@ pub record HasSlotFor (memory : Memory) (places : ℕ → ℕ) (objects : List O
   pub target_starts : target_start ≡ places target
   pub inside : offset ≤ (object_at objects target).size
 
+-- the same for some objects, whose counts the memory tracks
 abbrev pub IsSlotFor : Memory → ℕ → ℕ → ℕ → ℕ → Type 0
 IsSlotFor memory start slot target_start offset =
-    (places : ℕ → ℕ) × (objects : List Object) × (birth : ℕ) × (target : ℕ) × HasSlotFor memory places objects birth start slot target target_start offset
+    (places : ℕ → ℕ) × (objects : List Object) × (birth : ℕ) × (target : ℕ) × (frees : Frees) × HasSlotFor memory places objects birth start slot target target_start offset × Tracks memory places objects frees

@@ -10,8 +10,10 @@ ghost use Rattle.flat_objects.specs.Standing.{IsAddressOf};
 ghost use Rattle.flat_objects.specs.Keeping.{KeepsAt, IsKept};
 ghost use Rattle.flat_objects.specs.Reaching.{Reaches};
 ghost use Rattle.flat_objects.specs.Answering.{Allows, AnswersNumber, AnswersAddress, Changes};
+ghost use Rattle.flat_objects.specs.Counting.{IsStorable, StaysTracked};
 
 use crate::finding::Found;
+use crate::forms::touches_slot;
 use crate::memory::FlatObjects;
 use hs_base::{IntKind, Pointer, Steps, TrapKind};
 use std::sync::ledger::Ledger;
@@ -64,8 +66,8 @@ impl FlatObjects {
         ensures work { steps.new ≤ steps.old + 11 }
     {
         let found = self.reach(addr, n, steps)?;
-        let form = &self.forms[found.layout as usize];
-        if form.touches_slot(found.size, found.offset, n) {
+        let form = &self.forms.as_slice()[found.layout as usize];
+        if touches_slot(form, found.size, found.offset, n) {
             return Err(TrapKind::Layout);
         }
         Ok(())
@@ -79,7 +81,7 @@ impl FlatObjects {
         ensures work { steps.new ≤ steps.old + 11 }
     {
         let found = self.reach(addr, 4, steps)?;
-        let form = &self.forms[found.layout as usize];
+        let form = &self.forms.as_slice()[found.layout as usize];
         if !form.is_slot(found.size, found.offset) {
             return Err(TrapKind::Layout);
         }
@@ -123,6 +125,7 @@ impl FlatObjects {
     ) -> Result<(), TrapKind>
         requires { IsKept self.old addr }
         ensures changes { (places : ℕ → ℕ) (objects : List Object) (p : Pointer) → KeepsAt self.old places objects p addr → Changes places objects result self.old self.new (stored objects kind p n) }
+        ensures tracks { (places : ℕ → ℕ) (objects : List Object) (p : Pointer) → KeepsAt self.old places objects p addr → StaysTracked self.old self.new places objects (stored objects kind p n) }
         ensures frame { SameFrame self.old self.new }
         ensures work { steps.new ≤ steps.old + 12 }
     {
@@ -132,21 +135,23 @@ impl FlatObjects {
         Ok(())
     }
 
-    /// Writes a pointer, by its address, at an address. It traps as an access does, and then nothing changes. At most
-    /// twelve steps.
+    /// Writes a pointer, by its address, at an address: the one that stood there counts no longer, and the new one does. It
+    /// traps as an access does, and then nothing changes. At most 15 steps.
     pub fn store_pointer<L: Ledger>(
         &mut self,
         addr: u32,
         target: u32,
         steps: &mut Steps<L>,
     ) -> Result<(), TrapKind>
-        requires { IsKept self.old addr }
+        requires { IsStorable self.old addr target }
         ensures changes { (places : ℕ → ℕ) (objects : List Object) (p q : Pointer) → KeepsAt self.old places objects p addr → IsAddressOf places objects q target → Changes places objects result self.old self.new (stored_pointer objects p q) }
+        ensures tracks { (places : ℕ → ℕ) (objects : List Object) (p q : Pointer) → KeepsAt self.old places objects p addr → IsAddressOf places objects q target → StaysTracked self.old self.new places objects (stored_pointer objects p q) }
         ensures frame { SameFrame self.old self.new }
-        ensures work { steps.new ≤ steps.old + 12 }
+        ensures work { steps.new ≤ steps.old + 15 }
     {
+        let _ = &self.bytes;
         self.access_pointer(addr, steps)?;
-        self.bytes.write(addr, 4, u64::from(target), steps);
+        self.put_pointer(addr, target, steps);
         Ok(())
     }
 }

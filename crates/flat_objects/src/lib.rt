@@ -15,12 +15,19 @@
 //! for each pointer that the address stands for, which is never one to a dead object. Where an address comes in, some
 //! objects are kept and it stands for some pointer (`IsKept`). A write leaves a memory that keeps the definition's objects
 //! at the same places, and each address still stands for what it did (`IsChanged`).
+//!
+//! A memory also tracks what may be freed (`specs/Counting.antt`): each 16 bytes have a count of the pointers that lead into
+//! them, of those inside objects and of those that the caller pins, and the scopes that are open have a queue of freed
+//! objects. Every call that changes objects keeps this (`Tracks`). `specs/Freeing.antt` says what a free and the end of a
+//! scope answer and leave.
 #![tactic(auto)]
 
 mod access;
 mod arithmetic;
+mod counting;
 mod finding;
 mod forms;
+mod frees;
 mod memory;
 mod new_objects;
 mod statics;

@@ -1,8 +1,10 @@
 //! The memory of a run.
 
-use crate::forms::Form;
+use adjusters::Adjuster;
+use count_table::Counts;
+use delay_scopes::Scopes;
 use heap_blocks::Heap;
-use hs_base::FlatBytes;
+use hs_base::{FlatBytes, Items};
 use std::marker::Model;
 
 /// One memory of bytes with three ranges side by side: the statics, the memory locals and the heap. Each object that is not
@@ -17,8 +19,12 @@ pub struct FlatObjects {
     pub(crate) locals_from: u32,
     /// Where the heap begins.
     pub(crate) heap_from: u32,
+    /// How many pointers that count lead into each granule of 16 bytes.
+    pub(crate) counts: Counts,
+    /// The open scopes, and the objects that were freed in them.
+    pub(crate) scopes: Scopes,
     /// The slots of elements, by the number of the layout.
-    pub(crate) forms: Vec<Form>,
+    pub(crate) forms: Items<Adjuster>,
 }
 
 impl Model for FlatObjects {
@@ -26,7 +32,7 @@ impl Model for FlatObjects {
 
     ghost Value = { Memory };
 
-    ghost view = { λ o. record { bytes = o.bytes; statics = o.statics; locals = o.locals; heap = o.heap; forms = o.forms.items } };
+    ghost view = { λ o. record { bytes = o.bytes; statics = o.statics; locals = o.locals; heap = o.heap; counts = o.counts; scopes = o.scopes; forms = o.forms } };
 
-    ghost invariant = { λ o. IsMemory o.locals_from o.heap_from (record { bytes = o.bytes; statics = o.statics; locals = o.locals; heap = o.heap; forms = o.forms.items }) };
+    ghost invariant = { λ o. IsMemory o.locals_from o.heap_from (record { bytes = o.bytes; statics = o.statics; locals = o.locals; heap = o.heap; counts = o.counts; scopes = o.scopes; forms = o.forms }) };
 }

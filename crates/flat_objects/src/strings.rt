@@ -10,6 +10,7 @@ ghost use Rattle.flat_objects.specs.Answering.{Answers, AnswersLength};
 ghost use Rattle.flat_objects.specs.Texts.{KeepsText, IsKeptText, IsStringByte, StringByte};
 
 use crate::finding::Found;
+use crate::forms::touches_slot;
 use crate::memory::FlatObjects;
 use hs_base::{Pointer, Steps, TrapKind};
 use std::sync::ledger::Ledger;
@@ -54,8 +55,8 @@ impl FlatObjects {
             return Err(TrapKind::Bounds);
         }
         let offset = found.offset + i as u32;
-        let form = &self.forms[found.layout as usize];
-        if form.touches_slot(found.size, offset, 1) {
+        let form = &self.forms.as_slice()[found.layout as usize];
+        if touches_slot(form, found.size, offset, 1) {
             return Err(TrapKind::Layout);
         }
         Ok(self.bytes.read(found.start + offset, 1, steps) as u8)

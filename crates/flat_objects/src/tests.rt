@@ -1,12 +1,15 @@
 // A heap object worked out by hand, and null.
 
-ghost use Rattle.std.specs.Prelude.{◌≡◌, ◌<◌};
-ghost use Rattle.flat_objects.specs.Keeping.{IsKept};
+ghost use Rattle.std.specs.Prelude.{◌≡◌, ◌<◌, ℕ, List, []};
+ghost use Rattle.hs_base.specs.Object.{Object};
+ghost use Rattle.flat_objects.specs.Memory.{pin_room};
+ghost use Rattle.flat_objects.specs.Keeping.{IsKept, KeepsAt};
+ghost use Rattle.flat_objects.specs.Counting.{Frees, Tracks};
 
 use super::*;
 use c_types::Layout;
 use core_tree::CmpOp;
-use hs_base::{IntKind, Items, NoMemory, Steps, TrapKind};
+use hs_base::{IntKind, Items, NoMemory, Pointer, Steps, TrapKind};
 use std::alloc::Global;
 use std::marker::Brand;
 use std::process::Abort;
@@ -54,6 +57,27 @@ fn writes_and_reads<L: Ledger, R: Abort>(
     assert_eq!(rt; moved, Err(TrapKind::Range));
 }
 
+// An object is pinned and unpinned, and then freed in a scope.
+fn frees_in_a_scope<L: Ledger, R: Abort>(
+    rt: &R,
+    memory: &mut FlatObjects,
+    addr: u32,
+    steps: &mut Steps<L>,
+)
+    requires { (places : ℕ → ℕ) × (objects : List Object) × (frees : Frees) × (birth : ℕ) × KeepsAt memory.old places objects (Pointer.At birth 0) addr × Tracks memory.old places objects frees × (frees.pins ≡ []) × (frees.scopes ≡ 0) × (0 < pin_room memory.old) }
+{
+    memory.pin(addr, steps);
+    memory.unpin(addr, steps);
+    memory.enter();
+    match memory.free(addr, 5, steps) {
+        Ok(()) => {
+            let left = memory.leave(steps);
+            assert_eq!(rt; (left, memory.held()), (Ok(()), None));
+        }
+        Err(bad) => panic!(rt; "{bad:?}"),
+    }
+}
+
 // The statics have the addresses from 0 to 63, and the heap begins at 64.
 fn places<L: Ledger, R: Abort>(rt: &R, alloc: Global, blank: Blank) -> Result<(), NoMemory>
     requires name { blank.name ≡ L.name }
@@ -66,7 +90,7 @@ fn places<L: Ledger, R: Abort>(rt: &R, alloc: Global, blank: Blank) -> Result<()
         align: 4,
         slots: Items::new(alloc),
     };
-    let mut memory = FlatObjects::new(alloc, &[number], 64, 0, 256)?;
+    let mut memory = FlatObjects::new(alloc, &[number], 64, 0, 256, 2)?;
     null_answers(rt, &memory, &mut steps);
     let Some(addr) = memory.new_object(6, 0, 3, 0, &mut steps) else {
         panic!(rt; "the object has no place");
@@ -76,8 +100,34 @@ fn places<L: Ledger, R: Abort>(rt: &R, alloc: Global, blank: Blank) -> Result<()
     Ok(())
 }
 
+// The heap begins at 16, and one pointer can be pinned.
+fn frees<L: Ledger, R: Abort>(rt: &R, alloc: Global, blank: Blank) -> Result<(), NoMemory>
+    requires name { blank.name ≡ L.name }
+    requires parts { blank.parts ≡ L.parts }
+    requires some { 0 < blank.parts }
+{
+    let mut steps = Steps::<L>::new(blank);
+    let pointer = Layout {
+        size: 4,
+        align: 4,
+        slots: Items::from(vec![in alloc; 0]?),
+    };
+    let mut memory = FlatObjects::new(alloc, &[pointer], 16, 0, 256, 1)?;
+    let Some(addr) = memory.new_object(4, 0, 3, 0, &mut steps) else {
+        panic!(rt; "the object has no place");
+    };
+    frees_in_a_scope(rt, &mut memory, addr, &mut steps);
+    Ok(())
+}
+
 #[test]
 fn objects_stand_where_they_are_worked_out(rt: HostRuntime) -> Result<(), Fail> {
     places::<Brand, _>(&rt, rt.alloc(), Blank::new(1))?;
+    Ok(())
+}
+
+#[test]
+fn objects_are_freed_in_a_scope(rt: HostRuntime) -> Result<(), Fail> {
+    frees::<Brand, _>(&rt, rt.alloc(), Blank::new(1))?;
     Ok(())
 }

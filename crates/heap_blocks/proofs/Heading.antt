@@ -65,3 +65,50 @@ header_kept after before block at n changed beside =
       freed = same (block + 24) 4 (omega arith) (omega arith) i;
       next = same (block + 28) 4 (omega arith) (omega arith) i;
     }
+
+-- the header that the writes of a block that is queued leave
+pub queued_written : (b0 b1 b2 b3 : List ℕ) (block freed : ℕ) → block + 32 ≤ length b0 → freed < 2 ^ 32
+    → b1 ≡ put_word b0 (block + 20) 4 2 → b2 ≡ put_word b1 (block + 24) 4 freed → b3 ≡ put_word b2 (block + 28) 4 0
+    → (let queued : Header = record (header_at b0 block) { state = 2; freed = freed; next = 0 } in header_at b3 block ≡ queued) × ChangesOnly b0 b3 (block + 20) 12
+queued_written b0 b1 b2 b3 block freed inside small e1 e2 e3 =
+    let l1 = long_after b0 b1 (block + 20) 4 2 e1 (omega arith) in
+    let l2 = long_after b1 b2 (block + 24) 4 freed e2 (omega arith) in
+    let w3 = written b2 b3 b3 block (block + 28) 4 (block + 32) 0 e3 (omega arith) (omega arith) (omega arith) (omega arith) (omega arith) (changes_nothing b3 (block + 32) (block + 32 - (block + 32))) in
+    let w2 = written b1 b2 b3 block (block + 24) 4 (block + 28) freed e2 (omega arith) (omega arith) (omega arith) (omega arith) small w3.outside in
+    let w1 = written b0 b1 b3 block (block + 20) 4 (block + 24) 2 e1 (omega arith) (omega arith) (omega arith) (omega arith) (omega arith) w2.outside in
+    let width : block + 32 - (block + 20) ≡ 12 = omega arith in
+    let changed : ChangesOnly b0 b3 (block + 20) 12 = subst (λ n. ChangesOnly b0 b3 (block + 20) n) width w1.outside in
+    let same : (from k : ℕ) → from + k ≤ block + 20 → word b3 from k ≡ word b0 from k =
+    λ from k low. word_from_part b3 b0 from k (changed.below from k low) in (
+      (λ i. record {
+        birth = same block 8 (omega arith) i;
+        size = same (block + 8) 4 (omega arith) i;
+        layout = same (block + 12) 4 (omega arith) i;
+        line = same (block + 16) 4 (omega arith) i;
+        state = w1.reads i;
+        freed = w2.reads i;
+        next = w3.reads i;
+      }),
+      changed,
+    )
+
+-- the header that a write of its last field leaves
+pub next_written : (before after : List ℕ) (block next : ℕ) → block + 32 ≤ length before → next < 2 ^ 32 → after ≡ put_word before (block + 28) 4 next
+    → (let linked : Header = record (header_at before block) { next = next } in header_at after block ≡ linked) × ChangesOnly before after (block + 28) 4
+next_written before after block next inside small e =
+    let changed : ChangesOnly before after (block + 28) 4 =
+    subst (λ (l : List ℕ). ChangesOnly before l (block + 28) 4) (sym e) (changes_written before (block + 28) 4 next (omega arith)) in
+    let same : (from k : ℕ) → from + k ≤ block + 28 → word after from k ≡ word before from k =
+    λ from k low. word_from_part after before from k (changed.below from k low) in
+    let reads : word after (block + 28) 4 ≡ next = ap (λ l. word l (block + 28) 4) e ∙ word_same before (block + 28) 4 next (omega arith) small in (
+      (λ i. record {
+        birth = same block 8 (omega arith) i;
+        size = same (block + 8) 4 (omega arith) i;
+        layout = same (block + 12) 4 (omega arith) i;
+        line = same (block + 16) 4 (omega arith) i;
+        state = same (block + 20) 4 (omega arith) i;
+        freed = same (block + 24) 4 (omega arith) i;
+        next = reads i;
+      }),
+      changed,
+    )

@@ -177,6 +177,7 @@ impl Heap {
     ) -> Option<u32>
         ensures owner { (held : List Block) → Holds self.now held → result ≡ owner_of self.now held addr }
         ensures held { (held : List Block) (b : Block) → Holds self.now held → Contains held b → HasAddress self.now addr b → result ≡ Some (address_of self.now b.place) }
+        ensures reach { self.now.base + self.now.len < 2 ^ 32 }
         ensures least { steps.old ≤ steps.new }
         ensures most { steps.new ≤ steps.old + 4 }
     {

@@ -80,6 +80,76 @@ impl Header {
         bytes.read(block + 8, 4, steps) as u32
     }
 
+    /// The number of the layout of the object of the block at an address. One step.
+    pub fn read_layout<L: Ledger>(bytes: &FlatBytes, block: u32, steps: &mut Steps<L>) -> u32
+        requires inside { block + HEADER_SIZE ≤ length bytes.now }
+        requires fits { block + HEADER_SIZE < 2 ^ 32 }
+        ensures layout { result ≡ (header_at bytes.now block).layout }
+        ensures steps { steps.new ≡ steps.old + 1 }
+    {
+        bytes.read(block + 12, 4, steps) as u32
+    }
+
+    /// The state of the object of the block at an address. One step.
+    pub fn read_state<L: Ledger>(bytes: &FlatBytes, block: u32, steps: &mut Steps<L>) -> u32
+        requires inside { block + HEADER_SIZE ≤ length bytes.now }
+        requires fits { block + HEADER_SIZE < 2 ^ 32 }
+        ensures state { result ≡ (header_at bytes.now block).state }
+        ensures steps { steps.new ≡ steps.old + 1 }
+    {
+        bytes.read(block + 20, 4, steps) as u32
+    }
+
+    /// The line that freed the object of the block at an address, or 0. One step.
+    pub fn read_freed<L: Ledger>(bytes: &FlatBytes, block: u32, steps: &mut Steps<L>) -> Line
+        requires inside { block + HEADER_SIZE ≤ length bytes.now }
+        requires fits { block + HEADER_SIZE < 2 ^ 32 }
+        ensures freed { result ≡ (header_at bytes.now block).freed }
+        ensures steps { steps.new ≡ steps.old + 1 }
+    {
+        bytes.read(block + 24, 4, steps) as u32
+    }
+
+    /// The block that was queued next behind the block at an address, or 0. One step.
+    pub fn read_next<L: Ledger>(bytes: &FlatBytes, block: u32, steps: &mut Steps<L>) -> u32
+        requires inside { block + HEADER_SIZE ≤ length bytes.now }
+        requires fits { block + HEADER_SIZE < 2 ^ 32 }
+        ensures next { result ≡ (header_at bytes.now block).next }
+        ensures steps { steps.new ≡ steps.old + 1 }
+    {
+        bytes.read(block + 28, 4, steps) as u32
+    }
+
+    /// Writes into the header of a block that its object is queued, by a free at a line, with no block behind it. No
+    /// other byte changes. Three steps.
+    pub fn write_queued<L: Ledger>(
+        bytes: &mut FlatBytes,
+        block: u32,
+        freed: Line,
+        steps: &mut Steps<L>,
+    )
+        requires inside { block + HEADER_SIZE ≤ length bytes.old }
+        requires fits { block + HEADER_SIZE < 2 ^ 32 }
+        ensures header { header_at bytes.new block ≡ record (header_at bytes.old block) { state = STATE_QUEUED; freed = freed; next = 0 } }
+        ensures outside { ChangesOnly bytes.old bytes.new (block + 20) 12 }
+        ensures steps { steps.new ≡ steps.old + 3 }
+    {
+        bytes.write(block + 20, 4, u64::from(STATE_QUEUED), steps);
+        bytes.write(block + 24, 4, u64::from(freed), steps);
+        bytes.write(block + 28, 4, 0, steps);
+    }
+
+    /// Writes into the header of a block which block was queued behind it. No other byte changes. One step.
+    pub fn write_next<L: Ledger>(bytes: &mut FlatBytes, block: u32, next: u32, steps: &mut Steps<L>)
+        requires inside { block + HEADER_SIZE ≤ length bytes.old }
+        requires fits { block + HEADER_SIZE < 2 ^ 32 }
+        ensures header { header_at bytes.new block ≡ record (header_at bytes.old block) { next = next } }
+        ensures outside { ChangesOnly bytes.old bytes.new (block + 28) 4 }
+        ensures steps { steps.new ≡ steps.old + 1 }
+    {
+        bytes.write(block + 28, 4, u64::from(next), steps);
+    }
+
     /// Writes the header of the block at an address. No other byte changes. Seven steps.
     pub fn write<L: Ledger>(&self, bytes: &mut FlatBytes, block: u32, steps: &mut Steps<L>)
         requires inside { block + HEADER_SIZE ≤ length bytes.old }

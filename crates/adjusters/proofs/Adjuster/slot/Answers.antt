@@ -46,9 +46,20 @@ overflow_add-result c =
     let ends = ends_inside 0 c.self.inside.size c.self.inside.slots.items (c.args.k % length c.self.inside.slots.items) c.index.result.now c.self.invariant (omega arith) in
     rw len (omega (arith, at))
 
-pub returns : goal.returns
-returns c =
+pub returns-clause-slot : goal.returns-clause-slot
+returns-clause-slot c =
     let below = number_below c.self.inside.size c.self.inside.slots.items c.args.self.now c.args.size c.args.k c.self.view_is c.requires in
     let len : c.len-in_element.result ≡ length c.self.inside.slots.items = omega arith in
     let at = rw len at c.index.ensures in
     rw (← c.self.view_is, len) (slot_is c.self.inside.size c.self.inside.slots.items (c.args.size / c.self.inside.size) c.args.k c.index.result.now below at)
+
+pub returns-clause-inside : goal.returns-clause-inside
+returns-clause-inside c =
+    let below = number_below c.self.inside.size c.self.inside.slots.items c.args.self.now c.args.size c.args.k c.self.view_is c.requires in
+    let some = some_factor c.args.k (c.args.size / c.self.inside.size) (length c.self.inside.slots.items) below in
+    let len : c.len-in_element.result ≡ length c.self.inside.slots.items = omega arith in
+    let q = div_below c.args.k (length c.self.inside.slots.items) (c.args.size / c.self.inside.size) some below in
+    let inside = block_inside (c.args.k / length c.self.inside.slots.items) (c.args.size / c.self.inside.size) c.self.inside.size c.args.size q refl in
+    let at = rw len at c.index.ensures in
+    let ends = ends_inside 0 c.self.inside.size c.self.inside.slots.items (c.args.k % length c.self.inside.slots.items) c.index.result.now c.self.invariant (omega arith) in
+    rw len (omega (arith, at))

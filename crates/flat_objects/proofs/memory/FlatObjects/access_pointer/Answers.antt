@@ -1,6 +1,6 @@
-use Rattle.std.proofs.Common.{◌≡◌, ◌∙◌, ap, subst, refl, get_or}
+use Rattle.std.proofs.Common.{◌≡◌, ◌∙◌, List, ap, subst, refl, get_or}
 use Rattle.std.specs.Prelude.{Contains}
-use Rattle.adjusters.specs.ObjectSlots.{object_slots}
+use Rattle.adjusters.specs.ObjectSlots.{Element, object_slots}
 use Rattle.flat_objects.specs.Memory.{Memory, IsMemory}
 use Rattle.flat_objects.proofs.Reached.{let_pointers, reached_inside, pointer_trap}
 use Rattle.flat_objects.proofs.Touching.{told, told_not}
@@ -8,17 +8,17 @@ use Rattle.flat_objects.proofs.memory.FlatObjects.access_pointer.Goals as goal
 
 pub returns-then-not-is_slot-clause-allows : goal.returns-then-not-is_slot-clause-allows
 returns-then-not-is_slot-clause-allows g c = λ places objects p at.
-    let form = c.index-form.result.now in
+    let form = c.index-as_slice-found.result in
     let found = c.in_ok-found.found in
-    let read : form ≡ get_or c.args.self.now.forms found.layout form = c.index-form.ensures ∙ ap (λ (m : Memory). get_or m.forms found.layout form) c.self.view_is in
+    let read : form ≡ get_or c.args.self.now.forms found.layout form = c.index-as_slice-found.is ∙ ap (λ (l : List Element). get_or l found.layout form) c.as_slice.ensures ∙ ap (λ (m : Memory). get_or m.forms found.layout form) c.self.view_is in
     pointer_trap c.args.self.now places objects p c.args.addr 4 found at (c.in_ok-found.ensures.reaches places objects p at) form read refl
     (told_not c.is_slot.result (Contains (object_slots form found.size) found.offset) c.is_slot.ensures c.if-not-is_slot.true)
 
 pub returns-clause-allows : goal.returns-clause-allows
 returns-clause-allows g c = λ places objects p at.
-    let form = c.index-form.result.now in
+    let form = c.index-as_slice-found.result in
     let found = c.in_ok-found.found in
-    let read : form ≡ get_or c.args.self.now.forms found.layout form = c.index-form.ensures ∙ ap (λ (m : Memory). get_or m.forms found.layout form) c.self.view_is in
+    let read : form ≡ get_or c.args.self.now.forms found.layout form = c.index-as_slice-found.is ∙ ap (λ (l : List Element). get_or l found.layout form) c.as_slice.ensures ∙ ap (λ (m : Memory). get_or m.forms found.layout form) c.self.view_is in
     let_pointers c.args.self.now places objects p c.args.addr 4 found at (c.in_ok-found.ensures.reaches places objects p at) form read refl
     (told c.is_slot.result (Contains (object_slots form found.size) found.offset) c.is_slot.ensures c.if-not-is_slot.false)
 

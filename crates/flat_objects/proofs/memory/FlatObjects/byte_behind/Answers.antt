@@ -1,6 +1,7 @@
-use Rattle.std.proofs.Common.{◌≡◌, ◌∙◌, ◌+◌, Option, get_or, length, ap, sym, subst, arith}
+use Rattle.std.proofs.Common.{◌≡◌, ◌∙◌, ◌+◌, List, Option, get_or, length, ap, sym, subst, arith}
 use Rattle.hs_base.specs.Bytes.{word}
 use Rattle.flat_objects.specs.declared.finding.Found.{Found}
+use Rattle.adjusters.specs.ObjectSlots.{Element}
 use Rattle.flat_objects.specs.Memory.{Memory, IsMemory}
 use Rattle.flat_objects.specs.Texts.{KeepsText}
 use Rattle.flat_objects.proofs.Behind.{behind_inside, behind_is}
@@ -33,7 +34,7 @@ returns g c = λ places objects p text.
     let found = c.in-Some.found in
     let kept = subst (λ (t : Option Found). KeepsText memory places objects p t) c.in-Some.is text in
     let shape = subst (IsMemory c.self.inside.locals_from c.self.inside.heap_from) c.self.view_is c.self.invariant in
-    let form = c.index-form.result.now in
-    let read : form ≡ get_or memory.forms found.layout form = c.index-form.ensures ∙ ap (λ (m : Memory). get_or m.forms found.layout form) c.self.view_is in
+    let form = c.index-as_slice-found.result in
+    let read : form ≡ get_or memory.forms found.layout form = c.index-as_slice-found.is ∙ ap (λ (l : List Element). get_or l found.layout form) c.as_slice.ensures ∙ ap (λ (m : Memory). get_or m.forms found.layout form) c.self.view_is in
     behind_is c.self.inside.locals_from c.self.inside.heap_from memory shape places objects p found kept c.args.i (omega (arith, c.from.ensures)) form c.read.result read
     (sym c.touches_slot.ensures ∙ c.if-touches_slot.false) (c.read.ensures.value ∙ ap (λ (m : Memory). word m.bytes (found.start + (found.offset + c.args.i)) 1) c.self.view_is)

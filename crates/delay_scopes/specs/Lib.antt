@@ -1,0 +1,5 @@
+pub mod Queue
+pub mod Freed
+pub mod Pointers
+pub mod Check
+pub mod Walks

@@ -1,0 +1,27 @@
+//! Laws of queues and checks, for those who keep objects above them.
+
+ghost use Rattle.std.specs.Prelude.{◌≡◌, ◌+◌, ◌≤◌, ◌⊎◌, ℕ, List, All, Contains, fold, length, slice_index};
+ghost use Rattle.std.specs.List.{sum_by};
+ghost use Rattle.hs_base.specs.Bytes.{part};
+ghost use Rattle.hs_base.specs.Place.{Block, without_block};
+ghost use Rattle.heap_blocks.specs.Held.{HeapModel};
+ghost use Rattle.delay_scopes.specs.Queue.{HasQueue, KeepsQueue, ScopesModel, header_of};
+ghost use Rattle.delay_scopes.specs.Pointers.{into_granule};
+ghost use Rattle.delay_scopes.specs.Check.{ChangesWithin, births_of, granules_of, left_to};
+
+/// A queue stays where the headers of its objects do, while other blocks may be placed.
+pub fn queues_stay()
+    ensures { (scopes : ScopesModel) (base : ℕ) (before after : List ℕ) (held held' : List Block) (queue : List ℕ) → HasQueue scopes base before held queue → All (λ addr. header_of after addr ≡ header_of before addr) queue → ((b : Block) → Contains held b → Contains held' b) → HasQueue scopes base after held' queue }
+{}
+
+/// Where the queued blocks are given back, the bytes of each block that is left are the same, its header among them, and
+/// those beside the heap.
+pub fn other_bytes_stay()
+    ensures left { (scopes : ScopesModel) (heap : HeapModel) (before after : List ℕ) (held : List Block) (queue : List ℕ) → KeepsQueue scopes heap before held queue → heap.base + heap.len ≤ length before → ChangesWithin queue before after → (b : Block) (from k : ℕ) → Contains (fold without_block held (births_of before queue)) b → heap.base + b.place ≤ from → from + k ≤ heap.base + b.place + b.length → part after from k ≡ part before from k }
+    ensures beside { (scopes : ScopesModel) (heap : HeapModel) (before after : List ℕ) (held : List Block) (queue : List ℕ) → KeepsQueue scopes heap before held queue → heap.base + heap.len ≤ length before → ChangesWithin queue before after → (from k : ℕ) → (from + k ≤ heap.base) ⊎ (heap.base + heap.len ≤ from) → part after from k ≡ part before from k }
+{}
+
+/// What is left to an object is the total of the counts of its block, less the words that are addresses in it.
+pub fn what_is_left_is_a_difference()
+    ensures { (bytes counts words : List ℕ) (addr : ℕ) → ((granule : ℕ) → into_granule granule words ≤ slice_index counts granule) → left_to bytes counts words addr + sum_by (λ granule. into_granule granule words) (granules_of bytes addr) ≡ sum_by (slice_index counts) (granules_of bytes addr) }
+{}

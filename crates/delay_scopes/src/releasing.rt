@@ -1,0 +1,32 @@
+//! How the blocks of freed objects are given back.
+
+ghost use Rattle.std.specs.Prelude.{◌+◌, ◌*◌, ◌≤◌, ℕ, List};
+ghost use Rattle.hs_base.specs.Place.{Block};
+ghost use Rattle.delay_scopes.specs.Check.{IsReleased};
+ghost use Rattle.delay_scopes.specs.Walks.{MayRelease};
+
+use crate::scopes::Scopes;
+use heap_blocks::{HEADER_SIZE, Header, Heap};
+use hs_base::{FlatBytes, Steps};
+use std::sync::ledger::Ledger;
+
+impl Scopes {
+    /// Gives the blocks of all queued objects back, in the order of the queue. Five steps at most for each of them.
+    pub(crate) fn release_all<L: Ledger>(
+        &self,
+        heap: &mut Heap,
+        bytes: &mut FlatBytes,
+        steps: &mut Steps<L>,
+    )
+        requires { (held : List Block) × (queue : List ℕ) × MayRelease self.now heap.old bytes.old held queue }
+        ensures released { (held : List Block) (queue : List ℕ) → MayRelease self.now heap.old bytes.old held queue → IsReleased heap.old heap.new bytes.old bytes.new held queue }
+        ensures work { steps.new ≤ steps.old + 5 * self.now.waiting }
+    {
+        let mut block = self.first;
+        for _place in 0..self.waiting {
+            let next = Header::read_next(bytes, block, steps);
+            heap.release(bytes, block + HEADER_SIZE, steps);
+            block = next;
+        }
+    }
+}

@@ -1,0 +1,78 @@
+//! The pointers that count: those inside objects, and those that the caller pins.
+
+ghost use Rattle.std.specs.Prelude.{◌≡◌, ◌+◌, ◌/◌, ◌<◌, ◌≤◌, ◌∷◌, ◌++◌, ℕ, List, length, slice_index, sum};
+ghost use Rattle.hs_base.specs.Bytes.{put_word, word};
+ghost use Rattle.hs_base.specs.Object.{Object};
+ghost use Rattle.flat_objects.specs.Memory.{SameFrame};
+ghost use Rattle.flat_objects.specs.Keeping.{Keeps};
+ghost use Rattle.flat_objects.specs.Counting.{Frees, IsPinnable, IsUnpinnable, MayPin, MayUnpin, Tracks, one_less, one_more};
+
+use crate::memory::FlatObjects;
+use count_table::Counts;
+use hs_base::{Pointer, Steps};
+use std::sync::ledger::Ledger;
+
+/// One more for the granule of an address. Null is in none.
+fn count<L: Ledger>(counts: &mut Counts, addr: u32, steps: &mut Steps<L>)
+    requires granule { addr / 16 < length counts.old.counts }
+    requires room { sum counts.old.counts < counts.old.most }
+    ensures count { counts.new ≡ one_more counts.old addr }
+    ensures work { steps.new ≤ steps.old + 1 }
+{
+    if addr != 0 {
+        counts.inc(addr / 16, steps);
+    }
+}
+
+/// One less for the granule of an address. Null is in none.
+fn uncount<L: Ledger>(counts: &mut Counts, addr: u32, steps: &mut Steps<L>)
+    requires granule { addr / 16 < length counts.old.counts }
+    requires some { 0 < addr → 0 < slice_index counts.old.counts (addr / 16) }
+    ensures count { counts.new ≡ one_less counts.old addr }
+    ensures work { steps.new ≤ steps.old + 1 }
+{
+    if addr != 0 {
+        counts.dec(addr / 16, steps);
+    }
+}
+
+impl FlatObjects {
+    /// Writes an address over that in a slot: the one that stood there counts no longer, and the new one does. At most four
+    /// steps.
+    pub(crate) fn put_pointer<L: Ledger>(&mut self, slot: u32, target: u32, steps: &mut Steps<L>)
+        requires inside { slot + 4 ≤ length self.old.bytes }
+        requires goes_from { word self.old.bytes slot 4 / 16 < length self.old.counts.counts }
+        requires goes { 0 < word self.old.bytes slot 4 → 0 < slice_index self.old.counts.counts (word self.old.bytes slot 4 / 16) }
+        requires comes_to { target / 16 < length self.old.counts.counts }
+        requires room { sum (one_less self.old.counts (word self.old.bytes slot 4)).counts < self.old.counts.most }
+        ensures put { self.new ≡ record self.old { bytes = put_word self.old.bytes slot 4 target; counts = one_more (one_less self.old.counts (word self.old.bytes slot 4)) target } }
+        ensures work { steps.new ≤ steps.old + 4 }
+    {
+        let old = self.bytes.read(slot, 4, steps) as u32;
+        uncount(&mut self.counts, old, steps);
+        count(&mut self.counts, target, steps);
+        self.bytes.write(slot, 4, u64::from(target), steps);
+    }
+
+    /// Counts a pointer that stands outside of all objects, by its address. Null counts nowhere. At most one step.
+    pub fn pin<L: Ledger>(&mut self, addr: u32, steps: &mut Steps<L>)
+        requires { IsPinnable self.old addr }
+        ensures keeps { (places : ℕ → ℕ) (objects : List Object) → Keeps self.old places objects → Keeps self.new places objects }
+        ensures tracks { (places : ℕ → ℕ) (objects : List Object) (frees : Frees) (before behind : List Pointer) (p : Pointer) → MayPin self.old places objects frees p addr → frees.pins ≡ before ++ behind → Tracks self.new places objects (record frees { pins = before ++ p ∷ behind }) }
+        ensures frame { SameFrame self.old self.new }
+        ensures work { steps.new ≤ steps.old + 1 }
+    {
+        count(&mut self.counts, addr, steps);
+    }
+
+    /// Counts a pinned pointer no longer, by its address. At most one step.
+    pub fn unpin<L: Ledger>(&mut self, addr: u32, steps: &mut Steps<L>)
+        requires { IsUnpinnable self.old addr }
+        ensures keeps { (places : ℕ → ℕ) (objects : List Object) → Keeps self.old places objects → Keeps self.new places objects }
+        ensures tracks { (places : ℕ → ℕ) (objects : List Object) (frees : Frees) (before behind : List Pointer) (p : Pointer) → MayUnpin self.old places objects frees before behind p addr → Tracks self.new places objects (record frees { pins = before ++ behind }) }
+        ensures frame { SameFrame self.old self.new }
+        ensures work { steps.new ≤ steps.old + 1 }
+    {
+        uncount(&mut self.counts, addr, steps);
+    }
+}

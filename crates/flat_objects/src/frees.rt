@@ -1,0 +1,70 @@
+//! Scopes, frees, and the check at the end of the outermost scope. The rules are this language's own (C99 7.20.3.2 leaves a
+//! pointer to a freed object indeterminate).
+
+ghost use Rattle.std.specs.Prelude.{◌≡◌, ◌+◌, ◌-◌, ◌^◌, ◌<◌, ◌≤◌, ℕ, List};
+ghost use Rattle.hs_base.specs.Freeing.{check_numbers, freed_at};
+ghost use Rattle.hs_base.specs.Object.{Object};
+ghost use Rattle.flat_objects.specs.Memory.{SameFrame};
+ghost use Rattle.flat_objects.specs.Keeping.{Keeps};
+ghost use Rattle.flat_objects.specs.Counting.{Frees, Tracks};
+ghost use Rattle.flat_objects.specs.Freeing.{AnswersCheck, AnswersFree, IsFreeable, IsInScope, MayFree, MayLeave, number_of};
+
+use crate::memory::FlatObjects;
+use delay_scopes::laws::other_bytes_stay;
+use hs_base::{BadFree, Line, Steps};
+use std::sync::ledger::Ledger;
+
+impl FlatObjects {
+    /// Opens a scope.
+    pub fn enter(&mut self)
+        requires { self.old.scopes.depth < 2 ^ 64 - 1 }
+        ensures keeps { (places : ℕ → ℕ) (objects : List Object) → Keeps self.old places objects → Keeps self.new places objects }
+        ensures tracks { (places : ℕ → ℕ) (objects : List Object) (frees : Frees) → Tracks self.old places objects frees → Tracks self.new places objects (record frees { scopes = frees.scopes + 1 }) }
+        ensures frame { SameFrame self.old self.new }
+    {
+        self.scopes.enter();
+    }
+
+    /// Queues the heap object that starts at an address, which a free at a line frees. The free is bad, and nothing
+    /// changes, where no heap object starts there or where it is queued already. At most nine steps.
+    pub fn free<L: Ledger>(
+        &mut self,
+        addr: u32,
+        line: Line,
+        steps: &mut Steps<L>,
+    ) -> Result<(), BadFree>
+        requires { IsFreeable self.old addr }
+        ensures answer { (places : ℕ → ℕ) (objects : List Object) (frees : Frees) (birth offset : ℕ) → MayFree self.old places objects frees birth offset addr → AnswersFree self.old self.new places objects frees line result (freed_at objects birth offset) }
+        ensures frame { SameFrame self.old self.new }
+        ensures work { steps.new ≤ steps.old + 9 }
+    {
+        self.scopes
+            .queue(&self.heap, &mut self.bytes, addr, line, steps)
+    }
+
+    /// Closes a scope. At the end of the outermost one the check is made: the first queued object to which a pointer
+    /// counts that is not inside a queued object is a bad free, at the line of its own free. With none, all queued objects
+    /// are dead and their blocks are given back in the order of their frees. After a bad free the counts are of no more use.
+    pub fn leave<L: Ledger>(&mut self, steps: &mut Steps<L>) -> Result<(), BadFree>
+        requires { IsInScope self.old }
+        ensures inner { (places : ℕ → ℕ) (objects : List Object) (frees : Frees) → MayLeave self.old places objects frees → 1 < frees.scopes → (result ≡ Ok tt) × Keeps self.new places objects × Tracks self.new places objects (record frees { scopes = frees.scopes - 1 }) }
+        ensures outermost { (places : ℕ → ℕ) (objects : List Object) (frees : Frees) → MayLeave self.old places objects frees → frees.scopes ≡ 1 → AnswersCheck self.old self.new places objects frees result (check_numbers objects frees.queue (number_of objects frees)) }
+        ensures frame { SameFrame self.old self.new }
+    {
+        other_bytes_stay();
+        self.scopes.leave(
+            &mut self.heap,
+            &mut self.bytes,
+            &mut self.counts,
+            &self.forms,
+            steps,
+        )
+    }
+
+    /// The address of the object that [`FlatObjects::leave`] found held, if it found one.
+    pub fn held(&self) -> Option<u32>
+        ensures { result ≡ self.now.scopes.named }
+    {
+        self.scopes.held()
+    }
+}
