@@ -1,6 +1,6 @@
 //! The first holder of an object that is held, which is searched once, where a bad free ends the run.
 
-ghost use Rattle.std.specs.Prelude.{◌≡◌, ◌∷◌, ◌++◌, [], ℕ, List, Some, find, reverse};
+ghost use Rattle.std.specs.Prelude.{◌≡◌, ◌<◌, ◌^◌, ◌∷◌, ◌++◌, [], ℕ, List, Some, find, reverse};
 ghost use Rattle.std.specs.List.{flat_map};
 ghost use Rattle.hs_base.specs.Freeing.{is_pointer_to};
 ghost use Rattle.hs_base.specs.Object.{Object};
@@ -11,7 +11,8 @@ ghost use Rattle.code_meaning.specs.CodeState.{CodeState};
 ghost use Rattle.flat_objects.specs.Standing.{IsThere};
 ghost use Rattle.flat_objects.specs.Keeping.{KeepsAt, IsKept};
 ghost use Rattle.flat_machine.specs.Kept.{call_number};
-ghost use Rattle.flat_machine.specs.Pinning.{IsNamed, NamesHeld};
+ghost use Rattle.flat_objects.specs.Holders.{IsIn, holder_of};
+ghost use Rattle.flat_machine.specs.Pinning.{HasSorts, IsNamed, NamesHeld};
 ghost use Rattle.flat_machine.specs.Holding.{HoldsIn, IsHolding, in_frame};
 ghost use Rattle.flat_machine.specs.Loaded.{HasPins};
 ghost use Rattle.flat_code.specs.declared.program.Code.{Code as Program};
@@ -21,8 +22,26 @@ use crate::calls::Calls;
 use crate::counted;
 use crate::state::State;
 use crate::words::address_in;
-use flat_objects::FlatObjects;
+use flat_objects::{FlatObjects, Holding};
 use hs_base::{Holder, Pointer};
+
+/// The holder that a pointer inside an object is, where so many statics are the first objects and all others are of the heap.
+pub(crate) fn inside_holder(found: Holding, statics: usize) -> Holder
+    requires { statics < 2 ^ 32 }
+    ensures { (objects : List Object) → HasSorts objects statics → IsIn objects found → result ≡ holder_of objects found }
+{
+    if found.birth < statics as u64 {
+        Holder::Global {
+            index: found.birth as u32,
+            offset: found.offset,
+        }
+    } else {
+        Holder::Block {
+            line: found.line,
+            offset: found.offset,
+        }
+    }
+}
 
 /// Says whether an address leads to the object that starts at another.
 fn leads_to(objects: &FlatObjects, addr: u32, start: u32) -> bool
@@ -77,12 +96,12 @@ impl State {
         requires { IsNamed self.now }
         ensures { (code : Program) (places : ℕ → ℕ) (c : CodeState) (birth : ℕ) → HasPins code self.now.pins → NamesHeld places c birth self.now → result ≡ first_of (holders code c.state birth c.state.queue) }
     {
-        if let Some(holder) = self.holder_inside() {
-            return Some(holder);
-        }
         let Some(start) = self.held() else {
             unreachable!()
         };
+        if let Some(holder) = self.holder_inside(start) {
+            return Some(holder);
+        }
         self.holder_in_calls(start)
     }
 }

@@ -25,6 +25,13 @@ impl FlatObjects {
         self.scopes.enter();
     }
 
+    /// How many scopes are open.
+    pub fn scopes(&self) -> u64
+        ensures { result ≡ self.now.scopes.depth }
+    {
+        self.scopes.depth()
+    }
+
     /// Queues the heap object that starts at an address, which a free at a line frees. The free is bad, and nothing
     /// changes, where no heap object starts there or where it is queued already. At most nine steps.
     pub fn free<L: Ledger>(

@@ -69,3 +69,7 @@ act_return-requires-clause-pins c =
 pub act_return-requires-in-Give-clause-pins : goal.act_return-requires-in-Give-clause-pins
 act_return-requires-in-Give-clause-pins c =
     let q = c.requires.standing in has_counted q.0 q.1 c.args.state.now q.2.stands
+
+pub act_memory-requires-clause-kept : goal.act_memory-requires-clause-kept
+act_memory-requires-clause-kept c =
+    let memory : IsMemory c.args.op = search rules in c.requires.kept memory
