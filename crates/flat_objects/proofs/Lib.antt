@@ -26,6 +26,7 @@ mod Queueing
 mod Numbers
 mod Released
 mod Answered
+mod Sought
 pub mod Packing
 pub mod Tallies
 mod Counted

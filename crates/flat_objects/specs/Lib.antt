@@ -5,6 +5,8 @@ pub mod Reaching
 pub mod Answering
 pub mod Counting
 pub mod Freeing
+pub mod Holders
+pub mod Searching
 pub mod Moving
 pub mod Texts
 pub mod Adding

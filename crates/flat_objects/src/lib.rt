@@ -19,7 +19,7 @@
 //! A memory also tracks what may be freed (`specs/Counting.antt`): each 16 bytes have a count of the pointers that lead into
 //! them, of those inside objects and of those that the caller pins, and the scopes that are open have a queue of freed
 //! objects. Every call that changes objects keeps this (`Tracks`). `specs/Freeing.antt` says what a free and the end of a
-//! scope answer and leave.
+//! scope answer and leave, and `specs/Holders.antt` which pointer inside an object is the first that holds another.
 #![tactic(auto)]
 
 mod access;
@@ -28,12 +28,14 @@ mod counting;
 mod finding;
 mod forms;
 mod frees;
+mod holders;
 mod memory;
 mod new_objects;
 mod statics;
 mod strings;
 mod words;
 
+pub use holders::Holding;
 pub use memory::FlatObjects;
 pub use words::Word;
 

@@ -1,0 +1,34 @@
+-- The first pointer inside an object that leads to another.
+use Rattle.std.specs.Prelude.{◌≡◌, ℕ, cond, nat_lt, List, Option, Some, None}
+use Rattle.hs_base.specs.declared.ends.Holder.{Holder}
+use Rattle.hs_base.specs.Object.{Object, object_at}
+use Rattle.object_meaning.specs.Holding.{inside}
+use Rattle.flat_objects.specs.declared.holders.Holding.{Holding}
+use Rattle.flat_objects.specs.Memory.{Memory}
+use Rattle.flat_objects.specs.Standing.{IsThere}
+use Rattle.flat_objects.specs.Keeping.{Keeps, IsLineOf}
+
+-- the holder of the definition that was found
+abbrev pub holder_of : List Object → Holding → Holder
+holder_of objects found = inside (object_at objects found.birth).sort found.offset
+
+-- it stands in an object that is not dead, and has that object's line of birth, where it has one
+pub record IsIn (objects : List Object) (found : Holding) : Type 0 where
+  pub there : IsThere objects found.birth
+  pub line : IsLineOf (object_at objects found.birth).sort found.line
+
+-- the one in the older object
+abbrev pub older : Option Holding → Option Holding → Option Holding
+older None other = other
+older (Some one) None = Some one
+older (Some one) (Some other) = cond (nat_lt other.birth one.birth) (Some other) (Some one)
+
+-- the object of a birth is kept at an address
+pub record IsKeptObject (memory : Memory) (places : ℕ → ℕ) (objects : List Object) (birth addr : ℕ) : Type 0 where
+  pub keeps : Keeps memory places objects
+  pub there : IsThere objects birth
+  pub address : addr ≡ places birth
+
+abbrev pub IsSomeObject : Memory → ℕ → Type 0
+IsSomeObject memory addr =
+    (places : ℕ → ℕ) × (objects : List Object) × (birth : ℕ) × IsKeptObject memory places objects birth addr

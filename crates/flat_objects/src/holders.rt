@@ -1,0 +1,110 @@
+//! The first pointer inside an object that leads to another, read anew. It is sought once, behind a bad free at the end of a
+//! run: over all objects, and without any memory.
+
+ghost use Rattle.std.specs.Prelude.{◌≡◌, ◌+◌, ◌<◌, ◌≤◌, ℕ, List, option_map, IfSome};
+ghost use Rattle.hs_base.specs.Object.{Object, object_at};
+ghost use Rattle.object_meaning.specs.Holding.{first_of, inside_objects};
+ghost use Rattle.flat_objects.specs.Counting.{AreQueued};
+ghost use Rattle.flat_objects.specs.Holders.{IsIn, IsKeptObject, IsSomeObject, holder_of, older};
+ghost use Rattle.flat_objects.specs.Searching.{IsFirstSlot, IsHoldingAt, IsKeptSlots, IsSomeSlots};
+
+use crate::memory::FlatObjects;
+use heap_blocks::{HEADER_SIZE, Header, STATE_QUEUED};
+use hs_base::{Line, Steps};
+use std::sync::ledger::Ledger;
+
+/// A pointer inside an object: the birth number of the object, its line of birth if it is one of the heap, and the offset
+/// of the slot in it.
+#[derive(Clone, Copy, Debug, PartialEq, Eq)]
+pub struct Holding {
+    pub birth: u64,
+    pub line: Line,
+    pub offset: u32,
+}
+
+/// The one in the older object.
+fn older(one: Option<Holding>, other: Option<Holding>) -> Option<Holding>
+    ensures { result ≡ older one other }
+{
+    match (one, other) {
+        (Some(one), Some(other)) if other.birth < one.birth => Some(other),
+        (Some(one), _) => Some(one),
+        (None, other) => other,
+    }
+}
+
+impl FlatObjects {
+    /// The first slot of the object at a start, of a size and with the layout of a number, that holds a pointer to the object
+    /// at a target address, of a size of its own.
+    fn first_slot<L: Ledger>(
+        &self,
+        start: u32,
+        size: u32,
+        layout: u32,
+        target: u32,
+        target_size: u32,
+        steps: &mut Steps<L>,
+    ) -> Option<u32>
+        requires { IsSomeSlots self.now start size layout target target_size }
+        ensures { (places : ℕ → ℕ) (objects : List Object) (birth other : ℕ) → IsKeptSlots self.now places objects birth other start size layout target target_size → IsFirstSlot other (object_at objects birth) result }
+    {
+        let form = &self.forms.as_slice()[layout as usize];
+        for k in 0..form.count(size) {
+            let slot = form.slot(size, k);
+            let pointer = self.bytes.read(start + slot, 4, steps) as u32;
+            if target <= pointer && pointer <= target + target_size {
+                return Some(slot);
+            }
+        }
+        None
+    }
+
+    /// The first pointer to the object at a target address, of a size, inside the object whose block begins at an address, if
+    /// one does and it is not queued.
+    fn holding_at<L: Ledger>(
+        &self,
+        block: u32,
+        target: u32,
+        size: u32,
+        steps: &mut Steps<L>,
+    ) -> Option<Holding>
+        requires { (places : ℕ → ℕ) × (objects : List Object) × (birth : ℕ) × IsKeptObject self.now places objects birth target × (size ≡ (object_at objects birth).size) }
+        ensures { (places : ℕ → ℕ) (objects : List Object) (birth : ℕ) → IsKeptObject self.now places objects birth target → size ≡ (object_at objects birth).size → IsHoldingAt places objects birth block result }
+    {
+        let _ = &self.bytes;
+        let Some(start) = self.owner(block, steps) else {
+            return None;
+        };
+        if start < block || start - block != HEADER_SIZE {
+            return None;
+        }
+        let header = Header::read(&self.bytes, block, steps);
+        if header.state == STATE_QUEUED {
+            return None;
+        }
+        match self.first_slot(start, header.size, header.layout, target, size, steps) {
+            Some(offset) => Some(Holding {
+                birth: header.birth,
+                line: header.line,
+                offset,
+            }),
+            None => None,
+        }
+    }
+
+    /// The first pointer to the object at an address inside objects that are neither dead nor queued, by their births and
+    /// then by slots; none where only pointers outside of objects lead to it.
+    pub fn first_holder<L: Ledger>(&self, target: u32, steps: &mut Steps<L>) -> Option<Holding>
+        requires { IsSomeObject self.now target }
+        ensures first { (places : ℕ → ℕ) (objects : List Object) (birth : ℕ) (queue : List ℕ) → IsKeptObject self.now places objects birth target → AreQueued objects queue → option_map (holder_of objects) result ≡ first_of (inside_objects queue birth objects) }
+        ensures inside { (places : ℕ → ℕ) (objects : List Object) (birth : ℕ) → IsKeptObject self.now places objects birth target → IfSome result (IsIn objects) }
+    {
+        let size = Header::read_size(&self.bytes, target - HEADER_SIZE, steps);
+        let mut first = None;
+        for granule in 0..self.heap.end() / 16 {
+            let found = self.holding_at(16 * granule, target, size, steps);
+            first = older(first, found);
+        }
+        first
+    }
+}
