@@ -37,11 +37,8 @@ built_lib lib.Memset h = h
 -- what a statement that is built does is built
 built_op : (place : ℕ → ℕ) (kind : StmKind) (n : ℕ) → IsBuiltStatement kind → machine.IsBuiltOp (doing place kind n).op
 built_op place (stm.Realloc r p m t) n h = h
-built_op place (stm.Free p) n h = h
 built_op place (stm.Copy p q m) n h = h
 built_op place (stm.Clear p m) n h = h
-built_op place stm.Enter n h = h
-built_op place stm.Leave n h = h
 built_op place (stm.Lib name r args) n h = built_lib name h
 built_op place (stm.Return None) n h = tt
 built_op place (stm.Return (Some a)) n h = tt

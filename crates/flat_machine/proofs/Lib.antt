@@ -1,6 +1,10 @@
 pub mod Stacks
+pub mod Numbered
 pub mod WordLists
+pub mod Stales
 pub mod Stays
+pub mod Pins
+pub mod Holders
 pub mod Plain
 pub mod Hands
 pub mod Entered
@@ -9,6 +13,7 @@ pub mod Accesses
 pub mod Texts
 pub mod Prints
 pub mod OneByte
+pub mod Inputs
 pub mod Cuts
 pub mod Reached
 pub mod Goods
@@ -17,9 +22,13 @@ pub mod Loops
 pub mod Starts
 pub mod Movements
 pub mod Makings
+pub mod Checked
+pub mod Frees
+pub mod Counts
 pub mod Tables
 pub mod Placing
 pub mod Started
 pub mod Firsts
+pub mod Walked
 pub mod Spending
 pub mod Lasting

@@ -2,14 +2,16 @@ pub mod Words
 pub mod Kept
 pub mod Stacked
 pub mod Standing
+pub mod Pinning
+pub mod Holding
 pub mod Leading
 pub mod Putting
 pub mod Writing
-pub mod Running
 pub mod Groups
 pub mod Built
 pub mod Loaded
 pub mod Well
+pub mod Running
 pub mod First
 pub mod Machined
 pub mod Loading

@@ -1,7 +1,7 @@
 //! The active calls.
 
-ghost use Rattle.std.specs.Prelude.{◌≡◌, ◌+◌, ◌*◌, ◌<◌, ◌≤◌, ◌^◌, ◌++◌, [], ◌∷◌, ℕ, IfOk, IsTrue, false, map, drop, length, slice_index_or};
-ghost use Rattle.flat_machine.specs.Kept.{Active, GoesBack, at_point, onward, put};
+ghost use Rattle.std.specs.Prelude.{◌≡◌, ◌+◌, ◌*◌, ◌/◌, ◌<◌, ◌≤◌, ◌^◌, ◌++◌, [], ◌∷◌, ℕ, IfOk, IsTrue, false, map, drop, take, length, slice_index_or};
+ghost use Rattle.flat_machine.specs.Kept.{Active, GoesBack, at_point, call_number, onward, put, registers_of};
 ghost use Rattle.flat_machine.specs.Words.{no_word, first_word};
 
 use crate::call::Call;
@@ -10,6 +10,26 @@ use flat_objects::Word;
 use hs_base::NoMemory;
 use std::alloc::Global;
 use std::marker::Model;
+
+/// A call among those that wait, and the running one behind them.
+fn call_in(waiting: &[Call], running: Call, k: usize) -> Call
+    ensures { result ≡ slice_index_or waiting.now k running }
+{
+    if k < waiting.len() { waiting[k] } else { running }
+}
+
+/// The word of a register, of which the words from one place to another are.
+fn word_in(words: &[Word], base: usize, end: usize, r: u32) -> Word
+    ensures { result ≡ slice_index_or (drop base (take end words.now)) r no_word }
+{
+    let end = end.min(words.len());
+    let r = r as usize;
+    if base < end && r < end - base {
+        words[base + r]
+    } else {
+        Word::Number(0)
+    }
+}
 
 /// The active calls. Memory for a full stack is taken when they are made.
 #[derive(Drop)]
@@ -68,6 +88,53 @@ impl Calls {
         ensures { result + self.now.used ≡ self.now.room }
     {
         self.room - self.running.used
+    }
+
+    /// How many calls wait.
+    pub(crate) fn waiting(&self) -> usize
+        ensures { result ≡ length self.now.waiting }
+    {
+        self.waiting.len()
+    }
+
+    /// The number of the function of a call, where calls are numbered from the oldest on.
+    pub(crate) fn func_of(&self, k: usize) -> u32
+        ensures { result ≡ (call_number self.now k).func }
+    {
+        call_in(self.waiting.as_slice(), self.running, k).func
+    }
+
+    /// The instruction that a call is at.
+    pub(crate) fn point_of(&self, k: usize) -> usize
+        ensures { result ≡ (call_number self.now k).point }
+    {
+        call_in(self.waiting.as_slice(), self.running, k).point
+    }
+
+    /// The word of a register of a call.
+    pub(crate) fn word_of(&self, k: usize, r: u32) -> Word
+        ensures { result ≡ slice_index_or (call_number self.now k).words r no_word }
+    {
+        if k >= self.waiting.len() {
+            return self.word(r);
+        }
+        let base = call_in(self.waiting.as_slice(), self.running, k).base;
+        let end = call_in(self.waiting.as_slice(), self.running, k + 1).base;
+        word_in(self.words.as_slice(), base, end, r)
+    }
+
+    /// How many registers all calls can have at once.
+    pub(crate) fn most_registers(&self) -> u32
+        ensures { result ≡ self.now.room / 8 }
+    {
+        self.room / 8
+    }
+
+    /// The registers of all calls fit the stack, in 8 bytes each.
+    pub(crate) fn registers_fit(&self)
+        ensures { 8 * registers_of self.now ≤ self.now.room }
+    {
+        let _room = self.room;
     }
 
     /// The number of the running function.

@@ -7,7 +7,7 @@ ghost use Rattle.code_meaning.specs.CodeState.{CodeState};
 ghost use Rattle.code_meaning.specs.CodeMeaning.{hand_or_act, handed_value, unsigned};
 ghost use Rattle.flat_machine.specs.Standing.{Stands};
 ghost use Rattle.flat_machine.specs.Groups.{IsHanding};
-ghost use Rattle.flat_machine.specs.Leading.{Alone};
+ghost use Rattle.flat_machine.specs.Leading.{Alone, HandsFresh};
 
 use crate::state::State;
 use flat_code::{Instr, Op};
@@ -27,7 +27,7 @@ impl State {
         requires room { length self.old.handed < self.old.most }
         requires handing { IsHanding op }
         requires here { op ≡ ops.HandStatic → instr.a < length self.old.statics }
-        ensures { (code : Program) (line : ℕ) (places : ℕ → ℕ) (c : CodeState) → Stands places c self.old → Alone places c self.old (hand_or_act code line instr (handed_value c.state.running instr op) c) self.new (Ok tt) }
+        ensures { (code : Program) (line : ℕ) (places : ℕ → ℕ) (c : CodeState) → Stands places c self.old → HandsFresh instr op c → Alone places c self.old (hand_or_act code line instr (handed_value c.state.running instr op) c) self.new (Ok tt) }
     {
         match op {
             Op::HandReg => {

@@ -2,7 +2,9 @@
 
 ghost use Rattle.std.specs.Prelude.{◌≡◌, ◌+◌, ◌<◌, ◌^◌, ℕ};
 ghost use Rattle.flat_code.specs.declared.program.Code.{Code as Program};
+ghost use Rattle.flat_code.specs.declared.instructions.Op.TheVariants as ops;
 ghost use Rattle.flat_objects.specs.Keeping.{IsKept};
+ghost use Rattle.flat_objects.specs.Counting.{IsStorable};
 ghost use Rattle.code_meaning.specs.CodeState.{CodeState};
 ghost use Rattle.code_meaning.specs.CodeMeaning.{act};
 ghost use Rattle.flat_machine.specs.Words.{address_at};
@@ -21,6 +23,7 @@ impl State {
         requires point { self.old.calls.running.point + 1 < 2 ^ 64 }
         requires memory { IsMemory op }
         requires kept { IsKept self.old.memory (address_at self.old.handed 0) }
+        requires stores { op ≡ ops.Storep → IsStorable self.old.memory (address_at self.old.handed 0) (address_at self.old.handed 1) }
         ensures { (code : Program) (places : ℕ → ℕ) (c : CodeState) → Stands places c self.old → Alone places c self.old (act code line instr op c.handed c.numbers c.state) self.new result }
     {
         let addr = self.address(0);

@@ -1,13 +1,14 @@
 //! The statics of a code in a new memory (C99 6.2.4, 6.7.8).
 
-ghost use Rattle.std.specs.Prelude.{◌≡◌, ◌+◌, ◌<◌, ◌≤◌, [], ℕ, IfOk, length, map};
+ghost use Rattle.std.specs.Prelude.{◌≡◌, ◌+◌, ◌<◌, ◌≤◌, ◌^◌, [], ℕ, IfOk, length, map};
 ghost use Rattle.hs_base.specs.Place.{block_size};
 ghost use Rattle.adjusters.specs.ObjectSlots.{element_of};
 ghost use Rattle.flat_code.specs.WellFormed.{IsWellFormed};
-ghost use Rattle.flat_objects.specs.Memory.{SameFrame};
+ghost use Rattle.flat_objects.specs.Memory.{SameFrame, pin_room};
 ghost use Rattle.flat_objects.specs.Keeping.{Keeps};
+ghost use Rattle.flat_objects.specs.Counting.{Tracks};
 ghost use Rattle.code_meaning.specs.Entering.{layout_in};
-ghost use Rattle.flat_machine.specs.Loading.{HasPlaced, HasRoom, HasStarted, blocks_length};
+ghost use Rattle.flat_machine.specs.Loading.{HasPlaced, HasRoom, HasStarted, blocks_length, no_frees};
 
 use c_types::Layout;
 use flat_code::{Code, StaticInit};
@@ -85,6 +86,7 @@ fn place_statics<L: Ledger>(
     requires formed { IsWellFormed code.now }
     requires room { HasRoom code.now objects.old }
     requires empty { (places : ℕ → ℕ) → Keeps objects.old places [] }
+    requires fresh { (places : ℕ → ℕ) → Tracks objects.old places [] no_frees }
     ensures placed { IfOk result (λ addrs. HasPlaced code.now objects.new addrs.items (length code.now.statics)) }
     ensures frame { SameFrame objects.old objects.new }
 {
@@ -138,6 +140,7 @@ fn memory_with<L: Ledger>(
     alloc: Global,
     code: &Code,
     limits: Limits,
+    pins: u32,
     blank: Blank,
 ) -> Result<(FlatObjects, Vec<u32>), NoMemory>
     requires name { blank.name ≡ L.name }
@@ -146,9 +149,11 @@ fn memory_with<L: Ledger>(
     requires formed { IsWellFormed code.now }
     requires heap { limits.heap ≤ 268435456 }
     requires stack { limits.stack ≤ 67108864 }
+    requires pins { pins < 2 ^ 31 }
     ensures started { IfOk result (λ made. HasStarted code.now made.0 made.1.items (length code.now.statics)) }
     ensures heap { IfOk result (λ made. made.0.heap.len ≡ limits.heap) }
     ensures forms { IfOk result (λ made. made.0.forms ≡ map element_of code.now.layouts) }
+    ensures pins { IfOk result (λ made. pin_room made.0 ≡ pins) }
 {
     let mut steps = Steps::<L>::new(blank);
     let locals = (limits.stack + 15) / 16 * 16;
@@ -158,6 +163,7 @@ fn memory_with<L: Ledger>(
         statics_length(code),
         locals,
         limits.heap,
+        pins,
     )?;
     let addrs = place_statics(alloc, &mut objects, code, &mut steps)?;
     start_statics(&mut objects, code, addrs.as_slice(), &mut steps);
@@ -165,18 +171,21 @@ fn memory_with<L: Ledger>(
 }
 
 /// A memory with the statics of a code, which hold what they hold first, and their addresses. Its heap has the size of the
-/// limits, and its range of memory locals that of the stack, rounded up.
+/// limits, and its range of memory locals that of the stack, rounded up. It has room for so many pins at once.
 pub(crate) fn memory(
     alloc: Global,
     code: &Code,
     limits: Limits,
+    pins: u32,
 ) -> Result<(FlatObjects, Vec<u32>), NoMemory>
     requires formed { IsWellFormed code.now }
     requires heap { limits.heap ≤ 268435456 }
     requires stack { limits.stack ≤ 67108864 }
+    requires pins { pins < 2 ^ 31 }
     ensures started { IfOk result (λ made. HasStarted code.now made.0 made.1.items (length code.now.statics)) }
     ensures heap { IfOk result (λ made. made.0.heap.len ≡ limits.heap) }
     ensures forms { IfOk result (λ made. made.0.forms ≡ map element_of code.now.layouts) }
+    ensures pins { IfOk result (λ made. pin_room made.0 ≡ pins) }
 {
-    memory_with::<Brand>(alloc, code, limits, Blank::new(1))
+    memory_with::<Brand>(alloc, code, limits, pins, Blank::new(1))
 }

@@ -1,6 +1,6 @@
 //! One instruction.
 
-ghost use Rattle.std.specs.Prelude.{◌≡◌, ◌+◌, ◌<◌, ◌<ℤ◌, ◌≤◌, ◌^◌, [], ℕ, pos, List, All, IfOk, Some, map, length, slice_get, slice_index, slice_index_or};
+ghost use Rattle.std.specs.Prelude.{◌≡◌, ◌+◌, ◌-◌, ◌<◌, ◌<ℤ◌, ◌≤◌, ◌^◌, [], ℕ, pos, List, All, IfOk, Some, map, length, slice_get, slice_index, slice_index_or};
 ghost use Rattle.hs_base.specs.Trace.{Event};
 ghost use Rattle.c_print.specs.Format.{IsGiven};
 ghost use Rattle.c_print.specs.Pieces.{pieces_of};
@@ -15,14 +15,16 @@ ghost use Rattle.flat_machine.specs.Words.{address_at};
 ghost use Rattle.flat_machine.specs.Standing.{Stands};
 ghost use Rattle.flat_machine.specs.Groups.{IsHanding, IsValues, IsJump, IsMemory, IsPointers, IsMaking, IsAlone, IsBuiltLib};
 ghost use Rattle.flat_machine.specs.Built.{IsBuilt, IsBuiltOp};
-ghost use Rattle.flat_machine.specs.Loaded.{IsLoaded};
-ghost use Rattle.flat_machine.specs.Well.{IsWell};
-ghost use Rattle.flat_machine.specs.Leading.{Alone, Counted, Moves, Seen, WaitsAtCall, HasNoLocal, MayHand, MayMake, MayCall};
+ghost use Rattle.flat_machine.specs.Loaded.{HasPins, IsLoaded};
+ghost use Rattle.flat_machine.specs.Pinning.{CountsWell, IsStanding};
+ghost use Rattle.flat_machine.specs.Well.{IsGoodSoFar, IsWell};
+ghost use Rattle.flat_machine.specs.Leading.{Alone, Counted, Moves, Seen, WaitsAtCall, HasNoLocal, HandsFresh, MayHand, MayMake, MayCall};
 
 use crate::calling::chosen;
 use crate::loaded::Loaded;
 use crate::state::State;
 use c_print::Piece;
+use code_soundness::running_pins_are_fresh;
 use flat_code::{Code, Instr, Op};
 use flat_objects::Word;
 use hs_base::{End, Items, Line, Sink, Source};
@@ -51,7 +53,8 @@ fn call(
     requires built { IsBuilt code.now }
     requires loaded { IsLoaded code.now loaded.now }
     requires may { MayCall code.now instr state.old }
-    ensures { (places : ℕ → ℕ) (c : CodeState) → Stands places c state.old → instr.op ≡ ops.Call → Alone places c state.old (hand_or_act code.now line instr (handed_value c.state.running instr ops.Call) c) state.new result }
+    requires standing { IsStanding state.old }
+    ensures { (places : ℕ → ℕ) (c : CodeState) → Stands places c state.old → CountsWell state.old c → instr.op ≡ ops.Call → Alone places c state.old (hand_or_act code.now line instr (handed_value c.state.running instr ops.Call) c) state.new result }
 {
     let f = instr.b as usize;
     let Some(callee) = code.funcs.get(f) else {
@@ -84,7 +87,11 @@ fn act_alone(
     requires may { op ≡ ops.Call → MayCall code.now instr state.old }
     requires waits { WaitsAtCall code.now state.old.calls.waiting }
     requires locals { HasNoLocal code.now state.old.calls }
-    ensures { (places : ℕ → ℕ) (c : CodeState) → Stands places c state.old → instr.op ≡ op → Alone places c state.old (hand_or_act code.now line instr (handed_value c.state.running instr op) c) state.new result }
+    requires standing { IsStanding state.old }
+    requires pins { HasPins code.now state.old.pins }
+    requires deep { state.old.memory.scopes.depth < 2 ^ 64 - 1 }
+    requires open { op ≡ ops.Leave → 0 < state.old.memory.scopes.depth }
+    ensures { (places : ℕ → ℕ) (c : CodeState) → Stands places c state.old → CountsWell state.old c → HandsFresh instr op c → instr.op ≡ op → Alone places c state.old (hand_or_act code.now line instr (handed_value c.state.running instr op) c) state.new result }
 {
     match op {
         Op::HandReg | Op::HandInt | Op::HandUnsigned | Op::HandNull | Op::HandStatic => {
@@ -100,6 +107,7 @@ fn act_alone(
         }
         Op::Add | Op::Sub | Op::Diff | Op::Pcmp(..) => state.act_pointers(line, instr, op),
         Op::Malloc | Op::Calloc => state.act_making(line, instr, op),
+        Op::Free | Op::Enter | Op::Leave => state.act_freeing(line, instr, op),
         Op::Call => call(state, code, loaded, line, instr),
         Op::Return => state.act_return(code, Word::Number(0)),
         Op::Give => {
@@ -124,10 +132,12 @@ pub(crate) fn one_step<I: Source, O: Sink>(
     requires well { IsWell code.now state.old }
     requires input { I.faults input.old + 1 < 2 ^ 64 }
     requires out { O.faults out.old + 1 < 2 ^ 64 }
-    ensures told { (places : ℕ → ℕ) (c : CodeState) (trace : List Event) (taken : List ℕ) → Stands places c state.old → I.left input.old ≡ Some c.state.input → O.taken out.old ≡ Some taken → Seen places c state.old (step code.now trace c) c.state.input taken result state.new (I.left input.new) (O.taken out.new) }
+    ensures told { (places : ℕ → ℕ) (c : CodeState) (trace : List Event) (taken : List ℕ) → Stands places c state.old → IsGoodSoFar code.now c → I.left input.old ≡ Some c.state.input → O.taken out.old ≡ Some taken → Seen places c state.old (step code.now trace c) c.state.input taken result state.new (I.left input.new) (O.taken out.new) }
     ensures faults { Counted result (I.faults input.old) (I.faults input.new) (O.faults out.old) (O.faults out.new) }
-    ensures moves { (places : ℕ → ℕ) (c : CodeState) → Stands places c state.old → (left : List ℕ) × All IsByte left × Moves state.old (step code.now [] (record c { state = with_input left c.state })) state.new result }
+    ensures moves { (places : ℕ → ℕ) (c : CodeState) → Stands places c state.old → IsGoodSoFar code.now c → (left : List ℕ) × All IsByte left × Moves state.old (step code.now [] (record c { state = with_input left c.state })) state.new result }
 {
+    running_pins_are_fresh();
+    state.registers_fit();
     let point = state.point();
     let Some(instr) = code.instrs.get(point) else {
         unreachable!()

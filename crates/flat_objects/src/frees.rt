@@ -15,13 +15,6 @@ use hs_base::{BadFree, Line, Steps};
 use std::sync::ledger::Ledger;
 
 impl FlatObjects {
-    /// How many scopes are open.
-    pub fn scopes(&self) -> u64
-        ensures { result ≡ self.now.scopes.depth }
-    {
-        self.scopes.depth()
-    }
-
     /// Opens a scope.
     pub fn enter(&mut self)
         requires { self.old.scopes.depth < 2 ^ 64 - 1 }
@@ -30,6 +23,13 @@ impl FlatObjects {
         ensures frame { SameFrame self.old self.new }
     {
         self.scopes.enter();
+    }
+
+    /// How many scopes are open.
+    pub fn scopes(&self) -> u64
+        ensures { result ≡ self.now.scopes.depth }
+    {
+        self.scopes.depth()
     }
 
     /// Queues the heap object that starts at an address, which a free at a line frees. The free is bad, and nothing

@@ -6,7 +6,7 @@ use Rattle.flat_machine.specs.Kept.{Kept, gone_to}
 use Rattle.flat_machine.specs.Lasting.{MakesSteps}
 use Rattle.flat_machine.proofs.Lasting.{made_refused, made_spent}
 use Rattle.flat_machine.proofs.Stepped.{cost_is, no_cost}
-use Rattle.flat_machine.proofs.Starts.{spent, stops_spent, goes, refused, reached_called, room_called, less_called, well_called, main_is_there, main_no_none, line_no_none}
+use Rattle.flat_machine.proofs.Starts.{spent, stops_spent, goes, refused, reached_called, room_called, good_so_far, less_called, well_called, main_is_there, main_no_none, line_no_none}
 use Rattle.flat_machine.proofs.running.begin.Goals as goal
 
 pub unreachable-requires : goal.unreachable-requires
@@ -61,7 +61,8 @@ returns-clause-reaches c = λ input n room taken same stack heap.
     let goes = c.go_to.ensures ∙ ap (λ (x : Entry). gone_to c.take_step.new.self x.first) main in
     let le : c.in-Some-get-2.cost.now ≤ room.stack = omega (arith, c.if-cost-from.false, c.from.ensures, stack) in
     let less = less_called c.args.code.now c.requires.formed c.requires.built c.args.stack c.args.state.now c.requires.first c.in-Some.line.now c.in-Some.ensures.item c.run_begins_well.ensures c.requires.bytes c.take_step.new.self.steps steps c.in-Some-get-2.cost.now cost in
-    reached_called c.args.code.now c.requires.formed c.requires.built c.args.stack c.args.state.now c.requires.first c.in-Some.line.now c.in-Some.ensures.item input c.take_step.new.self.steps steps c.in-Some-get-2.cost.now cost c.take_step.new.self c.go_to.new.self yes.1 goes n room taken same heap le less
+    let good = good_so_far c.args.code.now c.requires.formed c.requires.built c.args.stack c.args.state.now c.requires.first c.in-Some.line.now c.in-Some.ensures.item c.run_begins_well.ensures c.requires.bytes c.take_step.new.self.steps steps c.in-Some-get-2.cost.now cost input in
+    reached_called c.args.code.now c.requires.formed c.requires.built c.args.stack c.args.state.now c.requires.first c.in-Some.line.now c.in-Some.ensures.item input c.take_step.new.self.steps steps c.in-Some-get-2.cost.now cost c.take_step.new.self c.go_to.new.self yes.1 goes n room taken same heap le good less
 
 pub returns-then-not-take_step-clause-made : goal.returns-then-not-take_step-clause-made
 returns-then-not-take_step-clause-made c = λ input n room same stack.

@@ -3,6 +3,7 @@ use Rattle.hs_base.specs.Trace.{bytes_out}
 use Rattle.flat_machine.specs.Kept.{Kept}
 use Rattle.flat_machine.specs.Lasting.{MakesSteps, left_at}
 use Rattle.flat_machine.proofs.Lasting.{made_end}
+use Rattle.flat_machine.proofs.Inputs.{good_more}
 use Rattle.flat_machine.proofs.Reached.{reached_more, reached_end}
 use Rattle.flat_machine.proofs.Loops.{well_next, less_next, room_next, less_state, run_counts}
 use Rattle.flat_machine.proofs.running.end_of_run.Goals as goal
@@ -30,7 +31,7 @@ instructions-preserved g c =
       room = room_is ∙ known.room;
       told = λ left n room taken stack first.
           let r = known.told left n room taken stack first in
-          reached_more c.args.code.now left n room taken c.instructions.state c.one_step.new.state _ _ _ _ r (room_is ∙ known.room ∙ stack) (λ after now. less_state c.args.code.now c.requires.formed c.requires.built c.step_stays_good.ensures c.step_leaves_less.ensures c.instructions.state c.one_step.new.state known.well moves r.now after r.stands now) (told r.stands.places r.now r.trace (taken ++ bytes_out r.trace) r.stands.stands r.is_left r.is_taken);
+          reached_more c.args.code.now left n room taken c.instructions.state c.one_step.new.state _ _ _ _ r (good_more c.args.code.now c.requires.formed c.step_stays_good.ensures r.now r.good r.trace) (room_is ∙ known.room ∙ stack) (λ after now. less_state c.args.code.now c.requires.formed c.requires.built c.step_stays_good.ensures c.step_leaves_less.ensures c.instructions.state c.one_step.new.state known.well moves r.now after r.stands now) (told r.stands.places r.now r.trace (taken ++ bytes_out r.trace) r.stands.stands r.good r.is_left r.is_taken);
     }
 
 pub instructions-smaller : goal.instructions-smaller
@@ -43,7 +44,7 @@ returns-in-Err-clause-told g c = λ left n room taken stack first.
     let told = rw c.in-Err.is at c.one_step.ensures.told in
     let known = c.instructions.invariant in
     let r = known.told left n room taken stack first in
-    reached_end c.args.code.now left n room taken c.instructions.state c.one_step.new.state _ _ _ _ r (known.room ∙ stack) c.in-Err.end (told r.stands.places r.now r.trace (taken ++ bytes_out r.trace) r.stands.stands r.is_left r.is_taken)
+    reached_end c.args.code.now left n room taken c.instructions.state c.one_step.new.state _ _ _ _ r (known.room ∙ stack) c.in-Err.end (told r.stands.places r.now r.trace (taken ++ bytes_out r.trace) r.stands.stands r.good r.is_left r.is_taken)
 
 pub returns-in-Err-clause-faults : goal.returns-in-Err-clause-faults
 returns-in-Err-clause-faults g c =
@@ -57,4 +58,4 @@ returns-in-Err-clause-made g c = λ left n room taken stack first.
     let r = known.told left n room taken stack first in
     let steps : c.allow.new.self.steps ≡ left_at c.in-Err.end c.instructions.state.steps = ap (λ (x : Kept). x.steps) c.allow.ensures ∙ c.left_at.ensures ∙ ap (left_at c.in-Err.end) c.steps-left.ensures in
     subst (λ (m : ℕ). MakesSteps c.args.code.now left n room c.in-Err.end (n - m)) (sym steps)
-    (made_end c.args.code.now left n room taken c.instructions.state _ _ r _ _ c.one_step.new.state (known.room ∙ stack) c.in-Err.end (told r.stands.places r.now r.trace (taken ++ bytes_out r.trace) r.stands.stands r.is_left r.is_taken))
+    (made_end c.args.code.now left n room taken c.instructions.state _ _ r _ _ c.one_step.new.state (known.room ∙ stack) c.in-Err.end (told r.stands.places r.now r.trace (taken ++ bytes_out r.trace) r.stands.stands r.good r.is_left r.is_taken))

@@ -14,4 +14,4 @@ returns-clause-placed g c =
     subst (λ (l : List ℕ). HasPlaced c.args.code.now c.new_static.new.self l (c.args.k + 1)) (sym c.in_ok-push.ensures.items)
     (next_placed c.args.code.now c.requires.formed c.args.objects.now c.requires.room c.args.addrs.now.items c.args.k c.requires.placed c.in-Some.start.now (sym c.in-Some.ensures.item)
     c.layout_of.result.now.size (ap (λ (l : Layout). l.size) c.layout_of.ensures) c.new_static.result c.new_static.ensures.place
-    c.in-Some-new_static.addr c.in-Some-new_static.is c.args.k refl c.new_static.new.self c.in-Some-new_static.ensures.added)
+    c.in-Some-new_static.addr c.in-Some-new_static.is c.args.k refl c.new_static.new.self c.in-Some-new_static.ensures.added c.in-Some-new_static.ensures.tracks)

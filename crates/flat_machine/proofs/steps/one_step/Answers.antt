@@ -8,8 +8,10 @@ use Rattle.meaning_run.specs.Leading.{with_input}
 use Rattle.code_meaning.specs.CodeState.{same_numbers}
 use Rattle.code_meaning.specs.CodeMeaning.{step, act, handed_value, hand_or_act}
 use Rattle.flat_machine.proofs.Stays.{stands_input}
-use Rattle.flat_machine.proofs.OneByte.{no_bytes}
-use Rattle.flat_machine.proofs.Goods.{waits, no_locals, kept, built_here, may_hand, not_local, not_start, element_size, may_make, may_call, integer_lib, no_instr, no_line}
+use Rattle.flat_machine.specs.Well.{IsGoodSoFar}
+use Rattle.flat_machine.proofs.Inputs.{no_bytes, good_input}
+use Rattle.flat_machine.proofs.Goods.{hands_fresh, waits, no_locals, kept, built_here, may_hand, not_local, not_start, element_size, may_make, may_call, integer_lib, no_instr, no_line}
+use Rattle.flat_machine.proofs.Counts.{counts_well, stands_well, one_scope_more, some_scope}
 use Rattle.flat_machine.proofs.Stepped.{lib_same, step_is, step_acts, seen_alone, moves_alone, counts_alone, alone_of, given_at, read_at, found, found_line, seen_as, moves_as}
 use Rattle.flat_machine.proofs.steps.one_step.Goals as goal
 
@@ -32,7 +34,7 @@ pub act_lib-requires-clause-kept : goal.act_lib-requires-clause-kept
 act_lib-requires-clause-kept g c = kept c.args.code.now c.requires.formed c.requires.built c.args.state.now c.requires.well
 
 pub returns-in-Lib-clause-told : goal.returns-in-Lib-clause-told
-returns-in-Lib-clause-told g c = λ places s trace taken h l t.
+returns-in-Lib-clause-told g c = λ places s trace taken h good l t.
     let at = found c.args.code.now.instrs c.point-point.result c.args.state.now.calls.running.point c.in-Some.instr.now c.point-point.ensures c.in-Some.ensures.item in
     let line = found_line c.args.code.now.lines c.point-point.result c.args.state.now.calls.running.point c.in-Some-get.line.now c.point-point.ensures c.in-Some-get.ensures.item in
     let name = integer_lib c.args.code.now c.requires.formed c.requires.built c.args.state.now c.requires.well c.in-Some.instr.now at c.in-Lib.name c.in-Lib.is in
@@ -42,7 +44,7 @@ returns-in-Lib-clause-told g c = λ places s trace taken h l t.
     seen_as c.args.state.now c.act_lib.new.self (same_numbers s.numbers next) (step c.args.code.now trace s) (acts ∙ sym (lib_same c.in-Lib.name name s.handed s.numbers next)) c.act_lib.result places s s.state.input taken _ _ told
 
 pub returns-in-Lib-clause-moves : goal.returns-in-Lib-clause-moves
-returns-in-Lib-clause-moves g c = λ places s h.
+returns-in-Lib-clause-moves g c = λ places s h good.
     let at = found c.args.code.now.instrs c.point-point.result c.args.state.now.calls.running.point c.in-Some.instr.now c.point-point.ensures c.in-Some.ensures.item in
     let line = found_line c.args.code.now.lines c.point-point.result c.args.state.now.calls.running.point c.in-Some-get.line.now c.point-point.ensures c.in-Some-get.ensures.item in
     let name = integer_lib c.args.code.now c.requires.formed c.requires.built c.args.state.now c.requires.well c.in-Some.instr.now at c.in-Lib.name c.in-Lib.is in
@@ -62,7 +64,7 @@ pub act_printf-requires-clause-kept : goal.act_printf-requires-clause-kept
 act_printf-requires-clause-kept g c = kept c.args.code.now c.requires.formed c.requires.built c.args.state.now c.requires.well
 
 pub returns-in-Printf-clause-told : goal.returns-in-Printf-clause-told
-returns-in-Printf-clause-told g c = λ places s trace taken h l t.
+returns-in-Printf-clause-told g c = λ places s trace taken h good l t.
     let at = found c.args.code.now.instrs c.point-point.result c.args.state.now.calls.running.point c.in-Some.instr.now c.point-point.ensures c.in-Some.ensures.item in
     let line = found_line c.args.code.now.lines c.point-point.result c.args.state.now.calls.running.point c.in-Some-get.line.now c.point-point.ensures c.in-Some-get.ensures.item in
     let pieces = c.pieces_at-pieces.ensures ∙ ap (λ formats. slice_index_or formats c.in-Some.instr.now.b []) c.as_slice.ensures in
@@ -72,7 +74,7 @@ returns-in-Printf-clause-told g c = λ places s trace taken h l t.
     rw l (seen_as c.args.state.now c.act_printf.new.self _ (step c.args.code.now trace s) acts c.act_printf.result places s s.state.input taken _ _ told)
 
 pub returns-in-Printf-clause-moves : goal.returns-in-Printf-clause-moves
-returns-in-Printf-clause-moves g c = λ places s h.
+returns-in-Printf-clause-moves g c = λ places s h good.
     let at = found c.args.code.now.instrs c.point-point.result c.args.state.now.calls.running.point c.in-Some.instr.now c.point-point.ensures c.in-Some.ensures.item in
     let line = found_line c.args.code.now.lines c.point-point.result c.args.state.now.calls.running.point c.in-Some-get.line.now c.point-point.ensures c.in-Some-get.ensures.item in
     let pieces = c.pieces_at-pieces.ensures ∙ ap (λ formats. slice_index_or formats c.in-Some.instr.now.b []) c.as_slice.ensures in
@@ -121,25 +123,50 @@ act_alone-requires-clause-waits g c = waits c.args.code.now c.requires.formed c.
 pub act_alone-requires-clause-locals : goal.act_alone-requires-clause-locals
 act_alone-requires-clause-locals g c = no_locals c.args.code.now c.requires.formed c.requires.built c.args.state.now c.requires.well
 
+pub act_alone-requires-clause-standing : goal.act_alone-requires-clause-standing
+act_alone-requires-clause-standing g c =
+    let w = c.requires.well in
+    (w.places, w.state, stands_well c.args.code.now c.requires.formed c.args.state.now w c.requires.built c.running_pins_are_fresh.ensures c.registers_fit.ensures)
+
+pub act_alone-requires-clause-pins : goal.act_alone-requires-clause-pins
+act_alone-requires-clause-pins g c = c.requires.well.ready.pins
+
+pub act_alone-requires-clause-deep : goal.act_alone-requires-clause-deep
+act_alone-requires-clause-deep g c = one_scope_more c.args.code.now c.args.state.now c.requires.well
+
+pub act_alone-requires-clause-open : goal.act_alone-requires-clause-open
+act_alone-requires-clause-open g c = λ is.
+    let at = found c.args.code.now.instrs c.point-point.result c.args.state.now.calls.running.point c.in-Some.instr.now c.point-point.ensures c.in-Some.ensures.item in
+    some_scope c.args.code.now c.requires.formed c.args.state.now c.requires.well c.in-Some.instr.now at is
+
 pub returns-in_default-op-clause-told : goal.returns-in_default-op-clause-told
-returns-in_default-op-clause-told g c = λ places s trace taken h l t.
+returns-in_default-op-clause-told g c = λ places s trace taken h good l t.
     let at = found c.args.code.now.instrs c.point-point.result c.args.state.now.calls.running.point c.in-Some.instr.now c.point-point.ensures c.in-Some.ensures.item in
     let line = found_line c.args.code.now.lines c.point-point.result c.args.state.now.calls.running.point c.in-Some-get.line.now c.point-point.ensures c.in-Some-get.ensures.item in
     let next = hand_or_act c.args.code.now c.in-Some-get.line.now c.in-Some.instr.now (handed_value s.state.running c.in-Some.instr.now c.in-Some.instr.now.op) s in
     let acts = step_is c.args.code.now places s c.args.state.now h c.in-Some.instr.now at c.in-Some-get.line.now line trace in
-    let told = seen_alone places s c.args.state.now next taken c.act_alone.new.state c.act_alone.result (c.act_alone.ensures places s h refl) in
+    let fresh = hands_fresh c.args.code.now places s c.args.state.now h good c.in-Some.instr.now at in
+    let counts = counts_well c.args.code.now c.requires.formed c.requires.built c.running_pins_are_fresh.ensures places s c.args.state.now good c.requires.well.ready.pins c.requires.well.ready.statics in
+    let told = seen_alone places s c.args.state.now next taken c.act_alone.new.state c.act_alone.result (c.act_alone.ensures places s h counts fresh refl) in
     rw (l, t) (seen_as c.args.state.now c.act_alone.new.state next (step c.args.code.now trace s) acts c.act_alone.result places s s.state.input taken _ _ told)
 
 pub returns-in_default-op-clause-moves : goal.returns-in_default-op-clause-moves
-returns-in_default-op-clause-moves g c = λ places s h.
+returns-in_default-op-clause-moves g c = λ places s h good.
     let at = found c.args.code.now.instrs c.point-point.result c.args.state.now.calls.running.point c.in-Some.instr.now c.point-point.ensures c.in-Some.ensures.item in
     let line = found_line c.args.code.now.lines c.point-point.result c.args.state.now.calls.running.point c.in-Some-get.line.now c.point-point.ensures c.in-Some-get.ensures.item in
     let stands = stands_input places s c.args.state.now h [] in
     let next = hand_or_act c.args.code.now c.in-Some-get.line.now c.in-Some.instr.now (handed_value s.state.running c.in-Some.instr.now c.in-Some.instr.now.op) (record s { state = with_input [] s.state }) in
     let acts = step_is c.args.code.now places (record s { state = with_input [] s.state }) c.args.state.now stands c.in-Some.instr.now at c.in-Some-get.line.now line [] in
-    let moves = moves_alone places (record s { state = with_input [] s.state }) c.args.state.now next c.act_alone.new.state c.act_alone.result (c.act_alone.ensures places (record s { state = with_input [] s.state }) stands refl) in
+    let fresh = hands_fresh c.args.code.now places (record s { state = with_input [] s.state }) c.args.state.now stands good c.in-Some.instr.now at in
+    let counts = counts_well c.args.code.now c.requires.formed c.requires.built c.running_pins_are_fresh.ensures places (record s { state = with_input [] s.state }) c.args.state.now good c.requires.well.ready.pins c.requires.well.ready.statics in
+    let moves = moves_alone places (record s { state = with_input [] s.state }) c.args.state.now next c.act_alone.new.state c.act_alone.result (c.act_alone.ensures places (record s { state = with_input [] s.state }) stands counts fresh refl) in
     ([], no_bytes, moves_as c.args.state.now c.act_alone.new.state next (step c.args.code.now [] (record s { state = with_input [] s.state })) acts c.act_alone.result moves)
 
 pub returns-in_default-op-clause-faults : goal.returns-in_default-op-clause-faults
 returns-in_default-op-clause-faults g c =
-    counts_alone c.requires.well.places c.requires.well.state c.args.state.now _ c.act_alone.new.state c.act_alone.result _ _ (c.act_alone.ensures c.requires.well.places c.requires.well.state c.requires.well.stands refl)
+    let w = c.requires.well in
+    let at = found c.args.code.now.instrs c.point-point.result c.args.state.now.calls.running.point c.in-Some.instr.now c.point-point.ensures c.in-Some.ensures.item in
+    let good : IsGoodSoFar c.args.code.now w.state = λ left bytes. good_input c.args.code.now w.state left bytes w.good in
+    let fresh = hands_fresh c.args.code.now w.places w.state c.args.state.now w.stands good c.in-Some.instr.now at in
+    let counts = counts_well c.args.code.now c.requires.formed c.requires.built c.running_pins_are_fresh.ensures w.places w.state c.args.state.now good w.ready.pins w.ready.statics in
+    counts_alone w.places w.state c.args.state.now _ c.act_alone.new.state c.act_alone.result _ _ (c.act_alone.ensures w.places w.state w.stands counts fresh refl)

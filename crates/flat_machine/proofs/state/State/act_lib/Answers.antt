@@ -7,7 +7,8 @@ use Rattle.flat_machine.proofs.Stays.{stands_input}
 use Rattle.object_meaning.specs.Builtins.{call_lib}
 use Rattle.code_meaning.specs.CodeState.{CodeState, same_numbers}
 use Rattle.flat_machine.proofs.Stepped.{seen_alone, moves_alone}
-use Rattle.flat_machine.proofs.OneByte.{no_bytes, exit_seen, abort_seen}
+use Rattle.flat_machine.proofs.Inputs.{no_bytes}
+use Rattle.flat_machine.proofs.OneByte.{exit_seen, abort_seen}
 use Rattle.flat_machine.proofs.state.State.act_lib.Goals as goal
 
 pub returns-in-Getchar-clause-told : goal.returns-in-Getchar-clause-told

@@ -34,7 +34,8 @@ returns-in-Ok-store c = λ code places s h.
     let fits : SFits w128 c.integer-n.result = search rules in
     let at = kept_here code c.args.line c.args.instr places s c.args.self.now h 0 c.address-addr.result c.address-addr.ensures in
     let changes = rw (to_z-of_z w128 c.integer-n.result fits) at (c.in-Ok-store.ensures.changes places s.state.objects (pointer_at s.handed 0) at) in
-    rw c.in-Store.is (store_alone code c.args.line c.args.instr places s c.args.self.now h c.store.new.self.memory c.go_on.new.self c.in-Store.kind c.integer-n.result c.integer-n.ensures changes c.store.ensures.frame (c.go_on.ensures ∙ ap gone_on c.store.ensures.others))
+    let tracks = rw (to_z-of_z w128 c.integer-n.result fits) at (c.store.ensures.tracks places s.state.objects (pointer_at s.handed 0) at) in
+    rw c.in-Store.is (store_alone code c.args.line c.args.instr places s c.args.self.now h c.store.new.self.memory c.go_on.new.self c.in-Store.kind c.integer-n.result c.integer-n.ensures changes tracks c.store.ensures.frame (c.go_on.ensures ∙ ap gone_on c.store.ensures.others))
 
 pub returns-in-Err-store : goal.returns-in-Err-store
 returns-in-Err-store c = λ code places s h.
@@ -47,7 +48,7 @@ pub returns-in-Ok-store_pointer : goal.returns-in-Ok-store_pointer
 returns-in-Ok-store_pointer c = λ code places s h.
     let at = kept_here code c.args.line c.args.instr places s c.args.self.now h 0 c.address-addr.result c.address-addr.ensures in
     let target = (kept_here code c.args.line c.args.instr places s c.args.self.now h 1 c.address-target.result c.address-target.ensures).stands in
-    rw c.in-Storep.is (storep_alone code c.args.line c.args.instr places s c.args.self.now h c.store_pointer.new.self.memory c.go_on-in-Ok-store_pointer.new.self (c.in-Ok-store_pointer.ensures.changes places s.state.objects (pointer_at s.handed 0) (pointer_at s.handed 1) at target) c.store_pointer.ensures.frame (c.go_on-in-Ok-store_pointer.ensures ∙ ap gone_on c.store_pointer.ensures.others))
+    rw c.in-Storep.is (storep_alone code c.args.line c.args.instr places s c.args.self.now h c.store_pointer.new.self.memory c.go_on-in-Ok-store_pointer.new.self (c.in-Ok-store_pointer.ensures.changes places s.state.objects (pointer_at s.handed 0) (pointer_at s.handed 1) at target) (c.store_pointer.ensures.tracks places s.state.objects (pointer_at s.handed 0) (pointer_at s.handed 1) at target) c.store_pointer.ensures.frame (c.go_on-in-Ok-store_pointer.ensures ∙ ap gone_on c.store_pointer.ensures.others))
 
 pub returns-in-Err-store_pointer : goal.returns-in-Err-store_pointer
 returns-in-Err-store_pointer c = λ code places s h.

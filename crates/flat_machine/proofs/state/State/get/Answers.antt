@@ -3,7 +3,8 @@ use Rattle.std.proofs.lemmas.Int.{to_z-of_z}
 use mir.Syntax.{w128}
 use mir.Val.{SFits}
 use Rattle.std.proofs.Common.{refl, []}
-use Rattle.flat_machine.proofs.OneByte.{get_seen, get_seen_end, get_failed, get_moves, get_moves_end, no_bytes}
+use Rattle.flat_machine.proofs.Inputs.{no_bytes}
+use Rattle.flat_machine.proofs.OneByte.{get_seen, get_seen_end, get_failed, get_moves, get_moves_end}
 use Rattle.flat_machine.proofs.state.State.get.Goals as goal
 
 pub returns-in-Ok-Some-clause-told : goal.returns-in-Ok-Some-clause-told
@@ -12,7 +13,7 @@ returns-in-Ok-Some-clause-told g c = λ places s taken h l.
     let gives = rw (to_z-of_z w128 c.from.result fits_n) at c.give.ensures in
     let bytes = rw c.in-Ok-Some.field-0-is at c.in-Ok-Some.ensures.bytes in
     let b = bytes s.state.input l in
-    get_seen c.args.r places s c.args.self.now c.give.new.self h c.in-Ok-Some.byte b.0 s.state.input c.from.result taken _ b.1 b.2 c.from.ensures gives
+    get_seen c.args.r places s c.args.self.now c.give.new.self h c.in-Ok-Some.byte b.0 s.state.input c.from.result taken _ (search rules) b.1 b.2 c.from.ensures gives
 
 pub returns-in-Ok-Some-clause-moves : goal.returns-in-Ok-Some-clause-moves
 returns-in-Ok-Some-clause-moves g c = λ places s h.

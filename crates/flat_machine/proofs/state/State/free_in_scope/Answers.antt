@@ -1,0 +1,26 @@
+use Rattle.std.proofs.Common.{arith, refl}
+use Rattle.flat_machine.specs.Standing.{frees_of}
+use Rattle.flat_machine.proofs.Frees.{may_free, free_refused, free_waits}
+use Rattle.flat_machine.proofs.state.State.free_in_scope.Goals as goal
+
+pub queue-requires : goal.queue-requires
+queue-requires c =
+    let q = c.requires.standing in
+    let m = c.args.self.now in
+    let h = q.2.stands in
+    let some = may_free q.0 q.1 m h c.args.addr q.1.state.scopes m.memory c.requires.address c.requires.some (omega (arith, c.requires.open, h.tracks.open_scopes)) h.keeps h.tracks in
+    (q.0, q.1.state.objects, frees_of m.pins q.1, some.0, some.1, some.3)
+
+pub returns-in-Err : goal.returns-in-Err
+returns-in-Err c = λ code places s has h counts.
+    let m = c.args.self.now in
+    let some = may_free places s m h c.args.addr s.state.scopes m.memory c.requires.address c.requires.some (omega (arith, c.requires.open, h.tracks.open_scopes)) h.keeps h.tracks in
+    let a = c.in-Err.ensures.answer places s.state.objects (frees_of m.pins s) some.0 some.1 some.3 in
+    free_refused places s m h c.args.line some.0 some.1 some.2 code c.in-Err.bad a.0 a.1 c.queue.new.self
+
+pub returns : goal.returns
+returns c = λ code places s has h counts.
+    let m = c.args.self.now in
+    let some = may_free places s m h c.args.addr s.state.scopes m.memory c.requires.address c.requires.some (omega (arith, c.requires.open, h.tracks.open_scopes)) h.keeps h.tracks in
+    let a = c.in_default.ensures.answer places s.state.objects (frees_of m.pins s) some.0 some.1 some.3 in
+    free_waits places s m h c.args.line some.0 some.1 some.2 a.0 a.1 s.state.scopes c.queue.new.self.memory a.2 c.queue.new.self c.in_default.ensures.others code c.go_on.new.self refl (omega (arith, c.requires.open, h.tracks.open_scopes)) c.in_default.ensures.frame c.go_on.ensures

@@ -1,0 +1,135 @@
+//! Instructions that free objects, and the scopes in which a free waits (this project's own: C99 7.20.3.2 leaves a pointer to a
+//! freed object indeterminate).
+
+ghost use Rattle.std.specs.Prelude.{◌≡◌, ◌+◌, ◌-◌, ◌<◌, ◌^◌, [], ℕ};
+ghost use Rattle.hs_base.specs.State.{State as Situation};
+ghost use Rattle.flat_code.specs.declared.program.Code.{Code as Program};
+ghost use Rattle.flat_code.specs.declared.instructions.Op.TheVariants as ops;
+ghost use Rattle.object_meaning.specs.Values.{pointer_at};
+ghost use Rattle.code_meaning.specs.CodeState.{CodeState};
+ghost use Rattle.code_meaning.specs.CodeMeaning.{act};
+ghost use Rattle.code_meaning.specs.Checking.{checked, leave};
+ghost use Rattle.code_meaning.specs.Freeing.{free};
+ghost use Rattle.flat_machine.specs.Words.{address_at};
+ghost use Rattle.flat_machine.specs.Standing.{Stands};
+ghost use Rattle.flat_machine.specs.Pinning.{CountsWell, IsStanding};
+ghost use Rattle.flat_machine.specs.Loaded.{HasPins};
+ghost use Rattle.flat_machine.specs.Groups.{IsFreeing};
+ghost use Rattle.flat_machine.specs.Leading.{Alone, Checks};
+
+use crate::state::State;
+use flat_code::{Instr, Op};
+use hs_base::{BadFree, End, Holder, Line};
+
+impl State {
+    /// Closes the outermost scope, and goes on. The pointers that count at the instruction are pinned for the time of the check. Where
+    /// an object is held, it answers the bad free and the first holder.
+    fn check(&mut self) -> Result<(), (BadFree, Option<Holder>)>
+        requires point { self.old.calls.running.point + 1 < 2 ^ 64 }
+        requires open { self.old.memory.scopes.depth ≡ 1 }
+        requires standing { IsStanding self.old }
+        ensures { (code : Program) (first : ℕ → ℕ) (before : Situation) (places : ℕ → ℕ) (c : CodeState) → HasPins code self.old.pins → Stands places c self.old → CountsWell self.old c → Checks places c self.old (checked code first before [] c.numbers c.state) self.new result }
+    {
+        self.pin();
+        match self.close_scope() {
+            Ok(()) => {
+                self.unpin();
+                self.go_on();
+                Ok(())
+            }
+            Err(bad) => Err((bad, self.first_holder())),
+        }
+    }
+
+    /// Frees the object at an address where no scope is open: the free has one of its own.
+    fn free_alone(&mut self, line: Line, addr: u32) -> Result<(), End>
+        requires point { self.old.calls.running.point + 1 < 2 ^ 64 }
+        requires open { self.old.memory.scopes.depth ≡ 0 }
+        requires standing { IsStanding self.old }
+        requires address { addr ≡ address_at self.old.handed 0 }
+        requires some { 0 < addr }
+        ensures { (code : Program) (places : ℕ → ℕ) (c : CodeState) → HasPins code self.old.pins → Stands places c self.old → CountsWell self.old c → Alone places c self.old (free code line (pointer_at c.handed 0) c.numbers c.state) self.new result }
+    {
+        self.open_scope();
+        if let Err(bad) = self.queue(addr, line) {
+            return Err(End::BadFree(bad, None));
+        }
+        match self.check() {
+            Ok(()) => Ok(()),
+            Err((bad, holder)) => Err(End::BadFree(bad, holder)),
+        }
+    }
+
+    /// Frees the object at an address where a scope is open: it waits for the end of that.
+    fn free_in_scope(&mut self, line: Line, addr: u32) -> Result<(), End>
+        requires point { self.old.calls.running.point + 1 < 2 ^ 64 }
+        requires open { 0 < self.old.memory.scopes.depth }
+        requires standing { IsStanding self.old }
+        requires address { addr ≡ address_at self.old.handed 0 }
+        requires some { 0 < addr }
+        ensures { (code : Program) (places : ℕ → ℕ) (c : CodeState) → HasPins code self.old.pins → Stands places c self.old → CountsWell self.old c → Alone places c self.old (free code line (pointer_at c.handed 0) c.numbers c.state) self.new result }
+    {
+        if let Err(bad) = self.queue(addr, line) {
+            return Err(End::BadFree(bad, None));
+        }
+        self.go_on();
+        Ok(())
+    }
+
+    /// Frees an object. A free of null does nothing.
+    fn free(&mut self, line: Line) -> Result<(), End>
+        requires point { self.old.calls.running.point + 1 < 2 ^ 64 }
+        requires standing { IsStanding self.old }
+        ensures { (code : Program) (places : ℕ → ℕ) (c : CodeState) → HasPins code self.old.pins → Stands places c self.old → CountsWell self.old c → Alone places c self.old (free code line (pointer_at c.handed 0) c.numbers c.state) self.new result }
+    {
+        let addr = self.address(0);
+        if addr == 0 {
+            self.go_on();
+            return Ok(());
+        }
+        if self.scopes() == 0 {
+            self.free_alone(line, addr)
+        } else {
+            self.free_in_scope(line, addr)
+        }
+    }
+
+    /// Closes a scope, the outermost one with a check.
+    fn leave(&mut self) -> Result<(), End>
+        requires point { self.old.calls.running.point + 1 < 2 ^ 64 }
+        requires open { 0 < self.old.memory.scopes.depth }
+        requires standing { IsStanding self.old }
+        ensures { (code : Program) (places : ℕ → ℕ) (c : CodeState) → HasPins code self.old.pins → Stands places c self.old → CountsWell self.old c → Alone places c self.old (leave code c.state.scopes c.numbers c.state) self.new result }
+    {
+        if self.scopes() == 1 {
+            return match self.check() {
+                Ok(()) => Ok(()),
+                Err((bad, holder)) => Err(End::BadFree(bad, holder)),
+            };
+        }
+        let _ = self.close_scope();
+        self.go_on();
+        Ok(())
+    }
+
+    /// An instruction that frees an object, or opens or closes a scope.
+    pub(crate) fn act_freeing(&mut self, line: Line, instr: Instr, op: Op) -> Result<(), End>
+        requires point { self.old.calls.running.point + 1 < 2 ^ 64 }
+        requires freeing { IsFreeing op }
+        requires deep { self.old.memory.scopes.depth < 2 ^ 64 - 1 }
+        requires open { op ≡ ops.Leave → 0 < self.old.memory.scopes.depth }
+        requires standing { IsStanding self.old }
+        ensures { (code : Program) (places : ℕ → ℕ) (c : CodeState) → HasPins code self.old.pins → Stands places c self.old → CountsWell self.old c → Alone places c self.old (act code line instr op c.handed c.numbers c.state) self.new result }
+    {
+        match op {
+            Op::Free => self.free(line),
+            Op::Enter => {
+                self.open_scope();
+                self.go_on();
+                Ok(())
+            }
+            Op::Leave => self.leave(),
+            _ => unreachable!(),
+        }
+    }
+}

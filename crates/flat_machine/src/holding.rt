@@ -1,0 +1,107 @@
+//! The first holder of an object that is held, which is searched once, where a bad free ends the run.
+
+ghost use Rattle.std.specs.Prelude.{◌≡◌, ◌<◌, ◌^◌, ◌∷◌, ◌++◌, [], ℕ, List, Some, find, reverse};
+ghost use Rattle.std.specs.List.{flat_map};
+ghost use Rattle.hs_base.specs.Freeing.{is_pointer_to};
+ghost use Rattle.hs_base.specs.Object.{Object};
+ghost use Rattle.hs_base.specs.State.{Frame as Situation};
+ghost use Rattle.object_meaning.specs.Holding.{first_of};
+ghost use Rattle.counted_meaning.specs.Pinning.{pointer_of_register};
+ghost use Rattle.code_meaning.specs.CodeState.{CodeState};
+ghost use Rattle.flat_objects.specs.Standing.{IsThere};
+ghost use Rattle.flat_objects.specs.Keeping.{KeepsAt, IsKept};
+ghost use Rattle.flat_machine.specs.Kept.{call_number};
+ghost use Rattle.flat_objects.specs.Holders.{IsIn, holder_of};
+ghost use Rattle.flat_machine.specs.Pinning.{HasSorts, IsNamed, NamesHeld};
+ghost use Rattle.flat_machine.specs.Holding.{HoldsIn, IsHolding, in_frame};
+ghost use Rattle.flat_machine.specs.Loaded.{HasPins};
+ghost use Rattle.flat_code.specs.declared.program.Code.{Code as Program};
+ghost use Rattle.code_meaning.specs.Checking.{holders};
+
+use crate::calls::Calls;
+use crate::counted;
+use crate::state::State;
+use crate::words::address_in;
+use flat_objects::{FlatObjects, Holding};
+use hs_base::{Holder, Pointer};
+
+/// The holder that a pointer inside an object is, where so many statics are the first objects and all others are of the heap.
+pub(crate) fn inside_holder(found: Holding, statics: usize) -> Holder
+    requires { statics < 2 ^ 32 }
+    ensures { (objects : List Object) → HasSorts objects statics → IsIn objects found → result ≡ holder_of objects found }
+{
+    if found.birth < statics as u64 {
+        Holder::Global {
+            index: found.birth as u32,
+            offset: found.offset,
+        }
+    } else {
+        Holder::Block {
+            line: found.line,
+            offset: found.offset,
+        }
+    }
+}
+
+/// Says whether an address leads to the object that starts at another.
+fn leads_to(objects: &FlatObjects, addr: u32, start: u32) -> bool
+    requires one { IsKept objects.now addr }
+    requires other { IsKept objects.now start }
+    ensures { (places : ℕ → ℕ) (all : List Object) (p : Pointer) (birth : ℕ) → KeepsAt objects.now places all p addr → IsThere all birth → start ≡ places birth → result ≡ is_pointer_to birth p }
+{
+    counted::difference(objects, addr, start, 1).is_ok()
+}
+
+/// The first of some registers of a call whose pointer leads to the object that starts at an address. Calls are numbered from the
+/// oldest on.
+pub(crate) fn first_register(
+    objects: &FlatObjects,
+    calls: &Calls,
+    k: usize,
+    registers: &[u32],
+    start: u32,
+) -> Option<u32>
+    requires { IsHolding objects.now (call_number calls.now k) registers.now start }
+    ensures { (places : ℕ → ℕ) (all : List Object) (frame : Situation) (birth : ℕ) → HoldsIn objects.now places all frame (call_number calls.now k) registers.now birth start → result ≡ find (λ r. is_pointer_to birth (pointer_of_register frame r)) registers.now }
+{
+    for i in 0..registers.len() {
+        let addr = address_in(calls.word_of(k, registers[i]));
+        if leads_to(objects, addr, start) {
+            return Some(registers[i]);
+        }
+    }
+    None
+}
+
+impl State {
+    /// The first of the registers that count in the calls, from the oldest on, whose pointer leads to the object that starts at an
+    /// address, which is named.
+    fn holder_in_calls(&self, start: u32) -> Option<Holder>
+        requires named { IsNamed self.now }
+        requires start { self.now.memory.scopes.named ≡ Some start }
+        ensures { (places : ℕ → ℕ) (c : CodeState) (birth : ℕ) → NamesHeld places c birth self.now → result ≡ first_of (flat_map (in_frame self.now.pins birth) (reverse c.state.waiting ++ c.state.running ∷ [])) }
+    {
+        let waiting = self.waiting();
+        for k in 0..waiting {
+            if let Some(holder) = self.holder_in(k, start) {
+                return Some(holder);
+            }
+        }
+        self.holder_in(waiting, start)
+    }
+
+    /// The first holder of the object that the memory names: inside an object, by birth, or else among the registers that count in
+    /// the calls, from the oldest on.
+    pub(crate) fn first_holder(&self) -> Option<Holder>
+        requires { IsNamed self.now }
+        ensures { (code : Program) (places : ℕ → ℕ) (c : CodeState) (birth : ℕ) → HasPins code self.now.pins → NamesHeld places c birth self.now → result ≡ first_of (holders code c.state birth c.state.queue) }
+    {
+        let Some(start) = self.held() else {
+            unreachable!()
+        };
+        if let Some(holder) = self.holder_inside(start) {
+            return Some(holder);
+        }
+        self.holder_in_calls(start)
+    }
+}

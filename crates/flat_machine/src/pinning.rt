@@ -1,0 +1,49 @@
+//! Pointers in registers that are counted.
+
+ghost use Rattle.std.specs.Prelude.{◌≡◌, ◌++◌, [], ℕ, List, slice_index_or};
+ghost use Rattle.hs_base.specs.Object.{Object};
+ghost use Rattle.flat_objects.specs.Memory.{SameFrame};
+ghost use Rattle.flat_objects.specs.Keeping.{Keeps};
+ghost use Rattle.flat_objects.specs.Counting.{Frees, Tracks};
+ghost use Rattle.flat_machine.specs.Pinning.{DoesCount, IsCountable, IsCounted, MayCount};
+
+use crate::calls::Calls;
+use crate::counted;
+use crate::words::address_in;
+use flat_objects::FlatObjects;
+use hs_base::{Items, Pointer};
+
+/// The registers that count at an instruction, and none where it has no site.
+pub(crate) fn pins_at(pins: &[Items<u32>], point: usize) -> &[u32]
+    ensures { result.now ≡ slice_index_or pins.now point [] }
+{
+    if point < pins.len() {
+        pins[point].as_slice()
+    } else {
+        &[]
+    }
+}
+
+/// Pins some registers of the running call.
+pub(crate) fn pin_registers(objects: &mut FlatObjects, calls: &Calls, registers: &[u32])
+    requires { IsCountable objects.old calls.now.running.words registers.now }
+    ensures keeps { (places : ℕ → ℕ) (all : List Object) → Keeps objects.old places all → Keeps objects.new places all }
+    ensures tracks { (places : ℕ → ℕ) (all : List Object) (frees : Frees) (pointers : List Pointer) → MayCount objects.old places all frees calls.now.running.words registers.now pointers → Tracks objects.new places all (record frees { pins = pointers ++ frees.pins }) }
+    ensures frame { SameFrame objects.old objects.new }
+{
+    for i in 0..registers.len() {
+        counted::pin(objects, address_in(calls.word(registers[i])));
+    }
+}
+
+/// Unpins some registers of the running call.
+pub(crate) fn unpin_registers(objects: &mut FlatObjects, calls: &Calls, registers: &[u32])
+    requires { IsCounted objects.old calls.now.running.words registers.now }
+    ensures keeps { (places : ℕ → ℕ) (all : List Object) → Keeps objects.old places all → Keeps objects.new places all }
+    ensures tracks { (places : ℕ → ℕ) (all : List Object) (frees : Frees) (pointers others : List Pointer) → DoesCount objects.old places all frees calls.now.running.words registers.now pointers others → Tracks objects.new places all (record frees { pins = others }) }
+    ensures frame { SameFrame objects.old objects.new }
+{
+    for i in 0..registers.len() {
+        counted::unpin(objects, address_in(calls.word(registers[i])));
+    }
+}
