@@ -11,7 +11,8 @@ pub start_pointers-requires : goal.start_pointers-requires
 start_pointers-requires g c =
     let addr = slice_index c.args.addrs.now c.args.k in
     let written = bytes_are c.args.code.now c.requires.formed c.args.objects.now c.args.addrs.now c.args.k c.requires.started c.in-Some.start.now (sym c.in-Some.ensures.item) addr refl c.as_slice.result.now c.as_slice.ensures c.start_bytes.new.self c.start_bytes.ensures.changes in
-    taking_pointers c.args.code.now c.requires.formed c.args.objects.now c.args.addrs.now c.args.k c.requires.started c.in-Some.start.now (sym c.in-Some.ensures.item) addr refl c.start_bytes.new.self written c.as_slice-2.result.now c.as_slice-2.ensures
+    let tracked = bytes_tracked c.args.code.now c.requires.formed c.args.objects.now c.args.addrs.now c.args.k c.requires.started c.in-Some.start.now (sym c.in-Some.ensures.item) addr refl c.as_slice.result.now c.as_slice.ensures c.start_bytes.new.self c.start_bytes.ensures.tracks in
+    taking_pointers c.args.code.now c.requires.formed c.args.objects.now c.args.addrs.now c.args.k c.requires.started c.in-Some.start.now (sym c.in-Some.ensures.item) addr refl c.start_bytes.new.self written c.as_slice-2.result.now c.as_slice-2.ensures tracked
 
 pub returns-clause-started : goal.returns-clause-started
 returns-clause-started g c =

@@ -1,8 +1,10 @@
-use Rattle.std.proofs.Common.{rules, ◌∙◌, ap}
+use Rattle.std.proofs.Common.{rules, ◌∙◌, ap, subst, sym}
 use Rattle.std.proofs.lemmas.Int.{to_z-of_z}
 use mir.Syntax.{w128}
 use mir.Val.{SFits}
 use Rattle.object_meaning.specs.Values.{pointer_at}
+use Rattle.flat_objects.specs.Counting.{IsStorable}
+use Rattle.flat_machine.specs.Words.{address_at}
 use Rattle.flat_machine.specs.Kept.{gone_on}
 use Rattle.flat_machine.proofs.Accesses.{kept_here, load_alone, load_traps, loadp_alone, loadp_traps, store_alone, store_traps, storep_alone, storep_traps}
 use Rattle.flat_machine.proofs.state.State.act_memory.Goals as goal
@@ -55,3 +57,9 @@ returns-in-Err-store_pointer c = λ code places s h.
     let at = kept_here code c.args.line c.args.instr places s c.args.self.now h 0 c.address-addr.result c.address-addr.ensures in
     let target = (kept_here code c.args.line c.args.instr places s c.args.self.now h 1 c.address-target.result c.address-target.ensures).stands in
     rw c.in-Storep.is (storep_traps code c.args.line c.args.instr places s c.args.self.now h c.store_pointer.new.self.memory c.store_pointer.new.self c.in-Err-store_pointer.kind (c.in-Err-store_pointer.ensures.changes places s.state.objects (pointer_at s.handed 0) (pointer_at s.handed 1) at target))
+
+pub store_pointer-requires : goal.store_pointer-requires
+store_pointer-requires c =
+    let m = c.args.self.now in
+    let stores = subst (λ t. IsStorable m.memory (address_at m.handed 0) t) (sym c.address-target.ensures) (c.requires.stores c.in-Storep.is) in
+    subst (λ a. IsStorable m.memory a c.address-target.result) (sym c.address-addr.ensures) stores
