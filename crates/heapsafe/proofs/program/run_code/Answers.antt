@@ -1,10 +1,15 @@
 -- What the machine answers for the code of a core, within the limits with which it was loaded.
 use Rattle.std.proofs.Common.{subst}
 use Rattle.hs_base.specs.Cut.{Room}
+use Rattle.core_tree.specs.declared.program.Core.{Core}
+use Rattle.compiled_code.specs.Compiled.{IsCompiled}
 use Rattle.flat_codegen.specs.Running.{RunAnswers}
 use Rattle.heapsafe.proofs.program.run_code.Goals as goal
 
 pub returns-clause-told : goal.returns-clause-told
 returns-clause-told g c = λ left taken k h.
+    let pins = c.in_ok-counted.counted.pins in
+    let compiled = subst (λ (core : Core). IsCompiled core pins c.in_ok-code.code) c.in_ok-counted.ensures.core c.in_ok-code.ensures.compiled in
+    let ascending = c.listed_pins_are_exact.ensures.ascending c.args.core.now pins c.in_ok-counted.ensures.listed in
     subst (λ (room : Room). RunAnswers c.args.core.now left c.args.steps room taken c.execute-end.result (g.I.Source.left c.execute-end.new.input) (g.O.Sink.taken c.execute-end.new.out)) (λ i. record { heap = c.in_ok-machine.ensures.heap i; stack = c.in_ok-machine.ensures.stack i })
-    (c.execute-end.ensures.told c.in_ok-machine.ensures.fresh c.args.core.now c.requires.sound c.requires.built c.in_ok-code.ensures.compiled left taken k h)
+    (c.execute-end.ensures.told c.in_ok-machine.ensures.fresh c.args.core.now pins c.requires.sound c.in_ok-counted.ensures.pins ascending c.requires.built compiled left taken k h)
