@@ -15,7 +15,11 @@ use std::marker::Model;
 fn call_in(waiting: &[Call], running: Call, k: usize) -> Call
     ensures { result ≡ slice_index_or waiting.now k running }
 {
-    if k < waiting.len() { waiting[k] } else { running }
+    if k < waiting.len() {
+        waiting[k]
+    } else {
+        running
+    }
 }
 
 /// The word of a register, of which the words from one place to another are.

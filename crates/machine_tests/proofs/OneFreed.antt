@@ -41,14 +41,14 @@ answers P p =
 scopes : HasScopes one_freed 0 one_main
 scopes =
     scopes_are one_freed one_main refl depth refl (
-        (λ low. absurd (omega arith)),
-        (λ low. one_of (λ n. 0 ≡ depth n) 2 refl),
-        (λ low. one_of (λ n. 0 ≡ depth n) 3 refl),
-        (λ low. one_of (λ n. 0 ≡ depth n) 4 refl),
-        (λ low. one_of (λ n. 0 ≡ depth n) 5 refl),
-        (λ low. one_of (λ n. 0 ≡ depth n) 6 refl),
-        (λ low. All-nil _),
-        tt,
+      (λ low. absurd (omega arith)),
+      (λ low. one_of (λ n. 0 ≡ depth n) 2 refl),
+      (λ low. one_of (λ n. 0 ≡ depth n) 3 refl),
+      (λ low. one_of (λ n. 0 ≡ depth n) 4 refl),
+      (λ low. one_of (λ n. 0 ≡ depth n) 5 refl),
+      (λ low. one_of (λ n. 0 ≡ depth n) 6 refl),
+      (λ low. All-nil _),
+      tt,
     ) ((λ low. absurd (omega arith)), (λ low. tt), (λ low. tt), (λ low. tt), (λ low. tt), (λ low. tt), (λ low. refl), tt)
 
 function : IsFunction one_freed 0 one_main
@@ -92,15 +92,15 @@ well_formed = record {
   );
   functions = only one_freed one_main refl (IsFunction one_freed) function;
   instructions = each one_freed one_main refl (IsInstr one_freed) (
-        (λ low. absurd (omega arith)),
-        (λ low. hands_number one_freed one_main refl 1 (lit≤ tt) (lit< tt) 4 (lit< tt) refl),
-        (λ low. makes one_freed one_main refl 2 (lit≤ tt) (lit< tt) refl 0 refl refl element refl),
-        (λ low. hands_register one_freed one_main refl 3 (lit≤ tt) (lit< tt) 0 refl refl),
-        (λ low. frees one_freed one_main refl 4 (lit≤ tt) (lit< tt) refl refl ([], refl, no_pins one_freed one_main refl ahead 4 (instr op.Free (pos 0)) none_read_4)),
-        (λ low. hands_number one_freed one_main refl 5 (lit≤ tt) (lit< tt) 7 (lit< tt) refl),
-        (λ low. gives one_freed one_main refl 6 refl refl),
-        tt,
-    );
+    (λ low. absurd (omega arith)),
+    (λ low. hands_number one_freed one_main refl 1 (lit≤ tt) (lit< tt) 4 (lit< tt) refl),
+    (λ low. makes one_freed one_main refl 2 (lit≤ tt) (lit< tt) refl 0 refl refl element refl),
+    (λ low. hands_register one_freed one_main refl 3 (lit≤ tt) (lit< tt) 0 refl refl),
+    (λ low. frees one_freed one_main refl 4 (lit≤ tt) (lit< tt) refl refl ([], refl, no_pins one_freed one_main refl ahead 4 (instr op.Free (pos 0)) none_read_4)),
+    (λ low. hands_number one_freed one_main refl 5 (lit≤ tt) (lit< tt) 7 (lit< tt) refl),
+    (λ low. gives one_freed one_main refl 6 refl refl),
+    tt,
+  );
   lines = refl;
   lines_from_one = from_one 1 (1 ∷ 1 ∷ 2 ∷ 2 ∷ 3 ∷ 3 ∷ []) (lit≤ tt) (from_one 1 (1 ∷ 2 ∷ 2 ∷ 3 ∷ 3 ∷ []) (lit≤ tt) (from_one 1 (2 ∷ 2 ∷ 3 ∷ 3 ∷ []) (lit≤ tt) (from_one 2 (2 ∷ 3 ∷ 3 ∷ []) (lit≤ tt) (from_one 2 (3 ∷ 3 ∷ []) (lit≤ tt) (from_one 3 (3 ∷ []) (lit≤ tt) (from_one 3 [] (lit≤ tt) (All-nil _)))))));
   layouts = one_of IsLayout link layout;

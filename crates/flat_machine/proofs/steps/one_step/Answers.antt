@@ -1,4 +1,4 @@
-use Rattle.std.proofs.Common.{[], refl, ap, sym, subst, ◌∙◌, rules}
+use Rattle.std.proofs.Common.{[], refl, ap, sym, subst, ◌∙◌}
 use Rattle.std.specs.Prelude.{All, slice_index_or}
 use Rattle.c_print.specs.Format.{IsGiven}
 use Rattle.flat_code.specs.declared.instructions.Op.TheVariants as op
@@ -6,7 +6,7 @@ use Rattle.flat_code.specs.Table.{chosen}
 use Rattle.object_meaning.specs.Builtins.{call_lib}
 use Rattle.meaning_run.specs.Leading.{with_input}
 use Rattle.code_meaning.specs.CodeState.{same_numbers}
-use Rattle.code_meaning.specs.CodeMeaning.{step, act, handed_value, hand_or_act}
+use Rattle.code_meaning.specs.CodeMeaning.{step, handed_value, hand_or_act}
 use Rattle.flat_machine.proofs.Stays.{stands_input}
 use Rattle.flat_machine.specs.Well.{IsGoodSoFar}
 use Rattle.flat_machine.proofs.Inputs.{no_bytes, good_input}

@@ -1,4 +1,4 @@
-use Rattle.std.proofs.Common.{[], arith, ap, subst, sym, ◌∙◌}
+use Rattle.std.proofs.Common.{[], ap, subst, sym, ◌∙◌}
 use Rattle.hs_base.specs.Freeing.{buried}
 use Rattle.flat_objects.specs.Counting.{Frees}
 use Rattle.flat_machine.specs.Kept.{Kept, gone_on, pins_of}

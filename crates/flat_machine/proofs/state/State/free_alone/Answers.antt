@@ -36,12 +36,15 @@ check-requires-clause-standing c =
     let some = may_free q.0 q.1 m h c.args.addr (q.1.state.scopes + 1) c.open_scope.new.self.memory c.requires.address c.requires.some (omega arith) (c.open_scope.ensures.keeps q.0 q.1.state.objects h.keeps) (c.open_scope.ensures.tracks q.0 q.1.state.objects (frees_of m.pins q.1) h.tracks) in
     let same = same_but m c.open_scope.new.self c.queue.new.self c.open_scope.ensures.others c.in_default.ensures.others in
     let frame = frame_more m.memory c.open_scope.new.self.memory c.queue.new.self.memory c.open_scope.ensures.frame c.in_default.ensures.frame in
-    let a = c.in_default.ensures.answer q.0 q.1.state.objects (record (frees_of m.pins q.1) { scopes = q.1.state.scopes + 1 }) some.0 some.1 some.3 in
-    (q.0, queued_state q.0 q.1 m h c.args.line some.0 some.1 some.2 a.0 a.1 (q.1.state.scopes + 1) c.queue.new.self.memory a.2 c.queue.new.self same, record {
-      stands = mid_stands q.0 q.1 m h c.args.line some.0 some.1 some.2 a.0 a.1 (q.1.state.scopes + 1) c.queue.new.self.memory a.2 c.queue.new.self same;
-      counts = mid_counts q.0 q.1 m h c.args.line some.0 some.1 some.2 a.0 a.1 (q.1.state.scopes + 1) c.queue.new.self.memory a.2 c.queue.new.self same q.2.counts;
-      room = mid_room q.0 q.1 m h c.args.line some.0 some.1 some.2 a.0 a.1 (q.1.state.scopes + 1) c.queue.new.self.memory a.2 c.queue.new.self same frame q.2.room;
-    })
+    let a = c.in_default.ensures.answer q.0 q.1.state.objects (record (frees_of m.pins q.1) { scopes = q.1.state.scopes + 1 }) some.0 some.1 some.3 in (
+      q.0,
+      queued_state q.0 q.1 m h c.args.line some.0 some.1 some.2 a.0 a.1 (q.1.state.scopes + 1) c.queue.new.self.memory a.2 c.queue.new.self same,
+      record {
+        stands = mid_stands q.0 q.1 m h c.args.line some.0 some.1 some.2 a.0 a.1 (q.1.state.scopes + 1) c.queue.new.self.memory a.2 c.queue.new.self same;
+        counts = mid_counts q.0 q.1 m h c.args.line some.0 some.1 some.2 a.0 a.1 (q.1.state.scopes + 1) c.queue.new.self.memory a.2 c.queue.new.self same q.2.counts;
+        room = mid_room q.0 q.1 m h c.args.line some.0 some.1 some.2 a.0 a.1 (q.1.state.scopes + 1) c.queue.new.self.memory a.2 c.queue.new.self same frame q.2.room;
+      },
+    )
 
 pub returns-in-Ok : goal.returns-in-Ok
 returns-in-Ok c = λ code places s has h counts.
