@@ -110,7 +110,8 @@ fn frees(rt: HostRuntime) -> Result<(), Fail> {
 #[test]
 fn blocks_are_used_again(rt: HostRuntime) -> Result<(), Fail> {
     let alloc = rt.alloc();
-    let text = b"int main(void){\nint i;\nfor (i = 0; i < 1000; i = i + 1) { char *p = malloc(16); free(p); }\nchar *a = malloc(16);\nchar *b = malloc(16);\na[0] = 1;\nb[0] = 1;\nreturn 0;}";
+    let text =
+        b"int main(void){\nint i;\nfor (i = 0; i < 1000; i = i + 1) { char *p = malloc(16); free(p); }\nchar *a = malloc(16);\nchar *b = malloc(16);\na[0] = 1;\nb[0] = 1;\nreturn 0;}";
     let rows: [(&[&str], &[u8], u8); 3] = [
         (
             &["run", "a.c", "--heap", "96"],

@@ -19,7 +19,7 @@ use built_cores::is_built;
 use c_elab::elab;
 use c_tree::Unit;
 use core_tree::Core;
-use count_insertion::{insert, live_tables, listed_pins_are_exact};
+use count_insertion::{insert, listed_pins_are_exact, live_tables};
 use flat_codegen::{compile, execute};
 use flat_machine::Machine;
 use hs_base::{End, Limits, NoMemory, Sink, Source};
