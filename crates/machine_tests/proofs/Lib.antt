@@ -1,4 +1,1 @@
 pub mod Built
-pub mod Lines
-pub mod OneFreed
-pub mod TwoFreed

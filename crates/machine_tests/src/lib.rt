@@ -4,5 +4,3 @@
 
 #[cfg(test)]
 mod digit;
-#[cfg(test)]
-mod frees;
