@@ -1,5 +1,5 @@
 -- The machine runs the code of the example.
-use Rattle.std.proofs.Common.{◌≡◌, ℕ, zero, suc, pos, List, [], Some, refl, subst}
+use Rattle.std.proofs.Common.{◌≡◌, ℕ, zero, suc, pos, [], Some, refl, subst}
 use Rattle.std.specs.Prelude.{slice_get}
 use Rattle.core_tree.specs.declared.statements.LibName.TheVariants.{Putchar}
 use Rattle.flat_code.specs.declared.instructions.Instr.{Instr}

@@ -1,1 +1,4 @@
 pub mod Built
+pub mod Lines
+pub mod OneFreed
+pub mod TwoFreed

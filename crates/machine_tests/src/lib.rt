@@ -4,3 +4,5 @@
 
 #[cfg(test)]
 mod digit;
+#[cfg(test)]
+mod frees;
