@@ -1,4 +1,4 @@
-mod Lowering
+pub mod Lowering
 mod Wording
 mod Chaining
 mod Covering

@@ -15,8 +15,9 @@ use heap_blocks::{HEADER_SIZE, Header};
 use hs_base::{FlatBytes, Items, Steps};
 use std::sync::ledger::Ledger;
 
-/// Takes the pointers in the slots of an object off the counts of the granules that they lead into.
-fn take_off_object<L: Ledger>(
+/// Takes the pointers in the slots of an object off the counts of the granules that they lead into. At most two steps, and
+/// two for each slot.
+pub fn take_off_object<L: Ledger>(
     bytes: &FlatBytes,
     counts: &mut Counts,
     forms: &Items<Adjuster>,
@@ -51,8 +52,13 @@ fn take_off<L: Ledger>(bytes: &FlatBytes, counts: &mut Counts, slot: u32, steps:
     }
 }
 
-/// Says whether counts are left for the block of an object.
-fn is_held<L: Ledger>(bytes: &FlatBytes, counts: &Counts, addr: u32, steps: &mut Steps<L>) -> bool
+/// Says whether counts are left for the block of an object. One step, and one for each granule of the block.
+pub fn is_held<L: Ledger>(
+    bytes: &FlatBytes,
+    counts: &Counts,
+    addr: u32,
+    steps: &mut Steps<L>,
+) -> bool
     requires inside { IsInside bytes.now addr }
     requires granules { length bytes.now ≤ 16 * length counts.now.counts }
     ensures held { result ≡ not (nat_eq (sum_by (slice_index counts.now.counts) (granules_of bytes.now addr)) 0) }

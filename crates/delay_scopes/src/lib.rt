@@ -13,7 +13,8 @@
 //! every queue that the scopes have. `specs/Freed.antt` says what a free answers and which bytes it changes,
 //! `specs/Check.antt` what the check answers and leaves.
 //!
-//! What writes between two calls leave of the queue is in [`laws`].
+//! What the check does with one object, [`take_off_object`] and [`is_held`], serves for other objects that end, too. What
+//! writes between two calls leave of the queue is in [`laws`].
 #![tactic(auto)]
 
 mod checking;
@@ -21,6 +22,7 @@ pub mod laws;
 mod releasing;
 mod scopes;
 
+pub use checking::{is_held, take_off_object};
 pub use scopes::Scopes;
 
 #[cfg(test)]

@@ -27,8 +27,24 @@ mod Numbers
 mod Released
 mod Answered
 mod Sought
+mod Storages
+mod HeapStarts
+mod Least
+mod Leaking
 pub mod Packing
 pub mod Tallies
 mod Counted
 mod Tracked
 mod Still
+mod RangesFound
+mod RangesWords
+mod RangesCounts
+mod RangesBytes
+mod RangesKept
+mod RangesMeant
+mod RangesDone
+mod RangesStill
+mod EndingObjects
+mod EndingCounts
+mod EndingBlocks
+mod EndingAnswer

@@ -256,7 +256,7 @@ module _ (locals heap : ℕ) (memory : Memory) (shape : IsMemory locals heap mem
       (λ k d less. let b = get_or frees.queue k d in ap (λ n. not (nat_eq n 0)) (counts_left b (queued_there_all k d less) ∙ sym (numbers_left b)))
 
   -- no pointer leads into a granule without a count
-  none_past : (g : ℕ) → length memory.counts.counts ≤ g → (ps : List Pointer) → All (LeadsSomewhere objects) ps → count_by (leads_into places g) ps ≡ 0
+  pub none_past : (g : ℕ) → length memory.counts.counts ≤ g → (ps : List Pointer) → All (LeadsSomewhere objects) ps → count_by (leads_into places g) ps ≡ 0
   none_past g past ps lead =
       sum_same (λ p. one_if (leads_into places g p)) (λ p. 0) ps (λ k d less. ap one_if (nowhere (get_or ps k d) (lead k d less))) ∙ zeros ps where
         nowhere : (p : Pointer) → LeadsSomewhere objects p → leads_into places g p ≡ false

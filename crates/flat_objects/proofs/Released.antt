@@ -46,7 +46,7 @@ filter_same p q (x ∷ xs) same =
     let here = same x in
     λ i. cond (here i) (x ∷ rest i) (rest i)
 
-filter_all : {X : Type 0} (p : X → Bool) (xs : List X) → All (λ x. p x ≡ true) xs → filter p xs ≡ xs
+pub filter_all : {X : Type 0} (p : X → Bool) (xs : List X) → All (λ x. p x ≡ true) xs → filter p xs ≡ xs
 filter_all p [] all = refl
 filter_all p (x ∷ xs) all =
     cond-true (p x) (x ∷ filter p xs) (filter p xs) (All-head (λ x. p x ≡ true) x xs all) ∙ ap (λ l. x ∷ l) (filter_all p xs (All-tail (λ x. p x ≡ true) x xs all))
@@ -59,7 +59,7 @@ filter_twice p q (x ∷ xs) = one (q x) (filter_twice p q xs) where
   one false rest = rest
 
 -- is the birth one of these?
-abbrev among : List ℕ → ℕ → Bool
+abbrev pub among : List ℕ → ℕ → Bool
 among queue birth = list_any (λ q. nat_eq birth q) queue
 
 not_or : (s t : Bool) → (not s && not t) ≡ not (s || t)
@@ -84,7 +84,7 @@ later_in q queue b differ (zero, less, is) = absurd (clash (sym differ ∙ eq-eq
   clash e = cc
 later_in q queue b differ (suc i, less, is) = (i, omega arith, is)
 
-among_from : (queue : List ℕ) (b : ℕ) → Contains queue b → among queue b ≡ true
+pub among_from : (queue : List ℕ) (b : ℕ) → Contains queue b → among queue b ≡ true
 among_from [] b at = absurd (omega (arith, at.1))
 among_from (q ∷ queue) b at =
     elim (cases_Bool (nat_eq b q)) [
@@ -92,7 +92,7 @@ among_from (q ∷ queue) b at =
       | inr differ ↦ ap (λ t. t || among queue b) differ ∙ among_from queue b (later_in q queue b differ at)
     ]
 
-from_among : (queue : List ℕ) (b : ℕ) → among queue b ≡ true → Contains queue b
+pub from_among : (queue : List ℕ) (b : ℕ) → among queue b ≡ true → Contains queue b
 from_among [] b e = absurd (cc)
 from_among (q ∷ queue) b e =
     elim (cases_Bool (nat_eq b q)) [
@@ -141,14 +141,14 @@ blocks_left memory places objects queue range are =
 
 -- What holds of the elements of lists of lists
 
-all_left_of : {X : Type 0} (P : X → Type 0) (xs ys : List X) → All P (xs ++ ys) → All P xs
+pub all_left_of : {X : Type 0} (P : X → Type 0) (xs ys : List X) → All P (xs ++ ys) → All P xs
 all_left_of P xs ys all = λ i d less. subst P (get_or_append_left xs ys d i less) (all i d (omega (arith, length-append xs ys)))
 
-all_right_of : {X : Type 0} (P : X → Type 0) (xs ys : List X) → All P (xs ++ ys) → All P ys
+pub all_right_of : {X : Type 0} (P : X → Type 0) (xs ys : List X) → All P (xs ++ ys) → All P ys
 all_right_of P [] ys all = all
 all_right_of P (x ∷ xs) ys all = all_right_of P xs ys (All-tail P x (xs ++ ys) all)
 
-all_of_flat : {X Y : Type 0} (P : Y → Type 0) (f : X → List Y) (xs : List X) (k : ℕ) (d : X) → k < length xs → All P (flat_map f xs) → All P (f (get_or xs k d))
+pub all_of_flat : {X Y : Type 0} (P : Y → Type 0) (f : X → List Y) (xs : List X) (k : ℕ) (d : X) → k < length xs → All P (flat_map f xs) → All P (f (get_or xs k d))
 all_of_flat P f [] k d less all = absurd (omega arith)
 all_of_flat P f (x ∷ xs) zero d less all = all_left_of P (f x) (flat_map f xs) all
 all_of_flat P f (x ∷ xs) (suc k) d less all = all_of_flat P f xs k d (omega arith) (all_right_of P (f x) (flat_map f xs) all)
@@ -165,7 +165,7 @@ links_none named base bytes held = record {
   linked = λ k less. absurd (omega arith);
 }
 
-none_held : (p : ℕ → Bool) (queue : List ℕ) → first_held p queue ≡ None → (k d : ℕ) → k < length queue → p (get_or queue k d) ≡ false
+pub none_held : (p : ℕ → Bool) (queue : List ℕ) → first_held p queue ≡ None → (k d : ℕ) → k < length queue → p (get_or queue k d) ≡ false
 none_held p [] none k d less = absurd (omega arith)
 none_held p (b ∷ queue) none k d less =
     elim (cases_Bool (p b)) [
@@ -191,7 +191,7 @@ none_waits object.Live e = cc
 none_waits (object.Queued line) e = cc
 none_waits object.Dead e = cc
 
-number_zero : (n : ℕ) → not (nat_eq n 0) ≡ false → n ≡ 0
+pub number_zero : (n : ℕ) → not (nat_eq n 0) ≡ false → n ≡ 0
 number_zero n e =
     elim (cases_Bool (nat_eq n 0)) [
       | inl same ↦ eqb-true n 0 same

@@ -18,11 +18,12 @@ use Rattle.heap_blocks.specs.Heads.{header_at}
 use Rattle.heap_blocks.specs.Held.{HeapModel, Holds, address_of, has_address, owner_of}
 use Rattle.object_meaning.specs.Holding.{counted_inside, first_of, inside, inside_objects, inside_one, is_among}
 use Rattle.flat_objects.specs.declared.holders.Holding.{Holding}
+use Rattle.flat_objects.specs.declared.holders.Storage.{Storage}
 use Rattle.flat_objects.specs.Memory.{Memory, Range, Statics, Locals, Heap, IsMemory, end_of, heap_of, range_of}
 use Rattle.flat_objects.specs.Standing.{IsThere, IsAddressOf}
 use Rattle.flat_objects.specs.Keeping.{Keeps, HasSlots, IsLineOf, IsStateOf, blocks_of}
 use Rattle.flat_objects.specs.Counting.{AreQueued}
-use Rattle.flat_objects.specs.Holders.{IsIn, IsKeptObject, holder_of, older}
+use Rattle.flat_objects.specs.Holders.{IsIn, IsKeptObject, holder_of, older, storage_of}
 use Rattle.flat_objects.specs.Searching.{HasNoneBelow, HoldsNone, IsFirstAt, IsFirstSlot, IsHolding, IsHoldingAt, IsKeptSlots}
 use Rattle.flat_objects.proofs.Apart.{objects_apart}
 use Rattle.flat_objects.proofs.Ascending.{slot_ends}
@@ -122,7 +123,7 @@ module _ (locals heap : ℕ) (memory : Memory) (shape : IsMemory locals heap mem
 -- The object whose block begins at an address
 
 -- a block that has an address is one of the list
-found_in : (heap : HeapModel) (addr start : ℕ) (held : List Block) → owner_of heap held addr ≡ Some start → (b : Block) × Contains held b × (start ≡ address_of heap b.place)
+pub found_in : (heap : HeapModel) (addr start : ℕ) (held : List Block) → owner_of heap held addr ≡ Some start → (b : Block) × Contains held b × (start ≡ address_of heap b.place)
 found_in heap addr start [] found = absurd (cc)
 found_in heap addr start (b ∷ held) found =
     elim (cases_Bool (has_address heap addr b)) [
@@ -165,7 +166,7 @@ module _ (locals heap : ℕ) (memory : Memory) (shape : IsMemory locals heap mem
       answer range (blocks_of memory places objects range) (omega (arith, lies.above)) (omega (arith, lies.below)) (keeps.held range)
       ∙ owner_is (heap_of memory range) block (blocks_of memory places objects range) own (keeps.held range) (block_is_held memory places objects b there) within ∙ ap Some address
 
-  same_place : (b c : ℕ) → IsThere objects b → IsThere objects c → places b ≡ places c → b ≡ c
+  pub same_place : (b c : ℕ) → IsThere objects b → IsThere objects c → places b ≡ places c → b ≡ c
   same_place b c b_there c_there same =
       elim (cases_eq b c) [
         | inl e ↦ e
@@ -221,8 +222,8 @@ module _ (locals heap : ℕ) (memory : Memory) (shape : IsMemory locals heap mem
         inr (subst (λ x. HasNoneBelow other (object_at objects x) (length (object_at objects x).pointers)) (sym same) none)
 
     -- one does
-    pub slots_some : (offset : ℕ) → (header.state ≡ 2 → ⊥) → IsFirstAt other (object_at objects found.birth) offset → (let h : Holding = record { birth = header.birth; line = header.line; offset = offset } in IsHoldingAt places objects other block (Some h))
-    slots_some offset not_queued first =
+    pub slots_some : (offset : ℕ) (storage : Storage) → (header.state ≡ 2 → ⊥) → storage ≡ storage_of (object_at objects found.birth).sort → IsFirstAt other (object_at objects found.birth) offset → (let h : Holding = record { birth = header.birth; storage = storage; line = header.line; offset = offset } in IsHoldingAt places objects other block (Some h))
+    slots_some offset storage not_queued storage_is first =
         let old = keeps.standing found.birth found.there in
         let same = own_header in
         let born : header.birth ≡ found.birth = ap (λ (h : Header). h.birth) same ∙ old.header.born in
@@ -231,6 +232,7 @@ module _ (locals heap : ℕ) (memory : Memory) (shape : IsMemory locals heap mem
           record {
             lies = record {
               there = subst (IsThere objects) (sym born) found.there;
+              storage = storage_is ∙ ap (λ b. storage_of (object_at objects b).sort) (sym born);
               line = subst (λ x. IsLineOf (object_at objects x).sort header.line) (sym born) (subst (IsLineOf (object_at objects found.birth).sort) (sym (ap (λ (h : Header). h.line) same)) old.header.line);
             };
             waits_not = ap (λ x. is_queued (object_at objects x).standing) born ∙ state_free (object_at objects found.birth).standing (header_at memory.bytes (places found.birth - 32)) old.header.state (λ two. not_queued (ap (λ (h : Header). h.state) same ∙ two));

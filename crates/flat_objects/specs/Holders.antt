@@ -1,9 +1,12 @@
 -- The first pointer inside an object that leads to another.
 use Rattle.std.specs.Prelude.{◌≡◌, ℕ, cond, nat_lt, List, Option, Some, None}
 use Rattle.hs_base.specs.declared.ends.Holder.{Holder}
-use Rattle.hs_base.specs.Object.{Object, object_at}
+use Rattle.hs_base.specs.Object as object
+use Rattle.hs_base.specs.Object.{Object, Sort, object_at}
 use Rattle.object_meaning.specs.Holding.{inside}
 use Rattle.flat_objects.specs.declared.holders.Holding.{Holding}
+use Rattle.flat_objects.specs.declared.holders.Storage.{Storage}
+use Rattle.flat_objects.specs.declared.holders.Storage.TheVariants as storage
 use Rattle.flat_objects.specs.Memory.{Memory}
 use Rattle.flat_objects.specs.Standing.{IsThere}
 use Rattle.flat_objects.specs.Keeping.{Keeps, IsLineOf}
@@ -12,9 +15,16 @@ use Rattle.flat_objects.specs.Keeping.{Keeps, IsLineOf}
 abbrev pub holder_of : List Object → Holding → Holder
 holder_of objects found = inside (object_at objects found.birth).sort found.offset
 
--- it stands in an object that is not dead, and has that object's line of birth, where it has one
+-- the storage of objects of a sort
+abbrev pub storage_of : Sort → Storage
+storage_of (object.Static index) = storage.Static
+storage_of (object.Local func index) = storage.Local
+storage_of (object.Heap line) = storage.Block
+
+-- it stands in an object that is not dead, and has that object's storage and its line of birth, where it has one
 pub record IsIn (objects : List Object) (found : Holding) : Type 0 where
   pub there : IsThere objects found.birth
+  pub storage : found.storage ≡ storage_of (object_at objects found.birth).sort
   pub line : IsLineOf (object_at objects found.birth).sort found.line
 
 -- the one in the older object

@@ -11,3 +11,8 @@ pub mod Moving
 pub mod Texts
 pub mod Adding
 pub mod Starting
+pub mod Ranges
+pub mod Tries
+pub mod Leaks
+pub mod Ending
+pub mod EndingSteps

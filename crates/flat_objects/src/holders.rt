@@ -5,7 +5,7 @@ ghost use Rattle.std.specs.Prelude.{◌≡◌, ◌+◌, ◌<◌, ◌≤◌, ℕ,
 ghost use Rattle.hs_base.specs.Object.{Object, object_at};
 ghost use Rattle.object_meaning.specs.Holding.{first_of, inside_objects};
 ghost use Rattle.flat_objects.specs.Counting.{AreQueued};
-ghost use Rattle.flat_objects.specs.Holders.{IsIn, IsKeptObject, IsSomeObject, holder_of, older};
+ghost use Rattle.flat_objects.specs.Holders.{IsIn, IsKeptObject, IsSomeObject, holder_of, older, storage_of};
 ghost use Rattle.flat_objects.specs.Searching.{IsFirstSlot, IsHoldingAt, IsKeptSlots, IsSomeSlots};
 
 use crate::memory::FlatObjects;
@@ -13,11 +13,23 @@ use heap_blocks::{HEADER_SIZE, Header, STATE_QUEUED};
 use hs_base::{Line, Steps};
 use std::sync::ledger::Ledger;
 
-/// A pointer inside an object: the birth number of the object, its line of birth if it is one of the heap, and the offset
-/// of the slot in it.
+/// What an object is, by the range of addresses in which it stands (C99 6.2.4 has a storage duration for each).
+#[derive(Clone, Copy, Debug, PartialEq, Eq)]
+pub enum Storage {
+    /// A static, which lives as long as the run.
+    Static,
+    /// A memory local, which lives as long as its call.
+    Local,
+    /// A block of the heap, which lives until it is freed.
+    Block,
+}
+
+/// A pointer inside an object: the birth number of the object, its storage, its line of birth if it is a block of the heap,
+/// and the offset of the slot in it.
 #[derive(Clone, Copy, Debug, PartialEq, Eq)]
 pub struct Holding {
     pub birth: u64,
+    pub storage: Storage,
     pub line: Line,
     pub offset: u32,
 }
@@ -59,6 +71,19 @@ impl FlatObjects {
         None
     }
 
+    /// The storage of the object at an address.
+    fn storage(&self, addr: u32) -> Storage
+        ensures { (places : ℕ → ℕ) (objects : List Object) (birth : ℕ) → IsKeptObject self.now places objects birth addr → result ≡ storage_of (object_at objects birth).sort }
+    {
+        if addr < self.locals_from {
+            Storage::Static
+        } else if addr < self.heap_from {
+            Storage::Local
+        } else {
+            Storage::Block
+        }
+    }
+
     /// The first pointer to the object at a target address, of a size, inside the object whose block begins at an address, if
     /// one does and it is not queued.
     fn holding_at<L: Ledger>(
@@ -85,6 +110,7 @@ impl FlatObjects {
         match self.first_slot(start, header.size, header.layout, target, size, steps) {
             Some(offset) => Some(Holding {
                 birth: header.birth,
+                storage: self.storage(start),
                 line: header.line,
                 offset,
             }),

@@ -19,23 +19,30 @@
 //! A memory also tracks what may be freed (`specs/Counting.antt`): each 16 bytes have a count of the pointers that lead into
 //! them, of those inside objects and of those that the caller pins, and the scopes that are open have a queue of freed
 //! objects. Every call that changes objects keeps this (`Tracks`). `specs/Freeing.antt` says what a free and the end of a
-//! scope answer and leave, and `specs/Holders.antt` which pointer inside an object is the first that holds another.
+//! scope answer and leave, `specs/Holders.antt` which pointer inside an object is the first that holds another,
+//! `specs/Tries.antt` what a try of a free tells, `specs/Ending.antt` what the end of the memory locals of a call answers and
+//! leaves, and `specs/Leaks.antt` which objects of the heap are left, by their lines of birth. Copies and sets of ranges of
+//! bytes (`specs/Ranges.antt`) go through `typed_copies`, where the counts follow the pointers.
 #![tactic(auto)]
 
 mod access;
 mod arithmetic;
 mod counting;
+mod ending;
 mod finding;
 mod forms;
 mod frees;
 mod holders;
+mod leaks;
 mod memory;
 mod new_objects;
+mod ranges;
 mod statics;
 mod strings;
+mod tries;
 mod words;
 
-pub use holders::Holding;
+pub use holders::{Holding, Storage};
 pub use memory::FlatObjects;
 pub use words::Word;
 

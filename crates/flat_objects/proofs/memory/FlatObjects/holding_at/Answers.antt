@@ -60,7 +60,8 @@ returns-in-Some-first_slot g c = λ places objects birth kept size.
     let begins : c.in-Some.start ≡ c.args.block + 32 = omega arith in
     let header : c.read-header.result ≡ header_at memory.bytes c.args.block = c.read-header.ensures.header ∙ ap (λ (m : Memory). header_at m.bytes c.args.block) c.self.view_is in
     let slots = kept_slots c.self.inside.locals_from c.self.inside.heap_from memory shape places objects kept.keeps birth c.args.block c.in-Some.start begins found c.read-header.result header c.args.target c.args.size kept size in
-    slots_some c.self.inside.locals_from c.self.inside.heap_from memory shape places objects kept.keeps birth c.args.block c.in-Some.start begins found c.read-header.result header c.in-Some-first_slot.offset c.if-header-eq-STATE_QUEUED.false
+    slots_some c.self.inside.locals_from c.self.inside.heap_from memory shape places objects kept.keeps birth c.args.block c.in-Some.start begins found c.read-header.result header c.in-Some-first_slot.offset c.storage.result c.if-header-eq-STATE_QUEUED.false
+    (c.storage.ensures places objects found.birth (record { keeps = kept.keeps; there = found.there; address = found.starts }))
     (c.in-Some-first_slot.ensures places objects found.birth birth slots)
 
 pub returns-then-header-eq-STATE_QUEUED : goal.returns-then-header-eq-STATE_QUEUED

@@ -1,0 +1,18 @@
+-- What a try tells of a free, which changes nothing.
+use Rattle.std.specs.Prelude.{◌≡◌, ℕ, IsTrue, List, Result, Ok, Err}
+use Rattle.hs_base.specs.declared.ends.Reason.{Reason}
+use Rattle.hs_base.specs.Freeing.{is_heap}
+use Rattle.hs_base.specs.Object.{Object, object_at}
+use Rattle.flat_objects.specs.Standing.{IsThere}
+
+-- an object of the heap starts at an address
+pub record IsHeapStart (places : ℕ → ℕ) (objects : List Object) (addr : ℕ) : Type 0 where
+  pub birth : ℕ
+  pub there : IsThere objects birth
+  pub heap : IsTrue (is_heap (object_at objects birth).sort)
+  pub address : addr ≡ places birth
+
+-- the object of a birth may be freed where the definition names it; or its free would be bad for the definition's reason
+abbrev pub AnswersTry : ℕ → Result Unit Reason → Result ℕ Reason → Type 0
+AnswersTry birth (Ok u) meant = meant ≡ Ok birth
+AnswersTry birth (Err reason) meant = meant ≡ Err reason
