@@ -10,7 +10,6 @@ pub mod Bodies
 pub mod Wholes
 pub mod Closing
 pub mod Starts
-pub mod BuiltCodes
 pub mod Answering
 pub mod FirstEvents
 pub mod Cuts

@@ -1,21 +1,11 @@
--- Laws of the code of cores and of their runs.
+-- Laws of the runs of cores.
 use Rattle.std.specs.Prelude.{◌≡◌, ℕ, List, None}
 use Rattle.hs_base.specs.Cut.{Room, ending_of}
 use Rattle.core_tree.specs.declared.program.Core.{Core}
 use Rattle.core_tree.specs.Sound.{IsSound}
 use Rattle.object_meaning.specs.Meaning.{meaning}
-use Rattle.built_cores.specs.Built.{IsBuilt}
-use Rattle.counted_meaning.specs.Pinning.{Pins}
-use Rattle.compiled_code.specs.Compiled.{IsCompiled}
-use Rattle.flat_code.specs.declared.program.Code.{Code}
-use Rattle.flat_machine.specs.Built as machine
 use Rattle.flat_codegen.specs.Running.{cut_of}
 use Rattle.flat_codegen.specs.Lasting.{cut_run}
-
--- the code of a core that is built is code that the machine runs
-abbrev pub CodeIsBuilt : Type 0
-CodeIsBuilt =
-    (core : Core) (pins : Pins) (code : Code) → IsBuilt core → IsCompiled core pins code → machine.IsBuilt code
 
 -- the cut run has the trace of the meaning, cut, and ends as the cut does; where nothing is cut off it is the meaning
 pub record IsCutRun (core : Core) (input : List ℕ) (n : ℕ) (room : Room) : Type 0 where

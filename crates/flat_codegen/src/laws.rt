@@ -1,11 +1,6 @@
-//! What holds of the code of every core that is built, and of runs that are cut.
+//! What holds of runs that are cut.
 
-ghost use Rattle.flat_codegen.specs.Laws.{CodeIsBuilt, CutRunsAreCut};
-
-/// The code of a core that is built is code that the machine runs.
-pub fn code_is_built()
-    ensures { CodeIsBuilt }
-{}
+ghost use Rattle.flat_codegen.specs.Laws.{CutRunsAreCut};
 
 /// The run of a sound core that stops just before its first event for which the heap or the stack has no room is the cut of
 /// its meaning: it has the trace that is kept and the end of that event, and where every event has room it is the meaning.

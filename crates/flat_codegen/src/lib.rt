@@ -20,6 +20,6 @@ mod running;
 mod sites;
 mod statics;
 
-pub use laws::{code_is_built, cut_runs_are_cut};
+pub use laws::cut_runs_are_cut;
 pub use program::compile;
 pub use running::execute;

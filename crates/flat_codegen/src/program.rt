@@ -2,7 +2,6 @@
 
 ghost use Rattle.std.specs.Prelude.{◌≡◌, ◌<◌, ◌≤◌, ◌+◌, ◌*◌, ◌^◌, ℕ, Bool, List, length, map, pos, IfOk, slice_get};
 ghost use Rattle.std.specs.List.{sum_by};
-ghost use Rattle.built_cores.specs.Built.{IsBuilt};
 ghost use Rattle.hs_base.specs.Trace.{Ending, Event};
 ghost use Rattle.code_soundness.specs.Laws.{HoldsBytes};
 ghost use Rattle.core_tree.specs.Sound.{IsSound, code_size, is_main, main_of};
@@ -15,11 +14,9 @@ ghost use Rattle.compiled_code.specs.Compiled.{IsCompiled};
 ghost use Rattle.compiled_meaning.specs.SameRun.{SameRun};
 ghost use Rattle.compiled_meaning.specs.Testing.{tested_code, tested_core};
 ghost use Rattle.flat_code.specs.WellFormed.{AreShort, IsWellFormed};
-ghost use Rattle.flat_machine.specs.Built.{IsBuilt as IsBuiltCode};
 
 use crate::emitter::Emitter;
 use crate::handing::instr;
-use crate::laws::code_is_built;
 use crate::statics::{inits, layouts};
 use compiled_form::codes_are_well_formed;
 use compiled_meaning::code_means_core;
@@ -87,8 +84,7 @@ fn code_of(alloc: Global, counted: &Counted) -> Result<Code, NoMemory>
     Ok(code)
 }
 
-/// The code of a sound core with the pins that `count_insertion` lists for it. It is well formed, and where the core is built
-/// it is code that the machine runs. Its run is that of the core by numbers: the same trace, the same end, the same number for
+/// The code of a sound core with the pins that `count_insertion` lists for it. It is well formed. Its run is that of the core by numbers: the same trace, the same end, the same number for
 /// each object, and the same last state, but for the points that frames are at, also where a test of the events cuts both runs
 /// off. There are at most 14 instructions for each statement and each operand of the core, one for each function and one at
 /// the start.
@@ -103,13 +99,11 @@ pub fn compile(alloc: Global, counted: &Counted) -> Result<Code, NoMemory>
     ensures formed { IfOk result IsWellFormed }
     ensures bytes { IfOk result HoldsBytes }
     ensures few { IfOk result (λ code. length code.instrs ≤ 14 * sum_by code_size counted.now.core.funcs + length counted.now.core.funcs + 1) }
-    ensures built { IfOk result (λ code. IsBuilt counted.now.core → IsBuiltCode code) }
     ensures means { IfOk result (λ code. (input : List ℕ) (n : ℕ) → SameRun (core_meaning counted.now.core counted.now.pins input n) (code_meaning code input n)) }
     ensures tested { IfOk result (λ code. (fits : List Event → Event → Bool) (refused : Event → Ending) (input : List ℕ) (n : ℕ) → SameRun (tested_core counted.now.core counted.now.pins fits refused input n) (tested_code code fits refused input n)) }
 {
     codes_are_well_formed();
     code_means_core();
-    code_is_built();
     listed_pins_are_exact();
     code_of(alloc, counted)
 }

@@ -1,7 +1,6 @@
 //! Running the code of a core.
 
 ghost use Rattle.std.specs.Prelude.{◌≡◌, ◌+◌, ◌<◌, ◌≤◌, ◌^◌, ℕ, List, IfSome, None, Some};
-ghost use Rattle.built_cores.specs.Built.{IsBuilt};
 ghost use Rattle.code_soundness.specs.Laws.{HoldsBytes};
 ghost use Rattle.compiled_code.specs.Compiled.{IsCompiled};
 ghost use Rattle.compiled_code.specs.Sites.{AreAscending};
@@ -11,7 +10,6 @@ ghost use Rattle.counted_meaning.specs.Pinning.{AreExact, Pins};
 ghost use Rattle.flat_code.specs.WellFormed.{IsWellFormed};
 ghost use Rattle.flat_codegen.specs.Lasting.{MakesSteps};
 ghost use Rattle.flat_codegen.specs.Running.{RunAnswers};
-ghost use Rattle.flat_machine.specs.Built.{IsBuilt as IsBuiltCode};
 ghost use Rattle.flat_machine.specs.Machined.{IsOf, steps_made};
 ghost use Rattle.flat_machine.specs.Running.{RunCounts};
 
@@ -21,7 +19,7 @@ use flat_code::Code;
 use flat_machine::Machine;
 use hs_base::{End, Sink, Source};
 
-/// Runs the code of a core that is sound and built and has exact pins, with at most so many steps (C99 5.1.2.3, with limits of this project's
+/// Runs the code of a core that is sound and has exact pins, with at most so many steps (C99 5.1.2.3, with limits of this project's
 /// own). Where input and output are told, it writes exactly the bytes that the core writes before its first event for which
 /// the heap or the stack has no room, takes exactly the bytes that it reads, and answers its end, or that of that event. All
 /// output is put before a byte of input is asked for and before the run ends. It ends by a fault of the input or the output
@@ -35,13 +33,12 @@ pub fn execute<I: Source, O: Sink>(
     budget: u64,
 ) -> End
     requires formed { IsWellFormed code.now }
-    requires built { IsBuiltCode code.now }
     requires bytes { HoldsBytes code.now }
     requires loaded { IsOf code.now machine.old }
     requires budget { budget ≤ 1000000000 }
     requires input { I.faults input.old + 1 < 2 ^ 64 }
     requires out { O.faults out.old + 1 < 2 ^ 64 }
-    ensures told { machine.old.ended ≡ None → (core : Core) (pins : Pins) → IsSound core → AreExact core pins → AreAscending pins → IsBuilt core → IsCompiled core pins code.now → (left taken : List ℕ) → I.left input.old ≡ Some left → O.taken out.old ≡ Some taken → RunAnswers core left budget (record { heap = machine.old.kept.memory.heap.len; stack = machine.old.stack }) taken result (I.left input.new) (O.taken out.new) }
+    ensures told { machine.old.ended ≡ None → (core : Core) (pins : Pins) → IsSound core → AreExact core pins → AreAscending pins → IsCompiled core pins code.now → (left taken : List ℕ) → I.left input.old ≡ Some left → O.taken out.old ≡ Some taken → RunAnswers core left budget (record { heap = machine.old.kept.memory.heap.len; stack = machine.old.stack }) taken result (I.left input.new) (O.taken out.new) }
     ensures made { machine.old.ended ≡ None → (core : Core) (pins : Pins) → IsSound core → AreExact core pins → AreAscending pins → IsCompiled core pins code.now → (left taken : List ℕ) → I.left input.old ≡ Some left → O.taken out.old ≡ Some taken → MakesSteps core left budget (record { heap = machine.old.kept.memory.heap.len; stack = machine.old.stack }) result (steps_made machine.new) }
     ensures faults { machine.old.ended ≡ None → RunCounts result (I.faults input.old) (I.faults input.new) (O.faults out.old) (O.faults out.new) }
     ensures ends { machine.new.ended ≡ Some result }

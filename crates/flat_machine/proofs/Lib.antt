@@ -3,6 +3,9 @@ pub mod Numbered
 pub mod WordLists
 pub mod Stales
 pub mod Stays
+pub mod Owned
+pub mod EndedObjects
+pub mod Ends
 pub mod Pins
 pub mod Holders
 pub mod Plain
@@ -22,6 +25,11 @@ pub mod Loops
 pub mod Starts
 pub mod Movements
 pub mod Makings
+pub mod MadeLocals
+pub mod Costs
+pub mod Ranged
+pub mod Behind
+pub mod Grown
 pub mod Checked
 pub mod Frees
 pub mod Counts

@@ -2,13 +2,14 @@ pub mod Words
 pub mod Kept
 pub mod Stacked
 pub mod Standing
+pub mod Locals
 pub mod Pinning
+pub mod Growing
 pub mod Holding
 pub mod Leading
 pub mod Putting
 pub mod Writing
 pub mod Groups
-pub mod Built
 pub mod Loaded
 pub mod Well
 pub mod Running

@@ -1,23 +1,20 @@
 //! Calls and returns (C99 6.5.2.2, 6.8.6.4).
 
-ghost use Rattle.std.specs.Prelude.{◌≡◌, ◌+◌, ◌<◌, ◌≤◌, ◌^◌, [], ℕ, Some, length, slice_get};
+ghost use Rattle.std.specs.Prelude.{◌≡◌, ◌+◌, ◌<◌, ◌^◌, ℕ, All, IsSome, Some, slice_get};
 ghost use Rattle.hs_base.specs.declared.values.Value.{Value};
-ghost use Rattle.hs_base.specs.Cost.{call_cost};
 ghost use Rattle.object_meaning.specs.Builtins.{byte_in};
-ghost use Rattle.flat_code.specs.declared.program.Code.{Code as Program};
 ghost use Rattle.flat_code.specs.Table.{chosen};
 ghost use Rattle.flat_objects.specs.Standing.{StandsFor};
 ghost use Rattle.code_meaning.specs.CodeState.{CodeState};
 ghost use Rattle.code_meaning.specs.CodeMeaning.{act};
+ghost use Rattle.code_meaning.specs.Entering.{cost_of};
 ghost use Rattle.code_meaning.specs.Returning.{give_back};
-ghost use Rattle.flat_objects.specs.Memory.{pin_room};
-ghost use Rattle.flat_machine.specs.Kept.{pins_of, pin_count};
 ghost use Rattle.flat_machine.specs.Standing.{Stands};
-ghost use Rattle.flat_machine.specs.Pinning.{CountsWell, HasCounted, IsCountable};
-ghost use Rattle.flat_machine.specs.Leading.{Alone, WaitsAtCall, HasNoLocal};
+ghost use Rattle.flat_machine.specs.Pinning.{CountsWell, IsReturning, IsStanding};
+ghost use Rattle.flat_machine.specs.Leading.{Alone, HasAllLocals, MayCall, WaitsAtCall};
 
 use crate::state::State;
-use crate::words::integer_in;
+use crate::words::{address_in, integer_in};
 use flat_code::{Code, Entry, Instr, Op};
 use flat_objects::Word;
 use hs_base::{End, IntKind, Line};
@@ -38,21 +35,22 @@ pub(crate) fn chosen(instr: Instr) -> Option<u32>
 
 impl State {
     /// Takes a step, and calls a function that costs so much, if the stack has room for it. While the call waits, the pointers that
-    /// count at it are pinned.
+    /// count at it are pinned. The memory locals of the function are made.
     pub(crate) fn act_call(
         &mut self,
+        code: &Code,
         line: Line,
         instr: Instr,
         callee: &Entry,
         cost: u64,
     ) -> Result<(), End>
         requires point { self.old.calls.running.point + 1 < 2 ^ 64 }
-        requires locals { callee.now.mems ≡ [] }
-        requires cost { cost ≡ call_cost (length callee.now.kinds) [] }
-        requires arguments { length self.old.handed ≤ length callee.now.kinds }
-        requires pins { IsCountable self.old.memory self.old.calls.running.words (pins_of self.old.pins self.old.calls.running) }
-        requires room { pin_count self.old.pins self.old.calls ≤ pin_room self.old.memory }
-        ensures { (code : Program) (places : ℕ → ℕ) (c : CodeState) → Stands places c self.old → CountsWell self.old c → slice_get code.funcs instr.b ≡ Some callee.now → Alone places c self.old (act code line instr Op.Call c.handed c.numbers c.state) self.new result }
+        requires cost { cost ≡ cost_of code.now (Some callee.now) }
+        requires there { All (λ n. IsSome (slice_get code.now.layouts n)) callee.now.mems }
+        requires here { slice_get code.now.funcs instr.b ≡ Some callee.now }
+        requires may { MayCall code.now instr self.old }
+        requires standing { IsStanding self.old }
+        ensures { (places : ℕ → ℕ) (c : CodeState) → Stands places c self.old → CountsWell self.old c → Alone places c self.old (act code.now line instr Op.Call c.handed c.numbers c.state) self.new result }
     {
         if !self.take_step() {
             return Err(End::Spent);
@@ -60,18 +58,27 @@ impl State {
         if cost > u64::from(self.stack_left()) {
             return Err(End::OutOfStack(line));
         }
+        self.all_fit();
         self.pin();
         self.enter(instr.b, callee, cost as u32);
+        self.make_locals(code, callee);
         Ok(())
     }
 
-    /// A return with an answer, of a function without memory locals.
-    pub(crate) fn act_return(&mut self, code: &Code, answer: Word) -> Result<(), End>
+    /// A return with an answer. The memory locals of the call end, and the first that escapes ends the run.
+    pub(crate) fn act_return(&mut self, code: &Code, line: Line, answer: Word) -> Result<(), End>
         requires call { WaitsAtCall code.now self.old.calls.waiting }
-        requires locals { HasNoLocal code.now self.old.calls }
-        requires pins { HasCounted self.old }
-        ensures { (line : ℕ) (places : ℕ → ℕ) (c : CodeState) (v : Value) → Stands places c self.old → StandsFor places c.state.objects v answer → Alone places c self.old (give_back code.now line v c.numbers c.state) self.new result }
+        requires locals { HasAllLocals code.now self.old.calls }
+        requires returns { IsReturning self.old answer }
+        ensures { (places : ℕ → ℕ) (c : CodeState) (v : Value) → Stands places c self.old → CountsWell self.old c → StandsFor places c.state.objects v answer → Alone places c self.old (give_back code.now line v c.numbers c.state) self.new result }
     {
+        if let Some(local) = self.end_locals(address_in(answer)) {
+            return Err(End::Escape {
+                func: self.func(),
+                local,
+                line,
+            });
+        }
         if !self.back() {
             return Err(End::Exit(byte_in(integer_in(answer))));
         }

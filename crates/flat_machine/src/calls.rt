@@ -1,7 +1,7 @@
 //! The active calls.
 
-ghost use Rattle.std.specs.Prelude.{◌≡◌, ◌+◌, ◌*◌, ◌/◌, ◌<◌, ◌≤◌, ◌^◌, ◌++◌, [], ◌∷◌, ℕ, IfOk, IsTrue, false, map, drop, take, length, slice_index_or};
-ghost use Rattle.flat_machine.specs.Kept.{Active, GoesBack, at_point, call_number, onward, put, registers_of};
+ghost use Rattle.std.specs.Prelude.{◌≡◌, ◌+◌, ◌*◌, ◌/◌, ◌<◌, ◌≤◌, ◌^◌, ◌++◌, [], ◌∷◌, IfOk, IsTrue, false, map, drop, take, length, slice_index, slice_index_or};
+ghost use Rattle.flat_machine.specs.Kept.{Active, GoesBack, at_point, call_number, onward, put, taken_by, with_local};
 ghost use Rattle.flat_machine.specs.Words.{no_word, first_word};
 
 use crate::call::Call;
@@ -41,6 +41,8 @@ pub(crate) struct Calls {
     running: Call,
     waiting: Vec<Call>,
     words: Vec<Word>,
+    /// The addresses of the memory locals of all calls.
+    locals: Vec<u32>,
     room: u32,
 }
 
@@ -52,37 +54,43 @@ impl Model for Calls {
 
     ghost Value = { Active };
 
-    ghost view = { λ c. active_in c.words.items c.waiting.items c.running c.room };
+    ghost view = { λ c. active_in c.words.items c.locals.items c.waiting.items c.running c.room };
 
-    ghost invariant = { λ c. IsHeld c.room c.words.items c.waiting.items c.running × (c.room ≤ 8 * vec_capacity c.words + 7) × (c.room ≤ 16 * vec_capacity c.waiting + 15) };
+    ghost invariant = { λ c. IsHeld c.room c.words.items c.locals.items c.waiting.items c.running × (c.room ≤ 8 * vec_capacity c.words + 7) × (c.room ≤ 48 * vec_capacity c.locals + 47) × (c.room ≤ 16 * vec_capacity c.waiting + 15) };
 }
 
 impl Calls {
-    /// The first call, which costs so much, on a stack of so many bytes.
+    /// The first call, which costs so much, on a stack of so many bytes. Its memory locals are born from a birth on, and none is
+    /// made yet.
     pub(crate) fn start(
         alloc: Global,
         func: u32,
         point: usize,
         kinds: &[bool],
+        first: u64,
         cost: u32,
         room: u32,
     ) -> Result<Calls, NoMemory>
         requires cost { 16 + 8 * length kinds.now ≤ cost }
         requires room { cost ≤ room }
-        ensures { IfOk result (λ c. c ≡ record { running = record { func = func; point = point; words = map first_word kinds.now }; waiting = []; used = cost; saved = []; room = room }) }
+        ensures { IfOk result (λ c. c ≡ record { running = record { func = func; point = point; words = map first_word kinds.now; first = first; locals = [] }; waiting = []; used = cost; saved = []; room = room }) }
     {
         let mut words = Vec::with_capacity(alloc, room as usize / 8)?;
         let waiting = Vec::with_capacity(alloc, room as usize / 16)?;
+        let locals = Vec::with_capacity(alloc, room as usize / 48)?;
         push_first_words(&mut words, kinds);
         Ok(Calls {
             running: Call {
                 func,
                 point,
                 base: 0,
+                first,
+                from: 0,
                 used: cost,
             },
             waiting,
             words,
+            locals,
             room,
         })
     }
@@ -115,6 +123,26 @@ impl Calls {
         call_in(self.waiting.as_slice(), self.running, k).point
     }
 
+    /// The birth of the first memory local of a call.
+    pub(crate) fn first_of(&self, k: usize) -> u64
+        ensures { result ≡ (call_number self.now k).first }
+    {
+        call_in(self.waiting.as_slice(), self.running, k).first
+    }
+
+    /// How many memory locals of a call are made.
+    pub(crate) fn made_of(&self, k: usize) -> u32
+        ensures { result ≡ length (call_number self.now k).locals }
+    {
+        let _room = self.room;
+        let from = call_in(self.waiting.as_slice(), self.running, k).from;
+        if k >= self.waiting.len() {
+            return self.locals.len().saturating_sub(from) as u32;
+        }
+        let next = call_in(self.waiting.as_slice(), self.running, k + 1).from;
+        next.min(self.locals.len()).saturating_sub(from) as u32
+    }
+
     /// The word of a register of a call.
     pub(crate) fn word_of(&self, k: usize, r: u32) -> Word
         ensures { result ≡ slice_index_or (call_number self.now k).words r no_word }
@@ -132,13 +160,6 @@ impl Calls {
         ensures { result ≡ self.now.room / 8 }
     {
         self.room / 8
-    }
-
-    /// The registers of all calls fit the stack, in 8 bytes each.
-    pub(crate) fn registers_fit(&self)
-        ensures { 8 * registers_of self.now ≤ self.now.room }
-    {
-        let _room = self.room;
     }
 
     /// The number of the running function.
@@ -194,13 +215,67 @@ impl Calls {
         }
     }
 
-    /// Calls a function: its call runs, and the one that was running waits. Its first registers take the arguments.
-    pub(crate) fn enter(&mut self, func: u32, first: u32, kinds: &[bool], args: &[Word], cost: u32)
+    /// The first call begins at an instruction, with which so many bytes of the stack are in use.
+    pub(crate) fn begin(&mut self, point: u32, cost: u32)
+        requires more { self.old.used ≤ cost }
+        requires room { cost ≤ self.old.room }
+        ensures { self.new ≡ record (at_point self.old point) { used = cost } }
+    {
+        self.running.point = point as usize;
+        self.running.used = cost;
+    }
+
+    /// All calls take no more bytes of the stack than are in use.
+    pub(crate) fn all_fit(&self)
+        ensures taken { taken_by self.now ≤ self.now.used }
+        ensures within { self.now.used ≤ self.now.room }
+        ensures small { self.now.room < 2 ^ 32 }
+    {
+        let _room = self.room;
+    }
+
+    /// The address of a memory local of the running call.
+    pub(crate) fn local(&self, k: u32) -> u32
+        requires { k < length self.now.running.locals }
+        ensures { result ≡ slice_index self.now.running.locals k }
+    {
+        self.locals[self.running.from + k as usize]
+    }
+
+    /// The addresses of the memory locals of the running call.
+    pub(crate) fn locals(&self) -> &[u32]
+        ensures { result.now ≡ self.now.running.locals }
+    {
+        &self.locals[self.running.from..]
+    }
+
+    /// The running call gets the address of its next memory local.
+    pub(crate) fn add_local(&mut self, addr: u32)
+        requires { taken_by self.old + 48 ≤ self.old.used }
+        ensures { self.new ≡ with_local self.old addr }
+    {
+        match self.locals.push(addr) {
+            Ok(()) => {}
+            Err(_) => unreachable!(),
+        }
+    }
+
+    /// Calls a function: its call runs, and the one that was running waits. Its first registers take the arguments. Its memory
+    /// locals are born from a birth on, and none is made yet.
+    pub(crate) fn enter(
+        &mut self,
+        func: u32,
+        point: u32,
+        kinds: &[bool],
+        args: &[Word],
+        first: u64,
+        cost: u32,
+    )
         requires point { self.old.running.point + 1 < 2 ^ 64 }
         requires room { self.old.used + cost ≤ self.old.room }
         requires cost { 16 + 8 * length kinds.now ≤ cost }
         requires arguments { length args.now ≤ length kinds.now }
-        ensures { self.new ≡ record { running = record { func = func; point = first; words = args.now ++ map first_word (drop (length args.now) kinds.now) }; waiting = self.old.running ∷ self.old.waiting; used = self.old.used + cost; saved = self.old.used ∷ self.old.saved; room = self.old.room } }
+        ensures { self.new ≡ record { running = record { func = func; point = point; words = args.now ++ map first_word (drop (length args.now) kinds.now); first = first; locals = [] }; waiting = self.old.running ∷ self.old.waiting; used = self.old.used + cost; saved = self.old.used ∷ self.old.saved; room = self.old.room } }
     {
         let caller = self.running;
         let base = self.words.len();
@@ -212,8 +287,10 @@ impl Calls {
         }
         self.running = Call {
             func,
-            point: first as usize,
+            point: point as usize,
             base,
+            first,
+            from: self.locals.len(),
             used: caller.used + cost,
         };
     }
@@ -227,6 +304,7 @@ impl Calls {
             return false;
         };
         self.words.truncate(self.running.base);
+        self.locals.truncate(self.running.from);
         self.running = caller;
         true
     }

@@ -76,13 +76,13 @@ impl State {
         Ok(())
     }
 
-    /// Frees an object. A free of null does nothing.
-    fn free(&mut self, line: Line) -> Result<(), End>
+    /// Frees the object at an address, which was handed over. A free of null does nothing.
+    pub(crate) fn free(&mut self, line: Line, addr: u32) -> Result<(), End>
         requires point { self.old.calls.running.point + 1 < 2 ^ 64 }
         requires standing { IsStanding self.old }
+        requires address { addr ≡ address_at self.old.handed 0 }
         ensures { (code : Program) (places : ℕ → ℕ) (c : CodeState) → HasPins code self.old.pins → Stands places c self.old → CountsWell self.old c → Alone places c self.old (free code line (pointer_at c.handed 0) c.numbers c.state) self.new result }
     {
-        let addr = self.address(0);
         if addr == 0 {
             self.go_on();
             return Ok(());
@@ -122,7 +122,7 @@ impl State {
         ensures { (code : Program) (places : ℕ → ℕ) (c : CodeState) → HasPins code self.old.pins → Stands places c self.old → CountsWell self.old c → Alone places c self.old (act code line instr op c.handed c.numbers c.state) self.new result }
     {
         match op {
-            Op::Free => self.free(line),
+            Op::Free => self.free(line, self.address(0)),
             Op::Enter => {
                 self.open_scope();
                 self.go_on();

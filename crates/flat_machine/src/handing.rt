@@ -27,6 +27,7 @@ impl State {
         requires room { length self.old.handed < self.old.most }
         requires handing { IsHanding op }
         requires here { op ≡ ops.HandStatic → instr.a < length self.old.statics }
+        requires local { op ≡ ops.HandLocal → instr.a < length self.old.calls.running.locals }
         ensures { (code : Program) (line : ℕ) (places : ℕ → ℕ) (c : CodeState) → Stands places c self.old → HandsFresh instr op c → Alone places c self.old (hand_or_act code line instr (handed_value c.state.running instr op) c) self.new (Ok tt) }
     {
         match op {
@@ -39,6 +40,10 @@ impl State {
             Op::HandNull => self.hand(Word::Address(0)),
             Op::HandStatic => {
                 let addr = self.static_address(instr.a);
+                self.hand(Word::Address(addr));
+            }
+            Op::HandLocal => {
+                let addr = self.local_address(instr.a);
                 self.hand(Word::Address(addr));
             }
             _ => unreachable!(),

@@ -1,6 +1,6 @@
 //! The first holder of an object that is held, which is searched once, where a bad free ends the run.
 
-ghost use Rattle.std.specs.Prelude.{◌≡◌, ◌<◌, ◌^◌, ◌∷◌, ◌++◌, [], ℕ, List, Some, find, reverse};
+ghost use Rattle.std.specs.Prelude.{◌≡◌, ◌<◌, ◌^◌, ◌∷◌, ◌++◌, [], ℕ, List, MatchOption, Some, find, reverse};
 ghost use Rattle.std.specs.List.{flat_map};
 ghost use Rattle.hs_base.specs.Freeing.{is_pointer_to};
 ghost use Rattle.hs_base.specs.Object.{Object};
@@ -12,7 +12,7 @@ ghost use Rattle.flat_objects.specs.Standing.{IsThere};
 ghost use Rattle.flat_objects.specs.Keeping.{KeepsAt, IsKept};
 ghost use Rattle.flat_machine.specs.Kept.{call_number};
 ghost use Rattle.flat_objects.specs.Holders.{IsIn, holder_of};
-ghost use Rattle.flat_machine.specs.Pinning.{HasSorts, IsNamed, NamesHeld};
+ghost use Rattle.flat_machine.specs.Pinning.{HasSorts, IsNamed, IsNoOwn, IsOwner, NamesHeld};
 ghost use Rattle.flat_machine.specs.Holding.{HoldsIn, IsHolding, in_frame};
 ghost use Rattle.flat_machine.specs.Loaded.{HasPins};
 ghost use Rattle.flat_code.specs.declared.program.Code.{Code as Program};
@@ -25,21 +25,43 @@ use crate::words::address_in;
 use flat_objects::{FlatObjects, Holding};
 use hs_base::{Holder, Pointer};
 
-/// The holder that a pointer inside an object is, where so many statics are the first objects and all others are of the heap.
-pub(crate) fn inside_holder(found: Holding, statics: usize) -> Holder
+/// The memory local of a birth: the number of its function and its own, if it is one of these calls.
+fn owner_of(calls: &Calls, birth: u64) -> Option<(u32, u32)>
+    ensures { MatchOption result (IsNoOwn calls.now birth) (λ local. IsOwner calls.now birth local.0 local.1) }
+{
+    calls.all_fit();
+    let waiting = calls.waiting();
+    for k in 0..waiting + 1 {
+        let first = calls.first_of(k);
+        if first <= birth && birth - first < u64::from(calls.made_of(k)) {
+            return Some((calls.func_of(k), (birth - first) as u32));
+        }
+    }
+    None
+}
+
+/// The holder that a pointer inside an object is, where so many statics are the first objects, and all others are memory locals of
+/// these calls or of the heap.
+pub(crate) fn inside_holder(found: Holding, statics: usize, calls: &Calls) -> Holder
     requires { statics < 2 ^ 32 }
-    ensures { (objects : List Object) → HasSorts objects statics → IsIn objects found → result ≡ holder_of objects found }
+    ensures { (objects : List Object) → HasSorts objects statics calls.now → IsIn objects found → result ≡ holder_of objects found }
 {
     if found.birth < statics as u64 {
-        Holder::Global {
+        return Holder::Global {
             index: found.birth as u32,
             offset: found.offset,
-        }
-    } else {
-        Holder::Block {
+        };
+    }
+    match owner_of(calls, found.birth) {
+        Some((func, index)) => Holder::Memory {
+            func,
+            index,
+            offset: found.offset,
+        },
+        None => Holder::Block {
             line: found.line,
             offset: found.offset,
-        }
+        },
     }
 }
 

@@ -3,8 +3,7 @@
 //! [`Machine::run`] makes the instructions of a code one after another, over objects that are kept in bytes with addresses
 //! (`flat_objects`), on a stack and with a heap of so many bytes. Its contract says what the meaning of code says
 //! (`code_meaning/specs/CodeMeaning.antt`), cut at the first call that does not fit the stack or the first object that has no
-//! place in the heap (`hs_base/specs/Cut.antt`): the bytes written and read, and the end. `specs/Built.antt` says which
-//! instructions are built.
+//! place in the heap (`hs_base/specs/Cut.antt`): the bytes written and read, and the end.
 //!
 //! [`Machine::load`] makes one before its first instruction: with the statics of the code in its memory, and with all memory that
 //! the run takes.
@@ -21,11 +20,13 @@ mod calling;
 mod calls;
 mod counted;
 mod freeing;
+mod growing;
 mod handing;
 mod holding;
 mod jumps;
 mod load;
 mod loaded;
+mod locals;
 mod machine;
 mod making;
 mod memory;
@@ -34,6 +35,7 @@ mod pinning;
 mod pointers;
 mod printing;
 mod put_error;
+mod ranges;
 mod running;
 mod sites;
 mod state;

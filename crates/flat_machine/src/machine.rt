@@ -3,7 +3,6 @@
 ghost use Rattle.std.specs.Prelude.{◌≡◌, ◌+◌, ◌<◌, ◌≤◌, ◌^◌, ℕ, List, IfSome, None, Some};
 ghost use Rattle.flat_code.specs.WellFormed.{IsWellFormed};
 ghost use Rattle.code_soundness.specs.Laws.{HoldsBytes};
-ghost use Rattle.flat_machine.specs.Built.{IsBuilt};
 ghost use Rattle.flat_machine.specs.Machined.{IsOf, steps_made};
 ghost use Rattle.flat_machine.specs.Running.{RunAnswers, RunCounts};
 ghost use Rattle.flat_machine.specs.Lasting.{MakesSteps};
@@ -61,7 +60,6 @@ impl Machine {
         budget: u64,
     ) -> End
         requires formed { IsWellFormed code.now }
-        requires built { IsBuilt code.now }
         requires bytes { HoldsBytes code.now }
         requires loaded { IsOf code.now self.old }
         requires budget { budget ≤ 1000000000 }

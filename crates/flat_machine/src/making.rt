@@ -19,7 +19,7 @@ use flat_objects::Word;
 use hs_base::{End, Line};
 
 /// A number converted to `size_t`.
-fn size_in(n: i128) -> u64
+pub(crate) fn size_in(n: i128) -> u64
     ensures value { result ≡ size_in n }
     ensures bound { result < 2 ^ 32 }
 {
@@ -28,7 +28,7 @@ fn size_in(n: i128) -> u64
 
 impl State {
     /// Makes an object of so many bytes; a register takes its address. The run ends where the heap has no place for it.
-    fn make(&mut self, line: Line, r: u32, size: u64, layout: u32) -> Result<(), End>
+    pub(crate) fn make(&mut self, line: Line, r: u32, size: u64, layout: u32) -> Result<(), End>
         requires point { self.old.calls.running.point + 1 < 2 ^ 64 }
         requires births { self.old.births + 1 < 2 ^ 64 }
         ensures { (element : Layout) (places : ℕ → ℕ) (c : CodeState) → Stands places c self.old → slice_get self.old.memory.forms layout ≡ Some (element_of element) → Alone places c self.old (same_numbers c.numbers (make line r size element c.state)) self.new result }

@@ -8,7 +8,7 @@ ghost use Rattle.code_meaning.specs.CodeState.{CodeState, same_numbers};
 ghost use Rattle.flat_objects.specs.Keeping.{IsKept};
 ghost use Rattle.flat_machine.specs.Words.{address_at};
 ghost use Rattle.flat_machine.specs.Standing.{Stands};
-ghost use Rattle.flat_machine.specs.Groups.{IsBuiltLib};
+ghost use Rattle.flat_machine.specs.Groups.{IsPlainLib};
 ghost use Rattle.flat_machine.specs.Leading.{Counted, Moves, Seen};
 ghost use Rattle.code_soundness.specs.Objects.{IsByte};
 
@@ -76,7 +76,7 @@ impl State {
         }
     }
 
-    /// A call of a built-in function; a register takes its answer.
+    /// A call of a built-in function that writes no object; a register takes its answer.
     pub(crate) fn act_lib<I: Source, O: Sink>(
         &mut self,
         line: Line,
@@ -86,7 +86,7 @@ impl State {
         out: &mut O,
     ) -> Result<(), End>
         requires point { self.old.calls.running.point + 1 < 2 ^ 64 }
-        requires name { IsBuiltLib name }
+        requires name { IsPlainLib name }
         requires kept { (k : ℕ) → IsKept self.old.memory (address_at self.old.handed k) }
         requires input { I.faults input.old + 1 < 2 ^ 64 }
         requires out { O.faults out.old + 1 < 2 ^ 64 }

@@ -4,7 +4,6 @@ ghost use Rattle.std.specs.Prelude.{◌≡◌, ◌+◌, ◌-◌, ◌<◌, ◌≤
 ghost use Rattle.hs_base.specs.Cut.{Room};
 ghost use Rattle.flat_code.specs.WellFormed.{IsWellFormed};
 ghost use Rattle.code_soundness.specs.Laws.{HoldsBytes};
-ghost use Rattle.flat_machine.specs.Built.{IsBuilt};
 ghost use Rattle.flat_machine.specs.Loaded.{IsLoaded};
 ghost use Rattle.flat_machine.specs.Well.{IsWell};
 ghost use Rattle.flat_machine.specs.First.{IsFirst};
@@ -38,7 +37,6 @@ pub(crate) fn end_of_run<I: Source, O: Sink>(
     out: &mut O,
 ) -> End
     requires formed { IsWellFormed code.now }
-    requires built { IsBuilt code.now }
     requires loaded { IsLoaded code.now loaded.now }
     requires well { IsWell code.now state.old }
     requires input { I.faults input.old + 1 < 2 ^ 64 }
@@ -61,10 +59,9 @@ pub(crate) fn end_of_run<I: Source, O: Sink>(
     }
 }
 
-/// The first instruction: calls main, if a step is left and the stack has room for it.
+/// The first instruction: calls main, if a step is left and the stack has room for it, and makes its memory locals.
 fn begin(state: &mut State, code: &Code, loaded: &Loaded, stack: u32) -> Result<(), End>
     requires formed { IsWellFormed code.now }
-    requires built { IsBuilt code.now }
     requires bytes { HoldsBytes code.now }
     requires loaded { IsLoaded code.now loaded.now }
     requires first { IsFirst code.now stack state.old }
@@ -93,7 +90,9 @@ fn begin(state: &mut State, code: &Code, loaded: &Loaded, stack: u32) -> Result<
     if *cost > u64::from(stack) {
         return Err(End::OutOfStack(*line));
     }
-    state.go_to(main.first);
+    state.all_fit();
+    state.begin(main.first, *cost as u32);
+    state.make_locals(code, main);
     Ok(())
 }
 
@@ -107,7 +106,6 @@ pub(crate) fn whole_run<I: Source, O: Sink>(
     out: &mut O,
 ) -> End
     requires formed { IsWellFormed code.now }
-    requires built { IsBuilt code.now }
     requires bytes { HoldsBytes code.now }
     requires loaded { IsLoaded code.now loaded.now }
     requires first { IsFirst code.now stack state.old }

@@ -30,7 +30,7 @@ fn layout_of<'a>(code: &'a Code, start: &StaticInit) -> &'a Layout
 }
 
 /// How many bytes the block of an object of a size has.
-fn block_length(size: u32) -> u32
+pub(crate) fn block_length(size: u32) -> u32
     requires { size ≤ 268435456 }
     ensures { result ≡ block_size size }
 {
@@ -152,6 +152,7 @@ fn memory_with<L: Ledger>(
     requires pins { pins < 2 ^ 31 }
     ensures started { IfOk result (λ made. HasStarted code.now made.0 made.1.items (length code.now.statics)) }
     ensures heap { IfOk result (λ made. made.0.heap.len ≡ limits.heap) }
+    ensures locals { IfOk result (λ made. limits.stack ≤ made.0.locals.len) }
     ensures forms { IfOk result (λ made. made.0.forms ≡ map element_of code.now.layouts) }
     ensures pins { IfOk result (λ made. pin_room made.0 ≡ pins) }
 {
@@ -184,6 +185,7 @@ pub(crate) fn memory(
     requires pins { pins < 2 ^ 31 }
     ensures started { IfOk result (λ made. HasStarted code.now made.0 made.1.items (length code.now.statics)) }
     ensures heap { IfOk result (λ made. made.0.heap.len ≡ limits.heap) }
+    ensures locals { IfOk result (λ made. limits.stack ≤ made.0.locals.len) }
     ensures forms { IfOk result (λ made. made.0.forms ≡ map element_of code.now.layouts) }
     ensures pins { IfOk result (λ made. pin_room made.0 ≡ pins) }
 {

@@ -7,18 +7,19 @@ ghost use Rattle.c_print.specs.Pieces.{pieces_of};
 ghost use Rattle.flat_code.specs.WellFormed.{IsWellFormed};
 ghost use Rattle.flat_code.specs.declared.instructions.Op.TheVariants as ops;
 ghost use Rattle.flat_objects.specs.Keeping.{IsKept};
+ghost use Rattle.object_meaning.specs.Values.{bytes_in};
 ghost use Rattle.meaning_run.specs.Leading.{with_input};
 ghost use Rattle.code_meaning.specs.CodeState.{CodeState};
 ghost use Rattle.code_meaning.specs.CodeMeaning.{handed_value, hand_or_act, step};
 ghost use Rattle.code_soundness.specs.Objects.{IsByte};
-ghost use Rattle.flat_machine.specs.Words.{address_at};
+ghost use Rattle.flat_machine.specs.Words.{address_at, no_word, integer_at};
 ghost use Rattle.flat_machine.specs.Standing.{Stands};
-ghost use Rattle.flat_machine.specs.Groups.{IsHanding, IsValues, IsJump, IsMemory, IsPointers, IsMaking, IsAlone, IsBuiltLib};
-ghost use Rattle.flat_machine.specs.Built.{IsBuilt, IsBuiltOp};
+ghost use Rattle.flat_machine.specs.Groups.{IsHanding, IsValues, IsJump, IsMemory, IsPointers, IsMaking, IsRanges, IsAlone};
+ghost use Rattle.flat_machine.specs.Growing.{IsBefore, about_to_write};
 ghost use Rattle.flat_machine.specs.Loaded.{HasPins, IsLoaded};
-ghost use Rattle.flat_machine.specs.Pinning.{CountsWell, IsStanding};
+ghost use Rattle.flat_machine.specs.Pinning.{CountsWell, IsReturning, IsStanding};
 ghost use Rattle.flat_machine.specs.Well.{IsGoodSoFar, IsWell};
-ghost use Rattle.flat_machine.specs.Leading.{Alone, Counted, Moves, Seen, WaitsAtCall, HasNoLocal, HandsFresh, MayHand, MayMake, MayCall};
+ghost use Rattle.flat_machine.specs.Leading.{Alone, Counted, Moves, Seen, WaitsAtCall, HasAllLocals, HandsFresh, MayHand, MayMake, MayCall};
 
 use crate::calling::chosen;
 use crate::loaded::Loaded;
@@ -50,7 +51,7 @@ fn call(
     instr: Instr,
 ) -> Result<(), End>
     requires point { state.old.calls.running.point + 1 < 2 ^ 64 }
-    requires built { IsBuilt code.now }
+    requires formed { IsWellFormed code.now }
     requires loaded { IsLoaded code.now loaded.now }
     requires may { MayCall code.now instr state.old }
     requires standing { IsStanding state.old }
@@ -63,7 +64,7 @@ fn call(
     let Some(cost) = loaded.costs.get(f) else {
         unreachable!()
     };
-    state.act_call(line, instr, callee, *cost)
+    state.act_call(code, line, instr, callee, *cost)
 }
 
 /// An instruction that neither writes nor reads a byte.
@@ -76,7 +77,7 @@ fn act_alone(
     op: Op,
 ) -> Result<(), End>
     requires point { state.old.calls.running.point + 1 < 2 ^ 64 }
-    requires built { IsBuilt code.now }
+    requires formed { IsWellFormed code.now }
     requires alone { IsAlone op }
     requires loaded { IsLoaded code.now loaded.now }
     requires hands { IsHanding op → MayHand instr op state.old }
@@ -84,17 +85,26 @@ fn act_alone(
     requires pointers { IsPointers op → (k : ℕ) → IsKept state.old.memory (address_at state.old.handed k) }
     requires element { op ≡ ops.Diff → pos 0 <ℤ instr.imm }
     requires makes { IsMaking op → MayMake code.now instr state.old }
+    requires grows { op ≡ ops.Realloc → MayMake code.now instr state.old }
+    requires small { IsRanges op → (k : ℕ) → bytes_in (integer_at state.old.handed k) < 2 ^ 64 }
     requires may { op ≡ ops.Call → MayCall code.now instr state.old }
     requires waits { WaitsAtCall code.now state.old.calls.waiting }
-    requires locals { HasNoLocal code.now state.old.calls }
-    requires standing { IsStanding state.old }
+    requires locals { HasAllLocals code.now state.old.calls }
+    requires standing { IsBefore instr op state.old }
+    requires returns { op ≡ ops.Return → IsReturning state.old no_word }
+    requires gives { op ≡ ops.Give → IsReturning state.old (slice_index_or state.old.handed 0 no_word) }
     requires pins { HasPins code.now state.old.pins }
     requires deep { state.old.memory.scopes.depth < 2 ^ 64 - 1 }
     requires open { op ≡ ops.Leave → 0 < state.old.memory.scopes.depth }
-    ensures { (places : ℕ → ℕ) (c : CodeState) → Stands places c state.old → CountsWell state.old c → HandsFresh instr op c → instr.op ≡ op → Alone places c state.old (hand_or_act code.now line instr (handed_value c.state.running instr op) c) state.new result }
+    ensures { (places : ℕ → ℕ) (c : CodeState) → Stands places c state.old → CountsWell state.old (about_to_write instr op c) → HandsFresh instr op c → instr.op ≡ op → Alone places c state.old (hand_or_act code.now line instr (handed_value c.state.running instr op) c) state.new result }
 {
     match op {
-        Op::HandReg | Op::HandInt | Op::HandUnsigned | Op::HandNull | Op::HandStatic => {
+        Op::HandReg
+        | Op::HandInt
+        | Op::HandUnsigned
+        | Op::HandNull
+        | Op::HandStatic
+        | Op::HandLocal => {
             state.act_hand(instr, op);
             Ok(())
         }
@@ -106,13 +116,15 @@ fn act_alone(
             state.act_memory(line, instr, op)
         }
         Op::Add | Op::Sub | Op::Diff | Op::Pcmp(..) => state.act_pointers(line, instr, op),
+        Op::Copy | Op::Clear => state.act_ranges(line, op),
         Op::Malloc | Op::Calloc => state.act_making(line, instr, op),
+        Op::Realloc => state.act_growing(line, instr),
         Op::Free | Op::Enter | Op::Leave => state.act_freeing(line, instr, op),
         Op::Call => call(state, code, loaded, line, instr),
-        Op::Return => state.act_return(code, Word::Number(0)),
+        Op::Return => state.act_return(code, line, Word::Number(0)),
         Op::Give => {
             let answer = state.word(0);
-            state.act_return(code, answer)
+            state.act_return(code, line, answer)
         }
         _ => unreachable!(),
     }
@@ -127,7 +139,6 @@ pub(crate) fn one_step<I: Source, O: Sink>(
     out: &mut O,
 ) -> Result<(), End>
     requires formed { IsWellFormed code.now }
-    requires built { IsBuilt code.now }
     requires loaded { IsLoaded code.now loaded.now }
     requires well { IsWell code.now state.old }
     requires input { I.faults input.old + 1 < 2 ^ 64 }
@@ -137,7 +148,7 @@ pub(crate) fn one_step<I: Source, O: Sink>(
     ensures moves { (places : ℕ → ℕ) (c : CodeState) → Stands places c state.old → IsGoodSoFar code.now c → (left : List ℕ) × All IsByte left × Moves state.old (step code.now [] (record c { state = with_input left c.state })) state.new result }
 {
     running_pins_are_fresh();
-    state.registers_fit();
+    state.all_fit();
     let point = state.point();
     let Some(instr) = code.instrs.get(point) else {
         unreachable!()
@@ -147,7 +158,7 @@ pub(crate) fn one_step<I: Source, O: Sink>(
     };
     let instr = *instr;
     match instr.op {
-        Op::Lib(name) => state.act_lib(*line, name, chosen(instr), input, out),
+        Op::Lib(name) => state.act_built_in(*line, name, chosen(instr), input, out),
         Op::Printf => {
             let pieces = pieces_at(loaded.formats.as_slice(), instr.b);
             state.act_printf(*line, instr.a, pieces, out)

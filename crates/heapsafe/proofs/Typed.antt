@@ -2,16 +2,15 @@
 use Rattle.std.proofs.Common.{◌≡◌, ◌⊎◌, inl, inr, ℕ, List, Option, Ok, Err, refl, sym, ap, subst}
 use Rattle.c_types.specs.TagTable.{TagTable}
 use Rattle.core_tree.specs.declared.program.Core.{Core}
-use Rattle.built_cores.specs.Built.{IsBuilt}
 use Rattle.c_decls.specs.Refusals.{Checked, Meets}
 use Rattle.c_decls.specs.declared.refusal.TypeError.{TypeError}
 use Rattle.c_decls.specs.declared.refusal.TypeError.TheVariants as type
 use Rattle.heapsafe.specs.declared.program.Way.{Way}
-use Rattle.heapsafe.specs.Shown.{layouts_shown, core_shown, live_shown, not_built, no_memory}
+use Rattle.heapsafe.specs.Shown.{layouts_shown, core_shown, live_shown, no_memory}
 use Rattle.heapsafe.specs.Program.{Input, AnswersWay}
-use Rattle.heapsafe.specs.Answer.{AnswersCore, AnswersTypes}
+use Rattle.heapsafe.specs.Answer.{AnswersTypes}
 use Rattle.heapsafe.specs.Saying.{Gives, untyped}
-use Rattle.heapsafe.proofs.Told.{IsSilent, gives_more}
+use Rattle.heapsafe.proofs.Told.{IsSilent}
 
 pub untyped_tags : (error : TypeError) (file text : List ℕ) (wanted : Checked TagTable) → Meets {A = TagTable} (λ tags. tags) (Err error) wanted → (untyped error file text ≡ layouts_shown file text wanted) ⊎ (untyped error file text ≡ no_memory)
 untyped_tags (type.Bad kind line) file text wanted is = inl (sym (ap (layouts_shown file text) is))
@@ -35,17 +34,6 @@ untyped_silent (type.Bad kind line) file text = record { read = refl; out = refl
 untyped_silent type.NoMemory file text = record { read = refl; out = refl }
 
 -- a text with this core
-pub gives_typed : (file text : List ℕ) (wanted : Checked Core) (core : Core) (input : Input) (way : Way) (left o e : List ℕ) (left' out err : Option (List ℕ)) (result : ℕ) → wanted ≡ Ok core → Gives (AnswersCore file text core input way) left o e left' out err result → Gives (AnswersTypes file text wanted input way) left o e left' out err result
+pub gives_typed : (file text : List ℕ) (wanted : Checked Core) (core : Core) (input : Input) (way : Way) (left o e : List ℕ) (left' out err : Option (List ℕ)) (result : ℕ) → wanted ≡ Ok core → Gives (AnswersWay file text core input way) left o e left' out err result → Gives (AnswersTypes file text wanted input way) left o e left' out err result
 gives_typed file text wanted core input way left o e left' out err result same g =
     subst (λ (w : Checked Core). Gives (AnswersTypes file text w input way) left o e left' out err result) (sym same) g
-
--- a core that is built
-pub gives_built : (file text : List ℕ) (core : Core) (input : Input) (way : Way) (left o e : List ℕ) (left' out err : Option (List ℕ)) (result : ℕ) → IsBuilt core → Gives (AnswersWay file text core input way) left o e left' out err result → Gives (AnswersCore file text core input way) left o e left' out err result
-gives_built file text core input way left o e left' out err result built g =
-    gives_more (AnswersWay file text core input way) (AnswersCore file text core input way)
-    (λ s is. record { built = λ b. is; unbuilt = λ none. absurd (none built) })
-    left o e left' out err result g
-
--- another core
-pub unbuilt_is : (file text : List ℕ) (core : Core) (input : Input) (way : Way) → (IsBuilt core → ⊥) → AnswersCore file text core input way (not_built file)
-unbuilt_is file text core input way none = record { built = λ b. absurd (none b); unbuilt = λ h. refl }

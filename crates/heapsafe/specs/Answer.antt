@@ -9,22 +9,16 @@ use Rattle.c_decls.specs.Refusals.{Checked}
 use Rattle.elaboration.specs.Elaboration.{tags_of}
 use Rattle.c_elab.specs.Core.{core_in}
 use Rattle.core_tree.specs.declared.program.Core.{Core}
-use Rattle.built_cores.specs.Built.{IsBuilt}
 use Rattle.command_words.specs.Commands.{Command, Task, Run, Mean, Print, Layout, List as ListCore, Live, command_of}
 use Rattle.heapsafe.specs.declared.program.Way.{Way}
 use Rattle.heapsafe.specs.declared.program.Way.TheVariants as way
 use Rattle.heapsafe.specs.Reading.{most_bytes}
-use Rattle.heapsafe.specs.Shown.{Shown, usage, text_too_long, bad_place, bad_syntax, bad_type, not_built, printed, layouts_shown, core_shown, live_shown}
+use Rattle.heapsafe.specs.Shown.{Shown, usage, text_too_long, bad_place, bad_syntax, bad_type, printed, layouts_shown, core_shown, live_shown}
 use Rattle.heapsafe.specs.Program.{Input, AnswersWay}
-
--- a core that is built has its program's answer, and any other is not built
-pub record AnswersCore (file text : List ℕ) (core : Core) (input : Input) (way : Way) (a : Shown) : Type 0 where
-  pub built : IsBuilt core → AnswersWay file text core input way a
-  pub unbuilt : (IsBuilt core → ⊥) → a ≡ not_built file
 
 -- a text whose types are refused has no core
 abbrev pub AnswersTypes : List ℕ → List ℕ → Checked Core → Input → Way → Shown → Type 0
-AnswersTypes file text (Ok core) input way a = AnswersCore file text core input way a
+AnswersTypes file text (Ok core) input way a = AnswersWay file text core input way a
 AnswersTypes file text (Err refusal) input way a = a ≡ bad_type file text refusal
 
 -- what is answered for a text with this tree

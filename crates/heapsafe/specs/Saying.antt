@@ -1,7 +1,7 @@
 -- What is said of an answer, and what a fault of the outside leads to.
 use Rattle.std.specs.Prelude.{◌≡◌, ◌⊎◌, ◌<◌, ◌≤◌, ◌+◌, ℕ, List, ◌++◌, Option, Some, codes}
 use Rattle.heapsafe.specs.declared.refusal.Refusal.{Refusal}
-use Rattle.heapsafe.specs.declared.refusal.Refusal.TheVariants.{Usage, TextFault, TextTooLong, NoMemory, NotBuilt, OutputFault}
+use Rattle.heapsafe.specs.declared.refusal.Refusal.TheVariants.{Usage, TextFault, TextTooLong, NoMemory, OutputFault}
 use Rattle.heapsafe.specs.Shown.{Shown, refusal, text_fault, text_too_long, no_memory, bad_place, bad_syntax, bad_type}
 use Rattle.c_decls.specs.declared.refusal.TypeError.{TypeError}
 use Rattle.c_decls.specs.declared.refusal.TypeError.TheVariants as type
@@ -18,7 +18,6 @@ name_of Usage = codes "heapsafe"
 name_of (TextFault file) = file.now
 name_of (TextTooLong file) = file.now
 name_of NoMemory = codes "heapsafe"
-name_of (NotBuilt file) = file.now
 name_of OutputFault = codes "heapsafe"
 
 abbrev pub words_of : Refusal → List ℕ
@@ -26,7 +25,6 @@ words_of Usage = codes "bad command line"
 words_of (TextFault file) = codes "cannot read"
 words_of (TextTooLong file) = codes "text too long"
 words_of NoMemory = codes "no memory"
-words_of (NotBuilt file) = codes "not built"
 words_of OutputFault = codes "output fault"
 
 abbrev pub status_in : Refusal → ℕ
@@ -34,7 +32,6 @@ status_in Usage = 120
 status_in (TextFault file) = 121
 status_in (TextTooLong file) = 122
 status_in NoMemory = 134
-status_in (NotBuilt file) = 135
 status_in OutputFault = 133
 
 abbrev pub shown_of : Refusal → Shown

@@ -60,9 +60,6 @@ bad_type file text refusal = refusal_at file text refusal.line (codes "type: " +
 abbrev pub no_memory : Shown
 no_memory = refusal (codes "heapsafe") (codes "no memory") 134
 
-abbrev pub not_built : List ℕ → Shown
-not_built file = refusal file (codes "not built") 135
-
 -- a text on the output alone
 abbrev pub written : List ℕ → Shown
 written text = record { read = []; out = text; err = []; status = 0 }

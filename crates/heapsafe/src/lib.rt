@@ -196,6 +196,8 @@ pub fn heapsafe<T: Texts, I: Source, O: Sink, E: Sink>(
 #[cfg(test)]
 mod free_tests;
 #[cfg(test)]
+mod memory_tests;
+#[cfg(test)]
 mod program_tests;
 #[cfg(test)]
 mod tests;

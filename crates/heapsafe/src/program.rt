@@ -4,18 +4,16 @@ ghost use Rattle.std.specs.Prelude.{◌≡◌, ◌+◌, ◌<◌, ◌≤◌, ◌^
 ghost use Rattle.c_tree.specs.StatementView.{unit_view};
 ghost use Rattle.c_elab.specs.Core.{IsOfTokens, core_in};
 ghost use Rattle.core_tree.specs.Sound.{IsSound};
-ghost use Rattle.built_cores.specs.Built.{IsBuilt};
 ghost use Rattle.flat_codegen.specs.Running.{RunAnswers};
 ghost use Rattle.flat_machine.specs.Running.{RunCounts};
 ghost use Rattle.bad_free_report.specs.Report.{end_report};
 ghost use Rattle.heapsafe.specs.Shown.{input_fault, output_fault};
 ghost use Rattle.heapsafe.specs.Program.{AnswersWay, IsBounded, input_of, status_of};
-ghost use Rattle.heapsafe.specs.Answer.{AnswersCore, AnswersTypes};
+ghost use Rattle.heapsafe.specs.Answer.{AnswersTypes};
 ghost use Rattle.heapsafe.specs.Saying.{Faults, Gives, Says};
 
 use crate::refusal::{OUTPUT_FAULT, Refusal, refuse, refuse_types};
 use bad_free_report::report;
-use built_cores::is_built;
 use c_elab::elab;
 use c_tree::Unit;
 use core_tree::Core;
@@ -74,7 +72,6 @@ fn run_code<I: Source, O: Sink>(
     out: &mut O,
 ) -> Result<End, NoMemory>
     requires sound { IsSound core.now }
-    requires built { IsBuilt core.now }
     requires heap { limits.heap ≤ 268435456 }
     requires stack { limits.stack ≤ 67108864 }
     requires steps { steps ≤ 1000000000 }
@@ -107,7 +104,6 @@ fn run_core<I: Source, O: Sink, E: Sink>(
     err: &mut E,
 ) -> u8
     requires sound { IsSound core.now }
-    requires built { IsBuilt core.now }
     requires heap { limits.heap ≤ 268435456 }
     requires stack { limits.stack ≤ 67108864 }
     requires steps { steps ≤ 1000000000 }
@@ -164,7 +160,6 @@ fn go<I: Source, O: Sink, E: Sink>(
     err: &mut E,
 ) -> u8
     requires sound { IsSound core.now }
-    requires built { IsBuilt core.now }
     requires limits { IsBounded way }
     requires input { I.faults input.old + 1 < 2 ^ 64 }
     requires out { O.faults out.old + 1 < 2 ^ 64 }
@@ -180,33 +175,6 @@ fn go<I: Source, O: Sink, E: Sink>(
         }
         Way::Mean { steps } => mean_core(alloc, file, text, core, steps, input, out, err),
     }
-}
-
-/// Runs a core that is built; another one is not.
-fn with_core<I: Source, O: Sink, E: Sink>(
-    alloc: Global,
-    file: &str,
-    text: &[u8],
-    core: &Core,
-    way: Way,
-    input: &mut I,
-    out: &mut O,
-    err: &mut E,
-) -> u8
-    requires sound { IsSound core.now }
-    requires limits { IsBounded way }
-    requires input { I.faults input.old + 1 < 2 ^ 64 }
-    requires out { O.faults out.old + 1 < 2 ^ 64 }
-    requires err { E.faults err.old + 1 < 2 ^ 64 }
-    ensures exact { (left o e : List ℕ) → I.left input.old ≡ Some left → O.taken out.old ≡ Some o → E.taken err.old ≡ Some e → O.faults out.new ≡ O.faults out.old → E.faults err.new ≡ E.faults err.old → Gives (AnswersCore file.now text.now core.now (input_of left (I.faults input.old) (I.faults input.new)) way) left o e (I.left input.new) (O.taken out.new) (E.taken err.new) result }
-    ensures faults { (t : ℕ) → Faults t t (I.faults input.old) (I.faults input.new) (O.faults out.old) (O.faults out.new) (E.faults err.old) (E.faults err.new) result }
-    ensures input_fault { I.faults input.old < I.faults input.new → Says (E.taken err.old) (E.taken err.new) (E.faults err.old) (E.faults err.new) input_fault.err 132 result }
-    ensures output_fault { O.faults out.old < O.faults out.new → Says (E.taken err.old) (E.taken err.new) (E.faults err.old) (E.faults err.new) output_fault.err 133 result }
-{
-    if !is_built(core) {
-        return refuse(err, Refusal::NotBuilt(file));
-    }
-    go(alloc, file, text, core, way, input, out, err)
 }
 
 /// Runs the program of a text.
@@ -231,7 +199,7 @@ pub(crate) fn run_program<I: Source, O: Sink, E: Sink>(
     ensures output_fault { O.faults out.old < O.faults out.new → Says (E.taken err.old) (E.taken err.new) (E.faults err.old) (E.faults err.new) output_fault.err 133 result }
 {
     match elab(alloc, unit) {
-        Ok(core) => with_core(alloc, file, text, &core, way, input, out, err),
+        Ok(core) => go(alloc, file, text, &core, way, input, out, err),
         Err(error) => refuse_types(err, error, file, text),
     }
 }

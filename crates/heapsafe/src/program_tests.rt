@@ -463,27 +463,3 @@ fn heaps(rt: HostRuntime) -> Result<(), Fail> {
     }
     Ok(())
 }
-
-/// Programs with an array in a body, an address of a parameter, a realloc, a set of bytes, and a copy of a struct are not
-/// built yet.
-#[test]
-fn programs_that_are_not_built(rt: HostRuntime) -> Result<(), Fail> {
-    let alloc = rt.alloc();
-    let rows: [&[u8]; 5] = [
-        b"int main(void){int a[2];return 0;}",
-        b"int f(int i){return &i==0;}int main(void){return f(1);}",
-        b"int main(void){char *p=realloc(0,1);return 0;}",
-        b"char s[2];int main(void){memset(s,1,2);return 0;}",
-        b"struct s{int n;};struct s a;struct s b;int main(void){a=b;return 0;}",
-    ];
-    for text in rows {
-        for command in ["run", "mean"] {
-            let seen = answer(alloc, &[command, "a.c"], text, b"x", 1)?;
-            assert_eq!(rt; seen.status, 135);
-            assert_eq!(rt; seen.input.left(), b"x".as_slice());
-            assert_eq!(rt; seen.out.bytes(), b"".as_slice());
-            assert_eq!(rt; seen.err.bytes(), b"a.c: not built\n".as_slice());
-        }
-    }
-    Ok(())
-}

@@ -21,8 +21,6 @@ pub(crate) enum Refusal<'a> {
     TextTooLong(&'a str),
     /// Memory was wanted and there was none.
     NoMemory,
-    /// The text is of a form that is not built.
-    NotBuilt(&'a str),
     /// The output failed.
     OutputFault,
 }
@@ -33,7 +31,7 @@ impl<'a> Refusal<'a> {
         ensures { result.now ≡ name_of self.now }
     {
         match self {
-            Refusal::TextFault(file) | Refusal::TextTooLong(file) | Refusal::NotBuilt(file) => file,
+            Refusal::TextFault(file) | Refusal::TextTooLong(file) => file,
             Refusal::Usage | Refusal::NoMemory | Refusal::OutputFault => "heapsafe",
         }
     }
@@ -47,7 +45,6 @@ impl<'a> Refusal<'a> {
             Refusal::TextFault(_) => b"cannot read",
             Refusal::TextTooLong(_) => b"text too long",
             Refusal::NoMemory => b"no memory",
-            Refusal::NotBuilt(_) => b"not built",
             Refusal::OutputFault => b"output fault",
         }
     }
@@ -62,7 +59,6 @@ impl<'a> Refusal<'a> {
             Refusal::TextTooLong(_) => 122,
             Refusal::OutputFault => 133,
             Refusal::NoMemory => 134,
-            Refusal::NotBuilt(_) => 135,
         }
     }
 }

@@ -14,7 +14,6 @@ use Rattle.flat_code.specs.Sites.{ArePins, HasSite, site_of}
 use Rattle.flat_code.specs.Table.{edges, register_sort, scopes_after}
 use Rattle.flat_code.specs.WellFormed.{ClosesWhatIsOpen, EachAnswer, EachEntry, EachInstr, HasScopes, IsElement, IsInstr, OfAnswer, Opens, end_of, goes, handed_before, start}
 use Rattle.code_soundness.specs.Example.{instr}
-use Rattle.flat_machine.specs.Built.{IsBuilt, IsBuiltOp}
 use Rattle.machine_tests.specs.Freed.{with_register}
 
 -- P of one
@@ -202,9 +201,3 @@ module _ (code : Code) (main : Entry) (funcs : code.funcs ≡ main ∷ []) where
       exact = λ r. (λ counts. absurd (of_live ⊥ point r (none r) counts.live), λ has. absurd (omega (arith, has.1)));
       ascending = λ j k d lt inside. absurd (omega (arith, inside));
     }
-
-  pub built : main.mems ≡ [] → AllFrom (λ point i. main.first ≤ point → IsBuiltOp i.op) 0 code.instrs → IsBuilt code
-  built none all = record {
-    instructions = each (λ f entry point (i : Instr). IsBuiltOp i.op) all;
-    locals = only (λ f (entry : Entry). entry.mems ≡ []) none;
-  }

@@ -12,9 +12,8 @@ use Rattle.flat_code.specs.Table.{edges}
 use Rattle.flat_code.specs.WellFormed.{EachAnswer, IsAt, IsElement, IsFunction, IsInstr, IsLayout, end_of, IsShort, IsWellFormed, HasScopes}
 use Rattle.code_soundness.specs.Example.{instr}
 use Rattle.code_soundness.specs.Laws.{HoldsBytes}
-use Rattle.flat_machine.specs.Built.{IsBuilt}
 use Rattle.machine_tests.specs.Freed.{link, one_freed, one_main}
-use Rattle.machine_tests.proofs.Lines.{AllFrom, built, each, each_answer, frees, gives, hands_number, hands_register, makes, no_pins, one_of, only, scopes_are}
+use Rattle.machine_tests.proofs.Lines.{AllFrom, each, each_answer, frees, gives, hands_number, hands_register, makes, no_pins, one_of, only, scopes_are}
 
 element : IsElement one_freed 0
 element = lit≤ tt
@@ -125,6 +124,3 @@ well_formed = record {
 
 pub one_is : IsWellFormed one_freed × HoldsBytes one_freed
 one_is = (well_formed, All-nil _)
-
-pub one_is_built : IsBuilt one_freed
-one_is_built = built one_freed one_main refl refl ((λ low. absurd (omega arith)), ((λ low. tt), ((λ low. tt), ((λ low. tt), ((λ low. tt), ((λ low. tt), ((λ low. tt), tt)))))))

@@ -15,9 +15,8 @@ use Rattle.flat_code.specs.Table.{edges}
 use Rattle.flat_code.specs.WellFormed.{EachAnswer, IsAt, IsElement, IsFunction, IsInstr, IsLayout, end_of, IsShort, IsWellFormed, HasScopes}
 use Rattle.code_soundness.specs.Example.{instr}
 use Rattle.code_soundness.specs.Laws.{HoldsBytes}
-use Rattle.flat_machine.specs.Built.{IsBuilt}
 use Rattle.machine_tests.specs.Freed.{link, two_freed, two_main}
-use Rattle.machine_tests.proofs.Lines.{AllFrom, built, each, each_answer, enters, frees, gives, hands_number, hands_register, leaves, makes, no_pins, of_live, one_of, only, scopes_are, stores}
+use Rattle.machine_tests.proofs.Lines.{AllFrom, each, each_answer, enters, frees, gives, hands_number, hands_register, leaves, makes, no_pins, of_live, one_of, only, scopes_are, stores}
 
 element : IsElement two_freed 0
 element = lit≤ tt
@@ -604,63 +603,3 @@ well_formed = record {
 
 pub two_is : IsWellFormed two_freed × HoldsBytes two_freed
 two_is = (well_formed, All-nil _)
-
-pub two_is_built : IsBuilt two_freed
-two_is_built = built two_freed two_main refl refl (
-  (λ low. absurd (omega arith)),
-  (
-    (λ low. tt),
-    (
-      (λ low. tt),
-      (
-        (λ low. tt),
-        (
-          (λ low. tt),
-          (
-            (λ low. tt),
-            (
-              (λ low. tt),
-              (
-                (λ low. tt),
-                (
-                  (λ low. tt),
-                  (
-                    (λ low. tt),
-                    (
-                      (λ low. tt),
-                      (
-                        (λ low. tt),
-                        (
-                          (λ low. tt),
-                          (
-                            (λ low. tt),
-                            (
-                              (λ low. tt),
-                              (
-                                (λ low. tt),
-                                (
-                                  (λ low. tt),
-                                  (
-                                    (λ low. tt),
-                                    (
-                                      (λ low. tt),
-                                      tt,
-                                    ),
-                                  ),
-                                ),
-                              ),
-                            ),
-                          ),
-                        ),
-                      ),
-                    ),
-                  ),
-                ),
-              ),
-            ),
-          ),
-        ),
-      ),
-    ),
-  ),
-)

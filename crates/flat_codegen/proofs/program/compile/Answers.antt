@@ -10,11 +10,9 @@ use Rattle.hs_base.specs.Trace.{Event, Ending}
 use Rattle.counted_meaning.specs.CountedMeaning.{meaning as core_meaning}
 use Rattle.code_meaning.specs.CodeMeaning.{meaning as code_meaning}
 use Rattle.compiled_code.specs.Compiled.{IsCompiled}
-use Rattle.built_cores.specs.Built.{IsBuilt}
 use Rattle.compiled_form.proofs.Lengths.{few_instructions}
 use Rattle.compiled_meaning.specs.SameRun.{SameRun}
 use Rattle.compiled_meaning.specs.Testing.{tested_core, tested_code}
-use Rattle.flat_machine.specs.Built as machine
 use Rattle.flat_codegen.proofs.program.compile.Goals as goal
 
 -- what follows for each code follows for one that may not be there
@@ -41,13 +39,6 @@ returns-clause-few c =
     let core = c.args.counted.now.core in
     let pins = c.args.counted.now.pins in
     follows (IsCompiled core pins) (λ code. length code.instrs ≤ 14 * sum_by code_size core.funcs + length core.funcs + 1) c.code_of.result (λ code is. few_instructions core code is) c.code_of.ensures.compiled
-
-pub returns-clause-built : goal.returns-clause-built
-returns-clause-built c =
-    let core = c.args.counted.now.core in
-    let pins = c.args.counted.now.pins in
-    follows (IsCompiled core pins) (λ code. IsBuilt core → machine.IsBuilt code) c.code_of.result
-    (λ code is built. c.code_is_built.ensures core pins code built is) c.code_of.ensures.compiled
 
 pub returns-clause-means : goal.returns-clause-means
 returns-clause-means c =

@@ -1,12 +1,13 @@
-use Rattle.std.proofs.Common.{suc, ◌≡◌, ◌-◌, ◌<◌, ◌≤◌, ℕ, [], arith, ap, refl, subst, sym, ◌∙◌}
+use Rattle.std.proofs.Common.{suc, ◌≡◌, ◌-◌, ◌^◌, ◌<◌, ◌≤◌, ℕ, [], arith, ap, refl, subst, sym, ◌∙◌}
+use Rattle.std.specs.Prelude.{Some}
 use Rattle.hs_base.specs.declared.ends.End.TheVariants as end
 use Rattle.flat_code.specs.declared.program.Entry.{Entry}
-use Rattle.flat_machine.specs.Loaded.{plain_cost}
-use Rattle.flat_machine.specs.Kept.{Kept, gone_to}
+use Rattle.code_meaning.specs.Entering.{cost_of}
+use Rattle.flat_machine.specs.Kept.{Kept, taken_by}
 use Rattle.flat_machine.specs.Lasting.{MakesSteps}
 use Rattle.flat_machine.proofs.Lasting.{made_refused, made_spent}
 use Rattle.flat_machine.proofs.Stepped.{cost_is, no_cost}
-use Rattle.flat_machine.proofs.Starts.{spent, stops_spent, goes, refused, reached_called, room_called, good_so_far, less_called, well_called, main_is_there, main_no_none, line_no_none}
+use Rattle.flat_machine.proofs.Starts.{spent, stops_spent, goes, refused, called, stands_begins, may_make_main, made_main, reached_all, room_all, good_so_far, less_called, well_called, main_is_there, main_no_none, line_no_none, plain_less, mems_there}
 use Rattle.flat_machine.proofs.running.begin.Goals as goal
 
 pub unreachable-requires : goal.unreachable-requires
@@ -22,53 +23,99 @@ unreachable-requires-in_default-get-2 c =
 
 pub returns-then-not-take_step-clause-ends : goal.returns-then-not-take_step-clause-ends
 returns-then-not-take_step-clause-ends c = λ input n room taken same stack.
-    spent c.args.code.now c.requires.formed c.requires.built c.args.stack c.args.state.now c.requires.first c.in-Some.line.now c.in-Some.ensures.item input n room taken same (c.take_step.ensures.no c.if-not-take_step.true).1
+    spent c.args.code.now c.requires.formed c.args.stack c.args.state.now c.requires.first c.in-Some.line.now c.in-Some.ensures.item input n room taken same (c.take_step.ensures.no c.if-not-take_step.true).1
 
 pub returns-then-cost-from-clause-ends : goal.returns-then-cost-from-clause-ends
 returns-then-cost-from-clause-ends c = λ input n room taken same stack.
     let main = main_is_there c.args.code.now c.args.stack c.args.state.now c.requires.first c.func-func.result c.in-Some-get.main.now c.func-func.ensures c.in-Some-get.ensures.item in
-    let cost = cost_is c.args.loaded.now.costs c.args.code.now c.requires.loaded.costs c.func-func.result c.in-Some-get-2.cost.now c.in-Some-get.main.now (sym c.in-Some-get.ensures.item) c.in-Some-get-2.ensures.item ∙ ap plain_cost main in
+    let cost = cost_is c.args.loaded.now.costs c.args.code.now c.requires.loaded.costs c.func-func.result c.in-Some-get-2.cost.now c.in-Some-get.main.now (sym c.in-Some-get.ensures.item) c.in-Some-get-2.ensures.item ∙ ap (λ (x : Entry). cost_of c.args.code.now (Some x)) main in
     let yes = c.take_step.ensures.yes c.if-not-take_step.false in
     let steps : c.args.state.now.steps ≡ suc c.take_step.new.self.steps = omega (arith, yes.0) in
     let lt : room.stack < c.in-Some-get-2.cost.now = omega (arith, stack, c.if-cost-from.true, c.from.ensures) in
-    refused c.args.code.now c.requires.formed c.requires.built c.args.stack c.args.state.now c.requires.first c.in-Some.line.now c.in-Some.ensures.item input c.take_step.new.self.steps steps c.in-Some-get-2.cost.now cost n room taken same lt
+    refused c.args.code.now c.requires.formed c.args.stack c.args.state.now c.requires.first c.in-Some.line.now c.in-Some.ensures.item input c.take_step.new.self.steps steps c.in-Some-get-2.cost.now cost n room taken same lt
+
+pub begin-requires-clause-more : goal.begin-requires-clause-more
+begin-requires-clause-more c =
+    let m = c.args.state.now in
+    let main = main_is_there c.args.code.now c.args.stack m c.requires.first c.func-func.result c.in-Some-get.main.now c.func-func.ensures c.in-Some-get.ensures.item in
+    let cost = cost_is c.args.loaded.now.costs c.args.code.now c.requires.loaded.costs c.func-func.result c.in-Some-get-2.cost.now c.in-Some-get.main.now (sym c.in-Some-get.ensures.item) c.in-Some-get-2.ensures.item ∙ ap (λ (x : Entry). cost_of c.args.code.now (Some x)) main in
+    let yes = c.take_step.ensures.yes c.if-not-take_step.false in
+    let steps : m.steps ≡ suc c.take_step.new.self.steps = omega (arith, yes.0) in
+    plain_less c.args.code.now c.requires.formed c.args.stack m c.requires.first c.in-Some.line.now c.in-Some.ensures.item c.in-Some-get-2.cost.now cost c.take_step.new.self c.take_step.new.self.steps yes.1
+
+pub begin-requires-clause-room : goal.begin-requires-clause-room
+begin-requires-clause-room c =
+    let m = c.args.state.now in
+    let main = main_is_there c.args.code.now c.args.stack m c.requires.first c.func-func.result c.in-Some-get.main.now c.func-func.ensures c.in-Some-get.ensures.item in
+    let cost = cost_is c.args.loaded.now.costs c.args.code.now c.requires.loaded.costs c.func-func.result c.in-Some-get-2.cost.now c.in-Some-get.main.now (sym c.in-Some-get.ensures.item) c.in-Some-get-2.ensures.item ∙ ap (λ (x : Entry). cost_of c.args.code.now (Some x)) main in
+    let yes = c.take_step.ensures.yes c.if-not-take_step.false in
+    let steps : m.steps ≡ suc c.take_step.new.self.steps = omega (arith, yes.0) in
+    let le : c.in-Some-get-2.cost.now ≤ c.args.stack = omega (arith, c.if-cost-from.false, c.from.ensures) in
+    omega (arith, le, c.requires.first.room, ap (λ (x : Kept). x.calls.room) yes.1)
+
+pub make_locals-requires-clause-there : goal.make_locals-requires-clause-there
+make_locals-requires-clause-there c = mems_there c.args.code.now c.requires.formed c.func-func.result c.in-Some-get.main.now (sym c.in-Some-get.ensures.item)
+
+pub make_locals-requires-clause-may : goal.make_locals-requires-clause-may
+make_locals-requires-clause-may c =
+    let m = c.args.state.now in
+    let main = main_is_there c.args.code.now c.args.stack m c.requires.first c.func-func.result c.in-Some-get.main.now c.func-func.ensures c.in-Some-get.ensures.item in
+    let cost = cost_is c.args.loaded.now.costs c.args.code.now c.requires.loaded.costs c.func-func.result c.in-Some-get-2.cost.now c.in-Some-get.main.now (sym c.in-Some-get.ensures.item) c.in-Some-get-2.ensures.item ∙ ap (λ (x : Entry). cost_of c.args.code.now (Some x)) main in
+    let yes = c.take_step.ensures.yes c.if-not-take_step.false in
+    let steps : m.steps ≡ suc c.take_step.new.self.steps = omega (arith, yes.0) in
+    let le : c.in-Some-get-2.cost.now ≤ c.args.stack = omega (arith, c.if-cost-from.false, c.from.ensures) in
+    may_make_main c.args.code.now c.requires.formed c.args.stack m c.requires.first c.in-Some.line.now c.in-Some.ensures.item [] c.take_step.new.self.steps steps c.in-Some-get-2.cost.now cost c.in-Some-get.main.now main c.take_step.new.self c.begin.new.self yes.1 c.begin.ensures le (subst (λ (k : Kept). taken_by k.calls ≤ k.calls.used) yes.1 c.all_fit.ensures.taken)
+
+pub make_locals-requires-clause-standing : goal.make_locals-requires-clause-standing
+make_locals-requires-clause-standing c =
+    let m = c.args.state.now in
+    let main = main_is_there c.args.code.now c.args.stack m c.requires.first c.func-func.result c.in-Some-get.main.now c.func-func.ensures c.in-Some-get.ensures.item in
+    let cost = cost_is c.args.loaded.now.costs c.args.code.now c.requires.loaded.costs c.func-func.result c.in-Some-get-2.cost.now c.in-Some-get.main.now (sym c.in-Some-get.ensures.item) c.in-Some-get-2.ensures.item ∙ ap (λ (x : Entry). cost_of c.args.code.now (Some x)) main in
+    let yes = c.take_step.ensures.yes c.if-not-take_step.false in
+    let steps : m.steps ≡ suc c.take_step.new.self.steps = omega (arith, yes.0) in
+    (c.requires.first.places, called c.args.code.now c.requires.formed c.args.stack m c.requires.first c.in-Some.line.now c.in-Some.ensures.item [] c.take_step.new.self.steps steps c.in-Some-get-2.cost.now cost _, stands_begins c.args.code.now c.requires.formed c.args.stack m c.requires.first c.in-Some.line.now c.in-Some.ensures.item [] c.take_step.new.self.steps steps c.in-Some-get-2.cost.now cost c.in-Some-get.main.now main c.take_step.new.self c.begin.new.self yes.1 c.begin.ensures)
 
 pub returns-clause-well : goal.returns-clause-well
 returns-clause-well c =
-    let main = main_is_there c.args.code.now c.args.stack c.args.state.now c.requires.first c.func-func.result c.in-Some-get.main.now c.func-func.ensures c.in-Some-get.ensures.item in
-    let cost = cost_is c.args.loaded.now.costs c.args.code.now c.requires.loaded.costs c.func-func.result c.in-Some-get-2.cost.now c.in-Some-get.main.now (sym c.in-Some-get.ensures.item) c.in-Some-get-2.ensures.item ∙ ap plain_cost main in
+    let m = c.args.state.now in
+    let main = main_is_there c.args.code.now c.args.stack m c.requires.first c.func-func.result c.in-Some-get.main.now c.func-func.ensures c.in-Some-get.ensures.item in
+    let cost = cost_is c.args.loaded.now.costs c.args.code.now c.requires.loaded.costs c.func-func.result c.in-Some-get-2.cost.now c.in-Some-get.main.now (sym c.in-Some-get.ensures.item) c.in-Some-get-2.ensures.item ∙ ap (λ (x : Entry). cost_of c.args.code.now (Some x)) main in
     let yes = c.take_step.ensures.yes c.if-not-take_step.false in
-    let steps : c.args.state.now.steps ≡ suc c.take_step.new.self.steps = omega (arith, yes.0) in
-    let goes = c.go_to.ensures ∙ ap (λ (x : Entry). gone_to c.take_step.new.self x.first) main in
-    well_called c.args.code.now c.requires.formed c.requires.built c.args.stack c.args.state.now c.requires.first c.in-Some.line.now c.in-Some.ensures.item c.run_begins_well.ensures c.requires.bytes c.take_step.new.self.steps steps c.in-Some-get-2.cost.now cost c.requires.budget c.take_step.new.self c.go_to.new.self yes.1 goes
+    let steps : m.steps ≡ suc c.take_step.new.self.steps = omega (arith, yes.0) in
+    let le : c.in-Some-get-2.cost.now ≤ c.args.stack = omega (arith, c.if-cost-from.false, c.from.ensures) in
+    let made = made_main c.args.code.now c.requires.formed c.args.stack m c.requires.first c.in-Some.line.now c.in-Some.ensures.item [] c.take_step.new.self.steps steps c.in-Some-get-2.cost.now cost c.in-Some-get.main.now main c.take_step.new.self c.begin.new.self yes.1 c.begin.ensures c.make_locals.new.self c.make_locals.ensures in
+    let small = subst (λ (k : Kept). k.calls.room < 2 ^ 32) yes.1 c.all_fit.ensures.small in
+    well_called c.args.code.now c.requires.formed c.args.stack m c.requires.first c.in-Some.line.now c.in-Some.ensures.item c.run_begins_well.ensures c.requires.bytes c.take_step.new.self.steps steps c.in-Some-get-2.cost.now cost c.requires.budget le small c.make_locals.new.self made
 
 pub returns-clause-room : goal.returns-clause-room
 returns-clause-room c =
-    let main = main_is_there c.args.code.now c.args.stack c.args.state.now c.requires.first c.func-func.result c.in-Some-get.main.now c.func-func.ensures c.in-Some-get.ensures.item in
-    let cost = cost_is c.args.loaded.now.costs c.args.code.now c.requires.loaded.costs c.func-func.result c.in-Some-get-2.cost.now c.in-Some-get.main.now (sym c.in-Some-get.ensures.item) c.in-Some-get-2.ensures.item ∙ ap plain_cost main in
+    let m = c.args.state.now in
+    let main = main_is_there c.args.code.now c.args.stack m c.requires.first c.func-func.result c.in-Some-get.main.now c.func-func.ensures c.in-Some-get.ensures.item in
+    let cost = cost_is c.args.loaded.now.costs c.args.code.now c.requires.loaded.costs c.func-func.result c.in-Some-get-2.cost.now c.in-Some-get.main.now (sym c.in-Some-get.ensures.item) c.in-Some-get-2.ensures.item ∙ ap (λ (x : Entry). cost_of c.args.code.now (Some x)) main in
     let yes = c.take_step.ensures.yes c.if-not-take_step.false in
-    let steps : c.args.state.now.steps ≡ suc c.take_step.new.self.steps = omega (arith, yes.0) in
-    let goes = c.go_to.ensures ∙ ap (λ (x : Entry). gone_to c.take_step.new.self x.first) main in
+    let steps : m.steps ≡ suc c.take_step.new.self.steps = omega (arith, yes.0) in
     let le : c.in-Some-get-2.cost.now ≤ c.args.stack = omega (arith, c.if-cost-from.false, c.from.ensures) in
-    room_called c.args.code.now c.requires.formed c.requires.built c.args.stack c.args.state.now c.requires.first c.in-Some.line.now c.in-Some.ensures.item [] c.take_step.new.self.steps steps c.in-Some-get-2.cost.now cost c.take_step.new.self c.go_to.new.self yes.1 goes le
+    let made = made_main c.args.code.now c.requires.formed c.args.stack m c.requires.first c.in-Some.line.now c.in-Some.ensures.item [] c.take_step.new.self.steps steps c.in-Some-get-2.cost.now cost c.in-Some-get.main.now main c.take_step.new.self c.begin.new.self yes.1 c.begin.ensures c.make_locals.new.self c.make_locals.ensures in
+    room_all c.args.code.now c.requires.formed c.args.stack m c.requires.first c.in-Some.line.now c.in-Some.ensures.item [] c.take_step.new.self.steps steps c.in-Some-get-2.cost.now cost le c.make_locals.new.self made
 
 pub returns-clause-reaches : goal.returns-clause-reaches
 returns-clause-reaches c = λ input n room taken same stack heap.
-    let main = main_is_there c.args.code.now c.args.stack c.args.state.now c.requires.first c.func-func.result c.in-Some-get.main.now c.func-func.ensures c.in-Some-get.ensures.item in
-    let cost = cost_is c.args.loaded.now.costs c.args.code.now c.requires.loaded.costs c.func-func.result c.in-Some-get-2.cost.now c.in-Some-get.main.now (sym c.in-Some-get.ensures.item) c.in-Some-get-2.ensures.item ∙ ap plain_cost main in
+    let m = c.args.state.now in
+    let main = main_is_there c.args.code.now c.args.stack m c.requires.first c.func-func.result c.in-Some-get.main.now c.func-func.ensures c.in-Some-get.ensures.item in
+    let cost = cost_is c.args.loaded.now.costs c.args.code.now c.requires.loaded.costs c.func-func.result c.in-Some-get-2.cost.now c.in-Some-get.main.now (sym c.in-Some-get.ensures.item) c.in-Some-get-2.ensures.item ∙ ap (λ (x : Entry). cost_of c.args.code.now (Some x)) main in
     let yes = c.take_step.ensures.yes c.if-not-take_step.false in
-    let steps : c.args.state.now.steps ≡ suc c.take_step.new.self.steps = omega (arith, yes.0) in
-    let goes = c.go_to.ensures ∙ ap (λ (x : Entry). gone_to c.take_step.new.self x.first) main in
-    let le : c.in-Some-get-2.cost.now ≤ room.stack = omega (arith, c.if-cost-from.false, c.from.ensures, stack) in
-    let less = less_called c.args.code.now c.requires.formed c.requires.built c.args.stack c.args.state.now c.requires.first c.in-Some.line.now c.in-Some.ensures.item c.run_begins_well.ensures c.requires.bytes c.take_step.new.self.steps steps c.in-Some-get-2.cost.now cost in
-    let good = good_so_far c.args.code.now c.requires.formed c.requires.built c.args.stack c.args.state.now c.requires.first c.in-Some.line.now c.in-Some.ensures.item c.run_begins_well.ensures c.requires.bytes c.take_step.new.self.steps steps c.in-Some-get-2.cost.now cost input in
-    reached_called c.args.code.now c.requires.formed c.requires.built c.args.stack c.args.state.now c.requires.first c.in-Some.line.now c.in-Some.ensures.item input c.take_step.new.self.steps steps c.in-Some-get-2.cost.now cost c.take_step.new.self c.go_to.new.self yes.1 goes n room taken same heap le good less
+    let steps : m.steps ≡ suc c.take_step.new.self.steps = omega (arith, yes.0) in
+    let le : c.in-Some-get-2.cost.now ≤ c.args.stack = omega (arith, c.if-cost-from.false, c.from.ensures) in
+    let made = made_main c.args.code.now c.requires.formed c.args.stack m c.requires.first c.in-Some.line.now c.in-Some.ensures.item input c.take_step.new.self.steps steps c.in-Some-get-2.cost.now cost c.in-Some-get.main.now main c.take_step.new.self c.begin.new.self yes.1 c.begin.ensures c.make_locals.new.self c.make_locals.ensures in
+    let less = less_called c.args.code.now c.requires.formed c.args.stack m c.requires.first c.in-Some.line.now c.in-Some.ensures.item c.run_begins_well.ensures c.requires.bytes c.take_step.new.self.steps steps c.in-Some-get-2.cost.now cost in
+    let good = good_so_far c.args.code.now c.requires.formed c.args.stack m c.requires.first c.in-Some.line.now c.in-Some.ensures.item c.run_begins_well.ensures c.requires.bytes c.take_step.new.self.steps steps c.in-Some-get-2.cost.now cost input in
+    reached_all c.args.code.now c.requires.formed c.args.stack m c.requires.first c.in-Some.line.now c.in-Some.ensures.item input c.take_step.new.self.steps steps c.in-Some-get-2.cost.now cost le c.make_locals.new.self made n room taken same heap (omega (arith, le, stack)) good less
 
 pub returns-then-not-take_step-clause-made : goal.returns-then-not-take_step-clause-made
 returns-then-not-take_step-clause-made c = λ input n room same stack.
     let m = c.args.state.now in
     let no = c.take_step.ensures.no c.if-not-take_step.true in
-    let stops = stops_spent c.args.code.now c.requires.formed c.requires.built c.args.stack m c.requires.first c.in-Some.line.now c.in-Some.ensures.item input no.1 in
+    let stops = stops_spent c.args.code.now c.requires.formed c.args.stack m c.requires.first c.in-Some.line.now c.in-Some.ensures.item input no.1 in
     subst (λ (j : ℕ). MakesSteps c.args.code.now input j room end.Spent (j - c.take_step.new.self.steps)) (sym same)
     (made_spent c.args.code.now input m.steps room stops c.take_step.new.self.steps (ap (λ (x : Kept). x.steps) no.0))
 
@@ -76,9 +123,9 @@ pub returns-then-cost-from-clause-made : goal.returns-then-cost-from-clause-made
 returns-then-cost-from-clause-made c = λ input n room same stack.
     let m = c.args.state.now in
     let main = main_is_there c.args.code.now c.args.stack m c.requires.first c.func-func.result c.in-Some-get.main.now c.func-func.ensures c.in-Some-get.ensures.item in
-    let cost = cost_is c.args.loaded.now.costs c.args.code.now c.requires.loaded.costs c.func-func.result c.in-Some-get-2.cost.now c.in-Some-get.main.now (sym c.in-Some-get.ensures.item) c.in-Some-get-2.ensures.item ∙ ap plain_cost main in
+    let cost = cost_is c.args.loaded.now.costs c.args.code.now c.requires.loaded.costs c.func-func.result c.in-Some-get-2.cost.now c.in-Some-get.main.now (sym c.in-Some-get.ensures.item) c.in-Some-get-2.ensures.item ∙ ap (λ (x : Entry). cost_of c.args.code.now (Some x)) main in
     let yes = c.take_step.ensures.yes c.if-not-take_step.false in
     let steps : m.steps ≡ suc c.take_step.new.self.steps = omega (arith, yes.0) in
     let lt : room.stack < c.in-Some-get-2.cost.now = omega (arith, stack, c.if-cost-from.true, c.from.ensures) in
     subst (λ (j : ℕ). MakesSteps c.args.code.now input j room (end.OutOfStack c.in-Some.line.now) (j - c.take_step.new.self.steps)) (sym same)
-    (made_refused c.args.code.now input m.steps room _ _ c.in-Some-get-2.cost.now c.in-Some.line.now (goes c.args.code.now c.requires.formed c.requires.built c.args.stack m c.requires.first c.in-Some.line.now c.in-Some.ensures.item input c.take_step.new.self.steps steps c.in-Some-get-2.cost.now cost) lt c.take_step.new.self.steps refl)
+    (made_refused c.args.code.now input m.steps room _ _ c.in-Some-get-2.cost.now c.in-Some.line.now (goes c.args.code.now c.requires.formed c.args.stack m c.requires.first c.in-Some.line.now c.in-Some.ensures.item input c.take_step.new.self.steps steps c.in-Some-get-2.cost.now cost) lt c.take_step.new.self.steps refl)

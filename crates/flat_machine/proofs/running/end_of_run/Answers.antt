@@ -23,21 +23,21 @@ instructions-preserved g c =
     let moves = rw c.in-Ok.is at c.one_step.ensures.moves in
     let told = rw c.in-Ok.is at c.one_step.ensures.told in
     let known = c.instructions.invariant in
-    let room_is = room_next c.args.code.now c.requires.formed c.requires.built c.step_stays_good.ensures c.step_leaves_less.ensures c.instructions.state c.one_step.new.state known.well moves in
+    let room_is = room_next c.args.code.now c.requires.formed c.step_stays_good.ensures c.step_leaves_less.ensures c.instructions.state c.one_step.new.state known.well moves in
     record {
       input = faults.0 ∙ known.input;
       out = faults.1 ∙ known.out;
-      well = well_next c.args.code.now c.requires.formed c.requires.built c.step_stays_good.ensures c.step_leaves_less.ensures c.instructions.state c.one_step.new.state known.well moves;
+      well = well_next c.args.code.now c.requires.formed c.step_stays_good.ensures c.step_leaves_less.ensures c.instructions.state c.one_step.new.state known.well moves;
       room = room_is ∙ known.room;
       told = λ left n room taken stack first.
           let r = known.told left n room taken stack first in
-          reached_more c.args.code.now left n room taken c.instructions.state c.one_step.new.state _ _ _ _ r (good_more c.args.code.now c.requires.formed c.step_stays_good.ensures r.now r.good r.trace) (room_is ∙ known.room ∙ stack) (λ after now. less_state c.args.code.now c.requires.formed c.requires.built c.step_stays_good.ensures c.step_leaves_less.ensures c.instructions.state c.one_step.new.state known.well moves r.now after r.stands now) (told r.stands.places r.now r.trace (taken ++ bytes_out r.trace) r.stands.stands r.good r.is_left r.is_taken);
+          reached_more c.args.code.now left n room taken c.instructions.state c.one_step.new.state _ _ _ _ r (good_more c.args.code.now c.requires.formed c.step_stays_good.ensures r.now r.good r.trace) (room_is ∙ known.room ∙ stack) (λ after now. less_state c.args.code.now c.requires.formed c.step_stays_good.ensures c.step_leaves_less.ensures c.instructions.state c.one_step.new.state known.well moves r.now after r.stands now) (told r.stands.places r.now r.trace (taken ++ bytes_out r.trace) r.stands.stands r.good r.is_left r.is_taken);
     }
 
 pub instructions-smaller : goal.instructions-smaller
 instructions-smaller g c =
     let moves = rw c.in-Ok.is at c.one_step.ensures.moves in
-    less_next c.args.code.now c.requires.formed c.requires.built c.step_stays_good.ensures c.step_leaves_less.ensures c.instructions.state c.one_step.new.state c.instructions.invariant.well moves
+    less_next c.args.code.now c.requires.formed c.step_stays_good.ensures c.step_leaves_less.ensures c.instructions.state c.one_step.new.state c.instructions.invariant.well moves
 
 pub returns-in-Err-clause-told : goal.returns-in-Err-clause-told
 returns-in-Err-clause-told g c = λ left n room taken stack first.

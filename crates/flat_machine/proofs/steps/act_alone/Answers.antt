@@ -1,25 +1,39 @@
 use Rattle.std.proofs.Common.{pos, get_or, refl, rules, sym, subst, ◌∙◌}
+use Rattle.flat_code.specs.declared.instructions.Op.{Op}
 use Rattle.flat_code.specs.declared.instructions.Op.TheVariants as op
+use Rattle.code_meaning.specs.Entering.{layout_in}
 use Rattle.object_meaning.specs.Values.{number}
 use Rattle.flat_objects.specs.Standing.{StandsFor}
-use Rattle.flat_machine.specs.Groups.{IsValues, IsJump, IsMemory, IsPointers, IsMaking, IsFreeing}
+use Rattle.flat_machine.specs.Groups.{IsValues, IsJump, IsMemory, IsPointers, IsRanges, IsMaking, IsFreeing}
+use Rattle.flat_machine.specs.Pinning.{CountsWell}
+use Rattle.flat_machine.specs.Growing.{IsBefore, about_to_write}
 use Rattle.flat_machine.proofs.WordLists.{word_at}
-use Rattle.flat_machine.proofs.Counts.{has_counted, storable}
-use Rattle.flat_machine.proofs.Stepped.{values_taken, jump_taken, memory_taken, pointers_taken, making_taken, freeing_taken, taken_alone}
+use Rattle.flat_machine.specs.Pinning.{IsReturning}
+use Rattle.flat_machine.proofs.Counts.{storable, calling_stands, freeing_counts, freeing_stands}
+use Rattle.flat_machine.proofs.Stepped.{values_taken, jump_taken, memory_taken, pointers_taken, making_taken, freeing_taken, taken_alone, ranges_taken}
+use Rattle.flat_machine.proofs.Ranged.{settable}
 use Rattle.flat_machine.proofs.steps.act_alone.Goals as goal
 
 pub returns-in-Return : goal.returns-in-Return
 returns-in-Return c = λ places s h counts fresh is.
-    rw c.in-Return.is (taken_alone c.args.code.now c.args.line c.args.instr op.Return s places c.args.state.now c.act_return.new.self c.act_return.result refl (is ∙ c.in-Return.is) (c.act_return.ensures c.args.line places s (number (pos 0)) h refl))
+    let own = subst (λ (o : Op). CountsWell c.args.state.now (about_to_write c.args.instr o s)) c.in-Return.is counts in
+    rw c.in-Return.is (taken_alone c.args.code.now c.args.line c.args.instr op.Return s places c.args.state.now c.act_return.new.self c.act_return.result refl (is ∙ c.in-Return.is) (c.act_return.ensures places s (number (pos 0)) h own refl))
 
 pub returns-in-Give : goal.returns-in-Give
 returns-in-Give c = λ places s h counts fresh is.
+    let own = subst (λ (o : Op). CountsWell c.args.state.now (about_to_write c.args.instr o s)) c.in-Give.is counts in
     let v = get_or s.handed 0 (number (pos 0)) in
     let stands = subst (StandsFor places s.state.objects v) (sym c.word-answer.ensures) (word_at places s.state.objects s.handed c.args.state.now.handed 0 h.handed) in
-    rw c.in-Give.is (taken_alone c.args.code.now c.args.line c.args.instr op.Give s places c.args.state.now c.act_return-in-Give.new.self c.act_return-in-Give.result refl (is ∙ c.in-Give.is) (c.act_return-in-Give.ensures c.args.line places s v h stands))
+    rw c.in-Give.is (taken_alone c.args.code.now c.args.line c.args.instr op.Give s places c.args.state.now c.act_return-in-Give.new.self c.act_return-in-Give.result refl (is ∙ c.in-Give.is) (c.act_return-in-Give.ensures places s v h own stands))
 
 pub returns-in-Call : goal.returns-in-Call
-returns-in-Call c = λ places s h counts fresh is. rw c.in-Call.is (c.call.ensures places s h counts (is ∙ c.in-Call.is))
+returns-in-Call c = λ places s h counts fresh is.
+    let own = subst (λ (o : Op). CountsWell c.args.state.now (about_to_write c.args.instr o s)) c.in-Call.is counts in
+    rw c.in-Call.is (c.call.ensures places s h own (is ∙ c.in-Call.is))
+
+pub call-requires-clause-standing : goal.call-requires-clause-standing
+call-requires-clause-standing c =
+    calling_stands c.args.instr c.args.op c.args.state.now c.in-Call.is c.requires.standing
 
 pub returns-in-HandReg : goal.returns-in-HandReg
 returns-in-HandReg c = λ places s h counts fresh is. c.act_hand.ensures c.args.code.now c.args.line places s h fresh
@@ -56,19 +70,60 @@ act_making-requires-clause-births c =
 pub returns-in-Free : goal.returns-in-Free
 returns-in-Free c = λ places s h counts fresh is.
     let freeing : IsFreeing c.args.op = search rules in
-    taken_alone c.args.code.now c.args.line c.args.instr c.args.op s places c.args.state.now c.act_freeing.new.self c.act_freeing.result (freeing_taken s.state.running c.args.instr c.args.op freeing) is (c.act_freeing.ensures c.args.code.now places s c.requires.pins h counts)
+    taken_alone c.args.code.now c.args.line c.args.instr c.args.op s places c.args.state.now c.act_freeing.new.self c.act_freeing.result (freeing_taken s.state.running c.args.instr c.args.op freeing) is (c.act_freeing.ensures c.args.code.now places s c.requires.pins h (freeing_counts c.args.instr c.args.op c.args.state.now s freeing counts))
+
+pub act_freeing-requires-clause-standing : goal.act_freeing-requires-clause-standing
+act_freeing-requires-clause-standing c =
+    let freeing : IsFreeing c.args.op = search rules in
+    freeing_stands c.args.instr c.args.op c.args.state.now freeing c.requires.standing
+
+-- Ranges of bytes
+
+pub returns-in-Copy : goal.returns-in-Copy
+returns-in-Copy c = λ places s h counts fresh is.
+    let ranges : IsRanges c.args.op = search rules in
+    taken_alone c.args.code.now c.args.line c.args.instr c.args.op s places c.args.state.now c.act_ranges.new.self c.act_ranges.result (ranges_taken s.state.running c.args.instr c.args.op ranges) is (c.act_ranges.ensures c.args.code.now c.args.instr places s h)
+
+pub act_ranges-requires-clause-storable : goal.act_ranges-requires-clause-storable
+act_ranges-requires-clause-storable c =
+    let q = c.requires.standing in storable q.0 q.1 c.args.state.now q.2.stands
+
+pub act_ranges-requires-clause-settable : goal.act_ranges-requires-clause-settable
+act_ranges-requires-clause-settable c =
+    let q = c.requires.standing in settable q.0 q.1 c.args.state.now q.2.stands
+
+pub act_ranges-requires-clause-small : goal.act_ranges-requires-clause-small
+act_ranges-requires-clause-small c =
+    let ranges : IsRanges c.args.op = search rules in c.requires.small ranges
+
+-- Objects that grow
+
+pub returns-in-Realloc : goal.returns-in-Realloc
+returns-in-Realloc c = λ places s h counts fresh is.
+    let own = subst (λ (o : Op). CountsWell c.args.state.now (about_to_write c.args.instr o s)) c.in-Realloc.is counts in
+    rw c.in-Realloc.is (taken_alone c.args.code.now c.args.line c.args.instr op.Realloc s places c.args.state.now c.act_growing.new.self c.act_growing.result refl (is ∙ c.in-Realloc.is) (c.act_growing.ensures c.args.code.now places s c.requires.pins h own (c.requires.grows c.in-Realloc.is).element))
+
+pub act_growing-requires-clause-births : goal.act_growing-requires-clause-births
+act_growing-requires-clause-births c = (c.requires.grows c.in-Realloc.is).births
+
+pub act_growing-requires-clause-form : goal.act_growing-requires-clause-form
+act_growing-requires-clause-form c =
+    (layout_in c.args.code.now c.args.instr.b, (c.requires.grows c.in-Realloc.is).element)
+
+pub act_growing-requires-clause-standing : goal.act_growing-requires-clause-standing
+act_growing-requires-clause-standing c =
+    subst (λ (o : Op). IsBefore c.args.instr o c.args.state.now) c.in-Realloc.is c.requires.standing
 
 pub act_memory-requires-clause-stores : goal.act_memory-requires-clause-stores
 act_memory-requires-clause-stores c = λ storep.
     let q = c.requires.standing in storable q.0 q.1 c.args.state.now q.2.stands
 
-pub act_return-requires-clause-pins : goal.act_return-requires-clause-pins
-act_return-requires-clause-pins c =
-    let q = c.requires.standing in has_counted q.0 q.1 c.args.state.now q.2.stands
+pub act_return-requires-clause-returns : goal.act_return-requires-clause-returns
+act_return-requires-clause-returns c = c.requires.returns c.in-Return.is
 
-pub act_return-requires-in-Give-clause-pins : goal.act_return-requires-in-Give-clause-pins
-act_return-requires-in-Give-clause-pins c =
-    let q = c.requires.standing in has_counted q.0 q.1 c.args.state.now q.2.stands
+pub act_return-requires-in-Give-clause-returns : goal.act_return-requires-in-Give-clause-returns
+act_return-requires-in-Give-clause-returns c =
+    subst (IsReturning c.args.state.now) (sym c.word-answer.ensures) (c.requires.gives c.in-Give.is)
 
 pub act_memory-requires-clause-kept : goal.act_memory-requires-clause-kept
 act_memory-requires-clause-kept c =

@@ -12,4 +12,4 @@ returns-clause-told g c = λ left taken k h.
     let compiled = subst (λ (core : Core). IsCompiled core pins c.in_ok-code.code) c.in_ok-counted.ensures.core c.in_ok-code.ensures.compiled in
     let ascending = c.listed_pins_are_exact.ensures.ascending c.args.core.now pins c.in_ok-counted.ensures.listed in
     subst (λ (room : Room). RunAnswers c.args.core.now left c.args.steps room taken c.execute-end.result (g.I.Source.left c.execute-end.new.input) (g.O.Sink.taken c.execute-end.new.out)) (λ i. record { heap = c.in_ok-machine.ensures.heap i; stack = c.in_ok-machine.ensures.stack i })
-    (c.execute-end.ensures.told c.in_ok-machine.ensures.fresh c.args.core.now pins c.requires.sound c.in_ok-counted.ensures.pins ascending c.requires.built compiled left taken k h)
+    (c.execute-end.ensures.told c.in_ok-machine.ensures.fresh c.args.core.now pins c.requires.sound c.in_ok-counted.ensures.pins ascending compiled left taken k h)

@@ -10,7 +10,7 @@ use Rattle.heapsafe.proofs.program.run_program.Goals as goal
 pub returns-in-Ok-clause-exact : goal.returns-in-Ok-clause-exact
 returns-in-Ok-clause-exact g c = λ left o e k h i same_out same_err.
     gives_typed c.args.file.now c.args.text.now (core_in (unit_view c.args.unit.now)) c.in-Ok.core _ c.args.way left o e _ _ _ _ c.in-Ok.ensures.core
-    (c.with_core.ensures.exact left o e k h i same_out same_err)
+    (c.go.ensures.exact left o e k h i same_out same_err)
 
 pub returns-in-Err-clause-exact : goal.returns-in-Err-clause-exact
 returns-in-Err-clause-exact g c = λ left o e k h i same_out same_err.

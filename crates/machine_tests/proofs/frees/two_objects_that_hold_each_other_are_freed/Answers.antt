@@ -1,8 +1,7 @@
 use Rattle.std.proofs.Common.{subst, sym}
 use Rattle.flat_code.specs.WellFormed.{IsWellFormed}
 use Rattle.code_soundness.specs.Laws.{HoldsBytes}
-use Rattle.flat_machine.specs.Built.{IsBuilt}
-use Rattle.machine_tests.proofs.TwoFreed.{two_is, two_is_built}
+use Rattle.machine_tests.proofs.TwoFreed.{two_is}
 use Rattle.machine_tests.proofs.frees.two_objects_that_hold_each_other_are_freed.Goals as goal
 
 pub load-requires-clause-formed : goal.load-requires-clause-formed
@@ -13,6 +12,3 @@ run-end-requires-clause-formed g c = subst IsWellFormed (sym c.in_ok-code.ensure
 
 pub run-end-requires-clause-bytes : goal.run-end-requires-clause-bytes
 run-end-requires-clause-bytes g c = subst HoldsBytes (sym c.in_ok-code.ensures) two_is.1
-
-pub run-end-requires-clause-built : goal.run-end-requires-clause-built
-run-end-requires-clause-built g c = subst IsBuilt (sym c.in_ok-code.ensures) two_is_built

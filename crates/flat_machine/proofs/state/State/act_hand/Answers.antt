@@ -2,7 +2,7 @@ use Rattle.std.proofs.Common.{rules}
 use Rattle.std.proofs.lemmas.Int.{to_z-of_z}
 use mir.Syntax.{w64, w128}
 use mir.Val.{SFits}
-use Rattle.flat_machine.proofs.Hands.{register_hands, integer_hands, unsigned_hands, null_hands, static_hands}
+use Rattle.flat_machine.proofs.Hands.{register_hands, integer_hands, unsigned_hands, null_hands, static_hands, local_hands}
 use Rattle.flat_machine.proofs.state.State.act_hand.Goals as goal
 
 pub returns-in-HandReg : goal.returns-in-HandReg
@@ -32,3 +32,7 @@ returns-in-HandNull c = λ code line places s h fresh.
 pub returns-in-HandStatic : goal.returns-in-HandStatic
 returns-in-HandStatic c = λ code line places s h fresh.
     rw c.in-HandStatic.is (static_hands code line c.args.instr places s c.args.self.now c.hand-in-HandStatic.new.self h c.static_address-addr.result (c.requires.here c.in-HandStatic.is) c.static_address-addr.ensures c.hand-in-HandStatic.ensures)
+
+pub returns-in-HandLocal : goal.returns-in-HandLocal
+returns-in-HandLocal c = λ code line places s h fresh.
+    rw c.in-HandLocal.is (local_hands code line c.args.instr places s c.args.self.now c.hand-in-HandLocal.new.self h c.local_address-addr.result (c.requires.local c.in-HandLocal.is) c.local_address-addr.ensures c.hand-in-HandLocal.ensures)

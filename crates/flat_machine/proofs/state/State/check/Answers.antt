@@ -77,7 +77,7 @@ returns-in-Ok c = λ code first before places s has h counts.
     let closed_frame = frame_more m.memory c.pin.new.self.memory c.close_scope.new.self.memory c.pin.ensures.frame c.in-Ok.ensures.frame in
     let framed = frame_more m.memory c.close_scope.new.self.memory c.unpin.new.self.memory closed_frame c.unpin.ensures.frame in
     let unpinned = same_but m c.close_scope.new.self c.unpin.new.self closed c.unpin.ensures.others in
-    check_goes places s m h counts c.pin.new.self.memory c.close_scope.new.self.memory answer.1 c.unpin.new.self.memory kept left code first before has c.pin.ensures.frame framed closed_frame answer.0 c.go_on.new.self (c.go_on.ensures ∙ ap gone_on unpinned)
+    check_goes places s m h counts c.pin.new.self.memory c.close_scope.new.self.memory answer.1 c.unpin.new.self.memory kept left c.pin.ensures.frame framed closed_frame code first before has answer.0 c.go_on.new.self (c.go_on.ensures ∙ ap gone_on unpinned)
 
 pub returns-in-Err : goal.returns-in-Err
 returns-in-Err c = λ code first before places s has h counts.

@@ -4,4 +4,4 @@ use Rattle.flat_machine.proofs.state.State.free.Goals as goal
 
 pub returns-then-addr-eq0 : goal.returns-then-addr-eq0
 returns-then-addr-eq0 c = λ code places s has h counts.
-    free_null places s c.args.self.now h code c.args.line c.go_on.new.self (sym c.address-addr.ensures ∙ c.if-addr-eq0.true) c.go_on.ensures
+    free_null places s c.args.self.now h code c.args.line c.go_on.new.self (sym c.requires.address ∙ c.if-addr-eq0.true) c.go_on.ensures

@@ -38,10 +38,10 @@ check-requires-clause-standing c =
     let frame = frame_more m.memory c.open_scope.new.self.memory c.queue.new.self.memory c.open_scope.ensures.frame c.in_default.ensures.frame in
     let a = c.in_default.ensures.answer q.0 q.1.state.objects (record (frees_of m.pins q.1) { scopes = q.1.state.scopes + 1 }) some.0 some.1 some.3 in (
       q.0,
-      queued_state q.0 q.1 m h c.args.line some.0 some.1 some.2 a.0 a.1 (q.1.state.scopes + 1) c.queue.new.self.memory a.2 c.queue.new.self same,
+      queued_state q.0 q.1 m h c.args.line some.0 some.1 some.2 a.0 a.1 (q.1.state.scopes + 1) c.queue.new.self.memory a.2 c.queue.new.self same frame,
       record {
-        stands = mid_stands q.0 q.1 m h c.args.line some.0 some.1 some.2 a.0 a.1 (q.1.state.scopes + 1) c.queue.new.self.memory a.2 c.queue.new.self same;
-        counts = mid_counts q.0 q.1 m h c.args.line some.0 some.1 some.2 a.0 a.1 (q.1.state.scopes + 1) c.queue.new.self.memory a.2 c.queue.new.self same q.2.counts;
+        stands = mid_stands q.0 q.1 m h c.args.line some.0 some.1 some.2 a.0 a.1 (q.1.state.scopes + 1) c.queue.new.self.memory a.2 c.queue.new.self same frame;
+        counts = mid_counts q.0 q.1 m h c.args.line some.0 some.1 some.2 a.0 a.1 (q.1.state.scopes + 1) c.queue.new.self.memory a.2 c.queue.new.self same frame q.2.counts;
         room = mid_room q.0 q.1 m h c.args.line some.0 some.1 some.2 a.0 a.1 (q.1.state.scopes + 1) c.queue.new.self.memory a.2 c.queue.new.self same frame q.2.room;
       },
     )
@@ -54,8 +54,8 @@ returns-in-Ok c = λ code places s has h counts.
     let frame = frame_more m.memory c.open_scope.new.self.memory c.queue.new.self.memory c.open_scope.ensures.frame c.in_default.ensures.frame in
     let a = c.in_default.ensures.answer places s.state.objects (record (frees_of m.pins s) { scopes = s.state.scopes + 1 }) some.0 some.1 some.3 in
     let none = sym h.tracks.open_scopes ∙ c.requires.open in
-    let goes = c.in-Ok.ensures code s.numbers s.state places (queued_state places s m h c.args.line some.0 some.1 some.2 a.0 a.1 (s.state.scopes + 1) c.queue.new.self.memory a.2 c.queue.new.self same) (mid_has places s m h c.args.line some.0 some.1 some.2 a.0 a.1 (s.state.scopes + 1) c.queue.new.self.memory a.2 c.queue.new.self same code has) (mid_stands places s m h c.args.line some.0 some.1 some.2 a.0 a.1 (s.state.scopes + 1) c.queue.new.self.memory a.2 c.queue.new.self same) (mid_counts places s m h c.args.line some.0 some.1 some.2 a.0 a.1 (s.state.scopes + 1) c.queue.new.self.memory a.2 c.queue.new.self same counts) in
-    free_goes places s m h c.args.line some.0 some.1 some.2 a.0 a.1 (s.state.scopes + 1) c.queue.new.self.memory a.2 c.queue.new.self same code (omega (arith, none)) none frame c.check.new.self goes
+    let goes = c.in-Ok.ensures code s.numbers s.state places (queued_state places s m h c.args.line some.0 some.1 some.2 a.0 a.1 (s.state.scopes + 1) c.queue.new.self.memory a.2 c.queue.new.self same frame) (mid_has places s m h c.args.line some.0 some.1 some.2 a.0 a.1 (s.state.scopes + 1) c.queue.new.self.memory a.2 c.queue.new.self same frame code has) (mid_stands places s m h c.args.line some.0 some.1 some.2 a.0 a.1 (s.state.scopes + 1) c.queue.new.self.memory a.2 c.queue.new.self same frame) (mid_counts places s m h c.args.line some.0 some.1 some.2 a.0 a.1 (s.state.scopes + 1) c.queue.new.self.memory a.2 c.queue.new.self same frame counts) in
+    free_goes places s m h c.args.line some.0 some.1 some.2 a.0 a.1 (s.state.scopes + 1) c.queue.new.self.memory a.2 c.queue.new.self same frame code (omega (arith, none)) none c.check.new.self goes
 
 pub returns-in-Err-check : goal.returns-in-Err-check
 returns-in-Err-check c = λ code places s has h counts.
@@ -65,5 +65,5 @@ returns-in-Err-check c = λ code places s has h counts.
     let frame = frame_more m.memory c.open_scope.new.self.memory c.queue.new.self.memory c.open_scope.ensures.frame c.in_default.ensures.frame in
     let a = c.in_default.ensures.answer places s.state.objects (record (frees_of m.pins s) { scopes = s.state.scopes + 1 }) some.0 some.1 some.3 in
     let none = sym h.tracks.open_scopes ∙ c.requires.open in
-    let fails = c.in-Err-check.ensures code s.numbers s.state places (queued_state places s m h c.args.line some.0 some.1 some.2 a.0 a.1 (s.state.scopes + 1) c.queue.new.self.memory a.2 c.queue.new.self same) (mid_has places s m h c.args.line some.0 some.1 some.2 a.0 a.1 (s.state.scopes + 1) c.queue.new.self.memory a.2 c.queue.new.self same code has) (mid_stands places s m h c.args.line some.0 some.1 some.2 a.0 a.1 (s.state.scopes + 1) c.queue.new.self.memory a.2 c.queue.new.self same) (mid_counts places s m h c.args.line some.0 some.1 some.2 a.0 a.1 (s.state.scopes + 1) c.queue.new.self.memory a.2 c.queue.new.self same counts) in
-    free_fails places s m h c.args.line some.0 some.1 some.2 a.0 a.1 (s.state.scopes + 1) c.queue.new.self.memory a.2 c.queue.new.self same code (omega (arith, none)) none frame c.check.new.self c.in-Err-check.bad c.in-Err-check.holder fails
+    let fails = c.in-Err-check.ensures code s.numbers s.state places (queued_state places s m h c.args.line some.0 some.1 some.2 a.0 a.1 (s.state.scopes + 1) c.queue.new.self.memory a.2 c.queue.new.self same frame) (mid_has places s m h c.args.line some.0 some.1 some.2 a.0 a.1 (s.state.scopes + 1) c.queue.new.self.memory a.2 c.queue.new.self same frame code has) (mid_stands places s m h c.args.line some.0 some.1 some.2 a.0 a.1 (s.state.scopes + 1) c.queue.new.self.memory a.2 c.queue.new.self same frame) (mid_counts places s m h c.args.line some.0 some.1 some.2 a.0 a.1 (s.state.scopes + 1) c.queue.new.self.memory a.2 c.queue.new.self same frame counts) in
+    free_fails places s m h c.args.line some.0 some.1 some.2 a.0 a.1 (s.state.scopes + 1) c.queue.new.self.memory a.2 c.queue.new.self same frame code (omega (arith, none)) none c.check.new.self c.in-Err-check.bad c.in-Err-check.holder fails

@@ -23,4 +23,4 @@ returns c = λ code places s has h counts.
     let m = c.args.self.now in
     let some = may_free places s m h c.args.addr s.state.scopes m.memory c.requires.address c.requires.some (omega (arith, c.requires.open, h.tracks.open_scopes)) h.keeps h.tracks in
     let a = c.in_default.ensures.answer places s.state.objects (frees_of m.pins s) some.0 some.1 some.3 in
-    free_waits places s m h c.args.line some.0 some.1 some.2 a.0 a.1 s.state.scopes c.queue.new.self.memory a.2 c.queue.new.self c.in_default.ensures.others code c.go_on.new.self refl (omega (arith, c.requires.open, h.tracks.open_scopes)) c.in_default.ensures.frame c.go_on.ensures
+    free_waits places s m h c.args.line some.0 some.1 some.2 a.0 a.1 s.state.scopes c.queue.new.self.memory a.2 c.queue.new.self c.in_default.ensures.others c.in_default.ensures.frame code c.go_on.new.self refl (omega (arith, c.requires.open, h.tracks.open_scopes)) c.go_on.ensures

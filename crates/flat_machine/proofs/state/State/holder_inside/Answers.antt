@@ -18,7 +18,7 @@ pub returns-in-Some : goal.returns-in-Some
 returns-in-Some c = λ places s birth names.
     let kept = subst (λ (m : Kept). IsKeptObject m.memory places s.state.objects birth c.args.start) (sym c.self.view_is) (kept_object places s birth c.args.self.now names c.args.start c.requires.start) in
     let long : length c.args.self.now.statics ≡ c.len.result = omega (arith, c.len.ensures, ap (λ (m : Kept). length m.statics) c.self.view_is) in
-    let sorts = subst (HasSorts s.state.objects) long names.sorts in
+    let sorts = subst (λ n. HasSorts s.state.objects n c.self.inside.calls) long (subst (λ (m : Kept). HasSorts s.state.objects (length c.args.self.now.statics) m.calls) (sym c.self.view_is) names.sorts) in
     ap Some (c.inside_holder.ensures s.state.objects sorts (c.in-Some.ensures.inside places s.state.objects birth kept)) ∙ c.in-Some.ensures.first places s.state.objects birth s.state.queue kept names.queued
 
 pub returns-in-None : goal.returns-in-None

@@ -1,0 +1,31 @@
+use Rattle.std.proofs.Common.{◌≡◌, ℕ, ap, rules, subst, sym, ◌∙◌}
+use Rattle.std.proofs.lemmas.Int.{to_z-of_z}
+use mir.Syntax.{w128}
+use mir.Val.{SFits}
+use Rattle.hs_base.specs.declared.values.Pointer.{Pointer}
+use Rattle.hs_base.specs.declared.values.Pointer.TheVariants as pointer
+use Rattle.object_meaning.specs.Values.{number_at, pointer_at, size_in}
+use Rattle.code_meaning.specs.Entering.{layout_in}
+use Rattle.code_meaning.specs.Freeing.{grow}
+use Rattle.flat_machine.specs.Leading.{Alone}
+use Rattle.flat_machine.proofs.WordLists.{integer_at_is}
+use Rattle.flat_machine.proofs.Grown.{grow_null}
+use Rattle.flat_machine.proofs.state.State.act_growing.Goals as goal
+
+pub returns-then-from-eq0 : goal.returns-then-from-eq0
+returns-then-from-eq0 c = λ code places s has h counts form.
+    let m = c.args.self.now in
+    let fits : SFits w128 c.integer.result = search rules in
+    let size : c.size_in-size.result ≡ size_in (number_at s.handed 1) = rw (to_z-of_z w128 c.integer.result fits) at c.size_in-size.ensures.value ∙ ap size_in (c.integer.ensures ∙ integer_at_is places s.state.objects s.handed m.handed 1 h.handed) in
+    let null = grow_null places s m h c.address-from.result c.address-from.ensures c.if-from-eq0.true in
+    let made = c.make.ensures (layout_in code c.args.instr.b) places s h form in
+    subst (λ (p : Pointer). Alone places s m (grow code c.args.line c.args.instr.a p (size_in (number_at s.handed 1)) (layout_in code c.args.instr.b) s.numbers s.state) c.make.new.self c.make.result) (sym null)
+    (subst (λ (n : ℕ). Alone places s m (grow code c.args.line c.args.instr.a pointer.Null n (layout_in code c.args.instr.b) s.numbers s.state) c.make.new.self c.make.result) size made)
+
+pub returns-else-from-eq0 : goal.returns-else-from-eq0
+returns-else-from-eq0 c = λ code places s has h counts form.
+    let m = c.args.self.now in
+    let fits : SFits w128 c.integer.result = search rules in
+    let size : c.size_in-size.result ≡ size_in (number_at s.handed 1) = rw (to_z-of_z w128 c.integer.result fits) at c.size_in-size.ensures.value ∙ ap size_in (c.integer.ensures ∙ integer_at_is places s.state.objects s.handed m.handed 1 h.handed) in
+    let grown = c.grow_object.ensures code (layout_in code c.args.instr.b) places s has h counts form in
+    subst (λ (n : ℕ). Alone places s m (grow code c.args.line c.args.instr.a (pointer_at s.handed 0) n (layout_in code c.args.instr.b) s.numbers s.state) c.grow_object.new.self c.grow_object.result) size grown

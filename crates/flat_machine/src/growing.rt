@@ -1,0 +1,70 @@
+//! Objects that grow (C99 7.20.3.4).
+
+ghost use Rattle.std.specs.Prelude.{◌≡◌, ◌+◌, ◌<◌, ◌^◌, ℕ, Some, slice_get};
+ghost use Rattle.c_types.specs.declared.layouts.Layout.{Layout};
+ghost use Rattle.adjusters.specs.ObjectSlots.{element_of};
+ghost use Rattle.flat_code.specs.declared.program.Code.{Code as Program};
+ghost use Rattle.flat_code.specs.declared.instructions.Op.TheVariants as ops;
+ghost use Rattle.object_meaning.specs.Values.{pointer_at};
+ghost use Rattle.code_meaning.specs.CodeState.{CodeState};
+ghost use Rattle.code_meaning.specs.CodeMeaning.{act};
+ghost use Rattle.code_meaning.specs.Entering.{layout_in};
+ghost use Rattle.code_meaning.specs.Freeing.{grow};
+ghost use Rattle.flat_machine.specs.Words.{address_at};
+ghost use Rattle.flat_machine.specs.Standing.{Stands};
+ghost use Rattle.flat_machine.specs.Pinning.{CountsWell};
+ghost use Rattle.flat_machine.specs.Loaded.{HasPins};
+ghost use Rattle.flat_machine.specs.Growing.{IsBefore, without_register};
+ghost use Rattle.flat_machine.specs.Leading.{Alone, MayMake};
+
+use crate::making::size_in;
+use crate::state::State;
+use flat_code::Instr;
+use flat_objects::Word;
+use hs_base::{BadFree, End, Line};
+
+impl State {
+    /// Grows the object at an address that is not null. A new object of another size takes the first bytes of the old one, as
+    /// many as both have, and a register its address; then the old object is freed, in a scope of its own where none is open.
+    /// The pointers that count in that check are those behind the instruction, with the new address.
+    fn grow_object(&mut self, line: Line, instr: Instr, size: u64, from: u32) -> Result<(), End>
+        requires point { self.old.calls.running.point + 1 < 2 ^ 64 }
+        requires births { self.old.births + 1 < 2 ^ 64 }
+        requires form { (element : Layout) × (slice_get self.old.memory.forms instr.b ≡ Some (element_of element)) }
+        requires standing { IsBefore instr ops.Realloc self.old }
+        requires address { from ≡ address_at self.old.handed 0 }
+        requires some { 0 < from }
+        ensures { (code : Program) (element : Layout) (places : ℕ → ℕ) (c : CodeState) → HasPins code self.old.pins → Stands places c self.old → CountsWell self.old (without_register instr.a c) → slice_get self.old.memory.forms instr.b ≡ Some (element_of element) → Alone places c self.old (grow code line instr.a (pointer_at c.handed 0) size element c.numbers c.state) self.new result }
+    {
+        if let Err(reason) = self.may_free(from) {
+            return Err(End::BadFree(BadFree { reason, line }, None));
+        }
+        let Some(to) = self.new_object(size, instr.b, line) else {
+            return Err(End::OutOfHeap(line));
+        };
+        if let Err(kind) = self.grow(to, from) {
+            return Err(End::Trap(kind, line));
+        }
+        // The check of the free counts the new address.
+        self.put(instr.a, Word::Address(to));
+        self.free(line, from)?;
+        Ok(())
+    }
+
+    /// An instruction that grows an object; one that grows null makes an object.
+    pub(crate) fn act_growing(&mut self, line: Line, instr: Instr) -> Result<(), End>
+        requires point { self.old.calls.running.point + 1 < 2 ^ 64 }
+        requires births { self.old.births + 1 < 2 ^ 64 }
+        requires form { (element : Layout) × (slice_get self.old.memory.forms instr.b ≡ Some (element_of element)) }
+        requires standing { IsBefore instr ops.Realloc self.old }
+        ensures { (code : Program) (places : ℕ → ℕ) (c : CodeState) → HasPins code self.old.pins → Stands places c self.old → CountsWell self.old (without_register instr.a c) → slice_get self.old.memory.forms instr.b ≡ Some (element_of (layout_in code instr.b)) → Alone places c self.old (act code line instr ops.Realloc c.handed c.numbers c.state) self.new result }
+    {
+        let size = size_in(self.integer(1));
+        let from = self.address(0);
+        if from == 0 {
+            self.make(line, instr.a, size, instr.b)
+        } else {
+            self.grow_object(line, instr, size, from)
+        }
+    }
+}

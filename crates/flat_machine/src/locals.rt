@@ -1,0 +1,38 @@
+//! The memory locals of a call that begins (C99 6.2.4).
+
+ghost use Rattle.std.specs.Prelude.{◌≡◌, ℕ, All, IsSome, length, slice_get};
+ghost use Rattle.code_meaning.specs.CodeState.{CodeState};
+ghost use Rattle.code_meaning.specs.Entering.{layout_in};
+ghost use Rattle.flat_machine.specs.Locals.{HasMade, MayMakeLocals, StandsForSome};
+ghost use Rattle.flat_machine.specs.Standing.{Stands};
+
+use crate::state::State;
+use flat_code::{Code, Entry};
+
+/// The size of a layout.
+pub(crate) fn size_of(code: &Code, layout: u32) -> u32
+    requires { IsSome (slice_get code.now.layouts layout) }
+    ensures { result ≡ (layout_in code.now layout).size }
+{
+    let Some(layout) = code.layouts.get(layout as usize) else {
+        unreachable!()
+    };
+    layout.size
+}
+
+impl State {
+    /// Makes the memory locals of the running call, which is of a function, in their order. All their bytes are zero, and their
+    /// pointers are null.
+    pub(crate) fn make_locals(&mut self, code: &Code, entry: &Entry)
+        requires there { All (λ n. IsSome (slice_get code.now.layouts n)) entry.now.mems }
+        requires may { MayMakeLocals code.now entry.now self.old }
+        requires standing { StandsForSome self.old }
+        ensures { (places : ℕ → ℕ) (c : CodeState) → Stands places c self.old → HasMade code.now entry.now places c (length entry.now.mems) self.old self.new }
+    {
+        for k in 0..entry.mems.len() {
+            let layout = entry.mems.as_slice()[k];
+            let size = size_of(code, layout);
+            let _addr = self.new_local(size, layout);
+        }
+    }
+}

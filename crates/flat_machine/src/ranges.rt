@@ -1,0 +1,171 @@
+//! Instructions on ranges of bytes (C99 6.5.16.1, 6.7.8, 7.21.2.1, 7.21.2.2, 7.21.6.1).
+
+ghost use Rattle.std.specs.Prelude.{◌≡◌, ◌+◌, ◌<◌, ◌^◌, ℕ, List, All, Some};
+ghost use Rattle.core_tree.specs.declared.statements.LibName.TheVariants as libs;
+ghost use Rattle.flat_code.specs.declared.program.Code.{Code as Program};
+ghost use Rattle.flat_code.specs.declared.instructions.Instr.{Instr};
+ghost use Rattle.flat_code.specs.declared.instructions.Op.TheVariants as ops;
+ghost use Rattle.object_meaning.specs.Builtins.{call_lib};
+ghost use Rattle.object_meaning.specs.Values.{bytes_in};
+ghost use Rattle.meaning_run.specs.Leading.{with_input};
+ghost use Rattle.code_meaning.specs.CodeState.{CodeState, other_numbers};
+ghost use Rattle.code_meaning.specs.CodeMeaning.{act, behind_lib};
+ghost use Rattle.code_soundness.specs.Objects.{IsByte};
+ghost use Rattle.flat_objects.specs.Keeping.{IsKept};
+ghost use Rattle.flat_objects.specs.Counting.{IsStorable};
+ghost use Rattle.flat_objects.specs.Ranges.{IsSettable};
+ghost use Rattle.flat_machine.specs.Words.{address_at, integer_at};
+ghost use Rattle.flat_machine.specs.Standing.{Stands};
+ghost use Rattle.flat_machine.specs.Groups.{IsRanges, IsRangeLib};
+ghost use Rattle.flat_machine.specs.Leading.{Alone, Counted, Moves, Seen};
+
+use crate::calling::byte_in;
+use crate::making::size_in;
+use crate::state::State;
+use core_tree::LibName;
+use flat_code::Op;
+use flat_objects::Word;
+use hs_base::{End, Line, Sink, Source};
+
+/// A number of bytes; there are none below 0.
+fn bytes_in(n: i128) -> u64
+    requires { bytes_in n < 2 ^ 64 }
+    ensures { result ≡ bytes_in n }
+{
+    if n < 0 { 0 } else { n as u64 }
+}
+
+impl State {
+    /// Copies a range of bytes.
+    fn copy_range(&mut self, line: Line) -> Result<(), End>
+        requires point { self.old.calls.running.point + 1 < 2 ^ 64 }
+        requires storable { IsStorable self.old.memory (address_at self.old.handed 0) (address_at self.old.handed 1) }
+        requires small { bytes_in (integer_at self.old.handed 2) < 2 ^ 64 }
+        ensures { (code : Program) (instr : Instr) (places : ℕ → ℕ) (c : CodeState) → Stands places c self.old → Alone places c self.old (act code line instr ops.Copy c.handed c.numbers c.state) self.new result }
+    {
+        let to = self.address(0);
+        let from = self.address(1);
+        let n = bytes_in(self.integer(2));
+        match self.copy(to, from, n) {
+            Ok(()) => {
+                self.go_on();
+                Ok(())
+            }
+            Err(kind) => Err(End::Trap(kind, line)),
+        }
+    }
+
+    /// Sets a range of bytes to zero; the pointers within become null.
+    fn clear_range(&mut self, line: Line) -> Result<(), End>
+        requires point { self.old.calls.running.point + 1 < 2 ^ 64 }
+        requires settable { IsSettable self.old.memory (address_at self.old.handed 0) }
+        requires small { bytes_in (integer_at self.old.handed 1) < 2 ^ 64 }
+        ensures { (code : Program) (instr : Instr) (places : ℕ → ℕ) (c : CodeState) → Stands places c self.old → Alone places c self.old (act code line instr ops.Clear c.handed c.numbers c.state) self.new result }
+    {
+        let start = self.address(0);
+        let n = bytes_in(self.integer(1));
+        match self.set_bytes(start, 0, n) {
+            Ok(()) => {
+                self.go_on();
+                Ok(())
+            }
+            Err(kind) => Err(End::Trap(kind, line)),
+        }
+    }
+
+    /// An instruction that copies or clears a range of bytes.
+    pub(crate) fn act_ranges(&mut self, line: Line, op: Op) -> Result<(), End>
+        requires point { self.old.calls.running.point + 1 < 2 ^ 64 }
+        requires ranges { IsRanges op }
+        requires storable { IsStorable self.old.memory (address_at self.old.handed 0) (address_at self.old.handed 1) }
+        requires settable { IsSettable self.old.memory (address_at self.old.handed 0) }
+        requires small { (k : ℕ) → bytes_in (integer_at self.old.handed k) < 2 ^ 64 }
+        ensures { (code : Program) (instr : Instr) (places : ℕ → ℕ) (c : CodeState) → Stands places c self.old → Alone places c self.old (act code line instr op c.handed c.numbers c.state) self.new result }
+    {
+        match op {
+            Op::Copy => self.copy_range(line),
+            Op::Clear => self.clear_range(line),
+            _ => unreachable!(),
+        }
+    }
+
+    /// `memcpy` and `memmove`.
+    fn act_copy(&mut self, line: Line, r: Option<u32>) -> Result<(), End>
+        requires point { self.old.calls.running.point + 1 < 2 ^ 64 }
+        requires storable { IsStorable self.old.memory (address_at self.old.handed 0) (address_at self.old.handed 1) }
+        ensures leads { (places : ℕ → ℕ) (c : CodeState) → Stands places c self.old → Alone places c self.old (other_numbers (behind_lib libs.Memcpy c.handed c.numbers) c.numbers (call_lib line libs.Memcpy r c.handed c.state)) self.new result }
+        ensures faults { (i o : ℕ) → Counted result i i o o }
+    {
+        let to = self.address(0);
+        let from = self.address(1);
+        match self.copy(to, from, size_in(self.integer(2))) {
+            Ok(()) => {
+                self.give(r, Word::Address(to));
+                Ok(())
+            }
+            Err(kind) => Err(End::Trap(kind, line)),
+        }
+    }
+
+    /// `memset`.
+    fn act_set(&mut self, line: Line, r: Option<u32>) -> Result<(), End>
+        requires point { self.old.calls.running.point + 1 < 2 ^ 64 }
+        requires settable { IsSettable self.old.memory (address_at self.old.handed 0) }
+        ensures leads { (places : ℕ → ℕ) (c : CodeState) → Stands places c self.old → Alone places c self.old (other_numbers (behind_lib libs.Memset c.handed c.numbers) c.numbers (call_lib line libs.Memset r c.handed c.state)) self.new result }
+        ensures faults { (i o : ℕ) → Counted result i i o o }
+    {
+        let start = self.address(0);
+        let byte = byte_in(self.integer(1));
+        match self.set_bytes(start, byte, size_in(self.integer(2))) {
+            Ok(()) => {
+                self.give(r, Word::Address(start));
+                Ok(())
+            }
+            Err(kind) => Err(End::Trap(kind, line)),
+        }
+    }
+
+    /// A call of a built-in function that writes a range of bytes; a register takes the address of its destination.
+    fn act_range_lib(&mut self, line: Line, name: LibName, r: Option<u32>) -> Result<(), End>
+        requires point { self.old.calls.running.point + 1 < 2 ^ 64 }
+        requires name { IsRangeLib name }
+        requires storable { IsStorable self.old.memory (address_at self.old.handed 0) (address_at self.old.handed 1) }
+        requires settable { IsSettable self.old.memory (address_at self.old.handed 0) }
+        ensures leads { (places : ℕ → ℕ) (c : CodeState) → Stands places c self.old → Alone places c self.old (other_numbers (behind_lib name c.handed c.numbers) c.numbers (call_lib line name r c.handed c.state)) self.new result }
+        ensures faults { (i o : ℕ) → Counted result i i o o }
+    {
+        match name {
+            LibName::Memcpy => self.act_copy(line, r),
+            LibName::Memmove => self.act_copy(line, r),
+            LibName::Memset => self.act_set(line, r),
+            _ => unreachable!(),
+        }
+    }
+
+    /// A call of a built-in function; a register takes its answer.
+    pub(crate) fn act_built_in<I: Source, O: Sink>(
+        &mut self,
+        line: Line,
+        name: LibName,
+        r: Option<u32>,
+        input: &mut I,
+        out: &mut O,
+    ) -> Result<(), End>
+        requires point { self.old.calls.running.point + 1 < 2 ^ 64 }
+        requires kept { (k : ℕ) → IsKept self.old.memory (address_at self.old.handed k) }
+        requires storable { IsStorable self.old.memory (address_at self.old.handed 0) (address_at self.old.handed 1) }
+        requires settable { IsSettable self.old.memory (address_at self.old.handed 0) }
+        requires input { I.faults input.old + 1 < 2 ^ 64 }
+        requires out { O.faults out.old + 1 < 2 ^ 64 }
+        ensures told { (places : ℕ → ℕ) (c : CodeState) (taken : List ℕ) → Stands places c self.old → I.left input.old ≡ Some c.state.input → O.taken out.old ≡ Some taken → Seen places c self.old (other_numbers (behind_lib name c.handed c.numbers) c.numbers (call_lib line name r c.handed c.state)) c.state.input taken result self.new (I.left input.new) (O.taken out.new) }
+        ensures faults { Counted result (I.faults input.old) (I.faults input.new) (O.faults out.old) (O.faults out.new) }
+        ensures moves { (places : ℕ → ℕ) (c : CodeState) → Stands places c self.old → (left : List ℕ) × All IsByte left × Moves self.old (other_numbers (behind_lib name c.handed c.numbers) c.numbers (call_lib line name r c.handed (with_input left c.state))) self.new result }
+    {
+        match name {
+            LibName::Memcpy | LibName::Memmove | LibName::Memset => {
+                self.act_range_lib(line, name, r)
+            }
+            _ => self.act_lib(line, name, r, input, out),
+        }
+    }
+}

@@ -1,7 +1,0 @@
-use Rattle.std.proofs.Common.{subst, sym}
-use Rattle.flat_machine.specs.Built.{IsBuilt}
-use Rattle.machine_tests.proofs.Built.{digit_built}
-use Rattle.machine_tests.proofs.digit.digit_is_written_and_returned.Goals as goal
-
-pub run-end-requires-clause-built : goal.run-end-requires-clause-built
-run-end-requires-clause-built g c = subst IsBuilt (sym c.in_ok-code.ensures) digit_built
