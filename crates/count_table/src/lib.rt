@@ -7,11 +7,20 @@
 //! The sum of all counts never exceeds a bound that is given when the table is made, so no count and no sum can
 //! overflow. `specs/Table.antt` says what one count more and one less are. Each change of a count is one step of a
 //! counter, and a sum takes one step for each granule.
+//!
+//! A count takes one byte: the lesser of it and 255. What exceeds 255 stands in a list of pairs, one for each granule
+//! that has such an excess, ascending by granule. Each of these takes 256 of the bound at least, so a 256th of the bound
+//! in pairs suffices for ever (the pigeonhole argument), and no change of a count takes memory. A pair is sought by
+//! halves, which takes no step of the counter; where a count passes 255, up or down, the pairs behind its pair move by
+//! one place.
 #![tactic(auto)]
 
-ghost use Rattle.std.specs.Prelude.{◌≡◌, ◌+◌, ◌-◌, ◌<◌, ◌≤◌, length, replicate, sum, slice_index, slice_range, IfOk};
-ghost use Rattle.count_table.specs.Table.{with_count};
+mod excess;
 
+ghost use Rattle.std.specs.Prelude.{◌≡◌, ◌+◌, ◌-◌, ◌<◌, ◌≤◌, length, replicate, sum, slice_index, slice_range, IfOk};
+ghost use Rattle.count_table.specs.Table.{with_count, lows_of, excess_of};
+
+use excess::Excess;
 use hs_base::{NoMemory, Steps};
 use std::alloc::Global;
 use std::marker::Model;
@@ -20,18 +29,19 @@ use std::sync::ledger::Ledger;
 /// A count for each 16 bytes of memory.
 #[derive(Debug, Drop)]
 pub struct Counts {
-    counts: Vec<u32>,
+    lows: Vec<u8>,
+    excess: Excess,
     most: u32,
 }
 
 impl Model for Counts {
-    ghost use Rattle.count_table.specs.Table.{Table, IsTable};
+    ghost use Rattle.count_table.specs.Table.{Table, IsTable, counts_of};
 
     ghost Value = { Table };
 
-    ghost view = { λ c. record { counts = c.counts.items; most = c.most } };
+    ghost view = { λ c. record { counts = counts_of c.lows.items c.excess.list; most = c.most } };
 
-    ghost invariant = { λ c. IsTable c.counts.items c.most };
+    ghost invariant = { λ c. IsTable c.lows.items c.excess c.most };
 }
 
 impl Counts {
@@ -40,7 +50,8 @@ impl Counts {
         ensures { IfOk result (λ table. table ≡ record { counts = replicate granules 0; most = most }) }
     {
         Ok(Counts {
-            counts: vec![in alloc; 0; granules as usize]?,
+            lows: vec![in alloc; 0; granules as usize]?,
+            excess: Excess::new(alloc, most as usize / 256)?,
             most,
         })
     }
@@ -55,7 +66,12 @@ impl Counts {
         ensures steps { steps.new ≡ steps.old + 1 }
     {
         steps.tick();
-        self.counts[granule as usize] += 1;
+        let low = self.lows[granule as usize];
+        if low < u8::MAX {
+            self.lows[granule as usize] = low + 1;
+        } else {
+            self.excess.raise(granule);
+        }
     }
 
     /// One less for a granule. One step.
@@ -68,7 +84,11 @@ impl Counts {
         ensures steps { steps.new ≡ steps.old + 1 }
     {
         steps.tick();
-        self.counts[granule as usize] -= 1;
+        let low = self.lows[granule as usize];
+        // A full byte stays full as long as there is excess above it.
+        if low < u8::MAX || !self.excess.lower(granule) {
+            self.lows[granule as usize] = low - 1;
+        }
     }
 
     /// The sum of the counts of so many granules from one on. One step for each of them.
@@ -78,12 +98,27 @@ impl Counts {
         ensures steps { steps.new ≡ steps.old + number }
     {
         let first = first as usize;
+        let end = first + number as usize;
         let mut total = 0;
-        for count in &self.counts[first..first + number as usize] {
+        for low in &self.lows[first..end] {
             steps.tick();
-            total += *count;
+            total += u32::from(*low);
         }
-        total
+        total + self.excess.total(first, end)
+    }
+
+    /// For each granule, the lesser of its count and 255.
+    pub fn lows(&self) -> &[u8]
+        ensures { result.now ≡ lows_of self.now.counts }
+    {
+        &self.lows
+    }
+
+    /// The granules whose count is above 255, ascending, each with its count less 255.
+    pub fn excess(&self) -> &[(u32, u32)]
+        ensures { result.now ≡ excess_of self.now.counts }
+    {
+        self.excess.as_slice()
     }
 }
 
