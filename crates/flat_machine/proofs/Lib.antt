@@ -39,4 +39,5 @@ pub mod Started
 pub mod Firsts
 pub mod Walked
 pub mod Spending
+pub mod Exits
 pub mod Lasting

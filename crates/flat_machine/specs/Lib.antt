@@ -7,6 +7,7 @@ pub mod Pinning
 pub mod Growing
 pub mod Holding
 pub mod Leading
+pub mod Exits
 pub mod Putting
 pub mod Writing
 pub mod Groups

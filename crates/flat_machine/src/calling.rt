@@ -1,6 +1,6 @@
 //! Calls and returns (C99 6.5.2.2, 6.8.6.4).
 
-ghost use Rattle.std.specs.Prelude.{◌≡◌, ◌+◌, ◌<◌, ◌^◌, ℕ, All, IsSome, Some, slice_get};
+ghost use Rattle.std.specs.Prelude.{◌≡◌, ◌+◌, ◌<◌, ◌^◌, ℕ, All, IfErr, IsSome, Some, slice_get};
 ghost use Rattle.hs_base.specs.declared.values.Value.{Value};
 ghost use Rattle.object_meaning.specs.Builtins.{byte_in};
 ghost use Rattle.flat_code.specs.Table.{chosen};
@@ -12,6 +12,7 @@ ghost use Rattle.code_meaning.specs.Returning.{give_back};
 ghost use Rattle.flat_machine.specs.Standing.{Stands};
 ghost use Rattle.flat_machine.specs.Pinning.{CountsWell, IsReturning, IsStanding};
 ghost use Rattle.flat_machine.specs.Leading.{Alone, HasAllLocals, MayCall, WaitsAtCall};
+ghost use Rattle.flat_machine.specs.Exits.{ExitsKept};
 
 use crate::state::State;
 use crate::words::{address_in, integer_in};
@@ -70,7 +71,8 @@ impl State {
         requires call { WaitsAtCall code.now self.old.calls.waiting }
         requires locals { HasAllLocals code.now self.old.calls }
         requires returns { IsReturning self.old answer }
-        ensures { (places : ℕ → ℕ) (c : CodeState) (v : Value) → Stands places c self.old → CountsWell self.old c → StandsFor places c.state.objects v answer → Alone places c self.old (give_back code.now line v c.numbers c.state) self.new result }
+        ensures alone { (places : ℕ → ℕ) (c : CodeState) (v : Value) → Stands places c self.old → CountsWell self.old c → StandsFor places c.state.objects v answer → Alone places c self.old (give_back code.now line v c.numbers c.state) self.new result }
+        ensures exits { (places : ℕ → ℕ) (c : CodeState) (v : Value) → Stands places c self.old → CountsWell self.old c → StandsFor places c.state.objects v answer → IfErr result (ExitsKept places (give_back code.now line v c.numbers c.state) self.new.memory) }
     {
         if let Some(local) = self.end_locals(address_in(answer)) {
             return Err(End::Escape {

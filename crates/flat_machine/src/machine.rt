@@ -5,13 +5,16 @@ ghost use Rattle.flat_code.specs.WellFormed.{IsWellFormed};
 ghost use Rattle.code_soundness.specs.Laws.{HoldsBytes};
 ghost use Rattle.flat_machine.specs.Machined.{IsOf, steps_made};
 ghost use Rattle.flat_machine.specs.Running.{RunAnswers, RunCounts};
-ghost use Rattle.flat_machine.specs.Lasting.{MakesSteps};
+ghost use Rattle.flat_machine.specs.Lasting.{LeavesObjects, LeavesSome, MakesSteps};
+ghost use Rattle.hs_base.specs.Object.{Object};
+ghost use Rattle.flat_objects.specs.Keeping.{Keeps};
+ghost use Rattle.flat_objects.specs.Leaks.{KeepsSome, leak_after};
 
 use crate::loaded::Loaded;
 use crate::running::whole_run;
 use crate::state::State;
 use flat_code::Code;
-use hs_base::{End, Sink, Source};
+use hs_base::{End, Leak, Line, Sink, Source};
 use std::marker::Model;
 
 /// A machine that has loaded a code, and runs it once.
@@ -51,7 +54,8 @@ impl Machine {
     /// bytes that the meaning of code writes before its first call that does not fit the stack or its first object that has no
     /// place in the heap, takes exactly the bytes that it reads, and answers its end, or the line of that call or object. It
     /// ends by a fault of the input or the output exactly where that object failed in this call. [`Machine::steps_made`] tells
-    /// how many steps it made. A machine that has ended answers the same end again, and touches nothing.
+    /// how many steps it made. Where the run ends by a call of `exit` or a return from main, the memory keeps the objects of its
+    /// last state, of which [`Machine::leak`] tells. A machine that has ended answers the same end again, and touches nothing.
     pub fn run<I: Source, O: Sink>(
         &mut self,
         code: &Code,
@@ -67,6 +71,8 @@ impl Machine {
         requires out { O.faults out.old + 1 < 2 ^ 64 }
         ensures told { self.old.ended ≡ None → (left taken : List ℕ) → I.left input.old ≡ Some left → O.taken out.old ≡ Some taken → RunAnswers code.now left budget (record { heap = self.old.kept.memory.heap.len; stack = self.old.stack }) taken result (I.left input.new) (O.taken out.new) }
         ensures made { self.old.ended ≡ None → (left taken : List ℕ) → I.left input.old ≡ Some left → O.taken out.old ≡ Some taken → MakesSteps code.now left budget (record { heap = self.old.kept.memory.heap.len; stack = self.old.stack }) result (steps_made self.new) }
+        ensures kept { self.old.ended ≡ None → LeavesSome result self.new.kept.memory }
+        ensures left { self.old.ended ≡ None → (left taken : List ℕ) → I.left input.old ≡ Some left → O.taken out.old ≡ Some taken → LeavesObjects code.now left budget (record { heap = self.old.kept.memory.heap.len; stack = self.old.stack }) result self.new.kept.memory }
         ensures faults { self.old.ended ≡ None → RunCounts result (I.faults input.old) (I.faults input.new) (O.faults out.old) (O.faults out.new) }
         ensures ends { self.new.ended ≡ Some result }
         ensures loaded { IsOf code.now self.new }
@@ -87,5 +93,16 @@ impl Machine {
         ensures { result ≡ steps_made self.now }
     {
         self.budget.saturating_sub(self.state.steps())
+    }
+    /// Of the heap objects that are not dead, those with the least line of birth above a line (from 0 on, all lines): that line,
+    /// how many objects they are, and the sum of their sizes in bytes; none where no such object was born above it. Objects that
+    /// wait to be freed are among them. That they are told is this language's own (C99 7.20.3 lets a program end with objects
+    /// that it has not freed). Behind a run that ended by a call of `exit` or a return from main, these are the objects of its
+    /// last state.
+    pub fn leak(&self, after: Line) -> Option<Leak>
+        requires { KeepsSome self.now.kept.memory }
+        ensures { (places : ℕ → ℕ) (objects : List Object) → Keeps self.now.kept.memory places objects → result ≡ leak_after after objects }
+    {
+        self.state.leak(after)
     }
 }

@@ -1,6 +1,6 @@
 //! Instructions on ranges of bytes (C99 6.5.16.1, 6.7.8, 7.21.2.1, 7.21.2.2, 7.21.6.1).
 
-ghost use Rattle.std.specs.Prelude.{◌≡◌, ◌+◌, ◌<◌, ◌^◌, ℕ, List, All, Some};
+ghost use Rattle.std.specs.Prelude.{◌≡◌, ◌+◌, ◌<◌, ◌^◌, ℕ, List, All, IfErr, Some};
 ghost use Rattle.core_tree.specs.declared.statements.LibName.TheVariants as libs;
 ghost use Rattle.flat_code.specs.declared.program.Code.{Code as Program};
 ghost use Rattle.flat_code.specs.declared.instructions.Instr.{Instr};
@@ -18,6 +18,7 @@ ghost use Rattle.flat_machine.specs.Words.{address_at, integer_at};
 ghost use Rattle.flat_machine.specs.Standing.{Stands};
 ghost use Rattle.flat_machine.specs.Groups.{IsRanges, IsRangeLib};
 ghost use Rattle.flat_machine.specs.Leading.{Alone, Counted, Moves, Seen};
+ghost use Rattle.flat_machine.specs.Exits.{IsNoExit, OnlyExits};
 
 use crate::calling::byte_in;
 use crate::making::size_in;
@@ -95,6 +96,7 @@ impl State {
         requires storable { IsStorable self.old.memory (address_at self.old.handed 0) (address_at self.old.handed 1) }
         ensures leads { (places : ℕ → ℕ) (c : CodeState) → Stands places c self.old → Alone places c self.old (other_numbers (behind_lib libs.Memcpy c.handed c.numbers) c.numbers (call_lib line libs.Memcpy r c.handed c.state)) self.new result }
         ensures faults { (i o : ℕ) → Counted result i i o o }
+        ensures no_exit { IfErr result IsNoExit }
     {
         let to = self.address(0);
         let from = self.address(1);
@@ -113,6 +115,7 @@ impl State {
         requires settable { IsSettable self.old.memory (address_at self.old.handed 0) }
         ensures leads { (places : ℕ → ℕ) (c : CodeState) → Stands places c self.old → Alone places c self.old (other_numbers (behind_lib libs.Memset c.handed c.numbers) c.numbers (call_lib line libs.Memset r c.handed c.state)) self.new result }
         ensures faults { (i o : ℕ) → Counted result i i o o }
+        ensures no_exit { IfErr result IsNoExit }
     {
         let start = self.address(0);
         let byte = byte_in(self.integer(1));
@@ -133,6 +136,7 @@ impl State {
         requires settable { IsSettable self.old.memory (address_at self.old.handed 0) }
         ensures leads { (places : ℕ → ℕ) (c : CodeState) → Stands places c self.old → Alone places c self.old (other_numbers (behind_lib name c.handed c.numbers) c.numbers (call_lib line name r c.handed c.state)) self.new result }
         ensures faults { (i o : ℕ) → Counted result i i o o }
+        ensures no_exit { IfErr result IsNoExit }
     {
         match name {
             LibName::Memcpy => self.act_copy(line, r),
@@ -159,6 +163,7 @@ impl State {
         requires out { O.faults out.old + 1 < 2 ^ 64 }
         ensures told { (places : ℕ → ℕ) (c : CodeState) (taken : List ℕ) → Stands places c self.old → I.left input.old ≡ Some c.state.input → O.taken out.old ≡ Some taken → Seen places c self.old (other_numbers (behind_lib name c.handed c.numbers) c.numbers (call_lib line name r c.handed c.state)) c.state.input taken result self.new (I.left input.new) (O.taken out.new) }
         ensures faults { Counted result (I.faults input.old) (I.faults input.new) (O.faults out.old) (O.faults out.new) }
+        ensures exits { IfErr result (OnlyExits name self.old self.new) }
         ensures moves { (places : ℕ → ℕ) (c : CodeState) → Stands places c self.old → (left : List ℕ) × All IsByte left × Moves self.old (other_numbers (behind_lib name c.handed c.numbers) c.numbers (call_lib line name r c.handed (with_input left c.state))) self.new result }
     {
         match name {

@@ -8,7 +8,8 @@ ghost use Rattle.flat_machine.specs.Loaded.{IsLoaded};
 ghost use Rattle.flat_machine.specs.Well.{IsWell};
 ghost use Rattle.flat_machine.specs.First.{IsFirst};
 ghost use Rattle.flat_machine.specs.Running.{Reached, RunAnswers, RunCounts};
-ghost use Rattle.flat_machine.specs.Lasting.{MakesSteps, left_at};
+ghost use Rattle.flat_machine.specs.Exits.{IsNoExit};
+ghost use Rattle.flat_machine.specs.Lasting.{LeavesObjects, LeavesSome, MakesSteps, left_at};
 
 use crate::loaded::Loaded;
 use crate::state::State;
@@ -43,6 +44,8 @@ pub(crate) fn end_of_run<I: Source, O: Sink>(
     requires out { O.faults out.old + 1 < 2 ^ 64 }
     ensures told { (left : List ℕ) (n : ℕ) (room : Room) (taken : List ℕ) → state.old.calls.room ≡ room.stack → Reached code.now left n room taken state.old (I.left input.old) (O.taken out.old) → RunAnswers code.now left n room taken result (I.left input.new) (O.taken out.new) }
     ensures made { (left : List ℕ) (n : ℕ) (room : Room) (taken : List ℕ) → state.old.calls.room ≡ room.stack → Reached code.now left n room taken state.old (I.left input.old) (O.taken out.old) → MakesSteps code.now left n room result (n - state.new.steps) }
+    ensures kept { LeavesSome result state.new.memory }
+    ensures left { (left : List ℕ) (n : ℕ) (room : Room) (taken : List ℕ) → state.old.calls.room ≡ room.stack → Reached code.now left n room taken state.old (I.left input.old) (O.taken out.old) → LeavesObjects code.now left n room result state.new.memory }
     ensures faults { RunCounts result (I.faults input.old) (I.faults input.new) (O.faults out.old) (O.faults out.new) }
 {
     step_stays_good();
@@ -72,6 +75,7 @@ fn begin(state: &mut State, code: &Code, loaded: &Loaded, stack: u32) -> Result<
     ensures ends { IfErr result (λ e. (input : List ℕ) (n : ℕ) (room : Room) (taken : List ℕ) → n ≡ state.old.steps → room.stack ≡ stack → RunAnswers code.now input n room taken e (Some input) (Some taken)) }
     ensures made { IfErr result (λ e. (input : List ℕ) (n : ℕ) (room : Room) → n ≡ state.old.steps → room.stack ≡ stack → MakesSteps code.now input n room e (n - state.new.steps)) }
     ensures faults { IfErr result (λ e. (i o : ℕ) → RunCounts e i i o o) }
+    ensures no_exit { IfErr result IsNoExit }
 {
     run_begins_well();
     let func = state.func() as usize;
@@ -114,6 +118,8 @@ pub(crate) fn whole_run<I: Source, O: Sink>(
     requires out { O.faults out.old + 1 < 2 ^ 64 }
     ensures told { (left : List ℕ) (n : ℕ) (room : Room) (taken : List ℕ) → n ≡ state.old.steps → room.stack ≡ stack → room.heap ≡ state.old.memory.heap.len → I.left input.old ≡ Some left → O.taken out.old ≡ Some taken → RunAnswers code.now left n room taken result (I.left input.new) (O.taken out.new) }
     ensures made { (left : List ℕ) (n : ℕ) (room : Room) (taken : List ℕ) → n ≡ state.old.steps → room.stack ≡ stack → room.heap ≡ state.old.memory.heap.len → I.left input.old ≡ Some left → O.taken out.old ≡ Some taken → MakesSteps code.now left n room result (n - state.new.steps) }
+    ensures kept { LeavesSome result state.new.memory }
+    ensures left { (left : List ℕ) (n : ℕ) (room : Room) (taken : List ℕ) → n ≡ state.old.steps → room.stack ≡ stack → room.heap ≡ state.old.memory.heap.len → I.left input.old ≡ Some left → O.taken out.old ≡ Some taken → LeavesObjects code.now left n room result state.new.memory }
     ensures faults { RunCounts result (I.faults input.old) (I.faults input.new) (O.faults out.old) (O.faults out.new) }
 {
     match begin(state, code, loaded, stack) {

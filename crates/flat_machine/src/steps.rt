@@ -1,6 +1,6 @@
 //! One instruction.
 
-ghost use Rattle.std.specs.Prelude.{◌≡◌, ◌+◌, ◌-◌, ◌<◌, ◌<ℤ◌, ◌≤◌, ◌^◌, [], ℕ, pos, List, All, IfOk, Some, map, length, slice_get, slice_index, slice_index_or};
+ghost use Rattle.std.specs.Prelude.{◌≡◌, ◌+◌, ◌-◌, ◌<◌, ◌<ℤ◌, ◌≤◌, ◌^◌, [], ℕ, pos, List, All, IfErr, IfOk, Some, map, length, slice_get, slice_index, slice_index_or};
 ghost use Rattle.hs_base.specs.Trace.{Event};
 ghost use Rattle.c_print.specs.Format.{IsGiven};
 ghost use Rattle.c_print.specs.Pieces.{pieces_of};
@@ -20,6 +20,7 @@ ghost use Rattle.flat_machine.specs.Loaded.{HasPins, IsLoaded};
 ghost use Rattle.flat_machine.specs.Pinning.{CountsWell, IsReturning, IsStanding};
 ghost use Rattle.flat_machine.specs.Well.{IsGoodSoFar, IsWell};
 ghost use Rattle.flat_machine.specs.Leading.{Alone, Counted, Moves, Seen, WaitsAtCall, HasAllLocals, HandsFresh, MayHand, MayMake, MayCall};
+ghost use Rattle.flat_machine.specs.Exits.{ExitsKept};
 
 use crate::calling::chosen;
 use crate::loaded::Loaded;
@@ -96,7 +97,8 @@ fn act_alone(
     requires pins { HasPins code.now state.old.pins }
     requires deep { state.old.memory.scopes.depth < 2 ^ 64 - 1 }
     requires open { op ≡ ops.Leave → 0 < state.old.memory.scopes.depth }
-    ensures { (places : ℕ → ℕ) (c : CodeState) → Stands places c state.old → CountsWell state.old (about_to_write instr op c) → HandsFresh instr op c → instr.op ≡ op → Alone places c state.old (hand_or_act code.now line instr (handed_value c.state.running instr op) c) state.new result }
+    ensures alone { (places : ℕ → ℕ) (c : CodeState) → Stands places c state.old → CountsWell state.old (about_to_write instr op c) → HandsFresh instr op c → instr.op ≡ op → Alone places c state.old (hand_or_act code.now line instr (handed_value c.state.running instr op) c) state.new result }
+    ensures exits { (places : ℕ → ℕ) (c : CodeState) → Stands places c state.old → CountsWell state.old (about_to_write instr op c) → HandsFresh instr op c → instr.op ≡ op → IfErr result (ExitsKept places (hand_or_act code.now line instr (handed_value c.state.running instr op) c) state.new.memory) }
 {
     match op {
         Op::HandReg
@@ -145,6 +147,7 @@ pub(crate) fn one_step<I: Source, O: Sink>(
     requires out { O.faults out.old + 1 < 2 ^ 64 }
     ensures told { (places : ℕ → ℕ) (c : CodeState) (trace : List Event) (taken : List ℕ) → Stands places c state.old → IsGoodSoFar code.now c → I.left input.old ≡ Some c.state.input → O.taken out.old ≡ Some taken → Seen places c state.old (step code.now trace c) c.state.input taken result state.new (I.left input.new) (O.taken out.new) }
     ensures faults { Counted result (I.faults input.old) (I.faults input.new) (O.faults out.old) (O.faults out.new) }
+    ensures exits { (places : ℕ → ℕ) (c : CodeState) (trace : List Event) → Stands places c state.old → IsGoodSoFar code.now c → IfErr result (ExitsKept places (step code.now trace c) state.new.memory) }
     ensures moves { (places : ℕ → ℕ) (c : CodeState) → Stands places c state.old → IsGoodSoFar code.now c → (left : List ℕ) × All IsByte left × Moves state.old (step code.now [] (record c { state = with_input left c.state })) state.new result }
 {
     running_pins_are_fresh();

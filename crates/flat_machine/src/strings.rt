@@ -1,6 +1,6 @@
 //! Strings that are read and written (C99 7.19.7.10, 7.21.4.2, 7.21.6.3).
 
-ghost use Rattle.std.specs.Prelude.{◌≡◌, ◌+◌, ◌<◌, ◌≤◌, ◌^◌, ℕ, List, drop, length, take};
+ghost use Rattle.std.specs.Prelude.{◌≡◌, ◌+◌, ◌<◌, ◌≤◌, ◌^◌, ℕ, List, IfErr, drop, length, take};
 ghost use Rattle.hs_base.specs.Object.{Object};
 ghost use Rattle.hs_base.specs.Outside.{CountsFaults};
 ghost use Rattle.hs_base.specs.PutAll.{PutsAll};
@@ -12,6 +12,7 @@ ghost use Rattle.flat_machine.specs.Words.{address_at};
 ghost use Rattle.flat_machine.specs.Standing.{Stands};
 ghost use Rattle.flat_machine.specs.Groups.{IsStringLib};
 ghost use Rattle.flat_machine.specs.Leading.{Alone, Counted};
+ghost use Rattle.flat_machine.specs.Exits.{IsNoExit};
 ghost use Rattle.flat_machine.specs.Putting.{CountsPut, PutsText};
 ghost use Rattle.flat_machine.specs.Writing.{line_at, HasString, IsString};
 
@@ -85,6 +86,7 @@ impl State {
         requires kept { (k : ℕ) → IsKept self.old.memory (address_at self.old.handed k) }
         ensures leads { (places : ℕ → ℕ) (c : CodeState) → Stands places c self.old → Alone places c self.old (same_numbers c.numbers (call_lib line name r c.handed c.state)) self.new result }
         ensures faults { (i o : ℕ) → Counted result i i o o }
+        ensures no_exit { IfErr result IsNoExit }
     {
         let p = self.address(0);
         match name {

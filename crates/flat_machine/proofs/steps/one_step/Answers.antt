@@ -14,6 +14,7 @@ use Rattle.flat_machine.proofs.WordLists.{word_at}
 use Rattle.flat_machine.proofs.Counts.{counts_well, may_return, one_scope_more, some_scope, stands_before, storable}
 use Rattle.flat_machine.proofs.Stepped.{step_is, step_acts, seen_alone, moves_alone, counts_alone, alone_of, given_at, read_at, found, found_line, seen_as, moves_as}
 use Rattle.flat_machine.proofs.Ranged.{settable}
+use Rattle.flat_machine.proofs.Exits.{kept_as, lib_kept, no_exits_kept}
 use Rattle.flat_machine.proofs.steps.one_step.Goals as goal
 
 pub unreachable-requires : goal.unreachable-requires
@@ -169,7 +170,7 @@ returns-in_default-op-clause-told g c = λ places s trace taken h good l t.
     let acts = step_is c.args.code.now places s c.args.state.now h c.in-Some.instr.now at c.in-Some-get.line.now line trace in
     let fresh = hands_fresh c.args.code.now places s c.args.state.now h good c.in-Some.instr.now at in
     let counts = counts_well c.args.code.now c.requires.formed c.running_pins_are_fresh.ensures places s c.args.state.now h good c.requires.well.ready.pins c.requires.well.ready.statics c.in-Some.instr.now at in
-    let told = seen_alone places s c.args.state.now next taken c.act_alone.new.state c.act_alone.result (c.act_alone.ensures places s h counts fresh refl) in
+    let told = seen_alone places s c.args.state.now next taken c.act_alone.new.state c.act_alone.result (c.act_alone.ensures.alone places s h counts fresh refl) in
     rw (l, t) (seen_as c.args.state.now c.act_alone.new.state next (step c.args.code.now trace s) acts c.act_alone.result places s s.state.input taken _ _ told)
 
 pub returns-in_default-op-clause-moves : goal.returns-in_default-op-clause-moves
@@ -181,7 +182,7 @@ returns-in_default-op-clause-moves g c = λ places s h good.
     let acts = step_is c.args.code.now places (record s { state = with_input [] s.state }) c.args.state.now stands c.in-Some.instr.now at c.in-Some-get.line.now line [] in
     let fresh = hands_fresh c.args.code.now places (record s { state = with_input [] s.state }) c.args.state.now stands good c.in-Some.instr.now at in
     let counts = counts_well c.args.code.now c.requires.formed c.running_pins_are_fresh.ensures places (record s { state = with_input [] s.state }) c.args.state.now stands good c.requires.well.ready.pins c.requires.well.ready.statics c.in-Some.instr.now at in
-    let moves = moves_alone places (record s { state = with_input [] s.state }) c.args.state.now next c.act_alone.new.state c.act_alone.result (c.act_alone.ensures places (record s { state = with_input [] s.state }) stands counts fresh refl) in
+    let moves = moves_alone places (record s { state = with_input [] s.state }) c.args.state.now next c.act_alone.new.state c.act_alone.result (c.act_alone.ensures.alone places (record s { state = with_input [] s.state }) stands counts fresh refl) in
     ([], no_bytes, moves_as c.args.state.now c.act_alone.new.state next (step c.args.code.now [] (record s { state = with_input [] s.state })) acts c.act_alone.result moves)
 
 pub returns-in_default-op-clause-faults : goal.returns-in_default-op-clause-faults
@@ -191,4 +192,26 @@ returns-in_default-op-clause-faults g c =
     let good : IsGoodSoFar c.args.code.now w.state = λ left bytes. good_input c.args.code.now w.state left bytes w.good in
     let fresh = hands_fresh c.args.code.now w.places w.state c.args.state.now w.stands good c.in-Some.instr.now at in
     let counts = counts_well c.args.code.now c.requires.formed c.running_pins_are_fresh.ensures w.places w.state c.args.state.now w.stands good w.ready.pins w.ready.statics c.in-Some.instr.now at in
-    counts_alone w.places w.state c.args.state.now _ c.act_alone.new.state c.act_alone.result _ _ (c.act_alone.ensures w.places w.state w.stands counts fresh refl)
+    counts_alone w.places w.state c.args.state.now _ c.act_alone.new.state c.act_alone.result _ _ (c.act_alone.ensures.alone w.places w.state w.stands counts fresh refl)
+
+-- Ends
+
+pub returns-in-Lib-clause-exits : goal.returns-in-Lib-clause-exits
+returns-in-Lib-clause-exits g c = λ places s trace h good.
+    let at = found c.args.code.now.instrs c.point-point.result c.args.state.now.calls.running.point c.in-Some.instr.now c.point-point.ensures c.in-Some.ensures.item in
+    let line = found_line c.args.code.now.lines c.point-point.result c.args.state.now.calls.running.point c.in-Some-get.line.now c.point-point.ensures c.in-Some-get.ensures.item in
+    let acts = step_acts c.args.code.now places s c.args.state.now h c.in-Some.instr.now at c.in-Some-get.line.now line trace (op.Lib c.in-Lib.name) c.in-Lib.is refl in
+    kept_as places _ (step c.args.code.now trace s) (sym acts) c.act_built_in.new.self.memory c.act_built_in.result (lib_kept c.args.code.now c.in-Some-get.line.now c.in-Some.instr.now c.in-Lib.name s places c.args.state.now c.act_built_in.new.self h c.act_built_in.result c.act_built_in.ensures.exits)
+
+pub returns-in-Printf-clause-exits : goal.returns-in-Printf-clause-exits
+returns-in-Printf-clause-exits g c = λ places s trace h good.
+    no_exits_kept places (step c.args.code.now trace s) c.act_printf.new.self.memory c.act_printf.result c.act_printf.ensures.no_exit
+
+pub returns-in_default-op-clause-exits : goal.returns-in_default-op-clause-exits
+returns-in_default-op-clause-exits g c = λ places s trace h good.
+    let at = found c.args.code.now.instrs c.point-point.result c.args.state.now.calls.running.point c.in-Some.instr.now c.point-point.ensures c.in-Some.ensures.item in
+    let line = found_line c.args.code.now.lines c.point-point.result c.args.state.now.calls.running.point c.in-Some-get.line.now c.point-point.ensures c.in-Some-get.ensures.item in
+    let acts = step_is c.args.code.now places s c.args.state.now h c.in-Some.instr.now at c.in-Some-get.line.now line trace in
+    let fresh = hands_fresh c.args.code.now places s c.args.state.now h good c.in-Some.instr.now at in
+    let counts = counts_well c.args.code.now c.requires.formed c.running_pins_are_fresh.ensures places s c.args.state.now h good c.requires.well.ready.pins c.requires.well.ready.statics c.in-Some.instr.now at in
+    kept_as places _ (step c.args.code.now trace s) (sym acts) c.act_alone.new.state.memory c.act_alone.result (c.act_alone.ensures.exits places s h counts fresh refl)

@@ -8,7 +8,7 @@ use Rattle.flat_objects.specs.Ending.{MayEnd}
 use Rattle.flat_machine.specs.Kept.{Kept, given}
 use Rattle.flat_machine.specs.Standing.{frees_of}
 use Rattle.flat_machine.proofs.Ends.{births, left, may_end, room_same}
-use Rattle.flat_machine.proofs.Backs.{back_is, call_no_none, call_is, goes_back, return_alone, return_escapes, return_exits, unpin_there}
+use Rattle.flat_machine.proofs.Backs.{back_is, call_no_none, call_is, goes_back, return_alone, return_escapes, return_exits, return_kept, unpin_there}
 use Rattle.flat_machine.proofs.state.State.act_return.Goals as goal
 
 pub end_locals-requires : goal.end_locals-requires
@@ -18,8 +18,8 @@ end_locals-requires c =
     let may = subst (MayEnd m.memory q.0 q.1.state.objects (frees_of m.pins q.1) (births q.0 q.1 m q.3.stands) (pointer_in q.2) m.calls.running.locals) (sym c.address_in.ensures) (may_end q.0 q.1 m q.3.stands q.2 c.args.answer q.3.answer q.3.room) in
     (q.0, q.1.state.objects, frees_of m.pins q.1, births q.0 q.1 m q.3.stands, pointer_in q.2, may)
 
-pub returns-in-Some : goal.returns-in-Some
-returns-in-Some c = λ places s v h counts p.
+pub returns-in-Some-clause-alone : goal.returns-in-Some-clause-alone
+returns-in-Some-clause-alone c = λ places s v h counts p.
     let m = c.args.self.now in
     let q = c.requires.returns in
     let may = subst (MayEnd m.memory places s.state.objects (frees_of m.pins s) (births places s m h) (pointer_in v) m.calls.running.locals) (sym c.address_in.ensures) (may_end places s m h v c.args.answer p (room_same places s q.0 q.1 m h q.3)) in
@@ -27,8 +27,8 @@ returns-in-Some c = λ places s v h counts p.
     let func = c.func.ensures ∙ ap (λ (k : Kept). k.calls.running.func) c.in-Some.ensures.others in
     return_escapes c.args.code.now c.args.line places s m h counts v c.args.answer p c.requires.locals c.end_locals.new.self c.func.result c.in-Some.local answer.0 func answer.1 answer.2
 
-pub returns-then-not-back : goal.returns-then-not-back
-returns-then-not-back c = λ places s v h counts p.
+pub returns-then-not-back-clause-alone : goal.returns-then-not-back-clause-alone
+returns-then-not-back-clause-alone c = λ places s v h counts p.
     let m = c.args.self.now in
     let q = c.requires.returns in
     let mid = c.end_locals.new.self in
@@ -67,8 +67,8 @@ unreachable-requires c =
     let point = c.point.ensures ∙ ap (λ (k : Kept). k.calls.running.point) c.unpin.ensures.others in
     call_no_none c.args.code.now m.calls c.back.new.self.calls goes c.requires.call c.point.result point c.in_default-get.ensures.item
 
-pub returns : goal.returns
-returns c = λ places s v h counts p.
+pub returns-clause-alone : goal.returns-clause-alone
+returns-clause-alone c = λ places s v h counts p.
     let m = c.args.self.now in
     let q = c.requires.returns in
     let mid = c.end_locals.new.self in
@@ -85,3 +85,22 @@ returns c = λ places s v h counts p.
     let is = call_is c.args.code.now m.calls c.back.new.self.calls goes c.requires.call c.in-Some-get.instr.now at in
     let objects = left places s m h mid.memory answer.1 in
     return_alone c.args.code.now c.args.line places s m h counts v c.args.answer p c.requires.locals mid.memory answer.0 answer.1 frame c.back.new.self goes same c.unpin.new.self c.give.new.self c.in-Some-get.instr.now at is c.unpin.ensures.others c.unpin.ensures.frame (c.unpin.ensures.keeps places objects) (c.unpin.ensures.tracks places objects) (c.give.ensures ∙ ap (λ r. given c.unpin.new.self r c.args.answer) c.chosen.ensures)
+
+pub returns-in-Some-clause-exits : goal.returns-in-Some-clause-exits
+returns-in-Some-clause-exits c = λ places s v h counts p. tt
+
+pub returns-then-not-back-clause-exits : goal.returns-then-not-back-clause-exits
+returns-then-not-back-clause-exits c = λ places s v h counts p.
+    let m = c.args.self.now in
+    let q = c.requires.returns in
+    let mid = c.end_locals.new.self in
+    let ended = c.in_default.ensures.others in
+    let may = subst (MayEnd m.memory places s.state.objects (frees_of m.pins s) (births places s m h) (pointer_in v) m.calls.running.locals) (sym c.address_in.ensures) (may_end places s m h v c.args.answer p (room_same places s q.0 q.1 m h q.3)) in
+    let answer = c.in_default.ensures.answer places s.state.objects (frees_of m.pins s) (births places s m h) (pointer_in v) may in
+    let no = c.back.ensures.no c.if-not-back.true in
+    let last = sym (ap (λ (k : Kept). k.calls.waiting) ended) ∙ no.0 in
+    let memory = ap (λ (k : Kept). k.memory) no.1 in
+    return_kept c.args.code.now c.args.line places s m h counts v c.args.answer p c.requires.locals mid.memory answer.0 answer.1 c.in_default.ensures.frame c.back.new.self.memory last memory
+
+pub returns-clause-exits : goal.returns-clause-exits
+returns-clause-exits c = λ places s v h counts p. tt
