@@ -2,6 +2,7 @@
 use Rattle.std.proofs.Common.{◌≡◌, ℕ, zero, suc, ◌+◌, ◌-◌, cond, List, [], ◌∷◌, ◌++◌, Option, Some, None, refl, sym, ap, ◌∙◌, subst}
 use Rattle.hs_base.specs.declared.ends.End.{End}
 use Rattle.hs_base.specs.declared.ends.End.TheVariants as end
+use Rattle.hs_base.specs.Object.{Object}
 use Rattle.hs_base.specs.State.{State}
 use Rattle.hs_base.specs.Trace.{Event, Ending}
 use Rattle.hs_base.specs.Cut.{Room, fits}
@@ -21,6 +22,8 @@ use Rattle.compiled_code.specs.Sites.{AreAscending}
 use Rattle.compiled_meaning.specs.SameRun.{SameState}
 use Rattle.compiled_meaning.specs.Testing.{tested_core, tested_code}
 use Rattle.compiled_meaning.specs.Laws.{TestedCodeMeansCore}
+use Rattle.flat_objects.specs.Memory.{Memory}
+use Rattle.flat_objects.specs.Keeping.{Keeps}
 use Rattle.flat_machine.specs.Lasting as machine
 use Rattle.flat_codegen.specs.Lasting as core_runs
 use Rattle.flat_codegen.specs.Lasting.{no_room, cut_run}
@@ -137,3 +140,16 @@ module _ (counts : TestedRunsAreCounted) (means : TestedCodeMeansCore) (core : C
   makes end.Spent made h = by_last made h.0 h.1 h.2
   makes (end.OutOfHeap line) made h = by_last made h.0 h.1 h.2
   makes (end.OutOfStack line) made h = by_last made h.0 h.1 h.2
+
+  -- and leaves the same objects
+  pub leaves : (e : End) (memory : Memory) → machine.LeavesObjects code input n room e memory → core_runs.LeavesObjects core input n room e memory
+  leaves (end.Exit status) memory h =
+      (h.2, subst (λ (objects : List Object). Keeps memory h.2 objects) (sym (last_same h.0 h.1).objects) h.3)
+  leaves (end.Trap kind line) memory h = tt
+  leaves (end.BadFree why holder) memory h = tt
+  leaves (end.Escape func local line) memory h = tt
+  leaves end.Spent memory h = tt
+  leaves (end.OutOfHeap line) memory h = tt
+  leaves (end.OutOfStack line) memory h = tt
+  leaves end.InputFault memory h = tt
+  leaves end.OutputFault memory h = tt

@@ -1,4 +1,4 @@
--- How many steps the run of a core makes that is cut by the heap and the stack.
+-- How many steps the run of a core makes that is cut by the heap and the stack, and which objects it leaves.
 use Rattle.std.specs.Prelude.{◌≡◌, ◌-◌, ℕ, List, [], unwrap_or}
 use Rattle.hs_base.specs.declared.ends.End.{End}
 use Rattle.hs_base.specs.declared.ends.End.TheVariants as end
@@ -8,6 +8,8 @@ use Rattle.hs_base.specs.Runs.{led, after, tested}
 use Rattle.core_tree.specs.declared.program.Core.{Core}
 use Rattle.object_meaning.specs.Going.{Next}
 use Rattle.object_meaning.specs.Meaning.{Run, first_call, step, enough}
+use Rattle.flat_objects.specs.Memory.{Memory}
+use Rattle.flat_objects.specs.Keeping.{Keeps}
 
 -- how a run ends at an event for which there is no room
 abbrev pub no_room : Event → Ending
@@ -30,3 +32,10 @@ abbrev pub MakesSteps : Core → List ℕ → ℕ → Room → End → ℕ → T
 MakesSteps core input n room end.InputFault made = Unit {0}
 MakesSteps core input n room end.OutputFault made = Unit {0}
 MakesSteps core input n room e made = made ≡ n - (cut_run core input n room).state.steps
+
+-- where the run ended by an exit or a return from main, the memory keeps the objects of that last state; at every other end nothing
+-- is said
+abbrev pub LeavesObjects : Core → List ℕ → ℕ → Room → End → Memory → Type 0
+LeavesObjects core input n room (end.Exit status) memory =
+    (places : ℕ → ℕ) × Keeps memory places (cut_run core input n room).state.objects
+LeavesObjects core input n room e memory = Unit {0}

@@ -1,7 +1,7 @@
 -- The machine does what the code means, and that is what the core means: by numbers, and so by holders.
 use Rattle.std.proofs.Common.{sym, ◌∙◌}
 use Rattle.flat_codegen.proofs.Answering.{answers}
-use Rattle.flat_codegen.proofs.Lasting.{makes}
+use Rattle.flat_codegen.proofs.Lasting.{leaves, makes}
 use Rattle.flat_codegen.proofs.running.execute.Goals as goal
 
 pub returns-clause-told : goal.returns-clause-told
@@ -15,3 +15,8 @@ pub returns-clause-made : goal.returns-clause-made
 returns-clause-made g c = λ fresh core pins sound exact ascending is left taken k h.
     makes c.counted_means_core.ensures.tested c.code_means_core.ensures.tested core pins c.args.code.now sound exact ascending is left c.args.budget (record { heap = c.args.machine.now.kept.memory.heap.len; stack = c.args.machine.now.stack }) c.run.result _
     (c.run.ensures.made fresh left taken k h)
+
+pub returns-clause-left : goal.returns-clause-left
+returns-clause-left g c = λ fresh core pins sound exact ascending is left taken k h.
+    leaves c.counted_means_core.ensures.tested c.code_means_core.ensures.tested core pins c.args.code.now sound exact ascending is left c.args.budget (record { heap = c.args.machine.now.kept.memory.heap.len; stack = c.args.machine.now.stack }) c.run.result _
+    (c.run.ensures.left fresh left taken k h)
