@@ -4,6 +4,7 @@ ghost use Rattle.std.specs.Prelude.{◌≡◌, ◌+◌, ◌<◌, ◌≤◌, ◌^
 ghost use Rattle.c_tree.specs.StatementView.{unit_view};
 ghost use Rattle.c_elab.specs.Core.{IsOfTokens, core_in};
 ghost use Rattle.core_tree.specs.Sound.{IsSound};
+ghost use Rattle.flat_codegen.specs.Lasting.{MakesSteps};
 ghost use Rattle.flat_codegen.specs.Running.{RunAnswers};
 ghost use Rattle.flat_machine.specs.Running.{RunCounts};
 ghost use Rattle.bad_free_report.specs.Report.{end_report};
@@ -34,7 +35,7 @@ pub(crate) enum Way {
 }
 
 /// The status of a program's end.
-fn status_of(end: &End) -> u8
+pub(crate) fn status_of(end: &End) -> u8
     ensures { result ≡ status_of end.now }
 {
     match end {
@@ -61,24 +62,25 @@ fn finish<E: Sink>(end: &End, core: &Core, file: &str, text: &[u8], err: &mut E)
     }
 }
 
-/// Finds where the pointers of a core count, makes its code, loads it, and runs it. Memory may be wanted before the first instruction alone: then the input
-/// and the output are as before.
-fn run_code<I: Source, O: Sink>(
+/// Finds where the pointers of a core count, makes its code, loads it, and runs it: its end, and how many steps it made. Memory
+/// may be wanted before the first instruction alone: then the input and the output are as before.
+pub(crate) fn run_code<I: Source, O: Sink>(
     alloc: Global,
     core: &Core,
     limits: Limits,
     steps: u64,
     input: &mut I,
     out: &mut O,
-) -> Result<End, NoMemory>
+) -> Result<(End, u64), NoMemory>
     requires sound { IsSound core.now }
     requires heap { limits.heap ≤ 268435456 }
     requires stack { limits.stack ≤ 67108864 }
     requires steps { steps ≤ 1000000000 }
     requires input { I.faults input.old + 1 < 2 ^ 64 }
     requires out { O.faults out.old + 1 < 2 ^ 64 }
-    ensures told { IfOk result (λ end. (left taken : List ℕ) → I.left input.old ≡ Some left → O.taken out.old ≡ Some taken → RunAnswers core.now left steps (record { heap = limits.heap; stack = limits.stack }) taken end (I.left input.new) (O.taken out.new)) }
-    ensures faults { IfOk result (λ end. RunCounts end (I.faults input.old) (I.faults input.new) (O.faults out.old) (O.faults out.new)) }
+    ensures told { IfOk result (λ ran. (left taken : List ℕ) → I.left input.old ≡ Some left → O.taken out.old ≡ Some taken → RunAnswers core.now left steps (record { heap = limits.heap; stack = limits.stack }) taken ran.0 (I.left input.new) (O.taken out.new)) }
+    ensures made { IfOk result (λ ran. (left taken : List ℕ) → I.left input.old ≡ Some left → O.taken out.old ≡ Some taken → MakesSteps core.now left steps (record { heap = limits.heap; stack = limits.stack }) ran.0 ran.1) }
+    ensures faults { IfOk result (λ ran. RunCounts ran.0 (I.faults input.old) (I.faults input.new) (O.faults out.old) (O.faults out.new)) }
     ensures input_stays { OnErr result (input.new ≡ input.old) }
     ensures out_stays { OnErr result (out.new ≡ out.old) }
 {
@@ -88,7 +90,7 @@ fn run_code<I: Source, O: Sink>(
     let code = compile(alloc, &counted)?;
     let mut machine = Machine::load(alloc, &code, limits)?;
     let end = execute(&mut machine, &code, input, out, steps);
-    Ok(end)
+    Ok((end, machine.steps_made()))
 }
 
 /// Runs a core on a machine, and reports its end.
@@ -116,7 +118,7 @@ fn run_core<I: Source, O: Sink, E: Sink>(
     ensures output_fault { O.faults out.old < O.faults out.new → Says (E.taken err.old) (E.taken err.new) (E.faults err.old) (E.faults err.new) output_fault.err 133 result }
 {
     match run_code(alloc, core, limits, steps, input, out) {
-        Ok(end) => finish(&end, core, file, text, err),
+        Ok((end, _)) => finish(&end, core, file, text, err),
         Err(_) => refuse(err, Refusal::NoMemory),
     }
 }

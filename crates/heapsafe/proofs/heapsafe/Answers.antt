@@ -1,16 +1,31 @@
-use Rattle.std.proofs.Common.{ℕ, List, Err, inl, inr, refl, sym, subst, map, Bor}
-use Rattle.command_words.specs.Commands.{command_of, IsRead}
+use Rattle.std.proofs.Common.{ℕ, List, Some, Ok, Err, inl, inr, refl, sym, subst, map, Bor}
+use Rattle.command_words.specs.Commands.{Generated, command_of, IsRead}
+use Rattle.command_words.specs.declared.command.Command.{Command}
 use Rattle.command_words.specs.declared.error.WordsError.{WordsError}
 use Rattle.heapsafe.specs.Shown.{usage, no_memory}
 use Rattle.heapsafe.specs.Program.{input_of}
-use Rattle.heapsafe.specs.Answer.{Answers}
-use Rattle.heapsafe.proofs.Told.{gives_said, gives_as, usage_is}
+use Rattle.heapsafe.specs.Answer.{Answers, AnswersGenerated}
+use Rattle.heapsafe.proofs.Told.{gives_said, gives_as, gives_left, usage_is}
 use Rattle.heapsafe.proofs.heapsafe.Goals as goal
 
-pub returns-in-Ok-clause-exact : goal.returns-in-Ok-clause-exact
-returns-in-Ok-clause-exact g c = λ told left o e k l h i same_texts same_out same_err.
+pub returns-in-Ok-OnFile-clause-exact : goal.returns-in-Ok-OnFile-clause-exact
+returns-in-Ok-OnFile-clause-exact g c = λ told left o e k l h i same_texts same_out same_err.
     let words : List (List ℕ) = map (λ (w : Bor (List ℕ)). w.now) c.args.words.now in
-    gives_as _ (command_of words) told _ left o e _ _ _ _ (sym c.in-Ok.ensures.read) (c.with_file.ensures.exact told left o e k l h i same_texts same_out same_err)
+    let read = subst (λ (command : Command). IsRead (command_of words) (Ok command)) c.in-Ok-OnFile.field-0-is c.in-Ok-OnFile.ensures.read in
+    gives_as _ (command_of words) told _ left o e _ _ _ _ (sym read) (c.with_file.ensures.exact told left o e k l h i same_texts same_out same_err)
+
+pub returns-in-Ok-Generated-clause-exact : goal.returns-in-Ok-Generated-clause-exact
+returns-in-Ok-Generated-clause-exact g c = λ told left o e k l h i same_texts same_out same_err.
+    let words : List (List ℕ) = map (λ (w : Bor (List ℕ)). w.now) c.args.words.now in
+    let input = input_of left (g.I.Source.faults c.args.input.now) (g.I.Source.faults c.args.input.now) in
+    let number = c.in-Ok-Generated.number in
+    let read = subst (λ (command : Command). IsRead (command_of words) (Ok command)) c.in-Ok-Generated.field-0-is c.in-Ok-Generated.ensures.read in
+    gives_as (Some (Generated number)) (command_of words) told input left o e _ _ _ _ (sym read)
+    (gives_left (AnswersGenerated number) left o e _ _ _ _ l (c.run_generated.ensures.exact left o e h i same_out same_err))
+
+pub returns-in-Ok-Generated-clause-faults : goal.returns-in-Ok-Generated-clause-faults
+returns-in-Ok-Generated-clause-faults g c =
+    c.run_generated.ensures.faults (g.T.Texts.faults c.args.texts.now) (g.I.Source.faults c.args.input.now)
 
 pub returns-in-Err-Usage-clause-exact : goal.returns-in-Err-Usage-clause-exact
 returns-in-Err-Usage-clause-exact g c = λ told left o e k l h i same_texts same_out same_err.
