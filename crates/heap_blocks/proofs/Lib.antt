@@ -2,7 +2,7 @@ pub mod Pieces
 pub mod Heading
 mod Marking
 mod Fitting
-mod Searching
+mod Holing
 mod Holding
 mod Returning
 pub mod Owning

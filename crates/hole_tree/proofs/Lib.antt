@@ -1,0 +1,7 @@
+mod Laws
+mod Nodes
+mod Finding
+mod Scanning
+pub mod Pieces
+mod Trees
+mod Setting
