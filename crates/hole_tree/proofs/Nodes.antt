@@ -1,7 +1,7 @@
 -- The node of a part that is made of others.
-use Rattle.std.proofs.Common.{◌≡◌, ◌≢◌, ◌≤◌, ◌<◌, ◌+◌, ◌⊎◌, inl, inr, ℕ, zero, suc, max, Bool, true, false, List, [], ◌∷◌, ◌++◌, length, replicate, refl, sym, ap, ◌∙◌, arith}
-use Rattle.std.proofs.lemmas.Bool.{cases_eq}
-use Rattle.std.proofs.lemmas.List.{length-replicate}
+use Rattle.std.proofs.Common.{◌≡◌, ◌≢◌, ◌≤◌, ◌<◌, ◌+◌, ◌⊎◌, inl, inr, ℕ, zero, suc, max, Bool, true, false, List, [], ◌∷◌, ◌++◌, length, get_or, take, drop, replicate, refl, sym, ap, ◌∙◌, arith}
+use Rattle.std.proofs.lemmas.Bool.{cases_Bool, cases_eq}
+use Rattle.std.proofs.lemmas.List.{drop_more, length-replicate, length-take, take-append-drop, take_more}
 use Rattle.hole_tree.specs.declared.node.Node.{Node}
 use Rattle.hole_tree.specs.Runs.{front_run, end_run, longest_run, summary}
 use Rattle.hole_tree.proofs.Laws.{front_le, front_all, front_some, front_longest, end_all, end_some, end_append_all, end_append_some, longest_append}
@@ -23,33 +23,47 @@ end_longest (x ∷ row) =
 
 -- One granule more
 
-pub node_taken : (n : Node) (part : List Bool) → n ≡ summary part → node n.longest n.front 0 ≡ summary (part ++ true ∷ [])
-node_taken n part is =
-    let longest : n.longest ≡ longest_run part = ap (λ (m : Node). m.longest) is in
-    let front : n.front ≡ front_run part = ap (λ (m : Node). m.front) is in
-    same_node (omega (arith, longest_append part (true ∷ []), end_longest part))
-    (front
-    ∙ elim (cases_eq (front_run part) (length part)) [
-      | inl all ↦ let more = front_all part (true ∷ []) all in omega arith
-      | inr some ↦ sym (front_some part (true ∷ []) some)
-    ])
-    (sym (end_append_some part (true ∷ []) (λ h. omega arith)))
+pub end_taken : (part : List Bool) → end_run (part ++ true ∷ []) ≡ 0
+end_taken part = end_append_some part (true ∷ []) (λ h. omega arith)
 
-pub front_free : (part : List Bool) (f : ℕ) → (front_run part ≡ length part → f ≡ length part + 1) → (front_run part ≢ length part → f ≡ front_run part) → f ≡ front_run (part ++ false ∷ [])
-front_free part f at_all at_some =
-    elim (cases_eq (front_run part) (length part)) [
-      | inl all ↦ omega (arith, at_all all, front_all part (false ∷ []) all)
-      | inr some ↦ at_some some ∙ sym (front_some part (false ∷ []) some)
-    ]
+pub end_free : (part : List Bool) → end_run (part ++ false ∷ []) ≡ end_run part + 1
+end_free part = omega (arith, end_append_all part (false ∷ []) refl)
 
-pub node_free : (n : Node) (part : List Bool) (l f : ℕ) → n ≡ summary part → l ≡ max n.longest (n.end + 1) → (n.front ≡ length part → f ≡ length part + 1) → (n.front ≢ length part → f ≡ n.front) → node l f (n.end + 1) ≡ summary (part ++ false ∷ [])
-node_free n part l f is l_is at_all at_some =
-    let longest : n.longest ≡ longest_run part = ap (λ (m : Node). m.longest) is in
-    let front : n.front ≡ front_run part = ap (λ (m : Node). m.front) is in
-    let end : n.end ≡ end_run part = ap (λ (m : Node). m.end) is in
-    same_node (omega (arith, longest_append part (false ∷ []), end_longest part))
-    (front_free part f (λ all. at_all (front ∙ all)) (λ some. at_some (λ h. some (sym front ∙ h)) ∙ front))
-    (omega (arith, end_append_all part (false ∷ []) refl))
+pub longest_more : (part : List Bool) (x : Bool) → longest_run (part ++ x ∷ []) ≡ max (end_run (part ++ x ∷ [])) (longest_run part)
+longest_more part true =
+    omega (arith, longest_append part (true ∷ []), end_longest part, end_taken part)
+longest_more part false = omega (arith, longest_append part (false ∷ []), end_free part)
+
+-- the runs of so many granules of a part, one more than before
+pub record IsCounted (part : List Bool) (index longest end : ℕ) : Type 0 where
+  pub longest_is : longest ≡ longest_run (take index part)
+  pub end_is : end ≡ end_run (take index part)
+
+pub counted_more : (part : List Bool) (index longest end longest' end' : ℕ) → index < length part → IsCounted part index longest end → (get_or part index false ≡ true → end' ≡ 0) → (get_or part index false ≡ false → end' ≡ end + 1) → longest' ≡ max end' longest
+    → IsCounted part (index + 1) longest' end'
+counted_more part index longest end longest' end' below counted at_taken at_free longest_is =
+    let x = get_or part index false in
+    let more : take (index + 1) part ≡ take index part ++ x ∷ [] = take_more part index false below in
+    let end_more : end' ≡ end_run (take index part ++ x ∷ []) =
+    elim (cases_Bool x) [
+      | inl taken ↦ at_taken taken ∙ sym (end_taken (take index part)) ∙ ap (λ y. end_run (take index part ++ y ∷ [])) (sym taken)
+      | inr free ↦ at_free free ∙ ap (λ n. n + 1) counted.end_is ∙ sym (end_free (take index part)) ∙ ap (λ y. end_run (take index part ++ y ∷ [])) (sym free)
+    ] in
+    record {
+      longest_is = longest_is ∙ ap (λ n. max n longest) end_more ∙ ap (max (end_run (take index part ++ x ∷ []))) counted.longest_is ∙ sym (longest_more (take index part) x) ∙ ap longest_run (sym more);
+      end_is = end_more ∙ ap end_run (sym more);
+    }
+
+pub front_stops : (part : List Bool) (index : ℕ) → index < length part → front_run (take index part) ≡ index → get_or part index false ≡ true → index ≡ front_run part
+front_stops part index below free taken =
+    let rest = ap front_run (drop_more part index false below ∙ ap (λ x. x ∷ drop (index + 1) part) taken) in
+    let whole = ap front_run (take-append-drop index part) in
+    omega (arith, front_all (take index part) (drop index part) (omega (arith, length-take index part)), length-take index part)
+
+pub front_goes : (part : List Bool) (index : ℕ) → index < length part → front_run (take index part) ≡ index → get_or part index false ≡ false → front_run (take (index + 1) part) ≡ index + 1
+front_goes part index below free here =
+    let more = ap front_run (take_more part index false below ∙ ap (λ x. take index part ++ x ∷ []) here) in
+    omega (arith, front_all (take index part) (false ∷ []) (omega (arith, length-take index part)), length-take index part)
 
 -- Two parts
 

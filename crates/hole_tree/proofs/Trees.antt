@@ -14,8 +14,8 @@ use Rattle.hole_tree.proofs.Pieces.{slice_get-take, slice_get-take_past, slice_g
 -- what a tree that is higher than 0 is made of
 pub record IsJoined (below : ℕ) (row : List Bool) (nodes : List Node) : Type 0 where
   pub root : slice_get nodes 0 ≡ Some (summary row)
-  pub left : IsTree below (take (64 * 2 ^ below) row) (take (node_count below) (drop 1 nodes))
-  pub right : IsTree below (drop (64 * 2 ^ below) row) (drop (node_count below) (drop 1 nodes))
+  pub left : IsTree below (take (32 * 2 ^ below) row) (take (node_count below) (drop 1 nodes))
+  pub right : IsTree below (drop (32 * 2 ^ below) row) (drop (node_count below) (drop 1 nodes))
 
 pub root_is : (height : ℕ) (row : List Bool) (nodes : List Node) → IsTree height row nodes → slice_get nodes 0 ≡ Some (summary row)
 root_is zero row nodes tree = tree
@@ -33,12 +33,12 @@ closed height below row nodes is parts =
     let tree : IsTree (suc below) row nodes = (parts.root, parts.left, parts.right) in
     subst (λ h. IsTree h row nodes) same tree
 
-pub joined_tree : (below : ℕ) (row : List Bool) (root : Node) (left right : List Node) → root ≡ summary row → length left ≡ node_count below → IsTree below (take (64 * 2 ^ below) row) left → IsTree below (drop (64 * 2 ^ below) row) right
+pub joined_tree : (below : ℕ) (row : List Bool) (root : Node) (left right : List Node) → root ≡ summary row → length left ≡ node_count below → IsTree below (take (32 * 2 ^ below) row) left → IsTree below (drop (32 * 2 ^ below) row) right
     → IsJoined below row (root ∷ (left ++ right))
 joined_tree below row root left right root_ok long left_ok right_ok = record {
   root = ap Some root_ok;
-  left = subst (IsTree below (take (64 * 2 ^ below) row)) (sym (take_at left right (node_count below) long)) left_ok;
-  right = subst (IsTree below (drop (64 * 2 ^ below) row)) (sym (drop_at left right (node_count below) long)) right_ok;
+  left = subst (IsTree below (take (32 * 2 ^ below) row)) (sym (take_at left right (node_count below) long)) left_ok;
+  right = subst (IsTree below (drop (32 * 2 ^ below) row)) (sym (drop_at left right (node_count below) long)) right_ok;
 }
 
 pub node_count_more : (height below : ℕ) → height ≡ below + 1 → node_count height ≡ 1 + 2 * node_count below
@@ -116,7 +116,7 @@ set_one [] x long = absurd (omega arith)
 set_one (y ∷ []) x long = refl
 set_one (y ∷ (z ∷ xs)) x long = absurd (omega arith)
 
-module _ (height half : ℕ) (above : height ≢ 0) (half_is : half ≡ 64 * 2 ^ (height - 1)) where
+module _ (height half : ℕ) (above : height ≢ 0) (half_is : half ≡ 32 * 2 ^ (height - 1)) where
   pub count_below : (nodes below : List Node) → length nodes ≡ node_count height → below ≡ drop 1 nodes → length below ≡ 2 * node_count (height - 1)
   count_below nodes below long below_is =
       let more = node_count_more height (height - 1) (omega arith) in

@@ -12,12 +12,12 @@ node_count (suc height) = 1 + 2 * node_count height
 abbrev pub IsTree : ℕ → List Bool → List Node → Type 0
 IsTree zero row nodes = slice_get nodes 0 ≡ Some (summary row)
 IsTree (suc height) row nodes =
-    (slice_get nodes 0 ≡ Some (summary row)) × IsTree height (take (64 * 2 ^ height) row) (take (node_count height) (drop 1 nodes))
-    × IsTree height (drop (64 * 2 ^ height) row) (drop (node_count height) (drop 1 nodes))
+    (slice_get nodes 0 ≡ Some (summary row)) × IsTree height (take (32 * 2 ^ height) row) (take (node_count height) (drop 1 nodes))
+    × IsTree height (drop (32 * 2 ^ height) row) (drop (node_count height) (drop 1 nodes))
 
 -- a tree over a row whose granules have numbers of 32 bits
 pub record IsTreeOf (height : ℕ) (row : List Bool) (nodes : List Node) : Type 0 where
-  pub most : height ≤ 26
+  pub most : height ≤ 27
   pub fits : length row < 2 ^ 32
   pub long : length nodes ≡ node_count height
   pub tree : IsTree height row nodes

@@ -12,8 +12,8 @@ use std::marker::Model;
 
 /// The lowest height of a tree whose lowest nodes have at most [`CHUNK`] granules each.
 fn height_for(granules: u32) -> u32
-    ensures most { result ≤ 26 }
-    ensures room { granules ≤ 64 * 2 ^ result }
+    ensures most { result ≤ 27 }
+    ensures room { granules ≤ 32 * 2 ^ result }
 {
     let mut room = CHUNK;
     for height in 0..MAX_HEIGHT {

@@ -1,8 +1,8 @@
 //! The free runs of a part of the row.
 
-ghost use Rattle.std.specs.Prelude.{◌≡◌, ◌+◌, ◌^◌, ◌<◌, ◌≤◌, Bool, false, List, [], ◌∷◌, ◌++◌, length, replicate, MatchOption};
+ghost use Rattle.std.specs.Prelude.{◌≡◌, ◌+◌, ◌^◌, ◌<◌, false, ◌++◌, length, replicate, MatchOption};
 ghost use Rattle.hole_tree.specs.Granules.{HasNoHole, IsFirstHole};
-ghost use Rattle.hole_tree.specs.Runs.{summary};
+ghost use Rattle.hole_tree.specs.Runs.{front_run, summary};
 
 /// The lengths of three free runs of a part of the row, in granules.
 #[derive(Clone, Copy, Debug, PartialEq, Eq)]
@@ -26,44 +26,37 @@ impl Node {
             end: len,
         }
     }
-
-    /// The node of a part with one granule more at its end.
-    fn with_granule(self, len: u32, taken: bool) -> Node
-        requires fits { len + 1 < 2 ^ 32 }
-        requires node { (part : List Bool) × (self ≡ summary part) × (len ≡ length part) }
-        ensures { (part : List Bool) → self ≡ summary part → len ≡ length part → result ≡ summary (part ++ taken ∷ []) }
-    {
-        if taken {
-            return Node {
-                longest: self.longest,
-                front: self.front,
-                end: 0,
-            };
-        }
-        let front = if self.front == len {
-            len + 1
-        } else {
-            self.front
-        };
-        let end = self.end + 1;
-        Node {
-            longest: self.longest.max(end),
-            front,
-            end,
-        }
-    }
 }
 
-/// The node of a part, from each of its granules.
+/// How many granules at the front of a part are free.
+fn free_at_front(part: &[bool]) -> u32
+    requires { length part.now < 2 ^ 32 }
+    ensures { result ≡ front_run part.now }
+{
+    for (index, taken) in part.iter().enumerate() {
+        if *taken {
+            return index as u32;
+        }
+    }
+    part.len() as u32
+}
+
+/// The node of a part, by a look at each of its granules.
 pub fn node_of(part: &[bool]) -> Node
     requires { length part.now < 2 ^ 32 }
     ensures { result ≡ summary part.now }
 {
-    let mut node = Node::all_free(0);
-    for (index, taken) in part.iter().enumerate() {
-        node = node.with_granule(index as u32, *taken);
+    let mut end = 0;
+    let mut longest = 0;
+    for taken in part {
+        end = if *taken { 0 } else { end + 1 };
+        longest = end.max(longest);
     }
-    node
+    Node {
+        longest,
+        front: free_at_front(part),
+        end,
+    }
 }
 
 /// The node of two parts, one behind the other, from theirs.

@@ -11,16 +11,16 @@ ghost use Rattle.hole_tree.specs.Tree.{IsTree, node_count};
 use crate::node::{Node, first_in_part, joined, node_of};
 
 /// How many granules one node of the lowest level has.
-pub const CHUNK: usize = 64;
+pub const CHUNK: usize = 32;
 
 /// The greatest height, at which the row has up to 2 to the power of 32 granules.
-pub const MAX_HEIGHT: u32 = 26;
+pub const MAX_HEIGHT: u32 = 27;
 
 /// How many granules the left half of a tree has, if its part has that many.
 fn half_of(height: u32) -> usize
     requires above { 0 < height }
-    requires most { height ≤ 26 }
-    ensures half { result ≡ 64 * 2 ^ (height - 1) }
+    requires most { height ≤ 27 }
+    ensures half { result ≡ 32 * 2 ^ (height - 1) }
     ensures fits { result ≤ 2 ^ 31 }
 {
     CHUNK << (height - 1)
@@ -29,7 +29,7 @@ fn half_of(height: u32) -> usize
 /// Makes the tree of a part all of whose granules are free.
 pub fn open(nodes: &mut [Node], height: u32, granules: u32)
     requires long { length nodes.old ≡ node_count height }
-    requires most { height ≤ 26 }
+    requires most { height ≤ 27 }
     ensures { IsTree height (replicate granules false) nodes.new }
 {
     let (root, below) = nodes.split_at_mut(1);
@@ -47,14 +47,11 @@ pub fn open(nodes: &mut [Node], height: u32, granules: u32)
 /// Counts the nodes again whose parts meet the granules from a place up to another, after these have changed.
 pub fn refresh(nodes: &mut [Node], taken: &[bool], height: u32, from: usize, to: usize)
     requires long { length nodes.old ≡ node_count height }
-    requires most { height ≤ 26 }
+    requires most { height ≤ 27 }
     requires fits { length taken.now < 2 ^ 32 }
     requires tree { (before : List Bool) × IsTree height before nodes.old × IsSameOutside before taken.now from to }
     ensures { IsTree height taken.now nodes.new }
 {
-    if from >= to || from >= taken.len() {
-        return;
-    }
     let (root, below) = nodes.split_at_mut(1);
     if height == 0 {
         root[0] = node_of(taken);
@@ -64,14 +61,18 @@ pub fn refresh(nodes: &mut [Node], taken: &[bool], height: u32, from: usize, to:
     let (left_part, right_part) = taken.split_at(half.min(taken.len()));
     let middle = below.len() / 2;
     let (left, right) = below.split_at_mut(middle);
-    refresh(left, left_part, height - 1, from, to.min(half));
-    refresh(
-        right,
-        right_part,
-        height - 1,
-        from.saturating_sub(half),
-        to.saturating_sub(half),
-    );
+    if from < half {
+        refresh(left, left_part, height - 1, from, to.min(half));
+    }
+    if to > half {
+        refresh(
+            right,
+            right_part,
+            height - 1,
+            from.saturating_sub(half),
+            to - half,
+        );
+    }
     let left_node = left[0];
     let right_node = right[0];
     root[0] = joined(left_node, left_part, right_node, right_part);
@@ -80,7 +81,7 @@ pub fn refresh(nodes: &mut [Node], taken: &[bool], height: u32, from: usize, to:
 /// The lowest place of so many free granules in a row.
 pub fn first_hole(nodes: &[Node], taken: &[bool], height: u32, n: u32) -> Option<u32>
     requires long { length nodes.now ≡ node_count height }
-    requires most { height ≤ 26 }
+    requires most { height ≤ 27 }
     requires fits { length taken.now < 2 ^ 32 }
     requires tree { IsTree height taken.now nodes.now }
     requires some { 0 < n }

@@ -2,4 +2,4 @@ use Rattle.std.proofs.Common.{◌≡◌, ◌*◌, ◌^◌}
 use Rattle.hole_tree.proofs.holes.height_for.Given as goal
 
 abbrev pub invariant-loop-height : goal.invariant-loop-height
-invariant-loop-height l = l.room ≡ 64 * 2 ^ l.height
+invariant-loop-height l = l.room ≡ 32 * 2 ^ l.height

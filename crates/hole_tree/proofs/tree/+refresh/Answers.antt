@@ -4,14 +4,6 @@ use Rattle.hole_tree.specs.Granules.{IsSameOutside}
 use Rattle.hole_tree.specs.Tree.{IsTree, node_count}
 use Rattle.hole_tree.proofs.Trees.{root_node, node_count_some, count_below, left_tree, right_tree, left_row, right_row, same_row, same_take, same_drop, tree_closed}
 use Rattle.hole_tree.proofs.tree.+refresh.Goals as goal
-use Rattle.hole_tree.proofs.tree.+refresh.Goals.{then-from-to-via-then-from-to, then-from-to-via-else-from-to+then-from-taken}
-
-pub returns-then-from-to : goal.returns-then-from-to
-returns-then-from-to t c =
-    let tree = c.requires.tree in
-    let same = same_row tree.0 c.args.taken.now c.args.from c.args.to tree.2
-    (elim c.then-from-to.branch [ then-from-to-via-then-from-to w ↦ inl w.if-from-to.true | then-from-to-via-else-from-to+then-from-taken w ↦ inr w.if-from-taken.true ]) in
-    subst (λ row. IsTree c.args.height row c.args.nodes.now) same tree.1
 
 pub refresh-requires : goal.refresh-requires
 refresh-requires t c =
