@@ -1,20 +1,29 @@
 -- The commands and options of the program, as `clap` sees them.
 use Rattle.std.specs.Prelude.{true, codes, Some}
+use Rattle.clap.specs.declared.builder.action.ArgAction.TheVariants.{SetTrue}
 use Rattle.clap.specs.Words.{App, Shape, Rule, Text, new_app, new_rule, with_rule, with_subcommand}
 use Rattle.clap.specs.Simple.{on_top}
 
--- the one argument that each command needs
+-- an argument that each use of its command needs
+abbrev pub needed : Text → Rule
+needed name = record (new_rule name) { required = true }
+
+-- the file of a command
 abbrev pub file : Rule
-file = record (new_rule (codes "FILE")) { required = true }
+file = needed (codes "FILE")
 
 -- an option with a value, at most once
 abbrev pub option : Text → Rule
 option name = record (new_rule name) { long = Some name }
 
--- `run FILE [--heap N] [--stack N] [--steps N]`
+-- an option without a value, at most once
+abbrev pub flag : Text → Rule
+flag name = record (new_rule name) { long = Some name; action = Some SetTrue }
+
+-- `run FILE [--heap N] [--stack N] [--steps N] [--leaks]`
 abbrev pub run : App
 run =
-    with_rule (with_rule (with_rule (with_rule (new_app (codes "run")) file) (option (codes "heap"))) (option (codes "stack"))) (option (codes "steps"))
+    with_rule (with_rule (with_rule (with_rule (with_rule (new_app (codes "run")) file) (option (codes "heap"))) (option (codes "stack"))) (option (codes "steps"))) (flag (codes "leaks"))
 
 -- `mean FILE [--steps N]`
 abbrev pub mean : App
@@ -23,6 +32,10 @@ mean = with_rule (with_rule (new_app (codes "mean")) file) (option (codes "steps
 -- a command with a file alone
 abbrev pub plain : Text → App
 plain name = with_rule (new_app name) file
+
+-- `self N`
+abbrev pub generated : App
+generated = with_rule (new_app (codes "self")) (needed (codes "N"))
 
 -- all words are arguments; there is one command, and no help and no version
 abbrev pub bare : Shape → Shape
@@ -38,7 +51,7 @@ bare shape = record shape {
 abbrev pub program : App
 program = on_top bare (new_app (codes "heapsafe"))
 
--- `run` and `mean`, and `print FILE`, `layout FILE`, `list FILE`, `live FILE`
+-- `run` and `mean`, and `print FILE`, `layout FILE`, `list FILE`, `live FILE`, and `self`
 abbrev pub command_set : App
 command_set =
-    with_subcommand (with_subcommand (with_subcommand (with_subcommand (with_subcommand (with_subcommand program run.top) mean.top) (plain (codes "print")).top) (plain (codes "layout")).top) (plain (codes "list")).top) (plain (codes "live")).top
+    with_subcommand (with_subcommand (with_subcommand (with_subcommand (with_subcommand (with_subcommand (with_subcommand program run.top) mean.top) (plain (codes "print")).top) (plain (codes "layout")).top) (plain (codes "list")).top) (plain (codes "live")).top) generated.top

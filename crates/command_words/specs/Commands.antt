@@ -1,29 +1,32 @@
 -- What the words of the command line ask for.
-use Rattle.std.specs.Prelude.{◌≡◌, ◌≤◌, ⊤, ℕ, cond, nat_eq, List as Listed, length, Option, Some, None, option_and_then, Result, Ok, Err, codes}
+use Rattle.std.specs.Prelude.{◌≡◌, ◌≤◌, ⊤, ℕ, Bool, false, cond, nat_eq, List as Listed, length, Option, Some, None, option_and_then, option_map, Result, Ok, Err, codes}
+use Rattle.std.specs.Option.{option_map_or}
 use Rattle.std.specs.Str.{bytes_eq}
 use Rattle.clap.specs.Words.{Row, Text, first_of, fault_of, subcommand_of}
 use Rattle.command_words.specs.CommandSet.{command_set}
 use Rattle.command_words.specs.Numbers.{is_file, number_in, within}
 use Rattle.command_words.specs.declared.command.Command as code
+use Rattle.command_words.specs.declared.command.Command.TheVariants as commands
 use Rattle.command_words.specs.declared.command.Task as code_task
 use Rattle.command_words.specs.declared.command.Task.TheVariants as tasks
 use Rattle.command_words.specs.declared.error.WordsError.{WordsError}
 use Rattle.command_words.specs.declared.error.WordsError.TheVariants.{Usage, NoMemory}
 
--- what is done with a text: it is run on a heap and a stack of so many bytes with at most so many steps, or its meaning
--- is evaluated with so many; or its canonical spelling is written, the layouts of its structs and unions, its core, or the registers that
--- are live after each point of it
+-- what is done with a text: it is run on a heap and a stack of so many bytes with at most so many steps, with or without a
+-- list of the blocks that are left, or its meaning is evaluated with so many steps; or its canonical spelling is written, the
+-- layouts of its structs and unions, its core, or the registers that are live after each point of it
 pub data Task : Type 0 where
-  Run : (heap stack steps : ℕ) → Task
+  Run : (heap stack steps : ℕ) → (leaks : Bool) → Task
   Mean : (steps : ℕ) → Task
   Print : Task
   Layout : Task
   List : Task
   Live : Task
 
-pub record Command : Type 0 where
-  pub file : Listed ℕ
-  pub task : Task
+-- a task is done with the text of a file, or a text is made with so many functions and run
+pub data Command : Type 0 where
+  OnFile : (file : Listed ℕ) → (task : Task) → Command
+  Generated : (number : ℕ) → Command
 
 -- the value of an option, within its limits, or its default
 abbrev pub value_in : (least most default : ℕ) → Option Text → Option ℕ
@@ -42,14 +45,22 @@ heap_in word = value_in 0 268435456 16777216 word
 abbrev pub stack_in : Option Text → Option ℕ
 stack_in word = value_in 0 67108864 1048576 word
 
+-- how many functions a text that is made has
+abbrev pub functions_in : Text → Option ℕ
+functions_in word = within 1 2000 (number_in word)
+
+-- a flag that was given has the value `true`, and its default is `false`
+abbrev pub flag_in : Text → Listed Row → Bool
+flag_in name rows = option_map_or (λ word. bytes_eq word (codes "true")) (first_of name rows) false
+
 -- a task with a file
 abbrev pub with_file : Text → Task → Option Command
-with_file file task = cond (is_file file) (Some (record { file = file; task = task })) None
+with_file file task = cond (is_file file) (Some (OnFile file task)) None
 
 -- what a command asks for, by the values of its arguments
 abbrev pub run_in : Listed Row → Option Command
 run_in rows =
-    option_and_then (λ file. option_and_then (λ heap. option_and_then (λ stack. option_and_then (λ steps. with_file file (Run heap stack steps)) (steps_in (first_of (codes "steps") rows))) (stack_in (first_of (codes "stack") rows))) (heap_in (first_of (codes "heap") rows))) (first_of (codes "FILE") rows)
+    option_and_then (λ file. option_and_then (λ heap. option_and_then (λ stack. option_and_then (λ steps. with_file file (Run heap stack steps (flag_in (codes "leaks") rows))) (steps_in (first_of (codes "steps") rows))) (stack_in (first_of (codes "stack") rows))) (heap_in (first_of (codes "heap") rows))) (first_of (codes "FILE") rows)
 
 abbrev pub mean_in : Listed Row → Option Command
 mean_in rows =
@@ -58,6 +69,10 @@ mean_in rows =
 abbrev pub plain_in : Task → Listed Row → Option Command
 plain_in task rows = option_and_then (λ file. with_file file task) (first_of (codes "FILE") rows)
 
+abbrev pub self_in : Listed Row → Option Command
+self_in rows =
+    option_and_then (λ word. option_map (λ n. Generated n) (functions_in word)) (first_of (codes "N") rows)
+
 -- the task of a command with a file alone
 abbrev pub task_named : Text → Option Task
 task_named name =
@@ -65,7 +80,7 @@ task_named name =
 
 abbrev pub asked : Text → Listed Row → Option Command
 asked name rows =
-    cond (bytes_eq name (codes "run")) (run_in rows) (cond (bytes_eq name (codes "mean")) (mean_in rows) (option_and_then (λ task. plain_in task rows) (task_named name)))
+    cond (bytes_eq name (codes "run")) (run_in rows) (cond (bytes_eq name (codes "mean")) (mean_in rows) (cond (bytes_eq name (codes "self")) (self_in rows) (option_and_then (λ task. plain_in task rows) (task_named name))))
 
 -- words in which `clap` finds no fault ask for what their command and its values say; all other words are not taken
 abbrev pub command_of : Listed Text → Option Command
@@ -74,7 +89,7 @@ command_of words =
 
 -- the code's command as the definition has it
 abbrev pub task_shown : code_task.Task → Task
-task_shown (tasks.Run heap stack steps) = Run heap stack steps
+task_shown (tasks.Run heap stack steps leaks) = Run heap stack steps leaks
 task_shown (tasks.Mean steps) = Mean steps
 task_shown tasks.Print = Print
 task_shown tasks.Layout = Layout
@@ -82,7 +97,8 @@ task_shown tasks.List = List
 task_shown tasks.Live = Live
 
 abbrev pub command_shown : code.Command → Command
-command_shown command = record { file = command.file.now; task = task_shown command.task }
+command_shown (commands.OnFile file task) = OnFile file.now (task_shown task)
+command_shown (commands.Generated number) = Generated number
 
 -- the words ask for this, or are not taken; of want of memory nothing is said
 abbrev pub IsRead : Option Command → Result code.Command WordsError → Type 0
@@ -92,6 +108,16 @@ IsRead wanted (Err NoMemory) = ⊤
 
 -- the numbers of a task are at most the most that an option may give
 abbrev pub IsLimited : Task → Type 0
-IsLimited (Run heap stack steps) = (heap ≤ 268435456) × (stack ≤ 67108864) × (steps ≤ 1000000000)
+IsLimited (Run heap stack steps leaks) = (heap ≤ 268435456) × (stack ≤ 67108864) × (steps ≤ 1000000000)
 IsLimited (Mean steps) = steps ≤ 1000000000
 IsLimited _ = ⊤
+
+-- the numbers of a command are within their limits
+abbrev pub HasLimits : Command → Type 0
+HasLimits (OnFile file task) = IsLimited task
+HasLimits (Generated number) = (1 ≤ number) × (number ≤ 2000)
+
+-- the command does this task with a file
+abbrev pub IsOnFile : code_task.Task → code.Command → Type 0
+IsOnFile wanted (commands.OnFile file task) = task ≡ wanted
+IsOnFile wanted (commands.Generated number) = ⊥

@@ -2,29 +2,39 @@
 
 ghost use Rattle.std.specs.Prelude.{◌≡◌, ⊤, IfOk, MatchOption, map, option_map};
 ghost use Rattle.clap.specs.Words.{first_of, found_of, rows_of};
-ghost use Rattle.command_words.specs.Commands.{command_of, command_shown, task_shown, asked, run_in, mean_in, plain_in, task_named, with_file, IsLimited, IsRead};
+ghost use Rattle.command_words.specs.Commands.{command_of, command_shown, task_shown, asked, run_in, mean_in, plain_in, self_in, flag_in, task_named, with_file, HasLimits, IsLimited, IsOnFile, IsRead};
 
 use crate::error::WordsError;
 use crate::set::command_set;
-use crate::values::{heap, is_file, stack, steps};
+use crate::values::{functions, heap, is_file, stack, steps};
 use clap::ArgMatches;
 use clap::error::ErrorKind;
 use std::alloc::Global;
 
-/// A file, and what is done with it.
+/// What the words ask for.
 #[derive(Clone, Copy)]
-pub struct Command<'a> {
-    pub file: &'a str,
-    pub task: Task,
+pub enum Command<'a> {
+    /// A task is done with the text of this name.
+    OnFile { file: &'a str, task: Task },
+    /// A text is made with so many functions, and run.
+    Generated { number: u32 },
 }
 
 /// What is done with a text.
 #[derive(Clone, Copy)]
 pub enum Task {
-    /// It is run on a heap and a stack of so many bytes, with at most so many steps.
-    Run { heap: u32, stack: u32, steps: u64 },
+    /// It is run on a heap and a stack of so many bytes, with at most so many steps, and perhaps with a list of the blocks
+    /// that are left at its end.
+    Run {
+        heap: u32,
+        stack: u32,
+        steps: u64,
+        leaks: bool,
+    },
     /// Its meaning is evaluated, with at most so many steps.
-    Mean { steps: u64 },
+    Mean {
+        steps: u64,
+    },
     /// Its canonical spelling is written.
     Print,
     /// The layouts of its structs and unions are written.
@@ -38,10 +48,10 @@ pub enum Task {
 /// What is done with a file, if the word can be its name.
 fn with_file<'a>(file: &'a str, task: Task) -> Result<Command<'a>, WordsError>
     ensures read { IsRead (with_file file.entry.now (task_shown task)) result }
-    ensures task { IfOk result (λ c. c.task ≡ task) }
+    ensures task { IfOk result (IsOnFile task) }
 {
     if is_file(file) {
-        Ok(Command { file, task })
+        Ok(Command::OnFile { file, task })
     } else {
         Err(WordsError::Usage)
     }
@@ -54,10 +64,20 @@ fn value_of<'a>(found: &ArgMatches<'a>, id: &str) -> Option<&'a str>
     found.get_str(id)
 }
 
+/// Whether a flag was given. `clap` has the value `true` for one that was, and else its default, `false`.
+fn flag(found: &ArgMatches, id: &str) -> bool
+    ensures { result ≡ flag_in id.now (rows_of (found_of found.now)) }
+{
+    match value_of(found, id) {
+        Some(word) => word == "true",
+        None => false,
+    }
+}
+
 /// `run`, by the values of its arguments.
 fn run<'a>(found: &ArgMatches<'a>) -> Result<Command<'a>, WordsError>
     ensures read { IsRead (run_in (rows_of (found_of found.now))) result }
-    ensures limits { IfOk result (λ c. IsLimited (task_shown c.task)) }
+    ensures limits { IfOk result (λ c. HasLimits (command_shown c)) }
 {
     let Some(file) = value_of(found, "FILE") else {
         return Err(WordsError::Usage);
@@ -68,16 +88,23 @@ fn run<'a>(found: &ArgMatches<'a>) -> Result<Command<'a>, WordsError>
     let Some(stack) = stack(value_of(found, "stack")) else {
         return Err(WordsError::Usage);
     };
-    match steps(value_of(found, "steps")) {
-        Some(steps) => with_file(file, Task::Run { heap, stack, steps }),
-        None => Err(WordsError::Usage),
-    }
+    let Some(steps) = steps(value_of(found, "steps")) else {
+        return Err(WordsError::Usage);
+    };
+    let leaks = flag(found, "leaks");
+    let task = Task::Run {
+        heap,
+        stack,
+        steps,
+        leaks,
+    };
+    with_file(file, task)
 }
 
 /// `mean`, by the values of its arguments.
 fn mean<'a>(found: &ArgMatches<'a>) -> Result<Command<'a>, WordsError>
     ensures read { IsRead (mean_in (rows_of (found_of found.now))) result }
-    ensures limits { IfOk result (λ c. IsLimited (task_shown c.task)) }
+    ensures limits { IfOk result (λ c. HasLimits (command_shown c)) }
 {
     let Some(file) = value_of(found, "FILE") else {
         return Err(WordsError::Usage);
@@ -91,7 +118,7 @@ fn mean<'a>(found: &ArgMatches<'a>) -> Result<Command<'a>, WordsError>
 /// A command with a file alone, by the values of its arguments.
 fn plain<'a>(task: Task, found: &ArgMatches<'a>) -> Result<Command<'a>, WordsError>
     ensures read { IsRead (plain_in (task_shown task) (rows_of (found_of found.now))) result }
-    ensures task { IfOk result (λ c. c.task ≡ task) }
+    ensures task { IfOk result (IsOnFile task) }
 {
     match value_of(found, "FILE") {
         Some(file) => with_file(file, task),
@@ -119,16 +146,33 @@ fn task_named(name: &str) -> Option<Task>
     None
 }
 
+/// `self`, by the value of its argument.
+fn generated<'a>(found: &ArgMatches<'a>) -> Result<Command<'a>, WordsError>
+    ensures read { IsRead (self_in (rows_of (found_of found.now))) result }
+    ensures limits { IfOk result (λ c. HasLimits (command_shown c)) }
+{
+    let Some(word) = value_of(found, "N") else {
+        return Err(WordsError::Usage);
+    };
+    match functions(word) {
+        Some(number) => Ok(Command::Generated { number }),
+        None => Err(WordsError::Usage),
+    }
+}
+
 /// What a command asks for.
 fn asked<'a>(name: &str, found: &ArgMatches<'a>) -> Result<Command<'a>, WordsError>
     ensures read { IsRead (asked name.now (rows_of (found_of found.now))) result }
-    ensures limits { IfOk result (λ c. IsLimited (task_shown c.task)) }
+    ensures limits { IfOk result (λ c. HasLimits (command_shown c)) }
 {
     if name == "run" {
         return run(found);
     }
     if name == "mean" {
         return mean(found);
+    }
+    if name == "self" {
+        return generated(found);
     }
     match task_named(name) {
         Some(task) => plain(task, found),
@@ -142,10 +186,10 @@ fn asked<'a>(name: &str, found: &ArgMatches<'a>) -> Result<Command<'a>, WordsErr
 ///
 /// [`WordsError::Usage`] exactly where the words are not taken, but for want of memory, which is
 /// [`WordsError::NoMemory`]. The steps of a task that is read are at most 1,000,000,000, its heap has at most 268,435,456 bytes
-/// and its stack at most 67,108,864.
+/// and its stack at most 67,108,864; a text that is made has 1 to 2,000 functions.
 pub fn read<'a>(alloc: Global, words: &'a [&'a str]) -> Result<Command<'a>, WordsError>
     ensures read { IsRead (command_of (map (λ w. w.now) words.entry.now)) result }
-    ensures limits { IfOk result (λ command. IsLimited (task_shown command.task)) }
+    ensures limits { IfOk result (λ command. HasLimits (command_shown command)) }
 {
     let set = command_set(alloc)?;
     match set.try_get_matches_from(words) {

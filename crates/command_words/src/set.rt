@@ -1,18 +1,26 @@
 //! The commands and options, as `clap` builds them.
 
-ghost use Rattle.std.specs.Prelude.{◌≡◌, false, IfOk};
+ghost use Rattle.std.specs.Prelude.{◌≡◌, codes, false, IfOk};
 ghost use Rattle.clap.specs.Words.{app_of, rule_of};
-ghost use Rattle.command_words.specs.CommandSet.{command_set, file, option};
+ghost use Rattle.command_words.specs.CommandSet.{command_set, flag, needed, option};
 
-use clap::{Arg, Command};
+use clap::{Arg, ArgAction, Command};
 use std::alloc::{AllocError, Global};
+
+/// An argument that each use of its command needs.
+fn needed<'a>(alloc: Global, name: &'a str) -> Arg<'a>
+    ensures rule { rule_of result ≡ needed name.entry.now }
+    ensures local { result.global ≡ false }
+{
+    Arg::new(alloc, name).required(true)
+}
 
 /// The argument for a file.
 fn file<'a>(alloc: Global) -> Arg<'a>
-    ensures rule { rule_of result ≡ file }
+    ensures rule { rule_of result ≡ needed (codes "FILE") }
     ensures local { result.global ≡ false }
 {
-    Arg::new(alloc, "FILE").required(true)
+    needed(alloc, "FILE")
 }
 
 /// An option with a value.
@@ -23,6 +31,14 @@ fn option<'a>(alloc: Global, name: &'a str) -> Arg<'a>
     Arg::new(alloc, name).long(name)
 }
 
+/// An option without a value.
+fn flag<'a>(alloc: Global, name: &'a str) -> Arg<'a>
+    ensures rule { rule_of result ≡ flag name.entry.now }
+    ensures local { result.global ≡ false }
+{
+    Arg::new(alloc, name).long(name).action(ArgAction::SetTrue)
+}
+
 /// All commands. (In one function: a part of a command is no value that a clause can speak of.)
 pub(crate) fn command_set<'a>(alloc: Global) -> Result<Command<'a>, AllocError>
     ensures { IfOk result (λ c. app_of c ≡ command_set) }
@@ -30,17 +46,20 @@ pub(crate) fn command_set<'a>(alloc: Global) -> Result<Command<'a>, AllocError>
     let heap = option(alloc, "heap");
     let stack = option(alloc, "stack");
     let steps = option(alloc, "steps");
+    let leaks = flag(alloc, "leaks");
     let run = Command::new(alloc, "run")
         .arg(file(alloc))?
         .arg(heap)?
         .arg(stack)?
-        .arg(steps)?;
+        .arg(steps)?
+        .arg(leaks)?;
     let budget = option(alloc, "steps");
     let mean = Command::new(alloc, "mean").arg(file(alloc))?.arg(budget)?;
     let print = Command::new(alloc, "print").arg(file(alloc))?;
     let layout = Command::new(alloc, "layout").arg(file(alloc))?;
     let list = Command::new(alloc, "list").arg(file(alloc))?;
     let live = Command::new(alloc, "live").arg(file(alloc))?;
+    let generated = Command::new(alloc, "self").arg(needed(alloc, "N"))?;
     Command::new(alloc, "heapsafe")
         .no_binary_name(true)
         .disable_help_flag(true)
@@ -52,5 +71,6 @@ pub(crate) fn command_set<'a>(alloc: Global) -> Result<Command<'a>, AllocError>
         .subcommand(print)?
         .subcommand(layout)?
         .subcommand(list)?
-        .subcommand(live)
+        .subcommand(live)?
+        .subcommand(generated)
 }

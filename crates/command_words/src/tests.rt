@@ -4,13 +4,18 @@ use crate::command::{Command, Task, read};
 use crate::error::WordsError;
 use std::test::Fail;
 
-/// A command as a file with a heap, a stack and a number of steps, each 0 where it takes none.
+/// A command with a file, as that with a heap, a stack and a number of steps, each 0 where it takes none.
 fn shown<'a>(read: Result<Command<'a>, WordsError>) -> Option<(&'a str, u32, u32, u64)> {
-    let Ok(Command { file, task }) = read else {
+    let Ok(Command::OnFile { file, task }) = read else {
         return None;
     };
     match task {
-        Task::Run { heap, stack, steps } => Some((file, heap, stack, steps)),
+        Task::Run {
+            heap,
+            stack,
+            steps,
+            ..
+        } => Some((file, heap, stack, steps)),
         Task::Mean { steps } => Some((file, 0, 0, steps)),
         Task::Print | Task::Layout | Task::List | Task::Live => Some((file, 0, 0, 0)),
     }
@@ -109,11 +114,54 @@ fn words_that_are_taken(rt: HostRuntime) -> Result<(), Fail> {
     Ok(())
 }
 
+/// The flag is given or not, before or after the file.
+#[test]
+fn leaks_are_asked_for(rt: HostRuntime) -> Result<(), Fail> {
+    let rows: [(&[&str], bool); 4] = [
+        (&["run", "a.c"], false),
+        (&["run", "a.c", "--leaks"], true),
+        (&["run", "--leaks", "a.c"], true),
+        (&["run", "a.c", "--steps", "5", "--leaks"], true),
+    ];
+    for (words, asked) in rows {
+        let leaks = match read(rt.alloc(), words) {
+            Ok(
+                Command::OnFile {
+                    task: Task::Run { leaks, .. },
+                    ..
+                },
+            ) => Some(leaks),
+            _ => None,
+        };
+        assert_eq!(rt; leaks, Some(asked));
+    }
+    Ok(())
+}
+
+/// The least and the greatest number of functions, leading zeros, and a number behind `--`.
+#[test]
+fn texts_that_are_made(rt: HostRuntime) -> Result<(), Fail> {
+    let rows: [(&[&str], u32); 4] = [
+        (&["self", "1"], 1),
+        (&["self", "2000"], 2000),
+        (&["self", "007"], 7),
+        (&["self", "--", "5"], 5),
+    ];
+    for (words, functions) in rows {
+        let made = match read(rt.alloc(), words) {
+            Ok(Command::Generated { number }) => Some(number),
+            _ => None,
+        };
+        assert_eq!(rt; made, Some(functions));
+    }
+    Ok(())
+}
+
 /// A missing or second file, a name with a dash in front, a word before the command, an option twice, shortened, unknown or
 /// without its value, and a number out of its limits.
 #[test]
 fn words_that_are_not_taken(rt: HostRuntime) -> Result<(), Fail> {
-    let rows: [&[&str]; 34] = [
+    let rows: [&[&str]; 46] = [
         &[],
         &["run"],
         &["print"],
@@ -148,6 +196,18 @@ fn words_that_are_not_taken(rt: HostRuntime) -> Result<(), Fail> {
         &["print", "a.c", "--steps", "5"],
         &["live"],
         &["live", "a.c", "b.c"],
+        &["run", "a.c", "--leaks", "--leaks"],
+        &["run", "a.c", "--leaks=1"],
+        &["run", "a.c", "--leaks", "1"],
+        &["mean", "a.c", "--leaks"],
+        &["self"],
+        &["self", "0"],
+        &["self", "2001"],
+        &["self", "x"],
+        &["self", "-5"],
+        &["self", "1", "2"],
+        &["self", "1", "--leaks"],
+        &["self", "1", "--steps", "5"],
     ];
     for words in rows {
         assert!(rt; matches!(read(rt.alloc(), words), Err(WordsError::Usage)));

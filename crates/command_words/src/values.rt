@@ -1,8 +1,8 @@
 //! The rules that the values of arguments have beside those of `clap`.
 
 ghost use Rattle.std.specs.Prelude.{◌≡◌, ◌≤◌, ⊤, MatchOption, option_map};
-ghost use Rattle.command_words.specs.Numbers.{is_file, number_in};
-ghost use Rattle.command_words.specs.Commands.{heap_in, stack_in, steps_in, value_in};
+ghost use Rattle.command_words.specs.Numbers.{is_file, number_in, within};
+ghost use Rattle.command_words.specs.Commands.{functions_in, heap_in, stack_in, steps_in, value_in};
 
 /// How many steps a run may make where the words do not say.
 const DEFAULT_STEPS: u64 = 100_000_000;
@@ -22,6 +22,9 @@ const DEFAULT_STACK: u64 = 1_048_576;
 /// How many bytes the stack of a run has at most.
 const MOST_STACK: u64 = 67_108_864;
 
+/// How many functions a text that is made has at most.
+const MOST_FUNCTIONS: u64 = 2_000;
+
 /// Says whether a word can be a file's name: it is not empty and does not begin with a dash.
 pub(crate) fn is_file(word: &str) -> bool
     ensures { result ≡ is_file word.now }
@@ -32,20 +35,28 @@ pub(crate) fn is_file(word: &str) -> bool
     }
 }
 
+/// The number that a word gives, from the least to the most.
+fn bounded(word: &str, least: u64, most: u64) -> Option<u64>
+    ensures value { result ≡ within least most (number_in word.now) }
+    ensures bound { MatchOption result ⊤ (λ n. (least ≤ n) × (n ≤ most)) }
+{
+    let number = number(word.as_bytes())?;
+    if least <= number && number <= most {
+        Some(number)
+    } else {
+        None
+    }
+}
+
 /// The value of an option, from the least to the most, or its default, which is at most that.
 fn value(word: Option<&str>, least: u64, most: u64, default: u64) -> Option<u64>
     requires { default ≤ most }
     ensures value { result ≡ value_in least most default (option_map (λ w. w.now) word.entry) }
     ensures bound { MatchOption result ⊤ (λ n. n ≤ most) }
 {
-    let Some(word) = word else {
-        return Some(default);
-    };
-    let number = number(word.as_bytes())?;
-    if least <= number && number <= most {
-        Some(number)
-    } else {
-        None
+    match word {
+        Some(word) => bounded(word, least, most),
+        None => Some(default),
     }
 }
 
@@ -73,6 +84,15 @@ pub(crate) fn stack(word: Option<&str>) -> Option<u32>
 {
     let bytes = value(word, 0, MOST_STACK, DEFAULT_STACK)?;
     Some(bytes as u32)
+}
+
+/// How many functions a text that is made has, from 1 to 2,000.
+pub(crate) fn functions(word: &str) -> Option<u32>
+    ensures value { result ≡ functions_in word.now }
+    ensures bound { MatchOption result ⊤ (λ n. (1 ≤ n) × (n ≤ 2000)) }
+{
+    let number = bounded(word, 1, MOST_FUNCTIONS)?;
+    Some(number as u32)
 }
 
 /// A number of 1 to 18 decimal digits.

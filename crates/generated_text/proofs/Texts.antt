@@ -1,5 +1,5 @@
 -- The text grows by a line and by a call, and how long it is.
-use Rattle.std.proofs.Common.{◌≡◌, ◌≤◌, ◌<◌, ◌^◌, ◌+◌, ◌*◌, ◌++◌, ◌∷◌, ℕ, zero, suc, List, [], map, length, codes, decimal, refl, sym, ap, ◌∙◌, add-one, append-nil, append_assoc, arith, length-append}
+use Rattle.std.proofs.Common.{◌≡◌, ◌≤◌, ◌+◌, ◌*◌, ◌++◌, ◌∷◌, ℕ, zero, suc, List, [], map, length, codes, decimal, refl, sym, ap, ◌∙◌, add-one, append-nil, append_assoc, arith, length-append}
 use Rattle.std.specs.List.{flat_map, range_with_len, sum_by}
 use Rattle.std.proofs.lemmas.Fmt.{length-decimal-le}
 use Rattle.std.proofs.lemmas.Grind.{flat_map-append}

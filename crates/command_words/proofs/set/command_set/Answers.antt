@@ -2,7 +2,7 @@ use Rattle.std.proofs.Common.{◌≡◌, ◌∙◌, ap, ap₂, Bool, ◌||◌, c
 use Rattle.std.proofs.lemmas.Result.{IfOk-weaker}
 use Rattle.clap.specs.Words.{App, Shape, app_of, new_app, with_rule, with_subcommand}
 use Rattle.clap.specs.Simple.{on_top, app_of_fields}
-use Rattle.command_words.specs.CommandSet.{run, mean, plain, program}
+use Rattle.command_words.specs.CommandSet.{run, mean, plain, generated, program}
 use Rattle.command_words.proofs.set.command_set.Goals as goal
 
 abbrev words_alone : Shape → Shape
@@ -25,18 +25,20 @@ either a b = a || b
 
 pub returns : goal.returns
 returns c =
-    let run_is : app_of c.in_ok-run.run' ≡ run = c.in_ok-run.ensures.shape c.option-steps.ensures.local
+    let run_is : app_of c.in_ok-run.run' ≡ run = c.in_ok-run.ensures.shape c.flag-leaks.ensures.local
+    ∙ ap₂ with_rule (c.in_ok-arg-4.ensures.shape c.option-steps.ensures.local
     ∙ ap₂ with_rule (c.in_ok-arg-3.ensures.shape c.option-stack.ensures.local
     ∙ ap₂ with_rule (c.in_ok-arg-2.ensures.shape c.option-heap.ensures.local
-    ∙ ap₂ with_rule (c.in_ok-arg.ensures.shape c.file.ensures.local ∙ ap₂ with_rule c.new.ensures.app c.file.ensures.rule) c.option-heap.ensures.rule) c.option-stack.ensures.rule) c.option-steps.ensures.rule in
+    ∙ ap₂ with_rule (c.in_ok-arg.ensures.shape c.file.ensures.local ∙ ap₂ with_rule c.new.ensures.app c.file.ensures.rule) c.option-heap.ensures.rule) c.option-stack.ensures.rule) c.option-steps.ensures.rule) c.flag-leaks.ensures.rule in
     let run_local = c.in_ok-run.ensures.globals
+    ∙ ap₂ either (c.in_ok-arg-4.ensures.globals
     ∙ ap₂ either (c.in_ok-arg-3.ensures.globals
     ∙ ap₂ either (c.in_ok-arg-2.ensures.globals
-    ∙ ap₂ either (c.in_ok-arg.ensures.globals ∙ ap₂ either c.new.ensures.local c.file.ensures.local) c.option-heap.ensures.local) c.option-stack.ensures.local) c.option-steps.ensures.local in
+    ∙ ap₂ either (c.in_ok-arg.ensures.globals ∙ ap₂ either c.new.ensures.local c.file.ensures.local) c.option-heap.ensures.local) c.option-stack.ensures.local) c.option-steps.ensures.local) c.flag-leaks.ensures.local in
     let mean_is : app_of c.in_ok-mean.mean ≡ mean = c.in_ok-mean.ensures.shape c.option-budget.ensures.local
-    ∙ ap₂ with_rule (c.in_ok-arg-4.ensures.shape c.file-2.ensures.local ∙ ap₂ with_rule c.new-2.ensures.app c.file-2.ensures.rule) c.option-budget.ensures.rule in
+    ∙ ap₂ with_rule (c.in_ok-arg-5.ensures.shape c.file-2.ensures.local ∙ ap₂ with_rule c.new-2.ensures.app c.file-2.ensures.rule) c.option-budget.ensures.rule in
     let mean_local = c.in_ok-mean.ensures.globals
-    ∙ ap₂ either (c.in_ok-arg-4.ensures.globals ∙ ap₂ either c.new-2.ensures.local c.file-2.ensures.local) c.option-budget.ensures.local in
+    ∙ ap₂ either (c.in_ok-arg-5.ensures.globals ∙ ap₂ either c.new-2.ensures.local c.file-2.ensures.local) c.option-budget.ensures.local in
     let print_is : app_of c.in_ok-print.print ≡ plain (codes "print") = c.in_ok-print.ensures.shape c.file-3.ensures.local
     ∙ ap₂ with_rule c.new-3.ensures.app c.file-3.ensures.rule in
     let print_local = c.in_ok-print.ensures.globals ∙ ap₂ either c.new-3.ensures.local c.file-3.ensures.local in
@@ -49,8 +51,11 @@ returns c =
     let live_is : app_of c.in_ok-live.live ≡ plain (codes "live") = c.in_ok-live.ensures.shape c.file-6.ensures.local
     ∙ ap₂ with_rule c.new-6.ensures.app c.file-6.ensures.rule in
     let live_local = c.in_ok-live.ensures.globals ∙ ap₂ either c.new-6.ensures.local c.file-6.ensures.local in
+    let generated_is : app_of c.in_ok-generated.generated ≡ generated = c.in_ok-generated.ensures.shape c.needed.ensures.local
+    ∙ ap₂ with_rule c.new-7.ensures.app c.needed.ensures.rule in
+    let generated_local = c.in_ok-generated.ensures.globals ∙ ap₂ either c.new-7.ensures.local c.needed.ensures.local in
     let one : app_of c.no_binary_name.result ≡ on_top words_alone (new_app (codes "heapsafe")) =
-    ap app_of_fields c.no_binary_name.ensures ∙ ap (on_top words_alone) c.new-7.ensures.app in
+    ap app_of_fields c.no_binary_name.ensures ∙ ap (on_top words_alone) c.new-8.ensures.app in
     let two : app_of c.disable_help_flag.result ≡ on_top helpless (on_top words_alone (new_app (codes "heapsafe"))) =
     ap app_of_fields c.disable_help_flag.ensures ∙ ap (on_top helpless) one in
     let three = ap app_of_fields c.disable_version_flag.ensures ∙ ap (on_top versionless) two in
@@ -62,4 +67,5 @@ returns c =
     let with_print = c.in_ok-subcommand-3.ensures.shape print_local ∙ ap₂ with_subcommand with_mean (ap (λ (a : App). a.top) print_is) in
     let with_layout = c.in_ok-subcommand-4.ensures.shape layout_local ∙ ap₂ with_subcommand with_print (ap (λ (a : App). a.top) layout_is) in
     let with_list = c.in_ok-subcommand-5.ensures.shape list_local ∙ ap₂ with_subcommand with_layout (ap (λ (a : App). a.top) list_is) in
-    IfOk-weaker c.subcommand-6.result _ _ (λ r h. h.shape live_local ∙ ap₂ with_subcommand with_list (ap (λ (a : App). a.top) live_is)) c.subcommand-6.ensures
+    let with_live = c.in_ok-subcommand-6.ensures.shape live_local ∙ ap₂ with_subcommand with_list (ap (λ (a : App). a.top) live_is) in
+    IfOk-weaker c.subcommand-7.result _ _ (λ r h. h.shape generated_local ∙ ap₂ with_subcommand with_live (ap (λ (a : App). a.top) generated_is)) c.subcommand-7.ensures

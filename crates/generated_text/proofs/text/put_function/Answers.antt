@@ -1,4 +1,4 @@
-use Rattle.std.proofs.Common.{◌≡◌, ◌++◌, ℕ, List, decimal, codes, ap, ◌∙◌}
+use Rattle.std.proofs.Common.{◌++◌, decimal, codes, ap, ◌∙◌}
 use Rattle.std.proofs.lemmas.Result.{IfOk-weaker}
 use Rattle.generated_text.proofs.Texts.{function_pieces}
 use Rattle.generated_text.proofs.text.put_function.Goals as goal
