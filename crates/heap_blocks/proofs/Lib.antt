@@ -2,8 +2,9 @@ pub mod Pieces
 pub mod Heading
 mod Marking
 mod Fitting
-mod Searching
+mod Holing
 mod Holding
+mod Rigs
 mod Returning
 pub mod Owning
 mod Placing

@@ -1,5 +1,5 @@
 -- Which blocks a heap holds.
-use Rattle.std.specs.Prelude.{◌≡◌, ◌≢◌, ℕ, ◌+◌, ◌-◌, ◌*◌, ◌/◌, ◌%◌, ◌^◌, ◌<◌, ◌≤◌, ◌⊎◌, Bool, cond, ◌&&◌, nat_lt, nat_le, List, [], ◌∷◌, ◌++◌, length, All, AllPairs, Contains, find, Option, Some, option_map, slice_get, replicate}
+use Rattle.std.specs.Prelude.{◌≡◌, ◌≢◌, ℕ, ◌+◌, ◌-◌, ◌*◌, ◌/◌, ◌%◌, ◌^◌, ◌<◌, ◌≤◌, ◌⊎◌, Bool, true, false, cond, ◌&&◌, nat_lt, nat_le, List, [], ◌∷◌, ◌++◌, length, All, AllPairs, Contains, find, Option, Some, option_map, map, slice_get, replicate}
 use Rattle.hs_base.specs.Place.{Block, block_size, first_fit, rounded_up}
 use Rattle.hs_base.specs.Bytes.{word, part}
 use Rattle.heap_blocks.specs.declared.headers.Header.{Header}
@@ -108,3 +108,13 @@ pub record IsHeap (base len : ℕ) (marks : List Mark) : Type 0 where
   pub reach : base + len < 2 ^ 32
   pub long : length marks ≡ len / 16
   pub starts : (n start : ℕ) → slice_get marks n ≡ Some (Of start) → start * 16 + 48 ≤ len
+
+-- does the mark name a block?
+abbrev pub is_used : Mark → Bool
+is_used Free = false
+is_used (Of start) = true
+
+-- a heap beside whose marks stand holes: those of its 16 bytes are taken that a block has
+pub record IsHeapWithHoles (base len : ℕ) (marks : List Mark) (holes : List Bool) : Type 0 where
+  pub shape : IsHeap base len marks
+  pub same : holes ≡ map is_used marks

@@ -9,7 +9,8 @@ ghost use Rattle.heap_blocks.specs.Runs.{HasNoRun, IsFirstRun};
 ghost use Rattle.heap_blocks.specs.Held.{Holds, HasAddress, HasBounds, HasHeaders, HaveOwnBirths, IsHeldObject, IsNewObject, IsObject, IsPlaced, IsWithin, address_of, fit_of, owner_of};
 
 use crate::headers::{HEADER_SIZE, Header};
-use crate::marks::{Mark, fill_marks, first_run};
+use crate::marks::{Mark, fill_marks};
+use hole_tree::Holes;
 use hs_base::{FlatBytes, Line, NoMemory, Steps};
 use std::alloc::Global;
 use std::marker::Model;
@@ -50,16 +51,17 @@ pub struct Heap {
     base: u32,
     len: u32,
     marks: Vec<Mark>,
+    holes: Holes,
 }
 
 impl Model for Heap {
-    ghost use Rattle.heap_blocks.specs.Held.{HeapModel, IsHeap};
+    ghost use Rattle.heap_blocks.specs.Held.{HeapModel, IsHeapWithHoles};
 
     ghost Value = { HeapModel };
 
     ghost view = { λ h. record { base = h.base; len = h.len; marks = h.marks.items } };
 
-    ghost invariant = { λ h. IsHeap h.base h.len h.marks.items };
+    ghost invariant = { λ h. IsHeapWithHoles h.base h.len h.marks.items h.holes };
 }
 
 impl Heap {
@@ -74,6 +76,7 @@ impl Heap {
             base,
             len,
             marks: vec![in alloc; Mark::Free; len as usize / 16]?,
+            holes: Holes::new(alloc, len / 16)?,
         })
     }
 
@@ -93,13 +96,13 @@ impl Heap {
     }
 
     /// The lowest place for an object of a size, in 16 bytes from the base on.
-    fn room(&self, size: u64) -> Option<usize>
+    fn room(&self, size: u64) -> Option<u32>
         ensures { MatchOption result (HasNoRun self.now.marks (size / 16 + 3)) (IsFirstRun self.now.marks (size / 16 + 3)) }
     {
         if size >= u64::from(self.len) {
             return None;
         }
-        first_run(self.marks.as_slice(), size as usize / 16 + 3)
+        self.holes.first(size as u32 / 16 + 3)
     }
 
     /// Places a block by first fit and answers the address of its object, all of whose bytes are 0. Nothing changes
@@ -134,10 +137,15 @@ impl Heap {
         let Some(from) = self.room(size) else {
             return None;
         };
-        let count = size as usize / 16 + 3;
-        let mark = Mark::Of(from as u32);
-        fill_marks(self.marks.as_mut_slice(), from, count, mark);
-        let block = self.base + 16 * from as u32;
+        let count = size as u32 / 16 + 3;
+        self.holes.take(from, count);
+        fill_marks(
+            self.marks.as_mut_slice(),
+            from as usize,
+            count as usize,
+            Mark::Of(from),
+        );
+        let block = self.base + 16 * from;
         let header = Header::new(birth, size as u32, layout, line);
         write_block(bytes, block, &header, steps);
         Some(block + HEADER_SIZE)
@@ -158,11 +166,13 @@ impl Heap {
     {
         let block = addr - HEADER_SIZE;
         let size = Header::read_size(bytes, block, steps);
-        let from = (block - self.base) as usize / 16;
+        let from = (block - self.base) / 16;
+        let count = size / 16 + 3;
+        self.holes.give(from, count);
         fill_marks(
             self.marks.as_mut_slice(),
-            from,
-            size as usize / 16 + 3,
+            from as usize,
+            count as usize,
             Mark::Free,
         );
     }

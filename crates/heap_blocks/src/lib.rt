@@ -26,4 +26,6 @@ pub use blocks::Heap;
 pub use headers::{HEADER_SIZE, Header, STATE_LIVE, STATE_QUEUED};
 
 #[cfg(test)]
+mod fit_tests;
+#[cfg(test)]
 mod tests;

@@ -17,7 +17,7 @@ returns-then-place-len-clause-owner g c = λ held holds.
     let same : heap ≡ c.args.self.now = c.self.view_is in
     let off = c.args.addr - c.self.inside.base in
     let past : length heap.marks ≤ off / 16 = omega (arith, c.len.ensures) in
-    let none = past_owns heap c.args.addr (off / 16) off (omega arith) refl held c.self.invariant (subst (λ (h : HeapModel). Holds h held) (sym same) holds) past in
+    let none = past_owns heap c.args.addr (off / 16) off (omega arith) refl held c.self.invariant.shape (subst (λ (h : HeapModel). Holds h held) (sym same) holds) past in
     subst (λ (h : HeapModel). let nothing : Option ℕ = None in nothing ≡ owner_of h held c.args.addr) same (sym none)
 
 pub returns-in-Of-clause-owner : goal.returns-in-Of-clause-owner
@@ -27,7 +27,7 @@ returns-in-Of-clause-owner g c = λ held holds.
     let off = c.args.addr - c.self.inside.base in
     let below : off / 16 < length heap.marks = omega (arith, c.len.ensures) in
     let mark : slice_get heap.marks (off / 16) ≡ Some (Of c.in-Of.start) = slice_get-get_or heap.marks (off / 16) c.index.result.now below ∙ ap Some (sym c.index.ensures ∙ c.in-Of.is) in
-    let owns = mark_owns heap c.args.addr (off / 16) off (omega arith) refl held c.self.invariant (subst (λ (h : HeapModel). Holds h held) (sym same) holds) c.in-Of.start mark in
+    let owns = mark_owns heap c.args.addr (off / 16) off (omega arith) refl held c.self.invariant.shape (subst (λ (h : HeapModel). Holds h held) (sym same) holds) c.in-Of.start mark in
     let at : c.self.inside.base + 16 * c.in-Of.start + 32 ≡ address_of heap (c.in-Of.start * 16) = omega arith in
     subst (λ (h : HeapModel). Some (c.self.inside.base + 16 * c.in-Of.start + 32) ≡ owner_of h held c.args.addr) same (ap Some at ∙ sym owns)
 
@@ -38,7 +38,7 @@ returns-in-Free-clause-owner g c = λ held holds.
     let off = c.args.addr - c.self.inside.base in
     let below : off / 16 < length heap.marks = omega (arith, c.len.ensures) in
     let mark : slice_get heap.marks (off / 16) ≡ Some Free = slice_get-get_or heap.marks (off / 16) c.index.result.now below ∙ ap Some (sym c.index.ensures ∙ c.in-Free.is) in
-    let none = free_owns heap c.args.addr (off / 16) off (omega arith) refl held c.self.invariant (subst (λ (h : HeapModel). Holds h held) (sym same) holds) mark in
+    let none = free_owns heap c.args.addr (off / 16) off (omega arith) refl held c.self.invariant.shape (subst (λ (h : HeapModel). Holds h held) (sym same) holds) mark in
     subst (λ (h : HeapModel). let nothing : Option ℕ = None in nothing ≡ owner_of h held c.args.addr) same (sym none)
 
 -- by the blocks that are held

@@ -7,34 +7,58 @@ use Rattle.heap_blocks.specs.declared.headers.Header.{Header}
 use Rattle.heap_blocks.specs.declared.marks.Mark.{Mark}
 use Rattle.heap_blocks.specs.declared.marks.Mark.TheVariants.{Of}
 use Rattle.heap_blocks.specs.Runs.{IsFirstRun, Filled}
-use Rattle.heap_blocks.specs.Held.{HeapModel, Holds, HasHeaders, IsHeap, address_of, fit_of}
+use Rattle.heap_blocks.specs.Held.{HeapModel, Holds, HasHeaders, IsHeap, IsHeapWithHoles, address_of, fit_of}
+use Rattle.heap_blocks.proofs.Holing.{hole_from_run, same_filled}
 use Rattle.heap_blocks.proofs.Holding.{marked_heap}
 use Rattle.heap_blocks.proofs.Objects.{new_object}
+use Rattle.heap_blocks.proofs.Owning.{shape_placed}
 use Rattle.heap_blocks.proofs.Placing.{none_fits, placed_address, placed_headers, placed_holds}
 use Rattle.heap_blocks.proofs.blocks.Heap.place.Goals as goal
+
+pub take-requires-clause-free : goal.take-requires-clause-free
+take-requires-clause-free g c =
+    let heap : HeapModel = record { base = c.self.inside.base; len = c.self.inside.len; marks = c.self.inside.marks.items } in
+    let same : heap ≡ c.args.self.now = c.self.view_is in
+    let count = c.args.size / 16 + 3 in
+    let first = subst (λ (h : HeapModel). IsFirstRun h.marks count c.in-Some.from) (sym same) c.in-Some.ensures in
+    hole_from_run heap.marks c.self.inside.holes c.self.invariant.same c.in-Some.from count first.run
+
+pub invariant_of-self : goal.invariant_of-self
+invariant_of-self g c =
+    let heap : HeapModel = record { base = c.self.inside.base; len = c.self.inside.len; marks = c.self.inside.marks.items } in
+    let same : heap ≡ c.args.self.now = c.self.view_is in
+    let count = c.args.size / 16 + 3 in
+    let first = subst (λ (h : HeapModel). IsFirstRun h.marks count c.in-Some.from) (sym same) c.in-Some.ensures in
+    let marked = subst (λ (l : List Mark). Filled l c.fill_marks.new.marks c.in-Some.from count (Of c.in-Some.from)) c.as_mut_slice.ensures.value c.fill_marks.ensures in
+    let marks : (with_items c.self.inside.marks c.fill_marks.new.marks).items ≡ c.fill_marks.new.marks =
+    with_items_is c.self.inside.marks c.fill_marks.new.marks (c.fill_marks.ensures.long ∙ c.as_mut_slice.ensures.len) in
+    subst (λ (l : List Mark). IsHeapWithHoles heap.base heap.len l c.take.new.self) (sym marks) (record {
+      shape = shape_placed heap.base heap.len heap.marks c.fill_marks.new.marks c.in-Some.from count c.self.invariant.shape (omega arith) first.run.inside marked;
+      same = same_filled heap.marks c.self.inside.holes c.self.invariant.same c.fill_marks.new.marks c.take.new.self c.in-Some.from count (Of c.in-Some.from) marked c.take.ensures;
+    })
 
 pub returns-in_default-clause-address : goal.returns-in_default-clause-address
 returns-in_default-clause-address g c = λ held holds.
     let heap = c.args.self.now in
-    let shape = subst (λ (h : HeapModel). IsHeap h.base h.len h.marks) c.self.view_is c.self.invariant in
+    let shape = subst (λ (h : HeapModel). IsHeap h.base h.len h.marks) c.self.view_is c.self.invariant.shape in
     sym (ap (option_map (address_of heap)) (none_fits heap held c.args.size shape holds c.in_default.ensures))
 
 pub returns-in_default-clause-held : goal.returns-in_default-clause-held
 returns-in_default-clause-held g c = λ held holds.
     let heap = c.args.self.now in
-    let shape = subst (λ (h : HeapModel). IsHeap h.base h.len h.marks) c.self.view_is c.self.invariant in
+    let shape = subst (λ (h : HeapModel). IsHeap h.base h.len h.marks) c.self.view_is c.self.invariant.shape in
     subst (λ (fit : Option ℕ). Holds heap (with_block held c.args.birth (block_size c.args.size) fit)) (sym (none_fits heap held c.args.size shape holds c.in_default.ensures)) holds
 
 pub returns-in_default-clause-headers : goal.returns-in_default-clause-headers
 returns-in_default-clause-headers g c = λ held holds headers.
     let heap = c.args.self.now in
-    let shape = subst (λ (h : HeapModel). IsHeap h.base h.len h.marks) c.self.view_is c.self.invariant in
+    let shape = subst (λ (h : HeapModel). IsHeap h.base h.len h.marks) c.self.view_is c.self.invariant.shape in
     subst (λ (fit : Option ℕ). HasHeaders heap.base c.args.bytes.now (with_block held c.args.birth (block_size c.args.size) fit)) (sym (none_fits heap held c.args.size shape holds c.in_default.ensures)) headers
 
 pub returns-clause-address : goal.returns-clause-address
 returns-clause-address g c = λ held holds.
     let heap = c.args.self.now in
-    let shape = subst (λ (h : HeapModel). IsHeap h.base h.len h.marks) c.self.view_is c.self.invariant in
+    let shape = subst (λ (h : HeapModel). IsHeap h.base h.len h.marks) c.self.view_is c.self.invariant.shape in
     let base : c.self.inside.base ≡ heap.base = ap (λ (h : HeapModel). h.base) c.self.view_is in
     placed_address heap held c.args.size shape holds c.in-Some.from (c.self.inside.base + 16 * c.in-Some.from + 32) c.in-Some.ensures (omega arith)
 
@@ -49,12 +73,12 @@ returns-clause-held g c = λ held holds.
     with_items_is c.self.inside.marks c.fill_marks.new.marks (c.fill_marks.ensures.long ∙ c.as_mut_slice.ensures.len) in
     subst (λ (l : List Mark). Holds (marked_heap heap l) (with_block held c.args.birth (block_size c.args.size) (fit_of c.args.self.now held c.args.size))) (sym marks)
     (subst (λ (h : HeapModel). Holds (marked_heap heap c.fill_marks.new.marks) (with_block held c.args.birth (block_size c.args.size) (fit_of h held c.args.size))) same
-    (placed_holds heap held c.args.size c.self.invariant (subst (λ (h : HeapModel). Holds h held) (sym same) holds) c.in-Some.from c.args.birth c.fill_marks.new.marks first marked))
+    (placed_holds heap held c.args.size c.self.invariant.shape (subst (λ (h : HeapModel). Holds h held) (sym same) holds) c.in-Some.from c.args.birth c.fill_marks.new.marks first marked))
 
 pub returns-clause-headers : goal.returns-clause-headers
 returns-clause-headers g c = λ held holds headers.
     let heap = c.args.self.now in
-    let shape = subst (λ (h : HeapModel). IsHeap h.base h.len h.marks) c.self.view_is c.self.invariant in
+    let shape = subst (λ (h : HeapModel). IsHeap h.base h.len h.marks) c.self.view_is c.self.invariant.shape in
     let base : c.self.inside.base ≡ heap.base = ap (λ (h : HeapModel). h.base) c.self.view_is in
     subst (λ (n : ℕ). HasHeaders n c.write_block.new.bytes (with_block held c.args.birth (block_size c.args.size) (fit_of heap held c.args.size))) (sym base)
     (placed_headers heap held c.args.size shape holds c.args.bytes.now c.write_block.new.bytes c.in-Some.from c.args.birth (c.self.inside.base + 16 * c.in-Some.from) c.new-header.result c.in-Some.ensures headers c.write_block.ensures.placed (omega arith) (ap (λ (h : Header). h.birth) c.new-header.ensures) (ap (λ (h : Header). h.size) c.new-header.ensures))

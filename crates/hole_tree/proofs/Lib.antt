@@ -1,0 +1,8 @@
+mod Laws
+mod Nodes
+mod Finding
+mod Scanning
+pub mod Pieces
+mod Trees
+mod Refreshing
+mod Setting

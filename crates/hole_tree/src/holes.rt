@@ -1,0 +1,116 @@
+//! The holes of a row of granules.
+
+ghost use Rattle.std.specs.Prelude.{◌≡◌, ◌+◌, ◌*◌, ◌^◌, ◌<◌, ◌≤◌, ℕ, Bool, true, false, length, replicate, IfOk, MatchOption};
+ghost use Rattle.hole_tree.specs.Granules.{HasNoHole, IsFirstHole, IsRun, IsSet};
+ghost use Rattle.hole_tree.specs.Tree.{node_count};
+
+use crate::node::Node;
+use crate::tree::{CHUNK, MAX_HEIGHT, first_hole, open, refresh};
+use hs_base::NoMemory;
+use std::alloc::Global;
+use std::marker::Model;
+
+/// The lowest height of a tree whose lowest nodes have at most [`CHUNK`] granules each.
+fn height_for(granules: u32) -> u32
+    ensures most { result ≤ 27 }
+    ensures room { granules ≤ 32 * 2 ^ result }
+    ensures lowest { (lower : ℕ) → lower < result → 32 * 2 ^ lower < granules }
+{
+    let mut room = CHUNK;
+    for height in 0..MAX_HEIGHT {
+        if granules as usize <= room {
+            return height;
+        }
+        room *= 2;
+    }
+    MAX_HEIGHT
+}
+
+/// Sets so many granules from a place on.
+pub fn set_run(row: &mut [bool], place: usize, n: usize, taken: bool)
+    requires { place + n ≤ length row.old }
+    ensures { IsSet row.old row.new place n taken }
+{
+    for granule in place..place + n {
+        row[granule] = taken;
+    }
+}
+
+/// A row of granules, each of which is taken or free.
+#[derive(Debug, Drop)]
+pub struct Holes {
+    row: Vec<bool>,
+    nodes: Vec<Node>,
+    height: u32,
+}
+
+impl Model for Holes {
+    ghost use Rattle.std.specs.Prelude.{List, Bool};
+    ghost use Rattle.hole_tree.specs.Tree.{IsTreeOf};
+
+    ghost Value = { List Bool };
+
+    ghost view = { λ h. h.row.items };
+
+    ghost invariant = { λ h. IsTreeOf h.height h.row.items h.nodes.items };
+}
+
+impl Holes {
+    /// One hole of so many granules. It takes all memory that later calls need.
+    pub fn new(alloc: Global, granules: u32) -> Result<Holes, NoMemory>
+        ensures { IfOk result (λ holes. holes ≡ replicate granules false) }
+    {
+        let height = height_for(granules);
+        let count = 2 * 2usize.pow(height) - 1;
+        let mut nodes = vec![in alloc; Node::all_free(0); count]?;
+        open(nodes.as_mut_slice(), height, granules);
+        Ok(Holes {
+            row: vec![in alloc; false; granules as usize]?,
+            nodes,
+            height,
+        })
+    }
+
+    /// The lowest place from which on so many granules in a row are free, if there is one.
+    pub fn first(&self, n: u32) -> Option<u32>
+        requires { 0 < n }
+        ensures { MatchOption result (HasNoHole self.now n) (IsFirstHole self.now n) }
+    {
+        first_hole(self.nodes.as_slice(), self.row.as_slice(), self.height, n)
+    }
+
+    /// Takes so many granules from a place on, which are free.
+    pub fn take(&mut self, place: u32, n: u32)
+        requires some { 0 < n }
+        requires free { IsRun self.old place n false }
+        ensures { IsSet self.old self.new place n true }
+    {
+        self.set(place, n, true);
+    }
+
+    /// Gives back so many granules from a place on, which are taken.
+    pub fn give(&mut self, place: u32, n: u32)
+        requires some { 0 < n }
+        requires taken { IsRun self.old place n true }
+        ensures { IsSet self.old self.new place n false }
+    {
+        self.set(place, n, false);
+    }
+
+    /// Sets so many granules from a place on, and counts again the nodes whose parts have any of them.
+    fn set(&mut self, place: u32, n: u32, taken: bool)
+        requires { place + n ≤ length self.old }
+        ensures { IsSet self.old self.new place n taken }
+    {
+        let from = place as usize;
+        let count = n as usize;
+        set_run(self.row.as_mut_slice(), from, count, taken);
+        refresh(
+            self.nodes.as_mut_slice(),
+            self.row.as_slice(),
+            self.height,
+            from,
+            from + count,
+        );
+    }
+}
