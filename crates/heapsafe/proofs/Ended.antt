@@ -1,70 +1,141 @@
 -- A program's answer, from how it ended.
-use Rattle.std.proofs.Common.{◌≡◌, ◌<◌, ℕ, ◌+◌, List, ◌∷◌, ◌++◌, Option, Some, Ok, inl, inr, refl, sym, subst, arith, ⊎_elim}
-use Rattle.std.specs.Prelude.{nat_lt}
+use Rattle.std.proofs.Common.{◌≡◌, ◌<◌, ℕ, ◌+◌, Bool, true, false, List, [], ◌∷◌, ◌++◌, Option, Some, None, Ok, inl, inr, refl, sym, subst, arith, ⊎_elim}
+use Rattle.std.specs.Prelude.{IsTrue, nat_lt}
 use Rattle.std.proofs.lemmas.Bool.{lt-ltb, le-ltb}
+use Rattle.std.proofs.lemmas.List.{append-nil}
 use Rattle.hs_base.specs.declared.ends.End.{End}
 use Rattle.hs_base.specs.declared.ends.End.TheVariants as end
+use Rattle.hs_base.specs.declared.ends.Leak.{Leak}
 use Rattle.hs_base.specs.declared.ends.Limits.{Limits}
-use Rattle.hs_base.specs.Cut.{Room}
+use Rattle.hs_base.specs.Object.{Object}
 use Rattle.hs_base.specs.Trace.{Event, In, bytes_in, bytes_out}
 use Rattle.bad_free_report.specs.Report.{end_report}
 use Rattle.core_tree.specs.declared.program.Core.{Core}
 use Rattle.meaning_run.specs.Meant.{StopsAtIn, Stopped, MeanAnswers, MeanCounts}
 use Rattle.meaning_run.specs.Meant as meant_specs
+use Rattle.flat_codegen.specs.Lasting.{cut_run}
 use Rattle.flat_codegen.specs.Running.{RunAnswers}
 use Rattle.flat_codegen.specs.Running as run_specs
+use Rattle.flat_machine.specs.Exits.{IsNoExit}
 use Rattle.flat_machine.specs.Running.{RunCounts}
 use Rattle.heapsafe.specs.declared.program.Way.TheVariants.{Run, Mean}
 use Rattle.heapsafe.specs.Shown.{input_fault, no_memory, output_fault}
-use Rattle.heapsafe.specs.Program.{Done, AnswersProgram, AnswersWay, ended, input_of, meant, run_within, status_of, unfinished}
-use Rattle.heapsafe.specs.Saying.{Faults, Gives, Says}
+use Rattle.heapsafe.specs.Program.{Done, AnswersProgram, AnswersWay, AreTold, TellsNone, ended, input_of, meant, room_of, run_within, status_of, unfinished}
+use Rattle.heapsafe.specs.Leaks.{leak_lines}
+use Rattle.heapsafe.specs.Saying.{Faults, Gives, Says, SaysCounts, SaysLeaks}
 use Rattle.heapsafe.proofs.Told.{gives, said_faults}
 
 -- a program that ended, where the input did not fail
-whole_is : (file text : List ℕ) (core : Core) (done : Done) (x : End) (i i' : ℕ) → i' ≡ i → done.ends ≡ Some x → AnswersProgram file text core (nat_lt i i') done (ended file text core done.events x)
-whole_is file text core done x i i' same is =
-    let s = ended file text core done.events x in
-    subst (λ b. AnswersProgram file text core b done s) (sym (le-ltb i i' (omega arith))) (x, is, refl)
+whole_is : (file text : List ℕ) (core : Core) (done : Done) (x : End) (leaks : List Leak) (i i' : ℕ) → i' ≡ i → done.ends ≡ Some x → AreTold done.left x leaks → AnswersProgram file text core (nat_lt i i') done (ended file text core done.events x leaks)
+whole_is file text core done x leaks i i' same is told =
+    let s = ended file text core done.events x leaks in
+    subst (λ b. AnswersProgram file text core b done s) (sym (le-ltb i i' (omega arith))) (record { how = x; leaks = leaks; ends = is; told = told; is = refl })
 
 -- a program that stopped where the input failed
-stopped_is : (file text : List ℕ) (core : Core) (done : Done) (before : List Event) (byte : Option ℕ) (rest : List Event) (i i' : ℕ) → i' ≡ i + 1 → done.events ≡ before ++ In byte ∷ rest → AnswersProgram file text core (nat_lt i i') done (ended file text core before end.InputFault)
+stopped_is : (file text : List ℕ) (core : Core) (done : Done) (before : List Event) (byte : Option ℕ) (rest : List Event) (i i' : ℕ) → i' ≡ i + 1 → done.events ≡ before ++ In byte ∷ rest → AnswersProgram file text core (nat_lt i i') done (ended file text core before end.InputFault [])
 stopped_is file text core done before byte rest i i' more is =
-    let s = ended file text core before end.InputFault in
-    subst (λ b. AnswersProgram file text core b done s) (sym (lt-ltb i i' (omega arith))) (before, byte, rest, is, refl)
+    let s = ended file text core before end.InputFault [] in
+    subst (λ b. AnswersProgram file text core b done s) (sym (lt-ltb i i' (omega arith))) (record { before = before; byte = byte; rest = rest; stops = is; is = refl })
 
--- the heap and the stack that a run has
-abbrev room_of : Limits → Room
-room_of limits = record { heap = limits.heap; stack = limits.stack }
+-- every other end tells of no leaks
+none_told : (left : Option (List Object)) (x : End) → IsNoExit x → AreTold left x []
+none_told None x unlike = refl
+none_told (Some objects) (end.Exit code) unlike = absurd unlike
+none_told (Some objects) (end.Trap kind line) unlike = refl
+none_told (Some objects) (end.BadFree why holder) unlike = refl
+none_told (Some objects) (end.Escape func local line) unlike = refl
+none_told (Some objects) end.Spent unlike = refl
+none_told (Some objects) (end.OutOfHeap line) unlike = refl
+none_told (Some objects) (end.OutOfStack line) unlike = refl
+none_told (Some objects) end.InputFault unlike = refl
+none_told (Some objects) end.OutputFault unlike = refl
+
+pub tells_none : (leaks : Bool) (x : End) → IsNoExit x → TellsNone leaks x
+tells_none false x unlike = tt
+tells_none true (end.Exit code) unlike = absurd unlike
+tells_none true (end.Trap kind line) unlike = tt
+tells_none true (end.BadFree why holder) unlike = tt
+tells_none true (end.Escape func local line) unlike = tt
+tells_none true end.Spent unlike = tt
+tells_none true (end.OutOfHeap line) unlike = tt
+tells_none true (end.OutOfStack line) unlike = tt
+tells_none true end.InputFault unlike = tt
+tells_none true end.OutputFault unlike = tt
+
+-- where an exit tells of none, its leaks are not asked for
+pub tells_false : (leaks : Bool) (code : ℕ) → TellsNone leaks (end.Exit code) → leaks ≡ false
+tells_false false code none = refl
+tells_false true code none = absurd none
+
+-- what was counted, as what was said to a stream that is not told
+pub counts_said : (f f' status result : ℕ) → SaysCounts f f' status result → Says None None f f' [] status result
+counts_said f f' status result counts =
+    ⊎_elim
+    (λ h. inl (h.0, h.1, λ (t : List ℕ) (told : untold ≡ Some t). absurd cc))
+    (λ h. inr (h.0, h.1, λ (t : List ℕ) (told : untold ≡ Some t). absurd cc))
+    counts where
+      untold : Option (List ℕ)
+      untold = None
 
 module _ (file text : List ℕ) (core : Core) (left o e : List ℕ) (left' out err err' : Option (List ℕ)) (i i' p p' f f' result : ℕ) (told : err ≡ Some e) (same : f' ≡ f) where
-  -- the report of an end was said
-  abbrev Reported : End → Type 0
-  Reported x = Says err err' f f' (end_report core file text x) (status_of x) result
+  -- the report of an end was said, and then some leaks
+  abbrev Reported : End → List Leak → Type 0
+  Reported x leaks = Says err err' f f' (end_report core file text x ++ leak_lines leaks) (status_of x) result
 
-  whole : (done : Done) (x : End) (rest : List ℕ) → i' ≡ i → done.ends ≡ Some x → out ≡ Some (o ++ bytes_out done.events) → left' ≡ Some rest → bytes_in done.events ++ rest ≡ left → Reported x → Gives (AnswersProgram file text core (nat_lt i i') done) left o e left' out err' result
-  whole done x rest stays is took is_left is_read said =
-      gives (AnswersProgram file text core (nat_lt i i') done) (ended file text core done.events x) left o e rest left' out err err' f f' result
-      (inl (whole_is file text core done x i i' stays is)) is_left is_read took told same said
+  -- the report of an end was said, and nothing else
+  abbrev Plain : End → Type 0
+  Plain x = Says err err' f f' (end_report core file text x) (status_of x) result
 
-  stopped : (done : Done) → i' ≡ i + 1 → StopsAtIn done.events left o left' out → Reported end.InputFault → Gives (AnswersProgram file text core (nat_lt i i') done) left o e left' out err' result
+  plain : (x : End) → Plain x → Reported x []
+  plain x said =
+      subst (λ (bytes : List ℕ). Says err err' f f' bytes (status_of x) result) (sym (append-nil (end_report core file text x))) said
+
+  whole : (done : Done) (x : End) (leaks : List Leak) (rest : List ℕ) → i' ≡ i → done.ends ≡ Some x → AreTold done.left x leaks → out ≡ Some (o ++ bytes_out done.events) → left' ≡ Some rest → bytes_in done.events ++ rest ≡ left → Reported x leaks → Gives (AnswersProgram file text core (nat_lt i i') done) left o e left' out err' result
+  whole done x leaks rest stays is are took is_left is_read said =
+      gives (AnswersProgram file text core (nat_lt i i') done) (ended file text core done.events x leaks) left o e rest left' out err err' f f' result
+      (inl (whole_is file text core done x leaks i i' stays is are)) is_left is_read took told same said
+
+  stopped : (done : Done) → i' ≡ i + 1 → StopsAtIn done.events left o left' out → Plain end.InputFault → Gives (AnswersProgram file text core (nat_lt i i') done) left o e left' out err' result
   stopped done more s said =
-      gives (AnswersProgram file text core (nat_lt i i') done) (ended file text core s.before end.InputFault) left o e s.left left' out err err' f f' result
-      (inl (stopped_is file text core done s.before s.byte s.rest i i' more s.is)) s.is_left s.is_read s.is_taken told same said
+      gives (AnswersProgram file text core (nat_lt i i') done) (ended file text core s.before end.InputFault []) left o e s.left left' out err err' f f' result
+      (inl (stopped_is file text core done s.before s.byte s.rest i i' more s.is)) s.is_left s.is_read s.is_taken told same (plain end.InputFault said)
 
-  whole_run : (limits : Limits) (steps : ℕ) (x : End) → run_specs.Whole core left steps (room_of limits) o x left' out → i' ≡ i → Reported x → Gives (AnswersWay file text core (input_of left i i') (Run limits steps)) left o e left' out err' result
-  whole_run limits steps x w stays said =
-      whole (run_within limits core left steps) x w.left stays w.end w.is_taken w.is_left w.is_read said
+  -- what is told of a run: nothing behind its report, or behind an exit its leaks
+  pub record Telling (limits : Limits) (steps : ℕ) (leaks : Bool) (x : End) : Type 0 where
+    pub none : TellsNone leaks x → Plain x
+    pub some : (code : ℕ) → IsTrue leaks → x ≡ end.Exit code → SaysLeaks (cut_run core left steps (room_of limits)).state.objects err err' f f' code result
 
-  pub gives_run : (limits : Limits) (steps : ℕ) (x : End) → RunAnswers core left steps (room_of limits) o x left' out → RunCounts x i i' p p' → p' ≡ p → Reported x → Gives (AnswersWay file text core (input_of left i i') (Run limits steps)) left o e left' out err' result
-  gives_run limits steps (end.Exit code) w counts stays said = whole_run limits steps (end.Exit code) w counts.0 said
-  gives_run limits steps (end.Trap kind line) w counts stays said = whole_run limits steps (end.Trap kind line) w counts.0 said
-  gives_run limits steps (end.BadFree why holder) w counts stays said = whole_run limits steps (end.BadFree why holder) w counts.0 said
-  gives_run limits steps (end.Escape func local line) w counts stays said = whole_run limits steps (end.Escape func local line) w counts.0 said
-  gives_run limits steps end.Spent w counts stays said = whole_run limits steps end.Spent w counts.0 said
-  gives_run limits steps (end.OutOfHeap line) w counts stays said = whole_run limits steps (end.OutOfHeap line) w counts.0 said
-  gives_run limits steps (end.OutOfStack line) w counts stays said = whole_run limits steps (end.OutOfStack line) w counts.0 said
-  gives_run limits steps end.InputFault s counts stays said = stopped (run_within limits core left steps) counts.0 s said
-  gives_run limits steps end.OutputFault s counts stays said = absurd (omega (arith, counts.1, stays))
+  module _ (limits : Limits) (steps : ℕ) (leaks : Bool) where
+    abbrev Runs : Type 0
+    Runs = Gives (AnswersWay file text core (input_of left i i') (Run limits steps leaks)) left o e left' out err' result
+
+    whole_run : (x : End) (told : List Leak) → run_specs.Whole core left steps (room_of limits) o x left' out → i' ≡ i → AreTold (run_within limits core left steps leaks).left x told → Reported x told → Runs
+    whole_run x told w stays are said =
+        whole (run_within limits core left steps leaks) x told w.left stays w.end are w.is_taken w.is_left w.is_read said
+
+  -- an exit, with its leaks where they are asked for
+  exit_run : (limits : Limits) (steps : ℕ) (leaks : Bool) (code : ℕ) → run_specs.Whole core left steps (room_of limits) o (end.Exit code) left' out → i' ≡ i → Telling limits steps leaks (end.Exit code) → Runs limits steps leaks
+  exit_run limits steps false code w stays t =
+      whole_run limits steps false (end.Exit code) [] w stays refl (plain (end.Exit code) (t.none tt))
+  exit_run limits steps true code w stays t =
+      let said = t.some code refl refl in
+      let leaks = said.all same in
+      whole_run limits steps true (end.Exit code) leaks.0 w stays leaks.1 (said.says leaks.0 leaks.1)
+
+  other_run : (limits : Limits) (steps : ℕ) (leaks : Bool) (x : End) → IsNoExit x → run_specs.Whole core left steps (room_of limits) o x left' out → i' ≡ i → Telling limits steps leaks x → Runs limits steps leaks
+  other_run limits steps leaks x unlike w stays t =
+      whole_run limits steps leaks x [] w stays (none_told (run_within limits core left steps leaks).left x unlike) (plain x (t.none (tells_none leaks x unlike)))
+
+  pub gives_run : (limits : Limits) (steps : ℕ) (leaks : Bool) (x : End) → RunAnswers core left steps (room_of limits) o x left' out → RunCounts x i i' p p' → p' ≡ p → Telling limits steps leaks x → Runs limits steps leaks
+  gives_run limits steps leaks (end.Exit code) w counts stays t = exit_run limits steps leaks code w counts.0 t
+  gives_run limits steps leaks (end.Trap kind line) w counts stays t = other_run limits steps leaks (end.Trap kind line) tt w counts.0 t
+  gives_run limits steps leaks (end.BadFree why holder) w counts stays t = other_run limits steps leaks (end.BadFree why holder) tt w counts.0 t
+  gives_run limits steps leaks (end.Escape func local line) w counts stays t = other_run limits steps leaks (end.Escape func local line) tt w counts.0 t
+  gives_run limits steps leaks end.Spent w counts stays t = other_run limits steps leaks end.Spent tt w counts.0 t
+  gives_run limits steps leaks (end.OutOfHeap line) w counts stays t = other_run limits steps leaks (end.OutOfHeap line) tt w counts.0 t
+  gives_run limits steps leaks (end.OutOfStack line) w counts stays t = other_run limits steps leaks (end.OutOfStack line) tt w counts.0 t
+  gives_run limits steps leaks end.InputFault s counts stays t = stopped (run_within limits core left steps leaks) counts.0 s (t.none (tells_none leaks end.InputFault tt))
+  gives_run limits steps leaks end.OutputFault s counts stays t = absurd (omega (arith, counts.1, stays))
 
   -- the evaluator's answers are among those that are allowed to `mean`
   abbrev Means : ℕ → Type 0
@@ -74,11 +145,11 @@ module _ (file text : List ℕ) (core : Core) (left o e : List ℕ) (left' out e
   meaning steps g =
       record { shown = g.shown; is = ⊎_elim (λ h. inl (inl h)) (λ h. inr h) g.is; rest = g.rest; is_left = g.is_left; is_read = g.is_read; out_took = g.out_took; err_took = g.err_took; status = g.status }
 
-  whole_mean : (steps : ℕ) (x : End) → meant_specs.Whole core left steps o x left' out → i' ≡ i → Reported x → Means steps
+  whole_mean : (steps : ℕ) (x : End) → meant_specs.Whole core left steps o x left' out → i' ≡ i → Plain x → Means steps
   whole_mean steps x w stays said =
-      meaning steps (whole (meant core left steps) x w.left stays w.end w.is_taken w.is_left w.is_read said)
+      meaning steps (whole (meant core left steps) x [] w.left stays w.end refl w.is_taken w.is_left w.is_read (plain x said))
 
-  pub gives_mean : (steps : ℕ) (x : End) → MeanAnswers core left steps o (Ok x) left' out → MeanCounts (Ok x) i i' p p' → p' ≡ p → Reported x → Means steps
+  pub gives_mean : (steps : ℕ) (x : End) → MeanAnswers core left steps o (Ok x) left' out → MeanCounts (Ok x) i i' p p' → p' ≡ p → Plain x → Means steps
   gives_mean steps (end.Exit code) w counts stays said = whole_mean steps (end.Exit code) w counts.0 said
   gives_mean steps (end.Trap kind line) w counts stays said = whole_mean steps (end.Trap kind line) w counts.0 said
   gives_mean steps (end.BadFree why holder) w counts stays said = whole_mean steps (end.BadFree why holder) w counts.0 said
@@ -127,24 +198,24 @@ mean_counts end.InputFault i i' o o' h = h
 mean_counts end.OutputFault i i' o o' h = h
 
 -- what is said where the input or the output failed
-pub input_said : (x : End) (file text : List ℕ) (core : Core) (i i' o o' f f' result : ℕ) (err err' : Option (List ℕ)) → RunCounts x i i' o o' → i < i' → Says err err' f f' (end_report core file text x) (status_of x) result → Says err err' f f' input_fault.err 132 result
-input_said (end.Exit code) file text core i i' o o' f f' result err err' counts more said = absurd (omega (arith, counts.0, more))
-input_said (end.Trap kind line) file text core i i' o o' f f' result err err' counts more said = absurd (omega (arith, counts.0, more))
-input_said (end.BadFree why holder) file text core i i' o o' f f' result err err' counts more said = absurd (omega (arith, counts.0, more))
-input_said (end.Escape func local line) file text core i i' o o' f f' result err err' counts more said = absurd (omega (arith, counts.0, more))
-input_said end.Spent file text core i i' o o' f f' result err err' counts more said = absurd (omega (arith, counts.0, more))
-input_said (end.OutOfHeap line) file text core i i' o o' f f' result err err' counts more said = absurd (omega (arith, counts.0, more))
-input_said (end.OutOfStack line) file text core i i' o o' f f' result err err' counts more said = absurd (omega (arith, counts.0, more))
-input_said end.InputFault file text core i i' o o' f f' result err err' counts more said = said
-input_said end.OutputFault file text core i i' o o' f f' result err err' counts more said = absurd (omega (arith, counts.0, more))
+pub input_said : (leaks : Bool) (x : End) (file text : List ℕ) (core : Core) (i i' o o' f f' result : ℕ) (err err' : Option (List ℕ)) → RunCounts x i i' o o' → i < i' → (TellsNone leaks x → Says err err' f f' (end_report core file text x) (status_of x) result) → Says err err' f f' input_fault.err 132 result
+input_said leaks (end.Exit code) file text core i i' o o' f f' result err err' counts more said = absurd (omega (arith, counts.0, more))
+input_said leaks (end.Trap kind line) file text core i i' o o' f f' result err err' counts more said = absurd (omega (arith, counts.0, more))
+input_said leaks (end.BadFree why holder) file text core i i' o o' f f' result err err' counts more said = absurd (omega (arith, counts.0, more))
+input_said leaks (end.Escape func local line) file text core i i' o o' f f' result err err' counts more said = absurd (omega (arith, counts.0, more))
+input_said leaks end.Spent file text core i i' o o' f f' result err err' counts more said = absurd (omega (arith, counts.0, more))
+input_said leaks (end.OutOfHeap line) file text core i i' o o' f f' result err err' counts more said = absurd (omega (arith, counts.0, more))
+input_said leaks (end.OutOfStack line) file text core i i' o o' f f' result err err' counts more said = absurd (omega (arith, counts.0, more))
+input_said leaks end.InputFault file text core i i' o o' f f' result err err' counts more said = said (tells_none leaks end.InputFault tt)
+input_said leaks end.OutputFault file text core i i' o o' f f' result err err' counts more said = absurd (omega (arith, counts.0, more))
 
-pub output_said : (x : End) (file text : List ℕ) (core : Core) (i i' o o' f f' result : ℕ) (err err' : Option (List ℕ)) → RunCounts x i i' o o' → o < o' → Says err err' f f' (end_report core file text x) (status_of x) result → Says err err' f f' output_fault.err 133 result
-output_said (end.Exit code) file text core i i' o o' f f' result err err' counts more said = absurd (omega (arith, counts.1, more))
-output_said (end.Trap kind line) file text core i i' o o' f f' result err err' counts more said = absurd (omega (arith, counts.1, more))
-output_said (end.BadFree why holder) file text core i i' o o' f f' result err err' counts more said = absurd (omega (arith, counts.1, more))
-output_said (end.Escape func local line) file text core i i' o o' f f' result err err' counts more said = absurd (omega (arith, counts.1, more))
-output_said end.Spent file text core i i' o o' f f' result err err' counts more said = absurd (omega (arith, counts.1, more))
-output_said (end.OutOfHeap line) file text core i i' o o' f f' result err err' counts more said = absurd (omega (arith, counts.1, more))
-output_said (end.OutOfStack line) file text core i i' o o' f f' result err err' counts more said = absurd (omega (arith, counts.1, more))
-output_said end.InputFault file text core i i' o o' f f' result err err' counts more said = absurd (omega (arith, counts.1, more))
-output_said end.OutputFault file text core i i' o o' f f' result err err' counts more said = said
+pub output_said : (leaks : Bool) (x : End) (file text : List ℕ) (core : Core) (i i' o o' f f' result : ℕ) (err err' : Option (List ℕ)) → RunCounts x i i' o o' → o < o' → (TellsNone leaks x → Says err err' f f' (end_report core file text x) (status_of x) result) → Says err err' f f' output_fault.err 133 result
+output_said leaks (end.Exit code) file text core i i' o o' f f' result err err' counts more said = absurd (omega (arith, counts.1, more))
+output_said leaks (end.Trap kind line) file text core i i' o o' f f' result err err' counts more said = absurd (omega (arith, counts.1, more))
+output_said leaks (end.BadFree why holder) file text core i i' o o' f f' result err err' counts more said = absurd (omega (arith, counts.1, more))
+output_said leaks (end.Escape func local line) file text core i i' o o' f f' result err err' counts more said = absurd (omega (arith, counts.1, more))
+output_said leaks end.Spent file text core i i' o o' f f' result err err' counts more said = absurd (omega (arith, counts.1, more))
+output_said leaks (end.OutOfHeap line) file text core i i' o o' f f' result err err' counts more said = absurd (omega (arith, counts.1, more))
+output_said leaks (end.OutOfStack line) file text core i i' o o' f f' result err err' counts more said = absurd (omega (arith, counts.1, more))
+output_said leaks end.InputFault file text core i i' o o' f f' result err err' counts more said = absurd (omega (arith, counts.1, more))
+output_said leaks end.OutputFault file text core i i' o o' f f' result err err' counts more said = said (tells_none leaks end.OutputFault tt)

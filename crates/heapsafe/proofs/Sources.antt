@@ -1,8 +1,8 @@
 -- The tokens of a text that may be read are few and short, and so their tree has a sound core.
-use Rattle.std.proofs.Common.{◌≡◌, ◌≤◌, ◌<◌, ℕ, List, All, length, arith}
+use Rattle.std.proofs.Common.{◌≤◌, ℕ, List, All, length, arith}
 use Rattle.std.proofs.lemmas.List.Elements.{All-weaker}
 use Rattle.c_lexer.specs.declared.token.Token.{Token}
-use Rattle.c_lexer.specs.Tokens.{HasTokens, IsLexed}
+use Rattle.c_lexer.specs.Tokens.{IsLexed}
 use Rattle.c_tree.specs.Tree.{Trees}
 use Rattle.c_tree.specs.HasTree.{HasTree}
 use Rattle.core_tree.specs.Sound.{IsShort}

@@ -5,7 +5,7 @@ use Rattle.std.proofs.lemmas.Bool.{lt-ltb, le-ltb}
 use Rattle.std.proofs.lemmas.List.{append-nil}
 use Rattle.heapsafe.specs.declared.reading.ReadError.{ReadError}
 use Rattle.heapsafe.specs.declared.reading.ReadError.TheVariants.{Fault, TooLong, NoMemory}
-use Rattle.command_words.specs.Commands.{Command, Task}
+use Rattle.command_words.specs.Commands.{Command, OnFile, Task}
 use Rattle.heapsafe.specs.Reading.{Reads, ReadCounts, most_bytes}
 use Rattle.heapsafe.specs.Shown.{Shown, usage, no_memory, text_too_long, bad_place}
 use Rattle.heapsafe.specs.Program.{Input}
@@ -15,7 +15,7 @@ use Rattle.c_lexer.specs.declared.token.Token.{Token}
 use Rattle.c_lexer.specs.declared.token.LexKind.{LexKind}
 use Rattle.c_lexer.specs.declared.token.LexError.{LexError}
 use Rattle.c_lexer.specs.declared.token.LexError.TheVariants as lex
-use Rattle.c_lexer.specs.Tokens.{IsOnlyAnswer}
+use Rattle.c_lexer.specs.Tokens.{HasTokens, IsOnlyAnswer}
 
 -- an answer that reads nothing and writes nothing to the output
 pub record IsSilent (s : Shown) : Type 0 where
@@ -94,21 +94,34 @@ bad_is : (kind kind' : LexKind) (line line' : ℕ) → refused (lex.Bad kind lin
 bad_is kind kind' line line' e = (cc, cc)
 
 -- a text that has these tokens
-tokens_is : (file text : List ℕ) (tokens : List Token) (input : Input) (task : Task) (a : Shown) → IsOnlyAnswer text (Ok tokens) → AnswersTokens file text tokens input task a → AnswersText file text input task a
+pub tokens_is : (file text : List ℕ) (tokens : List Token) (input : Input) (task : Task) (a : Shown) → IsOnlyAnswer text (Ok tokens) → AnswersTokens file text tokens input task a → AnswersText file text input task a
 tokens_is file text tokens input task a only is = record {
   refused = λ kind line bad. ⊎_elim (λ (h : given tokens ≡ refused (lex.Bad kind line)). absurd cc) (λ (h : given tokens ≡ refused lex.NoMemory). absurd cc) (only (Err (lex.Bad kind line)) bad);
   lexed = λ others has. ⊎_elim (λ h. subst (λ ts. AnswersTokens file text ts input task a) (sym (ok_is tokens others h)) is) (λ (h : given tokens ≡ refused lex.NoMemory). absurd cc) (only (Ok others) has);
 }
 
+-- a text that has these tokens alone
+pub only_tokens : (text : List ℕ) (tokens others : List Token) → IsOnlyAnswer text (Ok tokens) → HasTokens text others → others ≡ tokens
+only_tokens text tokens others only has =
+    ⊎_elim (λ h. ok_is tokens others h) (λ (h : given tokens ≡ refused lex.NoMemory). absurd cc) (only (Ok others) has)
+
+-- a text with a bad place has no tokens
+pub no_tokens : (text : List ℕ) (kind : LexKind) (line : ℕ) (tokens : List Token) → IsOnlyAnswer text (Err (lex.Bad kind line)) → HasTokens text tokens → ⊥
+no_tokens text kind line tokens only has =
+    ⊎_elim (λ (h : refused (lex.Bad kind line) ≡ given tokens). absurd cc) (λ (h : refused (lex.Bad kind line) ≡ refused lex.NoMemory). absurd cc) (only (Ok tokens) has)
+
 -- a text that has no tokens
-pub untokened_is : (error : LexError) (file text : List ℕ) (input : Input) (task : Task) → IsOnlyAnswer text (Err error) → AnswersText file text input task (untokened error file text) ⊎ (untokened error file text ≡ no_memory)
-untokened_is (lex.Bad kind line) file text input task only = inl (record {
+pub bad_place_is : (kind : LexKind) (line : ℕ) (file text : List ℕ) (input : Input) (task : Task) → IsOnlyAnswer text (Err (lex.Bad kind line)) → AnswersText file text input task (bad_place file text kind line)
+bad_place_is kind line file text input task only = record {
   refused = λ kind' line' bad. ⊎_elim
       (λ h. let same = bad_is kind kind' line line' h in ap (λ (k : LexKind). bad_place file text k line) same.0 ∙ ap (λ l. bad_place file text kind' l) same.1)
       (λ (h : refused (lex.Bad kind line) ≡ refused lex.NoMemory). absurd cc)
       (only (Err (lex.Bad kind' line')) bad);
-  lexed = λ tokens has. ⊎_elim (λ (h : refused (lex.Bad kind line) ≡ given tokens). absurd cc) (λ (h : refused (lex.Bad kind line) ≡ refused lex.NoMemory). absurd cc) (only (Ok tokens) has);
-})
+  lexed = λ tokens has. absurd (no_tokens text kind line tokens only has);
+}
+
+pub untokened_is : (error : LexError) (file text : List ℕ) (input : Input) (task : Task) → IsOnlyAnswer text (Err error) → AnswersText file text input task (untokened error file text) ⊎ (untokened error file text ≡ no_memory)
+untokened_is (lex.Bad kind line) file text input task only = inl (bad_place_is kind line file text input task only)
 untokened_is lex.NoMemory file text input task only = inr refl
 
 pub untokened_silent : (error : LexError) (file text : List ℕ) → IsSilent (untokened error file text)
@@ -137,6 +150,13 @@ faults_as t t' i i' o o' e e' result same h = subst (λ n. Faults t n i i' o o' 
 -- the same in other words
 pub says_as : (r s : Shown) → r ≡ s → (err err' : Option (List ℕ)) (f f' result : ℕ) → Says err err' f f' r.err r.status result → Says err err' f f' s.err s.status result
 says_as r s e err err' f f' result h = subst (λ (x : Shown). Says err err' f f' x.err x.status result) e h
+
+-- a command with a file is one with that file alone
+abbrev on_file : List ℕ → Task → Option Command
+on_file file task = Some (OnFile file task)
+
+pub one_file : (a b : List ℕ) (t u : Task) → on_file a t ≡ on_file b u → a ≡ b
+one_file a b t u e = cc
 
 pub usage_is : (command : Option Command) (told : List ℕ → List ℕ) (input : Input) → None ≡ command → AnswersCommand command told input usage
 usage_is command told input e = subst (λ (c : Option Command). AnswersCommand c told input usage) e refl

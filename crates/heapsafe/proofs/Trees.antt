@@ -16,7 +16,7 @@ use Rattle.heapsafe.specs.Saying.{Gives, unparsed}
 use Rattle.heapsafe.proofs.Told.{IsSilent, gives_more}
 
 -- tokens with a tree do not go wrong
-never_both : (tokens : List Token) (externals : Trees) (line : ℕ) → HasTree tokens externals → GoesWrong tokens line → ⊥
+pub never_both : (tokens : List Token) (externals : Trees) (line : ℕ) → HasTree tokens externals → GoesWrong tokens line → ⊥
 never_both tokens externals line has wrong =
     let all : length tokens ≤ length wrong.front = wrong.longest tokens [] externals (sym (append-nil tokens)) has in
     let split : length tokens ≡ length (wrong.front ++ wrong.wrong ∷ wrong.rest) = ap length wrong.split in
@@ -51,11 +51,14 @@ gives_tree file text tokens externals input task left o e left' out err result i
     (λ s does. tree_is file text tokens externals input task s is does) left o e left' out err result g
 
 -- a text whose tokens are refused
-pub unparsed_is : (error : ParseError) (file text : List ℕ) (tokens : List Token) (input : Input) (task : Task) → IsRefused tokens error → AnswersTokens file text tokens input task (unparsed error file text) ⊎ (unparsed error file text ≡ no_memory)
-unparsed_is (parse.Syntax line) file text tokens input task wrong = inl (record {
+pub wrong_is : (line : ℕ) (file text : List ℕ) (tokens : List Token) (input : Input) (task : Task) → GoesWrong tokens line → AnswersTokens file text tokens input task (bad_syntax file text line)
+wrong_is line file text tokens input task wrong = record {
   refused = λ other also. ap (λ l. bad_syntax file text l) (one_line tokens line other wrong also);
   parsed = λ externals has. absurd (never_both tokens externals line has wrong);
-})
+}
+
+pub unparsed_is : (error : ParseError) (file text : List ℕ) (tokens : List Token) (input : Input) (task : Task) → IsRefused tokens error → AnswersTokens file text tokens input task (unparsed error file text) ⊎ (unparsed error file text ≡ no_memory)
+unparsed_is (parse.Syntax line) file text tokens input task wrong = inl (wrong_is line file text tokens input task wrong)
 unparsed_is parse.NoMemory file text tokens input task wrong = inr refl
 
 pub unparsed_silent : (error : ParseError) (file text : List ℕ) → IsSilent (unparsed error file text)

@@ -1,5 +1,6 @@
 -- What the program reads, writes and answers for its words.
-use Rattle.std.specs.Prelude.{◌≡◌, ⊤, ℕ, nat_lt, List, length, Option, Some, None, Ok, Err, MatchBool}
+use Rattle.std.specs.Prelude.{◌≡◌, ◌-◌, ⊤, ℕ, false, nat_lt, List, [], length, Option, Some, None, Ok, Err, MatchBool}
+use Rattle.hs_base.specs.Cut.{Room}
 use Rattle.c_lexer.specs.declared.token.Token.{Token}
 use Rattle.c_lexer.specs.declared.token.LexKind.{LexKind}
 use Rattle.c_lexer.specs.Tokens.{HasTokens, HasBadPlace}
@@ -9,11 +10,14 @@ use Rattle.c_decls.specs.Refusals.{Checked}
 use Rattle.elaboration.specs.Elaboration.{tags_of}
 use Rattle.c_elab.specs.Core.{core_in}
 use Rattle.core_tree.specs.declared.program.Core.{Core}
-use Rattle.command_words.specs.Commands.{Command, Task, Run, Mean, Print, Layout, List as ListCore, Live, command_of}
+use Rattle.flat_codegen.specs.Lasting.{cut_run}
+use Rattle.generated_text.specs.Summary.{summary_line}
+use Rattle.generated_text.specs.Text.{generated}
+use Rattle.command_words.specs.Commands.{Command, OnFile, Generated, Task, Run, Mean, Print, Layout, List as ListCore, Live, command_of}
 use Rattle.heapsafe.specs.declared.program.Way.{Way}
 use Rattle.heapsafe.specs.declared.program.Way.TheVariants as way
 use Rattle.heapsafe.specs.Reading.{most_bytes}
-use Rattle.heapsafe.specs.Shown.{Shown, usage, text_too_long, bad_place, bad_syntax, bad_type, printed, layouts_shown, core_shown, live_shown}
+use Rattle.heapsafe.specs.Shown.{Shown, usage, text_too_long, bad_place, bad_syntax, bad_type, written, printed, layouts_shown, core_shown, live_shown}
 use Rattle.heapsafe.specs.Program.{Input, AnswersWay}
 
 -- a text whose types are refused has no core
@@ -23,8 +27,8 @@ AnswersTypes file text (Err refusal) input way a = a ≡ bad_type file text refu
 
 -- what is answered for a text with this tree
 abbrev pub Does : List ℕ → List ℕ → Trees → Input → Task → Shown → Type 0
-Does file text externals input (Run heap stack steps) a =
-    AnswersTypes file text (core_in externals) input (way.Run (record { heap = heap; stack = stack }) steps) a
+Does file text externals input (Run heap stack steps leaks) a =
+    AnswersTypes file text (core_in externals) input (way.Run (record { heap = heap; stack = stack }) steps leaks) a
 Does file text externals input (Mean steps) a = AnswersTypes file text (core_in externals) input (way.Mean steps) a
 Does file text externals input Print a = a ≡ printed externals
 Does file text externals input Layout a = a ≡ layouts_shown file text (tags_of externals)
@@ -46,9 +50,40 @@ abbrev pub AnswersFile : List ℕ → List ℕ → Input → Task → Shown → 
 AnswersFile file text input task a =
     MatchBool (nat_lt most_bytes (length text)) (a ≡ text_too_long file) (AnswersText file text input task a)
 
+-- the text has this core
+pub record HasCore (text : List ℕ) (core : Core) : Type 0 where
+  pub tokens : List Token
+  pub lexed : HasTokens text tokens
+  pub externals : Trees
+  pub parsed : HasTree tokens externals
+  pub typed : core_in externals ≡ Ok core
+
+-- how many steps a run of the text without input makes, of n that it may: none where the text has no core
+pub record RunMakes (text : List ℕ) (room : Room) (n made : ℕ) : Type 0 where
+  pub run : (core : Core) → HasCore text core → made ≡ n - (cut_run core [] n room).state.steps
+  pub refused : ((core : Core) → HasCore text core → ⊥) → made ≡ 0
+
+-- an input of no bytes that does not fail
+abbrev pub no_input : Input
+no_input = record { bytes = []; fails = false }
+
+-- how the text with so many functions is run by `self`: what `run` answers for it without input, with the heap, the stack and
+-- the steps that it has where no option is given, and how many steps it makes
+pub record RunsGenerated (number : ℕ) (run : Shown) (made : ℕ) : Type 0 where
+  pub is_run : AnswersFile [] (generated number) no_input (Run 16777216 1048576 100000000 false) run
+  pub makes : RunMakes (generated number) (record { heap = 16777216; stack = 1048576 }) 100000000 made
+
+-- `self` writes the line of that run
+pub record AnswersGenerated (number : ℕ) (a : Shown) : Type 0 where
+  pub run : Shown
+  pub made : ℕ
+  pub runs : RunsGenerated number run made
+  pub shows : a ≡ written (summary_line (record { number = number; text = length (generated number); output = length run.out; steps = made; status = run.status }))
+
 abbrev pub AnswersCommand : Option Command → (List ℕ → List ℕ) → Input → Shown → Type 0
 AnswersCommand None texts input a = a ≡ usage
-AnswersCommand (Some command) texts input a = AnswersFile command.file (texts command.file) input command.task a
+AnswersCommand (Some (OnFile file task)) texts input a = AnswersFile file (texts file) input task a
+AnswersCommand (Some (Generated number)) texts input a = AnswersGenerated number a
 
 -- the answer for these words, where each name has this text and the input is this one
 abbrev pub Answers : List (List ℕ) → (List ℕ → List ℕ) → Input → Shown → Type 0
@@ -56,11 +91,16 @@ Answers words texts input a = AnswersCommand (command_of words) texts input a
 
 -- a task that runs no program
 abbrev pub RunsNone : Task → Type 0
-RunsNone (Run heap stack steps) = ⊥
+RunsNone (Run heap stack steps leaks) = ⊥
 RunsNone (Mean steps) = ⊥
 RunsNone _ = ⊤
 
--- words that ask for no program
+-- words that ask for no program of a file
 abbrev pub AsksNone : Option Command → Type 0
-AsksNone None = ⊤
-AsksNone (Some command) = RunsNone command.task
+AsksNone (Some (OnFile file task)) = RunsNone task
+AsksNone _ = ⊤
+
+-- words that name no file
+abbrev pub AsksNoFile : Option Command → Type 0
+AsksNoFile (Some (OnFile file task)) = ⊥
+AsksNoFile _ = ⊤

@@ -1,16 +1,20 @@
 -- What a program reads, writes and answers, by the meaning of its core.
-use Rattle.std.specs.Prelude.{◌≡◌, ◌⊎◌, ◌++◌, ◌≤◌, ℕ, Bool, nat_lt, List, ◌∷◌, Option, Some, MatchBool, codes}
+use Rattle.std.specs.Prelude.{◌≡◌, ◌⊎◌, ◌++◌, ◌≤◌, ℕ, Bool, true, false, cond, nat_lt, List, [], ◌∷◌, Option, Some, None, MatchBool, codes}
 use Rattle.hs_base.specs.declared.ends.End.{End}
+use Rattle.hs_base.specs.declared.ends.Leak.{Leak}
 use Rattle.hs_base.specs.declared.ends.Limits.{Limits}
 use Rattle.hs_base.specs.declared.ends.End.TheVariants as end
+use Rattle.hs_base.specs.Object.{Object}
 use Rattle.hs_base.specs.Trace.{Event, In, bytes_in, bytes_out}
-use Rattle.hs_base.specs.Cut.{cut, ending_of}
+use Rattle.hs_base.specs.Cut.{Room, cut, ending_of}
 use Rattle.bad_free_report.specs.Report.{complaint, end_report}
 use Rattle.core_tree.specs.declared.program.Core.{Core}
 use Rattle.object_meaning.specs.Meaning.{meaning}
 use Rattle.meaning_run.specs.Meant.{end_in}
+use Rattle.flat_codegen.specs.Lasting.{cut_run}
 use Rattle.heapsafe.specs.declared.program.Way.{Way}
 use Rattle.heapsafe.specs.declared.program.Way.TheVariants.{Run, Mean}
+use Rattle.heapsafe.specs.Leaks.{AreLeaks, leak_lines}
 use Rattle.heapsafe.specs.Shown.{Shown}
 
 -- the bytes of input that are left, and whether the input fails
@@ -21,6 +25,10 @@ pub record Input : Type 0 where
 -- an input whose count of faults was the first number and is the second
 abbrev pub input_of : List ℕ → ℕ → ℕ → Input
 input_of bytes before after = record { bytes = bytes; fails = nat_lt before after }
+
+-- one that does not fail
+abbrev pub steady : List ℕ → Input
+steady bytes = record { bytes = bytes; fails = false }
 
 -- the status of a program's end
 abbrev pub status_of : End → ℕ
@@ -34,26 +42,46 @@ status_of (end.OutOfStack line) = 130
 status_of end.InputFault = 132
 status_of end.OutputFault = 133
 
--- what a program does: its events, and its end
+-- what a program does: its events, its end, and, where its leaks are asked for, the objects of its last state
 pub record Done : Type 0 where
   pub events : List Event
   pub ends : Option End
+  pub left : Option (List Object)
 
 -- what the meaning does
 abbrev pub meant : Core → List ℕ → ℕ → Done
-meant core input steps = let m = meaning core input steps in record { events = m.trace; ends = end_in m.ended }
+meant core input steps =
+    let m = meaning core input steps in record { events = m.trace; ends = end_in m.ended; left = None }
+
+-- the heap and the stack that a run has
+abbrev pub room_of : Limits → Room
+room_of limits = record { heap = limits.heap; stack = limits.stack }
 
 -- the same, up to the first event for which the heap or the stack has no room
-abbrev pub run_within : Limits → Core → List ℕ → ℕ → Done
-run_within limits core input steps =
+abbrev pub run_within : Limits → Core → List ℕ → ℕ → Bool → Done
+run_within limits core input steps leaks =
     let m = meaning core input steps in
-    let kept = cut (record { heap = limits.heap; stack = limits.stack }) m.trace in
-    record { events = kept.kept; ends = end_in (ending_of kept.refused m.ended) }
+    let kept = cut (room_of limits) m.trace in
+    record {
+      events = kept.kept;
+      ends = end_in (ending_of kept.refused m.ended);
+      left = cond leaks (Some (cut_run core input steps (room_of limits)).state.objects) None;
+    }
 
--- the bytes that events read and write, with the report and the status of an end
-abbrev pub ended : List ℕ → List ℕ → Core → List Event → End → Shown
-ended file text core events e =
-    record { read = bytes_in events; out = bytes_out events; err = end_report core file text e; status = status_of e }
+-- the leaks that are told of at an end: those of the objects that a program leaves by an exit, where they are asked for
+abbrev pub AreTold : Option (List Object) → End → List Leak → Type 0
+AreTold (Some objects) (end.Exit code) leaks = AreLeaks objects 0 leaks
+AreTold left e leaks = leaks ≡ []
+
+-- none are told of, whatever a program leaves
+abbrev pub TellsNone : Bool → End → Type 0
+TellsNone true (end.Exit code) = ⊥
+TellsNone leaks e = Unit {0}
+
+-- the bytes that events read and write, with the report, the leaks and the status of an end
+abbrev pub ended : List ℕ → List ℕ → Core → List Event → End → List Leak → Shown
+ended file text core events e leaks =
+    record { read = bytes_in events; out = bytes_out events; err = end_report core file text e ++ leak_lines leaks; status = status_of e }
 
 -- the same for want of memory
 abbrev pub unfinished : List Event → Shown
@@ -61,13 +89,20 @@ unfinished events =
     record { read = bytes_in events; out = bytes_out events; err = complaint (codes "heapsafe") (codes "no memory"); status = 134 }
 
 -- a program made all of its events and ended
-abbrev pub Ended : List ℕ → List ℕ → Core → Done → Shown → Type 0
-Ended file text core done a = (e : End) × (done.ends ≡ Some e) × (a ≡ ended file text core done.events e)
+pub record Ended (file text : List ℕ) (core : Core) (done : Done) (a : Shown) : Type 0 where
+  pub how : End
+  pub leaks : List Leak
+  pub ends : done.ends ≡ Some how
+  pub told : AreTold done.left how leaks
+  pub is : a ≡ ended file text core done.events how leaks
 
 -- a program made its events before one that reads, and stopped there since the input failed
-abbrev pub Starved : List ℕ → List ℕ → Core → Done → Shown → Type 0
-Starved file text core done a =
-    (before : List Event) × (byte : Option ℕ) × (rest : List Event) × (done.events ≡ before ++ In byte ∷ rest) × (a ≡ ended file text core before end.InputFault)
+pub record Starved (file text : List ℕ) (core : Core) (done : Done) (a : Shown) : Type 0 where
+  pub before : List Event
+  pub byte : Option ℕ
+  pub rest : List Event
+  pub stops : done.events ≡ before ++ In byte ∷ rest
+  pub is : a ≡ ended file text core before end.InputFault []
 
 -- which of the two it is goes by whether the input fails
 abbrev pub AnswersProgram : List ℕ → List ℕ → Core → Bool → Done → Shown → Type 0
@@ -76,13 +111,13 @@ AnswersProgram file text core fails done a =
 
 -- `run` does what the meaning does while heap and stack have room; `mean` does all of it, or wants memory after a first part
 abbrev pub AnswersWay : List ℕ → List ℕ → Core → Input → Way → Shown → Type 0
-AnswersWay file text core input (Run limits steps) a =
-    AnswersProgram file text core input.fails (run_within limits core input.bytes steps) a
+AnswersWay file text core input (Run limits steps leaks) a =
+    AnswersProgram file text core input.fails (run_within limits core input.bytes steps leaks) a
 AnswersWay file text core input (Mean steps) a =
     let done = meant core input.bytes steps in
     AnswersProgram file text core input.fails done a ⊎ ((before : List Event) × (rest : List Event) × (done.events ≡ before ++ rest) × (a ≡ unfinished before))
 
 -- heap, stack and steps are within the bounds that the machine and the evaluator take
 abbrev pub IsBounded : Way → Type 0
-IsBounded (Run limits steps) = (limits.heap ≤ 268435456) × (limits.stack ≤ 67108864) × (steps ≤ 1000000000)
+IsBounded (Run limits steps leaks) = (limits.heap ≤ 268435456) × (limits.stack ≤ 67108864) × (steps ≤ 1000000000)
 IsBounded (Mean steps) = steps ≤ 1000000000

@@ -1,8 +1,11 @@
 -- What is said of an answer, and what a fault of the outside leads to.
-use Rattle.std.specs.Prelude.{◌≡◌, ◌⊎◌, ◌<◌, ◌≤◌, ◌+◌, ℕ, List, ◌++◌, Option, Some, codes}
+use Rattle.std.specs.Prelude.{◌≡◌, ◌≢◌, ◌⊎◌, ◌<◌, ◌≤◌, ◌+◌, ℕ, List, ◌++◌, Option, Some, codes}
+use Rattle.hs_base.specs.Object.{Object}
+use Rattle.hs_base.specs.declared.ends.Leak.{Leak}
+use Rattle.heapsafe.specs.Leaks.{AreLeaks, leak_lines}
 use Rattle.heapsafe.specs.declared.refusal.Refusal.{Refusal}
 use Rattle.heapsafe.specs.declared.refusal.Refusal.TheVariants.{Usage, TextFault, TextTooLong, NoMemory, OutputFault}
-use Rattle.heapsafe.specs.Shown.{Shown, refusal, text_fault, text_too_long, no_memory, bad_place, bad_syntax, bad_type}
+use Rattle.heapsafe.specs.Shown.{Shown, refusal, input_fault, output_fault, text_fault, text_too_long, no_memory, bad_place, bad_syntax, bad_type}
 use Rattle.c_decls.specs.declared.refusal.TypeError.{TypeError}
 use Rattle.c_decls.specs.declared.refusal.TypeError.TheVariants as type
 use Rattle.c_parser.specs.declared.error.ParseError.{ParseError}
@@ -58,11 +61,27 @@ abbrev pub untyped : TypeError → List ℕ → List ℕ → Shown
 untyped (type.Bad kind line) file text = bad_type file text (record { kind = kind; line = line })
 untyped type.NoMemory file text = no_memory
 
--- the error stream took these bytes and the status is this one, or a write to it failed and the status is 133
+-- a front of these bytes was taken, where what was taken is told
+abbrev pub TakesFront : Option (List ℕ) → Option (List ℕ) → List ℕ → Type 0
+TakesFront taken taken' bytes =
+    (t : List ℕ) → taken ≡ Some t → (put : List ℕ) × (rest : List ℕ) × (put ++ rest ≡ bytes) × (taken' ≡ Some (t ++ put))
+
+-- the error stream took these bytes and the status is this one, or a write to it failed, it took a front of them and the
+-- status is 133
 abbrev pub Says : Option (List ℕ) → Option (List ℕ) → ℕ → ℕ → List ℕ → ℕ → ℕ → Type 0
 Says taken taken' faults faults' bytes status result =
     ((faults' ≡ faults) × (result ≡ status) × ((t : List ℕ) → taken ≡ Some t → taken' ≡ Some (t ++ bytes)))
-    ⊎ ((faults' ≡ faults + 1) × (result ≡ 133))
+    ⊎ ((faults' ≡ faults + 1) × (result ≡ 133) × TakesFront taken taken' bytes)
+
+-- no write to the error stream failed, and the status is this one; or one did, and it is 133
+abbrev pub SaysCounts : ℕ → ℕ → ℕ → ℕ → Type 0
+SaysCounts faults faults' status result =
+    ((faults' ≡ faults) × (result ≡ status)) ⊎ ((faults' ≡ faults + 1) × (result ≡ 133))
+
+-- it took the lines of the leaks of these objects, or a front of them
+pub record SaysLeaks (objects : List Object) (taken taken' : Option (List ℕ)) (faults faults' status result : ℕ) : Type 0 where
+  pub says : (leaks : List Leak) → AreLeaks objects 0 leaks → Says taken taken' faults faults' (leak_lines leaks) status result
+  pub all : faults' ≡ faults → (leaks : List Leak) × AreLeaks objects 0 leaks
 
 -- the input lost, and the streams took, the bytes of an answer that is as said, or of the one for want of memory; and the
 -- status is its own
@@ -83,3 +102,30 @@ Faults t t' i i' o o' e e' result =
     ((t' ≡ t) × (i' ≡ i) × (o' ≡ o) × (e' ≡ e)) ⊎ ((t ≤ t') × (i ≤ i') × (o ≤ o') × (e ≤ e') × ((o < o') ⊎ (e < e')) × (result ≡ 133))
     ⊎ ((t < t') × (i' ≡ i) × (o' ≡ o) × (e' ≡ e) × (result ≡ 121))
     ⊎ ((t' ≡ t) × (i < i') × (o' ≡ o) × (e' ≡ e) × (result ≡ 132))
+
+-- a write to one of the two streams failed
+abbrev pub WriteFails : ℕ → ℕ → ℕ → ℕ → Type 0
+WriteFails o o' e e' = (o < o') ⊎ (e < e')
+
+-- the lines that are said of a failure of the outside, and of want of memory
+abbrev pub IsFaultLine : List ℕ → Type 0
+IsFaultLine bytes =
+    (bytes ≡ input_fault.err) ⊎ (bytes ≡ output_fault.err) ⊎ (bytes ≡ no_memory.err) ⊎ ((file : List ℕ) × (bytes ≡ (text_fault file).err))
+
+-- a write failed: the input lost a front of what this answer reads, the output took a front of what it writes, and the error
+-- stream a front of what it says, or of the line of a failure
+pub record Breaks (a : Shown) (left : List ℕ) (left' o o' e e' : Option (List ℕ)) : Type 0 where
+  pub lost : List ℕ
+  pub kept : List ℕ
+  pub more : List ℕ
+  pub is_left : left' ≡ Some kept
+  pub is_lost : lost ++ kept ≡ left
+  pub is_read : lost ++ more ≡ a.read
+  pub out_took : TakesFront o o' a.out
+  pub line : List ℕ
+  pub is_said : (line ≡ a.err) ⊎ IsFaultLine line
+  pub err_took : TakesFront e e' line
+
+-- an answer that is more than the line of want of memory
+abbrev pub SaysMore : Shown → Type 0
+SaysMore a = a.err ≢ no_memory.err

@@ -10,14 +10,16 @@ ghost use Rattle.std.specs.Prelude.{◌≡◌, ◌+◌, ◌<◌, ◌^◌, ℕ, L
 ghost use Rattle.c_elab.specs.Core.{IsOfTokens};
 ghost use Rattle.c_lexer.specs.Tokens.{IsLexed};
 ghost use Rattle.core_soundness.specs.Laws.{AreWithin};
-ghost use Rattle.command_words.specs.Commands.{Command as Asked, command_of, task_shown, IsLimited};
+ghost use Rattle.command_words.specs.Commands.{OnFile, Task as AskedTask, command_of, task_shown, IsLimited};
 ghost use Rattle.c_tree.specs.StatementView.{unit_view};
-ghost use Rattle.heapsafe.specs.Answer.{Answers, AnswersTokens, AnswersFile, AsksNone, Does, RunsNone};
+ghost use Rattle.heapsafe.specs.Answer.{Answers, AnswersTokens, AnswersFile, AsksNoFile, AsksNone, Does, RunsNone};
 ghost use Rattle.heapsafe.specs.Reading.{most_bytes};
-ghost use Rattle.heapsafe.specs.Shown.{input_fault, output_fault, text_fault};
-ghost use Rattle.heapsafe.specs.Program.{input_of};
-ghost use Rattle.heapsafe.specs.Saying.{Gives, Faults, Says, shown_of, unread};
+ghost use Rattle.heapsafe.specs.Shown.{Shown, input_fault, output_fault, text_fault};
+ghost use Rattle.heapsafe.specs.Program.{input_of, steady};
+ghost use Rattle.heapsafe.specs.Saying.{Breaks, Faults, Gives, Says, SaysMore, WriteFails, shown_of, unread};
 
+mod generated;
+mod leaks;
 mod program;
 mod reading;
 mod refusal;
@@ -28,6 +30,7 @@ use c_parser::parse;
 use c_tree::Unit;
 use command_words::{Command, Task, WordsError};
 use core_soundness::tokens_are_within;
+use generated::run_generated;
 use hs_base::{Limits, Sink, Source, Texts};
 use program::{Way, run_program};
 use reading::{ReadError, read_text};
@@ -67,11 +70,21 @@ fn with_tree<I: Source, O: Sink, E: Sink>(
     ensures input_fault { I.faults input.old < I.faults input.new → Says (E.taken err.old) (E.taken err.new) (E.faults err.old) (E.faults err.new) input_fault.err 132 result }
     ensures output_fault { O.faults out.old < O.faults out.new → Says (E.taken err.old) (E.taken err.new) (E.faults err.old) (E.faults err.new) output_fault.err 133 result }
     ensures stays { RunsNone (task_shown task) → input.new ≡ input.old }
+    ensures broken { (left o : List ℕ) → I.left input.old ≡ Some left → O.taken out.old ≡ Some o → WriteFails (O.faults out.old) (O.faults out.new) (E.faults err.old) (E.faults err.new) → (a : Shown) → Does file.now text.now (unit_view unit.now) (steady left) (task_shown task) a → SaysMore a → Breaks a left (I.left input.new) (O.taken out.old) (O.taken out.new) (E.taken err.old) (E.taken err.new) }
 {
     match task {
-        Task::Run { heap, stack, steps } => {
+        Task::Run {
+            heap,
+            stack,
+            steps,
+            leaks,
+        } => {
             let limits = Limits { heap, stack };
-            let way = Way::Run { limits, steps };
+            let way = Way::Run {
+                limits,
+                steps,
+                leaks,
+            };
             run_program(alloc, file, text, unit, way, input, out, err)
         }
         Task::Mean { steps } => {
@@ -115,6 +128,7 @@ fn with_tokens<I: Source, O: Sink, E: Sink>(
     ensures input_fault { I.faults input.old < I.faults input.new → Says (E.taken err.old) (E.taken err.new) (E.faults err.old) (E.faults err.new) input_fault.err 132 result }
     ensures output_fault { O.faults out.old < O.faults out.new → Says (E.taken err.old) (E.taken err.new) (E.faults err.old) (E.faults err.new) output_fault.err 133 result }
     ensures stays { RunsNone (task_shown task) → input.new ≡ input.old }
+    ensures broken { (left o : List ℕ) → I.left input.old ≡ Some left → O.taken out.old ≡ Some o → WriteFails (O.faults out.old) (O.faults out.new) (E.faults err.old) (E.faults err.new) → (a : Shown) → AnswersTokens file.now text.now tokens.now (steady left) (task_shown task) a → SaysMore a → Breaks a left (I.left input.new) (O.taken out.old) (O.taken out.new) (E.taken err.old) (E.taken err.new) }
 {
     match parse(alloc, tokens) {
         Ok(unit) => with_tree(alloc, file, task, text, &unit, input, out, err),
@@ -143,6 +157,7 @@ fn with_file<T: Texts, I: Source, O: Sink, E: Sink>(
     ensures output_fault { O.faults out.old < O.faults out.new → Says (E.taken err.old) (E.taken err.new) (E.faults err.old) (E.faults err.new) output_fault.err 133 result }
     ensures stays { RunsNone (task_shown task) → input.new ≡ input.old }
     ensures text_fault { T.faults texts.old < T.faults texts.new → (input.new ≡ input.old) × (out.new ≡ out.old) × Says (E.taken err.old) (E.taken err.new) (E.faults err.old) (E.faults err.new) (text_fault file.now).err 121 result }
+    ensures broken { (told : List ℕ → List ℕ) (left o : List ℕ) → T.texts texts.old ≡ Some told → I.left input.old ≡ Some left → O.taken out.old ≡ Some o → WriteFails (O.faults out.old) (O.faults out.new) (E.faults err.old) (E.faults err.new) → (a : Shown) → AnswersFile file.now (told file.now) (steady left) (task_shown task) a → SaysMore a → Breaks a left (I.left input.new) (O.taken out.old) (O.taken out.new) (E.taken err.old) (E.taken err.new) }
 {
     let text = match read_text(alloc, texts, file) {
         Ok(text) => text,
@@ -163,9 +178,11 @@ fn with_file<T: Texts, I: Source, O: Sink, E: Sink>(
 ///
 /// Where texts, input and streams are told and neither texts nor streams failed, what is read, written and answered is by
 /// `Answers`, or nothing but the line of want of memory. The status of a failure of the texts, the input or a stream comes
-/// only where that failed, or as a program's own; and where it failed its line is said, unless the error stream fails. Where
-/// the text could not be read, the input and the output are as before; so is the input where no program is run; and of words
-/// that are not taken nothing but the error stream is asked.
+/// only where that failed, or as a program's own; and where it failed its line is said, unless the error stream fails. Where a
+/// write to a stream failed, the input lost, and each stream took, a front of what the answer reads and writes, or the error
+/// stream a front of the line of a failure. Where the text could not be read, the input and the output are as before; so is the
+/// input where no program of a file is run; of words that name no file the texts are not asked; and of words that are not taken
+/// nothing but the error stream is.
 pub fn heapsafe<T: Texts, I: Source, O: Sink, E: Sink>(
     alloc: Global,
     words: &[&str],
@@ -183,18 +200,27 @@ pub fn heapsafe<T: Texts, I: Source, O: Sink, E: Sink>(
     ensures input_fault { I.faults input.old < I.faults input.new → Says (E.taken err.old) (E.taken err.new) (E.faults err.old) (E.faults err.new) input_fault.err 132 result }
     ensures output_fault { O.faults out.old < O.faults out.new → Says (E.taken err.old) (E.taken err.new) (E.faults err.old) (E.faults err.new) output_fault.err 133 result }
     ensures usage { command_of (map (λ w. w.now) words.now) ≡ None → (texts.new ≡ texts.old) × (input.new ≡ input.old) × (out.new ≡ out.old) }
+    ensures no_file { AsksNoFile (command_of (map (λ w. w.now) words.now)) → (texts.new ≡ texts.old) × (input.new ≡ input.old) }
     ensures stays { AsksNone (command_of (map (λ w. w.now) words.now)) → input.new ≡ input.old }
-    ensures text_fault { (command : Asked) → command_of (map (λ w. w.now) words.now) ≡ Some command → T.faults texts.old < T.faults texts.new → (input.new ≡ input.old) × (out.new ≡ out.old) × Says (E.taken err.old) (E.taken err.new) (E.faults err.old) (E.faults err.new) (text_fault command.file).err 121 result }
+    ensures text_fault { (file : List ℕ) (task : AskedTask) → command_of (map (λ w. w.now) words.now) ≡ Some (OnFile file task) → T.faults texts.old < T.faults texts.new → (input.new ≡ input.old) × (out.new ≡ out.old) × Says (E.taken err.old) (E.taken err.new) (E.faults err.old) (E.faults err.new) (text_fault file).err 121 result }
+    ensures broken { (told : List ℕ → List ℕ) (left o : List ℕ) → T.texts texts.old ≡ Some told → I.left input.old ≡ Some left → O.taken out.old ≡ Some o → WriteFails (O.faults out.old) (O.faults out.new) (E.faults err.old) (E.faults err.new) → (a : Shown) → Answers (map (λ w. w.now) words.now) told (steady left) a → SaysMore a → Breaks a left (I.left input.new) (O.taken out.old) (O.taken out.new) (E.taken err.old) (E.taken err.new) }
 {
     match command_words::read(alloc, words) {
-        Ok(Command { file, task }) => with_file(alloc, file, task, texts, input, out, err),
+        Ok(Command::OnFile { file, task }) => with_file(alloc, file, task, texts, input, out, err),
+        Ok(Command::Generated { number }) => run_generated(alloc, number, out, err),
         Err(WordsError::Usage) => refuse(err, Refusal::Usage),
         Err(WordsError::NoMemory) => refuse(err, Refusal::NoMemory),
     }
 }
 
 #[cfg(test)]
+mod fault_tests;
+#[cfg(test)]
 mod free_tests;
+#[cfg(test)]
+mod generated_tests;
+#[cfg(test)]
+mod leak_tests;
 #[cfg(test)]
 mod memory_tests;
 #[cfg(test)]

@@ -66,6 +66,15 @@ impl<'a> Refusal<'a> {
 /// The status where a write to the error stream failed.
 pub(crate) const OUTPUT_FAULT: u8 = 133;
 
+/// The status of a text that has no tokens.
+pub(crate) const BAD_TOKENS: u8 = 123;
+
+/// The status of a text whose tokens have no tree.
+pub(crate) const BAD_TREE: u8 = 124;
+
+/// The status of a text whose types are refused.
+pub(crate) const BAD_TYPES: u8 = 125;
+
 /// Writes the line of a refusal and answers its status, or that of a failed write.
 pub(crate) fn refuse<E: Sink>(err: &mut E, refusal: Refusal<'_>) -> u8
     requires { E.faults err.old + 1 < 2 ^ 64 }
@@ -104,7 +113,15 @@ pub(crate) fn refuse_text<E: Sink>(err: &mut E, error: LexError, file: &str, tex
 {
     match error {
         LexError::Bad { kind, line } => {
-            refuse_at(err, file, text, line, b"lex: ", kind.word().as_bytes(), 123)
+            refuse_at(
+                err,
+                file,
+                text,
+                line,
+                b"lex: ",
+                kind.word().as_bytes(),
+                BAD_TOKENS,
+            )
         }
         LexError::NoMemory => refuse(err, Refusal::NoMemory),
     }
@@ -116,7 +133,7 @@ pub(crate) fn refuse_tokens<E: Sink>(err: &mut E, error: ParseError, file: &str,
     ensures says { Says (E.taken err.old) (E.taken err.new) (E.faults err.old) (E.faults err.new) (unparsed error file.now text.now).err (unparsed error file.now text.now).status result }
 {
     match error {
-        ParseError::Syntax { line } => refuse_at(err, file, text, line, b"", b"syntax", 124),
+        ParseError::Syntax { line } => refuse_at(err, file, text, line, b"", b"syntax", BAD_TREE),
         ParseError::NoMemory => refuse(err, Refusal::NoMemory),
     }
 }
@@ -135,7 +152,7 @@ pub(crate) fn refuse_types<E: Sink>(err: &mut E, error: TypeError, file: &str, t
                 line,
                 b"type: ",
                 kind.word().as_bytes(),
-                125,
+                BAD_TYPES,
             )
         }
         TypeError::NoMemory => refuse(err, Refusal::NoMemory),

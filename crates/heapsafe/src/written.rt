@@ -8,8 +8,8 @@ ghost use Rattle.core_tree.specs.Listing.{listing};
 ghost use Rattle.elaboration.specs.Elaboration.{tags_of};
 ghost use Rattle.layout_list.specs.Listing.{layout_listing};
 ghost use Rattle.live_list.specs.Listing.{live_listing};
-ghost use Rattle.heapsafe.specs.Shown.{core_shown, layouts_shown, live_shown, output_fault, printed, written};
-ghost use Rattle.heapsafe.specs.Saying.{Faults, Gives, Says};
+ghost use Rattle.heapsafe.specs.Shown.{Shown, core_shown, layouts_shown, live_shown, output_fault, printed, written};
+ghost use Rattle.heapsafe.specs.Saying.{Breaks, Faults, Gives, Says, WriteFails};
 
 use crate::refusal::{Refusal, refuse, refuse_types};
 use c_elab::{elab, tags};
@@ -28,6 +28,7 @@ fn write_text<O: Sink, E: Sink>(text: &[u8], out: &mut O, err: &mut E) -> u8
     ensures exact { (left o e : List ℕ) → O.taken out.old ≡ Some o → E.taken err.old ≡ Some e → O.faults out.new ≡ O.faults out.old → E.faults err.new ≡ E.faults err.old → Gives (λ a. a ≡ written text.now) left o e (Some left) (O.taken out.new) (E.taken err.new) result }
     ensures faults { (t i : ℕ) → Faults t t i i (O.faults out.old) (O.faults out.new) (E.faults err.old) (E.faults err.new) result }
     ensures output_fault { O.faults out.old < O.faults out.new → Says (E.taken err.old) (E.taken err.new) (E.faults err.old) (E.faults err.new) output_fault.err 133 result }
+    ensures broken { (left : List ℕ) → WriteFails (O.faults out.old) (O.faults out.new) (E.faults err.old) (E.faults err.new) → (a : Shown) → a ≡ written text.now → Breaks a left (Some left) (O.taken out.old) (O.taken out.new) (E.taken err.old) (E.taken err.new) }
 {
     match put_all(out, text) {
         Ok(()) => 0,
@@ -42,6 +43,7 @@ pub(crate) fn print<O: Sink, E: Sink>(alloc: Global, unit: &Unit, out: &mut O, e
     ensures exact { (left o e : List ℕ) → O.taken out.old ≡ Some o → E.taken err.old ≡ Some e → O.faults out.new ≡ O.faults out.old → E.faults err.new ≡ E.faults err.old → Gives (λ a. a ≡ printed (unit_view unit.now)) left o e (Some left) (O.taken out.new) (E.taken err.new) result }
     ensures faults { (t i : ℕ) → Faults t t i i (O.faults out.old) (O.faults out.new) (E.faults err.old) (E.faults err.new) result }
     ensures output_fault { O.faults out.old < O.faults out.new → Says (E.taken err.old) (E.taken err.new) (E.faults err.old) (E.faults err.new) output_fault.err 133 result }
+    ensures broken { (left : List ℕ) → WriteFails (O.faults out.old) (O.faults out.new) (E.faults err.old) (E.faults err.new) → (a : Shown) → a ≡ printed (unit_view unit.now) → Breaks a left (Some left) (O.taken out.old) (O.taken out.new) (E.taken err.old) (E.taken err.new) }
 {
     match write_unit(alloc, unit) {
         Ok(text) => write_text(text.as_slice(), out, err),
@@ -56,6 +58,7 @@ fn write_layouts<O: Sink, E: Sink>(alloc: Global, tags: &Tags, out: &mut O, err:
     ensures exact { (left o e : List ℕ) → O.taken out.old ≡ Some o → E.taken err.old ≡ Some e → O.faults out.new ≡ O.faults out.old → E.faults err.new ≡ E.faults err.old → Gives (λ a. a ≡ written (layout_listing tags.now)) left o e (Some left) (O.taken out.new) (E.taken err.new) result }
     ensures faults { (t i : ℕ) → Faults t t i i (O.faults out.old) (O.faults out.new) (E.faults err.old) (E.faults err.new) result }
     ensures output_fault { O.faults out.old < O.faults out.new → Says (E.taken err.old) (E.taken err.new) (E.faults err.old) (E.faults err.new) output_fault.err 133 result }
+    ensures broken { (left : List ℕ) → WriteFails (O.faults out.old) (O.faults out.new) (E.faults err.old) (E.faults err.new) → (a : Shown) → a ≡ written (layout_listing tags.now) → Breaks a left (Some left) (O.taken out.old) (O.taken out.new) (E.taken err.old) (E.taken err.new) }
 {
     match list_layouts(alloc, tags) {
         Ok(text) => write_text(text.as_slice(), out, err),
@@ -77,6 +80,7 @@ pub(crate) fn layouts<O: Sink, E: Sink>(
     ensures exact { (left o e : List ℕ) → O.taken out.old ≡ Some o → E.taken err.old ≡ Some e → O.faults out.new ≡ O.faults out.old → E.faults err.new ≡ E.faults err.old → Gives (λ a. a ≡ layouts_shown file.now text.now (tags_of (unit_view unit.now))) left o e (Some left) (O.taken out.new) (E.taken err.new) result }
     ensures faults { (t i : ℕ) → Faults t t i i (O.faults out.old) (O.faults out.new) (E.faults err.old) (E.faults err.new) result }
     ensures output_fault { O.faults out.old < O.faults out.new → Says (E.taken err.old) (E.taken err.new) (E.faults err.old) (E.faults err.new) output_fault.err 133 result }
+    ensures broken { (left : List ℕ) → WriteFails (O.faults out.old) (O.faults out.new) (E.faults err.old) (E.faults err.new) → (a : Shown) → a ≡ layouts_shown file.now text.now (tags_of (unit_view unit.now)) → Breaks a left (Some left) (O.taken out.old) (O.taken out.new) (E.taken err.old) (E.taken err.new) }
 {
     match tags(alloc, unit) {
         Ok(tags) => write_layouts(alloc, &tags, out, err),
@@ -91,6 +95,7 @@ fn write_core<O: Sink, E: Sink>(alloc: Global, core: &Core, out: &mut O, err: &m
     ensures exact { (left o e : List ℕ) → O.taken out.old ≡ Some o → E.taken err.old ≡ Some e → O.faults out.new ≡ O.faults out.old → E.faults err.new ≡ E.faults err.old → Gives (λ a. a ≡ written (listing core.now)) left o e (Some left) (O.taken out.new) (E.taken err.new) result }
     ensures faults { (t i : ℕ) → Faults t t i i (O.faults out.old) (O.faults out.new) (E.faults err.old) (E.faults err.new) result }
     ensures output_fault { O.faults out.old < O.faults out.new → Says (E.taken err.old) (E.taken err.new) (E.faults err.old) (E.faults err.new) output_fault.err 133 result }
+    ensures broken { (left : List ℕ) → WriteFails (O.faults out.old) (O.faults out.new) (E.faults err.old) (E.faults err.new) → (a : Shown) → a ≡ written (listing core.now) → Breaks a left (Some left) (O.taken out.old) (O.taken out.new) (E.taken err.old) (E.taken err.new) }
 {
     match list(alloc, core) {
         Ok(text) => write_text(text.as_slice(), out, err),
@@ -112,6 +117,7 @@ pub(crate) fn core_list<O: Sink, E: Sink>(
     ensures exact { (left o e : List ℕ) → O.taken out.old ≡ Some o → E.taken err.old ≡ Some e → O.faults out.new ≡ O.faults out.old → E.faults err.new ≡ E.faults err.old → Gives (λ a. a ≡ core_shown file.now text.now (core_in (unit_view unit.now))) left o e (Some left) (O.taken out.new) (E.taken err.new) result }
     ensures faults { (t i : ℕ) → Faults t t i i (O.faults out.old) (O.faults out.new) (E.faults err.old) (E.faults err.new) result }
     ensures output_fault { O.faults out.old < O.faults out.new → Says (E.taken err.old) (E.taken err.new) (E.faults err.old) (E.faults err.new) output_fault.err 133 result }
+    ensures broken { (left : List ℕ) → WriteFails (O.faults out.old) (O.faults out.new) (E.faults err.old) (E.faults err.new) → (a : Shown) → a ≡ core_shown file.now text.now (core_in (unit_view unit.now)) → Breaks a left (Some left) (O.taken out.old) (O.taken out.new) (E.taken err.old) (E.taken err.new) }
 {
     match elab(alloc, unit) {
         Ok(core) => write_core(alloc, &core, out, err),
@@ -126,6 +132,7 @@ fn write_live<O: Sink, E: Sink>(alloc: Global, core: &Core, out: &mut O, err: &m
     ensures exact { (left o e : List ℕ) → O.taken out.old ≡ Some o → E.taken err.old ≡ Some e → O.faults out.new ≡ O.faults out.old → E.faults err.new ≡ E.faults err.old → Gives (λ a. a ≡ written (live_listing core.now)) left o e (Some left) (O.taken out.new) (E.taken err.new) result }
     ensures faults { (t i : ℕ) → Faults t t i i (O.faults out.old) (O.faults out.new) (E.faults err.old) (E.faults err.new) result }
     ensures output_fault { O.faults out.old < O.faults out.new → Says (E.taken err.old) (E.taken err.new) (E.faults err.old) (E.faults err.new) output_fault.err 133 result }
+    ensures broken { (left : List ℕ) → WriteFails (O.faults out.old) (O.faults out.new) (E.faults err.old) (E.faults err.new) → (a : Shown) → a ≡ written (live_listing core.now) → Breaks a left (Some left) (O.taken out.old) (O.taken out.new) (E.taken err.old) (E.taken err.new) }
 {
     match list_live(alloc, core) {
         Ok(text) => write_text(text.as_slice(), out, err),
@@ -147,6 +154,7 @@ pub(crate) fn core_live<O: Sink, E: Sink>(
     ensures exact { (left o e : List ℕ) → O.taken out.old ≡ Some o → E.taken err.old ≡ Some e → O.faults out.new ≡ O.faults out.old → E.faults err.new ≡ E.faults err.old → Gives (λ a. a ≡ live_shown file.now text.now (core_in (unit_view unit.now))) left o e (Some left) (O.taken out.new) (E.taken err.new) result }
     ensures faults { (t i : ℕ) → Faults t t i i (O.faults out.old) (O.faults out.new) (E.faults err.old) (E.faults err.new) result }
     ensures output_fault { O.faults out.old < O.faults out.new → Says (E.taken err.old) (E.taken err.new) (E.faults err.old) (E.faults err.new) output_fault.err 133 result }
+    ensures broken { (left : List ℕ) → WriteFails (O.faults out.old) (O.faults out.new) (E.faults err.old) (E.faults err.new) → (a : Shown) → a ≡ live_shown file.now text.now (core_in (unit_view unit.now)) → Breaks a left (Some left) (O.taken out.old) (O.taken out.new) (E.taken err.old) (E.taken err.new) }
 {
     match elab(alloc, unit) {
         Ok(core) => write_live(alloc, &core, out, err),

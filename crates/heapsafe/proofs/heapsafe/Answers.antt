@@ -1,16 +1,45 @@
-use Rattle.std.proofs.Common.{ℕ, List, Err, inl, inr, refl, sym, subst, map, Bor}
-use Rattle.command_words.specs.Commands.{command_of, IsRead}
+use Rattle.std.proofs.Common.{◌∙◌, ℕ, List, Some, Ok, Err, inl, inr, refl, sym, subst, map, Bor}
+use Rattle.command_words.specs.Commands.{Generated, command_of, task_shown, IsRead, Command as Asked}
+use Rattle.command_words.specs.declared.command.Command.{Command}
 use Rattle.command_words.specs.declared.error.WordsError.{WordsError}
-use Rattle.heapsafe.specs.Shown.{usage, no_memory}
-use Rattle.heapsafe.specs.Program.{input_of}
-use Rattle.heapsafe.specs.Answer.{Answers}
-use Rattle.heapsafe.proofs.Told.{gives_said, gives_as, usage_is}
+use Rattle.heapsafe.specs.Shown.{usage, no_memory, text_fault}
+use Rattle.heapsafe.specs.Program.{input_of, steady}
+use Rattle.heapsafe.specs.Answer.{Answers, AnswersGenerated, AnswersCommand}
+use Rattle.heapsafe.proofs.Told.{gives_said, gives_as, gives_left, one_file, usage_is}
+use Rattle.heapsafe.proofs.Broken.{broken_left, broken_said, wanting_line}
+use Rattle.std.specs.Prelude.{Option}
+use Rattle.heapsafe.specs.Saying.{Says}
 use Rattle.heapsafe.proofs.heapsafe.Goals as goal
 
-pub returns-in-Ok-clause-exact : goal.returns-in-Ok-clause-exact
-returns-in-Ok-clause-exact g c = λ told left o e k l h i same_texts same_out same_err.
+pub returns-in-Ok-OnFile-clause-exact : goal.returns-in-Ok-OnFile-clause-exact
+returns-in-Ok-OnFile-clause-exact g c = λ told left o e k l h i same_texts same_out same_err.
     let words : List (List ℕ) = map (λ (w : Bor (List ℕ)). w.now) c.args.words.now in
-    gives_as _ (command_of words) told _ left o e _ _ _ _ (sym c.in-Ok.ensures.read) (c.with_file.ensures.exact told left o e k l h i same_texts same_out same_err)
+    let read = subst (λ (command : Command). IsRead (command_of words) (Ok command)) c.in-Ok-OnFile.field-0-is c.in-Ok-OnFile.ensures.read in
+    gives_as _ (command_of words) told _ left o e _ _ _ _ (sym read) (c.with_file.ensures.exact told left o e k l h i same_texts same_out same_err)
+
+pub returns-in-Ok-OnFile-clause-text_fault : goal.returns-in-Ok-OnFile-clause-text_fault
+returns-in-Ok-OnFile-clause-text_fault g c = λ file task asked more.
+    let words : List (List ℕ) = map (λ (w : Bor (List ℕ)). w.now) c.args.words.now in
+    let read = subst (λ (command : Command). IsRead (command_of words) (Ok command)) c.in-Ok-OnFile.field-0-is c.in-Ok-OnFile.ensures.read in
+    let same = one_file c.in-Ok-OnFile.file.now file (task_shown c.in-Ok-OnFile.task) task (sym read ∙ asked) in
+    let said = c.with_file.ensures.text_fault more in (
+      said.0,
+      said.1,
+      subst (λ (f : List ℕ). Says (g.E.Sink.taken c.args.err.now) (g.E.Sink.taken c.with_file.new.err) (g.E.Sink.faults c.args.err.now) (g.E.Sink.faults c.with_file.new.err) (text_fault f).err 121 c.with_file.result) same said.2,
+    )
+
+pub returns-in-Ok-Generated-clause-exact : goal.returns-in-Ok-Generated-clause-exact
+returns-in-Ok-Generated-clause-exact g c = λ told left o e k l h i same_texts same_out same_err.
+    let words : List (List ℕ) = map (λ (w : Bor (List ℕ)). w.now) c.args.words.now in
+    let input = input_of left (g.I.Source.faults c.args.input.now) (g.I.Source.faults c.args.input.now) in
+    let number = c.in-Ok-Generated.number in
+    let read = subst (λ (command : Command). IsRead (command_of words) (Ok command)) c.in-Ok-Generated.field-0-is c.in-Ok-Generated.ensures.read in
+    gives_as (Some (Generated number)) (command_of words) told input left o e _ _ _ _ (sym read)
+    (gives_left (AnswersGenerated number) left o e _ _ _ _ l (c.run_generated.ensures.exact left o e h i same_out same_err))
+
+pub returns-in-Ok-Generated-clause-faults : goal.returns-in-Ok-Generated-clause-faults
+returns-in-Ok-Generated-clause-faults g c =
+    c.run_generated.ensures.faults (g.T.Texts.faults c.args.texts.now) (g.I.Source.faults c.args.input.now)
 
 pub returns-in-Err-Usage-clause-exact : goal.returns-in-Err-Usage-clause-exact
 returns-in-Err-Usage-clause-exact g c = λ told left o e k l h i same_texts same_out same_err.
@@ -23,3 +52,25 @@ returns-in-Err-NoMemory-clause-exact g c = λ told left o e k l h i same_texts s
     let words : List (List ℕ) = map (λ (w : Bor (List ℕ)). w.now) c.args.words.now in
     let input = input_of left (g.I.Source.faults c.args.input.now) (g.I.Source.faults c.args.input.now) in
     gives_said (Answers words told input) no_memory left o e _ _ _ _ _ _ _ (inr refl) (record { read = refl; out = refl }) l h i same_err c.refuse-in-Err-NoMemory.ensures.says
+
+pub returns-in-Ok-OnFile-clause-broken : goal.returns-in-Ok-OnFile-clause-broken
+returns-in-Ok-OnFile-clause-broken g c = λ told left o k l h fails a is more.
+    let words : List (List ℕ) = map (λ (w : Bor (List ℕ)). w.now) c.args.words.now in
+    let read = subst (λ (command : Command). IsRead (command_of words) (Ok command)) c.in-Ok-OnFile.field-0-is c.in-Ok-OnFile.ensures.read in
+    c.with_file.ensures.broken told left o k l h fails a (subst (λ (command : Option Asked). AnswersCommand command told (steady left) a) read is) more
+
+pub returns-in-Ok-Generated-clause-broken : goal.returns-in-Ok-Generated-clause-broken
+returns-in-Ok-Generated-clause-broken g c = λ told left o k l h fails a is more.
+    let words : List (List ℕ) = map (λ (w : Bor (List ℕ)). w.now) c.args.words.now in
+    let read = subst (λ (command : Command). IsRead (command_of words) (Ok command)) c.in-Ok-Generated.field-0-is c.in-Ok-Generated.ensures.read in
+    broken_left a left _ _ _ _ _ l (c.run_generated.ensures.broken left fails a (subst (λ (command : Option Asked). AnswersCommand command told (steady left) a) read is))
+
+pub returns-in-Err-Usage-clause-broken : goal.returns-in-Err-Usage-clause-broken
+returns-in-Err-Usage-clause-broken g c = λ told left o k l h fails a is more.
+    let words : List (List ℕ) = map (λ (w : Bor (List ℕ)). w.now) c.args.words.now in
+    let read = subst (λ (e : WordsError). IsRead (command_of words) (Err e)) c.in-Err-Usage.field-0-is c.in-Err-Usage.ensures.read in
+    broken_said usage a left _ _ _ _ _ _ _ _ (inl (subst (λ (command : Option Asked). AnswersCommand command told (steady left) a) read is)) l refl c.refuse.ensures.says
+
+pub returns-in-Err-NoMemory-clause-broken : goal.returns-in-Err-NoMemory-clause-broken
+returns-in-Err-NoMemory-clause-broken g c = λ told left o k l h fails a is more.
+    broken_said no_memory a left _ _ _ _ _ _ _ _ (inr wanting_line) l refl c.refuse-in-Err-NoMemory.ensures.says

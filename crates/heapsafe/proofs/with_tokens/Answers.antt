@@ -1,10 +1,12 @@
 use Rattle.c_tree.specs.StatementView.{unit_view}
 use Rattle.command_words.specs.Commands.{task_shown}
-use Rattle.heapsafe.specs.Program.{input_of}
+use Rattle.heapsafe.specs.Program.{input_of, steady}
 use Rattle.heapsafe.specs.Answer.{AnswersTokens}
 use Rattle.heapsafe.specs.Saying.{unparsed}
 use Rattle.heapsafe.proofs.Told.{gives_said}
 use Rattle.heapsafe.proofs.Trees.{gives_tree, unparsed_is, unparsed_silent}
+use Rattle.std.proofs.Common.{refl}
+use Rattle.heapsafe.proofs.Broken.{broken_said, unparsed_line}
 use Rattle.heapsafe.proofs.with_tokens.Goals as goal
 
 pub returns-in-Ok-clause-exact : goal.returns-in-Ok-clause-exact
@@ -18,3 +20,13 @@ returns-in-Err-clause-exact g c = λ left o e k h i same_out same_err.
     gives_said (AnswersTokens c.args.file.now c.args.text.now c.args.tokens.now input (task_shown c.args.task)) (unparsed c.in-Err.error c.args.file.now c.args.text.now) left o e _ _ _ _ _ _ _
     (unparsed_is c.in-Err.error c.args.file.now c.args.text.now c.args.tokens.now input (task_shown c.args.task) c.in-Err.ensures.refused)
     (unparsed_silent c.in-Err.error c.args.file.now c.args.text.now) k h i same_err c.refuse_tokens.ensures.says
+
+pub returns-in-Ok-clause-broken : goal.returns-in-Ok-clause-broken
+returns-in-Ok-clause-broken g c = λ left o k h fails a is more.
+    c.with_tree.ensures.broken left o k h fails a (is.parsed (unit_view c.in-Ok.unit) c.in-Ok.ensures.tree.tree) more
+
+pub returns-in-Err-clause-broken : goal.returns-in-Err-clause-broken
+returns-in-Err-clause-broken g c = λ left o k h fails a is more.
+    broken_said (unparsed c.in-Err.error c.args.file.now c.args.text.now) a left _ _ _ _ _ _ _ _
+    (unparsed_line c.in-Err.error c.args.file.now c.args.text.now c.args.tokens.now (steady left) (task_shown c.args.task) a c.in-Err.ensures.refused is)
+    k refl c.refuse_tokens.ensures.says

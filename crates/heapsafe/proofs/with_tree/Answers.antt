@@ -2,10 +2,11 @@ use Rattle.std.proofs.Common.{sym, subst}
 use Rattle.c_tree.specs.StatementView.{unit_view}
 use Rattle.command_words.specs.declared.command.Task.{Task}
 use Rattle.command_words.specs.Commands.{task_shown}
-use Rattle.heapsafe.specs.Program.{input_of}
+use Rattle.heapsafe.specs.Program.{input_of, steady}
 use Rattle.heapsafe.specs.Answer.{Does}
 use Rattle.heapsafe.specs.Saying.{Gives}
 use Rattle.heapsafe.proofs.Told.{gives_left}
+use Rattle.heapsafe.proofs.Broken.{broken_left}
 use Rattle.heapsafe.proofs.with_tree.Goals as goal
 
 pub returns-in-Run-clause-exact : goal.returns-in-Run-clause-exact
@@ -49,3 +50,27 @@ returns-in-List-clause-faults g c = λ t. c.core_list.ensures.faults t (g.I.Sour
 
 pub returns-in-Live-clause-faults : goal.returns-in-Live-clause-faults
 returns-in-Live-clause-faults g c = λ t. c.core_live.ensures.faults t (g.I.Source.faults c.args.input.now)
+
+pub returns-in-Run-clause-broken : goal.returns-in-Run-clause-broken
+returns-in-Run-clause-broken g c = λ left o k h fails a is more.
+    c.run_program.ensures.broken left o k h fails a (subst (λ (t : Task). Does c.args.file.now c.args.text.now (unit_view c.args.unit.now) (steady left) (task_shown t) a) c.in-Run.is is) more
+
+pub returns-in-Mean-clause-broken : goal.returns-in-Mean-clause-broken
+returns-in-Mean-clause-broken g c = λ left o k h fails a is more.
+    c.run_program-in-Mean.ensures.broken left o k h fails a (subst (λ (t : Task). Does c.args.file.now c.args.text.now (unit_view c.args.unit.now) (steady left) (task_shown t) a) c.in-Mean.is is) more
+
+pub returns-in-Print-clause-broken : goal.returns-in-Print-clause-broken
+returns-in-Print-clause-broken g c = λ left o k h fails a is more.
+    broken_left a left _ _ _ _ _ k (c.print.ensures.broken left fails a (subst (λ (t : Task). Does c.args.file.now c.args.text.now (unit_view c.args.unit.now) (steady left) (task_shown t) a) c.in-Print.is is))
+
+pub returns-in-Layout-clause-broken : goal.returns-in-Layout-clause-broken
+returns-in-Layout-clause-broken g c = λ left o k h fails a is more.
+    broken_left a left _ _ _ _ _ k (c.layouts.ensures.broken left fails a (subst (λ (t : Task). Does c.args.file.now c.args.text.now (unit_view c.args.unit.now) (steady left) (task_shown t) a) c.in-Layout.is is))
+
+pub returns-in-List-clause-broken : goal.returns-in-List-clause-broken
+returns-in-List-clause-broken g c = λ left o k h fails a is more.
+    broken_left a left _ _ _ _ _ k (c.core_list.ensures.broken left fails a (subst (λ (t : Task). Does c.args.file.now c.args.text.now (unit_view c.args.unit.now) (steady left) (task_shown t) a) c.in-List.is is))
+
+pub returns-in-Live-clause-broken : goal.returns-in-Live-clause-broken
+returns-in-Live-clause-broken g c = λ left o k h fails a is more.
+    broken_left a left _ _ _ _ _ k (c.core_live.ensures.broken left fails a (subst (λ (t : Task). Does c.args.file.now c.args.text.now (unit_view c.args.unit.now) (steady left) (task_shown t) a) c.in-Live.is is))

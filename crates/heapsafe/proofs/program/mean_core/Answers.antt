@@ -1,5 +1,7 @@
+use Rattle.std.proofs.Common.{false}
 use Rattle.heapsafe.proofs.Told.{said_faults}
 use Rattle.heapsafe.proofs.Ended.{gives_mean, gives_unfinished, input_said, mean_counts, output_said, program_faults}
+use Rattle.heapsafe.proofs.Broken.{broken_mean, broken_unfinished}
 use Rattle.heapsafe.proofs.program.mean_core.Goals as goal
 
 pub returns-in-Ok-clause-exact : goal.returns-in-Ok-clause-exact
@@ -13,11 +15,11 @@ returns-in-Ok-clause-faults g c = λ t.
 
 pub returns-in-Ok-clause-input_fault : goal.returns-in-Ok-clause-input_fault
 returns-in-Ok-clause-input_fault g c = λ more.
-    input_said c.in-Ok.end c.args.file.now c.args.text.now c.args.core.now _ _ _ _ _ _ _ _ _ (mean_counts c.in-Ok.end _ _ _ _ c.in-Ok.ensures.faults) more c.finish.ensures.says
+    input_said false c.in-Ok.end c.args.file.now c.args.text.now c.args.core.now _ _ _ _ _ _ _ _ _ (mean_counts c.in-Ok.end _ _ _ _ c.in-Ok.ensures.faults) more (λ _. c.finish.ensures.says)
 
 pub returns-in-Ok-clause-output_fault : goal.returns-in-Ok-clause-output_fault
 returns-in-Ok-clause-output_fault g c = λ more.
-    output_said c.in-Ok.end c.args.file.now c.args.text.now c.args.core.now _ _ _ _ _ _ _ _ _ (mean_counts c.in-Ok.end _ _ _ _ c.in-Ok.ensures.faults) more c.finish.ensures.says
+    output_said false c.in-Ok.end c.args.file.now c.args.text.now c.args.core.now _ _ _ _ _ _ _ _ _ (mean_counts c.in-Ok.end _ _ _ _ c.in-Ok.ensures.faults) more (λ _. c.finish.ensures.says)
 
 pub returns-in-Err-clause-exact : goal.returns-in-Err-clause-exact
 returns-in-Err-clause-exact g c = λ left o e k h i same_out same_err.
@@ -27,3 +29,11 @@ returns-in-Err-clause-exact g c = λ left o e k h i same_out same_err.
 pub returns-in-Err-clause-faults : goal.returns-in-Err-clause-faults
 returns-in-Err-clause-faults g c = λ t.
     said_faults t _ _ _ _ _ _ _ _ _ _ 134 c.in-Err.ensures.faults.0 c.in-Err.ensures.faults.1 c.refuse.ensures.says
+
+pub returns-in-Ok-clause-broken : goal.returns-in-Ok-clause-broken
+returns-in-Ok-clause-broken g c = λ left o k h fails a is more.
+    broken_mean c.args.file.now c.args.text.now c.args.core.now left o _ _ _ _ _ _ _ _ h c.args.steps a c.in-Ok.end more is (c.in-Ok.ensures.told left o k h) c.finish.ensures.says
+
+pub returns-in-Err-clause-broken : goal.returns-in-Err-clause-broken
+returns-in-Err-clause-broken g c = λ left o k h fails a is more.
+    broken_unfinished c.args.file.now c.args.text.now c.args.core.now left o _ _ _ _ _ _ _ _ h c.args.steps a more is (c.in-Err.ensures.told left o k h) c.refuse.ensures.says

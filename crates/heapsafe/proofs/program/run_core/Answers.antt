@@ -1,34 +1,61 @@
-use Rattle.std.proofs.Common.{◌∙◌, inr, refl, ap}
+use Rattle.std.proofs.Common.{◌∙◌, [], None, inr, refl, ap, subst}
+use Rattle.hs_base.specs.declared.ends.End.{End}
+use Rattle.flat_codegen.specs.Lasting.{LeavesObjects, cut_run}
 use Rattle.heapsafe.specs.declared.program.Way.TheVariants.{Run}
 use Rattle.heapsafe.specs.Shown.{no_memory}
-use Rattle.heapsafe.specs.Program.{AnswersWay, input_of}
+use Rattle.heapsafe.specs.Program.{AnswersWay, input_of, room_of}
 use Rattle.heapsafe.proofs.Told.{gives_said, said_faults}
-use Rattle.heapsafe.proofs.Ended.{gives_run, input_said, output_said, program_faults}
+use Rattle.heapsafe.proofs.Ended.{counts_said, gives_run, input_said, output_said, program_faults}
+use Rattle.heapsafe.proofs.Broken.{broken_run, broken_said, wanting_line}
 use Rattle.heapsafe.proofs.program.run_core.Goals as goal
 
 pub returns-in-Ok-clause-exact : goal.returns-in-Ok-clause-exact
 returns-in-Ok-clause-exact g c = λ left o e k h i same_out same_err.
-    gives_run c.args.file.now c.args.text.now c.args.core.now left o e _ _ _ _ _ _ _ _ _ _ _ i same_err c.args.limits c.args.steps c.in-Ok.end
-    (c.in-Ok.ensures.told left o k h) c.in-Ok.ensures.faults same_out c.finish.ensures.says
+    let memory = c.in-Ok.machine.kept.memory in
+    let room = room_of c.args.limits in
+    gives_run c.args.file.now c.args.text.now c.args.core.now left o e _ _ _ _ _ _ _ _ _ _ _ i same_err c.args.limits c.args.steps c.args.leaks c.in-Ok.end
+    (c.in-Ok.ensures.told left o k h) c.in-Ok.ensures.faults same_out
+    (record {
+      none = c.finish_run.ensures.says;
+      some = λ code asked is.
+          let kept = subst (λ (x : End). LeavesObjects c.args.core.now left c.args.steps room x memory) is (c.in-Ok.ensures.left left o k h) in
+          c.finish_run.ensures.leaks code asked is kept.0 (cut_run c.args.core.now left c.args.steps room).state.objects kept.1;
+    })
 
 pub returns-in-Ok-clause-faults : goal.returns-in-Ok-clause-faults
 returns-in-Ok-clause-faults g c = λ t.
-    program_faults c.in-Ok.end t _ _ _ _ _ _ _ _ _ _ c.in-Ok.ensures.faults c.finish.ensures.says
+    program_faults c.in-Ok.end t _ _ _ _ _ _ _ None None [] c.in-Ok.ensures.faults (counts_said _ _ _ _ c.finish_run.ensures.counts)
 
 pub returns-in-Ok-clause-input_fault : goal.returns-in-Ok-clause-input_fault
 returns-in-Ok-clause-input_fault g c = λ more.
-    input_said c.in-Ok.end c.args.file.now c.args.text.now c.args.core.now _ _ _ _ _ _ _ _ _ c.in-Ok.ensures.faults more c.finish.ensures.says
+    input_said c.args.leaks c.in-Ok.end c.args.file.now c.args.text.now c.args.core.now _ _ _ _ _ _ _ _ _ c.in-Ok.ensures.faults more c.finish_run.ensures.says
 
 pub returns-in-Ok-clause-output_fault : goal.returns-in-Ok-clause-output_fault
 returns-in-Ok-clause-output_fault g c = λ more.
-    output_said c.in-Ok.end c.args.file.now c.args.text.now c.args.core.now _ _ _ _ _ _ _ _ _ c.in-Ok.ensures.faults more c.finish.ensures.says
+    output_said c.args.leaks c.in-Ok.end c.args.file.now c.args.text.now c.args.core.now _ _ _ _ _ _ _ _ _ c.in-Ok.ensures.faults more c.finish_run.ensures.says
 
 pub returns-in-Err-clause-exact : goal.returns-in-Err-clause-exact
 returns-in-Err-clause-exact g c = λ left o e k h i same_out same_err.
     let input = input_of left (g.I.Source.faults c.args.input.now) (g.I.Source.faults c.run_code.new.input) in
-    gives_said (AnswersWay c.args.file.now c.args.text.now c.args.core.now input (Run c.args.limits c.args.steps)) no_memory left o e _ _ _ _ _ _ _ (inr refl) (record { read = refl; out = refl })
+    gives_said (AnswersWay c.args.file.now c.args.text.now c.args.core.now input (Run c.args.limits c.args.steps c.args.leaks)) no_memory left o e _ _ _ _ _ _ _ (inr refl) (record { read = refl; out = refl })
     (ap g.I.Source.left c.in-Err.ensures.input_stays ∙ k) (ap g.O.Sink.taken c.in-Err.ensures.out_stays ∙ h) i same_err c.refuse.ensures.says
 
 pub returns-in-Err-clause-faults : goal.returns-in-Err-clause-faults
 returns-in-Err-clause-faults g c = λ t.
     said_faults t _ _ _ _ _ _ _ _ _ _ 134 (ap g.I.Source.faults c.in-Err.ensures.input_stays) (ap g.O.Sink.faults c.in-Err.ensures.out_stays) c.refuse.ensures.says
+
+pub returns-in-Ok-clause-broken : goal.returns-in-Ok-clause-broken
+returns-in-Ok-clause-broken g c = λ left o k h fails a is more.
+    let memory = c.in-Ok.machine.kept.memory in
+    let room = room_of c.args.limits in
+    broken_run c.args.file.now c.args.text.now c.args.core.now left o _ _ _ _ _ _ _ _ h c.args.limits c.args.steps c.args.leaks a c.in-Ok.end is (c.in-Ok.ensures.told left o k h)
+    (record {
+      none = c.finish_run.ensures.says;
+      some = λ code asked exits.
+          let kept = subst (λ (x : End). LeavesObjects c.args.core.now left c.args.steps room x memory) exits (c.in-Ok.ensures.left left o k h) in
+          c.finish_run.ensures.leaks code asked exits kept.0 (cut_run c.args.core.now left c.args.steps room).state.objects kept.1;
+    })
+
+pub returns-in-Err-clause-broken : goal.returns-in-Err-clause-broken
+returns-in-Err-clause-broken g c = λ left o k h fails a is more.
+    broken_said no_memory a left _ _ _ _ _ _ _ _ (inr wanting_line) (ap g.I.Source.left c.in-Err.ensures.input_stays ∙ k) (ap g.O.Sink.taken c.in-Err.ensures.out_stays) c.refuse.ensures.says

@@ -1,10 +1,14 @@
 use Rattle.c_tree.specs.StatementView.{unit_view}
 use Rattle.c_elab.specs.Core.{core_in}
-use Rattle.heapsafe.specs.Program.{input_of}
+use Rattle.heapsafe.specs.Program.{input_of, steady}
 use Rattle.heapsafe.specs.Answer.{AnswersTypes}
 use Rattle.heapsafe.specs.Saying.{untyped}
 use Rattle.heapsafe.proofs.Told.{gives_said}
 use Rattle.heapsafe.proofs.Typed.{gives_typed, untyped_program, untyped_silent}
+use Rattle.std.proofs.Common.{refl, subst}
+use Rattle.c_decls.specs.Refusals.{Checked}
+use Rattle.core_tree.specs.declared.program.Core.{Core}
+use Rattle.heapsafe.proofs.Broken.{broken_said, untyped_line}
 use Rattle.heapsafe.proofs.program.run_program.Goals as goal
 
 pub returns-in-Ok-clause-exact : goal.returns-in-Ok-clause-exact
@@ -18,3 +22,13 @@ returns-in-Err-clause-exact g c = λ left o e k h i same_out same_err.
     gives_said (AnswersTypes c.args.file.now c.args.text.now (core_in (unit_view c.args.unit.now)) input c.args.way) (untyped c.in-Err.error c.args.file.now c.args.text.now) left o e _ _ _ _ _ _ _
     (untyped_program c.in-Err.error c.args.file.now c.args.text.now (core_in (unit_view c.args.unit.now)) input c.args.way c.in-Err.ensures.core)
     (untyped_silent c.in-Err.error c.args.file.now c.args.text.now) k h i same_err c.refuse_types.ensures.says
+
+pub returns-in-Ok-clause-broken : goal.returns-in-Ok-clause-broken
+returns-in-Ok-clause-broken g c = λ left o k h fails a is more.
+    c.go.ensures.broken left o k h fails a (subst (λ (w : Checked Core). AnswersTypes c.args.file.now c.args.text.now w (steady left) c.args.way a) c.in-Ok.ensures.core is) more
+
+pub returns-in-Err-clause-broken : goal.returns-in-Err-clause-broken
+returns-in-Err-clause-broken g c = λ left o k h fails a is more.
+    broken_said (untyped c.in-Err.error c.args.file.now c.args.text.now) a left _ _ _ _ _ _ _ _
+    (untyped_line c.in-Err.error c.args.file.now c.args.text.now (core_in (unit_view c.args.unit.now)) (steady left) c.args.way a c.in-Err.ensures.core is)
+    k refl c.refuse_types.ensures.says

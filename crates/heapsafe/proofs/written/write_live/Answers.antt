@@ -1,7 +1,8 @@
-use Rattle.std.proofs.Common.{◌≡◌, ◌∙◌, inr, refl, ap}
+use Rattle.std.proofs.Common.{◌≡◌, ◌∙◌, inr, refl, ap, sym}
 use Rattle.live_list.specs.Listing.{live_listing}
 use Rattle.heapsafe.specs.Shown.{Shown, written, no_memory}
 use Rattle.heapsafe.proofs.Told.{gives_said, gives_same}
+use Rattle.heapsafe.proofs.Broken.{broken_said, wanting_line}
 use Rattle.heapsafe.proofs.written.write_live.Goals as goal
 
 pub returns-in-Ok-clause-exact : goal.returns-in-Ok-clause-exact
@@ -11,3 +12,11 @@ returns-in-Ok-clause-exact g c = λ left o e h i same_out same_err.
 pub returns-in-Err-clause-exact : goal.returns-in-Err-clause-exact
 returns-in-Err-clause-exact g c = λ left o e h i same_out same_err.
     gives_said (λ (a : Shown). a ≡ written (live_listing c.args.core.now)) no_memory left o e _ _ _ _ _ _ _ (inr refl) (record { read = refl; out = refl }) refl h i same_err c.refuse.ensures.says
+
+pub returns-in-Ok-clause-broken : goal.returns-in-Ok-clause-broken
+returns-in-Ok-clause-broken g c = λ left fails a is.
+    c.write_text.ensures.broken left fails a (is ∙ sym (ap written (c.as_slice.ensures ∙ c.in-Ok.ensures)))
+
+pub returns-in-Err-clause-broken : goal.returns-in-Err-clause-broken
+returns-in-Err-clause-broken g c = λ left fails a is.
+    broken_said no_memory a left _ _ _ _ _ _ _ _ (inr wanting_line) refl refl c.refuse.ensures.says

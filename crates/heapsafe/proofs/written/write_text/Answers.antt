@@ -1,6 +1,7 @@
-use Rattle.std.proofs.Common.{◌∙◌, Some, inl, refl, sym, ap}
+use Rattle.std.proofs.Common.{◌∙◌, Some, inl, refl, sym, ap, ⊎_elim, arith}
 use Rattle.std.proofs.lemmas.List.{append-nil}
 use Rattle.heapsafe.specs.Shown.{written}
+use Rattle.heapsafe.proofs.Broken.{broken_text}
 use Rattle.heapsafe.proofs.written.write_text.Goals as goal
 
 pub returns-in-Ok-clause-exact : goal.returns-in-Ok-clause-exact
@@ -14,3 +15,11 @@ returns-in-Ok-clause-exact g c = λ left o e h i same_out same_err. record {
   err_took = i ∙ ap Some (sym (append-nil e));
   status = refl;
 }
+
+pub returns-in-Ok-clause-broken : goal.returns-in-Ok-clause-broken
+returns-in-Ok-clause-broken g c = λ left fails a is.
+    absurd (⊎_elim (λ h. omega (arith, h, c.in-Ok.ensures.cause)) (λ h. omega (arith, h)) fails)
+
+pub returns-in-Err-clause-broken : goal.returns-in-Err-clause-broken
+returns-in-Err-clause-broken g c = λ left fails a is.
+    broken_text c.args.text.now a left _ _ _ _ _ _ _ is c.in-Err.ensures.bytes c.refuse.ensures.says

@@ -1,0 +1,33 @@
+use Rattle.std.proofs.Common.{rules, ◌<◌, ◌∙◌, [], ◌∷◌, sym, arith}
+use Rattle.heapsafe.proofs.Leaked.{all_begun, failed_begun, leak_is_above, one_begun}
+use Rattle.heapsafe.proofs.leaks.write_leaks.Goals as goal
+
+pub returns-in_err-leak_line-clause-bytes : goal.returns-in_err-leak_line-clause-bytes
+returns-in_err-leak_line-clause-bytes g c = λ places objects keeps leaks are.
+    failed_begun objects leaks c.lines.above c.in-Some.leak _ _ _ c.leak_line.result c.from_residual.result
+    (search rules) c.from_residual.ensures.0 (sym (c.leak.ensures places objects keeps) ∙ c.in-Some.is) c.leak_line.ensures.bytes
+    (c.lines.invariant.begun places objects keeps leaks are)
+
+pub lines-smaller : goal.lines-smaller
+lines-smaller g c =
+    let kept = c.requires.kept in
+    let above : c.lines.above < c.in-Some.leak.line = leak_is_above kept.1 c.lines.above c.in-Some.leak (sym (c.leak.ensures kept.0 kept.1 kept.2) ∙ c.in-Some.is) in
+    omega (arith, above)
+
+pub lines-preserved : goal.lines-preserved
+lines-preserved g c = record {
+  begun = λ places objects keeps leaks are.
+      one_begun objects leaks c.lines.above c.in-Some.leak _ _ _ (sym (c.leak.ensures places objects keeps) ∙ c.in-Some.is) c.in_ok-leak_line.ensures.bytes
+      (c.lines.invariant.begun places objects keeps leaks are);
+  all = λ places objects keeps more are.
+      c.lines.invariant.all places objects keeps (c.in-Some.leak ∷ more) (sym (c.leak.ensures places objects keeps) ∙ c.in-Some.is, are);
+  count = c.in_ok-leak_line.ensures.cause ∙ c.lines.invariant.count;
+}
+
+pub returns-clause-bytes : goal.returns-clause-bytes
+returns-clause-bytes g c = λ places objects keeps leaks are.
+    all_begun objects leaks c.lines.above _ _ (sym (c.leak.ensures places objects keeps) ∙ c.in_default.is) (c.lines.invariant.begun places objects keeps leaks are)
+
+pub returns-clause-all : goal.returns-clause-all
+returns-clause-all g c = λ places objects keeps.
+    c.lines.invariant.all places objects keeps [] (sym (c.leak.ensures places objects keeps) ∙ c.in_default.is)
