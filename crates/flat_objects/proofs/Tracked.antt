@@ -18,7 +18,7 @@ use Rattle.flat_objects.specs.Memory.{Memory, Heap, IsMemory, pin_room}
 use Rattle.flat_objects.specs.Standing.{IsThere}
 use Rattle.flat_objects.specs.Keeping.{Keeps, blocks_of}
 use Rattle.flat_objects.specs.Answering.{IsChanged}
-use Rattle.flat_objects.specs.Counting.{AreCounts, AreQueued, Frees, HasScopes, Tracks, living_pointers, pointers_in}
+use Rattle.flat_objects.specs.Counting.{AreCounts, AreQueued, Frees, Tracks, living_pointers, pointers_in}
 use Rattle.flat_objects.proofs.Blocks.{there_below}
 use Rattle.flat_objects.proofs.Changing.{SameShape, headers_same, shapes, with_bytes}
 use Rattle.flat_objects.proofs.Counted.{keeps_counting, leads_still, with_counts}
@@ -65,11 +65,6 @@ queued_still before after queue same are = record {
 }
 
 -- What a memory tracks
-
--- the queue and the open scopes among that
-pub scopes_tracked : (memory : Memory) (places : ℕ → ℕ) (objects : List Object) (frees : Frees) → Tracks memory places objects frees → HasScopes memory places objects frees.queue frees.scopes
-scopes_tracked memory places objects frees tracks =
-    record { queued = tracks.queued; links = tracks.links; open_scopes = tracks.open_scopes }
 
 -- objects of the same shapes stand in the same blocks, with the same headers
 pub tracks_kept : (memory next : Memory) (places : ℕ → ℕ) (objects after : List Object) (frees : Frees) → Tracks memory places objects frees → ((birth : ℕ) → SameShape (object_at objects birth) (object_at after birth)) → next.heap.base ≡ memory.heap.base → next.scopes ≡ memory.scopes → pin_room next ≡ pin_room memory
