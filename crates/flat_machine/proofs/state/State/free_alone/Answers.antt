@@ -1,6 +1,8 @@
-use Rattle.std.proofs.Common.{◌+◌, arith, refl, subst, sym, ◌∙◌}
+use Rattle.std.proofs.Common.{◌≡◌, ◌+◌, ℕ, Err, Ok, Result, arith, refl, subst, sym, ◌∙◌}
 use Rattle.hs_base.specs.declared.values.Pointer.TheVariants.{At}
 use Rattle.hs_base.specs.declared.ends.End.TheVariants as end
+use Rattle.hs_base.specs.declared.ends.Reason.{Reason}
+use Rattle.hs_base.specs.Freeing.{freed_at}
 use Rattle.code_meaning.specs.CodeState.{Next}
 use Rattle.flat_machine.specs.Standing.{frees_of}
 use Rattle.flat_machine.specs.Image.{StopsIn}
@@ -18,6 +20,10 @@ queue-requires c =
     let some = may_free q.0 q.1 m h c.args.addr (q.1.state.scopes + 1) c.open_scope.new.self.memory c.requires.address c.requires.some (omega arith) (c.open_scope.ensures.keeps q.0 q.1.state.objects h.keeps) (c.open_scope.ensures.tracks q.0 q.1.state.objects (frees_of m.pins q.1) h.tracks) in
     (q.0, q.1.state.objects, record (frees_of m.pins q.1) { scopes = q.1.state.scopes + 1 }, some.0, some.1, some.3)
 
+-- what may be freed is not refused
+both_ways : (x : Result ℕ Reason) (birth : ℕ) (why : Reason) → x ≡ Ok birth → x ≡ Err why → ⊥
+both_ways x birth why one other = cc
+
 pub may_free-requires-clause-kept : goal.may_free-requires-clause-kept
 may_free-requires-clause-kept c =
     let q = c.requires.standing in
@@ -30,9 +36,9 @@ unreachable-requires c =
     let m = c.args.self.now in
     let h = q.2.stands in
     let some = may_free q.0 q.1 m h c.args.addr (q.1.state.scopes + 1) c.open_scope.new.self.memory c.requires.address c.requires.some (omega arith) (c.open_scope.ensures.keeps q.0 q.1.state.objects h.keeps) (c.open_scope.ensures.tracks q.0 q.1.state.objects (frees_of m.pins q.1) h.tracks) in
-    let to = leads_to q.0 q.1 m h c.args.addr c.requires.address c.requires.some in
+    let can = c.in_default.ensures q.0 q.1.state.objects some.0 some.1 (record { keeps = h.keeps; stands = some.3.at.stands }) in
     let a = c.in_default-queue.ensures.answer q.0 q.1.state.objects (record (frees_of m.pins q.1) { scopes = q.1.state.scopes + 1 }) some.0 some.1 some.3 in
-    ?
+    both_ways (freed_at q.1.state.objects some.0 some.1) some.0 c.in_default-queue.field-0.reason can a.0
 
 pub returns-in-Err-clause-alone : goal.returns-in-Err-clause-alone
 returns-in-Err-clause-alone c = λ code places s has h counts.
@@ -52,7 +58,7 @@ check-requires-clause-open c =
     let m = c.args.self.now in
     let h = q.2.stands in
     let some = may_free q.0 q.1 m h c.args.addr (q.1.state.scopes + 1) c.open_scope.new.self.memory c.requires.address c.requires.some (omega arith) (c.open_scope.ensures.keeps q.0 q.1.state.objects h.keeps) (c.open_scope.ensures.tracks q.0 q.1.state.objects (frees_of m.pins q.1) h.tracks) in
-    let a = c.in_default.ensures.answer q.0 q.1.state.objects (record (frees_of m.pins q.1) { scopes = q.1.state.scopes + 1 }) some.0 some.1 some.3 in
+    let a = c.in-Ok.ensures.answer q.0 q.1.state.objects (record (frees_of m.pins q.1) { scopes = q.1.state.scopes + 1 }) some.0 some.1 some.3 in
     omega (arith, a.2.tracks.open_scopes, h.tracks.open_scopes, c.requires.open)
 
 pub check-requires-clause-standing : goal.check-requires-clause-standing
@@ -61,9 +67,9 @@ check-requires-clause-standing c =
     let m = c.args.self.now in
     let h = q.2.stands in
     let some = may_free q.0 q.1 m h c.args.addr (q.1.state.scopes + 1) c.open_scope.new.self.memory c.requires.address c.requires.some (omega arith) (c.open_scope.ensures.keeps q.0 q.1.state.objects h.keeps) (c.open_scope.ensures.tracks q.0 q.1.state.objects (frees_of m.pins q.1) h.tracks) in
-    let same = same_but m c.open_scope.new.self c.queue.new.self c.open_scope.ensures.others c.in_default.ensures.others in
-    let frame = frame_more m.memory c.open_scope.new.self.memory c.queue.new.self.memory c.open_scope.ensures.frame c.in_default.ensures.frame in
-    let a = c.in_default.ensures.answer q.0 q.1.state.objects (record (frees_of m.pins q.1) { scopes = q.1.state.scopes + 1 }) some.0 some.1 some.3 in (
+    let same = same_but m c.open_scope.new.self c.queue.new.self c.open_scope.ensures.others c.in-Ok.ensures.others in
+    let frame = frame_more m.memory c.open_scope.new.self.memory c.queue.new.self.memory c.open_scope.ensures.frame c.in-Ok.ensures.frame in
+    let a = c.in-Ok.ensures.answer q.0 q.1.state.objects (record (frees_of m.pins q.1) { scopes = q.1.state.scopes + 1 }) some.0 some.1 some.3 in (
       q.0,
       queued_state q.0 q.1 m h c.args.line some.0 some.1 some.2 a.0 a.1 (q.1.state.scopes + 1) c.queue.new.self.memory a.2 c.queue.new.self same frame,
       record {
@@ -73,24 +79,24 @@ check-requires-clause-standing c =
       },
     )
 
-pub returns-in-Ok-clause-alone : goal.returns-in-Ok-clause-alone
-returns-in-Ok-clause-alone c = λ code places s has h counts.
+pub returns-in-Ok-check-clause-alone : goal.returns-in-Ok-check-clause-alone
+returns-in-Ok-check-clause-alone c = λ code places s has h counts.
     let m = c.args.self.now in
     let some = may_free places s m h c.args.addr (s.state.scopes + 1) c.open_scope.new.self.memory c.requires.address c.requires.some (omega arith) (c.open_scope.ensures.keeps places s.state.objects h.keeps) (c.open_scope.ensures.tracks places s.state.objects (frees_of m.pins s) h.tracks) in
-    let same = same_but m c.open_scope.new.self c.queue.new.self c.open_scope.ensures.others c.in_default.ensures.others in
-    let frame = frame_more m.memory c.open_scope.new.self.memory c.queue.new.self.memory c.open_scope.ensures.frame c.in_default.ensures.frame in
-    let a = c.in_default.ensures.answer places s.state.objects (record (frees_of m.pins s) { scopes = s.state.scopes + 1 }) some.0 some.1 some.3 in
+    let same = same_but m c.open_scope.new.self c.queue.new.self c.open_scope.ensures.others c.in-Ok.ensures.others in
+    let frame = frame_more m.memory c.open_scope.new.self.memory c.queue.new.self.memory c.open_scope.ensures.frame c.in-Ok.ensures.frame in
+    let a = c.in-Ok.ensures.answer places s.state.objects (record (frees_of m.pins s) { scopes = s.state.scopes + 1 }) some.0 some.1 some.3 in
     let none = sym h.tracks.open_scopes ∙ c.requires.open in
-    let goes = c.in-Ok.ensures.checks code s.numbers s.state places (queued_state places s m h c.args.line some.0 some.1 some.2 a.0 a.1 (s.state.scopes + 1) c.queue.new.self.memory a.2 c.queue.new.self same frame) (mid_has places s m h c.args.line some.0 some.1 some.2 a.0 a.1 (s.state.scopes + 1) c.queue.new.self.memory a.2 c.queue.new.self same frame code has) (mid_stands places s m h c.args.line some.0 some.1 some.2 a.0 a.1 (s.state.scopes + 1) c.queue.new.self.memory a.2 c.queue.new.self same frame) (mid_counts places s m h c.args.line some.0 some.1 some.2 a.0 a.1 (s.state.scopes + 1) c.queue.new.self.memory a.2 c.queue.new.self same frame counts) in
+    let goes = c.in-Ok-check.ensures.checks code s.numbers s.state places (queued_state places s m h c.args.line some.0 some.1 some.2 a.0 a.1 (s.state.scopes + 1) c.queue.new.self.memory a.2 c.queue.new.self same frame) (mid_has places s m h c.args.line some.0 some.1 some.2 a.0 a.1 (s.state.scopes + 1) c.queue.new.self.memory a.2 c.queue.new.self same frame code has) (mid_stands places s m h c.args.line some.0 some.1 some.2 a.0 a.1 (s.state.scopes + 1) c.queue.new.self.memory a.2 c.queue.new.self same frame) (mid_counts places s m h c.args.line some.0 some.1 some.2 a.0 a.1 (s.state.scopes + 1) c.queue.new.self.memory a.2 c.queue.new.self same frame counts) in
     free_goes places s m h c.args.line some.0 some.1 some.2 a.0 a.1 (s.state.scopes + 1) c.queue.new.self.memory a.2 c.queue.new.self same frame code (omega (arith, none)) none c.check.new.self goes
 
 pub returns-in-Err-check-clause-alone : goal.returns-in-Err-check-clause-alone
 returns-in-Err-check-clause-alone c = λ code places s has h counts.
     let m = c.args.self.now in
     let some = may_free places s m h c.args.addr (s.state.scopes + 1) c.open_scope.new.self.memory c.requires.address c.requires.some (omega arith) (c.open_scope.ensures.keeps places s.state.objects h.keeps) (c.open_scope.ensures.tracks places s.state.objects (frees_of m.pins s) h.tracks) in
-    let same = same_but m c.open_scope.new.self c.queue.new.self c.open_scope.ensures.others c.in_default.ensures.others in
-    let frame = frame_more m.memory c.open_scope.new.self.memory c.queue.new.self.memory c.open_scope.ensures.frame c.in_default.ensures.frame in
-    let a = c.in_default.ensures.answer places s.state.objects (record (frees_of m.pins s) { scopes = s.state.scopes + 1 }) some.0 some.1 some.3 in
+    let same = same_but m c.open_scope.new.self c.queue.new.self c.open_scope.ensures.others c.in-Ok.ensures.others in
+    let frame = frame_more m.memory c.open_scope.new.self.memory c.queue.new.self.memory c.open_scope.ensures.frame c.in-Ok.ensures.frame in
+    let a = c.in-Ok.ensures.answer places s.state.objects (record (frees_of m.pins s) { scopes = s.state.scopes + 1 }) some.0 some.1 some.3 in
     let none = sym h.tracks.open_scopes ∙ c.requires.open in
     let fails = c.in-Err-check.ensures.checks code s.numbers s.state places (queued_state places s m h c.args.line some.0 some.1 some.2 a.0 a.1 (s.state.scopes + 1) c.queue.new.self.memory a.2 c.queue.new.self same frame) (mid_has places s m h c.args.line some.0 some.1 some.2 a.0 a.1 (s.state.scopes + 1) c.queue.new.self.memory a.2 c.queue.new.self same frame code has) (mid_stands places s m h c.args.line some.0 some.1 some.2 a.0 a.1 (s.state.scopes + 1) c.queue.new.self.memory a.2 c.queue.new.self same frame) (mid_counts places s m h c.args.line some.0 some.1 some.2 a.0 a.1 (s.state.scopes + 1) c.queue.new.self.memory a.2 c.queue.new.self same frame counts) in
     free_fails places s m h c.args.line some.0 some.1 some.2 a.0 a.1 (s.state.scopes + 1) c.queue.new.self.memory a.2 c.queue.new.self same frame code (omega (arith, none)) none c.check.new.self c.in-Err-check.bad c.in-Err-check.holder fails
@@ -99,9 +105,9 @@ pub returns-in-Err-check-clause-image : goal.returns-in-Err-check-clause-image
 returns-in-Err-check-clause-image c = λ code places s has h counts.
     let m = c.args.self.now in
     let some = may_free places s m h c.args.addr (s.state.scopes + 1) c.open_scope.new.self.memory c.requires.address c.requires.some (omega arith) (c.open_scope.ensures.keeps places s.state.objects h.keeps) (c.open_scope.ensures.tracks places s.state.objects (frees_of m.pins s) h.tracks) in
-    let same = same_but m c.open_scope.new.self c.queue.new.self c.open_scope.ensures.others c.in_default.ensures.others in
-    let frame = frame_more m.memory c.open_scope.new.self.memory c.queue.new.self.memory c.open_scope.ensures.frame c.in_default.ensures.frame in
-    let a = c.in_default.ensures.answer places s.state.objects (record (frees_of m.pins s) { scopes = s.state.scopes + 1 }) some.0 some.1 some.3 in
+    let same = same_but m c.open_scope.new.self c.queue.new.self c.open_scope.ensures.others c.in-Ok.ensures.others in
+    let frame = frame_more m.memory c.open_scope.new.self.memory c.queue.new.self.memory c.open_scope.ensures.frame c.in-Ok.ensures.frame in
+    let a = c.in-Ok.ensures.answer places s.state.objects (record (frees_of m.pins s) { scopes = s.state.scopes + 1 }) some.0 some.1 some.3 in
     let none = sym h.tracks.open_scopes ∙ c.requires.open in
     let image = c.in-Err-check.ensures.image code s.numbers s.state places (queued_state places s m h c.args.line some.0 some.1 some.2 a.0 a.1 (s.state.scopes + 1) c.queue.new.self.memory a.2 c.queue.new.self same frame) (mid_has places s m h c.args.line some.0 some.1 some.2 a.0 a.1 (s.state.scopes + 1) c.queue.new.self.memory a.2 c.queue.new.self same frame code has) (mid_stands places s m h c.args.line some.0 some.1 some.2 a.0 a.1 (s.state.scopes + 1) c.queue.new.self.memory a.2 c.queue.new.self same frame) (mid_counts places s m h c.args.line some.0 some.1 some.2 a.0 a.1 (s.state.scopes + 1) c.queue.new.self.memory a.2 c.queue.new.self same frame counts) in
     let is = free_checks places s m h c.args.line some.0 some.1 some.2 a.0 a.1 (s.state.scopes + 1) c.queue.new.self.memory a.2 c.queue.new.self same frame code (omega (arith, none)) none in
