@@ -1,4 +1,4 @@
-use Rattle.std.proofs.Common.{suc, ◌≡◌, ◌-◌, ◌^◌, ◌<◌, ◌≤◌, ℕ, [], arith, ap, refl, subst, sym, ◌∙◌}
+use Rattle.std.proofs.Common.{suc, ◌≡◌, ◌^◌, ◌<◌, ◌≤◌, [], arith, ap, subst, sym, ◌∙◌}
 use Rattle.std.specs.Prelude.{Some}
 use Rattle.flat_code.specs.declared.program.Entry.{Entry}
 use Rattle.code_meaning.specs.Entering.{cost_of}

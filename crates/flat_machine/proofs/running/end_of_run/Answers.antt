@@ -1,4 +1,4 @@
-use Rattle.std.proofs.Common.{◌≡◌, ◌-◌, ℕ, [], ◌++◌, ap, refl, subst, sym, ◌∙◌}
+use Rattle.std.proofs.Common.{[], ◌++◌, refl, ◌∙◌}
 use Rattle.hs_base.specs.Trace.{bytes_out}
 use Rattle.flat_machine.proofs.Lasting.{left_end}
 use Rattle.flat_machine.proofs.Inputs.{good_input, good_more}
