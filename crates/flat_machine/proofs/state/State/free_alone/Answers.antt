@@ -1,15 +1,13 @@
-use Rattle.std.proofs.Common.{◌≡◌, ◌+◌, ℕ, Err, Ok, Result, arith, refl, subst, sym, ◌∙◌}
+use Rattle.std.proofs.Common.{◌≡◌, ◌+◌, ℕ, Err, Ok, Result, arith, refl, sym, ◌∙◌}
 use Rattle.hs_base.specs.declared.values.Pointer.TheVariants.{At}
 use Rattle.hs_base.specs.declared.ends.End.TheVariants as end
 use Rattle.hs_base.specs.declared.ends.Reason.{Reason}
 use Rattle.hs_base.specs.Freeing.{freed_at}
-use Rattle.code_meaning.specs.CodeState.{Next}
 use Rattle.flat_machine.specs.Standing.{frees_of}
-use Rattle.flat_machine.specs.Image.{StopsIn}
 use Rattle.flat_machine.proofs.Placing.{frame_more}
 use Rattle.flat_machine.proofs.Grown.{leads_to}
 use Rattle.flat_machine.proofs.Halted.{refused_image}
-use Rattle.flat_machine.proofs.Frees.{same_but, free_checks, may_free, free_refused, queued_state, mid_stands, mid_counts, mid_has, mid_room, free_goes, free_fails}
+use Rattle.flat_machine.proofs.Frees.{same_but, free_fails_in, may_free, free_refused, queued_state, mid_stands, mid_counts, mid_has, mid_room, free_goes, free_fails}
 use Rattle.flat_machine.proofs.state.State.free_alone.Goals as goal
 
 pub queue-requires : goal.queue-requires
@@ -110,5 +108,4 @@ returns-in-Err-check-clause-image c = λ code places s has h counts.
     let a = c.in-Ok.ensures.answer places s.state.objects (record (frees_of m.pins s) { scopes = s.state.scopes + 1 }) some.0 some.1 some.3 in
     let none = sym h.tracks.open_scopes ∙ c.requires.open in
     let image = c.in-Err-check.ensures.image code s.numbers s.state places (queued_state places s m h c.args.line some.0 some.1 some.2 a.0 a.1 (s.state.scopes + 1) c.queue.new.self.memory a.2 c.queue.new.self same frame) (mid_has places s m h c.args.line some.0 some.1 some.2 a.0 a.1 (s.state.scopes + 1) c.queue.new.self.memory a.2 c.queue.new.self same frame code has) (mid_stands places s m h c.args.line some.0 some.1 some.2 a.0 a.1 (s.state.scopes + 1) c.queue.new.self.memory a.2 c.queue.new.self same frame) (mid_counts places s m h c.args.line some.0 some.1 some.2 a.0 a.1 (s.state.scopes + 1) c.queue.new.self.memory a.2 c.queue.new.self same frame counts) in
-    let is = free_checks places s m h c.args.line some.0 some.1 some.2 a.0 a.1 (s.state.scopes + 1) c.queue.new.self.memory a.2 c.queue.new.self same frame code (omega (arith, none)) none in
-    subst (λ (n : Next). StopsIn code n c.check.new.self (end.BadFree c.in-Err-check.bad c.in-Err-check.holder)) (sym is) image
+    free_fails_in places s m h c.args.line some.0 some.1 some.2 a.0 a.1 (s.state.scopes + 1) c.queue.new.self.memory a.2 c.queue.new.self same frame code (omega (arith, none)) none c.check.new.self (end.BadFree c.in-Err-check.bad c.in-Err-check.holder) image
