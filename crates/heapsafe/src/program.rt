@@ -76,8 +76,8 @@ fn finish<E: Sink>(end: &End, core: &Core, file: &str, text: &[u8], err: &mut E)
 }
 
 /// Finds where the pointers of a core count, makes its code, loads it, and runs it: its end, and the machine behind it, which
-/// tells its steps and, behind an exit, its leaks; its image agrees with the last state of the cut run. Memory may be wanted before the first instruction alone: then the input and
-/// the output are as before.
+/// tells its steps and, behind an exit, its leaks. The image of the machine agrees with the last state of the core's cut run.
+/// Memory may be wanted before the first instruction alone: then the input and the output are as before.
 pub(crate) fn run_code<I: Source, O: Sink>(
     alloc: Global,
     core: &Core,
