@@ -1,9 +1,13 @@
 -- The cut run of a core's code ends in the state in which the cut run of the core ends, but for points.
-use Rattle.std.proofs.Common.{◌≡◌, ℕ, zero, suc, ◌+◌, ◌-◌, cond, List, [], ◌∷◌, ◌++◌, Option, Some, None, refl, sym, ap, ◌∙◌, subst}
+use Rattle.std.proofs.Common.{◌≡◌, ℕ, zero, suc, ◌+◌, ◌-◌, cond, List, [], ◌∷◌, ◌++◌, length, Option, Some, None, refl, sym, ap, ◌∙◌, subst}
 use Rattle.hs_base.specs.declared.ends.End.{End}
 use Rattle.hs_base.specs.declared.ends.End.TheVariants as end
 use Rattle.hs_base.specs.Object.{Object}
-use Rattle.hs_base.specs.State.{State}
+use Rattle.hs_base.specs.declared.values.Pointer.{Pointer}
+use Rattle.hs_base.specs.declared.values.Value.{Value}
+use Rattle.hs_base.specs.Freeing.{pointers_to}
+use Rattle.hs_base.specs.State.{Frame, State}
+use Rattle.std.specs.List.{AllZip}
 use Rattle.hs_base.specs.Trace.{Event, Ending}
 use Rattle.hs_base.specs.Cut.{Room, fits}
 use Rattle.hs_base.specs.Runs.{Next, Goes, Stops, Ran, fresh, led, moved, after, tested}
@@ -19,11 +23,16 @@ use Rattle.code_meaning.specs.CodeState.{CodeState}
 use Rattle.code_meaning.specs.CodeMeaning as code_meaning
 use Rattle.compiled_code.specs.Compiled.{IsCompiled}
 use Rattle.compiled_code.specs.Sites.{AreAscending}
-use Rattle.compiled_meaning.specs.SameRun.{SameState}
+use Rattle.compiled_meaning.specs.SameRun.{SameFrame, SameFrames, SameState}
+use Rattle.counts_are_holders.specs.Counts.{inside_living, in_pins}
 use Rattle.compiled_meaning.specs.Testing.{tested_core, tested_code}
 use Rattle.compiled_meaning.specs.Laws.{TestedCodeMeansCore}
-use Rattle.flat_objects.specs.Memory.{Memory}
 use Rattle.flat_objects.specs.Keeping.{Keeps}
+use Rattle.flat_objects.specs.Counting.{Frees, HasScopes, Tracks, living_pointers}
+use Rattle.flat_machine.specs.Kept.{Kept, Frame as Call}
+use Rattle.flat_machine.specs.Standing.{IsRegister, frees_of}
+use Rattle.flat_machine.specs.Image as image
+use Rattle.flat_machine.specs.Image.{Agrees, IsCallOf}
 use Rattle.flat_machine.specs.Lasting as machine
 use Rattle.flat_codegen.specs.Lasting as core_runs
 use Rattle.flat_codegen.specs.Lasting.{no_room, cut_run}
@@ -71,6 +80,40 @@ module _ {S : Type 0} (room : Room) (step : List Event → S → Next S Event En
       let p = after step (fresh s) k in
       let whole : (q : Ran S Event Ending) → q.ended ≡ None → q ≡ going q.trace q.state = λ q i. ap (λ o. let r : Ran S Event Ending = record { trace = q.trace; ended = o; state = q.state } in r) i in
       by_end p (after cut_step (fresh s) k) p.ended refl trace now h w (λ v i. same_while s k p.trace p.state (whole p i) v ∙ sym (whole p i))
+
+-- States that are the same but for points have the same image
+
+module _ (places : ℕ → ℕ) (objects all : List Object) (same : objects ≡ all) where
+  call_same : (one other : Frame) → SameFrame one other → (call : Call) → IsCallOf places all other call → IsCallOf places objects one call
+  call_same one other alike call h = record {
+    func = h.func ∙ sym alike.func;
+    registers = subst (λ (os : List Object). AllZip (IsRegister places os) one.regs call.words) (sym same) (subst (λ (regs : List Value). AllZip (IsRegister places all) regs call.words) (sym alike.regs) h.registers);
+  }
+
+  calls_same : (frames others : List Frame) → SameFrames frames others → (calls : List Call) → AllZip (IsCallOf places all) others calls → AllZip (IsCallOf places objects) frames calls
+  calls_same [] [] alike [] zip = tt
+  calls_same [] [] alike (call ∷ calls) zip = absurd zip
+  calls_same [] (other ∷ others) alike calls zip = absurd alike
+  calls_same (frame ∷ frames) [] alike calls zip = absurd alike
+  calls_same (frame ∷ frames) (other ∷ others) alike [] zip = absurd zip
+  calls_same (frame ∷ frames) (other ∷ others) alike (call ∷ calls) zip =
+      (call_same frame other alike.0 call zip.0, calls_same frames others alike.1 calls zip.1)
+
+module _ (one other : State) (same : SameState one other) (places : ℕ → ℕ) (kept : Kept) where
+  agrees_same : Agrees places other kept → Agrees places one kept
+  agrees_same h = record {
+    keeps = subst (Keeps kept.memory places) (sym same.objects) h.keeps;
+    scopes = subst (λ (objects : List Object). HasScopes kept.memory places objects one.queue one.scopes) (sym same.objects) (subst (λ (queue : List ℕ). HasScopes kept.memory places other.objects queue one.scopes) (sym same.queue) (subst (HasScopes kept.memory places other.objects other.queue) (sym same.scopes) h.scopes));
+    births = h.births ∙ ap length (sym same.objects);
+    running = call_same places one.objects other.objects same.objects one.running other.running same.running kept.calls.running h.running;
+    waiting = calls_same places one.objects other.objects same.objects one.waiting other.waiting same.waiting kept.calls.waiting h.waiting;
+    steps = h.steps ∙ sym same.steps;
+  }
+
+  tracks_same : (beside : List Pointer) → Tracks kept.memory places other.objects (record { pins = beside; queue = other.queue; scopes = other.scopes }) → Tracks kept.memory places one.objects (record { pins = beside; queue = one.queue; scopes = one.scopes })
+  tracks_same beside h =
+      let frees = λ (queue : List ℕ) (scopes : ℕ). let f : Frees = record { pins = beside; queue = queue; scopes = scopes } in f in
+      subst (λ (objects : List Object). Tracks kept.memory places objects (frees one.queue one.scopes)) (sym same.objects) (subst (λ (queue : List ℕ). Tracks kept.memory places other.objects (frees queue one.scopes)) (sym same.queue) (subst (λ (scopes : ℕ). Tracks kept.memory places other.objects (frees other.queue scopes)) (sym same.scopes) h))
 
 -- The state in which the code's run ends
 
@@ -141,15 +184,52 @@ module _ (counts : TestedRunsAreCounted) (means : TestedCodeMeansCore) (core : C
   makes (end.OutOfHeap line) made h = by_last made h.0 h.1 h.2
   makes (end.OutOfStack line) made h = by_last made h.0 h.1 h.2
 
-  -- and leaves the same objects
-  pub leaves : (e : End) (memory : Memory) → machine.LeavesObjects code input n room e memory → core_runs.LeavesObjects core input n room e memory
-  leaves (end.Exit status) memory h =
-      (h.2, subst (λ (objects : List Object). Keeps memory h.2 objects) (sym (last_same h.0 h.1).objects) h.3)
-  leaves (end.Trap kind line) memory h = tt
-  leaves (end.BadFree why holder) memory h = tt
-  leaves (end.Escape func local line) memory h = tt
-  leaves end.Spent memory h = tt
-  leaves (end.OutOfHeap line) memory h = tt
-  leaves (end.OutOfStack line) memory h = tt
-  leaves end.InputFault memory h = tt
-  leaves end.OutputFault memory h = tt
+  -- the numbers of that state are those of the code's
+  last_numbers : (last : CodeState) → machine.EndsIn code input n room last → (birth : ℕ) → let s = (cut_run core input n room).state in last.numbers birth ≡ inside_living birth s.objects + in_pins pins birth s.waiting
+  last_numbers last ends birth =
+      let both = means core pins code sound exact ascending compiled (fits room) no_room input n in
+      let there = last_is code input n room last ends both.0 (sym both.2.ended ∙ both.1) in
+      let many = object.enough core (of_counted counts core pins sound exact input n room).state.state in
+      let count = (counts core pins sound exact (fits room) no_room input n many).numbers birth in
+      sym (both.2.numbers birth ∙ ap (λ (c : CodeState). c.numbers birth) there)
+      ∙ count
+      ∙ ap (λ (s : State). inside_living birth s.objects + in_pins pins birth s.waiting) (counted_last counts core pins sound exact input n room)
+
+  image_of : (e : End) (kept : Kept) (last : CodeState) → machine.EndsIn code input n room last → image.HasImage code last kept e → core_runs.HasImage pins (cut_run core input n room).state kept e
+  image_of e kept last ends h = let same = last_same last ends in record {
+    places = h.places;
+    agrees = agrees_same (cut_run core input n room).state last.state same h.places kept h.agrees;
+    counts = counts_of e h.counts;
+  } where
+    counts_core : image.CountsNumbers code h.places last kept → core_runs.CountsPointers pins h.places (cut_run core input n room).state kept
+    counts_core count =
+        let s = (cut_run core input n room).state in
+        let same = last_same last ends in
+        let beside = (frees_of kept.pins last).pins in record {
+          beside = beside;
+          tracks = tracks_same s last.state same h.places kept beside count.tracks;
+          numbers = λ birth. ap (λ (objects : List Object). pointers_to birth (living_pointers objects ++ beside)) same.objects ∙ sym (count.numbers birth) ∙ last_numbers last ends birth;
+        }
+
+    counts_of : (x : End) → image.CountsAt code h.places last kept x → core_runs.CountsAt pins h.places (cut_run core input n room).state kept x
+    counts_of (end.Exit status) count = counts_core count
+    counts_of (end.Trap kind line) count = counts_core count
+    counts_of (end.BadFree bad holder) count = tt
+    counts_of (end.Escape func local line) count = tt
+    counts_of end.Spent count = counts_core count
+    counts_of (end.OutOfHeap line) count = counts_core count
+    counts_of (end.OutOfStack line) count = counts_core count
+    counts_of end.InputFault count = counts_core count
+    counts_of end.OutputFault count = counts_core count
+
+  -- and the image agrees with it
+  pub leaves : (e : End) (kept : Kept) → machine.LeavesImage code input n room e kept → core_runs.LeavesImage core pins input n room e kept
+  leaves (end.Exit status) kept h = image_of (end.Exit status) kept h.0 h.1 h.2
+  leaves (end.Trap kind line) kept h = image_of (end.Trap kind line) kept h.0 h.1 h.2
+  leaves (end.BadFree bad holder) kept h = image_of (end.BadFree bad holder) kept h.0 h.1 h.2
+  leaves (end.Escape func local line) kept h = image_of (end.Escape func local line) kept h.0 h.1 h.2
+  leaves end.Spent kept h = image_of end.Spent kept h.0 h.1 h.2
+  leaves (end.OutOfHeap line) kept h = image_of (end.OutOfHeap line) kept h.0 h.1 h.2
+  leaves (end.OutOfStack line) kept h = image_of (end.OutOfStack line) kept h.0 h.1 h.2
+  leaves end.InputFault kept h = tt
+  leaves end.OutputFault kept h = tt

@@ -1,15 +1,21 @@
--- How many steps the run of a core makes that is cut by the heap and the stack, and which objects it leaves.
-use Rattle.std.specs.Prelude.{◌≡◌, ◌-◌, ℕ, List, [], unwrap_or}
+-- How many steps the run of a core makes that is cut by the heap and the stack, and what it leaves.
+use Rattle.std.specs.Prelude.{◌≡◌, ◌+◌, ◌-◌, ◌++◌, ℕ, List, [], unwrap_or}
 use Rattle.hs_base.specs.declared.ends.End.{End}
 use Rattle.hs_base.specs.declared.ends.End.TheVariants as end
+use Rattle.hs_base.specs.declared.values.Pointer.{Pointer}
+use Rattle.hs_base.specs.Freeing.{pointers_to}
+use Rattle.hs_base.specs.State.{State}
 use Rattle.hs_base.specs.Trace.{Event, Ending, Dangling}
 use Rattle.hs_base.specs.Cut.{Room, fits, refused_ending}
 use Rattle.hs_base.specs.Runs.{led, after, tested}
 use Rattle.core_tree.specs.declared.program.Core.{Core}
 use Rattle.object_meaning.specs.Going.{Next}
 use Rattle.object_meaning.specs.Meaning.{Run, first_call, step, enough}
-use Rattle.flat_objects.specs.Memory.{Memory}
-use Rattle.flat_objects.specs.Keeping.{Keeps}
+use Rattle.counted_meaning.specs.Pinning.{Pins}
+use Rattle.counts_are_holders.specs.Counts.{inside_living, in_pins}
+use Rattle.flat_objects.specs.Counting.{Tracks, living_pointers}
+use Rattle.flat_machine.specs.Kept.{Kept}
+use Rattle.flat_machine.specs.Image.{Agrees}
 
 -- how a run ends at an event for which there is no room
 abbrev pub no_room : Event → Ending
@@ -33,9 +39,27 @@ MakesSteps core input n room end.InputFault made = Unit {0}
 MakesSteps core input n room end.OutputFault made = Unit {0}
 MakesSteps core input n room e made = made ≡ n - (cut_run core input n room).state.steps
 
--- where the run ended by an exit or a return from main, the memory keeps the objects of that last state; at every other end nothing
--- is said
-abbrev pub LeavesObjects : Core → List ℕ → ℕ → Room → End → Memory → Type 0
-LeavesObjects core input n room (end.Exit status) memory =
-    (places : ℕ → ℕ) × Keeps memory places (cut_run core input n room).state.objects
-LeavesObjects core input n room e memory = Unit {0}
+-- the machine counts the pointers in the slots of objects that are not dead, and some beside them: to each object lead as many as there
+-- are in such slots and in pinned registers of frames that wait
+pub record CountsPointers (pins : Pins) (places : ℕ → ℕ) (s : State) (kept : Kept) : Type 0 where
+  pub beside : List Pointer
+  pub tracks : Tracks kept.memory places s.objects (record { pins = beside; queue = s.queue; scopes = s.scopes })
+  pub numbers : (birth : ℕ) → pointers_to birth (living_pointers s.objects ++ beside) ≡ inside_living birth s.objects + in_pins pins birth s.waiting
+
+-- behind a bad free or an escape the counts are of no more use
+abbrev pub CountsAt : Pins → (ℕ → ℕ) → State → Kept → End → Type 0
+CountsAt pins places s kept (end.BadFree bad holder) = Unit {0}
+CountsAt pins places s kept (end.Escape func local line) = Unit {0}
+CountsAt pins places s kept e = CountsPointers pins places s kept
+
+-- at an end the image of the machine agrees with a state of the meaning, and its counts are the numbers of that state
+pub record HasImage (pins : Pins) (s : State) (kept : Kept) (e : End) : Type 0 where
+  pub places : ℕ → ℕ
+  pub agrees : Agrees places s kept
+  pub counts : CountsAt pins places s kept e
+
+-- so it does with the last state of the run; where the input or the output failed nothing is said
+abbrev pub LeavesImage : Core → Pins → List ℕ → ℕ → Room → End → Kept → Type 0
+LeavesImage core pins input n room end.InputFault kept = Unit {0}
+LeavesImage core pins input n room end.OutputFault kept = Unit {0}
+LeavesImage core pins input n room e kept = HasImage pins (cut_run core input n room).state kept e

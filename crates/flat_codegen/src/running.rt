@@ -8,9 +8,9 @@ ghost use Rattle.core_tree.specs.Sound.{IsSound};
 ghost use Rattle.core_tree.specs.declared.program.Core.{Core};
 ghost use Rattle.counted_meaning.specs.Pinning.{AreExact, Pins};
 ghost use Rattle.flat_code.specs.WellFormed.{IsWellFormed};
-ghost use Rattle.flat_codegen.specs.Lasting.{LeavesObjects, MakesSteps};
+ghost use Rattle.flat_codegen.specs.Lasting.{LeavesImage, MakesSteps};
 ghost use Rattle.flat_codegen.specs.Running.{RunAnswers};
-ghost use Rattle.flat_machine.specs.Lasting.{LeavesSome};
+ghost use Rattle.flat_objects.specs.Leaks.{KeepsSome};
 ghost use Rattle.flat_machine.specs.Machined.{IsOf, steps_made};
 ghost use Rattle.flat_machine.specs.Running.{RunCounts};
 
@@ -25,9 +25,11 @@ use hs_base::{End, Sink, Source};
 /// the heap or the stack has no room, takes exactly the bytes that it reads, and answers its end, or that of that event. All
 /// output is put before a byte of input is asked for and before the run ends. It ends by a fault of the input or the output
 /// exactly where that object failed in this call. [`Machine::steps_made`] tells how many steps it made: `budget` less those that
-/// are left in the last state of the core's run, cut so. Where it ends by a call of `exit` or a return from main, the machine keeps
-/// the objects of that state, and [`Machine::leak`] tells which of the heap are not dead. A machine that has ended answers the same
-/// end again, and touches nothing.
+/// are left in the last state of the core's run, cut so. At every other end the image of the machine agrees with that state, but for
+/// the points of its frames: objects with their bytes, pointers and headers, the queue and the open scopes, the calls with their
+/// registers, births and steps; and unless the end is a bad free or an escape, the machine counts the pointers to each object that
+/// are in slots of objects that are not dead and in registers that are live behind a call that waits. [`Machine::leak`] tells which
+/// objects of the heap are left then. A machine that has ended answers the same end again, and touches nothing.
 pub fn execute<I: Source, O: Sink>(
     machine: &mut Machine,
     code: &Code,
@@ -43,8 +45,8 @@ pub fn execute<I: Source, O: Sink>(
     requires out { O.faults out.old + 1 < 2 ^ 64 }
     ensures told { machine.old.ended ≡ None → (core : Core) (pins : Pins) → IsSound core → AreExact core pins → AreAscending pins → IsCompiled core pins code.now → (left taken : List ℕ) → I.left input.old ≡ Some left → O.taken out.old ≡ Some taken → RunAnswers core left budget (record { heap = machine.old.kept.memory.heap.len; stack = machine.old.stack }) taken result (I.left input.new) (O.taken out.new) }
     ensures made { machine.old.ended ≡ None → (core : Core) (pins : Pins) → IsSound core → AreExact core pins → AreAscending pins → IsCompiled core pins code.now → (left taken : List ℕ) → I.left input.old ≡ Some left → O.taken out.old ≡ Some taken → MakesSteps core left budget (record { heap = machine.old.kept.memory.heap.len; stack = machine.old.stack }) result (steps_made machine.new) }
-    ensures kept { machine.old.ended ≡ None → LeavesSome result machine.new.kept.memory }
-    ensures left { machine.old.ended ≡ None → (core : Core) (pins : Pins) → IsSound core → AreExact core pins → AreAscending pins → IsCompiled core pins code.now → (left taken : List ℕ) → I.left input.old ≡ Some left → O.taken out.old ≡ Some taken → LeavesObjects core left budget (record { heap = machine.old.kept.memory.heap.len; stack = machine.old.stack }) result machine.new.kept.memory }
+    ensures kept { machine.old.ended ≡ None → KeepsSome machine.new.kept.memory }
+    ensures left { machine.old.ended ≡ None → (core : Core) (pins : Pins) → IsSound core → AreExact core pins → AreAscending pins → IsCompiled core pins code.now → (left taken : List ℕ) → I.left input.old ≡ Some left → O.taken out.old ≡ Some taken → LeavesImage core pins left budget (record { heap = machine.old.kept.memory.heap.len; stack = machine.old.stack }) result machine.new.kept }
     ensures faults { machine.old.ended ≡ None → RunCounts result (I.faults input.old) (I.faults input.new) (O.faults out.old) (O.faults out.new) }
     ensures ends { machine.new.ended ≡ Some result }
     ensures loaded { IsOf code.now machine.new }

@@ -4,7 +4,6 @@ pub mod WordLists
 pub mod Stales
 pub mod Stays
 pub mod Owned
-pub mod EndedObjects
 pub mod Ends
 pub mod Pins
 pub mod Holders
@@ -38,6 +37,6 @@ pub mod Placing
 pub mod Started
 pub mod Firsts
 pub mod Walked
-pub mod Spending
-pub mod Exits
+pub mod Image
+pub mod Halted
 pub mod Lasting

@@ -7,11 +7,11 @@ pub mod Pinning
 pub mod Growing
 pub mod Holding
 pub mod Leading
-pub mod Exits
 pub mod Putting
 pub mod Writing
 pub mod Groups
 pub mod Loaded
+pub mod Image
 pub mod Well
 pub mod Running
 pub mod First

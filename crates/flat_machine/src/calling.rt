@@ -12,7 +12,8 @@ ghost use Rattle.code_meaning.specs.Returning.{give_back};
 ghost use Rattle.flat_machine.specs.Standing.{Stands};
 ghost use Rattle.flat_machine.specs.Pinning.{CountsWell, IsReturning, IsStanding};
 ghost use Rattle.flat_machine.specs.Leading.{Alone, HasAllLocals, MayCall, WaitsAtCall};
-ghost use Rattle.flat_machine.specs.Exits.{ExitsKept};
+ghost use Rattle.flat_machine.specs.Loaded.{HasPins};
+ghost use Rattle.flat_machine.specs.Image.{StopsIn};
 
 use crate::state::State;
 use crate::words::{address_in, integer_in};
@@ -51,7 +52,8 @@ impl State {
         requires here { slice_get code.now.funcs instr.b ≡ Some callee.now }
         requires may { MayCall code.now instr self.old }
         requires standing { IsStanding self.old }
-        ensures { (places : ℕ → ℕ) (c : CodeState) → Stands places c self.old → CountsWell self.old c → Alone places c self.old (act code.now line instr Op.Call c.handed c.numbers c.state) self.new result }
+        ensures alone { (places : ℕ → ℕ) (c : CodeState) → Stands places c self.old → CountsWell self.old c → Alone places c self.old (act code.now line instr Op.Call c.handed c.numbers c.state) self.new result }
+        ensures image { (places : ℕ → ℕ) (c : CodeState) → HasPins code.now self.old.pins → Stands places c self.old → CountsWell self.old c → IfErr result (StopsIn code.now (act code.now line instr Op.Call c.handed c.numbers c.state) self.new) }
     {
         if !self.take_step() {
             return Err(End::Spent);
@@ -72,7 +74,7 @@ impl State {
         requires locals { HasAllLocals code.now self.old.calls }
         requires returns { IsReturning self.old answer }
         ensures alone { (places : ℕ → ℕ) (c : CodeState) (v : Value) → Stands places c self.old → CountsWell self.old c → StandsFor places c.state.objects v answer → Alone places c self.old (give_back code.now line v c.numbers c.state) self.new result }
-        ensures exits { (places : ℕ → ℕ) (c : CodeState) (v : Value) → Stands places c self.old → CountsWell self.old c → StandsFor places c.state.objects v answer → IfErr result (ExitsKept places (give_back code.now line v c.numbers c.state) self.new.memory) }
+        ensures image { (places : ℕ → ℕ) (c : CodeState) (v : Value) → HasPins code.now self.old.pins → Stands places c self.old → CountsWell self.old c → StandsFor places c.state.objects v answer → IfErr result (StopsIn code.now (give_back code.now line v c.numbers c.state) self.new) }
     {
         if let Some(local) = self.end_locals(address_in(answer)) {
             return Err(End::Escape {

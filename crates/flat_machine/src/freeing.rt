@@ -1,7 +1,8 @@
 //! Instructions that free objects, and the scopes in which a free waits (this project's own: C99 7.20.3.2 leaves a pointer to a
 //! freed object indeterminate).
 
-ghost use Rattle.std.specs.Prelude.{◌≡◌, ◌+◌, ◌-◌, ◌<◌, ◌^◌, [], ℕ};
+ghost use Rattle.std.specs.Prelude.{◌≡◌, ◌+◌, ◌-◌, ◌<◌, ◌^◌, [], ℕ, IfErr};
+ghost use Rattle.hs_base.specs.declared.ends.End.TheVariants as end;
 ghost use Rattle.hs_base.specs.State.{State as Situation};
 ghost use Rattle.flat_code.specs.declared.program.Code.{Code as Program};
 ghost use Rattle.flat_code.specs.declared.instructions.Op.TheVariants as ops;
@@ -15,6 +16,7 @@ ghost use Rattle.flat_machine.specs.Standing.{Stands};
 ghost use Rattle.flat_machine.specs.Pinning.{CountsWell, IsStanding};
 ghost use Rattle.flat_machine.specs.Loaded.{HasPins};
 ghost use Rattle.flat_machine.specs.Groups.{IsFreeing};
+ghost use Rattle.flat_machine.specs.Image.{StopsIn};
 ghost use Rattle.flat_machine.specs.Leading.{Alone, Checks};
 
 use crate::state::State;
@@ -28,7 +30,8 @@ impl State {
         requires point { self.old.calls.running.point + 1 < 2 ^ 64 }
         requires open { self.old.memory.scopes.depth ≡ 1 }
         requires standing { IsStanding self.old }
-        ensures { (code : Program) (first : ℕ → ℕ) (before : Situation) (places : ℕ → ℕ) (c : CodeState) → HasPins code self.old.pins → Stands places c self.old → CountsWell self.old c → Checks places c self.old (checked code first before [] c.numbers c.state) self.new result }
+        ensures checks { (code : Program) (first : ℕ → ℕ) (before : Situation) (places : ℕ → ℕ) (c : CodeState) → HasPins code self.old.pins → Stands places c self.old → CountsWell self.old c → Checks places c self.old (checked code first before [] c.numbers c.state) self.new result }
+        ensures image { (code : Program) (first : ℕ → ℕ) (before : Situation) (places : ℕ → ℕ) (c : CodeState) → HasPins code self.old.pins → Stands places c self.old → CountsWell self.old c → IfErr result (λ held. StopsIn code (checked code first before [] c.numbers c.state) self.new (end.BadFree held.0 held.1)) }
     {
         self.pin();
         match self.close_scope() {
@@ -41,19 +44,24 @@ impl State {
         }
     }
 
-    /// Frees the object at an address where no scope is open: the free has one of its own.
+    /// Frees the object at an address where no scope is open: the free has one of its own, which a free that is bad does not
+    /// open.
     fn free_alone(&mut self, line: Line, addr: u32) -> Result<(), End>
         requires point { self.old.calls.running.point + 1 < 2 ^ 64 }
         requires open { self.old.memory.scopes.depth ≡ 0 }
         requires standing { IsStanding self.old }
         requires address { addr ≡ address_at self.old.handed 0 }
         requires some { 0 < addr }
-        ensures { (code : Program) (places : ℕ → ℕ) (c : CodeState) → HasPins code self.old.pins → Stands places c self.old → CountsWell self.old c → Alone places c self.old (free code line (pointer_at c.handed 0) c.numbers c.state) self.new result }
+        ensures alone { (code : Program) (places : ℕ → ℕ) (c : CodeState) → HasPins code self.old.pins → Stands places c self.old → CountsWell self.old c → Alone places c self.old (free code line (pointer_at c.handed 0) c.numbers c.state) self.new result }
+        ensures image { (code : Program) (places : ℕ → ℕ) (c : CodeState) → HasPins code self.old.pins → Stands places c self.old → CountsWell self.old c → IfErr result (StopsIn code (free code line (pointer_at c.handed 0) c.numbers c.state) self.new) }
     {
-        self.open_scope();
-        if let Err(bad) = self.queue(addr, line) {
-            return Err(End::BadFree(bad, None));
+        if let Err(reason) = self.may_free(addr) {
+            return Err(End::BadFree(BadFree { reason, line }, None));
         }
+        self.open_scope();
+        let Ok(()) = self.queue(addr, line) else {
+            unreachable!()
+        };
         match self.check() {
             Ok(()) => Ok(()),
             Err((bad, holder)) => Err(End::BadFree(bad, holder)),
@@ -67,7 +75,8 @@ impl State {
         requires standing { IsStanding self.old }
         requires address { addr ≡ address_at self.old.handed 0 }
         requires some { 0 < addr }
-        ensures { (code : Program) (places : ℕ → ℕ) (c : CodeState) → HasPins code self.old.pins → Stands places c self.old → CountsWell self.old c → Alone places c self.old (free code line (pointer_at c.handed 0) c.numbers c.state) self.new result }
+        ensures alone { (code : Program) (places : ℕ → ℕ) (c : CodeState) → HasPins code self.old.pins → Stands places c self.old → CountsWell self.old c → Alone places c self.old (free code line (pointer_at c.handed 0) c.numbers c.state) self.new result }
+        ensures image { (code : Program) (places : ℕ → ℕ) (c : CodeState) → HasPins code self.old.pins → Stands places c self.old → CountsWell self.old c → IfErr result (StopsIn code (free code line (pointer_at c.handed 0) c.numbers c.state) self.new) }
     {
         if let Err(bad) = self.queue(addr, line) {
             return Err(End::BadFree(bad, None));
@@ -81,7 +90,8 @@ impl State {
         requires point { self.old.calls.running.point + 1 < 2 ^ 64 }
         requires standing { IsStanding self.old }
         requires address { addr ≡ address_at self.old.handed 0 }
-        ensures { (code : Program) (places : ℕ → ℕ) (c : CodeState) → HasPins code self.old.pins → Stands places c self.old → CountsWell self.old c → Alone places c self.old (free code line (pointer_at c.handed 0) c.numbers c.state) self.new result }
+        ensures alone { (code : Program) (places : ℕ → ℕ) (c : CodeState) → HasPins code self.old.pins → Stands places c self.old → CountsWell self.old c → Alone places c self.old (free code line (pointer_at c.handed 0) c.numbers c.state) self.new result }
+        ensures image { (code : Program) (places : ℕ → ℕ) (c : CodeState) → HasPins code self.old.pins → Stands places c self.old → CountsWell self.old c → IfErr result (StopsIn code (free code line (pointer_at c.handed 0) c.numbers c.state) self.new) }
     {
         if addr == 0 {
             self.go_on();
@@ -99,7 +109,8 @@ impl State {
         requires point { self.old.calls.running.point + 1 < 2 ^ 64 }
         requires open { 0 < self.old.memory.scopes.depth }
         requires standing { IsStanding self.old }
-        ensures { (code : Program) (places : ℕ → ℕ) (c : CodeState) → HasPins code self.old.pins → Stands places c self.old → CountsWell self.old c → Alone places c self.old (leave code c.state.scopes c.numbers c.state) self.new result }
+        ensures alone { (code : Program) (places : ℕ → ℕ) (c : CodeState) → HasPins code self.old.pins → Stands places c self.old → CountsWell self.old c → Alone places c self.old (leave code c.state.scopes c.numbers c.state) self.new result }
+        ensures image { (code : Program) (places : ℕ → ℕ) (c : CodeState) → HasPins code self.old.pins → Stands places c self.old → CountsWell self.old c → IfErr result (StopsIn code (leave code c.state.scopes c.numbers c.state) self.new) }
     {
         if self.scopes() == 1 {
             return match self.check() {
@@ -119,7 +130,8 @@ impl State {
         requires deep { self.old.memory.scopes.depth < 2 ^ 64 - 1 }
         requires open { op ≡ ops.Leave → 0 < self.old.memory.scopes.depth }
         requires standing { IsStanding self.old }
-        ensures { (code : Program) (places : ℕ → ℕ) (c : CodeState) → HasPins code self.old.pins → Stands places c self.old → CountsWell self.old c → Alone places c self.old (act code line instr op c.handed c.numbers c.state) self.new result }
+        ensures alone { (code : Program) (places : ℕ → ℕ) (c : CodeState) → HasPins code self.old.pins → Stands places c self.old → CountsWell self.old c → Alone places c self.old (act code line instr op c.handed c.numbers c.state) self.new result }
+        ensures image { (code : Program) (places : ℕ → ℕ) (c : CodeState) → HasPins code self.old.pins → Stands places c self.old → CountsWell self.old c → IfErr result (StopsIn code (act code line instr op c.handed c.numbers c.state) self.new) }
     {
         match op {
             Op::Free => self.free(line, self.address(0)),

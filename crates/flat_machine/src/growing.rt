@@ -1,6 +1,6 @@
 //! Objects that grow (C99 7.20.3.4).
 
-ghost use Rattle.std.specs.Prelude.{◌≡◌, ◌+◌, ◌<◌, ◌^◌, ℕ, Some, slice_get};
+ghost use Rattle.std.specs.Prelude.{◌≡◌, ◌+◌, ◌<◌, ◌^◌, ℕ, IfErr, Some, slice_get};
 ghost use Rattle.c_types.specs.declared.layouts.Layout.{Layout};
 ghost use Rattle.adjusters.specs.ObjectSlots.{element_of};
 ghost use Rattle.flat_code.specs.declared.program.Code.{Code as Program};
@@ -15,7 +15,8 @@ ghost use Rattle.flat_machine.specs.Standing.{Stands};
 ghost use Rattle.flat_machine.specs.Pinning.{CountsWell};
 ghost use Rattle.flat_machine.specs.Loaded.{HasPins};
 ghost use Rattle.flat_machine.specs.Growing.{IsBefore, without_register};
-ghost use Rattle.flat_machine.specs.Leading.{Alone, MayMake};
+ghost use Rattle.flat_machine.specs.Image.{StopsIn};
+ghost use Rattle.flat_machine.specs.Leading.{Alone};
 
 use crate::making::size_in;
 use crate::state::State;
@@ -34,7 +35,8 @@ impl State {
         requires standing { IsBefore instr ops.Realloc self.old }
         requires address { from ≡ address_at self.old.handed 0 }
         requires some { 0 < from }
-        ensures { (code : Program) (element : Layout) (places : ℕ → ℕ) (c : CodeState) → HasPins code self.old.pins → Stands places c self.old → CountsWell self.old (without_register instr.a c) → slice_get self.old.memory.forms instr.b ≡ Some (element_of element) → Alone places c self.old (grow code line instr.a (pointer_at c.handed 0) size element c.numbers c.state) self.new result }
+        ensures alone { (code : Program) (element : Layout) (places : ℕ → ℕ) (c : CodeState) → HasPins code self.old.pins → Stands places c self.old → CountsWell self.old (without_register instr.a c) → slice_get self.old.memory.forms instr.b ≡ Some (element_of element) → Alone places c self.old (grow code line instr.a (pointer_at c.handed 0) size element c.numbers c.state) self.new result }
+        ensures image { (code : Program) (element : Layout) (places : ℕ → ℕ) (c : CodeState) → HasPins code self.old.pins → Stands places c self.old → CountsWell self.old (without_register instr.a c) → slice_get self.old.memory.forms instr.b ≡ Some (element_of element) → IfErr result (StopsIn code (grow code line instr.a (pointer_at c.handed 0) size element c.numbers c.state) self.new) }
     {
         if let Err(reason) = self.may_free(from) {
             return Err(End::BadFree(BadFree { reason, line }, None));
@@ -57,7 +59,8 @@ impl State {
         requires births { self.old.births + 1 < 2 ^ 64 }
         requires form { (element : Layout) × (slice_get self.old.memory.forms instr.b ≡ Some (element_of element)) }
         requires standing { IsBefore instr ops.Realloc self.old }
-        ensures { (code : Program) (places : ℕ → ℕ) (c : CodeState) → HasPins code self.old.pins → Stands places c self.old → CountsWell self.old (without_register instr.a c) → slice_get self.old.memory.forms instr.b ≡ Some (element_of (layout_in code instr.b)) → Alone places c self.old (act code line instr ops.Realloc c.handed c.numbers c.state) self.new result }
+        ensures alone { (code : Program) (places : ℕ → ℕ) (c : CodeState) → HasPins code self.old.pins → Stands places c self.old → CountsWell self.old (without_register instr.a c) → slice_get self.old.memory.forms instr.b ≡ Some (element_of (layout_in code instr.b)) → Alone places c self.old (act code line instr ops.Realloc c.handed c.numbers c.state) self.new result }
+        ensures image { (code : Program) (places : ℕ → ℕ) (c : CodeState) → HasPins code self.old.pins → Stands places c self.old → CountsWell self.old (without_register instr.a c) → slice_get self.old.memory.forms instr.b ≡ Some (element_of (layout_in code instr.b)) → IfErr result (StopsIn code (act code line instr ops.Realloc c.handed c.numbers c.state) self.new) }
     {
         let size = size_in(self.integer(1));
         let from = self.address(0);

@@ -6,7 +6,7 @@
 //! place in the heap (`hs_base/specs/Cut.antt`): the bytes written and read, and the end.
 //!
 //! [`Machine::load`] makes one before its first instruction: with the statics of the code in its memory, and with all memory that
-//! the run takes.
+//! the run takes. Behind a run its image agrees with the last state of the meaning (`specs/Image.antt`, `specs/Lasting.antt`).
 //!
 //! A word is a number or an address. `specs/Standing.antt` says which state of the meaning the machine stands for: its words
 //! stand for the values of that state, one by one, and its memory keeps the objects. Each instruction is proved over all

@@ -5,7 +5,7 @@ ghost use Rattle.flat_code.specs.WellFormed.{IsWellFormed};
 ghost use Rattle.code_soundness.specs.Laws.{HoldsBytes};
 ghost use Rattle.flat_machine.specs.Machined.{IsOf, steps_made};
 ghost use Rattle.flat_machine.specs.Running.{RunAnswers, RunCounts};
-ghost use Rattle.flat_machine.specs.Lasting.{LeavesObjects, LeavesSome, MakesSteps};
+ghost use Rattle.flat_machine.specs.Lasting.{LeavesImage, MakesSteps};
 ghost use Rattle.hs_base.specs.Object.{Object};
 ghost use Rattle.flat_objects.specs.Keeping.{Keeps};
 ghost use Rattle.flat_objects.specs.Leaks.{KeepsSome, leak_after};
@@ -54,8 +54,11 @@ impl Machine {
     /// bytes that the meaning of code writes before its first call that does not fit the stack or its first object that has no
     /// place in the heap, takes exactly the bytes that it reads, and answers its end, or the line of that call or object. It
     /// ends by a fault of the input or the output exactly where that object failed in this call. [`Machine::steps_made`] tells
-    /// how many steps it made. Where the run ends by a call of `exit` or a return from main, the memory keeps the objects of its
-    /// last state, of which [`Machine::leak`] tells. A machine that has ended answers the same end again, and touches nothing.
+    /// how many steps it made. At every other end the image of the machine agrees with the last state of the meaning, which for
+    /// a call that does not fit and an object that has no place is the one before it: objects with their bytes, pointers and
+    /// headers, the queue and the open scopes, the calls with their registers, each at its instruction, births and steps; and
+    /// the counts are the numbers of that state, unless the end is a bad free or an escape. Of what is left then
+    /// [`Machine::leak`] tells. A machine that has ended answers the same end again, and touches nothing.
     pub fn run<I: Source, O: Sink>(
         &mut self,
         code: &Code,
@@ -71,8 +74,8 @@ impl Machine {
         requires out { O.faults out.old + 1 < 2 ^ 64 }
         ensures told { self.old.ended ≡ None → (left taken : List ℕ) → I.left input.old ≡ Some left → O.taken out.old ≡ Some taken → RunAnswers code.now left budget (record { heap = self.old.kept.memory.heap.len; stack = self.old.stack }) taken result (I.left input.new) (O.taken out.new) }
         ensures made { self.old.ended ≡ None → (left taken : List ℕ) → I.left input.old ≡ Some left → O.taken out.old ≡ Some taken → MakesSteps code.now left budget (record { heap = self.old.kept.memory.heap.len; stack = self.old.stack }) result (steps_made self.new) }
-        ensures kept { self.old.ended ≡ None → LeavesSome result self.new.kept.memory }
-        ensures left { self.old.ended ≡ None → (left taken : List ℕ) → I.left input.old ≡ Some left → O.taken out.old ≡ Some taken → LeavesObjects code.now left budget (record { heap = self.old.kept.memory.heap.len; stack = self.old.stack }) result self.new.kept.memory }
+        ensures kept { self.old.ended ≡ None → KeepsSome self.new.kept.memory }
+        ensures left { self.old.ended ≡ None → (left taken : List ℕ) → I.left input.old ≡ Some left → O.taken out.old ≡ Some taken → LeavesImage code.now left budget (record { heap = self.old.kept.memory.heap.len; stack = self.old.stack }) result self.new.kept }
         ensures faults { self.old.ended ≡ None → RunCounts result (I.faults input.old) (I.faults input.new) (O.faults out.old) (O.faults out.new) }
         ensures ends { self.new.ended ≡ Some result }
         ensures loaded { IsOf code.now self.new }
@@ -97,8 +100,7 @@ impl Machine {
     /// Of the heap objects that are not dead, those with the least line of birth above a line (from 0 on, all lines): that line,
     /// how many objects they are, and the sum of their sizes in bytes; none where no such object was born above it. Objects that
     /// wait to be freed are among them. That they are told is this language's own (C99 7.20.3 lets a program end with objects
-    /// that it has not freed). Behind a run that ended by a call of `exit` or a return from main, these are the objects of its
-    /// last state.
+    /// that it has not freed). Behind a run these are the objects of its last state.
     pub fn leak(&self, after: Line) -> Option<Leak>
         requires { KeepsSome self.now.kept.memory }
         ensures { (places : ℕ → ℕ) (objects : List Object) → Keeps self.now.kept.memory places objects → result ≡ leak_after after objects }

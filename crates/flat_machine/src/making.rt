@@ -1,6 +1,6 @@
 //! Instructions that make objects of the heap (C99 7.20.3.1, 7.20.3.3).
 
-ghost use Rattle.std.specs.Prelude.{◌≡◌, ◌+◌, ◌<◌, ◌^◌, ℕ, Some, slice_get};
+ghost use Rattle.std.specs.Prelude.{◌≡◌, ◌+◌, ◌<◌, ◌^◌, ℕ, IfErr, Some, slice_get};
 ghost use Rattle.c_types.specs.declared.layouts.Layout.{Layout};
 ghost use Rattle.adjusters.specs.ObjectSlots.{element_of};
 ghost use Rattle.flat_code.specs.declared.program.Code.{Code as Program};
@@ -31,7 +31,8 @@ impl State {
     pub(crate) fn make(&mut self, line: Line, r: u32, size: u64, layout: u32) -> Result<(), End>
         requires point { self.old.calls.running.point + 1 < 2 ^ 64 }
         requires births { self.old.births + 1 < 2 ^ 64 }
-        ensures { (element : Layout) (places : ℕ → ℕ) (c : CodeState) → Stands places c self.old → slice_get self.old.memory.forms layout ≡ Some (element_of element) → Alone places c self.old (same_numbers c.numbers (make line r size element c.state)) self.new result }
+        ensures alone { (element : Layout) (places : ℕ → ℕ) (c : CodeState) → Stands places c self.old → slice_get self.old.memory.forms layout ≡ Some (element_of element) → Alone places c self.old (same_numbers c.numbers (make line r size element c.state)) self.new result }
+        ensures unchanged { IfErr result (λ _. self.new ≡ self.old) }
     {
         match self.new_object(size, layout, line) {
             Some(addr) => {
@@ -47,7 +48,8 @@ impl State {
         requires point { self.old.calls.running.point + 1 < 2 ^ 64 }
         requires making { IsMaking op }
         requires births { self.old.births + 1 < 2 ^ 64 }
-        ensures { (code : Program) (places : ℕ → ℕ) (c : CodeState) → Stands places c self.old → slice_get self.old.memory.forms instr.b ≡ Some (element_of (layout_in code instr.b)) → Alone places c self.old (act code line instr op c.handed c.numbers c.state) self.new result }
+        ensures alone { (code : Program) (places : ℕ → ℕ) (c : CodeState) → Stands places c self.old → slice_get self.old.memory.forms instr.b ≡ Some (element_of (layout_in code instr.b)) → Alone places c self.old (act code line instr op c.handed c.numbers c.state) self.new result }
+        ensures unchanged { IfErr result (λ _. self.new ≡ self.old) }
     {
         let size = size_in(self.integer(0));
         match op {

@@ -10,7 +10,6 @@ ghost use Rattle.flat_machine.specs.Words.{address_at};
 ghost use Rattle.flat_machine.specs.Standing.{Stands};
 ghost use Rattle.flat_machine.specs.Groups.{IsPlainLib};
 ghost use Rattle.flat_machine.specs.Leading.{Counted, Moves, Seen};
-ghost use Rattle.flat_machine.specs.Exits.{IsNoExit, OnlyExits};
 ghost use Rattle.code_soundness.specs.Objects.{IsByte};
 
 use crate::calling::byte_in;
@@ -27,7 +26,7 @@ impl State {
         requires kept { IsKept self.old.memory (address_at self.old.handed 0) }
         ensures told { (places : ℕ → ℕ) (c : CodeState) (taken : List ℕ) → Stands places c self.old → O.taken out.old ≡ Some taken → Seen places c self.old (same_numbers c.numbers (call_lib line libs.Puts r c.handed c.state)) c.state.input taken result self.new (Some c.state.input) (O.taken out.new) }
         ensures faults { (i : ℕ) → Counted result i i (O.faults out.old) (O.faults out.new) }
-        ensures no_exit { IfErr result IsNoExit }
+        ensures unchanged { IfErr result (λ _. self.new ≡ self.old) }
         ensures moves { (places : ℕ → ℕ) (c : CodeState) → Stands places c self.old → Moves self.old (same_numbers c.numbers (call_lib line libs.Puts r c.handed c.state)) self.new result }
     {
         match self.put_line(self.address(0), out) {
@@ -45,7 +44,7 @@ impl State {
         requires count { O.faults out.old + 1 < 2 ^ 64 }
         ensures told { (places : ℕ → ℕ) (c : CodeState) (taken : List ℕ) → Stands places c self.old → O.taken out.old ≡ Some taken → Seen places c self.old (same_numbers c.numbers (put_byte r (byte_in n) c.state)) c.state.input taken result self.new (Some c.state.input) (O.taken out.new) }
         ensures faults { (i : ℕ) → Counted result i i (O.faults out.old) (O.faults out.new) }
-        ensures no_exit { IfErr result IsNoExit }
+        ensures unchanged { IfErr result (λ _. self.new ≡ self.old) }
         ensures moves { (places : ℕ → ℕ) (c : CodeState) → Stands places c self.old → Moves self.old (same_numbers c.numbers (put_byte r (byte_in n) c.state)) self.new result }
     {
         let byte = byte_in(n);
@@ -64,7 +63,7 @@ impl State {
         requires count { I.faults input.old + 1 < 2 ^ 64 }
         ensures told { (places : ℕ → ℕ) (c : CodeState) (taken : List ℕ) → Stands places c self.old → I.left input.old ≡ Some c.state.input → Seen places c self.old (same_numbers c.numbers (get_byte r c.state.input c.state)) c.state.input taken result self.new (I.left input.new) (Some taken) }
         ensures faults { (o : ℕ) → Counted result (I.faults input.old) (I.faults input.new) o o }
-        ensures no_exit { IfErr result IsNoExit }
+        ensures unchanged { IfErr result (λ _. self.new ≡ self.old) }
         ensures moves { (places : ℕ → ℕ) (c : CodeState) → Stands places c self.old → (left : List ℕ) × All IsByte left × Moves self.old (same_numbers c.numbers (get_byte r left (with_input left c.state))) self.new result }
     {
         match input.next() {
@@ -96,7 +95,7 @@ impl State {
         requires out { O.faults out.old + 1 < 2 ^ 64 }
         ensures told { (places : ℕ → ℕ) (c : CodeState) (taken : List ℕ) → Stands places c self.old → I.left input.old ≡ Some c.state.input → O.taken out.old ≡ Some taken → Seen places c self.old (same_numbers c.numbers (call_lib line name r c.handed c.state)) c.state.input taken result self.new (I.left input.new) (O.taken out.new) }
         ensures faults { Counted result (I.faults input.old) (I.faults input.new) (O.faults out.old) (O.faults out.new) }
-        ensures exits { IfErr result (OnlyExits name self.old self.new) }
+        ensures unchanged { IfErr result (λ _. self.new ≡ self.old) }
         ensures moves { (places : ℕ → ℕ) (c : CodeState) → Stands places c self.old → (left : List ℕ) × All IsByte left × Moves self.old (same_numbers c.numbers (call_lib line name r c.handed (with_input left c.state))) self.new result }
     {
         match name {

@@ -16,7 +16,6 @@ ghost use Rattle.flat_objects.specs.Keeping.{KeepsAt, IsKept};
 ghost use Rattle.flat_machine.specs.Words.{address_at};
 ghost use Rattle.flat_machine.specs.Standing.{Stands};
 ghost use Rattle.flat_machine.specs.Leading.{Counted, Moves, Seen};
-ghost use Rattle.flat_machine.specs.Exits.{IsNoExit};
 ghost use Rattle.flat_machine.specs.Putting.{CountsPut, IsLengthOf, PutsText};
 ghost use Rattle.flat_machine.specs.Writing.{padded, padded_at, text_at, HasString, IsString, KeepsWords, PrintsString, PutsPrinted};
 
@@ -184,7 +183,7 @@ impl State {
         requires kept { (k : ℕ) → IsKept self.old.memory (address_at self.old.handed k) }
         ensures told { (places : ℕ → ℕ) (c : CodeState) (format taken : List ℕ) → Stands places c self.old → pieces.now ≡ pieces_of format → O.taken out.old ≡ Some taken → Seen places c self.old (same_numbers c.numbers (print_format line r format c.handed c.state)) c.state.input taken result self.new (Some c.state.input) (O.taken out.new) }
         ensures faults { (i : ℕ) → Counted result i i (O.faults out.old) (O.faults out.new) }
-        ensures no_exit { IfErr result IsNoExit }
+        ensures unchanged { IfErr result (λ _. self.new ≡ self.old) }
         ensures moves { (places : ℕ → ℕ) (c : CodeState) (format : List ℕ) → Stands places c self.old → pieces.now ≡ pieces_of format → Moves self.old (same_numbers c.numbers (print_format line r format c.handed c.state)) self.new result }
     {
         match self.put_pieces(pieces, out) {

@@ -18,7 +18,6 @@ ghost use Rattle.flat_machine.specs.Words.{address_at, integer_at};
 ghost use Rattle.flat_machine.specs.Standing.{Stands};
 ghost use Rattle.flat_machine.specs.Groups.{IsRanges, IsRangeLib};
 ghost use Rattle.flat_machine.specs.Leading.{Alone, Counted, Moves, Seen};
-ghost use Rattle.flat_machine.specs.Exits.{IsNoExit, OnlyExits};
 
 use crate::calling::byte_in;
 use crate::making::size_in;
@@ -42,7 +41,8 @@ impl State {
         requires point { self.old.calls.running.point + 1 < 2 ^ 64 }
         requires storable { IsStorable self.old.memory (address_at self.old.handed 0) (address_at self.old.handed 1) }
         requires small { bytes_in (integer_at self.old.handed 2) < 2 ^ 64 }
-        ensures { (code : Program) (instr : Instr) (places : ℕ → ℕ) (c : CodeState) → Stands places c self.old → Alone places c self.old (act code line instr ops.Copy c.handed c.numbers c.state) self.new result }
+        ensures alone { (code : Program) (instr : Instr) (places : ℕ → ℕ) (c : CodeState) → Stands places c self.old → Alone places c self.old (act code line instr ops.Copy c.handed c.numbers c.state) self.new result }
+        ensures unchanged { IfErr result (λ _. self.new ≡ self.old) }
     {
         let to = self.address(0);
         let from = self.address(1);
@@ -61,7 +61,8 @@ impl State {
         requires point { self.old.calls.running.point + 1 < 2 ^ 64 }
         requires settable { IsSettable self.old.memory (address_at self.old.handed 0) }
         requires small { bytes_in (integer_at self.old.handed 1) < 2 ^ 64 }
-        ensures { (code : Program) (instr : Instr) (places : ℕ → ℕ) (c : CodeState) → Stands places c self.old → Alone places c self.old (act code line instr ops.Clear c.handed c.numbers c.state) self.new result }
+        ensures alone { (code : Program) (instr : Instr) (places : ℕ → ℕ) (c : CodeState) → Stands places c self.old → Alone places c self.old (act code line instr ops.Clear c.handed c.numbers c.state) self.new result }
+        ensures unchanged { IfErr result (λ _. self.new ≡ self.old) }
     {
         let start = self.address(0);
         let n = bytes_in(self.integer(1));
@@ -81,7 +82,8 @@ impl State {
         requires storable { IsStorable self.old.memory (address_at self.old.handed 0) (address_at self.old.handed 1) }
         requires settable { IsSettable self.old.memory (address_at self.old.handed 0) }
         requires small { (k : ℕ) → bytes_in (integer_at self.old.handed k) < 2 ^ 64 }
-        ensures { (code : Program) (instr : Instr) (places : ℕ → ℕ) (c : CodeState) → Stands places c self.old → Alone places c self.old (act code line instr op c.handed c.numbers c.state) self.new result }
+        ensures alone { (code : Program) (instr : Instr) (places : ℕ → ℕ) (c : CodeState) → Stands places c self.old → Alone places c self.old (act code line instr op c.handed c.numbers c.state) self.new result }
+        ensures unchanged { IfErr result (λ _. self.new ≡ self.old) }
     {
         match op {
             Op::Copy => self.copy_range(line),
@@ -96,7 +98,7 @@ impl State {
         requires storable { IsStorable self.old.memory (address_at self.old.handed 0) (address_at self.old.handed 1) }
         ensures leads { (places : ℕ → ℕ) (c : CodeState) → Stands places c self.old → Alone places c self.old (other_numbers (behind_lib libs.Memcpy c.handed c.numbers) c.numbers (call_lib line libs.Memcpy r c.handed c.state)) self.new result }
         ensures faults { (i o : ℕ) → Counted result i i o o }
-        ensures no_exit { IfErr result IsNoExit }
+        ensures unchanged { IfErr result (λ _. self.new ≡ self.old) }
     {
         let to = self.address(0);
         let from = self.address(1);
@@ -115,7 +117,7 @@ impl State {
         requires settable { IsSettable self.old.memory (address_at self.old.handed 0) }
         ensures leads { (places : ℕ → ℕ) (c : CodeState) → Stands places c self.old → Alone places c self.old (other_numbers (behind_lib libs.Memset c.handed c.numbers) c.numbers (call_lib line libs.Memset r c.handed c.state)) self.new result }
         ensures faults { (i o : ℕ) → Counted result i i o o }
-        ensures no_exit { IfErr result IsNoExit }
+        ensures unchanged { IfErr result (λ _. self.new ≡ self.old) }
     {
         let start = self.address(0);
         let byte = byte_in(self.integer(1));
@@ -136,7 +138,7 @@ impl State {
         requires settable { IsSettable self.old.memory (address_at self.old.handed 0) }
         ensures leads { (places : ℕ → ℕ) (c : CodeState) → Stands places c self.old → Alone places c self.old (other_numbers (behind_lib name c.handed c.numbers) c.numbers (call_lib line name r c.handed c.state)) self.new result }
         ensures faults { (i o : ℕ) → Counted result i i o o }
-        ensures no_exit { IfErr result IsNoExit }
+        ensures unchanged { IfErr result (λ _. self.new ≡ self.old) }
     {
         match name {
             LibName::Memcpy => self.act_copy(line, r),
@@ -163,7 +165,7 @@ impl State {
         requires out { O.faults out.old + 1 < 2 ^ 64 }
         ensures told { (places : ℕ → ℕ) (c : CodeState) (taken : List ℕ) → Stands places c self.old → I.left input.old ≡ Some c.state.input → O.taken out.old ≡ Some taken → Seen places c self.old (other_numbers (behind_lib name c.handed c.numbers) c.numbers (call_lib line name r c.handed c.state)) c.state.input taken result self.new (I.left input.new) (O.taken out.new) }
         ensures faults { Counted result (I.faults input.old) (I.faults input.new) (O.faults out.old) (O.faults out.new) }
-        ensures exits { IfErr result (OnlyExits name self.old self.new) }
+        ensures unchanged { IfErr result (λ _. self.new ≡ self.old) }
         ensures moves { (places : ℕ → ℕ) (c : CodeState) → Stands places c self.old → (left : List ℕ) × All IsByte left × Moves self.old (other_numbers (behind_lib name c.handed c.numbers) c.numbers (call_lib line name r c.handed (with_input left c.state))) self.new result }
     {
         match name {

@@ -8,8 +8,8 @@ ghost use Rattle.flat_machine.specs.Loaded.{IsLoaded};
 ghost use Rattle.flat_machine.specs.Well.{IsWell};
 ghost use Rattle.flat_machine.specs.First.{IsFirst};
 ghost use Rattle.flat_machine.specs.Running.{Reached, RunAnswers, RunCounts};
-ghost use Rattle.flat_machine.specs.Exits.{IsNoExit};
-ghost use Rattle.flat_machine.specs.Lasting.{LeavesObjects, LeavesSome, MakesSteps, left_at};
+ghost use Rattle.flat_machine.specs.Lasting.{LeavesImage};
+ghost use Rattle.flat_objects.specs.Leaks.{KeepsSome};
 
 use crate::loaded::Loaded;
 use crate::state::State;
@@ -17,17 +17,6 @@ use crate::steps::one_step;
 use code_soundness::{run_begins_well, step_leaves_less, step_stays_good};
 use flat_code::Code;
 use hs_base::{End, Sink, Source};
-
-/// The steps left at an end, where so many were left before the last instruction: a call for which the stack has no room has
-/// taken its step.
-fn left_at(end: End, left: u64) -> u64
-    ensures { result ≡ left_at end left }
-{
-    match end {
-        End::OutOfStack(_) => left.saturating_sub(1),
-        _ => left,
-    }
-}
 
 /// Makes instructions until the run ends.
 pub(crate) fn end_of_run<I: Source, O: Sink>(
@@ -43,21 +32,16 @@ pub(crate) fn end_of_run<I: Source, O: Sink>(
     requires input { I.faults input.old + 1 < 2 ^ 64 }
     requires out { O.faults out.old + 1 < 2 ^ 64 }
     ensures told { (left : List ℕ) (n : ℕ) (room : Room) (taken : List ℕ) → state.old.calls.room ≡ room.stack → Reached code.now left n room taken state.old (I.left input.old) (O.taken out.old) → RunAnswers code.now left n room taken result (I.left input.new) (O.taken out.new) }
-    ensures made { (left : List ℕ) (n : ℕ) (room : Room) (taken : List ℕ) → state.old.calls.room ≡ room.stack → Reached code.now left n room taken state.old (I.left input.old) (O.taken out.old) → MakesSteps code.now left n room result (n - state.new.steps) }
-    ensures kept { LeavesSome result state.new.memory }
-    ensures left { (left : List ℕ) (n : ℕ) (room : Room) (taken : List ℕ) → state.old.calls.room ≡ room.stack → Reached code.now left n room taken state.old (I.left input.old) (O.taken out.old) → LeavesObjects code.now left n room result state.new.memory }
+    ensures kept { KeepsSome state.new.memory }
+    ensures left { (left : List ℕ) (n : ℕ) (room : Room) (taken : List ℕ) → state.old.calls.room ≡ room.stack → Reached code.now left n room taken state.old (I.left input.old) (O.taken out.old) → LeavesImage code.now left n room result state.new }
     ensures faults { RunCounts result (I.faults input.old) (I.faults input.new) (O.faults out.old) (O.faults out.new) }
 {
     step_stays_good();
     step_leaves_less();
     'instructions: loop {
-        let left = state.steps();
         match one_step(state, code, loaded, input, out) {
             Ok(()) => {}
-            Err(end) => {
-                state.allow(left_at(end, left));
-                return end;
-            }
+            Err(end) => return end,
         }
     }
 }
@@ -73,9 +57,9 @@ fn begin(state: &mut State, code: &Code, loaded: &Loaded, stack: u32) -> Result<
     ensures room { IfOk result (λ _. state.new.calls.room ≡ stack) }
     ensures reaches { IfOk result (λ _. (input : List ℕ) (n : ℕ) (room : Room) (taken : List ℕ) → n ≡ state.old.steps → room.stack ≡ stack → room.heap ≡ state.old.memory.heap.len → Reached code.now input n room taken state.new (Some input) (Some taken)) }
     ensures ends { IfErr result (λ e. (input : List ℕ) (n : ℕ) (room : Room) (taken : List ℕ) → n ≡ state.old.steps → room.stack ≡ stack → RunAnswers code.now input n room taken e (Some input) (Some taken)) }
-    ensures made { IfErr result (λ e. (input : List ℕ) (n : ℕ) (room : Room) → n ≡ state.old.steps → room.stack ≡ stack → MakesSteps code.now input n room e (n - state.new.steps)) }
+    ensures left { IfErr result (λ e. (input : List ℕ) (n : ℕ) (room : Room) → n ≡ state.old.steps → room.stack ≡ stack → LeavesImage code.now input n room e state.new) }
     ensures faults { IfErr result (λ e. (i o : ℕ) → RunCounts e i i o o) }
-    ensures no_exit { IfErr result IsNoExit }
+    ensures kept { IfErr result (λ _. KeepsSome state.new.memory) }
 {
     run_begins_well();
     let func = state.func() as usize;
@@ -117,9 +101,8 @@ pub(crate) fn whole_run<I: Source, O: Sink>(
     requires input { I.faults input.old + 1 < 2 ^ 64 }
     requires out { O.faults out.old + 1 < 2 ^ 64 }
     ensures told { (left : List ℕ) (n : ℕ) (room : Room) (taken : List ℕ) → n ≡ state.old.steps → room.stack ≡ stack → room.heap ≡ state.old.memory.heap.len → I.left input.old ≡ Some left → O.taken out.old ≡ Some taken → RunAnswers code.now left n room taken result (I.left input.new) (O.taken out.new) }
-    ensures made { (left : List ℕ) (n : ℕ) (room : Room) (taken : List ℕ) → n ≡ state.old.steps → room.stack ≡ stack → room.heap ≡ state.old.memory.heap.len → I.left input.old ≡ Some left → O.taken out.old ≡ Some taken → MakesSteps code.now left n room result (n - state.new.steps) }
-    ensures kept { LeavesSome result state.new.memory }
-    ensures left { (left : List ℕ) (n : ℕ) (room : Room) (taken : List ℕ) → n ≡ state.old.steps → room.stack ≡ stack → room.heap ≡ state.old.memory.heap.len → I.left input.old ≡ Some left → O.taken out.old ≡ Some taken → LeavesObjects code.now left n room result state.new.memory }
+    ensures kept { KeepsSome state.new.memory }
+    ensures left { (left : List ℕ) (n : ℕ) (room : Room) (taken : List ℕ) → n ≡ state.old.steps → room.stack ≡ stack → room.heap ≡ state.old.memory.heap.len → I.left input.old ≡ Some left → O.taken out.old ≡ Some taken → LeavesImage code.now left n room result state.new }
     ensures faults { RunCounts result (I.faults input.old) (I.faults input.new) (O.faults out.old) (O.faults out.new) }
 {
     match begin(state, code, loaded, stack) {

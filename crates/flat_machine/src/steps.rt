@@ -20,7 +20,7 @@ ghost use Rattle.flat_machine.specs.Loaded.{HasPins, IsLoaded};
 ghost use Rattle.flat_machine.specs.Pinning.{CountsWell, IsReturning, IsStanding};
 ghost use Rattle.flat_machine.specs.Well.{IsGoodSoFar, IsWell};
 ghost use Rattle.flat_machine.specs.Leading.{Alone, Counted, Moves, Seen, WaitsAtCall, HasAllLocals, HandsFresh, MayHand, MayMake, MayCall};
-ghost use Rattle.flat_machine.specs.Exits.{ExitsKept};
+ghost use Rattle.flat_machine.specs.Image.{StopsIn};
 
 use crate::calling::chosen;
 use crate::loaded::Loaded;
@@ -56,7 +56,8 @@ fn call(
     requires loaded { IsLoaded code.now loaded.now }
     requires may { MayCall code.now instr state.old }
     requires standing { IsStanding state.old }
-    ensures { (places : ℕ → ℕ) (c : CodeState) → Stands places c state.old → CountsWell state.old c → instr.op ≡ ops.Call → Alone places c state.old (hand_or_act code.now line instr (handed_value c.state.running instr ops.Call) c) state.new result }
+    ensures alone { (places : ℕ → ℕ) (c : CodeState) → Stands places c state.old → CountsWell state.old c → instr.op ≡ ops.Call → Alone places c state.old (hand_or_act code.now line instr (handed_value c.state.running instr ops.Call) c) state.new result }
+    ensures image { (places : ℕ → ℕ) (c : CodeState) → HasPins code.now state.old.pins → Stands places c state.old → CountsWell state.old c → instr.op ≡ ops.Call → IfErr result (StopsIn code.now (hand_or_act code.now line instr (handed_value c.state.running instr ops.Call) c) state.new) }
 {
     let f = instr.b as usize;
     let Some(callee) = code.funcs.get(f) else {
@@ -98,7 +99,7 @@ fn act_alone(
     requires deep { state.old.memory.scopes.depth < 2 ^ 64 - 1 }
     requires open { op ≡ ops.Leave → 0 < state.old.memory.scopes.depth }
     ensures alone { (places : ℕ → ℕ) (c : CodeState) → Stands places c state.old → CountsWell state.old (about_to_write instr op c) → HandsFresh instr op c → instr.op ≡ op → Alone places c state.old (hand_or_act code.now line instr (handed_value c.state.running instr op) c) state.new result }
-    ensures exits { (places : ℕ → ℕ) (c : CodeState) → Stands places c state.old → CountsWell state.old (about_to_write instr op c) → HandsFresh instr op c → instr.op ≡ op → IfErr result (ExitsKept places (hand_or_act code.now line instr (handed_value c.state.running instr op) c) state.new.memory) }
+    ensures image { (places : ℕ → ℕ) (c : CodeState) → Stands places c state.old → CountsWell state.old (about_to_write instr op c) → HandsFresh instr op c → instr.op ≡ op → IfErr result (StopsIn code.now (hand_or_act code.now line instr (handed_value c.state.running instr op) c) state.new) }
 {
     match op {
         Op::HandReg
@@ -147,7 +148,7 @@ pub(crate) fn one_step<I: Source, O: Sink>(
     requires out { O.faults out.old + 1 < 2 ^ 64 }
     ensures told { (places : ℕ → ℕ) (c : CodeState) (trace : List Event) (taken : List ℕ) → Stands places c state.old → IsGoodSoFar code.now c → I.left input.old ≡ Some c.state.input → O.taken out.old ≡ Some taken → Seen places c state.old (step code.now trace c) c.state.input taken result state.new (I.left input.new) (O.taken out.new) }
     ensures faults { Counted result (I.faults input.old) (I.faults input.new) (O.faults out.old) (O.faults out.new) }
-    ensures exits { (places : ℕ → ℕ) (c : CodeState) (trace : List Event) → Stands places c state.old → IsGoodSoFar code.now c → IfErr result (ExitsKept places (step code.now trace c) state.new.memory) }
+    ensures image { (places : ℕ → ℕ) (c : CodeState) (trace : List Event) → Stands places c state.old → IsGoodSoFar code.now c → IfErr result (StopsIn code.now (step code.now trace c) state.new) }
     ensures moves { (places : ℕ → ℕ) (c : CodeState) → Stands places c state.old → IsGoodSoFar code.now c → (left : List ℕ) × All IsByte left × Moves state.old (step code.now [] (record c { state = with_input left c.state })) state.new result }
 {
     running_pins_are_fresh();

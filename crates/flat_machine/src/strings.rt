@@ -12,7 +12,6 @@ ghost use Rattle.flat_machine.specs.Words.{address_at};
 ghost use Rattle.flat_machine.specs.Standing.{Stands};
 ghost use Rattle.flat_machine.specs.Groups.{IsStringLib};
 ghost use Rattle.flat_machine.specs.Leading.{Alone, Counted};
-ghost use Rattle.flat_machine.specs.Exits.{IsNoExit};
 ghost use Rattle.flat_machine.specs.Putting.{CountsPut, PutsText};
 ghost use Rattle.flat_machine.specs.Writing.{line_at, HasString, IsString};
 
@@ -86,7 +85,7 @@ impl State {
         requires kept { (k : ℕ) → IsKept self.old.memory (address_at self.old.handed k) }
         ensures leads { (places : ℕ → ℕ) (c : CodeState) → Stands places c self.old → Alone places c self.old (same_numbers c.numbers (call_lib line name r c.handed c.state)) self.new result }
         ensures faults { (i o : ℕ) → Counted result i i o o }
-        ensures no_exit { IfErr result IsNoExit }
+        ensures unchanged { IfErr result (λ _. self.new ≡ self.old) }
     {
         let p = self.address(0);
         match name {

@@ -22,7 +22,7 @@ use Rattle.delay_scopes.specs.Queue.{HasQueue, KeepsQueue, ScopesModel, header_o
 use Rattle.flat_objects.specs.Memory.{Memory, Heap, IsMemory, SameFrame}
 use Rattle.flat_objects.specs.Standing.{IsThere}
 use Rattle.flat_objects.specs.Keeping.{Keeps, IsStateOf, blocks_of}
-use Rattle.flat_objects.specs.Counting.{Frees, Tracks}
+use Rattle.flat_objects.specs.Counting.{Frees, HasScopes, Tracks}
 use Rattle.flat_objects.specs.Freeing.{AnswersCheck, AnswersFree, AreBuried, IsInScope, MayFree, MayLeave, number_of}
 use Rattle.flat_objects.proofs.Counted.{keeps_any}
 use Rattle.flat_objects.proofs.HeldBlocks.{has_headers}
@@ -112,6 +112,16 @@ module _ (locals heap : ℕ) (memory : Memory) (shape : IsMemory locals heap mem
             (record { counts = may.tracks.counts; pinned = may.tracks.pinned; few = may.tracks.few; queued = may.tracks.queued; links = record { many = may.tracks.links.many; first = may.tracks.links.first; last = may.tracks.links.last; queued = may.tracks.links.queued; distinct = may.tracks.links.distinct; linked = may.tracks.links.linked }; open_scopes = depth }),
       )
 
+  -- where an object is held, the queue and the open scopes stay
+  still_scopes : (held : Option ℕ) → scopes ≡ record memory.scopes { named = held } → after ≡ memory.heap → bytes ≡ memory.bytes → HasScopes next places objects frees.queue frees.scopes
+  still_scopes held scopes_is heap_is bytes_is =
+      let links = may.tracks.links in
+      subst (λ (m : Memory). HasScopes m places objects frees.queue frees.scopes) (λ i. record memory { heap = sym heap_is i; bytes = sym bytes_is i; counts = counts; scopes = sym scopes_is i }) (record {
+        queued = may.tracks.queued;
+        links = record { many = links.many; first = links.first; last = links.last; queued = links.queued; distinct = links.distinct; linked = links.linked };
+        open_scopes = may.tracks.open_scopes;
+      })
+
   -- the outermost scope
   pub outer_answers : (result : Result (Unit {0}) BadFree) (meant : Option ℕ) → check_numbers objects frees.queue (number_of objects frees) ≡ meant → result ≡ answer_of memory.bytes (checked memory.forms memory.bytes memory.counts.counts queue) → LowersBy (words_inside memory.forms memory.bytes queue) memory.counts counts
       → OnOk result (scopes ≡ no_scopes memory.scopes.named) → OnOk result (IsReleased memory.heap after memory.bytes bytes held_blocks queue) → OnErr result (scopes ≡ record memory.scopes { named = checked memory.forms memory.bytes memory.counts.counts queue }) → OnErr result ((after ≡ memory.heap) × (bytes ≡ memory.bytes))
@@ -140,6 +150,7 @@ module _ (locals heap : ℕ) (memory : Memory) (shape : IsMemory locals heap mem
         record {
           bad_free = line_is ∙ ap (λ (n : ℕ). let bad : BadFree = record { reason = Held; line = n } in bad) freed;
           keeps = subst (λ (m : Memory). Keeps m places objects) (λ i. record memory { heap = sym same.0 i; bytes = sym same.1 i; counts = counts; scopes = scopes }) (keeps_any memory counts scopes places objects may.keeps);
+          scopes = still_scopes (checked memory.forms memory.bytes memory.counts.counts queue) named same.0 same.1;
           named = ap (λ (s : ScopesModel). s.named) named ∙ check;
         },
       )

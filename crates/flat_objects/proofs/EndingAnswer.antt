@@ -1,6 +1,6 @@
 -- The end of memory locals: what the steps come to.
 use Rattle.std.proofs.Common.{◌≡◌, ◌<◌, ◌≤◌, ◌+◌, ◌-◌, ◌/◌, ◌∙◌, inl, inr, ℕ, Bool, true, false, not, Some, None, List, [], ◌∷◌, length, get_or, refl, sym, ap, subst, arith}
-use Rattle.std.specs.Prelude.{All, Contains, map, filter, nat_eq, slice_get}
+use Rattle.std.specs.Prelude.{All, Contains, map, filter, nat_eq}
 use Rattle.std.specs.List.{enumerate_from, position}
 use Rattle.std.proofs.lemmas.Bool.{cases_Bool}
 use Rattle.std.proofs.lemmas.List.Elements.{All-map}
@@ -13,9 +13,9 @@ use Rattle.count_table.specs.Table.{Table}
 use Rattle.delay_scopes.specs.Queue.{HasQueue, ScopesModel, header_of}
 use Rattle.flat_objects.specs.Memory.{Memory, Range, Statics, Locals, Heap, IsMemory, SameFrame, heap_of, range_of}
 use Rattle.flat_objects.specs.Keeping.{Keeps, block_of, blocks_of, stands_in}
-use Rattle.flat_objects.specs.Counting.{AreCounts, Frees, LeadsSomewhere, MayUnpin, Tracks, living_pointers}
+use Rattle.flat_objects.specs.Counting.{AreCounts, Frees, HasScopes, LeadsSomewhere, MayUnpin, Tracks, living_pointers}
 use Rattle.flat_objects.specs.Freeing.{number_of}
-use Rattle.flat_objects.specs.Ending.{AreEnded, AreLocalsAt, MayEnd}
+use Rattle.flat_objects.specs.Ending.{AnswersEnd, AreEnded, AreLocalsAt, MayEnd}
 use Rattle.flat_objects.specs.EndingSteps.{ChangesLocals, MayCheck, MayGiveBack, pointers_beside}
 use Rattle.flat_objects.proofs.Changing.{header_kept}
 use Rattle.flat_objects.proofs.Counted.{keeps_counting}
@@ -83,10 +83,15 @@ module _ (locals heap : ℕ) (first one : Memory) (shape : IsMemory locals heap 
   numbers : end_numbers objects births (Some p) (number_of objects frees) ≡ first_held left_to births
   numbers = end_same objects frees births p (λ k d less. (may.ending.own k d less).there) may.ending.distinct
 
-  pub some_answer : (k : ℕ) → Some k ≡ position left_to births → (birth : ℕ) × (end_numbers objects births (Some p) (number_of objects frees) ≡ Some birth) × (slice_get births k ≡ Some birth)
-  some_answer k found =
-      let named = first_named left_to births k found in
-      (named.0, numbers ∙ named.1, named.2)
+  pub some_answer : (k : ℕ) → Some k ≡ position left_to births → (two : Memory) → two ≡ record one { counts = two.counts } → AnswersEnd first two places objects frees births (Some k) (end_numbers objects births (Some p) (number_of objects frees))
+  some_answer k found two same =
+      let named = first_named left_to births k found in (
+        named.0,
+        numbers ∙ named.1,
+        named.2,
+        subst (λ (m : Memory). Keeps m places objects) (sym same) (keeps_counting one two.counts places objects keeps),
+        subst (λ (m : Memory). HasScopes m places objects frees.queue frees.scopes) (sym same) (record { queued = tracks.queued; links = tracks.links; open_scopes = tracks.open_scopes }),
+      )
 
   -- Where no local escapes
 

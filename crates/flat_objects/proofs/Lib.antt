@@ -44,7 +44,7 @@ mod RangesKept
 mod RangesMeant
 mod RangesDone
 mod RangesStill
-mod EndingObjects
+pub mod EndingObjects
 mod EndingCounts
 mod EndingBlocks
 mod EndingAnswer

@@ -74,6 +74,13 @@ pub record Tracks (memory : Memory) (places : ℕ → ℕ) (objects : List Objec
   pub links : HasQueue memory.scopes memory.heap.base memory.bytes (blocks_of memory places objects Heap) (map places frees.queue)
   pub open_scopes : memory.scopes.depth ≡ frees.scopes
 
+-- a memory that keeps these objects at these places has those of a queue queued, in their order, and so many scopes open, whatever it
+-- counts
+pub record HasScopes (memory : Memory) (places : ℕ → ℕ) (objects : List Object) (queue : List ℕ) (scopes : ℕ) : Type 0 where
+  pub queued : AreQueued objects queue
+  pub links : HasQueue memory.scopes memory.heap.base memory.bytes (blocks_of memory places objects Heap) (map places queue)
+  pub open_scopes : memory.scopes.depth ≡ scopes
+
 -- where a definition goes on, a memory tracks the same frees among its objects
 abbrev pub StaysTracked : Memory → Memory → (ℕ → ℕ) → List Object → Result (List Object) Refusal → Type 0
 StaysTracked old new places objects meant =

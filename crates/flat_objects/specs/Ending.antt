@@ -8,7 +8,7 @@ use Rattle.hs_base.specs.Place.{Block}
 use Rattle.flat_objects.specs.Memory.{Memory, Statics, Locals, Heap, is_of, pin_room}
 use Rattle.flat_objects.specs.Standing.{IsThere, IsAddressOf}
 use Rattle.flat_objects.specs.Keeping.{Keeps, KeepsAt, blocks_of}
-use Rattle.flat_objects.specs.Counting.{Frees, LeadsSomewhere, Tracks}
+use Rattle.flat_objects.specs.Counting.{Frees, HasScopes, LeadsSomewhere, Tracks}
 
 -- What is asked
 
@@ -50,8 +50,9 @@ pub record AreEnded (old new : Memory) (places : ℕ → ℕ) (objects : List Ob
   -- an address of a pointer to another object still stands for it
   pub stand : (p : Pointer) (addr : ℕ) → IsAddressOf places objects p addr → LeadsSomewhere (ended objects births) p → IsAddressOf places (ended objects births) p addr
 
--- the end of locals answers what the definition's does: the number of the first that escapes, whose birth the definition names
+-- the end of locals answers what the definition's does: the number of the first that escapes, whose birth the definition names; then
+-- the objects, the queue and the open scopes are as they were
 abbrev pub AnswersEnd : Memory → Memory → (ℕ → ℕ) → List Object → Frees → List ℕ → Option ℕ → Option ℕ → Type 0
 AnswersEnd old new places objects frees births None meant = (meant ≡ None) × AreEnded old new places objects frees births
 AnswersEnd old new places objects frees births (Some k) meant =
-    (birth : ℕ) × (meant ≡ Some birth) × (slice_get births k ≡ Some birth)
+    (birth : ℕ) × (meant ≡ Some birth) × (slice_get births k ≡ Some birth) × Keeps new places objects × HasScopes new places objects frees.queue frees.scopes

@@ -13,7 +13,7 @@ use Rattle.flat_objects.specs.Memory.{Memory, Statics, Locals, Heap}
 use Rattle.flat_objects.specs.Standing.{IsAddressOf}
 use Rattle.flat_objects.specs.Keeping.{Keeps, KeepsAt, blocks_of}
 use Rattle.flat_objects.specs.Answering.{IsChanged}
-use Rattle.flat_objects.specs.Counting.{Frees, LeadsSomewhere, Tracks, living_pointers}
+use Rattle.flat_objects.specs.Counting.{Frees, HasScopes, LeadsSomewhere, Tracks, living_pointers}
 
 -- A free
 
@@ -64,14 +64,16 @@ pub record AreBuried (old new : Memory) (places : ℕ → ℕ) (objects : List O
   -- an address of a pointer to another object still stands for it
   pub stand : (p : Pointer) (addr : ℕ) → IsAddressOf places objects p addr → LeadsSomewhere (buried objects) p → IsAddressOf places (buried objects) p addr
 
--- an object is held: its free was bad, at the line of that free, and the objects are as they were. The counts are of no more use
-pub record IsHeldBack (new : Memory) (places : ℕ → ℕ) (objects : List Object) (birth : ℕ) (bad : BadFree) : Type 0 where
+-- an object is held: its free was bad, at the line of that free, and the objects, the queue and the open scopes are as they were. The
+-- counts are of no more use
+pub record IsHeldBack (new : Memory) (places : ℕ → ℕ) (objects : List Object) (frees : Frees) (birth : ℕ) (bad : BadFree) : Type 0 where
   pub bad_free : bad ≡ record { reason = Held; line = line_of_free (object_at objects birth).standing }
   pub keeps : Keeps new places objects
+  pub scopes : HasScopes new places objects frees.queue frees.scopes
   pub named : new.scopes.named ≡ Some (places birth)
 
 -- the check answers what the definition's does
 abbrev pub AnswersCheck : Memory → Memory → (ℕ → ℕ) → List Object → Frees → Result Unit BadFree → Option ℕ → Type 0
 AnswersCheck old new places objects frees (Ok u) meant = (meant ≡ None) × AreBuried old new places objects frees
 AnswersCheck old new places objects frees (Err bad) meant =
-    (birth : ℕ) × (meant ≡ Some birth) × IsHeldBack new places objects birth bad
+    (birth : ℕ) × (meant ≡ Some birth) × IsHeldBack new places objects frees birth bad

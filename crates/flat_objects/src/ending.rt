@@ -93,8 +93,9 @@ impl FlatObjects {
 
     /// The memory locals at these addresses end, with an answer that is returned: the address of a pointer, 0 for null or
     /// for a number. It answers the number of the first local that escapes, if one does: to which a pointer counts that is
-    /// not inside one of these locals, the answer among them. Then the memory is of no more use. With none, all these
-    /// locals are dead, the pointers inside them count no longer, and their blocks are given back.
+    /// not inside one of these locals, the answer among them. Then the objects, the queue and the open scopes are as they
+    /// were, and the counts are of no more use. With none, all these locals are dead, the pointers inside them count no
+    /// longer, and their blocks are given back.
     pub fn end_locals<L: Ledger>(
         &mut self,
         locals: &[u32],

@@ -51,7 +51,8 @@ impl FlatObjects {
 
     /// Closes a scope. At the end of the outermost one the check is made: the first queued object to which a pointer
     /// counts that is not inside a queued object is a bad free, at the line of its own free. With none, all queued objects
-    /// are dead and their blocks are given back in the order of their frees. After a bad free the counts are of no more use.
+    /// are dead and their blocks are given back in the order of their frees. After a bad free the objects, the
+    /// queue and the open scopes are as they were, and the counts are of no more use.
     pub fn leave<L: Ledger>(&mut self, steps: &mut Steps<L>) -> Result<(), BadFree>
         requires { IsInScope self.old }
         ensures inner { (places : ℕ → ℕ) (objects : List Object) (frees : Frees) → MayLeave self.old places objects frees → 1 < frees.scopes → (result ≡ Ok tt) × Keeps self.new places objects × Tracks self.new places objects (record frees { scopes = frees.scopes - 1 }) }

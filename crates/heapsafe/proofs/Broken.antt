@@ -16,7 +16,6 @@ use Rattle.meaning_run.specs.Meant as meant_specs
 use Rattle.flat_codegen.specs.Lasting.{cut_run}
 use Rattle.flat_codegen.specs.Running.{RunAnswers}
 use Rattle.flat_codegen.specs.Running as run_specs
-use Rattle.flat_machine.specs.Exits.{IsNoExit}
 use Rattle.heapsafe.specs.declared.program.Way.TheVariants.{Run, Mean}
 use Rattle.c_lexer.specs.declared.token.Token.{Token}
 use Rattle.c_lexer.specs.declared.token.LexError.{LexError}
@@ -38,7 +37,7 @@ use Rattle.heapsafe.specs.Shown.{Shown, written, no_memory, output_fault, text_f
 use Rattle.heapsafe.specs.Leaks.{leak_lines}
 use Rattle.heapsafe.specs.Program.{Done, Ended, Input, AnswersWay, AreTold, TellsNone, ended, meant, room_of, run_within, status_of, steady}
 use Rattle.heapsafe.specs.Saying.{Breaks, IsFaultLine, Says, SaysLeaks, SaysMore, TakesFront, unparsed, unread, untokened, untyped}
-use Rattle.heapsafe.proofs.Ended.{tells_none}
+use Rattle.heapsafe.proofs.Ended.{IsNoExit, tells_none}
 
 -- all of some bytes are a front of them
 all_front : (taken taken' : Option (List ℕ)) (bytes : List ℕ) → ((t : List ℕ) → taken ≡ Some t → taken' ≡ Some (t ++ bytes)) → TakesFront taken taken' bytes

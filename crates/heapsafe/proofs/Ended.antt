@@ -16,7 +16,6 @@ use Rattle.meaning_run.specs.Meant as meant_specs
 use Rattle.flat_codegen.specs.Lasting.{cut_run}
 use Rattle.flat_codegen.specs.Running.{RunAnswers}
 use Rattle.flat_codegen.specs.Running as run_specs
-use Rattle.flat_machine.specs.Exits.{IsNoExit}
 use Rattle.flat_machine.specs.Running.{RunCounts}
 use Rattle.heapsafe.specs.declared.program.Way.TheVariants.{Run, Mean}
 use Rattle.heapsafe.specs.Shown.{input_fault, no_memory, output_fault}
@@ -36,6 +35,11 @@ stopped_is : (file text : List ℕ) (core : Core) (done : Done) (before : List E
 stopped_is file text core done before byte rest i i' more is =
     let s = ended file text core before end.InputFault [] in
     subst (λ b. AnswersProgram file text core b done s) (sym (lt-ltb i i' (omega arith))) (record { before = before; byte = byte; rest = rest; stops = is; is = refl })
+
+-- an end that is no exit
+abbrev pub IsNoExit : End → Type 0
+IsNoExit (end.Exit code) = ⊥
+IsNoExit x = Unit {0}
 
 -- every other end tells of no leaks
 none_told : (left : Option (List Object)) (x : End) → IsNoExit x → AreTold left x []

@@ -4,9 +4,9 @@ ghost use Rattle.std.specs.Prelude.{◌≡◌, ◌+◌, ◌<◌, ◌≤◌, ◌^
 ghost use Rattle.c_tree.specs.StatementView.{unit_view};
 ghost use Rattle.c_elab.specs.Core.{IsOfTokens, core_in};
 ghost use Rattle.core_tree.specs.Sound.{IsSound};
-ghost use Rattle.flat_codegen.specs.Lasting.{LeavesObjects, MakesSteps};
+ghost use Rattle.counted_meaning.specs.Pinning.{AreExact, Pins};
+ghost use Rattle.flat_codegen.specs.Lasting.{LeavesImage, MakesSteps};
 ghost use Rattle.flat_codegen.specs.Running.{RunAnswers};
-ghost use Rattle.flat_machine.specs.Lasting.{LeavesSome};
 ghost use Rattle.flat_machine.specs.Machined.{steps_made};
 ghost use Rattle.flat_machine.specs.Running.{RunCounts};
 ghost use Rattle.flat_objects.specs.Keeping.{Keeps};
@@ -76,8 +76,8 @@ fn finish<E: Sink>(end: &End, core: &Core, file: &str, text: &[u8], err: &mut E)
 }
 
 /// Finds where the pointers of a core count, makes its code, loads it, and runs it: its end, and the machine behind it, which
-/// tells its steps and, behind an exit, its leaks. Memory may be wanted before the first instruction alone: then the input and
-/// the output are as before.
+/// tells its steps and, behind an exit, its leaks. The image of the machine agrees with the last state of the core's cut run.
+/// Memory may be wanted before the first instruction alone: then the input and the output are as before.
 pub(crate) fn run_code<I: Source, O: Sink>(
     alloc: Global,
     core: &Core,
@@ -94,8 +94,8 @@ pub(crate) fn run_code<I: Source, O: Sink>(
     requires out { O.faults out.old + 1 < 2 ^ 64 }
     ensures told { IfOk result (λ ran. (left taken : List ℕ) → I.left input.old ≡ Some left → O.taken out.old ≡ Some taken → RunAnswers core.now left steps (room_of limits) taken ran.0 (I.left input.new) (O.taken out.new)) }
     ensures made { IfOk result (λ ran. (left taken : List ℕ) → I.left input.old ≡ Some left → O.taken out.old ≡ Some taken → MakesSteps core.now left steps (room_of limits) ran.0 (steps_made ran.1)) }
-    ensures kept { IfOk result (λ ran. LeavesSome ran.0 ran.1.kept.memory) }
-    ensures left { IfOk result (λ ran. (left taken : List ℕ) → I.left input.old ≡ Some left → O.taken out.old ≡ Some taken → LeavesObjects core.now left steps (room_of limits) ran.0 ran.1.kept.memory) }
+    ensures kept { IfOk result (λ ran. KeepsSome ran.1.kept.memory) }
+    ensures left { IfOk result (λ ran. (left taken : List ℕ) → I.left input.old ≡ Some left → O.taken out.old ≡ Some taken → (pins : Pins) × AreExact core.now pins × LeavesImage core.now pins left steps (room_of limits) ran.0 ran.1.kept) }
     ensures faults { IfOk result (λ ran. RunCounts ran.0 (I.faults input.old) (I.faults input.new) (O.faults out.old) (O.faults out.new)) }
     ensures input_stays { OnErr result (input.new ≡ input.old) }
     ensures out_stays { OnErr result (out.new ≡ out.old) }
@@ -138,7 +138,7 @@ fn finish_run<E: Sink>(
     text: &[u8],
     err: &mut E,
 ) -> u8
-    requires kept { LeavesSome end.now machine.now.kept.memory }
+    requires kept { KeepsSome machine.now.kept.memory }
     requires err { E.faults err.old + 1 < 2 ^ 64 }
     ensures says { TellsNone leaks end.now → Says (E.taken err.old) (E.taken err.new) (E.faults err.old) (E.faults err.new) (end_report core.now file.now text.now end.now) (status_of end.now) result }
     ensures leaks { (code : ℕ) → IsTrue leaks → end.now ≡ Exit code → (places : ℕ → ℕ) (objects : List Object) → Keeps machine.now.kept.memory places objects → SaysLeaks objects (E.taken err.old) (E.taken err.new) (E.faults err.old) (E.faults err.new) code result }

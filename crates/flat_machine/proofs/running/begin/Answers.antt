@@ -1,13 +1,11 @@
-use Rattle.std.proofs.Common.{suc, ◌≡◌, ◌-◌, ◌^◌, ◌<◌, ◌≤◌, ℕ, [], arith, ap, refl, subst, sym, ◌∙◌}
+use Rattle.std.proofs.Common.{suc, ◌≡◌, ◌^◌, ◌<◌, ◌≤◌, [], arith, ap, subst, sym, ◌∙◌}
 use Rattle.std.specs.Prelude.{Some}
-use Rattle.hs_base.specs.declared.ends.End.TheVariants as end
 use Rattle.flat_code.specs.declared.program.Entry.{Entry}
 use Rattle.code_meaning.specs.Entering.{cost_of}
 use Rattle.flat_machine.specs.Kept.{Kept, taken_by}
-use Rattle.flat_machine.specs.Lasting.{MakesSteps}
-use Rattle.flat_machine.proofs.Lasting.{made_refused, made_spent}
+use Rattle.flat_objects.specs.Leaks.{KeepsSome}
 use Rattle.flat_machine.proofs.Stepped.{cost_is, no_cost}
-use Rattle.flat_machine.proofs.Starts.{spent, stops_spent, goes, refused, called, stands_begins, may_make_main, made_main, reached_all, room_all, good_so_far, less_called, well_called, main_is_there, main_no_none, line_no_none, plain_less, mems_there}
+use Rattle.flat_machine.proofs.Starts.{spent, spent_left, refused, refused_left, called, stands_begins, may_make_main, made_main, reached_all, room_all, good_so_far, less_called, well_called, main_is_there, main_no_none, line_no_none, plain_less, mems_there}
 use Rattle.flat_machine.proofs.running.begin.Goals as goal
 
 pub unreachable-requires : goal.unreachable-requires
@@ -111,21 +109,26 @@ returns-clause-reaches c = λ input n room taken same stack heap.
     let good = good_so_far c.args.code.now c.requires.formed c.args.stack m c.requires.first c.in-Some.line.now c.in-Some.ensures.item c.run_begins_well.ensures c.requires.bytes c.take_step.new.self.steps steps c.in-Some-get-2.cost.now cost input in
     reached_all c.args.code.now c.requires.formed c.args.stack m c.requires.first c.in-Some.line.now c.in-Some.ensures.item input c.take_step.new.self.steps steps c.in-Some-get-2.cost.now cost le c.make_locals.new.self made n room taken same heap (omega (arith, le, stack)) good less
 
-pub returns-then-not-take_step-clause-made : goal.returns-then-not-take_step-clause-made
-returns-then-not-take_step-clause-made c = λ input n room same stack.
-    let m = c.args.state.now in
+pub returns-then-not-take_step-clause-left : goal.returns-then-not-take_step-clause-left
+returns-then-not-take_step-clause-left c = λ input n room same stack.
     let no = c.take_step.ensures.no c.if-not-take_step.true in
-    let stops = stops_spent c.args.code.now c.requires.formed c.args.stack m c.requires.first c.in-Some.line.now c.in-Some.ensures.item input no.1 in
-    subst (λ (j : ℕ). MakesSteps c.args.code.now input j room end.Spent (j - c.take_step.new.self.steps)) (sym same)
-    (made_spent c.args.code.now input m.steps room stops c.take_step.new.self.steps (ap (λ (x : Kept). x.steps) no.0))
+    spent_left c.args.code.now c.requires.formed c.args.stack c.args.state.now c.requires.first c.in-Some.line.now c.in-Some.ensures.item input n room same no.1 c.take_step.new.self no.0
 
-pub returns-then-cost-from-clause-made : goal.returns-then-cost-from-clause-made
-returns-then-cost-from-clause-made c = λ input n room same stack.
-    let m = c.args.state.now in
-    let main = main_is_there c.args.code.now c.args.stack m c.requires.first c.func-func.result c.in-Some-get.main.now c.func-func.ensures c.in-Some-get.ensures.item in
+pub returns-then-not-take_step-clause-kept : goal.returns-then-not-take_step-clause-kept
+returns-then-not-take_step-clause-kept c =
+    let no = c.take_step.ensures.no c.if-not-take_step.true in
+    subst (λ (k : Kept). KeepsSome k.memory) (sym no.0) (c.requires.first.places, _, c.requires.first.stands.keeps)
+
+pub returns-then-cost-from-clause-left : goal.returns-then-cost-from-clause-left
+returns-then-cost-from-clause-left c = λ input n room same stack.
+    let main = main_is_there c.args.code.now c.args.stack c.args.state.now c.requires.first c.func-func.result c.in-Some-get.main.now c.func-func.ensures c.in-Some-get.ensures.item in
     let cost = cost_is c.args.loaded.now.costs c.args.code.now c.requires.loaded.costs c.func-func.result c.in-Some-get-2.cost.now c.in-Some-get.main.now (sym c.in-Some-get.ensures.item) c.in-Some-get-2.ensures.item ∙ ap (λ (x : Entry). cost_of c.args.code.now (Some x)) main in
     let yes = c.take_step.ensures.yes c.if-not-take_step.false in
-    let steps : m.steps ≡ suc c.take_step.new.self.steps = omega (arith, yes.0) in
+    let steps : c.args.state.now.steps ≡ suc c.take_step.new.self.steps = omega (arith, yes.0) in
     let lt : room.stack < c.in-Some-get-2.cost.now = omega (arith, stack, c.if-cost-from.true, c.from.ensures) in
-    subst (λ (j : ℕ). MakesSteps c.args.code.now input j room (end.OutOfStack c.in-Some.line.now) (j - c.take_step.new.self.steps)) (sym same)
-    (made_refused c.args.code.now input m.steps room _ _ c.in-Some-get-2.cost.now c.in-Some.line.now (goes c.args.code.now c.requires.formed c.args.stack m c.requires.first c.in-Some.line.now c.in-Some.ensures.item input c.take_step.new.self.steps steps c.in-Some-get-2.cost.now cost) lt c.take_step.new.self.steps refl)
+    refused_left c.args.code.now c.requires.formed c.args.stack c.args.state.now c.requires.first c.in-Some.line.now c.in-Some.ensures.item input c.take_step.new.self.steps steps c.in-Some-get-2.cost.now cost n room same lt c.take_step.new.self yes.1
+
+pub returns-then-cost-from-clause-kept : goal.returns-then-cost-from-clause-kept
+returns-then-cost-from-clause-kept c =
+    let yes = c.take_step.ensures.yes c.if-not-take_step.false in
+    subst (λ (k : Kept). KeepsSome k.memory) (sym yes.1) (c.requires.first.places, _, c.requires.first.stands.keeps)

@@ -1,14 +1,10 @@
-use Rattle.std.proofs.Common.{◌≡◌, ◌-◌, ℕ, [], ◌++◌, ap, refl, subst, sym, ◌∙◌}
+use Rattle.std.proofs.Common.{[], ◌++◌, refl, ◌∙◌}
 use Rattle.hs_base.specs.Trace.{bytes_out}
-use Rattle.flat_machine.specs.Kept.{Kept}
-use Rattle.flat_machine.specs.Lasting.{LeavesObjects, LeavesSome, MakesSteps, left_at}
-use Rattle.flat_machine.proofs.Lasting.{left_end, made_end}
+use Rattle.flat_machine.proofs.Lasting.{left_end}
 use Rattle.flat_machine.proofs.Inputs.{good_input, good_more}
 use Rattle.flat_machine.proofs.Reached.{reached_more, reached_end}
 use Rattle.flat_machine.proofs.Loops.{well_next, less_next, room_next, less_state, run_counts}
-use Rattle.code_meaning.specs.CodeMeaning.{step}
 use Rattle.flat_machine.specs.Well.{IsGoodSoFar}
-use Rattle.flat_machine.proofs.Exits.{leaves_some}
 use Rattle.flat_machine.proofs.running.end_of_run.Goals as goal
 
 pub instructions-init : goal.instructions-init
@@ -54,27 +50,18 @@ returns-in-Err-clause-faults g c =
     let faults = rw (c.in-Err.is, c.instructions.invariant.input, c.instructions.invariant.out) at c.one_step.ensures.faults in
     run_counts c.in-Err.end _ _ _ _ faults
 
-pub returns-in-Err-clause-made : goal.returns-in-Err-clause-made
-returns-in-Err-clause-made g c = λ left n room taken stack first.
-    let told = rw c.in-Err.is at c.one_step.ensures.told in
-    let known = c.instructions.invariant in
-    let r = known.told left n room taken stack first in
-    let steps : c.allow.new.self.steps ≡ left_at c.in-Err.end c.instructions.state.steps = ap (λ (x : Kept). x.steps) c.allow.ensures ∙ c.left_at.ensures ∙ ap (left_at c.in-Err.end) c.steps-left.ensures in
-    subst (λ (m : ℕ). MakesSteps c.args.code.now left n room c.in-Err.end (n - m)) (sym steps)
-    (made_end c.args.code.now left n room taken c.instructions.state _ _ r _ _ c.one_step.new.state (known.room ∙ stack) c.in-Err.end (told r.stands.places r.now r.trace (taken ++ bytes_out r.trace) r.stands.stands r.good r.is_left r.is_taken))
-
 pub returns-in-Err-clause-kept : goal.returns-in-Err-clause-kept
 returns-in-Err-clause-kept g c =
     let w = c.instructions.invariant.well in
     let good : IsGoodSoFar c.args.code.now w.state = λ left bytes. good_input c.args.code.now w.state left bytes w.good in
-    let exits = rw c.in-Err.is at c.one_step.ensures.exits in
-    subst (λ (k : Kept). LeavesSome c.in-Err.end k.memory) (sym c.allow.ensures) (leaves_some w.places (step c.args.code.now [] w.state) c.one_step.new.state.memory c.in-Err.end (exits w.places w.state [] w.stands good))
+    let images = rw c.in-Err.is at c.one_step.ensures.image in
+    let image = images w.places w.state [] w.stands good in
+    (image.places, _, image.agrees.keeps)
 
 pub returns-in-Err-clause-left : goal.returns-in-Err-clause-left
 returns-in-Err-clause-left g c = λ left n room taken stack first.
     let told = rw c.in-Err.is at c.one_step.ensures.told in
-    let exits = rw c.in-Err.is at c.one_step.ensures.exits in
+    let images = rw c.in-Err.is at c.one_step.ensures.image in
     let known = c.instructions.invariant in
     let r = known.told left n room taken stack first in
-    subst (λ (k : Kept). LeavesObjects c.args.code.now left n room c.in-Err.end k.memory) (sym c.allow.ensures)
-    (left_end c.args.code.now left n room taken c.instructions.state _ _ r _ _ r.stands.places c.one_step.new.state.memory c.one_step.new.state c.in-Err.end (told r.stands.places r.now r.trace (taken ++ bytes_out r.trace) r.stands.stands r.good r.is_left r.is_taken) (exits r.stands.places r.now r.trace r.stands.stands r.good))
+    left_end c.args.code.now left n room taken c.instructions.state _ _ r _ _ c.one_step.new.state (known.room ∙ stack) c.in-Err.end (told r.stands.places r.now r.trace (taken ++ bytes_out r.trace) r.stands.stands r.good r.is_left r.is_taken) (images r.stands.places r.now r.trace r.stands.stands r.good)

@@ -1,6 +1,5 @@
 use Rattle.std.proofs.Common.{sym, ◌∙◌}
 use Rattle.flat_machine.proofs.Starts.{reached_told}
-use Rattle.flat_machine.proofs.Exits.{leaves_none, leaves_no_objects}
 use Rattle.flat_machine.proofs.running.whole_run.Goals as goal
 
 pub returns-in-Ok-clause-told : goal.returns-in-Ok-clause-told
@@ -11,20 +10,9 @@ pub returns-in-Err-clause-told : goal.returns-in-Err-clause-told
 returns-in-Err-clause-told g c = λ left n room taken same stack heap l t.
     rw (l, t) (c.in-Err.ensures.ends left n room taken same stack)
 
-pub returns-in-Ok-clause-made : goal.returns-in-Ok-clause-made
-returns-in-Ok-clause-made g c = λ left n room taken same stack heap l t.
-    c.end_of_run.ensures.made left n room taken (c.in-Ok.ensures.room ∙ sym stack) (reached_told c.args.code.now left n room taken c.begin.new.state _ _ l t (c.in-Ok.ensures.reaches left n room taken same stack heap))
-
-pub returns-in-Err-clause-made : goal.returns-in-Err-clause-made
-returns-in-Err-clause-made g c = λ left n room taken same stack heap l t. c.in-Err.ensures.made left n room same stack
-
-pub returns-in-Err-clause-kept : goal.returns-in-Err-clause-kept
-returns-in-Err-clause-kept g c = leaves_none c.begin.new.state.memory c.in-Err.end c.in-Err.ensures.no_exit
-
 pub returns-in-Ok-clause-left : goal.returns-in-Ok-clause-left
 returns-in-Ok-clause-left g c = λ left n room taken same stack heap l t.
     c.end_of_run.ensures.left left n room taken (c.in-Ok.ensures.room ∙ sym stack) (reached_told c.args.code.now left n room taken c.begin.new.state _ _ l t (c.in-Ok.ensures.reaches left n room taken same stack heap))
 
 pub returns-in-Err-clause-left : goal.returns-in-Err-clause-left
-returns-in-Err-clause-left g c = λ left n room taken same stack heap l t.
-    leaves_no_objects c.args.code.now left n room c.begin.new.state.memory c.in-Err.end c.in-Err.ensures.no_exit
+returns-in-Err-clause-left g c = λ left n room taken same stack heap l t. c.in-Err.ensures.left left n room same stack

@@ -12,7 +12,7 @@ use Rattle.flat_machine.specs.Pinning.{IsReturning}
 use Rattle.flat_machine.proofs.Counts.{storable, calling_stands, freeing_counts, freeing_stands}
 use Rattle.flat_machine.proofs.Stepped.{values_taken, jump_taken, memory_taken, pointers_taken, making_taken, freeing_taken, taken_alone, taken_is, ranges_taken}
 use Rattle.flat_machine.proofs.Ranged.{settable}
-use Rattle.flat_machine.proofs.Exits.{IsNoReturn, alone_kept, kept_as}
+use Rattle.flat_machine.proofs.Image.{IsStill, image_is, unchanged_image}
 use Rattle.flat_machine.proofs.steps.act_alone.Goals as goal
 
 pub returns-in-Return-clause-alone : goal.returns-in-Return-clause-alone
@@ -30,7 +30,7 @@ returns-in-Give-clause-alone c = λ places s h counts fresh is.
 pub returns-in-Call-clause-alone : goal.returns-in-Call-clause-alone
 returns-in-Call-clause-alone c = λ places s h counts fresh is.
     let own = subst (λ (o : Op). CountsWell c.args.state.now (about_to_write c.args.instr o s)) c.in-Call.is counts in
-    rw c.in-Call.is (c.call.ensures places s h own (is ∙ c.in-Call.is))
+    rw c.in-Call.is (c.call.ensures.alone places s h own (is ∙ c.in-Call.is))
 
 pub call-requires-clause-standing : goal.call-requires-clause-standing
 call-requires-clause-standing c =
@@ -42,27 +42,27 @@ returns-in-HandReg-clause-alone c = λ places s h counts fresh is. c.act_hand.en
 pub returns-in-Set-clause-alone : goal.returns-in-Set-clause-alone
 returns-in-Set-clause-alone c = λ places s h counts fresh is.
     let values : IsValues c.args.op = search rules in
-    taken_alone c.args.code.now c.args.line c.args.instr c.args.op s places c.args.state.now c.act_values.new.self c.act_values.result (values_taken s.state.running c.args.instr c.args.op values) is (c.act_values.ensures c.args.code.now places s h)
+    taken_alone c.args.code.now c.args.line c.args.instr c.args.op s places c.args.state.now c.act_values.new.self c.act_values.result (values_taken s.state.running c.args.instr c.args.op values) is (c.act_values.ensures.alone c.args.code.now places s h)
 
 pub returns-in-Jump-clause-alone : goal.returns-in-Jump-clause-alone
 returns-in-Jump-clause-alone c = λ places s h counts fresh is.
     let jump : IsJump c.args.op = search rules in
-    taken_alone c.args.code.now c.args.line c.args.instr c.args.op s places c.args.state.now c.act_jump.new.self c.act_jump.result (jump_taken s.state.running c.args.instr c.args.op jump) is (c.act_jump.ensures c.args.code.now places s h)
+    taken_alone c.args.code.now c.args.line c.args.instr c.args.op s places c.args.state.now c.act_jump.new.self c.act_jump.result (jump_taken s.state.running c.args.instr c.args.op jump) is (c.act_jump.ensures.alone c.args.code.now places s h)
 
 pub returns-in-Load-clause-alone : goal.returns-in-Load-clause-alone
 returns-in-Load-clause-alone c = λ places s h counts fresh is.
     let memory : IsMemory c.args.op = search rules in
-    taken_alone c.args.code.now c.args.line c.args.instr c.args.op s places c.args.state.now c.act_memory.new.self c.act_memory.result (memory_taken s.state.running c.args.instr c.args.op memory) is (c.act_memory.ensures c.args.code.now places s h)
+    taken_alone c.args.code.now c.args.line c.args.instr c.args.op s places c.args.state.now c.act_memory.new.self c.act_memory.result (memory_taken s.state.running c.args.instr c.args.op memory) is (c.act_memory.ensures.alone c.args.code.now places s h)
 
 pub returns-in-Add-clause-alone : goal.returns-in-Add-clause-alone
 returns-in-Add-clause-alone c = λ places s h counts fresh is.
     let pointers : IsPointers c.args.op = search rules in
-    taken_alone c.args.code.now c.args.line c.args.instr c.args.op s places c.args.state.now c.act_pointers.new.self c.act_pointers.result (pointers_taken s.state.running c.args.instr c.args.op pointers) is (c.act_pointers.ensures c.args.code.now places s h)
+    taken_alone c.args.code.now c.args.line c.args.instr c.args.op s places c.args.state.now c.act_pointers.new.self c.act_pointers.result (pointers_taken s.state.running c.args.instr c.args.op pointers) is (c.act_pointers.ensures.alone c.args.code.now places s h)
 
 pub returns-in-Malloc-clause-alone : goal.returns-in-Malloc-clause-alone
 returns-in-Malloc-clause-alone c = λ places s h counts fresh is.
     let making : IsMaking c.args.op = search rules in
-    taken_alone c.args.code.now c.args.line c.args.instr c.args.op s places c.args.state.now c.act_making.new.self c.act_making.result (making_taken s.state.running c.args.instr c.args.op making) is (c.act_making.ensures c.args.code.now places s h (c.requires.makes making).element)
+    taken_alone c.args.code.now c.args.line c.args.instr c.args.op s places c.args.state.now c.act_making.new.self c.act_making.result (making_taken s.state.running c.args.instr c.args.op making) is (c.act_making.ensures.alone c.args.code.now places s h (c.requires.makes making).element)
 
 pub act_making-requires-clause-births : goal.act_making-requires-clause-births
 act_making-requires-clause-births c =
@@ -71,7 +71,7 @@ act_making-requires-clause-births c =
 pub returns-in-Free-clause-alone : goal.returns-in-Free-clause-alone
 returns-in-Free-clause-alone c = λ places s h counts fresh is.
     let freeing : IsFreeing c.args.op = search rules in
-    taken_alone c.args.code.now c.args.line c.args.instr c.args.op s places c.args.state.now c.act_freeing.new.self c.act_freeing.result (freeing_taken s.state.running c.args.instr c.args.op freeing) is (c.act_freeing.ensures c.args.code.now places s c.requires.pins h (freeing_counts c.args.instr c.args.op c.args.state.now s freeing counts))
+    taken_alone c.args.code.now c.args.line c.args.instr c.args.op s places c.args.state.now c.act_freeing.new.self c.act_freeing.result (freeing_taken s.state.running c.args.instr c.args.op freeing) is (c.act_freeing.ensures.alone c.args.code.now places s c.requires.pins h (freeing_counts c.args.instr c.args.op c.args.state.now s freeing counts))
 
 pub act_freeing-requires-clause-standing : goal.act_freeing-requires-clause-standing
 act_freeing-requires-clause-standing c =
@@ -83,7 +83,7 @@ act_freeing-requires-clause-standing c =
 pub returns-in-Copy-clause-alone : goal.returns-in-Copy-clause-alone
 returns-in-Copy-clause-alone c = λ places s h counts fresh is.
     let ranges : IsRanges c.args.op = search rules in
-    taken_alone c.args.code.now c.args.line c.args.instr c.args.op s places c.args.state.now c.act_ranges.new.self c.act_ranges.result (ranges_taken s.state.running c.args.instr c.args.op ranges) is (c.act_ranges.ensures c.args.code.now c.args.instr places s h)
+    taken_alone c.args.code.now c.args.line c.args.instr c.args.op s places c.args.state.now c.act_ranges.new.self c.act_ranges.result (ranges_taken s.state.running c.args.instr c.args.op ranges) is (c.act_ranges.ensures.alone c.args.code.now c.args.instr places s h)
 
 pub act_ranges-requires-clause-storable : goal.act_ranges-requires-clause-storable
 act_ranges-requires-clause-storable c =
@@ -102,7 +102,7 @@ act_ranges-requires-clause-small c =
 pub returns-in-Realloc-clause-alone : goal.returns-in-Realloc-clause-alone
 returns-in-Realloc-clause-alone c = λ places s h counts fresh is.
     let own = subst (λ (o : Op). CountsWell c.args.state.now (about_to_write c.args.instr o s)) c.in-Realloc.is counts in
-    rw c.in-Realloc.is (taken_alone c.args.code.now c.args.line c.args.instr op.Realloc s places c.args.state.now c.act_growing.new.self c.act_growing.result refl (is ∙ c.in-Realloc.is) (c.act_growing.ensures c.args.code.now places s c.requires.pins h own (c.requires.grows c.in-Realloc.is).element))
+    rw c.in-Realloc.is (taken_alone c.args.code.now c.args.line c.args.instr op.Realloc s places c.args.state.now c.act_growing.new.self c.act_growing.result refl (is ∙ c.in-Realloc.is) (c.act_growing.ensures.alone c.args.code.now places s c.requires.pins h own (c.requires.grows c.in-Realloc.is).element))
 
 pub act_growing-requires-clause-births : goal.act_growing-requires-clause-births
 act_growing-requires-clause-births c = (c.requires.grows c.in-Realloc.is).births
@@ -132,59 +132,59 @@ act_memory-requires-clause-kept c =
 
 -- Ends
 
-pub returns-in-Return-clause-exits : goal.returns-in-Return-clause-exits
-returns-in-Return-clause-exits c = λ places s h counts fresh is.
+pub returns-in-Return-clause-image : goal.returns-in-Return-clause-image
+returns-in-Return-clause-image c = λ places s h counts fresh is.
     let own = subst (λ (o : Op). CountsWell c.args.state.now (about_to_write c.args.instr o s)) c.in-Return.is counts in
-    rw c.in-Return.is (kept_as places _ _ (taken_is c.args.code.now c.args.line c.args.instr op.Return s refl (is ∙ c.in-Return.is)) c.act_return.new.self.memory c.act_return.result (c.act_return.ensures.exits places s (number (pos 0)) h own refl))
+    rw c.in-Return.is (image_is c.args.code.now _ _ (taken_is c.args.code.now c.args.line c.args.instr op.Return s refl (is ∙ c.in-Return.is)) c.act_return.new.self c.act_return.result (c.act_return.ensures.image places s (number (pos 0)) c.requires.pins h own refl))
 
-pub returns-in-Give-clause-exits : goal.returns-in-Give-clause-exits
-returns-in-Give-clause-exits c = λ places s h counts fresh is.
+pub returns-in-Give-clause-image : goal.returns-in-Give-clause-image
+returns-in-Give-clause-image c = λ places s h counts fresh is.
     let own = subst (λ (o : Op). CountsWell c.args.state.now (about_to_write c.args.instr o s)) c.in-Give.is counts in
     let v = get_or s.handed 0 (number (pos 0)) in
     let stands = subst (StandsFor places s.state.objects v) (sym c.word-answer.ensures) (word_at places s.state.objects s.handed c.args.state.now.handed 0 h.handed) in
-    rw c.in-Give.is (kept_as places _ _ (taken_is c.args.code.now c.args.line c.args.instr op.Give s refl (is ∙ c.in-Give.is)) c.act_return-in-Give.new.self.memory c.act_return-in-Give.result (c.act_return-in-Give.ensures.exits places s v h own stands))
+    rw c.in-Give.is (image_is c.args.code.now _ _ (taken_is c.args.code.now c.args.line c.args.instr op.Give s refl (is ∙ c.in-Give.is)) c.act_return-in-Give.new.self c.act_return-in-Give.result (c.act_return-in-Give.ensures.image places s v c.requires.pins h own stands))
 
-pub returns-in-Call-clause-exits : goal.returns-in-Call-clause-exits
-returns-in-Call-clause-exits c = λ places s h counts fresh is.
-    let goes : IsNoReturn c.args.op = search rules in
-    alone_kept c.args.code.now c.args.line c.args.instr c.args.op s places c.args.state.now c.call.new.state c.call.result goes is (returns-in-Call-clause-alone c places s h counts fresh is)
+pub returns-in-Call-clause-image : goal.returns-in-Call-clause-image
+returns-in-Call-clause-image c = λ places s h counts fresh is.
+    let own = subst (λ (o : Op). CountsWell c.args.state.now (about_to_write c.args.instr o s)) c.in-Call.is counts in
+    rw c.in-Call.is (c.call.ensures.image places s c.requires.pins h own (is ∙ c.in-Call.is))
 
-pub returns-in-Set-clause-exits : goal.returns-in-Set-clause-exits
-returns-in-Set-clause-exits c = λ places s h counts fresh is.
-    let goes : IsNoReturn c.args.op = search rules in
-    alone_kept c.args.code.now c.args.line c.args.instr c.args.op s places c.args.state.now c.act_values.new.self c.act_values.result goes is (returns-in-Set-clause-alone c places s h counts fresh is)
+pub returns-in-Set-clause-image : goal.returns-in-Set-clause-image
+returns-in-Set-clause-image c = λ places s h counts fresh is.
+    let still : IsStill c.args.op = search rules in
+    unchanged_image c.args.code.now places s c.args.state.now c.act_values.new.self h c.requires.pins c.args.line c.args.instr c.args.op c.act_values.result still is counts c.act_values.ensures.unchanged (returns-in-Set-clause-alone c places s h counts fresh is)
 
-pub returns-in-Jump-clause-exits : goal.returns-in-Jump-clause-exits
-returns-in-Jump-clause-exits c = λ places s h counts fresh is.
-    let goes : IsNoReturn c.args.op = search rules in
-    alone_kept c.args.code.now c.args.line c.args.instr c.args.op s places c.args.state.now c.act_jump.new.self c.act_jump.result goes is (returns-in-Jump-clause-alone c places s h counts fresh is)
+pub returns-in-Jump-clause-image : goal.returns-in-Jump-clause-image
+returns-in-Jump-clause-image c = λ places s h counts fresh is.
+    let still : IsStill c.args.op = search rules in
+    unchanged_image c.args.code.now places s c.args.state.now c.act_jump.new.self h c.requires.pins c.args.line c.args.instr c.args.op c.act_jump.result still is counts c.act_jump.ensures.unchanged (returns-in-Jump-clause-alone c places s h counts fresh is)
 
-pub returns-in-Load-clause-exits : goal.returns-in-Load-clause-exits
-returns-in-Load-clause-exits c = λ places s h counts fresh is.
-    let goes : IsNoReturn c.args.op = search rules in
-    alone_kept c.args.code.now c.args.line c.args.instr c.args.op s places c.args.state.now c.act_memory.new.self c.act_memory.result goes is (returns-in-Load-clause-alone c places s h counts fresh is)
+pub returns-in-Load-clause-image : goal.returns-in-Load-clause-image
+returns-in-Load-clause-image c = λ places s h counts fresh is.
+    let still : IsStill c.args.op = search rules in
+    unchanged_image c.args.code.now places s c.args.state.now c.act_memory.new.self h c.requires.pins c.args.line c.args.instr c.args.op c.act_memory.result still is counts c.act_memory.ensures.unchanged (returns-in-Load-clause-alone c places s h counts fresh is)
 
-pub returns-in-Add-clause-exits : goal.returns-in-Add-clause-exits
-returns-in-Add-clause-exits c = λ places s h counts fresh is.
-    let goes : IsNoReturn c.args.op = search rules in
-    alone_kept c.args.code.now c.args.line c.args.instr c.args.op s places c.args.state.now c.act_pointers.new.self c.act_pointers.result goes is (returns-in-Add-clause-alone c places s h counts fresh is)
+pub returns-in-Add-clause-image : goal.returns-in-Add-clause-image
+returns-in-Add-clause-image c = λ places s h counts fresh is.
+    let still : IsStill c.args.op = search rules in
+    unchanged_image c.args.code.now places s c.args.state.now c.act_pointers.new.self h c.requires.pins c.args.line c.args.instr c.args.op c.act_pointers.result still is counts c.act_pointers.ensures.unchanged (returns-in-Add-clause-alone c places s h counts fresh is)
 
-pub returns-in-Malloc-clause-exits : goal.returns-in-Malloc-clause-exits
-returns-in-Malloc-clause-exits c = λ places s h counts fresh is.
-    let goes : IsNoReturn c.args.op = search rules in
-    alone_kept c.args.code.now c.args.line c.args.instr c.args.op s places c.args.state.now c.act_making.new.self c.act_making.result goes is (returns-in-Malloc-clause-alone c places s h counts fresh is)
+pub returns-in-Malloc-clause-image : goal.returns-in-Malloc-clause-image
+returns-in-Malloc-clause-image c = λ places s h counts fresh is.
+    let still : IsStill c.args.op = search rules in
+    unchanged_image c.args.code.now places s c.args.state.now c.act_making.new.self h c.requires.pins c.args.line c.args.instr c.args.op c.act_making.result still is counts c.act_making.ensures.unchanged (returns-in-Malloc-clause-alone c places s h counts fresh is)
 
-pub returns-in-Free-clause-exits : goal.returns-in-Free-clause-exits
-returns-in-Free-clause-exits c = λ places s h counts fresh is.
-    let goes : IsNoReturn c.args.op = search rules in
-    alone_kept c.args.code.now c.args.line c.args.instr c.args.op s places c.args.state.now c.act_freeing.new.self c.act_freeing.result goes is (returns-in-Free-clause-alone c places s h counts fresh is)
+pub returns-in-Copy-clause-image : goal.returns-in-Copy-clause-image
+returns-in-Copy-clause-image c = λ places s h counts fresh is.
+    let still : IsStill c.args.op = search rules in
+    unchanged_image c.args.code.now places s c.args.state.now c.act_ranges.new.self h c.requires.pins c.args.line c.args.instr c.args.op c.act_ranges.result still is counts c.act_ranges.ensures.unchanged (returns-in-Copy-clause-alone c places s h counts fresh is)
 
-pub returns-in-Copy-clause-exits : goal.returns-in-Copy-clause-exits
-returns-in-Copy-clause-exits c = λ places s h counts fresh is.
-    let goes : IsNoReturn c.args.op = search rules in
-    alone_kept c.args.code.now c.args.line c.args.instr c.args.op s places c.args.state.now c.act_ranges.new.self c.act_ranges.result goes is (returns-in-Copy-clause-alone c places s h counts fresh is)
+pub returns-in-Free-clause-image : goal.returns-in-Free-clause-image
+returns-in-Free-clause-image c = λ places s h counts fresh is.
+    let freeing : IsFreeing c.args.op = search rules in
+    image_is c.args.code.now _ _ (taken_is c.args.code.now c.args.line c.args.instr c.args.op s (freeing_taken s.state.running c.args.instr c.args.op freeing) is) c.act_freeing.new.self c.act_freeing.result (c.act_freeing.ensures.image c.args.code.now places s c.requires.pins h (freeing_counts c.args.instr c.args.op c.args.state.now s freeing counts))
 
-pub returns-in-Realloc-clause-exits : goal.returns-in-Realloc-clause-exits
-returns-in-Realloc-clause-exits c = λ places s h counts fresh is.
-    let goes : IsNoReturn c.args.op = search rules in
-    alone_kept c.args.code.now c.args.line c.args.instr c.args.op s places c.args.state.now c.act_growing.new.self c.act_growing.result goes is (returns-in-Realloc-clause-alone c places s h counts fresh is)
+pub returns-in-Realloc-clause-image : goal.returns-in-Realloc-clause-image
+returns-in-Realloc-clause-image c = λ places s h counts fresh is.
+    let own = subst (λ (o : Op). CountsWell c.args.state.now (about_to_write c.args.instr o s)) c.in-Realloc.is counts in
+    rw c.in-Realloc.is (image_is c.args.code.now _ _ (taken_is c.args.code.now c.args.line c.args.instr op.Realloc s refl (is ∙ c.in-Realloc.is)) c.act_growing.new.self c.act_growing.result (c.act_growing.ensures.image c.args.code.now places s c.requires.pins h own (c.requires.grows c.in-Realloc.is).element))

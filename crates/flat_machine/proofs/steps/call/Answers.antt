@@ -1,7 +1,8 @@
 use Rattle.std.proofs.Common.{refl, sym}
 use Rattle.flat_code.specs.declared.instructions.Op.TheVariants.{Call}
+use Rattle.flat_machine.proofs.Image.{image_is}
 use Rattle.flat_machine.proofs.Starts.{mems_there}
-use Rattle.flat_machine.proofs.Stepped.{no_callee, no_cost, cost_is, taken_alone}
+use Rattle.flat_machine.proofs.Stepped.{no_callee, no_cost, cost_is, taken_alone, taken_is}
 use Rattle.flat_machine.proofs.steps.call.Goals as goal
 
 pub unreachable-requires : goal.unreachable-requires
@@ -22,6 +23,10 @@ act_call-requires-clause-there c =
 pub act_call-requires-clause-here : goal.act_call-requires-clause-here
 act_call-requires-clause-here c = sym c.in-Some.ensures.item
 
-pub returns : goal.returns
-returns c = λ places s h counts is.
-    taken_alone c.args.code.now c.args.line c.args.instr Call s places c.args.state.now c.act_call.new.self c.act_call.result refl is (c.act_call.ensures places s h counts)
+pub returns-clause-alone : goal.returns-clause-alone
+returns-clause-alone c = λ places s h counts is.
+    taken_alone c.args.code.now c.args.line c.args.instr Call s places c.args.state.now c.act_call.new.self c.act_call.result refl is (c.act_call.ensures.alone places s h counts)
+
+pub returns-clause-image : goal.returns-clause-image
+returns-clause-image c = λ places s has h counts is.
+    image_is c.args.code.now _ _ (taken_is c.args.code.now c.args.line c.args.instr Call s refl is) c.act_call.new.self c.act_call.result (c.act_call.ensures.image places s has h counts)

@@ -14,7 +14,7 @@ use Rattle.flat_machine.proofs.WordLists.{word_at}
 use Rattle.flat_machine.proofs.Counts.{counts_well, may_return, one_scope_more, some_scope, stands_before, storable}
 use Rattle.flat_machine.proofs.Stepped.{step_is, step_acts, seen_alone, moves_alone, counts_alone, alone_of, given_at, read_at, found, found_line, seen_as, moves_as}
 use Rattle.flat_machine.proofs.Ranged.{settable}
-use Rattle.flat_machine.proofs.Exits.{kept_as, lib_kept, no_exits_kept}
+use Rattle.flat_machine.proofs.Image.{built_in_image, image_is, lib_is_still, numbers_before, print_is_still}
 use Rattle.flat_machine.proofs.steps.one_step.Goals as goal
 
 pub unreachable-requires : goal.unreachable-requires
@@ -196,22 +196,29 @@ returns-in_default-op-clause-faults g c =
 
 -- Ends
 
-pub returns-in-Lib-clause-exits : goal.returns-in-Lib-clause-exits
-returns-in-Lib-clause-exits g c = λ places s trace h good.
+pub returns-in-Lib-clause-image : goal.returns-in-Lib-clause-image
+returns-in-Lib-clause-image g c = λ places s trace h good.
     let at = found c.args.code.now.instrs c.point-point.result c.args.state.now.calls.running.point c.in-Some.instr.now c.point-point.ensures c.in-Some.ensures.item in
     let line = found_line c.args.code.now.lines c.point-point.result c.args.state.now.calls.running.point c.in-Some-get.line.now c.point-point.ensures c.in-Some-get.ensures.item in
+    let counts = counts_well c.args.code.now c.requires.formed c.running_pins_are_fresh.ensures places s c.args.state.now h good c.requires.well.ready.pins c.requires.well.ready.statics c.in-Some.instr.now at in
     let acts = step_acts c.args.code.now places s c.args.state.now h c.in-Some.instr.now at c.in-Some-get.line.now line trace (op.Lib c.in-Lib.name) c.in-Lib.is refl in
-    kept_as places _ (step c.args.code.now trace s) (sym acts) c.act_built_in.new.self.memory c.act_built_in.result (lib_kept c.args.code.now c.in-Some-get.line.now c.in-Some.instr.now c.in-Lib.name s places c.args.state.now c.act_built_in.new.self h c.act_built_in.result c.act_built_in.ensures.exits)
+    image_is c.args.code.now _ (step c.args.code.now trace s) (sym acts) c.act_built_in.new.self c.act_built_in.result
+    (built_in_image c.args.code.now places s c.args.state.now c.act_built_in.new.self h c.requires.well.ready.pins (numbers_before c.args.state.now c.in-Some.instr.now c.in-Some.instr.now.op s counts) _ (lib_is_still c.args.code.now c.in-Some-get.line.now c.in-Some.instr.now c.in-Lib.name s.handed s.numbers s.state) c.act_built_in.result c.act_built_in.ensures.unchanged)
 
-pub returns-in-Printf-clause-exits : goal.returns-in-Printf-clause-exits
-returns-in-Printf-clause-exits g c = λ places s trace h good.
-    no_exits_kept places (step c.args.code.now trace s) c.act_printf.new.self.memory c.act_printf.result c.act_printf.ensures.no_exit
-
-pub returns-in_default-op-clause-exits : goal.returns-in_default-op-clause-exits
-returns-in_default-op-clause-exits g c = λ places s trace h good.
+pub returns-in-Printf-clause-image : goal.returns-in-Printf-clause-image
+returns-in-Printf-clause-image g c = λ places s trace h good.
     let at = found c.args.code.now.instrs c.point-point.result c.args.state.now.calls.running.point c.in-Some.instr.now c.point-point.ensures c.in-Some.ensures.item in
     let line = found_line c.args.code.now.lines c.point-point.result c.args.state.now.calls.running.point c.in-Some-get.line.now c.point-point.ensures c.in-Some-get.ensures.item in
+    let counts = counts_well c.args.code.now c.requires.formed c.running_pins_are_fresh.ensures places s c.args.state.now h good c.requires.well.ready.pins c.requires.well.ready.statics c.in-Some.instr.now at in
+    let acts = step_acts c.args.code.now places s c.args.state.now h c.in-Some.instr.now at c.in-Some-get.line.now line trace op.Printf c.in-Printf.is refl in
+    image_is c.args.code.now _ (step c.args.code.now trace s) (sym acts) c.act_printf.new.self c.act_printf.result
+    (built_in_image c.args.code.now places s c.args.state.now c.act_printf.new.self h c.requires.well.ready.pins (numbers_before c.args.state.now c.in-Some.instr.now c.in-Some.instr.now.op s counts) _ (print_is_still c.args.code.now c.in-Some-get.line.now c.in-Some.instr.now s.handed s.numbers s.state) c.act_printf.result c.act_printf.ensures.unchanged)
+
+pub returns-in_default-op-clause-image : goal.returns-in_default-op-clause-image
+returns-in_default-op-clause-image g c = λ places s trace h good.
+    let at = found c.args.code.now.instrs c.point-point.result c.args.state.now.calls.running.point c.in-Some.instr.now c.point-point.ensures c.in-Some.ensures.item in
+    let line = found_line c.args.code.now.lines c.point-point.result c.args.state.now.calls.running.point c.in-Some-get.line.now c.point-point.ensures c.in-Some-get.ensures.item in
+    let counts = counts_well c.args.code.now c.requires.formed c.running_pins_are_fresh.ensures places s c.args.state.now h good c.requires.well.ready.pins c.requires.well.ready.statics c.in-Some.instr.now at in
     let acts = step_is c.args.code.now places s c.args.state.now h c.in-Some.instr.now at c.in-Some-get.line.now line trace in
     let fresh = hands_fresh c.args.code.now places s c.args.state.now h good c.in-Some.instr.now at in
-    let counts = counts_well c.args.code.now c.requires.formed c.running_pins_are_fresh.ensures places s c.args.state.now h good c.requires.well.ready.pins c.requires.well.ready.statics c.in-Some.instr.now at in
-    kept_as places _ (step c.args.code.now trace s) (sym acts) c.act_alone.new.state.memory c.act_alone.result (c.act_alone.ensures.exits places s h counts fresh refl)
+    image_is c.args.code.now _ (step c.args.code.now trace s) (sym acts) c.act_alone.new.state c.act_alone.result (c.act_alone.ensures.image places s h counts fresh refl)

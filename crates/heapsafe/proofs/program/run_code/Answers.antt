@@ -3,7 +3,7 @@ use Rattle.std.proofs.Common.{subst}
 use Rattle.hs_base.specs.Cut.{Room}
 use Rattle.core_tree.specs.declared.program.Core.{Core}
 use Rattle.compiled_code.specs.Compiled.{IsCompiled}
-use Rattle.flat_codegen.specs.Lasting.{LeavesObjects, MakesSteps}
+use Rattle.flat_codegen.specs.Lasting.{LeavesImage, MakesSteps}
 use Rattle.flat_codegen.specs.Running.{RunAnswers}
 use Rattle.flat_machine.specs.Machined.{steps_made}
 use Rattle.heapsafe.proofs.program.run_code.Goals as goal
@@ -29,5 +29,5 @@ returns-clause-left g c = λ left taken k h.
     let pins = c.in_ok-counted.counted.pins in
     let compiled = subst (λ (core : Core). IsCompiled core pins c.in_ok-code.code) c.in_ok-counted.ensures.core c.in_ok-code.ensures.compiled in
     let ascending = c.listed_pins_are_exact.ensures.ascending c.args.core.now pins c.in_ok-counted.ensures.listed in
-    subst (λ (room : Room). LeavesObjects c.args.core.now left c.args.steps room c.execute-end.result c.execute-end.new.machine.kept.memory) (λ i. record { heap = c.in_ok-machine.ensures.heap i; stack = c.in_ok-machine.ensures.stack i })
-    (c.execute-end.ensures.left c.in_ok-machine.ensures.fresh c.args.core.now pins c.requires.sound c.in_ok-counted.ensures.pins ascending compiled left taken k h)
+    let image = c.execute-end.ensures.left c.in_ok-machine.ensures.fresh c.args.core.now pins c.requires.sound c.in_ok-counted.ensures.pins ascending compiled left taken k h in
+    (pins, c.in_ok-counted.ensures.pins, subst (λ (room : Room). LeavesImage c.args.core.now pins left c.args.steps room c.execute-end.result c.execute-end.new.machine.kept) (λ i. record { heap = c.in_ok-machine.ensures.heap i; stack = c.in_ok-machine.ensures.stack i }) image)

@@ -1,6 +1,6 @@
 use Rattle.std.proofs.Common.{◌∙◌, [], None, inr, refl, ap, subst}
 use Rattle.hs_base.specs.declared.ends.End.{End}
-use Rattle.flat_codegen.specs.Lasting.{LeavesObjects, cut_run}
+use Rattle.flat_codegen.specs.Lasting.{LeavesImage, cut_run}
 use Rattle.heapsafe.specs.declared.program.Way.TheVariants.{Run}
 use Rattle.heapsafe.specs.Shown.{no_memory}
 use Rattle.heapsafe.specs.Program.{AnswersWay, input_of, room_of}
@@ -11,15 +11,16 @@ use Rattle.heapsafe.proofs.program.run_core.Goals as goal
 
 pub returns-in-Ok-clause-exact : goal.returns-in-Ok-clause-exact
 returns-in-Ok-clause-exact g c = λ left o e k h i same_out same_err.
-    let memory = c.in-Ok.machine.kept.memory in
+    let kept = c.in-Ok.machine.kept in
     let room = room_of c.args.limits in
     gives_run c.args.file.now c.args.text.now c.args.core.now left o e _ _ _ _ _ _ _ _ _ _ _ i same_err c.args.limits c.args.steps c.args.leaks c.in-Ok.end
     (c.in-Ok.ensures.told left o k h) c.in-Ok.ensures.faults same_out
     (record {
       none = c.finish_run.ensures.says;
       some = λ code asked is.
-          let kept = subst (λ (x : End). LeavesObjects c.args.core.now left c.args.steps room x memory) is (c.in-Ok.ensures.left left o k h) in
-          c.finish_run.ensures.leaks code asked is kept.0 (cut_run c.args.core.now left c.args.steps room).state.objects kept.1;
+          let left_is = c.in-Ok.ensures.left left o k h in
+          let image = subst (λ (x : End). LeavesImage c.args.core.now left_is.0 left c.args.steps room x kept) is left_is.2 in
+          c.finish_run.ensures.leaks code asked is image.places (cut_run c.args.core.now left c.args.steps room).state.objects image.agrees.keeps;
     })
 
 pub returns-in-Ok-clause-faults : goal.returns-in-Ok-clause-faults
@@ -46,14 +47,15 @@ returns-in-Err-clause-faults g c = λ t.
 
 pub returns-in-Ok-clause-broken : goal.returns-in-Ok-clause-broken
 returns-in-Ok-clause-broken g c = λ left o k h fails a is more.
-    let memory = c.in-Ok.machine.kept.memory in
+    let kept = c.in-Ok.machine.kept in
     let room = room_of c.args.limits in
     broken_run c.args.file.now c.args.text.now c.args.core.now left o _ _ _ _ _ _ _ _ h c.args.limits c.args.steps c.args.leaks a c.in-Ok.end is (c.in-Ok.ensures.told left o k h)
     (record {
       none = c.finish_run.ensures.says;
       some = λ code asked exits.
-          let kept = subst (λ (x : End). LeavesObjects c.args.core.now left c.args.steps room x memory) exits (c.in-Ok.ensures.left left o k h) in
-          c.finish_run.ensures.leaks code asked exits kept.0 (cut_run c.args.core.now left c.args.steps room).state.objects kept.1;
+          let left_is = c.in-Ok.ensures.left left o k h in
+          let image = subst (λ (x : End). LeavesImage c.args.core.now left_is.0 left c.args.steps room x kept) exits left_is.2 in
+          c.finish_run.ensures.leaks code asked exits image.places (cut_run c.args.core.now left c.args.steps room).state.objects image.agrees.keeps;
     })
 
 pub returns-in-Err-clause-broken : goal.returns-in-Err-clause-broken

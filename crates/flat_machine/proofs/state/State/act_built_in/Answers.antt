@@ -6,7 +6,6 @@ use Rattle.meaning_run.specs.Leading.{with_input}
 use Rattle.flat_machine.proofs.Inputs.{no_bytes}
 use Rattle.flat_machine.proofs.Stays.{stands_input}
 use Rattle.flat_machine.proofs.Stepped.{lib_same, plain_lib, seen_alone, moves_alone, seen_as, moves_as}
-use Rattle.flat_machine.proofs.Exits.{only_exits}
 use Rattle.flat_machine.proofs.state.State.act_built_in.Goals as goal
 
 pub act_lib-requires-clause-name : goal.act_lib-requires-clause-name
@@ -38,7 +37,3 @@ returns-in-Memcpy-clause-moves g c = λ places s h.
 
 pub returns-in-Memcpy-clause-faults : goal.returns-in-Memcpy-clause-faults
 returns-in-Memcpy-clause-faults g c = c.act_range_lib.ensures.faults _ _
-
-pub returns-in-Memcpy-clause-exits : goal.returns-in-Memcpy-clause-exits
-returns-in-Memcpy-clause-exits g c =
-    only_exits c.args.name c.args.self.now c.act_range_lib.new.self c.act_range_lib.result c.act_range_lib.ensures.no_exit

@@ -4,17 +4,28 @@ use Rattle.flat_machine.specs.Kept.{Kept, taken_by}
 use Rattle.flat_machine.specs.Locals.{HasMade, MayMakeLocals}
 use Rattle.flat_machine.specs.Standing.{Stands, frees_of, pinned_in}
 use Rattle.flat_machine.proofs.Entered.{at_call, call_counts, call_goes, call_spent, call_too_deep, called_is, cost_registers, may_make, stands_called}
+use Rattle.flat_machine.proofs.Halted.{deep_image, spent_image}
 use Rattle.flat_machine.proofs.Stepped.{callee_arguments}
 use Rattle.flat_machine.proofs.state.State.act_call.Goals as goal
 
-pub returns-then-not-take_step : goal.returns-then-not-take_step
-returns-then-not-take_step c = λ places s h counts.
+pub returns-then-not-take_step-clause-alone : goal.returns-then-not-take_step-clause-alone
+returns-then-not-take_step-clause-alone c = λ places s h counts.
     call_spent c.args.code.now c.args.line c.args.instr c.args.callee.now c.requires.here places s c.args.self.now h c.take_step.new.self (c.take_step.ensures.no c.if-not-take_step.true).1
 
-pub returns-then-cost-from : goal.returns-then-cost-from
-returns-then-cost-from c = λ places s h counts.
+pub returns-then-cost-from-clause-alone : goal.returns-then-cost-from-clause-alone
+returns-then-cost-from-clause-alone c = λ places s h counts.
     let yes = c.take_step.ensures.yes c.if-not-take_step.false in
     call_too_deep c.args.code.now c.args.line c.args.instr c.args.callee.now c.requires.here places s c.args.self.now h c.take_step.new.self yes.0 yes.1 c.args.cost c.requires.cost c.take_step.new.self c.stack_left.result c.stack_left.ensures (omega (arith, c.if-cost-from.true, c.from.ensures))
+
+pub returns-then-not-take_step-clause-image : goal.returns-then-not-take_step-clause-image
+returns-then-not-take_step-clause-image c = λ places s has h counts.
+    let no = c.take_step.ensures.no c.if-not-take_step.true in
+    spent_image c.args.code.now places s c.args.self.now c.take_step.new.self h has counts _ no.1 no.0
+
+pub returns-then-cost-from-clause-image : goal.returns-then-cost-from-clause-image
+returns-then-cost-from-clause-image c = λ places s has h counts.
+    let yes = c.take_step.ensures.yes c.if-not-take_step.false in
+    deep_image c.args.code.now places s c.args.self.now c.take_step.new.self h has counts c.args.line c.args.instr.b s.handed yes.0 yes.1
 
 pub pin-requires : goal.pin-requires
 pin-requires c =
@@ -82,8 +93,8 @@ make_locals-requires-clause-standing c =
     let standing = subst (λ (k : Kept). Stands q.0 at k) (sym called) stands in
     (q.0, at, standing)
 
-pub returns : goal.returns
-returns c = λ places s h counts.
+pub returns-clause-alone : goal.returns-clause-alone
+returns-clause-alone c = λ places s h counts.
     let m = c.args.self.now in
     let yes = c.take_step.ensures.yes c.if-not-take_step.false in
     let mid = c.take_step.new.self in

@@ -1,4 +1,4 @@
-use Rattle.std.proofs.Common.{[], refl, rules, ◌∙◌}
+use Rattle.std.proofs.Common.{[], rules, ◌∙◌}
 use Rattle.std.proofs.lemmas.Int.{to_z-of_z}
 use mir.Syntax.{w128}
 use mir.Val.{SFits}
@@ -9,7 +9,6 @@ use Rattle.code_meaning.specs.CodeState.{CodeState, same_numbers}
 use Rattle.flat_machine.proofs.Stepped.{seen_alone, moves_alone}
 use Rattle.flat_machine.proofs.Inputs.{no_bytes}
 use Rattle.flat_machine.proofs.OneByte.{exit_seen, abort_seen}
-use Rattle.flat_machine.proofs.Exits.{only_exits}
 use Rattle.flat_machine.proofs.state.State.act_lib.Goals as goal
 
 pub returns-in-Getchar-clause-told : goal.returns-in-Getchar-clause-told
@@ -65,22 +64,3 @@ returns-in-Strlen-clause-moves g c = λ places s h.
 
 pub returns-in-Strlen-clause-faults : goal.returns-in-Strlen-clause-faults
 returns-in-Strlen-clause-faults g c = c.act_string.ensures.faults _ _
-
-pub returns-in-Getchar-clause-exits : goal.returns-in-Getchar-clause-exits
-returns-in-Getchar-clause-exits g c =
-    only_exits c.args.name c.args.self.now c.get.new.self c.get.result c.get.ensures.no_exit
-
-pub returns-in-Putchar-clause-exits : goal.returns-in-Putchar-clause-exits
-returns-in-Putchar-clause-exits g c =
-    only_exits c.args.name c.args.self.now c.put_char.new.self c.put_char.result c.put_char.ensures.no_exit
-
-pub returns-in-Puts-clause-exits : goal.returns-in-Puts-clause-exits
-returns-in-Puts-clause-exits g c =
-    only_exits c.args.name c.args.self.now c.act_puts.new.self c.act_puts.result c.act_puts.ensures.no_exit
-
-pub returns-in-Strlen-clause-exits : goal.returns-in-Strlen-clause-exits
-returns-in-Strlen-clause-exits g c =
-    only_exits c.args.name c.args.self.now c.act_string.new.self c.act_string.result c.act_string.ensures.no_exit
-
-pub returns-in-Exit-clause-exits : goal.returns-in-Exit-clause-exits
-returns-in-Exit-clause-exits g c = (c.in-Exit.is, refl)

@@ -3,7 +3,6 @@ use Rattle.std.proofs.lemmas.Int.{to_z-of_z}
 use mir.Syntax.{w128}
 use mir.Val.{SFits}
 use Rattle.flat_machine.proofs.Prints.{printed_seen, printed_moves, printed_ends, counts_put}
-use Rattle.flat_machine.proofs.Exits.{put_no_exit}
 use Rattle.flat_machine.proofs.state.State.act_printf.Goals as goal
 
 pub returns-in-Ok-clause-told : goal.returns-in-Ok-clause-told
@@ -32,6 +31,3 @@ returns-in-Err-clause-faults g c = λ i.
 
 pub returns-in-Err-clause-moves : goal.returns-in-Err-clause-moves
 returns-in-Err-clause-moves g c = λ places s format h is. tt
-
-pub returns-in-Err-clause-no_exit : goal.returns-in-Err-clause-no_exit
-returns-in-Err-clause-no_exit g c = rw c.end.ensures (put_no_exit c.args.line c.in-Err.error)

@@ -4,7 +4,6 @@ use Rattle.flat_objects.specs.Standing.{IsAddressOf}
 use Rattle.flat_objects.specs.Keeping.{IsKept}
 use Rattle.flat_machine.proofs.WordLists.{address_at_is}
 use Rattle.flat_machine.proofs.Prints.{puts_seen, puts_moves, puts_ends, counts_put}
-use Rattle.flat_machine.proofs.Exits.{put_no_exit}
 use Rattle.flat_machine.proofs.state.State.act_puts.Goals as goal
 
 pub put_line-requires-clause-kept : goal.put_line-requires-clause-kept
@@ -31,6 +30,3 @@ returns-in-Err-clause-faults g c = λ i.
 
 pub returns-in-Err-clause-moves : goal.returns-in-Err-clause-moves
 returns-in-Err-clause-moves g c = λ places s h. tt
-
-pub returns-in-Err-clause-no_exit : goal.returns-in-Err-clause-no_exit
-returns-in-Err-clause-no_exit g c = rw c.end.ensures (put_no_exit c.args.line c.in-Err.error)

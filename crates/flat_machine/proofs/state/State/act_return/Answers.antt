@@ -3,12 +3,15 @@ use Rattle.std.specs.Prelude.{slice_get}
 use Rattle.std.proofs.lemmas.Int.{to_z-of_z}
 use mir.Syntax.{w128}
 use mir.Val.{SFits}
+use Rattle.hs_base.specs.declared.ends.End.TheVariants as end
 use Rattle.object_meaning.specs.Values.{pointer_in}
+use Rattle.code_meaning.specs.Returning.{give_back}
+use Rattle.flat_machine.specs.Image.{StopsIn}
 use Rattle.flat_objects.specs.Ending.{MayEnd}
 use Rattle.flat_machine.specs.Kept.{Kept, given}
 use Rattle.flat_machine.specs.Standing.{frees_of}
 use Rattle.flat_machine.proofs.Ends.{births, left, may_end, room_same}
-use Rattle.flat_machine.proofs.Backs.{back_is, call_no_none, call_is, goes_back, return_alone, return_escapes, return_exits, return_kept, unpin_there}
+use Rattle.flat_machine.proofs.Backs.{back_is, call_no_none, call_is, goes_back, return_alone, return_escapes, return_exits, escapes_in, exits_in, unpin_there}
 use Rattle.flat_machine.proofs.state.State.act_return.Goals as goal
 
 pub end_locals-requires : goal.end_locals-requires
@@ -86,11 +89,17 @@ returns-clause-alone c = λ places s v h counts p.
     let objects = left places s m h mid.memory answer.1 in
     return_alone c.args.code.now c.args.line places s m h counts v c.args.answer p c.requires.locals mid.memory answer.0 answer.1 frame c.back.new.self goes same c.unpin.new.self c.give.new.self c.in-Some-get.instr.now at is c.unpin.ensures.others c.unpin.ensures.frame (c.unpin.ensures.keeps places objects) (c.unpin.ensures.tracks places objects) (c.give.ensures ∙ ap (λ r. given c.unpin.new.self r c.args.answer) c.chosen.ensures)
 
-pub returns-in-Some-clause-exits : goal.returns-in-Some-clause-exits
-returns-in-Some-clause-exits c = λ places s v h counts p. tt
+pub returns-in-Some-clause-image : goal.returns-in-Some-clause-image
+returns-in-Some-clause-image c = λ places s v has h counts p.
+    let m = c.args.self.now in
+    let q = c.requires.returns in
+    let may = subst (MayEnd m.memory places s.state.objects (frees_of m.pins s) (births places s m h) (pointer_in v) m.calls.running.locals) (sym c.address_in.ensures) (may_end places s m h v c.args.answer p (room_same places s q.0 q.1 m h q.3)) in
+    let answer = c.in-Some.ensures.answer places s.state.objects (frees_of m.pins s) (births places s m h) (pointer_in v) may in
+    subst (λ (k : Kept). StopsIn c.args.code.now (give_back c.args.code.now c.args.line v s.numbers s.state) k (end.Escape c.func.result c.in-Some.local c.args.line)) (sym c.in-Some.ensures.others)
+    (escapes_in c.args.code.now c.args.line places s m h counts v c.args.answer p c.requires.locals c.end_locals.new.self.memory answer.3 answer.4 answer.0 answer.1 c.func.result c.in-Some.local)
 
-pub returns-then-not-back-clause-exits : goal.returns-then-not-back-clause-exits
-returns-then-not-back-clause-exits c = λ places s v h counts p.
+pub returns-then-not-back-clause-image : goal.returns-then-not-back-clause-image
+returns-then-not-back-clause-image c = λ places s v has h counts p.
     let m = c.args.self.now in
     let q = c.requires.returns in
     let mid = c.end_locals.new.self in
@@ -99,8 +108,4 @@ returns-then-not-back-clause-exits c = λ places s v h counts p.
     let answer = c.in_default.ensures.answer places s.state.objects (frees_of m.pins s) (births places s m h) (pointer_in v) may in
     let no = c.back.ensures.no c.if-not-back.true in
     let last = sym (ap (λ (k : Kept). k.calls.waiting) ended) ∙ no.0 in
-    let memory = ap (λ (k : Kept). k.memory) no.1 in
-    return_kept c.args.code.now c.args.line places s m h counts v c.args.answer p c.requires.locals mid.memory answer.0 answer.1 c.in_default.ensures.frame c.back.new.self.memory last memory
-
-pub returns-clause-exits : goal.returns-clause-exits
-returns-clause-exits c = λ places s v h counts p. tt
+    exits_in c.args.code.now c.args.line places s m h counts v c.args.answer p c.requires.locals mid.memory answer.0 answer.1 c.in_default.ensures.frame has may.ending c.back.new.self last (no.1 ∙ ended) c.byte_in.result

@@ -26,7 +26,7 @@ returns-in-Some-clause-answer g c = λ places objects frees births p may.
     let tracks = c.pin.ensures.tracks places objects frees [] frees.pins p (may_pin c.args.self.now places objects frees births p c.args.locals.now c.args.answer may) refl in
     let check = may_check c.self.inside.locals_from c.self.inside.heap_from c.args.self.now c.pin.new.self shape places objects frees births p c.args.locals.now c.args.answer may c.pin.ensures.frame keeps tracks in
     some_answer c.self.inside.locals_from c.self.inside.heap_from c.args.self.now c.pin.new.self shape places objects frees births p c.args.locals.now c.args.answer may c.pin.ensures.frame keeps tracks c.in-Some.number
-    (c.in-Some.ensures.first places objects (with_answer frees p) births check)
+    (c.in-Some.ensures.first places objects (with_answer frees p) births check) c.check_locals.new.self c.in-Some.ensures.same
 
 pub give_back_all-requires : goal.give_back_all-requires
 give_back_all-requires g c =
