@@ -61,7 +61,11 @@ abbrev pub untyped : TypeError → List ℕ → List ℕ → Shown
 untyped (type.Bad kind line) file text = bad_type file text (record { kind = kind; line = line })
 untyped type.NoMemory file text = no_memory
 
--- a front of these bytes was taken, where what was taken is told
+-- these bytes were taken, where what was taken is told
+abbrev pub TakesAll : Option (List ℕ) → Option (List ℕ) → List ℕ → Type 0
+TakesAll taken taken' bytes = (t : List ℕ) → taken ≡ Some t → taken' ≡ Some (t ++ bytes)
+
+-- a front of them was taken
 abbrev pub TakesFront : Option (List ℕ) → Option (List ℕ) → List ℕ → Type 0
 TakesFront taken taken' bytes =
     (t : List ℕ) → taken ≡ Some t → (put : List ℕ) × (rest : List ℕ) × (put ++ rest ≡ bytes) × (taken' ≡ Some (t ++ put))
@@ -70,7 +74,7 @@ TakesFront taken taken' bytes =
 -- status is 133
 abbrev pub Says : Option (List ℕ) → Option (List ℕ) → ℕ → ℕ → List ℕ → ℕ → ℕ → Type 0
 Says taken taken' faults faults' bytes status result =
-    ((faults' ≡ faults) × (result ≡ status) × ((t : List ℕ) → taken ≡ Some t → taken' ≡ Some (t ++ bytes)))
+    ((faults' ≡ faults) × (result ≡ status) × TakesAll taken taken' bytes)
     ⊎ ((faults' ≡ faults + 1) × (result ≡ 133) × TakesFront taken taken' bytes)
 
 -- no write to the error stream failed, and the status is this one; or one did, and it is 133
@@ -83,16 +87,22 @@ pub record SaysLeaks (objects : List Object) (taken taken' : Option (List ℕ)) 
   pub says : (leaks : List Leak) → AreLeaks objects 0 leaks → Says taken taken' faults faults' (leak_lines leaks) status result
   pub all : faults' ≡ faults → (leaks : List Leak) × AreLeaks objects 0 leaks
 
+-- the output took some bytes, of which this holds
+pub record Puts (Is : Option (List ℕ) → Type 0) (o o' : Option (List ℕ)) : Type 0 where
+  pub put : List ℕ
+  pub is : Is (Some put)
+  pub took : TakesAll o o' put
+
 -- the input lost, and the streams took, the bytes of an answer that is as said, or of the one for want of memory; and the
 -- status is its own
-pub record Gives (Is : Shown → Type 0) (left o e : List ℕ) (left' out' err' : Option (List ℕ)) (result : ℕ) : Type 0 where
+pub record Gives (Is : Shown → Type 0) (left : List ℕ) (left' o o' e e' : Option (List ℕ)) (result : ℕ) : Type 0 where
   pub shown : Shown
   pub is : Is shown ⊎ (shown ≡ no_memory)
   pub rest : List ℕ
   pub is_left : left' ≡ Some rest
   pub is_read : shown.read ++ rest ≡ left
-  pub out_took : out' ≡ Some (o ++ shown.out)
-  pub err_took : err' ≡ Some (e ++ shown.err)
+  pub out_took : TakesAll o o' shown.out
+  pub err_took : TakesAll e e' shown.err
   pub status : result ≡ shown.status
 
 -- no count rose; or one of the output or of the error stream did, and the status is 133; or that of the texts alone, and

@@ -12,10 +12,10 @@ use Rattle.heapsafe.specs.Saying.{Says}
 use Rattle.heapsafe.proofs.heapsafe.Goals as goal
 
 pub returns-in-Ok-OnFile-clause-exact : goal.returns-in-Ok-OnFile-clause-exact
-returns-in-Ok-OnFile-clause-exact g c = λ told left o e k l h i same_texts same_out same_err.
+returns-in-Ok-OnFile-clause-exact g c = λ told left k l same_texts same_out same_err.
     let words : List (List ℕ) = map (λ (w : Bor (List ℕ)). w.now) c.args.words.now in
     let read = subst (λ (command : Command). IsRead (command_of words) (Ok command)) c.in-Ok-OnFile.field-0-is c.in-Ok-OnFile.ensures.read in
-    gives_as _ (command_of words) told _ left o e _ _ _ _ (sym read) (c.with_file.ensures.exact told left o e k l h i same_texts same_out same_err)
+    gives_as _ (command_of words) told _ left _ _ _ _ _ _ (sym read) (c.with_file.ensures.exact told left k l same_texts same_out same_err)
 
 pub returns-in-Ok-OnFile-clause-text_fault : goal.returns-in-Ok-OnFile-clause-text_fault
 returns-in-Ok-OnFile-clause-text_fault g c = λ file task asked more.
@@ -29,48 +29,48 @@ returns-in-Ok-OnFile-clause-text_fault g c = λ file task asked more.
     )
 
 pub returns-in-Ok-Generated-clause-exact : goal.returns-in-Ok-Generated-clause-exact
-returns-in-Ok-Generated-clause-exact g c = λ told left o e k l h i same_texts same_out same_err.
+returns-in-Ok-Generated-clause-exact g c = λ told left k l same_texts same_out same_err.
     let words : List (List ℕ) = map (λ (w : Bor (List ℕ)). w.now) c.args.words.now in
     let input = input_of left (g.I.Source.faults c.args.input.now) (g.I.Source.faults c.args.input.now) in
     let number = c.in-Ok-Generated.number in
     let read = subst (λ (command : Command). IsRead (command_of words) (Ok command)) c.in-Ok-Generated.field-0-is c.in-Ok-Generated.ensures.read in
-    gives_as (Some (Generated number)) (command_of words) told input left o e _ _ _ _ (sym read)
-    (gives_left (AnswersGenerated number) left o e _ _ _ _ l (c.run_generated.ensures.exact left o e h i same_out same_err))
+    gives_as (Some (Generated number)) (command_of words) told input left _ _ _ _ _ _ (sym read)
+    (gives_left (AnswersGenerated number) left _ _ _ _ _ _ l (c.run_generated.ensures.exact left same_out same_err))
 
 pub returns-in-Ok-Generated-clause-faults : goal.returns-in-Ok-Generated-clause-faults
 returns-in-Ok-Generated-clause-faults g c =
     c.run_generated.ensures.faults (g.T.Texts.faults c.args.texts.now) (g.I.Source.faults c.args.input.now)
 
 pub returns-in-Err-Usage-clause-exact : goal.returns-in-Err-Usage-clause-exact
-returns-in-Err-Usage-clause-exact g c = λ told left o e k l h i same_texts same_out same_err.
+returns-in-Err-Usage-clause-exact g c = λ told left k l same_texts same_out same_err.
     let words : List (List ℕ) = map (λ (w : Bor (List ℕ)). w.now) c.args.words.now in
     let input = input_of left (g.I.Source.faults c.args.input.now) (g.I.Source.faults c.args.input.now) in
-    gives_said (Answers words told input) usage left o e _ _ _ _ _ _ _ (inl (usage_is (command_of words) told input (sym (subst (λ (e : WordsError). IsRead (command_of words) (Err e)) c.in-Err-Usage.field-0-is c.in-Err-Usage.ensures.read)))) (record { read = refl; out = refl }) l h i same_err c.refuse.ensures.says
+    gives_said (Answers words told input) usage left _ _ _ _ _ _ _ _ (inl (usage_is (command_of words) told input (sym (subst (λ (e : WordsError). IsRead (command_of words) (Err e)) c.in-Err-Usage.field-0-is c.in-Err-Usage.ensures.read)))) (record { read = refl; out = refl }) l refl same_err c.refuse.ensures.says
 
 pub returns-in-Err-NoMemory-clause-exact : goal.returns-in-Err-NoMemory-clause-exact
-returns-in-Err-NoMemory-clause-exact g c = λ told left o e k l h i same_texts same_out same_err.
+returns-in-Err-NoMemory-clause-exact g c = λ told left k l same_texts same_out same_err.
     let words : List (List ℕ) = map (λ (w : Bor (List ℕ)). w.now) c.args.words.now in
     let input = input_of left (g.I.Source.faults c.args.input.now) (g.I.Source.faults c.args.input.now) in
-    gives_said (Answers words told input) no_memory left o e _ _ _ _ _ _ _ (inr refl) (record { read = refl; out = refl }) l h i same_err c.refuse-in-Err-NoMemory.ensures.says
+    gives_said (Answers words told input) no_memory left _ _ _ _ _ _ _ _ (inr refl) (record { read = refl; out = refl }) l refl same_err c.refuse-in-Err-NoMemory.ensures.says
 
 pub returns-in-Ok-OnFile-clause-broken : goal.returns-in-Ok-OnFile-clause-broken
-returns-in-Ok-OnFile-clause-broken g c = λ told left o k l h fails a is more.
+returns-in-Ok-OnFile-clause-broken g c = λ told left k l fails a is more.
     let words : List (List ℕ) = map (λ (w : Bor (List ℕ)). w.now) c.args.words.now in
     let read = subst (λ (command : Command). IsRead (command_of words) (Ok command)) c.in-Ok-OnFile.field-0-is c.in-Ok-OnFile.ensures.read in
-    c.with_file.ensures.broken told left o k l h fails a (subst (λ (command : Option Asked). AnswersCommand command told (steady left) a) read is) more
+    c.with_file.ensures.broken told left k l fails a (subst (λ (command : Option Asked). AnswersCommand command told (steady left) a) read is) more
 
 pub returns-in-Ok-Generated-clause-broken : goal.returns-in-Ok-Generated-clause-broken
-returns-in-Ok-Generated-clause-broken g c = λ told left o k l h fails a is more.
+returns-in-Ok-Generated-clause-broken g c = λ told left k l fails a is more.
     let words : List (List ℕ) = map (λ (w : Bor (List ℕ)). w.now) c.args.words.now in
     let read = subst (λ (command : Command). IsRead (command_of words) (Ok command)) c.in-Ok-Generated.field-0-is c.in-Ok-Generated.ensures.read in
     broken_left a left _ _ _ _ _ l (c.run_generated.ensures.broken left fails a (subst (λ (command : Option Asked). AnswersCommand command told (steady left) a) read is))
 
 pub returns-in-Err-Usage-clause-broken : goal.returns-in-Err-Usage-clause-broken
-returns-in-Err-Usage-clause-broken g c = λ told left o k l h fails a is more.
+returns-in-Err-Usage-clause-broken g c = λ told left k l fails a is more.
     let words : List (List ℕ) = map (λ (w : Bor (List ℕ)). w.now) c.args.words.now in
     let read = subst (λ (e : WordsError). IsRead (command_of words) (Err e)) c.in-Err-Usage.field-0-is c.in-Err-Usage.ensures.read in
     broken_said usage a left _ _ _ _ _ _ _ _ (inl (subst (λ (command : Option Asked). AnswersCommand command told (steady left) a) read is)) l refl c.refuse.ensures.says
 
 pub returns-in-Err-NoMemory-clause-broken : goal.returns-in-Err-NoMemory-clause-broken
-returns-in-Err-NoMemory-clause-broken g c = λ told left o k l h fails a is more.
+returns-in-Err-NoMemory-clause-broken g c = λ told left k l fails a is more.
     broken_said no_memory a left _ _ _ _ _ _ _ _ (inr wanting_line) l refl c.refuse-in-Err-NoMemory.ensures.says

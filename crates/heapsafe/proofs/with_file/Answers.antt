@@ -12,19 +12,19 @@ use Rattle.heapsafe.proofs.Broken.{broken_said, lexed_file, unread_line_of, unto
 use Rattle.heapsafe.proofs.with_file.Goals as goal
 
 pub returns-in-Err-clause-exact : goal.returns-in-Err-clause-exact
-returns-in-Err-clause-exact g c = λ told left o e k l h i same_texts same_out same_err.
+returns-in-Err-clause-exact g c = λ told left k l same_texts same_out same_err.
     let input = input_of left (g.I.Source.faults c.args.input.now) (g.I.Source.faults c.args.input.now) in
     let says = says_as (shown_of c.reading_refusal.result) (unread c.in-Err.error c.args.file.now) c.reading_refusal.ensures _ _ _ _ _ c.refuse.ensures.says in
-    gives_said (AnswersFile c.args.file.now (told c.args.file.now) input (task_shown c.args.task)) (unread c.in-Err.error c.args.file.now) left o e _ _ _ _ _ _ _
+    gives_said (AnswersFile c.args.file.now (told c.args.file.now) input (task_shown c.args.task)) (unread c.in-Err.error c.args.file.now) left _ _ _ _ _ _ _ _
     (unread_is c.in-Err.error c.args.file.now (told c.args.file.now) input (task_shown c.args.task) _ _ (c.in-Err.ensures.bytes told k) c.in-Err.ensures.cause same_texts)
-    (unread_silent c.in-Err.error c.args.file.now) l h i same_err says
+    (unread_silent c.in-Err.error c.args.file.now) l refl same_err says
 
 pub returns-in-Ok-lex-clause-exact : goal.returns-in-Ok-lex-clause-exact
-returns-in-Ok-lex-clause-exact g c = λ told left o e k l h i same_texts same_out same_err.
-    gives_file c.args.file.now (told c.args.file.now) c.as_slice-text.result.now c.as_slice.result.now _ (task_shown c.args.task) left o e _ _ _ _
+returns-in-Ok-lex-clause-exact g c = λ told left k l same_texts same_out same_err.
+    gives_file c.args.file.now (told c.args.file.now) c.as_slice-text.result.now c.as_slice.result.now _ (task_shown c.args.task) left _ _ _ _ _ _
     (subst (λ (t : List ℕ). (t ≡ told c.args.file.now) × (length (told c.args.file.now) ≤ most_bytes)) (sym c.as_slice-text.ensures) (c.in-Ok.ensures.bytes told k))
     (subst (λ (ts : List Token). IsOnlyAnswer c.as_slice-text.result.now (Ok ts)) (sym c.as_slice.ensures) c.in-Ok-lex.ensures.exact)
-    (c.with_tokens.ensures.exact left o e l h i same_out same_err)
+    (c.with_tokens.ensures.exact left l same_out same_err)
 
 pub returns-in-Ok-lex-clause-faults : goal.returns-in-Ok-lex-clause-faults
 returns-in-Ok-lex-clause-faults g c =
@@ -32,29 +32,29 @@ returns-in-Ok-lex-clause-faults g c =
     c.in-Ok.ensures.cause (c.with_tokens.ensures.faults (g.T.Texts.faults c.args.texts.now))
 
 pub returns-clause-exact : goal.returns-clause-exact
-returns-clause-exact g c = λ told left o e k l h i same_texts same_out same_err.
+returns-clause-exact g c = λ told left k l same_texts same_out same_err.
     let input = input_of left (g.I.Source.faults c.args.input.now) (g.I.Source.faults c.args.input.now) in
-    gives_said (AnswersFile c.args.file.now (told c.args.file.now) input (task_shown c.args.task)) (untokened c.in-Err-lex.error c.args.file.now c.as_slice-text.result.now) left o e _ _ _ _ _ _ _
+    gives_said (AnswersFile c.args.file.now (told c.args.file.now) input (task_shown c.args.task)) (untokened c.in-Err-lex.error c.args.file.now c.as_slice-text.result.now) left _ _ _ _ _ _ _ _
     (untokened_file c.in-Err-lex.error c.args.file.now (told c.args.file.now) c.as_slice-text.result.now input (task_shown c.args.task)
     (subst (λ (t : List ℕ). (t ≡ told c.args.file.now) × (length (told c.args.file.now) ≤ most_bytes)) (sym c.as_slice-text.ensures) (c.in-Ok.ensures.bytes told k))
     c.in-Err-lex.ensures.exact)
-    (untokened_silent c.in-Err-lex.error c.args.file.now c.as_slice-text.result.now) l h i same_err c.refuse_text.ensures.says
+    (untokened_silent c.in-Err-lex.error c.args.file.now c.as_slice-text.result.now) l refl same_err c.refuse_text.ensures.says
 
 pub returns-in-Err-clause-broken : goal.returns-in-Err-clause-broken
-returns-in-Err-clause-broken g c = λ told left o k l h fails a is more.
+returns-in-Err-clause-broken g c = λ told left k l fails a is more.
     let says = says_as (shown_of c.reading_refusal.result) (unread c.in-Err.error c.args.file.now) c.reading_refusal.ensures _ _ _ _ _ c.refuse.ensures.says in
     broken_said (unread c.in-Err.error c.args.file.now) a left _ _ _ _ _ _ _ _
     (unread_line_of c.in-Err.error c.args.file.now (told c.args.file.now) (steady left) (task_shown c.args.task) a (c.in-Err.ensures.bytes told k) is)
     l refl says
 
 pub returns-in-Ok-lex-clause-broken : goal.returns-in-Ok-lex-clause-broken
-returns-in-Ok-lex-clause-broken g c = λ told left o k l h fails a is more.
+returns-in-Ok-lex-clause-broken g c = λ told left k l fails a is more.
     let read = subst (λ (t : List ℕ). (t ≡ told c.args.file.now) × (length (told c.args.file.now) ≤ most_bytes)) (sym c.as_slice-text.ensures) (c.in-Ok.ensures.bytes told k) in
     let has = subst (λ (ts : List Token). HasTokens c.as_slice-text.result.now ts) (sym c.as_slice.ensures) c.in-Ok-lex.ensures.tokens in
-    c.with_tokens.ensures.broken left o l h fails a (lexed_file c.args.file.now (told c.args.file.now) c.as_slice-text.result.now c.as_slice.result.now (steady left) (task_shown c.args.task) a read has is) more
+    c.with_tokens.ensures.broken left l fails a (lexed_file c.args.file.now (told c.args.file.now) c.as_slice-text.result.now c.as_slice.result.now (steady left) (task_shown c.args.task) a read has is) more
 
 pub returns-clause-broken : goal.returns-clause-broken
-returns-clause-broken g c = λ told left o k l h fails a is more.
+returns-clause-broken g c = λ told left k l fails a is more.
     let read = subst (λ (t : List ℕ). (t ≡ told c.args.file.now) × (length (told c.args.file.now) ≤ most_bytes)) (sym c.as_slice-text.ensures) (c.in-Ok.ensures.bytes told k) in
     broken_said (untokened c.in-Err-lex.error c.args.file.now c.as_slice-text.result.now) a left _ _ _ _ _ _ _ _
     (untokened_line c.in-Err-lex.error c.args.file.now (told c.args.file.now) c.as_slice-text.result.now (steady left) (task_shown c.args.task) a read c.in-Err-lex.ensures.refused is)

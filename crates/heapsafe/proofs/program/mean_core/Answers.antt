@@ -5,9 +5,10 @@ use Rattle.heapsafe.proofs.Broken.{broken_mean, broken_unfinished}
 use Rattle.heapsafe.proofs.program.mean_core.Goals as goal
 
 pub returns-in-Ok-clause-exact : goal.returns-in-Ok-clause-exact
-returns-in-Ok-clause-exact g c = λ left o e k h i same_out same_err.
-    gives_mean c.args.file.now c.args.text.now c.args.core.now left o e _ _ _ _ _ _ _ _ _ _ _ i same_err c.args.steps c.in-Ok.end
-    (c.in-Ok.ensures.told left o k h) c.in-Ok.ensures.faults same_out c.finish.ensures.says
+returns-in-Ok-clause-exact g c = λ left k same_out same_err.
+    let told = c.in-Ok.ensures.told left k in
+    gives_mean c.args.file.now c.args.text.now c.args.core.now left told.put _ _ _ _ _ _ _ _ _ _ _ _ told.took same_err c.args.steps c.in-Ok.end
+    told.is c.in-Ok.ensures.faults same_out c.finish.ensures.says
 
 pub returns-in-Ok-clause-faults : goal.returns-in-Ok-clause-faults
 returns-in-Ok-clause-faults g c = λ t.
@@ -22,18 +23,21 @@ returns-in-Ok-clause-output_fault g c = λ more.
     output_said false c.in-Ok.end c.args.file.now c.args.text.now c.args.core.now _ _ _ _ _ _ _ _ _ (mean_counts c.in-Ok.end _ _ _ _ c.in-Ok.ensures.faults) more (λ _. c.finish.ensures.says)
 
 pub returns-in-Err-clause-exact : goal.returns-in-Err-clause-exact
-returns-in-Err-clause-exact g c = λ left o e k h i same_out same_err.
-    gives_unfinished c.args.file.now c.args.text.now c.args.core.now left o e _ _ _ _ _ _ 0 0 _ _ _ i same_err c.args.steps
-    (c.in-Err.ensures.told left o k h) c.refuse.ensures.says
+returns-in-Err-clause-exact g c = λ left k same_out same_err.
+    let told = c.in-Err.ensures.told left k in
+    gives_unfinished c.args.file.now c.args.text.now c.args.core.now left told.put _ _ _ _ _ _ _ 0 0 _ _ _ told.took same_err c.args.steps
+    told.is c.refuse.ensures.says
 
 pub returns-in-Err-clause-faults : goal.returns-in-Err-clause-faults
 returns-in-Err-clause-faults g c = λ t.
     said_faults t _ _ _ _ _ _ _ _ _ _ 134 c.in-Err.ensures.faults.0 c.in-Err.ensures.faults.1 c.refuse.ensures.says
 
 pub returns-in-Ok-clause-broken : goal.returns-in-Ok-clause-broken
-returns-in-Ok-clause-broken g c = λ left o k h fails a is more.
-    broken_mean c.args.file.now c.args.text.now c.args.core.now left o _ _ _ _ _ _ _ _ h c.args.steps a c.in-Ok.end more is (c.in-Ok.ensures.told left o k h) c.finish.ensures.says
+returns-in-Ok-clause-broken g c = λ left k fails a is more.
+    let told = c.in-Ok.ensures.told left k in
+    broken_mean c.args.file.now c.args.text.now c.args.core.now left told.put _ _ _ _ _ _ _ _ told.took c.args.steps a c.in-Ok.end more is told.is c.finish.ensures.says
 
 pub returns-in-Err-clause-broken : goal.returns-in-Err-clause-broken
-returns-in-Err-clause-broken g c = λ left o k h fails a is more.
-    broken_unfinished c.args.file.now c.args.text.now c.args.core.now left o _ _ _ _ _ _ _ _ h c.args.steps a more is (c.in-Err.ensures.told left o k h) c.refuse.ensures.says
+returns-in-Err-clause-broken g c = λ left k fails a is more.
+    let told = c.in-Err.ensures.told left k in
+    broken_unfinished c.args.file.now c.args.text.now c.args.core.now left told.put _ _ _ _ _ _ _ _ told.took c.args.steps a more is told.is c.refuse.ensures.says

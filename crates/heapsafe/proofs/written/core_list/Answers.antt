@@ -9,14 +9,14 @@ use Rattle.heapsafe.proofs.Broken.{broken_said, said_either}
 use Rattle.heapsafe.proofs.written.core_list.Goals as goal
 
 pub returns-in-Ok-clause-exact : goal.returns-in-Ok-clause-exact
-returns-in-Ok-clause-exact g c = λ left o e h i same_out same_err.
-    gives_same _ (core_shown c.args.file.now c.args.text.now (core_in (unit_view c.args.unit.now))) left o e _ _ _ _ (sym (ap (core_shown c.args.file.now c.args.text.now) c.in-Ok.ensures.core)) (c.write_core.ensures.exact left o e h i same_out same_err)
+returns-in-Ok-clause-exact g c = λ left same_out same_err.
+    gives_same _ (core_shown c.args.file.now c.args.text.now (core_in (unit_view c.args.unit.now))) left _ _ _ _ _ _ (sym (ap (core_shown c.args.file.now c.args.text.now) c.in-Ok.ensures.core)) (c.write_core.ensures.exact left same_out same_err)
 
 pub returns-in-Err-clause-exact : goal.returns-in-Err-clause-exact
-returns-in-Err-clause-exact g c = λ left o e h i same_out same_err.
-    gives_said (λ (a : Shown). a ≡ core_shown c.args.file.now c.args.text.now (core_in (unit_view c.args.unit.now))) (untyped c.in-Err.error c.args.file.now c.args.text.now) left o e (Some left) _ _ _ _ _ _
+returns-in-Err-clause-exact g c = λ left same_out same_err.
+    gives_said (λ (a : Shown). a ≡ core_shown c.args.file.now c.args.text.now (core_in (unit_view c.args.unit.now))) (untyped c.in-Err.error c.args.file.now c.args.text.now) left (Some left) _ _ _ _ _ _ _
     (untyped_core c.in-Err.error c.args.file.now c.args.text.now (core_in (unit_view c.args.unit.now)) c.in-Err.ensures.core)
-    (untyped_silent c.in-Err.error c.args.file.now c.args.text.now) refl h i same_err c.refuse_types.ensures.says
+    (untyped_silent c.in-Err.error c.args.file.now c.args.text.now) refl refl same_err c.refuse_types.ensures.says
 
 pub returns-in-Ok-clause-broken : goal.returns-in-Ok-clause-broken
 returns-in-Ok-clause-broken g c = λ left fails a is.

@@ -1,18 +1,18 @@
-use Rattle.std.proofs.Common.{◌∙◌, Some, inl, refl, sym, ap, ⊎_elim, arith}
-use Rattle.std.proofs.lemmas.List.{append-nil}
+use Rattle.std.proofs.Common.{[], inl, refl, ⊎_elim, arith}
 use Rattle.heapsafe.specs.Shown.{written}
+use Rattle.heapsafe.proofs.Told.{takes_none}
 use Rattle.heapsafe.proofs.Broken.{broken_text}
 use Rattle.heapsafe.proofs.written.write_text.Goals as goal
 
 pub returns-in-Ok-clause-exact : goal.returns-in-Ok-clause-exact
-returns-in-Ok-clause-exact g c = λ left o e h i same_out same_err. record {
+returns-in-Ok-clause-exact g c = λ left same_out same_err. record {
   shown = written c.args.text.now;
   is = inl refl;
   rest = left;
   is_left = refl;
   is_read = refl;
-  out_took = c.in-Ok.ensures.bytes o h;
-  err_took = i ∙ ap Some (sym (append-nil e));
+  out_took = c.in-Ok.ensures.bytes;
+  err_took = takes_none _ _ [] refl refl;
   status = refl;
 }
 

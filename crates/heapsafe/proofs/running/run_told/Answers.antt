@@ -6,7 +6,7 @@ use Rattle.compiled_code.specs.Compiled.{IsCompiled}
 use Rattle.flat_codegen.specs.Lasting.{LeavesObjects, MakesSteps}
 use Rattle.flat_codegen.specs.Running.{RunAnswers}
 use Rattle.flat_machine.specs.Machined.{steps_made}
-use Rattle.heapsafe.proofs.program.run_code.Goals as goal
+use Rattle.heapsafe.proofs.running.run_told.Goals as goal
 
 pub returns-clause-told : goal.returns-clause-told
 returns-clause-told g c = λ left taken k h.
