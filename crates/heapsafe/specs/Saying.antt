@@ -77,6 +77,16 @@ Says taken taken' faults faults' bytes status result =
     ((faults' ≡ faults) × (result ≡ status) × TakesAll taken taken' bytes)
     ⊎ ((faults' ≡ faults + 1) × (result ≡ 133) × TakesFront taken taken' bytes)
 
+-- it took no line but those of leaks
+abbrev pub TakesLeaks : Option (List ℕ) → Option (List ℕ) → Type 0
+TakesLeaks taken taken' = (leaks : List Leak) × TakesAll taken taken' (leak_lines leaks)
+
+-- the status of want of memory: the error stream took its line, and the first of these holds; or the status is a program's own,
+-- the second holds, and the error stream took no line but those of leaks
+abbrev pub Wants : Type 0 → Type 0 → Option (List ℕ) → Option (List ℕ) → ℕ → Type 0
+Wants Stays Own taken taken' result =
+    result ≡ 134 → (Stays × TakesAll taken taken' no_memory.err) ⊎ (Own × TakesLeaks taken taken')
+
 -- no write to the error stream failed, and the status is this one; or one did, and it is 133
 abbrev pub SaysCounts : ℕ → ℕ → ℕ → ℕ → Type 0
 SaysCounts faults faults' status result =

@@ -1,14 +1,15 @@
-use Rattle.std.proofs.Common.{◌∙◌, ℕ, List, Some, Ok, Err, inl, inr, refl, sym, subst, map, Bor}
+use Rattle.std.proofs.Common.{◌∙◌, ℕ, List, Some, Ok, Err, inl, inr, refl, sym, subst, map, Bor, arith}
 use Rattle.command_words.specs.Commands.{Generated, command_of, task_shown, IsRead, Command as Asked}
 use Rattle.command_words.specs.declared.command.Command.{Command}
 use Rattle.command_words.specs.declared.error.WordsError.{WordsError}
 use Rattle.heapsafe.specs.Shown.{usage, no_memory, text_fault}
 use Rattle.heapsafe.specs.Program.{input_of, steady}
-use Rattle.heapsafe.specs.Answer.{Answers, AnswersGenerated, AnswersCommand}
+use Rattle.heapsafe.specs.Answer.{Answers, AnswersGenerated, AnswersCommand, AsksNoMeaning, AsksNone}
 use Rattle.heapsafe.proofs.Told.{gives_said, gives_as, gives_left, one_file, usage_is}
 use Rattle.heapsafe.proofs.Broken.{broken_left, broken_said, wanting_line}
 use Rattle.std.specs.Prelude.{Option}
 use Rattle.heapsafe.specs.Saying.{Says}
+use Rattle.heapsafe.proofs.Wanting.{unwanted, wanted, wants_more}
 use Rattle.heapsafe.proofs.heapsafe.Goals as goal
 
 pub returns-in-Ok-OnFile-clause-exact : goal.returns-in-Ok-OnFile-clause-exact
@@ -74,3 +75,18 @@ returns-in-Err-Usage-clause-broken g c = λ told left k l fails a is more.
 pub returns-in-Err-NoMemory-clause-broken : goal.returns-in-Err-NoMemory-clause-broken
 returns-in-Err-NoMemory-clause-broken g c = λ told left k l fails a is more.
     broken_said no_memory a left _ _ _ _ _ _ _ _ (inr wanting_line) l refl c.refuse-in-Err-NoMemory.ensures.says
+
+pub returns-in-Ok-OnFile-clause-memory : goal.returns-in-Ok-OnFile-clause-memory
+returns-in-Ok-OnFile-clause-memory g c =
+    let words : List (List ℕ) = map (λ (w : Bor (List ℕ)). w.now) c.args.words.now in
+    let read = subst (λ (command : Command). IsRead (command_of words) (Ok command)) c.in-Ok-OnFile.field-0-is c.in-Ok-OnFile.ensures.read in
+    wants_more _ _ _ _ _ _ _ (λ stays one. stays (subst AsksNoMeaning read one)) (λ own none. own (subst AsksNone read none)) c.with_file.ensures.memory
+
+pub returns-in-Ok-Generated-clause-memory : goal.returns-in-Ok-Generated-clause-memory
+returns-in-Ok-Generated-clause-memory g c = wants_more _ _ _ _ _ _ _ (λ stays one. (refl, stays)) (λ own. absurd own) c.run_generated.ensures.memory
+
+pub returns-in-Err-Usage-clause-memory : goal.returns-in-Err-Usage-clause-memory
+returns-in-Err-Usage-clause-memory g c = unwanted _ _ _ _ _ _ 120 _ usage.err (λ h. omega (arith, h)) c.refuse.ensures.says
+
+pub returns-in-Err-NoMemory-clause-memory : goal.returns-in-Err-NoMemory-clause-memory
+returns-in-Err-NoMemory-clause-memory g c = wanted _ _ no_memory _ _ _ _ _ (λ one. (refl, refl)) (λ h. refl) c.refuse-in-Err-NoMemory.ensures.says

@@ -9,6 +9,7 @@ use Rattle.command_words.specs.Commands.{task_shown}
 use Rattle.heapsafe.specs.Saying.{shown_of, unread, untokened}
 use Rattle.heapsafe.proofs.Told.{gives_said, says_as, unread_is, unread_silent, untokened_file, untokened_silent, gives_file, faults_as}
 use Rattle.heapsafe.proofs.Broken.{broken_said, lexed_file, unread_line_of, untokened_line}
+use Rattle.heapsafe.proofs.Wanting.{unread_wants, untokened_wants, wanted}
 use Rattle.heapsafe.proofs.with_file.Goals as goal
 
 pub returns-in-Err-clause-exact : goal.returns-in-Err-clause-exact
@@ -59,3 +60,12 @@ returns-clause-broken g c = λ told left k l fails a is more.
     broken_said (untokened c.in-Err-lex.error c.args.file.now c.as_slice-text.result.now) a left _ _ _ _ _ _ _ _
     (untokened_line c.in-Err-lex.error c.args.file.now (told c.args.file.now) c.as_slice-text.result.now (steady left) (task_shown c.args.task) a read c.in-Err-lex.ensures.refused is)
     l refl c.refuse_text.ensures.says
+
+pub returns-in-Err-clause-memory : goal.returns-in-Err-clause-memory
+returns-in-Err-clause-memory g c =
+    let says = says_as (shown_of c.reading_refusal.result) (unread c.in-Err.error c.args.file.now) c.reading_refusal.ensures _ _ _ _ _ c.refuse.ensures.says in
+    wanted _ _ (unread c.in-Err.error c.args.file.now) _ _ _ _ _ (λ one. (refl, refl)) (unread_wants c.in-Err.error c.args.file.now) says
+
+pub returns-clause-memory : goal.returns-clause-memory
+returns-clause-memory g c =
+    wanted _ _ (untokened c.in-Err-lex.error c.args.file.now c.as_slice-text.result.now) _ _ _ _ _ (λ one. (refl, refl)) (untokened_wants c.in-Err-lex.error c.args.file.now c.as_slice-text.result.now) c.refuse_text.ensures.says

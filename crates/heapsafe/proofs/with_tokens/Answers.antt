@@ -7,6 +7,7 @@ use Rattle.heapsafe.proofs.Told.{gives_said}
 use Rattle.heapsafe.proofs.Trees.{gives_tree, unparsed_is, unparsed_silent}
 use Rattle.std.proofs.Common.{refl}
 use Rattle.heapsafe.proofs.Broken.{broken_said, unparsed_line}
+use Rattle.heapsafe.proofs.Wanting.{unparsed_wants, wanted}
 use Rattle.heapsafe.proofs.with_tokens.Goals as goal
 
 pub returns-in-Ok-clause-exact : goal.returns-in-Ok-clause-exact
@@ -30,3 +31,7 @@ returns-in-Err-clause-broken g c = λ left k fails a is more.
     broken_said (unparsed c.in-Err.error c.args.file.now c.args.text.now) a left _ _ _ _ _ _ _ _
     (unparsed_line c.in-Err.error c.args.file.now c.args.text.now c.args.tokens.now (steady left) (task_shown c.args.task) a c.in-Err.ensures.refused is)
     k refl c.refuse_tokens.ensures.says
+
+pub returns-in-Err-clause-memory : goal.returns-in-Err-clause-memory
+returns-in-Err-clause-memory g c =
+    wanted _ _ (unparsed c.in-Err.error c.args.file.now c.args.text.now) _ _ _ _ _ (λ one. (refl, refl)) (unparsed_wants c.in-Err.error c.args.file.now c.args.text.now) c.refuse_tokens.ensures.says

@@ -1,12 +1,13 @@
-use Rattle.std.proofs.Common.{sym, subst}
+use Rattle.std.proofs.Common.{sym, subst, refl}
 use Rattle.c_tree.specs.StatementView.{unit_view}
 use Rattle.command_words.specs.declared.command.Task.{Task}
 use Rattle.command_words.specs.Commands.{task_shown}
 use Rattle.heapsafe.specs.Program.{input_of, steady}
-use Rattle.heapsafe.specs.Answer.{Does}
+use Rattle.heapsafe.specs.Answer.{Does, MeansNone, RunsNone}
 use Rattle.heapsafe.specs.Saying.{Gives}
 use Rattle.heapsafe.proofs.Told.{gives_left}
 use Rattle.heapsafe.proofs.Broken.{broken_left}
+use Rattle.heapsafe.proofs.Wanting.{wants_more}
 use Rattle.heapsafe.proofs.with_tree.Goals as goal
 
 pub returns-in-Run-clause-exact : goal.returns-in-Run-clause-exact
@@ -74,3 +75,24 @@ returns-in-List-clause-broken g c = λ left k fails a is more.
 pub returns-in-Live-clause-broken : goal.returns-in-Live-clause-broken
 returns-in-Live-clause-broken g c = λ left k fails a is more.
     broken_left a left _ _ _ _ _ k (c.core_live.ensures.broken left fails a (subst (λ (t : Task). Does c.args.file.now c.args.text.now (unit_view c.args.unit.now) (steady left) (task_shown t) a) c.in-Live.is is))
+
+pub returns-in-Run-clause-memory : goal.returns-in-Run-clause-memory
+returns-in-Run-clause-memory g c =
+    wants_more _ _ _ _ _ _ _ (λ stays one. stays tt) (λ own none. subst (λ (t : Task). RunsNone (task_shown t)) c.in-Run.is none) c.run_program.ensures.memory
+
+pub returns-in-Mean-clause-memory : goal.returns-in-Mean-clause-memory
+returns-in-Mean-clause-memory g c =
+    wants_more _ _ _ _ _ _ _ (λ stays one. absurd (subst (λ (t : Task). MeansNone (task_shown t)) c.in-Mean.is one)) (λ own none. subst (λ (t : Task). RunsNone (task_shown t)) c.in-Mean.is none)
+    c.run_program-in-Mean.ensures.memory
+
+pub returns-in-Print-clause-memory : goal.returns-in-Print-clause-memory
+returns-in-Print-clause-memory g c = wants_more _ _ _ _ _ _ _ (λ stays one. (refl, stays)) (λ own. absurd own) c.print.ensures.memory
+
+pub returns-in-Layout-clause-memory : goal.returns-in-Layout-clause-memory
+returns-in-Layout-clause-memory g c = wants_more _ _ _ _ _ _ _ (λ stays one. (refl, stays)) (λ own. absurd own) c.layouts.ensures.memory
+
+pub returns-in-List-clause-memory : goal.returns-in-List-clause-memory
+returns-in-List-clause-memory g c = wants_more _ _ _ _ _ _ _ (λ stays one. (refl, stays)) (λ own. absurd own) c.core_list.ensures.memory
+
+pub returns-in-Live-clause-memory : goal.returns-in-Live-clause-memory
+returns-in-Live-clause-memory g c = wants_more _ _ _ _ _ _ _ (λ stays one. (refl, stays)) (λ own. absurd own) c.core_live.ensures.memory

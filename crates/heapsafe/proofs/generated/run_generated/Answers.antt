@@ -5,6 +5,7 @@ use Rattle.heapsafe.specs.Answer.{AnswersGenerated}
 use Rattle.heapsafe.specs.Shown.{Shown, written, no_memory}
 use Rattle.heapsafe.proofs.Told.{gives_more, gives_said}
 use Rattle.heapsafe.proofs.Broken.{broken_said, wanting_line}
+use Rattle.heapsafe.proofs.Wanting.{wanted}
 use Rattle.heapsafe.proofs.generated.run_generated.Goals as goal
 
 pub returns-in-Ok-clause-exact : goal.returns-in-Ok-clause-exact
@@ -24,3 +25,6 @@ returns-in-Ok-clause-broken g c = λ left fails a is. c.write_summary.ensures.br
 pub returns-in-Err-clause-broken : goal.returns-in-Err-clause-broken
 returns-in-Err-clause-broken g c = λ left fails a is.
     broken_said no_memory a left _ _ _ _ _ _ _ _ (inr wanting_line) refl refl c.refuse.ensures.says
+
+pub returns-in-Err-clause-memory : goal.returns-in-Err-clause-memory
+returns-in-Err-clause-memory g c = wanted _ _ no_memory _ _ _ _ _ refl (λ h. refl) c.refuse.ensures.says

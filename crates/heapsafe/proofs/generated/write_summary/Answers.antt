@@ -1,8 +1,9 @@
 use Rattle.std.proofs.Common.{[], inl, refl, ⊎_elim, arith}
 use Rattle.generated_text.specs.Summary.{summary_line}
-use Rattle.heapsafe.specs.Shown.{written}
+use Rattle.heapsafe.specs.Shown.{written, output_fault}
 use Rattle.heapsafe.proofs.Told.{takes_none}
 use Rattle.heapsafe.proofs.Broken.{broken_text}
+use Rattle.heapsafe.proofs.Wanting.{unwanted}
 use Rattle.heapsafe.proofs.generated.write_summary.Goals as goal
 
 pub returns-in-Ok-clause-exact : goal.returns-in-Ok-clause-exact
@@ -24,3 +25,9 @@ returns-in-Ok-clause-broken g c = λ left fails a is.
 pub returns-in-Err-clause-broken : goal.returns-in-Err-clause-broken
 returns-in-Err-clause-broken g c = λ left fails a is.
     broken_text (summary_line c.args.summary) a left _ _ _ _ _ _ _ is c.in-Err.ensures.bytes c.refuse.ensures.says
+
+pub returns-in-Ok-clause-memory : goal.returns-in-Ok-clause-memory
+returns-in-Ok-clause-memory g c = λ is. absurd (omega (arith, is))
+
+pub returns-in-Err-clause-memory : goal.returns-in-Err-clause-memory
+returns-in-Err-clause-memory g c = unwanted _ _ _ _ _ _ 133 _ output_fault.err (λ h. omega (arith, h)) c.refuse.ensures.says

@@ -1,7 +1,8 @@
 use Rattle.std.proofs.Common.{sym, subst}
 use Rattle.heapsafe.specs.declared.program.Way.{Way}
-use Rattle.heapsafe.specs.Program.{AnswersWay, input_of, steady}
+use Rattle.heapsafe.specs.Program.{AnswersWay, input_of, steady, OnMachine}
 use Rattle.heapsafe.specs.Saying.{Gives}
+use Rattle.heapsafe.proofs.Wanting.{wants_more}
 use Rattle.heapsafe.proofs.program.go.Goals as goal
 
 pub returns-in-Run-clause-exact : goal.returns-in-Run-clause-exact
@@ -21,3 +22,10 @@ returns-in-Run-clause-broken g c = λ left k fails a is more.
 pub returns-in-Mean-clause-broken : goal.returns-in-Mean-clause-broken
 returns-in-Mean-clause-broken g c = λ left k fails a is more.
     c.mean_core.ensures.broken left k fails a (subst (λ (w : Way). AnswersWay c.args.file.now c.args.text.now c.args.core.now (steady left) w a) c.in-Mean.is is) more
+
+pub returns-in-Run-clause-memory : goal.returns-in-Run-clause-memory
+returns-in-Run-clause-memory g c = wants_more _ _ _ _ _ _ _ (λ stays on. stays) (λ own. own) c.run_core.ensures.memory
+
+pub returns-in-Mean-clause-memory : goal.returns-in-Mean-clause-memory
+returns-in-Mean-clause-memory g c =
+    wants_more _ _ _ _ _ _ _ (λ stays on. absurd (subst (λ (w : Way). OnMachine w) c.in-Mean.is on)) (λ own. own) c.mean_core.ensures.memory

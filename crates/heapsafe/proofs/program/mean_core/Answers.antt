@@ -1,7 +1,9 @@
-use Rattle.std.proofs.Common.{false}
+use Rattle.std.proofs.Common.{false, refl, inr}
 use Rattle.heapsafe.proofs.Told.{said_faults}
 use Rattle.heapsafe.proofs.Ended.{gives_mean, gives_unfinished, input_said, mean_counts, output_said, program_faults}
 use Rattle.heapsafe.proofs.Broken.{broken_mean, broken_unfinished}
+use Rattle.heapsafe.proofs.Wanting.{wanted}
+use Rattle.heapsafe.specs.Shown.{no_memory}
 use Rattle.heapsafe.proofs.program.mean_core.Goals as goal
 
 pub returns-in-Ok-clause-exact : goal.returns-in-Ok-clause-exact
@@ -41,3 +43,9 @@ pub returns-in-Err-clause-broken : goal.returns-in-Err-clause-broken
 returns-in-Err-clause-broken g c = λ left k fails a is more.
     let told = c.in-Err.ensures.told left k in
     broken_unfinished c.args.file.now c.args.text.now c.args.core.now left told.put _ _ _ _ _ _ _ _ told.took c.args.steps a more is told.is c.refuse.ensures.says
+
+pub returns-in-Ok-clause-memory : goal.returns-in-Ok-clause-memory
+returns-in-Ok-clause-memory g c = λ is. inr (tt, c.finish.ensures.own is)
+
+pub returns-in-Err-clause-memory : goal.returns-in-Err-clause-memory
+returns-in-Err-clause-memory g c = wanted _ _ no_memory _ _ _ _ _ tt (λ h. refl) c.refuse.ensures.says

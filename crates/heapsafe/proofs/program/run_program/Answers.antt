@@ -9,6 +9,7 @@ use Rattle.std.proofs.Common.{refl, subst}
 use Rattle.c_decls.specs.Refusals.{Checked}
 use Rattle.core_tree.specs.declared.program.Core.{Core}
 use Rattle.heapsafe.proofs.Broken.{broken_said, untyped_line}
+use Rattle.heapsafe.proofs.Wanting.{untyped_wants, wanted}
 use Rattle.heapsafe.proofs.program.run_program.Goals as goal
 
 pub returns-in-Ok-clause-exact : goal.returns-in-Ok-clause-exact
@@ -32,3 +33,7 @@ returns-in-Err-clause-broken g c = λ left k fails a is more.
     broken_said (untyped c.in-Err.error c.args.file.now c.args.text.now) a left _ _ _ _ _ _ _ _
     (untyped_line c.in-Err.error c.args.file.now c.args.text.now (core_in (unit_view c.args.unit.now)) (steady left) c.args.way a c.in-Err.ensures.core is)
     k refl c.refuse_types.ensures.says
+
+pub returns-in-Err-clause-memory : goal.returns-in-Err-clause-memory
+returns-in-Err-clause-memory g c =
+    wanted _ _ (untyped c.in-Err.error c.args.file.now c.args.text.now) _ _ _ _ _ (λ on. (refl, refl)) (untyped_wants c.in-Err.error c.args.file.now c.args.text.now) c.refuse_types.ensures.says

@@ -6,6 +6,7 @@ use Rattle.heapsafe.specs.Saying.{untyped}
 use Rattle.heapsafe.proofs.Told.{gives_said, gives_same}
 use Rattle.heapsafe.proofs.Typed.{untyped_core, untyped_silent}
 use Rattle.heapsafe.proofs.Broken.{broken_said, said_either}
+use Rattle.heapsafe.proofs.Wanting.{untyped_wants, wanted}
 use Rattle.heapsafe.proofs.written.core_list.Goals as goal
 
 pub returns-in-Ok-clause-exact : goal.returns-in-Ok-clause-exact
@@ -27,3 +28,7 @@ returns-in-Err-clause-broken g c = λ left fails a is.
     broken_said (untyped c.in-Err.error c.args.file.now c.args.text.now) a left _ _ _ _ _ _ _ _
     (said_either (untyped c.in-Err.error c.args.file.now c.args.text.now) a _ is (untyped_core c.in-Err.error c.args.file.now c.args.text.now (core_in (unit_view c.args.unit.now)) c.in-Err.ensures.core))
     refl refl c.refuse_types.ensures.says
+
+pub returns-in-Err-clause-memory : goal.returns-in-Err-clause-memory
+returns-in-Err-clause-memory g c =
+    wanted _ _ (untyped c.in-Err.error c.args.file.now c.args.text.now) _ _ _ _ _ refl (untyped_wants c.in-Err.error c.args.file.now c.args.text.now) c.refuse_types.ensures.says
