@@ -2,8 +2,8 @@
 //!
 //! [`heapsafe`] takes the words, the texts by name, the input, and the two output streams, and answers the status. Its
 //! contract is the definition `Answers` in `specs/Answer.antt`: what is read from the input, written to both streams and
-//! answered, for every words, texts and input; and that a status for a failure of the outside comes only where the outside
-//! failed.
+//! answered, for every words, texts and input, whether a stream tells what it takes or not; that a status for a failure of the
+//! outside comes only where the outside failed; and what want of memory leaves as it was.
 #![tactic(auto)]
 
 ghost use Rattle.std.specs.Prelude.{◌≡◌, ◌+◌, ◌<◌, ◌^◌, ℕ, List, Some, None, map, All};
@@ -182,13 +182,14 @@ fn with_file<T: Texts, I: Source, O: Sink, E: Sink>(
 /// `words` are the arguments after the program's name. The texts are read by name, `input` is the program's input, its
 /// output goes to `out`, and what is said of it goes to `err`.
 ///
-/// Where texts, input and streams are told and neither texts nor streams failed, what is read, written and answered is by
-/// `Answers`, or nothing but the line of want of memory. The status of a failure of the texts, the input or a stream comes
-/// only where that failed, or as a program's own; and where it failed its line is said, unless the error stream fails. Where a
-/// write to a stream failed, the input lost, and each stream took, a front of what the answer reads and writes, or the error
-/// stream a front of the line of a failure. Where the text could not be read, the input and the output are as before; so is the
-/// input where no program of a file is run; of words that name no file the texts are not asked; and of words that are not taken
-/// nothing but the error stream is.
+/// Where texts and input are told and neither texts nor streams failed, what is read and answered, and what each stream took that
+/// tells of it, is by `Answers`, or nothing but the line of want of memory. The status of a failure of the texts, the input or a
+/// stream comes only where that failed, or as a program's own; and where it failed its line is said, unless the error stream
+/// fails. Where a write to a stream failed, the input lost, and each stream took, a front of what the answer reads and writes, or
+/// the error stream a front of the line of a failure. The status of want of memory comes with its line, and input and output are
+/// as before unless a program is evaluated by `mean`; or it is a program's own, and no line was said but those of leaks. Where the
+/// text could not be read, the input and the output are as before; so is the input where no program of a file is run; of words
+/// that name no file the texts are not asked; and of words that are not taken nothing but the error stream is.
 pub fn heapsafe<T: Texts, I: Source, O: Sink, E: Sink>(
     alloc: Global,
     words: &[&str],
