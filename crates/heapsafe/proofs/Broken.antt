@@ -11,7 +11,7 @@ use Rattle.hs_base.specs.Object.{Object}
 use Rattle.hs_base.specs.Trace.{Event, In, Out, New, Gone, Enter, Leave, bytes_in, bytes_out}
 use Rattle.bad_free_report.specs.Report.{end_report}
 use Rattle.core_tree.specs.declared.program.Core.{Core}
-use Rattle.meaning_run.specs.Meant.{StopsAtIn, Stopped, MeanAnswers, MeanCounts}
+use Rattle.meaning_run.specs.Meant.{StopsAtIn, Stopped, MeanAnswers}
 use Rattle.meaning_run.specs.Meant as meant_specs
 use Rattle.flat_codegen.specs.Lasting.{cut_run}
 use Rattle.flat_codegen.specs.Running.{RunAnswers}

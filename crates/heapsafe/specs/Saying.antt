@@ -87,6 +87,19 @@ abbrev pub Wants : Type 0 → Type 0 → Option (List ℕ) → Option (List ℕ)
 Wants Stays Own taken taken' result =
     result ≡ 134 → (Stays × TakesAll taken taken' no_memory.err) ⊎ (Own × TakesLeaks taken taken')
 
+-- a write to one of the two streams failed
+abbrev pub WriteFails : ℕ → ℕ → ℕ → ℕ → Type 0
+WriteFails o o' e e' = (o < o') ⊎ (e < e')
+
+-- a status for a failure of the outside
+abbrev pub IsFault : ℕ → Type 0
+IsFault status = (status ≡ 121) ⊎ (status ≡ 132) ⊎ (status ≡ 133)
+
+-- such a status comes where the first of these holds; or it is a program's own, the second holds, and the error stream took no
+-- line but those of leaks
+abbrev pub HasCause : Type 0 → Type 0 → Option (List ℕ) → Option (List ℕ) → ℕ → Type 0
+HasCause Fails Own taken taken' result = IsFault result → Fails ⊎ (Own × TakesLeaks taken taken')
+
 -- no write to the error stream failed, and the status is this one; or one did, and it is 133
 abbrev pub SaysCounts : ℕ → ℕ → ℕ → ℕ → Type 0
 SaysCounts faults faults' status result =
@@ -122,10 +135,6 @@ Faults t t' i i' o o' e e' result =
     ((t' ≡ t) × (i' ≡ i) × (o' ≡ o) × (e' ≡ e)) ⊎ ((t ≤ t') × (i ≤ i') × (o ≤ o') × (e ≤ e') × ((o < o') ⊎ (e < e')) × (result ≡ 133))
     ⊎ ((t < t') × (i' ≡ i) × (o' ≡ o) × (e' ≡ e) × (result ≡ 121))
     ⊎ ((t' ≡ t) × (i < i') × (o' ≡ o) × (e' ≡ e) × (result ≡ 132))
-
--- a write to one of the two streams failed
-abbrev pub WriteFails : ℕ → ℕ → ℕ → ℕ → Type 0
-WriteFails o o' e e' = (o < o') ⊎ (e < e')
 
 -- the lines that are said of a failure of the outside, and of want of memory
 abbrev pub IsFaultLine : List ℕ → Type 0

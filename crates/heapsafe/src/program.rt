@@ -1,6 +1,6 @@
 //! Running the program of a text: on a machine, or by the meaning of its core.
 
-ghost use Rattle.std.specs.Prelude.{◌≡◌, ◌+◌, ◌<◌, ◌≤◌, ◌^◌, ⊤, ℕ, List, [], Some, false, IsTrue};
+ghost use Rattle.std.specs.Prelude.{◌≡◌, ◌⊎◌, ◌+◌, ◌<◌, ◌≤◌, ◌^◌, ⊤, ℕ, List, [], Some, false, IsTrue};
 ghost use Rattle.c_tree.specs.StatementView.{unit_view};
 ghost use Rattle.c_elab.specs.Core.{IsOfTokens, core_in};
 ghost use Rattle.core_tree.specs.Sound.{IsSound};
@@ -13,7 +13,7 @@ ghost use Rattle.bad_free_report.specs.Report.{end_report};
 ghost use Rattle.heapsafe.specs.Shown.{Shown, input_fault, output_fault};
 ghost use Rattle.heapsafe.specs.Program.{AnswersWay, IsBounded, OnMachine, TellsNone, input_of, status_of, steady};
 ghost use Rattle.heapsafe.specs.Answer.{AnswersTypes};
-ghost use Rattle.heapsafe.specs.Saying.{Breaks, Faults, Gives, Says, SaysCounts, SaysLeaks, SaysMore, TakesLeaks, Wants, WriteFails};
+ghost use Rattle.heapsafe.specs.Saying.{Breaks, Faults, Gives, HasCause, Says, SaysCounts, SaysLeaks, SaysMore, TakesLeaks, Wants, WriteFails};
 
 use crate::leaks::write_leaks;
 use crate::refusal::{OUTPUT_FAULT, Refusal, refuse, refuse_types};
@@ -62,7 +62,6 @@ pub(crate) fn status_of(end: &End) -> u8
 fn finish<E: Sink>(end: &End, core: &Core, file: &str, text: &[u8], err: &mut E) -> u8
     requires { E.faults err.old + 1 < 2 ^ 64 }
     ensures says { Says (E.taken err.old) (E.taken err.new) (E.faults err.old) (E.faults err.new) (end_report core.now file.now text.now end.now) (status_of end.now) result }
-    ensures own { result ≡ 134 → TakesLeaks (E.taken err.old) (E.taken err.new) }
 {
     match report(end, core, file, text, err) {
         Ok(()) => status_of(end),
@@ -78,7 +77,7 @@ fn finish_exit<E: Sink>(code: u8, machine: &Machine, leaks: bool, err: &mut E) -
     ensures none { leaks ≡ false → Says (E.taken err.old) (E.taken err.new) (E.faults err.old) (E.faults err.new) [] code result }
     ensures leaks { IsTrue leaks → (places : ℕ → ℕ) (objects : List Object) → Keeps machine.now.kept.memory places objects → SaysLeaks objects (E.taken err.old) (E.taken err.new) (E.faults err.old) (E.faults err.new) code result }
     ensures counts { SaysCounts (E.faults err.old) (E.faults err.new) code result }
-    ensures own { result ≡ 134 → TakesLeaks (E.taken err.old) (E.taken err.new) }
+    ensures own { E.faults err.new ≡ E.faults err.old → TakesLeaks (E.taken err.old) (E.taken err.new) }
 {
     if !leaks {
         return code;
@@ -105,7 +104,7 @@ fn finish_run<E: Sink>(
     ensures says { TellsNone leaks end.now → Says (E.taken err.old) (E.taken err.new) (E.faults err.old) (E.faults err.new) (end_report core.now file.now text.now end.now) (status_of end.now) result }
     ensures leaks { (code : ℕ) → IsTrue leaks → end.now ≡ Exit code → (places : ℕ → ℕ) (objects : List Object) → Keeps machine.now.kept.memory places objects → SaysLeaks objects (E.taken err.old) (E.taken err.new) (E.faults err.old) (E.faults err.new) code result }
     ensures counts { SaysCounts (E.faults err.old) (E.faults err.new) (status_of end.now) result }
-    ensures own { result ≡ 134 → TakesLeaks (E.taken err.old) (E.taken err.new) }
+    ensures own { (code : ℕ) → end.now ≡ Exit code → E.faults err.new ≡ E.faults err.old → TakesLeaks (E.taken err.old) (E.taken err.new) }
 {
     match end {
         End::Exit(code) => finish_exit(*code, machine, leaks, err),
@@ -139,6 +138,7 @@ fn run_core<I: Source, O: Sink, E: Sink>(
     ensures output_fault { O.faults out.old < O.faults out.new → Says (E.taken err.old) (E.taken err.new) (E.faults err.old) (E.faults err.new) output_fault.err 133 result }
     ensures broken { (left : List ℕ) → I.left input.old ≡ Some left → WriteFails (O.faults out.old) (O.faults out.new) (E.faults err.old) (E.faults err.new) → (a : Shown) → AnswersWay file.now text.now core.now (steady left) (Way.Run limits steps leaks) a → SaysMore a → Breaks a left (I.left input.new) (O.taken out.old) (O.taken out.new) (E.taken err.old) (E.taken err.new) }
     ensures memory { Wants ((input.new ≡ input.old) × (out.new ≡ out.old)) (⊤) (E.taken err.old) (E.taken err.new) result }
+    ensures cause { HasCause ((I.faults input.old < I.faults input.new) ⊎ WriteFails (O.faults out.old) (O.faults out.new) (E.faults err.old) (E.faults err.new)) ⊤ (E.taken err.old) (E.taken err.new) result }
 {
     match run_code(alloc, core, limits, steps, input, out) {
         Ok((end, machine)) => finish_run(&end, &machine, leaks, core, file, text, err),
@@ -168,6 +168,7 @@ fn mean_core<I: Source, O: Sink, E: Sink>(
     ensures output_fault { O.faults out.old < O.faults out.new → Says (E.taken err.old) (E.taken err.new) (E.faults err.old) (E.faults err.new) output_fault.err 133 result }
     ensures broken { (left : List ℕ) → I.left input.old ≡ Some left → WriteFails (O.faults out.old) (O.faults out.new) (E.faults err.old) (E.faults err.new) → (a : Shown) → AnswersWay file.now text.now core.now (steady left) (Way.Mean steps) a → SaysMore a → Breaks a left (I.left input.new) (O.taken out.old) (O.taken out.new) (E.taken err.old) (E.taken err.new) }
     ensures memory { Wants (⊤) (⊤) (E.taken err.old) (E.taken err.new) result }
+    ensures cause { HasCause ((I.faults input.old < I.faults input.new) ⊎ WriteFails (O.faults out.old) (O.faults out.new) (E.faults err.old) (E.faults err.new)) ⊤ (E.taken err.old) (E.taken err.new) result }
 {
     match evaluate(alloc, core, steps, input, out) {
         Ok(end) => finish(&end, core, file, text, err),
@@ -197,6 +198,7 @@ fn go<I: Source, O: Sink, E: Sink>(
     ensures output_fault { O.faults out.old < O.faults out.new → Says (E.taken err.old) (E.taken err.new) (E.faults err.old) (E.faults err.new) output_fault.err 133 result }
     ensures broken { (left : List ℕ) → I.left input.old ≡ Some left → WriteFails (O.faults out.old) (O.faults out.new) (E.faults err.old) (E.faults err.new) → (a : Shown) → AnswersWay file.now text.now core.now (steady left) way a → SaysMore a → Breaks a left (I.left input.new) (O.taken out.old) (O.taken out.new) (E.taken err.old) (E.taken err.new) }
     ensures memory { Wants (OnMachine way → (input.new ≡ input.old) × (out.new ≡ out.old)) (⊤) (E.taken err.old) (E.taken err.new) result }
+    ensures cause { HasCause ((I.faults input.old < I.faults input.new) ⊎ WriteFails (O.faults out.old) (O.faults out.new) (E.faults err.old) (E.faults err.new)) ⊤ (E.taken err.old) (E.taken err.new) result }
 {
     match way {
         Way::Run {
@@ -232,6 +234,7 @@ pub(crate) fn run_program<I: Source, O: Sink, E: Sink>(
     ensures output_fault { O.faults out.old < O.faults out.new → Says (E.taken err.old) (E.taken err.new) (E.faults err.old) (E.faults err.new) output_fault.err 133 result }
     ensures broken { (left : List ℕ) → I.left input.old ≡ Some left → WriteFails (O.faults out.old) (O.faults out.new) (E.faults err.old) (E.faults err.new) → (a : Shown) → AnswersTypes file.now text.now (core_in (unit_view unit.now)) (steady left) way a → SaysMore a → Breaks a left (I.left input.new) (O.taken out.old) (O.taken out.new) (E.taken err.old) (E.taken err.new) }
     ensures memory { Wants (OnMachine way → (input.new ≡ input.old) × (out.new ≡ out.old)) (⊤) (E.taken err.old) (E.taken err.new) result }
+    ensures cause { HasCause ((I.faults input.old < I.faults input.new) ⊎ WriteFails (O.faults out.old) (O.faults out.new) (E.faults err.old) (E.faults err.new)) ⊤ (E.taken err.old) (E.taken err.new) result }
 {
     match elab(alloc, unit) {
         Ok(core) => go(alloc, file, text, &core, way, input, out, err),

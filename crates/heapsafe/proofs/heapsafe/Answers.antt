@@ -9,7 +9,7 @@ use Rattle.heapsafe.proofs.Told.{gives_said, gives_as, gives_left, one_file, usa
 use Rattle.heapsafe.proofs.Broken.{broken_left, broken_said, wanting_line}
 use Rattle.std.specs.Prelude.{Option}
 use Rattle.heapsafe.specs.Saying.{Says}
-use Rattle.heapsafe.proofs.Wanting.{unwanted, wanted, wants_more}
+use Rattle.heapsafe.proofs.Statuses.{unwanted, wanted, wants_more, cause_more, caused, no_fault_120, no_fault_134}
 use Rattle.heapsafe.proofs.heapsafe.Goals as goal
 
 pub returns-in-Ok-OnFile-clause-exact : goal.returns-in-Ok-OnFile-clause-exact
@@ -90,3 +90,20 @@ returns-in-Err-Usage-clause-memory g c = unwanted _ _ _ _ _ _ 120 _ usage.err (�
 
 pub returns-in-Err-NoMemory-clause-memory : goal.returns-in-Err-NoMemory-clause-memory
 returns-in-Err-NoMemory-clause-memory g c = wanted _ _ no_memory _ _ _ _ _ (λ one. (refl, refl)) (λ h. refl) c.refuse-in-Err-NoMemory.ensures.says
+
+pub returns-in-Ok-OnFile-clause-cause : goal.returns-in-Ok-OnFile-clause-cause
+returns-in-Ok-OnFile-clause-cause g c =
+    let words : List (List ℕ) = map (λ (w : Bor (List ℕ)). w.now) c.args.words.now in
+    let read = subst (λ (command : Command). IsRead (command_of words) (Ok command)) c.in-Ok-OnFile.field-0-is c.in-Ok-OnFile.ensures.read in
+    cause_more _ _ _ _ _ _ _ (λ h. h) (λ own none. own (subst AsksNone read none)) c.with_file.ensures.cause
+
+pub returns-in-Ok-Generated-clause-cause : goal.returns-in-Ok-Generated-clause-cause
+returns-in-Ok-Generated-clause-cause g c = cause_more _ _ _ _ _ _ _ (λ h. inr (inr h)) (λ own. absurd own) c.run_generated.ensures.cause
+
+pub returns-in-Err-Usage-clause-cause : goal.returns-in-Err-Usage-clause-cause
+returns-in-Err-Usage-clause-cause g c =
+    caused _ _ _ _ _ _ 120 _ usage.err (λ h. inr (inr (inr h))) (λ h. absurd (no_fault_120 h)) c.refuse.ensures.says
+
+pub returns-in-Err-NoMemory-clause-cause : goal.returns-in-Err-NoMemory-clause-cause
+returns-in-Err-NoMemory-clause-cause g c =
+    caused _ _ _ _ _ _ 134 _ no_memory.err (λ h. inr (inr (inr h))) (λ h. absurd (no_fault_134 h)) c.refuse-in-Err-NoMemory.ensures.says

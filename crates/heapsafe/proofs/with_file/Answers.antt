@@ -1,4 +1,4 @@
-use Rattle.std.proofs.Common.{ℕ, ◌≡◌, ◌≤◌, List, sym, subst, refl}
+use Rattle.std.proofs.Common.{ℕ, ◌≡◌, ◌≤◌, List, sym, subst, refl, inl, inr}
 use Rattle.std.specs.Prelude.{Ok, length}
 use Rattle.c_lexer.specs.declared.token.Token.{Token}
 use Rattle.c_lexer.specs.Tokens.{IsOnlyAnswer, HasTokens}
@@ -9,7 +9,7 @@ use Rattle.command_words.specs.Commands.{task_shown}
 use Rattle.heapsafe.specs.Saying.{shown_of, unread, untokened}
 use Rattle.heapsafe.proofs.Told.{gives_said, says_as, unread_is, unread_silent, untokened_file, untokened_silent, gives_file, faults_as}
 use Rattle.heapsafe.proofs.Broken.{broken_said, lexed_file, unread_line_of, untokened_line}
-use Rattle.heapsafe.proofs.Wanting.{unread_wants, untokened_wants, wanted}
+use Rattle.heapsafe.proofs.Statuses.{unread_wants, untokened_wants, wanted, cause_more, caused, unread_cause, untokened_no_fault}
 use Rattle.heapsafe.proofs.with_file.Goals as goal
 
 pub returns-in-Err-clause-exact : goal.returns-in-Err-clause-exact
@@ -69,3 +69,15 @@ returns-in-Err-clause-memory g c =
 pub returns-clause-memory : goal.returns-clause-memory
 returns-clause-memory g c =
     wanted _ _ (untokened c.in-Err-lex.error c.args.file.now c.as_slice-text.result.now) _ _ _ _ _ (λ one. (refl, refl)) (untokened_wants c.in-Err-lex.error c.args.file.now c.as_slice-text.result.now) c.refuse_text.ensures.says
+
+pub returns-in-Err-clause-cause : goal.returns-in-Err-clause-cause
+returns-in-Err-clause-cause g c =
+    let says = says_as (shown_of c.reading_refusal.result) (unread c.in-Err.error c.args.file.now) c.reading_refusal.ensures _ _ _ _ _ c.refuse.ensures.says in
+    caused _ _ _ _ _ _ _ _ _ (λ h. inr (inr (inr h))) (λ h. inl (unread_cause c.in-Err.error c.args.file.now _ _ c.in-Err.ensures.cause h)) says
+
+pub returns-in-Ok-lex-clause-cause : goal.returns-in-Ok-lex-clause-cause
+returns-in-Ok-lex-clause-cause g c = cause_more _ _ _ _ _ _ _ (λ h. inr h) (λ own. own) c.with_tokens.ensures.cause
+
+pub returns-clause-cause : goal.returns-clause-cause
+returns-clause-cause g c =
+    caused _ _ _ _ _ _ _ _ _ (λ h. inr (inr (inr h))) (λ h. absurd (untokened_no_fault c.in-Err-lex.error c.args.file.now c.as_slice-text.result.now h)) c.refuse_text.ensures.says

@@ -5,9 +5,9 @@ use Rattle.heapsafe.specs.Answer.{AnswersTokens}
 use Rattle.heapsafe.specs.Saying.{unparsed}
 use Rattle.heapsafe.proofs.Told.{gives_said}
 use Rattle.heapsafe.proofs.Trees.{gives_tree, unparsed_is, unparsed_silent}
-use Rattle.std.proofs.Common.{refl}
+use Rattle.std.proofs.Common.{refl, inr}
 use Rattle.heapsafe.proofs.Broken.{broken_said, unparsed_line}
-use Rattle.heapsafe.proofs.Wanting.{unparsed_wants, wanted}
+use Rattle.heapsafe.proofs.Statuses.{unparsed_wants, wanted, caused, unparsed_no_fault}
 use Rattle.heapsafe.proofs.with_tokens.Goals as goal
 
 pub returns-in-Ok-clause-exact : goal.returns-in-Ok-clause-exact
@@ -35,3 +35,7 @@ returns-in-Err-clause-broken g c = λ left k fails a is more.
 pub returns-in-Err-clause-memory : goal.returns-in-Err-clause-memory
 returns-in-Err-clause-memory g c =
     wanted _ _ (unparsed c.in-Err.error c.args.file.now c.args.text.now) _ _ _ _ _ (λ one. (refl, refl)) (unparsed_wants c.in-Err.error c.args.file.now c.args.text.now) c.refuse_tokens.ensures.says
+
+pub returns-in-Err-clause-cause : goal.returns-in-Err-clause-cause
+returns-in-Err-clause-cause g c =
+    caused _ _ _ _ _ _ _ _ _ (λ h. inr (inr h)) (λ h. absurd (unparsed_no_fault c.in-Err.error c.args.file.now c.args.text.now h)) c.refuse_tokens.ensures.says

@@ -1,4 +1,4 @@
-use Rattle.std.proofs.Common.{sym, subst, refl}
+use Rattle.std.proofs.Common.{sym, subst, refl, inr}
 use Rattle.c_tree.specs.StatementView.{unit_view}
 use Rattle.command_words.specs.declared.command.Task.{Task}
 use Rattle.command_words.specs.Commands.{task_shown}
@@ -7,7 +7,7 @@ use Rattle.heapsafe.specs.Answer.{Does, MeansNone, RunsNone}
 use Rattle.heapsafe.specs.Saying.{Gives}
 use Rattle.heapsafe.proofs.Told.{gives_left}
 use Rattle.heapsafe.proofs.Broken.{broken_left}
-use Rattle.heapsafe.proofs.Wanting.{wants_more}
+use Rattle.heapsafe.proofs.Statuses.{wants_more, cause_more}
 use Rattle.heapsafe.proofs.with_tree.Goals as goal
 
 pub returns-in-Run-clause-exact : goal.returns-in-Run-clause-exact
@@ -96,3 +96,23 @@ returns-in-List-clause-memory g c = wants_more _ _ _ _ _ _ _ (λ stays one. (ref
 
 pub returns-in-Live-clause-memory : goal.returns-in-Live-clause-memory
 returns-in-Live-clause-memory g c = wants_more _ _ _ _ _ _ _ (λ stays one. (refl, stays)) (λ own. absurd own) c.core_live.ensures.memory
+
+pub returns-in-Run-clause-cause : goal.returns-in-Run-clause-cause
+returns-in-Run-clause-cause g c =
+    cause_more _ _ _ _ _ _ _ (λ h. h) (λ own none. subst (λ (t : Task). RunsNone (task_shown t)) c.in-Run.is none) c.run_program.ensures.cause
+
+pub returns-in-Mean-clause-cause : goal.returns-in-Mean-clause-cause
+returns-in-Mean-clause-cause g c =
+    cause_more _ _ _ _ _ _ _ (λ h. h) (λ own none. subst (λ (t : Task). RunsNone (task_shown t)) c.in-Mean.is none) c.run_program-in-Mean.ensures.cause
+
+pub returns-in-Print-clause-cause : goal.returns-in-Print-clause-cause
+returns-in-Print-clause-cause g c = cause_more _ _ _ _ _ _ _ (λ h. inr h) (λ own. absurd own) c.print.ensures.cause
+
+pub returns-in-Layout-clause-cause : goal.returns-in-Layout-clause-cause
+returns-in-Layout-clause-cause g c = cause_more _ _ _ _ _ _ _ (λ h. inr h) (λ own. absurd own) c.layouts.ensures.cause
+
+pub returns-in-List-clause-cause : goal.returns-in-List-clause-cause
+returns-in-List-clause-cause g c = cause_more _ _ _ _ _ _ _ (λ h. inr h) (λ own. absurd own) c.core_list.ensures.cause
+
+pub returns-in-Live-clause-cause : goal.returns-in-Live-clause-cause
+returns-in-Live-clause-cause g c = cause_more _ _ _ _ _ _ _ (λ h. inr h) (λ own. absurd own) c.core_live.ensures.cause

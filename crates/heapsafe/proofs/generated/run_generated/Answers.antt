@@ -5,7 +5,7 @@ use Rattle.heapsafe.specs.Answer.{AnswersGenerated}
 use Rattle.heapsafe.specs.Shown.{Shown, written, no_memory}
 use Rattle.heapsafe.proofs.Told.{gives_more, gives_said}
 use Rattle.heapsafe.proofs.Broken.{broken_said, wanting_line}
-use Rattle.heapsafe.proofs.Wanting.{wanted}
+use Rattle.heapsafe.proofs.Statuses.{wanted, caused, no_fault_134}
 use Rattle.heapsafe.proofs.generated.run_generated.Goals as goal
 
 pub returns-in-Ok-clause-exact : goal.returns-in-Ok-clause-exact
@@ -28,3 +28,6 @@ returns-in-Err-clause-broken g c = λ left fails a is.
 
 pub returns-in-Err-clause-memory : goal.returns-in-Err-clause-memory
 returns-in-Err-clause-memory g c = wanted _ _ no_memory _ _ _ _ _ refl (λ h. refl) c.refuse.ensures.says
+
+pub returns-in-Err-clause-cause : goal.returns-in-Err-clause-cause
+returns-in-Err-clause-cause g c = caused _ _ _ _ _ _ 134 _ no_memory.err (λ h. inr h) (λ h. absurd (no_fault_134 h)) c.refuse.ensures.says

@@ -2,7 +2,7 @@ use Rattle.std.proofs.Common.{sym, subst}
 use Rattle.heapsafe.specs.declared.program.Way.{Way}
 use Rattle.heapsafe.specs.Program.{AnswersWay, input_of, steady, OnMachine}
 use Rattle.heapsafe.specs.Saying.{Gives}
-use Rattle.heapsafe.proofs.Wanting.{wants_more}
+use Rattle.heapsafe.proofs.Statuses.{wants_more}
 use Rattle.heapsafe.proofs.program.go.Goals as goal
 
 pub returns-in-Run-clause-exact : goal.returns-in-Run-clause-exact

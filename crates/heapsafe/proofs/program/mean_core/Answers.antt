@@ -2,7 +2,7 @@ use Rattle.std.proofs.Common.{false, refl, inr}
 use Rattle.heapsafe.proofs.Told.{said_faults}
 use Rattle.heapsafe.proofs.Ended.{gives_mean, gives_unfinished, input_said, mean_counts, output_said, program_faults}
 use Rattle.heapsafe.proofs.Broken.{broken_mean, broken_unfinished}
-use Rattle.heapsafe.proofs.Wanting.{wanted}
+use Rattle.heapsafe.proofs.Statuses.{wanted, caused, counts_of, end_cause, no_fault_134, own_end, own_of}
 use Rattle.heapsafe.specs.Shown.{no_memory}
 use Rattle.heapsafe.proofs.program.mean_core.Goals as goal
 
@@ -45,7 +45,19 @@ returns-in-Err-clause-broken g c = λ left k fails a is more.
     broken_unfinished c.args.file.now c.args.text.now c.args.core.now left told.put _ _ _ _ _ _ _ _ told.took c.args.steps a more is told.is c.refuse.ensures.says
 
 pub returns-in-Ok-clause-memory : goal.returns-in-Ok-clause-memory
-returns-in-Ok-clause-memory g c = λ is. inr (tt, c.finish.ensures.own is)
+returns-in-Ok-clause-memory g c = λ is.
+    inr (
+      tt,
+      own_end _ _ _ _ _ c.in-Ok.end (counts_of _ _ _ _ _ _ _ c.finish.ensures.says) (own_of _ _ _ _ _ c.args.file.now c.args.text.now c.args.core.now c.in-Ok.end c.finish.ensures.says) is,
+    )
 
 pub returns-in-Err-clause-memory : goal.returns-in-Err-clause-memory
 returns-in-Err-clause-memory g c = wanted _ _ no_memory _ _ _ _ _ tt (λ h. refl) c.refuse.ensures.says
+
+pub returns-in-Ok-clause-cause : goal.returns-in-Ok-clause-cause
+returns-in-Ok-clause-cause g c =
+    end_cause _ _ _ _ _ _ _ _ _ c.in-Ok.end (mean_counts c.in-Ok.end _ _ _ _ c.in-Ok.ensures.faults)
+    (counts_of _ _ _ _ _ _ _ c.finish.ensures.says) (own_of _ _ _ _ _ c.args.file.now c.args.text.now c.args.core.now c.in-Ok.end c.finish.ensures.says)
+
+pub returns-in-Err-clause-cause : goal.returns-in-Err-clause-cause
+returns-in-Err-clause-cause g c = caused _ _ _ _ _ _ 134 _ no_memory.err (λ h. inr (inr h)) (λ h. absurd (no_fault_134 h)) c.refuse.ensures.says

@@ -1,4 +1,4 @@
-use Rattle.std.proofs.Common.{◌∙◌, [], None, inr, refl, ap, subst, sym}
+use Rattle.std.proofs.Common.{◌∙◌, [], None, inr, refl, ap, subst}
 use Rattle.hs_base.specs.declared.ends.End.{End}
 use Rattle.flat_codegen.specs.Lasting.{LeavesObjects, cut_run}
 use Rattle.heapsafe.specs.declared.program.Way.TheVariants.{Run}
@@ -7,7 +7,7 @@ use Rattle.heapsafe.specs.Program.{AnswersWay, input_of, room_of}
 use Rattle.heapsafe.proofs.Told.{gives_said, said_faults}
 use Rattle.heapsafe.proofs.Ended.{counts_said, gives_run, input_said, output_said, program_faults}
 use Rattle.heapsafe.proofs.Broken.{broken_run, broken_said, wanting_line}
-use Rattle.heapsafe.proofs.Wanting.{wanted}
+use Rattle.heapsafe.proofs.Statuses.{wanted, caused, end_cause, no_fault_134, own_end}
 use Rattle.heapsafe.proofs.program.run_core.Goals as goal
 
 pub returns-in-Ok-clause-exact : goal.returns-in-Ok-clause-exact
@@ -64,8 +64,15 @@ returns-in-Err-clause-broken g c = λ left k fails a is more.
     broken_said no_memory a left _ _ _ _ _ _ _ _ (inr wanting_line) (ap g.I.Source.left c.in-Err.ensures.input_stays ∙ k) (ap g.O.Sink.taken c.in-Err.ensures.out_stays) c.refuse.ensures.says
 
 pub returns-in-Ok-clause-memory : goal.returns-in-Ok-clause-memory
-returns-in-Ok-clause-memory g c = λ is. inr (tt, c.finish_run.ensures.own is)
+returns-in-Ok-clause-memory g c = λ is.
+    inr (tt, own_end _ _ _ _ _ c.in-Ok.end c.finish_run.ensures.counts c.finish_run.ensures.own is)
 
 pub returns-in-Err-clause-memory : goal.returns-in-Err-clause-memory
 returns-in-Err-clause-memory g c =
     wanted _ _ no_memory _ _ _ _ _ (c.in-Err.ensures.input_stays, c.in-Err.ensures.out_stays) (λ h. refl) c.refuse.ensures.says
+
+pub returns-in-Ok-clause-cause : goal.returns-in-Ok-clause-cause
+returns-in-Ok-clause-cause g c = end_cause _ _ _ _ _ _ _ _ _ c.in-Ok.end c.in-Ok.ensures.faults c.finish_run.ensures.counts c.finish_run.ensures.own
+
+pub returns-in-Err-clause-cause : goal.returns-in-Err-clause-cause
+returns-in-Err-clause-cause g c = caused _ _ _ _ _ _ 134 _ no_memory.err (λ h. inr (inr h)) (λ h. absurd (no_fault_134 h)) c.refuse.ensures.says

@@ -5,11 +5,11 @@ use Rattle.heapsafe.specs.Answer.{AnswersTypes}
 use Rattle.heapsafe.specs.Saying.{untyped}
 use Rattle.heapsafe.proofs.Told.{gives_said}
 use Rattle.heapsafe.proofs.Typed.{gives_typed, untyped_program, untyped_silent}
-use Rattle.std.proofs.Common.{refl, subst}
+use Rattle.std.proofs.Common.{refl, subst, inr}
 use Rattle.c_decls.specs.Refusals.{Checked}
 use Rattle.core_tree.specs.declared.program.Core.{Core}
 use Rattle.heapsafe.proofs.Broken.{broken_said, untyped_line}
-use Rattle.heapsafe.proofs.Wanting.{untyped_wants, wanted}
+use Rattle.heapsafe.proofs.Statuses.{untyped_wants, wanted, caused, untyped_no_fault}
 use Rattle.heapsafe.proofs.program.run_program.Goals as goal
 
 pub returns-in-Ok-clause-exact : goal.returns-in-Ok-clause-exact
@@ -37,3 +37,7 @@ returns-in-Err-clause-broken g c = λ left k fails a is more.
 pub returns-in-Err-clause-memory : goal.returns-in-Err-clause-memory
 returns-in-Err-clause-memory g c =
     wanted _ _ (untyped c.in-Err.error c.args.file.now c.args.text.now) _ _ _ _ _ (λ on. (refl, refl)) (untyped_wants c.in-Err.error c.args.file.now c.args.text.now) c.refuse_types.ensures.says
+
+pub returns-in-Err-clause-cause : goal.returns-in-Err-clause-cause
+returns-in-Err-clause-cause g c =
+    caused _ _ _ _ _ _ _ _ _ (λ h. inr (inr h)) (λ h. absurd (untyped_no_fault c.in-Err.error c.args.file.now c.args.text.now h)) c.refuse_types.ensures.says

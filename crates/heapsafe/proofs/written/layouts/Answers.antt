@@ -1,4 +1,4 @@
-use Rattle.std.proofs.Common.{◌≡◌, Some, refl, sym, ap, ◌∙◌}
+use Rattle.std.proofs.Common.{◌≡◌, Some, refl, sym, ap, ◌∙◌, inr}
 use Rattle.c_tree.specs.StatementView.{unit_view}
 use Rattle.elaboration.specs.Elaboration.{tags_of}
 use Rattle.heapsafe.specs.Shown.{Shown, layouts_shown}
@@ -6,7 +6,7 @@ use Rattle.heapsafe.specs.Saying.{untyped}
 use Rattle.heapsafe.proofs.Told.{gives_said, gives_same}
 use Rattle.heapsafe.proofs.Typed.{untyped_tags, untyped_silent}
 use Rattle.heapsafe.proofs.Broken.{broken_said, said_either}
-use Rattle.heapsafe.proofs.Wanting.{untyped_wants, wanted}
+use Rattle.heapsafe.proofs.Statuses.{untyped_wants, wanted, caused, untyped_no_fault}
 use Rattle.heapsafe.proofs.written.layouts.Goals as goal
 
 pub returns-in-Ok-clause-exact : goal.returns-in-Ok-clause-exact
@@ -32,3 +32,7 @@ returns-in-Err-clause-broken g c = λ left fails a is.
 pub returns-in-Err-clause-memory : goal.returns-in-Err-clause-memory
 returns-in-Err-clause-memory g c =
     wanted _ _ (untyped c.in-Err.error c.args.file.now c.args.text.now) _ _ _ _ _ refl (untyped_wants c.in-Err.error c.args.file.now c.args.text.now) c.refuse_types.ensures.says
+
+pub returns-in-Err-clause-cause : goal.returns-in-Err-clause-cause
+returns-in-Err-clause-cause g c =
+    caused _ _ _ _ _ _ _ _ _ (λ h. inr h) (λ h. absurd (untyped_no_fault c.in-Err.error c.args.file.now c.args.text.now h)) c.refuse_types.ensures.says

@@ -3,7 +3,7 @@ use Rattle.live_list.specs.Listing.{live_listing}
 use Rattle.heapsafe.specs.Shown.{Shown, written, no_memory}
 use Rattle.heapsafe.proofs.Told.{gives_said, gives_same}
 use Rattle.heapsafe.proofs.Broken.{broken_said, wanting_line}
-use Rattle.heapsafe.proofs.Wanting.{wanted}
+use Rattle.heapsafe.proofs.Statuses.{wanted, caused, no_fault_134}
 use Rattle.heapsafe.proofs.written.write_live.Goals as goal
 
 pub returns-in-Ok-clause-exact : goal.returns-in-Ok-clause-exact
@@ -24,3 +24,6 @@ returns-in-Err-clause-broken g c = λ left fails a is.
 
 pub returns-in-Err-clause-memory : goal.returns-in-Err-clause-memory
 returns-in-Err-clause-memory g c = wanted _ _ no_memory _ _ _ _ _ refl (λ h. refl) c.refuse.ensures.says
+
+pub returns-in-Err-clause-cause : goal.returns-in-Err-clause-cause
+returns-in-Err-clause-cause g c = caused _ _ _ _ _ _ 134 _ no_memory.err (λ h. inr h) (λ h. absurd (no_fault_134 h)) c.refuse.ensures.says

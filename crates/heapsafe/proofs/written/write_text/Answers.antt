@@ -2,7 +2,7 @@ use Rattle.std.proofs.Common.{[], inl, refl, ⊎_elim, arith}
 use Rattle.heapsafe.specs.Shown.{written, output_fault}
 use Rattle.heapsafe.proofs.Told.{takes_none}
 use Rattle.heapsafe.proofs.Broken.{broken_text}
-use Rattle.heapsafe.proofs.Wanting.{unwanted}
+use Rattle.heapsafe.proofs.Statuses.{unwanted, no_fault_0}
 use Rattle.heapsafe.proofs.written.write_text.Goals as goal
 
 pub returns-in-Ok-clause-exact : goal.returns-in-Ok-clause-exact
@@ -30,3 +30,9 @@ returns-in-Ok-clause-memory g c = λ is. absurd (omega (arith, is))
 
 pub returns-in-Err-clause-memory : goal.returns-in-Err-clause-memory
 returns-in-Err-clause-memory g c = unwanted _ _ _ _ _ _ 133 _ output_fault.err (λ h. omega (arith, h)) c.refuse.ensures.says
+
+pub returns-in-Ok-clause-cause : goal.returns-in-Ok-clause-cause
+returns-in-Ok-clause-cause g c = λ is. absurd (no_fault_0 is)
+
+pub returns-in-Err-clause-cause : goal.returns-in-Err-clause-cause
+returns-in-Err-clause-cause g c = λ is. inl (inl (omega (arith, c.in-Err.ensures.cause)))
