@@ -11,7 +11,7 @@ use Rattle.hs_base.specs.Object.{Object}
 use Rattle.hs_base.specs.Trace.{Event, In, Out, New, Gone, Enter, Leave, bytes_in, bytes_out}
 use Rattle.bad_free_report.specs.Report.{end_report}
 use Rattle.core_tree.specs.declared.program.Core.{Core}
-use Rattle.meaning_run.specs.Meant.{StopsAtIn, Stopped, MeanAnswers, MeanCounts}
+use Rattle.meaning_run.specs.Meant.{StopsAtIn, Stopped, MeanAnswers}
 use Rattle.meaning_run.specs.Meant as meant_specs
 use Rattle.flat_codegen.specs.Lasting.{cut_run}
 use Rattle.flat_codegen.specs.Running.{RunAnswers}
@@ -36,8 +36,8 @@ use Rattle.heapsafe.specs.Answer.{AnswersFile, AnswersText, AnswersTokens, Answe
 use Rattle.heapsafe.specs.Shown.{Shown, written, no_memory, output_fault, text_fault, text_too_long}
 use Rattle.heapsafe.specs.Leaks.{leak_lines}
 use Rattle.heapsafe.specs.Program.{Done, Ended, Input, AnswersWay, AreTold, TellsNone, ended, meant, room_of, run_within, status_of, steady}
-use Rattle.heapsafe.specs.Saying.{Breaks, IsFaultLine, Says, SaysLeaks, SaysMore, TakesFront, unparsed, unread, untokened, untyped}
-use Rattle.heapsafe.proofs.Ended.{IsNoExit, tells_none}
+use Rattle.heapsafe.specs.Saying.{Breaks, IsFaultLine, Says, SaysLeaks, SaysMore, TakesAll, TakesFront, unparsed, unread, untokened, untyped}
+use Rattle.heapsafe.proofs.Ended.{IsNoExit, same_some, tells_none}
 
 -- all of some bytes are a front of them
 all_front : (taken taken' : Option (List ℕ)) (bytes : List ℕ) → ((t : List ℕ) → taken ≡ Some t → taken' ≡ Some (t ++ bytes)) → TakesFront taken taken' bytes
@@ -150,23 +150,21 @@ in_of_parts (Gone birth ∷ a) b = in_of_parts a b
 in_of_parts (Enter cost line ∷ a) b = in_of_parts a b
 in_of_parts (Leave ∷ a) b = in_of_parts a b
 
-module _ (file text : List ℕ) (core : Core) (left o : List ℕ) (left' out out' err err' : Option (List ℕ)) (f f' result : ℕ) (told : out ≡ Some o) where
-  -- a stream that was told took these bytes
-  took_front : (bytes whole more : List ℕ) → bytes ++ more ≡ whole → out' ≡ Some (o ++ bytes) → TakesFront out out' whole
-  took_front bytes whole more is took = λ t h. (bytes, more, is, took ∙ ap (λ (x : List ℕ). Some (x ++ bytes)) (same_some o t (sym told ∙ h))) where
-    same_some : (x y : List ℕ) → Some x ≡ Some y → x ≡ y
-    same_some x y e = cc
+module _ (file text : List ℕ) (core : Core) (left put : List ℕ) (left' out out' err err' : Option (List ℕ)) (f f' result : ℕ) (took : TakesAll out out' put) where
+  -- the output took a front of these bytes
+  took_front : (bytes whole more : List ℕ) → bytes ++ more ≡ whole → Some put ≡ Some bytes → TakesFront out out' whole
+  took_front bytes whole more is written = λ t h. (bytes, more, is, took t h ∙ ap (λ (b : List ℕ). Some (t ++ b)) (same_some put bytes written))
 
   -- the events before some others were made
-  pub parted : (done : Done) (a : Shown) (before rest : List Event) (kept : List ℕ) (x : End) (how : End) (leaks : List Leak) → done.events ≡ before ++ rest → a ≡ ended file text core done.events how leaks → left' ≡ Some kept → bytes_in before ++ kept ≡ left → out' ≡ Some (o ++ bytes_out before) → (line : List ℕ) → (line ≡ a.err) ⊎ IsFaultLine line → TakesFront err err' line → Breaks a left left' out out' err err'
-  parted done a before rest kept x how leaks split is is_left is_lost took line said err_took = record {
+  pub parted : (done : Done) (a : Shown) (before rest : List Event) (kept : List ℕ) (how : End) (leaks : List Leak) → done.events ≡ before ++ rest → a ≡ ended file text core done.events how leaks → left' ≡ Some kept → bytes_in before ++ kept ≡ left → Some put ≡ Some (bytes_out before) → (line : List ℕ) → (line ≡ a.err) ⊎ IsFaultLine line → TakesFront err err' line → Breaks a left left' out out' err err'
+  parted done a before rest kept how leaks split is is_left is_lost written line said err_took = record {
     lost = bytes_in before;
     kept = kept;
     more = bytes_in rest;
     is_left = is_left;
     is_lost = is_lost;
     is_read = sym (ap (λ (s : Shown). s.read) is ∙ ap bytes_in split ∙ in_of_parts before rest);
-    out_took = took_front (bytes_out before) a.out (bytes_out rest) (sym (ap (λ (s : Shown). s.out) is ∙ ap bytes_out split ∙ out_of_parts before rest)) took;
+    out_took = took_front (bytes_out before) a.out (bytes_out rest) (sym (ap (λ (s : Shown). s.out) is ∙ ap bytes_out split ∙ out_of_parts before rest)) written;
     line = line;
     is_said = said;
     err_took = err_took;
@@ -180,20 +178,20 @@ module _ (file text : List ℕ) (core : Core) (left o : List ℕ) (left' out out
   plain_front x said = says_front err err' f f' (status_of x) result (end_report core file text x) said
 
   -- the whole run was made, and its report was not said whole
-  whole : (done : Done) (a : Shown) (x : End) (kept : List ℕ) (e : Ended file text core done a) → left' ≡ Some kept → bytes_in done.events ++ kept ≡ left → out' ≡ Some (o ++ bytes_out done.events) → TakesFront err err' (end_report core file text e.how ++ leak_lines e.leaks) → Breaks a left left' out out' err err'
-  whole done a x kept e is_left is_lost took front =
-      parted done a done.events [] kept x e.how e.leaks (sym (append-nil done.events)) e.is is_left is_lost took
+  whole : (done : Done) (a : Shown) (kept : List ℕ) (e : Ended file text core done a) → left' ≡ Some kept → bytes_in done.events ++ kept ≡ left → Some put ≡ Some (bytes_out done.events) → TakesFront err err' (end_report core file text e.how ++ leak_lines e.leaks) → Breaks a left left' out out' err err'
+  whole done a kept e is_left is_lost written front =
+      parted done a done.events [] kept e.how e.leaks (sym (append-nil done.events)) e.is is_left is_lost written
       (end_report core file text e.how ++ leak_lines e.leaks) (inl (sym (ap (λ (s : Shown). s.err) e.is))) front
 
   -- the input failed, or the output did
-  starved : (done : Done) (a : Shown) (e : Ended file text core done a) → StopsAtIn done.events left o left' out' → Plain end.InputFault → Breaks a left left' out out' err err'
+  starved : (done : Done) (a : Shown) (e : Ended file text core done a) → StopsAtIn done.events left [] left' (Some put) → Plain end.InputFault → Breaks a left left' out out' err err'
   starved done a e s said =
-      parted done a s.before (In s.byte ∷ s.rest) s.left end.InputFault e.how e.leaks s.is e.is s.is_left s.is_read s.is_taken
+      parted done a s.before (In s.byte ∷ s.rest) s.left e.how e.leaks s.is e.is s.is_left s.is_read s.is_taken
       (end_report core file text end.InputFault) (inr (inl refl)) (plain_front end.InputFault said)
 
-  stopped : (done : Done) (a : Shown) (e : Ended file text core done a) (line : List ℕ) → Stopped done.events left o left' out' → IsFaultLine line → TakesFront err err' line → Breaks a left left' out out' err err'
+  stopped : (done : Done) (a : Shown) (e : Ended file text core done a) (line : List ℕ) → Stopped done.events left [] left' (Some put) → IsFaultLine line → TakesFront err err' line → Breaks a left left' out out' err err'
   stopped done a e line s is front =
-      parted done a s.before s.rest s.left end.OutputFault e.how e.leaks s.is e.is s.is_left s.is_read s.is_taken line (inr is) front
+      parted done a s.before s.rest s.left e.how e.leaks s.is e.is s.is_left s.is_read s.is_taken line (inr is) front
 
   same_end : (x y : End) → Some x ≡ Some y → x ≡ y
   same_end x y e = cc
@@ -233,26 +231,26 @@ module _ (file text : List ℕ) (core : Core) (left o : List ℕ) (left' out out
     same_how : (x : End) → done.ends ≡ Some x → x ≡ e.how
     same_how x is = same_end x e.how (sym is ∙ e.ends)
 
-    other : (x : End) → IsNoExit x → run_specs.Whole core left steps (room_of limits) o x left' out' → Tells limits steps leaks x → Broken
+    other : (x : End) → IsNoExit x → run_specs.Whole core left steps (room_of limits) [] x left' (Some put) → Tells limits steps leaks x → Broken
     other x unlike w t =
         let same = same_how x w.end in
         let none = told_none done.left e.how e.leaks (subst IsNoExit same unlike) e.told in
-        whole done a x w.left e w.is_left w.is_read w.is_taken (plain_told x e.how e.leaks same none (t.none (tells_none leaks x unlike)))
+        whole done a w.left e w.is_left w.is_read w.is_taken (plain_told x e.how e.leaks same none (t.none (tells_none leaks x unlike)))
 
-  exit : (limits : Limits) (steps : ℕ) (leaks : Bool) (a : Shown) (e : Ended file text core (run_within limits core left steps leaks) a) (code : ℕ) → run_specs.Whole core left steps (room_of limits) o (end.Exit code) left' out' → Tells limits steps leaks (end.Exit code) → Breaks a left left' out out' err err'
+  exit : (limits : Limits) (steps : ℕ) (leaks : Bool) (a : Shown) (e : Ended file text core (run_within limits core left steps leaks) a) (code : ℕ) → run_specs.Whole core left steps (room_of limits) [] (end.Exit code) left' (Some put) → Tells limits steps leaks (end.Exit code) → Breaks a left left' out out' err err'
   exit limits steps false a e code w t =
       let same = same_how limits steps false a e (end.Exit code) w.end in
-      whole (run_within limits core left steps false) a (end.Exit code) w.left e w.is_left w.is_read w.is_taken
+      whole (run_within limits core left steps false) a w.left e w.is_left w.is_read w.is_taken
       (plain_told (end.Exit code) e.how e.leaks same e.told (t.none tt))
   exit limits steps true a e code w t =
       let same = same_how limits steps true a e (end.Exit code) w.end in
       let said = t.some code refl refl in
       let told = subst (λ (y : End). AreTold (run_within limits core left steps true).left y e.leaks) (sym same) e.told in
-      whole (run_within limits core left steps true) a (end.Exit code) w.left e w.is_left w.is_read w.is_taken
+      whole (run_within limits core left steps true) a w.left e w.is_left w.is_read w.is_taken
       (subst (λ (y : End). TakesFront err err' (end_report core file text y ++ leak_lines e.leaks)) same
       (says_front err err' f f' code result (leak_lines e.leaks) (said.says e.leaks told)))
 
-  pub broken_run : (limits : Limits) (steps : ℕ) (leaks : Bool) (a : Shown) (x : End) → AnswersWay file text core (steady left) (Run limits steps leaks) a → RunAnswers core left steps (room_of limits) o x left' out' → Tells limits steps leaks x → Breaks a left left' out out' err err'
+  pub broken_run : (limits : Limits) (steps : ℕ) (leaks : Bool) (a : Shown) (x : End) → AnswersWay file text core (steady left) (Run limits steps leaks) a → RunAnswers core left steps (room_of limits) [] x left' (Some put) → Tells limits steps leaks x → Breaks a left left' out out' err err'
   broken_run limits steps leaks a (end.Exit code) e w t = exit limits steps leaks a e code w t
   broken_run limits steps leaks a (end.Trap kind line) e w t = other limits steps leaks a e (end.Trap kind line) tt w t
   broken_run limits steps leaks a (end.BadFree why holder) e w t = other limits steps leaks a e (end.BadFree why holder) tt w t
@@ -270,12 +268,12 @@ module _ (file text : List ℕ) (core : Core) (left o : List ℕ) (left' out out
   meant_whole steps a more is =
       ⊎_elim (λ h. h) (λ h. absurd (more (ap (λ (s : Shown). s.err) h.3))) is
 
-  whole_mean : (steps : ℕ) (a : Shown) (x : End) → Ended file text core (meant core left steps) a → meant_specs.Whole core left steps o x left' out' → Plain x → Breaks a left left' out out' err err'
+  whole_mean : (steps : ℕ) (a : Shown) (x : End) → Ended file text core (meant core left steps) a → meant_specs.Whole core left steps [] x left' (Some put) → Plain x → Breaks a left left' out out' err err'
   whole_mean steps a x e w said =
       let same = same_end x e.how (sym w.end ∙ e.ends) in
-      whole (meant core left steps) a x w.left e w.is_left w.is_read w.is_taken (plain_told x e.how e.leaks same e.told said)
+      whole (meant core left steps) a w.left e w.is_left w.is_read w.is_taken (plain_told x e.how e.leaks same e.told said)
 
-  broken_meant : (steps : ℕ) (a : Shown) (x : End) → Ended file text core (meant core left steps) a → MeanAnswers core left steps o (Ok x) left' out' → Plain x → Breaks a left left' out out' err err'
+  broken_meant : (steps : ℕ) (a : Shown) (x : End) → Ended file text core (meant core left steps) a → MeanAnswers core left steps [] (Ok x) left' (Some put) → Plain x → Breaks a left left' out out' err err'
   broken_meant steps a (end.Exit code) e w said = whole_mean steps a (end.Exit code) e w said
   broken_meant steps a (end.Trap kind line) e w said = whole_mean steps a (end.Trap kind line) e w said
   broken_meant steps a (end.BadFree why holder) e w said = whole_mean steps a (end.BadFree why holder) e w said
@@ -287,10 +285,10 @@ module _ (file text : List ℕ) (core : Core) (left o : List ℕ) (left' out out
   broken_meant steps a end.OutputFault e s said =
       stopped (meant core left steps) a e (end_report core file text end.OutputFault) s (inr (inl refl)) (plain_front end.OutputFault said)
 
-  pub broken_mean : (steps : ℕ) (a : Shown) (x : End) → SaysMore a → AnswersWay file text core (steady left) (Mean steps) a → MeanAnswers core left steps o (Ok x) left' out' → Plain x → Breaks a left left' out out' err err'
+  pub broken_mean : (steps : ℕ) (a : Shown) (x : End) → SaysMore a → AnswersWay file text core (steady left) (Mean steps) a → MeanAnswers core left steps [] (Ok x) left' (Some put) → Plain x → Breaks a left left' out out' err err'
   broken_mean steps a x more is w said = broken_meant steps a x (meant_whole steps a more is) w said
 
   -- memory was wanted
-  pub broken_unfinished : (steps : ℕ) (a : Shown) → SaysMore a → AnswersWay file text core (steady left) (Mean steps) a → Stopped (meant core left steps).events left o left' out' → Says err err' f f' no_memory.err 134 result → Breaks a left left' out out' err err'
+  pub broken_unfinished : (steps : ℕ) (a : Shown) → SaysMore a → AnswersWay file text core (steady left) (Mean steps) a → Stopped (meant core left steps).events left [] left' (Some put) → Says err err' f f' no_memory.err 134 result → Breaks a left left' out out' err err'
   broken_unfinished steps a more is s said =
       stopped (meant core left steps) a (meant_whole steps a more is) no_memory.err s wanting_line (says_front err err' f f' 134 result no_memory.err said)

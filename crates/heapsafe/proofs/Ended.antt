@@ -1,5 +1,5 @@
 -- A program's answer, from how it ended.
-use Rattle.std.proofs.Common.{◌≡◌, ◌<◌, ℕ, ◌+◌, Bool, true, false, List, [], ◌∷◌, ◌++◌, Option, Some, None, Ok, inl, inr, refl, sym, subst, arith, ⊎_elim}
+use Rattle.std.proofs.Common.{◌≡◌, ◌<◌, ℕ, ◌+◌, Bool, true, false, List, [], ◌∷◌, ◌++◌, Option, Some, None, Ok, inl, inr, refl, sym, ap, ◌∙◌, subst, arith, ⊎_elim}
 use Rattle.std.specs.Prelude.{IsTrue, nat_lt}
 use Rattle.std.proofs.lemmas.Bool.{lt-ltb, le-ltb}
 use Rattle.std.proofs.lemmas.List.{append-nil}
@@ -21,8 +21,12 @@ use Rattle.heapsafe.specs.declared.program.Way.TheVariants.{Run, Mean}
 use Rattle.heapsafe.specs.Shown.{input_fault, no_memory, output_fault}
 use Rattle.heapsafe.specs.Program.{Done, AnswersProgram, AnswersWay, AreTold, TellsNone, ended, input_of, meant, room_of, run_within, status_of, unfinished}
 use Rattle.heapsafe.specs.Leaks.{leak_lines}
-use Rattle.heapsafe.specs.Saying.{Faults, Gives, Says, SaysCounts, SaysLeaks}
+use Rattle.heapsafe.specs.Saying.{Faults, Gives, Says, SaysCounts, SaysLeaks, TakesAll}
 use Rattle.heapsafe.proofs.Told.{gives, said_faults}
+
+-- bytes that are other ones
+pub same_some : (a b : List ℕ) → Some a ≡ Some b → a ≡ b
+same_some a b e = cc
 
 -- a program that ended, where the input did not fail
 whole_is : (file text : List ℕ) (core : Core) (done : Done) (x : End) (leaks : List Leak) (i i' : ℕ) → i' ≡ i → done.ends ≡ Some x → AreTold done.left x leaks → AnswersProgram file text core (nat_lt i i') done (ended file text core done.events x leaks)
@@ -81,7 +85,11 @@ counts_said f f' status result counts =
       untold : Option (List ℕ)
       untold = None
 
-module _ (file text : List ℕ) (core : Core) (left o e : List ℕ) (left' out err err' : Option (List ℕ)) (i i' p p' f f' result : ℕ) (told : err ≡ Some e) (same : f' ≡ f) where
+module _ (file text : List ℕ) (core : Core) (left put : List ℕ) (left' o o' err err' : Option (List ℕ)) (i i' p p' f f' result : ℕ) (took : TakesAll o o' put) (same : f' ≡ f) where
+  -- the output took what a run wrote
+  wrote : (bytes : List ℕ) → Some put ≡ Some bytes → TakesAll o o' bytes
+  wrote bytes is = λ t h. took t h ∙ ap (λ (b : List ℕ). Some (t ++ b)) (same_some put bytes is)
+
   -- the report of an end was said, and then some leaks
   abbrev Reported : End → List Leak → Type 0
   Reported x leaks = Says err err' f f' (end_report core file text x ++ leak_lines leaks) (status_of x) result
@@ -94,15 +102,15 @@ module _ (file text : List ℕ) (core : Core) (left o e : List ℕ) (left' out e
   plain x said =
       subst (λ (bytes : List ℕ). Says err err' f f' bytes (status_of x) result) (sym (append-nil (end_report core file text x))) said
 
-  whole : (done : Done) (x : End) (leaks : List Leak) (rest : List ℕ) → i' ≡ i → done.ends ≡ Some x → AreTold done.left x leaks → out ≡ Some (o ++ bytes_out done.events) → left' ≡ Some rest → bytes_in done.events ++ rest ≡ left → Reported x leaks → Gives (AnswersProgram file text core (nat_lt i i') done) left o e left' out err' result
-  whole done x leaks rest stays is are took is_left is_read said =
-      gives (AnswersProgram file text core (nat_lt i i') done) (ended file text core done.events x leaks) left o e rest left' out err err' f f' result
-      (inl (whole_is file text core done x leaks i i' stays is are)) is_left is_read took told same said
+  whole : (done : Done) (x : End) (leaks : List Leak) (rest : List ℕ) → i' ≡ i → done.ends ≡ Some x → AreTold done.left x leaks → Some put ≡ Some (bytes_out done.events) → left' ≡ Some rest → bytes_in done.events ++ rest ≡ left → Reported x leaks → Gives (AnswersProgram file text core (nat_lt i i') done) left left' o o' err err' result
+  whole done x leaks rest stays is are written is_left is_read said =
+      gives (AnswersProgram file text core (nat_lt i i') done) (ended file text core done.events x leaks) left rest left' o o' err err' f f' result
+      (inl (whole_is file text core done x leaks i i' stays is are)) is_left is_read (wrote (bytes_out done.events) written) same said
 
-  stopped : (done : Done) → i' ≡ i + 1 → StopsAtIn done.events left o left' out → Plain end.InputFault → Gives (AnswersProgram file text core (nat_lt i i') done) left o e left' out err' result
+  stopped : (done : Done) → i' ≡ i + 1 → StopsAtIn done.events left [] left' (Some put) → Plain end.InputFault → Gives (AnswersProgram file text core (nat_lt i i') done) left left' o o' err err' result
   stopped done more s said =
-      gives (AnswersProgram file text core (nat_lt i i') done) (ended file text core s.before end.InputFault []) left o e s.left left' out err err' f f' result
-      (inl (stopped_is file text core done s.before s.byte s.rest i i' more s.is)) s.is_left s.is_read s.is_taken told same (plain end.InputFault said)
+      gives (AnswersProgram file text core (nat_lt i i') done) (ended file text core s.before end.InputFault []) left s.left left' o o' err err' f f' result
+      (inl (stopped_is file text core done s.before s.byte s.rest i i' more s.is)) s.is_left s.is_read (wrote (bytes_out s.before) s.is_taken) same (plain end.InputFault said)
 
   -- what is told of a run: nothing behind its report, or behind an exit its leaks
   pub record Telling (limits : Limits) (steps : ℕ) (leaks : Bool) (x : End) : Type 0 where
@@ -111,14 +119,14 @@ module _ (file text : List ℕ) (core : Core) (left o e : List ℕ) (left' out e
 
   module _ (limits : Limits) (steps : ℕ) (leaks : Bool) where
     abbrev Runs : Type 0
-    Runs = Gives (AnswersWay file text core (input_of left i i') (Run limits steps leaks)) left o e left' out err' result
+    Runs = Gives (AnswersWay file text core (input_of left i i') (Run limits steps leaks)) left left' o o' err err' result
 
-    whole_run : (x : End) (told : List Leak) → run_specs.Whole core left steps (room_of limits) o x left' out → i' ≡ i → AreTold (run_within limits core left steps leaks).left x told → Reported x told → Runs
+    whole_run : (x : End) (told : List Leak) → run_specs.Whole core left steps (room_of limits) [] x left' (Some put) → i' ≡ i → AreTold (run_within limits core left steps leaks).left x told → Reported x told → Runs
     whole_run x told w stays are said =
         whole (run_within limits core left steps leaks) x told w.left stays w.end are w.is_taken w.is_left w.is_read said
 
   -- an exit, with its leaks where they are asked for
-  exit_run : (limits : Limits) (steps : ℕ) (leaks : Bool) (code : ℕ) → run_specs.Whole core left steps (room_of limits) o (end.Exit code) left' out → i' ≡ i → Telling limits steps leaks (end.Exit code) → Runs limits steps leaks
+  exit_run : (limits : Limits) (steps : ℕ) (leaks : Bool) (code : ℕ) → run_specs.Whole core left steps (room_of limits) [] (end.Exit code) left' (Some put) → i' ≡ i → Telling limits steps leaks (end.Exit code) → Runs limits steps leaks
   exit_run limits steps false code w stays t =
       whole_run limits steps false (end.Exit code) [] w stays refl (plain (end.Exit code) (t.none tt))
   exit_run limits steps true code w stays t =
@@ -126,11 +134,11 @@ module _ (file text : List ℕ) (core : Core) (left o e : List ℕ) (left' out e
       let leaks = said.all same in
       whole_run limits steps true (end.Exit code) leaks.0 w stays leaks.1 (said.says leaks.0 leaks.1)
 
-  other_run : (limits : Limits) (steps : ℕ) (leaks : Bool) (x : End) → IsNoExit x → run_specs.Whole core left steps (room_of limits) o x left' out → i' ≡ i → Telling limits steps leaks x → Runs limits steps leaks
+  other_run : (limits : Limits) (steps : ℕ) (leaks : Bool) (x : End) → IsNoExit x → run_specs.Whole core left steps (room_of limits) [] x left' (Some put) → i' ≡ i → Telling limits steps leaks x → Runs limits steps leaks
   other_run limits steps leaks x unlike w stays t =
       whole_run limits steps leaks x [] w stays (none_told (run_within limits core left steps leaks).left x unlike) (plain x (t.none (tells_none leaks x unlike)))
 
-  pub gives_run : (limits : Limits) (steps : ℕ) (leaks : Bool) (x : End) → RunAnswers core left steps (room_of limits) o x left' out → RunCounts x i i' p p' → p' ≡ p → Telling limits steps leaks x → Runs limits steps leaks
+  pub gives_run : (limits : Limits) (steps : ℕ) (leaks : Bool) (x : End) → RunAnswers core left steps (room_of limits) [] x left' (Some put) → RunCounts x i i' p p' → p' ≡ p → Telling limits steps leaks x → Runs limits steps leaks
   gives_run limits steps leaks (end.Exit code) w counts stays t = exit_run limits steps leaks code w counts.0 t
   gives_run limits steps leaks (end.Trap kind line) w counts stays t = other_run limits steps leaks (end.Trap kind line) tt w counts.0 t
   gives_run limits steps leaks (end.BadFree why holder) w counts stays t = other_run limits steps leaks (end.BadFree why holder) tt w counts.0 t
@@ -143,17 +151,17 @@ module _ (file text : List ℕ) (core : Core) (left o e : List ℕ) (left' out e
 
   -- the evaluator's answers are among those that are allowed to `mean`
   abbrev Means : ℕ → Type 0
-  Means steps = Gives (AnswersWay file text core (input_of left i i') (Mean steps)) left o e left' out err' result
+  Means steps = Gives (AnswersWay file text core (input_of left i i') (Mean steps)) left left' o o' err err' result
 
-  meaning : (steps : ℕ) → Gives (AnswersProgram file text core (nat_lt i i') (meant core left steps)) left o e left' out err' result → Means steps
+  meaning : (steps : ℕ) → Gives (AnswersProgram file text core (nat_lt i i') (meant core left steps)) left left' o o' err err' result → Means steps
   meaning steps g =
       record { shown = g.shown; is = ⊎_elim (λ h. inl (inl h)) (λ h. inr h) g.is; rest = g.rest; is_left = g.is_left; is_read = g.is_read; out_took = g.out_took; err_took = g.err_took; status = g.status }
 
-  whole_mean : (steps : ℕ) (x : End) → meant_specs.Whole core left steps o x left' out → i' ≡ i → Plain x → Means steps
+  whole_mean : (steps : ℕ) (x : End) → meant_specs.Whole core left steps [] x left' (Some put) → i' ≡ i → Plain x → Means steps
   whole_mean steps x w stays said =
       meaning steps (whole (meant core left steps) x [] w.left stays w.end refl w.is_taken w.is_left w.is_read (plain x said))
 
-  pub gives_mean : (steps : ℕ) (x : End) → MeanAnswers core left steps o (Ok x) left' out → MeanCounts (Ok x) i i' p p' → p' ≡ p → Plain x → Means steps
+  pub gives_mean : (steps : ℕ) (x : End) → MeanAnswers core left steps [] (Ok x) left' (Some put) → MeanCounts (Ok x) i i' p p' → p' ≡ p → Plain x → Means steps
   gives_mean steps (end.Exit code) w counts stays said = whole_mean steps (end.Exit code) w counts.0 said
   gives_mean steps (end.Trap kind line) w counts stays said = whole_mean steps (end.Trap kind line) w counts.0 said
   gives_mean steps (end.BadFree why holder) w counts stays said = whole_mean steps (end.BadFree why holder) w counts.0 said
@@ -165,10 +173,10 @@ module _ (file text : List ℕ) (core : Core) (left o e : List ℕ) (left' out e
   gives_mean steps end.OutputFault s counts stays said = absurd (omega (arith, counts.1, stays))
 
   -- memory was wanted after a first part of the events
-  pub gives_unfinished : (steps : ℕ) → Stopped (meant core left steps).events left o left' out → Says err err' f f' no_memory.err 134 result → Means steps
+  pub gives_unfinished : (steps : ℕ) → Stopped (meant core left steps).events left [] left' (Some put) → Says err err' f f' no_memory.err 134 result → Means steps
   gives_unfinished steps s said =
-      gives (AnswersWay file text core (input_of left i i') (Mean steps)) (unfinished s.before) left o e s.left left' out err err' f f' result
-      (inl (inr (s.before, s.rest, s.is, refl))) s.is_left s.is_read s.is_taken told same said
+      gives (AnswersWay file text core (input_of left i i') (Mean steps)) (unfinished s.before) left s.left left' o o' err err' f f' result
+      (inl (inr (s.before, s.rest, s.is, refl))) s.is_left s.is_read (wrote (bytes_out s.before) s.is_taken) same said
 
 -- faults of a program's run
 pub program_faults : (x : End) (t i i' o o' f f' result : ℕ) (err err' : Option (List ℕ)) (bytes : List ℕ) → RunCounts x i i' o o' → Says err err' f f' bytes (status_of x) result → Faults t t i i' o o' f f' result

@@ -10,7 +10,7 @@ use Rattle.heapsafe.specs.Reading.{Reads, ReadCounts, most_bytes}
 use Rattle.heapsafe.specs.Shown.{Shown, usage, no_memory, text_too_long, bad_place}
 use Rattle.heapsafe.specs.Program.{Input}
 use Rattle.heapsafe.specs.Answer.{AnswersTokens, AnswersText, AnswersFile, AnswersCommand}
-use Rattle.heapsafe.specs.Saying.{Says, Gives, Faults, unread, untokened}
+use Rattle.heapsafe.specs.Saying.{Says, Gives, Faults, TakesAll, unread, untokened}
 use Rattle.c_lexer.specs.declared.token.Token.{Token}
 use Rattle.c_lexer.specs.declared.token.LexKind.{LexKind}
 use Rattle.c_lexer.specs.declared.token.LexError.{LexError}
@@ -23,17 +23,22 @@ pub record IsSilent (s : Shown) : Type 0 where
   pub out : s.out ≡ []
 
 -- what was said is the answer's, where no write failed
-pub gives : (Is : Shown → Type 0) (s : Shown) (left o e rest : List ℕ) (left' out err err' : Option (List ℕ)) (f f' result : ℕ) → (Is s ⊎ (s ≡ no_memory)) → left' ≡ Some rest → s.read ++ rest ≡ left → out ≡ Some (o ++ s.out) → err ≡ Some e → f' ≡ f → Says err err' f f' s.err s.status result → Gives Is left o e left' out err' result
-gives Is s left o e rest left' out err err' f f' result is is_left is_read took told same said =
+pub gives : (Is : Shown → Type 0) (s : Shown) (left rest : List ℕ) (left' o o' e e' : Option (List ℕ)) (f f' result : ℕ) → (Is s ⊎ (s ≡ no_memory)) → left' ≡ Some rest → s.read ++ rest ≡ left → TakesAll o o' s.out → f' ≡ f → Says e e' f f' s.err s.status result → Gives Is left left' o o' e e' result
+gives Is s left rest left' o o' e e' f f' result is is_left is_read took same said =
     ⊎_elim
-    (λ h. record { shown = s; is = is; rest = rest; is_left = is_left; is_read = is_read; out_took = took; err_took = h.2 e told; status = h.1 })
+    (λ h. record { shown = s; is = is; rest = rest; is_left = is_left; is_read = is_read; out_took = took; err_took = h.2; status = h.1 })
     (λ h. absurd (omega (arith, same, h.0)))
     said
 
+-- nothing was taken
+pub takes_none : (taken taken' : Option (List ℕ)) (bytes : List ℕ) → taken' ≡ taken → bytes ≡ [] → TakesAll taken taken' bytes
+takes_none taken taken' bytes same none = λ t h.
+    same ∙ h ∙ ap Some (sym (append-nil t)) ∙ ap (λ (b : List ℕ). Some (t ++ b)) (sym none)
+
 -- an answer that is said alone
-pub gives_said : (Is : Shown → Type 0) (s : Shown) (left o e : List ℕ) (left' out err err' : Option (List ℕ)) (f f' result : ℕ) → (Is s ⊎ (s ≡ no_memory)) → IsSilent s → left' ≡ Some left → out ≡ Some o → err ≡ Some e → f' ≡ f → Says err err' f f' s.err s.status result → Gives Is left o e left' out err' result
-gives_said Is s left o e left' out err err' f f' result is silent is_left took told same said =
-    gives Is s left o e left left' out err err' f f' result is is_left (ap (λ r. r ++ left) silent.read) (took ∙ ap Some (sym (ap (λ b. o ++ b) silent.out ∙ append-nil o))) told same said
+pub gives_said : (Is : Shown → Type 0) (s : Shown) (left : List ℕ) (left' o o' e e' : Option (List ℕ)) (f f' result : ℕ) → (Is s ⊎ (s ≡ no_memory)) → IsSilent s → left' ≡ Some left → o' ≡ o → f' ≡ f → Says e e' f f' s.err s.status result → Gives Is left left' o o' e e' result
+gives_said Is s left left' o o' e e' f f' result is silent is_left stays same said =
+    gives Is s left left left' o o' e e' f f' result is is_left (ap (λ r. r ++ left) silent.read) (takes_none o o' s.out stays silent.out) same said
 
 -- faults: those of the error stream alone
 pub said_faults : (t i i' o o' e e' result : ℕ) (err err' : Option (List ℕ)) (bytes : List ℕ) (status : ℕ) → i' ≡ i → o' ≡ o → Says err err' e e' bytes status result → Faults t t i i' o o' e e' result
@@ -44,19 +49,19 @@ said_faults t i i' o o' e e' result err err' bytes status input_stays out_stays 
     said
 
 -- an answer of one sort that is one of another
-pub gives_more : (Is Is' : Shown → Type 0) → ((s : Shown) → Is s → Is' s) → (left o e : List ℕ) (left' out err : Option (List ℕ)) (result : ℕ) → Gives Is left o e left' out err result → Gives Is' left o e left' out err result
-gives_more Is Is' more left o e left' out err result g =
+pub gives_more : (Is Is' : Shown → Type 0) → ((s : Shown) → Is s → Is' s) → (left : List ℕ) (left' o o' e e' : Option (List ℕ)) (result : ℕ) → Gives Is left left' o o' e e' result → Gives Is' left left' o o' e e' result
+gives_more Is Is' more left left' o o' e e' result g =
     record { shown = g.shown; is = ⊎_elim (λ h. inl (more g.shown h)) (λ h. inr h) g.is; rest = g.rest; is_left = g.is_left; is_read = g.is_read; out_took = g.out_took; err_took = g.err_took; status = g.status }
 
 -- an answer that is one, and so the same one in other words
-pub gives_same : (s s' : Shown) (left o e : List ℕ) (left' out err : Option (List ℕ)) (result : ℕ) → s ≡ s' → Gives (λ a. a ≡ s) left o e left' out err result → Gives (λ a. a ≡ s') left o e left' out err result
-gives_same s s' left o e left' out err result same g =
-    gives_more (λ a. a ≡ s) (λ a. a ≡ s') (λ a is. is ∙ same) left o e left' out err result g
+pub gives_same : (s s' : Shown) (left : List ℕ) (left' o o' e e' : Option (List ℕ)) (result : ℕ) → s ≡ s' → Gives (λ a. a ≡ s) left left' o o' e e' result → Gives (λ a. a ≡ s') left left' o o' e e' result
+gives_same s s' left left' o o' e e' result same g =
+    gives_more (λ a. a ≡ s) (λ a. a ≡ s') (λ a is. is ∙ same) left left' o o' e e' result g
 
 -- an answer that left the input as it was
-pub gives_left : (Is : Shown → Type 0) (left o e : List ℕ) (left' out err : Option (List ℕ)) (result : ℕ) → left' ≡ Some left → Gives Is left o e (Some left) out err result → Gives Is left o e left' out err result
-gives_left Is left o e left' out err result same g =
-    subst (λ (l : Option (List ℕ)). Gives Is left o e l out err result) (sym same) g
+pub gives_left : (Is : Shown → Type 0) (left : List ℕ) (left' o o' e e' : Option (List ℕ)) (result : ℕ) → left' ≡ Some left → Gives Is left (Some left) o o' e e' result → Gives Is left left' o o' e e' result
+gives_left Is left left' o o' e e' result same g =
+    subst (λ (l : Option (List ℕ)). Gives Is left l o o' e e' result) (sym same) g
 
 -- a text that is too long
 too_long_is : (file text : List ℕ) (input : Input) (task : Task) (a : Shown) → most_bytes < length text → a ≡ text_too_long file → AnswersFile file text input task a
@@ -137,11 +142,11 @@ untokened_file error file told read input task same only =
     (untokened_is error file read input task only)
 
 -- a text that was read and has tokens
-pub gives_file : (file told read : List ℕ) (tokens : List Token) (input : Input) (task : Task) (left o e : List ℕ) (left' out err : Option (List ℕ)) (result : ℕ) → (read ≡ told) × (length told ≤ most_bytes) → IsOnlyAnswer read (Ok tokens) → Gives (AnswersTokens file read tokens input task) left o e left' out err result → Gives (AnswersFile file told input task) left o e left' out err result
-gives_file file told read tokens input task left o e left' out err result same only g =
+pub gives_file : (file told read : List ℕ) (tokens : List Token) (input : Input) (task : Task) (left : List ℕ) (left' o o' e e' : Option (List ℕ)) (result : ℕ) → (read ≡ told) × (length told ≤ most_bytes) → IsOnlyAnswer read (Ok tokens) → Gives (AnswersTokens file read tokens input task) left left' o o' e e' result → Gives (AnswersFile file told input task) left left' o o' e e' result
+gives_file file told read tokens input task left left' o o' e e' result same only g =
     gives_more (AnswersTokens file read tokens input task) (AnswersFile file told input task)
     (λ s is. short_is file told input task s same.1 (subst (λ t. AnswersText file t input task s) same.0 (tokens_is file read tokens input task s only is)))
-    left o e left' out err result g
+    left left' o o' e e' result g
 
 -- the count of the texts stayed
 pub faults_as : (t t' i i' o o' e e' result : ℕ) → t' ≡ t → Faults t t i i' o o' e e' result → Faults t t' i i' o o' e e' result
@@ -161,6 +166,6 @@ one_file a b t u e = cc
 pub usage_is : (command : Option Command) (told : List ℕ → List ℕ) (input : Input) → None ≡ command → AnswersCommand command told input usage
 usage_is command told input e = subst (λ (c : Option Command). AnswersCommand c told input usage) e refl
 
-pub gives_as : (command other : Option Command) (told : List ℕ → List ℕ) (input : Input) (left o e : List ℕ) (left' out err : Option (List ℕ)) (result : ℕ) → command ≡ other → Gives (AnswersCommand command told input) left o e left' out err result → Gives (AnswersCommand other told input) left o e left' out err result
-gives_as command other told input left o e left' out err result same h =
-    subst (λ (c : Option Command). Gives (AnswersCommand c told input) left o e left' out err result) same h
+pub gives_as : (command other : Option Command) (told : List ℕ → List ℕ) (input : Input) (left : List ℕ) (left' o o' e e' : Option (List ℕ)) (result : ℕ) → command ≡ other → Gives (AnswersCommand command told input) left left' o o' e e' result → Gives (AnswersCommand other told input) left left' o o' e e' result
+gives_as command other told input left left' o o' e e' result same h =
+    subst (λ (c : Option Command). Gives (AnswersCommand c told input) left left' o o' e e' result) same h

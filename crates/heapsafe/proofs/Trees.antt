@@ -45,10 +45,10 @@ tree_is file text tokens externals input task a is does = record {
   parsed = λ other has. subst (λ (t : Trees). Does file text t input task a) (sym (is.only other has)) does;
 }
 
-pub gives_tree : (file text : List ℕ) (tokens : List Token) (externals : Trees) (input : Input) (task : Task) (left o e : List ℕ) (left' out err : Option (List ℕ)) (result : ℕ) → IsOnlyTree tokens externals → Gives (Does file text externals input task) left o e left' out err result → Gives (AnswersTokens file text tokens input task) left o e left' out err result
-gives_tree file text tokens externals input task left o e left' out err result is g =
+pub gives_tree : (file text : List ℕ) (tokens : List Token) (externals : Trees) (input : Input) (task : Task) (left : List ℕ) (left' o o' e e' : Option (List ℕ)) (result : ℕ) → IsOnlyTree tokens externals → Gives (Does file text externals input task) left left' o o' e e' result → Gives (AnswersTokens file text tokens input task) left left' o o' e e' result
+gives_tree file text tokens externals input task left left' o o' e e' result is g =
     gives_more (Does file text externals input task) (AnswersTokens file text tokens input task)
-    (λ s does. tree_is file text tokens externals input task s is does) left o e left' out err result g
+    (λ s does. tree_is file text tokens externals input task s is does) left left' o o' e e' result g
 
 -- a text whose tokens are refused
 pub wrong_is : (line : ℕ) (file text : List ℕ) (tokens : List Token) (input : Input) (task : Task) → GoesWrong tokens line → AnswersTokens file text tokens input task (bad_syntax file text line)

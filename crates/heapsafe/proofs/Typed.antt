@@ -34,6 +34,6 @@ untyped_silent (type.Bad kind line) file text = record { read = refl; out = refl
 untyped_silent type.NoMemory file text = record { read = refl; out = refl }
 
 -- a text with this core
-pub gives_typed : (file text : List ℕ) (wanted : Checked Core) (core : Core) (input : Input) (way : Way) (left o e : List ℕ) (left' out err : Option (List ℕ)) (result : ℕ) → wanted ≡ Ok core → Gives (AnswersWay file text core input way) left o e left' out err result → Gives (AnswersTypes file text wanted input way) left o e left' out err result
-gives_typed file text wanted core input way left o e left' out err result same g =
-    subst (λ (w : Checked Core). Gives (AnswersTypes file text w input way) left o e left' out err result) (sym same) g
+pub gives_typed : (file text : List ℕ) (wanted : Checked Core) (core : Core) (input : Input) (way : Way) (left : List ℕ) (left' o o' e e' : Option (List ℕ)) (result : ℕ) → wanted ≡ Ok core → Gives (AnswersWay file text core input way) left left' o o' e e' result → Gives (AnswersTypes file text wanted input way) left left' o o' e e' result
+gives_typed file text wanted core input way left left' o o' e e' result same g =
+    subst (λ (w : Checked Core). Gives (AnswersTypes file text w input way) left left' o o' e e' result) (sym same) g

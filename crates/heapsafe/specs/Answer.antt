@@ -95,10 +95,20 @@ RunsNone (Run heap stack steps leaks) = ⊥
 RunsNone (Mean steps) = ⊥
 RunsNone _ = ⊤
 
+-- a task that evaluates no program
+abbrev pub MeansNone : Task → Type 0
+MeansNone (Mean steps) = ⊥
+MeansNone _ = ⊤
+
 -- words that ask for no program of a file
 abbrev pub AsksNone : Option Command → Type 0
 AsksNone (Some (OnFile file task)) = RunsNone task
 AsksNone _ = ⊤
+
+-- words that ask for no evaluation
+abbrev pub AsksNoMeaning : Option Command → Type 0
+AsksNoMeaning (Some (OnFile file task)) = MeansNone task
+AsksNoMeaning _ = ⊤
 
 -- words that name no file
 abbrev pub AsksNoFile : Option Command → Type 0

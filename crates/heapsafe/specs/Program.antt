@@ -117,6 +117,11 @@ AnswersWay file text core input (Mean steps) a =
     let done = meant core input.bytes steps in
     AnswersProgram file text core input.fails done a ⊎ ((before : List Event) × (rest : List Event) × (done.events ≡ before ++ rest) × (a ≡ unfinished before))
 
+-- a program is run on a machine
+abbrev pub OnMachine : Way → Type 0
+OnMachine (Run limits steps leaks) = Unit {0}
+OnMachine (Mean steps) = ⊥
+
 -- heap, stack and steps are within the bounds that the machine and the evaluator take
 abbrev pub IsBounded : Way → Type 0
 IsBounded (Run limits steps leaks) = (limits.heap ≤ 268435456) × (limits.stack ≤ 67108864) × (steps ≤ 1000000000)

@@ -61,7 +61,11 @@ abbrev pub untyped : TypeError → List ℕ → List ℕ → Shown
 untyped (type.Bad kind line) file text = bad_type file text (record { kind = kind; line = line })
 untyped type.NoMemory file text = no_memory
 
--- a front of these bytes was taken, where what was taken is told
+-- these bytes were taken, where what was taken is told
+abbrev pub TakesAll : Option (List ℕ) → Option (List ℕ) → List ℕ → Type 0
+TakesAll taken taken' bytes = (t : List ℕ) → taken ≡ Some t → taken' ≡ Some (t ++ bytes)
+
+-- a front of them was taken
 abbrev pub TakesFront : Option (List ℕ) → Option (List ℕ) → List ℕ → Type 0
 TakesFront taken taken' bytes =
     (t : List ℕ) → taken ≡ Some t → (put : List ℕ) × (rest : List ℕ) × (put ++ rest ≡ bytes) × (taken' ≡ Some (t ++ put))
@@ -70,8 +74,31 @@ TakesFront taken taken' bytes =
 -- status is 133
 abbrev pub Says : Option (List ℕ) → Option (List ℕ) → ℕ → ℕ → List ℕ → ℕ → ℕ → Type 0
 Says taken taken' faults faults' bytes status result =
-    ((faults' ≡ faults) × (result ≡ status) × ((t : List ℕ) → taken ≡ Some t → taken' ≡ Some (t ++ bytes)))
+    ((faults' ≡ faults) × (result ≡ status) × TakesAll taken taken' bytes)
     ⊎ ((faults' ≡ faults + 1) × (result ≡ 133) × TakesFront taken taken' bytes)
+
+-- it took no line but those of leaks
+abbrev pub TakesLeaks : Option (List ℕ) → Option (List ℕ) → Type 0
+TakesLeaks taken taken' = (leaks : List Leak) × TakesAll taken taken' (leak_lines leaks)
+
+-- the status of want of memory: the error stream took its line, and the first of these holds; or the status is a program's own,
+-- the second holds, and the error stream took no line but those of leaks
+abbrev pub Wants : Type 0 → Type 0 → Option (List ℕ) → Option (List ℕ) → ℕ → Type 0
+Wants Stays Own taken taken' result =
+    result ≡ 134 → (Stays × TakesAll taken taken' no_memory.err) ⊎ (Own × TakesLeaks taken taken')
+
+-- a write to one of the two streams failed
+abbrev pub WriteFails : ℕ → ℕ → ℕ → ℕ → Type 0
+WriteFails o o' e e' = (o < o') ⊎ (e < e')
+
+-- a status for a failure of the outside
+abbrev pub IsFault : ℕ → Type 0
+IsFault status = (status ≡ 121) ⊎ (status ≡ 132) ⊎ (status ≡ 133)
+
+-- such a status comes where the first of these holds; or it is a program's own, the second holds, and the error stream took no
+-- line but those of leaks
+abbrev pub HasCause : Type 0 → Type 0 → Option (List ℕ) → Option (List ℕ) → ℕ → Type 0
+HasCause Fails Own taken taken' result = IsFault result → Fails ⊎ (Own × TakesLeaks taken taken')
 
 -- no write to the error stream failed, and the status is this one; or one did, and it is 133
 abbrev pub SaysCounts : ℕ → ℕ → ℕ → ℕ → Type 0
@@ -83,16 +110,22 @@ pub record SaysLeaks (objects : List Object) (taken taken' : Option (List ℕ)) 
   pub says : (leaks : List Leak) → AreLeaks objects 0 leaks → Says taken taken' faults faults' (leak_lines leaks) status result
   pub all : faults' ≡ faults → (leaks : List Leak) × AreLeaks objects 0 leaks
 
+-- the output took some bytes, of which this holds
+pub record Puts (Is : Option (List ℕ) → Type 0) (o o' : Option (List ℕ)) : Type 0 where
+  pub put : List ℕ
+  pub is : Is (Some put)
+  pub took : TakesAll o o' put
+
 -- the input lost, and the streams took, the bytes of an answer that is as said, or of the one for want of memory; and the
 -- status is its own
-pub record Gives (Is : Shown → Type 0) (left o e : List ℕ) (left' out' err' : Option (List ℕ)) (result : ℕ) : Type 0 where
+pub record Gives (Is : Shown → Type 0) (left : List ℕ) (left' o o' e e' : Option (List ℕ)) (result : ℕ) : Type 0 where
   pub shown : Shown
   pub is : Is shown ⊎ (shown ≡ no_memory)
   pub rest : List ℕ
   pub is_left : left' ≡ Some rest
   pub is_read : shown.read ++ rest ≡ left
-  pub out_took : out' ≡ Some (o ++ shown.out)
-  pub err_took : err' ≡ Some (e ++ shown.err)
+  pub out_took : TakesAll o o' shown.out
+  pub err_took : TakesAll e e' shown.err
   pub status : result ≡ shown.status
 
 -- no count rose; or one of the output or of the error stream did, and the status is 133; or that of the texts alone, and
@@ -102,10 +135,6 @@ Faults t t' i i' o o' e e' result =
     ((t' ≡ t) × (i' ≡ i) × (o' ≡ o) × (e' ≡ e)) ⊎ ((t ≤ t') × (i ≤ i') × (o ≤ o') × (e ≤ e') × ((o < o') ⊎ (e < e')) × (result ≡ 133))
     ⊎ ((t < t') × (i' ≡ i) × (o' ≡ o) × (e' ≡ e) × (result ≡ 121))
     ⊎ ((t' ≡ t) × (i < i') × (o' ≡ o) × (e' ≡ e) × (result ≡ 132))
-
--- a write to one of the two streams failed
-abbrev pub WriteFails : ℕ → ℕ → ℕ → ℕ → Type 0
-WriteFails o o' e e' = (o < o') ⊎ (e < e')
 
 -- the lines that are said of a failure of the outside, and of want of memory
 abbrev pub IsFaultLine : List ℕ → Type 0

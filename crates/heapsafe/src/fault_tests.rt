@@ -1,7 +1,7 @@
 //! What is answered, written and left where a text, the input or a stream fails. Expected values are worked out by hand.
 
 use crate::heapsafe;
-use hs_base::{Items, MemSink, MemSource, MemTexts};
+use hs_base::{Items, MemSink, MemSource, MemTexts, SureSink};
 use std::alloc::Global;
 use std::test::Fail;
 
@@ -59,6 +59,22 @@ fn calls(alloc: Global, number: u64) -> Result<Items<u64>, Fail> {
     Ok(calls)
 }
 
+/// The texts: a.c has these bytes. The call of that number fails.
+fn one_text(alloc: Global, text: &[u8], fails: u64) -> Result<MemTexts, Fail> {
+    let mut texts = Items::new(alloc);
+    texts.push((
+        Items::from(Vec::from_slice(alloc, b"a.c")?),
+        Items::from(Vec::from_slice(alloc, text)?),
+    ))?;
+    Ok(MemTexts::new(texts, calls(alloc, fails)?))
+}
+
+/// The input: these bytes. The call of that number fails.
+fn input_of(alloc: Global, bytes: &[u8], fails: u64) -> Result<MemSource, Fail> {
+    let bytes = Items::from(Vec::from_slice(alloc, bytes)?);
+    Ok(MemSource::new(bytes, calls(alloc, fails)?))
+}
+
 /// What is done for a command with the text a.c, this input, and streams that take a byte per call.
 fn answer(
     alloc: Global,
@@ -67,16 +83,8 @@ fn answer(
     input: &[u8],
     failing: Failing,
 ) -> Result<Seen, Fail> {
-    let mut texts = Items::new(alloc);
-    texts.push((
-        Items::from(Vec::from_slice(alloc, b"a.c")?),
-        Items::from(Vec::from_slice(alloc, text)?),
-    ))?;
-    let mut texts = MemTexts::new(texts, calls(alloc, failing.text)?);
-    let mut input = MemSource::new(
-        Items::from(Vec::from_slice(alloc, input)?),
-        calls(alloc, failing.input)?,
-    );
+    let mut texts = one_text(alloc, text, failing.text)?;
+    let mut input = input_of(alloc, input, failing.input)?;
     let mut out = MemSink::new(alloc, 1, calls(alloc, failing.out)?);
     let mut err = MemSink::new(alloc, 1, calls(alloc, failing.err)?);
     let words = [command, "a.c"];
@@ -295,6 +303,69 @@ fn largest_statics(rt: HostRuntime) -> Result<(), Fail> {
         let seen = answer(alloc, "run", text, b"", NONE)?;
         assert_eq!(rt; seen.status, status);
         assert_eq!(rt; seen.err.bytes(), err);
+    }
+    Ok(())
+}
+
+/// An output that tells nothing: all else is as with one that tells.
+#[test]
+fn untold_output(rt: HostRuntime) -> Result<(), Fail> {
+    let alloc = rt.alloc();
+    let held: &[u8] = b"a.c:4: bad free: held\n  free(g);\nheld by global g at 0\n";
+    let rows: [(&str, &[u8], &[u8], &[u8], u8); 6] = [
+        ("run", COPIES, b"", b"", 0),
+        ("mean", COPIES, b"", b"", 0),
+        ("run", HELD, b"hi", held, 126),
+        ("mean", HELD, b"hi", held, 126),
+        ("print", TWO, b"hi", b"", 0),
+        (
+            "list",
+            b"int main(void){return",
+            b"hi",
+            b"a.c:1: syntax\n  int main(void){return\n",
+            124,
+        ),
+    ];
+    for (command, text, left, said, status) in rows {
+        let mut texts = one_text(alloc, text, 0)?;
+        let mut input = input_of(alloc, b"hi", 0)?;
+        let mut out = SureSink::new();
+        let mut err = MemSink::new(alloc, 1, calls(alloc, 0)?);
+        let words = [command, "a.c"];
+        assert_eq!(rt;
+            heapsafe(alloc, &words, &mut texts, &mut input, &mut out, &mut err),
+            status
+        );
+        assert_eq!(rt; err.bytes(), said);
+        assert_eq!(rt; input.left(), left);
+    }
+    Ok(())
+}
+
+/// An error stream that tells nothing: all else is as with one that tells, and an output that fails takes a front.
+#[test]
+fn untold_errors(rt: HostRuntime) -> Result<(), Fail> {
+    let alloc = rt.alloc();
+    let rows: [(&str, &[u8], u64, &[u8], &[u8], u8); 6] = [
+        ("run", COPIES, 0, b"hi", b"", 0),
+        ("mean", COPIES, 0, b"hi", b"", 0),
+        ("run", COPIES, 2, b"h", b"", 133),
+        ("mean", COPIES, 2, b"h", b"", 133),
+        ("run", HELD, 0, b"", b"hi", 126),
+        ("layout", b"int main(void){return", 0, b"", b"hi", 124),
+    ];
+    for (command, text, fails, written, left, status) in rows {
+        let mut texts = one_text(alloc, text, 0)?;
+        let mut input = input_of(alloc, b"hi", 0)?;
+        let mut out = MemSink::new(alloc, 1, calls(alloc, fails)?);
+        let mut err = SureSink::new();
+        let words = [command, "a.c"];
+        assert_eq!(rt;
+            heapsafe(alloc, &words, &mut texts, &mut input, &mut out, &mut err),
+            status
+        );
+        assert_eq!(rt; out.bytes(), written);
+        assert_eq!(rt; input.left(), left);
     }
     Ok(())
 }

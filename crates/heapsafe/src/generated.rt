@@ -12,12 +12,13 @@ ghost use Rattle.heapsafe.specs.Answer.{AnswersFile, AnswersGenerated, no_input}
 ghost use Rattle.heapsafe.specs.Generated.{IsPrepared, IsPreparedTokens, IsPreparedUnit, MakesOnly, SumsUp, Went, steps_of};
 ghost use Rattle.heapsafe.specs.Program.{AnswersWay, room_of};
 ghost use Rattle.heapsafe.specs.Reading.{most_bytes};
-ghost use Rattle.heapsafe.specs.Saying.{Breaks, Faults, Gives, Says, WriteFails};
+ghost use Rattle.heapsafe.specs.Saying.{Breaks, Faults, Gives, HasCause, Says, Wants, WriteFails};
 ghost use Rattle.heapsafe.specs.Shown.{Shown, output_fault, written};
 ghost use Rattle.heapsafe.specs.declared.program.Way.TheVariants as way;
 
-use crate::program::{run_code, status_of};
+use crate::program::status_of;
 use crate::refusal::{BAD_TOKENS, BAD_TREE, BAD_TYPES, Refusal, refuse};
+use crate::running::run_code;
 use c_decls::TypeError;
 use c_elab::elab;
 use c_lexer::{LexError, Token, lex};
@@ -166,10 +167,12 @@ fn sum_up(alloc: Global, number: u32) -> Result<Summary, NoMemory>
 fn write_summary<O: Sink, E: Sink>(summary: Summary, out: &mut O, err: &mut E) -> u8
     requires out { O.faults out.old + 1 < 2 ^ 64 }
     requires err { E.faults err.old + 1 < 2 ^ 64 }
-    ensures exact { (left o e : List ℕ) → O.taken out.old ≡ Some o → E.taken err.old ≡ Some e → O.faults out.new ≡ O.faults out.old → E.faults err.new ≡ E.faults err.old → Gives (λ a. a ≡ written (summary_line summary)) left o e (Some left) (O.taken out.new) (E.taken err.new) result }
+    ensures exact { (left : List ℕ) → O.faults out.new ≡ O.faults out.old → E.faults err.new ≡ E.faults err.old → Gives (λ a. a ≡ written (summary_line summary)) left (Some left) (O.taken out.old) (O.taken out.new) (E.taken err.old) (E.taken err.new) result }
     ensures faults { (t i : ℕ) → Faults t t i i (O.faults out.old) (O.faults out.new) (E.faults err.old) (E.faults err.new) result }
     ensures output_fault { O.faults out.old < O.faults out.new → Says (E.taken err.old) (E.taken err.new) (E.faults err.old) (E.faults err.new) output_fault.err 133 result }
     ensures broken { (left : List ℕ) → WriteFails (O.faults out.old) (O.faults out.new) (E.faults err.old) (E.faults err.new) → (a : Shown) → a ≡ written (summary_line summary) → Breaks a left (Some left) (O.taken out.old) (O.taken out.new) (E.taken err.old) (E.taken err.new) }
+    ensures memory { Wants (out.new ≡ out.old) ⊥ (E.taken err.old) (E.taken err.new) result }
+    ensures cause { HasCause (WriteFails (O.faults out.old) (O.faults out.new) (E.faults err.old) (E.faults err.new)) ⊥ (E.taken err.old) (E.taken err.new) result }
 {
     match put_summary(out, summary) {
         Ok(()) => 0,
@@ -187,10 +190,12 @@ pub(crate) fn run_generated<O: Sink, E: Sink>(
     requires number { (1 ≤ number) × (number ≤ 2000) }
     requires out { O.faults out.old + 1 < 2 ^ 64 }
     requires err { E.faults err.old + 1 < 2 ^ 64 }
-    ensures exact { (left o e : List ℕ) → O.taken out.old ≡ Some o → E.taken err.old ≡ Some e → O.faults out.new ≡ O.faults out.old → E.faults err.new ≡ E.faults err.old → Gives (AnswersGenerated number) left o e (Some left) (O.taken out.new) (E.taken err.new) result }
+    ensures exact { (left : List ℕ) → O.faults out.new ≡ O.faults out.old → E.faults err.new ≡ E.faults err.old → Gives (AnswersGenerated number) left (Some left) (O.taken out.old) (O.taken out.new) (E.taken err.old) (E.taken err.new) result }
     ensures faults { (t i : ℕ) → Faults t t i i (O.faults out.old) (O.faults out.new) (E.faults err.old) (E.faults err.new) result }
     ensures output_fault { O.faults out.old < O.faults out.new → Says (E.taken err.old) (E.taken err.new) (E.faults err.old) (E.faults err.new) output_fault.err 133 result }
     ensures broken { (left : List ℕ) → WriteFails (O.faults out.old) (O.faults out.new) (E.faults err.old) (E.faults err.new) → (a : Shown) → AnswersGenerated number a → Breaks a left (Some left) (O.taken out.old) (O.taken out.new) (E.taken err.old) (E.taken err.new) }
+    ensures memory { Wants (out.new ≡ out.old) ⊥ (E.taken err.old) (E.taken err.new) result }
+    ensures cause { HasCause (WriteFails (O.faults out.old) (O.faults out.new) (E.faults err.old) (E.faults err.new)) ⊥ (E.taken err.old) (E.taken err.new) result }
 {
     match sum_up(alloc, number) {
         Ok(summary) => write_summary(summary, out, err),

@@ -1,6 +1,6 @@
 //! What a program leaves on the heap.
 
-ghost use Rattle.std.specs.Prelude.{◌≡◌, ◌+◌, ◌<◌, ◌^◌, ℕ, List, IfOk};
+ghost use Rattle.std.specs.Prelude.{◌+◌, ◌<◌, ◌^◌, ℕ, List, IfOk};
 ghost use Rattle.hs_base.specs.Object.{Object};
 ghost use Rattle.hs_base.specs.Outside.{CountsFaults};
 ghost use Rattle.hs_base.specs.PutAll.{PutsAll};

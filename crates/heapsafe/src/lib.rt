@@ -2,27 +2,30 @@
 //!
 //! [`heapsafe`] takes the words, the texts by name, the input, and the two output streams, and answers the status. Its
 //! contract is the definition `Answers` in `specs/Answer.antt`: what is read from the input, written to both streams and
-//! answered, for every words, texts and input; and that a status for a failure of the outside comes only where the outside
-//! failed.
+//! answered, for every words, texts and input, whether a stream tells what it takes or not; that a status for a failure of the
+//! outside comes only where the outside failed; and what want of memory leaves as it was.
 #![tactic(auto)]
 
-ghost use Rattle.std.specs.Prelude.{◌≡◌, ◌+◌, ◌<◌, ◌^◌, ℕ, List, Some, None, map, All};
+ghost use Rattle.std.specs.Prelude.{◌≡◌, ◌⊎◌, ◌+◌, ◌<◌, ◌^◌, ℕ, List, Some, None, map, All};
 ghost use Rattle.c_elab.specs.Core.{IsOfTokens};
 ghost use Rattle.c_lexer.specs.Tokens.{IsLexed};
 ghost use Rattle.core_soundness.specs.Laws.{AreWithin};
 ghost use Rattle.command_words.specs.Commands.{OnFile, Task as AskedTask, command_of, task_shown, IsLimited};
 ghost use Rattle.c_tree.specs.StatementView.{unit_view};
-ghost use Rattle.heapsafe.specs.Answer.{Answers, AnswersTokens, AnswersFile, AsksNoFile, AsksNone, Does, RunsNone};
+ghost use Rattle.heapsafe.specs.Answer.{Answers, AnswersTokens, AnswersFile, AsksNoFile, AsksNoMeaning, AsksNone, Does, MeansNone, RunsNone};
 ghost use Rattle.heapsafe.specs.Reading.{most_bytes};
 ghost use Rattle.heapsafe.specs.Shown.{Shown, input_fault, output_fault, text_fault};
 ghost use Rattle.heapsafe.specs.Program.{input_of, steady};
-ghost use Rattle.heapsafe.specs.Saying.{Breaks, Faults, Gives, Says, SaysMore, WriteFails, shown_of, unread};
+ghost use Rattle.heapsafe.specs.Saying.{Breaks, Faults, Gives, HasCause, Says, SaysMore, Wants, WriteFails, shown_of, unread};
 
 mod generated;
 mod leaks;
+mod lent;
+mod log;
 mod program;
 mod reading;
 mod refusal;
+mod running;
 mod written;
 
 use c_lexer::{Token, lex};
@@ -65,12 +68,14 @@ fn with_tree<I: Source, O: Sink, E: Sink>(
     requires input { I.faults input.old + 1 < 2 ^ 64 }
     requires out { O.faults out.old + 1 < 2 ^ 64 }
     requires err { E.faults err.old + 1 < 2 ^ 64 }
-    ensures exact { (left o e : List ℕ) → I.left input.old ≡ Some left → O.taken out.old ≡ Some o → E.taken err.old ≡ Some e → O.faults out.new ≡ O.faults out.old → E.faults err.new ≡ E.faults err.old → Gives (Does file.now text.now (unit_view unit.now) (input_of left (I.faults input.old) (I.faults input.new)) (task_shown task)) left o e (I.left input.new) (O.taken out.new) (E.taken err.new) result }
+    ensures exact { (left : List ℕ) → I.left input.old ≡ Some left → O.faults out.new ≡ O.faults out.old → E.faults err.new ≡ E.faults err.old → Gives (Does file.now text.now (unit_view unit.now) (input_of left (I.faults input.old) (I.faults input.new)) (task_shown task)) left (I.left input.new) (O.taken out.old) (O.taken out.new) (E.taken err.old) (E.taken err.new) result }
     ensures faults { (t : ℕ) → Faults t t (I.faults input.old) (I.faults input.new) (O.faults out.old) (O.faults out.new) (E.faults err.old) (E.faults err.new) result }
     ensures input_fault { I.faults input.old < I.faults input.new → Says (E.taken err.old) (E.taken err.new) (E.faults err.old) (E.faults err.new) input_fault.err 132 result }
     ensures output_fault { O.faults out.old < O.faults out.new → Says (E.taken err.old) (E.taken err.new) (E.faults err.old) (E.faults err.new) output_fault.err 133 result }
     ensures stays { RunsNone (task_shown task) → input.new ≡ input.old }
-    ensures broken { (left o : List ℕ) → I.left input.old ≡ Some left → O.taken out.old ≡ Some o → WriteFails (O.faults out.old) (O.faults out.new) (E.faults err.old) (E.faults err.new) → (a : Shown) → Does file.now text.now (unit_view unit.now) (steady left) (task_shown task) a → SaysMore a → Breaks a left (I.left input.new) (O.taken out.old) (O.taken out.new) (E.taken err.old) (E.taken err.new) }
+    ensures broken { (left : List ℕ) → I.left input.old ≡ Some left → WriteFails (O.faults out.old) (O.faults out.new) (E.faults err.old) (E.faults err.new) → (a : Shown) → Does file.now text.now (unit_view unit.now) (steady left) (task_shown task) a → SaysMore a → Breaks a left (I.left input.new) (O.taken out.old) (O.taken out.new) (E.taken err.old) (E.taken err.new) }
+    ensures memory { Wants (MeansNone (task_shown task) → (input.new ≡ input.old) × (out.new ≡ out.old)) (RunsNone (task_shown task) → ⊥) (E.taken err.old) (E.taken err.new) result }
+    ensures cause { HasCause ((I.faults input.old < I.faults input.new) ⊎ WriteFails (O.faults out.old) (O.faults out.new) (E.faults err.old) (E.faults err.new)) (RunsNone (task_shown task) → ⊥) (E.taken err.old) (E.taken err.new) result }
 {
     match task {
         Task::Run {
@@ -123,12 +128,14 @@ fn with_tokens<I: Source, O: Sink, E: Sink>(
     requires input { I.faults input.old + 1 < 2 ^ 64 }
     requires out { O.faults out.old + 1 < 2 ^ 64 }
     requires err { E.faults err.old + 1 < 2 ^ 64 }
-    ensures exact { (left o e : List ℕ) → I.left input.old ≡ Some left → O.taken out.old ≡ Some o → E.taken err.old ≡ Some e → O.faults out.new ≡ O.faults out.old → E.faults err.new ≡ E.faults err.old → Gives (AnswersTokens file.now text.now tokens.now (input_of left (I.faults input.old) (I.faults input.new)) (task_shown task)) left o e (I.left input.new) (O.taken out.new) (E.taken err.new) result }
+    ensures exact { (left : List ℕ) → I.left input.old ≡ Some left → O.faults out.new ≡ O.faults out.old → E.faults err.new ≡ E.faults err.old → Gives (AnswersTokens file.now text.now tokens.now (input_of left (I.faults input.old) (I.faults input.new)) (task_shown task)) left (I.left input.new) (O.taken out.old) (O.taken out.new) (E.taken err.old) (E.taken err.new) result }
     ensures faults { (t : ℕ) → Faults t t (I.faults input.old) (I.faults input.new) (O.faults out.old) (O.faults out.new) (E.faults err.old) (E.faults err.new) result }
     ensures input_fault { I.faults input.old < I.faults input.new → Says (E.taken err.old) (E.taken err.new) (E.faults err.old) (E.faults err.new) input_fault.err 132 result }
     ensures output_fault { O.faults out.old < O.faults out.new → Says (E.taken err.old) (E.taken err.new) (E.faults err.old) (E.faults err.new) output_fault.err 133 result }
     ensures stays { RunsNone (task_shown task) → input.new ≡ input.old }
-    ensures broken { (left o : List ℕ) → I.left input.old ≡ Some left → O.taken out.old ≡ Some o → WriteFails (O.faults out.old) (O.faults out.new) (E.faults err.old) (E.faults err.new) → (a : Shown) → AnswersTokens file.now text.now tokens.now (steady left) (task_shown task) a → SaysMore a → Breaks a left (I.left input.new) (O.taken out.old) (O.taken out.new) (E.taken err.old) (E.taken err.new) }
+    ensures broken { (left : List ℕ) → I.left input.old ≡ Some left → WriteFails (O.faults out.old) (O.faults out.new) (E.faults err.old) (E.faults err.new) → (a : Shown) → AnswersTokens file.now text.now tokens.now (steady left) (task_shown task) a → SaysMore a → Breaks a left (I.left input.new) (O.taken out.old) (O.taken out.new) (E.taken err.old) (E.taken err.new) }
+    ensures memory { Wants (MeansNone (task_shown task) → (input.new ≡ input.old) × (out.new ≡ out.old)) (RunsNone (task_shown task) → ⊥) (E.taken err.old) (E.taken err.new) result }
+    ensures cause { HasCause ((I.faults input.old < I.faults input.new) ⊎ WriteFails (O.faults out.old) (O.faults out.new) (E.faults err.old) (E.faults err.new)) (RunsNone (task_shown task) → ⊥) (E.taken err.old) (E.taken err.new) result }
 {
     match parse(alloc, tokens) {
         Ok(unit) => with_tree(alloc, file, task, text, &unit, input, out, err),
@@ -151,13 +158,15 @@ fn with_file<T: Texts, I: Source, O: Sink, E: Sink>(
     requires input { I.faults input.old + 1 < 2 ^ 64 }
     requires out { O.faults out.old + 1 < 2 ^ 64 }
     requires err { E.faults err.old + 1 < 2 ^ 64 }
-    ensures exact { (told : List ℕ → List ℕ) (left o e : List ℕ) → T.texts texts.old ≡ Some told → I.left input.old ≡ Some left → O.taken out.old ≡ Some o → E.taken err.old ≡ Some e → T.faults texts.new ≡ T.faults texts.old → O.faults out.new ≡ O.faults out.old → E.faults err.new ≡ E.faults err.old → Gives (AnswersFile file.now (told file.now) (input_of left (I.faults input.old) (I.faults input.new)) (task_shown task)) left o e (I.left input.new) (O.taken out.new) (E.taken err.new) result }
+    ensures exact { (told : List ℕ → List ℕ) (left : List ℕ) → T.texts texts.old ≡ Some told → I.left input.old ≡ Some left → T.faults texts.new ≡ T.faults texts.old → O.faults out.new ≡ O.faults out.old → E.faults err.new ≡ E.faults err.old → Gives (AnswersFile file.now (told file.now) (input_of left (I.faults input.old) (I.faults input.new)) (task_shown task)) left (I.left input.new) (O.taken out.old) (O.taken out.new) (E.taken err.old) (E.taken err.new) result }
     ensures faults { Faults (T.faults texts.old) (T.faults texts.new) (I.faults input.old) (I.faults input.new) (O.faults out.old) (O.faults out.new) (E.faults err.old) (E.faults err.new) result }
     ensures input_fault { I.faults input.old < I.faults input.new → Says (E.taken err.old) (E.taken err.new) (E.faults err.old) (E.faults err.new) input_fault.err 132 result }
     ensures output_fault { O.faults out.old < O.faults out.new → Says (E.taken err.old) (E.taken err.new) (E.faults err.old) (E.faults err.new) output_fault.err 133 result }
     ensures stays { RunsNone (task_shown task) → input.new ≡ input.old }
     ensures text_fault { T.faults texts.old < T.faults texts.new → (input.new ≡ input.old) × (out.new ≡ out.old) × Says (E.taken err.old) (E.taken err.new) (E.faults err.old) (E.faults err.new) (text_fault file.now).err 121 result }
-    ensures broken { (told : List ℕ → List ℕ) (left o : List ℕ) → T.texts texts.old ≡ Some told → I.left input.old ≡ Some left → O.taken out.old ≡ Some o → WriteFails (O.faults out.old) (O.faults out.new) (E.faults err.old) (E.faults err.new) → (a : Shown) → AnswersFile file.now (told file.now) (steady left) (task_shown task) a → SaysMore a → Breaks a left (I.left input.new) (O.taken out.old) (O.taken out.new) (E.taken err.old) (E.taken err.new) }
+    ensures broken { (told : List ℕ → List ℕ) (left : List ℕ) → T.texts texts.old ≡ Some told → I.left input.old ≡ Some left → WriteFails (O.faults out.old) (O.faults out.new) (E.faults err.old) (E.faults err.new) → (a : Shown) → AnswersFile file.now (told file.now) (steady left) (task_shown task) a → SaysMore a → Breaks a left (I.left input.new) (O.taken out.old) (O.taken out.new) (E.taken err.old) (E.taken err.new) }
+    ensures memory { Wants (MeansNone (task_shown task) → (input.new ≡ input.old) × (out.new ≡ out.old)) (RunsNone (task_shown task) → ⊥) (E.taken err.old) (E.taken err.new) result }
+    ensures cause { HasCause ((T.faults texts.old < T.faults texts.new) ⊎ (I.faults input.old < I.faults input.new) ⊎ WriteFails (O.faults out.old) (O.faults out.new) (E.faults err.old) (E.faults err.new)) (RunsNone (task_shown task) → ⊥) (E.taken err.old) (E.taken err.new) result }
 {
     let text = match read_text(alloc, texts, file) {
         Ok(text) => text,
@@ -176,13 +185,16 @@ fn with_file<T: Texts, I: Source, O: Sink, E: Sink>(
 /// `words` are the arguments after the program's name. The texts are read by name, `input` is the program's input, its
 /// output goes to `out`, and what is said of it goes to `err`.
 ///
-/// Where texts, input and streams are told and neither texts nor streams failed, what is read, written and answered is by
-/// `Answers`, or nothing but the line of want of memory. The status of a failure of the texts, the input or a stream comes
-/// only where that failed, or as a program's own; and where it failed its line is said, unless the error stream fails. Where a
-/// write to a stream failed, the input lost, and each stream took, a front of what the answer reads and writes, or the error
-/// stream a front of the line of a failure. Where the text could not be read, the input and the output are as before; so is the
-/// input where no program of a file is run; of words that name no file the texts are not asked; and of words that are not taken
-/// nothing but the error stream is.
+/// Where texts and input are told and neither texts nor streams failed, what is read and answered, and what each stream took that
+/// tells of it, is by `Answers`, or nothing but the line of want of memory. Where a write to a stream failed, the input lost, and
+/// each stream took, a front of what the answer reads and writes, or the error stream a front of the line of a failure.
+///
+/// The rest holds whatever is told. The status of a failure of the texts, the input or a stream comes only where that failed, and
+/// where it failed its line is said, unless the error stream fails. The status of want of memory comes with its line, and input
+/// and output are as before unless a program is evaluated by `mean`. Each of these statuses may also be a program's own: then no
+/// line was said but those of leaks. Where the text could not be read, the input and the output are as before; so is the input
+/// where no program of a file is run; of words that name no file the texts are not asked; and of words that are not taken nothing
+/// but the error stream is.
 pub fn heapsafe<T: Texts, I: Source, O: Sink, E: Sink>(
     alloc: Global,
     words: &[&str],
@@ -195,7 +207,7 @@ pub fn heapsafe<T: Texts, I: Source, O: Sink, E: Sink>(
     requires input { I.faults input.old + 1 < 2 ^ 64 }
     requires out { O.faults out.old + 1 < 2 ^ 64 }
     requires err { E.faults err.old + 1 < 2 ^ 64 }
-    ensures exact { (told : List ℕ → List ℕ) (left o e : List ℕ) → T.texts texts.old ≡ Some told → I.left input.old ≡ Some left → O.taken out.old ≡ Some o → E.taken err.old ≡ Some e → T.faults texts.new ≡ T.faults texts.old → O.faults out.new ≡ O.faults out.old → E.faults err.new ≡ E.faults err.old → Gives (Answers (map (λ w. w.now) words.now) told (input_of left (I.faults input.old) (I.faults input.new))) left o e (I.left input.new) (O.taken out.new) (E.taken err.new) result }
+    ensures exact { (told : List ℕ → List ℕ) (left : List ℕ) → T.texts texts.old ≡ Some told → I.left input.old ≡ Some left → T.faults texts.new ≡ T.faults texts.old → O.faults out.new ≡ O.faults out.old → E.faults err.new ≡ E.faults err.old → Gives (Answers (map (λ w. w.now) words.now) told (input_of left (I.faults input.old) (I.faults input.new))) left (I.left input.new) (O.taken out.old) (O.taken out.new) (E.taken err.old) (E.taken err.new) result }
     ensures faults { Faults (T.faults texts.old) (T.faults texts.new) (I.faults input.old) (I.faults input.new) (O.faults out.old) (O.faults out.new) (E.faults err.old) (E.faults err.new) result }
     ensures input_fault { I.faults input.old < I.faults input.new → Says (E.taken err.old) (E.taken err.new) (E.faults err.old) (E.faults err.new) input_fault.err 132 result }
     ensures output_fault { O.faults out.old < O.faults out.new → Says (E.taken err.old) (E.taken err.new) (E.faults err.old) (E.faults err.new) output_fault.err 133 result }
@@ -203,7 +215,9 @@ pub fn heapsafe<T: Texts, I: Source, O: Sink, E: Sink>(
     ensures no_file { AsksNoFile (command_of (map (λ w. w.now) words.now)) → (texts.new ≡ texts.old) × (input.new ≡ input.old) }
     ensures stays { AsksNone (command_of (map (λ w. w.now) words.now)) → input.new ≡ input.old }
     ensures text_fault { (file : List ℕ) (task : AskedTask) → command_of (map (λ w. w.now) words.now) ≡ Some (OnFile file task) → T.faults texts.old < T.faults texts.new → (input.new ≡ input.old) × (out.new ≡ out.old) × Says (E.taken err.old) (E.taken err.new) (E.faults err.old) (E.faults err.new) (text_fault file).err 121 result }
-    ensures broken { (told : List ℕ → List ℕ) (left o : List ℕ) → T.texts texts.old ≡ Some told → I.left input.old ≡ Some left → O.taken out.old ≡ Some o → WriteFails (O.faults out.old) (O.faults out.new) (E.faults err.old) (E.faults err.new) → (a : Shown) → Answers (map (λ w. w.now) words.now) told (steady left) a → SaysMore a → Breaks a left (I.left input.new) (O.taken out.old) (O.taken out.new) (E.taken err.old) (E.taken err.new) }
+    ensures broken { (told : List ℕ → List ℕ) (left : List ℕ) → T.texts texts.old ≡ Some told → I.left input.old ≡ Some left → WriteFails (O.faults out.old) (O.faults out.new) (E.faults err.old) (E.faults err.new) → (a : Shown) → Answers (map (λ w. w.now) words.now) told (steady left) a → SaysMore a → Breaks a left (I.left input.new) (O.taken out.old) (O.taken out.new) (E.taken err.old) (E.taken err.new) }
+    ensures memory { Wants (AsksNoMeaning (command_of (map (λ w. w.now) words.now)) → (input.new ≡ input.old) × (out.new ≡ out.old)) (AsksNone (command_of (map (λ w. w.now) words.now)) → ⊥) (E.taken err.old) (E.taken err.new) result }
+    ensures cause { HasCause ((T.faults texts.old < T.faults texts.new) ⊎ (I.faults input.old < I.faults input.new) ⊎ WriteFails (O.faults out.old) (O.faults out.new) (E.faults err.old) (E.faults err.new)) (AsksNone (command_of (map (λ w. w.now) words.now)) → ⊥) (E.taken err.old) (E.taken err.new) result }
 {
     match command_words::read(alloc, words) {
         Ok(Command::OnFile { file, task }) => with_file(alloc, file, task, texts, input, out, err),

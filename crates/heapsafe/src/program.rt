@@ -1,35 +1,28 @@
 //! Running the program of a text: on a machine, or by the meaning of its core.
 
-ghost use Rattle.std.specs.Prelude.{◌≡◌, ◌+◌, ◌<◌, ◌≤◌, ◌^◌, ℕ, List, [], Some, false, IfOk, IsTrue, OnErr};
+ghost use Rattle.std.specs.Prelude.{◌≡◌, ◌⊎◌, ◌+◌, ◌<◌, ◌≤◌, ◌^◌, ⊤, ℕ, List, [], Some, false, IsTrue};
 ghost use Rattle.c_tree.specs.StatementView.{unit_view};
 ghost use Rattle.c_elab.specs.Core.{IsOfTokens, core_in};
 ghost use Rattle.core_tree.specs.Sound.{IsSound};
-ghost use Rattle.counted_meaning.specs.Pinning.{AreExact, Pins};
-ghost use Rattle.flat_codegen.specs.Lasting.{LeavesImage, MakesSteps};
-ghost use Rattle.flat_codegen.specs.Running.{RunAnswers};
-ghost use Rattle.flat_machine.specs.Machined.{steps_made};
-ghost use Rattle.flat_machine.specs.Running.{RunCounts};
 ghost use Rattle.flat_objects.specs.Keeping.{Keeps};
 ghost use Rattle.flat_objects.specs.Leaks.{KeepsSome};
 ghost use Rattle.hs_base.specs.Object.{Object};
 ghost use Rattle.hs_base.specs.declared.ends.End.TheVariants.{Exit};
 ghost use Rattle.bad_free_report.specs.Report.{end_report};
 ghost use Rattle.heapsafe.specs.Shown.{Shown, input_fault, output_fault};
-ghost use Rattle.heapsafe.specs.Program.{AnswersWay, IsBounded, TellsNone, input_of, room_of, status_of, steady};
+ghost use Rattle.heapsafe.specs.Program.{AnswersWay, IsBounded, OnMachine, TellsNone, input_of, status_of, steady};
 ghost use Rattle.heapsafe.specs.Answer.{AnswersTypes};
-ghost use Rattle.heapsafe.specs.Saying.{Breaks, Faults, Gives, Says, SaysCounts, SaysLeaks, SaysMore, WriteFails};
+ghost use Rattle.heapsafe.specs.Saying.{Breaks, Faults, Gives, HasCause, Says, SaysCounts, SaysLeaks, SaysMore, TakesLeaks, Wants, WriteFails};
 
 use crate::leaks::write_leaks;
 use crate::refusal::{OUTPUT_FAULT, Refusal, refuse, refuse_types};
+use crate::running::{evaluate, run_code};
 use bad_free_report::report;
 use c_elab::elab;
 use c_tree::Unit;
 use core_tree::Core;
-use count_insertion::{insert, listed_pins_are_exact, live_tables};
-use flat_codegen::{compile, execute};
 use flat_machine::Machine;
-use hs_base::{End, Limits, NoMemory, Sink, Source};
-use meaning_run::mean;
+use hs_base::{End, Limits, Sink, Source};
 use std::alloc::Global;
 
 /// How a program is run, and with how many steps.
@@ -75,40 +68,6 @@ fn finish<E: Sink>(end: &End, core: &Core, file: &str, text: &[u8], err: &mut E)
     }
 }
 
-/// Finds where the pointers of a core count, makes its code, loads it, and runs it: its end, and the machine behind it, which
-/// tells its steps and, behind an exit, its leaks. The image of the machine agrees with the last state of the core's cut run.
-/// Memory may be wanted before the first instruction alone: then the input and the output are as before.
-pub(crate) fn run_code<I: Source, O: Sink>(
-    alloc: Global,
-    core: &Core,
-    limits: Limits,
-    steps: u64,
-    input: &mut I,
-    out: &mut O,
-) -> Result<(End, Machine), NoMemory>
-    requires sound { IsSound core.now }
-    requires heap { limits.heap ≤ 268435456 }
-    requires stack { limits.stack ≤ 67108864 }
-    requires steps { steps ≤ 1000000000 }
-    requires input { I.faults input.old + 1 < 2 ^ 64 }
-    requires out { O.faults out.old + 1 < 2 ^ 64 }
-    ensures told { IfOk result (λ ran. (left taken : List ℕ) → I.left input.old ≡ Some left → O.taken out.old ≡ Some taken → RunAnswers core.now left steps (room_of limits) taken ran.0 (I.left input.new) (O.taken out.new)) }
-    ensures made { IfOk result (λ ran. (left taken : List ℕ) → I.left input.old ≡ Some left → O.taken out.old ≡ Some taken → MakesSteps core.now left steps (room_of limits) ran.0 (steps_made ran.1)) }
-    ensures kept { IfOk result (λ ran. KeepsSome ran.1.kept.memory) }
-    ensures left { IfOk result (λ ran. (left taken : List ℕ) → I.left input.old ≡ Some left → O.taken out.old ≡ Some taken → (pins : Pins) × AreExact core.now pins × LeavesImage core.now pins left steps (room_of limits) ran.0 ran.1.kept) }
-    ensures faults { IfOk result (λ ran. RunCounts ran.0 (I.faults input.old) (I.faults input.new) (O.faults out.old) (O.faults out.new)) }
-    ensures input_stays { OnErr result (input.new ≡ input.old) }
-    ensures out_stays { OnErr result (out.new ≡ out.old) }
-{
-    listed_pins_are_exact();
-    let live = live_tables(alloc, core)?;
-    let counted = insert(alloc, core, &live)?;
-    let code = compile(alloc, &counted)?;
-    let mut machine = Machine::load(alloc, &code, limits)?;
-    let end = execute(&mut machine, &code, input, out, steps);
-    Ok((end, machine))
-}
-
 /// Writes the lines of the leaks behind an exit, where they are asked for, and answers the program's own status or that of a
 /// failed write.
 fn finish_exit<E: Sink>(code: u8, machine: &Machine, leaks: bool, err: &mut E) -> u8
@@ -117,6 +76,7 @@ fn finish_exit<E: Sink>(code: u8, machine: &Machine, leaks: bool, err: &mut E) -
     ensures none { leaks ≡ false → Says (E.taken err.old) (E.taken err.new) (E.faults err.old) (E.faults err.new) [] code result }
     ensures leaks { IsTrue leaks → (places : ℕ → ℕ) (objects : List Object) → Keeps machine.now.kept.memory places objects → SaysLeaks objects (E.taken err.old) (E.taken err.new) (E.faults err.old) (E.faults err.new) code result }
     ensures counts { SaysCounts (E.faults err.old) (E.faults err.new) code result }
+    ensures own { E.faults err.new ≡ E.faults err.old → TakesLeaks (E.taken err.old) (E.taken err.new) }
 {
     if !leaks {
         return code;
@@ -143,6 +103,7 @@ fn finish_run<E: Sink>(
     ensures says { TellsNone leaks end.now → Says (E.taken err.old) (E.taken err.new) (E.faults err.old) (E.faults err.new) (end_report core.now file.now text.now end.now) (status_of end.now) result }
     ensures leaks { (code : ℕ) → IsTrue leaks → end.now ≡ Exit code → (places : ℕ → ℕ) (objects : List Object) → Keeps machine.now.kept.memory places objects → SaysLeaks objects (E.taken err.old) (E.taken err.new) (E.faults err.old) (E.faults err.new) code result }
     ensures counts { SaysCounts (E.faults err.old) (E.faults err.new) (status_of end.now) result }
+    ensures own { (code : ℕ) → end.now ≡ Exit code → E.faults err.new ≡ E.faults err.old → TakesLeaks (E.taken err.old) (E.taken err.new) }
 {
     match end {
         End::Exit(code) => finish_exit(*code, machine, leaks, err),
@@ -170,11 +131,13 @@ fn run_core<I: Source, O: Sink, E: Sink>(
     requires input { I.faults input.old + 1 < 2 ^ 64 }
     requires out { O.faults out.old + 1 < 2 ^ 64 }
     requires err { E.faults err.old + 1 < 2 ^ 64 }
-    ensures exact { (left o e : List ℕ) → I.left input.old ≡ Some left → O.taken out.old ≡ Some o → E.taken err.old ≡ Some e → O.faults out.new ≡ O.faults out.old → E.faults err.new ≡ E.faults err.old → Gives (AnswersWay file.now text.now core.now (input_of left (I.faults input.old) (I.faults input.new)) (Way.Run limits steps leaks)) left o e (I.left input.new) (O.taken out.new) (E.taken err.new) result }
+    ensures exact { (left : List ℕ) → I.left input.old ≡ Some left → O.faults out.new ≡ O.faults out.old → E.faults err.new ≡ E.faults err.old → Gives (AnswersWay file.now text.now core.now (input_of left (I.faults input.old) (I.faults input.new)) (Way.Run limits steps leaks)) left (I.left input.new) (O.taken out.old) (O.taken out.new) (E.taken err.old) (E.taken err.new) result }
     ensures faults { (t : ℕ) → Faults t t (I.faults input.old) (I.faults input.new) (O.faults out.old) (O.faults out.new) (E.faults err.old) (E.faults err.new) result }
     ensures input_fault { I.faults input.old < I.faults input.new → Says (E.taken err.old) (E.taken err.new) (E.faults err.old) (E.faults err.new) input_fault.err 132 result }
     ensures output_fault { O.faults out.old < O.faults out.new → Says (E.taken err.old) (E.taken err.new) (E.faults err.old) (E.faults err.new) output_fault.err 133 result }
-    ensures broken { (left o : List ℕ) → I.left input.old ≡ Some left → O.taken out.old ≡ Some o → WriteFails (O.faults out.old) (O.faults out.new) (E.faults err.old) (E.faults err.new) → (a : Shown) → AnswersWay file.now text.now core.now (steady left) (Way.Run limits steps leaks) a → SaysMore a → Breaks a left (I.left input.new) (O.taken out.old) (O.taken out.new) (E.taken err.old) (E.taken err.new) }
+    ensures broken { (left : List ℕ) → I.left input.old ≡ Some left → WriteFails (O.faults out.old) (O.faults out.new) (E.faults err.old) (E.faults err.new) → (a : Shown) → AnswersWay file.now text.now core.now (steady left) (Way.Run limits steps leaks) a → SaysMore a → Breaks a left (I.left input.new) (O.taken out.old) (O.taken out.new) (E.taken err.old) (E.taken err.new) }
+    ensures memory { Wants ((input.new ≡ input.old) × (out.new ≡ out.old)) (⊤) (E.taken err.old) (E.taken err.new) result }
+    ensures cause { HasCause ((I.faults input.old < I.faults input.new) ⊎ WriteFails (O.faults out.old) (O.faults out.new) (E.faults err.old) (E.faults err.new)) ⊤ (E.taken err.old) (E.taken err.new) result }
 {
     match run_code(alloc, core, limits, steps, input, out) {
         Ok((end, machine)) => finish_run(&end, &machine, leaks, core, file, text, err),
@@ -198,13 +161,15 @@ fn mean_core<I: Source, O: Sink, E: Sink>(
     requires input { I.faults input.old + 1 < 2 ^ 64 }
     requires out { O.faults out.old + 1 < 2 ^ 64 }
     requires err { E.faults err.old + 1 < 2 ^ 64 }
-    ensures exact { (left o e : List ℕ) → I.left input.old ≡ Some left → O.taken out.old ≡ Some o → E.taken err.old ≡ Some e → O.faults out.new ≡ O.faults out.old → E.faults err.new ≡ E.faults err.old → Gives (AnswersWay file.now text.now core.now (input_of left (I.faults input.old) (I.faults input.new)) (Way.Mean steps)) left o e (I.left input.new) (O.taken out.new) (E.taken err.new) result }
+    ensures exact { (left : List ℕ) → I.left input.old ≡ Some left → O.faults out.new ≡ O.faults out.old → E.faults err.new ≡ E.faults err.old → Gives (AnswersWay file.now text.now core.now (input_of left (I.faults input.old) (I.faults input.new)) (Way.Mean steps)) left (I.left input.new) (O.taken out.old) (O.taken out.new) (E.taken err.old) (E.taken err.new) result }
     ensures faults { (t : ℕ) → Faults t t (I.faults input.old) (I.faults input.new) (O.faults out.old) (O.faults out.new) (E.faults err.old) (E.faults err.new) result }
     ensures input_fault { I.faults input.old < I.faults input.new → Says (E.taken err.old) (E.taken err.new) (E.faults err.old) (E.faults err.new) input_fault.err 132 result }
     ensures output_fault { O.faults out.old < O.faults out.new → Says (E.taken err.old) (E.taken err.new) (E.faults err.old) (E.faults err.new) output_fault.err 133 result }
-    ensures broken { (left o : List ℕ) → I.left input.old ≡ Some left → O.taken out.old ≡ Some o → WriteFails (O.faults out.old) (O.faults out.new) (E.faults err.old) (E.faults err.new) → (a : Shown) → AnswersWay file.now text.now core.now (steady left) (Way.Mean steps) a → SaysMore a → Breaks a left (I.left input.new) (O.taken out.old) (O.taken out.new) (E.taken err.old) (E.taken err.new) }
+    ensures broken { (left : List ℕ) → I.left input.old ≡ Some left → WriteFails (O.faults out.old) (O.faults out.new) (E.faults err.old) (E.faults err.new) → (a : Shown) → AnswersWay file.now text.now core.now (steady left) (Way.Mean steps) a → SaysMore a → Breaks a left (I.left input.new) (O.taken out.old) (O.taken out.new) (E.taken err.old) (E.taken err.new) }
+    ensures memory { Wants (⊤) (⊤) (E.taken err.old) (E.taken err.new) result }
+    ensures cause { HasCause ((I.faults input.old < I.faults input.new) ⊎ WriteFails (O.faults out.old) (O.faults out.new) (E.faults err.old) (E.faults err.new)) ⊤ (E.taken err.old) (E.taken err.new) result }
 {
-    match mean(alloc, core, input, out, steps) {
+    match evaluate(alloc, core, steps, input, out) {
         Ok(end) => finish(&end, core, file, text, err),
         Err(_) => refuse(err, Refusal::NoMemory),
     }
@@ -226,11 +191,13 @@ fn go<I: Source, O: Sink, E: Sink>(
     requires input { I.faults input.old + 1 < 2 ^ 64 }
     requires out { O.faults out.old + 1 < 2 ^ 64 }
     requires err { E.faults err.old + 1 < 2 ^ 64 }
-    ensures exact { (left o e : List ℕ) → I.left input.old ≡ Some left → O.taken out.old ≡ Some o → E.taken err.old ≡ Some e → O.faults out.new ≡ O.faults out.old → E.faults err.new ≡ E.faults err.old → Gives (AnswersWay file.now text.now core.now (input_of left (I.faults input.old) (I.faults input.new)) way) left o e (I.left input.new) (O.taken out.new) (E.taken err.new) result }
+    ensures exact { (left : List ℕ) → I.left input.old ≡ Some left → O.faults out.new ≡ O.faults out.old → E.faults err.new ≡ E.faults err.old → Gives (AnswersWay file.now text.now core.now (input_of left (I.faults input.old) (I.faults input.new)) way) left (I.left input.new) (O.taken out.old) (O.taken out.new) (E.taken err.old) (E.taken err.new) result }
     ensures faults { (t : ℕ) → Faults t t (I.faults input.old) (I.faults input.new) (O.faults out.old) (O.faults out.new) (E.faults err.old) (E.faults err.new) result }
     ensures input_fault { I.faults input.old < I.faults input.new → Says (E.taken err.old) (E.taken err.new) (E.faults err.old) (E.faults err.new) input_fault.err 132 result }
     ensures output_fault { O.faults out.old < O.faults out.new → Says (E.taken err.old) (E.taken err.new) (E.faults err.old) (E.faults err.new) output_fault.err 133 result }
-    ensures broken { (left o : List ℕ) → I.left input.old ≡ Some left → O.taken out.old ≡ Some o → WriteFails (O.faults out.old) (O.faults out.new) (E.faults err.old) (E.faults err.new) → (a : Shown) → AnswersWay file.now text.now core.now (steady left) way a → SaysMore a → Breaks a left (I.left input.new) (O.taken out.old) (O.taken out.new) (E.taken err.old) (E.taken err.new) }
+    ensures broken { (left : List ℕ) → I.left input.old ≡ Some left → WriteFails (O.faults out.old) (O.faults out.new) (E.faults err.old) (E.faults err.new) → (a : Shown) → AnswersWay file.now text.now core.now (steady left) way a → SaysMore a → Breaks a left (I.left input.new) (O.taken out.old) (O.taken out.new) (E.taken err.old) (E.taken err.new) }
+    ensures memory { Wants (OnMachine way → (input.new ≡ input.old) × (out.new ≡ out.old)) (⊤) (E.taken err.old) (E.taken err.new) result }
+    ensures cause { HasCause ((I.faults input.old < I.faults input.new) ⊎ WriteFails (O.faults out.old) (O.faults out.new) (E.faults err.old) (E.faults err.new)) ⊤ (E.taken err.old) (E.taken err.new) result }
 {
     match way {
         Way::Run {
@@ -260,11 +227,13 @@ pub(crate) fn run_program<I: Source, O: Sink, E: Sink>(
     requires input { I.faults input.old + 1 < 2 ^ 64 }
     requires out { O.faults out.old + 1 < 2 ^ 64 }
     requires err { E.faults err.old + 1 < 2 ^ 64 }
-    ensures exact { (left o e : List ℕ) → I.left input.old ≡ Some left → O.taken out.old ≡ Some o → E.taken err.old ≡ Some e → O.faults out.new ≡ O.faults out.old → E.faults err.new ≡ E.faults err.old → Gives (AnswersTypes file.now text.now (core_in (unit_view unit.now)) (input_of left (I.faults input.old) (I.faults input.new)) way) left o e (I.left input.new) (O.taken out.new) (E.taken err.new) result }
+    ensures exact { (left : List ℕ) → I.left input.old ≡ Some left → O.faults out.new ≡ O.faults out.old → E.faults err.new ≡ E.faults err.old → Gives (AnswersTypes file.now text.now (core_in (unit_view unit.now)) (input_of left (I.faults input.old) (I.faults input.new)) way) left (I.left input.new) (O.taken out.old) (O.taken out.new) (E.taken err.old) (E.taken err.new) result }
     ensures faults { (t : ℕ) → Faults t t (I.faults input.old) (I.faults input.new) (O.faults out.old) (O.faults out.new) (E.faults err.old) (E.faults err.new) result }
     ensures input_fault { I.faults input.old < I.faults input.new → Says (E.taken err.old) (E.taken err.new) (E.faults err.old) (E.faults err.new) input_fault.err 132 result }
     ensures output_fault { O.faults out.old < O.faults out.new → Says (E.taken err.old) (E.taken err.new) (E.faults err.old) (E.faults err.new) output_fault.err 133 result }
-    ensures broken { (left o : List ℕ) → I.left input.old ≡ Some left → O.taken out.old ≡ Some o → WriteFails (O.faults out.old) (O.faults out.new) (E.faults err.old) (E.faults err.new) → (a : Shown) → AnswersTypes file.now text.now (core_in (unit_view unit.now)) (steady left) way a → SaysMore a → Breaks a left (I.left input.new) (O.taken out.old) (O.taken out.new) (E.taken err.old) (E.taken err.new) }
+    ensures broken { (left : List ℕ) → I.left input.old ≡ Some left → WriteFails (O.faults out.old) (O.faults out.new) (E.faults err.old) (E.faults err.new) → (a : Shown) → AnswersTypes file.now text.now (core_in (unit_view unit.now)) (steady left) way a → SaysMore a → Breaks a left (I.left input.new) (O.taken out.old) (O.taken out.new) (E.taken err.old) (E.taken err.new) }
+    ensures memory { Wants (OnMachine way → (input.new ≡ input.old) × (out.new ≡ out.old)) (⊤) (E.taken err.old) (E.taken err.new) result }
+    ensures cause { HasCause ((I.faults input.old < I.faults input.new) ⊎ WriteFails (O.faults out.old) (O.faults out.new) (E.faults err.old) (E.faults err.new)) ⊤ (E.taken err.old) (E.taken err.new) result }
 {
     match elab(alloc, unit) {
         Ok(core) => go(alloc, file, text, &core, way, input, out, err),

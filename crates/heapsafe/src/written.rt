@@ -9,7 +9,7 @@ ghost use Rattle.elaboration.specs.Elaboration.{tags_of};
 ghost use Rattle.layout_list.specs.Listing.{layout_listing};
 ghost use Rattle.live_list.specs.Listing.{live_listing};
 ghost use Rattle.heapsafe.specs.Shown.{Shown, core_shown, layouts_shown, live_shown, output_fault, printed, written};
-ghost use Rattle.heapsafe.specs.Saying.{Breaks, Faults, Gives, Says, WriteFails};
+ghost use Rattle.heapsafe.specs.Saying.{Breaks, Faults, Gives, HasCause, Says, Wants, WriteFails};
 
 use crate::refusal::{Refusal, refuse, refuse_types};
 use c_elab::{elab, tags};
@@ -25,10 +25,12 @@ use std::alloc::Global;
 fn write_text<O: Sink, E: Sink>(text: &[u8], out: &mut O, err: &mut E) -> u8
     requires out { O.faults out.old + 1 < 2 ^ 64 }
     requires err { E.faults err.old + 1 < 2 ^ 64 }
-    ensures exact { (left o e : List ℕ) → O.taken out.old ≡ Some o → E.taken err.old ≡ Some e → O.faults out.new ≡ O.faults out.old → E.faults err.new ≡ E.faults err.old → Gives (λ a. a ≡ written text.now) left o e (Some left) (O.taken out.new) (E.taken err.new) result }
+    ensures exact { (left : List ℕ) → O.faults out.new ≡ O.faults out.old → E.faults err.new ≡ E.faults err.old → Gives (λ a. a ≡ written text.now) left (Some left) (O.taken out.old) (O.taken out.new) (E.taken err.old) (E.taken err.new) result }
     ensures faults { (t i : ℕ) → Faults t t i i (O.faults out.old) (O.faults out.new) (E.faults err.old) (E.faults err.new) result }
     ensures output_fault { O.faults out.old < O.faults out.new → Says (E.taken err.old) (E.taken err.new) (E.faults err.old) (E.faults err.new) output_fault.err 133 result }
     ensures broken { (left : List ℕ) → WriteFails (O.faults out.old) (O.faults out.new) (E.faults err.old) (E.faults err.new) → (a : Shown) → a ≡ written text.now → Breaks a left (Some left) (O.taken out.old) (O.taken out.new) (E.taken err.old) (E.taken err.new) }
+    ensures memory { Wants (out.new ≡ out.old) ⊥ (E.taken err.old) (E.taken err.new) result }
+    ensures cause { HasCause (WriteFails (O.faults out.old) (O.faults out.new) (E.faults err.old) (E.faults err.new)) ⊥ (E.taken err.old) (E.taken err.new) result }
 {
     match put_all(out, text) {
         Ok(()) => 0,
@@ -40,10 +42,12 @@ fn write_text<O: Sink, E: Sink>(text: &[u8], out: &mut O, err: &mut E) -> u8
 pub(crate) fn print<O: Sink, E: Sink>(alloc: Global, unit: &Unit, out: &mut O, err: &mut E) -> u8
     requires out { O.faults out.old + 1 < 2 ^ 64 }
     requires err { E.faults err.old + 1 < 2 ^ 64 }
-    ensures exact { (left o e : List ℕ) → O.taken out.old ≡ Some o → E.taken err.old ≡ Some e → O.faults out.new ≡ O.faults out.old → E.faults err.new ≡ E.faults err.old → Gives (λ a. a ≡ printed (unit_view unit.now)) left o e (Some left) (O.taken out.new) (E.taken err.new) result }
+    ensures exact { (left : List ℕ) → O.faults out.new ≡ O.faults out.old → E.faults err.new ≡ E.faults err.old → Gives (λ a. a ≡ printed (unit_view unit.now)) left (Some left) (O.taken out.old) (O.taken out.new) (E.taken err.old) (E.taken err.new) result }
     ensures faults { (t i : ℕ) → Faults t t i i (O.faults out.old) (O.faults out.new) (E.faults err.old) (E.faults err.new) result }
     ensures output_fault { O.faults out.old < O.faults out.new → Says (E.taken err.old) (E.taken err.new) (E.faults err.old) (E.faults err.new) output_fault.err 133 result }
     ensures broken { (left : List ℕ) → WriteFails (O.faults out.old) (O.faults out.new) (E.faults err.old) (E.faults err.new) → (a : Shown) → a ≡ printed (unit_view unit.now) → Breaks a left (Some left) (O.taken out.old) (O.taken out.new) (E.taken err.old) (E.taken err.new) }
+    ensures memory { Wants (out.new ≡ out.old) ⊥ (E.taken err.old) (E.taken err.new) result }
+    ensures cause { HasCause (WriteFails (O.faults out.old) (O.faults out.new) (E.faults err.old) (E.faults err.new)) ⊥ (E.taken err.old) (E.taken err.new) result }
 {
     match write_unit(alloc, unit) {
         Ok(text) => write_text(text.as_slice(), out, err),
@@ -55,10 +59,12 @@ pub(crate) fn print<O: Sink, E: Sink>(alloc: Global, unit: &Unit, out: &mut O, e
 fn write_layouts<O: Sink, E: Sink>(alloc: Global, tags: &Tags, out: &mut O, err: &mut E) -> u8
     requires out { O.faults out.old + 1 < 2 ^ 64 }
     requires err { E.faults err.old + 1 < 2 ^ 64 }
-    ensures exact { (left o e : List ℕ) → O.taken out.old ≡ Some o → E.taken err.old ≡ Some e → O.faults out.new ≡ O.faults out.old → E.faults err.new ≡ E.faults err.old → Gives (λ a. a ≡ written (layout_listing tags.now)) left o e (Some left) (O.taken out.new) (E.taken err.new) result }
+    ensures exact { (left : List ℕ) → O.faults out.new ≡ O.faults out.old → E.faults err.new ≡ E.faults err.old → Gives (λ a. a ≡ written (layout_listing tags.now)) left (Some left) (O.taken out.old) (O.taken out.new) (E.taken err.old) (E.taken err.new) result }
     ensures faults { (t i : ℕ) → Faults t t i i (O.faults out.old) (O.faults out.new) (E.faults err.old) (E.faults err.new) result }
     ensures output_fault { O.faults out.old < O.faults out.new → Says (E.taken err.old) (E.taken err.new) (E.faults err.old) (E.faults err.new) output_fault.err 133 result }
     ensures broken { (left : List ℕ) → WriteFails (O.faults out.old) (O.faults out.new) (E.faults err.old) (E.faults err.new) → (a : Shown) → a ≡ written (layout_listing tags.now) → Breaks a left (Some left) (O.taken out.old) (O.taken out.new) (E.taken err.old) (E.taken err.new) }
+    ensures memory { Wants (out.new ≡ out.old) ⊥ (E.taken err.old) (E.taken err.new) result }
+    ensures cause { HasCause (WriteFails (O.faults out.old) (O.faults out.new) (E.faults err.old) (E.faults err.new)) ⊥ (E.taken err.old) (E.taken err.new) result }
 {
     match list_layouts(alloc, tags) {
         Ok(text) => write_text(text.as_slice(), out, err),
@@ -77,10 +83,12 @@ pub(crate) fn layouts<O: Sink, E: Sink>(
 ) -> u8
     requires out { O.faults out.old + 1 < 2 ^ 64 }
     requires err { E.faults err.old + 1 < 2 ^ 64 }
-    ensures exact { (left o e : List ℕ) → O.taken out.old ≡ Some o → E.taken err.old ≡ Some e → O.faults out.new ≡ O.faults out.old → E.faults err.new ≡ E.faults err.old → Gives (λ a. a ≡ layouts_shown file.now text.now (tags_of (unit_view unit.now))) left o e (Some left) (O.taken out.new) (E.taken err.new) result }
+    ensures exact { (left : List ℕ) → O.faults out.new ≡ O.faults out.old → E.faults err.new ≡ E.faults err.old → Gives (λ a. a ≡ layouts_shown file.now text.now (tags_of (unit_view unit.now))) left (Some left) (O.taken out.old) (O.taken out.new) (E.taken err.old) (E.taken err.new) result }
     ensures faults { (t i : ℕ) → Faults t t i i (O.faults out.old) (O.faults out.new) (E.faults err.old) (E.faults err.new) result }
     ensures output_fault { O.faults out.old < O.faults out.new → Says (E.taken err.old) (E.taken err.new) (E.faults err.old) (E.faults err.new) output_fault.err 133 result }
     ensures broken { (left : List ℕ) → WriteFails (O.faults out.old) (O.faults out.new) (E.faults err.old) (E.faults err.new) → (a : Shown) → a ≡ layouts_shown file.now text.now (tags_of (unit_view unit.now)) → Breaks a left (Some left) (O.taken out.old) (O.taken out.new) (E.taken err.old) (E.taken err.new) }
+    ensures memory { Wants (out.new ≡ out.old) ⊥ (E.taken err.old) (E.taken err.new) result }
+    ensures cause { HasCause (WriteFails (O.faults out.old) (O.faults out.new) (E.faults err.old) (E.faults err.new)) ⊥ (E.taken err.old) (E.taken err.new) result }
 {
     match tags(alloc, unit) {
         Ok(tags) => write_layouts(alloc, &tags, out, err),
@@ -92,10 +100,12 @@ pub(crate) fn layouts<O: Sink, E: Sink>(
 fn write_core<O: Sink, E: Sink>(alloc: Global, core: &Core, out: &mut O, err: &mut E) -> u8
     requires out { O.faults out.old + 1 < 2 ^ 64 }
     requires err { E.faults err.old + 1 < 2 ^ 64 }
-    ensures exact { (left o e : List ℕ) → O.taken out.old ≡ Some o → E.taken err.old ≡ Some e → O.faults out.new ≡ O.faults out.old → E.faults err.new ≡ E.faults err.old → Gives (λ a. a ≡ written (listing core.now)) left o e (Some left) (O.taken out.new) (E.taken err.new) result }
+    ensures exact { (left : List ℕ) → O.faults out.new ≡ O.faults out.old → E.faults err.new ≡ E.faults err.old → Gives (λ a. a ≡ written (listing core.now)) left (Some left) (O.taken out.old) (O.taken out.new) (E.taken err.old) (E.taken err.new) result }
     ensures faults { (t i : ℕ) → Faults t t i i (O.faults out.old) (O.faults out.new) (E.faults err.old) (E.faults err.new) result }
     ensures output_fault { O.faults out.old < O.faults out.new → Says (E.taken err.old) (E.taken err.new) (E.faults err.old) (E.faults err.new) output_fault.err 133 result }
     ensures broken { (left : List ℕ) → WriteFails (O.faults out.old) (O.faults out.new) (E.faults err.old) (E.faults err.new) → (a : Shown) → a ≡ written (listing core.now) → Breaks a left (Some left) (O.taken out.old) (O.taken out.new) (E.taken err.old) (E.taken err.new) }
+    ensures memory { Wants (out.new ≡ out.old) ⊥ (E.taken err.old) (E.taken err.new) result }
+    ensures cause { HasCause (WriteFails (O.faults out.old) (O.faults out.new) (E.faults err.old) (E.faults err.new)) ⊥ (E.taken err.old) (E.taken err.new) result }
 {
     match list(alloc, core) {
         Ok(text) => write_text(text.as_slice(), out, err),
@@ -114,10 +124,12 @@ pub(crate) fn core_list<O: Sink, E: Sink>(
 ) -> u8
     requires out { O.faults out.old + 1 < 2 ^ 64 }
     requires err { E.faults err.old + 1 < 2 ^ 64 }
-    ensures exact { (left o e : List ℕ) → O.taken out.old ≡ Some o → E.taken err.old ≡ Some e → O.faults out.new ≡ O.faults out.old → E.faults err.new ≡ E.faults err.old → Gives (λ a. a ≡ core_shown file.now text.now (core_in (unit_view unit.now))) left o e (Some left) (O.taken out.new) (E.taken err.new) result }
+    ensures exact { (left : List ℕ) → O.faults out.new ≡ O.faults out.old → E.faults err.new ≡ E.faults err.old → Gives (λ a. a ≡ core_shown file.now text.now (core_in (unit_view unit.now))) left (Some left) (O.taken out.old) (O.taken out.new) (E.taken err.old) (E.taken err.new) result }
     ensures faults { (t i : ℕ) → Faults t t i i (O.faults out.old) (O.faults out.new) (E.faults err.old) (E.faults err.new) result }
     ensures output_fault { O.faults out.old < O.faults out.new → Says (E.taken err.old) (E.taken err.new) (E.faults err.old) (E.faults err.new) output_fault.err 133 result }
     ensures broken { (left : List ℕ) → WriteFails (O.faults out.old) (O.faults out.new) (E.faults err.old) (E.faults err.new) → (a : Shown) → a ≡ core_shown file.now text.now (core_in (unit_view unit.now)) → Breaks a left (Some left) (O.taken out.old) (O.taken out.new) (E.taken err.old) (E.taken err.new) }
+    ensures memory { Wants (out.new ≡ out.old) ⊥ (E.taken err.old) (E.taken err.new) result }
+    ensures cause { HasCause (WriteFails (O.faults out.old) (O.faults out.new) (E.faults err.old) (E.faults err.new)) ⊥ (E.taken err.old) (E.taken err.new) result }
 {
     match elab(alloc, unit) {
         Ok(core) => write_core(alloc, &core, out, err),
@@ -129,10 +141,12 @@ pub(crate) fn core_list<O: Sink, E: Sink>(
 fn write_live<O: Sink, E: Sink>(alloc: Global, core: &Core, out: &mut O, err: &mut E) -> u8
     requires out { O.faults out.old + 1 < 2 ^ 64 }
     requires err { E.faults err.old + 1 < 2 ^ 64 }
-    ensures exact { (left o e : List ℕ) → O.taken out.old ≡ Some o → E.taken err.old ≡ Some e → O.faults out.new ≡ O.faults out.old → E.faults err.new ≡ E.faults err.old → Gives (λ a. a ≡ written (live_listing core.now)) left o e (Some left) (O.taken out.new) (E.taken err.new) result }
+    ensures exact { (left : List ℕ) → O.faults out.new ≡ O.faults out.old → E.faults err.new ≡ E.faults err.old → Gives (λ a. a ≡ written (live_listing core.now)) left (Some left) (O.taken out.old) (O.taken out.new) (E.taken err.old) (E.taken err.new) result }
     ensures faults { (t i : ℕ) → Faults t t i i (O.faults out.old) (O.faults out.new) (E.faults err.old) (E.faults err.new) result }
     ensures output_fault { O.faults out.old < O.faults out.new → Says (E.taken err.old) (E.taken err.new) (E.faults err.old) (E.faults err.new) output_fault.err 133 result }
     ensures broken { (left : List ℕ) → WriteFails (O.faults out.old) (O.faults out.new) (E.faults err.old) (E.faults err.new) → (a : Shown) → a ≡ written (live_listing core.now) → Breaks a left (Some left) (O.taken out.old) (O.taken out.new) (E.taken err.old) (E.taken err.new) }
+    ensures memory { Wants (out.new ≡ out.old) ⊥ (E.taken err.old) (E.taken err.new) result }
+    ensures cause { HasCause (WriteFails (O.faults out.old) (O.faults out.new) (E.faults err.old) (E.faults err.new)) ⊥ (E.taken err.old) (E.taken err.new) result }
 {
     match list_live(alloc, core) {
         Ok(text) => write_text(text.as_slice(), out, err),
@@ -151,10 +165,12 @@ pub(crate) fn core_live<O: Sink, E: Sink>(
 ) -> u8
     requires out { O.faults out.old + 1 < 2 ^ 64 }
     requires err { E.faults err.old + 1 < 2 ^ 64 }
-    ensures exact { (left o e : List ℕ) → O.taken out.old ≡ Some o → E.taken err.old ≡ Some e → O.faults out.new ≡ O.faults out.old → E.faults err.new ≡ E.faults err.old → Gives (λ a. a ≡ live_shown file.now text.now (core_in (unit_view unit.now))) left o e (Some left) (O.taken out.new) (E.taken err.new) result }
+    ensures exact { (left : List ℕ) → O.faults out.new ≡ O.faults out.old → E.faults err.new ≡ E.faults err.old → Gives (λ a. a ≡ live_shown file.now text.now (core_in (unit_view unit.now))) left (Some left) (O.taken out.old) (O.taken out.new) (E.taken err.old) (E.taken err.new) result }
     ensures faults { (t i : ℕ) → Faults t t i i (O.faults out.old) (O.faults out.new) (E.faults err.old) (E.faults err.new) result }
     ensures output_fault { O.faults out.old < O.faults out.new → Says (E.taken err.old) (E.taken err.new) (E.faults err.old) (E.faults err.new) output_fault.err 133 result }
     ensures broken { (left : List ℕ) → WriteFails (O.faults out.old) (O.faults out.new) (E.faults err.old) (E.faults err.new) → (a : Shown) → a ≡ live_shown file.now text.now (core_in (unit_view unit.now)) → Breaks a left (Some left) (O.taken out.old) (O.taken out.new) (E.taken err.old) (E.taken err.new) }
+    ensures memory { Wants (out.new ≡ out.old) ⊥ (E.taken err.old) (E.taken err.new) result }
+    ensures cause { HasCause (WriteFails (O.faults out.old) (O.faults out.new) (E.faults err.old) (E.faults err.new)) ⊥ (E.taken err.old) (E.taken err.new) result }
 {
     match elab(alloc, unit) {
         Ok(core) => write_live(alloc, &core, out, err),

@@ -1,21 +1,22 @@
-use Rattle.std.proofs.Common.{◌∙◌, ℕ, List, Some, Ok, Err, inl, inr, refl, sym, subst, map, Bor}
+use Rattle.std.proofs.Common.{◌∙◌, ℕ, List, Some, Ok, Err, inl, inr, refl, sym, subst, map, Bor, arith}
 use Rattle.command_words.specs.Commands.{Generated, command_of, task_shown, IsRead, Command as Asked}
 use Rattle.command_words.specs.declared.command.Command.{Command}
 use Rattle.command_words.specs.declared.error.WordsError.{WordsError}
 use Rattle.heapsafe.specs.Shown.{usage, no_memory, text_fault}
 use Rattle.heapsafe.specs.Program.{input_of, steady}
-use Rattle.heapsafe.specs.Answer.{Answers, AnswersGenerated, AnswersCommand}
+use Rattle.heapsafe.specs.Answer.{Answers, AnswersGenerated, AnswersCommand, AsksNoMeaning, AsksNone}
 use Rattle.heapsafe.proofs.Told.{gives_said, gives_as, gives_left, one_file, usage_is}
 use Rattle.heapsafe.proofs.Broken.{broken_left, broken_said, wanting_line}
 use Rattle.std.specs.Prelude.{Option}
 use Rattle.heapsafe.specs.Saying.{Says}
+use Rattle.heapsafe.proofs.Statuses.{unwanted, wanted, wants_more, cause_more, caused, no_fault_120, no_fault_134}
 use Rattle.heapsafe.proofs.heapsafe.Goals as goal
 
 pub returns-in-Ok-OnFile-clause-exact : goal.returns-in-Ok-OnFile-clause-exact
-returns-in-Ok-OnFile-clause-exact g c = λ told left o e k l h i same_texts same_out same_err.
+returns-in-Ok-OnFile-clause-exact g c = λ told left k l same_texts same_out same_err.
     let words : List (List ℕ) = map (λ (w : Bor (List ℕ)). w.now) c.args.words.now in
     let read = subst (λ (command : Command). IsRead (command_of words) (Ok command)) c.in-Ok-OnFile.field-0-is c.in-Ok-OnFile.ensures.read in
-    gives_as _ (command_of words) told _ left o e _ _ _ _ (sym read) (c.with_file.ensures.exact told left o e k l h i same_texts same_out same_err)
+    gives_as _ (command_of words) told _ left _ _ _ _ _ _ (sym read) (c.with_file.ensures.exact told left k l same_texts same_out same_err)
 
 pub returns-in-Ok-OnFile-clause-text_fault : goal.returns-in-Ok-OnFile-clause-text_fault
 returns-in-Ok-OnFile-clause-text_fault g c = λ file task asked more.
@@ -29,48 +30,80 @@ returns-in-Ok-OnFile-clause-text_fault g c = λ file task asked more.
     )
 
 pub returns-in-Ok-Generated-clause-exact : goal.returns-in-Ok-Generated-clause-exact
-returns-in-Ok-Generated-clause-exact g c = λ told left o e k l h i same_texts same_out same_err.
+returns-in-Ok-Generated-clause-exact g c = λ told left k l same_texts same_out same_err.
     let words : List (List ℕ) = map (λ (w : Bor (List ℕ)). w.now) c.args.words.now in
     let input = input_of left (g.I.Source.faults c.args.input.now) (g.I.Source.faults c.args.input.now) in
     let number = c.in-Ok-Generated.number in
     let read = subst (λ (command : Command). IsRead (command_of words) (Ok command)) c.in-Ok-Generated.field-0-is c.in-Ok-Generated.ensures.read in
-    gives_as (Some (Generated number)) (command_of words) told input left o e _ _ _ _ (sym read)
-    (gives_left (AnswersGenerated number) left o e _ _ _ _ l (c.run_generated.ensures.exact left o e h i same_out same_err))
+    gives_as (Some (Generated number)) (command_of words) told input left _ _ _ _ _ _ (sym read)
+    (gives_left (AnswersGenerated number) left _ _ _ _ _ _ l (c.run_generated.ensures.exact left same_out same_err))
 
 pub returns-in-Ok-Generated-clause-faults : goal.returns-in-Ok-Generated-clause-faults
 returns-in-Ok-Generated-clause-faults g c =
     c.run_generated.ensures.faults (g.T.Texts.faults c.args.texts.now) (g.I.Source.faults c.args.input.now)
 
 pub returns-in-Err-Usage-clause-exact : goal.returns-in-Err-Usage-clause-exact
-returns-in-Err-Usage-clause-exact g c = λ told left o e k l h i same_texts same_out same_err.
+returns-in-Err-Usage-clause-exact g c = λ told left k l same_texts same_out same_err.
     let words : List (List ℕ) = map (λ (w : Bor (List ℕ)). w.now) c.args.words.now in
     let input = input_of left (g.I.Source.faults c.args.input.now) (g.I.Source.faults c.args.input.now) in
-    gives_said (Answers words told input) usage left o e _ _ _ _ _ _ _ (inl (usage_is (command_of words) told input (sym (subst (λ (e : WordsError). IsRead (command_of words) (Err e)) c.in-Err-Usage.field-0-is c.in-Err-Usage.ensures.read)))) (record { read = refl; out = refl }) l h i same_err c.refuse.ensures.says
+    gives_said (Answers words told input) usage left _ _ _ _ _ _ _ _ (inl (usage_is (command_of words) told input (sym (subst (λ (e : WordsError). IsRead (command_of words) (Err e)) c.in-Err-Usage.field-0-is c.in-Err-Usage.ensures.read)))) (record { read = refl; out = refl }) l refl same_err c.refuse.ensures.says
 
 pub returns-in-Err-NoMemory-clause-exact : goal.returns-in-Err-NoMemory-clause-exact
-returns-in-Err-NoMemory-clause-exact g c = λ told left o e k l h i same_texts same_out same_err.
+returns-in-Err-NoMemory-clause-exact g c = λ told left k l same_texts same_out same_err.
     let words : List (List ℕ) = map (λ (w : Bor (List ℕ)). w.now) c.args.words.now in
     let input = input_of left (g.I.Source.faults c.args.input.now) (g.I.Source.faults c.args.input.now) in
-    gives_said (Answers words told input) no_memory left o e _ _ _ _ _ _ _ (inr refl) (record { read = refl; out = refl }) l h i same_err c.refuse-in-Err-NoMemory.ensures.says
+    gives_said (Answers words told input) no_memory left _ _ _ _ _ _ _ _ (inr refl) (record { read = refl; out = refl }) l refl same_err c.refuse-in-Err-NoMemory.ensures.says
 
 pub returns-in-Ok-OnFile-clause-broken : goal.returns-in-Ok-OnFile-clause-broken
-returns-in-Ok-OnFile-clause-broken g c = λ told left o k l h fails a is more.
+returns-in-Ok-OnFile-clause-broken g c = λ told left k l fails a is more.
     let words : List (List ℕ) = map (λ (w : Bor (List ℕ)). w.now) c.args.words.now in
     let read = subst (λ (command : Command). IsRead (command_of words) (Ok command)) c.in-Ok-OnFile.field-0-is c.in-Ok-OnFile.ensures.read in
-    c.with_file.ensures.broken told left o k l h fails a (subst (λ (command : Option Asked). AnswersCommand command told (steady left) a) read is) more
+    c.with_file.ensures.broken told left k l fails a (subst (λ (command : Option Asked). AnswersCommand command told (steady left) a) read is) more
 
 pub returns-in-Ok-Generated-clause-broken : goal.returns-in-Ok-Generated-clause-broken
-returns-in-Ok-Generated-clause-broken g c = λ told left o k l h fails a is more.
+returns-in-Ok-Generated-clause-broken g c = λ told left k l fails a is more.
     let words : List (List ℕ) = map (λ (w : Bor (List ℕ)). w.now) c.args.words.now in
     let read = subst (λ (command : Command). IsRead (command_of words) (Ok command)) c.in-Ok-Generated.field-0-is c.in-Ok-Generated.ensures.read in
     broken_left a left _ _ _ _ _ l (c.run_generated.ensures.broken left fails a (subst (λ (command : Option Asked). AnswersCommand command told (steady left) a) read is))
 
 pub returns-in-Err-Usage-clause-broken : goal.returns-in-Err-Usage-clause-broken
-returns-in-Err-Usage-clause-broken g c = λ told left o k l h fails a is more.
+returns-in-Err-Usage-clause-broken g c = λ told left k l fails a is more.
     let words : List (List ℕ) = map (λ (w : Bor (List ℕ)). w.now) c.args.words.now in
     let read = subst (λ (e : WordsError). IsRead (command_of words) (Err e)) c.in-Err-Usage.field-0-is c.in-Err-Usage.ensures.read in
     broken_said usage a left _ _ _ _ _ _ _ _ (inl (subst (λ (command : Option Asked). AnswersCommand command told (steady left) a) read is)) l refl c.refuse.ensures.says
 
 pub returns-in-Err-NoMemory-clause-broken : goal.returns-in-Err-NoMemory-clause-broken
-returns-in-Err-NoMemory-clause-broken g c = λ told left o k l h fails a is more.
+returns-in-Err-NoMemory-clause-broken g c = λ told left k l fails a is more.
     broken_said no_memory a left _ _ _ _ _ _ _ _ (inr wanting_line) l refl c.refuse-in-Err-NoMemory.ensures.says
+
+pub returns-in-Ok-OnFile-clause-memory : goal.returns-in-Ok-OnFile-clause-memory
+returns-in-Ok-OnFile-clause-memory g c =
+    let words : List (List ℕ) = map (λ (w : Bor (List ℕ)). w.now) c.args.words.now in
+    let read = subst (λ (command : Command). IsRead (command_of words) (Ok command)) c.in-Ok-OnFile.field-0-is c.in-Ok-OnFile.ensures.read in
+    wants_more _ _ _ _ _ _ _ (λ stays one. stays (subst AsksNoMeaning read one)) (λ own none. own (subst AsksNone read none)) c.with_file.ensures.memory
+
+pub returns-in-Ok-Generated-clause-memory : goal.returns-in-Ok-Generated-clause-memory
+returns-in-Ok-Generated-clause-memory g c = wants_more _ _ _ _ _ _ _ (λ stays one. (refl, stays)) (λ own. absurd own) c.run_generated.ensures.memory
+
+pub returns-in-Err-Usage-clause-memory : goal.returns-in-Err-Usage-clause-memory
+returns-in-Err-Usage-clause-memory g c = unwanted _ _ _ _ _ _ 120 _ usage.err (λ h. omega (arith, h)) c.refuse.ensures.says
+
+pub returns-in-Err-NoMemory-clause-memory : goal.returns-in-Err-NoMemory-clause-memory
+returns-in-Err-NoMemory-clause-memory g c = wanted _ _ no_memory _ _ _ _ _ (λ one. (refl, refl)) (λ h. refl) c.refuse-in-Err-NoMemory.ensures.says
+
+pub returns-in-Ok-OnFile-clause-cause : goal.returns-in-Ok-OnFile-clause-cause
+returns-in-Ok-OnFile-clause-cause g c =
+    let words : List (List ℕ) = map (λ (w : Bor (List ℕ)). w.now) c.args.words.now in
+    let read = subst (λ (command : Command). IsRead (command_of words) (Ok command)) c.in-Ok-OnFile.field-0-is c.in-Ok-OnFile.ensures.read in
+    cause_more _ _ _ _ _ _ _ (λ h. h) (λ own none. own (subst AsksNone read none)) c.with_file.ensures.cause
+
+pub returns-in-Ok-Generated-clause-cause : goal.returns-in-Ok-Generated-clause-cause
+returns-in-Ok-Generated-clause-cause g c = cause_more _ _ _ _ _ _ _ (λ h. inr (inr h)) (λ own. absurd own) c.run_generated.ensures.cause
+
+pub returns-in-Err-Usage-clause-cause : goal.returns-in-Err-Usage-clause-cause
+returns-in-Err-Usage-clause-cause g c =
+    caused _ _ _ _ _ _ 120 _ usage.err (λ h. inr (inr (inr h))) (λ h. absurd (no_fault_120 h)) c.refuse.ensures.says
+
+pub returns-in-Err-NoMemory-clause-cause : goal.returns-in-Err-NoMemory-clause-cause
+returns-in-Err-NoMemory-clause-cause g c =
+    caused _ _ _ _ _ _ 134 _ no_memory.err (λ h. inr (inr (inr h))) (λ h. absurd (no_fault_134 h)) c.refuse-in-Err-NoMemory.ensures.says

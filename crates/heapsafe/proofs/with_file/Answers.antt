@@ -1,4 +1,4 @@
-use Rattle.std.proofs.Common.{ℕ, ◌≡◌, ◌≤◌, List, sym, subst, refl}
+use Rattle.std.proofs.Common.{ℕ, ◌≡◌, ◌≤◌, List, sym, subst, refl, inl, inr}
 use Rattle.std.specs.Prelude.{Ok, length}
 use Rattle.c_lexer.specs.declared.token.Token.{Token}
 use Rattle.c_lexer.specs.Tokens.{IsOnlyAnswer, HasTokens}
@@ -9,22 +9,23 @@ use Rattle.command_words.specs.Commands.{task_shown}
 use Rattle.heapsafe.specs.Saying.{shown_of, unread, untokened}
 use Rattle.heapsafe.proofs.Told.{gives_said, says_as, unread_is, unread_silent, untokened_file, untokened_silent, gives_file, faults_as}
 use Rattle.heapsafe.proofs.Broken.{broken_said, lexed_file, unread_line_of, untokened_line}
+use Rattle.heapsafe.proofs.Statuses.{unread_wants, untokened_wants, wanted, cause_more, caused, unread_cause, untokened_no_fault}
 use Rattle.heapsafe.proofs.with_file.Goals as goal
 
 pub returns-in-Err-clause-exact : goal.returns-in-Err-clause-exact
-returns-in-Err-clause-exact g c = λ told left o e k l h i same_texts same_out same_err.
+returns-in-Err-clause-exact g c = λ told left k l same_texts same_out same_err.
     let input = input_of left (g.I.Source.faults c.args.input.now) (g.I.Source.faults c.args.input.now) in
     let says = says_as (shown_of c.reading_refusal.result) (unread c.in-Err.error c.args.file.now) c.reading_refusal.ensures _ _ _ _ _ c.refuse.ensures.says in
-    gives_said (AnswersFile c.args.file.now (told c.args.file.now) input (task_shown c.args.task)) (unread c.in-Err.error c.args.file.now) left o e _ _ _ _ _ _ _
+    gives_said (AnswersFile c.args.file.now (told c.args.file.now) input (task_shown c.args.task)) (unread c.in-Err.error c.args.file.now) left _ _ _ _ _ _ _ _
     (unread_is c.in-Err.error c.args.file.now (told c.args.file.now) input (task_shown c.args.task) _ _ (c.in-Err.ensures.bytes told k) c.in-Err.ensures.cause same_texts)
-    (unread_silent c.in-Err.error c.args.file.now) l h i same_err says
+    (unread_silent c.in-Err.error c.args.file.now) l refl same_err says
 
 pub returns-in-Ok-lex-clause-exact : goal.returns-in-Ok-lex-clause-exact
-returns-in-Ok-lex-clause-exact g c = λ told left o e k l h i same_texts same_out same_err.
-    gives_file c.args.file.now (told c.args.file.now) c.as_slice-text.result.now c.as_slice.result.now _ (task_shown c.args.task) left o e _ _ _ _
+returns-in-Ok-lex-clause-exact g c = λ told left k l same_texts same_out same_err.
+    gives_file c.args.file.now (told c.args.file.now) c.as_slice-text.result.now c.as_slice.result.now _ (task_shown c.args.task) left _ _ _ _ _ _
     (subst (λ (t : List ℕ). (t ≡ told c.args.file.now) × (length (told c.args.file.now) ≤ most_bytes)) (sym c.as_slice-text.ensures) (c.in-Ok.ensures.bytes told k))
     (subst (λ (ts : List Token). IsOnlyAnswer c.as_slice-text.result.now (Ok ts)) (sym c.as_slice.ensures) c.in-Ok-lex.ensures.exact)
-    (c.with_tokens.ensures.exact left o e l h i same_out same_err)
+    (c.with_tokens.ensures.exact left l same_out same_err)
 
 pub returns-in-Ok-lex-clause-faults : goal.returns-in-Ok-lex-clause-faults
 returns-in-Ok-lex-clause-faults g c =
@@ -32,30 +33,51 @@ returns-in-Ok-lex-clause-faults g c =
     c.in-Ok.ensures.cause (c.with_tokens.ensures.faults (g.T.Texts.faults c.args.texts.now))
 
 pub returns-clause-exact : goal.returns-clause-exact
-returns-clause-exact g c = λ told left o e k l h i same_texts same_out same_err.
+returns-clause-exact g c = λ told left k l same_texts same_out same_err.
     let input = input_of left (g.I.Source.faults c.args.input.now) (g.I.Source.faults c.args.input.now) in
-    gives_said (AnswersFile c.args.file.now (told c.args.file.now) input (task_shown c.args.task)) (untokened c.in-Err-lex.error c.args.file.now c.as_slice-text.result.now) left o e _ _ _ _ _ _ _
+    gives_said (AnswersFile c.args.file.now (told c.args.file.now) input (task_shown c.args.task)) (untokened c.in-Err-lex.error c.args.file.now c.as_slice-text.result.now) left _ _ _ _ _ _ _ _
     (untokened_file c.in-Err-lex.error c.args.file.now (told c.args.file.now) c.as_slice-text.result.now input (task_shown c.args.task)
     (subst (λ (t : List ℕ). (t ≡ told c.args.file.now) × (length (told c.args.file.now) ≤ most_bytes)) (sym c.as_slice-text.ensures) (c.in-Ok.ensures.bytes told k))
     c.in-Err-lex.ensures.exact)
-    (untokened_silent c.in-Err-lex.error c.args.file.now c.as_slice-text.result.now) l h i same_err c.refuse_text.ensures.says
+    (untokened_silent c.in-Err-lex.error c.args.file.now c.as_slice-text.result.now) l refl same_err c.refuse_text.ensures.says
 
 pub returns-in-Err-clause-broken : goal.returns-in-Err-clause-broken
-returns-in-Err-clause-broken g c = λ told left o k l h fails a is more.
+returns-in-Err-clause-broken g c = λ told left k l fails a is more.
     let says = says_as (shown_of c.reading_refusal.result) (unread c.in-Err.error c.args.file.now) c.reading_refusal.ensures _ _ _ _ _ c.refuse.ensures.says in
     broken_said (unread c.in-Err.error c.args.file.now) a left _ _ _ _ _ _ _ _
     (unread_line_of c.in-Err.error c.args.file.now (told c.args.file.now) (steady left) (task_shown c.args.task) a (c.in-Err.ensures.bytes told k) is)
     l refl says
 
 pub returns-in-Ok-lex-clause-broken : goal.returns-in-Ok-lex-clause-broken
-returns-in-Ok-lex-clause-broken g c = λ told left o k l h fails a is more.
+returns-in-Ok-lex-clause-broken g c = λ told left k l fails a is more.
     let read = subst (λ (t : List ℕ). (t ≡ told c.args.file.now) × (length (told c.args.file.now) ≤ most_bytes)) (sym c.as_slice-text.ensures) (c.in-Ok.ensures.bytes told k) in
     let has = subst (λ (ts : List Token). HasTokens c.as_slice-text.result.now ts) (sym c.as_slice.ensures) c.in-Ok-lex.ensures.tokens in
-    c.with_tokens.ensures.broken left o l h fails a (lexed_file c.args.file.now (told c.args.file.now) c.as_slice-text.result.now c.as_slice.result.now (steady left) (task_shown c.args.task) a read has is) more
+    c.with_tokens.ensures.broken left l fails a (lexed_file c.args.file.now (told c.args.file.now) c.as_slice-text.result.now c.as_slice.result.now (steady left) (task_shown c.args.task) a read has is) more
 
 pub returns-clause-broken : goal.returns-clause-broken
-returns-clause-broken g c = λ told left o k l h fails a is more.
+returns-clause-broken g c = λ told left k l fails a is more.
     let read = subst (λ (t : List ℕ). (t ≡ told c.args.file.now) × (length (told c.args.file.now) ≤ most_bytes)) (sym c.as_slice-text.ensures) (c.in-Ok.ensures.bytes told k) in
     broken_said (untokened c.in-Err-lex.error c.args.file.now c.as_slice-text.result.now) a left _ _ _ _ _ _ _ _
     (untokened_line c.in-Err-lex.error c.args.file.now (told c.args.file.now) c.as_slice-text.result.now (steady left) (task_shown c.args.task) a read c.in-Err-lex.ensures.refused is)
     l refl c.refuse_text.ensures.says
+
+pub returns-in-Err-clause-memory : goal.returns-in-Err-clause-memory
+returns-in-Err-clause-memory g c =
+    let says = says_as (shown_of c.reading_refusal.result) (unread c.in-Err.error c.args.file.now) c.reading_refusal.ensures _ _ _ _ _ c.refuse.ensures.says in
+    wanted _ _ (unread c.in-Err.error c.args.file.now) _ _ _ _ _ (λ one. (refl, refl)) (unread_wants c.in-Err.error c.args.file.now) says
+
+pub returns-clause-memory : goal.returns-clause-memory
+returns-clause-memory g c =
+    wanted _ _ (untokened c.in-Err-lex.error c.args.file.now c.as_slice-text.result.now) _ _ _ _ _ (λ one. (refl, refl)) (untokened_wants c.in-Err-lex.error c.args.file.now c.as_slice-text.result.now) c.refuse_text.ensures.says
+
+pub returns-in-Err-clause-cause : goal.returns-in-Err-clause-cause
+returns-in-Err-clause-cause g c =
+    let says = says_as (shown_of c.reading_refusal.result) (unread c.in-Err.error c.args.file.now) c.reading_refusal.ensures _ _ _ _ _ c.refuse.ensures.says in
+    caused _ _ _ _ _ _ _ _ _ (λ h. inr (inr (inr h))) (λ h. inl (unread_cause c.in-Err.error c.args.file.now _ _ c.in-Err.ensures.cause h)) says
+
+pub returns-in-Ok-lex-clause-cause : goal.returns-in-Ok-lex-clause-cause
+returns-in-Ok-lex-clause-cause g c = cause_more _ _ _ _ _ _ _ (λ h. inr h) (λ own. own) c.with_tokens.ensures.cause
+
+pub returns-clause-cause : goal.returns-clause-cause
+returns-clause-cause g c =
+    caused _ _ _ _ _ _ _ _ _ (λ h. inr (inr (inr h))) (λ h. absurd (untokened_no_fault c.in-Err-lex.error c.args.file.now c.as_slice-text.result.now h)) c.refuse_text.ensures.says

@@ -5,18 +5,19 @@ use Rattle.heapsafe.specs.Answer.{AnswersGenerated}
 use Rattle.heapsafe.specs.Shown.{Shown, written, no_memory}
 use Rattle.heapsafe.proofs.Told.{gives_more, gives_said}
 use Rattle.heapsafe.proofs.Broken.{broken_said, wanting_line}
+use Rattle.heapsafe.proofs.Statuses.{wanted, caused, no_fault_134}
 use Rattle.heapsafe.proofs.generated.run_generated.Goals as goal
 
 pub returns-in-Ok-clause-exact : goal.returns-in-Ok-clause-exact
-returns-in-Ok-clause-exact g c = λ left o e h i same_out same_err.
+returns-in-Ok-clause-exact g c = λ left same_out same_err.
     let sums = c.in-Ok.ensures in
     gives_more (λ (a : Shown). a ≡ written (summary_line c.in-Ok.summary)) (AnswersGenerated c.args.number)
     (λ a is. record { run = sums.run; made = sums.made; runs = sums.runs; shows = is ∙ ap (λ (s : Summary). written (summary_line s)) sums.is })
-    left o e _ _ _ _ (c.write_summary.ensures.exact left o e h i same_out same_err)
+    left _ _ _ _ _ _ (c.write_summary.ensures.exact left same_out same_err)
 
 pub returns-in-Err-clause-exact : goal.returns-in-Err-clause-exact
-returns-in-Err-clause-exact g c = λ left o e h i same_out same_err.
-    gives_said (AnswersGenerated c.args.number) no_memory left o e _ _ _ _ _ _ _ (inr refl) (record { read = refl; out = refl }) refl h i same_err c.refuse.ensures.says
+returns-in-Err-clause-exact g c = λ left same_out same_err.
+    gives_said (AnswersGenerated c.args.number) no_memory left _ _ _ _ _ _ _ _ (inr refl) (record { read = refl; out = refl }) refl refl same_err c.refuse.ensures.says
 
 pub returns-in-Ok-clause-broken : goal.returns-in-Ok-clause-broken
 returns-in-Ok-clause-broken g c = λ left fails a is. c.write_summary.ensures.broken left fails a (c.in-Ok.ensures.only a is)
@@ -24,3 +25,9 @@ returns-in-Ok-clause-broken g c = λ left fails a is. c.write_summary.ensures.br
 pub returns-in-Err-clause-broken : goal.returns-in-Err-clause-broken
 returns-in-Err-clause-broken g c = λ left fails a is.
     broken_said no_memory a left _ _ _ _ _ _ _ _ (inr wanting_line) refl refl c.refuse.ensures.says
+
+pub returns-in-Err-clause-memory : goal.returns-in-Err-clause-memory
+returns-in-Err-clause-memory g c = wanted _ _ no_memory _ _ _ _ _ refl (λ h. refl) c.refuse.ensures.says
+
+pub returns-in-Err-clause-cause : goal.returns-in-Err-clause-cause
+returns-in-Err-clause-cause g c = caused _ _ _ _ _ _ 134 _ no_memory.err (λ h. inr h) (λ h. absurd (no_fault_134 h)) c.refuse.ensures.says

@@ -1,13 +1,16 @@
-use Rattle.std.proofs.Common.{false}
+use Rattle.std.proofs.Common.{false, refl, inr}
 use Rattle.heapsafe.proofs.Told.{said_faults}
 use Rattle.heapsafe.proofs.Ended.{gives_mean, gives_unfinished, input_said, mean_counts, output_said, program_faults}
 use Rattle.heapsafe.proofs.Broken.{broken_mean, broken_unfinished}
+use Rattle.heapsafe.proofs.Statuses.{wanted, caused, counts_of, end_cause, no_fault_134, own_end, own_of}
+use Rattle.heapsafe.specs.Shown.{no_memory}
 use Rattle.heapsafe.proofs.program.mean_core.Goals as goal
 
 pub returns-in-Ok-clause-exact : goal.returns-in-Ok-clause-exact
-returns-in-Ok-clause-exact g c = λ left o e k h i same_out same_err.
-    gives_mean c.args.file.now c.args.text.now c.args.core.now left o e _ _ _ _ _ _ _ _ _ _ _ i same_err c.args.steps c.in-Ok.end
-    (c.in-Ok.ensures.told left o k h) c.in-Ok.ensures.faults same_out c.finish.ensures.says
+returns-in-Ok-clause-exact g c = λ left k same_out same_err.
+    let told = c.in-Ok.ensures.told left k in
+    gives_mean c.args.file.now c.args.text.now c.args.core.now left told.put _ _ _ _ _ _ _ _ _ _ _ _ told.took same_err c.args.steps c.in-Ok.end
+    told.is c.in-Ok.ensures.faults same_out c.finish.ensures.says
 
 pub returns-in-Ok-clause-faults : goal.returns-in-Ok-clause-faults
 returns-in-Ok-clause-faults g c = λ t.
@@ -22,18 +25,39 @@ returns-in-Ok-clause-output_fault g c = λ more.
     output_said false c.in-Ok.end c.args.file.now c.args.text.now c.args.core.now _ _ _ _ _ _ _ _ _ (mean_counts c.in-Ok.end _ _ _ _ c.in-Ok.ensures.faults) more (λ _. c.finish.ensures.says)
 
 pub returns-in-Err-clause-exact : goal.returns-in-Err-clause-exact
-returns-in-Err-clause-exact g c = λ left o e k h i same_out same_err.
-    gives_unfinished c.args.file.now c.args.text.now c.args.core.now left o e _ _ _ _ _ _ 0 0 _ _ _ i same_err c.args.steps
-    (c.in-Err.ensures.told left o k h) c.refuse.ensures.says
+returns-in-Err-clause-exact g c = λ left k same_out same_err.
+    let told = c.in-Err.ensures.told left k in
+    gives_unfinished c.args.file.now c.args.text.now c.args.core.now left told.put _ _ _ _ _ _ _ 0 0 _ _ _ told.took same_err c.args.steps
+    told.is c.refuse.ensures.says
 
 pub returns-in-Err-clause-faults : goal.returns-in-Err-clause-faults
 returns-in-Err-clause-faults g c = λ t.
     said_faults t _ _ _ _ _ _ _ _ _ _ 134 c.in-Err.ensures.faults.0 c.in-Err.ensures.faults.1 c.refuse.ensures.says
 
 pub returns-in-Ok-clause-broken : goal.returns-in-Ok-clause-broken
-returns-in-Ok-clause-broken g c = λ left o k h fails a is more.
-    broken_mean c.args.file.now c.args.text.now c.args.core.now left o _ _ _ _ _ _ _ _ h c.args.steps a c.in-Ok.end more is (c.in-Ok.ensures.told left o k h) c.finish.ensures.says
+returns-in-Ok-clause-broken g c = λ left k fails a is more.
+    let told = c.in-Ok.ensures.told left k in
+    broken_mean c.args.file.now c.args.text.now c.args.core.now left told.put _ _ _ _ _ _ _ _ told.took c.args.steps a c.in-Ok.end more is told.is c.finish.ensures.says
 
 pub returns-in-Err-clause-broken : goal.returns-in-Err-clause-broken
-returns-in-Err-clause-broken g c = λ left o k h fails a is more.
-    broken_unfinished c.args.file.now c.args.text.now c.args.core.now left o _ _ _ _ _ _ _ _ h c.args.steps a more is (c.in-Err.ensures.told left o k h) c.refuse.ensures.says
+returns-in-Err-clause-broken g c = λ left k fails a is more.
+    let told = c.in-Err.ensures.told left k in
+    broken_unfinished c.args.file.now c.args.text.now c.args.core.now left told.put _ _ _ _ _ _ _ _ told.took c.args.steps a more is told.is c.refuse.ensures.says
+
+pub returns-in-Ok-clause-memory : goal.returns-in-Ok-clause-memory
+returns-in-Ok-clause-memory g c = λ is.
+    inr (
+      tt,
+      own_end _ _ _ _ _ c.in-Ok.end (counts_of _ _ _ _ _ _ _ c.finish.ensures.says) (own_of _ _ _ _ _ c.args.file.now c.args.text.now c.args.core.now c.in-Ok.end c.finish.ensures.says) is,
+    )
+
+pub returns-in-Err-clause-memory : goal.returns-in-Err-clause-memory
+returns-in-Err-clause-memory g c = wanted _ _ no_memory _ _ _ _ _ tt (λ h. refl) c.refuse.ensures.says
+
+pub returns-in-Ok-clause-cause : goal.returns-in-Ok-clause-cause
+returns-in-Ok-clause-cause g c =
+    end_cause _ _ _ _ _ _ _ _ _ c.in-Ok.end (mean_counts c.in-Ok.end _ _ _ _ c.in-Ok.ensures.faults)
+    (counts_of _ _ _ _ _ _ _ c.finish.ensures.says) (own_of _ _ _ _ _ c.args.file.now c.args.text.now c.args.core.now c.in-Ok.end c.finish.ensures.says)
+
+pub returns-in-Err-clause-cause : goal.returns-in-Err-clause-cause
+returns-in-Err-clause-cause g c = caused _ _ _ _ _ _ 134 _ no_memory.err (λ h. inr (inr h)) (λ h. absurd (no_fault_134 h)) c.refuse.ensures.says

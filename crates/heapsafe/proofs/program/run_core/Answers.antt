@@ -7,18 +7,20 @@ use Rattle.heapsafe.specs.Program.{AnswersWay, input_of, room_of}
 use Rattle.heapsafe.proofs.Told.{gives_said, said_faults}
 use Rattle.heapsafe.proofs.Ended.{counts_said, gives_run, input_said, output_said, program_faults}
 use Rattle.heapsafe.proofs.Broken.{broken_run, broken_said, wanting_line}
+use Rattle.heapsafe.proofs.Statuses.{wanted, caused, end_cause, no_fault_134, own_end}
 use Rattle.heapsafe.proofs.program.run_core.Goals as goal
 
 pub returns-in-Ok-clause-exact : goal.returns-in-Ok-clause-exact
-returns-in-Ok-clause-exact g c = λ left o e k h i same_out same_err.
+returns-in-Ok-clause-exact g c = λ left k same_out same_err.
     let kept = c.in-Ok.machine.kept in
     let room = room_of c.args.limits in
-    gives_run c.args.file.now c.args.text.now c.args.core.now left o e _ _ _ _ _ _ _ _ _ _ _ i same_err c.args.limits c.args.steps c.args.leaks c.in-Ok.end
-    (c.in-Ok.ensures.told left o k h) c.in-Ok.ensures.faults same_out
+    let told = c.in-Ok.ensures.told left k in
+    gives_run c.args.file.now c.args.text.now c.args.core.now left told.put _ _ _ _ _ _ _ _ _ _ _ _ told.took same_err c.args.limits c.args.steps c.args.leaks c.in-Ok.end
+    told.is c.in-Ok.ensures.faults same_out
     (record {
       none = c.finish_run.ensures.says;
       some = λ code asked is.
-          let left_is = c.in-Ok.ensures.left left o k h in
+          let left_is = c.in-Ok.ensures.left left k in
           let image = subst (λ (x : End). LeavesImage c.args.core.now left_is.0 left c.args.steps room x kept) is left_is.2 in
           c.finish_run.ensures.leaks code asked is image.places (cut_run c.args.core.now left c.args.steps room).state.objects image.agrees.keeps;
     })
@@ -36,28 +38,43 @@ returns-in-Ok-clause-output_fault g c = λ more.
     output_said c.args.leaks c.in-Ok.end c.args.file.now c.args.text.now c.args.core.now _ _ _ _ _ _ _ _ _ c.in-Ok.ensures.faults more c.finish_run.ensures.says
 
 pub returns-in-Err-clause-exact : goal.returns-in-Err-clause-exact
-returns-in-Err-clause-exact g c = λ left o e k h i same_out same_err.
+returns-in-Err-clause-exact g c = λ left k same_out same_err.
     let input = input_of left (g.I.Source.faults c.args.input.now) (g.I.Source.faults c.run_code.new.input) in
-    gives_said (AnswersWay c.args.file.now c.args.text.now c.args.core.now input (Run c.args.limits c.args.steps c.args.leaks)) no_memory left o e _ _ _ _ _ _ _ (inr refl) (record { read = refl; out = refl })
-    (ap g.I.Source.left c.in-Err.ensures.input_stays ∙ k) (ap g.O.Sink.taken c.in-Err.ensures.out_stays ∙ h) i same_err c.refuse.ensures.says
+    gives_said (AnswersWay c.args.file.now c.args.text.now c.args.core.now input (Run c.args.limits c.args.steps c.args.leaks)) no_memory left _ _ _ _ _ _ _ _ (inr refl) (record { read = refl; out = refl })
+    (ap g.I.Source.left c.in-Err.ensures.input_stays ∙ k) (ap g.O.Sink.taken c.in-Err.ensures.out_stays) same_err c.refuse.ensures.says
 
 pub returns-in-Err-clause-faults : goal.returns-in-Err-clause-faults
 returns-in-Err-clause-faults g c = λ t.
     said_faults t _ _ _ _ _ _ _ _ _ _ 134 (ap g.I.Source.faults c.in-Err.ensures.input_stays) (ap g.O.Sink.faults c.in-Err.ensures.out_stays) c.refuse.ensures.says
 
 pub returns-in-Ok-clause-broken : goal.returns-in-Ok-clause-broken
-returns-in-Ok-clause-broken g c = λ left o k h fails a is more.
+returns-in-Ok-clause-broken g c = λ left k fails a is more.
     let kept = c.in-Ok.machine.kept in
     let room = room_of c.args.limits in
-    broken_run c.args.file.now c.args.text.now c.args.core.now left o _ _ _ _ _ _ _ _ h c.args.limits c.args.steps c.args.leaks a c.in-Ok.end is (c.in-Ok.ensures.told left o k h)
+    let told = c.in-Ok.ensures.told left k in
+    broken_run c.args.file.now c.args.text.now c.args.core.now left told.put _ _ _ _ _ _ _ _ told.took c.args.limits c.args.steps c.args.leaks a c.in-Ok.end is told.is
     (record {
       none = c.finish_run.ensures.says;
       some = λ code asked exits.
-          let left_is = c.in-Ok.ensures.left left o k h in
+          let left_is = c.in-Ok.ensures.left left k in
           let image = subst (λ (x : End). LeavesImage c.args.core.now left_is.0 left c.args.steps room x kept) exits left_is.2 in
           c.finish_run.ensures.leaks code asked exits image.places (cut_run c.args.core.now left c.args.steps room).state.objects image.agrees.keeps;
     })
 
 pub returns-in-Err-clause-broken : goal.returns-in-Err-clause-broken
-returns-in-Err-clause-broken g c = λ left o k h fails a is more.
+returns-in-Err-clause-broken g c = λ left k fails a is more.
     broken_said no_memory a left _ _ _ _ _ _ _ _ (inr wanting_line) (ap g.I.Source.left c.in-Err.ensures.input_stays ∙ k) (ap g.O.Sink.taken c.in-Err.ensures.out_stays) c.refuse.ensures.says
+
+pub returns-in-Ok-clause-memory : goal.returns-in-Ok-clause-memory
+returns-in-Ok-clause-memory g c = λ is.
+    inr (tt, own_end _ _ _ _ _ c.in-Ok.end c.finish_run.ensures.counts c.finish_run.ensures.own is)
+
+pub returns-in-Err-clause-memory : goal.returns-in-Err-clause-memory
+returns-in-Err-clause-memory g c =
+    wanted _ _ no_memory _ _ _ _ _ (c.in-Err.ensures.input_stays, c.in-Err.ensures.out_stays) (λ h. refl) c.refuse.ensures.says
+
+pub returns-in-Ok-clause-cause : goal.returns-in-Ok-clause-cause
+returns-in-Ok-clause-cause g c = end_cause _ _ _ _ _ _ _ _ _ c.in-Ok.end c.in-Ok.ensures.faults c.finish_run.ensures.counts c.finish_run.ensures.own
+
+pub returns-in-Err-clause-cause : goal.returns-in-Err-clause-cause
+returns-in-Err-clause-cause g c = caused _ _ _ _ _ _ 134 _ no_memory.err (λ h. inr (inr h)) (λ h. absurd (no_fault_134 h)) c.refuse.ensures.says

@@ -1,4 +1,4 @@
-use Rattle.std.proofs.Common.{◌≡◌, Some, refl, sym, ap, ◌∙◌}
+use Rattle.std.proofs.Common.{◌≡◌, Some, refl, sym, ap, ◌∙◌, inr}
 use Rattle.c_tree.specs.StatementView.{unit_view}
 use Rattle.c_elab.specs.Core.{core_in}
 use Rattle.heapsafe.specs.Shown.{Shown, live_shown}
@@ -6,17 +6,18 @@ use Rattle.heapsafe.specs.Saying.{untyped}
 use Rattle.heapsafe.proofs.Told.{gives_said, gives_same}
 use Rattle.heapsafe.proofs.Typed.{untyped_live, untyped_silent}
 use Rattle.heapsafe.proofs.Broken.{broken_said, said_either}
+use Rattle.heapsafe.proofs.Statuses.{untyped_wants, wanted, caused, untyped_no_fault}
 use Rattle.heapsafe.proofs.written.core_live.Goals as goal
 
 pub returns-in-Ok-clause-exact : goal.returns-in-Ok-clause-exact
-returns-in-Ok-clause-exact g c = λ left o e h i same_out same_err.
-    gives_same _ (live_shown c.args.file.now c.args.text.now (core_in (unit_view c.args.unit.now))) left o e _ _ _ _ (sym (ap (live_shown c.args.file.now c.args.text.now) c.in-Ok.ensures.core)) (c.write_live.ensures.exact left o e h i same_out same_err)
+returns-in-Ok-clause-exact g c = λ left same_out same_err.
+    gives_same _ (live_shown c.args.file.now c.args.text.now (core_in (unit_view c.args.unit.now))) left _ _ _ _ _ _ (sym (ap (live_shown c.args.file.now c.args.text.now) c.in-Ok.ensures.core)) (c.write_live.ensures.exact left same_out same_err)
 
 pub returns-in-Err-clause-exact : goal.returns-in-Err-clause-exact
-returns-in-Err-clause-exact g c = λ left o e h i same_out same_err.
-    gives_said (λ (a : Shown). a ≡ live_shown c.args.file.now c.args.text.now (core_in (unit_view c.args.unit.now))) (untyped c.in-Err.error c.args.file.now c.args.text.now) left o e (Some left) _ _ _ _ _ _
+returns-in-Err-clause-exact g c = λ left same_out same_err.
+    gives_said (λ (a : Shown). a ≡ live_shown c.args.file.now c.args.text.now (core_in (unit_view c.args.unit.now))) (untyped c.in-Err.error c.args.file.now c.args.text.now) left (Some left) _ _ _ _ _ _ _
     (untyped_live c.in-Err.error c.args.file.now c.args.text.now (core_in (unit_view c.args.unit.now)) c.in-Err.ensures.core)
-    (untyped_silent c.in-Err.error c.args.file.now c.args.text.now) refl h i same_err c.refuse_types.ensures.says
+    (untyped_silent c.in-Err.error c.args.file.now c.args.text.now) refl refl same_err c.refuse_types.ensures.says
 
 pub returns-in-Ok-clause-broken : goal.returns-in-Ok-clause-broken
 returns-in-Ok-clause-broken g c = λ left fails a is.
@@ -27,3 +28,11 @@ returns-in-Err-clause-broken g c = λ left fails a is.
     broken_said (untyped c.in-Err.error c.args.file.now c.args.text.now) a left _ _ _ _ _ _ _ _
     (said_either (untyped c.in-Err.error c.args.file.now c.args.text.now) a _ is (untyped_live c.in-Err.error c.args.file.now c.args.text.now (core_in (unit_view c.args.unit.now)) c.in-Err.ensures.core))
     refl refl c.refuse_types.ensures.says
+
+pub returns-in-Err-clause-memory : goal.returns-in-Err-clause-memory
+returns-in-Err-clause-memory g c =
+    wanted _ _ (untyped c.in-Err.error c.args.file.now c.args.text.now) _ _ _ _ _ refl (untyped_wants c.in-Err.error c.args.file.now c.args.text.now) c.refuse_types.ensures.says
+
+pub returns-in-Err-clause-cause : goal.returns-in-Err-clause-cause
+returns-in-Err-clause-cause g c =
+    caused _ _ _ _ _ _ _ _ _ (λ h. inr h) (λ h. absurd (untyped_no_fault c.in-Err.error c.args.file.now c.args.text.now h)) c.refuse_types.ensures.says

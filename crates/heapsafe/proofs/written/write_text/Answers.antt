@@ -1,18 +1,19 @@
-use Rattle.std.proofs.Common.{◌∙◌, Some, inl, refl, sym, ap, ⊎_elim, arith}
-use Rattle.std.proofs.lemmas.List.{append-nil}
-use Rattle.heapsafe.specs.Shown.{written}
+use Rattle.std.proofs.Common.{[], inl, refl, ⊎_elim, arith}
+use Rattle.heapsafe.specs.Shown.{written, output_fault}
+use Rattle.heapsafe.proofs.Told.{takes_none}
 use Rattle.heapsafe.proofs.Broken.{broken_text}
+use Rattle.heapsafe.proofs.Statuses.{unwanted, no_fault_0}
 use Rattle.heapsafe.proofs.written.write_text.Goals as goal
 
 pub returns-in-Ok-clause-exact : goal.returns-in-Ok-clause-exact
-returns-in-Ok-clause-exact g c = λ left o e h i same_out same_err. record {
+returns-in-Ok-clause-exact g c = λ left same_out same_err. record {
   shown = written c.args.text.now;
   is = inl refl;
   rest = left;
   is_left = refl;
   is_read = refl;
-  out_took = c.in-Ok.ensures.bytes o h;
-  err_took = i ∙ ap Some (sym (append-nil e));
+  out_took = c.in-Ok.ensures.bytes;
+  err_took = takes_none _ _ [] refl refl;
   status = refl;
 }
 
@@ -23,3 +24,15 @@ returns-in-Ok-clause-broken g c = λ left fails a is.
 pub returns-in-Err-clause-broken : goal.returns-in-Err-clause-broken
 returns-in-Err-clause-broken g c = λ left fails a is.
     broken_text c.args.text.now a left _ _ _ _ _ _ _ is c.in-Err.ensures.bytes c.refuse.ensures.says
+
+pub returns-in-Ok-clause-memory : goal.returns-in-Ok-clause-memory
+returns-in-Ok-clause-memory g c = λ is. absurd (omega (arith, is))
+
+pub returns-in-Err-clause-memory : goal.returns-in-Err-clause-memory
+returns-in-Err-clause-memory g c = unwanted _ _ _ _ _ _ 133 _ output_fault.err (λ h. omega (arith, h)) c.refuse.ensures.says
+
+pub returns-in-Ok-clause-cause : goal.returns-in-Ok-clause-cause
+returns-in-Ok-clause-cause g c = λ is. absurd (no_fault_0 is)
+
+pub returns-in-Err-clause-cause : goal.returns-in-Err-clause-cause
+returns-in-Err-clause-cause g c = λ is. inl (inl (omega (arith, c.in-Err.ensures.cause)))

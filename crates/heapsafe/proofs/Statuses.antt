@@ -1,0 +1,150 @@
+-- What the statuses of want of memory and of failures of the outside mean.
+use Rattle.std.proofs.Common.{◌≡◌, ◌⊎◌, ◌<◌, ◌∙◌, ℕ, List, [], Option, Err, inl, inr, refl, sym, subst, arith, ⊎_elim}
+use Rattle.hs_base.specs.declared.ends.End.{End}
+use Rattle.hs_base.specs.declared.ends.End.TheVariants as end
+use Rattle.bad_free_report.specs.Report.{end_report}
+use Rattle.c_decls.specs.declared.refusal.TypeError.{TypeError}
+use Rattle.c_decls.specs.declared.refusal.TypeError.TheVariants as type
+use Rattle.c_lexer.specs.declared.token.LexError.{LexError}
+use Rattle.c_lexer.specs.declared.token.LexError.TheVariants as lex
+use Rattle.c_parser.specs.declared.error.ParseError.{ParseError}
+use Rattle.c_parser.specs.declared.error.ParseError.TheVariants as parse
+use Rattle.core_tree.specs.declared.program.Core.{Core}
+use Rattle.heapsafe.specs.declared.reading.ReadError.{ReadError}
+use Rattle.heapsafe.specs.declared.reading.ReadError.TheVariants.{Fault, TooLong, NoMemory}
+use Rattle.flat_machine.specs.Running.{RunCounts}
+use Rattle.heapsafe.specs.Program.{status_of}
+use Rattle.heapsafe.specs.Reading.{ReadCounts}
+use Rattle.heapsafe.specs.Saying.{HasCause, IsFault, Says, SaysCounts, TakesAll, TakesLeaks, Wants, WriteFails, unparsed, unread, untokened, untyped}
+use Rattle.heapsafe.specs.Shown.{Shown, no_memory}
+
+-- an answer was said that has that status for want of memory alone
+pub wanted : (Stays Own : Type 0) (s : Shown) (e e' : Option (List ℕ)) (f f' result : ℕ) → Stays → (s.status ≡ 134 → s ≡ no_memory) → Says e e' f f' s.err s.status result → Wants Stays Own e e' result
+wanted Stays Own s e e' f f' result stays only said = λ is.
+    ⊎_elim
+    (λ h. inl (stays, subst (λ (x : Shown). TakesAll e e' x.err) (only (sym h.1 ∙ is)) h.2))
+    (λ h. absurd (omega (arith, h.1, is)))
+    said
+
+-- bytes were said with another status
+pub unwanted : (Stays Own : Type 0) (e e' : Option (List ℕ)) (f f' status result : ℕ) (bytes : List ℕ) → (status ≡ 134 → ⊥) → Says e e' f f' bytes status result → Wants Stays Own e e' result
+unwanted Stays Own e e' f f' status result bytes other said = λ is.
+    ⊎_elim (λ h. absurd (other (sym h.1 ∙ is))) (λ h. absurd (omega (arith, h.1, is))) said
+
+-- in other words
+pub wants_more : (Stays Stays' Own Own' : Type 0) (e e' : Option (List ℕ)) (result : ℕ) → (Stays → Stays') → (Own → Own') → Wants Stays Own e e' result → Wants Stays' Own' e e' result
+wants_more Stays Stays' Own Own' e e' result stays own wants = λ is.
+    ⊎_elim (λ h. inl (stays h.0, h.1)) (λ h. inr (own h.0, h.1)) (wants is)
+
+-- The refusals that have that status
+
+pub unread_wants : (error : ReadError) (file : List ℕ) → (unread error file).status ≡ 134 → unread error file ≡ no_memory
+unread_wants Fault file is = absurd (omega (arith, is))
+unread_wants TooLong file is = absurd (omega (arith, is))
+unread_wants NoMemory file is = refl
+
+pub untokened_wants : (error : LexError) (file text : List ℕ) → (untokened error file text).status ≡ 134 → untokened error file text ≡ no_memory
+untokened_wants (lex.Bad kind line) file text is = absurd (omega (arith, is))
+untokened_wants lex.NoMemory file text is = refl
+
+pub unparsed_wants : (error : ParseError) (file text : List ℕ) → (unparsed error file text).status ≡ 134 → unparsed error file text ≡ no_memory
+unparsed_wants (parse.Syntax line) file text is = absurd (omega (arith, is))
+unparsed_wants parse.NoMemory file text is = refl
+
+pub untyped_wants : (error : TypeError) (file text : List ℕ) → (untyped error file text).status ≡ 134 → untyped error file text ≡ no_memory
+untyped_wants (type.Bad kind line) file text is = absurd (omega (arith, is))
+untyped_wants type.NoMemory file text is = refl
+
+-- The causes of the statuses of failures of the outside
+
+-- a status that is none of them
+other : (status : ℕ) → (status ≡ 121 → ⊥) → (status ≡ 132 → ⊥) → (status ≡ 133 → ⊥) → IsFault status → ⊥
+other status a b c is = ⊎_elim a (λ h. ⊎_elim b c h) is
+
+pub no_fault_0 : IsFault 0 → ⊥
+no_fault_0 is = other 0 (λ h. omega (arith, h)) (λ h. omega (arith, h)) (λ h. omega (arith, h)) is
+
+pub no_fault_134 : IsFault 134 → ⊥
+no_fault_134 is = other 134 (λ h. omega (arith, h)) (λ h. omega (arith, h)) (λ h. omega (arith, h)) is
+
+pub no_fault_120 : IsFault 120 → ⊥
+no_fault_120 is = other 120 (λ h. omega (arith, h)) (λ h. omega (arith, h)) (λ h. omega (arith, h)) is
+
+-- bytes were said with a status that comes where this holds, or a write of them failed
+pub caused : (Fails Own : Type 0) (e e' : Option (List ℕ)) (f f' status result : ℕ) (bytes : List ℕ) → (f < f' → Fails) → (IsFault status → Fails) → Says e e' f f' bytes status result → HasCause Fails Own e e' result
+caused Fails Own e e' f f' status result bytes fails has said = λ is.
+    ⊎_elim (λ h. inl (has (subst IsFault h.1 is))) (λ h. inl (fails (omega (arith, h.0)))) said
+
+-- in other words
+pub cause_more : (Fails Fails' Own Own' : Type 0) (e e' : Option (List ℕ)) (result : ℕ) → (Fails → Fails') → (Own → Own') → HasCause Fails Own e e' result → HasCause Fails' Own' e e' result
+cause_more Fails Fails' Own Own' e e' result fails own has = λ is.
+    ⊎_elim (λ h. inl (fails h)) (λ h. inr (own h.0, h.1)) (has is)
+
+pub unread_cause : (error : ReadError) (file : List ℕ) (before after : ℕ) → ReadCounts {T = List ℕ} before after (Err error) → IsFault (unread error file).status → before < after
+unread_cause Fault file before after counts is = omega (arith, counts)
+unread_cause TooLong file before after counts is =
+    absurd (other 122 (λ h. omega (arith, h)) (λ h. omega (arith, h)) (λ h. omega (arith, h)) is)
+unread_cause NoMemory file before after counts is = absurd (no_fault_134 is)
+
+pub untokened_no_fault : (error : LexError) (file text : List ℕ) → IsFault (untokened error file text).status → ⊥
+untokened_no_fault (lex.Bad kind line) file text is = other 123 (λ h. omega (arith, h)) (λ h. omega (arith, h)) (λ h. omega (arith, h)) is
+untokened_no_fault lex.NoMemory file text is = no_fault_134 is
+
+pub unparsed_no_fault : (error : ParseError) (file text : List ℕ) → IsFault (unparsed error file text).status → ⊥
+unparsed_no_fault (parse.Syntax line) file text is = other 124 (λ h. omega (arith, h)) (λ h. omega (arith, h)) (λ h. omega (arith, h)) is
+unparsed_no_fault parse.NoMemory file text is = no_fault_134 is
+
+pub untyped_no_fault : (error : TypeError) (file text : List ℕ) → IsFault (untyped error file text).status → ⊥
+untyped_no_fault (type.Bad kind line) file text is = other 125 (λ h. omega (arith, h)) (λ h. omega (arith, h)) (λ h. omega (arith, h)) is
+untyped_no_fault type.NoMemory file text is = no_fault_134 is
+
+-- An end of a program
+
+-- the counts of what was said
+pub counts_of : (e e' : Option (List ℕ)) (f f' status result : ℕ) (bytes : List ℕ) → Says e e' f f' bytes status result → SaysCounts f f' status result
+counts_of e e' f f' status result bytes said =
+    ⊎_elim (λ h. inl (h.0, h.1)) (λ h. inr (h.0, h.1)) said
+
+module _ (e e' : Option (List ℕ)) (f f' result : ℕ) where
+  -- behind an exit no line was said but those of leaks, where no write failed
+  abbrev pub SaysOwn : End → Type 0
+  SaysOwn x = (code : ℕ) → x ≡ end.Exit code → f' ≡ f → TakesLeaks e e'
+
+  -- so it is where its report was said, which is empty
+  pub own_of : (file text : List ℕ) (core : Core) (x : End) → Says e e' f f' (end_report core file text x) (status_of x) result → SaysOwn x
+  own_of file text core x said = λ code exits same.
+      let plain = subst (λ (y : End). Says e e' f f' (end_report core file text y) (status_of y) result) exits said in
+      ⊎_elim (λ h. ([], h.2)) (λ h. absurd (omega (arith, h.0, same))) plain
+
+  -- the status of want of memory is that of an exit
+  pub own_end : (x : End) → SaysCounts f f' (status_of x) result → SaysOwn x → result ≡ 134 → TakesLeaks e e'
+  own_end (end.Exit code) counts own is = ⊎_elim (λ h. own code refl h.0) (λ h. absurd (omega (arith, h.1, is))) counts
+  own_end (end.Trap kind line) counts own is = absurd (⊎_elim (λ h. omega (arith, h.1, is)) (λ h. omega (arith, h.1, is)) counts)
+  own_end (end.BadFree why holder) counts own is = absurd (⊎_elim (λ h. omega (arith, h.1, is)) (λ h. omega (arith, h.1, is)) counts)
+  own_end (end.Escape func local line) counts own is = absurd (⊎_elim (λ h. omega (arith, h.1, is)) (λ h. omega (arith, h.1, is)) counts)
+  own_end end.Spent counts own is = absurd (⊎_elim (λ h. omega (arith, h.1, is)) (λ h. omega (arith, h.1, is)) counts)
+  own_end (end.OutOfHeap line) counts own is = absurd (⊎_elim (λ h. omega (arith, h.1, is)) (λ h. omega (arith, h.1, is)) counts)
+  own_end (end.OutOfStack line) counts own is = absurd (⊎_elim (λ h. omega (arith, h.1, is)) (λ h. omega (arith, h.1, is)) counts)
+  own_end end.InputFault counts own is = absurd (⊎_elim (λ h. omega (arith, h.1, is)) (λ h. omega (arith, h.1, is)) counts)
+  own_end end.OutputFault counts own is = absurd (⊎_elim (λ h. omega (arith, h.1, is)) (λ h. omega (arith, h.1, is)) counts)
+
+  module _ (i i' o o' : ℕ) where
+    abbrev Caused : Type 0
+    Caused = HasCause ((i < i') ⊎ WriteFails o o' f f') (Unit {0}) e e' result
+
+    -- one with a status that is none of a failure of the outside
+    plain : (status : ℕ) → (status ≡ 121 → ⊥) → (status ≡ 132 → ⊥) → (status ≡ 133 → ⊥) → SaysCounts f f' status result → Caused
+    plain status a b c counts = λ is.
+        ⊎_elim (λ h. absurd (other status a b c (subst IsFault h.1 is))) (λ h. inl (inr (inr (omega (arith, h.0))))) counts
+
+    -- each status of a failure of the outside is that of an exit, or its object failed
+    pub end_cause : (x : End) → RunCounts x i i' o o' → SaysCounts f f' (status_of x) result → SaysOwn x → Caused
+    end_cause (end.Exit code) ran counts own = λ is. ⊎_elim (λ h. inr (tt, own code refl h.0)) (λ h. inl (inr (inr (omega (arith, h.0))))) counts
+    end_cause (end.Trap kind line) ran counts own = plain 128 (λ h. omega (arith, h)) (λ h. omega (arith, h)) (λ h. omega (arith, h)) counts
+    end_cause (end.BadFree why holder) ran counts own = plain 126 (λ h. omega (arith, h)) (λ h. omega (arith, h)) (λ h. omega (arith, h)) counts
+    end_cause (end.Escape func local line) ran counts own = plain 127 (λ h. omega (arith, h)) (λ h. omega (arith, h)) (λ h. omega (arith, h)) counts
+    end_cause end.Spent ran counts own = plain 131 (λ h. omega (arith, h)) (λ h. omega (arith, h)) (λ h. omega (arith, h)) counts
+    end_cause (end.OutOfHeap line) ran counts own = plain 129 (λ h. omega (arith, h)) (λ h. omega (arith, h)) (λ h. omega (arith, h)) counts
+    end_cause (end.OutOfStack line) ran counts own = plain 130 (λ h. omega (arith, h)) (λ h. omega (arith, h)) (λ h. omega (arith, h)) counts
+    end_cause end.InputFault ran counts own = λ is. inl (inl (omega (arith, ran.0)))
+    end_cause end.OutputFault ran counts own = λ is. inl (inr (inl (omega (arith, ran.1))))

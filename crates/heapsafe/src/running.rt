@@ -1,0 +1,139 @@
+//! Running a core: on a machine, or by the evaluator of its meaning.
+//!
+//! What both do is known where the input and the output tell their bytes. The output is lent to them by way of [`Told`], so that
+//! it is known for every output.
+
+ghost use Rattle.std.specs.Prelude.{◌≡◌, ◌+◌, ◌<◌, ◌≤◌, ◌^◌, ℕ, List, [], None, Some, IfOk, OnErr};
+ghost use Rattle.code_soundness.specs.Laws.{HoldsBytes};
+ghost use Rattle.compiled_code.specs.Compiled.{IsCompiled};
+ghost use Rattle.compiled_code.specs.Sites.{AreAscending};
+ghost use Rattle.core_tree.specs.Sound.{IsSound};
+ghost use Rattle.core_tree.specs.declared.program.Core.{Core};
+ghost use Rattle.counted_meaning.specs.Pinning.{AreExact, Pins};
+ghost use Rattle.flat_code.specs.WellFormed.{IsWellFormed};
+ghost use Rattle.flat_codegen.specs.Lasting.{LeavesImage, MakesSteps};
+ghost use Rattle.flat_codegen.specs.Running.{RunAnswers};
+ghost use Rattle.flat_machine.specs.Machined.{IsOf, steps_made};
+ghost use Rattle.flat_machine.specs.Running.{RunCounts};
+ghost use Rattle.flat_objects.specs.Leaks.{KeepsSome};
+ghost use Rattle.meaning_run.specs.Meant.{MeanAnswers, MeanCounts};
+ghost use Rattle.heapsafe.specs.Program.{room_of};
+ghost use Rattle.heapsafe.specs.Saying.{Puts};
+
+use crate::lent::{Lent, Told};
+use core_tree::Core;
+use count_insertion::{insert, listed_pins_are_exact, live_tables};
+use flat_code::Code;
+use flat_codegen::{compile, execute};
+use flat_machine::Machine;
+use hs_base::{End, Limits, NoMemory, Sink, Source};
+use meaning_run::mean;
+use std::alloc::Global;
+use std::marker::Brand;
+
+/// Runs a machine that was just loaded, with any output, which is handed back.
+fn execute_lent<'a, I: Source, O: Sink, K: Lent>(
+    machine: &mut Machine,
+    code: &Code,
+    steps: u64,
+    input: &mut I,
+    out: &'a mut O,
+) -> (&'a mut O, End)
+    requires formed { IsWellFormed code.now }
+    requires bytes { HoldsBytes code.now }
+    requires loaded { IsOf code.now machine.old }
+    requires fresh { machine.old.ended ≡ None }
+    requires steps { steps ≤ 1000000000 }
+    requires input { I.faults input.old + 1 < 2 ^ 64 }
+    requires out { O.faults out.old + 1 < 2 ^ 64 }
+    requires same_loan { out.ghost_name ≡ K.name }
+    requires taken { O.taken out.old ≡ K.taken }
+    ensures same_reference { result.0.ghost_name ≡ out.entry.ghost_name }
+    ensures told { (core : Core) (pins : Pins) → IsSound core → AreExact core pins → AreAscending pins → IsCompiled core pins code.now → (left : List ℕ) → I.left input.old ≡ Some left → Puts (RunAnswers core left steps (record { heap = machine.old.kept.memory.heap.len; stack = machine.old.stack }) [] result.1 (I.left input.new)) (O.taken out.old) (O.taken result.0.now) }
+    ensures made { (core : Core) (pins : Pins) → IsSound core → AreExact core pins → AreAscending pins → IsCompiled core pins code.now → (left : List ℕ) → I.left input.old ≡ Some left → MakesSteps core left steps (record { heap = machine.old.kept.memory.heap.len; stack = machine.old.stack }) result.1 (steps_made machine.new) }
+    ensures kept { KeepsSome machine.new.kept.memory }
+    ensures left { (core : Core) (pins : Pins) → IsSound core → AreExact core pins → AreAscending pins → IsCompiled core pins code.now → (left : List ℕ) → I.left input.old ≡ Some left → LeavesImage core pins left steps (record { heap = machine.old.kept.memory.heap.len; stack = machine.old.stack }) result.1 machine.new.kept }
+    ensures faults { RunCounts result.1 (I.faults input.old) (I.faults input.new) (O.faults out.old) (O.faults result.0.now) }
+{
+    let mut told = Told::<O, K>::new(out);
+    let end = execute(machine, code, input, &mut told, steps);
+    let Told { sink, .. } = told;
+    (sink, end)
+}
+
+/// Finds where the pointers of a core count, makes its code, loads it, and runs it: its end, and the machine behind it, which
+/// tells its steps and, behind an exit, its leaks. The image of the machine agrees with the last state of the core's cut run.
+/// Memory may be wanted before the first instruction alone: then the input and the output are as before.
+pub(crate) fn run_code<I: Source, O: Sink>(
+    alloc: Global,
+    core: &Core,
+    limits: Limits,
+    steps: u64,
+    input: &mut I,
+    out: &mut O,
+) -> Result<(End, Machine), NoMemory>
+    requires sound { IsSound core.now }
+    requires heap { limits.heap ≤ 268435456 }
+    requires stack { limits.stack ≤ 67108864 }
+    requires steps { steps ≤ 1000000000 }
+    requires input { I.faults input.old + 1 < 2 ^ 64 }
+    requires out { O.faults out.old + 1 < 2 ^ 64 }
+    ensures told { IfOk result (λ ran. (left : List ℕ) → I.left input.old ≡ Some left → Puts (RunAnswers core.now left steps (room_of limits) [] ran.0 (I.left input.new)) (O.taken out.old) (O.taken out.new)) }
+    ensures made { IfOk result (λ ran. (left : List ℕ) → I.left input.old ≡ Some left → MakesSteps core.now left steps (room_of limits) ran.0 (steps_made ran.1)) }
+    ensures kept { IfOk result (λ ran. KeepsSome ran.1.kept.memory) }
+    ensures left { IfOk result (λ ran. (left : List ℕ) → I.left input.old ≡ Some left → (pins : Pins) × AreExact core.now pins × LeavesImage core.now pins left steps (room_of limits) ran.0 ran.1.kept) }
+    ensures faults { IfOk result (λ ran. RunCounts ran.0 (I.faults input.old) (I.faults input.new) (O.faults out.old) (O.faults out.new)) }
+    ensures input_stays { OnErr result (input.new ≡ input.old) }
+    ensures out_stays { OnErr result (out.new ≡ out.old) }
+{
+    listed_pins_are_exact();
+    let live = live_tables(alloc, core)?;
+    let counted = insert(alloc, core, &live)?;
+    let code = compile(alloc, &counted)?;
+    let mut machine = Machine::load(alloc, &code, limits)?;
+    let (_, end) = execute_lent::<I, O, Brand>(&mut machine, &code, steps, input, out);
+    Ok((end, machine))
+}
+
+/// Does as [`evaluate`] says, with any output, which is handed back.
+fn mean_lent<'a, I: Source, O: Sink, K: Lent>(
+    alloc: Global,
+    core: &Core,
+    steps: u64,
+    input: &mut I,
+    out: &'a mut O,
+) -> (&'a mut O, Result<End, NoMemory>)
+    requires sound { IsSound core.now }
+    requires steps { steps ≤ 1000000000 }
+    requires input { I.faults input.old + 1 < 2 ^ 64 }
+    requires out { O.faults out.old + 1 < 2 ^ 64 }
+    requires same_loan { out.ghost_name ≡ K.name }
+    requires taken { O.taken out.old ≡ K.taken }
+    ensures same_reference { result.0.ghost_name ≡ out.entry.ghost_name }
+    ensures told { (left : List ℕ) → I.left input.old ≡ Some left → Puts (MeanAnswers core.now left steps [] result.1 (I.left input.new)) (O.taken out.old) (O.taken result.0.now) }
+    ensures faults { MeanCounts result.1 (I.faults input.old) (I.faults input.new) (O.faults out.old) (O.faults result.0.now) }
+{
+    let mut told = Told::<O, K>::new(out);
+    let ended = mean(alloc, core, input, &mut told, steps);
+    let Told { sink, .. } = told;
+    (sink, ended)
+}
+
+/// Evaluates the meaning of a core, which knows no limits of heap and stack: its end. Memory may be wanted at any time.
+pub(crate) fn evaluate<I: Source, O: Sink>(
+    alloc: Global,
+    core: &Core,
+    steps: u64,
+    input: &mut I,
+    out: &mut O,
+) -> Result<End, NoMemory>
+    requires sound { IsSound core.now }
+    requires steps { steps ≤ 1000000000 }
+    requires input { I.faults input.old + 1 < 2 ^ 64 }
+    requires out { O.faults out.old + 1 < 2 ^ 64 }
+    ensures told { (left : List ℕ) → I.left input.old ≡ Some left → Puts (MeanAnswers core.now left steps [] result (I.left input.new)) (O.taken out.old) (O.taken out.new) }
+    ensures faults { MeanCounts result (I.faults input.old) (I.faults input.new) (O.faults out.old) (O.faults out.new) }
+{
+    let (_, ended) = mean_lent::<I, O, Brand>(alloc, core, steps, input, out);
+    ended
+}
