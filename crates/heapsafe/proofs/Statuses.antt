@@ -1,5 +1,5 @@
--- What the statuses of want of memory and of failures of the outside mean.
-use Rattle.std.proofs.Common.{◌≡◌, ◌⊎◌, ◌<◌, ◌∙◌, ℕ, List, [], Option, Err, inl, inr, refl, sym, subst, arith, ⊎_elim}
+-- What the statuses of refusals, of want of memory and of failures of the outside mean.
+use Rattle.std.proofs.Common.{◌≡◌, ◌⊎◌, ◌<◌, ◌≤◌, ◌∙◌, ℕ, List, [], Option, Err, inl, inr, refl, sym, subst, arith, ⊎_elim}
 use Rattle.hs_base.specs.declared.ends.End.{End}
 use Rattle.hs_base.specs.declared.ends.End.TheVariants as end
 use Rattle.bad_free_report.specs.Report.{end_report}
@@ -15,7 +15,7 @@ use Rattle.heapsafe.specs.declared.reading.ReadError.TheVariants.{Fault, TooLong
 use Rattle.flat_machine.specs.Running.{RunCounts}
 use Rattle.heapsafe.specs.Program.{status_of}
 use Rattle.heapsafe.specs.Reading.{ReadCounts}
-use Rattle.heapsafe.specs.Saying.{HasCause, IsFault, Says, SaysCounts, TakesAll, TakesLeaks, Wants, WriteFails, unparsed, unread, untokened, untyped}
+use Rattle.heapsafe.specs.Saying.{HasCause, IsFault, IsRefusal, Refuses, Says, SaysCounts, TakesAll, TakesLeaks, Wants, WriteFails, unparsed, unread, untokened, untyped}
 use Rattle.heapsafe.specs.Shown.{Shown, no_memory}
 
 -- an answer was said that has that status for want of memory alone
@@ -98,6 +98,22 @@ pub untyped_no_fault : (error : TypeError) (file text : List ℕ) → IsFault (u
 untyped_no_fault (type.Bad kind line) file text is = other 125 (λ h. omega (arith, h)) (λ h. omega (arith, h)) (λ h. omega (arith, h)) is
 untyped_no_fault type.NoMemory file text is = no_fault_134 is
 
+-- The statuses of refusals
+
+pub refusal_within : (status : ℕ) → IsRefusal status → (120 ≤ status) × (status ≤ 125)
+refusal_within status is = ⊎_elim (λ h. (omega (arith, h), omega (arith, h))) (λ h. (omega (arith, h.0), h.1)) is
+
+-- bytes were said with a greater status
+pub never_refused : (Stays Own : Type 0) (e e' : Option (List ℕ)) (f f' status result : ℕ) (bytes : List ℕ) → 126 ≤ status → Says e e' f f' bytes status result → Refuses Stays Own e e' result
+never_refused Stays Own e e' f f' status result bytes more said = λ is.
+    let low = refusal_within result is in
+    absurd (⊎_elim (λ h. omega (arith, h.1, more, low.1)) (λ h. omega (arith, h.1, low.1)) said)
+
+-- in other words
+pub refused_more : (Stays Stays' Own Own' : Type 0) (e e' : Option (List ℕ)) (result : ℕ) → (Stays → Stays') → (Own → Own') → Refuses Stays Own e e' result → Refuses Stays' Own' e e' result
+refused_more Stays Stays' Own Own' e e' result stays own refused = λ is.
+    ⊎_elim (λ h. inl (stays h)) (λ h. inr (own h.0, h.1)) (refused is)
+
 -- An end of a program
 
 -- the counts of what was said
@@ -127,6 +143,26 @@ module _ (e e' : Option (List ℕ)) (f f' result : ℕ) where
   own_end (end.OutOfStack line) counts own is = absurd (⊎_elim (λ h. omega (arith, h.1, is)) (λ h. omega (arith, h.1, is)) counts)
   own_end end.InputFault counts own is = absurd (⊎_elim (λ h. omega (arith, h.1, is)) (λ h. omega (arith, h.1, is)) counts)
   own_end end.OutputFault counts own is = absurd (⊎_elim (λ h. omega (arith, h.1, is)) (λ h. omega (arith, h.1, is)) counts)
+
+  -- no refusal has a greater status
+  higher : (status : ℕ) → 126 ≤ status → SaysCounts f f' status result → IsRefusal result → TakesLeaks e e'
+  higher status more counts is =
+      let low = refusal_within result is in
+      absurd (⊎_elim (λ h. omega (arith, h.1, more, low.1)) (λ h. omega (arith, h.1, low.1)) counts)
+
+  -- and so are those of refusals
+  pub end_refused : (x : End) → SaysCounts f f' (status_of x) result → SaysOwn x → IsRefusal result → TakesLeaks e e'
+  end_refused (end.Exit code) counts own is =
+      let low = refusal_within result is in
+      ⊎_elim (λ h. own code refl h.0) (λ h. absurd (omega (arith, h.1, low.1))) counts
+  end_refused (end.Trap kind line) counts own is = higher (status_of (end.Trap kind line)) (omega arith) counts is
+  end_refused (end.BadFree why holder) counts own is = higher (status_of (end.BadFree why holder)) (omega arith) counts is
+  end_refused (end.Escape func local line) counts own is = higher (status_of (end.Escape func local line)) (omega arith) counts is
+  end_refused end.Spent counts own is = higher (status_of end.Spent) (omega arith) counts is
+  end_refused (end.OutOfHeap line) counts own is = higher (status_of (end.OutOfHeap line)) (omega arith) counts is
+  end_refused (end.OutOfStack line) counts own is = higher (status_of (end.OutOfStack line)) (omega arith) counts is
+  end_refused end.InputFault counts own is = higher (status_of end.InputFault) (omega arith) counts is
+  end_refused end.OutputFault counts own is = higher (status_of end.OutputFault) (omega arith) counts is
 
   module _ (i i' o o' : ℕ) where
     abbrev Caused : Type 0

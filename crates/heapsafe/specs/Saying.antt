@@ -100,6 +100,15 @@ IsFault status = (status ≡ 121) ⊎ (status ≡ 132) ⊎ (status ≡ 133)
 abbrev pub HasCause : Type 0 → Type 0 → Option (List ℕ) → Option (List ℕ) → ℕ → Type 0
 HasCause Fails Own taken taken' result = IsFault result → Fails ⊎ (Own × TakesLeaks taken taken')
 
+-- a status of words or of a text that are refused
+abbrev pub IsRefusal : ℕ → Type 0
+IsRefusal status = (status ≡ 120) ⊎ ((122 ≤ status) × (status ≤ 125))
+
+-- with such a status the first of these holds; or it is a program's own, the second holds, and the error stream took no line but
+-- those of leaks
+abbrev pub Refuses : Type 0 → Type 0 → Option (List ℕ) → Option (List ℕ) → ℕ → Type 0
+Refuses Stays Own taken taken' result = IsRefusal result → Stays ⊎ (Own × TakesLeaks taken taken')
+
 -- no write to the error stream failed, and the status is this one; or one did, and it is 133
 abbrev pub SaysCounts : ℕ → ℕ → ℕ → ℕ → Type 0
 SaysCounts faults faults' status result =

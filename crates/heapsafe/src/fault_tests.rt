@@ -1,7 +1,9 @@
 //! What is answered, written and left where a text, the input or a stream fails. Expected values are worked out by hand.
 
+ghost use Rattle.std.specs.Prelude.{◌+◌, ◌<◌, ◌^◌};
+
 use crate::heapsafe;
-use hs_base::{Items, MemSink, MemSource, MemTexts, SureSink};
+use hs_base::{Items, MemSink, MemSource, MemTexts, Sink, SureSink};
 use std::alloc::Global;
 use std::test::Fail;
 
@@ -59,23 +61,35 @@ fn calls(alloc: Global, number: u64) -> Result<Items<u64>, Fail> {
     Ok(calls)
 }
 
-/// The texts: a.c has these bytes. The call of that number fails.
-fn one_text(alloc: Global, text: &[u8], fails: u64) -> Result<MemTexts, Fail> {
+/// What is done for a command with the text a.c, this input and these streams: what is left of the input, and the status.
+fn answer_to<O: Sink, E: Sink>(
+    alloc: Global,
+    command: &str,
+    text: &[u8],
+    input: &[u8],
+    failing: Failing,
+    out: &mut O,
+    err: &mut E,
+) -> Result<(MemSource, u8), Fail>
+    requires out { O.faults out.old + 1 < 2 ^ 64 }
+    requires err { E.faults err.old + 1 < 2 ^ 64 }
+{
     let mut texts = Items::new(alloc);
     texts.push((
         Items::from(Vec::from_slice(alloc, b"a.c")?),
         Items::from(Vec::from_slice(alloc, text)?),
     ))?;
-    Ok(MemTexts::new(texts, calls(alloc, fails)?))
+    let mut texts = MemTexts::new(texts, calls(alloc, failing.text)?);
+    let mut input = MemSource::new(
+        Items::from(Vec::from_slice(alloc, input)?),
+        calls(alloc, failing.input)?,
+    );
+    let words = [command, "a.c"];
+    let status = heapsafe(alloc, &words, &mut texts, &mut input, out, err);
+    Ok((input, status))
 }
 
-/// The input: these bytes. The call of that number fails.
-fn input_of(alloc: Global, bytes: &[u8], fails: u64) -> Result<MemSource, Fail> {
-    let bytes = Items::from(Vec::from_slice(alloc, bytes)?);
-    Ok(MemSource::new(bytes, calls(alloc, fails)?))
-}
-
-/// What is done for a command with the text a.c, this input, and streams that take a byte per call.
+/// The same with streams that take a byte per call.
 fn answer(
     alloc: Global,
     command: &str,
@@ -83,12 +97,9 @@ fn answer(
     input: &[u8],
     failing: Failing,
 ) -> Result<Seen, Fail> {
-    let mut texts = one_text(alloc, text, failing.text)?;
-    let mut input = input_of(alloc, input, failing.input)?;
     let mut out = MemSink::new(alloc, 1, calls(alloc, failing.out)?);
     let mut err = MemSink::new(alloc, 1, calls(alloc, failing.err)?);
-    let words = [command, "a.c"];
-    let status = heapsafe(alloc, &words, &mut texts, &mut input, &mut out, &mut err);
+    let (input, status) = answer_to(alloc, command, text, input, failing, &mut out, &mut err)?;
     Ok(Seen {
         input,
         out,
@@ -307,39 +318,53 @@ fn largest_statics(rt: HostRuntime) -> Result<(), Fail> {
     Ok(())
 }
 
+/// What is done with an output that tells nothing: what is left of the input, what is said, and the status.
+fn answer_untold(
+    alloc: Global,
+    command: &str,
+    text: &[u8],
+) -> Result<(MemSource, MemSink, u8), Fail> {
+    let mut out = SureSink::new();
+    let mut err = MemSink::new(alloc, 1, calls(alloc, 0)?);
+    let (input, status) = answer_to(alloc, command, text, b"hi", NONE, &mut out, &mut err)?;
+    Ok((input, err, status))
+}
+
 /// An output that tells nothing: all else is as with one that tells.
 #[test]
 fn untold_output(rt: HostRuntime) -> Result<(), Fail> {
     let alloc = rt.alloc();
     let held: &[u8] = b"a.c:4: bad free: held\n  free(g);\nheld by global g at 0\n";
+    let no_tree: &[u8] = b"a.c:1: syntax\n  int main(void){return\n";
     let rows: [(&str, &[u8], &[u8], &[u8], u8); 6] = [
         ("run", COPIES, b"", b"", 0),
         ("mean", COPIES, b"", b"", 0),
         ("run", HELD, b"hi", held, 126),
         ("mean", HELD, b"hi", held, 126),
         ("print", TWO, b"hi", b"", 0),
-        (
-            "list",
-            b"int main(void){return",
-            b"hi",
-            b"a.c:1: syntax\n  int main(void){return\n",
-            124,
-        ),
+        ("list", b"int main(void){return", b"hi", no_tree, 124),
     ];
     for (command, text, left, said, status) in rows {
-        let mut texts = one_text(alloc, text, 0)?;
-        let mut input = input_of(alloc, b"hi", 0)?;
-        let mut out = SureSink::new();
-        let mut err = MemSink::new(alloc, 1, calls(alloc, 0)?);
-        let words = [command, "a.c"];
-        assert_eq!(rt;
-            heapsafe(alloc, &words, &mut texts, &mut input, &mut out, &mut err),
-            status
-        );
+        let (input, err, answered) = answer_untold(alloc, command, text)?;
+        assert_eq!(rt; answered, status);
         assert_eq!(rt; err.bytes(), said);
         assert_eq!(rt; input.left(), left);
     }
     Ok(())
+}
+
+/// What is done with an error stream that tells nothing, where a call of the output fails: what is left of the input, what is
+/// written, and the status.
+fn answer_unsaid(
+    alloc: Global,
+    command: &str,
+    text: &[u8],
+    fails: u64,
+) -> Result<(MemSource, MemSink, u8), Fail> {
+    let mut out = MemSink::new(alloc, 1, calls(alloc, fails)?);
+    let mut err = SureSink::new();
+    let (input, status) = answer_to(alloc, command, text, b"hi", NONE, &mut out, &mut err)?;
+    Ok((input, out, status))
 }
 
 /// An error stream that tells nothing: all else is as with one that tells, and an output that fails takes a front.
@@ -355,15 +380,8 @@ fn untold_errors(rt: HostRuntime) -> Result<(), Fail> {
         ("layout", b"int main(void){return", 0, b"", b"hi", 124),
     ];
     for (command, text, fails, written, left, status) in rows {
-        let mut texts = one_text(alloc, text, 0)?;
-        let mut input = input_of(alloc, b"hi", 0)?;
-        let mut out = MemSink::new(alloc, 1, calls(alloc, fails)?);
-        let mut err = SureSink::new();
-        let words = [command, "a.c"];
-        assert_eq!(rt;
-            heapsafe(alloc, &words, &mut texts, &mut input, &mut out, &mut err),
-            status
-        );
+        let (input, out, answered) = answer_unsaid(alloc, command, text, fails)?;
+        assert_eq!(rt; answered, status);
         assert_eq!(rt; out.bytes(), written);
         assert_eq!(rt; input.left(), left);
     }

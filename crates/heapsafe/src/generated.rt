@@ -12,7 +12,7 @@ ghost use Rattle.heapsafe.specs.Answer.{AnswersFile, AnswersGenerated, no_input}
 ghost use Rattle.heapsafe.specs.Generated.{IsPrepared, IsPreparedTokens, IsPreparedUnit, MakesOnly, SumsUp, Went, steps_of};
 ghost use Rattle.heapsafe.specs.Program.{AnswersWay, room_of};
 ghost use Rattle.heapsafe.specs.Reading.{most_bytes};
-ghost use Rattle.heapsafe.specs.Saying.{Breaks, Faults, Gives, HasCause, Says, Wants, WriteFails};
+ghost use Rattle.heapsafe.specs.Saying.{Breaks, Faults, Gives, HasCause, Refuses, Says, Wants, WriteFails};
 ghost use Rattle.heapsafe.specs.Shown.{Shown, output_fault, written};
 ghost use Rattle.heapsafe.specs.declared.program.Way.TheVariants as way;
 
@@ -173,6 +173,7 @@ fn write_summary<O: Sink, E: Sink>(summary: Summary, out: &mut O, err: &mut E) -
     ensures broken { (left : List ℕ) → WriteFails (O.faults out.old) (O.faults out.new) (E.faults err.old) (E.faults err.new) → (a : Shown) → a ≡ written (summary_line summary) → Breaks a left (Some left) (O.taken out.old) (O.taken out.new) (E.taken err.old) (E.taken err.new) }
     ensures memory { Wants (out.new ≡ out.old) ⊥ (E.taken err.old) (E.taken err.new) result }
     ensures cause { HasCause (WriteFails (O.faults out.old) (O.faults out.new) (E.faults err.old) (E.faults err.new)) ⊥ (E.taken err.old) (E.taken err.new) result }
+    ensures refused { Refuses (out.new ≡ out.old) ⊥ (E.taken err.old) (E.taken err.new) result }
 {
     match put_summary(out, summary) {
         Ok(()) => 0,
@@ -196,6 +197,7 @@ pub(crate) fn run_generated<O: Sink, E: Sink>(
     ensures broken { (left : List ℕ) → WriteFails (O.faults out.old) (O.faults out.new) (E.faults err.old) (E.faults err.new) → (a : Shown) → AnswersGenerated number a → Breaks a left (Some left) (O.taken out.old) (O.taken out.new) (E.taken err.old) (E.taken err.new) }
     ensures memory { Wants (out.new ≡ out.old) ⊥ (E.taken err.old) (E.taken err.new) result }
     ensures cause { HasCause (WriteFails (O.faults out.old) (O.faults out.new) (E.faults err.old) (E.faults err.new)) ⊥ (E.taken err.old) (E.taken err.new) result }
+    ensures refused { Refuses (out.new ≡ out.old) ⊥ (E.taken err.old) (E.taken err.new) result }
 {
     match sum_up(alloc, number) {
         Ok(summary) => write_summary(summary, out, err),

@@ -16,7 +16,7 @@ ghost use Rattle.heapsafe.specs.Answer.{Answers, AnswersTokens, AnswersFile, Ask
 ghost use Rattle.heapsafe.specs.Reading.{most_bytes};
 ghost use Rattle.heapsafe.specs.Shown.{Shown, input_fault, output_fault, text_fault};
 ghost use Rattle.heapsafe.specs.Program.{input_of, steady};
-ghost use Rattle.heapsafe.specs.Saying.{Breaks, Faults, Gives, HasCause, Says, SaysMore, Wants, WriteFails, shown_of, unread};
+ghost use Rattle.heapsafe.specs.Saying.{Breaks, Faults, Gives, HasCause, Refuses, Says, SaysMore, Wants, WriteFails, shown_of, unread};
 
 mod generated;
 mod leaks;
@@ -76,6 +76,7 @@ fn with_tree<I: Source, O: Sink, E: Sink>(
     ensures broken { (left : List ℕ) → I.left input.old ≡ Some left → WriteFails (O.faults out.old) (O.faults out.new) (E.faults err.old) (E.faults err.new) → (a : Shown) → Does file.now text.now (unit_view unit.now) (steady left) (task_shown task) a → SaysMore a → Breaks a left (I.left input.new) (O.taken out.old) (O.taken out.new) (E.taken err.old) (E.taken err.new) }
     ensures memory { Wants (MeansNone (task_shown task) → (input.new ≡ input.old) × (out.new ≡ out.old)) (RunsNone (task_shown task) → ⊥) (E.taken err.old) (E.taken err.new) result }
     ensures cause { HasCause ((I.faults input.old < I.faults input.new) ⊎ WriteFails (O.faults out.old) (O.faults out.new) (E.faults err.old) (E.faults err.new)) (RunsNone (task_shown task) → ⊥) (E.taken err.old) (E.taken err.new) result }
+    ensures refused { Refuses ((input.new ≡ input.old) × (out.new ≡ out.old)) (RunsNone (task_shown task) → ⊥) (E.taken err.old) (E.taken err.new) result }
 {
     match task {
         Task::Run {
@@ -136,6 +137,7 @@ fn with_tokens<I: Source, O: Sink, E: Sink>(
     ensures broken { (left : List ℕ) → I.left input.old ≡ Some left → WriteFails (O.faults out.old) (O.faults out.new) (E.faults err.old) (E.faults err.new) → (a : Shown) → AnswersTokens file.now text.now tokens.now (steady left) (task_shown task) a → SaysMore a → Breaks a left (I.left input.new) (O.taken out.old) (O.taken out.new) (E.taken err.old) (E.taken err.new) }
     ensures memory { Wants (MeansNone (task_shown task) → (input.new ≡ input.old) × (out.new ≡ out.old)) (RunsNone (task_shown task) → ⊥) (E.taken err.old) (E.taken err.new) result }
     ensures cause { HasCause ((I.faults input.old < I.faults input.new) ⊎ WriteFails (O.faults out.old) (O.faults out.new) (E.faults err.old) (E.faults err.new)) (RunsNone (task_shown task) → ⊥) (E.taken err.old) (E.taken err.new) result }
+    ensures refused { Refuses ((input.new ≡ input.old) × (out.new ≡ out.old)) (RunsNone (task_shown task) → ⊥) (E.taken err.old) (E.taken err.new) result }
 {
     match parse(alloc, tokens) {
         Ok(unit) => with_tree(alloc, file, task, text, &unit, input, out, err),
@@ -167,6 +169,7 @@ fn with_file<T: Texts, I: Source, O: Sink, E: Sink>(
     ensures broken { (told : List ℕ → List ℕ) (left : List ℕ) → T.texts texts.old ≡ Some told → I.left input.old ≡ Some left → WriteFails (O.faults out.old) (O.faults out.new) (E.faults err.old) (E.faults err.new) → (a : Shown) → AnswersFile file.now (told file.now) (steady left) (task_shown task) a → SaysMore a → Breaks a left (I.left input.new) (O.taken out.old) (O.taken out.new) (E.taken err.old) (E.taken err.new) }
     ensures memory { Wants (MeansNone (task_shown task) → (input.new ≡ input.old) × (out.new ≡ out.old)) (RunsNone (task_shown task) → ⊥) (E.taken err.old) (E.taken err.new) result }
     ensures cause { HasCause ((T.faults texts.old < T.faults texts.new) ⊎ (I.faults input.old < I.faults input.new) ⊎ WriteFails (O.faults out.old) (O.faults out.new) (E.faults err.old) (E.faults err.new)) (RunsNone (task_shown task) → ⊥) (E.taken err.old) (E.taken err.new) result }
+    ensures refused { Refuses ((input.new ≡ input.old) × (out.new ≡ out.old)) (RunsNone (task_shown task) → ⊥) (E.taken err.old) (E.taken err.new) result }
 {
     let text = match read_text(alloc, texts, file) {
         Ok(text) => text,
@@ -191,10 +194,10 @@ fn with_file<T: Texts, I: Source, O: Sink, E: Sink>(
 ///
 /// The rest holds whatever is told. The status of a failure of the texts, the input or a stream comes only where that failed, and
 /// where it failed its line is said, unless the error stream fails. The status of want of memory comes with its line, and input
-/// and output are as before unless a program is evaluated by `mean`. Each of these statuses may also be a program's own: then no
-/// line was said but those of leaks. Where the text could not be read, the input and the output are as before; so is the input
-/// where no program of a file is run; of words that name no file the texts are not asked; and of words that are not taken nothing
-/// but the error stream is.
+/// and output are as before unless a program is evaluated by `mean`; with the status of words or a text that are refused they are
+/// as before. Each of these statuses may also be a program's own: then no line was said but those of leaks. Where the text could
+/// not be read, the input and the output are as before; so is the input where no program of a file is run; of words that name no
+/// file the texts are not asked; and of words that are not taken nothing but the error stream is.
 pub fn heapsafe<T: Texts, I: Source, O: Sink, E: Sink>(
     alloc: Global,
     words: &[&str],
@@ -218,6 +221,7 @@ pub fn heapsafe<T: Texts, I: Source, O: Sink, E: Sink>(
     ensures broken { (told : List ℕ → List ℕ) (left : List ℕ) → T.texts texts.old ≡ Some told → I.left input.old ≡ Some left → WriteFails (O.faults out.old) (O.faults out.new) (E.faults err.old) (E.faults err.new) → (a : Shown) → Answers (map (λ w. w.now) words.now) told (steady left) a → SaysMore a → Breaks a left (I.left input.new) (O.taken out.old) (O.taken out.new) (E.taken err.old) (E.taken err.new) }
     ensures memory { Wants (AsksNoMeaning (command_of (map (λ w. w.now) words.now)) → (input.new ≡ input.old) × (out.new ≡ out.old)) (AsksNone (command_of (map (λ w. w.now) words.now)) → ⊥) (E.taken err.old) (E.taken err.new) result }
     ensures cause { HasCause ((T.faults texts.old < T.faults texts.new) ⊎ (I.faults input.old < I.faults input.new) ⊎ WriteFails (O.faults out.old) (O.faults out.new) (E.faults err.old) (E.faults err.new)) (AsksNone (command_of (map (λ w. w.now) words.now)) → ⊥) (E.taken err.old) (E.taken err.new) result }
+    ensures refused { Refuses ((input.new ≡ input.old) × (out.new ≡ out.old)) (AsksNone (command_of (map (λ w. w.now) words.now)) → ⊥) (E.taken err.old) (E.taken err.new) result }
 {
     match command_words::read(alloc, words) {
         Ok(Command::OnFile { file, task }) => with_file(alloc, file, task, texts, input, out, err),

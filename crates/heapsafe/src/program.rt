@@ -12,7 +12,7 @@ ghost use Rattle.bad_free_report.specs.Report.{end_report};
 ghost use Rattle.heapsafe.specs.Shown.{Shown, input_fault, output_fault};
 ghost use Rattle.heapsafe.specs.Program.{AnswersWay, IsBounded, OnMachine, TellsNone, input_of, status_of, steady};
 ghost use Rattle.heapsafe.specs.Answer.{AnswersTypes};
-ghost use Rattle.heapsafe.specs.Saying.{Breaks, Faults, Gives, HasCause, Says, SaysCounts, SaysLeaks, SaysMore, TakesLeaks, Wants, WriteFails};
+ghost use Rattle.heapsafe.specs.Saying.{Breaks, Faults, Gives, HasCause, Refuses, Says, SaysCounts, SaysLeaks, SaysMore, TakesLeaks, Wants, WriteFails};
 
 use crate::leaks::write_leaks;
 use crate::refusal::{OUTPUT_FAULT, Refusal, refuse, refuse_types};
@@ -138,6 +138,7 @@ fn run_core<I: Source, O: Sink, E: Sink>(
     ensures broken { (left : List ℕ) → I.left input.old ≡ Some left → WriteFails (O.faults out.old) (O.faults out.new) (E.faults err.old) (E.faults err.new) → (a : Shown) → AnswersWay file.now text.now core.now (steady left) (Way.Run limits steps leaks) a → SaysMore a → Breaks a left (I.left input.new) (O.taken out.old) (O.taken out.new) (E.taken err.old) (E.taken err.new) }
     ensures memory { Wants ((input.new ≡ input.old) × (out.new ≡ out.old)) (⊤) (E.taken err.old) (E.taken err.new) result }
     ensures cause { HasCause ((I.faults input.old < I.faults input.new) ⊎ WriteFails (O.faults out.old) (O.faults out.new) (E.faults err.old) (E.faults err.new)) ⊤ (E.taken err.old) (E.taken err.new) result }
+    ensures refused { Refuses ((input.new ≡ input.old) × (out.new ≡ out.old)) ⊤ (E.taken err.old) (E.taken err.new) result }
 {
     match run_code(alloc, core, limits, steps, input, out) {
         Ok((end, machine)) => finish_run(&end, &machine, leaks, core, file, text, err),
@@ -168,6 +169,7 @@ fn mean_core<I: Source, O: Sink, E: Sink>(
     ensures broken { (left : List ℕ) → I.left input.old ≡ Some left → WriteFails (O.faults out.old) (O.faults out.new) (E.faults err.old) (E.faults err.new) → (a : Shown) → AnswersWay file.now text.now core.now (steady left) (Way.Mean steps) a → SaysMore a → Breaks a left (I.left input.new) (O.taken out.old) (O.taken out.new) (E.taken err.old) (E.taken err.new) }
     ensures memory { Wants (⊤) (⊤) (E.taken err.old) (E.taken err.new) result }
     ensures cause { HasCause ((I.faults input.old < I.faults input.new) ⊎ WriteFails (O.faults out.old) (O.faults out.new) (E.faults err.old) (E.faults err.new)) ⊤ (E.taken err.old) (E.taken err.new) result }
+    ensures refused { Refuses ((input.new ≡ input.old) × (out.new ≡ out.old)) ⊤ (E.taken err.old) (E.taken err.new) result }
 {
     match evaluate(alloc, core, steps, input, out) {
         Ok(end) => finish(&end, core, file, text, err),
@@ -198,6 +200,7 @@ fn go<I: Source, O: Sink, E: Sink>(
     ensures broken { (left : List ℕ) → I.left input.old ≡ Some left → WriteFails (O.faults out.old) (O.faults out.new) (E.faults err.old) (E.faults err.new) → (a : Shown) → AnswersWay file.now text.now core.now (steady left) way a → SaysMore a → Breaks a left (I.left input.new) (O.taken out.old) (O.taken out.new) (E.taken err.old) (E.taken err.new) }
     ensures memory { Wants (OnMachine way → (input.new ≡ input.old) × (out.new ≡ out.old)) (⊤) (E.taken err.old) (E.taken err.new) result }
     ensures cause { HasCause ((I.faults input.old < I.faults input.new) ⊎ WriteFails (O.faults out.old) (O.faults out.new) (E.faults err.old) (E.faults err.new)) ⊤ (E.taken err.old) (E.taken err.new) result }
+    ensures refused { Refuses ((input.new ≡ input.old) × (out.new ≡ out.old)) ⊤ (E.taken err.old) (E.taken err.new) result }
 {
     match way {
         Way::Run {
@@ -234,6 +237,7 @@ pub(crate) fn run_program<I: Source, O: Sink, E: Sink>(
     ensures broken { (left : List ℕ) → I.left input.old ≡ Some left → WriteFails (O.faults out.old) (O.faults out.new) (E.faults err.old) (E.faults err.new) → (a : Shown) → AnswersTypes file.now text.now (core_in (unit_view unit.now)) (steady left) way a → SaysMore a → Breaks a left (I.left input.new) (O.taken out.old) (O.taken out.new) (E.taken err.old) (E.taken err.new) }
     ensures memory { Wants (OnMachine way → (input.new ≡ input.old) × (out.new ≡ out.old)) (⊤) (E.taken err.old) (E.taken err.new) result }
     ensures cause { HasCause ((I.faults input.old < I.faults input.new) ⊎ WriteFails (O.faults out.old) (O.faults out.new) (E.faults err.old) (E.faults err.new)) ⊤ (E.taken err.old) (E.taken err.new) result }
+    ensures refused { Refuses ((input.new ≡ input.old) × (out.new ≡ out.old)) ⊤ (E.taken err.old) (E.taken err.new) result }
 {
     match elab(alloc, unit) {
         Ok(core) => go(alloc, file, text, &core, way, input, out, err),

@@ -9,7 +9,7 @@ ghost use Rattle.elaboration.specs.Elaboration.{tags_of};
 ghost use Rattle.layout_list.specs.Listing.{layout_listing};
 ghost use Rattle.live_list.specs.Listing.{live_listing};
 ghost use Rattle.heapsafe.specs.Shown.{Shown, core_shown, layouts_shown, live_shown, output_fault, printed, written};
-ghost use Rattle.heapsafe.specs.Saying.{Breaks, Faults, Gives, HasCause, Says, Wants, WriteFails};
+ghost use Rattle.heapsafe.specs.Saying.{Breaks, Faults, Gives, HasCause, Refuses, Says, Wants, WriteFails};
 
 use crate::refusal::{Refusal, refuse, refuse_types};
 use c_elab::{elab, tags};
@@ -31,6 +31,7 @@ fn write_text<O: Sink, E: Sink>(text: &[u8], out: &mut O, err: &mut E) -> u8
     ensures broken { (left : List ℕ) → WriteFails (O.faults out.old) (O.faults out.new) (E.faults err.old) (E.faults err.new) → (a : Shown) → a ≡ written text.now → Breaks a left (Some left) (O.taken out.old) (O.taken out.new) (E.taken err.old) (E.taken err.new) }
     ensures memory { Wants (out.new ≡ out.old) ⊥ (E.taken err.old) (E.taken err.new) result }
     ensures cause { HasCause (WriteFails (O.faults out.old) (O.faults out.new) (E.faults err.old) (E.faults err.new)) ⊥ (E.taken err.old) (E.taken err.new) result }
+    ensures refused { Refuses (out.new ≡ out.old) ⊥ (E.taken err.old) (E.taken err.new) result }
 {
     match put_all(out, text) {
         Ok(()) => 0,
@@ -48,6 +49,7 @@ pub(crate) fn print<O: Sink, E: Sink>(alloc: Global, unit: &Unit, out: &mut O, e
     ensures broken { (left : List ℕ) → WriteFails (O.faults out.old) (O.faults out.new) (E.faults err.old) (E.faults err.new) → (a : Shown) → a ≡ printed (unit_view unit.now) → Breaks a left (Some left) (O.taken out.old) (O.taken out.new) (E.taken err.old) (E.taken err.new) }
     ensures memory { Wants (out.new ≡ out.old) ⊥ (E.taken err.old) (E.taken err.new) result }
     ensures cause { HasCause (WriteFails (O.faults out.old) (O.faults out.new) (E.faults err.old) (E.faults err.new)) ⊥ (E.taken err.old) (E.taken err.new) result }
+    ensures refused { Refuses (out.new ≡ out.old) ⊥ (E.taken err.old) (E.taken err.new) result }
 {
     match write_unit(alloc, unit) {
         Ok(text) => write_text(text.as_slice(), out, err),
@@ -65,6 +67,7 @@ fn write_layouts<O: Sink, E: Sink>(alloc: Global, tags: &Tags, out: &mut O, err:
     ensures broken { (left : List ℕ) → WriteFails (O.faults out.old) (O.faults out.new) (E.faults err.old) (E.faults err.new) → (a : Shown) → a ≡ written (layout_listing tags.now) → Breaks a left (Some left) (O.taken out.old) (O.taken out.new) (E.taken err.old) (E.taken err.new) }
     ensures memory { Wants (out.new ≡ out.old) ⊥ (E.taken err.old) (E.taken err.new) result }
     ensures cause { HasCause (WriteFails (O.faults out.old) (O.faults out.new) (E.faults err.old) (E.faults err.new)) ⊥ (E.taken err.old) (E.taken err.new) result }
+    ensures refused { Refuses (out.new ≡ out.old) ⊥ (E.taken err.old) (E.taken err.new) result }
 {
     match list_layouts(alloc, tags) {
         Ok(text) => write_text(text.as_slice(), out, err),
@@ -89,6 +92,7 @@ pub(crate) fn layouts<O: Sink, E: Sink>(
     ensures broken { (left : List ℕ) → WriteFails (O.faults out.old) (O.faults out.new) (E.faults err.old) (E.faults err.new) → (a : Shown) → a ≡ layouts_shown file.now text.now (tags_of (unit_view unit.now)) → Breaks a left (Some left) (O.taken out.old) (O.taken out.new) (E.taken err.old) (E.taken err.new) }
     ensures memory { Wants (out.new ≡ out.old) ⊥ (E.taken err.old) (E.taken err.new) result }
     ensures cause { HasCause (WriteFails (O.faults out.old) (O.faults out.new) (E.faults err.old) (E.faults err.new)) ⊥ (E.taken err.old) (E.taken err.new) result }
+    ensures refused { Refuses (out.new ≡ out.old) ⊥ (E.taken err.old) (E.taken err.new) result }
 {
     match tags(alloc, unit) {
         Ok(tags) => write_layouts(alloc, &tags, out, err),
@@ -106,6 +110,7 @@ fn write_core<O: Sink, E: Sink>(alloc: Global, core: &Core, out: &mut O, err: &m
     ensures broken { (left : List ℕ) → WriteFails (O.faults out.old) (O.faults out.new) (E.faults err.old) (E.faults err.new) → (a : Shown) → a ≡ written (listing core.now) → Breaks a left (Some left) (O.taken out.old) (O.taken out.new) (E.taken err.old) (E.taken err.new) }
     ensures memory { Wants (out.new ≡ out.old) ⊥ (E.taken err.old) (E.taken err.new) result }
     ensures cause { HasCause (WriteFails (O.faults out.old) (O.faults out.new) (E.faults err.old) (E.faults err.new)) ⊥ (E.taken err.old) (E.taken err.new) result }
+    ensures refused { Refuses (out.new ≡ out.old) ⊥ (E.taken err.old) (E.taken err.new) result }
 {
     match list(alloc, core) {
         Ok(text) => write_text(text.as_slice(), out, err),
@@ -130,6 +135,7 @@ pub(crate) fn core_list<O: Sink, E: Sink>(
     ensures broken { (left : List ℕ) → WriteFails (O.faults out.old) (O.faults out.new) (E.faults err.old) (E.faults err.new) → (a : Shown) → a ≡ core_shown file.now text.now (core_in (unit_view unit.now)) → Breaks a left (Some left) (O.taken out.old) (O.taken out.new) (E.taken err.old) (E.taken err.new) }
     ensures memory { Wants (out.new ≡ out.old) ⊥ (E.taken err.old) (E.taken err.new) result }
     ensures cause { HasCause (WriteFails (O.faults out.old) (O.faults out.new) (E.faults err.old) (E.faults err.new)) ⊥ (E.taken err.old) (E.taken err.new) result }
+    ensures refused { Refuses (out.new ≡ out.old) ⊥ (E.taken err.old) (E.taken err.new) result }
 {
     match elab(alloc, unit) {
         Ok(core) => write_core(alloc, &core, out, err),
@@ -147,6 +153,7 @@ fn write_live<O: Sink, E: Sink>(alloc: Global, core: &Core, out: &mut O, err: &m
     ensures broken { (left : List ℕ) → WriteFails (O.faults out.old) (O.faults out.new) (E.faults err.old) (E.faults err.new) → (a : Shown) → a ≡ written (live_listing core.now) → Breaks a left (Some left) (O.taken out.old) (O.taken out.new) (E.taken err.old) (E.taken err.new) }
     ensures memory { Wants (out.new ≡ out.old) ⊥ (E.taken err.old) (E.taken err.new) result }
     ensures cause { HasCause (WriteFails (O.faults out.old) (O.faults out.new) (E.faults err.old) (E.faults err.new)) ⊥ (E.taken err.old) (E.taken err.new) result }
+    ensures refused { Refuses (out.new ≡ out.old) ⊥ (E.taken err.old) (E.taken err.new) result }
 {
     match list_live(alloc, core) {
         Ok(text) => write_text(text.as_slice(), out, err),
@@ -171,6 +178,7 @@ pub(crate) fn core_live<O: Sink, E: Sink>(
     ensures broken { (left : List ℕ) → WriteFails (O.faults out.old) (O.faults out.new) (E.faults err.old) (E.faults err.new) → (a : Shown) → a ≡ live_shown file.now text.now (core_in (unit_view unit.now)) → Breaks a left (Some left) (O.taken out.old) (O.taken out.new) (E.taken err.old) (E.taken err.new) }
     ensures memory { Wants (out.new ≡ out.old) ⊥ (E.taken err.old) (E.taken err.new) result }
     ensures cause { HasCause (WriteFails (O.faults out.old) (O.faults out.new) (E.faults err.old) (E.faults err.new)) ⊥ (E.taken err.old) (E.taken err.new) result }
+    ensures refused { Refuses (out.new ≡ out.old) ⊥ (E.taken err.old) (E.taken err.new) result }
 {
     match elab(alloc, unit) {
         Ok(core) => write_live(alloc, &core, out, err),

@@ -9,7 +9,7 @@ use Rattle.heapsafe.proofs.Told.{gives_said, gives_as, gives_left, one_file, usa
 use Rattle.heapsafe.proofs.Broken.{broken_left, broken_said, wanting_line}
 use Rattle.std.specs.Prelude.{Option}
 use Rattle.heapsafe.specs.Saying.{Says}
-use Rattle.heapsafe.proofs.Statuses.{unwanted, wanted, wants_more, cause_more, caused, no_fault_120, no_fault_134}
+use Rattle.heapsafe.proofs.Statuses.{unwanted, wanted, wants_more, cause_more, caused, no_fault_120, no_fault_134, refused_more}
 use Rattle.heapsafe.proofs.heapsafe.Goals as goal
 
 pub returns-in-Ok-OnFile-clause-exact : goal.returns-in-Ok-OnFile-clause-exact
@@ -107,3 +107,18 @@ returns-in-Err-Usage-clause-cause g c =
 pub returns-in-Err-NoMemory-clause-cause : goal.returns-in-Err-NoMemory-clause-cause
 returns-in-Err-NoMemory-clause-cause g c =
     caused _ _ _ _ _ _ 134 _ no_memory.err (λ h. inr (inr (inr h))) (λ h. absurd (no_fault_134 h)) c.refuse-in-Err-NoMemory.ensures.says
+
+pub returns-in-Ok-OnFile-clause-refused : goal.returns-in-Ok-OnFile-clause-refused
+returns-in-Ok-OnFile-clause-refused g c =
+    let words : List (List ℕ) = map (λ (w : Bor (List ℕ)). w.now) c.args.words.now in
+    let read = subst (λ (command : Command). IsRead (command_of words) (Ok command)) c.in-Ok-OnFile.field-0-is c.in-Ok-OnFile.ensures.read in
+    refused_more _ _ _ _ _ _ _ (λ h. h) (λ own none. own (subst AsksNone read none)) c.with_file.ensures.refused
+
+pub returns-in-Ok-Generated-clause-refused : goal.returns-in-Ok-Generated-clause-refused
+returns-in-Ok-Generated-clause-refused g c = refused_more _ _ _ _ _ _ _ (λ h. (refl, h)) (λ own. absurd own) c.run_generated.ensures.refused
+
+pub returns-in-Err-Usage-clause-refused : goal.returns-in-Err-Usage-clause-refused
+returns-in-Err-Usage-clause-refused g c = λ is. inl (refl, refl)
+
+pub returns-in-Err-NoMemory-clause-refused : goal.returns-in-Err-NoMemory-clause-refused
+returns-in-Err-NoMemory-clause-refused g c = λ is. inl (refl, refl)

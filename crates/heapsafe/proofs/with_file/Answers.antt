@@ -81,3 +81,9 @@ returns-in-Ok-lex-clause-cause g c = cause_more _ _ _ _ _ _ _ (λ h. inr h) (λ 
 pub returns-clause-cause : goal.returns-clause-cause
 returns-clause-cause g c =
     caused _ _ _ _ _ _ _ _ _ (λ h. inr (inr (inr h))) (λ h. absurd (untokened_no_fault c.in-Err-lex.error c.args.file.now c.as_slice-text.result.now h)) c.refuse_text.ensures.says
+
+pub returns-in-Err-clause-refused : goal.returns-in-Err-clause-refused
+returns-in-Err-clause-refused g c = λ is. inl (refl, refl)
+
+pub returns-clause-refused : goal.returns-clause-refused
+returns-clause-refused g c = λ is. inl (refl, refl)

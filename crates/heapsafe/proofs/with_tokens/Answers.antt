@@ -5,7 +5,7 @@ use Rattle.heapsafe.specs.Answer.{AnswersTokens}
 use Rattle.heapsafe.specs.Saying.{unparsed}
 use Rattle.heapsafe.proofs.Told.{gives_said}
 use Rattle.heapsafe.proofs.Trees.{gives_tree, unparsed_is, unparsed_silent}
-use Rattle.std.proofs.Common.{refl, inr}
+use Rattle.std.proofs.Common.{refl, inr, inl}
 use Rattle.heapsafe.proofs.Broken.{broken_said, unparsed_line}
 use Rattle.heapsafe.proofs.Statuses.{unparsed_wants, wanted, caused, unparsed_no_fault}
 use Rattle.heapsafe.proofs.with_tokens.Goals as goal
@@ -39,3 +39,6 @@ returns-in-Err-clause-memory g c =
 pub returns-in-Err-clause-cause : goal.returns-in-Err-clause-cause
 returns-in-Err-clause-cause g c =
     caused _ _ _ _ _ _ _ _ _ (λ h. inr (inr h)) (λ h. absurd (unparsed_no_fault c.in-Err.error c.args.file.now c.args.text.now h)) c.refuse_tokens.ensures.says
+
+pub returns-in-Err-clause-refused : goal.returns-in-Err-clause-refused
+returns-in-Err-clause-refused g c = λ is. inl (refl, refl)

@@ -7,7 +7,7 @@ use Rattle.heapsafe.specs.Answer.{Does, MeansNone, RunsNone}
 use Rattle.heapsafe.specs.Saying.{Gives}
 use Rattle.heapsafe.proofs.Told.{gives_left}
 use Rattle.heapsafe.proofs.Broken.{broken_left}
-use Rattle.heapsafe.proofs.Statuses.{wants_more, cause_more}
+use Rattle.heapsafe.proofs.Statuses.{wants_more, cause_more, refused_more}
 use Rattle.heapsafe.proofs.with_tree.Goals as goal
 
 pub returns-in-Run-clause-exact : goal.returns-in-Run-clause-exact
@@ -116,3 +116,23 @@ returns-in-List-clause-cause g c = cause_more _ _ _ _ _ _ _ (λ h. inr h) (λ ow
 
 pub returns-in-Live-clause-cause : goal.returns-in-Live-clause-cause
 returns-in-Live-clause-cause g c = cause_more _ _ _ _ _ _ _ (λ h. inr h) (λ own. absurd own) c.core_live.ensures.cause
+
+pub returns-in-Run-clause-refused : goal.returns-in-Run-clause-refused
+returns-in-Run-clause-refused g c =
+    refused_more _ _ _ _ _ _ _ (λ h. h) (λ own none. subst (λ (t : Task). RunsNone (task_shown t)) c.in-Run.is none) c.run_program.ensures.refused
+
+pub returns-in-Mean-clause-refused : goal.returns-in-Mean-clause-refused
+returns-in-Mean-clause-refused g c =
+    refused_more _ _ _ _ _ _ _ (λ h. h) (λ own none. subst (λ (t : Task). RunsNone (task_shown t)) c.in-Mean.is none) c.run_program-in-Mean.ensures.refused
+
+pub returns-in-Print-clause-refused : goal.returns-in-Print-clause-refused
+returns-in-Print-clause-refused g c = refused_more _ _ _ _ _ _ _ (λ h. (refl, h)) (λ own. absurd own) c.print.ensures.refused
+
+pub returns-in-Layout-clause-refused : goal.returns-in-Layout-clause-refused
+returns-in-Layout-clause-refused g c = refused_more _ _ _ _ _ _ _ (λ h. (refl, h)) (λ own. absurd own) c.layouts.ensures.refused
+
+pub returns-in-List-clause-refused : goal.returns-in-List-clause-refused
+returns-in-List-clause-refused g c = refused_more _ _ _ _ _ _ _ (λ h. (refl, h)) (λ own. absurd own) c.core_list.ensures.refused
+
+pub returns-in-Live-clause-refused : goal.returns-in-Live-clause-refused
+returns-in-Live-clause-refused g c = refused_more _ _ _ _ _ _ _ (λ h. (refl, h)) (λ own. absurd own) c.core_live.ensures.refused

@@ -1,8 +1,8 @@
-use Rattle.std.proofs.Common.{false, refl, inr}
+use Rattle.std.proofs.Common.{false, refl, inr, arith}
 use Rattle.heapsafe.proofs.Told.{said_faults}
 use Rattle.heapsafe.proofs.Ended.{gives_mean, gives_unfinished, input_said, mean_counts, output_said, program_faults}
 use Rattle.heapsafe.proofs.Broken.{broken_mean, broken_unfinished}
-use Rattle.heapsafe.proofs.Statuses.{wanted, caused, counts_of, end_cause, no_fault_134, own_end, own_of}
+use Rattle.heapsafe.proofs.Statuses.{wanted, caused, counts_of, end_cause, no_fault_134, own_end, own_of, end_refused, never_refused}
 use Rattle.heapsafe.specs.Shown.{no_memory}
 use Rattle.heapsafe.proofs.program.mean_core.Goals as goal
 
@@ -61,3 +61,13 @@ returns-in-Ok-clause-cause g c =
 
 pub returns-in-Err-clause-cause : goal.returns-in-Err-clause-cause
 returns-in-Err-clause-cause g c = caused _ _ _ _ _ _ 134 _ no_memory.err (λ h. inr (inr h)) (λ h. absurd (no_fault_134 h)) c.refuse.ensures.says
+
+pub returns-in-Ok-clause-refused : goal.returns-in-Ok-clause-refused
+returns-in-Ok-clause-refused g c = λ is.
+    inr (
+      tt,
+      end_refused _ _ _ _ _ c.in-Ok.end (counts_of _ _ _ _ _ _ _ c.finish.ensures.says) (own_of _ _ _ _ _ c.args.file.now c.args.text.now c.args.core.now c.in-Ok.end c.finish.ensures.says) is,
+    )
+
+pub returns-in-Err-clause-refused : goal.returns-in-Err-clause-refused
+returns-in-Err-clause-refused g c = never_refused _ _ _ _ _ _ 134 _ no_memory.err (omega arith) c.refuse.ensures.says

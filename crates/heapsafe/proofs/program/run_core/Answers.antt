@@ -1,4 +1,4 @@
-use Rattle.std.proofs.Common.{◌∙◌, [], None, inr, refl, ap, subst}
+use Rattle.std.proofs.Common.{◌∙◌, [], None, inr, refl, ap, subst, inl}
 use Rattle.hs_base.specs.declared.ends.End.{End}
 use Rattle.flat_codegen.specs.Lasting.{LeavesImage, cut_run}
 use Rattle.heapsafe.specs.declared.program.Way.TheVariants.{Run}
@@ -7,7 +7,7 @@ use Rattle.heapsafe.specs.Program.{AnswersWay, input_of, room_of}
 use Rattle.heapsafe.proofs.Told.{gives_said, said_faults}
 use Rattle.heapsafe.proofs.Ended.{counts_said, gives_run, input_said, output_said, program_faults}
 use Rattle.heapsafe.proofs.Broken.{broken_run, broken_said, wanting_line}
-use Rattle.heapsafe.proofs.Statuses.{wanted, caused, end_cause, no_fault_134, own_end}
+use Rattle.heapsafe.proofs.Statuses.{wanted, caused, end_cause, no_fault_134, own_end, end_refused}
 use Rattle.heapsafe.proofs.program.run_core.Goals as goal
 
 pub returns-in-Ok-clause-exact : goal.returns-in-Ok-clause-exact
@@ -78,3 +78,10 @@ returns-in-Ok-clause-cause g c = end_cause _ _ _ _ _ _ _ _ _ c.in-Ok.end c.in-Ok
 
 pub returns-in-Err-clause-cause : goal.returns-in-Err-clause-cause
 returns-in-Err-clause-cause g c = caused _ _ _ _ _ _ 134 _ no_memory.err (λ h. inr (inr h)) (λ h. absurd (no_fault_134 h)) c.refuse.ensures.says
+
+pub returns-in-Ok-clause-refused : goal.returns-in-Ok-clause-refused
+returns-in-Ok-clause-refused g c = λ is.
+    inr (tt, end_refused _ _ _ _ _ c.in-Ok.end c.finish_run.ensures.counts c.finish_run.ensures.own is)
+
+pub returns-in-Err-clause-refused : goal.returns-in-Err-clause-refused
+returns-in-Err-clause-refused g c = λ is. inl (c.in-Err.ensures.input_stays, c.in-Err.ensures.out_stays)

@@ -5,7 +5,7 @@ use Rattle.heapsafe.specs.Answer.{AnswersTypes}
 use Rattle.heapsafe.specs.Saying.{untyped}
 use Rattle.heapsafe.proofs.Told.{gives_said}
 use Rattle.heapsafe.proofs.Typed.{gives_typed, untyped_program, untyped_silent}
-use Rattle.std.proofs.Common.{refl, subst, inr}
+use Rattle.std.proofs.Common.{refl, subst, inr, inl}
 use Rattle.c_decls.specs.Refusals.{Checked}
 use Rattle.core_tree.specs.declared.program.Core.{Core}
 use Rattle.heapsafe.proofs.Broken.{broken_said, untyped_line}
@@ -41,3 +41,6 @@ returns-in-Err-clause-memory g c =
 pub returns-in-Err-clause-cause : goal.returns-in-Err-clause-cause
 returns-in-Err-clause-cause g c =
     caused _ _ _ _ _ _ _ _ _ (λ h. inr (inr h)) (λ h. absurd (untyped_no_fault c.in-Err.error c.args.file.now c.args.text.now h)) c.refuse_types.ensures.says
+
+pub returns-in-Err-clause-refused : goal.returns-in-Err-clause-refused
+returns-in-Err-clause-refused g c = λ is. inl (refl, refl)

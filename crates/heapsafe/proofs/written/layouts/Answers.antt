@@ -1,4 +1,4 @@
-use Rattle.std.proofs.Common.{◌≡◌, Some, refl, sym, ap, ◌∙◌, inr}
+use Rattle.std.proofs.Common.{◌≡◌, Some, refl, sym, ap, ◌∙◌, inr, inl}
 use Rattle.c_tree.specs.StatementView.{unit_view}
 use Rattle.elaboration.specs.Elaboration.{tags_of}
 use Rattle.heapsafe.specs.Shown.{Shown, layouts_shown}
@@ -36,3 +36,6 @@ returns-in-Err-clause-memory g c =
 pub returns-in-Err-clause-cause : goal.returns-in-Err-clause-cause
 returns-in-Err-clause-cause g c =
     caused _ _ _ _ _ _ _ _ _ (λ h. inr h) (λ h. absurd (untyped_no_fault c.in-Err.error c.args.file.now c.args.text.now h)) c.refuse_types.ensures.says
+
+pub returns-in-Err-clause-refused : goal.returns-in-Err-clause-refused
+returns-in-Err-clause-refused g c = λ is. inl refl

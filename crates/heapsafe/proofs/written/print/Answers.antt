@@ -1,4 +1,4 @@
-use Rattle.std.proofs.Common.{◌≡◌, ◌∙◌, inr, refl, ap, sym}
+use Rattle.std.proofs.Common.{◌≡◌, ◌∙◌, inr, refl, ap, sym, inl}
 use Rattle.c_tree.specs.StatementView.{unit_view}
 use Rattle.heapsafe.specs.Shown.{Shown, printed, written, no_memory}
 use Rattle.heapsafe.proofs.Told.{gives_said, gives_same}
@@ -27,3 +27,6 @@ returns-in-Err-clause-memory g c = wanted _ _ no_memory _ _ _ _ _ refl (λ h. re
 
 pub returns-in-Err-clause-cause : goal.returns-in-Err-clause-cause
 returns-in-Err-clause-cause g c = caused _ _ _ _ _ _ 134 _ no_memory.err (λ h. inr h) (λ h. absurd (no_fault_134 h)) c.refuse.ensures.says
+
+pub returns-in-Err-clause-refused : goal.returns-in-Err-clause-refused
+returns-in-Err-clause-refused g c = λ is. inl refl
