@@ -1,0 +1,7 @@
+use Rattle.std.proofs.Common.{◌≡◌, ◌++◌, drop}
+use Rattle.c_pre.specs.Comments.{blanked}
+use Rattle.c_pre.specs.declared.comments.Mode.TheVariants.{Code}
+use Rattle.c_pre.proofs.comments.blanked.Given as goal
+
+abbrev pub invariant-loop-at : goal.invariant-loop-at
+invariant-loop-at l = l.plain.items ++ blanked l.mode (drop l.at l.text) ≡ blanked Code l.text
