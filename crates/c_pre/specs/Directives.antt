@@ -108,7 +108,6 @@ define_of rest (name ∷ behind) =
 
 -- the directive that does this with a name
 abbrev pub named_by : Naming → List ℕ → Directive
-named_by naming.Include name = Include name
 named_by naming.Undefine name = Undefine name
 named_by (naming.Group wanted) name = Group name wanted
 
@@ -121,7 +120,7 @@ alone directive (token ∷ tokens) = None
 unfoldable pub directive_by : List ℕ → List ℕ → List Token → Option Directive
 directive_by word rest args =
     if bytes_eq word (codes "define") then define_of rest args else
-    if bytes_eq word (codes "include") then option_map (named_by naming.Include) (include_of args) else
+    if bytes_eq word (codes "include") then option_map Include (include_of args) else
     if bytes_eq word (codes "undef") then option_map (named_by naming.Undefine) (only_name args) else
     if bytes_eq word (codes "ifdef") then option_map (named_by (naming.Group true)) (only_name args) else
     if bytes_eq word (codes "ifndef") then option_map (named_by (naming.Group false)) (only_name args) else

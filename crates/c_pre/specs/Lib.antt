@@ -1,8 +1,10 @@
 pub mod After
+pub mod Bytes
 pub mod Comments
 pub mod Directives
 pub mod Groups
 pub mod Lines
 pub mod Macros
 pub mod Reading
+pub mod Texts
 pub mod Words

@@ -131,7 +131,8 @@ fn shown(mode: Mode, next: Mode, byte: u8) -> u8
 
 /// A text with spaces in place of its comments. Each byte 10 is kept.
 pub(crate) fn blanked(alloc: Global, text: &[u8]) -> Result<Vec<u8>, NoMemory>
-    ensures { IfOk result (λ plain. plain.items ≡ blanked Mode.Code text.now) }
+    ensures bytes { IfOk result (λ plain. plain.items ≡ blanked Mode.Code text.now) }
+    ensures len { IfOk result (λ plain. length plain.items ≡ length text.now) }
 {
     let mut plain = Vec::new(alloc);
     let mut mode = Mode::Code;

@@ -1,6 +1,6 @@
 //! The forms of directives (C99 6.10).
 
-ghost use Rattle.std.specs.Prelude.{◌≡◌, [], option_map, IfOk};
+ghost use Rattle.std.specs.Prelude.{◌≡◌, [], true, option_map, IfOk, IfSome};
 ghost use Rattle.std.specs.List.{list_all};
 ghost use Rattle.c_pre.specs.Directives.{is_name, is_sign, is_among, only_name, is_path_byte, path_of, included_name, include_of, takes_arguments, names_from, signature_of, macro_behind, define_of, named_by, alone, directive_by, directive_of};
 
@@ -9,6 +9,7 @@ use crate::comments::begins_with;
 use crate::copies::{copied, copied_tokens};
 use crate::lines::behind_word;
 use crate::macros::Macro;
+use crate::text_name::TextName;
 use c_lexer::{Token, TokenKind};
 use hs_base::{Items, NoMemory};
 use std::alloc::Global;
@@ -19,7 +20,7 @@ pub(crate) enum Directive {
     /// A `#` alone.
     Empty,
     /// `#include "name"`.
-    Include(Items<u8>),
+    Include(TextName),
     Define(Macro),
     Undefine(Items<u8>),
     /// `#ifdef name` or `#ifndef name`, whose lines are read where this is whether the name is defined.
@@ -75,7 +76,8 @@ fn are_path_bytes(bytes: &[u8]) -> bool
 
 /// Some bytes, where they are the name of an included text: at least one, and only those that may stand in one.
 fn path_of(bytes: &[u8]) -> Option<&[u8]>
-    ensures { option_map (λ name. name.now) result ≡ path_of bytes.now }
+    ensures name { option_map (λ name. name.now) result ≡ path_of bytes.now }
+    ensures path { IfSome result (λ name. list_all is_path_byte name.now ≡ true) }
 {
     if !bytes.is_empty() && are_path_bytes(bytes) {
         Some(bytes)
@@ -86,7 +88,8 @@ fn path_of(bytes: &[u8]) -> Option<&[u8]>
 
 /// The name of a text between the quotes of a literal.
 fn included_name(literal: &[u8]) -> Option<&[u8]>
-    ensures { option_map (λ name. name.now) result ≡ included_name literal.now }
+    ensures name { option_map (λ name. name.now) result ≡ included_name literal.now }
+    ensures path { IfSome result (λ name. list_all is_path_byte name.now ≡ true) }
 {
     if literal.len() < 2 {
         return None;
@@ -96,7 +99,8 @@ fn included_name(literal: &[u8]) -> Option<&[u8]>
 
 /// The name of the text that an `#include` with these tokens behind it names.
 fn include_of(args: &[Token]) -> Option<&[u8]>
-    ensures { option_map (λ name. name.now) result ≡ include_of args.now }
+    ensures name { option_map (λ name. name.now) result ≡ include_of args.now }
+    ensures path { IfSome result (λ name. list_all is_path_byte name.now ≡ true) }
 {
     match args {
         [token] if token.kind == TokenKind::Str => included_name(token.bytes.as_slice()),
@@ -211,7 +215,6 @@ fn read_define(
 /// What a directive does with a name.
 #[derive(Clone, Copy)]
 pub(crate) enum Naming {
-    Include,
     Undefine,
     Group { defined: bool },
 }
@@ -229,10 +232,19 @@ fn with_name(
     };
     let name = copied(alloc, name)?;
     Ok(Some(match naming {
-        Naming::Include => Directive::Include(name),
         Naming::Undefine => Directive::Undefine(name),
         Naming::Group { defined } => Directive::Group { name, defined },
     }))
+}
+
+/// Reads what stands behind `include`.
+fn read_include(alloc: Global, args: &[Token]) -> Result<Option<Directive>, NoMemory>
+    ensures { IfOk result (λ directive. directive ≡ option_map Directive.Include (include_of args.now)) }
+{
+    match include_of(args) {
+        None => Ok(None),
+        Some(name) => Ok(Some(Directive::Include(TextName::from_path(alloc, name)?))),
+    }
 }
 
 /// A directive that has nothing behind its word.
@@ -259,7 +271,7 @@ fn read_by_word(
     if word == b"define".as_slice() {
         read_define(alloc, rest, args)
     } else if word == b"include".as_slice() {
-        with_name(alloc, Naming::Include, include_of(args))
+        read_include(alloc, args)
     } else if word == b"undef".as_slice() {
         with_name(alloc, Naming::Undefine, only_name(args))
     } else if word == b"ifdef".as_slice() {

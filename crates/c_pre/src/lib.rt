@@ -11,6 +11,10 @@ mod header;
 mod here;
 mod lines;
 mod macros;
+mod preprocessor;
 mod progress;
+mod reading;
+mod text_name;
 
 pub use answer::{Opened, Place, Pre, PreError, PreKind};
+pub use preprocessor::pre;

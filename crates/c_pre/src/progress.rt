@@ -12,6 +12,7 @@ use crate::header::include_end;
 use crate::here::Here;
 use crate::lines::{behind_spaces, directive_rest, first_word};
 use crate::macros::Macros;
+use crate::text_name::TextName;
 use c_lexer::{LexError, LexKind, Token, lex};
 use hs_base::{Items, Line, NoMemory};
 use std::alloc::Global;
@@ -111,7 +112,7 @@ impl Progress {
 
     /// Goes on behind a directive, and answers the name of the text that it includes, if it includes one.
     #[tactic(auto, unfolding(crate::specs::Reading::obeyed))]
-    fn obey(&mut self, here: &mut Here, directive: Directive) -> Result<Option<Items<u8>>, Refusal>
+    fn obey(&mut self, here: &mut Here, directive: Directive) -> Result<Option<TextName>, Refusal>
         ensures step { Steps (obeyed directive here.old self.old) here.new self.new result }
         ensures keeps { OnOk result (Keeps here.old here.new) }
         ensures counts { OnOk result (Counts self.old self.new) }
@@ -140,7 +141,7 @@ impl Progress {
         here: &mut Here,
         line: &[u8],
         rest: &[u8],
-    ) -> Result<Option<Items<u8>>, Refusal>
+    ) -> Result<Option<TextName>, Refusal>
         requires fits { Fits here.old (length line.now) }
         requires rest { length rest.now < 2 ^ 32 }
         ensures step { Steps (directed_from line.now rest.now here.old self.old) here.new self.new result }
@@ -164,7 +165,7 @@ impl Progress {
         here: &mut Here,
         line: &[u8],
         rest: &[u8],
-    ) -> Result<Option<Items<u8>>, Refusal>
+    ) -> Result<Option<TextName>, Refusal>
         requires fits { Fits here.old (length line.now) }
         requires rest { length rest.now < 2 ^ 32 }
         ensures step { Steps (directed line.now rest.now here.old self.old) here.new self.new result }
@@ -182,7 +183,7 @@ impl Progress {
         alloc: Global,
         here: &mut Here,
         line: &[u8],
-    ) -> Result<Option<Items<u8>>, Refusal>
+    ) -> Result<Option<TextName>, Refusal>
         requires { Fits here.old (length line.now) }
         ensures step { Steps (line_read line.now here.old self.old) here.new self.new result }
         ensures stays { OnOk result (Stays here.old here.new (length line.now)) }

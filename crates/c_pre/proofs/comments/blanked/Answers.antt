@@ -9,9 +9,9 @@ loop-at-preserved c =
     let text = c.args.text.now in let at = c.loop-at.at in let b = get_or text at 0 in
     let next = next_mode c.loop-at.mode b (drop (at + 1) text) in
     let e : blanked c.loop-at.mode (drop at text) ≡ shown c.loop-at.mode next b ∷ blanked next (drop (at + 1) text) = at_drop_more (blanked c.loop-at.mode) text at 0 c.loop-at-test.true in
-    grind (arith, common_steps, append_assoc)
+    record { bytes = grind (arith, common_steps, append_assoc); len = grind (arith, common_steps) }
 
-pub returns : goal.returns
-returns c =
+pub returns-clause-bytes : goal.returns-clause-bytes
+returns-clause-bytes c =
     let e = at_drop_all (blanked c.loop-at.mode) c.args.text.now c.loop-at.at c.loop-at-test.false in
     grind (arith, common_steps)
