@@ -1,5 +1,5 @@
 -- What is left of a text, one line further.
-use Rattle.std.proofs.Common.{◌≡◌, ℕ, zero, suc, ◌+◌, ◌-◌, ◌<◌, ◌≤◌, List, [], ◌∷◌, length, take, drop, Option, Some, None, Result, Ok, Err, refl, sym, ap, ◌∙◌, subst}
+use Rattle.std.proofs.Common.{◌≡◌, ℕ, zero, suc, ◌+◌, ◌-◌, ◌<◌, ◌≤◌, List, [], ◌∷◌, length, take, drop, Option, Some, Result, Ok, Err, refl, sym, ap, ◌∙◌}
 use Rattle.c_pre.specs.After.{Leaves}
 use Rattle.c_pre.specs.Lines.{line_length, lines_of}
 use Rattle.c_pre.specs.Reading.{and_then, first_of, Step, Steps, line_read, text_ended}

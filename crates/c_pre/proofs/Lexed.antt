@@ -1,5 +1,5 @@
 -- The lexer gives the answer of its definition, whose lines are within the text.
-use Rattle.std.proofs.Common.{◌≡◌, ℕ, zero, suc, ◌+◌, ◌-◌, ◌≤◌, ◌==◌, cond, true, false, List, [], ◌∷◌, length, take, drop, All, Result, Ok, Err, ◌⊎◌, inl, inr, sym, subst, arith, length-take, length-drop, refl}
+use Rattle.std.proofs.Common.{◌≡◌, ℕ, zero, suc, ◌+◌, ◌≤◌, List, [], ◌∷◌, length, take, drop, All, Result, Ok, Err, ◌⊎◌, inl, inr, sym, subst, arith, length-take, length-drop, refl}
 use Rattle.std.proofs.lemmas.Bool.Decides.{nat_tests}
 use Rattle.c_lexer.specs.Tokens.{first_place, next_place, behind, IsCut, answer_with, answer_of, IsOnlyAnswer}
 use Rattle.c_lexer.specs.Readers.{pieces_from}

@@ -1,6 +1,6 @@
 -- Comments become spaces before anything else is read (C99 5.1.1.2 and 6.4.9). In this search a literal that no quote
 -- closes ends with its line.
-use Rattle.std.specs.Prelude.{ℕ, suc, ◌+◌, Bool, true, false, ◌==◌, ◌||◌, ◌&&◌, if◌then◌else◌, List, [], ◌∷◌, Option, Some, None}
+use Rattle.std.specs.Prelude.{ℕ, ◌+◌, Bool, true, false, ◌==◌, ◌||◌, ◌&&◌, if◌then◌else◌, List, [], ◌∷◌, Option, Some, None}
 use Rattle.c_pre.specs.declared.comments.Mode.{Mode}
 use Rattle.c_pre.specs.declared.comments.Mode.TheVariants.{Code, Quoted, Escaped, LineComment, Opened, Inside}
 

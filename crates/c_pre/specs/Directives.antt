@@ -1,5 +1,5 @@
 -- The forms of directives (C99 6.10, narrowed).
-use Rattle.std.specs.Prelude.{ℕ, ◌+◌, ◌-◌, Bool, true, false, not, ◌==◌, ◌||◌, ◌&&◌, bytes_eq, if◌then◌else◌, List, [], ◌∷◌, ◌++◌, length, take, drop, Option, Some, None, option_map, codes}
+use Rattle.std.specs.Prelude.{ℕ, ◌-◌, Bool, true, false, not, ◌==◌, ◌||◌, ◌&&◌, bytes_eq, if◌then◌else◌, List, [], ◌∷◌, ◌++◌, length, take, drop, Option, Some, None, option_map, codes}
 use Rattle.std.specs.List.{list_all, list_any}
 use Rattle.c_lexer.specs.Bytes.{is_name_byte}
 use Rattle.c_lexer.specs.declared.token.Token.{Token}

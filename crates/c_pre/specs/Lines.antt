@@ -1,5 +1,5 @@
 -- Lines, each with its byte 10, and which of them are directives (C99 5.1.1.2 and 6.10).
-use Rattle.std.specs.Prelude.{ℕ, ◌+◌, Bool, ◌==◌, nat_lt, if◌then◌else◌, List, [], ◌∷◌, length, take, drop, Option, Some, None}
+use Rattle.std.specs.Prelude.{ℕ, ◌+◌, ◌==◌, nat_lt, if◌then◌else◌, List, [], ◌∷◌, length, take, drop, Option, Some, None}
 use Rattle.std.specs.List.{prefix_len}
 use Rattle.c_lexer.specs.Bytes.{is_space, is_name_byte}
 use Rattle.c_lexer.specs.Gaps.{is_on_line}

@@ -3,9 +3,8 @@ use Rattle.std.specs.Prelude.{◌≡◌, ℕ, zero, suc, ◌+◌, ◌*◌, ◌�
 use Rattle.c_lexer.specs.declared.token.LexKind.TheVariants.{OpenComment}
 use Rattle.c_pre.specs.Comments.{blanked, open_comment}
 use Rattle.c_pre.specs.Lines.{lines_of}
-use Rattle.c_pre.specs.Reading.{and_then, first_of, Step, line_read, text_ended}
+use Rattle.c_pre.specs.Reading.{and_then, first_of, line_read, text_ended}
 use Rattle.c_pre.specs.declared.comments.Mode.TheVariants.{Code}
-use Rattle.c_pre.specs.declared.answer.Opened.{Opened}
 use Rattle.c_pre.specs.declared.answer.Place.{Place}
 use Rattle.c_pre.specs.declared.answer.Pre.{Pre}
 use Rattle.c_pre.specs.declared.answer.PreKind.TheVariants as kind

@@ -87,9 +87,7 @@ fn next_mode(mode: Mode, byte: u8, rest: &[u8]) -> Mode
             if star && byte == b'/' {
                 Mode::Code
             } else {
-                Mode::Inside {
-                    star: byte == b'*',
-                }
+                Mode::Inside { star: byte == b'*' }
             }
         }
     }

@@ -193,11 +193,7 @@ fn read_macro(
 }
 
 /// Reads what stands behind `define`: the tokens, and the whole rest of the line for the byte behind the name.
-fn read_define(
-    alloc: Global,
-    rest: &[u8],
-    args: &[Token],
-) -> Result<Option<Directive>, NoMemory>
+fn read_define(alloc: Global, rest: &[u8], args: &[Token]) -> Result<Option<Directive>, NoMemory>
     ensures { IfOk result (λ directive. directive ≡ define_of rest.now args.now) }
 {
     match args {

@@ -17,4 +17,7 @@ mod reading;
 mod text_name;
 
 pub use answer::{Opened, Place, Pre, PreError, PreKind};
-pub use preprocessor::pre;
+pub use preprocessor::read_directives;
+
+#[cfg(test)]
+mod tests;

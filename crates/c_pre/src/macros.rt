@@ -114,7 +114,10 @@ impl Macros {
     {
         match self.find(it.name.as_slice()) {
             Some(before) if same_macro(before, &it) => Ok(()),
-            Some(_) => Err(Refusal::Bad { kind: PreKind::Redefined, line }),
+            Some(_) => Err(Refusal::Bad {
+                kind: PreKind::Redefined,
+                line,
+            }),
             None => {
                 self.list.push(it)?;
                 Ok(())

@@ -199,15 +199,16 @@ impl Progress {
     }
 }
 
-/// The tokens of a text and of all texts that it includes, with their directives obeyed. Macro names are not replaced
-/// yet. So many bytes were read before the call, and all texts may have 1,048,576 together.
+/// The tokens of a text and of all texts that it includes, with their directives obeyed. Macros are defined, for `#ifdef`
+/// and `#ifndef`, but their names are not replaced. So many bytes were read before the call, and all texts may have
+/// 1,048,576 together.
 ///
 /// # Errors
 ///
 /// [`PreError::Bad`] and [`PreError::Lex`] at the first line that is refused, [`PreError::Fault`] exactly where the texts
 /// failed, [`PreError::TooLong`] exactly where one byte too many was read, and [`PreError::NoMemory`] only for want of
 /// memory.
-pub fn pre<T: Texts>(
+pub fn read_directives<T: Texts>(
     alloc: Global,
     texts: &mut T,
     file: &str,

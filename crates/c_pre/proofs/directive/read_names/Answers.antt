@@ -1,4 +1,3 @@
-use Rattle.std.proofs.Common.{◌≡◌, sym, ◌∙◌}
 use Rattle.c_pre.proofs.Forms.{names_turn}
 use Rattle.c_pre.proofs.directive.read_names.Goals as goal
 

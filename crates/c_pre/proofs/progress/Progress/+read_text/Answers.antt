@@ -1,4 +1,4 @@
-use Rattle.std.proofs.Common.{◌≡◌, ℕ, suc, ◌+◌, ◌-◌, ◌<◌, List, length, take, drop, Some, None, refl, sym, ap, ◌∙◌, arith}
+use Rattle.std.proofs.Common.{ℕ, ◌+◌, ◌-◌, ◌<◌, List, length, take, drop, Some, None, sym, ap, ◌∙◌, arith}
 use Rattle.std.proofs.lemmas.Result.{err_from_is_err_and}
 use Rattle.c_pre.specs.Lines.{lines_of}
 use Rattle.c_pre.specs.Texts.{below}
@@ -67,26 +67,26 @@ lines-preserved g t c =
     let lines = lines_of (drop (c.lines.at + length line) s.plain) in
     let rest = ap (λ (w : List ℕ). take (length w - c.lines.at) (drop c.lines.at w)) c.as_slice.ensures in
     elim c.match-include.branch [
-      in-Some+else-left-eq0+in_ok-read_text w ↦
-      let done = w.in_ok-read_text.ensures in
-      record {
-        told = λ told h.
-            let include = below told c.args.left in
-            let i = reached include s line _ c.lines.at c.lines.here c.lines.self _ inside rest l.ensures.line l.ensures.len (c.lines.invariant.told told h) in
-            let d = line_done include s line lines c.lines.here c.read_line.new.here c.lines.self c.read_line.new.self _ (Some w.in-Some.name) i (rw w.in-Some.is at c.in-Ok.ensures.step) in
-            rw w.self-is (include_done told c.args.left (c.args.left - 1) s lines c.read_line.new.here c.read_line.new.self w.read_text.new.self _ w.in-Some.name (omega (arith, w.if-left-eq0.false)) d (done.told told (c.lines.invariant.keeps ∙ h)));
-        keeps = ap g.T.Texts.texts w.texts-is ∙ (done.keeps ∙ c.lines.invariant.keeps);
-        count = ap g.T.Texts.faults w.texts-is ∙ (done.cause ∙ c.lines.invariant.count);
-        within = within;
-        base = stays.base ∙ c.lines.invariant.base;
-        line = omega (arith, stays.line, c.lines.invariant.line, some);
-        run_line = omega (arith, stays.run_line, stays.line);
-        run = omega (arith, stays.run, c.lines.invariant.run);
-        most = omega (arith, ap (λ (p : Progress). p.used) w.self-is, done.grows.most);
-        used = omega (arith, ap (λ (p : Progress). p.used) w.self-is, done.grows.used, counts.used, c.lines.invariant.used);
-        lines = omega (arith, ap (λ (p : Progress). p.used) w.self-is, ap (λ (p : Progress). p.lines) w.self-is, done.grows.lines, counts.used, counts.lines, c.lines.invariant.lines, within, some);
-      }
-    | in_default w ↦ record {
+      | in-Some+else-left-eq0+in_ok-read_text w ↦
+          let done = w.in_ok-read_text.ensures in
+          record {
+            told = λ told h.
+                let include = below told c.args.left in
+                let i = reached include s line _ c.lines.at c.lines.here c.lines.self _ inside rest l.ensures.line l.ensures.len (c.lines.invariant.told told h) in
+                let d = line_done include s line lines c.lines.here c.read_line.new.here c.lines.self c.read_line.new.self _ (Some w.in-Some.name) i (rw w.in-Some.is at c.in-Ok.ensures.step) in
+                rw w.self-is (include_done told c.args.left (c.args.left - 1) s lines c.read_line.new.here c.read_line.new.self w.read_text.new.self _ w.in-Some.name (omega (arith, w.if-left-eq0.false)) d (done.told told (c.lines.invariant.keeps ∙ h)));
+            keeps = ap g.T.Texts.texts w.texts-is ∙ (done.keeps ∙ c.lines.invariant.keeps);
+            count = ap g.T.Texts.faults w.texts-is ∙ (done.cause ∙ c.lines.invariant.count);
+            within = within;
+            base = stays.base ∙ c.lines.invariant.base;
+            line = omega (arith, stays.line, c.lines.invariant.line, some);
+            run_line = omega (arith, stays.run_line, stays.line);
+            run = omega (arith, stays.run, c.lines.invariant.run);
+            most = omega (arith, ap (λ (p : Progress). p.used) w.self-is, done.grows.most);
+            used = omega (arith, ap (λ (p : Progress). p.used) w.self-is, done.grows.used, counts.used, c.lines.invariant.used);
+            lines = omega (arith, ap (λ (p : Progress). p.used) w.self-is, ap (λ (p : Progress). p.lines) w.self-is, done.grows.lines, counts.used, counts.lines, c.lines.invariant.lines, within, some);
+          }
+      | in_default w ↦ record {
         told = λ told h.
             let include = below told c.args.left in
             let i = reached include s line _ c.lines.at c.lines.here c.lines.self _ inside rest l.ensures.line l.ensures.len (c.lines.invariant.told told h) in

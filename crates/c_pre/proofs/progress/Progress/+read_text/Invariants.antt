@@ -1,7 +1,6 @@
 use Rattle.std.proofs.Common.{◌≡◌, ℕ, ◌+◌, ◌-◌, ◌*◌, ◌≤◌, List, Some, length, drop}
 use Rattle.c_pre.specs.Lines.{lines_of}
 use Rattle.c_pre.specs.Texts.{most_bytes, below, lines_read, source_read}
-use Rattle.c_pre.proofs.LinesOf.{lines_first}
 use Rattle.c_pre.proofs.progress.Progress.+read_text.Given as goal
 
 abbrev pub decreases-read_text : goal.decreases-read_text
