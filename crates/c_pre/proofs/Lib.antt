@@ -6,3 +6,4 @@ pub mod Pieces
 pub mod LinesOf
 pub mod Including
 pub mod Places
+pub mod Left

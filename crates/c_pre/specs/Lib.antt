@@ -2,6 +2,7 @@ pub mod After
 pub mod Bytes
 pub mod Comments
 pub mod Directives
+pub mod Expansion
 pub mod Groups
 pub mod Lines
 pub mod Macros

@@ -30,21 +30,21 @@ pub(crate) enum Directive {
 }
 
 /// Whether a token is a name, and no keyword.
-fn is_name(token: &Token) -> bool
+pub(crate) fn is_name(token: &Token) -> bool
     ensures { result ≡ is_name token.now }
 {
     token.kind == TokenKind::Name
 }
 
 /// Whether a token is this sign of one byte.
-fn is_sign(sign: u8, token: &Token) -> bool
+pub(crate) fn is_sign(sign: u8, token: &Token) -> bool
     ensures { result ≡ is_sign sign token.now }
 {
     token.bytes.as_slice() == [sign].as_slice()
 }
 
 /// Whether a name is one of these.
-fn is_among(names: &[Items<u8>], name: &[u8]) -> bool
+pub(crate) fn is_among(names: &[Items<u8>], name: &[u8]) -> bool
     ensures { result ≡ is_among names.now name.now }
 {
     names.iter().any(|held| held.as_slice() == name)

@@ -3,6 +3,7 @@
 
 mod answer;
 mod bytes;
+mod calls;
 mod comments;
 mod copies;
 mod directive;
@@ -11,9 +12,13 @@ mod header;
 mod here;
 mod lines;
 mod macros;
+mod marked;
 mod preprocessor;
 mod progress;
+mod queue;
 mod reading;
+mod scan;
+mod substitute;
 mod text_name;
 
 pub use answer::{Opened, Place, Pre, PreError, PreKind};
