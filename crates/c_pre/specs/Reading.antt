@@ -10,11 +10,14 @@ use Rattle.c_lexer.specs.declared.token.LexError.TheVariants as lex
 use Rattle.c_pre.specs.After.{at_line}
 use Rattle.c_pre.specs.Comments.{begins_with}
 use Rattle.c_pre.specs.Lines.{behind_spaces, first_word, directive_rest}
+use Rattle.c_pre.specs.Expansion.{expanded}
 use Rattle.c_pre.specs.Groups.{is_live, first_line, opened, turned, closed, skipped}
 use Rattle.c_pre.specs.Macros.{found, defined, without}
 use Rattle.c_pre.specs.Directives.{directive_of}
 use Rattle.c_pre.specs.declared.groups.Group.{Group}
 use Rattle.c_pre.specs.declared.macros.Macro.{Macro}
+use Rattle.c_pre.specs.declared.marked.Marked.{Marked}
+use Rattle.c_pre.specs.declared.scan.Expanded.{Expanded}
 use Rattle.c_pre.specs.declared.directive.Directive.{Directive}
 use Rattle.c_pre.specs.declared.directive.Directive.TheVariants as directive
 use Rattle.c_pre.specs.declared.answer.PreKind.TheVariants as kind
@@ -40,10 +43,21 @@ rest_lexed rest = if begins_with 35 (behind_spaces rest) then Err (lex.Bad BadBy
 abbrev pub moved : ℕ → Token → Token
 moved lines token = record { line = lines + token.line; kind = token.kind; bytes = token.bytes }
 
--- with the tokens of a run of text lines behind those before, or the line of its first bad place
+-- a token without what is hidden from it
+abbrev pub plain : Marked → Token
+plain m = m.token
+
+-- with the tokens of a run, its macros replaced, behind those before, or its refusal, whose line is counted in its text
+abbrev pub with_expanded : ℕ → Progress → Result Expanded Refusal → Result Progress Refusal
+with_expanded base p (Ok e) = Ok (record p { tokens = p.tokens ++ map plain e.tokens; work = e.work })
+with_expanded base p (Err (Bad kind line)) = Err (Bad kind (line - base))
+with_expanded base p (Err (Lex kind line)) = Err (Lex kind (line - base))
+with_expanded base p (Err NoMemory) = Err NoMemory
+
+-- with the tokens of a run of text lines, or the line of its first bad place
 abbrev pub with_run : Here → Progress → Result (List Token) LexError → Result Progress Refusal
 with_run here p (Ok tokens) =
-    Ok (record p { tokens = p.tokens ++ map (moved (here.base + (here.run_line - 1))) tokens })
+    with_expanded here.base p (expanded p.macros (map (moved (here.base + (here.run_line - 1))) tokens) p.work)
 with_run here p (Err (lex.Bad kind line)) = Err (Lex kind (here.run_line - 1 + line))
 with_run here p (Err lex.NoMemory) = Err NoMemory
 

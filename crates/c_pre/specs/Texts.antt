@@ -101,7 +101,7 @@ below told (suc left) at name p = text_read (below told left) name (told name) p
 
 -- before anything is read but so many bytes
 abbrev pub nothing : ℕ → Progress
-nothing used = record { tokens = []; texts = []; lines = 0; used = used; macros = [] }
+nothing used = record { tokens = []; texts = []; lines = 0; used = used; macros = []; work = 0 }
 
 -- the tokens and texts of what was read
 abbrev pub answer_of : Result Progress PreError → Result Pre PreError

@@ -22,7 +22,7 @@ mod substitute;
 mod text_name;
 
 pub use answer::{Opened, Place, Pre, PreError, PreKind};
-pub use preprocessor::read_directives;
+pub use preprocessor::pre;
 
 #[cfg(test)]
 mod tests;

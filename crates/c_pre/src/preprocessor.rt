@@ -199,16 +199,15 @@ impl Progress {
     }
 }
 
-/// The tokens of a text and of all texts that it includes, with their directives obeyed. Macros are defined, for `#ifdef`
-/// and `#ifndef`, but their names are not replaced. So many bytes were read before the call, and all texts may have
-/// 1,048,576 together.
+/// The tokens of a text and of all texts that it includes, with their directives obeyed and their macros replaced. So many
+/// bytes were read before the call, and all texts may have 1,048,576 together.
 ///
 /// # Errors
 ///
 /// [`PreError::Bad`] and [`PreError::Lex`] at the first line that is refused, [`PreError::Fault`] exactly where the texts
 /// failed, [`PreError::TooLong`] exactly where one byte too many was read, and [`PreError::NoMemory`] only for want of
 /// memory.
-pub fn read_directives<T: Texts>(
+pub fn pre<T: Texts>(
     alloc: Global,
     texts: &mut T,
     file: &str,
@@ -227,6 +226,7 @@ pub fn read_directives<T: Texts>(
         lines: 0,
         used,
         macros: Macros::new(alloc),
+        work: 0,
     };
     progress.read_text(alloc, texts, name, MOST_DEPTH - 1)?;
     let Progress {

@@ -2,7 +2,8 @@
 
 ghost use Rattle.std.specs.Prelude.{◌≡◌, ℕ, ◌+◌, ◌-◌, ◌<◌, ◌≤◌, ◌^◌, ◌++◌, All, IfOk, OnOk, length, map};
 ghost use Rattle.c_pre.specs.After.{Answers, Leaves, at_line};
-ghost use Rattle.c_pre.specs.Reading.{lexed, rest_lexed, moved, with_run, run_ended, behind_line, at_header, with_text, obeyed, directive_on, directed_from, directed, passed, line_read, text_ended, GivesLexed, Steps, Keeps, Stays, Counts, Fits};
+ghost use Rattle.c_pre.specs.Expansion.{expanded};
+ghost use Rattle.c_pre.specs.Reading.{lexed, rest_lexed, moved, plain, with_expanded, with_run, run_ended, behind_line, at_header, with_text, obeyed, directive_on, directed_from, directed, passed, line_read, text_ended, GivesLexed, Steps, Keeps, Stays, Counts, Fits};
 
 use crate::answer::{Opened, PreKind, Refusal};
 use crate::comments::begins_with;
@@ -12,6 +13,8 @@ use crate::header::include_end;
 use crate::here::Here;
 use crate::lines::{behind_spaces, directive_rest, first_word};
 use crate::macros::Macros;
+use crate::marked::Marked;
+use crate::scan::{Expanded, expand};
 use crate::text_name::TextName;
 use c_lexer::{LexError, LexKind, Token, lex};
 use hs_base::{Items, Line, NoMemory};
@@ -29,6 +32,8 @@ pub(crate) struct Progress {
     pub(crate) used: u32,
     /// The macros that are defined.
     pub(crate) macros: Macros,
+    /// The work that replacing macros took.
+    pub(crate) work: u32,
 }
 
 /// The tokens of some text lines.
@@ -88,7 +93,46 @@ fn append(to: &mut Items<Token>, tokens: Items<Token>, lines: Line) -> Result<()
     Ok(())
 }
 
+/// Puts tokens behind others, without what is hidden from them.
+fn append_plain(to: &mut Items<Token>, tokens: Items<Marked>) -> Result<(), NoMemory>
+    ensures { OnOk result (to.new ≡ to.old ++ map plain tokens) }
+{
+    for marked in tokens.into_vec() {
+        let Marked { token, .. } = marked;
+        to.push(token)?;
+    }
+    Ok(())
+}
+
 impl Progress {
+    /// Replaces the macros of a run and takes its tokens.
+    fn replace_macros(
+        &mut self,
+        alloc: Global,
+        base: Line,
+        tokens: Items<Token>,
+    ) -> Result<(), Refusal>
+        ensures run { Leaves (with_expanded base self.old (expanded self.old.macros tokens self.old.work)) self.new result }
+        ensures counts { OnOk result (Counts self.old self.new) }
+    {
+        match expand(alloc, &self.macros, tokens, self.work) {
+            Ok(Expanded { tokens, work }) => {
+                self.work = work;
+                append_plain(&mut self.tokens, tokens)?;
+                Ok(())
+            }
+            Err(Refusal::Bad { kind, line }) => Err(Refusal::Bad {
+                kind,
+                line: line.saturating_sub(base),
+            }),
+            Err(Refusal::Lex { kind, line }) => Err(Refusal::Lex {
+                kind,
+                line: line.saturating_sub(base),
+            }),
+            Err(Refusal::NoMemory) => Err(Refusal::NoMemory),
+        }
+    }
+
     /// Ends the run of text lines since the last directive.
     #[tactic(auto, unfolding(crate::specs::Reading::run_ended))]
     fn end_run(&mut self, alloc: Global, here: &Here) -> Result<(), Refusal>
@@ -99,8 +143,9 @@ impl Progress {
         let above = here.run_line.saturating_sub(1);
         match read_tokens(alloc, here.run.as_slice()) {
             Ok(tokens) => {
-                append(&mut self.tokens, tokens, here.base + above)?;
-                Ok(())
+                let mut moved = Items::new(alloc);
+                append(&mut moved, tokens, here.base + above)?;
+                self.replace_macros(alloc, here.base, moved)
             }
             Err(LexError::Bad { kind, line }) => Err(Refusal::Lex {
                 kind,

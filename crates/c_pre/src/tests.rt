@@ -2,7 +2,7 @@
 
 ghost use Rattle.std.specs.Prelude.{◌≡◌, IfOk};
 
-use crate::{Pre, PreError, read_directives};
+use crate::{Pre, PreError, pre};
 use hs_base::{Items, MemTexts};
 use std::alloc::{AllocError, Global};
 use std::test::Fail;
@@ -147,7 +147,7 @@ fn single_texts(rt: HostRuntime) -> Result<(), Fail> {
     ];
     for (text, expected) in rows {
         let mut held = texts(alloc, &[("a.c", text)], &[])?;
-        let answer = read_directives(alloc, &mut held, "a.c", 0);
+        let answer = pre(alloc, &mut held, "a.c", 0);
         let found = shown(alloc, &answer)?;
         assert_eq!(rt; found.as_slice(), expected.as_bytes(), "{text:?}");
     }
@@ -183,7 +183,7 @@ fn comments(rt: HostRuntime) -> Result<(), Fail> {
     ];
     for (text, expected) in rows {
         let mut held = texts(alloc, &[("a.c", text)], &[])?;
-        let answer = read_directives(alloc, &mut held, "a.c", 0);
+        let answer = pre(alloc, &mut held, "a.c", 0);
         let found = shown(alloc, &answer)?;
         assert_eq!(rt; found.as_slice(), expected.as_bytes(), "{text:?}");
     }
@@ -234,7 +234,7 @@ fn includes(rt: HostRuntime) -> Result<(), Fail> {
     ];
     for (named, expected) in rows {
         let mut held = texts(alloc, named, &[])?;
-        let answer = read_directives(alloc, &mut held, "a.c", 0);
+        let answer = pre(alloc, &mut held, "a.c", 0);
         let found = shown(alloc, &answer)?;
         assert_eq!(rt; found.as_slice(), expected.as_bytes());
     }
@@ -265,11 +265,11 @@ fn depth(rt: HostRuntime) -> Result<(), Fail> {
         ("17", "x"),
     ];
     let mut held = texts(alloc, &chain, &[])?;
-    let answer = read_directives(alloc, &mut held, "1", 0);
+    let answer = pre(alloc, &mut held, "1", 0);
     let found = shown(alloc, &answer)?;
     assert_eq!(rt; found.as_slice(), b"too deep 16:2".as_slice());
     let mut held = texts(alloc, &chain, &[])?;
-    let answer = read_directives(alloc, &mut held, "2", 0);
+    let answer = pre(alloc, &mut held, "2", 0);
     let opened = match answer {
         Ok(pre) => pre.texts.len(),
         Err(_) => 0,
@@ -293,7 +293,7 @@ fn bytes_and_faults(rt: HostRuntime) -> Result<(), Fail> {
     ];
     for (fails, before, expected, used) in rows {
         let mut held = texts(alloc, named, fails)?;
-        let answer = read_directives(alloc, &mut held, "a.c", before);
+        let answer = pre(alloc, &mut held, "a.c", before);
         let found = shown(alloc, &answer)?;
         assert_eq!(rt; found.as_slice(), expected.as_bytes());
         let read = match answer {
@@ -303,7 +303,7 @@ fn bytes_and_faults(rt: HostRuntime) -> Result<(), Fail> {
         assert_eq!(rt; read, used);
     }
     let mut held = texts(alloc, named, &[3])?;
-    let answer = read_directives(alloc, &mut held, "a.c", 0);
+    let answer = pre(alloc, &mut held, "a.c", 0);
     let found = shown(alloc, &answer)?;
     assert_eq!(rt; found.as_slice(), b"fault b".as_slice());
     Ok(())
