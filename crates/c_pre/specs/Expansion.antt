@@ -137,7 +137,7 @@ abbrev pub called : Marked → List (List ℕ) → Option Split → Scan → Nex
 called t parameters None s = Stops (Bad kind.Arguments t.token.line)
 called t parameters (Some split) s =
     if fits parameters split.args then
-        Goes (begun t (both t.hidden split.hidden ++ t.token.bytes ∷ []) split s)
+    Goes (begun t (both t.hidden split.hidden ++ t.token.bytes ∷ []) split s)
     else Stops (Bad kind.Arguments t.token.line)
 
 -- a token is done

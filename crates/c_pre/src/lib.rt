@@ -25,4 +25,6 @@ pub use answer::{Opened, Place, Pre, PreError, PreKind};
 pub use preprocessor::pre;
 
 #[cfg(test)]
+mod macro_tests;
+#[cfg(test)]
 mod tests;

@@ -207,12 +207,7 @@ impl Progress {
 /// [`PreError::Bad`] and [`PreError::Lex`] at the first line that is refused, [`PreError::Fault`] exactly where the texts
 /// failed, [`PreError::TooLong`] exactly where one byte too many was read, and [`PreError::NoMemory`] only for want of
 /// memory.
-pub fn pre<T: Texts>(
-    alloc: Global,
-    texts: &mut T,
-    file: &str,
-    used: u32,
-) -> Result<Pre, PreError>
+pub fn pre<T: Texts>(alloc: Global, texts: &mut T, file: &str, used: u32) -> Result<Pre, PreError>
     requires count { T.faults texts.old + 1 < 2 ^ 64 }
     requires used { used ≤ most_bytes }
     ensures told { (told : List ℕ → List ℕ) → T.texts texts.old ≡ Some told → Gives (preprocessed told file.now used) result }

@@ -1,6 +1,6 @@
 //! What stands in place of a macro.
 
-ghost use Rattle.std.specs.Prelude.{◌≡◌, ◌<◌, ◌≤◌, ◌++◌, [], IfOk, OnOk, length, map, slice_get, unwrap_or, MatchOption};
+ghost use Rattle.std.specs.Prelude.{◌≡◌, ℕ, ◌<◌, ◌≤◌, List, nat_lt, ◌++◌, [], IfOk, OnOk, length, map, slice_get, unwrap_or, MatchOption};
 ghost use Rattle.c_pre.specs.Expansion.{put_on, place_of, part_by, parameters_of, replaced};
 
 use crate::macros::Macro;
@@ -32,13 +32,7 @@ fn add_tokens(
     ensures { OnOk result (to.new ≡ to.old ++ map (put_on line names.now) tokens.now) }
 {
     for marked in tokens {
-        to.push(put_on(
-            alloc,
-            line,
-            names,
-            &marked.token,
-            marked.hidden.as_slice(),
-        )?)?;
+        to.push(put_on(alloc, line, names, &marked.token, marked.hidden.as_slice())?)?;
     }
     Ok(())
 }
@@ -81,6 +75,33 @@ fn parameters_of(it: &Macro) -> &[Items<u8>]
     }
 }
 
+/// How many tokens stand in place of one token of a macro.
+fn part_length(parameters: &[Items<u8>], expanded: &[Items<Marked>], token: &Token) -> usize
+    ensures { result ≡ length (part_by expanded.now token.now (place_of parameters.now token.now.bytes)) }
+{
+    match place_of(parameters, token.bytes.as_slice()) {
+        Some(place) => argument(expanded, place).len(),
+        None => 1,
+    }
+}
+
+/// Whether more than so many tokens stand in place of a macro. Nothing is made for that, so that no memory is taken for
+/// what is refused.
+fn passes(expanded: &[Items<Marked>], it: &Macro, most: usize) -> bool
+    ensures { (line : ℕ) (names : List (List ℕ)) → result ≡ nat_lt most (length (replaced line names expanded.now it.now)) }
+{
+    let parameters = parameters_of(it);
+    let mut room = most;
+    for token in it.replacement.as_slice() {
+        let count = part_length(parameters, expanded, token);
+        if count > room {
+            return true;
+        }
+        room -= count;
+    }
+    false
+}
+
 /// What stands in place of a macro, on a line, with names hidden from it, unless it has more than so many tokens.
 pub(crate) fn replaced(
     alloc: Global,
@@ -92,13 +113,13 @@ pub(crate) fn replaced(
 ) -> Result<Option<Items<Marked>>, NoMemory>
     ensures { IfOk result (λ found. MatchOption found (most < length (replaced line names.now expanded.now it.now)) (λ tokens. (tokens ≡ replaced line names.now expanded.now it.now) × (length tokens ≤ most))) }
 {
+    if passes(expanded, it, most) {
+        return Ok(None);
+    }
     let parameters = parameters_of(it);
     let mut tokens = Items::new(alloc);
     for token in it.replacement.as_slice() {
         add_part(alloc, &mut tokens, line, names, parameters, expanded, token)?;
-        if tokens.len() > most {
-            return Ok(None);
-        }
     }
     Ok(Some(tokens))
 }

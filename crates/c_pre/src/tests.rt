@@ -8,7 +8,7 @@ use std::alloc::{AllocError, Global};
 use std::test::Fail;
 
 /// Texts by name.
-type Named<'a> = &'a [(&'a str, &'a str)];
+pub(crate) type Named<'a> = &'a [(&'a str, &'a str)];
 
 /// Bytes as a list.
 fn bytes(alloc: Global, text: &str) -> Result<Items<u8>, Fail> {
@@ -16,7 +16,7 @@ fn bytes(alloc: Global, text: &str) -> Result<Items<u8>, Fail> {
 }
 
 /// These texts. The calls with these numbers fail.
-fn texts(alloc: Global, named: Named<'_>, fails: &[u64]) -> Result<MemTexts, Fail>
+pub(crate) fn texts(alloc: Global, named: Named<'_>, fails: &[u64]) -> Result<MemTexts, Fail>
     ensures { IfOk result (λ texts. texts.plan.faults ≡ 0) }
 {
     let mut list = Items::new(alloc);
@@ -34,7 +34,7 @@ fn add_place(out: &mut Vec<u8>, name: &[u8], line: u32) -> Result<(), AllocError
 }
 
 /// An answer in one line: each token with its line, and then the texts with their bases; or what is refused.
-fn shown(alloc: Global, answer: &Result<Pre, PreError>) -> Result<Vec<u8>, AllocError> {
+pub(crate) fn shown(alloc: Global, answer: &Result<Pre, PreError>) -> Result<Vec<u8>, AllocError> {
     let mut out = Vec::new(alloc);
     match answer {
         Ok(pre) => {
