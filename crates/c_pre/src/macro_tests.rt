@@ -1,9 +1,10 @@
 //! Texts with macros. What the first test expects was given by `cpp -P -undef` of GCC, and the second row is the example of
 //! C99 6.10.3.5, with its result.
 
-use crate::tests::{shown, texts};
+use crate::tests::{agree, shown, texts};
 use crate::{Pre, PreError, pre};
 use std::alloc::{AllocError, Global};
+use std::process::Abort;
 use std::test::Fail;
 
 /// The spellings of the tokens, each with a space behind it, or `-` for a refusal.
@@ -21,11 +22,22 @@ fn spelled(alloc: Global, answer: &Result<Pre, PreError>) -> Result<Vec<u8>, All
     Ok(out)
 }
 
-/// The tokens that `cpp` gives.
+/// Each text has the tokens that stand beside it.
+fn spell(rt: &impl Abort, alloc: Global, rows: &[(&str, &str)]) -> Result<(), Fail> {
+    for (text, expected) in rows {
+        let mut held = texts(alloc, &[("a.c", text)], &[])?;
+        let answer = pre(alloc, &mut held, "a.c", 0);
+        let found = spelled(alloc, &answer)?;
+        assert_eq!(rt; found.as_slice(), expected.as_bytes());
+    }
+    Ok(())
+}
+
+/// The tokens that `cpp` gives: hidden names, and the example of C99 6.10.3.5.
 #[test]
-fn macros(rt: HostRuntime) -> Result<(), Fail> {
+fn hidden_names(rt: HostRuntime) -> Result<(), Fail> {
     let alloc = rt.alloc();
-    let rows: [(&str, &str); 26] = [
+    let rows: [(&str, &str); 9] = [
         (
             "#define f(a) a*g\n#define g(a) f(a)\nint main(void){ int g = 3; return f(2)(9); }\n",
             "int main ( void ) { int g = 3 ; return 2 * 9 * g ; } ",
@@ -47,6 +59,15 @@ fn macros(rt: HostRuntime) -> Result<(), Fail> {
             "a b b ( a , b ) c c ",
         ),
         ("#define f(x) x\nf\n#define g\n(1)\n", "f ( 1 ) "),
+    ];
+    spell(&rt, alloc, &rows)
+}
+
+/// The tokens that `cpp` gives: calls that begin in a replacement.
+#[test]
+fn calls_in_replacements(rt: HostRuntime) -> Result<(), Fail> {
+    let alloc = rt.alloc();
+    let rows: [(&str, &str); 9] = [
         ("#define f(x) x\nf f (f)(1)\n", "f f ( 1 ) "),
         (
             "#define LP (\n#define f(x) <x>\nf LP 1)\nf(LP 1)\n",
@@ -74,6 +95,15 @@ fn macros(rt: HostRuntime) -> Result<(), Fail> {
             "#define str \"f(x)\"\n#define f(x) x 'x' \"x\"\nf(str)\n",
             "\"f(x)\" 'x' \"x\" ",
         ),
+    ];
+    spell(&rt, alloc, &rows)
+}
+
+/// The tokens that `cpp` gives: arguments.
+#[test]
+fn arguments(rt: HostRuntime) -> Result<(), Fail> {
+    let alloc = rt.alloc();
+    let rows: [(&str, &str); 8] = [
         (
             "#define f(a,b) a+b\n#define c 1,2\nf(c,c) f((c),c)\n",
             "1 , 2 + 1 , 2 ( 1 , 2 ) + 1 , 2 ",
@@ -98,20 +128,14 @@ fn macros(rt: HostRuntime) -> Result<(), Fail> {
             "( ( ( ( 1 ) > ( 2 ) ? ( 1 ) : ( 2 ) ) ) > ( ( ( 3 ) > ( 4 ) ? ( 3 ) : ( 4 ) ) ) ? ( ( ( 1 ) > ( 2 ) ? ( 1 ) : ( 2 ) ) ) : ( ( ( 3 ) > ( 4 ) ? ( 3 ) : ( 4 ) ) ) ) ",
         ),
     ];
-    for (text, expected) in rows {
-        let mut held = texts(alloc, &[("a.c", text)], &[])?;
-        let answer = pre(alloc, &mut held, "a.c", 0);
-        let found = spelled(alloc, &answer)?;
-        assert_eq!(rt; found.as_slice(), expected.as_bytes(), "{text:?}");
-    }
-    Ok(())
+    spell(&rt, alloc, &rows)
 }
 
 /// Replaced tokens have the line of the macro name in the text that led to them, and a refusal has that line too.
 #[test]
-fn lines_and_refusals(rt: HostRuntime) -> Result<(), Fail> {
+fn lines_of_macros(rt: HostRuntime) -> Result<(), Fail> {
     let alloc = rt.alloc();
-    let rows: [(&str, &str); 12] = [
+    let rows: [(&str, &str); 6] = [
         (
             "#define F(x) G x y\n#define G 1\n\na F(\nb G\n) c\nG\n",
             "4:a 4:1 4:b 4:1 4:y 6:c 7:1 | a.c:0 |",
@@ -124,6 +148,15 @@ fn lines_and_refusals(rt: HostRuntime) -> Result<(), Fail> {
         ("#define F(x) x\nF(1\n#define G\n)\n", "arguments a.c:2"),
         ("#define F() x\nF( )\nF(1)\n", "arguments a.c:3"),
         ("#define F(x, y) x\nF((1, 2))\n", "arguments a.c:2"),
+    ];
+    agree(&rt, alloc, &rows)
+}
+
+/// What ends a run, and from where on a macro holds.
+#[test]
+fn runs(rt: HostRuntime) -> Result<(), Fail> {
+    let alloc = rt.alloc();
+    let rows: [(&str, &str); 6] = [
         (
             "#define F(x) x\n#define G F(1, 2)\n\nF(G)\n",
             "arguments a.c:4",
@@ -148,13 +181,7 @@ fn lines_and_refusals(rt: HostRuntime) -> Result<(), Fail> {
         ),
         ("#define A 08\nA\n", "bad number a.c:1"),
     ];
-    for (text, expected) in rows {
-        let mut held = texts(alloc, &[("a.c", text)], &[])?;
-        let answer = pre(alloc, &mut held, "a.c", 0);
-        let found = shown(alloc, &answer)?;
-        assert_eq!(rt; found.as_slice(), expected.as_bytes(), "{text:?}");
-    }
-    Ok(())
+    agree(&rt, alloc, &rows)
 }
 
 /// A macro from an included text, and a refusal in one with its own line.

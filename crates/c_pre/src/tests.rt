@@ -5,6 +5,7 @@ ghost use Rattle.std.specs.Prelude.{◌≡◌, IfOk};
 use crate::{Pre, PreError, pre};
 use hs_base::{Items, MemTexts};
 use std::alloc::{AllocError, Global};
+use std::process::Abort;
 use std::test::Fail;
 
 /// Texts by name.
@@ -74,11 +75,22 @@ pub(crate) fn shown(alloc: Global, answer: &Result<Pre, PreError>) -> Result<Vec
     Ok(out)
 }
 
-/// One text: its directives, groups and refusals.
+/// Each text gives what stands beside it, which starts with the tokens.
+pub(crate) fn agree(rt: &impl Abort, alloc: Global, rows: &[(&str, &str)]) -> Result<(), Fail> {
+    for (text, expected) in rows {
+        let mut held = texts(alloc, &[("a.c", text)], &[])?;
+        let answer = pre(alloc, &mut held, "a.c", 0);
+        let found = shown(alloc, &answer)?;
+        assert_eq!(rt; found.as_slice(), expected.as_bytes());
+    }
+    Ok(())
+}
+
+/// Groups of lines, read and skipped.
 #[test]
-fn single_texts(rt: HostRuntime) -> Result<(), Fail> {
+fn groups(rt: HostRuntime) -> Result<(), Fail> {
     let alloc = rt.alloc();
-    let rows: [(&str, &str); 43] = [
+    let rows: [(&str, &str); 8] = [
         // Nothing, and text alone.
         ("", "| a.c:0 |"),
         ("int x;\n", "1:int 1:x 1:; | a.c:0 |"),
@@ -95,6 +107,15 @@ fn single_texts(rt: HostRuntime) -> Result<(), Fail> {
             "#define A\n#undef A\n#undef B\n#ifdef A\nx\n#endif\n",
             "| a.c:0 |",
         ),
+    ];
+    agree(&rt, alloc, &rows)
+}
+
+/// Groups in one another, and groups that are not balanced.
+#[test]
+fn nested_groups(rt: HostRuntime) -> Result<(), Fail> {
+    let alloc = rt.alloc();
+    let rows: [(&str, &str); 10] = [
         // Groups in one another. What is skipped is not read, but for its nesting.
         (
             "#ifdef A\n#if 1\n#else\nx\n#else\n#elif 2\n#endif\n@ '\n# bad\n#else\ny\n#endif\n",
@@ -109,6 +130,15 @@ fn single_texts(rt: HostRuntime) -> Result<(), Fail> {
         ("x\n#endif\n", "unbalanced a.c:2"),
         ("#ifdef A\n#ifdef B\n", "unbalanced a.c:1"),
         ("#ifndef A\n#ifdef B\n#endif\n", "unbalanced a.c:1"),
+    ];
+    agree(&rt, alloc, &rows)
+}
+
+/// Directives of no form.
+#[test]
+fn bad_directives(rt: HostRuntime) -> Result<(), Fail> {
+    let alloc = rt.alloc();
+    let rows: [(&str, &str); 9] = [
         // Directives of no form.
         ("#if 1\n#endif\n", "bad directive a.c:1"),
         ("#error no\n", "bad directive a.c:1"),
@@ -119,6 +149,15 @@ fn single_texts(rt: HostRuntime) -> Result<(), Fail> {
         ("#define 1\n", "bad directive a.c:1"),
         ("#define int long\n", "bad directive a.c:1"),
         ("#undef A B\n", "bad directive a.c:1"),
+    ];
+    agree(&rt, alloc, &rows)
+}
+
+/// Macros and includes of no form.
+#[test]
+fn bad_definitions(rt: HostRuntime) -> Result<(), Fail> {
+    let alloc = rt.alloc();
+    let rows: [(&str, &str); 9] = [
         ("#define F(a, a) a\n", "bad directive a.c:1"),
         ("#define F(a\n", "bad directive a.c:1"),
         ("#define F(a b) c\n", "bad directive a.c:1"),
@@ -128,6 +167,15 @@ fn single_texts(rt: HostRuntime) -> Result<(), Fail> {
         ("#define F(x) #x\n", "bad byte a.c:1"),
         ("# #include <stdio.h>\n", "bad byte a.c:1"),
         ("x\n#define A 1.5\n", "bad number a.c:2"),
+    ];
+    agree(&rt, alloc, &rows)
+}
+
+/// Definitions again, white space, and headers.
+#[test]
+fn definitions_and_headers(rt: HostRuntime) -> Result<(), Fail> {
+    let alloc = rt.alloc();
+    let rows: [(&str, &str); 7] = [
         // Definitions again: the same tokens and parameters, or others. A `(` belongs to a macro right behind its name.
         (
             "#define A 1 +x\n#define A  1+ x\n#define F(a,b) a\n# define F( a , b )a\n#define G() (\n",
@@ -145,20 +193,14 @@ fn single_texts(rt: HostRuntime) -> Result<(), Fail> {
         ),
         ("#include <stdio.h> #define A\n", "bad byte a.c:1"),
     ];
-    for (text, expected) in rows {
-        let mut held = texts(alloc, &[("a.c", text)], &[])?;
-        let answer = pre(alloc, &mut held, "a.c", 0);
-        let found = shown(alloc, &answer)?;
-        assert_eq!(rt; found.as_slice(), expected.as_bytes(), "{text:?}");
-    }
-    Ok(())
+    agree(&rt, alloc, &rows)
 }
 
-/// Comments become spaces before lines are read, and a literal that does not close ends with its line.
+/// Comments become spaces before lines are read.
 #[test]
 fn comments(rt: HostRuntime) -> Result<(), Fail> {
     let alloc = rt.alloc();
-    let rows: [(&str, &str); 12] = [
+    let rows: [(&str, &str); 6] = [
         ("a/* x\n\n */b", "1:a 3:b | a.c:0 |"),
         ("a//b\nc", "1:a 2:c | a.c:0 |"),
         ("a /*/ b */ c", "1:a 1:c | a.c:0 |"),
@@ -168,6 +210,15 @@ fn comments(rt: HostRuntime) -> Result<(), Fail> {
             "/* 1 */ # /* 2 */ define /* 3\n*/ A\n",
             "bad directive a.c:1",
         ),
+    ];
+    agree(&rt, alloc, &rows)
+}
+
+/// A literal that does not close ends with its line.
+#[test]
+fn comments_and_literals(rt: HostRuntime) -> Result<(), Fail> {
+    let alloc = rt.alloc();
+    let rows: [(&str, &str); 6] = [
         (
             "/* 1 */ # /* 2 */ define /* 3 */ A\n#ifdef A // 4\nx\n#endif /* 5 */\n",
             "3:x | a.c:0 |",
@@ -181,13 +232,7 @@ fn comments(rt: HostRuntime) -> Result<(), Fail> {
         ("#ifdef A\n/* \n#endif\n*/\n#endif\nx", "6:x | a.c:0 |"),
         ("#define A/**/(x) y\n#define A (x) y\n", "| a.c:0 |"),
     ];
-    for (text, expected) in rows {
-        let mut held = texts(alloc, &[("a.c", text)], &[])?;
-        let answer = pre(alloc, &mut held, "a.c", 0);
-        let found = shown(alloc, &answer)?;
-        assert_eq!(rt; found.as_slice(), expected.as_bytes(), "{text:?}");
-    }
-    Ok(())
+    agree(&rt, alloc, &rows)
 }
 
 /// Includes: the texts in order of opening with their bases, and refusals in an included text.
