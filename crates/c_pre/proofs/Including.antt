@@ -1,9 +1,8 @@
 -- What is left of a text, one line further.
 use Rattle.std.proofs.Common.{◌≡◌, ℕ, zero, suc, ◌+◌, ◌-◌, ◌<◌, ◌≤◌, List, [], ◌∷◌, length, take, drop, Option, Some, Result, Ok, Err, refl, sym, ap, ◌∙◌}
-use Rattle.c_pre.specs.After.{Leaves}
 use Rattle.c_pre.specs.Lines.{line_length, lines_of}
-use Rattle.c_pre.specs.Reading.{and_then, first_of, Step, Steps, line_read, text_ended}
-use Rattle.c_pre.specs.Texts.{Including, place, refused, placed, with_text, included, next_line, lines_read, entered, source_read, text_read, below, Comes, Enters}
+use Rattle.c_pre.specs.Reading.{and_then, first_of, Step, line_read, text_ended}
+use Rattle.c_pre.specs.Texts.{Including, place, refused, placed, with_text, included, next_line, lines_read, entered, source_read, text_read, below}
 use Rattle.c_pre.specs.declared.answer.PreKind.TheVariants.{Depth}
 use Rattle.c_pre.specs.declared.answer.PreError.{PreError}
 use Rattle.c_pre.specs.declared.answer.PreError.TheVariants.{Bad, Lex, Fault, TooLong, NoMemory}
@@ -13,6 +12,7 @@ use Rattle.c_pre.specs.declared.here.Here.{Here}
 use Rattle.c_pre.specs.declared.preprocessor.Source.{Source}
 use Rattle.c_pre.specs.declared.progress.Progress.{Progress}
 use Rattle.c_pre.proofs.LinesOf.{lines_turn, lines_end}
+use Rattle.c_pre.specs.Answering.{Leaves, Steps, Comes, Enters}
 
 -- a text that is opened
 pub opened_text : (include : Including) (name text : List ℕ) (p new : Progress) (s : Source) → Enters (entered name text p) (with_text name text p) new (Ok s) → text_read include name text p ≡ source_read include s new

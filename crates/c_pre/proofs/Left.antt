@@ -5,10 +5,9 @@ use Rattle.std.specs.Prelude.{slice_get}
 use Rattle.std.proofs.lemmas.Bool.{ltb-false}
 use Rattle.std.proofs.lemmas.List.Sums.{sum_by_push, sum_by-append}
 use Rattle.c_lexer.specs.declared.token.Token.{Token}
-use Rattle.c_pre.specs.After.{Answers}
 use Rattle.c_pre.specs.Directives.{is_sign}
 use Rattle.c_pre.specs.Macros.{found}
-use Rattle.c_pre.specs.Expansion.{most_work, fresh, macro_for, both, split_from, is_open, fits, Next, Goes, Ends, Stops, put_in, first_of, behind_first, begun, called, kept, at_macro, at_token, ended, argument_done, rest_done, step_by, step, goes_on, scanned, enough, scan_of, expanded, StepsTo}
+use Rattle.c_pre.specs.Expansion.{most_work, fresh, macro_for, both, split_from, is_open, fits, Next, Goes, Ends, Stops, put_in, first_of, behind_first, begun, called, kept, at_macro, at_token, ended, argument_done, rest_done, step_by, step, goes_on, scanned, enough, scan_of, expanded}
 use Rattle.c_pre.specs.declared.macros.Macro.{Macro}
 use Rattle.c_pre.specs.declared.marked.Marked.{Marked}
 use Rattle.c_pre.specs.declared.calls.Call.{Call}
@@ -18,6 +17,7 @@ use Rattle.c_pre.specs.declared.scan.Expanded.{Expanded}
 use Rattle.c_pre.specs.declared.answer.PreKind.TheVariants.{Arguments, Work}
 use Rattle.c_pre.specs.declared.answer.Refusal.{Refusal}
 use Rattle.c_pre.specs.declared.answer.Refusal.TheVariants.{Bad, Lex, NoMemory}
+use Rattle.c_pre.specs.Answering.{Answers, StepsTo}
 
 -- what a call that waits leaves
 abbrev pub weight : Call → ℕ

@@ -11,7 +11,8 @@ use Rattle.c_lexer.specs.declared.token.Token.{Token}
 use Rattle.c_lexer.specs.declared.token.LexError.{LexError}
 use Rattle.c_lexer.specs.declared.token.LexError.TheVariants.{Bad, NoMemory}
 use Rattle.c_lexer.proofs.Cuts.{text_cut, has_answer}
-use Rattle.c_pre.specs.Reading.{lexed, GivesLexed}
+use Rattle.c_pre.specs.Reading.{lexed}
+use Rattle.c_pre.specs.Answering.{GivesLexed}
 
 next_high : (place : Place) (b : ℕ) → (next_place place b).line ≤ place.line + 1
 unfolding next_place

@@ -1,7 +1,7 @@
 -- The replacement of macros in a run of text lines (C99 6.10.3), one step after another. Each token has the names of the
 -- macros that are hidden from it. The arguments of a call are expanded alone before its macro is replaced: the call waits,
 -- with what was done before it and the tokens behind it, while the tokens of an argument are scanned.
-use Rattle.std.specs.Prelude.{◌≡◌, ⊤, ℕ, zero, suc, ◌+◌, ◌-◌, ◌*◌, ◌==◌, Bool, true, false, not, ◌||◌, ◌&&◌, bytes_eq, nat_lt, if◌then◌else◌, List, [], ◌∷◌, ◌++◌, length, map, take, drop, slice_get, slice_set, Option, Some, None, option_map, unwrap_or, Result, Ok, Err}
+use Rattle.std.specs.Prelude.{ℕ, zero, suc, ◌+◌, ◌-◌, ◌*◌, ◌==◌, Bool, false, not, ◌&&◌, bytes_eq, nat_lt, if◌then◌else◌, List, [], ◌∷◌, ◌++◌, length, map, take, drop, slice_get, Option, Some, None, unwrap_or, Result, Ok, Err}
 use Rattle.std.specs.List.{filter}
 use Rattle.c_lexer.specs.declared.token.Token.{Token}
 use Rattle.c_pre.specs.Directives.{is_name, is_sign, is_among}
@@ -9,7 +9,7 @@ use Rattle.c_pre.specs.Macros.{found}
 use Rattle.c_pre.specs.declared.macros.Macro.{Macro}
 use Rattle.c_pre.specs.declared.answer.PreKind.TheVariants as kind
 use Rattle.c_pre.specs.declared.answer.Refusal.{Refusal}
-use Rattle.c_pre.specs.declared.answer.Refusal.TheVariants.{Bad, Lex, NoMemory}
+use Rattle.c_pre.specs.declared.answer.Refusal.TheVariants.{Bad, NoMemory}
 use Rattle.c_pre.specs.declared.marked.Marked.{Marked}
 use Rattle.c_pre.specs.declared.calls.Call.{Call}
 use Rattle.c_pre.specs.declared.calls.Split.{Split}
@@ -207,11 +207,3 @@ scan_of tokens work = record { done = []; rest = tokens; calls = []; work = work
 unfoldable pub expanded : List Macro → List Token → ℕ → Result Expanded Refusal
 expanded macros tokens work =
     scanned macros (enough (map fresh tokens) work) (scan_of (map fresh tokens) work)
-
--- a step is made, which says whether it goes on, or its refusal is answered, or want of memory
-abbrev pub StepsTo : Next → Scan → Result Bool Refusal → Type 0
-StepsTo next new (Ok true) = next ≡ Goes new
-StepsTo next new (Ok false) = next ≡ Ends new.done new.work
-StepsTo next new (Err (Bad kind line)) = next ≡ Stops (Bad kind line)
-StepsTo next new (Err (Lex kind line)) = next ≡ Stops (Lex kind line)
-StepsTo next new (Err NoMemory) = ⊤

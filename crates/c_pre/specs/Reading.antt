@@ -1,5 +1,5 @@
 -- The lines of a text in turn, and what each does to what was read so far (C99 6.10).
-use Rattle.std.specs.Prelude.{◌≡◌, ◌≤◌, ⊤, ℕ, ◌+◌, ◌-◌, Bool, true, false, is_some, All, if◌then◌else◌, List, [], ◌∷◌, ◌++◌, length, map, Option, Some, None, Result, Ok, Err}
+use Rattle.std.specs.Prelude.{ℕ, ◌+◌, ◌-◌, Bool, true, false, is_some, if◌then◌else◌, List, [], ◌∷◌, ◌++◌, map, Option, Some, None, Result, Ok, Err}
 use Rattle.c_lexer.specs.Gaps.{include_end}
 use Rattle.c_lexer.specs.Tokens.{first_place, answer_of}
 use Rattle.c_lexer.specs.Readers.{pieces_from}
@@ -164,42 +164,3 @@ balanced (Some line) p = Err (Bad kind.Unbalanced line)
 -- behind the last line of a text
 unfoldable pub text_ended : Here → Progress → Result Progress Refusal
 text_ended here p = and_then (run_ended here p) (λ q. balanced (first_line here.groups) q)
-
--- the lexer gives these tokens, whose lines are within the text, or this bad place in it, or want of memory
-abbrev pub GivesLexed : Result (List Token) LexError → ℕ → Result (List Token) LexError → Type 0
-GivesLexed expected most (Ok tokens) = (expected ≡ Ok tokens) × All (λ token. token.line ≤ most) tokens
-GivesLexed expected most (Err (lex.Bad kind line)) = (expected ≡ Err (lex.Bad kind line)) × (line ≤ most)
-GivesLexed expected most (Err lex.NoMemory) = ⊤
-
--- the step is left and its include is answered, or its refusal is, or want of memory
-abbrev pub Steps : Result Step Refusal → Here → Progress → Result (Option (List ℕ)) Refusal → Type 0
-Steps expected here p (Ok include) = expected ≡ Ok (record { here = here; progress = p; include = include })
-Steps expected here p (Err (Bad kind line)) = expected ≡ Err (Bad kind line)
-Steps expected here p (Err (Lex kind line)) = expected ≡ Err (Lex kind line)
-Steps expected here p (Err NoMemory) = ⊤
-
--- a line leaves its place, and takes at most its bytes to the run
-pub record Stays (old new : Here) (bytes : ℕ) : Type 0 where
-  pub base : new.base ≡ old.base
-  pub line : new.line ≡ old.line
-  pub run_line : new.run_line ≤ old.line + 1
-  pub run : length new.run ≤ length old.run + bytes
-
--- a directive changes nothing of its place but the groups
-pub record Keeps (old new : Here) : Type 0 where
-  pub base : new.base ≡ old.base
-  pub line : new.line ≡ old.line
-  pub run_line : new.run_line ≡ old.run_line
-  pub run : new.run ≡ old.run
-
--- a line leaves the numbers of bytes and lines that were read
-pub record Counts (old new : Progress) : Type 0 where
-  pub used : new.used ≡ old.used
-  pub lines : new.lines ≡ old.lines
-
--- a line can be counted
-pub record Fits (here : Here) (bytes : ℕ) : Type 0 where
-  pub base : here.base ≤ 4194304
-  pub line : here.line ≤ 1048577
-  pub run_line : here.run_line ≤ here.line
-  pub run : length here.run + bytes ≤ 1048576

@@ -1,5 +1,5 @@
 -- Texts, and the texts that they include (C99 6.10.2).
-use Rattle.std.specs.Prelude.{◌≡◌, ℕ, zero, suc, ◌+◌, ◌*◌, ◌≤◌, ◌==◌, count_by, nat_lt, if◌then◌else◌, List, [], ◌∷◌, ◌++◌, length, Option, Some, None, Result, Ok, Err, ⊤}
+use Rattle.std.specs.Prelude.{ℕ, zero, suc, ◌+◌, ◌==◌, count_by, nat_lt, if◌then◌else◌, List, [], ◌∷◌, ◌++◌, length, Option, Some, None, Result, Ok, Err}
 use Rattle.c_lexer.specs.declared.token.LexKind.TheVariants.{OpenComment}
 use Rattle.c_pre.specs.Comments.{blanked, open_comment}
 use Rattle.c_pre.specs.Lines.{lines_of}
@@ -9,7 +9,7 @@ use Rattle.c_pre.specs.declared.answer.Place.{Place}
 use Rattle.c_pre.specs.declared.answer.Pre.{Pre}
 use Rattle.c_pre.specs.declared.answer.PreKind.TheVariants as kind
 use Rattle.c_pre.specs.declared.answer.PreError.{PreError}
-use Rattle.c_pre.specs.declared.answer.PreError.TheVariants.{Bad, Lex, Fault, TooLong, NoMemory}
+use Rattle.c_pre.specs.declared.answer.PreError.TheVariants.{Bad, Lex, TooLong, NoMemory}
 use Rattle.c_pre.specs.declared.answer.Refusal.{Refusal}
 use Rattle.c_pre.specs.declared.answer.Refusal.TheVariants as refusal
 use Rattle.c_pre.specs.declared.here.Here.{Here}
@@ -111,52 +111,3 @@ answer_of (Err e) = Err e
 -- the tokens of a text and of those that it includes, at most 16 open one in another, or the first refusal
 abbrev pub preprocessed : (List ℕ → List ℕ) → List ℕ → ℕ → Result Pre PreError
 preprocessed told file used = answer_of (text_read (below told 15) file (told file) (nothing used))
-
--- what is expected is left, or the refusal that is expected is answered; a fault and want of memory may come too
-abbrev pub Comes : {T : Type 0} → Result Progress PreError → Progress → Result T PreError → Type 0
-Comes expected new (Ok t) = expected ≡ Ok new
-Comes expected new (Err (Bad kind at)) = expected ≡ Err (Bad kind at)
-Comes expected new (Err (Lex kind at)) = expected ≡ Err (Lex kind at)
-Comes expected new (Err (TooLong name)) = expected ≡ Err (TooLong name)
-Comes expected new (Err (Fault name)) = ⊤
-Comes expected new (Err NoMemory) = ⊤
-
--- the same for an answer
-abbrev pub Gives : {S : Type 0} → Result S PreError → Result S PreError → Type 0
-Gives expected (Ok s) = expected ≡ Ok s
-Gives expected (Err (Bad kind at)) = expected ≡ Err (Bad kind at)
-Gives expected (Err (Lex kind at)) = expected ≡ Err (Lex kind at)
-Gives expected (Err (TooLong name)) = expected ≡ Err (TooLong name)
-Gives expected (Err (Fault name)) = ⊤
-Gives expected (Err NoMemory) = ⊤
-
--- the text is opened and kept, or refused as expected; a fault and want of memory may come too
-abbrev pub Enters : Result Source PreError → Progress → Progress → Result Source PreError → Type 0
-Enters expected kept new (Ok s) = (expected ≡ Ok s) × (new ≡ kept)
-Enters expected kept new (Err (Bad kind at)) = expected ≡ Err (Bad kind at)
-Enters expected kept new (Err (Lex kind at)) = expected ≡ Err (Lex kind at)
-Enters expected kept new (Err (TooLong name)) = expected ≡ Err (TooLong name)
-Enters expected kept new (Err (Fault name)) = ⊤
-Enters expected kept new (Err NoMemory) = ⊤
-
--- the count of the texts rises, by one, exactly with a fault
-abbrev pub CountsFault : {T : Type 0} → ℕ → ℕ → Result T PreError → Type 0
-CountsFault before after (Ok t) = after ≡ before
-CountsFault before after (Err (Bad kind at)) = after ≡ before
-CountsFault before after (Err (Lex kind at)) = after ≡ before
-CountsFault before after (Err (TooLong name)) = after ≡ before
-CountsFault before after (Err (Fault name)) = after ≡ before + 1
-CountsFault before after (Err NoMemory) = after ≡ before
-
--- the numbers of bytes and lines behind a text that is opened
-pub record Opens (old new : Progress) (s : Source) : Type 0 where
-  pub used : new.used ≡ old.used + length s.plain
-  pub most : new.used ≤ most_bytes
-  pub lines : new.lines ≤ old.lines + length s.plain + 1
-  pub base : s.base ≡ old.lines
-
--- the numbers of bytes and lines behind a text and all that it includes: an include stands on a line of its own
-pub record Grows (old new : Progress) : Type 0 where
-  pub most : new.used ≤ most_bytes
-  pub used : old.used ≤ new.used
-  pub lines : new.lines + 2 * old.used ≤ old.lines + 1 + 2 * new.used

@@ -2,7 +2,8 @@
 
 ghost use Rattle.std.specs.Prelude.{◌≡◌, [], ◌∷◌, ◌++◌, false, OnOk, codes};
 ghost use Rattle.c_pre.specs.Groups.{is_live, is_outermost, turned, closed, skipped, is_word, first_line};
-ghost use Rattle.c_pre.specs.After.{Leaves, at_line};
+ghost use Rattle.c_pre.specs.After.{at_line};
+ghost use Rattle.c_pre.specs.Answering.{Leaves};
 
 use crate::answer::{PreKind, Refusal};
 use hs_base::{Line, NoMemory};

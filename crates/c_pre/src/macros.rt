@@ -2,7 +2,8 @@
 
 ghost use Rattle.std.specs.Prelude.{◌≡◌, [], option_copied};
 ghost use Rattle.c_pre.specs.Macros.{same_words, same_spellings, same_parameters, same_macro, found, defined, without};
-ghost use Rattle.c_pre.specs.After.{Leaves, at_line};
+ghost use Rattle.c_pre.specs.After.{at_line};
+ghost use Rattle.c_pre.specs.Answering.{Leaves};
 
 use crate::answer::{PreKind, Refusal};
 use c_lexer::Token;

@@ -2,7 +2,9 @@
 
 ghost use Rattle.std.specs.Prelude.{◌≡◌, ℕ, ◌+◌, ◌*◌, ◌<◌, ◌≤◌, ◌^◌, List, Some, length, take, IfOk, OnOk};
 ghost use Rattle.c_pre.specs.Lines.{line_length};
-ghost use Rattle.c_pre.specs.Texts.{most_bytes, line_count, refused, with_text, opened, entered, text_read, below, Gives, Enters, preprocessed, Opens, Comes, Grows, CountsFault};
+ghost use Rattle.c_pre.specs.Texts.{most_bytes, line_count, refused, with_text, opened, entered, text_read, below, preprocessed};
+ghost use Rattle.c_pre.specs.Answering.{Gives, Enters, Comes, CountsFault};
+ghost use Rattle.c_pre.specs.Bounds.{Opens, Grows};
 
 use crate::answer::{Opened, Place, Pre, PreError, PreKind, Refusal};
 use crate::comments::{blanked, open_comment};

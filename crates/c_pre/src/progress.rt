@@ -1,9 +1,11 @@
 //! What was read so far.
 
 ghost use Rattle.std.specs.Prelude.{◌≡◌, ℕ, ◌+◌, ◌-◌, ◌<◌, ◌≤◌, ◌^◌, ◌++◌, All, IfOk, OnOk, length, map};
-ghost use Rattle.c_pre.specs.After.{Answers, Leaves, at_line};
+ghost use Rattle.c_pre.specs.After.{at_line};
 ghost use Rattle.c_pre.specs.Expansion.{expanded};
-ghost use Rattle.c_pre.specs.Reading.{lexed, rest_lexed, moved, plain, with_expanded, with_run, run_ended, behind_line, at_header, with_text, obeyed, directive_on, directed_from, directed, passed, line_read, text_ended, GivesLexed, Steps, Keeps, Stays, Counts, Fits};
+ghost use Rattle.c_pre.specs.Reading.{lexed, rest_lexed, moved, plain, with_expanded, with_run, run_ended, behind_line, at_header, with_text, obeyed, directive_on, directed_from, directed, passed, line_read, text_ended};
+ghost use Rattle.c_pre.specs.Answering.{Answers, Leaves, GivesLexed, Steps};
+ghost use Rattle.c_pre.specs.Bounds.{Keeps, Stays, Counts, Fits};
 
 use crate::answer::{Opened, PreKind, Refusal};
 use crate::comments::begins_with;

@@ -1,9 +1,9 @@
 //! The replacement of macros in a run of text lines (C99 6.10.3).
 
 ghost use Rattle.std.specs.Prelude.{◌≡◌, [], ◌∷◌, ◌++◌, drop};
-ghost use Rattle.c_pre.specs.Expansion.{put_in, replaced, both, kept, begun, Goes, called, split_from, at_macro, ended, argument_done, step, expanded, StepsTo};
-ghost use Rattle.c_pre.specs.After.{Answers};
+ghost use Rattle.c_pre.specs.Expansion.{put_in, replaced, both, kept, begun, Goes, called, split_from, at_macro, ended, argument_done, step, expanded};
 ghost use Rattle.c_pre.specs.Macros.{found};
+ghost use Rattle.c_pre.specs.Answering.{StepsTo, Answers};
 
 use crate::answer::{PreKind, Refusal};
 use crate::calls::{Call, Calls, Split, fits, is_open, split_call};

@@ -1,5 +1,4 @@
 use Rattle.std.proofs.lemmas.Result.{err_from_is_err_and}
-use Rattle.c_pre.specs.Expansion.{expanded}
 use Rattle.c_pre.proofs.Left.{starts, goes, falls, ends_by, refused}
 use Rattle.c_pre.proofs.scan.expand.Goals as goal
 

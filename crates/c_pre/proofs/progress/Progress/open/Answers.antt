@@ -1,6 +1,6 @@
 use Rattle.std.proofs.Common.{ℕ, sym, subst}
-use Rattle.c_pre.specs.Texts.{CountsFault}
 use Rattle.c_pre.proofs.progress.Progress.open.Goals as goal
+use Rattle.c_pre.specs.Answering.{CountsFault}
 
 pub returns-clause-cause : goal.returns-clause-cause
 returns-clause-cause g c =
