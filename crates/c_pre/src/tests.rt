@@ -323,6 +323,14 @@ fn depth(rt: HostRuntime) -> Result<(), Fail> {
     Ok(())
 }
 
+/// How many bytes were read, 0 at a refusal.
+fn used_of(answer: &Result<Pre, PreError>) -> u32 {
+    match answer {
+        Ok(pre) => pre.used,
+        Err(_) => 0,
+    }
+}
+
 /// The bytes of all texts are counted, behind those that were read before, and a call that fails is a fault.
 #[test]
 fn bytes_and_faults(rt: HostRuntime) -> Result<(), Fail> {
@@ -341,10 +349,7 @@ fn bytes_and_faults(rt: HostRuntime) -> Result<(), Fail> {
         let answer = pre(alloc, &mut held, "a.c", before);
         let found = shown(alloc, &answer)?;
         assert_eq!(rt; found.as_slice(), expected.as_bytes());
-        let read = match answer {
-            Ok(pre) => pre.used,
-            Err(_) => 0,
-        };
+        let read = used_of(&answer);
         assert_eq!(rt; read, used);
     }
     let mut held = texts(alloc, named, &[3])?;
