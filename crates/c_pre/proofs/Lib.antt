@@ -7,3 +7,5 @@ pub mod LinesOf
 pub mod Including
 pub mod Places
 pub mod Left
+pub mod Formed
+pub mod FormedLines

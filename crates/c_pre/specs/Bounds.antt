@@ -31,12 +31,14 @@ pub record Fits (here : Here) (bytes : ℕ) : Type 0 where
   pub run_line : here.run_line ≤ here.line
   pub run : length here.run + bytes ≤ 1048576
 
--- the numbers of bytes and lines behind a text that is opened
+-- the numbers of bytes and lines behind a text that is opened, with the tokens and macros as before
 pub record Opens (old new : Progress) (s : Source) : Type 0 where
   pub used : new.used ≡ old.used + length s.plain
   pub most : new.used ≤ most_bytes
   pub lines : new.lines ≤ old.lines + length s.plain + 1
   pub base : s.base ≡ old.lines
+  pub tokens : new.tokens ≡ old.tokens
+  pub macros : new.macros ≡ old.macros
 
 -- the numbers of bytes and lines behind a text and all that it includes: an include stands on a line of its own
 pub record Grows (old new : Progress) : Type 0 where

@@ -5,6 +5,7 @@ pub mod Bytes
 pub mod Comments
 pub mod Directives
 pub mod Expansion
+pub mod Formed
 pub mod Groups
 pub mod Lines
 pub mod Macros

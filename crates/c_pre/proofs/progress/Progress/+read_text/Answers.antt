@@ -1,10 +1,13 @@
-use Rattle.std.proofs.Common.{ℕ, ◌+◌, ◌-◌, ◌<◌, List, length, take, drop, Some, None, sym, ap, ◌∙◌, arith}
+use Rattle.std.proofs.Common.{ℕ, ◌+◌, ◌-◌, ◌<◌, List, length, take, drop, Some, None, All, sym, ap, subst, ◌∙◌, arith}
 use Rattle.std.proofs.lemmas.Result.{err_from_is_err_and}
+use Rattle.c_lexer.specs.Tokens.{IsLexed}
+use Rattle.c_pre.specs.Formed.{IsFormedMacro, Formed}
 use Rattle.c_pre.specs.Lines.{lines_of}
 use Rattle.c_pre.specs.Texts.{below}
 use Rattle.c_pre.specs.declared.here.Here.{Here}
 use Rattle.c_pre.specs.declared.progress.Progress.{Progress}
 use Rattle.c_pre.proofs.Including.{opened_text, not_opened, source_start, reached, ended, line_refused, line_done, too_deep, include_refused, include_done, text_done, text_refused}
+use Rattle.c_pre.proofs.FormedLines.{line_formed, text_formed}
 use Rattle.c_pre.proofs.Places.{line_within, line_some}
 use Rattle.c_pre.proofs.progress.Progress.+read_text.Goals as goal
 use Rattle.c_pre.proofs.progress.Progress.+read_text.Goals.{in-Some+else-left-eq0+in_ok-read_text, in_default}
@@ -21,6 +24,10 @@ lines-init g t c =
       told = λ told h. source_start (below told c.args.left) c.in_ok-source.source c.new-here.result c.open.new.self e;
       keeps = c.in_ok-source.ensures.keeps;
       count = c.in_ok-source.ensures.cause;
+      formed = λ f. record {
+        tokens = subst (All IsLexed) (sym c.in_ok-source.ensures.opens.tokens) f.tokens;
+        macros = subst (All IsFormedMacro) (sym c.in_ok-source.ensures.opens.macros) f.macros;
+      };
       within = omega arith;
       base = ap (λ (h : Here). h.base) e;
       line = omega (arith, ap (λ (h : Here). h.line) e);
@@ -77,6 +84,7 @@ lines-preserved g t c =
                 rw w.self-is (include_done told c.args.left (c.args.left - 1) s lines c.read_line.new.here c.read_line.new.self w.read_text.new.self _ w.in-Some.name (omega (arith, w.if-left-eq0.false)) d (done.told told (c.lines.invariant.keeps ∙ h)));
             keeps = ap g.T.Texts.texts w.texts-is ∙ (done.keeps ∙ c.lines.invariant.keeps);
             count = ap g.T.Texts.faults w.texts-is ∙ (done.cause ∙ c.lines.invariant.count);
+            formed = λ f. subst Formed (sym w.self-is) (done.formed (line_formed line c.lines.here c.lines.self _ (c.lines.invariant.formed f) c.in-Ok.ensures.step));
             within = within;
             base = stays.base ∙ c.lines.invariant.base;
             line = omega (arith, stays.line, c.lines.invariant.line, some);
@@ -93,6 +101,7 @@ lines-preserved g t c =
             rw w.self-is (line_done include s line lines c.lines.here c.read_line.new.here c.lines.self c.read_line.new.self _ None i (rw w.in_default.is at c.in-Ok.ensures.step));
         keeps = ap g.T.Texts.texts w.texts-is ∙ c.lines.invariant.keeps;
         count = ap g.T.Texts.faults w.texts-is ∙ c.lines.invariant.count;
+        formed = λ f. subst Formed (sym w.self-is) (line_formed line c.lines.here c.lines.self _ (c.lines.invariant.formed f) c.in-Ok.ensures.step);
         within = within;
         base = stays.base ∙ c.lines.invariant.base;
         line = omega (arith, stays.line, c.lines.invariant.line, some);
@@ -117,3 +126,6 @@ returns-in-Err-end_text-clause-told g t c = λ told h.
     let start = opened_text include c.args.name (told c.args.name) c.args.self.now c.open.new.self s (c.in_ok-source.ensures.told told h) in
     let i = ended include s c.lines.at c.lines.here c.lines.self _ (omega arith) (c.lines.invariant.told told h ∙ sym start) in
     rw c.refused-in-Err-end_text.ensures (text_refused (Unit {0}) (Unit {0}) include s c.lines.here c.lines.self c.end_text.new.self _ c.in-Err-end_text.refusal i c.in-Err-end_text.ensures.text)
+
+pub returns-in-Ok-end_text-clause-formed : goal.returns-in-Ok-end_text-clause-formed
+returns-in-Ok-end_text-clause-formed g t c = λ f. text_formed c.lines.here c.lines.self c.end_text.new.self (c.lines.invariant.formed f) c.in-Ok-end_text.ensures.text

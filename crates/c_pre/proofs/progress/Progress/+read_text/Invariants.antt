@@ -1,4 +1,5 @@
 use Rattle.std.proofs.Common.{◌≡◌, ℕ, ◌+◌, ◌-◌, ◌*◌, ◌≤◌, List, Some, length, drop}
+use Rattle.c_pre.specs.Formed.{Formed}
 use Rattle.c_pre.specs.Lines.{lines_of}
 use Rattle.c_pre.specs.Texts.{most_bytes, below, lines_read, source_read}
 use Rattle.c_pre.proofs.progress.Progress.+read_text.Given as goal
@@ -11,6 +12,7 @@ invariant-lines g l = record {
   told : (told : List ℕ → List ℕ) → g.T.Texts.texts l.fn.texts ≡ Some told → lines_read (below told l.left) l.source (lines_of (drop l.at l.source.plain)) l.here l.self ≡ source_read (below told l.left) l.source l.initial.self;
   keeps : g.T.Texts.texts l.texts ≡ g.T.Texts.texts l.fn.texts;
   count : g.T.Texts.faults l.texts ≡ g.T.Texts.faults l.fn.texts;
+  formed : Formed l.fn.self → Formed l.self;
   within : l.at ≤ length l.source.plain;
   base : l.here.base ≡ l.source.base;
   line : l.here.line ≤ l.at + 1;
