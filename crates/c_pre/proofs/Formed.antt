@@ -2,9 +2,8 @@
 use Rattle.std.proofs.Common.{ℕ, zero, suc, ◌+◌, ◌-◌, ◌≤◌, ◌==◌, Bool, true, false, cond, nat_lt, ◌&&◌, not, bytes_eq, List, [], ◌∷◌, ◌++◌, length, map, take, drop, Option, Some, None, unwrap_or, Result, Ok, Err, All}
 use Rattle.std.specs.Prelude.{slice_get}
 use Rattle.std.proofs.lemmas.List.Elements.{All-nil, All-cons, All-head, All-tail, All-append, All-push, All-map, All-weaker, All-take, All-drop}
-use Rattle.c_lexer.specs.Tokens.{IsLexed}
 use Rattle.c_lexer.specs.declared.token.Token.{Token}
-use Rattle.c_pre.specs.Formed.{IsFormedMacro}
+use Rattle.c_pre.specs.Formed.{IsFormed, IsFormedMacro}
 use Rattle.c_pre.specs.Directives.{is_name, is_sign, is_among}
 use Rattle.c_pre.specs.Macros.{found}
 use Rattle.c_pre.specs.Expansion.{fresh, put_on, macro_for, both, place_of, part_by, substituted, parameters_of, split_from, is_open, fits, most_work, Next, Goes, Ends, Stops, put_in, first_of, behind_first, begun, called, kept, at_macro, at_token, ended, argument_done, rest_done, step_by, step, goes_on, scanned, enough, scan_of, expanded}
@@ -19,30 +18,30 @@ use Rattle.c_pre.specs.declared.answer.Refusal.{Refusal}
 use Rattle.c_pre.specs.declared.answer.Refusal.TheVariants.{Bad}
 
 abbrev M : Marked → Type 0
-M m = IsLexed m.token
+M m = IsFormed m.token
 
 abbrev N : Macro → Type 0
 N m = IsFormedMacro m
 
 put_on_formed : (line : ℕ) (names : List (List ℕ)) (m : Marked) → 1 ≤ line → M m → M (put_on line names m)
-put_on_formed line names m low h = (h.0, low)
+put_on_formed line names m low h = ((h.0.0, low), h.1)
 
 argument_formed : (expanded : List (List Marked)) (i : ℕ) → All (All M) expanded → All M (unwrap_or (slice_get expanded i) [])
 argument_formed [] i h = All-nil M
 argument_formed (x ∷ xs) zero h = All-head (All M) x xs h
 argument_formed (x ∷ xs) (suc i) h = argument_formed xs i (All-tail (All M) x xs h)
 
-part_formed : (expanded : List (List Marked)) (token : Token) (o : Option ℕ) → All (All M) expanded → IsLexed token → All M (part_by expanded token o)
+part_formed : (expanded : List (List Marked)) (token : Token) (o : Option ℕ) → All (All M) expanded → IsFormed token → All M (part_by expanded token o)
 part_formed expanded token None h l = All-cons M (fresh token) [] l (All-nil M)
 part_formed expanded token (Some i) h l = argument_formed expanded i h
 
-substituted_formed : (line : ℕ) (names parameters : List (List ℕ)) (expanded : List (List Marked)) (tokens : List Token) → 1 ≤ line → All (All M) expanded → All IsLexed tokens → All M (substituted line names parameters expanded tokens)
+substituted_formed : (line : ℕ) (names parameters : List (List ℕ)) (expanded : List (List Marked)) (tokens : List Token) → 1 ≤ line → All (All M) expanded → All IsFormed tokens → All M (substituted line names parameters expanded tokens)
 substituted_formed line names parameters expanded [] low h l = All-nil M
 substituted_formed line names parameters expanded (token ∷ tokens) low h l =
     let part = part_by expanded token (place_of parameters token.bytes) in
     All-append M (map (put_on line names) part) (substituted line names parameters expanded tokens)
-    (All-map M (put_on line names) part (All-weaker M (λ m. M (put_on line names m)) (λ m k. put_on_formed line names m low k) part (part_formed expanded token (place_of parameters token.bytes) h (All-head IsLexed token tokens l))))
-    (substituted_formed line names parameters expanded tokens low h (All-tail IsLexed token tokens l))
+    (All-map M (put_on line names) part (All-weaker M (λ m. M (put_on line names m)) (λ m k. put_on_formed line names m low k) part (part_formed expanded token (place_of parameters token.bytes) h (All-head IsFormed token tokens l))))
+    (substituted_formed line names parameters expanded tokens low h (All-tail IsFormed token tokens l))
 
 -- a macro that is found is formed
 abbrev pub OnMacro : Option Macro → Type 0
@@ -121,7 +120,7 @@ begun_by false t names split s m p h = tt
 begun_by true t names split s m p h = record {
   done = All-nil M;
   rest = first_formed split.args p.0;
-  calls = All-push FormedCall s.calls _ h.calls (record { line = m.1; expanded = All-nil (All M); left = behind_formed split.args p.0; done = h.done; rest = p.1 });
+  calls = All-push FormedCall s.calls _ h.calls (record { line = m.0.1; expanded = All-nil (All M); left = behind_formed split.args p.0; done = h.done; rest = p.1 });
 }
 
 called_formed : (t : Marked) (parameters : List (List ℕ)) (o : Option Split) (s : Scan) → M t → OnSplit o → FormedScan s → FormedNext (called t parameters o s)
@@ -136,7 +135,7 @@ open_by false t parameters s m h = kept_formed t s m h
 
 at_macro_formed : (t : Marked) (it : Macro) (o : Option (List (List ℕ))) (s : Scan) → M t → N it → FormedScan s → FormedNext (at_macro t it o s)
 at_macro_formed t it None s m n h =
-    put_in_formed t.token.line _ s (substituted_formed t.token.line _ (parameters_of it.parameters) [] it.replacement m.1 (All-nil (All M)) n) h
+    put_in_formed t.token.line _ s (substituted_formed t.token.line _ (parameters_of it.parameters) [] it.replacement m.0.1 (All-nil (All M)) n) h
 at_macro_formed t it (Some parameters) s m n h = open_by (is_open s.rest) t parameters s m h
 
 at_token_formed : (t : Marked) (o : Option Macro) (s : Scan) → M t → OnMacro o → FormedScan s → FormedNext (at_token t o s)
@@ -198,7 +197,7 @@ unfolding scanned
 scanned_formed macros zero s m h = tt
 scanned_formed macros (suc n) s m h = on_next (scanned macros n) (step macros s) (λ t k. scanned_formed macros n t m k) (step_formed macros s m h)
 
-pub expanded_formed : (macros : List Macro) (tokens : List Token) (work : ℕ) → All N macros → All IsLexed tokens → OnExpanded (expanded macros tokens work)
+pub expanded_formed : (macros : List Macro) (tokens : List Token) (work : ℕ) → All N macros → All IsFormed tokens → OnExpanded (expanded macros tokens work)
 unfolding expanded
 expanded_formed macros tokens work n l =
     scanned_formed macros (enough (map fresh tokens) work) (scan_of (map fresh tokens) work) n

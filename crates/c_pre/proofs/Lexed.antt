@@ -1,6 +1,7 @@
 -- The lexer gives the answer of its definition, whose lines are within the text.
 use Rattle.std.proofs.Common.{◌≡◌, ℕ, zero, suc, ◌+◌, ◌≤◌, List, [], ◌∷◌, length, take, drop, All, Result, Ok, Err, ◌⊎◌, inl, inr, sym, subst, arith, length-take, length-drop, refl}
 use Rattle.std.proofs.lemmas.Bool.Decides.{nat_tests}
+use Rattle.std.proofs.lemmas.List.Elements.{All-nil, All-cons}
 use Rattle.c_lexer.specs.Tokens.{first_place, next_place, behind, IsCut, answer_with, answer_of, IsOnlyAnswer}
 use Rattle.c_lexer.specs.Readers.{pieces_from}
 use Rattle.c_lexer.specs.declared.place.Place.{Place}
@@ -57,3 +58,23 @@ gives_lexed text found only = by (only (lexed text) (has_answer text)) where
   by : (found ≡ lexed text) ⊎ (found ≡ Err NoMemory) → GivesLexed (lexed text) (length text + 1) found
   by (inl e) = subst (GivesLexed (lexed text) (length text + 1)) (sym e) (own (length text + 1) (lexed text) (within_cut (length text + 1) first_place text (pieces_from first_place 0 text) (text_cut text) (omega arith)))
   by (inr e) = subst (GivesLexed (lexed text) (length text + 1)) (sym e) tt
+
+-- no token of an answer is longer
+abbrev pub Short : ℕ → Result (List Token) LexError → Type 0
+Short most (Ok tokens) = All (λ (t : Token). length t.bytes ≤ most) tokens
+Short most (Err e) = Unit {0}
+
+short_with : (most : ℕ) (kind : PieceKind) (line : ℕ) (bytes : List ℕ) (rest : Result (List Token) LexError) → length bytes ≤ most → Short most rest → Short most (answer_with kind line bytes rest)
+short_with most Gap line bytes rest low h = h
+short_with most (TokenPiece kind) line bytes (Ok tokens) low h = All-cons (λ (t : Token). length t.bytes ≤ most) (record { line = line; kind = kind; bytes = bytes }) tokens low h
+short_with most (TokenPiece kind) line bytes (Err e) low h = tt
+short_with most (Refused kind) line bytes rest low h = tt
+
+short_pieces : (most : ℕ) (place : Place) (text : List ℕ) (pieces : List Piece) → IsCut place text pieces → length text ≤ most → Short most (answer_of place text pieces)
+short_pieces most place text [] cut low = All-nil (λ (t : Token). length t.bytes ≤ most)
+short_pieces most place text (piece ∷ pieces) cut low =
+    short_with most piece.kind place.line (take piece.len text) _ (omega (arith, low, length-take piece.len text))
+    (short_pieces most (behind place (take piece.len text)) (drop piece.len text) pieces cut.1 (omega (arith, low, length-drop piece.len text)))
+
+pub short_cut : (most : ℕ) (place : Place) (text : List ℕ) (pieces : List Piece) (tokens : List Token) → IsCut place text pieces → length text ≤ most → answer_of place text pieces ≡ Ok tokens → All (λ (t : Token). length t.bytes ≤ most) tokens
+short_cut most place text pieces tokens cut low e = let h : Short most (Ok tokens) = subst (Short most) e (short_pieces most place text pieces cut low) in h

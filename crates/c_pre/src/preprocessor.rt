@@ -1,8 +1,7 @@
 //! Texts, and the texts that they include.
 
 ghost use Rattle.std.specs.Prelude.{◌≡◌, ℕ, ◌+◌, ◌*◌, ◌<◌, ◌≤◌, ◌^◌, List, Some, length, take, All, IfOk, OnOk};
-ghost use Rattle.c_lexer.specs.Tokens.{IsLexed};
-ghost use Rattle.c_pre.specs.Formed.{Formed};
+ghost use Rattle.c_pre.specs.Formed.{IsFormed, Formed};
 ghost use Rattle.c_pre.specs.Lines.{line_length};
 ghost use Rattle.c_pre.specs.Texts.{most_bytes, line_count, refused, with_text, opened, entered, text_read, below, preprocessed};
 ghost use Rattle.c_pre.specs.Answering.{Gives, Enters, Comes, CountsFault};
@@ -216,7 +215,7 @@ pub fn pre<T: Texts>(alloc: Global, texts: &mut T, file: &str, used: u32) -> Res
     requires count { T.faults texts.old + 1 < 2 ^ 64 }
     requires used { used ≤ most_bytes }
     ensures told { (told : List ℕ → List ℕ) → T.texts texts.old ≡ Some told → Gives (preprocessed told file.now used) result }
-    ensures forms { IfOk result (λ pre. All IsLexed pre.tokens) }
+    ensures forms { IfOk result (λ pre. All IsFormed pre.tokens) }
     ensures keeps { T.texts texts.new ≡ T.texts texts.old }
     ensures cause { CountsFault (T.faults texts.old) (T.faults texts.new) result }
 {

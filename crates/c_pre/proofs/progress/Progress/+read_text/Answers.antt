@@ -1,9 +1,8 @@
-use Rattle.std.proofs.Common.{ℕ, ◌+◌, ◌-◌, ◌<◌, List, length, take, drop, Some, None, All, sym, ap, subst, ◌∙◌, arith}
+use Rattle.std.proofs.Common.{ℕ, ◌+◌, ◌-◌, ◌<◌, ◌≤◌, List, length, take, drop, Some, None, All, sym, ap, subst, ◌∙◌, arith}
 use Rattle.std.proofs.lemmas.Result.{err_from_is_err_and}
-use Rattle.c_lexer.specs.Tokens.{IsLexed}
-use Rattle.c_pre.specs.Formed.{IsFormedMacro, Formed}
+use Rattle.c_pre.specs.Formed.{IsFormed, IsFormedMacro, Formed}
 use Rattle.c_pre.specs.Lines.{lines_of}
-use Rattle.c_pre.specs.Texts.{below}
+use Rattle.c_pre.specs.Texts.{below, most_bytes}
 use Rattle.c_pre.specs.declared.here.Here.{Here}
 use Rattle.c_pre.specs.declared.progress.Progress.{Progress}
 use Rattle.c_pre.proofs.Including.{opened_text, not_opened, source_start, reached, ended, line_refused, line_done, too_deep, include_refused, include_done, text_done, text_refused}
@@ -25,7 +24,7 @@ lines-init g t c =
       keeps = c.in_ok-source.ensures.keeps;
       count = c.in_ok-source.ensures.cause;
       formed = λ f. record {
-        tokens = subst (All IsLexed) (sym c.in_ok-source.ensures.opens.tokens) f.tokens;
+        tokens = subst (All IsFormed) (sym c.in_ok-source.ensures.opens.tokens) f.tokens;
         macros = subst (All IsFormedMacro) (sym c.in_ok-source.ensures.opens.macros) f.macros;
       };
       within = omega arith;
@@ -71,6 +70,9 @@ lines-preserved g t c =
     let inside : c.lines.at < length s.plain = omega arith in
     let within = line_within s.plain c.as_slice.result.now line c.lines.at c.as_slice.ensures inside l.ensures.bound in
     let some = line_some s.plain c.as_slice.result.now line c.lines.at c.as_slice.ensures inside l.ensures.some in
+    let opens = c.in_ok-source.ensures.opens in
+    let run_short : length c.lines.here.run ≤ most_bytes = omega (arith, c.lines.invariant.run, c.lines.invariant.within, opens.used, opens.most) in
+    let line_short : length line ≤ most_bytes = omega (arith, within, opens.used, opens.most) in
     let lines = lines_of (drop (c.lines.at + length line) s.plain) in
     let rest = ap (λ (w : List ℕ). take (length w - c.lines.at) (drop c.lines.at w)) c.as_slice.ensures in
     elim c.match-include.branch [
@@ -84,7 +86,7 @@ lines-preserved g t c =
                 rw w.self-is (include_done told c.args.left (c.args.left - 1) s lines c.read_line.new.here c.read_line.new.self w.read_text.new.self _ w.in-Some.name (omega (arith, w.if-left-eq0.false)) d (done.told told (c.lines.invariant.keeps ∙ h)));
             keeps = ap g.T.Texts.texts w.texts-is ∙ (done.keeps ∙ c.lines.invariant.keeps);
             count = ap g.T.Texts.faults w.texts-is ∙ (done.cause ∙ c.lines.invariant.count);
-            formed = λ f. subst Formed (sym w.self-is) (done.formed (line_formed line c.lines.here c.lines.self _ (c.lines.invariant.formed f) c.in-Ok.ensures.step));
+            formed = λ f. subst Formed (sym w.self-is) (done.formed (line_formed line c.lines.here c.lines.self _ run_short line_short (c.lines.invariant.formed f) c.in-Ok.ensures.step));
             within = within;
             base = stays.base ∙ c.lines.invariant.base;
             line = omega (arith, stays.line, c.lines.invariant.line, some);
@@ -101,7 +103,7 @@ lines-preserved g t c =
             rw w.self-is (line_done include s line lines c.lines.here c.read_line.new.here c.lines.self c.read_line.new.self _ None i (rw w.in_default.is at c.in-Ok.ensures.step));
         keeps = ap g.T.Texts.texts w.texts-is ∙ c.lines.invariant.keeps;
         count = ap g.T.Texts.faults w.texts-is ∙ c.lines.invariant.count;
-        formed = λ f. subst Formed (sym w.self-is) (line_formed line c.lines.here c.lines.self _ (c.lines.invariant.formed f) c.in-Ok.ensures.step);
+        formed = λ f. subst Formed (sym w.self-is) (line_formed line c.lines.here c.lines.self _ run_short line_short (c.lines.invariant.formed f) c.in-Ok.ensures.step);
         within = within;
         base = stays.base ∙ c.lines.invariant.base;
         line = omega (arith, stays.line, c.lines.invariant.line, some);
@@ -128,4 +130,6 @@ returns-in-Err-end_text-clause-told g t c = λ told h.
     rw c.refused-in-Err-end_text.ensures (text_refused (Unit {0}) (Unit {0}) include s c.lines.here c.lines.self c.end_text.new.self _ c.in-Err-end_text.refusal i c.in-Err-end_text.ensures.text)
 
 pub returns-in-Ok-end_text-clause-formed : goal.returns-in-Ok-end_text-clause-formed
-returns-in-Ok-end_text-clause-formed g t c = λ f. text_formed c.lines.here c.lines.self c.end_text.new.self (c.lines.invariant.formed f) c.in-Ok-end_text.ensures.text
+returns-in-Ok-end_text-clause-formed g t c = λ f.
+    let opens = c.in_ok-source.ensures.opens in
+    text_formed c.lines.here c.lines.self c.end_text.new.self (omega (arith, c.lines.invariant.run, c.lines.invariant.within, opens.used, opens.most)) (c.lines.invariant.formed f) c.in-Ok-end_text.ensures.text
