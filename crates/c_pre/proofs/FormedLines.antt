@@ -1,0 +1,299 @@
+-- Every line leaves formed tokens and macros.
+use Rattle.std.proofs.Common.{◌≡◌, ℕ, ◌+◌, ◌-◌, ◌≤◌, Bool, true, false, cond, ◌||◌, not, bytes_eq, List, [], ◌∷◌, ◌++◌, map, length, ◌==◌, Option, Some, None, option_map, Result, Ok, Err, All, refl, subst, arith, codes, length-drop}
+use Rattle.std.specs.Prelude.{is_some}
+use Rattle.std.proofs.lemmas.List.Elements.{All-nil, All-cons, All-head, All-tail, All-append, All-push, All-map, All-weaker}
+use Rattle.c_lexer.specs.Gaps.{include_end}
+use Rattle.c_lexer.specs.Tokens.{first_place, IsLexed}
+use Rattle.c_lexer.specs.Readers.{pieces_from}
+use Rattle.c_lexer.specs.declared.token.Token.{Token}
+use Rattle.c_lexer.specs.declared.token.LexError.{LexError}
+use Rattle.c_lexer.specs.declared.token.LexError.TheVariants as lex
+use Rattle.c_lexer.specs.declared.token.LexKind.TheVariants.{BadByte}
+use Rattle.c_lexer.proofs.Cuts.{text_cut}
+use Rattle.c_lexer.proofs.Loop.{lexed_of}
+use Rattle.c_pre.specs.Formed.{IsFormed, IsFormedMacro, Formed}
+use Rattle.c_pre.specs.After.{at_line}
+use Rattle.c_pre.specs.Comments.{begins_with}
+use Rattle.c_pre.specs.Lines.{behind_spaces, behind_hash, directive_rest, first_word}
+use Rattle.c_pre.specs.Texts.{most_bytes}
+use Rattle.c_lexer.specs.Bytes.{is_space}
+use Rattle.std.specs.List.{prefix_len}
+use Rattle.c_pre.specs.Groups.{is_live, first_line, turned, closed, skipped}
+use Rattle.c_pre.specs.Directives.{is_name, is_sign, is_among, names_from, signature_of, with_signature, function_behind, macro_behind, takes_arguments, define_of, include_of, only_name, named_by, alone, directive_by, directive_of}
+use Rattle.c_pre.specs.Macros.{found, same_macro, defined_by, defined, without}
+use Rattle.c_pre.specs.Expansion.{expanded}
+use Rattle.c_pre.specs.Reading.{and_then, lexed, rest_lexed, moved, plain, with_expanded, with_run, run_ended, behind_line, at_header, Step, step, with_groups, with_macros, obeyed, of_form, of_tokens, directive_on, directed_from, directed, passed, line_by, line_read, balanced, text_ended}
+use Rattle.c_pre.specs.declared.groups.Group.{Group}
+use Rattle.c_pre.specs.declared.macros.Macro.{Macro}
+use Rattle.c_pre.specs.declared.scan.Expanded.{Expanded}
+use Rattle.c_pre.specs.declared.directive.Signature.{Signature}
+use Rattle.c_pre.specs.declared.directive.Naming.{Naming}
+use Rattle.c_pre.specs.declared.directive.Naming.TheVariants as naming
+use Rattle.c_pre.specs.declared.directive.Directive.{Directive}
+use Rattle.c_pre.specs.declared.directive.Directive.TheVariants.{Empty, Include, Define, Undefine, Group as GroupOf, Else, EndIf}
+use Rattle.c_pre.specs.declared.answer.PreKind.{PreKind}
+use Rattle.c_pre.specs.declared.answer.PreKind.TheVariants.{Redefined}
+use Rattle.c_pre.specs.declared.answer.Refusal.{Refusal}
+use Rattle.c_pre.specs.declared.answer.Refusal.TheVariants.{Bad, Lex, NoMemory}
+use Rattle.c_pre.specs.declared.here.Here.{Here}
+use Rattle.c_pre.specs.declared.progress.Progress.{Progress}
+use Rattle.c_pre.proofs.Lexed.{short_cut}
+use Rattle.c_pre.proofs.Formed.{OnMacro, OnExpanded, expanded_formed}
+
+abbrev OnTokens : Result (List Token) LexError → Type 0
+OnTokens (Ok tokens) = All IsFormed tokens
+OnTokens (Err e) = Unit {0}
+
+both_hold : (text : List ℕ) (tokens : List Token) → length text ≤ most_bytes → All IsLexed tokens → All (λ (t : Token). length t.bytes ≤ length text) tokens → All IsFormed tokens
+both_hold text tokens low lexed short = λ k d within. (lexed k d within, omega (arith, low, short k d within))
+
+lexed_formed : (text : List ℕ) → length text ≤ most_bytes → OnTokens (lexed text)
+unfolding lexed
+lexed_formed text low = by (lexed text) refl where
+  by : (r : Result (List Token) LexError) → lexed text ≡ r → OnTokens r
+  by (Ok tokens) e =
+      both_hold text tokens low (lexed_of first_place text (pieces_from first_place 0 text) tokens (omega arith) (text_cut text) e)
+      (short_cut (length text) first_place text (pieces_from first_place 0 text) tokens (text_cut text) (omega arith) e)
+  by (Err f) e = tt
+
+rest_by : (b : Bool) (rest : List ℕ) → length rest ≤ most_bytes → OnTokens (cond b (Err (lex.Bad BadByte 1)) (lexed rest))
+rest_by true rest low = tt
+rest_by false rest low = lexed_formed rest low
+
+abbrev OnProgress : Result Progress Refusal → Type 0
+OnProgress (Ok p) = Formed p
+OnProgress (Err e) = Unit {0}
+
+with_expanded_formed : (base : ℕ) (p : Progress) (r : Result Expanded Refusal) → Formed p → OnExpanded r → OnProgress (with_expanded base p r)
+with_expanded_formed base p (Ok e) f h = record { tokens = All-append IsFormed p.tokens (map plain e.tokens) f.tokens (All-map IsFormed plain e.tokens h); macros = f.macros }
+with_expanded_formed base p (Err (Bad kind line)) f h = tt
+with_expanded_formed base p (Err (Lex kind line)) f h = tt
+with_expanded_formed base p (Err NoMemory) f h = tt
+
+moved_formed : (lines : ℕ) (token : Token) → IsFormed token → IsFormed (moved lines token)
+moved_formed lines token h = ((h.0.0, omega (arith, h.0.1)), h.1)
+
+with_run_formed : (here : Here) (p : Progress) (r : Result (List Token) LexError) → OnTokens r → Formed p → OnProgress (with_run here p r)
+with_run_formed here p (Ok tokens) t f =
+    let lines = here.base + (here.run_line - 1) in
+    with_expanded_formed here.base p (expanded p.macros (map (moved lines) tokens) p.work) f
+    (expanded_formed p.macros (map (moved lines) tokens) p.work f.macros (All-map IsFormed (moved lines) tokens (All-weaker IsFormed (λ token. IsFormed (moved lines token)) (moved_formed lines) tokens t)))
+with_run_formed here p (Err (lex.Bad kind line)) t f = tt
+with_run_formed here p (Err lex.NoMemory) t f = tt
+
+run_ended_formed : (here : Here) (p : Progress) → length here.run ≤ most_bytes → Formed p → OnProgress (run_ended here p)
+unfolding run_ended
+run_ended_formed here p low f = with_run_formed here p (lexed here.run) (lexed_formed here.run low) f
+
+abbrev OnDirective : Directive → Type 0
+OnDirective (Define m) = IsFormedMacro m
+OnDirective Empty = Unit {0}
+OnDirective (Include name) = Unit {0}
+OnDirective (Undefine name) = Unit {0}
+OnDirective (GroupOf name wanted) = Unit {0}
+OnDirective Else = Unit {0}
+OnDirective EndIf = Unit {0}
+
+abbrev OnOption : Option Directive → Type 0
+OnOption None = Unit {0}
+OnOption (Some d) = OnDirective d
+
+abbrev OnSignature : Option Signature → Type 0
+OnSignature None = Unit {0}
+OnSignature (Some s) = All IsFormed s.replacement
+
+pick_signature : (b : Bool) (x y : Option Signature) → OnSignature x → OnSignature y → OnSignature (cond b x y)
+pick_signature true x y hx hy = hx
+pick_signature false x y hx hy = hy
+
+names_formed : (names : List (List ℕ)) (tokens : List Token) → All IsFormed tokens → OnSignature (names_from names tokens)
+names_formed names [] h = tt
+names_formed names (name ∷ []) h = tt
+names_formed names (name ∷ sign ∷ behind) h =
+    let more = All-tail IsFormed sign behind (All-tail IsFormed name (sign ∷ behind) h) in
+    pick_signature (not (is_name name) || is_among names name.bytes) None _ tt
+    (pick_signature (is_sign 41 sign) (Some (record { names = names ++ name.bytes ∷ []; replacement = behind })) _ more
+    (pick_signature (is_sign 44 sign) (names_from (names ++ name.bytes ∷ []) behind) None (names_formed (names ++ name.bytes ∷ []) behind more) tt))
+
+signature_formed : (tokens : List Token) → All IsFormed tokens → OnSignature (signature_of tokens)
+signature_formed [] h = tt
+signature_formed (first ∷ rest) h =
+    pick_signature (is_sign 41 first) (Some (record { names = []; replacement = rest })) (names_from [] (first ∷ rest)) (All-tail IsFormed first rest h) (names_formed [] (first ∷ rest) h)
+
+with_signature_formed : (name : List ℕ) (o : Option Signature) → OnSignature o → OnMacro (option_map (with_signature name) o)
+with_signature_formed name None h = tt
+with_signature_formed name (Some s) h = h
+
+function_formed : (name : List ℕ) (behind : List Token) → All IsFormed behind → OnMacro (function_behind name behind)
+function_formed name [] h = tt
+function_formed name (paren ∷ inner) h = with_signature_formed name (signature_of inner) (signature_formed inner (All-tail IsFormed paren inner h))
+
+macro_formed : (b : Bool) (name : List ℕ) (behind : List Token) → All IsFormed behind → OnMacro (macro_behind b name behind)
+macro_formed true name behind h = function_formed name behind h
+macro_formed false name behind h = h
+
+define_on : (o : Option Macro) → OnMacro o → OnOption (option_map Define o)
+define_on None h = tt
+define_on (Some m) h = h
+
+pick : (b : Bool) (x y : Option Directive) → OnOption x → OnOption y → OnOption (cond b x y)
+pick true x y hx hy = hx
+pick false x y hx hy = hy
+
+define_formed : (rest : List ℕ) (args : List Token) → All IsFormed args → OnOption (define_of rest args)
+define_formed rest [] h = tt
+define_formed rest (name ∷ behind) h =
+    pick (is_name name) (option_map Define (macro_behind (takes_arguments rest) name.bytes behind)) None
+    (define_on (macro_behind (takes_arguments rest) name.bytes behind) (macro_formed (takes_arguments rest) name.bytes behind (All-tail IsFormed name behind h))) tt
+
+include_on : (o : Option (List ℕ)) → OnOption (option_map Include o)
+include_on None = tt
+include_on (Some name) = tt
+
+naming_on : (n : Naming) (name : List ℕ) → OnDirective (named_by n name)
+naming_on naming.Undefine name = tt
+naming_on (naming.Group wanted) name = tt
+
+named_on : (n : Naming) (o : Option (List ℕ)) → OnOption (option_map (named_by n) o)
+named_on n None = tt
+named_on n (Some name) = naming_on n name
+
+alone_on : (d : Directive) (args : List Token) → OnDirective d → OnOption (alone d args)
+alone_on d [] h = h
+alone_on d (token ∷ tokens) h = tt
+
+directive_by_formed : (word rest : List ℕ) (args : List Token) → All IsFormed args → OnOption (directive_by word rest args)
+unfolding directive_by
+directive_by_formed word rest args h =
+    pick (bytes_eq word (codes "define")) _ _ (define_formed rest args h)
+    (pick (bytes_eq word (codes "include")) _ _ (include_on (include_of args))
+    (pick (bytes_eq word (codes "undef")) _ _ (named_on naming.Undefine (only_name args))
+    (pick (bytes_eq word (codes "ifdef")) _ _ (named_on (naming.Group true) (only_name args))
+    (pick (bytes_eq word (codes "ifndef")) _ _ (named_on (naming.Group false) (only_name args))
+    (pick (bytes_eq word (codes "else")) _ _ (alone_on Else args tt)
+    (pick (bytes_eq word (codes "endif")) (alone EndIf args) None (alone_on EndIf args tt) tt))))))
+
+directive_formed : (rest : List ℕ) (tokens : List Token) → All IsFormed tokens → OnOption (directive_of rest tokens)
+directive_formed rest [] h = tt
+directive_formed rest (word ∷ args) h = directive_by_formed word.bytes rest args (All-tail IsFormed word args h)
+
+abbrev OnResult : Result Directive Refusal → Type 0
+OnResult (Ok d) = OnDirective d
+OnResult (Err e) = Unit {0}
+
+form_formed : (line : ℕ) (o : Option Directive) → OnOption o → OnResult (of_form line o)
+form_formed line None h = tt
+form_formed line (Some d) h = h
+
+tokens_formed : (line : ℕ) (rest : List ℕ) (r : Result (List Token) LexError) → OnTokens r → OnResult (of_tokens line rest r)
+tokens_formed line rest (Ok tokens) h = form_formed line (directive_of rest tokens) (directive_formed rest tokens h)
+tokens_formed line rest (Err (lex.Bad kind at)) h = tt
+tokens_formed line rest (Err lex.NoMemory) h = tt
+
+directive_on_formed : (line : ℕ) (rest : List ℕ) → length rest ≤ most_bytes → OnResult (directive_on line rest)
+directive_on_formed line rest low = tokens_formed line rest (rest_lexed rest) (rest_by (begins_with 35 (behind_spaces rest)) rest low)
+
+abbrev OnStep : Result Step Refusal → Type 0
+OnStep (Ok s) = Formed s.progress
+OnStep (Err e) = Unit {0}
+
+groups_formed : (here : Here) (p : Progress) (r : Result (List Group) Refusal) → Formed p → OnStep (with_groups here p r)
+groups_formed here p (Ok groups) f = f
+groups_formed here p (Err e) f = tt
+
+abbrev OnMacros : Result (List Macro) PreKind → Type 0
+OnMacros (Ok macros) = All IsFormedMacro macros
+OnMacros (Err e) = Unit {0}
+
+redefined : (b : Bool) (macros : List Macro) → All IsFormedMacro macros → OnMacros (cond b (Ok macros) (Err Redefined))
+redefined true macros h = h
+redefined false macros h = tt
+
+defined_formed : (o : Option Macro) (m : Macro) (macros : List Macro) → IsFormedMacro m → All IsFormedMacro macros → OnMacros (defined_by o m macros)
+defined_formed None m macros n h = All-push IsFormedMacro macros m h n
+defined_formed (Some before) m macros n h = redefined (same_macro before m) macros h
+
+macros_formed : (line : ℕ) (here : Here) (p : Progress) (r : Result (List Macro) PreKind) → Formed p → OnMacros r → OnStep (with_macros here p (at_line line r))
+macros_formed line here p (Ok macros) f h = record { tokens = f.tokens; macros = h }
+macros_formed line here p (Err e) f h = tt
+
+without_by : (b : Bool) (x y : List Macro) → All IsFormedMacro x → All IsFormedMacro y → All IsFormedMacro (cond b x y)
+without_by true x y hx hy = hx
+without_by false x y hx hy = hy
+
+without_formed : (name : List ℕ) (macros : List Macro) → All IsFormedMacro macros → All IsFormedMacro (without name macros)
+without_formed name [] h = All-nil IsFormedMacro
+without_formed name (m ∷ macros) h =
+    let more = All-tail IsFormedMacro m macros h in
+    without_by (bytes_eq m.name name) macros (m ∷ without name macros) more (All-cons IsFormedMacro m (without name macros) (All-head IsFormedMacro m macros h) (without_formed name macros more))
+
+obeyed_formed : (d : Directive) (here : Here) (p : Progress) → OnDirective d → Formed p → OnStep (obeyed d here p)
+unfolding obeyed
+obeyed_formed Empty here p h f = f
+obeyed_formed (Include name) here p h f = f
+obeyed_formed (Define m) here p h f = macros_formed here.line here p (defined m p.macros) f (defined_formed (found m.name p.macros) m p.macros h f.macros)
+obeyed_formed (Undefine name) here p h f = record { tokens = f.tokens; macros = without_formed name p.macros f.macros }
+obeyed_formed (GroupOf name wanted) here p h f = f
+obeyed_formed Else here p h f = groups_formed here p (at_line here.line (turned here.groups)) f
+obeyed_formed EndIf here p h f = groups_formed here p (at_line here.line (closed here.groups)) f
+
+then_obeyed : (r : Result Directive Refusal) (here : Here) (p : Progress) → OnResult r → Formed p → OnStep (and_then r (λ d. obeyed d here p))
+then_obeyed (Ok d) here p h f = obeyed_formed d here p h f
+then_obeyed (Err e) here p h f = tt
+
+from_formed : (b : Bool) (line rest : List ℕ) (here : Here) (p : Progress) → length rest ≤ most_bytes → Formed p → OnStep (cond b (Ok (step (at_header line here) p)) (and_then (directive_on here.line rest) (λ d. obeyed d (behind_line here) p)))
+from_formed true line rest here p low f = f
+from_formed false line rest here p low f = then_obeyed (directive_on here.line rest) (behind_line here) p (directive_on_formed here.line rest low) f
+
+then_directed : (r : Result Progress Refusal) (line rest : List ℕ) (here : Here) → length rest ≤ most_bytes → OnProgress r → OnStep (and_then r (λ q. directed_from line rest here q))
+then_directed (Ok q) line rest here low f = from_formed (is_some (include_end rest)) line rest here q low f
+then_directed (Err e) line rest here low f = tt
+
+directed_formed : (line rest : List ℕ) (here : Here) (p : Progress) → length here.run ≤ most_bytes → length rest ≤ most_bytes → Formed p → OnStep (directed line rest here p)
+unfolding directed
+directed_formed line rest here p run low f = then_directed (run_ended here p) line rest here low (run_ended_formed here p run f)
+
+passed_formed : (rest : List ℕ) (here : Here) (p : Progress) → Formed p → OnStep (passed rest here p)
+unfolding passed
+passed_formed rest here p f = groups_formed (behind_line here) p (at_line here.line (skipped (first_word rest) here.line here.groups)) f
+
+pick_step : (b : Bool) (x y : Result Step Refusal) → OnStep x → OnStep y → OnStep (cond b x y)
+pick_step true x y hx hy = hx
+pick_step false x y hx hy = hy
+
+-- what stands behind the `#` of a line is short
+abbrev OnRest : Option (List ℕ) → Type 0
+OnRest None = Unit {0}
+OnRest (Some rest) = length rest ≤ most_bytes
+
+hash_by : (b : Bool) (w : List ℕ) → length w ≤ most_bytes → OnRest (cond b (Some w) None)
+hash_by true w low = low
+hash_by false w low = tt
+
+hash_short : (text : List ℕ) → length text ≤ most_bytes → OnRest (behind_hash text)
+hash_short [] low = tt
+hash_short (b ∷ w) low = hash_by (b == 35) w (omega (arith, low))
+
+line_by_formed : (o : Option (List ℕ)) (line : List ℕ) (here : Here) (p : Progress) → length here.run ≤ most_bytes → OnRest o → Formed p → OnStep (line_by o line here p)
+line_by_formed None line here p run low f = f
+line_by_formed (Some rest) line here p run low f =
+    pick_step (is_live here.groups) (directed line rest here p) (passed rest here p) (directed_formed line rest here p run low f) (passed_formed rest here p f)
+
+pub line_formed : (line : List ℕ) (here : Here) (p : Progress) (s : Step) → length here.run ≤ most_bytes → length line ≤ most_bytes → Formed p → line_read line here p ≡ Ok s → Formed s.progress
+unfolding line_read
+line_formed line here p s run low f e =
+    let rest = hash_short (behind_spaces line) (omega (arith, low, length-drop (prefix_len is_space line) line)) in
+    let h : OnStep (Ok s) = subst OnStep e (line_by_formed (directive_rest line) line here p run rest f) in
+    h
+
+balanced_formed : (o : Option ℕ) (p : Progress) → Formed p → OnProgress (balanced o p)
+balanced_formed None p f = f
+balanced_formed (Some line) p f = tt
+
+then_balanced : (r : Result Progress Refusal) (here : Here) → OnProgress r → OnProgress (and_then r (λ q. balanced (first_line here.groups) q))
+then_balanced (Ok q) here f = balanced_formed (first_line here.groups) q f
+then_balanced (Err e) here f = tt
+
+pub text_formed : (here : Here) (p q : Progress) → length here.run ≤ most_bytes → Formed p → text_ended here p ≡ Ok q → Formed q
+unfolding text_ended
+text_formed here p q run f e = let h : OnProgress (Ok q) = subst OnProgress e (then_balanced (run_ended here p) here (run_ended_formed here p run f)) in h

@@ -1,0 +1,10 @@
+-- Answers of a line.
+use Rattle.std.specs.Prelude.{ℕ, Result, Ok, Err}
+use Rattle.c_pre.specs.declared.answer.PreKind.{PreKind}
+use Rattle.c_pre.specs.declared.answer.Refusal.{Refusal}
+use Rattle.c_pre.specs.declared.answer.Refusal.TheVariants.{Bad}
+
+-- an answer whose refusal is that of a line
+abbrev pub at_line : {S : Type 0} → ℕ → Result S PreKind → Result S Refusal
+at_line line (Ok s) = Ok s
+at_line line (Err kind) = Err (Bad kind line)

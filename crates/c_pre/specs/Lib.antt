@@ -1,0 +1,14 @@
+pub mod After
+pub mod Answering
+pub mod Bounds
+pub mod Bytes
+pub mod Comments
+pub mod Directives
+pub mod Expansion
+pub mod Formed
+pub mod Groups
+pub mod Lines
+pub mod Macros
+pub mod Reading
+pub mod Texts
+pub mod Words

@@ -1,0 +1,168 @@
+//! Groups of lines that are read or skipped (C99 6.10.1).
+
+ghost use Rattle.std.specs.Prelude.{◌≡◌, [], ◌∷◌, ◌++◌, false, OnOk, codes};
+ghost use Rattle.c_pre.specs.Groups.{is_live, is_outermost, turned, closed, skipped, is_word, first_line};
+ghost use Rattle.c_pre.specs.After.{at_line};
+ghost use Rattle.c_pre.specs.Answering.{Leaves};
+
+use crate::answer::{PreKind, Refusal};
+use hs_base::{Line, NoMemory};
+use std::alloc::Global;
+use std::marker::Model;
+
+/// A group that is open: the lines between an `#ifdef` or `#ifndef` and its `#endif`.
+#[derive(Clone, Copy)]
+pub(crate) struct Group {
+    /// The line of the directive that opened it.
+    pub(crate) line: Line,
+    /// Whether its `#else` was read.
+    pub(crate) turned: bool,
+    /// Whether its lines are read.
+    pub(crate) live: bool,
+}
+
+/// The open groups of a text, the innermost last.
+#[derive(Drop)]
+pub(crate) struct Groups {
+    list: Vec<Group>,
+}
+
+impl Model for Groups {
+    ghost use Rattle.std.specs.Prelude.{List};
+    ghost use Rattle.c_pre.specs.declared.groups.Group.{Group};
+
+    ghost Value = { List Group };
+
+    ghost view = { λ g. g.list.items };
+}
+
+/// The refusal of a directive without its group.
+fn unbalanced(line: Line) -> Result<(), Refusal>
+    ensures { result ≡ Err (Refusal.Bad PreKind.Unbalanced line) }
+{
+    Err(Refusal::Bad {
+        kind: PreKind::Unbalanced,
+        line,
+    })
+}
+
+/// Whether a word opens a group, whatever its condition.
+fn is_group_word(word: &[u8]) -> bool
+    ensures { result ≡ is_word word.now (codes "if" ∷ codes "ifdef" ∷ codes "ifndef" ∷ []) }
+{
+    let words: [&[u8]; 3] = [b"if", b"ifdef", b"ifndef"];
+    words.iter().any(|other| word == *other)
+}
+
+impl Groups {
+    /// No open group.
+    pub(crate) fn new(alloc: Global) -> Groups
+        ensures { result ≡ [] }
+    {
+        Groups {
+            list: Vec::new(alloc),
+        }
+    }
+
+    /// Whether lines are read.
+    #[tactic(auto, unfolding(crate::specs::Groups::is_live))]
+    pub(crate) fn is_live(&self) -> bool
+        ensures { result ≡ is_live self.now }
+    {
+        match self.list.last().copied() {
+            Some(group) => group.live,
+            None => true,
+        }
+    }
+
+    /// Whether the innermost group is the outermost of those that are skipped.
+    #[tactic(auto, unfolding(crate::specs::Groups::is_outermost))]
+    fn is_outermost(&self) -> bool
+        ensures { result ≡ is_outermost self.now }
+    {
+        let count = self.list.len();
+        count < 2 || self.list[count - 2].live
+    }
+
+    /// The line that opened the outermost group, where one is open.
+    #[tactic(auto, unfolding(crate::specs::Groups::first_line))]
+    pub(crate) fn first_line(&self) -> Option<Line>
+        ensures { result ≡ first_line self.now }
+    {
+        match self.list.first().copied() {
+            Some(group) => Some(group.line),
+            None => None,
+        }
+    }
+
+    /// Opens a group.
+    pub(crate) fn open(&mut self, line: Line, live: bool) -> Result<(), NoMemory>
+        ensures { OnOk result (self.new ≡ self.old ++ record { line = line; turned = false; live = live } ∷ []) }
+    {
+        self.list.push(Group {
+            line,
+            turned: false,
+            live,
+        })?;
+        Ok(())
+    }
+
+    /// Goes on behind the `#else` of the innermost group.
+    #[tactic(auto, unfolding(crate::specs::Groups::turned))]
+    pub(crate) fn turn(&mut self, line: Line) -> Result<(), Refusal>
+        ensures { Leaves (at_line line (turned self.old)) self.new result }
+    {
+        let Some(group) = self.list.last().copied() else {
+            return unbalanced(line);
+        };
+        if group.turned {
+            return unbalanced(line);
+        }
+        let turned = Group {
+            line: group.line,
+            turned: true,
+            live: !group.live,
+        };
+        let innermost = self.list.len() - 1;
+        self.list[innermost] = turned;
+        Ok(())
+    }
+
+    /// Goes on behind the `#endif` of the innermost group.
+    #[tactic(auto, unfolding(crate::specs::Groups::closed))]
+    pub(crate) fn close(&mut self, line: Line) -> Result<(), Refusal>
+        ensures { Leaves (at_line line (closed self.old)) self.new result }
+    {
+        match self.list.pop() {
+            Some(_) => Ok(()),
+            None => unbalanced(line),
+        }
+    }
+
+    /// Goes on behind a directive of a skipped group, by its first word.
+    #[tactic(auto, unfolding(crate::specs::Groups::skipped))]
+    pub(crate) fn pass(&mut self, word: &[u8], line: Line) -> Result<(), Refusal>
+        ensures { Leaves (at_line line (skipped word.now line self.old)) self.new result }
+    {
+        if is_group_word(word) {
+            self.open(line, false)?;
+            return Ok(());
+        }
+        if word == b"endif".as_slice() {
+            return self.close(line);
+        }
+        if !self.is_outermost() {
+            return Ok(());
+        }
+        if word == b"else".as_slice() {
+            return self.turn(line);
+        }
+        if word == b"elif".as_slice() {
+            return Err(Refusal::Bad {
+                kind: PreKind::Directive,
+                line,
+            });
+        }
+        Ok(())
+    }
+}

@@ -1,0 +1,42 @@
+//! The preprocessor (C99 6.10, narrowed).
+//!
+//! [`pre`] takes texts by name and the name of the first, and gives the tokens of that text and of all that it includes, with
+//! its directives obeyed and its macros replaced. It also gives the texts that were opened, each with the number of lines
+//! of those before it, and the number of bytes read: a token's line is counted over all of them. It refuses the first line
+//! that has no form or breaks a rule ([`PreError::Bad`] with its [`PreKind`]) or that the lexer refuses
+//! ([`PreError::Lex`]), each with its place; a text that cannot be read ([`PreError::Fault`]) or passes the most bytes of
+//! all texts ([`PreError::TooLong`]); and it answers [`PreError::NoMemory`] for want of memory.
+//!
+//! The contract of `pre` is the definition `preprocessed` of `specs/Texts`. A text is read whole and its comments become
+//! spaces (`Comments`); its lines are taken one after another (`Lines`, `Reading`), by what a directive says (`Directives`),
+//! the groups that are open (`Groups`) and the macros that are defined (`Macros`). The text lines between two directives
+//! are one run: the lexer reads it, and its macros are replaced (`Expansion`).
+#![tactic(auto)]
+
+mod answer;
+mod bytes;
+mod calls;
+mod comments;
+mod copies;
+mod directive;
+mod groups;
+mod header;
+mod here;
+mod lines;
+mod macros;
+mod marked;
+mod preprocessor;
+mod progress;
+mod queue;
+mod reading;
+mod scan;
+mod substitute;
+mod text_name;
+
+pub use answer::{Opened, Place, Pre, PreError, PreKind};
+pub use preprocessor::pre;
+
+#[cfg(test)]
+mod macro_tests;
+#[cfg(test)]
+mod tests;

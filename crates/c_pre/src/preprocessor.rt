@@ -1,0 +1,243 @@
+//! Texts, and the texts that they include.
+
+ghost use Rattle.std.specs.Prelude.{◌≡◌, ℕ, ◌+◌, ◌*◌, ◌<◌, ◌≤◌, ◌^◌, List, Some, length, take, All, IfOk, OnOk};
+ghost use Rattle.c_pre.specs.Formed.{IsFormed, Formed};
+ghost use Rattle.c_pre.specs.Lines.{line_length};
+ghost use Rattle.c_pre.specs.Texts.{most_bytes, line_count, refused, with_text, opened, entered, text_read, below, preprocessed};
+ghost use Rattle.c_pre.specs.Answering.{Gives, Enters, Comes, CountsFault};
+ghost use Rattle.c_pre.specs.Bounds.{Opens, Grows};
+
+use crate::answer::{Opened, Place, Pre, PreError, PreKind, Refusal};
+use crate::comments::{blanked, open_comment};
+use crate::copies::copied;
+use crate::here::Here;
+use crate::lines::line_length;
+use crate::macros::Macros;
+use crate::progress::Progress;
+use crate::reading::{ReadError, read_bytes};
+use crate::text_name::TextName;
+use c_lexer::LexKind;
+use hs_base::{Items, Line, NoMemory, Texts};
+use std::alloc::Global;
+
+/// How many texts may be open, one in another.
+const MOST_DEPTH: u32 = 16;
+
+/// A text that is open.
+#[derive(Drop)]
+pub(crate) struct Source {
+    name: Items<u8>,
+    /// Its bytes as they were read.
+    text: Items<u8>,
+    /// Its bytes with spaces in place of comments.
+    plain: Items<u8>,
+    /// The number of lines of the texts that were opened before.
+    base: Line,
+}
+
+impl Source {
+    /// The error for a line of this text that is refused.
+    fn refused(self, refusal: Refusal) -> PreError
+        ensures { result ≡ refused self refusal }
+    {
+        let Source { name, text, .. } = self;
+        match refusal {
+            Refusal::Bad { kind, line } => PreError::Bad {
+                kind,
+                at: Place { name, line, text },
+            },
+            Refusal::Lex { kind, line } => PreError::Lex {
+                kind,
+                at: Place { name, line, text },
+            },
+            Refusal::NoMemory => PreError::NoMemory,
+        }
+    }
+}
+
+/// The first line of a text, with its byte 10.
+fn first_line(text: &[u8]) -> &[u8]
+    ensures line { result.now ≡ take (line_length text.now) text.now }
+    ensures len { length result.now ≡ line_length text.now }
+    ensures bound { length result.now ≤ length text.now }
+    ensures some { 0 < length text.now → 0 < length result.now }
+{
+    &text[..line_length(text)]
+}
+
+/// How many lines a text has: one more than its bytes 10.
+fn line_count(text: &[u8]) -> Line
+    requires { length text.now ≤ most_bytes }
+    ensures count { result ≡ line_count text.now }
+    ensures bound { result ≤ length text.now + 1 }
+{
+    text.iter().filter(|byte| **byte == b'\n').count() as Line + 1
+}
+
+/// Opens a text: its comments become spaces.
+#[tactic(auto, unfolding(crate::specs::Texts::opened))]
+fn open_source(
+    alloc: Global,
+    name: Items<u8>,
+    text: Items<u8>,
+    base: Line,
+) -> Result<Source, PreError>
+    requires { length text ≤ most_bytes }
+    ensures opened { Gives (opened name text base) result }
+    ensures steady { (faults : ℕ) → CountsFault faults faults result }
+    ensures len { IfOk result (λ s. (length s.plain ≡ length text) × (s.base ≡ base)) }
+{
+    let comment = open_comment(text.as_slice());
+    let plain = Items::from(blanked(alloc, text.as_slice())?);
+    let source = Source {
+        name,
+        text,
+        plain,
+        base,
+    };
+    match comment {
+        None => Ok(source),
+        Some(line) => Err(source.refused(Refusal::Lex {
+            kind: LexKind::OpenComment,
+            line,
+        })),
+    }
+}
+
+impl Progress {
+    /// Keeps a text that was read.
+    fn add_text(&mut self, alloc: Global, name: &TextName, text: &Items<u8>) -> Result<(), NoMemory>
+        requires used { self.old.used + length text.now ≤ most_bytes }
+        requires lines { self.old.lines ≤ 2 * self.old.used }
+        ensures { OnOk result (self.new ≡ with_text name.now text.now self.old) }
+    {
+        self.texts.push(Opened {
+            name: name.bytes(alloc)?,
+            base: self.lines,
+            text: copied(alloc, text.as_slice())?,
+        })?;
+        self.lines += line_count(text.as_slice());
+        self.used += text.len() as u32;
+        Ok(())
+    }
+}
+
+impl Progress {
+    /// Reads the text of a name and opens it.
+    #[tactic(auto, unfolding(crate::specs::Texts::entered))]
+    fn open<T: Texts>(
+        &mut self,
+        alloc: Global,
+        texts: &mut T,
+        name: TextName,
+    ) -> Result<Source, PreError>
+        requires count { T.faults texts.old + 1 < 2 ^ 64 }
+        requires used { self.old.used ≤ most_bytes }
+        requires lines { self.old.lines ≤ 2 * self.old.used }
+        ensures told { (told : List ℕ → List ℕ) → T.texts texts.old ≡ Some told → Enters (entered name (told name) self.old) (with_text name (told name) self.old) self.new result }
+        ensures opens { IfOk result (Opens self.old self.new) }
+        ensures keeps { T.texts texts.new ≡ T.texts texts.old }
+        ensures cause { CountsFault (T.faults texts.old) (T.faults texts.new) result }
+    {
+        let text = match read_bytes(alloc, texts, name.as_str(), self.used) {
+            Ok(text) => text,
+            Err(ReadError::Fault) => {
+                return Err(PreError::Fault {
+                    name: name.into_bytes(),
+                });
+            }
+            Err(ReadError::TooLong) => {
+                return Err(PreError::TooLong {
+                    name: name.into_bytes(),
+                });
+            }
+            Err(ReadError::NoMemory) => return Err(PreError::NoMemory),
+        };
+        let base = self.lines;
+        self.add_text(alloc, &name, &text)?;
+        open_source(alloc, name.into_bytes(), text, base)
+    }
+
+    /// Reads the text of a name, and all that it includes. So many more texts may be open, one in another.
+    fn read_text<T: Texts>(
+        &mut self,
+        alloc: Global,
+        texts: &mut T,
+        name: TextName,
+        left: u32,
+    ) -> Result<(), PreError>
+        requires count { T.faults texts.old + 1 < 2 ^ 64 }
+        requires used { self.old.used ≤ most_bytes }
+        requires lines { self.old.lines ≤ 2 * self.old.used }
+        ensures told { (told : List ℕ → List ℕ) → T.texts texts.old ≡ Some told → Comes (text_read (below told left) name (told name) self.old) self.new result }
+        ensures grows { OnOk result (Grows self.old self.new) }
+        ensures formed { Formed self.old → OnOk result (Formed self.new) }
+        ensures keeps { T.texts texts.new ≡ T.texts texts.old }
+        ensures cause { CountsFault (T.faults texts.old) (T.faults texts.new) result }
+    {
+        let source = self.open(alloc, texts, name)?;
+        let mut here = Here::new(alloc, source.base);
+        let mut at = 0;
+        'lines: while at < source.plain.len() {
+            let line = first_line(&source.plain.as_slice()[at..]);
+            at += line.len();
+            let include = match self.read_line(alloc, &mut here, line) {
+                Ok(include) => include,
+                Err(refusal) => return Err(source.refused(refusal)),
+            };
+            if let Some(name) = include {
+                if left == 0 {
+                    return Err(source.refused(Refusal::Bad {
+                        kind: PreKind::Depth,
+                        line: here.line,
+                    }));
+                }
+                self.read_text(alloc, texts, name, left - 1)?;
+            }
+            here.line += 1;
+        }
+        match self.end_text(alloc, &here) {
+            Ok(()) => Ok(()),
+            Err(refusal) => Err(source.refused(refusal)),
+        }
+    }
+}
+
+/// The tokens of a text and of all texts that it includes, with their directives obeyed and their macros replaced. So many
+/// bytes were read before the call, and all texts may have 1,048,576 together.
+///
+/// # Errors
+///
+/// [`PreError::Bad`] and [`PreError::Lex`] at the first line that is refused, [`PreError::Fault`] exactly where the texts
+/// failed, [`PreError::TooLong`] exactly where one byte too many was read, and [`PreError::NoMemory`] only for want of
+/// memory.
+pub fn pre<T: Texts>(alloc: Global, texts: &mut T, file: &str, used: u32) -> Result<Pre, PreError>
+    requires count { T.faults texts.old + 1 < 2 ^ 64 }
+    requires used { used ≤ most_bytes }
+    ensures told { (told : List ℕ → List ℕ) → T.texts texts.old ≡ Some told → Gives (preprocessed told file.now used) result }
+    ensures forms { IfOk result (λ pre. All IsFormed pre.tokens) }
+    ensures keeps { T.texts texts.new ≡ T.texts texts.old }
+    ensures cause { CountsFault (T.faults texts.old) (T.faults texts.new) result }
+{
+    let name = TextName::new(alloc, file)?;
+    let mut progress = Progress {
+        tokens: Items::new(alloc),
+        texts: Items::new(alloc),
+        lines: 0,
+        used,
+        macros: Macros::new(alloc),
+        work: 0,
+    };
+    progress.read_text(alloc, texts, name, MOST_DEPTH - 1)?;
+    let Progress {
+        tokens,
+        texts,
+        used,
+        ..
+    } = progress;
+    Ok(Pre {
+        tokens,
+        texts,
+        used,
+    })
+}

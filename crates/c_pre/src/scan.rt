@@ -1,0 +1,226 @@
+//! The replacement of macros in a run of text lines (C99 6.10.3).
+
+ghost use Rattle.std.specs.Prelude.{◌≡◌, [], ◌∷◌, ◌++◌, drop};
+ghost use Rattle.c_pre.specs.Expansion.{put_in, replaced, both, kept, begun, Goes, called, split_from, at_macro, ended, argument_done, step, expanded};
+ghost use Rattle.c_pre.specs.Macros.{found};
+ghost use Rattle.c_pre.specs.Answering.{StepsTo, Answers};
+
+use crate::answer::{PreKind, Refusal};
+use crate::calls::{Call, Calls, Split, fits, is_open, split_call};
+use crate::copies::copied;
+use crate::macros::{Macro, Macros};
+use crate::marked::{Marked, add_names, both, fresh, macro_for};
+use crate::queue::Queue;
+use crate::substitute::replaced;
+use c_lexer::Token;
+use hs_base::{Items, Line};
+use std::alloc::Global;
+use std::mem::replace;
+
+/// The most work of all texts: one for each replacement, and one for each token that it puts in.
+const MOST_WORK: u32 = 4_000_000;
+
+/// A run while its macros are replaced.
+#[derive(Drop)]
+pub(crate) struct Scan {
+    /// The tokens that are done, of the innermost call's argument or of the run.
+    pub(crate) done: Items<Marked>,
+    /// Those that are left of it.
+    pub(crate) rest: Queue<Marked>,
+    /// The calls that wait.
+    pub(crate) calls: Calls,
+    /// The work so far.
+    pub(crate) work: u32,
+}
+
+impl Scan {
+    /// Puts in what stands in place of a macro, if the work allows it.
+    fn put_in(
+        &mut self,
+        alloc: Global,
+        line: Line,
+        names: &[Items<u8>],
+        expanded: &[Items<Marked>],
+        it: &Macro,
+    ) -> Result<bool, Refusal>
+        ensures { StepsTo (put_in line (replaced line names.now expanded.now it.now) self.old) self.new result }
+    {
+        let room = MOST_WORK.saturating_sub(self.work);
+        let found = if room == 0 {
+            None
+        } else {
+            replaced(alloc, line, names, expanded, it, room as usize - 1)?
+        };
+        match found {
+            Some(tokens) => {
+                self.work += 1 + tokens.len() as u32;
+                self.rest.put_in_front(tokens.into_vec())?;
+                Ok(true)
+            }
+            None => Err(Refusal::Bad {
+                kind: PreKind::Work,
+                line,
+            }),
+        }
+    }
+
+    /// A token is done.
+    fn keep(&mut self, token: Marked) -> Result<bool, Refusal>
+        ensures { StepsTo (kept token self.old) self.new result }
+    {
+        self.done.push(token)?;
+        Ok(true)
+    }
+
+    /// Begins a call: the first of its arguments is scanned, and it waits.
+    fn begin(&mut self, alloc: Global, token: Marked, split: Split) -> Result<bool, Refusal>
+        ensures { StepsTo (Goes (begun token (both token.hidden split.hidden ++ token.token.bytes ∷ []) split self.old)) self.new result }
+    {
+        let mut hidden = both(alloc, token.hidden.as_slice(), split.hidden.as_slice())?;
+        hidden.push(copied(alloc, token.token.bytes.as_slice())?)?;
+        let Split { args, rest, .. } = split;
+        let mut left = args;
+        let first = match left.pop() {
+            Some(arg) => arg,
+            None => Queue::new(alloc),
+        };
+        let done = replace(&mut self.done, Items::new(alloc));
+        let Marked { token, .. } = token;
+        self.calls.push(Call {
+            name: token.bytes,
+            line: token.line,
+            hidden,
+            expanded: Items::new(alloc),
+            left,
+            done,
+            rest,
+        })?;
+        self.rest = first;
+        Ok(true)
+    }
+
+    /// At a call of a function-like macro with these parameters: its `(` is the next token.
+    fn at_call(
+        &mut self,
+        alloc: Global,
+        token: Marked,
+        parameters: &[Items<u8>],
+    ) -> Result<bool, Refusal>
+        ensures { StepsTo (called token parameters.now (split_from 0 [] [] (drop 1 self.old.rest)) self.old) self.new result }
+    {
+        let line = token.token.line;
+        let mut rest = replace(&mut self.rest, Queue::new(alloc));
+        let _ = rest.pop();
+        if let Some(split) = split_call(alloc, rest)? {
+            if fits(parameters, &split.args) {
+                return self.begin(alloc, token, split);
+            }
+        }
+        Err(Refusal::Bad {
+            kind: PreKind::Arguments,
+            line,
+        })
+    }
+
+    /// At a name of a macro: a function-like one is replaced only before a `(`.
+    fn at_macro(&mut self, alloc: Global, token: Marked, it: &Macro) -> Result<bool, Refusal>
+        ensures { StepsTo (at_macro token it.now it.now.parameters self.old) self.new result }
+    {
+        match &it.parameters {
+            None => {
+                let mut names = Items::new(alloc);
+                add_names(alloc, &mut names, token.hidden.as_slice())?;
+                names.push(copied(alloc, token.token.bytes.as_slice())?)?;
+                self.put_in(alloc, token.token.line, names.as_slice(), &[], it)
+            }
+            Some(parameters) => {
+                if is_open(&self.rest) {
+                    self.at_call(alloc, token, parameters.as_slice())
+                } else {
+                    self.keep(token)
+                }
+            }
+        }
+    }
+
+    /// Behind the last argument of a call: its macro is replaced.
+    fn end_call(&mut self, alloc: Global, macros: &Macros, call: Call) -> Result<bool, Refusal>
+        ensures { StepsTo (ended call (found call.name macros.now) self.old) self.new result }
+    {
+        let Some(it) = macros.find(call.name.as_slice()) else {
+            return Err(Refusal::NoMemory);
+        };
+        self.done = call.done;
+        self.rest = call.rest;
+        self.put_in(
+            alloc,
+            call.line,
+            call.hidden.as_slice(),
+            call.expanded.as_slice(),
+            it,
+        )
+    }
+
+    /// Behind an argument of a call: the next is scanned, or the call ends.
+    fn end_argument(&mut self, alloc: Global, macros: &Macros, call: Call) -> Result<bool, Refusal>
+        ensures { StepsTo (argument_done macros.now (record call { expanded = call.expanded ++ self.old.done ∷ [] }) call.left self.old) self.new result }
+    {
+        let mut call = call;
+        let done = replace(&mut self.done, Items::new(alloc));
+        call.expanded.push(done)?;
+        match call.left.pop() {
+            Some(arg) => {
+                self.rest = arg;
+                self.calls.push(call)?;
+                Ok(true)
+            }
+            None => self.end_call(alloc, macros, call),
+        }
+    }
+
+    /// Makes one step, and says whether there may be more.
+    #[tactic(auto, unfolding(crate::specs::Expansion::step))]
+    fn step(&mut self, alloc: Global, macros: &Macros) -> Result<bool, Refusal>
+        ensures { StepsTo (step macros.now self.old) self.new result }
+    {
+        match self.rest.pop() {
+            Some(token) => match macro_for(macros, &token) {
+                Some(it) => self.at_macro(alloc, token, it),
+                None => self.keep(token),
+            },
+            None => match self.calls.pop() {
+                Some(call) => self.end_argument(alloc, macros, call),
+                None => Ok(false),
+            },
+        }
+    }
+}
+
+/// The tokens of a run with its macros replaced.
+#[derive(Drop)]
+pub(crate) struct Expanded {
+    pub(crate) tokens: Items<Marked>,
+    /// The work behind it.
+    pub(crate) work: u32,
+}
+
+/// Replaces the macros of a run, behind so much work.
+#[tactic(auto, unfolding(crate::specs::Expansion::expanded))]
+pub(crate) fn expand(
+    alloc: Global,
+    macros: &Macros,
+    tokens: Items<Token>,
+    work: u32,
+) -> Result<Expanded, Refusal>
+    ensures { Answers (expanded macros.now tokens work) result }
+{
+    let mut scan = Scan {
+        done: Items::new(alloc),
+        rest: fresh(alloc, tokens)?,
+        calls: Calls::new(alloc),
+        work,
+    };
+    'steps: while scan.step(alloc, macros)? {}
+    let Scan { done, work, .. } = scan;
+    Ok(Expanded { tokens: done, work })
+}
