@@ -1,0 +1,3 @@
+pub mod Ops
+pub mod Spelling
+pub mod CodeFile
