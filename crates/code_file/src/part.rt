@@ -170,7 +170,7 @@ impl<T: Part> Part for Items<T> {
     fn read(reader: &mut Reader) -> Result<Items<T>, CodeError> {
         let count = u32::read(reader)?;
         let mut items = Items::new(reader.alloc());
-        for _ in 0..count {
+        for _done in 0..count {
             items.push(T::read(reader)?)?;
         }
         Ok(items)
