@@ -78,7 +78,7 @@ take_whole zero (x ∷ xs) long = absurd (omega arith)
 take_whole (suc n) [] long = refl
 take_whole (suc n) (x ∷ xs) long = ap (λ (ys : List _). x ∷ ys) (take_whole n xs (omega arith))
 
-drop_whole : {X : Type 0} (n : ℕ) (xs : List X) → length xs ≡ n → drop n xs ≡ []
+pub drop_whole : {X : Type 0} (n : ℕ) (xs : List X) → length xs ≡ n → drop n xs ≡ []
 drop_whole zero [] long = refl
 drop_whole zero (x ∷ xs) long = absurd (omega arith)
 drop_whole (suc n) [] long = refl

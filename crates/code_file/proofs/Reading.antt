@@ -44,3 +44,23 @@ too_short Fits spell width bytes wide short x others fits is =
 pub says_none : {X : Type 0} (Fits : X → Type 0) (spell : X → List ℕ) (bytes rest : List ℕ) (e : CodeError) → e ≡ error.Form →
     BeginsNone Fits spell bytes → Reads Fits spell bytes rest (Err e)
 says_none Fits spell bytes rest e is none = subst (λ a. Reads Fits spell bytes rest (Err a)) (sym is) none
+
+-- a struct that is read as a tuple of its parts
+pub struct_none : {X P : Type 0} (Fits : X → Type 0) (spell : X → List ℕ) (Part : P → Type 0) (part : P → List ℕ) (to : X → P) →
+    ((x : X) → Fits x → Part (to x)) → ((x : X) → spell x ≡ part (to x)) → (bytes rest : List ℕ) (e : CodeError) →
+    Reads Part part bytes rest (Err e) → Reads Fits spell bytes rest (Err e)
+struct_none Fits spell Part part to fits_to spell_to bytes rest e says =
+    hands_on Fits spell bytes rest Part part bytes rest e
+    (λ none x others fits is. none (to x) others (fits_to x fits) (is ∙ ap (λ (s : List ℕ). s ++ others) (spell_to x))) says
+
+pub struct_some : {X P : Type 0} (Fits : X → Type 0) (spell : X → List ℕ) (Part : P → Type 0) (part : P → List ℕ) (to : X → P) (from : P → X) →
+    ((x : X) → from (to x) ≡ x) → ((x : X) → Fits x → Part (to x)) → ((p : P) → Part p → Fits (from p)) →
+    ((x : X) → spell x ≡ part (to x)) → ((p : P) → part p ≡ spell (from p)) → (bytes rest : List ℕ) (p : P) →
+    Begins Part part bytes rest p → Begins Fits spell bytes rest (from p)
+struct_some Fits spell Part part to from back fits_to fits_from spell_to spell_from bytes rest p begins = record {
+  fits = fits_from p begins.fits;
+  spelled = begins.spelled ∙ ap (λ (s : List ℕ). s ++ rest) (spell_from p);
+  only = λ x others fits is.
+    let one = begins.only (to x) others (fits_to x fits) (is ∙ ap (λ (s : List ℕ). s ++ others) (spell_to x)) in
+    (sym (back x) ∙ ap from one.0, one.1);
+}

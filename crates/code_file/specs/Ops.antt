@@ -1,6 +1,7 @@
 -- The operations by number: an operation's place in the table of operations. One that has parts stands there once for each of
 -- their values, by the first part and then by the second.
-use Rattle.std.specs.Prelude.{ℕ, ◌+◌, ◌*◌}
+use Rattle.std.specs.Prelude.{ℕ, ◌+◌, ◌*◌, List, [], ◌∷◌, ◌++◌, map}
+use Rattle.std.specs.List.{flat_map}
 use Rattle.hs_base.specs.declared.ends.IntKind.{IntKind}
 use Rattle.hs_base.specs.declared.ends.IntKind.TheVariants as kind
 use Rattle.core_tree.specs.declared.statements.UnOp.{UnOp}
@@ -99,3 +100,38 @@ op_number op.Enter = 168
 op_number op.Leave = 169
 op_number op.Return = 170
 op_number op.Give = 171
+
+-- The table
+
+abbrev pub kinds : List IntKind
+kinds = kind.I8 ∷ kind.U8 ∷ kind.I16 ∷ kind.U16 ∷ kind.I32 ∷ kind.U32 ∷ kind.I64 ∷ kind.U64 ∷ []
+
+abbrev pub un_ops : List UnOp
+un_ops = un.Neg ∷ un.Not ∷ []
+
+abbrev pub bin_ops : List BinOp
+bin_ops = bin.Add ∷ bin.Sub ∷ bin.Mul ∷ bin.Div ∷ bin.Rem ∷ bin.And ∷ bin.Or ∷ bin.Xor ∷ bin.Shl ∷ bin.Shr ∷ []
+
+abbrev pub cmp_ops : List CmpOp
+cmp_ops = cmp.Eq ∷ cmp.Ne ∷ cmp.Lt ∷ cmp.Gt ∷ cmp.Le ∷ cmp.Ge ∷ []
+
+abbrev pub lib_names : List LibName
+lib_names = lib.Exit ∷ lib.Abort ∷ lib.Memcpy ∷ lib.Memmove ∷ lib.Memset ∷ lib.Strlen ∷ lib.Strcmp ∷ lib.Getchar ∷ lib.Putchar ∷ lib.Puts ∷ []
+
+-- the table of operations
+unfoldable pub ops : List Op
+ops =
+    (op.Start ∷ op.HandReg ∷ op.HandInt ∷ op.HandUnsigned ∷ op.HandNull ∷ op.HandStatic ∷ op.HandLocal ∷ op.Set ∷ [])
+    ++ (map (λ k. op.Conv k) kinds
+    ++ (flat_map (λ o. map (λ k. op.Un o k) kinds) un_ops
+    ++ (flat_map (λ o. map (λ k. op.Bin o k) kinds) bin_ops
+    ++ (map (λ o. op.Cmp o) cmp_ops
+    ++ ((op.Add ∷ op.Sub ∷ op.Diff ∷ [])
+    ++ (map (λ o. op.Pcmp o) cmp_ops
+    ++ ((op.Test ∷ [])
+    ++ (map (λ k. op.Load k) kinds
+    ++ ((op.Loadp ∷ [])
+    ++ (map (λ k. op.Store k) kinds
+    ++ ((op.Storep ∷ op.Copy ∷ op.Clear ∷ op.Jump ∷ op.Zero ∷ op.Case ∷ op.Loop ∷ op.Call ∷ op.Malloc ∷ op.Calloc ∷ op.Realloc ∷ op.Free ∷ [])
+    ++ (map (λ name. op.Lib name) lib_names
+    ++ (op.Printf ∷ op.Enter ∷ op.Leave ∷ op.Return ∷ op.Give ∷ [])))))))))))))

@@ -5,7 +5,9 @@
 //! `specs/CodeFile.antt` is the form of the bytes.
 #![tactic(auto)]
 
+mod code;
 mod file;
+mod names;
 mod ops;
 mod part;
 
