@@ -4,3 +4,4 @@ pub mod Lists
 pub mod OpNumbers
 pub mod CodeParts
 pub mod ListsBeside
+pub mod Functions

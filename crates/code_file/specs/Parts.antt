@@ -1,7 +1,8 @@
 -- What is read of each part of a code file: its lists are short, and its numbers are those of their types.
-use Rattle.std.specs.Prelude.{◌≡◌, ℕ, Bool, List, [], length, IfSome}
+use Rattle.std.specs.Prelude.{◌≡◌, ℕ, Bool, List, [], ◌++◌, length, IfSome}
 use Rattle.std.specs.List.{AllZip}
 use Rattle.c_types.specs.declared.layouts.Layout.{Layout}
+use Rattle.core_tree.specs.declared.program.Core.{Core}
 use Rattle.core_tree.specs.declared.program.Func.{Func}
 use Rattle.core_tree.specs.declared.program.Mem.{Mem}
 use Rattle.core_tree.specs.declared.program.Reg.{Reg}
@@ -11,8 +12,9 @@ use Rattle.flat_code.specs.declared.program.Code.{Code}
 use Rattle.flat_code.specs.declared.program.Entry.{Entry}
 use Rattle.flat_code.specs.declared.program.Site.{Site}
 use Rattle.flat_code.specs.declared.program.StaticInit.{StaticInit}
-use Rattle.code_file.specs.Spelling.{Any, IsByte, IsNumber, IsShort, IsShortList, IsSigned}
-use Rattle.code_file.specs.CodeFile.{EndsOtherwise, IsBareMemory, IsBareStatic}
+use Rattle.code_file.specs.declared.file.CodeFile.{CodeFile}
+use Rattle.code_file.specs.Spelling.{Any, IsByte, IsNumber, IsShort, IsShortList, IsSigned, list_of}
+use Rattle.code_file.specs.CodeFile.{EndsOtherwise, IsBareMemory, IsBareStatic, function_names, static_name}
 
 abbrev pub FitsInstr : Instr → Type 0
 FitsInstr i = Any i.op × (IsNumber i.a × (IsNumber i.b × (IsNumber i.c × IsSigned i.imm)))
@@ -60,3 +62,16 @@ pub record FitsFunction (entry : Entry) (func : Func) : Type 0 where
   pub count : length func.mems ≡ length entry.mems
   pub body : func.body ≡ []
   pub formats : func.formats ≡ []
+
+abbrev pub names_bytes : Core → List ℕ
+names_bytes names = list_of static_name names.statics ++ list_of function_names names.funcs
+
+-- the names of a code
+pub record FitsNames (code : Code) (names : Core) : Type 0 where
+  pub statics : IsShortList FitsStaticName names.statics
+  pub count : length names.statics ≡ length code.statics
+  pub funcs : IsShortBeside FitsFunction code.funcs names.funcs
+
+pub record FitsFile (file : CodeFile) : Type 0 where
+  pub code : FitsCode file.code
+  pub names : FitsNames file.code file.names

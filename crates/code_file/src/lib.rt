@@ -12,5 +12,7 @@ mod ops;
 mod part;
 
 mod reader;
+mod whole;
 
 pub use file::{CodeError, CodeFile};
+pub use whole::{read_code, write_code};
