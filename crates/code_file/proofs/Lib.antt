@@ -5,3 +5,5 @@ pub mod OpNumbers
 pub mod CodeParts
 pub mod ListsBeside
 pub mod Functions
+pub mod Ranges
+pub mod Files
