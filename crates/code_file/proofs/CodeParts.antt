@@ -1,5 +1,5 @@
 -- The structs of code, from tuples of their fields.
-use Rattle.std.proofs.Common.{◌≡◌, ◌≢◌, ◌++◌, ℕ, ℤ, List, [], ◌∷◌, Bool, Option, Some, None, Result, Err, refl, sym, ap, ◌∙◌, subst}
+use Rattle.std.proofs.Common.{◌≡◌, ◌≢◌, ℕ, ℤ, List, ◌∷◌, Bool, Option, Some, None, Result, Err, refl, sym, ap, ◌∙◌, subst}
 use Rattle.std.specs.Option.{MatchOption, ok_or}
 use Rattle.c_types.specs.declared.layouts.Layout.{Layout}
 use Rattle.flat_code.specs.declared.instructions.Instr.{Instr}

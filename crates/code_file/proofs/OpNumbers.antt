@@ -1,5 +1,5 @@
 -- An operation is at its number in the table, so no two have one number.
-use Rattle.std.proofs.Common.{◌≡◌, ◌<◌, ◌^◌, ℕ, get_or, refl, sym, ap, ◌∙◌, lit<, arith}
+use Rattle.std.proofs.Common.{◌≡◌, ◌<◌, ◌^◌, get_or, refl, sym, ap, ◌∙◌, lit<, arith}
 use Rattle.hs_base.specs.declared.ends.IntKind.{IntKind}
 use Rattle.hs_base.specs.declared.ends.IntKind.TheVariants as kind
 use Rattle.core_tree.specs.declared.statements.UnOp.{UnOp}

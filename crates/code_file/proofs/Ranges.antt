@@ -1,10 +1,9 @@
 -- What is read of a file, and what can be written of one whose numbers are those of their types, are the same.
-use Rattle.std.proofs.Common.{◌≡◌, ◌<◌, ℕ, List, [], ◌∷◌, Bool, Option, Some, None, length}
+use Rattle.std.proofs.Common.{◌≡◌, ℕ, List, [], ◌∷◌, Bool, Option, Some, None}
 use Rattle.std.specs.Option.{IfSome}
 use Rattle.std.specs.List.{All, AllZip}
 use Rattle.std.proofs.lemmas.List.Elements.{All-cons, All-head, All-nil, All-tail}
 use Rattle.c_types.specs.declared.layouts.Layout.{Layout}
-use Rattle.core_tree.specs.declared.program.Core.{Core}
 use Rattle.core_tree.specs.declared.program.Func.{Func}
 use Rattle.core_tree.specs.declared.program.Mem.{Mem}
 use Rattle.core_tree.specs.declared.program.Reg.{Reg}
@@ -16,8 +15,8 @@ use Rattle.flat_code.specs.declared.program.Site.{Site}
 use Rattle.flat_code.specs.declared.program.StaticInit.{StaticInit}
 use Rattle.code_file.specs.declared.file.CodeFile.{CodeFile}
 use Rattle.code_file.specs.Spelling.{Any, IsByte, IsNumber, IsShort, IsShortList, IsSigned}
-use Rattle.code_file.specs.CodeFile.{AgreesWith, EndsOtherwise, IsBareFunction, IsBareMemory, IsBareStatic, IsRanged, IsRangedCode, IsRangedFunction, IsShortCode, IsShortEntry, IsShortFunction, IsShortNames, IsShortStatic, IsWritable}
-use Rattle.code_file.specs.Parts.{FitsCode, FitsEntry, FitsFile, FitsFunction, FitsInstr, FitsLayout, FitsMemoryName, FitsNames, FitsPointer, FitsRegister, FitsSite, FitsStatic, FitsStaticName, IsShortBeside}
+use Rattle.code_file.specs.CodeFile.{AgreesWith, EndsOtherwise, IsBareFunction, IsBareMemory, IsBareStatic, IsRanged, IsRangedCode, IsRangedFunction, IsShortCode, IsShortEntry, IsShortFunction, IsShortStatic, IsWritable}
+use Rattle.code_file.specs.Parts.{FitsCode, FitsEntry, FitsFile, FitsFunction, FitsInstr, FitsLayout, FitsMemoryName, FitsRegister, FitsSite, FitsStatic, FitsStaticName}
 
 -- Lists
 

@@ -1,5 +1,5 @@
 -- What a reader answers, from what the readers of the parts answer.
-use Rattle.std.proofs.Common.{◌≡◌, ◌<◌, ℕ, List, ◌++◌, length, length-append, Result, Ok, Err, sym, ap, ◌∙◌, subst, arith}
+use Rattle.std.proofs.Common.{◌≡◌, ◌<◌, ℕ, List, ◌++◌, length, length-append, Result, Err, sym, ap, ◌∙◌, subst, arith}
 use Rattle.code_file.specs.declared.file.CodeError.{CodeError}
 use Rattle.code_file.specs.declared.file.CodeError.TheVariants as error
 use Rattle.code_file.specs.Spelling.{Begins, Reads}

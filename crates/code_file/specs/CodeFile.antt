@@ -16,7 +16,7 @@ use Rattle.flat_code.specs.declared.program.Site.{Site}
 use Rattle.flat_code.specs.declared.program.StaticInit.{StaticInit}
 use Rattle.code_file.specs.declared.file.CodeFile.{CodeFile}
 use Rattle.code_file.specs.Ops.{op_number}
-use Rattle.code_file.specs.Spelling.{Any, IsByte, IsNumber, IsShort, IsShortList, IsSigned, byte, list_of, number, optional, signed, truth}
+use Rattle.code_file.specs.Spelling.{IsByte, IsNumber, IsShort, IsShortList, IsSigned, byte, list_of, number, optional, signed, truth}
 
 -- Code
 

@@ -1,4 +1,4 @@
-use Rattle.std.proofs.Common.{◌≡◌, List, Bool, Err, sym, ◌∙◌, subst}
+use Rattle.std.proofs.Common.{List, Bool, Err, sym, ◌∙◌, subst}
 use Rattle.std.proofs.lemmas.Result.{err_from_is_err_and}
 use Rattle.code_file.specs.Spelling.{Begins, Reads}
 use Rattle.code_file.specs.CodeFile.{function_names}

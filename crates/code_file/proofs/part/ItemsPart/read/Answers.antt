@@ -1,6 +1,6 @@
-use Rattle.std.proofs.Common.{◌≡◌, ◌<◌, ◌+◌, ◌++◌, ◌^◌, List, [], ◌∷◌, sym, subst, arith}
+use Rattle.std.proofs.Common.{◌≡◌, ◌+◌, sym, subst, arith}
 use Rattle.std.proofs.lemmas.Result.{err_from_is_err_and}
-use Rattle.code_file.specs.Spelling.{Begins, IsNumber, IsShortList, list_of, number}
+use Rattle.code_file.specs.Spelling.{IsNumber, IsShortList, list_of, number}
 use Rattle.code_file.proofs.Lists.{Under, no_count, under_all, under_more, under_none, under_stops}
 use Rattle.code_file.proofs.Reading.{exits, hands_on}
 use Rattle.code_file.proofs.part.ItemsPart.read.Goals as goal
