@@ -16,3 +16,6 @@ mod whole;
 
 pub use file::{CodeError, CodeFile};
 pub use whole::{read_code, write_code};
+
+#[cfg(test)]
+mod tests;
