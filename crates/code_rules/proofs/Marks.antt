@@ -209,13 +209,13 @@ are_marked code r old new long live sweeps =
       exact = λ p. (live p, λ l. closed code r old (λ q inside leads. sweeps.was refl q (omega arith) inside leads) long l.before l.read p l.path l.unwritten l.is_read);
     })
 
-drop_past : {X : Type 0} (xs : List X) (n : ℕ) → length xs ≤ n → drop n xs ≡ []
+pub drop_past : {X : Type 0} (xs : List X) (n : ℕ) → length xs ≤ n → drop n xs ≡ []
 drop_past [] zero past = refl
 drop_past [] (suc n) past = refl
 drop_past (x ∷ xs) zero past = absurd (omega arith)
 drop_past (x ∷ xs) (suc n) past = drop_past xs n (omega arith)
 
-take_all : {X : Type 0} (xs : List X) (n : ℕ) → length xs ≤ n → take n xs ≡ xs
+pub take_all : {X : Type 0} (xs : List X) (n : ℕ) → length xs ≤ n → take n xs ≡ xs
 take_all [] zero past = refl
 take_all [] (suc n) past = refl
 take_all (x ∷ xs) zero past = absurd (omega arith)

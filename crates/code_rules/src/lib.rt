@@ -3,7 +3,14 @@
 //! What the rules say stands in `flat_code/specs/WellFormed.antt`.
 #![tactic(auto)]
 
+mod flow;
 mod instrs;
 mod live;
+mod rules;
+mod tables;
 
 pub use live::live_points;
+pub use tables::{
+    are_formats, are_layouts, are_short, are_static_blocks_small, are_statics, is_format, is_layout,
+    lines_from_one, sites_ascend, static_size,
+};
