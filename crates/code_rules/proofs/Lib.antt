@@ -1,3 +1,4 @@
 pub mod Marks
 pub mod Loops
 pub mod Entries
+pub mod Told

@@ -1,2 +1,3 @@
 pub mod Lively
 pub mod Rules
+pub mod Operands

@@ -9,7 +9,7 @@ use core_tree::{Edges, LibName};
 use flat_code::{Instr, Op};
 
 /// The register that takes a result which may be left.
-fn chosen(instr: Instr) -> Option<u32>
+pub(crate) fn chosen(instr: Instr) -> Option<u32>
     ensures { result ≡ chosen instr }
 {
     if instr.c == 1 { Some(instr.a) } else { None }

@@ -6,6 +6,7 @@
 mod flow;
 mod instrs;
 mod live;
+mod operands;
 mod rules;
 mod tables;
 
