@@ -1,3 +1,4 @@
 pub mod Lively
 pub mod Rules
 pub mod Operands
+pub mod Answers
