@@ -47,3 +47,7 @@ numbers_ascend xs step d i (suc j) less inside =
 
 pub whole : {X : Type 0} (P : X → Type 0) (xs : List X) (i : ℕ) → length xs ≤ i → All P (take i xs) → All P xs
 whole P xs i end so_far = subst (λ (l : List _). All P l) (take_all xs i end) so_far
+
+-- the same of another name of the list
+pub transport : {X : Type 0} (P : X → Type 0) (xs ys : List X) → xs ≡ ys → (b : Bool) → (IsTrue b ↔ All P xs) → IsTrue b ↔ All P ys
+transport P xs ys same b both = subst (λ (l : List _). IsTrue b ↔ All P l) same both

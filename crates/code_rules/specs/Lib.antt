@@ -2,3 +2,5 @@ pub mod Lively
 pub mod Rules
 pub mod Operands
 pub mod Answers
+pub mod Scopes
+pub mod Functions

@@ -5,11 +5,13 @@
 
 mod answers;
 mod flow;
+mod functions;
 mod instrs;
 mod live;
 mod operands;
 mod pins;
 mod rules;
+mod scopes;
 mod tables;
 
 pub use live::live_points;
