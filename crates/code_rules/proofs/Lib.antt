@@ -6,3 +6,5 @@ pub mod PinFacts
 pub mod Depths
 pub mod ScopeFacts
 pub mod AnswerFacts
+pub mod Distinct
+pub mod Wholes

@@ -4,3 +4,4 @@ pub mod Operands
 pub mod Answers
 pub mod Scopes
 pub mod Functions
+pub mod Whole

@@ -13,6 +13,7 @@ mod pins;
 mod rules;
 mod scopes;
 mod tables;
+mod whole;
 
 pub use live::live_points;
 pub use pins::sites_are_right;

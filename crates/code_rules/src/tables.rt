@@ -207,11 +207,19 @@ fn is_first(code: &Code, item: &StaticInit, layout: &Layout) -> bool
     let bytes = item.bytes.as_slice();
     let pointers = item.pointers.as_slice();
     let slots = layout.slots.as_slice();
-    bytes.len() <= layout.size as usize
-        && are_zero_slots(bytes, slots)
-        && stand_at_slots(pointers, slots)
-        && are_distinct(pointers)
-        && are_targets(code, pointers)
+    if bytes.len() > layout.size as usize {
+        return false;
+    }
+    if !are_zero_slots(bytes, slots) {
+        return false;
+    }
+    if !stand_at_slots(pointers, slots) {
+        return false;
+    }
+    if !are_distinct(pointers) {
+        return false;
+    }
+    are_targets(code, pointers)
 }
 
 /// Says whether a static has a layout, and keeps the rules of what it holds first.
