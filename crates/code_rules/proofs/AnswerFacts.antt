@@ -1,5 +1,5 @@
 -- The answers of functions, from one of each.
-use Rattle.std.proofs.Common.{◌≡◌, ◌↔◌, ◌<◌, ℕ, Bool, List, [], ◌∷◌, Option, Some, None, refl, sym, ap, ◌∙◌, subst, get_or}
+use Rattle.std.proofs.Common.{◌≡◌, ℕ, Bool, List, [], ◌∷◌, Option, Some, None, refl, sym, ap, subst, get_or}
 use Rattle.std.specs.List.{slice_get}
 use Rattle.std.specs.Option.{MatchOption}
 use Rattle.core_tree.specs.Sorts.{Sort}
@@ -10,7 +10,7 @@ use Rattle.flat_code.specs.declared.program.Code.{Code}
 use Rattle.flat_code.specs.declared.program.Entry.{Entry}
 use Rattle.flat_code.specs.Table.{chosen}
 use Rattle.flat_code.specs.WellFormed.{EachAnswer, EachEntry, EachInstr, GivesTo, HasResult, IsAt, OfAnswer, handed_before}
-use Rattle.code_rules.specs.Answers.{Answers, AnswersAlike, AreAnswers, IsAnswer, TakesAnswer, answer_at, answer_given, answer_told}
+use Rattle.code_rules.specs.Answers.{AnswersAlike, AreAnswers, IsAnswer, TakesAnswer, answer_at, answer_given, answer_told}
 use Rattle.code_rules.specs.Operands.{HasRegister, sort_told}
 
 -- what holds of the answer of an operation

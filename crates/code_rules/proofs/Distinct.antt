@@ -1,5 +1,5 @@
 -- Pointers at different slots.
-use Rattle.std.proofs.Common.{◌≡◌, ◌≢◌, ◌<◌, ◌≤◌, ◌+◌, ◌↔◌, ℕ, zero, suc, true, false, nat_eq, List, [], ◌∷◌, map, drop, take, length, length-drop, ◌-◌, get_or, refl, sym, ap, ◌∙◌, subst, arith, IsTrue, add-one, drop-cons, eq-eqb, ⊎_elim}
+use Rattle.std.proofs.Common.{◌≡◌, ◌≢◌, ◌<◌, ◌≤◌, ◌+◌, ◌↔◌, ℕ, true, false, nat_eq, List, [], ◌∷◌, map, drop, take, length, length-drop, ◌-◌, get_or, refl, sym, ap, ◌∙◌, subst, arith, IsTrue, add-one, drop-cons, eq-eqb, ⊎_elim}
 use Rattle.std.specs.List.{All, AllByRecursion, IsDistinct}
 use Rattle.std.proofs.lemmas.Bool.{cases_Bool, eqb-true}
 use Rattle.std.proofs.lemmas.List.Elements.{All-cons, All-head, All-nil, All-tail}

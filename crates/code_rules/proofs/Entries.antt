@@ -1,6 +1,6 @@
 -- Rules of all functions.
-use Rattle.std.proofs.Common.{◌≡◌, ◌<◌, ◌≤◌, ◌+◌, ◌↔◌, ℕ, List, Some, length, get_or, refl, sym, subst, true, false, IsTrue, below_more, arith}
-use Rattle.std.specs.List.{All, slice_get}
+use Rattle.std.proofs.Common.{◌<◌, ◌≤◌, ◌+◌, ◌↔◌, ℕ, length, get_or, refl, subst, true, false, IsTrue, below_more, arith}
+use Rattle.std.specs.List.{All}
 use Rattle.std.proofs.lemmas.List.Elements.{All-get_or}
 use Rattle.std.proofs.lemmas.Option.{get_or_from_slice_get, slice_get-get_or, slice_get_within}
 use Rattle.flat_code.specs.declared.program.Code.{Code}

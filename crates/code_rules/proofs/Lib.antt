@@ -8,3 +8,4 @@ pub mod ScopeFacts
 pub mod AnswerFacts
 pub mod Distinct
 pub mod Wholes
+pub mod Statics

@@ -1,6 +1,6 @@
 -- Sites, from their lists and from each register.
-use Rattle.std.proofs.Common.{◌≡◌, ◌≢◌, ◌<◌, ◌≤◌, ◌↔◌, ℕ, Bool, true, false, List, [], Option, Some, None, length, map, get_or, refl, sym, ap, ◌∙◌, subst, ⊎_elim, arith, IsTrue}
-use Rattle.std.specs.List.{All, AllPairs, Contains, slice_get}
+use Rattle.std.proofs.Common.{◌≡◌, ◌<◌, ◌≤◌, ◌↔◌, ℕ, Bool, true, false, List, Option, Some, None, length, map, get_or, refl, sym, subst, ⊎_elim, arith, IsTrue}
+use Rattle.std.specs.List.{All, Contains}
 use Rattle.std.specs.Option.{MatchOption}
 use Rattle.std.proofs.lemmas.Bool.{cases_lt}
 use Rattle.std.proofs.lemmas.List.{length-map}
@@ -10,9 +10,9 @@ use Rattle.core_tree.specs.Sorts.{Pointer}
 use Rattle.flat_code.specs.declared.instructions.Instr.{Instr}
 use Rattle.flat_code.specs.declared.program.Code.{Code}
 use Rattle.flat_code.specs.declared.program.Entry.{Entry}
-use Rattle.flat_code.specs.Sites.{ArePins, Counts, HasSite, answered, has_site, site_of}
+use Rattle.flat_code.specs.Sites.{ArePins, Counts, HasSite, has_site, site_of}
 use Rattle.flat_code.specs.Table.{register_sort, sort_of}
-use Rattle.flat_code.specs.WellFormed.{EachInstr, IsAt}
+use Rattle.flat_code.specs.WellFormed.{EachInstr}
 use Rattle.code_rules.specs.Answers.{AreRegisters, CountsMarked, ListsSite, PinsAgree, PinsExact}
 use Rattle.code_rules.specs.Lively.{AreMarked}
 use Rattle.code_rules.proofs.Entries.{each_entry}

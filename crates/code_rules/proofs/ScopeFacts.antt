@@ -1,15 +1,14 @@
 -- The scopes of a function, from what is known at its places.
-use Rattle.std.proofs.Common.{◌≡◌, ◌<◌, ◌≤◌, ◌+◌, ◌-◌, ◌↔◌, ℕ, zero, suc, Bool, true, false, List, [], ◌∷◌, Option, Some, None, length, get_or, set, replicate, refl, sym, ap, ◌∙◌, subst, arith, IsTrue, count_by}
-use Rattle.std.specs.List.{All, Contains, slice_get}
+use Rattle.std.proofs.Common.{◌≡◌, ◌<◌, ◌≤◌, ◌+◌, ◌-◌, ◌↔◌, ℕ, zero, suc, Bool, true, false, List, Option, Some, None, length, get_or, set, replicate, refl, sym, ◌∙◌, subst, arith, IsTrue}
+use Rattle.std.specs.List.{Contains, slice_get}
 use Rattle.std.specs.Option.{is_none}
 use Rattle.std.proofs.lemmas.List.Elements.{All-contains}
 use Rattle.std.proofs.lemmas.List.Sums.{count_by-le-length}
-use Rattle.flat_code.specs.declared.instructions.Instr.{Instr}
 use Rattle.flat_code.specs.declared.program.Code.{Code}
 use Rattle.flat_code.specs.declared.program.Entry.{Entry}
 use Rattle.flat_code.specs.Table.{edges, scopes_after}
-use Rattle.flat_code.specs.WellFormed.{HasScopes, IsAt, Opens, end_of}
-use Rattle.code_rules.specs.Scopes.{AreReached, AreSmall, Close, Fills, IsClosedAt, StaysInside, depth_at, unknown}
+use Rattle.flat_code.specs.WellFormed.{HasScopes, Opens, end_of}
+use Rattle.code_rules.specs.Scopes.{AreReached, AreSmall, Close, Fills, IsClosedAt, StaysInside, depth_at}
 
 abbrev no_depth : Option ℕ
 no_depth = None

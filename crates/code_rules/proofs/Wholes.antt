@@ -1,9 +1,8 @@
 -- Well formed code, from its parts and back.
-use Rattle.std.proofs.Common.{◌≡◌, ◌<◌, ◌≤◌, ◌+◌, ◌-◌, ◌↔◌, ℕ, zero, suc, pos, Bool, true, false, List, Option, Some, None, length, get_or, refl, sym, ap, ◌∙◌, subst, ⊎_elim, add-one, arith, IsTrue}
+use Rattle.std.proofs.Common.{◌≡◌, ◌<◌, ◌≤◌, ◌+◌, ◌-◌, ◌↔◌, ℕ, zero, suc, pos, Bool, false, List, Option, Some, None, length, get_or, refl, sym, subst, arith, IsTrue}
 use Rattle.std.specs.List.{All, slice_get}
-use Rattle.std.specs.Option.{IfSome, IsSome, IsSomeAnd, MatchOption, option_map_or}
-use Rattle.std.proofs.lemmas.Bool.{cases_lt}
-use Rattle.std.proofs.lemmas.Option.{get_or_from_slice_get, slice_get_past, slice_get_within}
+use Rattle.std.specs.Option.{IfSome, IsSome, IsSomeAnd, option_map_or}
+use Rattle.std.proofs.lemmas.Option.{get_or_from_slice_get, slice_get_within}
 use Rattle.std.proofs.lemmas.List.Elements.{All-get_or}
 use Rattle.c_print.specs.Format.{IsFormat}
 use Rattle.c_print.specs.Pieces.{pieces_of}
@@ -14,11 +13,11 @@ use Rattle.flat_code.specs.declared.instructions.Op.TheVariants as op
 use Rattle.flat_code.specs.declared.program.Code.{Code}
 use Rattle.flat_code.specs.declared.program.Entry.{Entry}
 use Rattle.flat_code.specs.Sites.{HasSite, has_site}
-use Rattle.flat_code.specs.Table.{edges, hands}
-use Rattle.flat_code.specs.WellFormed.{EachAnswer, EachEntry, EachInstr, HasScopes, IsAt, IsFunction, IsInstr, IsStart, IsWellFormed, NamesWhatIsThere, end_of}
+use Rattle.flat_code.specs.Table.{edges}
+use Rattle.flat_code.specs.WellFormed.{EachEntry, EachInstr, HasScopes, IsStart, IsWellFormed, NamesWhatIsThere, end_of}
 use Rattle.code_rules.specs.Answers.{AnswersAlike, AreAnswers, TakesAnswer}
 use Rattle.code_rules.specs.Functions.{IsFramed}
-use Rattle.code_rules.specs.Operands.{HasOperands, NamesFormat, sort_told}
+use Rattle.code_rules.specs.Operands.{NamesFormat}
 use Rattle.code_rules.specs.Scopes.{StaysInside}
 use Rattle.code_rules.specs.Whole.{CallsMain, GivesInteger, IsMain, KeepsFlow, KeepsTables}
 use Rattle.code_rules.proofs.AnswerFacts.{alike_answers, all_hold, answer_holds, answers_alike, has_result, result_register, result_takes}

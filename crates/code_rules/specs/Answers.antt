@@ -6,7 +6,7 @@ use Rattle.flat_code.specs.declared.instructions.Op.{Op}
 use Rattle.flat_code.specs.declared.instructions.Op.TheVariants as op
 use Rattle.flat_code.specs.declared.program.Code.{Code}
 use Rattle.flat_code.specs.declared.program.Entry.{Entry}
-use Rattle.flat_code.specs.Sites.{Counts, answered, has_site, site_of}
+use Rattle.flat_code.specs.Sites.{Counts, answered, site_of}
 use Rattle.flat_code.specs.Table.{chosen, register_sort}
 use Rattle.flat_code.specs.WellFormed.{GivesTo, IsAt, handed_before}
 use Rattle.code_rules.specs.Lively.{marked}

@@ -1,5 +1,5 @@
 -- Marks at the instructions of code behind which a register is live.
-use Rattle.std.specs.Prelude.{◌≡◌, ◌<◌, ◌≤◌, ◌&&◌, ◌||◌, ◌↔◌, ℕ, Bool, true, false, not, List, length, slice_index_or, slice_set, count_by, IsTrue}
+use Rattle.std.specs.Prelude.{◌≡◌, ◌<◌, ◌≤◌, ◌&&◌, ◌||◌, ◌↔◌, ℕ, Bool, true, false, not, List, length, slice_index_or, count_by, IsTrue}
 use Rattle.std.specs.List.{list_any}
 use Rattle.flat_code.specs.declared.program.Code.{Code}
 use Rattle.flat_code.specs.Lives.{IsLive, edges_at, reads_at, writes_at}

@@ -1,5 +1,5 @@
 -- Sorts as code keeps them: whether a register holds pointers.
-use Rattle.std.specs.Prelude.{◌≡◌, ◌<◌, ℕ, Bool, true, false, List, [], ◌∷◌, map, length, Option, Some, None, option_map, slice_get, IfSome}
+use Rattle.std.specs.Prelude.{◌<◌, ℕ, Bool, List, map, length, Option, option_map, slice_get, IfSome}
 use Rattle.c_print.specs.Format.{IsFormat}
 use Rattle.c_print.specs.Pieces.{pieces_of}
 use Rattle.core_tree.specs.Sorts.{Sort}

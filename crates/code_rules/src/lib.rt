@@ -1,6 +1,9 @@
-//! The rules of well formed code, one by one: each call says whether code keeps one of them.
+//! Whether flat code is well formed.
 //!
-//! What the rules say stands in `flat_code/specs/WellFormed.antt`.
+//! [`is_well_formed`] decides it for any code. Each rule of `flat_code/specs/WellFormed.antt` is decided by a function of its
+//! own: the rules of tables, of functions, and of each instruction. Two of them speak of paths over the edges of code: which
+//! registers are live at a site, and how many scopes are open. For these, what is known of each instruction grows until
+//! nothing is added.
 #![tactic(auto)]
 
 mod answers;
@@ -15,9 +18,4 @@ mod scopes;
 mod tables;
 mod whole;
 
-pub use live::live_points;
-pub use pins::sites_are_right;
-pub use tables::{
-    are_formats, are_layouts, are_short, are_static_blocks_small, are_statics, is_format, is_layout,
-    lines_from_one, sites_ascend, static_size,
-};
+pub use whole::is_well_formed;

@@ -1,4 +1,4 @@
-use Rattle.std.proofs.Common.{refl, arith, below_more}
+use Rattle.std.proofs.Common.{arith, below_more}
 use Rattle.code_rules.specs.Functions.{IsOf}
 use Rattle.code_rules.proofs.Entries.{found_one, none_found}
 use Rattle.code_rules.proofs.Loops.{not_said}

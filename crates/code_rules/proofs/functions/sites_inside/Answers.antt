@@ -1,5 +1,3 @@
-use Rattle.std.proofs.Common.{◌≤◌, ◌<◌, List, length, take, get_or, sym, subst}
-use Rattle.std.specs.List.{All}
 use Rattle.flat_code.specs.declared.program.Site.{Site}
 use Rattle.code_rules.specs.Functions.{IsOfFunction}
 use Rattle.code_rules.proofs.Loops.{all_of, more, no_more, not_said, transport}

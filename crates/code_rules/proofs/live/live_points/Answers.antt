@@ -1,4 +1,4 @@
-use Rattle.std.proofs.Common.{◌≡◌, List, Bool, false, sym, subst, arith}
+use Rattle.std.proofs.Common.{List, Bool, false, sym, subst, arith}
 use Rattle.code_rules.specs.Lively.{AreMarked, Sweeps}
 use Rattle.code_rules.proofs.Marks.{are_marked, written_back}
 use Rattle.code_rules.proofs.live.live_points.Goals as goal

@@ -1,9 +1,7 @@
-use Rattle.std.proofs.Common.{◌≡◌, List, ℕ, Bool, Option, Some, map, take, min, length, sym, ap, ◌∙◌}
+use Rattle.std.proofs.Common.{◌≡◌, List, Bool, map, take, ap, ◌∙◌}
 use Rattle.std.specs.List.{slice_get}
 use Rattle.std.proofs.lemmas.Result.{IfOk-weaker}
-use Rattle.flat_code.specs.declared.program.Entry.{Entry}
 use Rattle.flat_code.specs.Table.{all_there, call_takes, sort_of}
-use Rattle.code_rules.specs.Operands.{sorts_told}
 use Rattle.code_rules.proofs.Told.{first_sorts}
 use Rattle.code_rules.proofs.operands.parameter_sorts.Goals as goal
 

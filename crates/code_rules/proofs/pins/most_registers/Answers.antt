@@ -1,5 +1,4 @@
 use Rattle.std.proofs.Common.{◌≤◌, length, take, arith}
-use Rattle.std.specs.List.{All}
 use Rattle.std.proofs.lemmas.List.Elements.{All-weaker}
 use Rattle.flat_code.specs.declared.program.Entry.{Entry}
 use Rattle.code_rules.proofs.Loops.{more, whole}

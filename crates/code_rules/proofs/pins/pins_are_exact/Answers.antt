@@ -1,4 +1,4 @@
-use Rattle.std.proofs.Common.{◌≡◌, ◌<◌, ℕ, refl, subst, arith, below_more}
+use Rattle.std.proofs.Common.{refl, arith, below_more}
 use Rattle.flat_code.specs.Sites.{has_site}
 use Rattle.flat_code.specs.WellFormed.{EachInstr}
 use Rattle.code_rules.specs.Answers.{PinsExact}

@@ -1,5 +1,5 @@
-use Rattle.std.proofs.Common.{◌≡◌, List, ℕ, Option, Some, sym, ap, ◌∙◌, subst, arith, length}
-use Rattle.code_rules.specs.Scopes.{AreReached, AreSmall, Fills, depth_at}
+use Rattle.std.proofs.Common.{List, ℕ, Option, sym, ap, ◌∙◌, subst, arith, length}
+use Rattle.code_rules.specs.Scopes.{AreReached, AreSmall, depth_at}
 use Rattle.code_rules.proofs.ScopeFacts.{not_filled, scopes_by_places, start_known, start_reached, start_small}
 use Rattle.code_rules.proofs.scopes.close_alike.Goals as goal
 

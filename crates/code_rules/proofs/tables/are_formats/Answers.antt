@@ -1,8 +1,8 @@
-use Rattle.std.proofs.Common.{◌≡◌, ◌≤◌, List, ℕ, length, take, true, subst}
+use Rattle.std.proofs.Common.{◌≤◌, List, ℕ, length, take, subst}
 use Rattle.std.specs.List.{All}
 use Rattle.c_print.specs.Format.{IsFormat}
 use Rattle.c_print.specs.Pieces.{pieces_of}
-use Rattle.code_rules.proofs.Loops.{all_of, more, no_more, not_said}
+use Rattle.code_rules.proofs.Loops.{all_of, more}
 use Rattle.code_rules.proofs.tables.are_formats.Goals as goal
 
 pub loop-format-preserved : goal.loop-format-preserved

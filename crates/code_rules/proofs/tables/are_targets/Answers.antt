@@ -1,4 +1,3 @@
-use Rattle.std.proofs.Common.{ℕ, refl}
 use Rattle.flat_code.specs.WellFormed.{IsTarget}
 use Rattle.code_rules.proofs.Loops.{all_of, more_at, no_more_at, not_said}
 use Rattle.code_rules.proofs.tables.are_targets.Goals as goal

@@ -1,4 +1,4 @@
-use Rattle.std.proofs.Common.{ℕ, ◌<◌, refl, arith}
+use Rattle.std.proofs.Common.{refl, arith}
 use Rattle.code_rules.proofs.Loops.{ascend}
 use Rattle.code_rules.proofs.tables.sites_ascend.Goals as goal
 

@@ -1,4 +1,4 @@
-use Rattle.std.proofs.Common.{ℕ, refl}
+use Rattle.std.proofs.Common.{ℕ}
 use Rattle.std.specs.List.{Contains}
 use Rattle.code_rules.proofs.Loops.{all_of, more_at, no_more_at, not_said}
 use Rattle.code_rules.proofs.tables.stand_at_slots.Goals as goal

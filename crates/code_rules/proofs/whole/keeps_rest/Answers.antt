@@ -1,4 +1,4 @@
-use Rattle.std.proofs.Common.{List, Option, Bool, sym, subst}
+use Rattle.std.proofs.Common.{sym, subst}
 use Rattle.flat_code.specs.declared.program.Entry.{Entry}
 use Rattle.flat_code.specs.Sites.{HasSite, has_site}
 use Rattle.flat_code.specs.WellFormed.{EachInstr, IsShort}
