@@ -12,9 +12,11 @@ mod ops;
 mod part;
 
 mod reader;
+mod verifier;
 mod whole;
 
 pub use file::{CodeError, CodeFile};
+pub use verifier::verify;
 pub use whole::{read_code, write_code};
 
 #[cfg(test)]

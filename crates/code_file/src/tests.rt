@@ -1,6 +1,6 @@
 //! A code file made by hand, read, looked at and written again; and bytes that are those of no code file.
 
-use crate::{CodeError, CodeFile, read_code, write_code};
+use crate::{CodeError, read_code, verify, write_code};
 use flat_code::{Instr, Op};
 use hs_base::NoMemory;
 use std::alloc::Global;
@@ -135,5 +135,83 @@ fn other_bytes_are_refused(rt: HostRuntime) -> Result<(), Fail> {
 #[test]
 fn nothing_is_refused(rt: HostRuntime) -> Result<(), Fail> {
     assert!(rt; is_bad(rt.alloc(), b""));
+    Ok(())
+}
+
+/// An instruction with two numbers.
+fn put_instr(bytes: &mut Vec<u8>, op: u8, a: u8, b: u8) -> Result<(), NoMemory> {
+    bytes.push(op)?;
+    bytes.extend_from_slice(&[a, 0, 0, 0, b, 0, 0, 0, 0, 0, 0, 0])?;
+    bytes.extend_from_slice(&[0; 8])?;
+    Ok(())
+}
+
+/// A file whose main tests register 0 after a scope, with a target of its jump and a pin of its site:
+///
+/// ```text
+/// 0 start 0
+/// 1 jump 2
+/// 2 hand null
+/// 3 set r0
+/// 4 enter
+/// 5 leave
+/// 6 hand r0
+/// 7 test r1
+/// 8 hand r1
+/// 9 give
+/// ```
+fn walk(alloc: Global, target: u8, pins: &[u8]) -> Result<Vec<u8>, NoMemory> {
+    let mut bytes = Vec::new(alloc);
+    bytes.extend_from_slice(b"HSCODE01\x0a\0\0\0")?;
+    let instrs = [
+        (0, 0, 0),
+        (148, 0, target),
+        (4, 0, 0),
+        (7, 0, 0),
+        (168, 0, 0),
+        (169, 0, 0),
+        (1, 0, 0),
+        (127, 1, 0),
+        (1, 1, 0),
+        (171, 0, 0),
+    ];
+    for (op, a, b) in instrs {
+        put_instr(&mut bytes, op, a, b)?;
+    }
+    // main begins at 1, and has a register for pointers and one for integers
+    bytes.extend_from_slice(b"\x01\0\0\0\x01\0\0\0\0\0\0\0\x02\0\0\0\x01\0\0\0\0\0")?;
+    // no statics, no layouts, and the site of instruction 5
+    bytes.extend_from_slice(b"\0\0\0\0\0\0\0\0\x01\0\0\0\x05\0\0\0")?;
+    bytes.extend_from_slice(pins)?;
+    // the lines, no formats and no statics
+    bytes.extend_from_slice(b"\x0a\0\0\0")?;
+    for _ in 0..10 {
+        bytes.extend_from_slice(b"\x01\0\0\0")?;
+    }
+    bytes.extend_from_slice(b"\0\0\0\0\0\0\0\0")?;
+    // main, of line 1, whose registers have no names
+    bytes.extend_from_slice(b"\x01\0\0\0\x04\0\0\0main\x01\0\0\0\x02\0\0\0\0\0\0\0\0\0")?;
+    Ok(bytes)
+}
+
+#[test]
+fn verified(rt: HostRuntime) -> Result<(), Fail> {
+    let alloc = rt.alloc();
+    // the target of the jump, the pins of the site, and whether the code is well formed
+    let walks: [(u8, &[u8], bool); 5] = [
+        (2, b"\x01\0\0\0\0\0\0\0", true),
+        // past the last instruction, and between what is handed over and what takes it
+        (10, b"\x01\0\0\0\0\0\0\0", false),
+        (3, b"\x01\0\0\0\0\0\0\0", false),
+        // a pointer that is live is left out, and an integer is a pin
+        (2, b"\0\0\0\0", false),
+        (2, b"\x02\0\0\0\0\0\0\0\x01\0\0\0", false),
+    ];
+    for (target, pins, well_formed) in walks {
+        let file = read_code(alloc, &walk(alloc, target, pins)?)?;
+        assert_eq!(rt; verify(alloc, &file)?, well_formed, "to {target} with {pins:?}");
+    }
+    let file = read_code(alloc, &sample(alloc)?)?;
+    assert!(rt; !verify(alloc, &file)?);
     Ok(())
 }
