@@ -125,8 +125,8 @@ start_some bytes rest p ends begins = record {
   fits = (begins.fits, ends);
   spelled = begins.spelled;
   only = λ x others fits is.
-    let one = begins.only (x.layout, (x.bytes, x.pointers)) others fits.0 is in
-    (ap (λ (q : start_tuple). let s : StaticInit = record { layout = q.0; bytes = q.1.0; pointers = q.1.1 } in s) one.0, one.1);
+      let one = begins.only (x.layout, (x.bytes, x.pointers)) others fits.0 is in
+      (ap (λ (q : start_tuple). let s : StaticInit = record { layout = q.0; bytes = q.1.0; pointers = q.1.1 } in s) one.0, one.1);
 }
 
 pub start_zero : (bytes rest : List ℕ) (p : start_tuple) → (EndsOtherwise p.1.0 → ⊥) → Begins start_fits start_spelling bytes rest p → BeginsNone FitsStatic static_bytes bytes
@@ -142,8 +142,8 @@ op_reads bytes rest b (Some o) r begins is gives =
       fits = tt;
       spelled = begins.spelled ∙ ap (λ n. n ∷ rest) (sym is);
       only = λ y others fits that.
-        let one = begins.only (op_number y) others (op_small y) that in
-        (op_once y o (one.0 ∙ sym is), one.1);
+          let one = begins.only (op_number y) others (op_small y) that in
+          (op_once y o (one.0 ∙ sym is), one.1);
     })
 op_reads bytes rest b None r begins none gives =
     subst (λ a. Reads Any (λ o. byte (op_number o)) bytes rest a) (sym gives)

@@ -28,12 +28,12 @@ a_file bytes middle behind rest code names first second third = record {
   spelled = first.spelled ∙ ap (λ (s : List ℕ). codes "HSCODE01" ++ s)
       (second.spelled ∙ ap (λ (s : List ℕ). code_bytes code ++ s) third.spelled ∙ sym (append_assoc (code_bytes code) (names_bytes names) rest));
   only = λ file others fits is.
-    let x = first.only tt ((code_bytes file.code ++ names_bytes file.names) ++ others) tt is in
-    let y = second.only file.code (names_bytes file.names ++ others) fits.code (sym x.1 ∙ append_assoc (code_bytes file.code) (names_bytes file.names) others) in
-    let z = third.only file.names others (subst (λ (c : Code). FitsNames c file.names) y.0 fits.names) (sym y.1) in
-    let with_code : Code → CodeFile = λ c. record { code = c; names = file.names } in
-    let with_names : Core → CodeFile = λ n. record { code = code; names = n } in
-    (ap with_code y.0 ∙ ap with_names z.0, z.1);
+      let x = first.only tt ((code_bytes file.code ++ names_bytes file.names) ++ others) tt is in
+      let y = second.only file.code (names_bytes file.names ++ others) fits.code (sym x.1 ∙ append_assoc (code_bytes file.code) (names_bytes file.names) others) in
+      let z = third.only file.names others (subst (λ (c : Code). FitsNames c file.names) y.0 fits.names) (sym y.1) in
+      let with_code : Code → CodeFile = λ c. record { code = c; names = file.names } in
+      let with_names : Core → CodeFile = λ n. record { code = code; names = n } in
+      (ap with_code y.0 ∙ ap with_names z.0, z.1);
 }
 
 -- the whole of the bytes
@@ -55,5 +55,5 @@ nothing_is_left bytes front rest read all begins none = record {
   ranged = file_ranged read begins.fits;
   spelled = sym (append-nil (spelling read)) ∙ ap (λ (s : List ℕ). spelling read ++ s) (sym none) ∙ sym begins.spelled ∙ all;
   only = λ file writable ranged spelled.
-    (begins.only file [] (file_fits file writable ranged) (all ∙ sym spelled ∙ sym (append-nil (spelling file)))).0;
+      (begins.only file [] (file_fits file writable ranged) (all ∙ sym spelled ∙ sym (append-nil (spelling file)))).0;
 }

@@ -18,9 +18,9 @@ then_some P Q one two bytes middle rest a b first second = record {
   fits = (first.fits, second.fits);
   spelled = first.spelled ∙ ap (λ (s : List ℕ). one a ++ s) second.spelled ∙ sym (append_assoc (one a) (two b) rest);
   only = λ p others fits is.
-    let x = first.only p.0 (two p.1 ++ others) fits.0 (is ∙ append_assoc (one p.0) (two p.1) others) in
-    let y = second.only p.1 others fits.1 (sym x.1) in
-    (ap (λ a. (a, p.1)) x.0 ∙ ap (λ b. (a, b)) y.0, y.1);
+      let x = first.only p.0 (two p.1 ++ others) fits.0 (is ∙ append_assoc (one p.0) (two p.1) others) in
+      let y = second.only p.1 others fits.1 (sym x.1) in
+      (ap (λ a. (a, p.1)) x.0 ∙ ap (λ b. (a, b)) y.0, y.1);
 }
 
 pub none_first : {A B : Type 0} (P : A → Type 0) (Q : B → Type 0) (one : A → List ℕ) (two : B → List ℕ) (bytes : List ℕ) →
@@ -115,9 +115,11 @@ a_function entry bytes rest p body formats no_body no_formats count begins = rec
   };
   spelled = begins.spelled;
   only = λ f others fits is.
-    let one = begins.only (tuple_of f) others (parts_fit entry f fits) is in
-    (ap (λ n. function_of (tuple_of f) n f.body f.formats) fits.params
-    ∙ ap (λ (b : List Stm). function_of (tuple_of f) entry.params b f.formats) (fits.body ∙ sym no_body)
-    ∙ ap (λ (l : List (List ℕ)). function_of (tuple_of f) entry.params body l) (fits.formats ∙ sym no_formats)
-    ∙ ap (λ (q : FunctionTuple). function_of q entry.params body formats) one.0, one.1);
+      let one = begins.only (tuple_of f) others (parts_fit entry f fits) is in (
+        ap (λ n. function_of (tuple_of f) n f.body f.formats) fits.params
+            ∙ ap (λ (b : List Stm). function_of (tuple_of f) entry.params b f.formats) (fits.body ∙ sym no_body)
+            ∙ ap (λ (l : List (List ℕ)). function_of (tuple_of f) entry.params body l) (fits.formats ∙ sym no_formats)
+            ∙ ap (λ (q : FunctionTuple). function_of q entry.params body formats) one.0,
+        one.1,
+      );
 }

@@ -44,8 +44,8 @@ under_none Fits item count bytes left first = record {
   fits = All-nil Fits;
   spelled = first.spelled;
   only = λ ys others fit is.
-    let one = first.only (length ys) (flat_map item ys ++ others) fit.0 (is ∙ append_assoc (number (length ys)) (flat_map item ys) others) in
-    (one.0, refl, one.1);
+      let one = first.only (length ys) (flat_map item ys ++ others) fit.0 (is ∙ append_assoc (number (length ys)) (flat_map item ys) others) in
+      (one.0, refl, one.1);
 }
 
 pub under_more : {X : Type 0} (Fits : X → Type 0) (item : X → List ℕ) (count done : ℕ) (bytes left after : List ℕ) (items : List X) (x : X) → done < count →
@@ -57,11 +57,11 @@ under_more Fits item count done bytes left after items x inside under next = rec
       (ap (λ (s : List ℕ). flat_map item items ++ s) next.spelled ∙ sym (append_assoc (flat_map item items) (item x) after)
       ∙ ap (λ (s : List ℕ). s ++ after) (flat_map_more item [] items x));
   only = λ ys others fit is.
-    let so = under.only ys others fit is in
-    let here = at Fits ys done fit.1 (omega arith) in
-    let one = next.only here.item (flat_map item here.behind ++ others) here.holds
-        (sym so.2 ∙ ap (λ (zs : List _). flat_map item zs ++ others) here.from ∙ append_assoc (item here.item) (flat_map item here.behind) others) in
-    (so.0, here.until ∙ ap (λ (zs : List _). zs ++ here.item ∷ []) so.1 ∙ ap (λ y. items ++ y ∷ []) one.0, ap (λ (zs : List _). flat_map item zs ++ others) here.next ∙ one.1);
+      let so = under.only ys others fit is in
+      let here = at Fits ys done fit.1 (omega arith) in
+      let one = next.only here.item (flat_map item here.behind ++ others) here.holds
+      (sym so.2 ∙ ap (λ (zs : List _). flat_map item zs ++ others) here.from ∙ append_assoc (item here.item) (flat_map item here.behind) others) in
+      (so.0, here.until ∙ ap (λ (zs : List _). zs ++ here.item ∷ []) so.1 ∙ ap (λ y. items ++ y ∷ []) one.0, ap (λ (zs : List _). flat_map item zs ++ others) here.next ∙ one.1);
 }
 
 pub under_stops : {X : Type 0} (Fits : X → Type 0) (item : X → List ℕ) (count done : ℕ) (bytes left : List ℕ) (items : List X) → done < count →
@@ -91,8 +91,8 @@ under_all Fits item count bytes left items small under = record {
   fits = (omega (arith, under.long), under.fits);
   spelled = under.spelled ∙ ap (λ n. number n ++ (flat_map item items ++ left)) (sym under.long) ∙ sym (append_assoc (number (length items)) (flat_map item items) left);
   only = λ ys others fit is.
-    let so = under.only ys others fit is in
-    (sym (take_whole count ys so.0) ∙ so.1, ap (λ (zs : List _). flat_map item zs ++ others) (sym (drop_whole count ys so.0)) ∙ so.2);
+      let so = under.only ys others fit is in
+      (sym (take_whole count ys so.0) ∙ so.1, ap (λ (zs : List _). flat_map item zs ++ others) (sym (drop_whole count ys so.0)) ∙ so.2);
 }
 
 pub no_count : {X : Type 0} (Fits : X → Type 0) (item : X → List ℕ) (bytes : List ℕ) →

@@ -47,8 +47,8 @@ along_none Fits item known count bytes left all first = record {
   short = subst (λ n. n < 2 ^ 32) all first.fits;
   spelled = first.spelled ∙ ap (λ n. number n ++ left) all;
   only = λ ys others fit is.
-    let one = first.only (length ys) (flat_map item ys ++ others) fit.0 (is ∙ append_assoc (number (length ys)) (flat_map item ys) others) in
-    (refl, one.1);
+      let one = first.only (length ys) (flat_map item ys ++ others) fit.0 (is ∙ append_assoc (number (length ys)) (flat_map item ys) others) in
+      (refl, one.1);
 }
 
 pub along_more : {K X : Type 0} (Fits : K → X → Type 0) (item : X → List ℕ) (known : List K) (done : ℕ) (bytes left after : List ℕ) (items : List X) (k : K) (x : X) → done < length known → k ≡ get_or known done k →
@@ -56,18 +56,18 @@ pub along_more : {K X : Type 0} (Fits : K → X → Type 0) (item : X → List �
 along_more Fits item known done bytes left after items k x inside is so_far next = record {
   long = length_push items x ∙ ap (λ n. n + 1) so_far.long;
   fits =
-    subst (λ (ks : List _). AllZip Fits ks (items ++ x ∷ [])) (ap (λ c. take done known ++ c ∷ []) is ∙ sym (take_more known done k inside))
-    (zip_push Fits (take done known) items k x so_far.fits next.fits);
+      subst (λ (ks : List _). AllZip Fits ks (items ++ x ∷ [])) (ap (λ c. take done known ++ c ∷ []) is ∙ sym (take_more known done k inside))
+      (zip_push Fits (take done known) items k x so_far.fits next.fits);
   short = so_far.short;
   spelled = so_far.spelled ∙ ap (λ (s : List ℕ). number (length known) ++ s)
       (ap (λ (s : List ℕ). flat_map item items ++ s) next.spelled ∙ sym (append_assoc (flat_map item items) (item x) after)
       ∙ ap (λ (s : List ℕ). s ++ after) (flat_map_more item [] items x));
   only = λ ys others fit that.
-    let so = so_far.only ys others fit that in
-    let here = at_beside Fits known ys done k fit.1 is inside in
-    let one = next.only here.item (flat_map item here.behind ++ others) here.holds
-        (sym so.1 ∙ ap (λ (zs : List _). flat_map item zs ++ others) here.from ∙ append_assoc (item here.item) (flat_map item here.behind) others) in
-    (here.until ∙ ap (λ (zs : List _). zs ++ here.item ∷ []) so.0 ∙ ap (λ y. items ++ y ∷ []) one.0, ap (λ (zs : List _). flat_map item zs ++ others) here.next ∙ one.1);
+      let so = so_far.only ys others fit that in
+      let here = at_beside Fits known ys done k fit.1 is inside in
+      let one = next.only here.item (flat_map item here.behind ++ others) here.holds
+      (sym so.1 ∙ ap (λ (zs : List _). flat_map item zs ++ others) here.from ∙ append_assoc (item here.item) (flat_map item here.behind) others) in
+      (here.until ∙ ap (λ (zs : List _). zs ++ here.item ∷ []) so.0 ∙ ap (λ y. items ++ y ∷ []) one.0, ap (λ (zs : List _). flat_map item zs ++ others) here.next ∙ one.1);
 }
 
 pub along_stops : {K X : Type 0} (Fits : K → X → Type 0) (item : X → List ℕ) (known : List K) (done : ℕ) (bytes left : List ℕ) (items : List X) (k : K) → done < length known → k ≡ get_or known done k →
@@ -85,9 +85,9 @@ along_all Fits item known done bytes left items all so_far = record {
   fits = (subst (λ n. n < 2 ^ 32) (all ∙ sym so_far.long) so_far.short, subst (λ (ks : List _). AllZip Fits ks items) (take_whole done known all) so_far.fits);
   spelled = so_far.spelled ∙ ap (λ n. number n ++ (flat_map item items ++ left)) (all ∙ sym so_far.long) ∙ sym (append_assoc (number (length items)) (flat_map item items) left);
   only = λ ys others fit that.
-    let so = so_far.only ys others fit that in
-    let long : length ys ≡ done = AllZip-long Fits known ys fit.1 ∙ all in
-    (sym (take_whole done ys long) ∙ so.0, ap (λ (zs : List _). flat_map item zs ++ others) (sym (drop_whole done ys long)) ∙ so.1);
+      let so = so_far.only ys others fit that in
+      let long : length ys ≡ done = AllZip-long Fits known ys fit.1 ∙ all in
+      (sym (take_whole done ys long) ∙ so.0, ap (λ (zs : List _). flat_map item zs ++ others) (sym (drop_whole done ys long)) ∙ so.1);
 }
 
 pub no_count_beside : {K X : Type 0} (Fits : K → X → Type 0) (item : X → List ℕ) (known : List K) (bytes : List ℕ) →

@@ -50,7 +50,7 @@ pub signed_once : (m n : ℤ) → FitsSigned w64 m → FitsSigned w64 n → sign
 unfolding signed
 signed_once m n small other same =
     let bits : cast_unsigned w64 m ≡ cast_unsigned w64 n =
-        sym (from_le_bytes-to_le_bytes_8 (cast_unsigned w64 m) (bits_small m small)) ∙ ap (from_le_bytes w64) same ∙ from_le_bytes-to_le_bytes_8 (cast_unsigned w64 n) (bits_small n other) in
+    sym (from_le_bytes-to_le_bytes_8 (cast_unsigned w64 m) (bits_small m small)) ∙ ap (from_le_bytes w64) same ∙ from_le_bytes-to_le_bytes_8 (cast_unsigned w64 n) (bits_small n other) in
     sym (to_z-of_z w64 m small) ∙ ap (cast_signed w64) bits ∙ to_z-of_z w64 n other
 
 -- a number with a sign, as code passes it

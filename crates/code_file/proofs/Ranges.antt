@@ -67,17 +67,28 @@ name_ranged (Some name) fits = fits.1
 -- Code
 
 code_fits : (code : Code) → IsShortCode code → All (λ (s : StaticInit). EndsOtherwise s.bytes) code.statics → IsRangedCode code → FitsCode code
-code_fits code short ends ranged =
-    (joined Any (λ (i : Instr). IsNumber i.a × IsNumber i.b × IsNumber i.c × IsSigned i.imm) FitsInstr (λ i s r. (tt, (r.0, (r.1, (r.2, r.3))))) code.instrs (any_list code.instrs short.instrs) ranged.instrs
-    , (joined IsShortEntry (λ (e : Entry). IsNumber e.first × IsNumber e.params × All IsNumber e.mems) FitsEntry (λ e s r. (r.0, (r.1, (any_list e.kinds s.0, (s.1, r.2))))) code.funcs short.funcs ranged.funcs
-    , (joined (λ (s : StaticInit). IsShortStatic s × EndsOtherwise s.bytes)
-      (λ (s : StaticInit). IsNumber s.layout × All IsByte s.bytes × All (λ (p : ℕ × ℕ × ℕ). IsNumber p.0 × IsNumber p.1 × IsNumber p.2) s.pointers) FitsStatic
-      (λ s h r. ((r.0, ((h.0.0, r.1), (h.0.1, λ k d i. let q = r.2 k d i in (q.0, (q.1, q.2))))), h.1))
-      code.statics (short.statics.0, λ k d h. (short.statics.1 k d h, ends k d h)) ranged.statics
-    , (joined (λ (l : Layout). IsShort l.slots) (λ (l : Layout). IsNumber l.size × IsNumber l.align × All IsNumber l.slots) FitsLayout (λ l s r. (r.0, (r.1, (s, r.2)))) code.layouts short.layouts ranged.layouts
-    , (joined (λ (s : Site). IsShort s.pins) (λ (s : Site). IsNumber s.instr × All IsNumber s.pins) FitsSite (λ s h r. (r.0, (h, r.1))) code.sites short.sites ranged.sites
-    , ((short.lines, ranged.lines)
-    , joined IsShort (All IsByte) (IsShortList IsByte) (λ f s r. (s, r)) code.formats short.formats ranged.formats))))))
+code_fits code short ends ranged = (
+  joined Any (λ (i : Instr). IsNumber i.a × IsNumber i.b × IsNumber i.c × IsSigned i.imm) FitsInstr (λ i s r. (tt, (r.0, (r.1, (r.2, r.3))))) code.instrs (any_list code.instrs short.instrs) ranged.instrs,
+  (
+    joined IsShortEntry (λ (e : Entry). IsNumber e.first × IsNumber e.params × All IsNumber e.mems) FitsEntry (λ e s r. (r.0, (r.1, (any_list e.kinds s.0, (s.1, r.2))))) code.funcs short.funcs ranged.funcs,
+    (
+      joined (λ (s : StaticInit). IsShortStatic s × EndsOtherwise s.bytes)
+          (λ (s : StaticInit). IsNumber s.layout × All IsByte s.bytes × All (λ (p : ℕ × ℕ × ℕ). IsNumber p.0 × IsNumber p.1 × IsNumber p.2) s.pointers) FitsStatic
+          (λ s h r. ((r.0, ((h.0.0, r.1), (h.0.1, λ k d i. let q = r.2 k d i in (q.0, (q.1, q.2))))), h.1))
+          code.statics (short.statics.0, λ k d h. (short.statics.1 k d h, ends k d h)) ranged.statics,
+      (
+        joined (λ (l : Layout). IsShort l.slots) (λ (l : Layout). IsNumber l.size × IsNumber l.align × All IsNumber l.slots) FitsLayout (λ l s r. (r.0, (r.1, (s, r.2)))) code.layouts short.layouts ranged.layouts,
+        (
+          joined (λ (s : Site). IsShort s.pins) (λ (s : Site). IsNumber s.instr × All IsNumber s.pins) FitsSite (λ s h r. (r.0, (h, r.1))) code.sites short.sites ranged.sites,
+          (
+            (short.lines, ranged.lines),
+            joined IsShort (All IsByte) (IsShortList IsByte) (λ f s r. (s, r)) code.formats short.formats ranged.formats,
+          ),
+        ),
+      ),
+    ),
+  ),
+)
 
 code_short : (code : Code) → FitsCode code → IsShortCode code
 code_short code fits = record {
@@ -98,7 +109,7 @@ code_ranged code fits = record {
   instrs = ranged_of (λ (i : Instr). IsNumber i.a × IsNumber i.b × IsNumber i.c × IsSigned i.imm) FitsInstr (λ i f. (f.1.0, f.1.1.0, f.1.1.1.0, f.1.1.1.1)) code.instrs fits.0;
   funcs = ranged_of (λ (e : Entry). IsNumber e.first × IsNumber e.params × All IsNumber e.mems) FitsEntry (λ e f. (f.0, f.1.0, f.1.1.1.1)) code.funcs fits.1.0;
   statics = ranged_of (λ (s : StaticInit). IsNumber s.layout × All IsByte s.bytes × All (λ (p : ℕ × ℕ × ℕ). IsNumber p.0 × IsNumber p.1 × IsNumber p.2) s.pointers) FitsStatic
-    (λ s f. (f.0.0, f.0.1.0.1, λ k d h. let q = f.0.1.1.1 k d h in (q.0, q.1.0, q.1.1))) code.statics fits.1.1.0;
+      (λ s f. (f.0.0, f.0.1.0.1, λ k d h. let q = f.0.1.1.1 k d h in (q.0, q.1.0, q.1.1))) code.statics fits.1.1.0;
   layouts = ranged_of (λ (l : Layout). IsNumber l.size × IsNumber l.align × All IsNumber l.slots) FitsLayout (λ l f. (f.0, f.1.0, f.1.1.1)) code.layouts fits.1.1.1.0;
   sites = ranged_of (λ (s : Site). IsNumber s.instr × All IsNumber s.pins) FitsSite (λ s f. (f.0, f.1.1)) code.sites fits.1.1.1.1.0;
   lines = fits.1.1.1.1.1.0.1;
@@ -118,9 +129,11 @@ function_fits entry f agrees is = record {
   name = (is.short.name, is.ranged.name);
   line = is.ranged.line;
   params = agrees.params;
-  registers = (is.short.registers.0,
+  registers = (
+    is.short.registers.0,
     zip_joined (λ (pointer : Bool) (reg : Reg). reg.pointer ≡ pointer) FitsRegister (λ (r : Reg). IfSome r.name IsShort × IfSome r.name (All IsByte))
-    (λ pointer r same names. (name_fits r.name names.0 names.1, same)) entry.kinds f.regs agrees.registers (λ k d h. (is.short.registers.1 k d h, is.ranged.registers k d h)));
+        (λ pointer r same names. (name_fits r.name names.0 names.1, same)) entry.kinds f.regs agrees.registers (λ k d h. (is.short.registers.1 k d h, is.ranged.registers k d h)),
+  );
   mems = joined (λ (m : Mem). IsShort m.name) (λ (m : Mem). All IsByte m.name × IsBareMemory m) FitsMemoryName (λ m s r. ((s, r.0), r.1)) f.mems is.short.mems (λ k d h. (is.ranged.mems k d h, is.bare.mems k d h));
   count = agrees.mems;
   body = is.bare.body;
@@ -163,11 +176,13 @@ file_fits file writable ranged = record {
   code = code_fits file.code writable.code writable.ends ranged.code;
   names = record {
     statics = joined (λ (s : Static). IfSome s.name IsShort) (λ (s : Static). IfSome s.name (All IsByte) × IsBareStatic s) FitsStaticName
-      (λ s short r. (name_fits s.name short r.0, r.1)) file.names.statics writable.names.statics (λ k d h. (ranged.statics k d h, writable.bare_statics k d h));
+        (λ s short r. (name_fits s.name short r.0, r.1)) file.names.statics writable.names.statics (λ k d h. (ranged.statics k d h, writable.bare_statics k d h));
     count = writable.agree.statics;
-    funcs = (writable.names.funcs.0,
+    funcs = (
+      writable.names.funcs.0,
       zip_joined AgreesWith FitsFunction Bare function_fits file.code.funcs file.names.funcs writable.agree.functions
-      (λ k d h. record { short = writable.names.funcs.1 k d h; ranged = ranged.funcs k d h; bare = writable.bare_functions k d h }));
+          (λ k d h. record { short = writable.names.funcs.1 k d h; ranged = ranged.funcs k d h; bare = writable.bare_functions k d h }),
+    );
   };
 }
 

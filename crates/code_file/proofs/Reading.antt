@@ -29,8 +29,8 @@ of_width Fits spell width bytes front rest x wide once fits spelled is = record 
   fits = fits;
   spelled = is ∙ ap (λ (s : List ℕ). s ++ rest) (sym spelled);
   only = λ y others also that.
-    let both = same_fronts (spell y) (spell x) others rest (wide y ∙ sym (wide x)) (sym that ∙ is ∙ ap (λ (s : List ℕ). s ++ rest) (sym spelled)) in
-    (once y also both.0, both.1);
+      let both = same_fronts (spell y) (spell x) others rest (wide y ∙ sym (wide x)) (sym that ∙ is ∙ ap (λ (s : List ℕ). s ++ rest) (sym spelled)) in
+      (once y also both.0, both.1);
 }
 
 pub too_short : {X : Type 0} (Fits : X → Type 0) (spell : X → List ℕ) (width : ℕ) (bytes : List ℕ) →
@@ -61,6 +61,6 @@ struct_some Fits spell Part part to from back fits_to fits_from spell_to spell_f
   fits = fits_from p begins.fits;
   spelled = begins.spelled ∙ ap (λ (s : List ℕ). s ++ rest) (spell_from p);
   only = λ x others fits is.
-    let one = begins.only (to x) others (fits_to x fits) (is ∙ ap (λ (s : List ℕ). s ++ others) (spell_to x)) in
-    (sym (back x) ∙ ap from one.0, one.1);
+      let one = begins.only (to x) others (fits_to x fits) (is ∙ ap (λ (s : List ℕ). s ++ others) (spell_to x)) in
+      (sym (back x) ∙ ap from one.0, one.1);
 }

@@ -218,13 +218,22 @@ impl Spelled for Code {
 }
 
 /// The tables behind the functions.
-type Tables = (Items<StaticInit>, (Items<Layout>, (Items<Site>, (Items<Line>, Items<Items<u8>>))));
+type Tables = (
+    Items<StaticInit>,
+    (
+        Items<Layout>,
+        (Items<Site>, (Items<Line>, Items<Items<u8>>)),
+    ),
+);
 
 impl Part for Code {
     ghost fits = { FitsCode };
 
     fn read(reader: &mut Reader) -> Result<Code, CodeError> {
-        let (instrs, (funcs, (statics, (layouts, (sites, (lines, formats)))))) = <(Items<Instr>, (Items<Entry>, Tables))>::read(reader)?;
+        let (instrs, (funcs, (statics, (layouts, (sites, (lines, formats)))))) = <(
+            Items<Instr>,
+            (Items<Entry>, Tables),
+        )>::read(reader)?;
         Ok(Code {
             instrs,
             funcs,

@@ -10,7 +10,6 @@ mod file;
 mod names;
 mod ops;
 mod part;
-
 mod reader;
 mod verifier;
 mod whole;

@@ -209,7 +209,11 @@ fn verified(rt: HostRuntime) -> Result<(), Fail> {
     ];
     for (target, pins, well_formed) in walks {
         let file = read_code(alloc, &walk(alloc, target, pins)?)?;
-        assert_eq!(rt; verify(alloc, &file)?, well_formed, "to {target} with {pins:?}");
+        assert_eq!(rt;
+            verify(alloc, &file)?,
+            well_formed,
+            "to {target} with {pins:?}"
+        );
     }
     let file = read_code(alloc, &sample(alloc)?)?;
     assert!(rt; !verify(alloc, &file)?);

@@ -82,24 +82,24 @@ step_one code f entry next after old new change.More from inside puts =
       kept = λ c. absurd (cc);
       known = λ c. absurd (cc);
       stays = λ q s is.
-        ⊎_elim
-        (λ (here : q ≡ place). let none : None ≡ Some s = sym puts.1 ∙ ap (λ n. get_or old n None) (sym here) ∙ is in absurd (cc))
-        (λ (other : q ≢ place). get_or-set_other old place q (Some after) None other ∙ is)
-        (cases_eq q place);
+          ⊎_elim
+          (λ (here : q ≡ place). let none : None ≡ Some s = sym puts.1 ∙ ap (λ n. get_or old n None) (sym here) ∙ is in absurd (cc))
+          (λ (other : q ≢ place). get_or-set_other old place q (Some after) None other ∙ is)
+          (cases_eq q place);
       reached = λ ways reached q s is.
-        ⊎_elim
-        (λ (here : q ≡ place).
+          ⊎_elim
+          (λ (here : q ≡ place).
           let found : Some after ≡ Some s = sym (get_or-set_same old place (Some after) None inside) ∙ ap (λ n. get_or (set old place (Some after)) n None) (sym here) ∙ is in
           subst (λ n. Opens code f entry (entry.first + n) s) (sym here) (subst (λ n. Opens code f entry n s) (sym same) (subst (λ t. Opens code f entry next t) (some_same after s found) (ways next (0, omega arith, refl)).1)))
-        (λ (other : q ≢ place). reached q s (sym (get_or-set_other old place q (Some after) None other) ∙ is))
-        (cases_eq q place);
+          (λ (other : q ≢ place). reached q s (sym (get_or-set_other old place q (Some after) None other) ∙ is))
+          (cases_eq q place);
       small = λ few small q s is.
-        ⊎_elim
-        (λ (here : q ≡ place).
+          ⊎_elim
+          (λ (here : q ≡ place).
           let found : Some after ≡ Some s = sym (get_or-set_same old place (Some after) None inside) ∙ ap (λ n. get_or (set old place (Some after)) n None) (sym here) ∙ is in
           let e : after ≡ s = some_same after s found in omega arith)
-        (λ (other : q ≢ place). let before : s + unknown old ≤ length old = small q s (sym (get_or-set_other old place q (Some after) None other) ∙ is) in omega arith)
-        (cases_eq q place);
+          (λ (other : q ≢ place). let before : s + unknown old ≤ length old = small q s (sym (get_or-set_other old place q (Some after) None other) ∙ is) in omega arith)
+          (cases_eq q place);
       clash = λ c. absurd (cc);
       fewer = omega arith;
       less = λ _. omega arith;
@@ -115,7 +115,7 @@ step_one code f entry next after old new change.Clash from inside puts =
       reached = λ ways reached. subst (AreReached code f entry) (sym puts.0) reached;
       small = λ few small. subst AreSmall (sym puts.0) small;
       clash = λ _ ways reached scopes.
-        puts.3 (scopes.same next puts.1 after (subst (λ n. Opens code f entry n puts.1) same (reached place puts.1 puts.2)) (ways next (0, omega arith, refl)).1);
+          puts.3 (scopes.same next puts.1 after (subst (λ n. Opens code f entry n puts.1) same (reached place puts.1 puts.2)) (ways next (0, omega arith, refl)).1);
       fewer = let e = ap unknown puts.0 in omega arith;
       less = λ c. absurd (cc);
     }
@@ -145,21 +145,21 @@ step_join code f entry xs ys after old middle new a b one two = record {
   long = two.long ∙ one.long;
   kept = λ c. let both = joined_same a b c in two.kept both.1 ∙ one.kept both.0;
   known = λ c.
-    let both = joined_same a b c in
-    All-append (λ next. depth_at old (next - entry.first) ≡ Some after) xs ys (one.known both.0)
-    (subst (λ (l : List (Option ℕ)). All (λ next. depth_at l (next - entry.first) ≡ Some after) ys) (one.kept both.0) (two.known both.1));
+      let both = joined_same a b c in
+      All-append (λ next. depth_at old (next - entry.first) ≡ Some after) xs ys (one.known both.0)
+      (subst (λ (l : List (Option ℕ)). All (λ next. depth_at l (next - entry.first) ≡ Some after) ys) (one.kept both.0) (two.known both.1));
   stays = λ q s is. two.stays q s (one.stays q s is);
   reached = λ ways reached. two.reached (λ n h. ways n (Contains-append_right xs ys n h)) (one.reached (λ n h. ways n (Contains-append_left xs ys n h)) reached);
   small = λ few small. let fewer = one.fewer in let long = one.long in two.small (omega arith) (one.small few small);
   clash = λ c ways reached.
-    ⊎_elim
-    (λ (first : a ≡ change.Clash). one.clash first (λ n h. ways n (Contains-append_left xs ys n h)) reached)
-    (λ (second : b ≡ change.Clash). two.clash second (λ n h. ways n (Contains-append_right xs ys n h)) (one.reached (λ n h. ways n (Contains-append_left xs ys n h)) reached))
-    (joined_clash a b c);
+      ⊎_elim
+      (λ (first : a ≡ change.Clash). one.clash first (λ n h. ways n (Contains-append_left xs ys n h)) reached)
+      (λ (second : b ≡ change.Clash). two.clash second (λ n h. ways n (Contains-append_right xs ys n h)) (one.reached (λ n h. ways n (Contains-append_left xs ys n h)) reached))
+      (joined_clash a b c);
   fewer = let p = one.fewer in let q = two.fewer in omega arith;
   less = λ c.
-    let p = one.fewer in let q = two.fewer in
-    ⊎_elim (λ (first : a ≡ change.More). let r = one.less first in omega arith) (λ (second : b ≡ change.More). let r = two.less second in omega arith) (joined_more a b c);
+      let p = one.fewer in let q = two.fewer in
+      ⊎_elim (λ (first : a ≡ change.More). let r = one.less first in omega arith) (λ (second : b ≡ change.More). let r = two.less second in omega arith) (joined_more a b c);
 }
 
 step_same : (code : Code) (f : ℕ) (entry : Entry) (after : ℕ) (old new : List (Option ℕ)) (c : Change) → new ≡ old → c ≡ change.Same → Step code f entry [] after old new c
@@ -194,7 +194,7 @@ moves_none code f entry place depths none = record {
   long = refl;
   kept = λ _. refl;
   closed = λ _ q from before scopes i known here. let same : q ≡ place = omega arith in
-    absurd (none scopes i (subst (λ n. depth_at depths n ≡ Some scopes) same known) (subst (λ n. slice_get code.instrs (entry.first + n) ≡ Some i) same here));
+      absurd (none scopes i (subst (λ n. depth_at depths n ≡ Some scopes) same known) (subst (λ n. slice_get code.instrs (entry.first + n) ≡ Some i) same here));
   stays = λ q s is. is;
   reached = λ reached. reached;
   small = λ small. small;
@@ -211,19 +211,19 @@ moves_step code f entry place scopes i nexts old new c function before known her
     let after = scopes_after i.op scopes in
     let at : IsAt code f entry point i = record { function = function; from = omega arith; before = before; here = here } in
     let ways : AreReached code f entry old → Open code f entry nexts after = λ reached n there.
-        (from n there, Opens.goes point n scopes i (reached place scopes known) at (subst (λ (l : List ℕ). Contains l n) (sym is) there)) in
+    (from n there, Opens.goes point n scopes i (reached place scopes known) at (subst (λ (l : List ℕ). Contains l n) (sym is) there)) in
     let few = small place scopes known in let more = more_by_one i.op scopes in
     record {
       long = step.long;
       kept = step.kept;
       closed = λ same q first end s j known_q here_q.
-        let one : q ≡ place = omega arith in
-        let s_is : s ≡ scopes = some_same s scopes (sym known_q ∙ ap (λ n. depth_at old n) one ∙ known) in
-        let j_is : j ≡ i = instr_same j i (sym here_q ∙ ap (λ n. slice_get code.instrs (entry.first + n)) one ∙ here) in
-        subst (λ n. All (λ next. depth_at old (next - entry.first) ≡ Some (scopes_after j.op s)) (edges j j.op (entry.first + n))) (sym one)
-        (subst (λ t. All (λ next. depth_at old (next - entry.first) ≡ Some (scopes_after j.op t)) (edges j j.op point)) (sym s_is)
-        (subst (λ (k : Instr). All (λ next. depth_at old (next - entry.first) ≡ Some (scopes_after k.op scopes)) (edges k k.op point)) (sym j_is)
-        (subst (λ (l : List ℕ). All (λ next. depth_at old (next - entry.first) ≡ Some after) l) (sym is) (step.known same))));
+          let one : q ≡ place = omega arith in
+          let s_is : s ≡ scopes = some_same s scopes (sym known_q ∙ ap (λ n. depth_at old n) one ∙ known) in
+          let j_is : j ≡ i = instr_same j i (sym here_q ∙ ap (λ n. slice_get code.instrs (entry.first + n)) one ∙ here) in
+          subst (λ n. All (λ next. depth_at old (next - entry.first) ≡ Some (scopes_after j.op s)) (edges j j.op (entry.first + n))) (sym one)
+          (subst (λ t. All (λ next. depth_at old (next - entry.first) ≡ Some (scopes_after j.op t)) (edges j j.op point)) (sym s_is)
+          (subst (λ (k : Instr). All (λ next. depth_at old (next - entry.first) ≡ Some (scopes_after k.op scopes)) (edges k k.op point)) (sym j_is)
+          (subst (λ (l : List ℕ). All (λ next. depth_at old (next - entry.first) ≡ Some after) l) (sym is) (step.known same))));
       stays = step.stays;
       reached = λ reached. step.reached (ways reached) reached;
       small = λ h. step.small (omega arith) h;
@@ -244,8 +244,8 @@ pub next_inside : (code : Code) (f : ℕ) (entry : Entry) (place : ℕ) (i : Ins
     slice_get code.instrs (entry.first + place) ≡ Some i → edges i i.op (entry.first + place) ≡ leads_to e (entry.first + place) → e.next ≡ true → place + 1 < length depths
 next_inside code f entry place i e depths inside long less here is on =
     let there : Contains (leads_to e (entry.first + place)) (entry.first + place + 1) =
-        subst (λ b. Contains (cond b ((entry.first + place + 1) ∷ []) [] ++ given_target e.target) (entry.first + place + 1)) (sym on)
-        (Contains-append_left ((entry.first + place + 1) ∷ []) (given_target e.target) (entry.first + place + 1) (0, omega arith, refl)) in
+    subst (λ b. Contains (cond b ((entry.first + place + 1) ∷ []) [] ++ given_target e.target) (entry.first + place + 1)) (sym on)
+    (Contains-append_left ((entry.first + place + 1) ∷ []) (given_target e.target) (entry.first + place + 1) (0, omega arith, refl)) in
     let one = ways_inside code f entry place i (leads_to e (entry.first + place)) depths inside long less here is (entry.first + place + 1) there in
     let b = one.1 in omega arith
 
@@ -264,7 +264,7 @@ visited code f entry place scopes after i e old middle new a b r function inside
     let first = step_next code f entry (point + 1) (place + 1) after e.next old middle a (omega arith) (next_inside code f entry place i e old inside long less here is) one in
     let length_is = first.long in
     let second = step_target code f entry after e.target middle new b
-        (λ next there. let t = target_inside code f entry place i e old inside long less here is next there in (t.0, let q = t.1 in omega arith)) two in
+    (λ next there. let t = target_inside code f entry place i e old inside long less here is next there in (t.0, let q = t.1 in omega arith)) two in
     let both = step_join code f entry (cond e.next ((point + 1) ∷ []) []) (given_target e.target) after old middle new a b first second in
     subst (λ (c : Change). Moves code f entry place (place + 1) old new c) (sym r_is)
     (moves_step code f entry place scopes i (leads_to e point) old new (joined a b) function (omega arith) known here is
@@ -293,20 +293,20 @@ moves_join code f entry place old middle new a b r one two r_is =
       long = two.long ∙ one.long;
       kept = λ c. let both = joined_same a b c in two.kept both.1 ∙ one.kept both.0;
       closed = λ c q from before.
-        let both = joined_same a b c in
-        ⊎_elim
-        (λ (less : q < place). one.closed both.0 q from less)
-        (λ (past : place ≤ q). subst (λ (l : List (Option ℕ)). IsClosedAt code entry l q) (one.kept both.0) (two.closed both.1 q past before))
-        (cases_lt q place);
+          let both = joined_same a b c in
+          ⊎_elim
+          (λ (less : q < place). one.closed both.0 q from less)
+          (λ (past : place ≤ q). subst (λ (l : List (Option ℕ)). IsClosedAt code entry l q) (one.kept both.0) (two.closed both.1 q past before))
+          (cases_lt q place);
       stays = λ q s is. two.stays q s (one.stays q s is);
       reached = λ reached. two.reached (one.reached reached);
       small = λ small. two.small (one.small small);
       clash = λ c reached.
-        ⊎_elim (λ (first : a ≡ change.Clash). one.clash first reached) (λ (second : b ≡ change.Clash). two.clash second (one.reached reached)) (joined_clash a b c);
+          ⊎_elim (λ (first : a ≡ change.Clash). one.clash first reached) (λ (second : b ≡ change.Clash). two.clash second (one.reached reached)) (joined_clash a b c);
       fewer = let p = one.fewer in let q = two.fewer in omega arith;
       less = λ c.
-        let p = one.fewer in let q = two.fewer in
-        ⊎_elim (λ (first : a ≡ change.More). let r = one.less first in omega arith) (λ (second : b ≡ change.More). let r = two.less second in omega arith) (joined_more a b c);
+          let p = one.fewer in let q = two.fewer in
+          ⊎_elim (λ (first : a ≡ change.More). let r = one.less first in omega arith) (λ (second : b ≡ change.More). let r = two.less second in omega arith) (joined_more a b c);
     })
 
 pub puts_long : (old : List (Option ℕ)) (o : Option ℕ) (after : ℕ) (new : List (Option ℕ)) (c : Change) → PutsAt old o after new c → length new ≡ length old

@@ -30,6 +30,7 @@ pub found_one : (code : Code) (point f : ℕ) → IsOf code point f → IsTrue t
 found_one code point f is = (λ yes. (f, is.0, is.1, is.2), λ h. refl)
 
 pub none_found : (code : Code) (point n : ℕ) → length code.funcs ≤ n → ((f : ℕ) → f < n → IsOf code point f → ⊥) → IsTrue false ↔ IsOfFunction code point
-none_found code point n end none =
-    (λ no. absurd (cc),
-    λ h. let at : IsAt code h.0 h.1 point h.2 = h.3 in let inside = slice_get_within code.funcs h.0 h.1 at.function in absurd (none h.0 (omega arith) (h.1, h.2, at)))
+none_found code point n end none = (
+  λ no. absurd (cc),
+  λ h. let at : IsAt code h.0 h.1 point h.2 = h.3 in let inside = slice_get_within code.funcs h.0 h.1 at.function in absurd (none h.0 (omega arith) (h.1, h.2, at)),
+)

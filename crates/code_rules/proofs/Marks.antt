@@ -75,15 +75,15 @@ live_through code marks r point next live there wanted =
     ⊎_elim
     (λ (read : reads_at code next r ≡ true). record { before = []; read = next; path = (there, tt); unwritten = All-nil (λ p. writes_at code p r ≡ false); is_read = read })
     (λ (other : reads_at code next r ≡ false).
-      let behind = unread (reads_at code next r) (writes_at code next r) (marked marks next) other wanted in
-      let rest = live next behind.1 in
-      record {
-        before = next ∷ rest.before;
-        read = rest.read;
-        path = (there, rest.path);
-        unwritten = All-cons (λ p. writes_at code p r ≡ false) next rest.before behind.0 rest.unwritten;
-        is_read = rest.is_read;
-      })
+    let behind = unread (reads_at code next r) (writes_at code next r) (marked marks next) other wanted in
+    let rest = live next behind.1 in
+    record {
+      before = next ∷ rest.before;
+      read = rest.read;
+      path = (there, rest.path);
+      unwritten = All-cons (λ p. writes_at code p r ≡ false) next rest.before behind.0 rest.unwritten;
+      is_read = rest.is_read;
+    })
     (cases_Bool (reads_at code next r))
 
 pub leads_live : (code : Code) (marks : List Bool) (r point : ℕ) → AreLive code r marks → leads_to_wanted code marks r point ≡ true → IsLive code point r
@@ -108,16 +108,16 @@ pub visits_more : (code : Code) (r point : ℕ) (marks : List Bool) → point < 
 visits_more code r point marks inside unmarked leads =
     let one : cond {A = ℕ} (not (get_or marks point false)) 1 0 ≡ 1 = ap (λ b. cond {A = ℕ} (not b) 1 0) unmarked in
     let sums : count_by not (set marks point true) + 1 ≡ count_by not marks + 0 =
-        ap (λ n. count_by not (set marks point true) + n) (sym one) ∙ sum_by-set (λ (b : Bool). cond {A = ℕ} (not b) 1 0) marks point true false inside in
+    ap (λ n. count_by not (set marks point true) + n) (sym one) ∙ sum_by-set (λ (b : Bool). cond {A = ℕ} (not b) 1 0) marks point true false inside in
     record {
       long = length-set marks point true;
       kept = λ more. absurd (cc);
       was = λ more. absurd (cc);
       live = λ live p is.
-        ⊎_elim
-        (λ (same : p ≡ point). subst (λ q. IsLive code q r) (sym same) (leads_live code marks r point live leads))
-        (λ (other : p ≢ point). live p (sym (get_or-set_other marks point p true false other) ∙ is))
-        (cases_eq p point);
+          ⊎_elim
+          (λ (same : p ≡ point). subst (λ q. IsLive code q r) (sym same) (leads_live code marks r point live leads))
+          (λ (other : p ≢ point). live p (sym (get_or-set_other marks point p true false other) ∙ is))
+          (cases_eq p point);
       fewer = omega arith;
       less = λ _. omega arith;
     }
@@ -145,20 +145,20 @@ sweeps_more code r point old middle new before more sweeps visits = record {
   long = visits.long ∙ sweeps.long;
   kept = λ none. let both = either before more none in visits.kept both.1 ∙ sweeps.kept both.0;
   was = λ none p first inside leads.
-    let both = either before more none in
-    let same = sweeps.kept both.0 in
-    ⊎_elim
-    (λ (here : p ≡ point).
+      let both = either before more none in
+      let same = sweeps.kept both.0 in
+      ⊎_elim
+      (λ (here : p ≡ point).
       subst (λ (m : List Bool). marked m p ≡ true) same
       (subst (λ q. marked middle q ≡ true) (sym here)
       (visits.was both.1 (subst (λ q. leads_to_wanted code middle r q ≡ true) here (subst (λ (m : List Bool). leads_to_wanted code m r p ≡ true) (sym same) leads)))))
-    (λ (other : p ≢ point). sweeps.was both.0 p (omega arith) inside leads)
-    (cases_eq p point);
+      (λ (other : p ≢ point). sweeps.was both.0 p (omega arith) inside leads)
+      (cases_eq p point);
   live = λ live. visits.live (sweeps.live live);
   fewer = let a = sweeps.fewer in let b = visits.fewer in omega arith;
   less = λ any.
-    let a = sweeps.fewer in let b = visits.fewer in
-    ⊎_elim (λ (one : before ≡ true). let c = sweeps.less one in omega arith) (λ (one : more ≡ true). let c = visits.less one in omega arith) (one_is before more any);
+      let a = sweeps.fewer in let b = visits.fewer in
+      ⊎_elim (λ (one : before ≡ true). let c = sweeps.less one in omega arith) (λ (one : more ≡ true). let c = visits.less one in omega arith) (one_is before more any);
 }
 
 -- All marks
@@ -180,9 +180,9 @@ leads_inside : (code : Code) (point next : ℕ) → Contains (edges_at code poin
 leads_inside code point next there =
     ⊎_elim (λ (less : point < length code.instrs). less)
     (λ (past : length code.instrs ≤ point).
-      let none : edges_at code point ≡ [] = ap (λ (o : Option Instr). option_map_or (λ (i : Instr). edges i i.op point) o []) (slice_get_past code.instrs point past) in
-      let inside : there.0 < 0 = subst (λ (l : List ℕ). there.0 < length l) none there.1 in
-      absurd (omega arith))
+    let none : edges_at code point ≡ [] = ap (λ (o : Option Instr). option_map_or (λ (i : Instr). edges i i.op point) o []) (slice_get_past code.instrs point past) in
+    let inside : there.0 < 0 = subst (λ (l : List ℕ). there.0 < length l) none there.1 in
+    absurd (omega arith))
     (cases_lt point (length code.instrs))
 
 -- where no more is wanted, all that is live is marked

@@ -50,9 +50,10 @@ agree_of code marks r entry point i are false exact = tt
 
 pub by_marks : (code : Code) (marks : List Bool) (r : ℕ) → AreMarked code r marks → (b : Bool) → (IsTrue b ↔ EachInstr code (λ f entry point i. PinsAgree code marks r entry point i (has_site i.op))) →
     IsTrue b ↔ EachInstr code (λ f entry point i. PinsExact code r entry point i (has_site i.op))
-by_marks code marks r are b both =
-    (λ yes f entry point i here. exact_of code marks r entry point i are (has_site i.op) (both.0 yes f entry point i here),
-    λ each. both.1 (λ f entry point i here. agree_of code marks r entry point i are (has_site i.op) (each f entry point i here)))
+by_marks code marks r are b both = (
+  λ yes f entry point i here. exact_of code marks r entry point i are (has_site i.op) (both.0 yes f entry point i here),
+  λ each. both.1 (λ f entry point i here. agree_of code marks r entry point i are (has_site i.op) (each f entry point i here)),
+)
 
 -- Lists
 
@@ -84,17 +85,21 @@ exact_of_site code entry point i r false has = tt
 site_found : (code : Code) (entry : Entry) (point : ℕ) (i : Instr) (most : ℕ) → length entry.kinds ≤ most → (o : Option (List ℕ)) → site_of code.sites point ≡ o → MatchOption o ⊥ (AreRegisters entry) →
     ((r : ℕ) → r < most → MatchOption o (Unit {0}) (λ pins. Counts code entry point i r ↔ Contains pins r)) → HasSite code entry point i true
 site_found code entry point i most long None is lists exact = absurd lists
-site_found code entry point i most long (Some pins) is lists exact =
-    (pins, is, record {
-      exact = λ r.
+site_found code entry point i most long (Some pins) is lists exact = (
+  pins,
+  is,
+  record {
+    exact = λ r.
         ⊎_elim
         (λ (less : r < most). exact r less)
-        (λ (past : most ≤ r).
-          (λ (c : Counts code entry point i r). let inside = pointer_inside entry r c.sort in absurd (omega arith),
-          λ (there : Contains pins r). let inside = All-contains (λ q. q < length entry.kinds) pins r lists.inside there in absurd (omega arith)))
+        (λ (past : most ≤ r). (
+          λ (c : Counts code entry point i r). let inside = pointer_inside entry r c.sort in absurd (omega arith),
+          λ (there : Contains pins r). let inside = All-contains (λ q. q < length entry.kinds) pins r lists.inside there in absurd (omega arith),
+        ))
         (cases_lt r most);
-      ascending = lists.ascending;
-    })
+    ascending = lists.ascending;
+  },
+)
 
 site_of_both : (code : Code) (entry : Entry) (point : ℕ) (i : Instr) (most : ℕ) → length entry.kinds ≤ most → (b : Bool) → ListsSite code entry point b → ((r : ℕ) → r < most → PinsExact code r entry point i b) → HasSite code entry point i b
 site_of_both code entry point i most long true lists exact = site_found code entry point i most long (site_of code.sites point) refl lists exact
@@ -105,8 +110,9 @@ not_listed code fails = (λ no. absurd (cc), λ each. absurd (fails (λ f entry 
 
 pub sites_right : (code : Code) (most : ℕ) → All (λ (e : Entry). length e.kinds ≤ most) code.funcs → EachInstr code (λ f entry point i. ListsSite code entry point (has_site i.op)) → (b : Bool) →
     (IsTrue b ↔ ((r : ℕ) → r < most → EachInstr code (λ f entry point i. PinsExact code r entry point i (has_site i.op)))) → IsTrue b ↔ EachInstr code (λ f entry point i. HasSite code entry point i (has_site i.op))
-sites_right code most long listed b both =
-    (λ yes f entry point i here.
+sites_right code most long listed b both = (
+  λ yes f entry point i here.
       site_of_both code entry point i most (each_entry code (λ (e : Entry). length e.kinds ≤ most) long f entry here.function) (has_site i.op) (listed f entry point i here)
       (λ r less. both.0 yes r less f entry point i here),
-    λ each. both.1 (λ r less f entry point i here. exact_of_site code entry point i r (has_site i.op) (each f entry point i here)))
+  λ each. both.1 (λ r less f entry point i here. exact_of_site code entry point i r (has_site i.op) (each f entry point i here)),
+)

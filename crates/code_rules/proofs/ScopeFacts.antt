@@ -67,14 +67,15 @@ pub scopes_by_places : (code : Code) (f : ℕ) (entry : Entry) (old depths : Lis
     depth_at old 0 ≡ Some 0 → Fills code f entry old depths true → (IsTrue b ↔ Close code entry depths (length depths)) → IsTrue b ↔ HasScopes code f entry
 scopes_by_places code f entry old depths b function inside long some first fills both =
     let length_is = fills.0 in
-    let is_known = known code f entry depths inside (omega arith) (omega arith) (fills.3 0 0 first) fills.2 in
-    (λ yes. record {
-      same = λ point one other a b. some_same one other (sym (is_known point one a).2 ∙ (is_known point other b).2);
-      closes = λ point scopes i opens at.
-        let so = is_known point scopes opens in
-        let low = so.0 in let high = so.1 in
-        let back : entry.first + (point - entry.first) ≡ point = omega arith in
-        both.0 yes (point - entry.first) (omega arith) scopes i so.2 (subst (λ n. slice_get code.instrs n ≡ Some i) (sym back) at.here);
-    },
-    λ has. both.1 (λ place less scopes i is here.
-      has.closes (entry.first + place) scopes i (fills.1 place scopes is) (record { function = function; from = omega arith; before = omega arith; here = here })))
+    let is_known = known code f entry depths inside (omega arith) (omega arith) (fills.3 0 0 first) fills.2 in (
+      λ yes. record {
+        same = λ point one other a b. some_same one other (sym (is_known point one a).2 ∙ (is_known point other b).2);
+        closes = λ point scopes i opens at.
+            let so = is_known point scopes opens in
+            let low = so.0 in let high = so.1 in
+            let back : entry.first + (point - entry.first) ≡ point = omega arith in
+            both.0 yes (point - entry.first) (omega arith) scopes i so.2 (subst (λ n. slice_get code.instrs n ≡ Some i) (sym back) at.here);
+      },
+      λ has. both.1 (λ place less scopes i is here.
+          has.closes (entry.first + place) scopes i (fills.1 place scopes is) (record { function = function; from = omega arith; before = omega arith; here = here })),
+    )

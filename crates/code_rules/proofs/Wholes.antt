@@ -64,14 +64,19 @@ main_from : (code : Code) (told : List (Option (Option Bool))) → EachInstr cod
     (o : Option Entry) → slice_get code.funcs main ≡ o → IsSomeAnd o (λ (entry : Entry). (entry.params ≡ 0) × GivesInteger (get_or told main None)) →
     (i : Instr) × (main : ℕ) × (entry : Entry) × (slice_get code.instrs 0 ≡ Some i) × IsStart code i main entry
 main_from code told alike i here begins main number None is there = absurd there
-main_from code told alike i here begins main number (Some entry) is there =
-    (i, main, entry, here, record {
-      begins = begins;
-      number = number;
-      function = is;
-      params = there.0;
-      answers = all_hold code told main (λ answer. answer ≡ Some Integer) alike there.1;
-    })
+main_from code told alike i here begins main number (Some entry) is there = (
+  i,
+  main,
+  entry,
+  here,
+  record {
+    begins = begins;
+    number = number;
+    function = is;
+    params = there.0;
+    answers = all_hold code told main (λ answer. answer ≡ Some Integer) alike there.1;
+  },
+)
 
 start_from : (code : Code) (told : List (Option (Option Bool))) → EachInstr code (AnswersAlike code told) → (o : Option Instr) → slice_get code.instrs 0 ≡ o → IsSomeAnd o (CallsMain code told) →
     (i : Instr) × (main : ℕ) × (entry : Entry) × (slice_get code.instrs 0 ≡ Some i) × IsStart code i main entry
@@ -168,8 +173,8 @@ start_of : (code : Code) (told : List (Option (Option Bool))) → AreAnswers cod
 start_of code told are well =
     let i = well.start.0 in let main = well.start.1 in let entry = well.start.2 in let is = well.start.4 in
     let main_is : IsMain code told main =
-        subst (λ (o : Option Entry). IsSomeAnd o (λ (e : Entry). (e.params ≡ 0) × GivesInteger (get_or told main None))) (sym is.function)
-        (is.params, answer_holds code told main entry (λ answer. answer ≡ Some Integer) are is.function is.answers) in
+    subst (λ (o : Option Entry). IsSomeAnd o (λ (e : Entry). (e.params ≡ 0) × GivesInteger (get_or told main None))) (sym is.function)
+    (is.params, answer_holds code told main entry (λ answer. answer ≡ Some Integer) are is.function is.answers) in
     subst (λ (o : Option Instr). IsSomeAnd o (CallsMain code told)) (sym well.start.3) (is.begins, (main, is.number, main_is))
 
 pub last : (code : Code) (told : List (Option (Option Bool))) → AreAnswers code told → KeepsTables code → KeepsFlow code → EachInstr code (AnswersAlike code told) → EachInstr code (λ f entry point i. TakesAnswer told entry i i.op) →

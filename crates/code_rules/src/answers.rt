@@ -54,11 +54,7 @@ fn first_answer(
 }
 
 /// The first answer of the function of a number.
-fn answer_of(
-    alloc: Global,
-    code: &Code,
-    function: usize,
-) -> Result<Option<Option<bool>>, NoMemory>
+fn answer_of(alloc: Global, code: &Code, function: usize) -> Result<Option<Option<bool>>, NoMemory>
     ensures { IfOk result (λ told. (entry : Entry) → slice_get code.now.funcs function ≡ Some entry → IsAnswer code.now function entry told) }
 {
     match code.funcs.get(function) {

@@ -51,7 +51,12 @@ impl Rule for Inside {
         point: usize,
         instr: Instr,
     ) -> Result<bool, NoMemory> {
-        Ok(lead_into(edges(instr), point, entry.first as usize, end_of(code, function)))
+        Ok(lead_into(
+            edges(instr),
+            point,
+            entry.first as usize,
+            end_of(code, function),
+        ))
     }
 }
 

@@ -17,7 +17,8 @@ use std::alloc::Global;
 fn has_layouts(code: &Code, mems: &[u32]) -> bool
     ensures { IsTrue result ↔ All (λ n. IsSome (slice_get code.now.layouts n)) mems.now }
 {
-    mems.iter().all(|mem| code.layouts.get(*mem as usize).is_some())
+    mems.iter()
+        .all(|mem| code.layouts.get(*mem as usize).is_some())
 }
 
 /// Says whether a function keeps its rules, but for those of its returns and its scopes.

@@ -68,7 +68,9 @@ pub(crate) fn edges(instr: Instr) -> Edges
     let (next, target) = match instr.op {
         Op::Jump | Op::Loop => (false, Some(instr.b)),
         Op::Zero | Op::Case => (true, Some(instr.b)),
-        Op::Lib(LibName::Exit | LibName::Abort) | Op::Start | Op::Return | Op::Give => (false, None),
+        Op::Lib(LibName::Exit | LibName::Abort) | Op::Start | Op::Return | Op::Give => (
+            false, None,
+        ),
         _ => (true, None),
     };
     Edges { next, target }

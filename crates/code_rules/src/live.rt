@@ -16,9 +16,7 @@ fn is_wanted(code: &Code, marks: &[bool], register: u32, point: usize) -> bool
     ensures { result ≡ is_wanted code.now marks.now register point }
 {
     match code.instrs.get(point) {
-        Some(instr) => {
-            reads(*instr, register) || (!writes(*instr, register) && marks[point])
-        }
+        Some(instr) => { reads(*instr, register) || (!writes(*instr, register) && marks[point]) }
         None => false,
     }
 }

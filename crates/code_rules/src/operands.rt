@@ -158,11 +158,8 @@ fn lib_gives(name: LibName) -> Option<bool>
     match name {
         LibName::Exit | LibName::Abort => None,
         LibName::Memcpy | LibName::Memmove | LibName::Memset => PTR,
-        LibName::Strlen
-        | LibName::Strcmp
-        | LibName::Getchar
-        | LibName::Putchar
-        | LibName::Puts => INT,
+        LibName::Strlen | LibName::Strcmp | LibName::Getchar | LibName::Putchar | LibName::Puts =>
+            INT,
     }
 }
 

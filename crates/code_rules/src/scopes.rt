@@ -62,12 +62,7 @@ fn put_next(depths: &mut [Option<u64>], next: usize, goes_on: bool, scopes: u64)
 }
 
 /// The same for a target, where there is one.
-fn put_target(
-    depths: &mut [Option<u64>],
-    target: Option<u32>,
-    first: u32,
-    scopes: u64,
-) -> Change
+fn put_target(depths: &mut [Option<u64>], target: Option<u32>, first: u32, scopes: u64) -> Change
     requires { IfSome target (λ t. (first ≤ t) × (t - first < length depths.old)) }
     ensures { PutsAt depths.old (option_map (λ t. t - first) target) scopes depths.new result }
 {

@@ -236,14 +236,20 @@ fn is_static(code: &Code, item: &StaticInit) -> bool
 pub fn are_statics(code: &Code) -> bool
     ensures { IsTrue result ↔ All (λ (s : StaticInit). IsSomeAnd (slice_get code.now.layouts s.layout) (IsFirst code.now s)) code.now.statics }
 {
-    code.statics.as_slice().iter().all(|item| is_static(code, item))
+    code.statics
+        .as_slice()
+        .iter()
+        .all(|item| is_static(code, item))
 }
 
 /// Says whether all layouts are those of objects, or of elements side by side.
 pub fn are_layouts(code: &Code) -> bool
     ensures { IsTrue result ↔ All IsLayout code.now.layouts }
 {
-    code.layouts.as_slice().iter().all(|layout| is_layout(layout))
+    code.layouts
+        .as_slice()
+        .iter()
+        .all(|layout| is_layout(layout))
 }
 
 /// Says whether all formats are formats.

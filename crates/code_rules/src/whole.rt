@@ -1,7 +1,6 @@
 //! Well formed code.
 
 ghost use Rattle.std.specs.Prelude.{◌↔◌, IfOk, IsSomeAnd, IsTrue, slice_get};
-
 ghost use Rattle.flat_code.specs.WellFormed.{IsWellFormed};
 ghost use Rattle.code_rules.specs.Whole.{CallsMain, GivesInteger, IsMain, KeepsFlow, KeepsTables};
 

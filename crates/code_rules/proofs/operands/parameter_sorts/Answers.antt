@@ -10,6 +10,6 @@ returns-in-Some c =
     let callee = c.in-Some.callee.now in
     let kinds = c.as_slice-kinds.result.now in
     let e : map sort_of (take c.min-count.result kinds) ≡ call_takes (slice_get c.args.code.now.funcs c.args.function) =
-        ap (λ n. map sort_of (take n kinds)) c.min-count.ensures ∙ first_sorts kinds callee.params
-        ∙ ap (λ (ks : List Bool). take callee.params (map sort_of ks)) c.as_slice-kinds.ensures ∙ ap call_takes c.in-Some.ensures.item in
+    ap (λ n. map sort_of (take n kinds)) c.min-count.ensures ∙ first_sorts kinds callee.params
+    ∙ ap (λ (ks : List Bool). take callee.params (map sort_of ks)) c.as_slice-kinds.ensures ∙ ap call_takes c.in-Some.ensures.item in
     IfOk-weaker c.register_sorts.result _ _ (λ told h. h ∙ ap all_there e) c.register_sorts.ensures

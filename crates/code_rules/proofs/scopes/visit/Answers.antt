@@ -12,9 +12,9 @@ put_target-requires c =
     let long = puts_long c.args.depths.now (cond c.edges-edges.result.next (Some (c.args.place + 1)) None) c.scopes_after-after.result c.put_next-on.new.depths c.put_next-on.result c.put_next-on.ensures in
     target_if c.args.entry.now.first (length c.put_next-on.new.depths) c.edges-edges.result.target
     (λ next there.
-      let t = target_inside c.args.code.now c.args.function c.args.entry.now c.args.place c.in-Some-get.instr.now c.edges-edges.result c.args.depths.now
-          c.requires.inside c.requires.length c.requires.place (sym c.in-Some-get.ensures.item) (c.edges-edges.ensures _) next there in
-      (t.0, let q = t.1 in omega arith))
+    let t = target_inside c.args.code.now c.args.function c.args.entry.now c.args.place c.in-Some-get.instr.now c.edges-edges.result c.args.depths.now
+    c.requires.inside c.requires.length c.requires.place (sym c.in-Some-get.ensures.item) (c.edges-edges.ensures _) next there in
+    (t.0, let q = t.1 in omega arith))
 
 pub returns : goal.returns
 returns c =

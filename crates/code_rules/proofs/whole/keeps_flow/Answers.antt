@@ -4,8 +4,8 @@ use Rattle.code_rules.proofs.whole.keeps_flow.Goals as goal
 pub returns : goal.returns
 returns c =
     IfOk-weaker c.each_instr-6.result _ _
-    (λ b both.
-      (λ yes. record {
+    (λ b both. (
+      λ yes. record {
         inside = c.in_ok-each_instr.ensures.0 c.if-not-branch.false;
         ahead = c.in_ok-each_instr-2.ensures.0 c.if-not-branch-2.false;
         names = c.in_ok-each_instr-3.ensures.0 c.if-not-branch-3.false;
@@ -13,5 +13,6 @@ returns c =
         registers = c.in_ok-each_instr-5.ensures.0 c.if-not-branch-5.false;
         afresh = both.0 yes;
       },
-      λ keeps. both.1 keeps.afresh))
+      λ keeps. both.1 keeps.afresh,
+    ))
     c.each_instr-6.ensures
