@@ -1,0 +1,9 @@
+pub mod Numbers
+pub mod Reading
+pub mod Lists
+pub mod OpNumbers
+pub mod CodeParts
+pub mod ListsBeside
+pub mod Functions
+pub mod Ranges
+pub mod Files

@@ -1,0 +1,7 @@
+use Rattle.std.proofs.Common.{rules}
+use Rattle.code_file.specs.Spelling.{signed}
+use Rattle.code_file.proofs.part.I64Spelled.write.Goals as goal
+
+pub returns : goal.returns
+unfolding signed
+returns c = search rules

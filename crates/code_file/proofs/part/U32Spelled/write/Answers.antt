@@ -1,0 +1,7 @@
+use Rattle.std.proofs.Common.{rules}
+use Rattle.code_file.specs.Spelling.{number}
+use Rattle.code_file.proofs.part.U32Spelled.write.Goals as goal
+
+pub returns : goal.returns
+unfolding number
+returns c = search rules

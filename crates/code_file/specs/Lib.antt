@@ -1,0 +1,4 @@
+pub mod Ops
+pub mod Spelling
+pub mod CodeFile
+pub mod Parts

@@ -1,0 +1,196 @@
+//! The sites of code, and their pins.
+
+ghost use Rattle.std.specs.Prelude.{◌≡◌, ◌↔◌, ◌<◌, ◌≤◌, ◌≢◌, ◌^◌, ℕ, All, AllPairs, IfOk, IsTrue, Some, length, option_map, true};
+ghost use Rattle.core_tree.specs.Sorts.{Pointer};
+ghost use Rattle.flat_code.specs.Table.{register_sort};
+ghost use Rattle.code_rules.specs.Lively.{marked};
+ghost use Rattle.flat_code.specs.Sites.{HasSite, answered, has_site, site_of};
+ghost use Rattle.flat_code.specs.declared.program.Entry.{Entry};
+ghost use Rattle.flat_code.specs.WellFormed.{EachInstr};
+ghost use Rattle.code_rules.specs.Answers.{AreRegisters, ListsSite, PinsAgree, PinsExact};
+
+use crate::instrs::chosen;
+use crate::live::live_points;
+use crate::rules::{Rule, each_instr};
+use flat_code::{Code, Entry, Instr, Op, Site};
+use hs_base::NoMemory;
+use std::alloc::Global;
+
+/// Says whether an instruction has a site.
+fn has_site(op: Op) -> bool
+    ensures { result ≡ has_site op }
+{
+    matches!(op, Op::Call | Op::Realloc | Op::Free | Op::Leave)
+}
+
+/// The pins of the first site of an instruction.
+fn site_of(sites: &[Site], point: usize) -> Option<&[u32]>
+    ensures { option_map (λ pins. pins.now) result ≡ site_of sites.now point }
+{
+    for site in sites {
+        if site.instr as usize == point {
+            return Some(site.pins.as_slice());
+        }
+    }
+    None
+}
+
+/// The register that takes the answer of a call.
+fn answered(instr: Instr) -> Option<u32>
+    ensures { result ≡ answered instr instr.op }
+{
+    match instr.op {
+        Op::Call => chosen(instr),
+        _ => None,
+    }
+}
+
+/// Says whether a register counts at an instruction, by marks of where it is live.
+fn counts(entry: &Entry, instr: Instr, is_live: bool, register: u32) -> bool
+    ensures { IsTrue result ↔ ((register_sort entry.now register ≡ Some Pointer) × (is_live ≡ true) × (answered instr instr.op ≢ Some register)) }
+{
+    match entry.kinds.get(register as usize) {
+        Some(is_pointer) => *is_pointer && is_live && answered(instr) != Some(register),
+        None => false,
+    }
+}
+
+/// Says whether numbers ascend.
+fn ascend(numbers: &[u32]) -> bool
+    ensures { IsTrue result ↔ AllPairs (λ one other. one < other) numbers.now }
+{
+    for i in 1..numbers.len() {
+        if numbers[i - 1] >= numbers[i] {
+            return false;
+        }
+    }
+    true
+}
+
+/// Says whether pins ascend, and are registers.
+fn are_registers(entry: &Entry, pins: &[u32]) -> bool
+    ensures { IsTrue result ↔ AreRegisters entry.now pins.now }
+{
+    ascend(pins) && pins.iter().all(|pin| (*pin as usize) < entry.kinds.len())
+}
+
+/// Each site is listed.
+pub(crate) struct Listed;
+
+impl Rule for Listed {
+    ghost holds = { λ rule code f entry point i. ListsSite code entry point (has_site i.op) };
+
+    fn check(
+        &self,
+        _alloc: Global,
+        code: &Code,
+        _function: usize,
+        entry: &Entry,
+        point: usize,
+        instr: Instr,
+    ) -> Result<bool, NoMemory> {
+        Ok(match site_of(code.sites.as_slice(), point) {
+            Some(pins) => has_site(instr.op) && are_registers(entry, pins),
+            None => !has_site(instr.op),
+        })
+    }
+}
+
+/// The pins of each site have a register exactly where it counts.
+#[derive(Drop)]
+pub(crate) struct Pins<'a> {
+    pub(crate) marks: &'a [bool],
+    pub(crate) register: u32,
+}
+
+impl<'a> Rule for Pins<'a> {
+    ghost holds = { λ rule code f entry point i. PinsAgree code rule.marks.now rule.register entry point i (has_site i.op) };
+
+    fn check(
+        &self,
+        _alloc: Global,
+        code: &Code,
+        _function: usize,
+        entry: &Entry,
+        point: usize,
+        instr: Instr,
+    ) -> Result<bool, NoMemory> {
+        if !has_site(instr.op) {
+            return Ok(true);
+        }
+        Ok(match site_of(code.sites.as_slice(), point) {
+            Some(pins) => {
+                let is_live = mark_at(self.marks, point);
+                counts(entry, instr, is_live, self.register) == pins.contains(&self.register)
+            }
+            None => true,
+        })
+    }
+}
+
+/// Says whether an instruction is marked.
+fn mark_at(marks: &[bool], point: usize) -> bool
+    ensures { result ≡ marked marks.now point }
+{
+    match marks.get(point) {
+        Some(mark) => *mark,
+        None => false,
+    }
+}
+
+/// Says whether the pins of each site have a register exactly where it counts.
+fn pins_are_exact_of(alloc: Global, code: &Code, register: u32) -> Result<bool, NoMemory>
+    ensures { IfOk result (λ b. IsTrue b ↔ EachInstr code.now (λ f entry point i. PinsExact code.now register entry point i (has_site i.op))) }
+{
+    let marks = live_points(alloc, code, register)?;
+    let rule = Pins {
+        marks: &marks,
+        register,
+    };
+    each_instr(alloc, code, &rule)
+}
+
+/// The same for all registers below a number.
+fn pins_are_exact(alloc: Global, code: &Code, most: u32) -> Result<bool, NoMemory>
+    ensures { IfOk result (λ b. IsTrue b ↔
+        ((r : ℕ) → r < most → EachInstr code.now (λ f entry point i. PinsExact code.now r entry point i (has_site i.op)))) }
+{
+    for register in 0..most {
+        if !pins_are_exact_of(alloc, code, register)? {
+            return Ok(false);
+        }
+    }
+    Ok(true)
+}
+
+/// The greater of two numbers.
+fn greater(one: u32, other: u32) -> u32
+    ensures first { one ≤ result }
+    ensures second { other ≤ result }
+{
+    if one < other { other } else { one }
+}
+
+/// The greatest number of registers of a function.
+fn most_registers(funcs: &[Entry]) -> u32
+    requires { All (λ (e : Entry). length e.kinds < 2 ^ 32) funcs.now }
+    ensures { All (λ (e : Entry). length e.kinds ≤ result) funcs.now }
+{
+    let mut most = 0;
+    for entry in funcs {
+        most = greater(most, entry.kinds.len() as u32);
+    }
+    most
+}
+
+/// Says whether each instruction has the site that it must have: one where objects may be freed, with the registers that
+/// count there, and otherwise none.
+pub fn sites_are_right(alloc: Global, code: &Code) -> Result<bool, NoMemory>
+    requires { All (λ (e : Entry). length e.kinds < 2 ^ 32) code.now.funcs }
+    ensures { IfOk result (λ b. IsTrue b ↔ EachInstr code.now (λ f entry point i. HasSite code.now entry point i (has_site i.op))) }
+{
+    if !each_instr(alloc, code, &Listed)? {
+        return Ok(false);
+    }
+    pins_are_exact(alloc, code, most_registers(code.funcs.as_slice()))
+}
