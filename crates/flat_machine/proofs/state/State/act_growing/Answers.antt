@@ -1,4 +1,4 @@
-use Rattle.std.proofs.Common.{◌≡◌, ℕ, ap, refl, rules, subst, sym, ◌∙◌}
+use Rattle.std.proofs.Common.{◌≡◌, ℕ, Ok, ap, rules, subst, sym, ◌∙◌}
 use Rattle.std.proofs.lemmas.Int.{to_z-of_z}
 use mir.Syntax.{w128}
 use mir.Val.{SFits}
@@ -7,12 +7,10 @@ use Rattle.hs_base.specs.declared.values.Pointer.TheVariants as pointer
 use Rattle.object_meaning.specs.Values.{number_at, pointer_at, size_in}
 use Rattle.code_meaning.specs.Entering.{layout_in}
 use Rattle.std.specs.Prelude.{IfErr}
-use Rattle.object_meaning.specs.Heap.{make}
-use Rattle.code_meaning.specs.CodeState.{same_numbers}
 use Rattle.code_meaning.specs.Freeing.{grow}
 use Rattle.flat_machine.specs.Image.{StopsIn}
+use Rattle.flat_machine.specs.Standing.{fits_now}
 use Rattle.flat_machine.specs.Leading.{Alone}
-use Rattle.flat_machine.proofs.Image.{built_in_image}
 use Rattle.flat_machine.proofs.WordLists.{integer_at_is}
 use Rattle.flat_machine.proofs.Grown.{grow_null}
 use Rattle.flat_machine.proofs.state.State.act_growing.Goals as goal
