@@ -9,7 +9,7 @@ use Rattle.hs_base.specs.Freeing.{freed_at, first_held, ended}
 use Rattle.hs_base.specs.Object.{Object}
 use Rattle.hs_base.specs.Place.{has_place}
 use Rattle.hs_base.specs.State.{State, Frame}
-use Rattle.hs_base.specs.Trace.{Event, Out, New, Gone, Enter}
+use Rattle.hs_base.specs.Trace.{Event, Out, Gone, Enter}
 use Rattle.hs_base.specs.Runs as runs
 use Rattle.c_types.specs.declared.layouts.Layout.{Layout}
 use Rattle.core_tree.specs.declared.program.Core.{Core}
