@@ -51,33 +51,8 @@ static void tell(void) {
 """
 
 NOTHING = "int main(void){return 0;}"
-VECTOR = r"""#include <stdio.h>
-#include <stdlib.h>
-
-struct vec { int *buf; int len; int cap; };
-
-static void push(struct vec *v, int x) {
-  if (v->len == v->cap) {
-    v->cap = v->cap ? 2 * v->cap : 4;
-    v->buf = realloc(v->buf, v->cap * sizeof(int));
-  }
-  v->buf[v->len++] = x;
-}
-
-int main(void) {
-  struct vec v = {NULL, 0, 0};
-  int c, x = 0, in = 0, i;
-  long sum = 0;
-  while ((c = getchar()) != EOF) {
-    if (c >= '0' && c <= '9') { x = 10 * x + (c - '0'); in = 1; }
-    else if (in) { push(&v, x); x = 0; in = 0; }
-  }
-  for (i = v.len - 1; i >= 0; i--) { sum += v.buf[i]; printf("%d ", v.buf[i]); }
-  printf("\n%d numbers, sum %ld\n", v.len, sum);
-  __delay_frees { free(v.buf); v.buf = NULL; }
-  return 0;
-}
-"""
+with open(os.path.join(TOP, "examples", "vector.c"), encoding="ascii") as example:
+    VECTOR = example.read()
 LAYOUTS = """struct s { char c; char *p; short n; };
 union u { char *p; int *q; };
 struct w { char c; long long v; };
