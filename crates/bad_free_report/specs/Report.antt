@@ -10,7 +10,7 @@ use Rattle.hs_base.specs.declared.ends.Holder.{Holder}
 use Rattle.hs_base.specs.declared.ends.Holder.TheVariants.{Global, Memory, Block, Register}
 use Rattle.hs_base.specs.declared.ends.BadFree.{BadFree as WrongFree}
 use Rattle.hs_base.specs.declared.ends.End.{End}
-use Rattle.hs_base.specs.declared.ends.End.TheVariants.{Exit, Trap, BadFree, Escape, Spent, OutOfHeap, OutOfStack, InputFault, OutputFault}
+use Rattle.hs_base.specs.declared.ends.End.TheVariants.{Exit, Trap, BadFree, Escape, Spent, OutOfStack, InputFault, OutputFault}
 use Rattle.core_tree.specs.declared.program.Core.{Core}
 use Rattle.core_tree.specs.declared.program.Func.{Func}
 use Rattle.core_tree.specs.declared.program.Mem.{Mem}
@@ -137,7 +137,6 @@ end_report core name text (Trap kind line) = complaint_at name line (codes "trap
 end_report core name text (BadFree free holder) = bad_free_text core name text free holder
 end_report core name text (Escape f index line) = complaint_at name line (codes "escape: " ++ local_name core f index) text
 end_report core name text Spent = complaint name (codes "out of steps")
-end_report core name text (OutOfHeap line) = complaint_at name line (codes "out of heap") text
 end_report core name text (OutOfStack line) = complaint_at name line (codes "out of stack") text
 end_report core name text InputFault = complaint (codes "heapsafe") (codes "input fault")
 end_report core name text OutputFault = complaint (codes "heapsafe") (codes "output fault")

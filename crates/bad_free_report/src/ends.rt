@@ -12,8 +12,8 @@ use crate::words::{reason_words, trap_word};
 use core_tree::Core;
 use hs_base::{BadFree, End, Failed, Holder, Reason, Sink};
 
-/// Writes the lines that say how a run ended: nothing of an exit; for a trap, a bad free, an escape, and a want of heap or
-/// stack `NAME:LINE: ` with what it is, and the source line; for a bad free that is held the first holder below them; for
+/// Writes the lines that say how a run ended: nothing of an exit; for a trap, a bad free, an escape and a want of stack
+/// `NAME:LINE: ` with what it is, and the source line; for a bad free that is held the first holder below them; for
 /// the end of the steps and a fault of input or output one line. `name` and `text` are those of the C text, and `core` is
 /// its core, from which functions, statics and locals have their names. After a failure, which is the last call on the
 /// sink, a prefix was taken.
@@ -50,7 +50,6 @@ pub fn report<E: Sink>(
             )
         }
         End::Spent => complain(err, name, b"out of steps"),
-        End::OutOfHeap(line) => complain_at(err, name, line, b"out of heap", text),
         End::OutOfStack(line) => complain_at(err, name, line, b"out of stack", text),
         End::InputFault => complain(err, "heapsafe", b"input fault"),
         End::OutputFault => complain(err, "heapsafe", b"output fault"),

@@ -207,18 +207,13 @@ fn named_rows() -> [Row; 4] {
     ]
 }
 
-fn other_rows() -> [Row; 6] {
+fn other_rows() -> [Row; 5] {
     [
         case(End::Exit(126), b"int main(void){return 126;}", b""),
         case(
             End::Spent,
             b"int main(void){while(1);}",
             b"a.c: out of steps\n",
-        ),
-        case(
-            End::OutOfHeap(2),
-            b"int main(void){\nchar *p = malloc(-1);\nreturn 0;}",
-            b"a.c:2: out of heap\n  char *p = malloc(-1);\n",
         ),
         case(
             End::OutOfStack(1),

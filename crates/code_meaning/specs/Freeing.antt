@@ -1,5 +1,5 @@
 -- Objects are freed and grown (C99 7.20.3).
-use Rattle.std.specs.Prelude.{ℕ, min, List, [], length, Some, None, Result, Ok, Err}
+use Rattle.std.specs.Prelude.{ℕ, Bool, true, false, min, List, [], length, Some, None, Result, Ok, Err}
 use Rattle.hs_base.specs.declared.ends.Reason.{Reason}
 use Rattle.hs_base.specs.declared.values.Pointer.{Pointer}
 use Rattle.hs_base.specs.declared.values.Pointer.TheVariants as pointer
@@ -15,7 +15,7 @@ use Rattle.object_meaning.specs.Values.{address, start_of}
 use Rattle.object_meaning.specs.Going.{onward, put, with_objects, ended_by}
 use Rattle.object_meaning.specs.Making.{with_new}
 use Rattle.object_meaning.specs.Memory.{copied}
-use Rattle.object_meaning.specs.Heap.{birth_of, make, enqueue}
+use Rattle.object_meaning.specs.Heap.{birth_of, no_place, make, enqueue}
 use Rattle.code_meaning.specs.CodeState.{Next, kept, same_numbers}
 use Rattle.counted_meaning.specs.Counting.{renumbered}
 use Rattle.code_meaning.specs.Checking.{in_scope}
@@ -43,15 +43,21 @@ grown code line r size old before numbers s (Ok objects) =
 grown code line r size old before numbers s (Err e) =
     runs.Stops (kept numbers before) (birth_of line size before) (kept numbers s) (ended_by line e)
 
--- an object that may be freed is copied to a new one as far as both go, and else the run stops
-abbrev pub grow_named : Code → ℕ → ℕ → Result ℕ Reason → ℕ → Layout → (ℕ → ℕ) → State → Next
-grow_named code line r (Ok old) size element numbers s =
+-- an object is copied to a new one as far as both go, where there is a place for that
+abbrev pub grow_old : Bool → Code → ℕ → ℕ → ℕ → ℕ → Layout → (ℕ → ℕ) → State → Next
+grow_old false code line r old size element numbers s = same_numbers numbers (no_place r s)
+grow_old true code line r old size element numbers s =
     let t = with_new line size element s in
     grown code line r size old s numbers t (copied t.objects (start_of (length s.objects)) (start_of old) (min (object_at s.objects old).size size))
-grow_named code line r (Err reason) size element numbers s = refused line reason numbers s
+
+-- an object that may be freed is grown, and else the run stops
+abbrev pub grow_named : Code → (ℕ → Bool) → ℕ → ℕ → Result ℕ Reason → ℕ → Layout → (ℕ → ℕ) → State → Next
+grow_named code fits line r (Ok old) size element numbers s =
+    grow_old (fits size) code line r old size element numbers s
+grow_named code fits line r (Err reason) size element numbers s = refused line reason numbers s
 
 -- growing null makes a new object
-abbrev pub grow : Code → ℕ → ℕ → Pointer → ℕ → Layout → (ℕ → ℕ) → State → Next
-grow code line r pointer.Null size element numbers s = same_numbers numbers (make line r size element s)
-grow code line r (pointer.At birth offset) size element numbers s =
-    grow_named code line r (freed_at s.objects birth offset) size element numbers s
+abbrev pub grow : Code → (ℕ → Bool) → ℕ → ℕ → Pointer → ℕ → Layout → (ℕ → ℕ) → State → Next
+grow code fits line r pointer.Null size element numbers s = same_numbers numbers (make fits line r size element s)
+grow code fits line r (pointer.At birth offset) size element numbers s =
+    grow_named code fits line r (freed_at s.objects birth offset) size element numbers s

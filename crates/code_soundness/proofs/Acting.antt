@@ -1,5 +1,5 @@
 -- Each instruction in turn, from a good state.
-use Rattle.std.proofs.Common.{◌≡◌, ℕ, pos, ◌+◌, ◌<◌, ◌^◌, false, List, [], ◌∷◌, length, get_or, Option, Some, None, Result, refl, subst, arith}
+use Rattle.std.proofs.Common.{◌≡◌, ℕ, pos, ◌+◌, ◌<◌, ◌^◌, false, List, [], ◌∷◌, length, get_or, Option, Some, None, Result, refl, subst, arith, Bool}
 use Rattle.std.specs.Prelude.{slice_index_or, Contains}
 use Rattle.hs_base.specs.declared.values.Value.{Value}
 use Rattle.hs_base.specs.declared.ends.IntKind.TheVariants.{I32}
@@ -37,7 +37,7 @@ use Rattle.code_soundness.proofs.Pointing.{all_point, moved_done, difference_don
 use Rattle.code_soundness.proofs.Touching.{loaded_done, loaded_pointer_done, stored_done, stored_pointer_done, copied_done, set_done}
 use Rattle.code_soundness.proofs.Texts.{string_done, order_done, printed_lives}
 use Rattle.code_soundness.proofs.Made.{layout_sound, size_small, product_small}
-use Rattle.code_soundness.proofs.Standing.{IsReady, IsPlain, writes, puts_number, answers_stays, stores_stays, changes_stays, goes_to, branch_stays, step_stays, enter_stays, make_stays, filled_stays, gives_stays, get_stays, puts_stays, print_stays}
+use Rattle.code_soundness.proofs.Standing.{IsReady, IsPlain, writes, puts_number, answers_stays, stores_stays, changes_stays, goes_to, branch_stays, step_stays, enter_stays, made_stays, filled_stays, gives_stays, get_stays, puts_stays, print_stays}
 use Rattle.code_soundness.proofs.Freeing.{leave_stays, free_stays, grow_stays}
 use Rattle.code_soundness.proofs.Calling.{call_stays}
 use Rattle.code_soundness.proofs.Returning.{give_stays}
@@ -104,12 +104,12 @@ module _ (code : Code) (wf : IsWellFormed code) (c : CodeState) (good : IsGood c
   answered o ready P each =
       subst (λ (x : Op). OfAnswer P x (handed_before code good.entry s.running.point)) ready.is (each s.running.func good.entry s.running.point i at refl)
 
-  return_stays : (line : ℕ) → Does op.Return → StaysGood code (act code line i op.Return c.handed c.numbers s)
-  return_stays line ready =
+  return_stays : (line : ℕ) (fits : ℕ → Bool) → Does op.Return → StaysGood code (act code fits line i op.Return c.handed c.numbers s)
+  return_stays line fits ready =
       give_stays code wf c good (number (pos 0)) tt (ready.closes good.scopes good.running.opens) None (λ P each. answered op.Return ready P each) (λ sort e. absurd (cc)) line
 
-  giving_stays : (line : ℕ) → Does op.Give → StaysGood code (act code line i op.Give c.handed c.numbers s)
-  giving_stays line ready =
+  giving_stays : (line : ℕ) (fits : ℕ → Bool) → Does op.Give → StaysGood code (act code fits line i op.Give c.handed c.numbers s)
+  giving_stays line fits ready =
       let sort = ready.takes refl in
       let are = subst (λ (x : List (Option Sort)). AreOperands s.objects x c.handed) sort.1 good.handed in
       let is = first_is (Some sort.0) c.handed are in
@@ -128,67 +128,67 @@ module _ (code : Code) (wf : IsWellFormed code) (c : CodeState) (good : IsGood c
   operand : (answer : Result Value Refusal) → Done IsInteger answer → Done (IsOperand s.objects (Some Integer)) answer
   operand answer = done_weaker IsInteger (IsOperand s.objects (Some Integer)) (integer_is s.objects) answer
 
-  pub act_stays : (line : ℕ) (o : Op) → Does o → hands o ≡ false → StaysGood code (act code line i o c.handed c.numbers s)
-  act_stays line op.Start ready h = absurd ready.names
-  act_stays line op.HandReg ready h = absurd (cc)
-  act_stays line op.HandInt ready h = absurd (cc)
-  act_stays line op.HandUnsigned ready h = absurd (cc)
-  act_stays line op.HandNull ready h = absurd (cc)
-  act_stays line op.HandStatic ready h = absurd (cc)
-  act_stays line op.HandLocal ready h = absurd (cc)
-  act_stays line op.Set ready h =
+  pub act_stays : (line : ℕ) (fits : ℕ → Bool) (o : Op) → Does o → hands o ≡ false → StaysGood code (act code fits line i o c.handed c.numbers s)
+  act_stays line fits op.Start ready h = absurd ready.names
+  act_stays line fits op.HandReg ready h = absurd (cc)
+  act_stays line fits op.HandInt ready h = absurd (cc)
+  act_stays line fits op.HandUnsigned ready h = absurd (cc)
+  act_stays line fits op.HandNull ready h = absurd (cc)
+  act_stays line fits op.HandStatic ready h = absurd (cc)
+  act_stays line fits op.HandLocal ready h = absurd (cc)
+  act_stays line fits op.Set ready h =
       let are = subst (λ (x : List (Option Sort)). AreOperands s.objects x c.handed) (ready.takes refl) good.handed in
       writes code wf c good i at op.Set ready (register_sort good.entry i.a) (Some i.a) (plain op.Set (Some i.a) refl next refl refl) ready.result _ (first_is (register_sort good.entry i.a) c.handed are)
-  act_stays line (op.Conv k) ready h =
+  act_stays line fits (op.Conv k) ready h =
       puts_integer (op.Conv k) ready refl next refl refl ready.result _ (wrapped_number k _)
-  act_stays line (op.Un o k) ready h = puts_integer (op.Un o k) ready refl next refl refl ready.result _ (one_number o k _)
-  act_stays line (op.Bin o k) ready h =
+  act_stays line fits (op.Un o k) ready h = puts_integer (op.Un o k) ready refl next refl refl ready.result _ (one_number o k _)
+  act_stays line fits (op.Bin o k) ready h =
       answers_of (op.Bin o k) ready refl next refl refl (Some Integer) ready.result line _ (operand _ (two_done o k (number_at c.handed 0) (number_at c.handed 1)))
-  act_stays line (op.Cmp o) ready h = puts_integer (op.Cmp o) ready refl next refl refl ready.result _ (truth_is _)
-  act_stays line op.Add ready h =
+  act_stays line fits (op.Cmp o) ready h = puts_integer (op.Cmp o) ready refl next refl refl ready.result _ (truth_is _)
+  act_stays line fits op.Add ready h =
       answers_of op.Add ready refl next refl refl (Some Address) ready.result line _ (moved_done s.objects _ _ (point 0))
-  act_stays line op.Sub ready h =
+  act_stays line fits op.Sub ready h =
       answers_of op.Sub ready refl next refl refl (Some Address) ready.result line _ (moved_done s.objects _ _ (point 0))
-  act_stays line op.Diff ready h =
+  act_stays line fits op.Diff ready h =
       answers_of op.Diff ready refl next refl refl (Some Integer) ready.result line _ (operand _ (difference_done s.objects (pointer_at c.handed 0) (pointer_at c.handed 1) i.imm))
-  act_stays line (op.Pcmp o) ready h =
+  act_stays line fits (op.Pcmp o) ready h =
       answers_of (op.Pcmp o) ready refl next refl refl (Some Integer) ready.result line _ (operand _ (compared_done s.objects o (pointer_at c.handed 0) (pointer_at c.handed 1)))
-  act_stays line op.Test ready h = puts_integer op.Test ready refl next refl refl ready.result _ (truth_is _)
-  act_stays line (op.Load k) ready h =
+  act_stays line fits op.Test ready h = puts_integer op.Test ready refl next refl refl ready.result _ (truth_is _)
+  act_stays line fits (op.Load k) ready h =
       answers_of (op.Load k) ready refl next refl refl (Some Integer) ready.result line _ (operand _ (loaded_done s.objects good.objects k (pointer_at c.handed 0) (point 0)))
-  act_stays line op.Loadp ready h =
+  act_stays line fits op.Loadp ready h =
       answers_of op.Loadp ready refl next refl refl (Some Address) ready.result line _ (loaded_pointer_done s.objects good.objects _ (point 0))
-  act_stays line (op.Store k) ready h =
+  act_stays line fits (op.Store k) ready h =
       stores_stays code wf c good i at (op.Store k) ready (plain (op.Store k) None refl next refl refl) line _ (stored_done s.objects good.objects k _ _ (point 0)) (stored_same s.objects k (pointer_at c.handed 0) (number_at c.handed 1))
-  act_stays line op.Storep ready h =
+  act_stays line fits op.Storep ready h =
       changes_stays code wf c good i at op.Storep ready (plain op.Storep None refl next refl refl) line (birth_in (pointer_at c.handed 0)) _ (stored_pointer_done s.objects good.objects _ _ (point 0) (point 1)) (stored_pointer_changes s.objects (pointer_at c.handed 0) (pointer_at c.handed 1))
-  act_stays line op.Copy ready h =
+  act_stays line fits op.Copy ready h =
       let n = bytes_in (number_at c.handed 2) in
       changes_stays code wf c good i at op.Copy ready (plain op.Copy None refl next refl refl) line (birth_in (pointer_at c.handed 0)) _ (copied_done s.objects good.objects _ _ n (point 0) (point 1)) (copied_changes s.objects (pointer_at c.handed 0) (pointer_at c.handed 1) n)
-  act_stays line op.Clear ready h =
+  act_stays line fits op.Clear ready h =
       let n = bytes_in (number_at c.handed 1) in
       changes_stays code wf c good i at op.Clear ready (plain op.Clear None refl next refl refl) line (birth_in (pointer_at c.handed 0)) _ (set_done s.objects good.objects _ 0 n (omega arith) (point 0)) (set_changes s.objects (pointer_at c.handed 0) 0 n)
-  act_stays line op.Jump ready h = goes_to code wf c good i at op.Jump ready refl refl refl i.b (0, omega arith, refl) s.steps
-  act_stays line op.Zero ready h =
+  act_stays line fits op.Jump ready h = goes_to code wf c good i at op.Jump ready refl refl refl i.b (0, omega arith, refl) s.steps
+  act_stays line fits op.Zero ready h =
       branch_stays code wf c good i at op.Zero ready refl refl refl _ i.b (1, omega arith, refl) (0, omega arith, refl)
-  act_stays line op.Case ready h =
+  act_stays line fits op.Case ready h =
       branch_stays code wf c good i at op.Case ready refl refl refl _ i.b (1, omega arith, refl) (0, omega arith, refl)
-  act_stays line op.Loop ready h =
+  act_stays line fits op.Loop ready h =
       step_stays code wf c good i at s.steps _ (λ m. goes_to code wf c good i at op.Loop ready refl refl refl i.b (0, omega arith, refl) m)
-  act_stays line op.Call ready h =
+  act_stays line fits op.Call ready h =
       step_stays code wf c good i at s.steps _ (λ m. call_stays code wf c good i at.here ready line m)
-  act_stays line op.Malloc ready h =
-      make_stays code wf c good i at op.Malloc ready i.a (plain op.Malloc (Some i.a) refl next refl refl) ready.result line _ (size_small (number_at c.handed 0)) (layout_in code i.b) (layout_sound code wf i.b)
-  act_stays line op.Calloc ready h =
-      make_stays code wf c good i at op.Calloc ready i.a (plain op.Calloc (Some i.a) refl next refl refl) ready.result line _ (product_small (number_at c.handed 0) (number_at c.handed 1)) (layout_in code i.b) (layout_sound code wf i.b)
-  act_stays line op.Realloc ready h =
-      grow_stays code wf c good i at ready line (size_in (number_at c.handed 1)) (size_small (number_at c.handed 1)) (layout_in code i.b) (layout_sound code wf i.b) (pointer_at c.handed 0)
-  act_stays line op.Free ready h = free_stays code wf c good i at ready line (pointer_at c.handed 0)
-  act_stays line (op.Lib name) ready h = lib_stays line name ready
-  act_stays line op.Printf ready h =
+  act_stays line fits op.Malloc ready h =
+      made_stays code wf c good i at _ op.Malloc ready i.a (plain op.Malloc (Some i.a) refl next refl refl) ready.result line _ (size_small (number_at c.handed 0)) (layout_in code i.b) (layout_sound code wf i.b)
+  act_stays line fits op.Calloc ready h =
+      made_stays code wf c good i at _ op.Calloc ready i.a (plain op.Calloc (Some i.a) refl next refl refl) ready.result line _ (product_small (number_at c.handed 0) (number_at c.handed 1)) (layout_in code i.b) (layout_sound code wf i.b)
+  act_stays line fits op.Realloc ready h =
+      grow_stays code wf c good i at ready line (size_in (number_at c.handed 1)) (size_small (number_at c.handed 1)) (layout_in code i.b) (layout_sound code wf i.b) fits (pointer_at c.handed 0)
+  act_stays line fits op.Free ready h = free_stays code wf c good i at ready line (pointer_at c.handed 0)
+  act_stays line fits (op.Lib name) ready h = lib_stays line name ready
+  act_stays line fits op.Printf ready h =
       let pieces = pieces_of (slice_index_or code.formats i.b []) in
       print_stays code wf c good i at op.Printf ready i.a (plain op.Printf (Some i.a) refl next refl refl) ready.result line (printed s.objects pieces c.handed).bytes (printed s.objects pieces c.handed).refused (printed_lives s.objects good.objects pieces c.handed point)
-  act_stays line op.Enter ready h = enter_stays code wf c good i at ready
-  act_stays line op.Leave ready h = leave_stays code wf c good i at ready s.scopes refl
-  act_stays line op.Return ready h = return_stays line ready
-  act_stays line op.Give ready h = giving_stays line ready
+  act_stays line fits op.Enter ready h = enter_stays code wf c good i at ready
+  act_stays line fits op.Leave ready h = leave_stays code wf c good i at ready s.scopes refl
+  act_stays line fits op.Return ready h = return_stays line fits ready
+  act_stays line fits op.Give ready h = giving_stays line fits ready

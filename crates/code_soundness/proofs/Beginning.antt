@@ -13,7 +13,6 @@ use Rattle.hs_base.specs.declared.values.Pointer.{Pointer}
 use Rattle.hs_base.specs.declared.values.Pointer.TheVariants as pointer
 use Rattle.hs_base.specs.Freeing.{pointers_to, pointers_inside}
 use Rattle.hs_base.specs.Object.{Object, is_queued, no_object, object_at}
-use Rattle.hs_base.specs.Trace.{Event}
 use Rattle.c_types.specs.declared.layouts.Layout.{Layout}
 use Rattle.c_types.specs.Layouts.{AreSlots}
 use Rattle.object_meaning.specs.Making.{first_pointer}
@@ -27,7 +26,7 @@ use Rattle.flat_code.specs.Table.{all_there, parameter_sorts}
 use Rattle.flat_code.specs.WellFormed.{IsWellFormed, IsFirst, IsTarget, IsLayout, IsStart}
 use Rattle.code_meaning.specs.CodeState.{CodeState, Next}
 use Rattle.code_meaning.specs.Entering.{layout_in, no_layout, with_step, begin}
-use Rattle.code_meaning.specs.CodeMeaning.{static_object, static_objects, main_in, first_numbers, start, act, hand_or_act, handed_value, act_at, step}
+use Rattle.code_meaning.specs.CodeMeaning.{static_object, static_objects, main_in, first_numbers, start, act, hand_or_act, handed_value, act_at, step_by}
 use Rattle.counts_are_holders.specs.Counts.{living, inside_living}
 use Rattle.code_soundness.specs.Objects.{IsPointer, AreOperands, IsByte, IsObject, AreObjects, HasStatics, IsQueue}
 use Rattle.code_soundness.specs.Laws.{BeginsWell, HoldsBytes, LeavesLess}
@@ -145,9 +144,9 @@ module _ (code : Code) (wf : IsWellFormed code) where
 -- The first instruction
 
 -- no value is handed over at the first instruction
-at_start : (code : Code) (line : ℕ) (i : Instr) (c : CodeState) (P : Next → Type 0) → i.op ≡ op.Start → P (act code line i op.Start c.handed c.numbers c.state) → P (hand_or_act code line i (handed_value c.state.running i i.op) c)
-at_start code line i c P e h =
-    done_is code line i c P (handed_value c.state.running i i.op) (subst (λ (o : Op). P (done_by code line i c o (handed_value c.state.running i o))) (sym e) h)
+at_start : (code : Code) (fits : ℕ → Bool) (line : ℕ) (i : Instr) (c : CodeState) (P : Next → Type 0) → i.op ≡ op.Start → P (act code fits line i op.Start c.handed c.numbers c.state) → P (hand_or_act code fits line i (handed_value c.state.running i i.op) c)
+at_start code fits line i c P e h =
+    done_is code fits line i c P (handed_value c.state.running i i.op) (subst (λ (o : Op). P (done_by code fits line i c o (handed_value c.state.running i o))) (sym e) h)
 
 module _ (code : Code) (wf : IsWellFormed code) (holds : HoldsBytes code) (input : List ℕ) (bytes : All IsByte input) where
   module _ (i : Instr) (main : ℕ) (entry : Entry) (here : slice_get code.instrs 0 ≡ Some i) (is : IsStart code i main entry) where
@@ -169,25 +168,25 @@ module _ (code : Code) (wf : IsWellFormed code) (holds : HoldsBytes code) (input
     step_begins line zero = refl
     step_begins line (suc m) = begins_at line m
 
-    act_begins : (line steps : ℕ) → BeginsWell code (act code line i op.Start [] (start code input steps).numbers (start code input steps).state)
-    act_begins line steps =
+    act_begins : (fits : ℕ → Bool) (line steps : ℕ) → BeginsWell code (act code fits line i op.Start [] (start code input steps).numbers (start code input steps).state)
+    act_begins fits line steps =
         let e : unsigned_abs i.imm ≡ main = ap unsigned_abs is.number in
         subst (λ (f : ℕ). BeginsWell code (with_step steps first (start code input steps).state (begin code line f first))) (sym e) (step_begins line steps)
 
-    begins : (steps : ℕ) (trace : List Event) → BeginsWell code (step code trace (start code input steps))
-    begins steps trace =
+    begins : (steps : ℕ) (fits : ℕ → Bool) → BeginsWell code (step_by code fits (start code input steps))
+    begins steps fits =
         let c = start code input steps in
         let line = slice_index code.lines c.state.running.point in
-        subst (λ (o : Option Instr). BeginsWell code (act_at code o c)) (sym here) (at_start code line i c (BeginsWell code) is.begins (act_begins line steps))
+        subst (λ (o : Option Instr). BeginsWell code (act_at code fits o c)) (sym here) (at_start code fits line i c (BeginsWell code) is.begins (act_begins fits line steps))
 
-    falls : (steps : ℕ) (trace : List Event) → LeavesLess code (start code input steps) (step code trace (start code input steps))
-    falls steps trace =
+    falls : (steps : ℕ) (fits : ℕ → Bool) → LeavesLess code (start code input steps) (step_by code fits (start code input steps))
+    falls steps fits =
         let c = start code input steps in
         let line = slice_index code.lines c.state.running.point in
         let inside = slice_get_within code.instrs 0 i here in
-        subst (λ (o : Option Instr). LeavesLess code c (act_at code o c)) (sym here) (at_start code line i c (LeavesLess code c) is.begins (act_less code c.state inside line i c.handed c.numbers op.Start (λ k d lt. absurd (omega arith))))
+        subst (λ (o : Option Instr). LeavesLess code c (act_at code fits o c)) (sym here) (at_start code fits line i c (LeavesLess code c) is.begins (act_less code c.state inside fits line i c.handed c.numbers op.Start (λ k d lt. absurd (omega arith))))
 
-  pub begins_well : (steps : ℕ) (trace : List Event) → BeginsWell code (step code trace (start code input steps)) × LeavesLess code (start code input steps) (step code trace (start code input steps))
-  begins_well steps trace =
+  pub begins_well : (steps : ℕ) (fits : ℕ → Bool) → BeginsWell code (step_by code fits (start code input steps)) × LeavesLess code (start code input steps) (step_by code fits (start code input steps))
+  begins_well steps fits =
       let s = wf.start in
-      (begins s.0 s.1 s.2 s.3 s.4 steps trace, falls s.0 s.1 s.2 s.3 s.4 steps trace)
+      (begins s.0 s.1 s.2 s.3 s.4 steps fits, falls s.0 s.1 s.2 s.3 s.4 steps fits)

@@ -22,7 +22,7 @@ use Rattle.object_meaning.specs.Values.{number, address, start_of, number_at, po
 use Rattle.object_meaning.specs.Going as core
 use Rattle.object_meaning.specs.Going.{at_point, onward, put, write, with_register, with_objects, if_done, answers, changes}
 use Rattle.object_meaning.specs.Making.{with_new}
-use Rattle.object_meaning.specs.Heap.{birth_of, make, enqueue}
+use Rattle.object_meaning.specs.Heap.{birth_of, enqueue, made, no_place}
 use Rattle.object_meaning.specs.Printing.{print}
 use Rattle.object_meaning.specs.Builtins.{byte_in, get_byte, put_line, filled, call_lib}
 use Rattle.object_meaning.specs.Meaning.{branch}
@@ -38,7 +38,7 @@ use Rattle.code_meaning.specs.Pinning.{pinned}
 use Rattle.code_meaning.specs.Entering.{with_step, call, begin}
 use Rattle.code_meaning.specs.Returning.{go_back, end_locals, give_back, running_locals}
 use Rattle.code_meaning.specs.Checking.{leave, decided, in_scope}
-use Rattle.code_meaning.specs.Freeing.{free, free_named, grow, grow_named, grown}
+use Rattle.code_meaning.specs.Freeing.{free, free_named, grow, grow_named, grow_old, grown}
 use Rattle.code_meaning.specs.CodeMeaning.{act, hand, behind_lib, code_left, enough}
 
 -- the same point, the same waiting frames, and the same steps left
@@ -131,8 +131,9 @@ module _ (code : Code) (s : State) (inside : s.running.point < length code.instr
 
   -- Heap objects
 
-  make_less : (line r n : ℕ) (element : Layout) → CoreLess (make line r n element s)
-  make_less line r n element =
+  made_less : (b : Bool) (line r n : ℕ) (element : Layout) → CoreLess (made b line r n element s)
+  made_less false line r n element = write_less s (Some r) (address pointer.Null) alike
+  made_less true line r n element =
       write_less (with_new line n element s) (Some r) (address (start_of (length s.objects))) (record { point = refl; waiting = refl; steps = refl })
 
   free_named_less : (line : ℕ) (named : Result ℕ Reason) (n : ℕ → ℕ) → Less (free_named code line named n s)
@@ -149,15 +150,20 @@ module _ (code : Code) (s : State) (inside : s.running.point < length code.instr
       in_scope_less t.scopes n s (put (enqueue line old (with_objects t objects)) (Some r) (address (start_of (length s.objects)))) (birth_of line size s) (renumbered (length s.objects) n t (with_objects t objects)) (record { point = h.point; waiting = h.waiting; steps = h.steps })
   grown_less line r size old t h n (Err e) = tt
 
-  grow_named_less : (line r : ℕ) (named : Result ℕ Reason) (size : ℕ) (element : Layout) (n : ℕ → ℕ) → Less (grow_named code line r named size element n s)
-  grow_named_less line r (Ok old) size element n =
+  grow_old_less : (b : Bool) (line r old size : ℕ) (element : Layout) (n : ℕ → ℕ) → Less (grow_old b code line r old size element n s)
+  grow_old_less false line r old size element n = same_less n (no_place r s) (write_less s (Some r) (address pointer.Null) alike)
+  grow_old_less true line r old size element n =
       grown_less line r size old (with_new line size element s) (record { point = refl; waiting = refl; steps = refl }) n _
-  grow_named_less line r (Err reason) size element n = tt
 
-  grow_less : (line r : ℕ) (p : Pointer) (size : ℕ) (element : Layout) (n : ℕ → ℕ) → Less (grow code line r p size element n s)
-  grow_less line r pointer.Null size element n = same_less n (make line r size element s) (make_less line r size element)
-  grow_less line r (pointer.At birth offset) size element n =
-      grow_named_less line r (freed_at s.objects birth offset) size element n
+  grow_named_less : (fits : ℕ → Bool) (line r : ℕ) (named : Result ℕ Reason) (size : ℕ) (element : Layout) (n : ℕ → ℕ) → Less (grow_named code fits line r named size element n s)
+  grow_named_less fits line r (Ok old) size element n = grow_old_less (fits size) line r old size element n
+  grow_named_less fits line r (Err reason) size element n = tt
+
+  grow_less : (fits : ℕ → Bool) (line r : ℕ) (p : Pointer) (size : ℕ) (element : Layout) (n : ℕ → ℕ) → Less (grow code fits line r p size element n s)
+  grow_less fits line r pointer.Null size element n =
+      same_less n (made (fits size) line r size element s) (made_less (fits size) line r size element)
+  grow_less fits line r (pointer.At birth offset) size element n =
+      grow_named_less fits line r (freed_at s.objects birth offset) size element n
 
   -- Built-in functions and printing
 
@@ -213,8 +219,8 @@ module _ (code : Code) (s : State) (inside : s.running.point < length code.instr
   register_less : (r : ℕ) → enough code (write s (Some r) (number (pos 0))) < enough code s
   register_less r = write_less s (Some r) (number (pos 0)) alike
 
-  module _ (line : ℕ) (i : Instr) (values : List Value) (n : ℕ → ℕ) where
-    pub act_less : (o : Op) → LeadsOn s.running.point i o → Less (act code line i o values n s)
+  module _ (fits : ℕ → Bool) (line : ℕ) (i : Instr) (values : List Value) (n : ℕ → ℕ) where
+    pub act_less : (o : Op) → LeadsOn s.running.point i o → Less (act code fits line i o values n s)
     act_less op.Start h = step_less n s.steps _ refl (λ m e. begin_less line (unsigned_abs i.imm) n m e)
     act_less op.HandReg h = tt
     act_less op.HandInt h = tt
@@ -243,9 +249,9 @@ module _ (code : Code) (s : State) (inside : s.running.point < length code.instr
     act_less op.Case h = same_less n _ (branch_less _ i.b (h 1 0 (omega arith)))
     act_less op.Loop h = step_less n s.steps _ refl (λ m e. back_less m i.b e)
     act_less op.Call h = step_less n s.steps _ refl (λ m e. call_less line i.b values n m e)
-    act_less op.Malloc h = register_less i.a
-    act_less op.Calloc h = register_less i.a
-    act_less op.Realloc h = grow_less line i.a _ _ _ n
+    act_less op.Malloc h = same_less n _ (made_less _ line i.a _ _)
+    act_less op.Calloc h = same_less n _ (made_less _ line i.a _ _)
+    act_less op.Realloc h = grow_less fits line i.a _ _ _ n
     act_less op.Free h = free_less line _ n
     act_less (op.Lib name) h = other_less (behind_lib name values n) n _ (lib_less line name (chosen i) values)
     act_less op.Printf h = same_less n _ (print_less line i.a _ _)

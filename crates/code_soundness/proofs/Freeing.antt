@@ -31,7 +31,7 @@ use Rattle.counted_meaning.specs.Counting.{more, renumbered}
 use Rattle.code_meaning.specs.CodeState.{CodeState}
 use Rattle.code_meaning.specs.Pinning.{pinned}
 use Rattle.code_meaning.specs.Checking.{leave}
-use Rattle.code_meaning.specs.Freeing.{free, free_named, grow, grow_named, grown}
+use Rattle.code_meaning.specs.Freeing.{free, free_named, grow, grow_named, grow_old, grown}
 use Rattle.counts_are_holders.proofs.Objects.{queued_same}
 use Rattle.counts_are_holders.proofs.Touched.{OnDone, Changes, copied_changes}
 use Rattle.code_soundness.specs.Objects.{IsThere, IsPointer, IsOfSort}
@@ -43,7 +43,7 @@ use Rattle.code_soundness.proofs.Made.{heap_is, append_grows, one_more, one_queu
 use Rattle.code_soundness.proofs.Queues.{alike_queue, queued_grows, queued_born, queued_objects, queued_queue}
 use Rattle.code_soundness.proofs.Frames.{Holds, holds_of, holds_grow, holds_put}
 use Rattle.code_soundness.proofs.Checks.{decided_stays, in_scope_stays}
-use Rattle.code_soundness.proofs.Standing.{IsReady, goes_to, unwritten, rescoped, heap_living, make_stays}
+use Rattle.code_soundness.proofs.Standing.{IsReady, goes_to, unwritten, rescoped, heap_living, none_stays, made_stays, IsPlain}
 
 -- the object that a free may queue is not dead, on the heap and not queued
 pub record MayQueue (objects : List Object) (b : ℕ) : Type 0 where
@@ -151,16 +151,23 @@ module _ (code : Code) (wf : IsWellFormed code) (c : CodeState) (good : IsGood c
         in_scope_stays code wf good.entry good.scopes good.others n (put (enqueue line old t) (Some i.a) v) written_holds i at (ap has_site ready.is) (ap (answered i) ready.is) op.Realloc ready refl next refl good.depth s.scopes refl c.numbers s (birth_of line size s)
     grown_stays old may (Err e) h d = refused line e h
 
-    grow_named_stays : (result : Result ℕ Reason) → Frees s.objects result → StaysGood code (grow_named code line i.a result size element c.numbers s)
-    grow_named_stays (Ok old) may =
+    abbrev grows : IsPlain code wf c good i at op.Realloc (Some i.a)
+    grows = record { takes = refl; edge = next; same = refl; writes = refl }
+
+    grow_old_stays : (b : Bool) (old : ℕ) → Frees s.objects (Ok old) → StaysGood code (grow_old b code line i.a old size element c.numbers s)
+    grow_old_stays false old may = none_stays code wf c good i at op.Realloc ready i.a grows ready.result
+    grow_old_stays true old may =
         let most = min (object_at s.objects old).size size in
         let to : IsPointer made.objects (start_of (length s.objects)) = new_start s.objects new refl in
         let from : IsPointer made.objects (start_of old) = ((made_may old may).there, omega arith) in
         grown_stays old (made_may old may) (copied made.objects (start_of (length s.objects)) (start_of old) most) (copied_done made.objects made_holds.objects (start_of (length s.objects)) (start_of old) most to from) (copied_changes made.objects (start_of (length s.objects)) (start_of old) most)
-    grow_named_stays (Err reason) may = λ e. cc
+
+    grow_named_stays : (fits : ℕ → Bool) (result : Result ℕ Reason) → Frees s.objects result → StaysGood code (grow_named code fits line i.a result size element c.numbers s)
+    grow_named_stays fits (Ok old) may = grow_old_stays (fits size) old may
+    grow_named_stays fits (Err reason) may = λ e. cc
 
     -- null grows to a new object
-    pub grow_stays : (p : Pointer) → StaysGood code (grow code line i.a p size element c.numbers s)
-    grow_stays pointer.Null =
-        make_stays code wf c good i at op.Realloc ready i.a (record { takes = refl; edge = next; same = refl; writes = refl }) ready.result line size small element sound
-    grow_stays (pointer.At b offset) = grow_named_stays (freed_at s.objects b offset) (frees s.objects b offset)
+    pub grow_stays : (fits : ℕ → Bool) (p : Pointer) → StaysGood code (grow code fits line i.a p size element c.numbers s)
+    grow_stays fits pointer.Null =
+        made_stays code wf c good i at (fits size) op.Realloc ready i.a grows ready.result line size small element sound
+    grow_stays fits (pointer.At b offset) = grow_named_stays fits (freed_at s.objects b offset) (frees s.objects b offset)

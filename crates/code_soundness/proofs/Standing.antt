@@ -4,6 +4,7 @@ use Rattle.std.specs.Prelude.{All, Contains}
 use Rattle.std.proofs.lemmas.Int.{ints}
 use Rattle.std.proofs.lemmas.List.Elements.{All-head, All-tail}
 use Rattle.hs_base.specs.declared.values.Pointer.{Pointer}
+use Rattle.hs_base.specs.declared.values.Pointer.TheVariants as pointer
 use Rattle.hs_base.specs.declared.values.Value.{Value}
 use Rattle.hs_base.specs.declared.ends.IntKind.TheVariants.{I32}
 use Rattle.hs_base.specs.Access.{Refusal}
@@ -15,7 +16,7 @@ use Rattle.core_tree.specs.Sorts.{Sort, Integer, Pointer as Address}
 use Rattle.object_meaning.specs.Values.{number, address, start_of, pointer_in}
 use Rattle.object_meaning.specs.Going.{write, put, onward, at_point, with_objects, answers, changes, if_done}
 use Rattle.object_meaning.specs.Making.{heap_object}
-use Rattle.object_meaning.specs.Heap.{make}
+use Rattle.object_meaning.specs.Heap.{no_place, made}
 use Rattle.object_meaning.specs.Printing.{print}
 use Rattle.object_meaning.specs.Builtins.{get_byte, put_line, filled}
 use Rattle.object_meaning.specs.Meaning.{branch}
@@ -179,8 +180,14 @@ module _ (code : Code) (wf : IsWellFormed code) (c : CodeState) (good : IsGood c
 
   -- New objects
 
-  pub make_stays : (o : Op) → IsReady o → (r : ℕ) → IsPlain o (Some r) → GivesTo good.entry (Some Address) (Some r) → (line size : ℕ) → size < 2 ^ 64 → (element : Layout) → IsSound element → StaysGood code (same_numbers c.numbers (make line r size element s))
-  make_stays o ready r plain gives line size small element sound =
+  -- null is the answer where there is no place for one
+  pub none_stays : (o : Op) → IsReady o → (r : ℕ) → IsPlain o (Some r) → GivesTo good.entry (Some Address) (Some r) → StaysGood code (same_numbers c.numbers (no_place r s))
+  none_stays o ready r plain gives =
+      writes o ready (Some Address) (Some r) plain gives (address pointer.Null) (tt, tt)
+
+  pub made_stays : (b : Bool) (o : Op) → IsReady o → (r : ℕ) → IsPlain o (Some r) → GivesTo good.entry (Some Address) (Some r) → (line size : ℕ) → size < 2 ^ 64 → (element : Layout) → IsSound element → StaysGood code (same_numbers c.numbers (made b line r size element s))
+  made_stays false o ready r plain gives line size small element sound = none_stays o ready r plain gives
+  made_stays true o ready r plain gives line size small element sound =
       let new = heap_object line size element in
       let objects = s.objects ++ new ∷ [] in
       write_good o ready (Some Address) (Some r) plain gives objects (append_grows s.objects (new ∷ [])) (one_born s.objects new refl) (one_more s.objects new good.objects (heap_is objects line size element small sound)) (one_queue s.objects new s.queue good.queue refl) s.input good.input (address (start_of (length s.objects))) (tt, new_start s.objects new refl) c.numbers (λ x. omega (arith, good.numbers x, heap_living s.objects line size element x))

@@ -6,7 +6,6 @@ use Rattle.std.proofs.lemmas.Option.{same_Some, slice_get-map}
 use Rattle.hs_base.specs.declared.values.Pointer.TheVariants as pointer
 use Rattle.hs_base.specs.declared.values.Value.{Value}
 use Rattle.hs_base.specs.State.{State}
-use Rattle.hs_base.specs.Trace.{Event}
 use Rattle.core_tree.specs.Sorts.{Sort, Integer, Pointer as Address}
 use Rattle.object_meaning.specs.Values.{number, address, start_of, pointer_in, holds_stale}
 use Rattle.flat_code.specs.declared.instructions.Instr.{Instr}
@@ -17,7 +16,7 @@ use Rattle.flat_code.specs.declared.program.StaticInit.{StaticInit}
 use Rattle.flat_code.specs.Table.{register_sorts, register_sort, all_there, hands, handed_sort, written, edges, scopes_after}
 use Rattle.flat_code.specs.WellFormed.{IsWellFormed, IsAt, handed_before}
 use Rattle.code_meaning.specs.CodeState.{CodeState, Next, with_handed}
-use Rattle.code_meaning.specs.CodeMeaning.{unsigned, handed_value, hand, act, hand_or_act, act_at, step}
+use Rattle.code_meaning.specs.CodeMeaning.{unsigned, handed_value, hand, act, hand_or_act, act_at, step_by}
 use Rattle.code_soundness.specs.Objects.{IsOfSort, IsOperand, AreOperands}
 use Rattle.code_soundness.specs.Good.{IsGood}
 use Rattle.code_soundness.specs.Laws.{StaysGood}
@@ -32,14 +31,14 @@ use Rattle.code_soundness.proofs.Calling.{there}
 use Rattle.code_soundness.proofs.Acting.{act_stays}
 
 -- what an operation does: it hands a value over, or acts on what was handed over
-abbrev pub done_by : Code → ℕ → Instr → CodeState → Op → Option Value → Next
-done_by code line i c o (Some v) = hand (holds_stale c.state.objects v) v c
-done_by code line i c o None = act code line i o c.handed c.numbers c.state
+abbrev pub done_by : Code → (ℕ → Bool) → ℕ → Instr → CodeState → Op → Option Value → Next
+done_by code fits line i c o (Some v) = hand (holds_stale c.state.objects v) v c
+done_by code fits line i c o None = act code fits line i o c.handed c.numbers c.state
 
 -- so does the instruction
-pub done_is : (code : Code) (line : ℕ) (i : Instr) (c : CodeState) (P : Next → Type 0) (o : Option Value) → P (done_by code line i c i.op o) → P (hand_or_act code line i o c)
-done_is code line i c P (Some v) h = h
-done_is code line i c P None h = h
+pub done_is : (code : Code) (fits : ℕ → Bool) (line : ℕ) (i : Instr) (c : CodeState) (P : Next → Type 0) (o : Option Value) → P (done_by code fits line i c i.op o) → P (hand_or_act code fits line i o c)
+done_is code fits line i c P (Some v) h = h
+done_is code fits line i c P None h = h
 
 module _ (code : Code) (wf : IsWellFormed code) (c : CodeState) (good : IsGood code c) (i : Instr) (at : IsAt code c.state.running.func good.entry c.state.running.point i) where
   abbrev s : State
@@ -114,32 +113,32 @@ module _ (code : Code) (wf : IsWellFormed code) (c : CodeState) (good : IsGood c
       let is = handed_is o ready v e in
       subst (λ (b : Bool). StaysGood code (hand b v c)) (sym (not_stale s.objects (pointer_in v) is.1)) (handed_good o ready h edge same none v is)
 
-  does_stays : (line : ℕ) (o : Op) → Does o → StaysGood code (done_by code line i c o (handed_value s.running i o))
-  does_stays line op.HandReg ready =
+  does_stays : (fits : ℕ → Bool) (line : ℕ) (o : Op) → Does o → StaysGood code (done_by code fits line i c o (handed_value s.running i o))
+  does_stays fits line op.HandReg ready =
       hand_stays op.HandReg ready refl (0, omega arith, refl) refl refl (get_or s.running.regs i.a (number (pos 0))) refl
-  does_stays line op.HandInt ready =
+  does_stays fits line op.HandInt ready =
       hand_stays op.HandInt ready refl (0, omega arith, refl) refl refl (number i.imm) refl
-  does_stays line op.HandUnsigned ready =
+  does_stays fits line op.HandUnsigned ready =
       hand_stays op.HandUnsigned ready refl (0, omega arith, refl) refl refl (number (unsigned i.imm)) refl
-  does_stays line op.HandNull ready =
+  does_stays fits line op.HandNull ready =
       hand_stays op.HandNull ready refl (0, omega arith, refl) refl refl (address pointer.Null) refl
-  does_stays line op.HandStatic ready =
+  does_stays fits line op.HandStatic ready =
       hand_stays op.HandStatic ready refl (0, omega arith, refl) refl refl (address (start_of i.a)) refl
-  does_stays line op.HandLocal ready =
+  does_stays fits line op.HandLocal ready =
       hand_stays op.HandLocal ready refl (0, omega arith, refl) refl refl (address (start_of (s.running.first_local + i.a))) refl
-  does_stays line o ready = act_stays code wf c good i at line o ready refl
+  does_stays fits line o ready = act_stays code wf c good i at line fits o ready refl
 
-  pub at_stays : StaysGood code (act_at code (Some i) c)
-  at_stays =
+  pub at_stays : (fits : ℕ → Bool) → StaysGood code (act_at code fits (Some i) c)
+  at_stays fits =
       let line = slice_index code.lines s.running.point in
-      done_is code line i c (StaysGood code) (handed_value s.running i i.op) (does_stays line i.op (ready_at code wf s.running.func good.entry s.running.point i at))
+      done_is code fits line i c (StaysGood code) (handed_value s.running i i.op) (does_stays fits line i.op (ready_at code wf s.running.func good.entry s.running.point i at))
 
 -- the instruction of a good state
 pub instr_of : (code : Code) → IsWellFormed code → (c : CodeState) → (good : IsGood code c) → (i : Instr) × IsAt code c.state.running.func good.entry c.state.running.point i
 instr_of code wf c good =
     instr_at code wf c.state.running.func good.entry c.state.running.point good.running.function good.running.from good.running.before
 
-pub stays : (code : Code) → IsWellFormed code → (c : CodeState) → IsGood code c → (trace : List Event) → StaysGood code (step code trace c)
-stays code wf c good trace =
+pub stays : (code : Code) → IsWellFormed code → (c : CodeState) → IsGood code c → (fits : ℕ → Bool) → StaysGood code (step_by code fits c)
+stays code wf c good fits =
     let i = instr_of code wf c good in
-    subst (λ (o : Option Instr). StaysGood code (act_at code o c)) (sym i.1.here) (at_stays code wf c good i.0 i.1)
+    subst (λ (o : Option Instr). StaysGood code (act_at code fits o c)) (sym i.1.here) (at_stays code wf c good i.0 i.1 fits)

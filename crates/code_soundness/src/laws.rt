@@ -46,7 +46,7 @@ pub fn run_begins_well()
 {}
 
 /// From a good state each instruction leads to a good state, or it ends the run, and not by reading a pointer to a dead
-/// object or for want of an instruction.
+/// object or for want of an instruction: whichever sizes have a place on the heap.
 pub fn step_stays_good()
     ensures { StepStaysGood }
 {}
@@ -56,8 +56,8 @@ pub fn step_leaves_less()
     ensures { StepLeavesLess }
 {}
 
-/// The meaning of code has ended, for every input and number of steps, and it did not end by reading a pointer to an object
-/// that is dead.
+/// The meaning of code has ended, for every input, number of steps and size of the heap, and it did not end by reading a
+/// pointer to an object that is dead.
 pub fn run_ends()
     ensures { RunsEnd }
 {}

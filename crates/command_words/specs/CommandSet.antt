@@ -25,9 +25,9 @@ abbrev pub run : App
 run =
     with_rule (with_rule (with_rule (with_rule (with_rule (new_app (codes "run")) file) (option (codes "heap"))) (option (codes "stack"))) (option (codes "steps"))) (flag (codes "leaks"))
 
--- `mean FILE [--steps N]`
+-- `mean FILE [--heap N] [--steps N]`
 abbrev pub mean : App
-mean = with_rule (with_rule (new_app (codes "mean")) file) (option (codes "steps"))
+mean = with_rule (with_rule (with_rule (new_app (codes "mean")) file) (option (codes "heap"))) (option (codes "steps"))
 
 -- a command with a file alone
 abbrev pub plain : Text → App

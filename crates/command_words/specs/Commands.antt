@@ -13,11 +13,11 @@ use Rattle.command_words.specs.declared.error.WordsError.{WordsError}
 use Rattle.command_words.specs.declared.error.WordsError.TheVariants.{Usage, NoMemory}
 
 -- what is done with a text: it is run on a heap and a stack of so many bytes with at most so many steps, with or without a
--- list of the blocks that are left, or its meaning is evaluated with so many steps; or its canonical spelling is written, the
--- layouts of its structs and unions, its core, or the registers that are live after each point of it
+-- list of the blocks that are left, or its meaning is evaluated in such a heap with so many steps; or its canonical spelling is
+-- written, the layouts of its structs and unions, its core, or the registers that are live after each point of it
 pub data Task : Type 0 where
   Run : (heap stack steps : ℕ) → (leaks : Bool) → Task
-  Mean : (steps : ℕ) → Task
+  Mean : (heap steps : ℕ) → Task
   Print : Task
   Layout : Task
   List : Task
@@ -64,7 +64,7 @@ run_in rows =
 
 abbrev pub mean_in : Listed Row → Option Command
 mean_in rows =
-    option_and_then (λ file. option_and_then (λ steps. with_file file (Mean steps)) (steps_in (first_of (codes "steps") rows))) (first_of (codes "FILE") rows)
+    option_and_then (λ file. option_and_then (λ heap. option_and_then (λ steps. with_file file (Mean heap steps)) (steps_in (first_of (codes "steps") rows))) (heap_in (first_of (codes "heap") rows))) (first_of (codes "FILE") rows)
 
 abbrev pub plain_in : Task → Listed Row → Option Command
 plain_in task rows = option_and_then (λ file. with_file file task) (first_of (codes "FILE") rows)
@@ -90,7 +90,7 @@ command_of words =
 -- the code's command as the definition has it
 abbrev pub task_shown : code_task.Task → Task
 task_shown (tasks.Run heap stack steps leaks) = Run heap stack steps leaks
-task_shown (tasks.Mean steps) = Mean steps
+task_shown (tasks.Mean heap steps) = Mean heap steps
 task_shown tasks.Print = Print
 task_shown tasks.Layout = Layout
 task_shown tasks.List = List
@@ -109,7 +109,7 @@ IsRead wanted (Err NoMemory) = ⊤
 -- the numbers of a task are at most the most that an option may give
 abbrev pub IsLimited : Task → Type 0
 IsLimited (Run heap stack steps leaks) = (heap ≤ 268435456) × (stack ≤ 67108864) × (steps ≤ 1000000000)
-IsLimited (Mean steps) = steps ≤ 1000000000
+IsLimited (Mean heap steps) = (heap ≤ 268435456) × (steps ≤ 1000000000)
 IsLimited _ = ⊤
 
 -- the numbers of a command are within their limits

@@ -31,8 +31,9 @@ pub enum Task {
         steps: u64,
         leaks: bool,
     },
-    /// Its meaning is evaluated, with at most so many steps.
+    /// Its meaning is evaluated in a heap of so many bytes, with at most so many steps.
     Mean {
+        heap: u32,
         steps: u64,
     },
     /// Its canonical spelling is written.
@@ -109,8 +110,11 @@ fn mean<'a>(found: &ArgMatches<'a>) -> Result<Command<'a>, WordsError>
     let Some(file) = value_of(found, "FILE") else {
         return Err(WordsError::Usage);
     };
+    let Some(heap) = heap(value_of(found, "heap")) else {
+        return Err(WordsError::Usage);
+    };
     match steps(value_of(found, "steps")) {
-        Some(steps) => with_file(file, Task::Mean { steps }),
+        Some(steps) => with_file(file, Task::Mean { heap, steps }),
         None => Err(WordsError::Usage),
     }
 }

@@ -53,8 +53,12 @@ pub(crate) fn command_set<'a>(alloc: Global) -> Result<Command<'a>, AllocError>
         .arg(stack)?
         .arg(steps)?
         .arg(leaks)?;
-    let budget = option(alloc, "steps");
-    let mean = Command::new(alloc, "mean").arg(file(alloc))?.arg(budget)?;
+    let mean_heap = option(alloc, "heap");
+    let mean_steps = option(alloc, "steps");
+    let mean = Command::new(alloc, "mean")
+        .arg(file(alloc))?
+        .arg(mean_heap)?
+        .arg(mean_steps)?;
     let print = Command::new(alloc, "print").arg(file(alloc))?;
     let layout = Command::new(alloc, "layout").arg(file(alloc))?;
     let list = Command::new(alloc, "list").arg(file(alloc))?;

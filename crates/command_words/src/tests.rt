@@ -16,7 +16,7 @@ fn shown<'a>(read: Result<Command<'a>, WordsError>) -> Option<(&'a str, u32, u32
             steps,
             ..
         } => Some((file, heap, stack, steps)),
-        Task::Mean { steps } => Some((file, 0, 0, steps)),
+        Task::Mean { heap, steps } => Some((file, heap, 0, steps)),
         Task::Print | Task::Layout | Task::List | Task::Live => Some((file, 0, 0, 0)),
     }
 }
@@ -24,7 +24,7 @@ fn shown<'a>(read: Result<Command<'a>, WordsError>) -> Option<(&'a str, u32, u32
 /// Options stand before or after the file, with a blank or `=`; leading zeros are allowed; behind `--` stands a file.
 #[test]
 fn words_that_are_taken(rt: HostRuntime) -> Result<(), Fail> {
-    let rows: [(&[&str], &str, u32, u32, u64); 19] = [
+    let rows: [(&[&str], &str, u32, u32, u64); 21] = [
         (&["run", "a.c"], "a.c", 16_777_216, 1_048_576, 100_000_000),
         (
             &["run", "a.c", "--steps", "5"],
@@ -96,8 +96,16 @@ fn words_that_are_taken(rt: HostRuntime) -> Result<(), Fail> {
             1_048_576,
             100_000_000,
         ),
-        (&["mean", "a.c"], "a.c", 0, 0, 100_000_000),
-        (&["mean", "--steps", "5", "a.c"], "a.c", 0, 0, 5),
+        (&["mean", "a.c"], "a.c", 16_777_216, 0, 100_000_000),
+        (&["mean", "--steps", "5", "a.c"], "a.c", 16_777_216, 0, 5),
+        (&["mean", "a.c", "--heap", "0"], "a.c", 0, 0, 100_000_000),
+        (
+            &["mean", "--heap=268435456", "--steps=1", "a.c"],
+            "a.c",
+            268_435_456,
+            0,
+            1,
+        ),
         (&["print", "run"], "run", 0, 0, 0),
         (&["print", "mean"], "mean", 0, 0, 0),
         (&["print", "--", "a.c"], "a.c", 0, 0, 0),
@@ -161,7 +169,7 @@ fn texts_that_are_made(rt: HostRuntime) -> Result<(), Fail> {
 /// without its value, and a number out of its limits.
 #[test]
 fn words_that_are_not_taken(rt: HostRuntime) -> Result<(), Fail> {
-    let rows: [&[&str]; 46] = [
+    let rows: [&[&str]; 48] = [
         &[],
         &["run"],
         &["print"],
@@ -192,7 +200,9 @@ fn words_that_are_not_taken(rt: HostRuntime) -> Result<(), Fail> {
         &["mean"],
         &["mean", "a.c", "--steps", "0"],
         &["mean", "a.c", "--stack", "5"],
-        &["mean", "a.c", "--heap", "5"],
+        &["mean", "a.c", "--heap", "268435457"],
+        &["mean", "a.c", "--heap", "5", "--heap", "5"],
+        &["mean", "a.c", "--heap"],
         &["print", "a.c", "--steps", "5"],
         &["live"],
         &["live", "a.c", "b.c"],

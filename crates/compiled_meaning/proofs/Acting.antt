@@ -1,5 +1,5 @@
 -- The last instruction of a statement does what the statement does.
-use Rattle.std.proofs.Common.{◌≡◌, ℕ, ℤ, ◌+◌, ◌*◌, ◌<◌, ◌≤◌, pos, true, List, [], map, length, Option, Some, None, Result, refl, sym, ap, ◌∙◌, subst, arith}
+use Rattle.std.proofs.Common.{◌≡◌, ℕ, ℤ, ◌+◌, ◌*◌, ◌<◌, ◌≤◌, pos, true, List, [], map, length, Option, Some, None, Result, refl, sym, ap, ◌∙◌, subst, arith, Bool}
 use Rattle.std.specs.Prelude.{slice_get, slice_index_or, unwrap_or, ◌*ℤ◌}
 use Rattle.std.specs.Option.{option_map_or}
 use Rattle.std.proofs.lemmas.Option.{unwrap_or-slice_get}
@@ -52,7 +52,7 @@ use Rattle.compiled_meaning.proofs.Places.{place_at, place_is, place_next, place
 use Rattle.compiled_meaning.proofs.Moved.{moved}
 use Rattle.compiled_meaning.proofs.Sited.{pins_there}
 use Rattle.compiled_meaning.proofs.Keeping.{Follows, renumbered_same, with_same, with_others, IsLast, alike, writes, answers_both, changes_both, goes_to, branches, takes_step, goes_back}
-use Rattle.compiled_meaning.proofs.Library.{behind_both, make_both, prints_both, lib_both}
+use Rattle.compiled_meaning.proofs.Library.{behind_both, made_both, prints_both, lib_both}
 use Rattle.compiled_meaning.proofs.Scopes.{enter_follows, leave_follows}
 use Rattle.compiled_meaning.proofs.Freeing.{free_follows, grow_follows}
 use Rattle.compiled_meaning.proofs.Calling.{call_follows}
@@ -69,7 +69,7 @@ layout_is code k element e = ap (λ o. option_map_or (λ (l : Layout). l) o no_l
 times_one : (n : ℤ) → n *ℤ pos 1 ≡ n
 times_one n = omega (arith, ints)
 
-module _ (core : Core) (pins : Pins) (code : Code) (sound : IsSound core) (listed : AreListed core pins) (compiled : IsCompiled core pins code) (s : State) (func : Func) (good : Holds core func needed s.scopes s) (order : InOrder core s) (line : ℕ) (numbers : ℕ → ℕ) where
+module _ (core : Core) (pins : Pins) (code : Code) (sound : IsSound core) (listed : AreListed core pins) (compiled : IsCompiled core pins code) (s : State) (func : Func) (good : Holds core func needed s.scopes s) (order : InOrder core s) (places : ℕ → Bool) (line : ℕ) (numbers : ℕ → ℕ) where
   abbrev pub At : StmKind → Type 0
   At kind = slice_get func.body s.running.point ≡ Some (record { line = line; kind = kind })
 
@@ -115,9 +115,9 @@ module _ (core : Core) (pins : Pins) (code : Code) (sound : IsSound core) (liste
   changes_same kind at result =
       with_same core code s (code_length kind) _ _ numbers (changes_both core code s (last_of kind) (code_length kind) (is_last kind at) line result)
 
-  makes : (kind : StmKind) → At kind → (r n k : ℕ) (element : Layout) → slice_get code.layouts k ≡ Some element → Same kind (counted.same_numbers numbers (make line r n element s)) (same_numbers numbers (make line r n (layout_in code k) (there kind)))
+  makes : (kind : StmKind) → At kind → (r n k : ℕ) (element : Layout) → slice_get code.layouts k ≡ Some element → Same kind (counted.same_numbers numbers (make places line r n element s)) (same_numbers numbers (make places line r n (layout_in code k) (there kind)))
   makes kind at r n k element e =
-      subst (λ l. Same kind (counted.same_numbers numbers (make line r n element s)) (same_numbers numbers (make line r n l (there kind)))) (sym (layout_is code k element e)) (with_same core code s (code_length kind) (make line r n element s) (make line r n element (there kind)) numbers (make_both core code s (last_of kind) (code_length kind) (is_last kind at) line r n element))
+      subst (λ l. Same kind (counted.same_numbers numbers (make places line r n element s)) (same_numbers numbers (make places line r n l (there kind)))) (sym (layout_is code k element e)) (with_same core code s (code_length kind) (make places line r n element s) (make places line r n element (there kind)) numbers (made_both core code s (last_of kind) (code_length kind) (is_last kind at) (places n) line r n element))
 
   later : (l : ℕ) → s.running.point < l → place_at core s.running.func (s.running.point + 1) ≤ place_at core s.running.func l
   later l lt = place_later core s.running.func func good.here s.running.point l lt
@@ -132,7 +132,7 @@ module _ (core : Core) (pins : Pins) (code : Code) (sound : IsSound core) (liste
   -- what an instruction does behind the operands of a statement
   abbrev pub Effect : StmKind → Instr → Type 0
   Effect kind i =
-      Same kind (counted_meaning.act core pins line kind numbers s) (code_meaning.act code line i i.op (Values kind) numbers (there kind))
+      Same kind (counted_meaning.act core pins places line kind numbers s) (code_meaning.act code places line i i.op (Values kind) numbers (there kind))
 
   by_does : (kind : StmKind) (i k : Instr) → i ≡ k → Effect kind k → Effect kind i
   by_does kind i k e h = subst (Effect kind) (sym e) h
@@ -166,14 +166,14 @@ module _ (core : Core) (pins : Pins) (code : Code) (sound : IsSound core) (liste
   own kind at frees =
       pins_there core pins code compiled s.running.func func good.here s.running.point (record { line = line; kind = kind }) at frees (last_of kind) refl
 
-  calls : (g : ℕ) (r : Option ℕ) (args : List Atom) → At (stm.Call g r args) → Same (stm.Call g r args) (counted_meaning.act core pins line (stm.Call g r args) numbers s) (entering.with_step s.steps numbers (there (stm.Call g r args)) (entering.call code line g (Values (stm.Call g r args)) numbers))
+  calls : (g : ℕ) (r : Option ℕ) (args : List Atom) → At (stm.Call g r args) → Same (stm.Call g r args) (counted_meaning.act core pins places line (stm.Call g r args) numbers s) (entering.with_step s.steps numbers (there (stm.Call g r args)) (entering.call code line g (Values (stm.Call g r args)) numbers))
   calls g r args at =
       let kind = stm.Call g r args in
       let typed = (sound.functions s.running.func func good.here).typed s.running.point _ at in
       let callee = called core func args (slice_get core.funcs g) typed.1 in
       takes_step core code s (last_of kind) (code_length kind) (is_last kind at) (λ before after. more numbers (pinned pins before.running)) numbers s.steps _ _ refl (λ m e. call_follows core pins code compiled g callee.0 callee.1 s (last_of kind) (code_length kind) (is_last kind at) (own kind at refl) line (values_of s args) numbers m e)
 
-  libs : (name : LibName) (r : Option ℕ) (args : List Atom) → At (stm.Lib name r args) → Same (stm.Lib name r args) (counted_meaning.act core pins line (stm.Lib name r args) numbers s) (other_numbers (code_meaning.behind_lib name (Values (stm.Lib name r args)) numbers) numbers (call_lib line name r (Values (stm.Lib name r args)) (there (stm.Lib name r args))))
+  libs : (name : LibName) (r : Option ℕ) (args : List Atom) → At (stm.Lib name r args) → Same (stm.Lib name r args) (counted_meaning.act core pins places line (stm.Lib name r args) numbers s) (other_numbers (code_meaning.behind_lib name (Values (stm.Lib name r args)) numbers) numbers (call_lib line name r (Values (stm.Lib name r args)) (there (stm.Lib name r args))))
   libs name r args at =
       let kind = stm.Lib name r args in
       with_others core code s (code_length kind) _ _ _ _ numbers (behind_both name (values_of s args) numbers) (lib_both core code s (last_of kind) (code_length kind) (is_last kind at) line name r (values_of s args))
@@ -189,9 +189,9 @@ module _ (core : Core) (pins : Pins) (code : Code) (sound : IsSound core) (liste
   grows r p n element at k e =
       let kind = stm.Realloc r p n element in
       let typed = (sound.functions s.running.func func good.here).typed s.running.point _ at in
-      subst (λ l. Same kind (counted_meaning.act core pins line kind numbers s) (freeing.grow code line r (pointer_of s p) (size_in (number_of s n)) l numbers (there kind))) (sym (layout_is code k element e)) (grow_follows core pins code compiled listed s func good.here order _ at (λ q. refl) (last_of kind) (code_length kind) (is_last kind at) (own kind at refl) line numbers r (gives_pointer func r typed.0) (size_in (number_of s n)) element (pointer_of s p))
+      subst (λ l. Same kind (counted_meaning.act core pins places line kind numbers s) (freeing.grow code places line r (pointer_of s p) (size_in (number_of s n)) l numbers (there kind))) (sym (layout_is code k element e)) (grow_follows core pins code compiled listed s func good.here order _ at (λ q. refl) (last_of kind) (code_length kind) (is_last kind at) (own kind at refl) line numbers r (gives_pointer func r typed.0) (size_in (number_of s n)) element places (pointer_of s p))
 
-  gives : (a : Option Atom) → At (stm.Return a) → (v : Value) → v ≡ returned s a → Same (stm.Return a) (counted_meaning.act core pins line (stm.Return a) numbers s) (returning.give_back code line v numbers (there (stm.Return a)))
+  gives : (a : Option Atom) → At (stm.Return a) → (v : Value) → v ≡ returned s a → Same (stm.Return a) (counted_meaning.act core pins places line (stm.Return a) numbers s) (returning.give_back code line v numbers (there (stm.Return a)))
   gives a at v e =
       let kind = stm.Return a in
       subst (λ w. Same kind (counted_returning.give_back core pins line w numbers s) (returning.give_back code line v numbers (there kind))) e (give_follows core pins code compiled listed s (last_of kind) (code_length kind) (is_last kind at) func good.here line a at numbers v s.running.first_local good.others good.waits)

@@ -6,6 +6,7 @@ use Rattle.hs_base.specs.Object.{Object}
 use Rattle.hs_base.specs.State.{Frame, State}
 use Rattle.hs_base.specs.Trace.{Event, Ending, Enter}
 use Rattle.hs_base.specs.Runs as runs
+use Rattle.hs_base.specs.Place.{has_place}
 use Rattle.hs_base.proofs.Running.{after_zero, after_stays}
 use Rattle.core_tree.specs.declared.program.Core.{Core}
 use Rattle.core_tree.specs.Sound.{IsSound, main_of}
@@ -36,7 +37,7 @@ use Rattle.compiled_meaning.proofs.Testing.{tested_ends}
 use Rattle.compiled_meaning.proofs.Keeping.{Matches}
 use Rattle.compiled_meaning.proofs.Stepping.{keeps_from, Stands, left, Within, tied, one_follows}
 
-module _ (core : Core) (pins : Pins) (code : Code) (sound : IsSound core) (exact : AreExact core pins) (ascending : AreAscending pins) (compiled : IsCompiled core pins code) (fits : List Event → Event → Bool) (refused : Event → Ending) (input : List ℕ) where
+module _ (core : Core) (pins : Pins) (code : Code) (sound : IsSound core) (exact : AreExact core pins) (ascending : AreAscending pins) (compiled : IsCompiled core pins code) (fits : List Event → Event → Bool) (refused : Event → Ending) (heap : ℕ) (input : List ℕ) where
   -- before the first instruction, from the statics and the number of main
   abbrev before : List Object → ℕ → ℕ → CodeState
   before statics main n =
@@ -55,11 +56,11 @@ module _ (core : Core) (pins : Pins) (code : Code) (sound : IsSound core) (exact
   numbers = first_numbers statics
 
   -- the first instruction
-  first_step : (n : ℕ) → code_meaning.step code [] (before statics (main_of core) n) ≡ entering.with_step n numbers (before statics (main_of core) n).state (entering.begin code (line_of (slice_get core.funcs (main_of core))) (main_of core) numbers)
+  first_step : (n : ℕ) → code_meaning.step code heap [] (before statics (main_of core) n) ≡ entering.with_step n numbers (before statics (main_of core) n).state (entering.begin code (line_of (slice_get core.funcs (main_of core))) (main_of core) numbers)
   first_step n =
       let c = before statics (main_of core) n in
       let line = get_or_from_slice_get code.lines 0 _ 0 compiled.start_line in
-      ap (λ o. code_meaning.act_at code o c) compiled.start
+      ap (λ o. code_meaning.act_at code (has_place heap []) o c) compiled.start
       ∙ ap (λ l. entering.with_step n numbers c.state (entering.begin code l (main_of core) numbers)) line
 
   -- the same before main is called
@@ -91,7 +92,7 @@ module _ (core : Core) (pins : Pins) (code : Code) (sound : IsSound core) (exact
   begun n = runs.led [] (runs.tested fits refused [] (counted_meaning.first_call core input n))
 
   abbrev code_step : List Event → CodeState → Next
-  code_step = testing fits refused (code_meaning.step code)
+  code_step = testing fits refused (code_meaning.step code heap)
 
   -- the code's run after so many instructions is tied to one of the core
   abbrev Both : CodeState → ℕ → counted_meaning.Run → code_meaning.Run → Type 0
@@ -108,36 +109,36 @@ module _ (core : Core) (pins : Pins) (code : Code) (sound : IsSound core) (exact
       subst (λ (d : CodeState). Both d 1 (begun n) (runs.after code_step (runs.fresh d) 1)) (sym (start_is n)) (subst (λ (q : code_meaning.Run). Both c 1 (begun n) q) (sym made) first)
 
   -- the code's run has ended within the moves of its meaning
-  same_at : (n : ℕ) (r : counted_meaning.Run) (j : ℕ) (e : Ending) → r.ended ≡ Some e → Both (code_meaning.start code input n) j r (runs.after code_step (runs.fresh (code_meaning.start code input n)) j) → SameRun r (tested_code code fits refused input n)
+  same_at : (n : ℕ) (r : counted_meaning.Run) (j : ℕ) (e : Ending) → r.ended ≡ Some e → Both (code_meaning.start code input n) j r (runs.after code_step (runs.fresh (code_meaning.start code input n)) j) → SameRun r (tested_code code fits refused input n heap)
   same_at n r j e ended t =
       let c = code_meaning.start code input n in
       let total = enough code c.state in
       let q = runs.after code_step (runs.fresh c) j in
       let last = subst (λ (o : Option Ending). TiedAt (Stands core pins code) Matches (left core pins code) total j o r q) ended t.1 in
       let sum : j + (total - j) ≡ total = omega (arith, last.2) in
-      let same : q ≡ tested_code code fits refused input n = sym (after_stays code_step (runs.fresh c) e j (total - j) last.0) ∙ ap (runs.after code_step (runs.fresh c)) sum in
+      let same : q ≡ tested_code code fits refused input n heap = sym (after_stays code_step (runs.fresh c) e j (total - j) last.0) ∙ ap (runs.after code_step (runs.fresh c)) sum in
       let run : SameRun r q = record { trace = sym t.0; ended = ended ∙ sym last.0; state = last.1.0; numbers = λ birth. sym (ap (λ (n : ℕ → ℕ). n birth) last.1.1) } in
       subst (SameRun r) same run
 
   -- the core's run has ended, as that of the object meaning
-  pub core_ends : (n : ℕ) → (e : Ending) × ((tested_core core pins fits refused input n).ended ≡ Some e)
+  pub core_ends : (n : ℕ) → (e : Ending) × ((tested_core core pins fits refused input n heap).ended ≡ Some e)
   core_ends n =
       let r = runs.led [] (runs.tested fits refused [] (meaning.first_call core input n)) in
       let k = meaning.enough core (begun n).state.state in
-      let first = (tested_runs_are_counted core pins sound exact fits refused input n 0).state in
-      let at_zero = after_zero (testing fits refused (counted_meaning.step core pins)) (begun n) in
-      let of_object = after_zero (testing fits refused (meaning.step core)) r in
+      let first = (tested_runs_are_counted core pins sound exact fits refused input n heap 0).state in
+      let at_zero = after_zero (testing fits refused (counted_meaning.step core pins heap)) (begun n) in
+      let of_object = after_zero (testing fits refused (meaning.step core heap)) r in
       let state : (begun n).state.state ≡ r.state = sym (ap (λ (q : counted_meaning.Run). q.state.state) at_zero) ∙ first ∙ ap (λ (q : meaning.Run). q.state) of_object in
-      let ended = tested_ends core sound fits refused r in
-      let there = subst (λ (t : State). (runs.after (testing fits refused (meaning.step core)) r (meaning.enough core t)).ended ≡ Some ended.0) (sym state) ended.1 in
-      (ended.0, (tested_runs_are_counted core pins sound exact fits refused input n k).ended ∙ there)
+      let ended = tested_ends core sound fits refused heap r in
+      let there = subst (λ (t : State). (runs.after (testing fits refused (meaning.step core heap)) r (meaning.enough core t)).ended ≡ Some ended.0) (sym state) ended.1 in
+      (ended.0, (tested_runs_are_counted core pins sound exact fits refused input n heap k).ended ∙ there)
 
-  pub same_tested : (n : ℕ) → SameRun (tested_core core pins fits refused input n) (tested_code code fits refused input n)
+  pub same_tested : (n : ℕ) → SameRun (tested_core core pins fits refused input n heap) (tested_code code fits refused input n heap)
   same_tested n =
       let c = code_meaning.start code input n in
       let total = enough code c.state in
-      let one = one_follows core pins code sound exact (are_listed core pins exact ascending) compiled fits refused in
+      let one = one_follows core pins code sound exact (are_listed core pins exact ascending) compiled fits refused heap in
       let k = meaning.enough core (begun n).state.state in
-      let follows = run_follows (Stands core pins code) Matches (left core pins code) (testing fits refused (counted_meaning.step core pins)) code_step one total 1 (begun n) (runs.after code_step (runs.fresh c) 1) (begins_tied n) k in
+      let follows = run_follows (Stands core pins code) Matches (left core pins code) (testing fits refused (counted_meaning.step core pins heap)) code_step one total 1 (begun n) (runs.after code_step (runs.fresh c) 1) (begins_tied n) k in
       let ended = core_ends n in
-      same_at n (tested_core core pins fits refused input n) (1 + follows.0) ended.0 ended.1 (subst (λ (q : code_meaning.Run). Both c (1 + follows.0) (tested_core core pins fits refused input n) q) (after_add code_step (runs.fresh c) 1 follows.0) follows.1)
+      same_at n (tested_core core pins fits refused input n heap) (1 + follows.0) ended.0 ended.1 (subst (λ (q : code_meaning.Run). Both c (1 + follows.0) (tested_core core pins fits refused input n heap) q) (after_add code_step (runs.fresh c) 1 follows.0) follows.1)

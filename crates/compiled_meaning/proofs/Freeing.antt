@@ -1,5 +1,5 @@
 -- Objects are freed and grown in code as in the core.
-use Rattle.std.proofs.Common.{◌≡◌, ℕ, List, [], ◌∷◌, ◌++◌, length, set, Some, Result, Ok, Err, refl}
+use Rattle.std.proofs.Common.{◌≡◌, ℕ, List, [], ◌∷◌, ◌++◌, length, set, Some, Result, Ok, Err, refl, Bool, true, false}
 use Rattle.std.specs.Prelude.{slice_get, unwrap_or}
 use Rattle.hs_base.specs.declared.ends.Reason.{Reason}
 use Rattle.hs_base.specs.declared.values.Pointer.{Pointer}
@@ -18,7 +18,7 @@ use Rattle.flat_code.specs.Sites.{site_of}
 use Rattle.object_meaning.specs.Values.{address, start_of}
 use Rattle.object_meaning.specs.Going.{with_objects}
 use Rattle.object_meaning.specs.Making.{with_new}
-use Rattle.object_meaning.specs.Heap.{birth_of, make}
+use Rattle.object_meaning.specs.Heap.{birth_of, no_place, made}
 use Rattle.counted_meaning.specs.Pinning.{Pins, pins_of, holds_on, counts_at}
 use Rattle.counted_meaning.specs.Counting.{renumbered}
 use Rattle.counted_meaning.specs.Freeing as counted
@@ -29,7 +29,7 @@ use Rattle.counts_are_holders.proofs.Sorting.{FitsIn, InOrder, set_sorts}
 use Rattle.counts_are_holders.proofs.Listed.{AreListed}
 use Rattle.compiled_meaning.proofs.Moved.{moved_same}
 use Rattle.compiled_meaning.proofs.Keeping.{Follows, with_same, IsLast, acting, alike, arrives}
-use Rattle.compiled_meaning.proofs.Library.{make_both}
+use Rattle.compiled_meaning.proofs.Library.{none_both, made_both}
 use Rattle.compiled_meaning.proofs.Scopes.{in_scope_follows}
 
 module _ (core : Core) (pins : Pins) (code : Code) (compiled : IsCompiled core pins code) (listed : AreListed core pins) (s : State) (func : Func) (here : slice_get core.funcs s.running.func ≡ Some func) (order : InOrder core s) (stm : Stm) (at : slice_get func.body s.running.point ≡ Some stm) (all : (r : ℕ) → counts_at func s.running.point stm.kind r ≡ holds_on func s.running.point r) (q j : ℕ) (last : IsLast core code s q j) (own : unwrap_or (site_of code.sites q) [] ≡ pins_of pins s.running.func s.running.point) (line : ℕ) (numbers : ℕ → ℕ) where
@@ -61,11 +61,16 @@ module _ (core : Core) (pins : Pins) (code : Code) (compiled : IsCompiled core p
         in_scope_follows core pins code compiled listed s func here order stm at all q j last own (queued objects old line) (set s.running.regs r v) (set_sorts func s.running.regs sorts r v (fits v)) (s.queue ++ old ∷ []) numbers (renumbered new numbers made (with_objects made objects)) s there (moved_same core s q) (birth_of line n s) s.scopes s.scopes
     grown_follows old (Err e) = (refl, refl, moved_same core (with_new line n element s) q, refl, (moved_same core s q, refl))
 
-    grow_named_follows : (result : Result ℕ Reason) → Follows core code s j (counted.grow_named core pins line r result n element numbers s) (freeing.grow_named code line r result n element numbers there)
-    grow_named_follows (Ok old) = grown_follows old _
-    grow_named_follows (Err reason) = (refl, refl, moved_same core s q, refl, (moved_same core s q, refl))
+    grow_old_follows : (b : Bool) (old : ℕ) → Follows core code s j (counted.grow_old b core pins line r old n element numbers s) (freeing.grow_old b code line r old n element numbers there)
+    grow_old_follows false old =
+        with_same core code s j (no_place r s) (no_place r there) numbers (none_both core code s q j last r)
+    grow_old_follows true old = grown_follows old _
 
-    pub grow_follows : (p : Pointer) → Follows core code s j (counted.grow core pins line r p n element numbers s) (freeing.grow code line r p n element numbers there)
-    grow_follows pointer.Null =
-        with_same core code s j (make line r n element s) (make line r n element there) numbers (make_both core code s q j last line r n element)
-    grow_follows (pointer.At birth offset) = grow_named_follows (freed_at s.objects birth offset)
+    grow_named_follows : (places : ℕ → Bool) (result : Result ℕ Reason) → Follows core code s j (counted.grow_named core pins places line r result n element numbers s) (freeing.grow_named code places line r result n element numbers there)
+    grow_named_follows places (Ok old) = grow_old_follows (places n) old
+    grow_named_follows places (Err reason) = (refl, refl, moved_same core s q, refl, (moved_same core s q, refl))
+
+    pub grow_follows : (places : ℕ → Bool) (p : Pointer) → Follows core code s j (counted.grow core pins places line r p n element numbers s) (freeing.grow code places line r p n element numbers there)
+    grow_follows places pointer.Null =
+        with_same core code s j (made (places n) line r n element s) (made (places n) line r n element there) numbers (made_both core code s q j last (places n) line r n element)
+    grow_follows places (pointer.At birth offset) = grow_named_follows places (freed_at s.objects birth offset)

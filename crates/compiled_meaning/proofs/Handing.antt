@@ -9,6 +9,7 @@ use Rattle.hs_base.specs.declared.values.Value.{Value}
 use Rattle.hs_base.specs.State.{Frame, State}
 use Rattle.hs_base.specs.Trace.{Event, Ending}
 use Rattle.hs_base.specs.Runs as runs
+use Rattle.hs_base.specs.Place.{has_place}
 use Rattle.hs_base.proofs.Running.{after_zero}
 use Rattle.core_tree.specs.declared.statements.Atom.{Atom}
 use Rattle.core_tree.specs.declared.statements.Atom.TheVariants as atom
@@ -63,27 +64,27 @@ module _ (t : State) (numbers : ℕ → ℕ) where
   abbrev pub holding : ℕ → List Value → CodeState
   holding point values = record { state = at_point t point; handed = values; numbers = numbers }
 
-module _ (code : Code) (fits : List Event → Event → Bool) (refused : Event → Ending) (t : State) (numbers : ℕ → ℕ) where
+module _ (code : Code) (fits : List Event → Event → Bool) (refused : Event → Ending) (heap : ℕ) (t : State) (numbers : ℕ → ℕ) where
   abbrev pub Hands : ℕ → List Atom → Type 0
   Hands point atoms = (k : ℕ) (a : Atom) → slice_get atoms k ≡ Some a → slice_get code.instrs (point + k) ≡ Some (hand_of a)
 
-  one_handed : (trace : List Event) (point : ℕ) (values : List Value) (a : Atom) → slice_get code.instrs point ≡ Some (hand_of a) → InRange a → holds_stale t.objects (value_of t.running a) ≡ false → runs.led trace (testing fits refused (step code) trace (holding t numbers point values)) ≡ going trace (holding t numbers (point + 1) (values ++ value_of t.running a ∷ []))
+  one_handed : (trace : List Event) (point : ℕ) (values : List Value) (a : Atom) → slice_get code.instrs point ≡ Some (hand_of a) → InRange a → holds_stale t.objects (value_of t.running a) ≡ false → runs.led trace (testing fits refused (step code heap) trace (holding t numbers point values)) ≡ going trace (holding t numbers (point + 1) (values ++ value_of t.running a ∷ []))
   one_handed trace point values a at range fresh =
       let c = holding t numbers point values in
       let line = slice_index code.lines point in
       let i = hand_of a in
       let v = value_of t.running a in
       let is = handed_is c.state.running a range ∙ ap (λ w. Some w) (same_value t.running point a) in
-      ap (λ o. runs.led trace (runs.tested fits refused trace (act_at code o c))) at
-      ∙ ap (λ o. runs.led trace (runs.tested fits refused trace (hand_or_act code line i o c))) is
+      ap (λ o. runs.led trace (runs.tested fits refused trace (act_at code (has_place heap trace) o c))) at
+      ∙ ap (λ o. runs.led trace (runs.tested fits refused trace (hand_or_act code (has_place heap trace) line i o c))) is
       ∙ ap (λ b. runs.led trace (runs.tested fits refused trace (hand b v c))) fresh
       ∙ ap (λ tr. going tr (holding t numbers (point + 1) (values ++ v ∷ []))) (append-nil trace)
 
   -- all operands are handed over, each by one instruction
-  pub all_handed : (trace : List Event) (point : ℕ) (values : List Value) (atoms : List Atom) → Hands point atoms → AllInRange atoms → list_any (holds_stale t.objects) (map (value_of t.running) atoms) ≡ false → runs.after (testing fits refused (step code)) (going trace (holding t numbers point values)) (length atoms) ≡ going trace (holding t numbers (point + length atoms) (values ++ map (value_of t.running) atoms))
+  pub all_handed : (trace : List Event) (point : ℕ) (values : List Value) (atoms : List Atom) → Hands point atoms → AllInRange atoms → list_any (holds_stale t.objects) (map (value_of t.running) atoms) ≡ false → runs.after (testing fits refused (step code heap)) (going trace (holding t numbers point values)) (length atoms) ≡ going trace (holding t numbers (point + length atoms) (values ++ map (value_of t.running) atoms))
   all_handed trace point values [] at range fresh =
       let same : point + 0 ≡ point = omega arith in
-      after_zero (testing fits refused (step code)) (going trace (holding t numbers point values)) ∙ ap (λ vs. going trace (holding t numbers point vs)) (sym (append-nil values)) ∙ ap (λ p. going trace (holding t numbers p (values ++ []))) (sym same)
+      after_zero (testing fits refused (step code heap)) (going trace (holding t numbers point values)) ∙ ap (λ vs. going trace (holding t numbers point vs)) (sym (append-nil values)) ∙ ap (λ p. going trace (holding t numbers p (values ++ []))) (sym same)
   all_handed trace point values (a ∷ atoms) at range fresh =
       let v = value_of t.running a in
       let here : point + 0 ≡ point = omega arith in
@@ -92,8 +93,8 @@ module _ (code : Code) (fits : List Event → Event → Bool) (refused : Event �
       let there : Hands (point + 1) atoms = λ k b e. let sum : point + suc k ≡ point + 1 + k = omega arith in subst (λ p. slice_get code.instrs p ≡ Some (hand_of b)) sum (at (suc k) b e) in
       let rest = all_handed trace (point + 1) (values ++ v ∷ []) atoms there range.1 both.1 in
       let sum : point + 1 + length atoms ≡ point + suc (length atoms) = omega arith in
-      after_first (testing fits refused (step code)) (going trace (holding t numbers point values)) (length atoms)
-      ∙ ap (λ r. runs.after (testing fits refused (step code)) r (length atoms)) first
+      after_first (testing fits refused (step code heap)) (going trace (holding t numbers point values)) (length atoms)
+      ∙ ap (λ r. runs.after (testing fits refused (step code heap)) r (length atoms)) first
       ∙ rest
       ∙ ap (λ p. going trace (holding t numbers p ((values ++ v ∷ []) ++ map (value_of t.running) atoms))) sum
       ∙ ap (λ vs. going trace (holding t numbers (point + suc (length atoms)) vs)) (append_assoc values (v ∷ []) (map (value_of t.running) atoms))

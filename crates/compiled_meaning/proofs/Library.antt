@@ -1,7 +1,8 @@
 -- Built-in functions, printf and new objects do the same to the state of a core and to that of its code.
-use Rattle.std.proofs.Common.{ℕ, List, [], ◌∷◌, map, Option, Some, None, Result, Ok, Err, pos, negsuc, refl}
+use Rattle.std.proofs.Common.{ℕ, List, [], ◌∷◌, map, Option, Some, None, Result, Ok, Err, pos, negsuc, refl, Bool, true, false}
 use Rattle.hs_base.specs.declared.ends.TrapKind.TheVariants as trap
 use Rattle.hs_base.specs.declared.values.Pointer.{Pointer}
+use Rattle.hs_base.specs.declared.values.Pointer.TheVariants as pointer
 use Rattle.hs_base.specs.declared.values.Value.{Value}
 use Rattle.hs_base.specs.Access.{Refusal}
 use Rattle.hs_base.specs.Object.{Object}
@@ -15,7 +16,7 @@ use Rattle.flat_code.specs.declared.program.Code.{Code}
 use Rattle.object_meaning.specs.Values.{number, address, number_at, pointer_at}
 use Rattle.object_meaning.specs.Going.{with_objects, ended_by, if_done}
 use Rattle.object_meaning.specs.Making.{with_new}
-use Rattle.object_meaning.specs.Heap.{birth_of, make}
+use Rattle.object_meaning.specs.Heap.{birth_of, made, no_place}
 use Rattle.object_meaning.specs.Printing.{print}
 use Rattle.object_meaning.specs.Builtins.{byte_in, get_byte, put_line, filled, call_lib}
 use Rattle.object_meaning.specs.Meaning.{print_format}
@@ -51,8 +52,13 @@ module _ (core : Core) (code : Code) (s : State) (q j : ℕ) (last : IsLast core
       writes core code s q j last s (alike core code s q j last) r (number (pos 0)) _
   puts_both line r (Err e) = stops core code s q j last [] s (ended_by line e)
 
-  pub make_both : (line r n : ℕ) (element : Layout) → Both core code s q j last (make line r n element s) (make line r n element there)
-  make_both line r n element =
+  pub none_both : (r : ℕ) → Both core code s q j last (no_place r s) (no_place r there)
+  none_both r =
+      writes core code s q j last s (alike core code s q j last) (Some r) (address pointer.Null) []
+
+  pub made_both : (b : Bool) (line r n : ℕ) (element : Layout) → Both core code s q j last (made b line r n element s) (made b line r n element there)
+  made_both false line r n element = none_both r
+  made_both true line r n element =
       writes core code s q j last (with_new line n element s) (record { func = refl; point = refl; waiting = refl; steps = refl }) (Some r) _ (birth_of line n s)
 
   print_both : (line r : ℕ) (bytes : List ℕ) (why : Option Refusal) → Both core code s q j last (print line r bytes why s) (print line r bytes why there)

@@ -8,6 +8,7 @@ use Rattle.hs_base.specs.Object.{Object}
 use Rattle.hs_base.specs.State.{State, Frame}
 use Rattle.hs_base.specs.Trace.{Event, Ending}
 use Rattle.hs_base.specs.Runs as runs
+use Rattle.hs_base.specs.Place.{has_place}
 use Rattle.hs_base.proofs.Running.{after_more}
 use Rattle.core_tree.specs.declared.program.Core.{Core}
 use Rattle.core_tree.specs.declared.program.Func.{Func}
@@ -135,7 +136,7 @@ module _ (core : Core) (pins : Pins) (code : Code) where
         let q = runs.led trace (runs.tested fits refused trace n) in
         (both.0, tied_at Stands Matches left total j le r.ended r q both.1 both.2)
 
-module _ (core : Core) (pins : Pins) (code : Code) (sound : IsSound core) (exact : AreExact core pins) (listed : AreListed core pins) (compiled : IsCompiled core pins code) (fits : List Event → Event → Bool) (refused : Event → Ending) (s : State) (func : Func) (good : Holds core func needed s.scopes s) (order : InOrder core s) (numbers : ℕ → ℕ) (counts : AreCounts pins (counted.kept numbers s)) (line : ℕ) (kind : StmKind) (at : slice_get func.body s.running.point ≡ Some (record { line = line; kind = kind })) where
+module _ (core : Core) (pins : Pins) (code : Code) (sound : IsSound core) (exact : AreExact core pins) (listed : AreListed core pins) (compiled : IsCompiled core pins code) (fits : List Event → Event → Bool) (refused : Event → Ending) (heap : ℕ) (s : State) (func : Func) (good : Holds core func needed s.scopes s) (order : InOrder core s) (numbers : ℕ → ℕ) (counts : AreCounts pins (counted.kept numbers s)) (line : ℕ) (kind : StmKind) (at : slice_get func.body s.running.point ≡ Some (record { line = line; kind = kind })) where
   abbrev stm_at : Stm
   stm_at = record { line = line; kind = kind }
 
@@ -156,49 +157,49 @@ module _ (core : Core) (pins : Pins) (code : Code) (sound : IsSound core) (exact
   fresh =
       operands_fresh core func s.scopes s good stm_at at ((sound.functions s.running.func func good.here).typed s.running.point stm_at at)
 
-  handed : (trace : List Event) → runs.after (testing fits refused (code_meaning.step code)) (following.going trace (holding (moved core s) numbers place [])) (length atoms) ≡ following.going trace (holding (moved core s) numbers (place + length atoms) (map (value_of s.running) atoms))
+  handed : (trace : List Event) → runs.after (testing fits refused (code_meaning.step code heap)) (following.going trace (holding (moved core s) numbers place [])) (length atoms) ≡ following.going trace (holding (moved core s) numbers (place + length atoms) (map (value_of s.running) atoms))
   handed trace =
       let values = same_values s.running place atoms in
-      all_handed code fits refused (moved core s) numbers trace place [] atoms is_statement.hands (handed_in_range kind ((sound.functions s.running.func func good.here).numbers s.running.point stm_at at)) (ap (list_any (holds_stale s.objects)) values ∙ handed_fresh s.objects s.running kind fresh)
+      all_handed code fits refused heap (moved core s) numbers trace place [] atoms is_statement.hands (handed_in_range kind ((sound.functions s.running.func func good.here).numbers s.running.point stm_at at)) (ap (list_any (holds_stale s.objects)) values ∙ handed_fresh s.objects s.running kind fresh)
       ∙ ap (λ vs. following.going trace (holding (moved core s) numbers (place + length atoms) vs)) values
 
   line_is : slice_index code.lines (place + length atoms) ≡ line
   line_is = get_or_from_slice_get code.lines _ line 0 (is_statement.lines (length atoms) (omega arith))
 
-  acted : (trace : List Event) → code_meaning.step code trace (holding (moved core s) numbers (place + length atoms) (map (value_of s.running) atoms)) ≡ code_meaning.act code line is_statement.does.0 is_statement.does.0.op (map (value_of s.running) atoms) numbers (at_point (moved core s) (place + length atoms))
+  acted : (trace : List Event) → code_meaning.step code heap trace (holding (moved core s) numbers (place + length atoms) (map (value_of s.running) atoms)) ≡ code_meaning.act code (has_place heap trace) line is_statement.does.0 is_statement.does.0.op (map (value_of s.running) atoms) numbers (at_point (moved core s) (place + length atoms))
   acted trace =
       let c = holding (moved core s) numbers (place + length atoms) (map (value_of s.running) atoms) in
       let i = is_statement.does.0 in
-      ap (λ o. code_meaning.act_at code o c) is_statement.does.1
-      ∙ ap (λ l. hand_or_act code l i (handed_value c.state.running i i.op) c) line_is
-      ∙ ap (λ o. hand_or_act code line i o c) (takes core code s.running.func func c.state.running kind i is_statement.does.2)
+      ap (λ o. code_meaning.act_at code (has_place heap trace) o c) is_statement.does.1
+      ∙ ap (λ l. hand_or_act code (has_place heap trace) l i (handed_value c.state.running i i.op) c) line_is
+      ∙ ap (λ o. hand_or_act code (has_place heap trace) line i o c) (takes core code s.running.func func c.state.running kind i is_statement.does.2)
 
   -- all instructions of the statement
-  made : (trace : List Event) → runs.after (testing fits refused (code_meaning.step code)) (following.going trace (holding (moved core s) numbers place [])) (code_length kind) ≡ runs.led trace (runs.tested fits refused trace (code_meaning.act code line is_statement.does.0 is_statement.does.0.op (map (value_of s.running) atoms) numbers (at_point (moved core s) (place + length atoms))))
+  made : (trace : List Event) → runs.after (testing fits refused (code_meaning.step code heap)) (following.going trace (holding (moved core s) numbers place [])) (code_length kind) ≡ runs.led trace (runs.tested fits refused trace (code_meaning.act code (has_place heap trace) line is_statement.does.0 is_statement.does.0.op (map (value_of s.running) atoms) numbers (at_point (moved core s) (place + length atoms))))
   made trace =
       let r = following.going trace (holding (moved core s) numbers place []) in
-      after_more (testing fits refused (code_meaning.step code)) r (length atoms)
-      ∙ ap (λ q. runs.moved (testing fits refused (code_meaning.step code)) q q.ended) (handed trace)
+      after_more (testing fits refused (code_meaning.step code heap)) r (length atoms)
+      ∙ ap (λ q. runs.moved (testing fits refused (code_meaning.step code heap)) q q.ended) (handed trace)
       ∙ ap (λ n. runs.led trace (runs.tested fits refused trace n)) (acted trace)
 
-  core_acts : (trace : List Event) → counted_meaning.step core pins trace (counted.kept numbers s) ≡ counted_meaning.act core pins line kind numbers s
+  core_acts : (trace : List Event) → counted_meaning.step core pins heap trace (counted.kept numbers s) ≡ counted_meaning.act core pins (has_place heap trace) line kind numbers s
   core_acts trace =
       let there : statement_at core s.running ≡ Some stm_at = ap (λ o. statement_in o s.running.point) good.here ∙ at in
-      ap (λ o. counted_meaning.act_at core pins o (counted.kept numbers s)) there
-      ∙ ap (λ b. counted_meaning.unless_reads_stale b core pins stm_at (counted.kept numbers s)) fresh
+      ap (λ o. counted_meaning.act_at core pins (has_place heap trace) o (counted.kept numbers s)) there
+      ∙ ap (λ b. counted_meaning.unless_reads_stale b core pins (has_place heap trace) stm_at (counted.kept numbers s)) fresh
 
-  pub statement_follows : (trace : List Event) → Tied (Stands core pins code) Matches (left core pins code) (enough code (moved core s)) (code_length kind) (runs.led trace (testing fits refused (counted_meaning.step core pins) trace (counted.kept numbers s))) (runs.after (testing fits refused (code_meaning.step code)) (following.going trace (holding (moved core s) numbers place [])) (code_length kind))
+  pub statement_follows : (trace : List Event) → Tied (Stands core pins code) Matches (left core pins code) (enough code (moved core s)) (code_length kind) (runs.led trace (testing fits refused (counted_meaning.step core pins heap) trace (counted.kept numbers s))) (runs.after (testing fits refused (code_meaning.step code heap)) (following.going trace (holding (moved core s) numbers place [])) (code_length kind))
   statement_follows trace =
-      let agrees = step_agrees core sound pins exact trace s (func, good) order numbers counts in
-      let keeps = subst (Keeps core pins) (core_acts trace) (keeps_from core pins (meaning.step core trace s) (counted_meaning.step core pins trace (counted.kept numbers s)) (step_stays_at core sound trace s (func, good)) agrees) in
-      let last = is_last core pins code sound listed compiled s func good order line numbers kind at in
-      let follows = act_follows core pins code sound listed compiled s func good order line numbers kind at is_statement.does.0 is_statement.does.2 in
+      let agrees = step_agrees core sound pins exact heap trace s (func, good) order numbers counts in
+      let keeps = subst (Keeps core pins) (core_acts trace) (keeps_from core pins (meaning.step core heap trace s) (counted_meaning.step core pins heap trace (counted.kept numbers s)) (step_stays_at core sound heap trace s (func, good)) agrees) in
+      let last = is_last core pins code sound listed compiled s func good order (has_place heap trace) line numbers kind at in
+      let follows = act_follows core pins code sound listed compiled s func good order (has_place heap trace) line numbers kind at is_statement.does.0 is_statement.does.2 in
       let both = tied core pins code fits refused (enough code (moved core s)) (code_length kind) trace _ _ (omega (arith, last.here, last.within)) (agree core pins code s (code_length kind) _ _ keeps follows) in
-      subst (λ n. Tied (Stands core pins code) Matches (left core pins code) (enough code (moved core s)) (code_length kind) (runs.led trace (runs.tested fits refused trace n)) (runs.after (testing fits refused (code_meaning.step code)) (following.going trace (holding (moved core s) numbers place [])) (code_length kind))) (sym (core_acts trace)) (subst (λ (r : code_meaning.Run). Tied (Stands core pins code) Matches (left core pins code) (enough code (moved core s)) (code_length kind) (runs.led trace (runs.tested fits refused trace (counted_meaning.act core pins line kind numbers s))) r) (sym (made trace)) both)
+      subst (λ n. Tied (Stands core pins code) Matches (left core pins code) (enough code (moved core s)) (code_length kind) (runs.led trace (runs.tested fits refused trace n)) (runs.after (testing fits refused (code_meaning.step code heap)) (following.going trace (holding (moved core s) numbers place [])) (code_length kind))) (sym (core_acts trace)) (subst (λ (r : code_meaning.Run). Tied (Stands core pins code) Matches (left core pins code) (enough code (moved core s)) (code_length kind) (runs.led trace (runs.tested fits refused trace (counted_meaning.act core pins (has_place heap trace) line kind numbers s))) r) (sym (made trace)) both)
 
-module _ (core : Core) (pins : Pins) (code : Code) (sound : IsSound core) (exact : AreExact core pins) (listed : AreListed core pins) (compiled : IsCompiled core pins code) (fits : List Event → Event → Bool) (refused : Event → Ending) where
+module _ (core : Core) (pins : Pins) (code : Code) (sound : IsSound core) (exact : AreExact core pins) (listed : AreListed core pins) (compiled : IsCompiled core pins code) (fits : List Event → Event → Bool) (refused : Event → Ending) (heap : ℕ) where
   -- each statement is followed by its instructions
-  pub one_follows : (trace : List Event) (a : CountedState) (c : CodeState) → Stands core pins code a c → (j : ℕ) × Tied (Stands core pins code) Matches (left core pins code) (enough code c.state) j (runs.led trace (testing fits refused (counted_meaning.step core pins) trace a)) (runs.after (testing fits refused (code_meaning.step code)) (following.going trace c) j)
+  pub one_follows : (trace : List Event) (a : CountedState) (c : CodeState) → Stands core pins code a c → (j : ℕ) × Tied (Stands core pins code) Matches (left core pins code) (enough code c.state) j (runs.led trace (testing fits refused (counted_meaning.step core pins heap) trace a)) (runs.after (testing fits refused (code_meaning.step code heap)) (following.going trace c) j)
   one_follows trace a c h =
       let s = a.state in
       let func = h.0.0.0 in
@@ -206,5 +207,5 @@ module _ (core : Core) (pins : Pins) (code : Code) (sound : IsSound core) (exact
       let at = found func.body s.running.point good.inside in
       let begun : CodeState = record { state = moved core s; handed = []; numbers = a.numbers } in
       let same : c ≡ begun = ap (λ (t : State). let d : CodeState = record { state = t; handed = c.handed; numbers = c.numbers } in d) h.1 ∙ ap (λ (vs : List Value). let d : CodeState = record { state = moved core s; handed = vs; numbers = c.numbers } in d) h.2 ∙ ap (λ (n : ℕ → ℕ). let d : CodeState = record { state = moved core s; handed = []; numbers = n } in d) h.3 in
-      let follows = statement_follows core pins code sound exact listed compiled fits refused s func good h.0.1 a.numbers h.0.2 at.0.line at.0.kind at.1 trace in
-      (code_length at.0.kind, subst (λ (d : CodeState). Tied (Stands core pins code) Matches (left core pins code) (enough code d.state) (code_length at.0.kind) (runs.led trace (testing fits refused (counted_meaning.step core pins) trace a)) (runs.after (testing fits refused (code_meaning.step code)) (following.going trace d) (code_length at.0.kind))) (sym same) follows)
+      let follows = statement_follows core pins code sound exact listed compiled fits refused heap s func good h.0.1 a.numbers h.0.2 at.0.line at.0.kind at.1 trace in
+      (code_length at.0.kind, subst (λ (d : CodeState). Tied (Stands core pins code) Matches (left core pins code) (enough code d.state) (code_length at.0.kind) (runs.led trace (testing fits refused (counted_meaning.step core pins heap) trace a)) (runs.after (testing fits refused (code_meaning.step code heap)) (following.going trace d) (code_length at.0.kind))) (sym same) follows)

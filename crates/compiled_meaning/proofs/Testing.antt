@@ -73,13 +73,13 @@ module _ {S E X : Type 0} (much : S → ℕ) where
 
 -- The meaning of a core
 
-module _ (core : Core) (sound : IsSound core) (fits : List Event → Event → Bool) (refused : Event → Ending) where
+module _ (core : Core) (sound : IsSound core) (fits : List Event → Event → Bool) (refused : Event → Ending) (heap : ℕ) where
   less_falls : (s : State) (next : going.Next) → Falls core s next → Less (enough core) s next
   less_falls s (Goes b es t) h = h
   less_falls s (Stops b es t x) h = tt
 
   -- a run in which each event is tested has ended
-  pub tested_ends : (r : meaning.Run) → (e : Ending) × ((after (testing fits refused (meaning.step core)) r (enough core r.state)).ended ≡ Some e)
+  pub tested_ends : (r : meaning.Run) → (e : Ending) × ((after (testing fits refused (meaning.step core heap)) r (enough core r.state)).ended ≡ Some e)
   tested_ends r =
-      let falls : (trace : List Event) (s : State) → Less (enough core) s (testing fits refused (meaning.step core) trace s) = λ trace s. less_tested (enough core) fits refused trace s (meaning.step core trace s) (less_falls s (meaning.step core trace s) (step_falls_at core (all_forward core sound) trace s)) in
-      runs_end (enough core) (testing fits refused (meaning.step core)) falls (λ s. omega arith) (enough core r.state) r (omega arith)
+      let falls : (trace : List Event) (s : State) → Less (enough core) s (testing fits refused (meaning.step core heap) trace s) = λ trace s. less_tested (enough core) fits refused trace s (meaning.step core heap trace s) (less_falls s (meaning.step core heap trace s) (step_falls_at core (all_forward core sound) heap trace s)) in
+      runs_end (enough core) (testing fits refused (meaning.step core heap)) falls (λ s. omega arith) (enough core r.state) r (omega arith)

@@ -15,10 +15,10 @@ use Rattle.compiled_meaning.specs.Testing.{tested_core, tested_code}
 -- compiled code means what its core means, with the same number for each object
 abbrev pub CodeMeansCore : Type 0
 CodeMeansCore =
-    (core : Core) (pins : Pins) (code : Code) → IsSound core → AreExact core pins → AreAscending pins → IsCompiled core pins code → (input : List ℕ) (n : ℕ) → SameRun (core_meaning core pins input n) (code_meaning code input n)
+    (core : Core) (pins : Pins) (code : Code) → IsSound core → AreExact core pins → AreAscending pins → IsCompiled core pins code → (input : List ℕ) (n heap : ℕ) → SameRun (core_meaning core pins input n heap) (code_meaning code input n heap)
 
--- the same for runs that stop before the first event that a test refuses, as one that the heap or the stack has no room for: both
--- have ended
+-- the same for runs that stop before the first event that a test refuses, as a call that the stack has no room for: both have
+-- ended
 abbrev pub TestedCodeMeansCore : Type 0
 TestedCodeMeansCore =
-    (core : Core) (pins : Pins) (code : Code) → IsSound core → AreExact core pins → AreAscending pins → IsCompiled core pins code → (fits : List Event → Event → Bool) (refused : Event → Ending) (input : List ℕ) (n : ℕ) → (ending : Ending) × ((tested_core core pins fits refused input n).ended ≡ Some ending) × SameRun (tested_core core pins fits refused input n) (tested_code code fits refused input n)
+    (core : Core) (pins : Pins) (code : Code) → IsSound core → AreExact core pins → AreAscending pins → IsCompiled core pins code → (fits : List Event → Event → Bool) (refused : Event → Ending) (input : List ℕ) (n heap : ℕ) → (ending : Ending) × ((tested_core core pins fits refused input n heap).ended ≡ Some ending) × SameRun (tested_core core pins fits refused input n heap) (tested_code code fits refused input n heap)

@@ -11,12 +11,12 @@ use Rattle.code_meaning.specs.CodeMeaning as code_meaning
 use Rattle.counts_are_holders.specs.Laws.{testing}
 
 -- that of a core by numbers
-abbrev pub tested_core : Core → Pins → (List Event → Event → Bool) → (Event → Ending) → List ℕ → ℕ → counted.Run
-tested_core core pins fits refused input n =
+abbrev pub tested_core : Core → Pins → (List Event → Event → Bool) → (Event → Ending) → List ℕ → ℕ → ℕ → counted.Run
+tested_core core pins fits refused input n heap =
     let r = led [] (tested fits refused [] (counted.first_call core input n)) in
-    after (testing fits refused (counted.step core pins)) r (object.enough core r.state.state)
+    after (testing fits refused (counted.step core pins heap)) r (object.enough core r.state.state)
 
 -- that of a code
-abbrev pub tested_code : Code → (List Event → Event → Bool) → (Event → Ending) → List ℕ → ℕ → code_meaning.Run
-tested_code code fits refused input n =
-    let c = code_meaning.start code input n in after (testing fits refused (code_meaning.step code)) (fresh c) (code_meaning.enough code c.state)
+abbrev pub tested_code : Code → (List Event → Event → Bool) → (Event → Ending) → List ℕ → ℕ → ℕ → code_meaning.Run
+tested_code code fits refused input n heap =
+    let c = code_meaning.start code input n in after (testing fits refused (code_meaning.step code heap)) (fresh c) (code_meaning.enough code c.state)

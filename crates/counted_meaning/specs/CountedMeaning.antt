@@ -4,6 +4,7 @@ use Rattle.std.specs.List.{list_any}
 use Rattle.hs_base.specs.declared.values.Value.{Value}
 use Rattle.hs_base.specs.Freeing.{pointers_inside}
 use Rattle.hs_base.specs.Object.{Object}
+use Rattle.hs_base.specs.Place.{has_place}
 use Rattle.hs_base.specs.State.{State}
 use Rattle.hs_base.specs.Trace.{Event, Ending, Dangling}
 use Rattle.hs_base.specs.Runs as runs
@@ -40,38 +41,39 @@ behind_lib name values numbers before after = numbers
 -- what a statement of each kind does: what it does in the object meaning, and to the numbers. A store and a copy change one
 -- object, a frame that calls waits with its pins, and a free, the end of a scope and a return ask the numbers; with every other
 -- kind they stay
-abbrev pub act : Core → Pins → ℕ → StmKind → (ℕ → ℕ) → State → Next
-act core pins line (stm.Storep p q) n s =
-    other_numbers (renumbered (birth_in (pointer_of s p)) n) n (object.act core line (stm.Storep p q) s)
-act core pins line (stm.Copy p q size) n s =
-    other_numbers (renumbered (birth_in (pointer_of s p)) n) n (object.act core line (stm.Copy p q size) s)
-act core pins line (stm.Clear p size) n s =
-    other_numbers (renumbered (birth_in (pointer_of s p)) n) n (object.act core line (stm.Clear p size) s)
-act core pins line (stm.Lib name r args) n s =
-    other_numbers (behind_lib name (values_of s args) n) n (object.act core line (stm.Lib name r args) s)
-act core pins line (stm.Call f r args) n s =
-    other_numbers (λ before _. more n (pinned pins before.running)) n (object.act core line (stm.Call f r args) s)
-act core pins line (stm.Realloc r p size element) n s =
-    grow core pins line r (pointer_of s p) (size_in (number_of s size)) element n s
-act core pins line (stm.Free p) n s = free core pins line (pointer_of s p) n s
-act core pins line stm.Leave n s = leave core pins s.scopes n s
-act core pins line (stm.Return a) n s = give_back core pins line (returned s a) n s
-act core pins line kind n s = same_numbers n (object.act core line kind s)
+abbrev pub act : Core → Pins → (ℕ → Bool) → ℕ → StmKind → (ℕ → ℕ) → State → Next
+act core pins fits line (stm.Storep p q) n s =
+    other_numbers (renumbered (birth_in (pointer_of s p)) n) n (object.act core fits line (stm.Storep p q) s)
+act core pins fits line (stm.Copy p q size) n s =
+    other_numbers (renumbered (birth_in (pointer_of s p)) n) n (object.act core fits line (stm.Copy p q size) s)
+act core pins fits line (stm.Clear p size) n s =
+    other_numbers (renumbered (birth_in (pointer_of s p)) n) n (object.act core fits line (stm.Clear p size) s)
+act core pins fits line (stm.Lib name r args) n s =
+    other_numbers (behind_lib name (values_of s args) n) n (object.act core fits line (stm.Lib name r args) s)
+act core pins fits line (stm.Call f r args) n s =
+    other_numbers (λ before _. more n (pinned pins before.running)) n (object.act core fits line (stm.Call f r args) s)
+act core pins fits line (stm.Realloc r p size element) n s =
+    grow core pins fits line r (pointer_of s p) (size_in (number_of s size)) element n s
+act core pins fits line (stm.Free p) n s = free core pins line (pointer_of s p) n s
+act core pins fits line stm.Leave n s = leave core pins s.scopes n s
+act core pins fits line (stm.Return a) n s = give_back core pins line (returned s a) n s
+act core pins fits line kind n s = same_numbers n (object.act core fits line kind s)
 
 -- a statement that reads a pointer to a dead object from a register does nothing else
-abbrev pub unless_reads_stale : Bool → Core → Pins → Stm → CountedState → Next
-unless_reads_stale true core pins stm c = runs.Stops c [] c Dangling
-unless_reads_stale false core pins stm c = act core pins stm.line stm.kind c.numbers c.state
+abbrev pub unless_reads_stale : Bool → Core → Pins → (ℕ → Bool) → Stm → CountedState → Next
+unless_reads_stale true core pins fits stm c = runs.Stops c [] c Dangling
+unless_reads_stale false core pins fits stm c = act core pins fits stm.line stm.kind c.numbers c.state
 
 -- there is a statement at each point that a run of a sound core comes to
-abbrev pub act_at : Core → Pins → Option Stm → CountedState → Next
-act_at core pins None c = runs.Stops c [] c Dangling
-act_at core pins (Some stm) c =
-    unless_reads_stale (list_any (holds_stale c.state.objects) (values_of c.state (operands stm.kind))) core pins stm c
+abbrev pub act_at : Core → Pins → (ℕ → Bool) → Option Stm → CountedState → Next
+act_at core pins fits None c = runs.Stops c [] c Dangling
+act_at core pins fits (Some stm) c =
+    unless_reads_stale (list_any (holds_stale c.state.objects) (values_of c.state (operands stm.kind))) core pins fits stm c
 
--- the statement that the running frame is at
-abbrev pub step : Core → Pins → List Event → CountedState → Next
-step core pins trace c = act_at core pins (statement_at core c.state.running) c
+-- the statement that the running frame is at; a new object is placed by first fit over the trace so far, in a heap of so many
+-- bytes
+abbrev pub step : Core → Pins → ℕ → List Event → CountedState → Next
+step core pins heap trace c = act_at core pins (has_place heap trace) (statement_at core c.state.running) c
 
 -- Runs
 
@@ -87,7 +89,7 @@ first_call core input n = same_numbers (first_numbers (static_objects core.stati
 abbrev pub begun : Core → List ℕ → ℕ → Run
 begun core input n = runs.led [] (first_call core input n)
 
--- the meaning: the run after all its statements
-abbrev pub meaning : Core → Pins → List ℕ → ℕ → Run
-meaning core pins input n =
-    let r = begun core input n in runs.after (step core pins) r (enough core r.state.state)
+-- the meaning, with so many steps and in a heap of so many bytes: the run after all its statements
+abbrev pub meaning : Core → Pins → List ℕ → ℕ → ℕ → Run
+meaning core pins input n heap =
+    let r = begun core input n in runs.after (step core pins heap) r (enough core r.state.state)

@@ -1,5 +1,5 @@
 -- Objects are freed and grown (C99 7.20.3).
-use Rattle.std.specs.Prelude.{ℕ, min, List, [], length, Some, Result, Ok, Err}
+use Rattle.std.specs.Prelude.{ℕ, Bool, true, false, min, List, [], length, Some, Result, Ok, Err}
 use Rattle.hs_base.specs.declared.ends.Reason.{Reason}
 use Rattle.hs_base.specs.declared.values.Pointer.{Pointer}
 use Rattle.hs_base.specs.declared.values.Pointer.TheVariants as pointer
@@ -14,7 +14,7 @@ use Rattle.object_meaning.specs.Going.{put, with_objects}
 use Rattle.object_meaning.specs.Making.{with_new}
 use Rattle.object_meaning.specs.Memory.{copied}
 use Rattle.object_meaning.specs.Heap as object
-use Rattle.object_meaning.specs.Heap.{birth_of, enqueue}
+use Rattle.object_meaning.specs.Heap.{birth_of, no_place, enqueue}
 use Rattle.counted_meaning.specs.Pinning.{Pins}
 use Rattle.counted_meaning.specs.CountedState.{Next, same_numbers}
 use Rattle.counted_meaning.specs.Counting.{renumbered}
@@ -42,17 +42,23 @@ grown core pins line r size old before numbers s (Ok objects) =
 grown core pins line r size old before numbers s (Err e) =
     same_numbers numbers (object.grown core line r size old before s (Err e))
 
--- an object that may be freed is copied to a new one as far as both go, and else the run stops
-abbrev pub grow_named : Core → Pins → ℕ → ℕ → Result ℕ Reason → ℕ → Layout → (ℕ → ℕ) → State → Next
-grow_named core pins line r (Ok old) size element numbers s =
+-- an object is copied to a new one as far as both go, where there is a place for that
+abbrev pub grow_old : Bool → Core → Pins → ℕ → ℕ → ℕ → ℕ → Layout → (ℕ → ℕ) → State → Next
+grow_old false core pins line r old size element numbers s = same_numbers numbers (no_place r s)
+grow_old true core pins line r old size element numbers s =
     let t = with_new line size element s in
     grown core pins line r size old s numbers t (copied t.objects (start_of (length s.objects)) (start_of old) (min (object_at s.objects old).size size))
-grow_named core pins line r (Err reason) size element numbers s =
-    same_numbers numbers (object.grow_named core line r (Err reason) size element s)
+
+-- an object that may be freed is grown, and else the run stops
+abbrev pub grow_named : Core → Pins → (ℕ → Bool) → ℕ → ℕ → Result ℕ Reason → ℕ → Layout → (ℕ → ℕ) → State → Next
+grow_named core pins fits line r (Ok old) size element numbers s =
+    grow_old (fits size) core pins line r old size element numbers s
+grow_named core pins fits line r (Err reason) size element numbers s =
+    same_numbers numbers (object.grow_named core fits line r (Err reason) size element s)
 
 -- growing null makes a new object
-abbrev pub grow : Core → Pins → ℕ → ℕ → Pointer → ℕ → Layout → (ℕ → ℕ) → State → Next
-grow core pins line r pointer.Null size element numbers s =
-    same_numbers numbers (object.grow core line r pointer.Null size element s)
-grow core pins line r (pointer.At birth offset) size element numbers s =
-    grow_named core pins line r (freed_at s.objects birth offset) size element numbers s
+abbrev pub grow : Core → Pins → (ℕ → Bool) → ℕ → ℕ → Pointer → ℕ → Layout → (ℕ → ℕ) → State → Next
+grow core pins fits line r pointer.Null size element numbers s =
+    same_numbers numbers (object.grow core fits line r pointer.Null size element s)
+grow core pins fits line r (pointer.At birth offset) size element numbers s =
+    grow_named core pins fits line r (freed_at s.objects birth offset) size element numbers s

@@ -1,5 +1,5 @@
 -- Each statement of a sound core in turn does the same in both meanings.
-use Rattle.std.proofs.Common.{◌≡◌, ℕ, pos, negsuc, ◌+◌, ◌*◌, not, List, [], ◌∷◌, ◌++◌, length, map, Option, Some, None, Result, Ok, Err, refl, sym, ap, ◌∙◌, subst}
+use Rattle.std.proofs.Common.{◌≡◌, ℕ, pos, negsuc, ◌+◌, ◌*◌, Bool, not, List, [], ◌∷◌, ◌++◌, length, map, Option, Some, None, Result, Ok, Err, refl, sym, ap, ◌∙◌, subst}
 use Rattle.std.specs.Prelude.{slice_get}
 use Rattle.hs_base.specs.declared.ends.IntKind.TheVariants.{I32}
 use Rattle.hs_base.specs.declared.values.Pointer.{Pointer}
@@ -7,6 +7,7 @@ use Rattle.hs_base.specs.declared.values.Value.{Value}
 use Rattle.hs_base.specs.Access.{Refusal, and_then}
 use Rattle.hs_base.specs.Numbers.{wrapped}
 use Rattle.hs_base.specs.Object.{Object}
+use Rattle.hs_base.specs.Place.{has_place}
 use Rattle.hs_base.specs.State.{State}
 use Rattle.hs_base.specs.Trace.{Event, Out, In}
 use Rattle.c_types.specs.declared.layouts.Layout.{Layout}
@@ -19,12 +20,12 @@ use Rattle.core_tree.specs.declared.program.Func.{Func}
 use Rattle.core_tree.specs.declared.program.Core.{Core}
 use Rattle.core_tree.specs.Sorts.{GivesResult, IsTyped, lib_gives}
 use Rattle.core_tree.specs.Sound.{IsSound}
-use Rattle.object_meaning.specs.Values.{number, address, start_of, value_of, number_of, pointer_of, number_at, pointer_at, size_in, bytes_in}
+use Rattle.object_meaning.specs.Values.{number, address, value_of, number_of, pointer_of, number_at, pointer_at, size_in, bytes_in}
 use Rattle.object_meaning.specs.Going as object_going
 use Rattle.object_meaning.specs.Going.{goes, onward, write, with_objects, if_done, answers, at_point}
 use Rattle.object_meaning.specs.Holding.{statement_in, statement_at}
 use Rattle.object_meaning.specs.Arithmetic.{on_one, truth, compared}
-use Rattle.object_meaning.specs.Heap.{make}
+use Rattle.object_meaning.specs.Heap.{made}
 use Rattle.object_meaning.specs.Strings.{string_at, order_of}
 use Rattle.object_meaning.specs.Printing.{print}
 use Rattle.object_meaning.specs.Builtins.{byte_in, get_byte, put_line, filled, call_lib}
@@ -43,7 +44,7 @@ use Rattle.counts_are_holders.specs.Counts.{AreCounts}
 use Rattle.counts_are_holders.proofs.Pins.{HasSorts}
 use Rattle.counts_are_holders.proofs.Sorting.{FitsIn, InOrder, gives_pointer, gives_pointer_result, plain_fits, value_fits}
 use Rattle.counts_are_holders.proofs.Touched.{OnDone, any_done, then_done, IsPlain, Any, any_said, truth_plain, on_two_plain, difference_plain, compared_plain, loaded_plain, stored_same, Changes, stored_pointer_changes, copied_changes, set_changes}
-use Rattle.counts_are_holders.proofs.Agreeing.{Agrees, Alters, alters_agree, Plain, write_order, on_order, write_plain, answers_plain, changes_plain, renumbered_counts, changes_alter, step_plain, branch_plain, make_plain}
+use Rattle.counts_are_holders.proofs.Agreeing.{Agrees, Alters, alters_agree, Plain, write_order, on_order, write_plain, answers_plain, changes_plain, renumbered_counts, changes_alter, step_plain, branch_plain, made_plain}
 use Rattle.counts_are_holders.proofs.Freed.{leave_agrees, free_agrees, grow_agrees}
 use Rattle.counts_are_holders.proofs.Calling.{call_agrees, return_agrees}
 
@@ -107,7 +108,7 @@ module _ (core : Core) (sound : IsSound core) (pins : Pins) (exact : AreExact co
   At kind = slice_get func.body s.running.point ≡ Some (record { line = line; kind = kind })
 
   abbrev Acts : StmKind → Type 0
-  Acts kind = Agrees core pins (object.act core line kind s) (counted.act core pins line kind numbers s)
+  Acts kind = (places : ℕ → Bool) → Agrees core pins (object.act core places line kind s) (counted.act core pins places line kind numbers s)
 
   answered : (r : ℕ) (result : Result Value Refusal) → OnDone (FitsIn func (Some r)) result → Agrees core pins (answers line s (Some r) result) (same_numbers numbers (answers line s (Some r) result))
   answered r result h = plain _ (answers_plain core pins s func good.here order numbers counts line (Some r) result h)
@@ -115,63 +116,63 @@ module _ (core : Core) (sound : IsSound core) (pins : Pins) (exact : AreExact co
   wrote : (r : ℕ) (v : Value) → FitsIn func (Some r) v → Agrees core pins (goes s [] (write s (Some r) v)) (same_numbers numbers (goes s [] (write s (Some r) v)))
   wrote r v fits = plain (goes s [] (write s (Some r) v)) (writes [] (Some r) v fits)
 
-  makes : (r n : ℕ) (element : Layout) → FitsIn func (Some r) (address (start_of (length s.objects))) → Agrees core pins (make line r n element s) (same_numbers numbers (make line r n element s))
-  makes r n element fits =
-      plain (make line r n element s) (make_plain core pins s func good.here order numbers counts line r n element fits)
+  makes : (b : Bool) (r n : ℕ) (element : Layout) → ((v : Value) → FitsIn func (Some r) v) → Agrees core pins (made b line r n element s) (same_numbers numbers (made b line r n element s))
+  makes b r n element fits =
+      plain (made b line r n element s) (made_plain core pins s func good.here order numbers counts b line r n element fits)
 
   pub act_agrees : (kind : StmKind) → At kind → IsTyped core func kind → Acts kind
-  act_agrees (stm.Set r a) at h =
+  act_agrees (stm.Set r a) at h places =
       wrote r (value_of s.running a) (value_fits core func s.running sorts func r a h.0 h.1 h.2)
-  act_agrees (stm.Conv k r a) at h = wrote r (number (wrapped k (number_of s a))) (λ n. refl)
-  act_agrees (stm.Un op k r a) at h = wrote r (number (on_one op k (number_of s a))) (λ n. refl)
-  act_agrees (stm.Bin op k r a b) at h = answered r _ (done_fits func (Some r) _ (on_two_plain op k (number_of s a) (number_of s b)))
-  act_agrees (stm.Cmp op r a b) at h =
+  act_agrees (stm.Conv k r a) at h places = wrote r (number (wrapped k (number_of s a))) (λ n. refl)
+  act_agrees (stm.Un op k r a) at h places = wrote r (number (on_one op k (number_of s a))) (λ n. refl)
+  act_agrees (stm.Bin op k r a b) at h places = answered r _ (done_fits func (Some r) _ (on_two_plain op k (number_of s a) (number_of s b)))
+  act_agrees (stm.Cmp op r a b) at h places =
       let holds = compared op (number_of s a) (number_of s b) in wrote r (truth holds) (λ n. truth_plain holds)
-  act_agrees (stm.Add r p a size) at h = answered r _ (any_done (FitsIn func (Some r)) _ (gives_pointer func r h.0))
-  act_agrees (stm.Sub r p a size) at h = answered r _ (any_done (FitsIn func (Some r)) _ (gives_pointer func r h.0))
-  act_agrees (stm.Off r p distance) at h = answered r _ (any_done (FitsIn func (Some r)) _ (gives_pointer func r h.0))
-  act_agrees (stm.Diff r p q size) at h =
+  act_agrees (stm.Add r p a size) at h places = answered r _ (any_done (FitsIn func (Some r)) _ (gives_pointer func r h.0))
+  act_agrees (stm.Sub r p a size) at h places = answered r _ (any_done (FitsIn func (Some r)) _ (gives_pointer func r h.0))
+  act_agrees (stm.Off r p distance) at h places = answered r _ (any_done (FitsIn func (Some r)) _ (gives_pointer func r h.0))
+  act_agrees (stm.Diff r p q size) at h places =
       answered r _ (done_fits func (Some r) _ (difference_plain (pointer_of s p) (pointer_of s q) size))
-  act_agrees (stm.Pcmp op r p q) at h =
+  act_agrees (stm.Pcmp op r p q) at h places =
       answered r _ (done_fits func (Some r) _ (compared_plain op (pointer_of s p) (pointer_of s q)))
-  act_agrees (stm.Test r p) at h =
+  act_agrees (stm.Test r p) at h places =
       let some = not (is_null (pointer_of s p)) in wrote r (truth some) (λ n. truth_plain some)
-  act_agrees (stm.Load k r p) at h = answered r _ (done_fits func (Some r) _ (loaded_plain s.objects k (pointer_of s p)))
-  act_agrees (stm.Loadp r p) at h = answered r _ (any_done (FitsIn func (Some r)) _ (gives_pointer func r h.0))
-  act_agrees (stm.Store k p a) at h =
+  act_agrees (stm.Load k r p) at h places = answered r _ (done_fits func (Some r) _ (loaded_plain s.objects k (pointer_of s p)))
+  act_agrees (stm.Loadp r p) at h places = answered r _ (any_done (FitsIn func (Some r)) _ (gives_pointer func r h.0))
+  act_agrees (stm.Store k p a) at h places =
       plain _ (changes_plain core pins s func good.here order numbers counts line _ (stored_same s.objects k (pointer_of s p) (number_of s a)))
-  act_agrees (stm.Storep p q) at h =
+  act_agrees (stm.Storep p q) at h places =
       alters_agree core pins numbers (renumbered (birth_in (pointer_of s p)) numbers) numbers _ (changes_alter core pins s func good.here order numbers counts line (birth_in (pointer_of s p)) _ (stored_pointer_changes s.objects (pointer_of s p) (pointer_of s q)))
-  act_agrees (stm.Copy p q n) at h =
+  act_agrees (stm.Copy p q n) at h places =
       alters_agree core pins numbers (renumbered (birth_in (pointer_of s p)) numbers) numbers _ (changes_alter core pins s func good.here order numbers counts line (birth_in (pointer_of s p)) _ (copied_changes s.objects (pointer_of s p) (pointer_of s q) (bytes_in n)))
-  act_agrees (stm.Clear p n) at h =
+  act_agrees (stm.Clear p n) at h places =
       alters_agree core pins numbers (renumbered (birth_in (pointer_of s p)) numbers) numbers _ (changes_alter core pins s func good.here order numbers counts line (birth_in (pointer_of s p)) _ (set_changes s.objects (pointer_of s p) 0 (bytes_in n)))
-  act_agrees (stm.Jump l) at h = plain (object.act core line (stm.Jump l) s) (counts, counts, on_order core pins s func good.here order numbers counts l)
-  act_agrees (stm.Zero a l) at h = plain _ (branch_plain core pins s func good.here order numbers counts _ l)
-  act_agrees (stm.Case a v l) at h = plain _ (branch_plain core pins s func good.here order numbers counts _ l)
-  act_agrees (stm.Loop l) at h =
-      plain (object.act core line (stm.Loop l) s) (step_plain core pins s func good.here order numbers counts (λ before after. numbers) s.steps (λ t. goes t [] (at_point t l)) (λ m. (counts, counts, on_order core pins s func good.here order numbers counts l)))
-  act_agrees (stm.Call f r args) at h =
-      call_agrees core sound pins exact s func good.here order numbers counts line f r args at h.1
-  act_agrees (stm.Malloc r n element) at h = makes r (size_in (number_of s n)) element (gives_pointer func r h.0 (address (start_of (length s.objects))))
-  act_agrees (stm.Calloc r m n element) at h =
-      makes r (size_in (number_of s m) * size_in (number_of s n)) element (gives_pointer func r h.0 (address (start_of (length s.objects))))
-  act_agrees (stm.Realloc r p n element) at h =
-      grow_agrees core pins exact s func good.here _ at (λ q. refl) order good.sane numbers counts line r (gives_pointer func r h.0) _ element (pointer_of s p)
-  act_agrees (stm.Free p) at h =
+  act_agrees (stm.Jump l) at h places = plain (object.act core places line (stm.Jump l) s) (counts, counts, on_order core pins s func good.here order numbers counts l)
+  act_agrees (stm.Zero a l) at h places = plain _ (branch_plain core pins s func good.here order numbers counts _ l)
+  act_agrees (stm.Case a v l) at h places = plain _ (branch_plain core pins s func good.here order numbers counts _ l)
+  act_agrees (stm.Loop l) at h places =
+      plain (object.act core places line (stm.Loop l) s) (step_plain core pins s func good.here order numbers counts (λ before after. numbers) s.steps (λ t. goes t [] (at_point t l)) (λ m. (counts, counts, on_order core pins s func good.here order numbers counts l)))
+  act_agrees (stm.Call f r args) at h places =
+      call_agrees core sound pins exact s func good.here order numbers counts line f r args at h.1 places
+  act_agrees (stm.Malloc r n element) at h places = makes _ r (size_in (number_of s n)) element (gives_pointer func r h.0)
+  act_agrees (stm.Calloc r m n element) at h places =
+      makes _ r (size_in (number_of s m) * size_in (number_of s n)) element (gives_pointer func r h.0)
+  act_agrees (stm.Realloc r p n element) at h places =
+      grow_agrees core pins exact s func good.here _ at (λ q. refl) order good.sane numbers counts line r (gives_pointer func r h.0) _ element places (pointer_of s p)
+  act_agrees (stm.Free p) at h places =
       free_agrees core pins exact s func good.here _ at (λ q. refl) order good.sane numbers counts line (pointer_of s p)
-  act_agrees (stm.Lib name r args) at h =
+  act_agrees (stm.Lib name r args) at h places =
       alters_agree core pins numbers (behind_lib name (values_of s args) numbers) numbers _ (lib_alters name r (values_of s args) h.0)
-  act_agrees (stm.Printf r k args) at h = plain _ (print_plain r _ _)
-  act_agrees stm.Enter at h = plain (object.act core line stm.Enter s) (counts, counts, on_order core pins s func good.here order numbers counts (s.running.point + 1))
-  act_agrees stm.Leave at h =
+  act_agrees (stm.Printf r k args) at h places = plain _ (print_plain r _ _)
+  act_agrees stm.Enter at h places = plain (object.act core places line stm.Enter s) (counts, counts, on_order core pins s func good.here order numbers counts (s.running.point + 1))
+  act_agrees stm.Leave at h places =
       leave_agrees core pins exact s func good.here _ at (λ q. refl) order good.sane numbers counts s.scopes
-  act_agrees (stm.Return a) at h =
-      return_agrees core sound pins exact s func good.here order numbers counts line a at good.locals
+  act_agrees (stm.Return a) at h places =
+      return_agrees core sound pins exact s func good.here order numbers counts line a at good.locals places
 
 -- the statement that a good state is at
-pub step_agrees : (core : Core) → IsSound core → (pins : Pins) → AreExact core pins → (trace : List Event) (s : State) → Good core s → InOrder core s → (numbers : ℕ → ℕ) → AreCounts pins (kept numbers s) → Agrees core pins (object.step core trace s) (counted.step core pins trace (kept numbers s))
-step_agrees core sound pins exact trace s good order numbers counts =
+pub step_agrees : (core : Core) → IsSound core → (pins : Pins) → AreExact core pins → (heap : ℕ) (trace : List Event) (s : State) → Good core s → InOrder core s → (numbers : ℕ → ℕ) → AreCounts pins (kept numbers s) → Agrees core pins (object.step core heap trace s) (counted.step core pins heap trace (kept numbers s))
+step_agrees core sound pins exact heap trace s good order numbers counts =
     let func = good.0 in
     let h = good.1 in
     let at = found func.body s.running.point h.inside in
@@ -179,5 +180,5 @@ step_agrees core sound pins exact trace s good order numbers counts =
     let there : statement_at core s.running ≡ Some stm = ap (λ o. statement_in o s.running.point) h.here ∙ at.1 in
     let typed = (sound.functions s.running.func func h.here).typed s.running.point stm at.1 in
     let alive = operands_fresh core func s.scopes s h stm at.1 typed in
-    let acts = act_agrees core sound pins exact s func h order numbers counts stm.line stm.kind at.1 typed in
-    subst (λ (o : Option Stm). Agrees core pins (object.act_at core o s) (counted.act_at core pins o (kept numbers s))) (sym there) (subst (λ b. Agrees core pins (object.unless_reads_stale b core stm s) (counted.unless_reads_stale b core pins stm (kept numbers s))) (sym alive) acts)
+    let acts = act_agrees core sound pins exact s func h order numbers counts stm.line stm.kind at.1 typed (has_place heap trace) in
+    subst (λ (o : Option Stm). Agrees core pins (object.act_at core (has_place heap trace) o s) (counted.act_at core pins (has_place heap trace) o (kept numbers s))) (sym there) (subst (λ b. Agrees core pins (object.unless_reads_stale b core (has_place heap trace) stm s) (counted.unless_reads_stale b core pins (has_place heap trace) stm (kept numbers s))) (sym alive) acts)

@@ -4,6 +4,7 @@ use Rattle.std.specs.Prelude.{slice_get}
 use Rattle.hs_base.specs.declared.values.Value.{Value}
 use Rattle.hs_base.specs.Access.{Refusal}
 use Rattle.hs_base.specs.Object.{Object}
+use Rattle.hs_base.specs.declared.values.Pointer.TheVariants as pointer
 use Rattle.hs_base.specs.State.{State}
 use Rattle.hs_base.specs.Trace.{Event}
 use Rattle.hs_base.specs.Runs as runs
@@ -14,7 +15,7 @@ use Rattle.object_meaning.specs.Values.{address, start_of}
 use Rattle.object_meaning.specs.Going as object
 use Rattle.object_meaning.specs.Going.{goes, at_point, onward, write, with_objects, with_step, answers, changes}
 use Rattle.object_meaning.specs.Making.{heap_object, with_new}
-use Rattle.object_meaning.specs.Heap.{make}
+use Rattle.object_meaning.specs.Heap.{no_place, made}
 use Rattle.object_meaning.specs.Meaning.{branch}
 use Rattle.counted_meaning.specs.Pinning.{Pins}
 use Rattle.counted_meaning.specs.CountedState.{CountedState, Next, kept, numbered}
@@ -97,6 +98,10 @@ module _ (core : Core) (pins : Pins) where
           one_sum : (x : ℕ) (o : Object) → inside_living x (o ∷ []) ≡ living x o
           one_sum x o = omega arith
 
-    pub make_plain : (line r n : ℕ) (element : Layout) → FitsIn func (Some r) (address (start_of (length s.objects))) → Plain (make line r n element s)
-    make_plain line r n element fits =
-        (counts, λ x. omega (arith, counts x, new_living line n element x), write_order (with_new line n element s).objects s.input (Some r) (address (start_of (length s.objects))) fits)
+    pub none_plain : (r : ℕ) → FitsIn func (Some r) (address pointer.Null) → Plain (no_place r s)
+    none_plain r fits = write_plain s.input [] (Some r) (address pointer.Null) fits
+
+    pub made_plain : (b : Bool) (line r n : ℕ) (element : Layout) → ((v : Value) → FitsIn func (Some r) v) → Plain (made b line r n element s)
+    made_plain false line r n element fits = none_plain r (fits (address pointer.Null))
+    made_plain true line r n element fits =
+        (counts, λ x. omega (arith, counts x, new_living line n element x), write_order (with_new line n element s).objects s.input (Some r) (address (start_of (length s.objects))) (fits (address (start_of (length s.objects)))))

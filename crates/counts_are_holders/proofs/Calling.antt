@@ -92,9 +92,9 @@ module _ (core : Core) (sound : IsSound core) (pins : Pins) (exact : AreExact co
       },
     )
 
-    pub call_agrees : Agrees core pins (object_meaning.act core line (stm.Call f answer args) s) (counted_meaning.act core pins line (stm.Call f answer args) numbers s)
-    call_agrees =
-        alters_agree core pins numbers (λ before after. more numbers (pinned pins before.running)) numbers (object_meaning.act core line (stm.Call f answer args) s) (step_plain core pins s func here order numbers counts (λ before after. more numbers (pinned pins before.running)) s.steps (object.call core line f (values_of s args)) call_alters)
+    pub call_agrees : (places : ℕ → Bool) → Agrees core pins (object_meaning.act core places line (stm.Call f answer args) s) (counted_meaning.act core pins places line (stm.Call f answer args) numbers s)
+    call_agrees places =
+        alters_agree core pins numbers (λ before after. more numbers (pinned pins before.running)) numbers (object_meaning.act core places line (stm.Call f answer args) s) (step_plain core pins s func here order numbers counts (λ before after. more numbers (pinned pins before.running)) s.steps (object.call core line f (values_of s args)) call_alters)
 
   -- Returns
 
@@ -171,7 +171,7 @@ module _ (core : Core) (sound : IsSound core) (pins : Pins) (exact : AreExact co
         alters_agree core pins numbers (λ _ after. numbers) numbers (object.end_locals core line answer (Some b) s) (counts, counts)
     end_agrees None = go_back_agrees s.waiting refl
 
-    pub return_agrees : Agrees core pins (object_meaning.act core line (stm.Return a) s) (counted_meaning.act core pins line (stm.Return a) numbers s)
-    return_agrees =
+    pub return_agrees : (places : ℕ → Bool) → Agrees core pins (object_meaning.act core places line (stm.Return a) s) (counted_meaning.act core pins places line (stm.Return a) numbers s)
+    return_agrees places =
         let o = first_held (escapes core answer s locals) locals in
         subst (λ p. Agrees core pins (object.end_locals core line answer o s) (counted.end_locals core pins line answer p numbers s)) escapes_same (end_agrees o)

@@ -37,7 +37,7 @@ use Rattle.counts_are_holders.proofs.Weighing.{Once}
 use Rattle.counts_are_holders.proofs.Objects.{queued_same}
 use Rattle.counts_are_holders.proofs.Sorting.{FitsIn, InOrder, at_order, with_order}
 use Rattle.counts_are_holders.proofs.Touched.{OnDone, Changes, copied_changes}
-use Rattle.counts_are_holders.proofs.Agreeing.{Agrees, alters_agree, on_order, renumbered_counts, new_living, make_plain}
+use Rattle.counts_are_holders.proofs.Agreeing.{Agrees, alters_agree, on_order, renumbered_counts, new_living, none_plain, made_plain}
 use Rattle.counts_are_holders.proofs.Checks.{checked_agrees}
 
 -- Queues
@@ -127,15 +127,20 @@ module _ (core : Core) (pins : Pins) (exact : AreExact core pins) where
       grown_agrees old alive heap free (Err e) c h =
           alters_agree core pins numbers (λ _ after. numbers) numbers (stops_after s (birth_of line n s) made (ended_by line e)) (counts, made_counts)
 
-      grow_named_agrees : (result : Result ℕ Reason) → Frees s.objects result → Agrees core pins (object.grow_named core line r result n element s) (counted.grow_named core pins line r result n element numbers s)
-      grow_named_agrees (Ok old) h =
+      grow_old_agrees : (b : Bool) (old : ℕ) → Frees s.objects (Ok old) → Agrees core pins (object.grow_old b core line r old n element s) (counted.grow_old b core pins line r old n element numbers s)
+      grow_old_agrees false old h =
+          alters_agree core pins numbers (λ _ after. numbers) numbers (object.no_place r s) (none_plain core pins s func here order numbers counts r (fits (address pointer.Null)))
+      grow_old_agrees true old h =
           let first = append_grows s.objects (heap_object line n element ∷ []) in
           let size = min (object_at s.objects old).size n in
           grown_agrees old h.0 h.1 h.2 (copied made.objects (start_of (length s.objects)) (start_of old) size) (copied_done made.objects s.queue made_sane (start_of (length s.objects)) (start_of old) size (new_alive s.objects s.queue sane line n element) (first.alive old h.0)) (copied_changes made.objects (start_of (length s.objects)) (start_of old) size)
-      grow_named_agrees (Err reason) h =
-          alters_agree core pins numbers (λ _ after. numbers) numbers (object.grow_named core line r (Err reason) n element s) (counts, counts)
 
-      pub grow_agrees : (p : Pointer) → Agrees core pins (object.grow core line r p n element s) (counted.grow core pins line r p n element numbers s)
-      grow_agrees pointer.Null =
-          alters_agree core pins numbers (λ _ after. numbers) numbers (object.make line r n element s) (make_plain core pins s func here order numbers counts line r n element (fits (address (start_of (length s.objects)))))
-      grow_agrees (pointer.At b offset) = grow_named_agrees (freed_at s.objects b offset) (frees s.objects b offset)
+      grow_named_agrees : (places : ℕ → Bool) (result : Result ℕ Reason) → Frees s.objects result → Agrees core pins (object.grow_named core places line r result n element s) (counted.grow_named core pins places line r result n element numbers s)
+      grow_named_agrees places (Ok old) h = grow_old_agrees (places n) old h
+      grow_named_agrees places (Err reason) h =
+          alters_agree core pins numbers (λ _ after. numbers) numbers (object.grow_named core places line r (Err reason) n element s) (counts, counts)
+
+      pub grow_agrees : (places : ℕ → Bool) (p : Pointer) → Agrees core pins (object.grow core places line r p n element s) (counted.grow core pins places line r p n element numbers s)
+      grow_agrees places pointer.Null =
+          alters_agree core pins numbers (λ _ after. numbers) numbers (object.made (places n) line r n element s) (made_plain core pins s func here order numbers counts (places n) line r n element fits)
+      grow_agrees places (pointer.At b offset) = grow_named_agrees places (freed_at s.objects b offset) (frees s.objects b offset)

@@ -83,35 +83,35 @@ module _ (core : Core) (pins : Pins) where
     first_both : (input : List ℕ) (n : ℕ) → Agree Goes (Counted pins) (object.first_call core input n) (counted.first_call core input n)
     first_both input n = both_agree _ _ (begins core sound input n) (first_agrees input n)
 
-    step_both : (trace : List Event) (s : State) (c : CountedState) → Goes s c → Agree Goes (Counted pins) (object.step core trace s) (counted.step core pins trace c)
-    step_both trace s c h =
+    step_both : (heap : ℕ) (trace : List Event) (s : State) (c : CountedState) → Goes s c → Agree Goes (Counted pins) (object.step core heap trace s) (counted.step core pins heap trace c)
+    step_both heap trace s c h =
         let counts = subst (λ t. AreCounts pins (kept c.numbers t)) h.2.state h.2.counts in
-        let agrees = step_agrees core sound pins exact trace s h.0 h.1 c.numbers counts in
-        subst (λ t. Agree Goes (Counted pins) (object.step core trace s) (counted.step core pins trace (kept c.numbers t))) (sym h.2.state) (both_agree _ _ (step_stays_at core sound trace s h.0) agrees)
+        let agrees = step_agrees core sound pins exact heap trace s h.0 h.1 c.numbers counts in
+        subst (λ t. Agree Goes (Counted pins) (object.step core heap trace s) (counted.step core pins heap trace (kept c.numbers t))) (sym h.2.state) (both_agree _ _ (step_stays_at core sound heap trace s h.0) agrees)
 
     begun_agree : (input : List ℕ) (n : ℕ) → RunsAgree Goes (Counted pins) (object.begun core input n) (counted.begun core input n)
     begun_agree input n = led_agree Goes (Counted pins) [] _ _ (first_both input n)
 
-    each_agrees : (input : List ℕ) (n k : ℕ) → SameRun pins (runs.after (object.step core) (object.begun core input n) k) (runs.after (counted.step core pins) (counted.begun core input n) k)
-    each_agrees input n k =
-        same_run _ _ (after_agree Goes (Counted pins) (object.step core) (counted.step core pins) step_both _ _ (begun_agree input n) k)
+    each_agrees : (input : List ℕ) (n heap k : ℕ) → SameRun pins (runs.after (object.step core heap) (object.begun core input n) k) (runs.after (counted.step core pins heap) (counted.begun core input n) k)
+    each_agrees input n heap k =
+        same_run _ _ (after_agree Goes (Counted pins) (object.step core heap) (counted.step core pins heap) (step_both heap) _ _ (begun_agree input n) k)
 
-    meaning_agrees : (input : List ℕ) (n : ℕ) → SameRun pins (object.meaning core input n) (counted.meaning core pins input n)
-    meaning_agrees input n =
+    meaning_agrees : (input : List ℕ) (n heap : ℕ) → SameRun pins (object.meaning core input n heap) (counted.meaning core pins input n heap)
+    meaning_agrees input n heap =
         let r = object.begun core input n in
         let q = counted.begun core input n in
         let same : q.state.state ≡ r.state = (same_run r q (begun_agree input n)).state in
-        subst (λ t. SameRun pins (object.meaning core input n) (runs.after (counted.step core pins) q (object.enough core t))) (sym same) (each_agrees input n (object.enough core r.state))
+        subst (λ t. SameRun pins (object.meaning core input n heap) (runs.after (counted.step core pins heap) q (object.enough core t))) (sym same) (each_agrees input n heap (object.enough core r.state))
 
-    tests_agree : (fits : List Event → Event → Bool) (refused : Event → Ending) (input : List ℕ) (n k : ℕ) → SameRun pins (runs.after (testing fits refused (object.step core)) (runs.led [] (runs.tested fits refused [] (object.first_call core input n))) k) (runs.after (testing fits refused (counted.step core pins)) (runs.led [] (runs.tested fits refused [] (counted.first_call core input n))) k)
-    tests_agree fits refused input n k =
-        same_run _ _ (after_agree Goes (Counted pins) (testing fits refused (object.step core)) (testing fits refused (counted.step core pins)) (λ trace s c h. tested_agree Goes (Counted pins) fits refused trace _ _ (step_both trace s c h)) _ _ (led_agree Goes (Counted pins) [] _ _ (tested_agree Goes (Counted pins) fits refused [] _ _ (first_both input n))) k)
+    tests_agree : (fits : List Event → Event → Bool) (refused : Event → Ending) (input : List ℕ) (n heap k : ℕ) → SameRun pins (runs.after (testing fits refused (object.step core heap)) (runs.led [] (runs.tested fits refused [] (object.first_call core input n))) k) (runs.after (testing fits refused (counted.step core pins heap)) (runs.led [] (runs.tested fits refused [] (counted.first_call core input n))) k)
+    tests_agree fits refused input n heap k =
+        same_run _ _ (after_agree Goes (Counted pins) (testing fits refused (object.step core heap)) (testing fits refused (counted.step core pins heap)) (λ trace s c h. tested_agree Goes (Counted pins) fits refused trace _ _ (step_both heap trace s c h)) _ _ (led_agree Goes (Counted pins) [] _ _ (tested_agree Goes (Counted pins) fits refused [] _ _ (first_both input n))) k)
 
 pub counts_are_holders : CountsAreHolders
-counts_are_holders core pins sound exact input n = meaning_agrees core pins sound exact input n
+counts_are_holders core pins sound exact input n heap = meaning_agrees core pins sound exact input n heap
 
 pub each_state_is_counted : EachStateIsCounted
-each_state_is_counted core pins sound exact input n k = each_agrees core pins sound exact input n k
+each_state_is_counted core pins sound exact input n heap k = each_agrees core pins sound exact input n heap k
 
 pub tested_runs_are_counted : TestedRunsAreCounted
-tested_runs_are_counted core pins sound exact fits refused input n k = tests_agree core pins sound exact fits refused input n k
+tested_runs_are_counted core pins sound exact fits refused input n heap k = tests_agree core pins sound exact fits refused input n heap k

@@ -1,4 +1,4 @@
--- No event of a statement needs room on the heap or the stack but its first.
+-- No event of a statement needs room on the stack but its first.
 use Rattle.std.proofs.Common.{ℕ, zero, suc, Bool, true, false, List, [], ◌∷◌, ◌++◌, map, Option, Some, None, Result, Ok, Err}
 use Rattle.hs_base.specs.declared.ends.Reason.{Reason}
 use Rattle.hs_base.specs.declared.values.Pointer.{Pointer}
@@ -7,8 +7,9 @@ use Rattle.hs_base.specs.declared.values.Value.{Value}
 use Rattle.hs_base.specs.Access.{Refusal}
 use Rattle.hs_base.specs.Freeing.{freed_at, first_held, ended}
 use Rattle.hs_base.specs.Object.{Object}
+use Rattle.hs_base.specs.Place.{has_place}
 use Rattle.hs_base.specs.State.{State, Frame}
-use Rattle.hs_base.specs.Trace.{Event, Out, New, Gone, Enter}
+use Rattle.hs_base.specs.Trace.{Event, Out, Gone, Enter}
 use Rattle.hs_base.specs.Runs as runs
 use Rattle.c_types.specs.declared.layouts.Layout.{Layout}
 use Rattle.core_tree.specs.declared.program.Core.{Core}
@@ -21,7 +22,7 @@ use Rattle.object_meaning.specs.Going.{Next, with_step, with_objects, answers, c
 use Rattle.object_meaning.specs.Making.{with_new}
 use Rattle.object_meaning.specs.Holding.{statement_at}
 use Rattle.object_meaning.specs.Scoping.{is_held, decided, leave, in_scope}
-use Rattle.object_meaning.specs.Heap.{birth_of, enqueue, free_named, free, grown, grow_named, grow}
+use Rattle.object_meaning.specs.Heap.{birth_of, made, enqueue, free_named, free, grown, grow_old, grow_named, grow}
 use Rattle.object_meaning.specs.Printing.{print}
 use Rattle.object_meaning.specs.Builtins.{get_byte, put_line, filled, call_lib}
 use Rattle.object_meaning.specs.Calls.{go_back, end_locals, escapes, running_locals}
@@ -29,7 +30,6 @@ use Rattle.object_meaning.specs.Meaning.{branch, returned, act, unless_reads_sta
 
 -- an event that has room behind every trace
 abbrev pub NeedsNoRoom : Event → Type 0
-NeedsNoRoom (New birth size line) = ⊥
 NeedsNoRoom (Enter cost line) = ⊥
 NeedsNoRoom e = Unit {0}
 
@@ -70,7 +70,7 @@ first_append (e ∷ events) more h i = need_append events more h i
 
 -- Statements
 
-module _ (core : Core) (s : State) where
+module _ (core : Core) (sizes : ℕ → Bool) (s : State) where
   answers_first : (line : ℕ) (r : Option ℕ) (result : Result Value Refusal) → FirstNeeds (answers line s r result)
   answers_first line r (Ok v) = tt
   answers_first line r (Err e) = tt
@@ -114,12 +114,20 @@ module _ (core : Core) (s : State) where
   grown_first line r n old t (Ok objects) = in_scope_first t.scopes s _ (birth_of line n s) tt
   grown_first line r n old t (Err e) = tt
 
-  grow_named_first : (line r : ℕ) (named : Result ℕ Reason) (n : ℕ) (element : Layout) → FirstNeeds (grow_named core line r named n element s)
-  grow_named_first line r (Ok old) n element = grown_first line r n old (with_new line n element s) _
+  made_first : (b : Bool) (line r n : ℕ) (element : Layout) → FirstNeeds (made b line r n element s)
+  made_first true line r n element = tt
+  made_first false line r n element = tt
+
+  grow_old_first : (b : Bool) (line r old n : ℕ) (element : Layout) → FirstNeeds (grow_old b core line r old n element s)
+  grow_old_first true line r old n element = grown_first line r n old (with_new line n element s) _
+  grow_old_first false line r old n element = tt
+
+  grow_named_first : (line r : ℕ) (named : Result ℕ Reason) (n : ℕ) (element : Layout) → FirstNeeds (grow_named core sizes line r named n element s)
+  grow_named_first line r (Ok old) n element = grow_old_first (sizes n) line r old n element
   grow_named_first line r (Err reason) n element = tt
 
-  grow_first : (line r : ℕ) (p : Pointer) (n : ℕ) (element : Layout) → FirstNeeds (grow core line r p n element s)
-  grow_first line r pointer.Null n element = tt
+  grow_first : (line r : ℕ) (p : Pointer) (n : ℕ) (element : Layout) → FirstNeeds (grow core sizes line r p n element s)
+  grow_first line r pointer.Null n element = made_first (sizes n) line r n element
   grow_first line r (pointer.At birth offset) n element =
       grow_named_first line r (freed_at s.objects birth offset) n element
 
@@ -159,7 +167,7 @@ module _ (core : Core) (s : State) where
   end_first line answer None = back_first answer s.waiting (ended s.objects (running_locals core s))
   end_first line answer (Some birth) = tt
 
-  act_first : (line : ℕ) (kind : StmKind) → FirstNeeds (act core line kind s)
+  act_first : (line : ℕ) (kind : StmKind) → FirstNeeds (act core sizes line kind s)
   act_first line (stm.Set r a) = tt
   act_first line (stm.Conv k r a) = tt
   act_first line (stm.Un op k r a) = tt
@@ -182,8 +190,8 @@ module _ (core : Core) (s : State) where
   act_first line (stm.Case a v l) = branch_first _ l
   act_first line (stm.Loop l) = with_step_first s.steps _ (λ m. tt)
   act_first line (stm.Call f r args) = with_step_first s.steps _ (λ m. tt)
-  act_first line (stm.Malloc r n element) = tt
-  act_first line (stm.Calloc r m n element) = tt
+  act_first line (stm.Malloc r n element) = made_first _ line r _ element
+  act_first line (stm.Calloc r m n element) = made_first _ line r _ element
   act_first line (stm.Realloc r p n element) = grow_first line r _ _ element
   act_first line (stm.Free p) = free_first line _
   act_first line (stm.Lib name r args) = lib_first line name r _
@@ -194,16 +202,16 @@ module _ (core : Core) (s : State) where
       let answer = returned s a in
       let locals = running_locals core s in end_first line answer (first_held (escapes core answer s locals) locals)
 
-  checked_first : (b : Bool) (stm : Stm) → FirstNeeds (unless_reads_stale b core stm s)
+  checked_first : (b : Bool) (stm : Stm) → FirstNeeds (unless_reads_stale b core sizes stm s)
   checked_first true stm = tt
   checked_first false stm = act_first stm.line stm.kind
 
-  at_first : (o : Option Stm) → FirstNeeds (act_at core o s)
+  at_first : (o : Option Stm) → FirstNeeds (act_at core sizes o s)
   at_first None = tt
   at_first (Some stm) = checked_first _ stm
 
-pub step_first : (core : Core) (trace : List Event) (s : State) → FirstNeeds (step core trace s)
-step_first core trace s = at_first core s (statement_at core s.running)
+pub step_first : (core : Core) (heap : ℕ) (trace : List Event) (s : State) → FirstNeeds (step core heap trace s)
+step_first core heap trace s = at_first core (has_place heap trace) s (statement_at core s.running)
 
 pub main_first : (core : Core) (input : List ℕ) (n : ℕ) → FirstNeeds (first_call core input n)
 main_first core input zero = tt

@@ -1,4 +1,4 @@
--- How many steps the run of a core makes that is cut by the heap and the stack, and what it leaves.
+-- How many steps the run of a core makes in a heap that is cut by the stack, and what it leaves.
 use Rattle.std.specs.Prelude.{◌≡◌, ◌+◌, ◌-◌, ◌++◌, ℕ, List, [], unwrap_or}
 use Rattle.hs_base.specs.declared.ends.End.{End}
 use Rattle.hs_base.specs.declared.ends.End.TheVariants as end
@@ -6,7 +6,8 @@ use Rattle.hs_base.specs.declared.values.Pointer.{Pointer}
 use Rattle.hs_base.specs.Freeing.{pointers_to}
 use Rattle.hs_base.specs.State.{State}
 use Rattle.hs_base.specs.Trace.{Event, Ending, Dangling}
-use Rattle.hs_base.specs.Cut.{Room, fits, refused_ending}
+use Rattle.hs_base.specs.declared.ends.Limits.{Limits}
+use Rattle.hs_base.specs.Cut.{fits, refused_ending}
 use Rattle.hs_base.specs.Runs.{led, after, tested}
 use Rattle.core_tree.specs.declared.program.Core.{Core}
 use Rattle.object_meaning.specs.Going.{Next}
@@ -17,27 +18,27 @@ use Rattle.flat_objects.specs.Counting.{Tracks, living_pointers}
 use Rattle.flat_machine.specs.Kept.{Kept}
 use Rattle.flat_machine.specs.Image.{Agrees}
 
--- how a run ends at an event for which there is no room
+-- how a run ends at a call for which there is no room
 abbrev pub no_room : Event → Ending
 no_room e = unwrap_or (refused_ending e) Dangling
 
--- what a statement leads to: where its first event has no room, to the end of the run in the state before it
-abbrev pub cut_next : Room → List Event → Next → Next
-cut_next room trace next = tested (fits room) no_room trace next
+-- what a statement leads to: where the stack has no room for its call, to the end of the run in the state before it
+abbrev pub cut_next : ℕ → List Event → Next → Next
+cut_next stack trace next = tested (fits stack) no_room trace next
 
--- the meaning, run until just before the first event for which there is no room: its last state is the one before that event, with
--- the step that a call took already taken
-abbrev pub cut_run : Core → List ℕ → ℕ → Room → Run
-cut_run core input n room =
-    let r = led [] (cut_next room [] (first_call core input n)) in
-    after (λ trace s. cut_next room trace (step core trace s)) r (enough core r.state)
+-- the meaning in the heap, run until just before the first call that the stack has no room for: its last state is the one before
+-- that call, with the step that it took already taken
+abbrev pub cut_run : Core → List ℕ → ℕ → Limits → Run
+cut_run core input n limits =
+    let r = led [] (cut_next limits.stack [] (first_call core input n)) in
+    after (λ trace s. cut_next limits.stack trace (step core limits.heap trace s)) r (enough core r.state)
 
 -- the run made so many steps: those that it was allowed, less those that are left in the last state; where the input or the
 -- output failed nothing is said
-abbrev pub MakesSteps : Core → List ℕ → ℕ → Room → End → ℕ → Type 0
-MakesSteps core input n room end.InputFault made = Unit {0}
-MakesSteps core input n room end.OutputFault made = Unit {0}
-MakesSteps core input n room e made = made ≡ n - (cut_run core input n room).state.steps
+abbrev pub MakesSteps : Core → List ℕ → ℕ → Limits → End → ℕ → Type 0
+MakesSteps core input n limits end.InputFault made = Unit {0}
+MakesSteps core input n limits end.OutputFault made = Unit {0}
+MakesSteps core input n limits e made = made ≡ n - (cut_run core input n limits).state.steps
 
 -- the machine counts the pointers in the slots of objects that are not dead, and some beside them: to each object lead as many as there
 -- are in such slots and in pinned registers of frames that wait
@@ -59,7 +60,7 @@ pub record HasImage (pins : Pins) (s : State) (kept : Kept) (e : End) : Type 0 w
   pub counts : CountsAt pins places s kept e
 
 -- so it does with the last state of the run; where the input or the output failed nothing is said
-abbrev pub LeavesImage : Core → Pins → List ℕ → ℕ → Room → End → Kept → Type 0
-LeavesImage core pins input n room end.InputFault kept = Unit {0}
-LeavesImage core pins input n room end.OutputFault kept = Unit {0}
-LeavesImage core pins input n room e kept = HasImage pins (cut_run core input n room).state kept e
+abbrev pub LeavesImage : Core → Pins → List ℕ → ℕ → Limits → End → Kept → Type 0
+LeavesImage core pins input n limits end.InputFault kept = Unit {0}
+LeavesImage core pins input n limits end.OutputFault kept = Unit {0}
+LeavesImage core pins input n limits e kept = HasImage pins (cut_run core input n limits).state kept e

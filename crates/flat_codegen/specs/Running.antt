@@ -1,27 +1,28 @@
--- What a whole run of a core answers, writes and takes: what the core means, cut by the heap and the stack.
+-- What a whole run of a core answers, writes and takes: what the core means in the heap, cut by the stack.
 use Rattle.std.specs.Prelude.{◌≡◌, ℕ, List, ◌++◌, Option, Some}
 use Rattle.hs_base.specs.declared.ends.End.{End}
 use Rattle.hs_base.specs.declared.ends.End.TheVariants as end
 use Rattle.hs_base.specs.Trace.{bytes_out, bytes_in}
-use Rattle.hs_base.specs.Cut.{Room, Cut, cut, ending_of}
+use Rattle.hs_base.specs.declared.ends.Limits.{Limits}
+use Rattle.hs_base.specs.Cut.{Cut, cut, ending_of}
 use Rattle.core_tree.specs.declared.program.Core.{Core}
 use Rattle.object_meaning.specs.Meaning.{meaning}
 use Rattle.meaning_run.specs.Meant.{end_in, StopsAtIn, Stopped}
 
--- the meaning's trace, cut at the first event that has no room
-abbrev pub cut_of : Core → List ℕ → ℕ → Room → Cut
-cut_of core input n room = cut room (meaning core input n).trace
+-- the meaning's trace in the heap, cut at the first call that the stack has no room for
+abbrev pub cut_of : Core → List ℕ → ℕ → Limits → Cut
+cut_of core input n limits = cut limits.stack (meaning core input n limits.heap).trace
 
 -- the whole run: its end, all that it writes and all that it reads
-pub record Whole (core : Core) (input : List ℕ) (n : ℕ) (room : Room) (taken : List ℕ) (e : End) (left' taken' : Option (List ℕ)) : Type 0 where
-  pub end : end_in (ending_of (cut_of core input n room).refused (meaning core input n).ended) ≡ Some e
-  pub is_taken : taken' ≡ Some (taken ++ bytes_out (cut_of core input n room).kept)
+pub record Whole (core : Core) (input : List ℕ) (n : ℕ) (limits : Limits) (taken : List ℕ) (e : End) (left' taken' : Option (List ℕ)) : Type 0 where
+  pub end : end_in (ending_of (cut_of core input n limits).refused (meaning core input n limits.heap).ended) ≡ Some e
+  pub is_taken : taken' ≡ Some (taken ++ bytes_out (cut_of core input n limits).kept)
   pub left : List ℕ
   pub is_left : left' ≡ Some left
-  pub is_read : bytes_in (cut_of core input n room).kept ++ left ≡ input
+  pub is_read : bytes_in (cut_of core input n limits).kept ++ left ≡ input
 
 -- what a run does with this input, where these bytes were taken before
-abbrev pub RunAnswers : Core → List ℕ → ℕ → Room → List ℕ → End → Option (List ℕ) → Option (List ℕ) → Type 0
-RunAnswers core input n room taken end.InputFault left' taken' = StopsAtIn (cut_of core input n room).kept input taken left' taken'
-RunAnswers core input n room taken end.OutputFault left' taken' = Stopped (cut_of core input n room).kept input taken left' taken'
-RunAnswers core input n room taken e left' taken' = Whole core input n room taken e left' taken'
+abbrev pub RunAnswers : Core → List ℕ → ℕ → Limits → List ℕ → End → Option (List ℕ) → Option (List ℕ) → Type 0
+RunAnswers core input n limits taken end.InputFault left' taken' = StopsAtIn (cut_of core input n limits).kept input taken left' taken'
+RunAnswers core input n limits taken end.OutputFault left' taken' = Stopped (cut_of core input n limits).kept input taken left' taken'
+RunAnswers core input n limits taken e left' taken' = Whole core input n limits taken e left' taken'

@@ -2,8 +2,8 @@
 
 ghost use Rattle.flat_codegen.specs.Laws.{CutRunsAreCut};
 
-/// The run of a sound core that stops just before its first event for which the heap or the stack has no room is the cut of
-/// its meaning: it has the trace that is kept and the end of that event, and where every event has room it is the meaning.
+/// The run of a sound core that stops just before its first call for which the stack has no room is the cut of its meaning: it
+/// has the trace that is kept and the end of that call, and where every call has room it is the meaning.
 pub fn cut_runs_are_cut()
     ensures { CutRunsAreCut }
 {}

@@ -6,7 +6,7 @@
 //! point from their front. `compiled_code` says what the code of a core is, and `specs/Emitting.antt` what each step
 //! here adds. [`execute`] runs such code on a machine, and its contract speaks of the core: the machine does what the code
 //! means (`flat_machine`), and the code means what the core means (`compiled_meaning`). `specs/Lasting.antt` says in which state
-//! a run that the heap and the stack cut off ends, and so how many steps it makes and what the machine is then.
+//! a run that the stack cuts off ends, and so how many steps it makes and what the machine is then.
 #![tactic(auto)]
 
 mod doing;

@@ -84,9 +84,9 @@ fn code_of(alloc: Global, counted: &Counted) -> Result<Code, NoMemory>
     Ok(code)
 }
 
-/// The code of a sound core with the pins that `count_insertion` lists for it. It is well formed. Its run is that of the core by numbers: the same trace, the same end, the same number for
-/// each object, and the same last state, but for the points that frames are at, also where a test of the events cuts both runs
-/// off. There are at most 14 instructions for each statement and each operand of the core, one for each function and one at
+/// The code of a sound core with the pins that `count_insertion` lists for it. It is well formed. In a heap of any size its run
+/// is that of the core by numbers: the same trace, the same end, the same number for each object, and the same last state, but
+/// for the points that frames are at, also where a test of the events cuts both runs off. There are at most 14 instructions for each statement and each operand of the core, one for each function and one at
 /// the start.
 ///
 /// # Errors
@@ -99,8 +99,8 @@ pub fn compile(alloc: Global, counted: &Counted) -> Result<Code, NoMemory>
     ensures formed { IfOk result IsWellFormed }
     ensures bytes { IfOk result HoldsBytes }
     ensures few { IfOk result (λ code. length code.instrs ≤ 14 * sum_by code_size counted.now.core.funcs + length counted.now.core.funcs + 1) }
-    ensures means { IfOk result (λ code. (input : List ℕ) (n : ℕ) → SameRun (core_meaning counted.now.core counted.now.pins input n) (code_meaning code input n)) }
-    ensures tested { IfOk result (λ code. (fits : List Event → Event → Bool) (refused : Event → Ending) (input : List ℕ) (n : ℕ) → SameRun (tested_core counted.now.core counted.now.pins fits refused input n) (tested_code code fits refused input n)) }
+    ensures means { IfOk result (λ code. (input : List ℕ) (n heap : ℕ) → SameRun (core_meaning counted.now.core counted.now.pins input n heap) (code_meaning code input n heap)) }
+    ensures tested { IfOk result (λ code. (fits : List Event → Event → Bool) (refused : Event → Ending) (input : List ℕ) (n heap : ℕ) → SameRun (tested_core counted.now.core counted.now.pins fits refused input n heap) (tested_code code fits refused input n heap)) }
 {
     codes_are_well_formed();
     code_means_core();

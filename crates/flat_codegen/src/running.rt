@@ -21,8 +21,8 @@ use flat_machine::Machine;
 use hs_base::{End, Sink, Source};
 
 /// Runs the code of a core that is sound and has exact pins, with at most so many steps (C99 5.1.2.3, with limits of this project's
-/// own). Where input and output are told, it writes exactly the bytes that the core writes before its first event for which
-/// the heap or the stack has no room, takes exactly the bytes that it reads, and answers its end, or that of that event. All
+/// own). Where input and output are told, it writes exactly the bytes that the core writes in the machine's heap before its
+/// first call for which the stack has no room, takes exactly the bytes that it reads, and answers its end, or that of that call. All
 /// output is put before a byte of input is asked for and before the run ends. It ends by a fault of the input or the output
 /// exactly where that object failed in this call. [`Machine::steps_made`] tells how many steps it made: `budget` less those that
 /// are left in the last state of the core's run, cut so. At every other end the image of the machine agrees with that state, but for

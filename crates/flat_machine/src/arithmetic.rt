@@ -1,6 +1,6 @@
 //! Instructions that work on integers and registers (C99 6.3.1.3, 6.5.3.3, 6.5.5 to 6.5.14).
 
-ghost use Rattle.std.specs.Prelude.{◌≡◌, ◌+◌, ◌<◌, ◌^◌, ℕ, IfErr, not, nat_eq};
+ghost use Rattle.std.specs.Prelude.{◌≡◌, ◌+◌, ◌<◌, ◌^◌, ℕ, Bool, IfErr, not, nat_eq};
 ghost use Rattle.object_meaning.specs.Arithmetic.{on_two, is_zero};
 ghost use Rattle.flat_code.specs.declared.program.Code.{Code as Program};
 ghost use Rattle.code_meaning.specs.CodeState.{CodeState};
@@ -61,7 +61,7 @@ impl State {
     /// A register takes the result of an operation on two integers.
     fn operate(&mut self, line: Line, instr: Instr, op: BinOp, kind: IntKind) -> Result<(), End>
         requires { self.old.calls.running.point + 1 < 2 ^ 64 }
-        ensures alone { (code : Program) (places : ℕ → ℕ) (c : CodeState) → Stands places c self.old → Alone places c self.old (act code line instr (Op.Bin op kind) c.handed c.numbers c.state) self.new result }
+        ensures alone { (code : Program) (fits : ℕ → Bool) (places : ℕ → ℕ) (c : CodeState) → Stands places c self.old → Alone places c self.old (act code fits line instr (Op.Bin op kind) c.handed c.numbers c.state) self.new result }
         ensures unchanged { IfErr result (λ _. self.new ≡ self.old) }
     {
         match on_two(op, kind, self.integer(0), self.integer(1)) {
@@ -77,7 +77,7 @@ impl State {
     pub(crate) fn act_values(&mut self, line: Line, instr: Instr, op: Op) -> Result<(), End>
         requires point { self.old.calls.running.point + 1 < 2 ^ 64 }
         requires values { IsValues op }
-        ensures alone { (code : Program) (places : ℕ → ℕ) (c : CodeState) → Stands places c self.old → Alone places c self.old (act code line instr op c.handed c.numbers c.state) self.new result }
+        ensures alone { (code : Program) (fits : ℕ → Bool) (places : ℕ → ℕ) (c : CodeState) → Stands places c self.old → Alone places c self.old (act code fits line instr op c.handed c.numbers c.state) self.new result }
         ensures unchanged { IfErr result (λ _. self.new ≡ self.old) }
     {
         match op {

@@ -1,6 +1,6 @@
 //! Calls and returns (C99 6.5.2.2, 6.8.6.4).
 
-ghost use Rattle.std.specs.Prelude.{◌≡◌, ◌+◌, ◌<◌, ◌^◌, ℕ, All, IfErr, IsSome, Some, slice_get};
+ghost use Rattle.std.specs.Prelude.{◌≡◌, ◌+◌, ◌<◌, ◌^◌, ℕ, Bool, All, IfErr, IsSome, Some, slice_get};
 ghost use Rattle.hs_base.specs.declared.values.Value.{Value};
 ghost use Rattle.object_meaning.specs.Builtins.{byte_in};
 ghost use Rattle.flat_code.specs.Table.{chosen};
@@ -52,8 +52,8 @@ impl State {
         requires here { slice_get code.now.funcs instr.b ≡ Some callee.now }
         requires may { MayCall code.now instr self.old }
         requires standing { IsStanding self.old }
-        ensures alone { (places : ℕ → ℕ) (c : CodeState) → Stands places c self.old → CountsWell self.old c → Alone places c self.old (act code.now line instr Op.Call c.handed c.numbers c.state) self.new result }
-        ensures image { (places : ℕ → ℕ) (c : CodeState) → HasPins code.now self.old.pins → Stands places c self.old → CountsWell self.old c → IfErr result (StopsIn code.now (act code.now line instr Op.Call c.handed c.numbers c.state) self.new) }
+        ensures alone { (fits : ℕ → Bool) (places : ℕ → ℕ) (c : CodeState) → Stands places c self.old → CountsWell self.old c → Alone places c self.old (act code.now fits line instr Op.Call c.handed c.numbers c.state) self.new result }
+        ensures image { (fits : ℕ → Bool) (places : ℕ → ℕ) (c : CodeState) → HasPins code.now self.old.pins → Stands places c self.old → CountsWell self.old c → IfErr result (StopsIn code.now (act code.now fits line instr Op.Call c.handed c.numbers c.state) self.new) }
     {
         if !self.take_step() {
             return Err(End::Spent);

@@ -1,7 +1,7 @@
 //! Instructions that free objects, and the scopes in which a free waits (this project's own: C99 7.20.3.2 leaves a pointer to a
 //! freed object indeterminate).
 
-ghost use Rattle.std.specs.Prelude.{◌≡◌, ◌+◌, ◌-◌, ◌<◌, ◌^◌, [], ℕ, IfErr};
+ghost use Rattle.std.specs.Prelude.{◌≡◌, ◌+◌, ◌-◌, ◌<◌, ◌^◌, [], ℕ, Bool, IfErr};
 ghost use Rattle.hs_base.specs.declared.ends.End.TheVariants as end;
 ghost use Rattle.hs_base.specs.State.{State as Situation};
 ghost use Rattle.flat_code.specs.declared.program.Code.{Code as Program};
@@ -130,8 +130,8 @@ impl State {
         requires deep { self.old.memory.scopes.depth < 2 ^ 64 - 1 }
         requires open { op ≡ ops.Leave → 0 < self.old.memory.scopes.depth }
         requires standing { IsStanding self.old }
-        ensures alone { (code : Program) (places : ℕ → ℕ) (c : CodeState) → HasPins code self.old.pins → Stands places c self.old → CountsWell self.old c → Alone places c self.old (act code line instr op c.handed c.numbers c.state) self.new result }
-        ensures image { (code : Program) (places : ℕ → ℕ) (c : CodeState) → HasPins code self.old.pins → Stands places c self.old → CountsWell self.old c → IfErr result (StopsIn code (act code line instr op c.handed c.numbers c.state) self.new) }
+        ensures alone { (code : Program) (fits : ℕ → Bool) (places : ℕ → ℕ) (c : CodeState) → HasPins code self.old.pins → Stands places c self.old → CountsWell self.old c → Alone places c self.old (act code fits line instr op c.handed c.numbers c.state) self.new result }
+        ensures image { (code : Program) (fits : ℕ → Bool) (places : ℕ → ℕ) (c : CodeState) → HasPins code self.old.pins → Stands places c self.old → CountsWell self.old c → IfErr result (StopsIn code (act code fits line instr op c.handed c.numbers c.state) self.new) }
     {
         match op {
             Op::Free => self.free(line, self.address(0)),

@@ -11,7 +11,7 @@ ghost use Rattle.code_meaning.specs.CodeMeaning.{act};
 ghost use Rattle.code_meaning.specs.Entering.{layout_in};
 ghost use Rattle.code_meaning.specs.Freeing.{grow};
 ghost use Rattle.flat_machine.specs.Words.{address_at};
-ghost use Rattle.flat_machine.specs.Standing.{Stands};
+ghost use Rattle.flat_machine.specs.Standing.{Stands, fits_now};
 ghost use Rattle.flat_machine.specs.Pinning.{CountsWell};
 ghost use Rattle.flat_machine.specs.Loaded.{HasPins};
 ghost use Rattle.flat_machine.specs.Growing.{IsBefore, without_register};
@@ -27,7 +27,8 @@ use hs_base::{BadFree, End, Line};
 impl State {
     /// Grows the object at an address that is not null. A new object of another size takes the first bytes of the old one, as
     /// many as both have, and a register its address; then the old object is freed, in a scope of its own where none is open.
-    /// The pointers that count in that check are those behind the instruction, with the new address.
+    /// The pointers that count in that check are those behind the instruction, with the new address. Where the heap has no place
+    /// for the new object the register takes null, and the old object stays as it was.
     fn grow_object(&mut self, line: Line, instr: Instr, size: u64, from: u32) -> Result<(), End>
         requires point { self.old.calls.running.point + 1 < 2 ^ 64 }
         requires births { self.old.births + 1 < 2 ^ 64 }
@@ -35,14 +36,15 @@ impl State {
         requires standing { IsBefore instr ops.Realloc self.old }
         requires address { from ≡ address_at self.old.handed 0 }
         requires some { 0 < from }
-        ensures alone { (code : Program) (element : Layout) (places : ℕ → ℕ) (c : CodeState) → HasPins code self.old.pins → Stands places c self.old → CountsWell self.old (without_register instr.a c) → slice_get self.old.memory.forms instr.b ≡ Some (element_of element) → Alone places c self.old (grow code line instr.a (pointer_at c.handed 0) size element c.numbers c.state) self.new result }
-        ensures image { (code : Program) (element : Layout) (places : ℕ → ℕ) (c : CodeState) → HasPins code self.old.pins → Stands places c self.old → CountsWell self.old (without_register instr.a c) → slice_get self.old.memory.forms instr.b ≡ Some (element_of element) → IfErr result (StopsIn code (grow code line instr.a (pointer_at c.handed 0) size element c.numbers c.state) self.new) }
+        ensures alone { (code : Program) (element : Layout) (places : ℕ → ℕ) (c : CodeState) → HasPins code self.old.pins → Stands places c self.old → CountsWell self.old (without_register instr.a c) → slice_get self.old.memory.forms instr.b ≡ Some (element_of element) → Alone places c self.old (grow code (fits_now places c self.old) line instr.a (pointer_at c.handed 0) size element c.numbers c.state) self.new result }
+        ensures image { (code : Program) (element : Layout) (places : ℕ → ℕ) (c : CodeState) → HasPins code self.old.pins → Stands places c self.old → CountsWell self.old (without_register instr.a c) → slice_get self.old.memory.forms instr.b ≡ Some (element_of element) → IfErr result (StopsIn code (grow code (fits_now places c self.old) line instr.a (pointer_at c.handed 0) size element c.numbers c.state) self.new) }
     {
         if let Err(reason) = self.may_free(from) {
             return Err(End::BadFree(BadFree { reason, line }, None));
         }
         let Some(to) = self.new_object(size, instr.b, line) else {
-            return Err(End::OutOfHeap(line));
+            self.give(Some(instr.a), Word::Address(0));
+            return Ok(());
         };
         if let Err(kind) = self.grow(to, from) {
             return Err(End::Trap(kind, line));
@@ -59,13 +61,14 @@ impl State {
         requires births { self.old.births + 1 < 2 ^ 64 }
         requires form { (element : Layout) × (slice_get self.old.memory.forms instr.b ≡ Some (element_of element)) }
         requires standing { IsBefore instr ops.Realloc self.old }
-        ensures alone { (code : Program) (places : ℕ → ℕ) (c : CodeState) → HasPins code self.old.pins → Stands places c self.old → CountsWell self.old (without_register instr.a c) → slice_get self.old.memory.forms instr.b ≡ Some (element_of (layout_in code instr.b)) → Alone places c self.old (act code line instr ops.Realloc c.handed c.numbers c.state) self.new result }
-        ensures image { (code : Program) (places : ℕ → ℕ) (c : CodeState) → HasPins code self.old.pins → Stands places c self.old → CountsWell self.old (without_register instr.a c) → slice_get self.old.memory.forms instr.b ≡ Some (element_of (layout_in code instr.b)) → IfErr result (StopsIn code (act code line instr ops.Realloc c.handed c.numbers c.state) self.new) }
+        ensures alone { (code : Program) (places : ℕ → ℕ) (c : CodeState) → HasPins code self.old.pins → Stands places c self.old → CountsWell self.old (without_register instr.a c) → slice_get self.old.memory.forms instr.b ≡ Some (element_of (layout_in code instr.b)) → Alone places c self.old (act code (fits_now places c self.old) line instr ops.Realloc c.handed c.numbers c.state) self.new result }
+        ensures image { (code : Program) (places : ℕ → ℕ) (c : CodeState) → HasPins code self.old.pins → Stands places c self.old → CountsWell self.old (without_register instr.a c) → slice_get self.old.memory.forms instr.b ≡ Some (element_of (layout_in code instr.b)) → IfErr result (StopsIn code (act code (fits_now places c self.old) line instr ops.Realloc c.handed c.numbers c.state) self.new) }
     {
         let size = size_in(self.integer(1));
         let from = self.address(0);
         if from == 0 {
-            self.make(line, instr.a, size, instr.b)
+            self.make(line, instr.a, size, instr.b);
+            Ok(())
         } else {
             self.grow_object(line, instr, size, from)
         }

@@ -1,6 +1,6 @@
 //! Instructions that hand a value over.
 
-ghost use Rattle.std.specs.Prelude.{◌≡◌, ◌+◌, ◌<◌, ◌^◌, ℕ, length};
+ghost use Rattle.std.specs.Prelude.{◌≡◌, ◌+◌, ◌<◌, ◌^◌, ℕ, Bool, length};
 ghost use Rattle.flat_code.specs.declared.program.Code.{Code as Program};
 ghost use Rattle.flat_code.specs.declared.instructions.Op.TheVariants as ops;
 ghost use Rattle.code_meaning.specs.CodeState.{CodeState};
@@ -28,7 +28,7 @@ impl State {
         requires handing { IsHanding op }
         requires here { op ≡ ops.HandStatic → instr.a < length self.old.statics }
         requires local { op ≡ ops.HandLocal → instr.a < length self.old.calls.running.locals }
-        ensures { (code : Program) (line : ℕ) (places : ℕ → ℕ) (c : CodeState) → Stands places c self.old → HandsFresh instr op c → Alone places c self.old (hand_or_act code line instr (handed_value c.state.running instr op) c) self.new (Ok tt) }
+        ensures { (code : Program) (fits : ℕ → Bool) (line : ℕ) (places : ℕ → ℕ) (c : CodeState) → Stands places c self.old → HandsFresh instr op c → Alone places c self.old (hand_or_act code fits line instr (handed_value c.state.running instr op) c) self.new (Ok tt) }
     {
         match op {
             Op::HandReg => {

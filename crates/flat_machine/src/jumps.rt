@@ -1,6 +1,6 @@
 //! Instructions that go to another instruction of the same function (C99 6.8.4, 6.8.5).
 
-ghost use Rattle.std.specs.Prelude.{◌≡◌, ◌+◌, ◌<◌, ◌^◌, ℕ, IfErr};
+ghost use Rattle.std.specs.Prelude.{◌≡◌, ◌+◌, ◌<◌, ◌^◌, ℕ, Bool, IfErr};
 ghost use Rattle.flat_code.specs.declared.program.Code.{Code as Program};
 ghost use Rattle.code_meaning.specs.CodeState.{CodeState};
 ghost use Rattle.code_meaning.specs.CodeMeaning.{act};
@@ -33,7 +33,7 @@ impl State {
     pub(crate) fn act_jump(&mut self, line: Line, instr: Instr, op: Op) -> Result<(), End>
         requires point { self.old.calls.running.point + 1 < 2 ^ 64 }
         requires jump { IsJump op }
-        ensures alone { (code : Program) (places : ℕ → ℕ) (c : CodeState) → Stands places c self.old → Alone places c self.old (act code line instr op c.handed c.numbers c.state) self.new result }
+        ensures alone { (code : Program) (fits : ℕ → Bool) (places : ℕ → ℕ) (c : CodeState) → Stands places c self.old → Alone places c self.old (act code fits line instr op c.handed c.numbers c.state) self.new result }
         ensures unchanged { IfErr result (λ _. self.new ≡ self.old) }
     {
         match op {

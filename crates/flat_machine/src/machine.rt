@@ -51,12 +51,12 @@ impl Machine {
     }
 
     /// Runs the code that was loaded, with at most so many steps. Where input and output are told, it writes exactly the
-    /// bytes that the meaning of code writes before its first call that does not fit the stack or its first object that has no
-    /// place in the heap, takes exactly the bytes that it reads, and answers its end, or the line of that call or object. It
-    /// ends by a fault of the input or the output exactly where that object failed in this call. [`Machine::steps_made`] tells
-    /// how many steps it made. At every other end the image of the machine agrees with the last state of the meaning, which for
-    /// a call that does not fit and an object that has no place is the one before it: objects with their bytes, pointers and
-    /// headers, the queue and the open scopes, the calls with their registers, each at its instruction, births and steps; and
+    /// bytes that the meaning of code writes in a heap of this size before its first call that does not fit the stack, takes
+    /// exactly the bytes that it reads, and answers its end, or the line of that call. An instruction that makes an object gives
+    /// null where first fit finds no place for it (C99 7.20.3). The run ends by a fault of the input or the output exactly where
+    /// that object failed in this call. [`Machine::steps_made`] tells how many steps it made. At every other end the image of
+    /// the machine agrees with the last state of the meaning, which for a call that does not fit is the one before it: objects
+    /// with their bytes, pointers and headers, the queue and the open scopes, the calls with their registers, each at its instruction, births and steps; and
     /// the counts are the numbers of that state, unless the end is a bad free or an escape. Of what is left then
     /// [`Machine::leak`] tells. A machine that has ended answers the same end again, and touches nothing.
     pub fn run<I: Source, O: Sink>(

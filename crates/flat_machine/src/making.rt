@@ -1,6 +1,6 @@
 //! Instructions that make objects of the heap (C99 7.20.3.1, 7.20.3.3).
 
-ghost use Rattle.std.specs.Prelude.{◌≡◌, ◌+◌, ◌<◌, ◌^◌, ℕ, IfErr, Some, slice_get};
+ghost use Rattle.std.specs.Prelude.{◌≡◌, ◌+◌, ◌<◌, ◌^◌, ℕ, Ok, Some, slice_get};
 ghost use Rattle.c_types.specs.declared.layouts.Layout.{Layout};
 ghost use Rattle.adjusters.specs.ObjectSlots.{element_of};
 ghost use Rattle.flat_code.specs.declared.program.Code.{Code as Program};
@@ -9,14 +9,14 @@ ghost use Rattle.object_meaning.specs.Heap.{make};
 ghost use Rattle.code_meaning.specs.CodeState.{CodeState, same_numbers};
 ghost use Rattle.code_meaning.specs.Entering.{layout_in};
 ghost use Rattle.code_meaning.specs.CodeMeaning.{act};
-ghost use Rattle.flat_machine.specs.Standing.{Stands};
+ghost use Rattle.flat_machine.specs.Standing.{Stands, fits_now};
 ghost use Rattle.flat_machine.specs.Groups.{IsMaking};
 ghost use Rattle.flat_machine.specs.Leading.{Alone};
 
 use crate::state::State;
 use flat_code::{Instr, Op};
 use flat_objects::Word;
-use hs_base::{End, Line};
+use hs_base::Line;
 
 /// A number converted to `size_t`.
 pub(crate) fn size_in(n: i128) -> u64
@@ -27,29 +27,24 @@ pub(crate) fn size_in(n: i128) -> u64
 }
 
 impl State {
-    /// Makes an object of so many bytes; a register takes its address. The run ends where the heap has no place for it.
-    pub(crate) fn make(&mut self, line: Line, r: u32, size: u64, layout: u32) -> Result<(), End>
+    /// Makes an object of so many bytes; a register takes its address, or null where the heap has no place for it.
+    pub(crate) fn make(&mut self, line: Line, r: u32, size: u64, layout: u32)
         requires point { self.old.calls.running.point + 1 < 2 ^ 64 }
         requires births { self.old.births + 1 < 2 ^ 64 }
-        ensures alone { (element : Layout) (places : ℕ → ℕ) (c : CodeState) → Stands places c self.old → slice_get self.old.memory.forms layout ≡ Some (element_of element) → Alone places c self.old (same_numbers c.numbers (make line r size element c.state)) self.new result }
-        ensures unchanged { IfErr result (λ _. self.new ≡ self.old) }
+        ensures { (element : Layout) (places : ℕ → ℕ) (c : CodeState) → Stands places c self.old → slice_get self.old.memory.forms layout ≡ Some (element_of element) → Alone places c self.old (same_numbers c.numbers (make (fits_now places c self.old) line r size element c.state)) self.new (Ok tt) }
     {
         match self.new_object(size, layout, line) {
-            Some(addr) => {
-                self.give(Some(r), Word::Address(addr));
-                Ok(())
-            }
-            None => Err(End::OutOfHeap(line)),
+            Some(addr) => self.give(Some(r), Word::Address(addr)),
+            None => self.give(Some(r), Word::Address(0)),
         }
     }
 
     /// An instruction that makes an object: all its bytes are zero, and its pointers are null.
-    pub(crate) fn act_making(&mut self, line: Line, instr: Instr, op: Op) -> Result<(), End>
+    pub(crate) fn act_making(&mut self, line: Line, instr: Instr, op: Op)
         requires point { self.old.calls.running.point + 1 < 2 ^ 64 }
         requires making { IsMaking op }
         requires births { self.old.births + 1 < 2 ^ 64 }
-        ensures alone { (code : Program) (places : ℕ → ℕ) (c : CodeState) → Stands places c self.old → slice_get self.old.memory.forms instr.b ≡ Some (element_of (layout_in code instr.b)) → Alone places c self.old (act code line instr op c.handed c.numbers c.state) self.new result }
-        ensures unchanged { IfErr result (λ _. self.new ≡ self.old) }
+        ensures { (code : Program) (places : ℕ → ℕ) (c : CodeState) → Stands places c self.old → slice_get self.old.memory.forms instr.b ≡ Some (element_of (layout_in code instr.b)) → Alone places c self.old (act code (fits_now places c self.old) line instr op c.handed c.numbers c.state) self.new (Ok tt) }
     {
         let size = size_in(self.integer(0));
         match op {

@@ -1,6 +1,6 @@
 //! Instructions that read and write objects (C99 6.5.3.2, 6.5.16).
 
-ghost use Rattle.std.specs.Prelude.{◌≡◌, ◌+◌, ◌<◌, ◌^◌, ℕ, IfErr};
+ghost use Rattle.std.specs.Prelude.{◌≡◌, ◌+◌, ◌<◌, ◌^◌, ℕ, Bool, IfErr};
 ghost use Rattle.flat_code.specs.declared.program.Code.{Code as Program};
 ghost use Rattle.flat_code.specs.declared.instructions.Op.TheVariants as ops;
 ghost use Rattle.flat_objects.specs.Keeping.{IsKept};
@@ -24,7 +24,7 @@ impl State {
         requires memory { IsMemory op }
         requires kept { IsKept self.old.memory (address_at self.old.handed 0) }
         requires stores { op ≡ ops.Storep → IsStorable self.old.memory (address_at self.old.handed 0) (address_at self.old.handed 1) }
-        ensures alone { (code : Program) (places : ℕ → ℕ) (c : CodeState) → Stands places c self.old → Alone places c self.old (act code line instr op c.handed c.numbers c.state) self.new result }
+        ensures alone { (code : Program) (fits : ℕ → Bool) (places : ℕ → ℕ) (c : CodeState) → Stands places c self.old → Alone places c self.old (act code fits line instr op c.handed c.numbers c.state) self.new result }
         ensures unchanged { IfErr result (λ _. self.new ≡ self.old) }
     {
         let addr = self.address(0);

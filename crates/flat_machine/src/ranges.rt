@@ -1,6 +1,6 @@
 //! Instructions on ranges of bytes (C99 6.5.16.1, 6.7.8, 7.21.2.1, 7.21.2.2, 7.21.6.1).
 
-ghost use Rattle.std.specs.Prelude.{◌≡◌, ◌+◌, ◌<◌, ◌^◌, ℕ, List, All, IfErr, Some};
+ghost use Rattle.std.specs.Prelude.{◌≡◌, ◌+◌, ◌<◌, ◌^◌, ℕ, Bool, List, All, IfErr, Some};
 ghost use Rattle.core_tree.specs.declared.statements.LibName.TheVariants as libs;
 ghost use Rattle.flat_code.specs.declared.program.Code.{Code as Program};
 ghost use Rattle.flat_code.specs.declared.instructions.Instr.{Instr};
@@ -41,7 +41,7 @@ impl State {
         requires point { self.old.calls.running.point + 1 < 2 ^ 64 }
         requires storable { IsStorable self.old.memory (address_at self.old.handed 0) (address_at self.old.handed 1) }
         requires small { bytes_in (integer_at self.old.handed 2) < 2 ^ 64 }
-        ensures alone { (code : Program) (instr : Instr) (places : ℕ → ℕ) (c : CodeState) → Stands places c self.old → Alone places c self.old (act code line instr ops.Copy c.handed c.numbers c.state) self.new result }
+        ensures alone { (code : Program) (fits : ℕ → Bool) (instr : Instr) (places : ℕ → ℕ) (c : CodeState) → Stands places c self.old → Alone places c self.old (act code fits line instr ops.Copy c.handed c.numbers c.state) self.new result }
         ensures unchanged { IfErr result (λ _. self.new ≡ self.old) }
     {
         let to = self.address(0);
@@ -61,7 +61,7 @@ impl State {
         requires point { self.old.calls.running.point + 1 < 2 ^ 64 }
         requires settable { IsSettable self.old.memory (address_at self.old.handed 0) }
         requires small { bytes_in (integer_at self.old.handed 1) < 2 ^ 64 }
-        ensures alone { (code : Program) (instr : Instr) (places : ℕ → ℕ) (c : CodeState) → Stands places c self.old → Alone places c self.old (act code line instr ops.Clear c.handed c.numbers c.state) self.new result }
+        ensures alone { (code : Program) (fits : ℕ → Bool) (instr : Instr) (places : ℕ → ℕ) (c : CodeState) → Stands places c self.old → Alone places c self.old (act code fits line instr ops.Clear c.handed c.numbers c.state) self.new result }
         ensures unchanged { IfErr result (λ _. self.new ≡ self.old) }
     {
         let start = self.address(0);
@@ -82,7 +82,7 @@ impl State {
         requires storable { IsStorable self.old.memory (address_at self.old.handed 0) (address_at self.old.handed 1) }
         requires settable { IsSettable self.old.memory (address_at self.old.handed 0) }
         requires small { (k : ℕ) → bytes_in (integer_at self.old.handed k) < 2 ^ 64 }
-        ensures alone { (code : Program) (instr : Instr) (places : ℕ → ℕ) (c : CodeState) → Stands places c self.old → Alone places c self.old (act code line instr op c.handed c.numbers c.state) self.new result }
+        ensures alone { (code : Program) (fits : ℕ → Bool) (instr : Instr) (places : ℕ → ℕ) (c : CodeState) → Stands places c self.old → Alone places c self.old (act code fits line instr op c.handed c.numbers c.state) self.new result }
         ensures unchanged { IfErr result (λ _. self.new ≡ self.old) }
     {
         match op {

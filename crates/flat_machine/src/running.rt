@@ -1,7 +1,7 @@
 //! Runs: one instruction after another, until the end.
 
 ghost use Rattle.std.specs.Prelude.{◌≡◌, ◌+◌, ◌-◌, ◌<◌, ◌≤◌, ◌^◌, ℕ, List, IfOk, IfErr, Some};
-ghost use Rattle.hs_base.specs.Cut.{Room};
+ghost use Rattle.hs_base.specs.declared.ends.Limits.{Limits};
 ghost use Rattle.flat_code.specs.WellFormed.{IsWellFormed};
 ghost use Rattle.code_soundness.specs.Laws.{HoldsBytes};
 ghost use Rattle.flat_machine.specs.Loaded.{IsLoaded};
@@ -31,9 +31,9 @@ pub(crate) fn end_of_run<I: Source, O: Sink>(
     requires well { IsWell code.now state.old }
     requires input { I.faults input.old + 1 < 2 ^ 64 }
     requires out { O.faults out.old + 1 < 2 ^ 64 }
-    ensures told { (left : List ℕ) (n : ℕ) (room : Room) (taken : List ℕ) → state.old.calls.room ≡ room.stack → Reached code.now left n room taken state.old (I.left input.old) (O.taken out.old) → RunAnswers code.now left n room taken result (I.left input.new) (O.taken out.new) }
+    ensures told { (left : List ℕ) (n : ℕ) (limits : Limits) (taken : List ℕ) → state.old.calls.room ≡ limits.stack → Reached code.now left n limits taken state.old (I.left input.old) (O.taken out.old) → RunAnswers code.now left n limits taken result (I.left input.new) (O.taken out.new) }
     ensures kept { KeepsSome state.new.memory }
-    ensures left { (left : List ℕ) (n : ℕ) (room : Room) (taken : List ℕ) → state.old.calls.room ≡ room.stack → Reached code.now left n room taken state.old (I.left input.old) (O.taken out.old) → LeavesImage code.now left n room result state.new }
+    ensures left { (left : List ℕ) (n : ℕ) (limits : Limits) (taken : List ℕ) → state.old.calls.room ≡ limits.stack → Reached code.now left n limits taken state.old (I.left input.old) (O.taken out.old) → LeavesImage code.now left n limits result state.new }
     ensures faults { RunCounts result (I.faults input.old) (I.faults input.new) (O.faults out.old) (O.faults out.new) }
 {
     step_stays_good();
@@ -55,9 +55,9 @@ fn begin(state: &mut State, code: &Code, loaded: &Loaded, stack: u32) -> Result<
     requires budget { state.old.steps ≤ 1000000000 }
     ensures well { IfOk result (λ _. IsWell code.now state.new) }
     ensures room { IfOk result (λ _. state.new.calls.room ≡ stack) }
-    ensures reaches { IfOk result (λ _. (input : List ℕ) (n : ℕ) (room : Room) (taken : List ℕ) → n ≡ state.old.steps → room.stack ≡ stack → room.heap ≡ state.old.memory.heap.len → Reached code.now input n room taken state.new (Some input) (Some taken)) }
-    ensures ends { IfErr result (λ e. (input : List ℕ) (n : ℕ) (room : Room) (taken : List ℕ) → n ≡ state.old.steps → room.stack ≡ stack → RunAnswers code.now input n room taken e (Some input) (Some taken)) }
-    ensures left { IfErr result (λ e. (input : List ℕ) (n : ℕ) (room : Room) → n ≡ state.old.steps → room.stack ≡ stack → LeavesImage code.now input n room e state.new) }
+    ensures reaches { IfOk result (λ _. (input : List ℕ) (n : ℕ) (limits : Limits) (taken : List ℕ) → n ≡ state.old.steps → limits.stack ≡ stack → limits.heap ≡ state.old.memory.heap.len → Reached code.now input n limits taken state.new (Some input) (Some taken)) }
+    ensures ends { IfErr result (λ e. (input : List ℕ) (n : ℕ) (limits : Limits) (taken : List ℕ) → n ≡ state.old.steps → limits.stack ≡ stack → RunAnswers code.now input n limits taken e (Some input) (Some taken)) }
+    ensures left { IfErr result (λ e. (input : List ℕ) (n : ℕ) (limits : Limits) → n ≡ state.old.steps → limits.stack ≡ stack → LeavesImage code.now input n limits e state.new) }
     ensures faults { IfErr result (λ e. (i o : ℕ) → RunCounts e i i o o) }
     ensures kept { IfErr result (λ _. KeepsSome state.new.memory) }
 {
@@ -100,9 +100,9 @@ pub(crate) fn whole_run<I: Source, O: Sink>(
     requires budget { state.old.steps ≤ 1000000000 }
     requires input { I.faults input.old + 1 < 2 ^ 64 }
     requires out { O.faults out.old + 1 < 2 ^ 64 }
-    ensures told { (left : List ℕ) (n : ℕ) (room : Room) (taken : List ℕ) → n ≡ state.old.steps → room.stack ≡ stack → room.heap ≡ state.old.memory.heap.len → I.left input.old ≡ Some left → O.taken out.old ≡ Some taken → RunAnswers code.now left n room taken result (I.left input.new) (O.taken out.new) }
+    ensures told { (left : List ℕ) (n : ℕ) (limits : Limits) (taken : List ℕ) → n ≡ state.old.steps → limits.stack ≡ stack → limits.heap ≡ state.old.memory.heap.len → I.left input.old ≡ Some left → O.taken out.old ≡ Some taken → RunAnswers code.now left n limits taken result (I.left input.new) (O.taken out.new) }
     ensures kept { KeepsSome state.new.memory }
-    ensures left { (left : List ℕ) (n : ℕ) (room : Room) (taken : List ℕ) → n ≡ state.old.steps → room.stack ≡ stack → room.heap ≡ state.old.memory.heap.len → I.left input.old ≡ Some left → O.taken out.old ≡ Some taken → LeavesImage code.now left n room result state.new }
+    ensures left { (left : List ℕ) (n : ℕ) (limits : Limits) (taken : List ℕ) → n ≡ state.old.steps → limits.stack ≡ stack → limits.heap ≡ state.old.memory.heap.len → I.left input.old ≡ Some left → O.taken out.old ≡ Some taken → LeavesImage code.now left n limits result state.new }
     ensures faults { RunCounts result (I.faults input.old) (I.faults input.new) (O.faults out.old) (O.faults out.new) }
 {
     match begin(state, code, loaded, stack) {

@@ -1,7 +1,6 @@
 //! One instruction.
 
-ghost use Rattle.std.specs.Prelude.{◌≡◌, ◌+◌, ◌-◌, ◌<◌, ◌<ℤ◌, ◌≤◌, ◌^◌, [], ℕ, pos, List, All, IfErr, IfOk, Some, map, length, slice_get, slice_index, slice_index_or};
-ghost use Rattle.hs_base.specs.Trace.{Event};
+ghost use Rattle.std.specs.Prelude.{◌≡◌, ◌+◌, ◌-◌, ◌<◌, ◌<ℤ◌, ◌≤◌, ◌^◌, [], ℕ, Bool, pos, List, All, IfErr, IfOk, Some, map, length, slice_get, slice_index, slice_index_or};
 ghost use Rattle.c_print.specs.Format.{IsGiven};
 ghost use Rattle.c_print.specs.Pieces.{pieces_of};
 ghost use Rattle.flat_code.specs.WellFormed.{IsWellFormed};
@@ -10,10 +9,10 @@ ghost use Rattle.flat_objects.specs.Keeping.{IsKept};
 ghost use Rattle.object_meaning.specs.Values.{bytes_in};
 ghost use Rattle.meaning_run.specs.Leading.{with_input};
 ghost use Rattle.code_meaning.specs.CodeState.{CodeState};
-ghost use Rattle.code_meaning.specs.CodeMeaning.{handed_value, hand_or_act, step};
+ghost use Rattle.code_meaning.specs.CodeMeaning.{handed_value, hand_or_act, step_by};
 ghost use Rattle.code_soundness.specs.Objects.{IsByte};
 ghost use Rattle.flat_machine.specs.Words.{address_at, no_word, integer_at};
-ghost use Rattle.flat_machine.specs.Standing.{Stands};
+ghost use Rattle.flat_machine.specs.Standing.{Stands, fits_now};
 ghost use Rattle.flat_machine.specs.Groups.{IsHanding, IsValues, IsJump, IsMemory, IsPointers, IsMaking, IsRanges, IsAlone};
 ghost use Rattle.flat_machine.specs.Growing.{IsBefore, about_to_write};
 ghost use Rattle.flat_machine.specs.Loaded.{HasPins, IsLoaded};
@@ -56,8 +55,8 @@ fn call(
     requires loaded { IsLoaded code.now loaded.now }
     requires may { MayCall code.now instr state.old }
     requires standing { IsStanding state.old }
-    ensures alone { (places : ℕ → ℕ) (c : CodeState) → Stands places c state.old → CountsWell state.old c → instr.op ≡ ops.Call → Alone places c state.old (hand_or_act code.now line instr (handed_value c.state.running instr ops.Call) c) state.new result }
-    ensures image { (places : ℕ → ℕ) (c : CodeState) → HasPins code.now state.old.pins → Stands places c state.old → CountsWell state.old c → instr.op ≡ ops.Call → IfErr result (StopsIn code.now (hand_or_act code.now line instr (handed_value c.state.running instr ops.Call) c) state.new) }
+    ensures alone { (fits : ℕ → Bool) (places : ℕ → ℕ) (c : CodeState) → Stands places c state.old → CountsWell state.old c → instr.op ≡ ops.Call → Alone places c state.old (hand_or_act code.now fits line instr (handed_value c.state.running instr ops.Call) c) state.new result }
+    ensures image { (fits : ℕ → Bool) (places : ℕ → ℕ) (c : CodeState) → HasPins code.now state.old.pins → Stands places c state.old → CountsWell state.old c → instr.op ≡ ops.Call → IfErr result (StopsIn code.now (hand_or_act code.now fits line instr (handed_value c.state.running instr ops.Call) c) state.new) }
 {
     let f = instr.b as usize;
     let Some(callee) = code.funcs.get(f) else {
@@ -98,8 +97,8 @@ fn act_alone(
     requires pins { HasPins code.now state.old.pins }
     requires deep { state.old.memory.scopes.depth < 2 ^ 64 - 1 }
     requires open { op ≡ ops.Leave → 0 < state.old.memory.scopes.depth }
-    ensures alone { (places : ℕ → ℕ) (c : CodeState) → Stands places c state.old → CountsWell state.old (about_to_write instr op c) → HandsFresh instr op c → instr.op ≡ op → Alone places c state.old (hand_or_act code.now line instr (handed_value c.state.running instr op) c) state.new result }
-    ensures image { (places : ℕ → ℕ) (c : CodeState) → Stands places c state.old → CountsWell state.old (about_to_write instr op c) → HandsFresh instr op c → instr.op ≡ op → IfErr result (StopsIn code.now (hand_or_act code.now line instr (handed_value c.state.running instr op) c) state.new) }
+    ensures alone { (places : ℕ → ℕ) (c : CodeState) → Stands places c state.old → CountsWell state.old (about_to_write instr op c) → HandsFresh instr op c → instr.op ≡ op → Alone places c state.old (hand_or_act code.now (fits_now places c state.old) line instr (handed_value c.state.running instr op) c) state.new result }
+    ensures image { (places : ℕ → ℕ) (c : CodeState) → Stands places c state.old → CountsWell state.old (about_to_write instr op c) → HandsFresh instr op c → instr.op ≡ op → IfErr result (StopsIn code.now (hand_or_act code.now (fits_now places c state.old) line instr (handed_value c.state.running instr op) c) state.new) }
 {
     match op {
         Op::HandReg
@@ -120,7 +119,10 @@ fn act_alone(
         }
         Op::Add | Op::Sub | Op::Diff | Op::Pcmp(..) => state.act_pointers(line, instr, op),
         Op::Copy | Op::Clear => state.act_ranges(line, op),
-        Op::Malloc | Op::Calloc => state.act_making(line, instr, op),
+        Op::Malloc | Op::Calloc => {
+            state.act_making(line, instr, op);
+            Ok(())
+        }
         Op::Realloc => state.act_growing(line, instr),
         Op::Free | Op::Enter | Op::Leave => state.act_freeing(line, instr, op),
         Op::Call => call(state, code, loaded, line, instr),
@@ -146,10 +148,10 @@ pub(crate) fn one_step<I: Source, O: Sink>(
     requires well { IsWell code.now state.old }
     requires input { I.faults input.old + 1 < 2 ^ 64 }
     requires out { O.faults out.old + 1 < 2 ^ 64 }
-    ensures told { (places : ℕ → ℕ) (c : CodeState) (trace : List Event) (taken : List ℕ) → Stands places c state.old → IsGoodSoFar code.now c → I.left input.old ≡ Some c.state.input → O.taken out.old ≡ Some taken → Seen places c state.old (step code.now trace c) c.state.input taken result state.new (I.left input.new) (O.taken out.new) }
+    ensures told { (places : ℕ → ℕ) (c : CodeState) (taken : List ℕ) → Stands places c state.old → IsGoodSoFar code.now c → I.left input.old ≡ Some c.state.input → O.taken out.old ≡ Some taken → Seen places c state.old (step_by code.now (fits_now places c state.old) c) c.state.input taken result state.new (I.left input.new) (O.taken out.new) }
     ensures faults { Counted result (I.faults input.old) (I.faults input.new) (O.faults out.old) (O.faults out.new) }
-    ensures image { (places : ℕ → ℕ) (c : CodeState) (trace : List Event) → Stands places c state.old → IsGoodSoFar code.now c → IfErr result (StopsIn code.now (step code.now trace c) state.new) }
-    ensures moves { (places : ℕ → ℕ) (c : CodeState) → Stands places c state.old → IsGoodSoFar code.now c → (left : List ℕ) × All IsByte left × Moves state.old (step code.now [] (record c { state = with_input left c.state })) state.new result }
+    ensures image { (places : ℕ → ℕ) (c : CodeState) → Stands places c state.old → IsGoodSoFar code.now c → IfErr result (StopsIn code.now (step_by code.now (fits_now places c state.old) c) state.new) }
+    ensures moves { (places : ℕ → ℕ) (c : CodeState) → Stands places c state.old → IsGoodSoFar code.now c → (left : List ℕ) × All IsByte left × Moves state.old (step_by code.now (fits_now places c state.old) (record c { state = with_input left c.state })) state.new result }
 {
     running_pins_are_fresh();
     state.all_fit();

@@ -3,7 +3,6 @@ use Rattle.std.proofs.Common.{◌≡◌, ◌≤◌, ℕ, List, [], length, Optio
 use Rattle.hs_base.specs.declared.ends.End.{End}
 use Rattle.hs_base.specs.declared.ends.End.TheVariants as end
 use Rattle.hs_base.specs.declared.ends.Limits.{Limits}
-use Rattle.hs_base.specs.Cut.{Room}
 use Rattle.hs_base.specs.Trace.{Event, bytes_out}
 use Rattle.core_tree.specs.declared.program.Core.{Core}
 use Rattle.flat_codegen.specs.Lasting.{MakesSteps}
@@ -17,7 +16,7 @@ use Rattle.heapsafe.specs.declared.generated.Ran.{Ran}
 use Rattle.heapsafe.specs.declared.program.Way.TheVariants.{Run}
 use Rattle.heapsafe.specs.Reading.{most_bytes}
 use Rattle.heapsafe.specs.Shown.{Shown, written}
-use Rattle.heapsafe.specs.Program.{AnswersWay, Ended, ended, room_of, run_within, status_of}
+use Rattle.heapsafe.specs.Program.{AnswersWay, Ended, ended, run_within, status_of}
 use Rattle.heapsafe.specs.Answer.{AnswersFile, AnswersText, RunMakes, no_input}
 use Rattle.heapsafe.specs.Generated.{HasOnly, IsWithout, MakesOnly, SumsUp, Went, steps_of}
 use Rattle.heapsafe.proofs.Told.{short_is}
@@ -34,7 +33,7 @@ module _ (core : Core) (limits : Limits) (steps : ℕ) (left : Option (List ℕ)
   abbrev Answered : Type 0
   Answered = Went (AnswersWay [] text core no_input (Run limits steps false)) ran
 
-  whole : (x : End) → Whole core [] steps (room_of limits) [] x left (Some kept) → ran.status ≡ status_of x → Answered
+  whole : (x : End) → Whole core [] steps limits [] x left (Some kept) → ran.status ≡ status_of x → Answered
   whole x w status = record {
     shown = ended [] text core (run_within limits core [] steps false).events x [];
     is = record { how = x; leaks = []; ends = w.end; told = refl; is = refl };
@@ -53,25 +52,23 @@ module _ (core : Core) (limits : Limits) (steps : ℕ) (left : Option (List ℕ)
         )
 
   -- neither the input nor the output failed
-  pub went : (x : End) (i i' o o' : ℕ) → RunAnswers core [] steps (room_of limits) [] x left (Some kept) → RunCounts x i i' o o' → i' ≡ i → (x ≡ end.OutputFault → ⊥) → ran.status ≡ status_of x → Answered
+  pub went : (x : End) (i i' o o' : ℕ) → RunAnswers core [] steps limits [] x left (Some kept) → RunCounts x i i' o o' → i' ≡ i → (x ≡ end.OutputFault → ⊥) → ran.status ≡ status_of x → Answered
   went (end.Exit code) i i' o o' w counts same fine status = whole (end.Exit code) w status
   went (end.Trap kind line) i i' o o' w counts same fine status = whole (end.Trap kind line) w status
   went (end.BadFree why holder) i i' o o' w counts same fine status = whole (end.BadFree why holder) w status
   went (end.Escape func local line) i i' o o' w counts same fine status = whole (end.Escape func local line) w status
   went end.Spent i i' o o' w counts same fine status = whole end.Spent w status
-  went (end.OutOfHeap line) i i' o o' w counts same fine status = whole (end.OutOfHeap line) w status
   went (end.OutOfStack line) i i' o o' w counts same fine status = whole (end.OutOfStack line) w status
   went end.InputFault i i' o o' w counts same fine status = absurd (omega (arith, counts.0, same))
   went end.OutputFault i i' o o' w counts same fine status = absurd (fine refl)
 
 -- such a run made the steps of the core
-pub made : (core : Core) (room : Room) (steps : ℕ) (x : End) (i i' o o' steps_made : ℕ) → MakesSteps core [] steps room x steps_made → RunCounts x i i' o o' → i' ≡ i → (x ≡ end.OutputFault → ⊥) → steps_made ≡ steps_of core room steps
+pub made : (core : Core) (room : Limits) (steps : ℕ) (x : End) (i i' o o' steps_made : ℕ) → MakesSteps core [] steps room x steps_made → RunCounts x i i' o o' → i' ≡ i → (x ≡ end.OutputFault → ⊥) → steps_made ≡ steps_of core room steps
 made core room steps (end.Exit code) i i' o o' steps_made h counts same fine = h
 made core room steps (end.Trap kind line) i i' o o' steps_made h counts same fine = h
 made core room steps (end.BadFree why holder) i i' o o' steps_made h counts same fine = h
 made core room steps (end.Escape func local line) i i' o o' steps_made h counts same fine = h
 made core room steps end.Spent i i' o o' steps_made h counts same fine = h
-made core room steps (end.OutOfHeap line) i i' o o' steps_made h counts same fine = h
 made core room steps (end.OutOfStack line) i i' o o' steps_made h counts same fine = h
 made core room steps end.InputFault i i' o o' steps_made h counts same fine = absurd (omega (arith, counts.0, same))
 made core room steps end.OutputFault i i' o o' steps_made h counts same fine = absurd (fine refl)
@@ -108,7 +105,7 @@ module _ (text : List ℕ) (short : length text ≤ most_bytes) (limits : Limits
       }
 
 -- and makes its steps
-pub core_makes : (text : List ℕ) (room : Room) (n : ℕ) (core : Core) (steps_made : ℕ) → HasOnly text core → steps_made ≡ steps_of core room n → MakesOnly text room n steps_made
+pub core_makes : (text : List ℕ) (room : Limits) (n : ℕ) (core : Core) (steps_made : ℕ) → HasOnly text core → steps_made ≡ steps_of core room n → MakesOnly text room n steps_made
 core_makes text room n core steps_made has is = record {
   is = record {
     run = λ other of_text. subst (λ (c : Core). steps_made ≡ steps_of c room n) (sym (has.only other of_text)) is;
@@ -117,7 +114,7 @@ core_makes text room n core steps_made has is = record {
   only = λ other makes. makes.run core has.has ∙ sym is;
 }
 
-pub refused_makes : (text : List ℕ) (room : Room) (n status : ℕ) → IsWithout text status → MakesOnly text room n 0
+pub refused_makes : (text : List ℕ) (room : Limits) (n status : ℕ) → IsWithout text status → MakesOnly text room n 0
 refused_makes text room n status has = record {
   is = record { run = λ core of_text. absurd (has.none core of_text); refused = λ none. refl };
   only = λ other makes. makes.refused has.none;
@@ -130,7 +127,7 @@ summary number text output steps status =
 summary_is : (number t t' o o' n n' x x' : ℕ) → t ≡ t' → o ≡ o' → n ≡ n' → x ≡ x' → summary number t o n x ≡ summary number t' o' n' x'
 summary_is number t t' o o' n n' x x' e f g h = cc
 
-abbrev default_room : Room
+abbrev default_room : Limits
 default_room = record { heap = 16777216; stack = 1048576 }
 
 abbrev AsRun : List ℕ → Shown → Type 0

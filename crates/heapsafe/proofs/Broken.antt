@@ -35,7 +35,7 @@ use Rattle.heapsafe.specs.Reading.{Reads, most_bytes}
 use Rattle.heapsafe.specs.Answer.{AnswersFile, AnswersText, AnswersTokens, AnswersTypes}
 use Rattle.heapsafe.specs.Shown.{Shown, written, no_memory, output_fault, text_fault, text_too_long}
 use Rattle.heapsafe.specs.Leaks.{leak_lines}
-use Rattle.heapsafe.specs.Program.{Done, Ended, Input, AnswersWay, AreTold, TellsNone, ended, meant, room_of, run_within, status_of, steady}
+use Rattle.heapsafe.specs.Program.{Done, Ended, Input, AnswersWay, AreTold, TellsNone, ended, meant, run_within, status_of, steady}
 use Rattle.heapsafe.specs.Saying.{Breaks, IsFaultLine, Says, SaysLeaks, SaysMore, TakesAll, TakesFront, unparsed, unread, untokened, untyped}
 use Rattle.heapsafe.proofs.Ended.{IsNoExit, same_some, tells_none}
 
@@ -204,7 +204,6 @@ module _ (file text : List ℕ) (core : Core) (left put : List ℕ) (left' out o
   told_none (Some objects) (end.BadFree why holder) leaks unlike told = told
   told_none (Some objects) (end.Escape func local line) leaks unlike told = told
   told_none (Some objects) end.Spent leaks unlike told = told
-  told_none (Some objects) (end.OutOfHeap line) leaks unlike told = told
   told_none (Some objects) (end.OutOfStack line) leaks unlike told = told
   told_none (Some objects) end.InputFault leaks unlike told = told
   told_none (Some objects) end.OutputFault leaks unlike told = told
@@ -219,7 +218,7 @@ module _ (file text : List ℕ) (core : Core) (left put : List ℕ) (left' out o
   -- what is told of a run, whatever failed: nothing behind its report, or behind an exit its leaks
   pub record Tells (limits : Limits) (steps : ℕ) (leaks : Bool) (x : End) : Type 0 where
     pub none : TellsNone leaks x → Plain x
-    pub some : (code : ℕ) → IsTrue leaks → x ≡ end.Exit code → SaysLeaks (cut_run core left steps (room_of limits)).state.objects err err' f f' code result
+    pub some : (code : ℕ) → IsTrue leaks → x ≡ end.Exit code → SaysLeaks (cut_run core left steps limits).state.objects err err' f f' code result
 
   module _ (limits : Limits) (steps : ℕ) (leaks : Bool) (a : Shown) (e : Ended file text core (run_within limits core left steps leaks) a) where
     abbrev done : Done
@@ -231,13 +230,13 @@ module _ (file text : List ℕ) (core : Core) (left put : List ℕ) (left' out o
     same_how : (x : End) → done.ends ≡ Some x → x ≡ e.how
     same_how x is = same_end x e.how (sym is ∙ e.ends)
 
-    other : (x : End) → IsNoExit x → run_specs.Whole core left steps (room_of limits) [] x left' (Some put) → Tells limits steps leaks x → Broken
+    other : (x : End) → IsNoExit x → run_specs.Whole core left steps limits [] x left' (Some put) → Tells limits steps leaks x → Broken
     other x unlike w t =
         let same = same_how x w.end in
         let none = told_none done.left e.how e.leaks (subst IsNoExit same unlike) e.told in
         whole done a w.left e w.is_left w.is_read w.is_taken (plain_told x e.how e.leaks same none (t.none (tells_none leaks x unlike)))
 
-  exit : (limits : Limits) (steps : ℕ) (leaks : Bool) (a : Shown) (e : Ended file text core (run_within limits core left steps leaks) a) (code : ℕ) → run_specs.Whole core left steps (room_of limits) [] (end.Exit code) left' (Some put) → Tells limits steps leaks (end.Exit code) → Breaks a left left' out out' err err'
+  exit : (limits : Limits) (steps : ℕ) (leaks : Bool) (a : Shown) (e : Ended file text core (run_within limits core left steps leaks) a) (code : ℕ) → run_specs.Whole core left steps limits [] (end.Exit code) left' (Some put) → Tells limits steps leaks (end.Exit code) → Breaks a left left' out out' err err'
   exit limits steps false a e code w t =
       let same = same_how limits steps false a e (end.Exit code) w.end in
       whole (run_within limits core left steps false) a w.left e w.is_left w.is_read w.is_taken
@@ -250,13 +249,12 @@ module _ (file text : List ℕ) (core : Core) (left put : List ℕ) (left' out o
       (subst (λ (y : End). TakesFront err err' (end_report core file text y ++ leak_lines e.leaks)) same
       (says_front err err' f f' code result (leak_lines e.leaks) (said.says e.leaks told)))
 
-  pub broken_run : (limits : Limits) (steps : ℕ) (leaks : Bool) (a : Shown) (x : End) → AnswersWay file text core (steady left) (Run limits steps leaks) a → RunAnswers core left steps (room_of limits) [] x left' (Some put) → Tells limits steps leaks x → Breaks a left left' out out' err err'
+  pub broken_run : (limits : Limits) (steps : ℕ) (leaks : Bool) (a : Shown) (x : End) → AnswersWay file text core (steady left) (Run limits steps leaks) a → RunAnswers core left steps limits [] x left' (Some put) → Tells limits steps leaks x → Breaks a left left' out out' err err'
   broken_run limits steps leaks a (end.Exit code) e w t = exit limits steps leaks a e code w t
   broken_run limits steps leaks a (end.Trap kind line) e w t = other limits steps leaks a e (end.Trap kind line) tt w t
   broken_run limits steps leaks a (end.BadFree why holder) e w t = other limits steps leaks a e (end.BadFree why holder) tt w t
   broken_run limits steps leaks a (end.Escape func local line) e w t = other limits steps leaks a e (end.Escape func local line) tt w t
   broken_run limits steps leaks a end.Spent e w t = other limits steps leaks a e end.Spent tt w t
-  broken_run limits steps leaks a (end.OutOfHeap line) e w t = other limits steps leaks a e (end.OutOfHeap line) tt w t
   broken_run limits steps leaks a (end.OutOfStack line) e w t = other limits steps leaks a e (end.OutOfStack line) tt w t
   broken_run limits steps leaks a end.InputFault e s t =
       starved (run_within limits core left steps leaks) a e s (t.none (tells_none leaks end.InputFault tt))
@@ -264,31 +262,30 @@ module _ (file text : List ℕ) (core : Core) (left put : List ℕ) (left' out o
       stopped (run_within limits core left steps leaks) a e (end_report core file text end.OutputFault) s (inr (inl refl)) (plain_front end.OutputFault (t.none (tells_none leaks end.OutputFault tt)))
 
   -- an answer of `mean` that is more than the line of want of memory
-  meant_whole : (steps : ℕ) (a : Shown) → SaysMore a → AnswersWay file text core (steady left) (Mean steps) a → Ended file text core (meant core left steps) a
-  meant_whole steps a more is =
+  meant_whole : (steps heap : ℕ) (a : Shown) → SaysMore a → AnswersWay file text core (steady left) (Mean heap steps) a → Ended file text core (meant core left steps heap) a
+  meant_whole steps heap a more is =
       ⊎_elim (λ h. h) (λ h. absurd (more (ap (λ (s : Shown). s.err) h.3))) is
 
-  whole_mean : (steps : ℕ) (a : Shown) (x : End) → Ended file text core (meant core left steps) a → meant_specs.Whole core left steps [] x left' (Some put) → Plain x → Breaks a left left' out out' err err'
-  whole_mean steps a x e w said =
+  whole_mean : (steps heap : ℕ) (a : Shown) (x : End) → Ended file text core (meant core left steps heap) a → meant_specs.Whole core left steps heap [] x left' (Some put) → Plain x → Breaks a left left' out out' err err'
+  whole_mean steps heap a x e w said =
       let same = same_end x e.how (sym w.end ∙ e.ends) in
-      whole (meant core left steps) a w.left e w.is_left w.is_read w.is_taken (plain_told x e.how e.leaks same e.told said)
+      whole (meant core left steps heap) a w.left e w.is_left w.is_read w.is_taken (plain_told x e.how e.leaks same e.told said)
 
-  broken_meant : (steps : ℕ) (a : Shown) (x : End) → Ended file text core (meant core left steps) a → MeanAnswers core left steps [] (Ok x) left' (Some put) → Plain x → Breaks a left left' out out' err err'
-  broken_meant steps a (end.Exit code) e w said = whole_mean steps a (end.Exit code) e w said
-  broken_meant steps a (end.Trap kind line) e w said = whole_mean steps a (end.Trap kind line) e w said
-  broken_meant steps a (end.BadFree why holder) e w said = whole_mean steps a (end.BadFree why holder) e w said
-  broken_meant steps a (end.Escape func local line) e w said = whole_mean steps a (end.Escape func local line) e w said
-  broken_meant steps a end.Spent e w said = whole_mean steps a end.Spent e w said
-  broken_meant steps a (end.OutOfHeap line) e w said = whole_mean steps a (end.OutOfHeap line) e w said
-  broken_meant steps a (end.OutOfStack line) e w said = whole_mean steps a (end.OutOfStack line) e w said
-  broken_meant steps a end.InputFault e s said = starved (meant core left steps) a e s said
-  broken_meant steps a end.OutputFault e s said =
-      stopped (meant core left steps) a e (end_report core file text end.OutputFault) s (inr (inl refl)) (plain_front end.OutputFault said)
+  broken_meant : (steps heap : ℕ) (a : Shown) (x : End) → Ended file text core (meant core left steps heap) a → MeanAnswers core left steps heap [] (Ok x) left' (Some put) → Plain x → Breaks a left left' out out' err err'
+  broken_meant steps heap a (end.Exit code) e w said = whole_mean steps heap a (end.Exit code) e w said
+  broken_meant steps heap a (end.Trap kind line) e w said = whole_mean steps heap a (end.Trap kind line) e w said
+  broken_meant steps heap a (end.BadFree why holder) e w said = whole_mean steps heap a (end.BadFree why holder) e w said
+  broken_meant steps heap a (end.Escape func local line) e w said = whole_mean steps heap a (end.Escape func local line) e w said
+  broken_meant steps heap a end.Spent e w said = whole_mean steps heap a end.Spent e w said
+  broken_meant steps heap a (end.OutOfStack line) e w said = whole_mean steps heap a (end.OutOfStack line) e w said
+  broken_meant steps heap a end.InputFault e s said = starved (meant core left steps heap) a e s said
+  broken_meant steps heap a end.OutputFault e s said =
+      stopped (meant core left steps heap) a e (end_report core file text end.OutputFault) s (inr (inl refl)) (plain_front end.OutputFault said)
 
-  pub broken_mean : (steps : ℕ) (a : Shown) (x : End) → SaysMore a → AnswersWay file text core (steady left) (Mean steps) a → MeanAnswers core left steps [] (Ok x) left' (Some put) → Plain x → Breaks a left left' out out' err err'
-  broken_mean steps a x more is w said = broken_meant steps a x (meant_whole steps a more is) w said
+  pub broken_mean : (steps heap : ℕ) (a : Shown) (x : End) → SaysMore a → AnswersWay file text core (steady left) (Mean heap steps) a → MeanAnswers core left steps heap [] (Ok x) left' (Some put) → Plain x → Breaks a left left' out out' err err'
+  broken_mean steps heap a x more is w said = broken_meant steps heap a x (meant_whole steps heap a more is) w said
 
   -- memory was wanted
-  pub broken_unfinished : (steps : ℕ) (a : Shown) → SaysMore a → AnswersWay file text core (steady left) (Mean steps) a → Stopped (meant core left steps).events left [] left' (Some put) → Says err err' f f' no_memory.err 134 result → Breaks a left left' out out' err err'
-  broken_unfinished steps a more is s said =
-      stopped (meant core left steps) a (meant_whole steps a more is) no_memory.err s wanting_line (says_front err err' f f' 134 result no_memory.err said)
+  pub broken_unfinished : (steps heap : ℕ) (a : Shown) → SaysMore a → AnswersWay file text core (steady left) (Mean heap steps) a → Stopped (meant core left steps heap).events left [] left' (Some put) → Says err err' f f' no_memory.err 134 result → Breaks a left left' out out' err err'
+  broken_unfinished steps heap a more is s said =
+      stopped (meant core left steps heap) a (meant_whole steps heap a more is) no_memory.err s wanting_line (says_front err err' f f' 134 result no_memory.err said)

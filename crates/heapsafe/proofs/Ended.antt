@@ -19,7 +19,7 @@ use Rattle.flat_codegen.specs.Running as run_specs
 use Rattle.flat_machine.specs.Running.{RunCounts}
 use Rattle.heapsafe.specs.declared.program.Way.TheVariants.{Run, Mean}
 use Rattle.heapsafe.specs.Shown.{input_fault, no_memory, output_fault}
-use Rattle.heapsafe.specs.Program.{Done, AnswersProgram, AnswersWay, AreTold, TellsNone, ended, input_of, meant, room_of, run_within, status_of, unfinished}
+use Rattle.heapsafe.specs.Program.{Done, AnswersProgram, AnswersWay, AreTold, TellsNone, ended, input_of, meant, run_within, status_of, unfinished}
 use Rattle.heapsafe.specs.Leaks.{leak_lines}
 use Rattle.heapsafe.specs.Saying.{Faults, Gives, Says, SaysCounts, SaysLeaks, TakesAll}
 use Rattle.heapsafe.proofs.Told.{gives, said_faults}
@@ -53,7 +53,6 @@ none_told (Some objects) (end.Trap kind line) unlike = refl
 none_told (Some objects) (end.BadFree why holder) unlike = refl
 none_told (Some objects) (end.Escape func local line) unlike = refl
 none_told (Some objects) end.Spent unlike = refl
-none_told (Some objects) (end.OutOfHeap line) unlike = refl
 none_told (Some objects) (end.OutOfStack line) unlike = refl
 none_told (Some objects) end.InputFault unlike = refl
 none_told (Some objects) end.OutputFault unlike = refl
@@ -65,7 +64,6 @@ tells_none true (end.Trap kind line) unlike = tt
 tells_none true (end.BadFree why holder) unlike = tt
 tells_none true (end.Escape func local line) unlike = tt
 tells_none true end.Spent unlike = tt
-tells_none true (end.OutOfHeap line) unlike = tt
 tells_none true (end.OutOfStack line) unlike = tt
 tells_none true end.InputFault unlike = tt
 tells_none true end.OutputFault unlike = tt
@@ -115,18 +113,18 @@ module _ (file text : List ℕ) (core : Core) (left put : List ℕ) (left' o o' 
   -- what is told of a run: nothing behind its report, or behind an exit its leaks
   pub record Telling (limits : Limits) (steps : ℕ) (leaks : Bool) (x : End) : Type 0 where
     pub none : TellsNone leaks x → Plain x
-    pub some : (code : ℕ) → IsTrue leaks → x ≡ end.Exit code → SaysLeaks (cut_run core left steps (room_of limits)).state.objects err err' f f' code result
+    pub some : (code : ℕ) → IsTrue leaks → x ≡ end.Exit code → SaysLeaks (cut_run core left steps limits).state.objects err err' f f' code result
 
   module _ (limits : Limits) (steps : ℕ) (leaks : Bool) where
     abbrev Runs : Type 0
     Runs = Gives (AnswersWay file text core (input_of left i i') (Run limits steps leaks)) left left' o o' err err' result
 
-    whole_run : (x : End) (told : List Leak) → run_specs.Whole core left steps (room_of limits) [] x left' (Some put) → i' ≡ i → AreTold (run_within limits core left steps leaks).left x told → Reported x told → Runs
+    whole_run : (x : End) (told : List Leak) → run_specs.Whole core left steps limits [] x left' (Some put) → i' ≡ i → AreTold (run_within limits core left steps leaks).left x told → Reported x told → Runs
     whole_run x told w stays are said =
         whole (run_within limits core left steps leaks) x told w.left stays w.end are w.is_taken w.is_left w.is_read said
 
   -- an exit, with its leaks where they are asked for
-  exit_run : (limits : Limits) (steps : ℕ) (leaks : Bool) (code : ℕ) → run_specs.Whole core left steps (room_of limits) [] (end.Exit code) left' (Some put) → i' ≡ i → Telling limits steps leaks (end.Exit code) → Runs limits steps leaks
+  exit_run : (limits : Limits) (steps : ℕ) (leaks : Bool) (code : ℕ) → run_specs.Whole core left steps limits [] (end.Exit code) left' (Some put) → i' ≡ i → Telling limits steps leaks (end.Exit code) → Runs limits steps leaks
   exit_run limits steps false code w stays t =
       whole_run limits steps false (end.Exit code) [] w stays refl (plain (end.Exit code) (t.none tt))
   exit_run limits steps true code w stays t =
@@ -134,48 +132,46 @@ module _ (file text : List ℕ) (core : Core) (left put : List ℕ) (left' o o' 
       let leaks = said.all same in
       whole_run limits steps true (end.Exit code) leaks.0 w stays leaks.1 (said.says leaks.0 leaks.1)
 
-  other_run : (limits : Limits) (steps : ℕ) (leaks : Bool) (x : End) → IsNoExit x → run_specs.Whole core left steps (room_of limits) [] x left' (Some put) → i' ≡ i → Telling limits steps leaks x → Runs limits steps leaks
+  other_run : (limits : Limits) (steps : ℕ) (leaks : Bool) (x : End) → IsNoExit x → run_specs.Whole core left steps limits [] x left' (Some put) → i' ≡ i → Telling limits steps leaks x → Runs limits steps leaks
   other_run limits steps leaks x unlike w stays t =
       whole_run limits steps leaks x [] w stays (none_told (run_within limits core left steps leaks).left x unlike) (plain x (t.none (tells_none leaks x unlike)))
 
-  pub gives_run : (limits : Limits) (steps : ℕ) (leaks : Bool) (x : End) → RunAnswers core left steps (room_of limits) [] x left' (Some put) → RunCounts x i i' p p' → p' ≡ p → Telling limits steps leaks x → Runs limits steps leaks
+  pub gives_run : (limits : Limits) (steps : ℕ) (leaks : Bool) (x : End) → RunAnswers core left steps limits [] x left' (Some put) → RunCounts x i i' p p' → p' ≡ p → Telling limits steps leaks x → Runs limits steps leaks
   gives_run limits steps leaks (end.Exit code) w counts stays t = exit_run limits steps leaks code w counts.0 t
   gives_run limits steps leaks (end.Trap kind line) w counts stays t = other_run limits steps leaks (end.Trap kind line) tt w counts.0 t
   gives_run limits steps leaks (end.BadFree why holder) w counts stays t = other_run limits steps leaks (end.BadFree why holder) tt w counts.0 t
   gives_run limits steps leaks (end.Escape func local line) w counts stays t = other_run limits steps leaks (end.Escape func local line) tt w counts.0 t
   gives_run limits steps leaks end.Spent w counts stays t = other_run limits steps leaks end.Spent tt w counts.0 t
-  gives_run limits steps leaks (end.OutOfHeap line) w counts stays t = other_run limits steps leaks (end.OutOfHeap line) tt w counts.0 t
   gives_run limits steps leaks (end.OutOfStack line) w counts stays t = other_run limits steps leaks (end.OutOfStack line) tt w counts.0 t
   gives_run limits steps leaks end.InputFault s counts stays t = stopped (run_within limits core left steps leaks) counts.0 s (t.none (tells_none leaks end.InputFault tt))
   gives_run limits steps leaks end.OutputFault s counts stays t = absurd (omega (arith, counts.1, stays))
 
   -- the evaluator's answers are among those that are allowed to `mean`
-  abbrev Means : ℕ → Type 0
-  Means steps = Gives (AnswersWay file text core (input_of left i i') (Mean steps)) left left' o o' err err' result
+  abbrev Means : (steps heap : ℕ) → Type 0
+  Means steps heap = Gives (AnswersWay file text core (input_of left i i') (Mean heap steps)) left left' o o' err err' result
 
-  meaning : (steps : ℕ) → Gives (AnswersProgram file text core (nat_lt i i') (meant core left steps)) left left' o o' err err' result → Means steps
-  meaning steps g =
+  meaning : (steps heap : ℕ) → Gives (AnswersProgram file text core (nat_lt i i') (meant core left steps heap)) left left' o o' err err' result → Means steps heap
+  meaning steps heap g =
       record { shown = g.shown; is = ⊎_elim (λ h. inl (inl h)) (λ h. inr h) g.is; rest = g.rest; is_left = g.is_left; is_read = g.is_read; out_took = g.out_took; err_took = g.err_took; status = g.status }
 
-  whole_mean : (steps : ℕ) (x : End) → meant_specs.Whole core left steps [] x left' (Some put) → i' ≡ i → Plain x → Means steps
-  whole_mean steps x w stays said =
-      meaning steps (whole (meant core left steps) x [] w.left stays w.end refl w.is_taken w.is_left w.is_read (plain x said))
+  whole_mean : (steps heap : ℕ) (x : End) → meant_specs.Whole core left steps heap [] x left' (Some put) → i' ≡ i → Plain x → Means steps heap
+  whole_mean steps heap x w stays said =
+      meaning steps heap (whole (meant core left steps heap) x [] w.left stays w.end refl w.is_taken w.is_left w.is_read (plain x said))
 
-  pub gives_mean : (steps : ℕ) (x : End) → MeanAnswers core left steps [] (Ok x) left' (Some put) → MeanCounts (Ok x) i i' p p' → p' ≡ p → Plain x → Means steps
-  gives_mean steps (end.Exit code) w counts stays said = whole_mean steps (end.Exit code) w counts.0 said
-  gives_mean steps (end.Trap kind line) w counts stays said = whole_mean steps (end.Trap kind line) w counts.0 said
-  gives_mean steps (end.BadFree why holder) w counts stays said = whole_mean steps (end.BadFree why holder) w counts.0 said
-  gives_mean steps (end.Escape func local line) w counts stays said = whole_mean steps (end.Escape func local line) w counts.0 said
-  gives_mean steps end.Spent w counts stays said = whole_mean steps end.Spent w counts.0 said
-  gives_mean steps (end.OutOfHeap line) w counts stays said = whole_mean steps (end.OutOfHeap line) w counts.0 said
-  gives_mean steps (end.OutOfStack line) w counts stays said = whole_mean steps (end.OutOfStack line) w counts.0 said
-  gives_mean steps end.InputFault s counts stays said = meaning steps (stopped (meant core left steps) counts.0 s said)
-  gives_mean steps end.OutputFault s counts stays said = absurd (omega (arith, counts.1, stays))
+  pub gives_mean : (steps heap : ℕ) (x : End) → MeanAnswers core left steps heap [] (Ok x) left' (Some put) → MeanCounts (Ok x) i i' p p' → p' ≡ p → Plain x → Means steps heap
+  gives_mean steps heap (end.Exit code) w counts stays said = whole_mean steps heap (end.Exit code) w counts.0 said
+  gives_mean steps heap (end.Trap kind line) w counts stays said = whole_mean steps heap (end.Trap kind line) w counts.0 said
+  gives_mean steps heap (end.BadFree why holder) w counts stays said = whole_mean steps heap (end.BadFree why holder) w counts.0 said
+  gives_mean steps heap (end.Escape func local line) w counts stays said = whole_mean steps heap (end.Escape func local line) w counts.0 said
+  gives_mean steps heap end.Spent w counts stays said = whole_mean steps heap end.Spent w counts.0 said
+  gives_mean steps heap (end.OutOfStack line) w counts stays said = whole_mean steps heap (end.OutOfStack line) w counts.0 said
+  gives_mean steps heap end.InputFault s counts stays said = meaning steps heap (stopped (meant core left steps heap) counts.0 s said)
+  gives_mean steps heap end.OutputFault s counts stays said = absurd (omega (arith, counts.1, stays))
 
   -- memory was wanted after a first part of the events
-  pub gives_unfinished : (steps : ℕ) → Stopped (meant core left steps).events left [] left' (Some put) → Says err err' f f' no_memory.err 134 result → Means steps
-  gives_unfinished steps s said =
-      gives (AnswersWay file text core (input_of left i i') (Mean steps)) (unfinished s.before) left s.left left' o o' err err' f f' result
+  pub gives_unfinished : (steps heap : ℕ) → Stopped (meant core left steps heap).events left [] left' (Some put) → Says err err' f f' no_memory.err 134 result → Means steps heap
+  gives_unfinished steps heap s said =
+      gives (AnswersWay file text core (input_of left i i') (Mean heap steps)) (unfinished s.before) left s.left left' o o' err err' f f' result
       (inl (inr (s.before, s.rest, s.is, refl))) s.is_left s.is_read (wrote (bytes_out s.before) s.is_taken) same said
 
 -- faults of a program's run
@@ -185,7 +181,6 @@ program_faults (end.Trap kind line) t i i' o o' f f' result err err' bytes count
 program_faults (end.BadFree why holder) t i i' o o' f f' result err err' bytes counts said = said_faults t i i' o o' f f' result err err' bytes 126 counts.0 counts.1 said
 program_faults (end.Escape func local line) t i i' o o' f f' result err err' bytes counts said = said_faults t i i' o o' f f' result err err' bytes 127 counts.0 counts.1 said
 program_faults end.Spent t i i' o o' f f' result err err' bytes counts said = said_faults t i i' o o' f f' result err err' bytes 131 counts.0 counts.1 said
-program_faults (end.OutOfHeap line) t i i' o o' f f' result err err' bytes counts said = said_faults t i i' o o' f f' result err err' bytes 129 counts.0 counts.1 said
 program_faults (end.OutOfStack line) t i i' o o' f f' result err err' bytes counts said = said_faults t i i' o o' f f' result err err' bytes 130 counts.0 counts.1 said
 program_faults end.InputFault t i i' o o' f f' result err err' bytes counts said =
     ⊎_elim
@@ -204,7 +199,6 @@ mean_counts (end.Trap kind line) i i' o o' h = h
 mean_counts (end.BadFree why holder) i i' o o' h = h
 mean_counts (end.Escape func local line) i i' o o' h = h
 mean_counts end.Spent i i' o o' h = h
-mean_counts (end.OutOfHeap line) i i' o o' h = h
 mean_counts (end.OutOfStack line) i i' o o' h = h
 mean_counts end.InputFault i i' o o' h = h
 mean_counts end.OutputFault i i' o o' h = h
@@ -216,7 +210,6 @@ input_said leaks (end.Trap kind line) file text core i i' o o' f f' result err e
 input_said leaks (end.BadFree why holder) file text core i i' o o' f f' result err err' counts more said = absurd (omega (arith, counts.0, more))
 input_said leaks (end.Escape func local line) file text core i i' o o' f f' result err err' counts more said = absurd (omega (arith, counts.0, more))
 input_said leaks end.Spent file text core i i' o o' f f' result err err' counts more said = absurd (omega (arith, counts.0, more))
-input_said leaks (end.OutOfHeap line) file text core i i' o o' f f' result err err' counts more said = absurd (omega (arith, counts.0, more))
 input_said leaks (end.OutOfStack line) file text core i i' o o' f f' result err err' counts more said = absurd (omega (arith, counts.0, more))
 input_said leaks end.InputFault file text core i i' o o' f f' result err err' counts more said = said (tells_none leaks end.InputFault tt)
 input_said leaks end.OutputFault file text core i i' o o' f f' result err err' counts more said = absurd (omega (arith, counts.0, more))
@@ -227,7 +220,6 @@ output_said leaks (end.Trap kind line) file text core i i' o o' f f' result err 
 output_said leaks (end.BadFree why holder) file text core i i' o o' f f' result err err' counts more said = absurd (omega (arith, counts.1, more))
 output_said leaks (end.Escape func local line) file text core i i' o o' f f' result err err' counts more said = absurd (omega (arith, counts.1, more))
 output_said leaks end.Spent file text core i i' o o' f f' result err err' counts more said = absurd (omega (arith, counts.1, more))
-output_said leaks (end.OutOfHeap line) file text core i i' o o' f f' result err err' counts more said = absurd (omega (arith, counts.1, more))
 output_said leaks (end.OutOfStack line) file text core i i' o o' f f' result err err' counts more said = absurd (omega (arith, counts.1, more))
 output_said leaks end.InputFault file text core i i' o o' f f' result err err' counts more said = absurd (omega (arith, counts.1, more))
 output_said leaks end.OutputFault file text core i i' o o' f f' result err err' counts more said = said (tells_none leaks end.OutputFault tt)

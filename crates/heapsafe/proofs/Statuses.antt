@@ -139,7 +139,6 @@ module _ (e e' : Option (List ℕ)) (f f' result : ℕ) where
   own_end (end.BadFree why holder) counts own is = absurd (⊎_elim (λ h. omega (arith, h.1, is)) (λ h. omega (arith, h.1, is)) counts)
   own_end (end.Escape func local line) counts own is = absurd (⊎_elim (λ h. omega (arith, h.1, is)) (λ h. omega (arith, h.1, is)) counts)
   own_end end.Spent counts own is = absurd (⊎_elim (λ h. omega (arith, h.1, is)) (λ h. omega (arith, h.1, is)) counts)
-  own_end (end.OutOfHeap line) counts own is = absurd (⊎_elim (λ h. omega (arith, h.1, is)) (λ h. omega (arith, h.1, is)) counts)
   own_end (end.OutOfStack line) counts own is = absurd (⊎_elim (λ h. omega (arith, h.1, is)) (λ h. omega (arith, h.1, is)) counts)
   own_end end.InputFault counts own is = absurd (⊎_elim (λ h. omega (arith, h.1, is)) (λ h. omega (arith, h.1, is)) counts)
   own_end end.OutputFault counts own is = absurd (⊎_elim (λ h. omega (arith, h.1, is)) (λ h. omega (arith, h.1, is)) counts)
@@ -159,7 +158,6 @@ module _ (e e' : Option (List ℕ)) (f f' result : ℕ) where
   end_refused (end.BadFree why holder) counts own is = higher (status_of (end.BadFree why holder)) (omega arith) counts is
   end_refused (end.Escape func local line) counts own is = higher (status_of (end.Escape func local line)) (omega arith) counts is
   end_refused end.Spent counts own is = higher (status_of end.Spent) (omega arith) counts is
-  end_refused (end.OutOfHeap line) counts own is = higher (status_of (end.OutOfHeap line)) (omega arith) counts is
   end_refused (end.OutOfStack line) counts own is = higher (status_of (end.OutOfStack line)) (omega arith) counts is
   end_refused end.InputFault counts own is = higher (status_of end.InputFault) (omega arith) counts is
   end_refused end.OutputFault counts own is = higher (status_of end.OutputFault) (omega arith) counts is
@@ -180,7 +178,6 @@ module _ (e e' : Option (List ℕ)) (f f' result : ℕ) where
     end_cause (end.BadFree why holder) ran counts own = plain 126 (λ h. omega (arith, h)) (λ h. omega (arith, h)) (λ h. omega (arith, h)) counts
     end_cause (end.Escape func local line) ran counts own = plain 127 (λ h. omega (arith, h)) (λ h. omega (arith, h)) (λ h. omega (arith, h)) counts
     end_cause end.Spent ran counts own = plain 131 (λ h. omega (arith, h)) (λ h. omega (arith, h)) (λ h. omega (arith, h)) counts
-    end_cause (end.OutOfHeap line) ran counts own = plain 129 (λ h. omega (arith, h)) (λ h. omega (arith, h)) (λ h. omega (arith, h)) counts
     end_cause (end.OutOfStack line) ran counts own = plain 130 (λ h. omega (arith, h)) (λ h. omega (arith, h)) (λ h. omega (arith, h)) counts
     end_cause end.InputFault ran counts own = λ is. inl (inl (omega (arith, ran.0)))
     end_cause end.OutputFault ran counts own = λ is. inl (inr (inl (omega (arith, ran.1))))

@@ -1,6 +1,6 @@
 -- What the program reads, writes and answers for its words.
 use Rattle.std.specs.Prelude.{◌≡◌, ◌-◌, ⊤, ℕ, false, nat_lt, List, [], length, Option, Some, None, Ok, Err, MatchBool}
-use Rattle.hs_base.specs.Cut.{Room}
+use Rattle.hs_base.specs.declared.ends.Limits.{Limits}
 use Rattle.c_lexer.specs.declared.token.Token.{Token}
 use Rattle.c_lexer.specs.declared.token.LexKind.{LexKind}
 use Rattle.c_lexer.specs.Tokens.{HasTokens, HasBadPlace}
@@ -29,7 +29,7 @@ AnswersTypes file text (Err refusal) input way a = a ≡ bad_type file text refu
 abbrev pub Does : List ℕ → List ℕ → Trees → Input → Task → Shown → Type 0
 Does file text externals input (Run heap stack steps leaks) a =
     AnswersTypes file text (core_in externals) input (way.Run (record { heap = heap; stack = stack }) steps leaks) a
-Does file text externals input (Mean steps) a = AnswersTypes file text (core_in externals) input (way.Mean steps) a
+Does file text externals input (Mean heap steps) a = AnswersTypes file text (core_in externals) input (way.Mean heap steps) a
 Does file text externals input Print a = a ≡ printed externals
 Does file text externals input Layout a = a ≡ layouts_shown file text (tags_of externals)
 Does file text externals input ListCore a = a ≡ core_shown file text (core_in externals)
@@ -59,7 +59,7 @@ pub record HasCore (text : List ℕ) (core : Core) : Type 0 where
   pub typed : core_in externals ≡ Ok core
 
 -- how many steps a run of the text without input makes, of n that it may: none where the text has no core
-pub record RunMakes (text : List ℕ) (room : Room) (n made : ℕ) : Type 0 where
+pub record RunMakes (text : List ℕ) (room : Limits) (n made : ℕ) : Type 0 where
   pub run : (core : Core) → HasCore text core → made ≡ n - (cut_run core [] n room).state.steps
   pub refused : ((core : Core) → HasCore text core → ⊥) → made ≡ 0
 
@@ -92,12 +92,12 @@ Answers words texts input a = AnswersCommand (command_of words) texts input a
 -- a task that runs no program
 abbrev pub RunsNone : Task → Type 0
 RunsNone (Run heap stack steps leaks) = ⊥
-RunsNone (Mean steps) = ⊥
+RunsNone (Mean heap steps) = ⊥
 RunsNone _ = ⊤
 
 -- a task that evaluates no program
 abbrev pub MeansNone : Task → Type 0
-MeansNone (Mean steps) = ⊥
+MeansNone (Mean heap steps) = ⊥
 MeansNone _ = ⊤
 
 -- words that ask for no program of a file

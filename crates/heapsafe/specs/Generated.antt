@@ -1,6 +1,6 @@
 -- A text before it is run, and how a run without input went.
 use Rattle.std.specs.Prelude.{◌≡◌, ◌⊎◌, ◌-◌, ℕ, false, List, [], length, Ok, Err}
-use Rattle.hs_base.specs.Cut.{Room}
+use Rattle.hs_base.specs.declared.ends.Limits.{Limits}
 use Rattle.c_lexer.specs.declared.token.Token.{Token}
 use Rattle.c_tree.specs.Tree.{Trees}
 use Rattle.c_tree.specs.HasTree.{GoesWrong}
@@ -67,12 +67,12 @@ pub record Went (Is : Shown → Type 0) (ran : Ran) : Type 0 where
   pub only : (other : Shown) → Is other → (length other.out ≡ ran.output) × (other.status ≡ ran.status)
 
 -- the run of a text without input makes so many steps, and no other number of them
-pub record MakesOnly (text : List ℕ) (room : Room) (n made : ℕ) : Type 0 where
+pub record MakesOnly (text : List ℕ) (room : Limits) (n made : ℕ) : Type 0 where
   pub is : RunMakes text room n made
   pub only : (other : ℕ) → RunMakes text room n other → other ≡ made
 
 -- how many steps the run of a core without input makes, of n that it may
-abbrev pub steps_of : Program → Room → ℕ → ℕ
+abbrev pub steps_of : Program → Limits → ℕ → ℕ
 steps_of core room n = n - (cut_run core [] n room).state.steps
 
 -- the summary of the run of the text with so many functions

@@ -6,7 +6,7 @@ use Rattle.hs_base.specs.declared.ends.Limits.{Limits}
 use Rattle.hs_base.specs.declared.ends.End.TheVariants as end
 use Rattle.hs_base.specs.Object.{Object}
 use Rattle.hs_base.specs.Trace.{Event, In, bytes_in, bytes_out}
-use Rattle.hs_base.specs.Cut.{Room, cut, ending_of}
+use Rattle.hs_base.specs.Cut.{cut, ending_of}
 use Rattle.bad_free_report.specs.Report.{complaint, end_report}
 use Rattle.core_tree.specs.declared.program.Core.{Core}
 use Rattle.object_meaning.specs.Meaning.{meaning}
@@ -37,7 +37,6 @@ status_of (end.Trap kind line) = 128
 status_of (end.BadFree why holder) = 126
 status_of (end.Escape func local line) = 127
 status_of end.Spent = 131
-status_of (end.OutOfHeap line) = 129
 status_of (end.OutOfStack line) = 130
 status_of end.InputFault = 132
 status_of end.OutputFault = 133
@@ -48,24 +47,20 @@ pub record Done : Type 0 where
   pub ends : Option End
   pub left : Option (List Object)
 
--- what the meaning does
-abbrev pub meant : Core → List ℕ → ℕ → Done
-meant core input steps =
-    let m = meaning core input steps in record { events = m.trace; ends = end_in m.ended; left = None }
+-- what the meaning does, in a heap of so many bytes
+abbrev pub meant : Core → List ℕ → ℕ → ℕ → Done
+meant core input steps heap =
+    let m = meaning core input steps heap in record { events = m.trace; ends = end_in m.ended; left = None }
 
--- the heap and the stack that a run has
-abbrev pub room_of : Limits → Room
-room_of limits = record { heap = limits.heap; stack = limits.stack }
-
--- the same, up to the first event for which the heap or the stack has no room
+-- the same, up to the first call for which the stack has no room
 abbrev pub run_within : Limits → Core → List ℕ → ℕ → Bool → Done
 run_within limits core input steps leaks =
-    let m = meaning core input steps in
-    let kept = cut (room_of limits) m.trace in
+    let m = meaning core input steps limits.heap in
+    let kept = cut limits.stack m.trace in
     record {
       events = kept.kept;
       ends = end_in (ending_of kept.refused m.ended);
-      left = cond leaks (Some (cut_run core input steps (room_of limits)).state.objects) None;
+      left = cond leaks (Some (cut_run core input steps limits).state.objects) None;
     }
 
 -- the leaks that are told of at an end: those of the objects that a program leaves by an exit, where they are asked for
@@ -109,20 +104,20 @@ abbrev pub AnswersProgram : List ℕ → List ℕ → Core → Bool → Done →
 AnswersProgram file text core fails done a =
     MatchBool fails (Starved file text core done a) (Ended file text core done a)
 
--- `run` does what the meaning does while heap and stack have room; `mean` does all of it, or wants memory after a first part
+-- `run` does what the meaning does while the stack has room; `mean` does all of it, or wants memory after a first part
 abbrev pub AnswersWay : List ℕ → List ℕ → Core → Input → Way → Shown → Type 0
 AnswersWay file text core input (Run limits steps leaks) a =
     AnswersProgram file text core input.fails (run_within limits core input.bytes steps leaks) a
-AnswersWay file text core input (Mean steps) a =
-    let done = meant core input.bytes steps in
+AnswersWay file text core input (Mean heap steps) a =
+    let done = meant core input.bytes steps heap in
     AnswersProgram file text core input.fails done a ⊎ ((before : List Event) × (rest : List Event) × (done.events ≡ before ++ rest) × (a ≡ unfinished before))
 
 -- a program is run on a machine
 abbrev pub OnMachine : Way → Type 0
 OnMachine (Run limits steps leaks) = Unit {0}
-OnMachine (Mean steps) = ⊥
+OnMachine (Mean heap steps) = ⊥
 
 -- heap, stack and steps are within the bounds that the machine and the evaluator take
 abbrev pub IsBounded : Way → Type 0
 IsBounded (Run limits steps leaks) = (limits.heap ≤ 268435456) × (limits.stack ≤ 67108864) × (steps ≤ 1000000000)
-IsBounded (Mean steps) = steps ≤ 1000000000
+IsBounded (Mean heap steps) = steps ≤ 1000000000

@@ -106,19 +106,26 @@ fn frees(rt: HostRuntime) -> Result<(), Fail> {
     Ok(())
 }
 
-/// Blocks that are given back are placed again: a thousand objects in a heap that holds one, and the first that finds no place.
+/// Blocks that are given back are placed again: a thousand objects in a heap that holds one; and null for the first that finds
+/// no place.
 #[test]
 fn blocks_are_used_again(rt: HostRuntime) -> Result<(), Fail> {
     let alloc = rt.alloc();
     let text =
         b"int main(void){\nint i;\nfor (i = 0; i < 1000; i = i + 1) { char *p = malloc(16); free(p); }\nchar *a = malloc(16);\nchar *b = malloc(16);\na[0] = 1;\nb[0] = 1;\nreturn 0;}";
-    let rows: [(&[&str], &[u8], u8); 3] = [
+    let rows: [(&[&str], &[u8], u8); 5] = [
         (
             &["run", "a.c", "--heap", "96"],
-            b"a.c:5: out of heap\n  char *b = malloc(16);\n",
-            129,
+            b"a.c:7: trap: null\n  b[0] = 1;\n",
+            128,
+        ),
+        (
+            &["mean", "a.c", "--heap", "96"],
+            b"a.c:7: trap: null\n  b[0] = 1;\n",
+            128,
         ),
         (&["run", "a.c", "--heap", "128"], b"", 0),
+        (&["mean", "a.c", "--heap", "128"], b"", 0),
         (&["mean", "a.c"], b"", 0),
     ];
     for (words, said, status) in rows {
@@ -126,6 +133,29 @@ fn blocks_are_used_again(rt: HostRuntime) -> Result<(), Fail> {
         assert_eq!(rt; seen.status, status);
         assert_eq!(rt; seen.out.bytes(), b"".as_slice());
         assert_eq!(rt; seen.err.bytes(), said);
+    }
+    Ok(())
+}
+
+/// An object that grows: where a new one has no place the old one stays as it was, and else it moves; and null where there is
+/// no place at all.
+#[test]
+fn objects_grow_where_there_is_a_place(rt: HostRuntime) -> Result<(), Fail> {
+    let alloc = rt.alloc();
+    let text =
+        b"int main(void){\nchar *p = malloc(16);\nchar *q;\np[0] = 'k';\n__delay_frees { q = realloc(p, 17); if (!q) q = p; }\nputchar(q[0]);\nfree(q);\nreturn 0;}";
+    let rows: [(&str, &[u8], &[u8], u8); 3] = [
+        ("64", b"k", b"", 0),
+        ("128", b"k", b"", 0),
+        ("0", b"", b"a.c:4: trap: null\n  p[0] = 'k';\n", 128),
+    ];
+    for (heap, out, said, status) in rows {
+        for command in ["run", "mean"] {
+            let seen = answer(alloc, &[command, "a.c", "--heap", heap], text, b"", 9)?;
+            assert_eq!(rt; seen.status, status);
+            assert_eq!(rt; seen.out.bytes(), out);
+            assert_eq!(rt; seen.err.bytes(), said);
+        }
     }
     Ok(())
 }

@@ -10,7 +10,7 @@ ghost use Rattle.command_words.specs.Commands.{Run};
 ghost use Rattle.generated_text.specs.Summary.{summary_line};
 ghost use Rattle.heapsafe.specs.Answer.{AnswersFile, AnswersGenerated, no_input};
 ghost use Rattle.heapsafe.specs.Generated.{IsPrepared, IsPreparedTokens, IsPreparedUnit, MakesOnly, SumsUp, Went, steps_of};
-ghost use Rattle.heapsafe.specs.Program.{AnswersWay, room_of};
+ghost use Rattle.heapsafe.specs.Program.{AnswersWay};
 ghost use Rattle.heapsafe.specs.Reading.{most_bytes};
 ghost use Rattle.heapsafe.specs.Saying.{Breaks, Faults, Gives, HasCause, Refuses, Says, Wants, WriteFails};
 ghost use Rattle.heapsafe.specs.Shown.{Shown, output_fault, written};
@@ -104,7 +104,7 @@ fn run_core(alloc: Global, core: &Core, limits: Limits, steps: u64) -> Result<Ra
     requires stack { limits.stack ≤ 67108864 }
     requires steps { steps ≤ 1000000000 }
     ensures answers { IfOk result (λ ran. (text : List ℕ) → Went (AnswersWay [] text core.now no_input (way.Run limits steps false)) ran) }
-    ensures made { IfOk result (λ ran. ran.steps ≡ steps_of core.now (room_of limits) steps) }
+    ensures made { IfOk result (λ ran. ran.steps ≡ steps_of core.now limits steps) }
 {
     let mut input = SureSource::new(Items::new(alloc));
     let mut out = MemSink::new(alloc, usize::MAX, Items::new(alloc));
@@ -128,7 +128,7 @@ fn run_text(alloc: Global, text: &[u8], limits: Limits, steps: u64) -> Result<Ra
     requires stack { limits.stack ≤ 67108864 }
     requires steps { steps ≤ 1000000000 }
     ensures answers { IfOk result (Went (AnswersFile [] text.now no_input (Run limits.heap limits.stack steps false))) }
-    ensures makes { IfOk result (λ ran. MakesOnly text.now (room_of limits) steps ran.steps) }
+    ensures makes { IfOk result (λ ran. MakesOnly text.now limits steps ran.steps) }
 {
     match prepare(alloc, text)? {
         Prepared::Core(core) => run_core(alloc, &core, limits, steps),

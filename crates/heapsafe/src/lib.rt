@@ -93,17 +93,9 @@ fn with_tree<I: Source, O: Sink, E: Sink>(
             };
             run_program(alloc, file, text, unit, way, input, out, err)
         }
-        Task::Mean { steps } => {
-            run_program(
-                alloc,
-                file,
-                text,
-                unit,
-                Way::Mean { steps },
-                input,
-                out,
-                err,
-            )
+        Task::Mean { heap, steps } => {
+            let way = Way::Mean { heap, steps };
+            run_program(alloc, file, text, unit, way, input, out, err)
         }
         Task::Print => print(alloc, unit, out, err),
         Task::Layout => layouts(alloc, file, text, unit, out, err),

@@ -34,8 +34,9 @@ pub(crate) enum Way {
         steps: u64,
         leaks: bool,
     },
-    /// By the evaluator of the meaning, which knows no limits of heap and stack.
+    /// By the evaluator of the meaning, in a heap of so many bytes; it knows no limit of stack.
     Mean {
+        heap: u32,
         steps: u64,
     },
 }
@@ -49,7 +50,6 @@ pub(crate) fn status_of(end: &End) -> u8
         End::BadFree(..) => 126,
         End::Escape { .. } => 127,
         End::Trap(..) => 128,
-        End::OutOfHeap(_) => 129,
         End::OutOfStack(_) => 130,
         End::Spent => 131,
         End::InputFault => 132,
@@ -152,6 +152,7 @@ fn mean_core<I: Source, O: Sink, E: Sink>(
     file: &str,
     text: &[u8],
     core: &Core,
+    heap: u32,
     steps: u64,
     input: &mut I,
     out: &mut O,
@@ -162,16 +163,16 @@ fn mean_core<I: Source, O: Sink, E: Sink>(
     requires input { I.faults input.old + 1 < 2 ^ 64 }
     requires out { O.faults out.old + 1 < 2 ^ 64 }
     requires err { E.faults err.old + 1 < 2 ^ 64 }
-    ensures exact { (left : List ℕ) → I.left input.old ≡ Some left → O.faults out.new ≡ O.faults out.old → E.faults err.new ≡ E.faults err.old → Gives (AnswersWay file.now text.now core.now (input_of left (I.faults input.old) (I.faults input.new)) (Way.Mean steps)) left (I.left input.new) (O.taken out.old) (O.taken out.new) (E.taken err.old) (E.taken err.new) result }
+    ensures exact { (left : List ℕ) → I.left input.old ≡ Some left → O.faults out.new ≡ O.faults out.old → E.faults err.new ≡ E.faults err.old → Gives (AnswersWay file.now text.now core.now (input_of left (I.faults input.old) (I.faults input.new)) (Way.Mean heap steps)) left (I.left input.new) (O.taken out.old) (O.taken out.new) (E.taken err.old) (E.taken err.new) result }
     ensures faults { (t : ℕ) → Faults t t (I.faults input.old) (I.faults input.new) (O.faults out.old) (O.faults out.new) (E.faults err.old) (E.faults err.new) result }
     ensures input_fault { I.faults input.old < I.faults input.new → Says (E.taken err.old) (E.taken err.new) (E.faults err.old) (E.faults err.new) input_fault.err 132 result }
     ensures output_fault { O.faults out.old < O.faults out.new → Says (E.taken err.old) (E.taken err.new) (E.faults err.old) (E.faults err.new) output_fault.err 133 result }
-    ensures broken { (left : List ℕ) → I.left input.old ≡ Some left → WriteFails (O.faults out.old) (O.faults out.new) (E.faults err.old) (E.faults err.new) → (a : Shown) → AnswersWay file.now text.now core.now (steady left) (Way.Mean steps) a → SaysMore a → Breaks a left (I.left input.new) (O.taken out.old) (O.taken out.new) (E.taken err.old) (E.taken err.new) }
+    ensures broken { (left : List ℕ) → I.left input.old ≡ Some left → WriteFails (O.faults out.old) (O.faults out.new) (E.faults err.old) (E.faults err.new) → (a : Shown) → AnswersWay file.now text.now core.now (steady left) (Way.Mean heap steps) a → SaysMore a → Breaks a left (I.left input.new) (O.taken out.old) (O.taken out.new) (E.taken err.old) (E.taken err.new) }
     ensures memory { Wants (⊤) (⊤) (E.taken err.old) (E.taken err.new) result }
     ensures cause { HasCause ((I.faults input.old < I.faults input.new) ⊎ WriteFails (O.faults out.old) (O.faults out.new) (E.faults err.old) (E.faults err.new)) ⊤ (E.taken err.old) (E.taken err.new) result }
     ensures refused { Refuses ((input.new ≡ input.old) × (out.new ≡ out.old)) ⊤ (E.taken err.old) (E.taken err.new) result }
 {
-    match evaluate(alloc, core, steps, input, out) {
+    match evaluate(alloc, core, steps, heap, input, out) {
         Ok(end) => finish(&end, core, file, text, err),
         Err(_) => refuse(err, Refusal::NoMemory),
     }
@@ -210,7 +211,9 @@ fn go<I: Source, O: Sink, E: Sink>(
         } => run_core(
             alloc, file, text, core, limits, steps, leaks, input, out, err,
         ),
-        Way::Mean { steps } => mean_core(alloc, file, text, core, steps, input, out, err),
+        Way::Mean { heap, steps } => {
+            mean_core(alloc, file, text, core, heap, steps, input, out, err)
+        }
     }
 }
 

@@ -389,11 +389,13 @@ fn objects(rt: HostRuntime) -> Result<(), Fail> {
     Ok(())
 }
 
-/// Programs with objects of the heap, each with its error stream and its status. The meaning has a heap without end.
+/// Programs with objects of the heap, each with its error stream and its status. A call that finds no place answers null.
 #[test]
 fn heaps(rt: HostRuntime) -> Result<(), Fail> {
     let alloc = rt.alloc();
     let two = b"int main(void){\nchar *a = malloc(16);\nchar *b = malloc(15);\nreturn 0;}";
+    let used =
+        b"int main(void){\nchar *a = malloc(16);\nchar *b = malloc(15);\nb[0] = 1;\nreturn a == b;}";
     let past = b"int main(void){\nchar *p = malloc(5);\np[4] = 1;\np[5] = 1;\nreturn 0;}";
     let slot = b"int main(void){\nvoid *v = malloc(8);\nchar **q = v;\n*q = 0;\nreturn 0;}";
     let large = b"int main(void){\nchar *p = malloc(-1);\nreturn 0;}";
@@ -401,21 +403,26 @@ fn heaps(rt: HostRuntime) -> Result<(), Fail> {
     let sum =
         b"int main(void){int i;int s=0;int *p=malloc(5*sizeof(int));for(i=0;i<5;i++)p[i]=i;for(i=0;i<5;i++)s+=p[i];return s;}";
     let zeros = b"int main(void){char *p=calloc(3,2);p[0]=5;return p[0]+p[5];}";
-    let rows: [(&[&str], &[u8], &[u8], u8); 12] = [
+    let rows: [(&[&str], &[u8], &[u8], u8); 19] = [
         (&["run", "a.c", "--heap", "112"], two, b"", 0),
+        (&["run", "a.c", "--heap", "111"], two, b"", 0),
+        (&["run", "a.c", "--heap", "0"], two, b"", 0),
+        (&["mean", "a.c"], two, b"", 0),
+        (&["mean", "a.c", "--heap", "0"], two, b"", 0),
+        (&["run", "a.c", "--heap", "112"], used, b"", 0),
+        (&["mean", "a.c", "--heap", "112"], used, b"", 0),
         (
             &["run", "a.c", "--heap", "111"],
-            two,
-            b"a.c:3: out of heap\n  char *b = malloc(15);\n",
-            129,
+            used,
+            b"a.c:4: trap: null\n  b[0] = 1;\n",
+            128,
         ),
         (
-            &["run", "a.c", "--heap", "0"],
-            two,
-            b"a.c:2: out of heap\n  char *a = malloc(16);\n",
-            129,
+            &["mean", "a.c", "--heap", "111"],
+            used,
+            b"a.c:4: trap: null\n  b[0] = 1;\n",
+            128,
         ),
-        (&["mean", "a.c"], two, b"", 0),
         (
             &["run", "a.c"],
             past,
@@ -440,18 +447,10 @@ fn heaps(rt: HostRuntime) -> Result<(), Fail> {
             b"a.c:4: trap: layout\n  *q = 0;\n",
             128,
         ),
-        (
-            &["run", "a.c"],
-            large,
-            b"a.c:2: out of heap\n  char *p = malloc(-1);\n",
-            129,
-        ),
-        (
-            &["run", "a.c"],
-            many,
-            b"a.c:2: out of heap\n  char *p = calloc(65536, 65536);\n",
-            129,
-        ),
+        (&["run", "a.c"], large, b"", 0),
+        (&["mean", "a.c"], large, b"", 0),
+        (&["run", "a.c"], many, b"", 0),
+        (&["mean", "a.c"], many, b"", 0),
         (&["run", "a.c"], sum, b"", 10),
         (&["run", "a.c"], zeros, b"", 5),
     ];

@@ -17,7 +17,6 @@ ghost use Rattle.flat_machine.specs.Machined.{IsOf, steps_made};
 ghost use Rattle.flat_machine.specs.Running.{RunCounts};
 ghost use Rattle.flat_objects.specs.Leaks.{KeepsSome};
 ghost use Rattle.meaning_run.specs.Meant.{MeanAnswers, MeanCounts};
-ghost use Rattle.heapsafe.specs.Program.{room_of};
 ghost use Rattle.heapsafe.specs.Saying.{Puts};
 
 use crate::lent::{Lent, Told};
@@ -78,10 +77,10 @@ pub(crate) fn run_code<I: Source, O: Sink>(
     requires steps { steps ≤ 1000000000 }
     requires input { I.faults input.old + 1 < 2 ^ 64 }
     requires out { O.faults out.old + 1 < 2 ^ 64 }
-    ensures told { IfOk result (λ ran. (left : List ℕ) → I.left input.old ≡ Some left → Puts (RunAnswers core.now left steps (room_of limits) [] ran.0 (I.left input.new)) (O.taken out.old) (O.taken out.new)) }
-    ensures made { IfOk result (λ ran. (left : List ℕ) → I.left input.old ≡ Some left → MakesSteps core.now left steps (room_of limits) ran.0 (steps_made ran.1)) }
+    ensures told { IfOk result (λ ran. (left : List ℕ) → I.left input.old ≡ Some left → Puts (RunAnswers core.now left steps limits [] ran.0 (I.left input.new)) (O.taken out.old) (O.taken out.new)) }
+    ensures made { IfOk result (λ ran. (left : List ℕ) → I.left input.old ≡ Some left → MakesSteps core.now left steps limits ran.0 (steps_made ran.1)) }
     ensures kept { IfOk result (λ ran. KeepsSome ran.1.kept.memory) }
-    ensures left { IfOk result (λ ran. (left : List ℕ) → I.left input.old ≡ Some left → (pins : Pins) × AreExact core.now pins × LeavesImage core.now pins left steps (room_of limits) ran.0 ran.1.kept) }
+    ensures left { IfOk result (λ ran. (left : List ℕ) → I.left input.old ≡ Some left → (pins : Pins) × AreExact core.now pins × LeavesImage core.now pins left steps limits ran.0 ran.1.kept) }
     ensures faults { IfOk result (λ ran. RunCounts ran.0 (I.faults input.old) (I.faults input.new) (O.faults out.old) (O.faults out.new)) }
     ensures input_stays { OnErr result (input.new ≡ input.old) }
     ensures out_stays { OnErr result (out.new ≡ out.old) }
@@ -100,6 +99,7 @@ fn mean_lent<'a, I: Source, O: Sink, K: Lent>(
     alloc: Global,
     core: &Core,
     steps: u64,
+    heap: u32,
     input: &mut I,
     out: &'a mut O,
 ) -> (&'a mut O, Result<End, NoMemory>)
@@ -110,20 +110,22 @@ fn mean_lent<'a, I: Source, O: Sink, K: Lent>(
     requires same_loan { out.ghost_name ≡ K.name }
     requires taken { O.taken out.old ≡ K.taken }
     ensures same_reference { result.0.ghost_name ≡ out.entry.ghost_name }
-    ensures told { (left : List ℕ) → I.left input.old ≡ Some left → Puts (MeanAnswers core.now left steps [] result.1 (I.left input.new)) (O.taken out.old) (O.taken result.0.now) }
+    ensures told { (left : List ℕ) → I.left input.old ≡ Some left → Puts (MeanAnswers core.now left steps heap [] result.1 (I.left input.new)) (O.taken out.old) (O.taken result.0.now) }
     ensures faults { MeanCounts result.1 (I.faults input.old) (I.faults input.new) (O.faults out.old) (O.faults result.0.now) }
 {
     let mut told = Told::<O, K>::new(out);
-    let ended = mean(alloc, core, input, &mut told, steps);
+    let ended = mean(alloc, core, input, &mut told, steps, heap);
     let Told { sink, .. } = told;
     (sink, ended)
 }
 
-/// Evaluates the meaning of a core, which knows no limits of heap and stack: its end. Memory may be wanted at any time.
+/// Evaluates the meaning of a core in a heap of so many bytes; it knows no limit of stack. It answers its end. Memory may be
+/// wanted at any time.
 pub(crate) fn evaluate<I: Source, O: Sink>(
     alloc: Global,
     core: &Core,
     steps: u64,
+    heap: u32,
     input: &mut I,
     out: &mut O,
 ) -> Result<End, NoMemory>
@@ -131,9 +133,9 @@ pub(crate) fn evaluate<I: Source, O: Sink>(
     requires steps { steps ≤ 1000000000 }
     requires input { I.faults input.old + 1 < 2 ^ 64 }
     requires out { O.faults out.old + 1 < 2 ^ 64 }
-    ensures told { (left : List ℕ) → I.left input.old ≡ Some left → Puts (MeanAnswers core.now left steps [] result (I.left input.new)) (O.taken out.old) (O.taken out.new) }
+    ensures told { (left : List ℕ) → I.left input.old ≡ Some left → Puts (MeanAnswers core.now left steps heap [] result (I.left input.new)) (O.taken out.old) (O.taken out.new) }
     ensures faults { MeanCounts result (I.faults input.old) (I.faults input.new) (O.faults out.old) (O.faults out.new) }
 {
-    let (_, ended) = mean_lent::<I, O, Brand>(alloc, core, steps, input, out);
+    let (_, ended) = mean_lent::<I, O, Brand>(alloc, core, steps, heap, input, out);
     ended
 }

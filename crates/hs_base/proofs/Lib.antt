@@ -2,3 +2,4 @@ pub mod Running
 pub mod Wrapping
 pub mod Quotients
 pub mod Words
+pub mod Placing

@@ -1,5 +1,5 @@
 -- Where heap objects are placed: by first fit over the blocks that are held.
-use Rattle.std.specs.Prelude.{ℕ, zero, suc, ◌+◌, ◌*◌, ◌/◌, Bool, cond, not, ◌&&◌, ◌||◌, nat_le, nat_eq, List, [], ◌∷◌, ◌++◌, filter, Option, Some, None}
+use Rattle.std.specs.Prelude.{ℕ, zero, suc, ◌+◌, ◌*◌, ◌/◌, Bool, cond, not, ◌&&◌, ◌||◌, is_some, nat_le, nat_eq, List, [], ◌∷◌, ◌++◌, filter, Option, Some, None}
 use Rattle.std.specs.List.{list_all}
 use Rattle.hs_base.specs.Trace.{Event, New, Gone}
 
@@ -49,3 +49,11 @@ blocks_after heap held (_ ∷ events) = blocks_after heap held events
 -- the place of a new object of that size after a trace, if there is one
 abbrev pub place_after : ℕ → List Event → ℕ → Option ℕ
 place_after heap trace size = first_fit (blocks_after heap [] trace) heap (block_size size)
+
+-- is there one?
+abbrev pub has_place : ℕ → List Event → ℕ → Bool
+has_place heap trace size = is_some (place_after heap trace size)
+
+-- is there one beside some blocks?
+abbrev pub fits_beside : ℕ → List Block → ℕ → Bool
+fits_beside heap held size = is_some (first_fit held heap (block_size size))

@@ -23,7 +23,6 @@ pub data Ending : Type 0 where
   Escape : (func local line : ℕ) → Ending
   Spent : Ending
   Dangling : Ending
-  OutOfHeap : (line : ℕ) → Ending
   OutOfStack : (line : ℕ) → Ending
 
 -- the bytes that a trace writes
@@ -55,5 +54,4 @@ end_of (BadFree reason line holder) = Some (end.BadFree (record { reason = reaso
 end_of (Escape func local line) = Some (end.Escape func local line)
 end_of Spent = Some end.Spent
 end_of Dangling = None
-end_of (OutOfHeap line) = Some (end.OutOfHeap line)
 end_of (OutOfStack line) = Some (end.OutOfStack line)

@@ -105,8 +105,6 @@ pub enum End {
     Escape { func: u32, local: u32, line: Line },
     /// Where one step more would be made than is allowed.
     Spent,
-    /// Where a new object has no place in the heap.
-    OutOfHeap(Line),
     /// Where a call does not fit the stack.
     OutOfStack(Line),
     /// The input failed.

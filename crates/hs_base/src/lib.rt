@@ -11,7 +11,7 @@
 //! - [`FlatBytes`] is memory as a list of bytes, each read and write of which is one step of a counter, [`Steps`].
 //!
 //! `specs/` has the definitions that several crates speak of: objects, states, access, freeing, placement, cost,
-//! events, ends, and how a finished trace is cut by the limits.
+//! events, ends, and how a finished trace is cut by the size of the stack.
 #![tactic(auto)]
 
 mod ends;

@@ -8,7 +8,7 @@ ghost use Rattle.machine_tests.specs.Freed.{link, one_freed, two_freed, two_inst
 use c_types::Layout;
 use flat_code::{Code, Entry, Instr, Op, Site};
 use flat_machine::Machine;
-use hs_base::{End, Items, Limits, MemSink, MemSource, NoMemory};
+use hs_base::{End, Items, Limits, MemSink, MemSource, NoMemory, TrapKind};
 use std::alloc::Global;
 use std::test::Fail;
 
@@ -181,5 +181,39 @@ fn two_objects_that_hold_each_other_are_freed(rt: HostRuntime) -> Result<(), Fai
     let mut out = MemSink::new(alloc, 1, Items::new(alloc));
     let end = machine.run(&code, &mut input, &mut out, 9);
     assert_eq!(rt; end, End::Exit(7));
+    Ok(())
+}
+
+#[test]
+fn malloc_answers_null_where_the_heap_has_no_place(rt: HostRuntime) -> Result<(), Fail> {
+    let alloc = rt.alloc();
+    let code = one_freed(alloc)?;
+    // a block of 4 bytes takes 48
+    let limits = Limits {
+        heap: 47,
+        stack: 32,
+    };
+    let mut machine = Machine::load(alloc, &code, limits)?;
+    let mut input = MemSource::new(Items::new(alloc), Items::new(alloc));
+    let mut out = MemSink::new(alloc, 1, Items::new(alloc));
+    let end = machine.run(&code, &mut input, &mut out, 9);
+    assert_eq!(rt; end, End::Exit(7));
+    Ok(())
+}
+
+#[test]
+fn the_null_of_a_full_heap_traps_where_it_is_used(rt: HostRuntime) -> Result<(), Fail> {
+    let alloc = rt.alloc();
+    let code = two_freed(alloc)?;
+    // there is room for the first object alone
+    let limits = Limits {
+        heap: 95,
+        stack: 32,
+    };
+    let mut machine = Machine::load(alloc, &code, limits)?;
+    let mut input = MemSource::new(Items::new(alloc), Items::new(alloc));
+    let mut out = MemSink::new(alloc, 1, Items::new(alloc));
+    let end = machine.run(&code, &mut input, &mut out, 9);
+    assert_eq!(rt; end, End::Trap(TrapKind::Null, 4));
     Ok(())
 }

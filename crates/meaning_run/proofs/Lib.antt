@@ -7,3 +7,4 @@ pub mod Growing
 pub mod Printfs
 pub mod Steps
 pub mod Reached
+pub mod Quiet

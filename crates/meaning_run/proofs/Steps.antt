@@ -1,10 +1,9 @@
 -- One statement, as the evaluator's caller sees it.
-use Rattle.std.proofs.Common.{All, pos, ◌≤ℤ◌, IfOk, ◌≡◌, ℕ, zero, suc, ◌+◌, ◌<◌, ◌≤◌, List, [], ◌∷◌, length, Option, Some, None, Ok, Err, IsSome, refl, sym, ap, ◌∙◌, subst, arith}
+use Rattle.std.proofs.Common.{All, pos, ◌≤ℤ◌, IfOk, ◌≡◌, ℕ, zero, suc, ◌+◌, ◌<◌, ◌≤◌, Bool, List, [], ◌∷◌, length, Option, Some, None, Ok, Err, IsSome, refl, sym, ap, ◌∙◌, subst, arith}
 use Rattle.std.specs.Prelude.{slice_get, slice_index_or}
 use Rattle.std.proofs.lemmas.Int.{ints}
 use Rattle.std.proofs.lemmas.Option.{get_or_from_slice_get}
 use Rattle.hs_base.specs.State.{State}
-use Rattle.hs_base.specs.Trace.{Event}
 use Rattle.hs_base.specs.Runs as runs
 use Rattle.c_types.specs.declared.layouts.Layout.{Layout}
 use Rattle.c_print.specs.Format.{IsFormat}
@@ -22,13 +21,13 @@ use Rattle.core_tree.specs.declared.program.Core.{Core}
 use Rattle.core_tree.specs.Sound.{IsSound, IsFunction, HasNumbers, element_layouts}
 use Rattle.object_meaning.specs.Going.{Next}
 use Rattle.object_meaning.specs.Holding.{statement_in, statement_at}
-use Rattle.object_meaning.specs.Meaning.{format_in, start, act, unless_reads_stale, act_at, step, enough}
-use Rattle.object_meaning.proofs.Falls.{Falls, step_falls_at}
+use Rattle.object_meaning.specs.Meaning.{format_in, start, act, unless_reads_stale, act_at, enough, step_by}
+use Rattle.object_meaning.proofs.Falls.{Falls, step_by_falls}
 use Rattle.object_meaning.proofs.Forward.{all_forward}
 use Rattle.object_meaning.proofs.Frames.{Good}
 use Rattle.object_meaning.proofs.Operands.{operands_fresh}
 use Rattle.object_meaning.proofs.Standing.{Stays}
-use Rattle.object_meaning.proofs.Acting.{step_stays_at, found}
+use Rattle.object_meaning.proofs.Acting.{step_by_stays, found}
 use Rattle.object_meaning.proofs.Beginning.{begins}
 use Rattle.object_meaning.specs.Calls.{with_locals}
 use Rattle.meaning_state.specs.Making.{IsElement}
@@ -95,41 +94,42 @@ pub function_of : (core : Core) → IsSound core → (s : State) → (good : Goo
 function_of core sound s good stm h = (good.0, good.1.here, same_stm core s good stm h, sound.functions s.running.func good.0 good.1.here)
 
 -- no operand is stale, so the statement is made
-pub step_is : (core : Core) → IsSound core → (trace : List Event) (s : State) → Good core s → (stm : Stm) → Some stm ≡ statement_at core s.running → step core trace s ≡ act core stm.line stm.kind s
-step_is core sound trace s good stm h =
+pub step_is : (core : Core) → IsSound core → (fits : ℕ → Bool) (s : State) → Good core s → (stm : Stm) → Some stm ≡ statement_at core s.running → step_by core fits s ≡ act core fits stm.line stm.kind s
+step_is core sound fits s good stm h =
     let at = same_stm core s good stm h in
     let typed = (sound.functions s.running.func good.0 good.1.here).typed s.running.point stm at in
     let alive = operands_fresh core good.0 s.scopes s good.1 stm at typed in
-    ap (λ o. act_at core o s) (sym h) ∙ ap (λ b. unless_reads_stale b core stm s) alive
+    ap (λ o. act_at core fits o s) (sym h) ∙ ap (λ b. unless_reads_stale b core fits stm s) alive
 
 -- what a statement of a good state leads to
 stays_on : (core : Core) (next : Next) (new : State) → Stays core next → Moves next new (Ok tt) → Good core new
 stays_on core (runs.Goes before events after) new stays m = good_without core new after after.input m stays
 stays_on core (runs.Stops before events after ending) new stays m = absurd m
 
-pub good_next : (core : Core) → IsSound core → (old new : State) → Good core old → (m : (left : List ℕ) × Moves (step core [] (with_input left old)) new (Ok tt)) → Good core new
-good_next core sound old new good m =
-    stays_on core (step core [] (with_input m.0 old)) new (step_stays_at core sound [] (with_input m.0 old) (good_input core old m.0 good)) m.1
+pub good_next : (core : Core) → IsSound core → (fits : ℕ → Bool) (old new : State) → Good core old → (m : (left : List ℕ) × Moves (step_by core fits (with_input left old)) new (Ok tt)) → Good core new
+good_next core sound fits old new good m =
+    stays_on core (step_by core fits (with_input m.0 old)) new (step_by_stays core sound fits (with_input m.0 old) (good_input core old m.0 good)) m.1
 
 falls_on : (core : Core) (next : Next) (old new : State) → Falls core old next → Moves next new (Ok tt) → enough core new < enough core old
 falls_on core (runs.Goes before events after) old new f m = subst (λ (x : State). enough core x < enough core old) m f
 falls_on core (runs.Stops before events after ending) old new f m = absurd m
 
-pub less_next : (core : Core) → IsSound core → (old new : State) → (m : (left : List ℕ) × Moves (step core [] (with_input left old)) new (Ok tt)) → enough core new < enough core old
-less_next core sound old new m =
-    falls_on core (step core [] (with_input m.0 old)) (with_input m.0 old) new (step_falls_at core (all_forward core sound) [] (with_input m.0 old)) m.1
+pub less_next : (core : Core) → IsSound core → (fits : ℕ → Bool) (old new : State) → (m : (left : List ℕ) × Moves (step_by core fits (with_input left old)) new (Ok tt)) → enough core new < enough core old
+less_next core sound fits old new m =
+    falls_on core (step_by core fits (with_input m.0 old)) (with_input m.0 old) new (step_by_falls core (all_forward core sound) fits (with_input m.0 old)) m.1
 
 never_so : (next : Next) (new : State) (core : Core) → Stays core next → Moves next new (Err halt.Dangling) → ⊥
 never_so (runs.Goes before events after) new core stays m = m
 never_so (runs.Stops before events after ending) new core stays m = stays m
 
 -- it does not read a pointer to a dead object
-pub never : (core : Core) → IsSound core → (old new : State) → Good core old → (m : (left : List ℕ) × Moves (step core [] (with_input left old)) new (Err halt.Dangling)) → ⊥
-never core sound old new good m =
-    never_so (step core [] (with_input m.0 old)) new core (step_stays_at core sound [] (with_input m.0 old) (good_input core old m.0 good)) m.1
+pub never : (core : Core) → IsSound core → (fits : ℕ → Bool) (old new : State) → Good core old → (m : (left : List ℕ) × Moves (step_by core fits (with_input left old)) new (Err halt.Dangling)) → ⊥
+never core sound fits old new good m =
+    never_so (step_by core fits (with_input m.0 old)) new core (step_by_stays core sound fits (with_input m.0 old) (good_input core old m.0 good)) m.1
 
-pub step_at : (core : Core) → IsSound core → (trace : List Event) (s : State) → Good core s → (stm : Stm) (kind : StmKind) → Some stm ≡ statement_at core s.running → stm.kind ≡ kind → step core trace s ≡ act core stm.line kind s
-step_at core sound trace s good stm kind h e = step_is core sound trace s good stm h ∙ ap (λ k. act core stm.line k s) e
+pub step_at : (core : Core) → IsSound core → (fits : ℕ → Bool) (s : State) → Good core s → (stm : Stm) (kind : StmKind) → Some stm ≡ statement_at core s.running → stm.kind ≡ kind → step_by core fits s ≡ act core fits stm.line kind s
+step_at core sound fits s good stm kind h e =
+    step_is core sound fits s good stm h ∙ ap (λ k. act core fits stm.line k s) e
 
 -- The facts of a sound core at a statement
 
@@ -181,7 +181,7 @@ starts_good core sound m n steps e is = subst (λ (s : State). Good core s) (sym
 pub starts_begun : (core : Core) (m : State) (input : List ℕ) (n steps : ℕ) → steps + 1 ≡ n → m ≡ with_locals core (start core [] steps) → Begins core input n m
 starts_begun core m input n steps e is =
     let f : n ≡ suc steps = omega arith in
-    rw f (record { goes = refl; state = ap (with_input input) (sym is); writes = refl; reads = refl })
+    rw f (record { goes = refl; state = ap (with_input input) (sym is); writes = refl; reads = refl; places = λ heap. refl })
 
 pub statics_short : (core : Core) → IsSound core → All (λ (s : Static). length s.start.bytes ≤ s.layout.size) core.statics
 statics_short core sound k d b = (sound.statics k d b).inside

@@ -8,6 +8,7 @@ use Rattle.core_tree.specs.declared.statements.LibName.TheVariants as lib
 use Rattle.core_tree.specs.declared.statements.StmKind.{StmKind}
 use Rattle.core_tree.specs.declared.statements.StmKind.TheVariants as stm
 use Rattle.object_meaning.specs.Going.{Next}
+use Rattle.meaning_state.specs.Fitting.{Held, held_after}
 use Rattle.meaning_run.specs.declared.halt.Halt.{Halt}
 use Rattle.meaning_run.specs.declared.halt.Halt.TheVariants as halt
 use Rattle.meaning_run.specs.Ending.{Ends}
@@ -31,6 +32,19 @@ Alone left next new (Err h) = StopsAlone next h
 Alone left (runs.Goes before events after) new (Ok u) = IsSilent events × (after ≡ with_input left new)
 Alone left (runs.Stops before events after ending) new (Ok u) = ⊥
 
+abbrev pub events_of : Next → List Event
+events_of (runs.Goes before events after) = events
+events_of (runs.Stops before events after ending) = events
+
+-- the blocks that are held behind a statement are those behind its events, where the run goes on
+abbrev pub Placed : Next → Held → Held → Result Unit Halt → Type 0
+Placed next before after (Err h) = Unit {0}
+Placed next before after (Ok u) = after ≡ held_after before (events_of next)
+
+-- a statement that neither writes nor reads a byte led to a new state and to these blocks, or ended the run
+abbrev pub AlonePlaced : List ℕ → Next → State → Held → Held → Result Unit Halt → Type 0
+AlonePlaced left next new before after result = Alone left next new result × Placed next before after result
+
 -- the run has ended in any way
 abbrev pub StopsSo : Next → Halt → Type 0
 StopsSo next halt.NoMemory = Unit {0}
@@ -49,10 +63,6 @@ Moves (runs.Stops before events after ending) new (Ok u) = ⊥
 abbrev pub AsksByte : Next → Type 0
 AsksByte (runs.Goes before (In byte ∷ events) after) = Unit {0}
 AsksByte _ = ⊥
-
-abbrev pub events_of : Next → List Event
-events_of (runs.Goes before events after) = events
-events_of (runs.Stops before events after ending) = events
 
 -- a first part of the bytes of a statement was written, and no byte was read
 pub record PutsPart (next : Next) (taken : List ℕ) (taken' : Option (List ℕ)) : Type 0 where

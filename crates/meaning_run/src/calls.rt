@@ -1,6 +1,6 @@
 //! Jumps, calls, and returns with the end of memory locals (C99 6.5.2.2, 6.8.6).
 
-ghost use Rattle.std.specs.Prelude.{◌≡◌, ◌≤◌, ◌+◌, ◌<◌, ◌^◌, ◌++◌, [], All, ℕ, List, None, Some, IfOk, IfSome, MatchOption, length, map, drop, slice_get, slice_index};
+ghost use Rattle.std.specs.Prelude.{◌≡◌, ◌≤◌, ◌+◌, ◌<◌, ◌^◌, ◌++◌, [], All, ℕ, Bool, List, None, Some, IfOk, IfSome, MatchOption, length, map, drop, slice_get, slice_index};
 ghost use Rattle.std.specs.List.{range_with_len};
 ghost use Rattle.hs_base.specs.Freeing.{first_held, ended};
 ghost use Rattle.core_tree.specs.Sound.{main_of};
@@ -323,7 +323,7 @@ impl Machine {
     ) -> Result<(), Halt>
         requires point { self.old.running.point + 1 < 2 ^ 64 }
         requires jump { IsJump kind.now }
-        ensures { (left : List ℕ) → Alone left (act core.now line kind.now (with_input left self.old)) self.new result }
+        ensures { (fits : ℕ → Bool) (left : List ℕ) → Alone left (act core.now fits line kind.now (with_input left self.old)) self.new result }
     {
         match kind {
             StmKind::Jump(l) => {

@@ -1,12 +1,12 @@
 //! Runs: the first call of main, one statement after another, and the end.
 
 ghost use Rattle.std.specs.Prelude.{◌≡◌, ◌≢◌, ◌+◌, ◌<◌, ◌≤◌, ◌^◌, ℕ, List, [], All, IfOk, Some};
-ghost use Rattle.hs_base.specs.Trace.{Event};
 ghost use Rattle.core_tree.specs.Sound.{IsSound, HasNumbers, element_layouts, is_main, main_of};
-ghost use Rattle.object_meaning.specs.Meaning.{act, step};
+ghost use Rattle.object_meaning.specs.Meaning.{act, step_by};
 ghost use Rattle.object_meaning.proofs.Frames.{Good};
+ghost use Rattle.meaning_state.specs.Fitting.{fits_in};
 ghost use Rattle.meaning_state.specs.Making.{IsElement};
-ghost use Rattle.meaning_run.specs.Leading.{Alone, Moves, Seen, Counted, with_input};
+ghost use Rattle.meaning_run.specs.Leading.{AlonePlaced, Placed, Moves, Seen, Counted, with_input};
 ghost use Rattle.meaning_run.specs.Groups.{IsAlone, IsOf};
 ghost use Rattle.meaning_run.specs.Meant.{MeanAnswers, MeanCounts, HasNoLimit, Begins, answer_of};
 
@@ -14,6 +14,7 @@ use crate::halt::Halt;
 use crate::machine::Machine;
 use core_tree::{Core, Func, StmKind};
 use hs_base::{End, Line, NoMemory, Sink, Source};
+use meaning_state::HeldBlocks;
 use std::alloc::Global;
 
 /// Says whether a function is named main.
@@ -90,6 +91,7 @@ fn act_alone(
     machine: &mut Machine,
     alloc: Global,
     core: &Core,
+    held: &mut HeldBlocks,
     line: Line,
     kind: &StmKind,
 ) -> Result<(), Halt>
@@ -97,12 +99,12 @@ fn act_alone(
     requires alone { IsAlone kind.now }
     requires numbers { HasNumbers kind.now }
     requires elements { All IsElement (element_layouts kind.now) }
-    ensures { (left : List ℕ) → Alone left (act core.now line kind.now (with_input left machine.old)) machine.new result }
+    ensures { (left : List ℕ) → AlonePlaced left (act core.now (fits_in held.old) line kind.now (with_input left machine.old)) machine.new held.old held.new result }
 {
     match group_of(kind) {
         Group::Values => machine.act_values(line, kind),
         Group::Memory => machine.act_memory(alloc, line, kind),
-        Group::Heap => machine.act_heap(alloc, core, line, kind),
+        Group::Heap => machine.act_heap(alloc, core, held, line, kind),
         Group::Jump => machine.act_jump(alloc, core, line, kind),
         Group::Outside => unreachable!(),
     }
@@ -113,6 +115,7 @@ fn one_step<I: Source, O: Sink>(
     machine: &mut Machine,
     alloc: Global,
     core: &Core,
+    held: &mut HeldBlocks,
     input: &mut I,
     out: &mut O,
 ) -> Result<(), Halt>
@@ -120,9 +123,10 @@ fn one_step<I: Source, O: Sink>(
     requires good { Good core.now machine.old }
     requires input { I.faults input.old + 1 < 2 ^ 64 }
     requires out { O.faults out.old + 1 < 2 ^ 64 }
-    ensures told { (left taken : List ℕ) (trace : List Event) → I.left input.old ≡ Some left → O.taken out.old ≡ Some taken → Seen (step core.now trace (with_input left machine.old)) left taken result machine.new (I.left input.new) (O.taken out.new) }
+    ensures told { (left taken : List ℕ) → I.left input.old ≡ Some left → O.taken out.old ≡ Some taken → Seen (step_by core.now (fits_in held.old) (with_input left machine.old)) left taken result machine.new (I.left input.new) (O.taken out.new) }
+    ensures held { (left : List ℕ) → Placed (step_by core.now (fits_in held.old) (with_input left machine.old)) held.old held.new result }
     ensures faults { Counted result (I.faults input.old) (I.faults input.new) (O.faults out.old) (O.faults out.new) }
-    ensures moves { (left : List ℕ) × Moves (step core.now [] (with_input left machine.old)) machine.new result }
+    ensures moves { (left : List ℕ) × Moves (step_by core.now (fits_in held.old) (with_input left machine.old)) machine.new result }
 {
     let Some(stm) = machine.statement(core) else {
         unreachable!()
@@ -134,7 +138,7 @@ fn one_step<I: Source, O: Sink>(
         StmKind::Printf(r, k, args) => {
             machine.act_printf(alloc, core, stm.line, *r, *k, args.as_slice(), out)
         }
-        kind => act_alone(machine, alloc, core, stm.line, kind),
+        kind => act_alone(machine, alloc, core, held, stm.line, kind),
     }
 }
 
@@ -161,42 +165,46 @@ fn end_of_run<I: Source, O: Sink>(
     machine: &mut Machine,
     alloc: Global,
     core: &Core,
+    held: &mut HeldBlocks,
     input: &mut I,
     out: &mut O,
 ) -> Result<End, NoMemory>
     requires sound { IsSound core.now }
     requires good { Good core.now machine.old }
+    requires none { held.old.blocks ≡ [] }
     requires input { I.faults input.old + 1 < 2 ^ 64 }
     requires out { O.faults out.old + 1 < 2 ^ 64 }
-    ensures told { (left taken : List ℕ) (n : ℕ) → I.left input.old ≡ Some left → O.taken out.old ≡ Some taken → Begins core.now left n machine.old → MeanAnswers core.now left n taken result (I.left input.new) (O.taken out.new) }
+    ensures told { (left taken : List ℕ) (n : ℕ) → I.left input.old ≡ Some left → O.taken out.old ≡ Some taken → Begins core.now left n machine.old → MeanAnswers core.now left n held.old.heap taken result (I.left input.new) (O.taken out.new) }
     ensures faults { MeanCounts result (I.faults input.old) (I.faults input.new) (O.faults out.old) (O.faults out.new) }
     ensures limits { IfOk result HasNoLimit }
 {
     'statements: loop {
-        match one_step(machine, alloc, core, input, out) {
+        match one_step(machine, alloc, core, held, input, out) {
             Ok(()) => {}
             Err(halt) => return answer(halt),
         }
     }
 }
 
-/// Evaluates the object meaning of a sound core with at most so many steps (C99 5.1.2.3). Where input and output are told,
-/// it writes exactly the bytes of the meaning, takes exactly the bytes that the meaning reads, and answers its end. All
-/// output is put before a byte of input is asked for and before the run ends. It ends by a fault of the input or the output
-/// exactly where that object failed in this call. There are no limits of heap and stack; all pointers are read anew at each
-/// check. After want of memory the output has a prefix.
+/// Evaluates the object meaning of a sound core with at most so many steps, in a heap of so many bytes (C99 5.1.2.3). Where
+/// input and output are told, it writes exactly the bytes of the meaning, takes exactly the bytes that the meaning reads,
+/// and answers its end. All output is put before a byte of input is asked for and before the run ends. It ends by a fault
+/// of the input or the output exactly where that object failed in this call. A call that finds no place in the heap answers
+/// null (C99 7.20.3); there is no limit of stack; all pointers are read anew at each check. After want of memory the output
+/// has a prefix.
 pub fn mean<I: Source, O: Sink>(
     alloc: Global,
     core: &Core,
     input: &mut I,
     out: &mut O,
     budget: u64,
+    heap: u32,
 ) -> Result<End, NoMemory>
     requires sound { IsSound core.now }
     requires budget { budget ≤ 1000000000 }
     requires input { I.faults input.old + 1 < 2 ^ 64 }
     requires out { O.faults out.old + 1 < 2 ^ 64 }
-    ensures told { (left taken : List ℕ) → I.left input.old ≡ Some left → O.taken out.old ≡ Some taken → MeanAnswers core.now left budget taken result (I.left input.new) (O.taken out.new) }
+    ensures told { (left taken : List ℕ) → I.left input.old ≡ Some left → O.taken out.old ≡ Some taken → MeanAnswers core.now left budget heap taken result (I.left input.new) (O.taken out.new) }
     ensures faults { MeanCounts result (I.faults input.old) (I.faults input.new) (O.faults out.old) (O.faults out.new) }
     ensures limits { IfOk result HasNoLimit }
 {
@@ -204,5 +212,6 @@ pub fn mean<I: Source, O: Sink>(
         return Ok(End::Spent);
     }
     let mut machine = Machine::start(alloc, core, main_of(core), budget - 1)?;
-    end_of_run(&mut machine, alloc, core, input, out)
+    let mut held = HeldBlocks::new(alloc, heap);
+    end_of_run(&mut machine, alloc, core, &mut held, input, out)
 }

@@ -6,7 +6,7 @@ ghost use Rattle.meaning_run.specs.Ending.{halt_of};
 use hs_base::{BadFree, Holder, Line, NoMemory, TrapKind};
 use meaning_state::Refusal;
 
-/// Why a run stops. It has no word for want of heap or stack, of which the meaning knows nothing.
+/// Why a run stops. It has no word for want of stack, of which the meaning knows nothing.
 #[derive(Clone, Copy, Debug, PartialEq, Eq)]
 pub enum Halt {
     /// By `exit` or by return from the first call of main, with this status.

@@ -1,25 +1,27 @@
 //! Heap objects are made, grown and freed (C99 7.20.3).
 
-ghost use Rattle.std.specs.Prelude.{◌≡◌, ◌+◌, ◌*◌, ◌<◌, ◌^◌, ℕ, List, All, Ok, IfOk, length, min};
+ghost use Rattle.std.specs.Prelude.{◌≡◌, ◌+◌, ◌*◌, ◌<◌, ◌^◌, ℕ, List, All, Some, IfOk, length, min, true};
 ghost use Rattle.core_tree.specs.Sound.{element_layouts};
 ghost use Rattle.hs_base.specs.Object.{object_at};
 ghost use Rattle.hs_base.specs.Freeing.{freed_at};
-ghost use Rattle.object_meaning.specs.Values.{number_of, pointer_of, size_in, start_of};
-ghost use Rattle.object_meaning.specs.Going.{with_objects};
+ghost use Rattle.hs_base.specs.declared.values.Pointer.TheVariants as pointer;
+ghost use Rattle.object_meaning.specs.Values.{address, number_of, pointer_of, size_in, start_of};
+ghost use Rattle.object_meaning.specs.Going.{with_objects, write};
 ghost use Rattle.object_meaning.specs.Memory.{copied};
 ghost use Rattle.object_meaning.specs.Making.{with_new};
 ghost use Rattle.meaning_state.specs.Refusing.{Changes};
-ghost use Rattle.object_meaning.specs.Heap.{make, enqueue, free, free_named, grow, grow_named};
+ghost use Rattle.object_meaning.specs.Heap.{birth_of, make, enqueue, free, free_named, grow, grow_named, grow_old};
 ghost use Rattle.object_meaning.specs.Meaning.{act};
+ghost use Rattle.meaning_state.specs.Fitting.{Held, fits_in, held_after};
 ghost use Rattle.meaning_state.specs.Making.{IsElement};
-ghost use Rattle.meaning_run.specs.Leading.{Alone, IsHeap, with_input};
+ghost use Rattle.meaning_run.specs.Leading.{AlonePlaced, IsHeap, with_input};
 
 use crate::halt::{Halt, halt_of};
 use crate::machine::Machine;
 use c_types::Layout;
 use core_tree::{Atom, Core, StmKind};
 use hs_base::{BadFree, Line, NoMemory, Pointer, Reason, Value};
-use meaning_state::{Refusal, size_in};
+use meaning_state::{HeldBlocks, Refusal, size_in};
 use std::alloc::Global;
 
 impl Machine {
@@ -76,10 +78,19 @@ impl Machine {
         self.objects.copy(alloc, d, s, u128::from(n))
     }
 
-    /// A register takes the start of a new object.
+    /// A register takes null.
+    fn answer_null(&mut self, r: u32)
+        requires { self.old.running.point + 1 < 2 ^ 64 }
+        ensures { self.new ≡ write self.old (Some r) (address pointer.Null) }
+    {
+        self.write(Some(r), Value::Pointer(Pointer::Null));
+    }
+
+    /// A register takes the start of a new object where there is a place for it, and else null.
     fn make(
         &mut self,
         alloc: Global,
+        held: &mut HeldBlocks,
         line: Line,
         r: u32,
         size: u64,
@@ -87,12 +98,13 @@ impl Machine {
     ) -> Result<(), Halt>
         requires point { self.old.running.point + 1 < 2 ^ 64 }
         requires element { IsElement element.now }
-        ensures { (left : List ℕ) → Alone left (make line r size element.now (with_input left self.old)) self.new result }
+        ensures { (left : List ℕ) → AlonePlaced left (make (fits_in held.old) line r size element.now (with_input left self.old)) self.new held.old held.new result }
     {
-        if size >= 1 << 32 {
-            return Err(Halt::NoMemory);
-        }
         let birth = self.objects.len() as u64;
+        if !held.place(birth, size)? {
+            self.answer_null(r);
+            return Ok(());
+        }
         self.objects.add_heap(alloc, line, size as u32, element)?;
         self.write(Some(r), Value::Pointer(Pointer::At { birth, offset: 0 }));
         Ok(())
@@ -112,25 +124,33 @@ impl Machine {
         &mut self,
         alloc: Global,
         core: &Core,
+        held: &mut HeldBlocks,
         line: Line,
         named: Result<u64, Reason>,
     ) -> Result<(), Halt>
         requires { self.old.running.point + 1 < 2 ^ 64 }
-        ensures { (left : List ℕ) → Alone left (free_named core.now line named (with_input left self.old)) self.new result }
+        ensures { (left : List ℕ) → AlonePlaced left (free_named core.now line named (with_input left self.old)) self.new held.old held.new result }
     {
         match named {
             Ok(birth) => {
                 self.enqueue(line, birth)?;
-                self.in_scope(alloc, core)
+                self.in_scope(alloc, core, held)
             }
             Err(reason) => Err(Halt::BadFree(BadFree { reason, line }, None)),
         }
     }
 
     /// A free. One of null does nothing.
-    fn free(&mut self, alloc: Global, core: &Core, line: Line, p: Pointer) -> Result<(), Halt>
+    fn free(
+        &mut self,
+        alloc: Global,
+        core: &Core,
+        held: &mut HeldBlocks,
+        line: Line,
+        p: Pointer,
+    ) -> Result<(), Halt>
         requires { self.old.running.point + 1 < 2 ^ 64 }
-        ensures { (left : List ℕ) → Alone left (free core.now line p (with_input left self.old)) self.new result }
+        ensures { (left : List ℕ) → AlonePlaced left (free core.now line p (with_input left self.old)) self.new held.old held.new result }
     {
         match p {
             Pointer::Null => {
@@ -139,17 +159,18 @@ impl Machine {
             }
             Pointer::At { birth, offset } => {
                 let named = self.freed(birth, offset);
-                self.free_named(alloc, core, line, named)
+                self.free_named(alloc, core, held, line, named)
             }
         }
     }
 
-    /// An object that may be freed is copied to a new one as far as both go, and queued; a register takes the start of the
+    /// An object is copied to a new one, which has a place, as far as both go, and queued; a register takes the start of the
     /// new one.
-    fn grow_named(
+    fn copy_old(
         &mut self,
         alloc: Global,
         core: &Core,
+        held: &mut HeldBlocks,
         line: Line,
         r: u32,
         old: u64,
@@ -158,7 +179,7 @@ impl Machine {
     ) -> Result<(), Halt>
         requires point { self.old.running.point + 1 < 2 ^ 64 }
         requires element { IsElement element.now }
-        ensures { (left : List ℕ) → Alone left (grow_named core.now line r (Ok old) size element.now (with_input left self.old)) self.new result }
+        ensures { (left : List ℕ) (base : Held) → held.old ≡ held_after base (birth_of line size self.old) → AlonePlaced left (grow_old true core.now line r old size element.now (with_input left self.old)) self.new base held.new result }
     {
         let new = self.next_start();
         let from = Pointer::At {
@@ -173,7 +194,31 @@ impl Machine {
         }
         self.enqueue(line, old)?;
         self.put(Some(r), Value::Pointer(new));
-        self.in_scope(alloc, core)
+        self.in_scope(alloc, core, held)
+    }
+
+    /// An object is grown where there is a place for a new one, and else a register takes null.
+    fn grow_old(
+        &mut self,
+        alloc: Global,
+        core: &Core,
+        held: &mut HeldBlocks,
+        line: Line,
+        r: u32,
+        old: u64,
+        size: u32,
+        element: &Layout,
+    ) -> Result<(), Halt>
+        requires point { self.old.running.point + 1 < 2 ^ 64 }
+        requires element { IsElement element.now }
+        ensures { (left : List ℕ) → AlonePlaced left (grow_old (fits_in held.old size) core.now line r old size element.now (with_input left self.old)) self.new held.old held.new result }
+    {
+        let birth = self.objects.len() as u64;
+        if !held.place(birth, u64::from(size))? {
+            self.answer_null(r);
+            return Ok(());
+        }
+        self.copy_old(alloc, core, held, line, r, old, size, element)
     }
 
     /// An object that may be freed is grown, and else the run stops.
@@ -181,6 +226,7 @@ impl Machine {
         &mut self,
         alloc: Global,
         core: &Core,
+        held: &mut HeldBlocks,
         line: Line,
         r: u32,
         named: Result<u64, Reason>,
@@ -189,10 +235,10 @@ impl Machine {
     ) -> Result<(), Halt>
         requires point { self.old.running.point + 1 < 2 ^ 64 }
         requires element { IsElement element.now }
-        ensures { (left : List ℕ) → Alone left (grow_named core.now line r named size element.now (with_input left self.old)) self.new result }
+        ensures { (left : List ℕ) → AlonePlaced left (grow_named core.now (fits_in held.old) line r named size element.now (with_input left self.old)) self.new held.old held.new result }
     {
         match named {
-            Ok(old) => self.grow_named(alloc, core, line, r, old, size, element),
+            Ok(old) => self.grow_old(alloc, core, held, line, r, old, size, element),
             Err(reason) => Err(Halt::BadFree(BadFree { reason, line }, None)),
         }
     }
@@ -202,6 +248,7 @@ impl Machine {
         &mut self,
         alloc: Global,
         core: &Core,
+        held: &mut HeldBlocks,
         line: Line,
         r: u32,
         p: Pointer,
@@ -210,13 +257,13 @@ impl Machine {
     ) -> Result<(), Halt>
         requires point { self.old.running.point + 1 < 2 ^ 64 }
         requires element { IsElement element.now }
-        ensures { (left : List ℕ) → Alone left (grow core.now line r p size element.now (with_input left self.old)) self.new result }
+        ensures { (left : List ℕ) → AlonePlaced left (grow core.now (fits_in held.old) line r p size element.now (with_input left self.old)) self.new held.old held.new result }
     {
         match p {
-            Pointer::Null => self.make(alloc, line, r, u64::from(size), element),
+            Pointer::Null => self.make(alloc, held, line, r, u64::from(size), element),
             Pointer::At { birth, offset } => {
                 let named = self.freed(birth, offset);
-                self.grow_from(alloc, core, line, r, named, size, element)
+                self.grow_from(alloc, core, held, line, r, named, size, element)
             }
         }
     }
@@ -225,6 +272,7 @@ impl Machine {
     fn malloc(
         &mut self,
         alloc: Global,
+        held: &mut HeldBlocks,
         line: Line,
         r: u32,
         n: Atom,
@@ -232,16 +280,17 @@ impl Machine {
     ) -> Result<(), Halt>
         requires point { self.old.running.point + 1 < 2 ^ 64 }
         requires element { IsElement element.now }
-        ensures { (left : List ℕ) → Alone left (make line r (size_in (number_of self.old n)) element.now (with_input left self.old)) self.new result }
+        ensures { (left : List ℕ) → AlonePlaced left (make (fits_in held.old) line r (size_in (number_of self.old n)) element.now (with_input left self.old)) self.new held.old held.new result }
     {
         let size = self.size_of(n);
-        self.make(alloc, line, r, u64::from(size), element)
+        self.make(alloc, held, line, r, u64::from(size), element)
     }
 
     /// Makes an object of the product of two numbers of bytes.
     fn calloc(
         &mut self,
         alloc: Global,
+        held: &mut HeldBlocks,
         line: Line,
         r: u32,
         m: Atom,
@@ -250,11 +299,18 @@ impl Machine {
     ) -> Result<(), Halt>
         requires point { self.old.running.point + 1 < 2 ^ 64 }
         requires element { IsElement element.now }
-        ensures { (left : List ℕ) → Alone left (make line r (size_in (number_of self.old m) * size_in (number_of self.old n)) element.now (with_input left self.old)) self.new result }
+        ensures { (left : List ℕ) → AlonePlaced left (make (fits_in held.old) line r (size_in (number_of self.old m) * size_in (number_of self.old n)) element.now (with_input left self.old)) self.new held.old held.new result }
     {
         let count = self.size_of(m);
         let size = self.size_of(n);
-        self.make(alloc, line, r, u64::from(count) * u64::from(size), element)
+        self.make(
+            alloc,
+            held,
+            line,
+            r,
+            u64::from(count) * u64::from(size),
+            element,
+        )
     }
 
     /// Grows an object to a number of bytes.
@@ -262,6 +318,7 @@ impl Machine {
         &mut self,
         alloc: Global,
         core: &Core,
+        held: &mut HeldBlocks,
         line: Line,
         r: u32,
         p: Atom,
@@ -270,20 +327,27 @@ impl Machine {
     ) -> Result<(), Halt>
         requires point { self.old.running.point + 1 < 2 ^ 64 }
         requires element { IsElement element.now }
-        ensures { (left : List ℕ) → Alone left (grow core.now line r (pointer_of self.old p) (size_in (number_of self.old n)) element.now (with_input left self.old)) self.new result }
+        ensures { (left : List ℕ) → AlonePlaced left (grow core.now (fits_in held.old) line r (pointer_of self.old p) (size_in (number_of self.old n)) element.now (with_input left self.old)) self.new held.old held.new result }
     {
         let p = self.pointer(p);
         let size = self.size_of(n);
-        self.grow(alloc, core, line, r, p, size, element)
+        self.grow(alloc, core, held, line, r, p, size, element)
     }
 
     /// Frees what an operand points to.
-    fn free_at(&mut self, alloc: Global, core: &Core, line: Line, p: Atom) -> Result<(), Halt>
+    fn free_at(
+        &mut self,
+        alloc: Global,
+        core: &Core,
+        held: &mut HeldBlocks,
+        line: Line,
+        p: Atom,
+    ) -> Result<(), Halt>
         requires { self.old.running.point + 1 < 2 ^ 64 }
-        ensures { (left : List ℕ) → Alone left (free core.now line (pointer_of self.old p) (with_input left self.old)) self.new result }
+        ensures { (left : List ℕ) → AlonePlaced left (free core.now line (pointer_of self.old p) (with_input left self.old)) self.new held.old held.new result }
     {
         let p = self.pointer(p);
-        self.free(alloc, core, line, p)
+        self.free(alloc, core, held, line, p)
     }
 
     /// A statement that works on the heap or on scopes.
@@ -291,23 +355,26 @@ impl Machine {
         &mut self,
         alloc: Global,
         core: &Core,
+        held: &mut HeldBlocks,
         line: Line,
         kind: &StmKind,
     ) -> Result<(), Halt>
         requires point { self.old.running.point + 1 < 2 ^ 64 }
         requires heap { IsHeap kind.now }
         requires elements { All IsElement (element_layouts kind.now) }
-        ensures { (left : List ℕ) → Alone left (act core.now line kind.now (with_input left self.old)) self.new result }
+        ensures { (left : List ℕ) → AlonePlaced left (act core.now (fits_in held.old) line kind.now (with_input left self.old)) self.new held.old held.new result }
     {
         match kind {
-            StmKind::Malloc(r, n, element) => self.malloc(alloc, line, *r, *n, element),
-            StmKind::Calloc(r, m, n, element) => self.calloc(alloc, line, *r, *m, *n, element),
+            StmKind::Malloc(r, n, element) => self.malloc(alloc, held, line, *r, *n, element),
+            StmKind::Calloc(r, m, n, element) => self.calloc(
+                alloc, held, line, *r, *m, *n, element,
+            ),
             StmKind::Realloc(r, p, n, element) => {
-                self.realloc(alloc, core, line, *r, *p, *n, element)
+                self.realloc(alloc, core, held, line, *r, *p, *n, element)
             }
-            StmKind::Free(p) => self.free_at(alloc, core, line, *p),
+            StmKind::Free(p) => self.free_at(alloc, core, held, line, *p),
             StmKind::Enter => self.enter_scope(),
-            StmKind::Leave => self.leave_scope(alloc, core),
+            StmKind::Leave => self.leave_scope(alloc, core, held),
             _ => unreachable!(),
         }
     }

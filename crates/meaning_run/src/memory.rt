@@ -1,6 +1,6 @@
 //! Statements on bytes and pointers in objects.
 
-ghost use Rattle.std.specs.Prelude.{◌≡◌, ◌+◌, ◌<◌, ◌^◌, ℕ, List};
+ghost use Rattle.std.specs.Prelude.{◌≡◌, ◌+◌, ◌<◌, ◌^◌, ℕ, Bool, List};
 ghost use Rattle.core_tree.specs.declared.program.Core.{Core as Program};
 ghost use Rattle.hs_base.specs.Access.{set_bytes};
 ghost use Rattle.object_meaning.specs.Values.{number_of, pointer_of, bytes_in};
@@ -118,7 +118,7 @@ impl Machine {
     ) -> Result<(), Halt>
         requires point { self.old.running.point + 1 < 2 ^ 64 }
         requires memory { IsMemory kind.now }
-        ensures { (core : Program) (left : List ℕ) → Alone left (act core line kind.now (with_input left self.old)) self.new result }
+        ensures { (core : Program) (fits : ℕ → Bool) (left : List ℕ) → Alone left (act core fits line kind.now (with_input left self.old)) self.new result }
     {
         match kind {
             StmKind::Load(kind, r, p) => self.load(line, *kind, *r, *p),

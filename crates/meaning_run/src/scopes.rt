@@ -4,14 +4,16 @@ ghost use Rattle.std.specs.Prelude.{◌≡◌, ◌+◌, ◌<◌, ◌^◌, ℕ, L
 ghost use Rattle.hs_base.specs.Freeing.{first_held};
 ghost use Rattle.hs_base.specs.State as state;
 ghost use Rattle.hs_base.specs.Trace.{Event};
+ghost use Rattle.meaning_state.specs.Fitting.{Held, held_after};
 ghost use Rattle.object_meaning.specs.Holding.{holders, first_of};
 ghost use Rattle.object_meaning.specs.Scoping.{is_held, bury, checked, in_scope, enter, leave};
-ghost use Rattle.meaning_run.specs.Leading.{Alone, IsSilent, with_input};
+ghost use Rattle.meaning_run.specs.Leading.{Alone, AlonePlaced, IsSilent, with_input};
 
 use crate::halt::Halt;
 use crate::machine::Machine;
 use core_tree::Core;
 use hs_base::{BadFree, Holder, NoMemory, Reason};
+use meaning_state::HeldBlocks;
 use std::alloc::Global;
 
 impl Machine {
@@ -39,12 +41,13 @@ impl Machine {
 
     /// The check: the queued objects die, or the first that is held stops the run.
     #[tactic(auto, using(crate::proofs::Silent::out_gone, crate::proofs::Silent::in_gone))]
-    fn check(&mut self, alloc: Global, core: &Core) -> Result<(), Halt>
+    fn check(&mut self, alloc: Global, core: &Core, held: &mut HeldBlocks) -> Result<(), Halt>
         requires { self.old.running.point + 1 < 2 ^ 64 }
-        ensures { (left : List ℕ) (before : state.State) (events : List Event) → IsSilent events → Alone left (checked core.now before events (with_input left self.old)) self.new result }
+        ensures { (left : List ℕ) (before : state.State) (events : List Event) (base : Held) → IsSilent events → held.old ≡ held_after base events → AlonePlaced left (checked core.now before events (with_input left self.old)) self.new base held.new result }
     {
         match self.first_held(alloc, core)? {
             None => {
+                held.release(self.queue.as_slice());
                 self.bury(alloc);
                 self.go_on();
                 Ok(())
@@ -67,13 +70,18 @@ impl Machine {
     }
 
     /// Goes on behind a free, which has a scope of its own where none is open.
-    pub(crate) fn in_scope(&mut self, alloc: Global, core: &Core) -> Result<(), Halt>
+    pub(crate) fn in_scope(
+        &mut self,
+        alloc: Global,
+        core: &Core,
+        held: &mut HeldBlocks,
+    ) -> Result<(), Halt>
         requires { self.old.running.point + 1 < 2 ^ 64 }
-        ensures { (left : List ℕ) (before : state.State) (events : List Event) → IsSilent events → Alone left (in_scope core.now self.old.scopes before events (with_input left self.old)) self.new result }
+        ensures { (left : List ℕ) (before : state.State) (events : List Event) (base : Held) → IsSilent events → held.old ≡ held_after base events → AlonePlaced left (in_scope core.now self.old.scopes before events (with_input left self.old)) self.new base held.new result }
     {
         if self.scopes == 0 {
             self.open();
-            return self.check(alloc, core);
+            return self.check(alloc, core, held);
         }
         self.go_on();
         Ok(())
@@ -93,13 +101,18 @@ impl Machine {
     }
 
     /// A scope is closed, the outermost one with a check.
-    pub(crate) fn leave_scope(&mut self, alloc: Global, core: &Core) -> Result<(), Halt>
+    pub(crate) fn leave_scope(
+        &mut self,
+        alloc: Global,
+        core: &Core,
+        held: &mut HeldBlocks,
+    ) -> Result<(), Halt>
         requires { self.old.running.point + 1 < 2 ^ 64 }
-        ensures { (left : List ℕ) → Alone left (leave core.now self.old.scopes (with_input left self.old)) self.new result }
+        ensures { (left : List ℕ) → AlonePlaced left (leave core.now self.old.scopes (with_input left self.old)) self.new held.old held.new result }
     {
         match self.scopes {
             0 => Err(Halt::Dangling),
-            1 => self.check(alloc, core),
+            1 => self.check(alloc, core, held),
             _ => {
                 self.scopes -= 1;
                 self.go_on();

@@ -1,6 +1,6 @@
 //! Statements on numbers and pointers.
 
-ghost use Rattle.std.specs.Prelude.{◌≡◌, ◌+◌, ◌<◌, ◌^◌, ◌<ℤ◌, ◌*ℤ◌, pos, neg_ℤ, ℕ, List};
+ghost use Rattle.std.specs.Prelude.{◌≡◌, ◌+◌, ◌<◌, ◌^◌, ◌<ℤ◌, ◌*ℤ◌, pos, neg_ℤ, ℕ, Bool, List};
 ghost use Rattle.core_tree.specs.declared.program.Core.{Core as Program};
 ghost use Rattle.core_tree.specs.Sound.{HasNumbers};
 ghost use Rattle.object_meaning.specs.Values.{number_of, pointer_of};
@@ -124,7 +124,7 @@ impl Machine {
         requires point { self.old.running.point + 1 < 2 ^ 64 }
         requires values { IsValues kind.now }
         requires numbers { HasNumbers kind.now }
-        ensures { (core : Program) (left : List ℕ) → Alone left (act core line kind.now (with_input left self.old)) self.new result }
+        ensures { (core : Program) (fits : ℕ → Bool) (left : List ℕ) → Alone left (act core fits line kind.now (with_input left self.old)) self.new result }
     {
         match kind {
             StmKind::Set(r, a) => {

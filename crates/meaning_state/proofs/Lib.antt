@@ -6,3 +6,4 @@ pub mod Holders
 pub mod Tables
 pub mod Pieces
 pub mod Far
+pub mod Jumping

@@ -4,3 +4,4 @@ pub mod Reaching
 pub mod Making
 pub mod Living
 pub mod Printing
+pub mod Fitting

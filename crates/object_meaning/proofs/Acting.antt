@@ -1,11 +1,12 @@
 -- Calls, returns, and each statement of a sound core in turn.
-use Rattle.std.proofs.Common.{◌≡◌, ℕ, zero, suc, pos, ◌+◌, ◌<◌, false, List, [], ◌∷◌, ◌++◌, length, get_or, nat_eq, Option, Some, None, Result, refl, sym, ap, ◌∙◌, subst, arith}
+use Rattle.std.proofs.Common.{◌≡◌, ℕ, zero, suc, pos, ◌+◌, ◌<◌, Bool, false, List, [], ◌∷◌, ◌++◌, length, get_or, nat_eq, Option, Some, None, Result, refl, sym, ap, ◌∙◌, subst, arith}
 use Rattle.std.specs.Prelude.{slice_get, Contains}
 use Rattle.std.specs.Option.{option_map_or}
 use Rattle.hs_base.specs.declared.values.Value.{Value}
 use Rattle.hs_base.specs.Access.{Refusal}
 use Rattle.hs_base.specs.Freeing.{first_held, ended}
 use Rattle.hs_base.specs.Object.{Object}
+use Rattle.hs_base.specs.Place.{has_place}
 use Rattle.hs_base.specs.State.{State, Frame}
 use Rattle.hs_base.specs.Trace.{Event}
 use Rattle.c_print.specs.Pieces.{pieces_of}
@@ -23,7 +24,7 @@ use Rattle.object_meaning.specs.Going.{with_objects, write, answers, changes}
 use Rattle.object_meaning.specs.Making.{local_objects}
 use Rattle.object_meaning.specs.Holding.{takes_answer, statement_in, statement_at}
 use Rattle.object_meaning.specs.Calls.{call, locals_of, running_locals, escapes, go_back, end_locals}
-use Rattle.object_meaning.specs.Meaning.{values_of, returned, format_in, act, unless_reads_stale, act_at, step}
+use Rattle.object_meaning.specs.Meaning.{values_of, returned, format_in, act, unless_reads_stale, act_at, step, step_by}
 use Rattle.object_meaning.proofs.Alive.{HoldsFresh, Grows, fresh_grows, append_grows}
 use Rattle.object_meaning.proofs.Touching.{Done, Changed, loaded_done, loaded_pointer_done, stored_done, stored_pointer_done, copied_done, set_done, values_fresh}
 use Rattle.object_meaning.proofs.Giving.{on_two_done, moved_done, difference_done, compared_done, truth_is_fresh}
@@ -32,7 +33,7 @@ use Rattle.object_meaning.proofs.Frames.{WaitsAt, Waits, Holds, Good, kept_grows
 use Rattle.object_meaning.proofs.Operands.{operands_fresh}
 use Rattle.object_meaning.proofs.Entering.{enters}
 use Rattle.object_meaning.proofs.Returning.{answer_fresh, sane_left, statics_left, waits_left, longer_left, resumed_good}
-use Rattle.object_meaning.proofs.Standing.{Stays, stm_of, At, GoesOn, write_same, answers_stays, changes_stays, goes_to, branch_stays, step_stays, leave_stays, enter_stays, free_stays, make_stays, grow_stays, print_stays, lib_stays}
+use Rattle.object_meaning.proofs.Standing.{Stays, stm_of, At, GoesOn, write_same, answers_stays, changes_stays, goes_to, branch_stays, step_stays, leave_stays, enter_stays, free_stays, made_stays, grow_stays, print_stays, lib_stays}
 
 pub found : {A : Type 0} (xs : List A) (k : ℕ) → k < length xs → (x : A) × (slice_get xs k ≡ Some x)
 found [] k lt = absurd (omega arith)
@@ -120,66 +121,66 @@ module _ (core : Core) (sound : IsSound core) (s : State) (func : Func) (good : 
   changed : (kind : StmKind) → Here kind → Contains (edges kind s.running.point) (s.running.point + 1) → ((d : ℕ) → scopes_after kind d ≡ d) → written kind ≡ None → (result : Result (List Object) Refusal) → Done (Changed s.objects s.queue good.sane) result → Stays core (changes line s result)
   changed kind at edge same = changes_stays core sound s func good line kind at (plain kind edge same)
 
-  act_stays : (kind : StmKind) → Here kind → Fresh (values_of s (operands kind)) → Stays core (act core line kind s)
-  act_stays (stm.Set r a) at f = writes (stm.Set r a) at next (λ d. refl) (Some r) refl _ (f 0)
-  act_stays (stm.Conv k r a) at f = writes (stm.Conv k r a) at next (λ d. refl) (Some r) refl _ refl
-  act_stays (stm.Un op k r a) at f = writes (stm.Un op k r a) at next (λ d. refl) (Some r) refl _ refl
-  act_stays (stm.Bin op k r a b) at f =
+  act_stays : (fits : ℕ → Bool) (kind : StmKind) → Here kind → Fresh (values_of s (operands kind)) → Stays core (act core fits line kind s)
+  act_stays fits (stm.Set r a) at f = writes (stm.Set r a) at next (λ d. refl) (Some r) refl _ (f 0)
+  act_stays fits (stm.Conv k r a) at f = writes (stm.Conv k r a) at next (λ d. refl) (Some r) refl _ refl
+  act_stays fits (stm.Un op k r a) at f = writes (stm.Un op k r a) at next (λ d. refl) (Some r) refl _ refl
+  act_stays fits (stm.Bin op k r a b) at f =
       gives (stm.Bin op k r a b) at next (λ d. refl) (Some r) refl _ (on_two_done s.objects op k (number_of s a) (number_of s b))
-  act_stays (stm.Cmp op r a b) at f =
+  act_stays fits (stm.Cmp op r a b) at f =
       writes (stm.Cmp op r a b) at next (λ d. refl) (Some r) refl _ (truth_is_fresh s.objects _)
-  act_stays (stm.Add r p a n) at f =
+  act_stays fits (stm.Add r p a n) at f =
       gives (stm.Add r p a n) at next (λ d. refl) (Some r) refl _ (moved_done s.objects (pointer_of s p) _ (f 0))
-  act_stays (stm.Sub r p a n) at f =
+  act_stays fits (stm.Sub r p a n) at f =
       gives (stm.Sub r p a n) at next (λ d. refl) (Some r) refl _ (moved_done s.objects (pointer_of s p) _ (f 0))
-  act_stays (stm.Off r p c) at f =
+  act_stays fits (stm.Off r p c) at f =
       gives (stm.Off r p c) at next (λ d. refl) (Some r) refl _ (moved_done s.objects (pointer_of s p) _ (f 0))
-  act_stays (stm.Diff r p q n) at f =
+  act_stays fits (stm.Diff r p q n) at f =
       gives (stm.Diff r p q n) at next (λ d. refl) (Some r) refl _ (difference_done s.objects (pointer_of s p) (pointer_of s q) n)
-  act_stays (stm.Pcmp op r p q) at f =
+  act_stays fits (stm.Pcmp op r p q) at f =
       gives (stm.Pcmp op r p q) at next (λ d. refl) (Some r) refl _ (compared_done s.objects op (pointer_of s p) (pointer_of s q))
-  act_stays (stm.Test r p) at f =
+  act_stays fits (stm.Test r p) at f =
       writes (stm.Test r p) at next (λ d. refl) (Some r) refl _ (truth_is_fresh s.objects _)
-  act_stays (stm.Load k r p) at f =
+  act_stays fits (stm.Load k r p) at f =
       gives (stm.Load k r p) at next (λ d. refl) (Some r) refl _ (loaded_done s.objects s.queue good.sane k (pointer_of s p) (f 0))
-  act_stays (stm.Loadp r p) at f =
+  act_stays fits (stm.Loadp r p) at f =
       gives (stm.Loadp r p) at next (λ d. refl) (Some r) refl _ (loaded_pointer_done s.objects s.queue good.sane (pointer_of s p) (f 0))
-  act_stays (stm.Store k p a) at f =
+  act_stays fits (stm.Store k p a) at f =
       changed (stm.Store k p a) at next (λ d. refl) refl _ (stored_done s.objects s.queue good.sane k (pointer_of s p) (number_of s a) (f 0))
-  act_stays (stm.Storep p q) at f =
+  act_stays fits (stm.Storep p q) at f =
       changed (stm.Storep p q) at next (λ d. refl) refl _ (stored_pointer_done s.objects s.queue good.sane (pointer_of s p) (pointer_of s q) (f 0) (f 1))
-  act_stays (stm.Copy p q n) at f =
+  act_stays fits (stm.Copy p q n) at f =
       changed (stm.Copy p q n) at next (λ d. refl) refl _ (copied_done s.objects s.queue good.sane (pointer_of s p) (pointer_of s q) (bytes_in n) (f 0) (f 1))
-  act_stays (stm.Clear p n) at f =
+  act_stays fits (stm.Clear p n) at f =
       changed (stm.Clear p n) at next (λ d. refl) refl _ (set_done s.objects s.queue good.sane (pointer_of s p) 0 (bytes_in n) (f 0))
-  act_stays (stm.Jump l) at f =
+  act_stays fits (stm.Jump l) at f =
       goes_to core sound s func good line (stm.Jump l) at refl l (0, omega arith, refl) (λ d. refl) s.steps
-  act_stays (stm.Zero a l) at f =
+  act_stays fits (stm.Zero a l) at f =
       branch_stays core sound s func good line (stm.Zero a l) at refl _ l (1, omega arith, refl) (0, omega arith, refl) (λ d. refl)
-  act_stays (stm.Case a v l) at f =
+  act_stays fits (stm.Case a v l) at f =
       branch_stays core sound s func good line (stm.Case a v l) at refl _ l (1, omega arith, refl) (0, omega arith, refl) (λ d. refl)
-  act_stays (stm.Loop l) at f =
+  act_stays fits (stm.Loop l) at f =
       step_stays core sound s func good line s.steps _ (λ m. goes_to core sound s func good line (stm.Loop l) at refl l (0, omega arith, refl) (λ d. refl) m)
-  act_stays (stm.Call callee r args) at f =
+  act_stays fits (stm.Call callee r args) at f =
       step_stays core sound s func good line s.steps _ (λ m. call_stays callee r args at f m)
-  act_stays (stm.Malloc r n element) at f =
-      make_stays core sound s func good line (stm.Malloc r n element) at (plain (stm.Malloc r n element) next (λ d. refl)) r refl _ element
-  act_stays (stm.Calloc r m n element) at f =
-      make_stays core sound s func good line (stm.Calloc r m n element) at (plain (stm.Calloc r m n element) next (λ d. refl)) r refl _ element
-  act_stays (stm.Realloc r p n element) at f =
-      grow_stays core sound s func good line (stm.Realloc r p n element) at (plain (stm.Realloc r p n element) next (λ d. refl)) r refl (pointer_of s p) _ element
-  act_stays (stm.Free p) at f = free_stays core sound s func good line p at (pointer_of s p)
-  act_stays (stm.Lib name r args) at f = lib_stays core sound s func good line name r args at (values_of s args) f
-  act_stays (stm.Printf r k args) at f =
+  act_stays fits (stm.Malloc r n element) at f =
+      made_stays core sound s func good line _ (stm.Malloc r n element) at (plain (stm.Malloc r n element) next (λ d. refl)) r refl _ element
+  act_stays fits (stm.Calloc r m n element) at f =
+      made_stays core sound s func good line _ (stm.Calloc r m n element) at (plain (stm.Calloc r m n element) next (λ d. refl)) r refl _ element
+  act_stays fits (stm.Realloc r p n element) at f =
+      grow_stays core sound s func good line fits (stm.Realloc r p n element) at (plain (stm.Realloc r p n element) next (λ d. refl)) r refl (pointer_of s p) _ element
+  act_stays fits (stm.Free p) at f = free_stays core sound s func good line p at (pointer_of s p)
+  act_stays fits (stm.Lib name r args) at f = lib_stays core sound s func good line name r args at (values_of s args) f
+  act_stays fits (stm.Printf r k args) at f =
       print_stays core sound s func good line (stm.Printf r k args) at (plain (stm.Printf r k args) next (λ d. refl)) r refl (pieces_of (format_in (slice_get core.funcs s.running.func) k)) (values_of s args) f
-  act_stays stm.Enter at f = enter_stays core sound s func good line at
-  act_stays stm.Leave at f = leave_stays core sound s func good line at s.scopes refl
-  act_stays (stm.Return a) at f =
+  act_stays fits stm.Enter at f = enter_stays core sound s func good line at
+  act_stays fits stm.Leave at f = leave_stays core sound s func good line at s.scopes refl
+  act_stays fits (stm.Return a) at f =
       end_stays a at (returned s a) (returned_fresh a f) (first_held (escapes core (returned s a) s (running_locals core s)) (running_locals core s)) refl
 
 -- the statement that a good state is at
-pub step_stays_at : (core : Core) → IsSound core → (trace : List Event) (s : State) → Good core s → Stays core (step core trace s)
-step_stays_at core sound trace s good =
+pub step_by_stays : (core : Core) → IsSound core → (fits : ℕ → Bool) (s : State) → Good core s → Stays core (step_by core fits s)
+step_by_stays core sound fits s good =
     let func = good.0 in
     let h = good.1 in
     let at = found func.body s.running.point h.inside in
@@ -187,5 +188,8 @@ step_stays_at core sound trace s good =
     let there : statement_at core s.running ≡ Some stm = ap (λ o. statement_in o s.running.point) h.here ∙ at.1 in
     let typed = (sound.functions s.running.func func h.here).typed s.running.point stm at.1 in
     let alive = operands_fresh core func s.scopes s h stm at.1 typed in
-    let stays = act_stays core sound s func h stm.line stm.kind at.1 (values_fresh s.objects (values_of s (operands stm.kind)) (number (pos 0)) refl alive) in
-    subst (λ (o : Option Stm). Stays core (act_at core o s)) (sym there) (subst (λ b. Stays core (unless_reads_stale b core stm s)) (sym alive) stays)
+    let stays = act_stays core sound s func h stm.line fits stm.kind at.1 (values_fresh s.objects (values_of s (operands stm.kind)) (number (pos 0)) refl alive) in
+    subst (λ (o : Option Stm). Stays core (act_at core fits o s)) (sym there) (subst (λ b. Stays core (unless_reads_stale b core fits stm s)) (sym alive) stays)
+
+pub step_stays_at : (core : Core) → IsSound core → (heap : ℕ) (trace : List Event) (s : State) → Good core s → Stays core (step core heap trace s)
+step_stays_at core sound heap trace s good = step_by_stays core sound (has_place heap trace) s good

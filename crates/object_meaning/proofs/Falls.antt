@@ -10,6 +10,7 @@ use Rattle.hs_base.specs.declared.values.Pointer.TheVariants as pointer
 use Rattle.hs_base.specs.declared.values.Value.{Value}
 use Rattle.hs_base.specs.Access.{Refusal}
 use Rattle.hs_base.specs.Freeing.{freed_at, first_held, ended}
+use Rattle.hs_base.specs.Place.{has_place}
 use Rattle.hs_base.specs.Object.{Object}
 use Rattle.hs_base.specs.State.{State, Frame}
 use Rattle.hs_base.specs.Trace.{Event, Ending}
@@ -28,11 +29,11 @@ use Rattle.object_meaning.specs.Going.{Next, goes, at_point, onward, put, write,
 use Rattle.object_meaning.specs.Making.{with_new}
 use Rattle.object_meaning.specs.Holding.{statement_in, statement_at, answer_register}
 use Rattle.object_meaning.specs.Scoping.{is_held, bury, decided, leave, in_scope}
-use Rattle.object_meaning.specs.Heap.{birth_of, make, enqueue, free_named, free, grown, grow_named, grow}
+use Rattle.object_meaning.specs.Heap.{birth_of, made, enqueue, free_named, free, grown, grow_old, grow_named, grow}
 use Rattle.object_meaning.specs.Printing.{print}
 use Rattle.object_meaning.specs.Builtins.{byte_in, get_byte, put_line, filled, call_lib}
 use Rattle.object_meaning.specs.Calls.{call, resumed, go_back, end_locals, escapes, running_locals}
-use Rattle.object_meaning.specs.Meaning.{Run, branch, values_of, returned, act, unless_reads_stale, act_at, step, begun, meaning, body_length, code_left, size, enough}
+use Rattle.object_meaning.specs.Meaning.{Run, branch, values_of, returned, act, unless_reads_stale, act_at, step, begun, meaning, body_length, code_left, size, enough, step_by}
 
 -- where the run goes on, less is left
 abbrev pub Falls : Core → State → Next → Type 0
@@ -141,23 +142,28 @@ module _ (core : Core) (s : State) (inside : s.running.point < body_length (slic
   free_falls line pointer.Null = omega arith
   free_falls line (pointer.At birth offset) = free_named_falls line (freed_at s.objects birth offset)
 
-  make_falls : (line r n : ℕ) (element : Layout) → Falls core s (make line r n element s)
-  make_falls line r n element = omega arith
+  made_falls : (b : Bool) (line r n : ℕ) (element : Layout) → Falls core s (made b line r n element s)
+  made_falls true line r n element = omega arith
+  made_falls false line r n element = omega arith
 
   grown_falls : (line r n old : ℕ) (t : State) → Alike s t → (result : Result (List Object) Refusal) → Falls core s (grown core line r n old s t result)
   grown_falls line r n old t h (Ok objects) =
       in_scope_falls t.scopes s (put (enqueue line old (with_objects t objects)) (Some r) (address (start_of (length s.objects)))) (birth_of line n s) (record { func = h.func; point = h.point; waiting = h.waiting; steps = h.steps })
   grown_falls line r n old t h (Err e) = tt
 
-  grow_named_falls : (line r : ℕ) (named : Result ℕ Reason) (n : ℕ) (element : Layout) → Falls core s (grow_named core line r named n element s)
-  grow_named_falls line r (Ok old) n element =
+  grow_old_falls : (b : Bool) (line r old n : ℕ) (element : Layout) → Falls core s (grow_old b core line r old n element s)
+  grow_old_falls true line r old n element =
       grown_falls line r n old (with_new line n element s) (record { func = refl; point = refl; waiting = refl; steps = refl }) _
-  grow_named_falls line r (Err reason) n element = tt
+  grow_old_falls false line r old n element = omega arith
 
-  grow_falls : (line r : ℕ) (p : Pointer) (n : ℕ) (element : Layout) → Falls core s (grow core line r p n element s)
-  grow_falls line r pointer.Null n element = make_falls line r n element
-  grow_falls line r (pointer.At birth offset) n element =
-      grow_named_falls line r (freed_at s.objects birth offset) n element
+  grow_named_falls : (fits : ℕ → Bool) (line r : ℕ) (named : Result ℕ Reason) (n : ℕ) (element : Layout) → Falls core s (grow_named core fits line r named n element s)
+  grow_named_falls fits line r (Ok old) n element = grow_old_falls (fits n) line r old n element
+  grow_named_falls fits line r (Err reason) n element = tt
+
+  grow_falls : (fits : ℕ → Bool) (line r : ℕ) (p : Pointer) (n : ℕ) (element : Layout) → Falls core s (grow core fits line r p n element s)
+  grow_falls fits line r pointer.Null n element = made_falls (fits n) line r n element
+  grow_falls fits line r (pointer.At birth offset) n element =
+      grow_named_falls fits line r (freed_at s.objects birth offset) n element
 
   get_falls : (r : Option ℕ) (input : List ℕ) → Falls core s (get_byte r input s)
   get_falls r [] = write_less s r (number (negsuc 0)) alike
@@ -198,44 +204,44 @@ module _ (core : Core) (s : State) (inside : s.running.point < body_length (slic
   end_falls line answer None = back_in_falls answer s.waiting (ended s.objects (running_locals core s)) refl
   end_falls line answer (Some birth) = tt
 
-  act_falls : (line : ℕ) (kind : StmKind) → IsForward s.running.point kind → Falls core s (act core line kind s)
-  act_falls line (stm.Set r a) h = omega arith
-  act_falls line (stm.Conv k r a) h = omega arith
-  act_falls line (stm.Un op k r a) h = omega arith
-  act_falls line (stm.Bin op k r a b) h = answers_falls line (Some r) _
-  act_falls line (stm.Cmp op r a b) h = omega arith
-  act_falls line (stm.Add r p a n) h = answers_falls line (Some r) _
-  act_falls line (stm.Sub r p a n) h = answers_falls line (Some r) _
-  act_falls line (stm.Off r p c) h = answers_falls line (Some r) _
-  act_falls line (stm.Diff r p q n) h = answers_falls line (Some r) _
-  act_falls line (stm.Pcmp op r p q) h = answers_falls line (Some r) _
-  act_falls line (stm.Test r p) h = omega arith
-  act_falls line (stm.Load k r p) h = answers_falls line (Some r) _
-  act_falls line (stm.Loadp r p) h = answers_falls line (Some r) _
-  act_falls line (stm.Store k p a) h = changes_falls line _
-  act_falls line (stm.Storep p q) h = changes_falls line _
-  act_falls line (stm.Copy p q n) h = changes_falls line _
-  act_falls line (stm.Clear p n) h = changes_falls line _
-  act_falls line (stm.Jump l) h = omega (arith, h)
-  act_falls line (stm.Zero a l) h = branch_falls _ l h
-  act_falls line (stm.Case a v l) h = branch_falls _ l h
-  act_falls line (stm.Loop l) h = step_falls s.steps _ refl (λ m e. back_falls m l e)
-  act_falls line (stm.Call f r args) h = step_falls s.steps _ refl (λ m e. call_falls line f (values_of s args) m e)
-  act_falls line (stm.Malloc r n element) h = make_falls line r (size_in (number_of s n)) element
-  act_falls line (stm.Calloc r m n element) h = make_falls line r (size_in (number_of s m) * size_in (number_of s n)) element
-  act_falls line (stm.Realloc r p n element) h = grow_falls line r _ _ element
-  act_falls line (stm.Free p) h = free_falls line _
-  act_falls line (stm.Lib name r args) h = lib_falls line name r _
-  act_falls line (stm.Printf r k args) h = print_falls line r _ _
-  act_falls line stm.Enter h = omega arith
-  act_falls line stm.Leave h = leave_falls s.scopes
-  act_falls line (stm.Return a) h =
+  act_falls : (fits : ℕ → Bool) (line : ℕ) (kind : StmKind) → IsForward s.running.point kind → Falls core s (act core fits line kind s)
+  act_falls fits line (stm.Set r a) h = omega arith
+  act_falls fits line (stm.Conv k r a) h = omega arith
+  act_falls fits line (stm.Un op k r a) h = omega arith
+  act_falls fits line (stm.Bin op k r a b) h = answers_falls line (Some r) _
+  act_falls fits line (stm.Cmp op r a b) h = omega arith
+  act_falls fits line (stm.Add r p a n) h = answers_falls line (Some r) _
+  act_falls fits line (stm.Sub r p a n) h = answers_falls line (Some r) _
+  act_falls fits line (stm.Off r p c) h = answers_falls line (Some r) _
+  act_falls fits line (stm.Diff r p q n) h = answers_falls line (Some r) _
+  act_falls fits line (stm.Pcmp op r p q) h = answers_falls line (Some r) _
+  act_falls fits line (stm.Test r p) h = omega arith
+  act_falls fits line (stm.Load k r p) h = answers_falls line (Some r) _
+  act_falls fits line (stm.Loadp r p) h = answers_falls line (Some r) _
+  act_falls fits line (stm.Store k p a) h = changes_falls line _
+  act_falls fits line (stm.Storep p q) h = changes_falls line _
+  act_falls fits line (stm.Copy p q n) h = changes_falls line _
+  act_falls fits line (stm.Clear p n) h = changes_falls line _
+  act_falls fits line (stm.Jump l) h = omega (arith, h)
+  act_falls fits line (stm.Zero a l) h = branch_falls _ l h
+  act_falls fits line (stm.Case a v l) h = branch_falls _ l h
+  act_falls fits line (stm.Loop l) h = step_falls s.steps _ refl (λ m e. back_falls m l e)
+  act_falls fits line (stm.Call f r args) h = step_falls s.steps _ refl (λ m e. call_falls line f (values_of s args) m e)
+  act_falls fits line (stm.Malloc r n element) h = made_falls _ line r (size_in (number_of s n)) element
+  act_falls fits line (stm.Calloc r m n element) h = made_falls _ line r (size_in (number_of s m) * size_in (number_of s n)) element
+  act_falls fits line (stm.Realloc r p n element) h = grow_falls fits line r _ _ element
+  act_falls fits line (stm.Free p) h = free_falls line _
+  act_falls fits line (stm.Lib name r args) h = lib_falls line name r _
+  act_falls fits line (stm.Printf r k args) h = print_falls line r _ _
+  act_falls fits line stm.Enter h = omega arith
+  act_falls fits line stm.Leave h = leave_falls s.scopes
+  act_falls fits line (stm.Return a) h =
       let answer = returned s a in
       let locals = running_locals core s in end_falls line answer (first_held (escapes core answer s locals) locals)
 
-  checked_falls : (b : Bool) (stm : Stm) → IsForward s.running.point stm.kind → Falls core s (unless_reads_stale b core stm s)
-  checked_falls true stm h = tt
-  checked_falls false stm h = act_falls stm.line stm.kind h
+  checked_falls : (b : Bool) (fits : ℕ → Bool) (stm : Stm) → IsForward s.running.point stm.kind → Falls core s (unless_reads_stale b core fits stm s)
+  checked_falls true fits stm h = tt
+  checked_falls false fits stm h = act_falls fits stm.line stm.kind h
 
 -- each statement of a core goes forward, but for the loops
 abbrev pub AllForward : Core → Type 0
@@ -247,13 +253,16 @@ forward_in core all f point None stm e h = absurd (cc)
 forward_in core all f point (Some func) stm e h = all f func e point stm h
 
 module _ (core : Core) (all : AllForward core) where
-  at_falls : (s : State) (o : Option Stm) → statement_at core s.running ≡ o → Falls core s (act_at core o s)
-  at_falls s None h = tt
-  at_falls s (Some stm) h =
-      checked_falls core s (within (slice_get core.funcs s.running.func) s.running.point stm h) _ stm (forward_in core all s.running.func s.running.point (slice_get core.funcs s.running.func) stm refl h)
+  at_falls : (fits : ℕ → Bool) (s : State) (o : Option Stm) → statement_at core s.running ≡ o → Falls core s (act_at core fits o s)
+  at_falls fits s None h = tt
+  at_falls fits s (Some stm) h =
+      checked_falls core s (within (slice_get core.funcs s.running.func) s.running.point stm h) _ fits stm (forward_in core all s.running.func s.running.point (slice_get core.funcs s.running.func) stm refl h)
 
-  pub step_falls_at : (trace : List Event) (s : State) → Falls core s (step core trace s)
-  step_falls_at trace s = at_falls s (statement_at core s.running) refl
+  pub step_by_falls : (fits : ℕ → Bool) (s : State) → Falls core s (step_by core fits s)
+  step_by_falls fits s = at_falls fits s (statement_at core s.running) refl
+
+  pub step_falls_at : (heap : ℕ) (trace : List Event) (s : State) → Falls core s (step core heap trace s)
+  step_falls_at heap trace s = step_by_falls (has_place heap trace) s
 
   -- what is left of a run that has not ended
   abbrev Left : ℕ → ℕ → Option Ending → State → Type 0
@@ -264,33 +273,33 @@ module _ (core : Core) (all : AllForward core) where
   left_next total k trace s (runs.Goes before events t) h f = omega arith
   left_next total k trace s (runs.Stops before events after e) h f = tt
 
-  left_moved : (total k : ℕ) (r : Run) (o : Option Ending) → r.ended ≡ o → Left total k o r.state → Left total (suc k) (runs.moved (step core) r o).ended (runs.moved (step core) r o).state
-  left_moved total k r (Some e) i h = subst (λ (o : Option Ending). Left total (suc k) o r.state) (sym i) tt
-  left_moved total k r None i h =
-      left_next total k r.trace r.state (step core r.trace r.state) h (step_falls_at r.trace r.state)
+  left_moved : (heap total k : ℕ) (r : Run) (o : Option Ending) → r.ended ≡ o → Left total k o r.state → Left total (suc k) (runs.moved (step core heap) r o).ended (runs.moved (step core heap) r o).state
+  left_moved heap total k r (Some e) i h = subst (λ (o : Option Ending). Left total (suc k) o r.state) (sym i) tt
+  left_moved heap total k r None i h =
+      left_next total k r.trace r.state (step core heap r.trace r.state) h (step_falls_at heap r.trace r.state)
 
   left_first : (r : Run) (o : Option Ending) → r.ended ≡ o → Left (enough core r.state) 0 r.ended r.state
   left_first r (Some e) h = subst (λ (o : Option Ending). Left (enough core r.state) 0 o r.state) (sym h) tt
   left_first r None h = subst (λ (o : Option Ending). Left (enough core r.state) 0 o r.state) (sym h) (omega arith)
 
-  left_after : (r : Run) (k : ℕ) → Left (enough core r.state) k (runs.after (step core) r k).ended (runs.after (step core) r k).state
+  left_after : (heap : ℕ) (r : Run) (k : ℕ) → Left (enough core r.state) k (runs.after (step core heap) r k).ended (runs.after (step core heap) r k).state
   unfolding runs.after
-  left_after r zero = left_first r r.ended refl
-  left_after r (suc k) =
-      left_moved (enough core r.state) k (runs.after (step core) r k) (runs.after (step core) r k).ended refl (left_after r k)
+  left_after heap r zero = left_first r r.ended refl
+  left_after heap r (suc k) =
+      left_moved heap (enough core r.state) k (runs.after (step core heap) r k) (runs.after (step core heap) r k).ended refl (left_after heap r k)
 
   ends_at : (s : State) (r : Run) (o : Option Ending) → r.ended ≡ o → Left (enough core s) (enough core s) o r.state → (e : Ending) × (r.ended ≡ Some e)
   ends_at s r (Some e) i h = (e, i)
   ends_at s r None i h = absurd (omega arith)
 
   -- the meaning is a run that has ended
-  pub ends : (input : List ℕ) (n : ℕ) → (e : Ending) × ((meaning core input n).ended ≡ Some e)
-  ends input n =
+  pub ends : (input : List ℕ) (n heap : ℕ) → (e : Ending) × ((meaning core input n heap).ended ≡ Some e)
+  ends input n heap =
       let r = begun core input n in
-      ends_at r.state (meaning core input n) (meaning core input n).ended refl (left_after r (enough core r.state))
+      ends_at r.state (meaning core input n heap) (meaning core input n heap).ended refl (left_after heap r (enough core r.state))
 
   -- so each run that has ended is the meaning
-  pub meaning_is : (input : List ℕ) (n k : ℕ) (e : Ending) → (runs.after (step core) (begun core input n) k).ended ≡ Some e → meaning core input n ≡ runs.after (step core) (begun core input n) k
-  meaning_is input n k e h =
-      let m = ends input n in
-      one_end (step core) (begun core input n) m.0 e (enough core (begun core input n).state) k m.1 h
+  pub meaning_is : (input : List ℕ) (n heap k : ℕ) (e : Ending) → (runs.after (step core heap) (begun core input n) k).ended ≡ Some e → meaning core input n heap ≡ runs.after (step core heap) (begun core input n) k
+  meaning_is input n heap k e h =
+      let m = ends input n heap in
+      one_end (step core heap) (begun core input n) m.0 e (enough core (begun core input n).state) k m.1 h

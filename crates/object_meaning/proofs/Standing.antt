@@ -29,7 +29,7 @@ use Rattle.object_meaning.specs.Values.{number, address, start_of, number_at, po
 use Rattle.object_meaning.specs.Going.{Next, at_point, onward, put, write, with_objects, with_step, ended_by, if_done, answers, changes}
 use Rattle.object_meaning.specs.Making.{heap_object, with_new}
 use Rattle.object_meaning.specs.Scoping.{is_held, bury, decided, leave, in_scope}
-use Rattle.object_meaning.specs.Heap.{birth_of, make, enqueue, free_named, free, grown, grow_named, grow}
+use Rattle.object_meaning.specs.Heap.{birth_of, made, enqueue, free_named, free, grown, grow_old, grow_named, grow}
 use Rattle.object_meaning.specs.Strings.{string_at, order_of}
 use Rattle.object_meaning.specs.Printing.{printed, print}
 use Rattle.object_meaning.specs.Builtins.{byte_in, get_byte, put_line, filled, call_lib}
@@ -211,8 +211,9 @@ module _ (core : Core) (sound : IsSound core) (s : State) (func : Func) (good : 
   free_stays p at (pointer.At b offset) =
       free_named_stays p at (freed_at s.objects b offset) (may_free s.objects b offset)
 
-  pub make_stays : (kind : StmKind) → At kind → GoesOn kind → (r : ℕ) → written kind ≡ Some r → (n : ℕ) (element : Layout) → Stays core (make line r n element s)
-  make_stays kind at on r e n element =
+  pub made_stays : (b : Bool) (kind : StmKind) → At kind → GoesOn kind → (r : ℕ) → written kind ≡ Some r → (n : ℕ) (element : Layout) → Stays core (made b line r n element s)
+  made_stays false kind at on r e n element = write_same kind at on (Some r) e (address pointer.Null) refl
+  made_stays true kind at on r e n element =
       write_good (s.objects ++ heap_object line n element ∷ []) s.queue s.input (append_grows s.objects (heap_object line n element ∷ [])) (new_sane s.objects s.queue good.sane line n element) kind at on (Some r) e (address (start_of (length s.objects))) (new_alive s.objects s.queue good.sane line n element)
 
   grown_stays : (kind : StmKind) → At kind → GoesOn kind → (r : ℕ) → written kind ≡ Some r → (n : ℕ) (element : Layout) (old : ℕ) → Alive s.objects old → is_heap (object_at s.objects old).sort ≡ true → (result : Result (List Object) Refusal) → Done (Changed (s.objects ++ heap_object line n element ∷ []) s.queue (new_sane s.objects s.queue good.sane line n element)) result → Stays core (grown core line r n old s (with_new line n element s) result)
@@ -232,18 +233,22 @@ module _ (core : Core) (sound : IsSound core) (s : State) (func : Func) (good : 
       in_scope_stays kind at on s (put t (Some r) v) (birth_of line n s) refl u s.scopes refl
   grown_stays kind at on r e n element old alive heap (Err x) h = refused line x h
 
-  grow_named_stays : (kind : StmKind) → At kind → GoesOn kind → (r : ℕ) → written kind ≡ Some r → (named : Result ℕ Reason) → MayFree s.objects named → (n : ℕ) (element : Layout) → Stays core (grow_named core line r named n element s)
-  grow_named_stays kind at on r e (Ok old) h n element =
+  grow_old_stays : (b : Bool) (kind : StmKind) → At kind → GoesOn kind → (r : ℕ) → written kind ≡ Some r → (old : ℕ) → MayFree s.objects (Ok old) → (n : ℕ) (element : Layout) → Stays core (grow_old b core line r old n element s)
+  grow_old_stays false kind at on r e old h n element = write_same kind at on (Some r) e (address pointer.Null) refl
+  grow_old_stays true kind at on r e old h n element =
       let one = s.objects ++ heap_object line n element ∷ [] in
       let sane = new_sane s.objects s.queue good.sane line n element in
       let first = append_grows s.objects (heap_object line n element ∷ []) in
       grown_stays kind at on r e n element old h.0 h.1 _ (copied_done one s.queue sane (start_of (length s.objects)) (start_of old) (min (object_at s.objects old).size n) (new_alive s.objects s.queue good.sane line n element) (first.alive old h.0))
-  grow_named_stays kind at on r e (Err reason) h n element = λ i. cc
 
-  pub grow_stays : (kind : StmKind) → At kind → GoesOn kind → (r : ℕ) → written kind ≡ Some r → (p : Pointer) (n : ℕ) (element : Layout) → Stays core (grow core line r p n element s)
-  grow_stays kind at on r e pointer.Null n element = make_stays kind at on r e n element
-  grow_stays kind at on r e (pointer.At b offset) n element =
-      grow_named_stays kind at on r e (freed_at s.objects b offset) (may_free s.objects b offset) n element
+  grow_named_stays : (fits : ℕ → Bool) (kind : StmKind) → At kind → GoesOn kind → (r : ℕ) → written kind ≡ Some r → (named : Result ℕ Reason) → MayFree s.objects named → (n : ℕ) (element : Layout) → Stays core (grow_named core fits line r named n element s)
+  grow_named_stays fits kind at on r e (Ok old) h n element = grow_old_stays (fits n) kind at on r e old h n element
+  grow_named_stays fits kind at on r e (Err reason) h n element = λ i. cc
+
+  pub grow_stays : (fits : ℕ → Bool) (kind : StmKind) → At kind → GoesOn kind → (r : ℕ) → written kind ≡ Some r → (p : Pointer) (n : ℕ) (element : Layout) → Stays core (grow core fits line r p n element s)
+  grow_stays fits kind at on r e pointer.Null n element = made_stays (fits n) kind at on r e n element
+  grow_stays fits kind at on r e (pointer.At b offset) n element =
+      grow_named_stays fits kind at on r e (freed_at s.objects b offset) (may_free s.objects b offset) n element
 
   -- Built-in functions, with arguments that are fresh
 

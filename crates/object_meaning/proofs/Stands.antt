@@ -12,7 +12,7 @@ use Rattle.object_meaning.proofs.Standing.{Stays}
 use Rattle.object_meaning.proofs.Acting.{step_stays_at}
 use Rattle.object_meaning.proofs.Beginning.{begins}
 
-module _ (core : Core) (sound : IsSound core) where
+module _ (core : Core) (sound : IsSound core) (heap : ℕ) where
   -- a run so far is good, or has ended for another reason than want of life
   abbrev Going : Option Ending → State → Type 0
   Going None s = Good core s
@@ -22,16 +22,16 @@ module _ (core : Core) (sound : IsSound core) where
   going_next trace (runs.Goes before events after) h = h
   going_next trace (runs.Stops before events after e) h = h
 
-  going_moved : (r : Run) (o : Option Ending) → r.ended ≡ o → Going o r.state → Going (runs.moved (step core) r o).ended (runs.moved (step core) r o).state
+  going_moved : (r : Run) (o : Option Ending) → r.ended ≡ o → Going o r.state → Going (runs.moved (step core heap) r o).ended (runs.moved (step core heap) r o).state
   going_moved r (Some e) i h = subst (λ (o : Option Ending). Going o r.state) (sym i) h
   going_moved r None i h =
-      going_next r.trace (step core r.trace r.state) (step_stays_at core sound r.trace r.state h)
+      going_next r.trace (step core heap r.trace r.state) (step_stays_at core sound heap r.trace r.state h)
 
-  going_after : (r : Run) → Going r.ended r.state → (k : ℕ) → Going (runs.after (step core) r k).ended (runs.after (step core) r k).state
+  going_after : (r : Run) → Going r.ended r.state → (k : ℕ) → Going (runs.after (step core heap) r k).ended (runs.after (step core heap) r k).state
   unfolding runs.after
   going_after r h zero = h
   going_after r h (suc k) =
-      going_moved (runs.after (step core) r k) (runs.after (step core) r k).ended refl (going_after r h k)
+      going_moved (runs.after (step core heap) r k) (runs.after (step core heap) r k).ended refl (going_after r h k)
 
   going_first : (input : List ℕ) (n : ℕ) → Going (begun core input n).ended (begun core input n).state
   going_first input n = going_next [] (first_call core input n) (begins core sound input n)
@@ -41,7 +41,7 @@ module _ (core : Core) (sound : IsSound core) where
   not_dangling s (Some d) e i h = λ j. h (cc)
 
   -- the meaning does not end for want of life
-  pub never_dangles : (input : List ℕ) (n : ℕ) (e : Ending) → (meaning core input n).ended ≡ Some e → e ≢ Dangling
+  pub never_dangles : (input : List ℕ) (n : ℕ) (e : Ending) → (meaning core input n heap).ended ≡ Some e → e ≢ Dangling
   never_dangles input n e h =
       let r = begun core input n in
-      not_dangling (meaning core input n).state (meaning core input n).ended e h (going_after r (going_first input n) (enough core r.state))
+      not_dangling (meaning core input n heap).state (meaning core input n heap).ended e h (going_after r (going_first input n) (enough core r.state))

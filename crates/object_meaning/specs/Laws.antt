@@ -8,4 +8,4 @@ use Rattle.object_meaning.specs.Meaning.{meaning}
 -- the run of a sound core has ended, and not by reading a pointer to a dead object or for want of a statement
 abbrev pub RunsEnd : Type 0
 RunsEnd =
-    (core : Core) → IsSound core → (input : List ℕ) (n : ℕ) → (ending : Ending) × ((meaning core input n).ended ≡ Some ending) × (ending ≢ Dangling)
+    (core : Core) → IsSound core → (input : List ℕ) (n heap : ℕ) → (ending : Ending) × ((meaning core input n heap).ended ≡ Some ending) × (ending ≢ Dangling)

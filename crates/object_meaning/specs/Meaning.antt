@@ -6,6 +6,7 @@ use Rattle.hs_base.specs.declared.values.Pointer.TheVariants as pointer
 use Rattle.hs_base.specs.declared.values.Value.{Value}
 use Rattle.hs_base.specs.Access.{set_bytes}
 use Rattle.hs_base.specs.Numbers.{wrapped}
+use Rattle.hs_base.specs.Place.{has_place}
 use Rattle.hs_base.specs.State.{Frame, State}
 use Rattle.hs_base.specs.Trace.{Event, Enter, Ending, Dangling}
 use Rattle.hs_base.specs.Runs as runs
@@ -64,56 +65,61 @@ abbrev pub print_format : ℕ → ℕ → List ℕ → List Value → State → 
 print_format line r format values s =
     let text = printed s.objects (pieces_of format) values in print line r text.bytes text.refused s
 
--- what a statement of each kind does
-abbrev pub act : Core → ℕ → StmKind → State → Next
-act core line (stm.Set r a) s = goes s [] (write s (Some r) (value_of s.running a))
-act core line (stm.Conv k r a) s = goes s [] (write s (Some r) (number (wrapped k (number_of s a))))
-act core line (stm.Un op k r a) s = goes s [] (write s (Some r) (number (on_one op k (number_of s a))))
-act core line (stm.Bin op k r a b) s = answers line s (Some r) (on_two op k (number_of s a) (number_of s b))
-act core line (stm.Cmp op r a b) s = goes s [] (write s (Some r) (truth (compared op (number_of s a) (number_of s b))))
-act core line (stm.Add r p a size) s =
+-- what a statement of each kind does; a test of sizes says which new objects have a place
+abbrev pub act : Core → (ℕ → Bool) → ℕ → StmKind → State → Next
+act core fits line (stm.Set r a) s = goes s [] (write s (Some r) (value_of s.running a))
+act core fits line (stm.Conv k r a) s = goes s [] (write s (Some r) (number (wrapped k (number_of s a))))
+act core fits line (stm.Un op k r a) s = goes s [] (write s (Some r) (number (on_one op k (number_of s a))))
+act core fits line (stm.Bin op k r a b) s = answers line s (Some r) (on_two op k (number_of s a) (number_of s b))
+act core fits line (stm.Cmp op r a b) s = goes s [] (write s (Some r) (truth (compared op (number_of s a) (number_of s b))))
+act core fits line (stm.Add r p a size) s =
     answers line s (Some r) (moved_by s.objects (pointer_of s p) (number_of s a *ℤ size))
-act core line (stm.Sub r p a size) s =
+act core fits line (stm.Sub r p a size) s =
     answers line s (Some r) (moved_by s.objects (pointer_of s p) (neg_ℤ (number_of s a *ℤ size)))
-act core line (stm.Off r p distance) s = answers line s (Some r) (moved_by s.objects (pointer_of s p) distance)
-act core line (stm.Diff r p q size) s = answers line s (Some r) (difference (pointer_of s p) (pointer_of s q) size)
-act core line (stm.Pcmp op r p q) s = answers line s (Some r) (pointers_compared op (pointer_of s p) (pointer_of s q))
-act core line (stm.Test r p) s = goes s [] (write s (Some r) (truth (not (is_null (pointer_of s p)))))
-act core line (stm.Load k r p) s = answers line s (Some r) (loaded s.objects k (pointer_of s p))
-act core line (stm.Loadp r p) s = answers line s (Some r) (loaded_pointer s.objects (pointer_of s p))
-act core line (stm.Store k p a) s = changes line s (stored s.objects k (pointer_of s p) (number_of s a))
-act core line (stm.Storep p q) s = changes line s (stored_pointer s.objects (pointer_of s p) (pointer_of s q))
-act core line (stm.Copy p q n) s = changes line s (copied s.objects (pointer_of s p) (pointer_of s q) (bytes_in n))
-act core line (stm.Clear p n) s = changes line s (set_bytes s.objects (pointer_of s p) 0 (bytes_in n))
-act core line (stm.Jump l) s = goes s [] (at_point s l)
-act core line (stm.Zero a l) s = branch (is_zero (number_of s a)) l s
-act core line (stm.Case a v l) s = branch (compared cmp.Eq (number_of s a) v) l s
-act core line (stm.Loop l) s = with_step s.steps s (λ t. goes t [] (at_point t l))
-act core line (stm.Call f r args) s = with_step s.steps s (call core line f (values_of s args))
-act core line (stm.Malloc r n element) s = make line r (size_in (number_of s n)) element s
-act core line (stm.Calloc r m n element) s = make line r (size_in (number_of s m) * size_in (number_of s n)) element s
-act core line (stm.Realloc r p n element) s = grow core line r (pointer_of s p) (size_in (number_of s n)) element s
-act core line (stm.Free p) s = free core line (pointer_of s p) s
-act core line (stm.Lib name r args) s = call_lib line name r (values_of s args) s
-act core line (stm.Printf r k args) s =
+act core fits line (stm.Off r p distance) s = answers line s (Some r) (moved_by s.objects (pointer_of s p) distance)
+act core fits line (stm.Diff r p q size) s = answers line s (Some r) (difference (pointer_of s p) (pointer_of s q) size)
+act core fits line (stm.Pcmp op r p q) s = answers line s (Some r) (pointers_compared op (pointer_of s p) (pointer_of s q))
+act core fits line (stm.Test r p) s = goes s [] (write s (Some r) (truth (not (is_null (pointer_of s p)))))
+act core fits line (stm.Load k r p) s = answers line s (Some r) (loaded s.objects k (pointer_of s p))
+act core fits line (stm.Loadp r p) s = answers line s (Some r) (loaded_pointer s.objects (pointer_of s p))
+act core fits line (stm.Store k p a) s = changes line s (stored s.objects k (pointer_of s p) (number_of s a))
+act core fits line (stm.Storep p q) s = changes line s (stored_pointer s.objects (pointer_of s p) (pointer_of s q))
+act core fits line (stm.Copy p q n) s = changes line s (copied s.objects (pointer_of s p) (pointer_of s q) (bytes_in n))
+act core fits line (stm.Clear p n) s = changes line s (set_bytes s.objects (pointer_of s p) 0 (bytes_in n))
+act core fits line (stm.Jump l) s = goes s [] (at_point s l)
+act core fits line (stm.Zero a l) s = branch (is_zero (number_of s a)) l s
+act core fits line (stm.Case a v l) s = branch (compared cmp.Eq (number_of s a) v) l s
+act core fits line (stm.Loop l) s = with_step s.steps s (λ t. goes t [] (at_point t l))
+act core fits line (stm.Call f r args) s = with_step s.steps s (call core line f (values_of s args))
+act core fits line (stm.Malloc r n element) s = make fits line r (size_in (number_of s n)) element s
+act core fits line (stm.Calloc r m n element) s = make fits line r (size_in (number_of s m) * size_in (number_of s n)) element s
+act core fits line (stm.Realloc r p n element) s = grow core fits line r (pointer_of s p) (size_in (number_of s n)) element s
+act core fits line (stm.Free p) s = free core line (pointer_of s p) s
+act core fits line (stm.Lib name r args) s = call_lib line name r (values_of s args) s
+act core fits line (stm.Printf r k args) s =
     print_format line r (format_in (slice_get core.funcs s.running.func) k) (values_of s args) s
-act core line stm.Enter s = enter s
-act core line stm.Leave s = leave core s.scopes s
-act core line (stm.Return a) s = give_back core line (returned s a) s
+act core fits line stm.Enter s = enter s
+act core fits line stm.Leave s = leave core s.scopes s
+act core fits line (stm.Return a) s = give_back core line (returned s a) s
 
 -- a statement that reads a pointer to a dead object from a register does nothing else
-abbrev pub unless_reads_stale : Bool → Core → Stm → State → Next
-unless_reads_stale true core stm s = stops s Dangling
-unless_reads_stale false core stm s = act core stm.line stm.kind s
+abbrev pub unless_reads_stale : Bool → Core → (ℕ → Bool) → Stm → State → Next
+unless_reads_stale true core fits stm s = stops s Dangling
+unless_reads_stale false core fits stm s = act core fits stm.line stm.kind s
 
 -- there is a statement at each point that a run of a sound core comes to
-abbrev pub act_at : Core → Option Stm → State → Next
-act_at core None s = stops s Dangling
-act_at core (Some stm) s = unless_reads_stale (list_any (holds_stale s.objects) (values_of s (operands stm.kind))) core stm s
+abbrev pub act_at : Core → (ℕ → Bool) → Option Stm → State → Next
+act_at core fits None s = stops s Dangling
+act_at core fits (Some stm) s =
+    unless_reads_stale (list_any (holds_stale s.objects) (values_of s (operands stm.kind))) core fits stm s
 
--- the statement that the running frame is at
-abbrev pub step : Core → List Event → State → Next
-step core trace s = act_at core (statement_at core s.running) s
+-- the statement that the running frame is at, by a test of which sizes have a place
+abbrev pub step_by : Core → (ℕ → Bool) → State → Next
+step_by core fits s = act_at core fits (statement_at core s.running) s
+
+-- the same by first fit over the trace so far, in a heap of so many bytes
+abbrev pub step : Core → ℕ → List Event → State → Next
+step core heap trace s = step_by core (has_place heap trace) s
 
 -- Runs
 
@@ -155,6 +161,6 @@ size core = sum_by (λ (func : Func). length func.body) core.funcs + 1
 abbrev pub enough : Core → State → ℕ
 enough core s = s.steps * size core + code_left core s.running + sum_by (code_left core) s.waiting + 1
 
--- the meaning: the run after all its statements
-abbrev pub meaning : Core → List ℕ → ℕ → Run
-meaning core input n = let r = begun core input n in runs.after (step core) r (enough core r.state)
+-- the meaning, with so many steps and in a heap of so many bytes: the run after all its statements
+abbrev pub meaning : Core → List ℕ → ℕ → ℕ → Run
+meaning core input n heap = let r = begun core input n in runs.after (step core heap) r (enough core r.state)

@@ -4,7 +4,8 @@
 //! a last state (`meaning`). The other modules of `specs/` have what the statements do: integers and pointers, reading and
 //! writing objects, new objects, scopes and the check at their end, calls and the end of memory locals, built-in functions
 //! and printf. Whether an object may be freed is decided by its holders (`specs/Holding.antt`): all pointers are read anew
-//! at each check. There are no addresses, no counts, and no limits of heap or stack.
+//! at each check. There are no addresses, no counts, and no limit of stack; of the heap it knows which sizes have a place, by
+//! first fit over its own trace (`has_place` of `hs_base`).
 #![tactic(auto)]
 
 mod laws;

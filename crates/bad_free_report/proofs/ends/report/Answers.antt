@@ -6,11 +6,8 @@ returns-in-BadFree-clause-bytes g c = rw c.in-BadFree.is c.report_bad_free.ensur
 pub returns-in-Spent-clause-bytes : goal.returns-in-Spent-clause-bytes
 returns-in-Spent-clause-bytes g c = rw c.in-Spent.is c.complain.ensures.bytes
 
-pub returns-in-OutOfHeap-clause-bytes : goal.returns-in-OutOfHeap-clause-bytes
-returns-in-OutOfHeap-clause-bytes g c = rw c.in-OutOfHeap.is c.complain_at.ensures.bytes
-
 pub returns-in-OutOfStack-clause-bytes : goal.returns-in-OutOfStack-clause-bytes
-returns-in-OutOfStack-clause-bytes g c = rw c.in-OutOfStack.is c.complain_at-in-OutOfStack.ensures.bytes
+returns-in-OutOfStack-clause-bytes g c = rw c.in-OutOfStack.is c.complain_at.ensures.bytes
 
 pub returns-in-InputFault-clause-bytes : goal.returns-in-InputFault-clause-bytes
 returns-in-InputFault-clause-bytes g c = rw c.in-InputFault.is c.complain-in-InputFault.ensures.bytes

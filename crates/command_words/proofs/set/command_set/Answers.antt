@@ -35,10 +35,12 @@ returns c =
     ∙ ap₂ either (c.in_ok-arg-3.ensures.globals
     ∙ ap₂ either (c.in_ok-arg-2.ensures.globals
     ∙ ap₂ either (c.in_ok-arg.ensures.globals ∙ ap₂ either c.new.ensures.local c.file.ensures.local) c.option-heap.ensures.local) c.option-stack.ensures.local) c.option-steps.ensures.local) c.flag-leaks.ensures.local in
-    let mean_is : app_of c.in_ok-mean.mean ≡ mean = c.in_ok-mean.ensures.shape c.option-budget.ensures.local
-    ∙ ap₂ with_rule (c.in_ok-arg-5.ensures.shape c.file-2.ensures.local ∙ ap₂ with_rule c.new-2.ensures.app c.file-2.ensures.rule) c.option-budget.ensures.rule in
+    let mean_is : app_of c.in_ok-mean.mean ≡ mean = c.in_ok-mean.ensures.shape c.option-mean_steps.ensures.local
+    ∙ ap₂ with_rule (c.in_ok-arg-6.ensures.shape c.option-mean_heap.ensures.local
+    ∙ ap₂ with_rule (c.in_ok-arg-5.ensures.shape c.file-2.ensures.local ∙ ap₂ with_rule c.new-2.ensures.app c.file-2.ensures.rule) c.option-mean_heap.ensures.rule) c.option-mean_steps.ensures.rule in
     let mean_local = c.in_ok-mean.ensures.globals
-    ∙ ap₂ either (c.in_ok-arg-5.ensures.globals ∙ ap₂ either c.new-2.ensures.local c.file-2.ensures.local) c.option-budget.ensures.local in
+    ∙ ap₂ either (c.in_ok-arg-6.ensures.globals
+    ∙ ap₂ either (c.in_ok-arg-5.ensures.globals ∙ ap₂ either c.new-2.ensures.local c.file-2.ensures.local) c.option-mean_heap.ensures.local) c.option-mean_steps.ensures.local in
     let print_is : app_of c.in_ok-print.print ≡ plain (codes "print") = c.in_ok-print.ensures.shape c.file-3.ensures.local
     ∙ ap₂ with_rule c.new-3.ensures.app c.file-3.ensures.rule in
     let print_local = c.in_ok-print.ensures.globals ∙ ap₂ either c.new-3.ensures.local c.file-3.ensures.local in

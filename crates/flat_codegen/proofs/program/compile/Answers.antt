@@ -46,7 +46,7 @@ returns-clause-means c =
     let pins = c.args.counted.now.pins in
     let exact = c.listed_pins_are_exact.ensures.exact core pins c.requires.listed in
     let ascending = c.listed_pins_are_exact.ensures.ascending core pins c.requires.listed in
-    follows (IsCompiled core pins) (λ code. (input : List ℕ) (n : ℕ) → SameRun (core_meaning core pins input n) (code_meaning code input n)) c.code_of.result
+    follows (IsCompiled core pins) (λ code. (input : List ℕ) (n heap : ℕ) → SameRun (core_meaning core pins input n heap) (code_meaning code input n heap)) c.code_of.result
     (λ code is. c.code_means_core.ensures.meaning core pins code c.requires.sound exact ascending is) c.code_of.ensures.compiled
 
 pub returns-clause-tested : goal.returns-clause-tested
@@ -55,5 +55,5 @@ returns-clause-tested c =
     let pins = c.args.counted.now.pins in
     let exact = c.listed_pins_are_exact.ensures.exact core pins c.requires.listed in
     let ascending = c.listed_pins_are_exact.ensures.ascending core pins c.requires.listed in
-    follows (IsCompiled core pins) (λ code. (fits : List Event → Event → Bool) (refused : Event → Ending) (input : List ℕ) (n : ℕ) → SameRun (tested_core core pins fits refused input n) (tested_code code fits refused input n)) c.code_of.result
-    (λ code is fits refused input n. (c.code_means_core.ensures.tested core pins code c.requires.sound exact ascending is fits refused input n).2) c.code_of.ensures.compiled
+    follows (IsCompiled core pins) (λ code. (fits : List Event → Event → Bool) (refused : Event → Ending) (input : List ℕ) (n heap : ℕ) → SameRun (tested_core core pins fits refused input n heap) (tested_code code fits refused input n heap)) c.code_of.result
+    (λ code is fits refused input n heap. (c.code_means_core.ensures.tested core pins code c.requires.sound exact ascending is fits refused input n heap).2) c.code_of.ensures.compiled

@@ -1,4 +1,5 @@
-use Rattle.std.proofs.Common.{[], ◌++◌, refl, ◌∙◌}
+use Rattle.std.proofs.Common.{◌++◌, refl, ◌∙◌}
+use Rattle.hs_base.specs.Place.{has_place}
 use Rattle.hs_base.specs.Trace.{bytes_out}
 use Rattle.flat_machine.proofs.Lasting.{left_end}
 use Rattle.flat_machine.proofs.Inputs.{good_input, good_more}
@@ -30,7 +31,7 @@ instructions-preserved g c =
       room = room_is ∙ known.room;
       told = λ left n room taken stack first.
           let r = known.told left n room taken stack first in
-          reached_more c.args.code.now left n room taken c.instructions.state c.one_step.new.state _ _ _ _ r (good_more c.args.code.now c.requires.formed c.step_stays_good.ensures r.now r.good r.trace) (room_is ∙ known.room ∙ stack) (λ after now. less_state c.args.code.now c.requires.formed c.step_stays_good.ensures c.step_leaves_less.ensures c.instructions.state c.one_step.new.state known.well moves r.now after r.stands now) (told r.stands.places r.now r.trace (taken ++ bytes_out r.trace) r.stands.stands r.good r.is_left r.is_taken);
+          reached_more c.args.code.now left n room taken c.instructions.state c.one_step.new.state _ _ _ _ r (good_more c.args.code.now c.requires.formed c.step_stays_good.ensures r.now r.good (has_place room.heap r.trace)) (room_is ∙ known.room ∙ stack) (λ after now. less_state c.args.code.now c.requires.formed c.step_stays_good.ensures c.step_leaves_less.ensures c.instructions.state c.one_step.new.state known.well moves r.now after r.stands now) (told r.stands.places r.now (taken ++ bytes_out r.trace) r.stands.stands r.good r.is_left r.is_taken);
     }
 
 pub instructions-smaller : goal.instructions-smaller
@@ -43,7 +44,7 @@ returns-in-Err-clause-told g c = λ left n room taken stack first.
     let told = rw c.in-Err.is at c.one_step.ensures.told in
     let known = c.instructions.invariant in
     let r = known.told left n room taken stack first in
-    reached_end c.args.code.now left n room taken c.instructions.state c.one_step.new.state _ _ _ _ r (known.room ∙ stack) c.in-Err.end (told r.stands.places r.now r.trace (taken ++ bytes_out r.trace) r.stands.stands r.good r.is_left r.is_taken)
+    reached_end c.args.code.now left n room taken c.instructions.state c.one_step.new.state _ _ _ _ r (known.room ∙ stack) c.in-Err.end (told r.stands.places r.now (taken ++ bytes_out r.trace) r.stands.stands r.good r.is_left r.is_taken)
 
 pub returns-in-Err-clause-faults : goal.returns-in-Err-clause-faults
 returns-in-Err-clause-faults g c =
@@ -55,7 +56,7 @@ returns-in-Err-clause-kept g c =
     let w = c.instructions.invariant.well in
     let good : IsGoodSoFar c.args.code.now w.state = λ left bytes. good_input c.args.code.now w.state left bytes w.good in
     let images = rw c.in-Err.is at c.one_step.ensures.image in
-    let image = images w.places w.state [] w.stands good in
+    let image = images w.places w.state w.stands good in
     (image.places, _, image.agrees.keeps)
 
 pub returns-in-Err-clause-left : goal.returns-in-Err-clause-left
@@ -64,4 +65,4 @@ returns-in-Err-clause-left g c = λ left n room taken stack first.
     let images = rw c.in-Err.is at c.one_step.ensures.image in
     let known = c.instructions.invariant in
     let r = known.told left n room taken stack first in
-    left_end c.args.code.now left n room taken c.instructions.state _ _ r _ _ c.one_step.new.state (known.room ∙ stack) c.in-Err.end (told r.stands.places r.now r.trace (taken ++ bytes_out r.trace) r.stands.stands r.good r.is_left r.is_taken) (images r.stands.places r.now r.trace r.stands.stands r.good)
+    left_end c.args.code.now left n room taken c.instructions.state _ _ r _ _ c.one_step.new.state (known.room ∙ stack) c.in-Err.end (told r.stands.places r.now (taken ++ bytes_out r.trace) r.stands.stands r.good r.is_left r.is_taken) (images r.stands.places r.now r.stands.stands r.good)

@@ -1,10 +1,11 @@
-use Rattle.std.proofs.Common.{pos, get_or, refl, rules, sym, subst, ◌∙◌}
+use Rattle.std.proofs.Common.{Ok, pos, get_or, refl, rules, sym, subst, ◌∙◌}
 use Rattle.flat_code.specs.declared.instructions.Op.{Op}
 use Rattle.flat_code.specs.declared.instructions.Op.TheVariants as op
 use Rattle.code_meaning.specs.Entering.{layout_in}
 use Rattle.object_meaning.specs.Values.{number}
 use Rattle.flat_objects.specs.Standing.{StandsFor}
 use Rattle.flat_machine.specs.Groups.{IsValues, IsJump, IsMemory, IsPointers, IsRanges, IsMaking, IsFreeing}
+use Rattle.flat_machine.specs.Standing.{fits_now}
 use Rattle.flat_machine.specs.Pinning.{CountsWell}
 use Rattle.flat_machine.specs.Growing.{IsBefore, about_to_write}
 use Rattle.flat_machine.proofs.WordLists.{word_at}
@@ -18,51 +19,51 @@ use Rattle.flat_machine.proofs.steps.act_alone.Goals as goal
 pub returns-in-Return-clause-alone : goal.returns-in-Return-clause-alone
 returns-in-Return-clause-alone c = λ places s h counts fresh is.
     let own = subst (λ (o : Op). CountsWell c.args.state.now (about_to_write c.args.instr o s)) c.in-Return.is counts in
-    rw c.in-Return.is (taken_alone c.args.code.now c.args.line c.args.instr op.Return s places c.args.state.now c.act_return.new.self c.act_return.result refl (is ∙ c.in-Return.is) (c.act_return.ensures.alone places s (number (pos 0)) h own refl))
+    rw c.in-Return.is (taken_alone c.args.code.now (fits_now places s c.args.state.now) c.args.line c.args.instr op.Return s places c.args.state.now c.act_return.new.self c.act_return.result refl (is ∙ c.in-Return.is) (c.act_return.ensures.alone places s (number (pos 0)) h own refl))
 
 pub returns-in-Give-clause-alone : goal.returns-in-Give-clause-alone
 returns-in-Give-clause-alone c = λ places s h counts fresh is.
     let own = subst (λ (o : Op). CountsWell c.args.state.now (about_to_write c.args.instr o s)) c.in-Give.is counts in
     let v = get_or s.handed 0 (number (pos 0)) in
     let stands = subst (StandsFor places s.state.objects v) (sym c.word-answer.ensures) (word_at places s.state.objects s.handed c.args.state.now.handed 0 h.handed) in
-    rw c.in-Give.is (taken_alone c.args.code.now c.args.line c.args.instr op.Give s places c.args.state.now c.act_return-in-Give.new.self c.act_return-in-Give.result refl (is ∙ c.in-Give.is) (c.act_return-in-Give.ensures.alone places s v h own stands))
+    rw c.in-Give.is (taken_alone c.args.code.now (fits_now places s c.args.state.now) c.args.line c.args.instr op.Give s places c.args.state.now c.act_return-in-Give.new.self c.act_return-in-Give.result refl (is ∙ c.in-Give.is) (c.act_return-in-Give.ensures.alone places s v h own stands))
 
 pub returns-in-Call-clause-alone : goal.returns-in-Call-clause-alone
 returns-in-Call-clause-alone c = λ places s h counts fresh is.
     let own = subst (λ (o : Op). CountsWell c.args.state.now (about_to_write c.args.instr o s)) c.in-Call.is counts in
-    rw c.in-Call.is (c.call.ensures.alone places s h own (is ∙ c.in-Call.is))
+    rw c.in-Call.is (c.call.ensures.alone (fits_now places s c.args.state.now) places s h own (is ∙ c.in-Call.is))
 
 pub call-requires-clause-standing : goal.call-requires-clause-standing
 call-requires-clause-standing c =
     calling_stands c.args.instr c.args.op c.args.state.now c.in-Call.is c.requires.standing
 
 pub returns-in-HandReg-clause-alone : goal.returns-in-HandReg-clause-alone
-returns-in-HandReg-clause-alone c = λ places s h counts fresh is. c.act_hand.ensures c.args.code.now c.args.line places s h fresh
+returns-in-HandReg-clause-alone c = λ places s h counts fresh is. c.act_hand.ensures c.args.code.now (fits_now places s c.args.state.now) c.args.line places s h fresh
 
 pub returns-in-Set-clause-alone : goal.returns-in-Set-clause-alone
 returns-in-Set-clause-alone c = λ places s h counts fresh is.
     let values : IsValues c.args.op = search rules in
-    taken_alone c.args.code.now c.args.line c.args.instr c.args.op s places c.args.state.now c.act_values.new.self c.act_values.result (values_taken s.state.running c.args.instr c.args.op values) is (c.act_values.ensures.alone c.args.code.now places s h)
+    taken_alone c.args.code.now (fits_now places s c.args.state.now) c.args.line c.args.instr c.args.op s places c.args.state.now c.act_values.new.self c.act_values.result (values_taken s.state.running c.args.instr c.args.op values) is (c.act_values.ensures.alone c.args.code.now (fits_now places s c.args.state.now) places s h)
 
 pub returns-in-Jump-clause-alone : goal.returns-in-Jump-clause-alone
 returns-in-Jump-clause-alone c = λ places s h counts fresh is.
     let jump : IsJump c.args.op = search rules in
-    taken_alone c.args.code.now c.args.line c.args.instr c.args.op s places c.args.state.now c.act_jump.new.self c.act_jump.result (jump_taken s.state.running c.args.instr c.args.op jump) is (c.act_jump.ensures.alone c.args.code.now places s h)
+    taken_alone c.args.code.now (fits_now places s c.args.state.now) c.args.line c.args.instr c.args.op s places c.args.state.now c.act_jump.new.self c.act_jump.result (jump_taken s.state.running c.args.instr c.args.op jump) is (c.act_jump.ensures.alone c.args.code.now (fits_now places s c.args.state.now) places s h)
 
 pub returns-in-Load-clause-alone : goal.returns-in-Load-clause-alone
 returns-in-Load-clause-alone c = λ places s h counts fresh is.
     let memory : IsMemory c.args.op = search rules in
-    taken_alone c.args.code.now c.args.line c.args.instr c.args.op s places c.args.state.now c.act_memory.new.self c.act_memory.result (memory_taken s.state.running c.args.instr c.args.op memory) is (c.act_memory.ensures.alone c.args.code.now places s h)
+    taken_alone c.args.code.now (fits_now places s c.args.state.now) c.args.line c.args.instr c.args.op s places c.args.state.now c.act_memory.new.self c.act_memory.result (memory_taken s.state.running c.args.instr c.args.op memory) is (c.act_memory.ensures.alone c.args.code.now (fits_now places s c.args.state.now) places s h)
 
 pub returns-in-Add-clause-alone : goal.returns-in-Add-clause-alone
 returns-in-Add-clause-alone c = λ places s h counts fresh is.
     let pointers : IsPointers c.args.op = search rules in
-    taken_alone c.args.code.now c.args.line c.args.instr c.args.op s places c.args.state.now c.act_pointers.new.self c.act_pointers.result (pointers_taken s.state.running c.args.instr c.args.op pointers) is (c.act_pointers.ensures.alone c.args.code.now places s h)
+    taken_alone c.args.code.now (fits_now places s c.args.state.now) c.args.line c.args.instr c.args.op s places c.args.state.now c.act_pointers.new.self c.act_pointers.result (pointers_taken s.state.running c.args.instr c.args.op pointers) is (c.act_pointers.ensures.alone c.args.code.now (fits_now places s c.args.state.now) places s h)
 
 pub returns-in-Malloc-clause-alone : goal.returns-in-Malloc-clause-alone
 returns-in-Malloc-clause-alone c = λ places s h counts fresh is.
     let making : IsMaking c.args.op = search rules in
-    taken_alone c.args.code.now c.args.line c.args.instr c.args.op s places c.args.state.now c.act_making.new.self c.act_making.result (making_taken s.state.running c.args.instr c.args.op making) is (c.act_making.ensures.alone c.args.code.now places s h (c.requires.makes making).element)
+    taken_alone c.args.code.now (fits_now places s c.args.state.now) c.args.line c.args.instr c.args.op s places c.args.state.now c.act_making.new.self (Ok tt) (making_taken s.state.running c.args.instr c.args.op making) is (c.act_making.ensures c.args.code.now places s h (c.requires.makes making).element)
 
 pub act_making-requires-clause-births : goal.act_making-requires-clause-births
 act_making-requires-clause-births c =
@@ -71,7 +72,7 @@ act_making-requires-clause-births c =
 pub returns-in-Free-clause-alone : goal.returns-in-Free-clause-alone
 returns-in-Free-clause-alone c = λ places s h counts fresh is.
     let freeing : IsFreeing c.args.op = search rules in
-    taken_alone c.args.code.now c.args.line c.args.instr c.args.op s places c.args.state.now c.act_freeing.new.self c.act_freeing.result (freeing_taken s.state.running c.args.instr c.args.op freeing) is (c.act_freeing.ensures.alone c.args.code.now places s c.requires.pins h (freeing_counts c.args.instr c.args.op c.args.state.now s freeing counts))
+    taken_alone c.args.code.now (fits_now places s c.args.state.now) c.args.line c.args.instr c.args.op s places c.args.state.now c.act_freeing.new.self c.act_freeing.result (freeing_taken s.state.running c.args.instr c.args.op freeing) is (c.act_freeing.ensures.alone c.args.code.now (fits_now places s c.args.state.now) places s c.requires.pins h (freeing_counts c.args.instr c.args.op c.args.state.now s freeing counts))
 
 pub act_freeing-requires-clause-standing : goal.act_freeing-requires-clause-standing
 act_freeing-requires-clause-standing c =
@@ -83,7 +84,7 @@ act_freeing-requires-clause-standing c =
 pub returns-in-Copy-clause-alone : goal.returns-in-Copy-clause-alone
 returns-in-Copy-clause-alone c = λ places s h counts fresh is.
     let ranges : IsRanges c.args.op = search rules in
-    taken_alone c.args.code.now c.args.line c.args.instr c.args.op s places c.args.state.now c.act_ranges.new.self c.act_ranges.result (ranges_taken s.state.running c.args.instr c.args.op ranges) is (c.act_ranges.ensures.alone c.args.code.now c.args.instr places s h)
+    taken_alone c.args.code.now (fits_now places s c.args.state.now) c.args.line c.args.instr c.args.op s places c.args.state.now c.act_ranges.new.self c.act_ranges.result (ranges_taken s.state.running c.args.instr c.args.op ranges) is (c.act_ranges.ensures.alone c.args.code.now (fits_now places s c.args.state.now) c.args.instr places s h)
 
 pub act_ranges-requires-clause-storable : goal.act_ranges-requires-clause-storable
 act_ranges-requires-clause-storable c =
@@ -102,7 +103,7 @@ act_ranges-requires-clause-small c =
 pub returns-in-Realloc-clause-alone : goal.returns-in-Realloc-clause-alone
 returns-in-Realloc-clause-alone c = λ places s h counts fresh is.
     let own = subst (λ (o : Op). CountsWell c.args.state.now (about_to_write c.args.instr o s)) c.in-Realloc.is counts in
-    rw c.in-Realloc.is (taken_alone c.args.code.now c.args.line c.args.instr op.Realloc s places c.args.state.now c.act_growing.new.self c.act_growing.result refl (is ∙ c.in-Realloc.is) (c.act_growing.ensures.alone c.args.code.now places s c.requires.pins h own (c.requires.grows c.in-Realloc.is).element))
+    rw c.in-Realloc.is (taken_alone c.args.code.now (fits_now places s c.args.state.now) c.args.line c.args.instr op.Realloc s places c.args.state.now c.act_growing.new.self c.act_growing.result refl (is ∙ c.in-Realloc.is) (c.act_growing.ensures.alone c.args.code.now places s c.requires.pins h own (c.requires.grows c.in-Realloc.is).element))
 
 pub act_growing-requires-clause-births : goal.act_growing-requires-clause-births
 act_growing-requires-clause-births c = (c.requires.grows c.in-Realloc.is).births
@@ -135,56 +136,51 @@ act_memory-requires-clause-kept c =
 pub returns-in-Return-clause-image : goal.returns-in-Return-clause-image
 returns-in-Return-clause-image c = λ places s h counts fresh is.
     let own = subst (λ (o : Op). CountsWell c.args.state.now (about_to_write c.args.instr o s)) c.in-Return.is counts in
-    rw c.in-Return.is (image_is c.args.code.now _ _ (taken_is c.args.code.now c.args.line c.args.instr op.Return s refl (is ∙ c.in-Return.is)) c.act_return.new.self c.act_return.result (c.act_return.ensures.image places s (number (pos 0)) c.requires.pins h own refl))
+    rw c.in-Return.is (image_is c.args.code.now _ _ (taken_is c.args.code.now (fits_now places s c.args.state.now) c.args.line c.args.instr op.Return s refl (is ∙ c.in-Return.is)) c.act_return.new.self c.act_return.result (c.act_return.ensures.image places s (number (pos 0)) c.requires.pins h own refl))
 
 pub returns-in-Give-clause-image : goal.returns-in-Give-clause-image
 returns-in-Give-clause-image c = λ places s h counts fresh is.
     let own = subst (λ (o : Op). CountsWell c.args.state.now (about_to_write c.args.instr o s)) c.in-Give.is counts in
     let v = get_or s.handed 0 (number (pos 0)) in
     let stands = subst (StandsFor places s.state.objects v) (sym c.word-answer.ensures) (word_at places s.state.objects s.handed c.args.state.now.handed 0 h.handed) in
-    rw c.in-Give.is (image_is c.args.code.now _ _ (taken_is c.args.code.now c.args.line c.args.instr op.Give s refl (is ∙ c.in-Give.is)) c.act_return-in-Give.new.self c.act_return-in-Give.result (c.act_return-in-Give.ensures.image places s v c.requires.pins h own stands))
+    rw c.in-Give.is (image_is c.args.code.now _ _ (taken_is c.args.code.now (fits_now places s c.args.state.now) c.args.line c.args.instr op.Give s refl (is ∙ c.in-Give.is)) c.act_return-in-Give.new.self c.act_return-in-Give.result (c.act_return-in-Give.ensures.image places s v c.requires.pins h own stands))
 
 pub returns-in-Call-clause-image : goal.returns-in-Call-clause-image
 returns-in-Call-clause-image c = λ places s h counts fresh is.
     let own = subst (λ (o : Op). CountsWell c.args.state.now (about_to_write c.args.instr o s)) c.in-Call.is counts in
-    rw c.in-Call.is (c.call.ensures.image places s c.requires.pins h own (is ∙ c.in-Call.is))
+    rw c.in-Call.is (c.call.ensures.image (fits_now places s c.args.state.now) places s c.requires.pins h own (is ∙ c.in-Call.is))
 
 pub returns-in-Set-clause-image : goal.returns-in-Set-clause-image
 returns-in-Set-clause-image c = λ places s h counts fresh is.
     let still : IsStill c.args.op = search rules in
-    unchanged_image c.args.code.now places s c.args.state.now c.act_values.new.self h c.requires.pins c.args.line c.args.instr c.args.op c.act_values.result still is counts c.act_values.ensures.unchanged (returns-in-Set-clause-alone c places s h counts fresh is)
+    unchanged_image c.args.code.now places s c.args.state.now c.act_values.new.self h c.requires.pins (fits_now places s c.args.state.now) c.args.line c.args.instr c.args.op c.act_values.result still is counts c.act_values.ensures.unchanged (returns-in-Set-clause-alone c places s h counts fresh is)
 
 pub returns-in-Jump-clause-image : goal.returns-in-Jump-clause-image
 returns-in-Jump-clause-image c = λ places s h counts fresh is.
     let still : IsStill c.args.op = search rules in
-    unchanged_image c.args.code.now places s c.args.state.now c.act_jump.new.self h c.requires.pins c.args.line c.args.instr c.args.op c.act_jump.result still is counts c.act_jump.ensures.unchanged (returns-in-Jump-clause-alone c places s h counts fresh is)
+    unchanged_image c.args.code.now places s c.args.state.now c.act_jump.new.self h c.requires.pins (fits_now places s c.args.state.now) c.args.line c.args.instr c.args.op c.act_jump.result still is counts c.act_jump.ensures.unchanged (returns-in-Jump-clause-alone c places s h counts fresh is)
 
 pub returns-in-Load-clause-image : goal.returns-in-Load-clause-image
 returns-in-Load-clause-image c = λ places s h counts fresh is.
     let still : IsStill c.args.op = search rules in
-    unchanged_image c.args.code.now places s c.args.state.now c.act_memory.new.self h c.requires.pins c.args.line c.args.instr c.args.op c.act_memory.result still is counts c.act_memory.ensures.unchanged (returns-in-Load-clause-alone c places s h counts fresh is)
+    unchanged_image c.args.code.now places s c.args.state.now c.act_memory.new.self h c.requires.pins (fits_now places s c.args.state.now) c.args.line c.args.instr c.args.op c.act_memory.result still is counts c.act_memory.ensures.unchanged (returns-in-Load-clause-alone c places s h counts fresh is)
 
 pub returns-in-Add-clause-image : goal.returns-in-Add-clause-image
 returns-in-Add-clause-image c = λ places s h counts fresh is.
     let still : IsStill c.args.op = search rules in
-    unchanged_image c.args.code.now places s c.args.state.now c.act_pointers.new.self h c.requires.pins c.args.line c.args.instr c.args.op c.act_pointers.result still is counts c.act_pointers.ensures.unchanged (returns-in-Add-clause-alone c places s h counts fresh is)
-
-pub returns-in-Malloc-clause-image : goal.returns-in-Malloc-clause-image
-returns-in-Malloc-clause-image c = λ places s h counts fresh is.
-    let still : IsStill c.args.op = search rules in
-    unchanged_image c.args.code.now places s c.args.state.now c.act_making.new.self h c.requires.pins c.args.line c.args.instr c.args.op c.act_making.result still is counts c.act_making.ensures.unchanged (returns-in-Malloc-clause-alone c places s h counts fresh is)
+    unchanged_image c.args.code.now places s c.args.state.now c.act_pointers.new.self h c.requires.pins (fits_now places s c.args.state.now) c.args.line c.args.instr c.args.op c.act_pointers.result still is counts c.act_pointers.ensures.unchanged (returns-in-Add-clause-alone c places s h counts fresh is)
 
 pub returns-in-Copy-clause-image : goal.returns-in-Copy-clause-image
 returns-in-Copy-clause-image c = λ places s h counts fresh is.
     let still : IsStill c.args.op = search rules in
-    unchanged_image c.args.code.now places s c.args.state.now c.act_ranges.new.self h c.requires.pins c.args.line c.args.instr c.args.op c.act_ranges.result still is counts c.act_ranges.ensures.unchanged (returns-in-Copy-clause-alone c places s h counts fresh is)
+    unchanged_image c.args.code.now places s c.args.state.now c.act_ranges.new.self h c.requires.pins (fits_now places s c.args.state.now) c.args.line c.args.instr c.args.op c.act_ranges.result still is counts c.act_ranges.ensures.unchanged (returns-in-Copy-clause-alone c places s h counts fresh is)
 
 pub returns-in-Free-clause-image : goal.returns-in-Free-clause-image
 returns-in-Free-clause-image c = λ places s h counts fresh is.
     let freeing : IsFreeing c.args.op = search rules in
-    image_is c.args.code.now _ _ (taken_is c.args.code.now c.args.line c.args.instr c.args.op s (freeing_taken s.state.running c.args.instr c.args.op freeing) is) c.act_freeing.new.self c.act_freeing.result (c.act_freeing.ensures.image c.args.code.now places s c.requires.pins h (freeing_counts c.args.instr c.args.op c.args.state.now s freeing counts))
+    image_is c.args.code.now _ _ (taken_is c.args.code.now (fits_now places s c.args.state.now) c.args.line c.args.instr c.args.op s (freeing_taken s.state.running c.args.instr c.args.op freeing) is) c.act_freeing.new.self c.act_freeing.result (c.act_freeing.ensures.image c.args.code.now (fits_now places s c.args.state.now) places s c.requires.pins h (freeing_counts c.args.instr c.args.op c.args.state.now s freeing counts))
 
 pub returns-in-Realloc-clause-image : goal.returns-in-Realloc-clause-image
 returns-in-Realloc-clause-image c = λ places s h counts fresh is.
     let own = subst (λ (o : Op). CountsWell c.args.state.now (about_to_write c.args.instr o s)) c.in-Realloc.is counts in
-    rw c.in-Realloc.is (image_is c.args.code.now _ _ (taken_is c.args.code.now c.args.line c.args.instr op.Realloc s refl (is ∙ c.in-Realloc.is)) c.act_growing.new.self c.act_growing.result (c.act_growing.ensures.image c.args.code.now places s c.requires.pins h own (c.requires.grows c.in-Realloc.is).element))
+    rw c.in-Realloc.is (image_is c.args.code.now _ _ (taken_is c.args.code.now (fits_now places s c.args.state.now) c.args.line c.args.instr op.Realloc s refl (is ∙ c.in-Realloc.is)) c.act_growing.new.self c.act_growing.result (c.act_growing.ensures.image c.args.code.now places s c.requires.pins h own (c.requires.grows c.in-Realloc.is).element))

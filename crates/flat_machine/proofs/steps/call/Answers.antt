@@ -24,9 +24,9 @@ pub act_call-requires-clause-here : goal.act_call-requires-clause-here
 act_call-requires-clause-here c = sym c.in-Some.ensures.item
 
 pub returns-clause-alone : goal.returns-clause-alone
-returns-clause-alone c = λ places s h counts is.
-    taken_alone c.args.code.now c.args.line c.args.instr Call s places c.args.state.now c.act_call.new.self c.act_call.result refl is (c.act_call.ensures.alone places s h counts)
+returns-clause-alone c = λ fits places s h counts is.
+    taken_alone c.args.code.now fits c.args.line c.args.instr Call s places c.args.state.now c.act_call.new.self c.act_call.result refl is (c.act_call.ensures.alone fits places s h counts)
 
 pub returns-clause-image : goal.returns-clause-image
-returns-clause-image c = λ places s has h counts is.
-    image_is c.args.code.now _ _ (taken_is c.args.code.now c.args.line c.args.instr Call s refl is) c.act_call.new.self c.act_call.result (c.act_call.ensures.image places s has h counts)
+returns-clause-image c = λ fits places s has h counts is.
+    image_is c.args.code.now _ _ (taken_is c.args.code.now fits c.args.line c.args.instr Call s refl is) c.act_call.new.self c.act_call.result (c.act_call.ensures.image fits places s has h counts)

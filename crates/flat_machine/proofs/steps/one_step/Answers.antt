@@ -3,8 +3,9 @@ use Rattle.std.specs.Prelude.{All, slice_index_or}
 use Rattle.c_print.specs.Format.{IsGiven}
 use Rattle.flat_code.specs.declared.instructions.Op.TheVariants as op
 use Rattle.meaning_run.specs.Leading.{with_input}
-use Rattle.code_meaning.specs.CodeMeaning.{step, handed_value, hand_or_act}
+use Rattle.code_meaning.specs.CodeMeaning.{step_by, handed_value, hand_or_act}
 use Rattle.flat_machine.proofs.Stays.{stands_input}
+use Rattle.flat_machine.specs.Standing.{fits_now}
 use Rattle.flat_machine.specs.Well.{IsGoodSoFar}
 use Rattle.flat_machine.proofs.Inputs.{no_bytes, good_input}
 use Rattle.flat_machine.proofs.Goods.{hands_fresh, waits, all_locals, kept, may_hand, not_start, element_size, may_make, may_call, no_instr, no_line, may_grow, small}
@@ -39,20 +40,20 @@ act_built_in-requires-clause-settable g c =
     let w = c.requires.well in settable w.places w.state c.args.state.now w.stands
 
 pub returns-in-Lib-clause-told : goal.returns-in-Lib-clause-told
-returns-in-Lib-clause-told g c = λ places s trace taken h good l t.
+returns-in-Lib-clause-told g c = λ places s taken h good l t.
     let at = found c.args.code.now.instrs c.point-point.result c.args.state.now.calls.running.point c.in-Some.instr.now c.point-point.ensures c.in-Some.ensures.item in
     let line = found_line c.args.code.now.lines c.point-point.result c.args.state.now.calls.running.point c.in-Some-get.line.now c.point-point.ensures c.in-Some-get.ensures.item in
-    let acts = step_acts c.args.code.now places s c.args.state.now h c.in-Some.instr.now at c.in-Some-get.line.now line trace (op.Lib c.in-Lib.name) c.in-Lib.is refl in
+    let acts = step_acts c.args.code.now (fits_now places s c.args.state.now) places s c.args.state.now h c.in-Some.instr.now at c.in-Some-get.line.now line (op.Lib c.in-Lib.name) c.in-Lib.is refl in
     let told = rw c.chosen.ensures at (c.act_built_in.ensures.told places s taken h l t) in
-    seen_as c.args.state.now c.act_built_in.new.self _ (step c.args.code.now trace s) acts c.act_built_in.result places s s.state.input taken _ _ told
+    seen_as c.args.state.now c.act_built_in.new.self _ (step_by c.args.code.now (fits_now places s c.args.state.now) s) acts c.act_built_in.result places s s.state.input taken _ _ told
 
 pub returns-in-Lib-clause-moves : goal.returns-in-Lib-clause-moves
 returns-in-Lib-clause-moves g c = λ places s h good.
     let at = found c.args.code.now.instrs c.point-point.result c.args.state.now.calls.running.point c.in-Some.instr.now c.point-point.ensures c.in-Some.ensures.item in
     let line = found_line c.args.code.now.lines c.point-point.result c.args.state.now.calls.running.point c.in-Some-get.line.now c.point-point.ensures c.in-Some-get.ensures.item in
     let moves = rw c.chosen.ensures at (c.act_built_in.ensures.moves places s h) in
-    let acts = step_acts c.args.code.now places (record s { state = with_input moves.0 s.state }) c.args.state.now (stands_input places s c.args.state.now h moves.0) c.in-Some.instr.now at c.in-Some-get.line.now line [] (op.Lib c.in-Lib.name) c.in-Lib.is refl in
-    (moves.0, moves.1, moves_as c.args.state.now c.act_built_in.new.self _ (step c.args.code.now [] (record s { state = with_input moves.0 s.state })) acts c.act_built_in.result moves.2)
+    let acts = step_acts c.args.code.now (fits_now places s c.args.state.now) places (record s { state = with_input moves.0 s.state }) c.args.state.now (stands_input places s c.args.state.now h moves.0) c.in-Some.instr.now at c.in-Some-get.line.now line (op.Lib c.in-Lib.name) c.in-Lib.is refl in
+    (moves.0, moves.1, moves_as c.args.state.now c.act_built_in.new.self _ (step_by c.args.code.now (fits_now places s c.args.state.now) (record s { state = with_input moves.0 s.state })) acts c.act_built_in.result moves.2)
 
 -- Printf
 
@@ -65,14 +66,14 @@ pub act_printf-requires-clause-kept : goal.act_printf-requires-clause-kept
 act_printf-requires-clause-kept g c = kept c.args.code.now c.requires.formed c.args.state.now c.requires.well
 
 pub returns-in-Printf-clause-told : goal.returns-in-Printf-clause-told
-returns-in-Printf-clause-told g c = λ places s trace taken h good l t.
+returns-in-Printf-clause-told g c = λ places s taken h good l t.
     let at = found c.args.code.now.instrs c.point-point.result c.args.state.now.calls.running.point c.in-Some.instr.now c.point-point.ensures c.in-Some.ensures.item in
     let line = found_line c.args.code.now.lines c.point-point.result c.args.state.now.calls.running.point c.in-Some-get.line.now c.point-point.ensures c.in-Some-get.ensures.item in
     let pieces = c.pieces_at-pieces.ensures ∙ ap (λ formats. slice_index_or formats c.in-Some.instr.now.b []) c.as_slice.ensures in
     let read = read_at c.args.code.now.formats c.args.loaded.now.formats c.requires.loaded.formats c.requires.formed.formats c.in-Some.instr.now.b in
-    let acts = step_acts c.args.code.now places s c.args.state.now h c.in-Some.instr.now at c.in-Some-get.line.now line trace op.Printf c.in-Printf.is refl in
+    let acts = step_acts c.args.code.now (fits_now places s c.args.state.now) places s c.args.state.now h c.in-Some.instr.now at c.in-Some-get.line.now line op.Printf c.in-Printf.is refl in
     let told = c.act_printf.ensures.told places s (slice_index_or c.args.code.now.formats c.in-Some.instr.now.b []) taken h (pieces ∙ read) t in
-    rw l (seen_as c.args.state.now c.act_printf.new.self _ (step c.args.code.now trace s) acts c.act_printf.result places s s.state.input taken _ _ told)
+    rw l (seen_as c.args.state.now c.act_printf.new.self _ (step_by c.args.code.now (fits_now places s c.args.state.now) s) acts c.act_printf.result places s s.state.input taken _ _ told)
 
 pub returns-in-Printf-clause-moves : goal.returns-in-Printf-clause-moves
 returns-in-Printf-clause-moves g c = λ places s h good.
@@ -81,9 +82,9 @@ returns-in-Printf-clause-moves g c = λ places s h good.
     let pieces = c.pieces_at-pieces.ensures ∙ ap (λ formats. slice_index_or formats c.in-Some.instr.now.b []) c.as_slice.ensures in
     let read = read_at c.args.code.now.formats c.args.loaded.now.formats c.requires.loaded.formats c.requires.formed.formats c.in-Some.instr.now.b in
     let stands = stands_input places s c.args.state.now h [] in
-    let acts = step_acts c.args.code.now places (record s { state = with_input [] s.state }) c.args.state.now stands c.in-Some.instr.now at c.in-Some-get.line.now line [] op.Printf c.in-Printf.is refl in
+    let acts = step_acts c.args.code.now (fits_now places s c.args.state.now) places (record s { state = with_input [] s.state }) c.args.state.now stands c.in-Some.instr.now at c.in-Some-get.line.now line op.Printf c.in-Printf.is refl in
     let moves = c.act_printf.ensures.moves places (record s { state = with_input [] s.state }) (slice_index_or c.args.code.now.formats c.in-Some.instr.now.b []) stands (pieces ∙ read) in
-    ([], no_bytes, moves_as c.args.state.now c.act_printf.new.self _ (step c.args.code.now [] (record s { state = with_input [] s.state })) acts c.act_printf.result moves)
+    ([], no_bytes, moves_as c.args.state.now c.act_printf.new.self _ (step_by c.args.code.now (fits_now places s c.args.state.now) (record s { state = with_input [] s.state })) acts c.act_printf.result moves)
 
 -- Every other instruction
 
@@ -163,27 +164,27 @@ act_alone-requires-clause-open g c = λ is.
     some_scope c.args.code.now c.requires.formed c.args.state.now c.requires.well c.in-Some.instr.now at is
 
 pub returns-in_default-op-clause-told : goal.returns-in_default-op-clause-told
-returns-in_default-op-clause-told g c = λ places s trace taken h good l t.
+returns-in_default-op-clause-told g c = λ places s taken h good l t.
     let at = found c.args.code.now.instrs c.point-point.result c.args.state.now.calls.running.point c.in-Some.instr.now c.point-point.ensures c.in-Some.ensures.item in
     let line = found_line c.args.code.now.lines c.point-point.result c.args.state.now.calls.running.point c.in-Some-get.line.now c.point-point.ensures c.in-Some-get.ensures.item in
-    let next = hand_or_act c.args.code.now c.in-Some-get.line.now c.in-Some.instr.now (handed_value s.state.running c.in-Some.instr.now c.in-Some.instr.now.op) s in
-    let acts = step_is c.args.code.now places s c.args.state.now h c.in-Some.instr.now at c.in-Some-get.line.now line trace in
+    let next = hand_or_act c.args.code.now (fits_now places s c.args.state.now) c.in-Some-get.line.now c.in-Some.instr.now (handed_value s.state.running c.in-Some.instr.now c.in-Some.instr.now.op) s in
+    let acts = step_is c.args.code.now (fits_now places s c.args.state.now) places s c.args.state.now h c.in-Some.instr.now at c.in-Some-get.line.now line in
     let fresh = hands_fresh c.args.code.now places s c.args.state.now h good c.in-Some.instr.now at in
     let counts = counts_well c.args.code.now c.requires.formed c.running_pins_are_fresh.ensures places s c.args.state.now h good c.requires.well.ready.pins c.requires.well.ready.statics c.in-Some.instr.now at in
     let told = seen_alone places s c.args.state.now next taken c.act_alone.new.state c.act_alone.result (c.act_alone.ensures.alone places s h counts fresh refl) in
-    rw (l, t) (seen_as c.args.state.now c.act_alone.new.state next (step c.args.code.now trace s) acts c.act_alone.result places s s.state.input taken _ _ told)
+    rw (l, t) (seen_as c.args.state.now c.act_alone.new.state next (step_by c.args.code.now (fits_now places s c.args.state.now) s) acts c.act_alone.result places s s.state.input taken _ _ told)
 
 pub returns-in_default-op-clause-moves : goal.returns-in_default-op-clause-moves
 returns-in_default-op-clause-moves g c = λ places s h good.
     let at = found c.args.code.now.instrs c.point-point.result c.args.state.now.calls.running.point c.in-Some.instr.now c.point-point.ensures c.in-Some.ensures.item in
     let line = found_line c.args.code.now.lines c.point-point.result c.args.state.now.calls.running.point c.in-Some-get.line.now c.point-point.ensures c.in-Some-get.ensures.item in
     let stands = stands_input places s c.args.state.now h [] in
-    let next = hand_or_act c.args.code.now c.in-Some-get.line.now c.in-Some.instr.now (handed_value s.state.running c.in-Some.instr.now c.in-Some.instr.now.op) (record s { state = with_input [] s.state }) in
-    let acts = step_is c.args.code.now places (record s { state = with_input [] s.state }) c.args.state.now stands c.in-Some.instr.now at c.in-Some-get.line.now line [] in
+    let next = hand_or_act c.args.code.now (fits_now places s c.args.state.now) c.in-Some-get.line.now c.in-Some.instr.now (handed_value s.state.running c.in-Some.instr.now c.in-Some.instr.now.op) (record s { state = with_input [] s.state }) in
+    let acts = step_is c.args.code.now (fits_now places s c.args.state.now) places (record s { state = with_input [] s.state }) c.args.state.now stands c.in-Some.instr.now at c.in-Some-get.line.now line in
     let fresh = hands_fresh c.args.code.now places (record s { state = with_input [] s.state }) c.args.state.now stands good c.in-Some.instr.now at in
     let counts = counts_well c.args.code.now c.requires.formed c.running_pins_are_fresh.ensures places (record s { state = with_input [] s.state }) c.args.state.now stands good c.requires.well.ready.pins c.requires.well.ready.statics c.in-Some.instr.now at in
     let moves = moves_alone places (record s { state = with_input [] s.state }) c.args.state.now next c.act_alone.new.state c.act_alone.result (c.act_alone.ensures.alone places (record s { state = with_input [] s.state }) stands counts fresh refl) in
-    ([], no_bytes, moves_as c.args.state.now c.act_alone.new.state next (step c.args.code.now [] (record s { state = with_input [] s.state })) acts c.act_alone.result moves)
+    ([], no_bytes, moves_as c.args.state.now c.act_alone.new.state next (step_by c.args.code.now (fits_now places s c.args.state.now) (record s { state = with_input [] s.state })) acts c.act_alone.result moves)
 
 pub returns-in_default-op-clause-faults : goal.returns-in_default-op-clause-faults
 returns-in_default-op-clause-faults g c =
@@ -197,28 +198,28 @@ returns-in_default-op-clause-faults g c =
 -- Ends
 
 pub returns-in-Lib-clause-image : goal.returns-in-Lib-clause-image
-returns-in-Lib-clause-image g c = λ places s trace h good.
+returns-in-Lib-clause-image g c = λ places s h good.
     let at = found c.args.code.now.instrs c.point-point.result c.args.state.now.calls.running.point c.in-Some.instr.now c.point-point.ensures c.in-Some.ensures.item in
     let line = found_line c.args.code.now.lines c.point-point.result c.args.state.now.calls.running.point c.in-Some-get.line.now c.point-point.ensures c.in-Some-get.ensures.item in
     let counts = counts_well c.args.code.now c.requires.formed c.running_pins_are_fresh.ensures places s c.args.state.now h good c.requires.well.ready.pins c.requires.well.ready.statics c.in-Some.instr.now at in
-    let acts = step_acts c.args.code.now places s c.args.state.now h c.in-Some.instr.now at c.in-Some-get.line.now line trace (op.Lib c.in-Lib.name) c.in-Lib.is refl in
-    image_is c.args.code.now _ (step c.args.code.now trace s) (sym acts) c.act_built_in.new.self c.act_built_in.result
-    (built_in_image c.args.code.now places s c.args.state.now c.act_built_in.new.self h c.requires.well.ready.pins (numbers_before c.args.state.now c.in-Some.instr.now c.in-Some.instr.now.op s counts) _ (lib_is_still c.args.code.now c.in-Some-get.line.now c.in-Some.instr.now c.in-Lib.name s.handed s.numbers s.state) c.act_built_in.result c.act_built_in.ensures.unchanged)
+    let acts = step_acts c.args.code.now (fits_now places s c.args.state.now) places s c.args.state.now h c.in-Some.instr.now at c.in-Some-get.line.now line (op.Lib c.in-Lib.name) c.in-Lib.is refl in
+    image_is c.args.code.now _ (step_by c.args.code.now (fits_now places s c.args.state.now) s) (sym acts) c.act_built_in.new.self c.act_built_in.result
+    (built_in_image c.args.code.now places s c.args.state.now c.act_built_in.new.self h c.requires.well.ready.pins (numbers_before c.args.state.now c.in-Some.instr.now c.in-Some.instr.now.op s counts) _ (lib_is_still c.args.code.now (fits_now places s c.args.state.now) c.in-Some-get.line.now c.in-Some.instr.now c.in-Lib.name s.handed s.numbers s.state) c.act_built_in.result c.act_built_in.ensures.unchanged)
 
 pub returns-in-Printf-clause-image : goal.returns-in-Printf-clause-image
-returns-in-Printf-clause-image g c = λ places s trace h good.
+returns-in-Printf-clause-image g c = λ places s h good.
     let at = found c.args.code.now.instrs c.point-point.result c.args.state.now.calls.running.point c.in-Some.instr.now c.point-point.ensures c.in-Some.ensures.item in
     let line = found_line c.args.code.now.lines c.point-point.result c.args.state.now.calls.running.point c.in-Some-get.line.now c.point-point.ensures c.in-Some-get.ensures.item in
     let counts = counts_well c.args.code.now c.requires.formed c.running_pins_are_fresh.ensures places s c.args.state.now h good c.requires.well.ready.pins c.requires.well.ready.statics c.in-Some.instr.now at in
-    let acts = step_acts c.args.code.now places s c.args.state.now h c.in-Some.instr.now at c.in-Some-get.line.now line trace op.Printf c.in-Printf.is refl in
-    image_is c.args.code.now _ (step c.args.code.now trace s) (sym acts) c.act_printf.new.self c.act_printf.result
-    (built_in_image c.args.code.now places s c.args.state.now c.act_printf.new.self h c.requires.well.ready.pins (numbers_before c.args.state.now c.in-Some.instr.now c.in-Some.instr.now.op s counts) _ (print_is_still c.args.code.now c.in-Some-get.line.now c.in-Some.instr.now s.handed s.numbers s.state) c.act_printf.result c.act_printf.ensures.unchanged)
+    let acts = step_acts c.args.code.now (fits_now places s c.args.state.now) places s c.args.state.now h c.in-Some.instr.now at c.in-Some-get.line.now line op.Printf c.in-Printf.is refl in
+    image_is c.args.code.now _ (step_by c.args.code.now (fits_now places s c.args.state.now) s) (sym acts) c.act_printf.new.self c.act_printf.result
+    (built_in_image c.args.code.now places s c.args.state.now c.act_printf.new.self h c.requires.well.ready.pins (numbers_before c.args.state.now c.in-Some.instr.now c.in-Some.instr.now.op s counts) _ (print_is_still c.args.code.now (fits_now places s c.args.state.now) c.in-Some-get.line.now c.in-Some.instr.now s.handed s.numbers s.state) c.act_printf.result c.act_printf.ensures.unchanged)
 
 pub returns-in_default-op-clause-image : goal.returns-in_default-op-clause-image
-returns-in_default-op-clause-image g c = λ places s trace h good.
+returns-in_default-op-clause-image g c = λ places s h good.
     let at = found c.args.code.now.instrs c.point-point.result c.args.state.now.calls.running.point c.in-Some.instr.now c.point-point.ensures c.in-Some.ensures.item in
     let line = found_line c.args.code.now.lines c.point-point.result c.args.state.now.calls.running.point c.in-Some-get.line.now c.point-point.ensures c.in-Some-get.ensures.item in
     let counts = counts_well c.args.code.now c.requires.formed c.running_pins_are_fresh.ensures places s c.args.state.now h good c.requires.well.ready.pins c.requires.well.ready.statics c.in-Some.instr.now at in
-    let acts = step_is c.args.code.now places s c.args.state.now h c.in-Some.instr.now at c.in-Some-get.line.now line trace in
+    let acts = step_is c.args.code.now (fits_now places s c.args.state.now) places s c.args.state.now h c.in-Some.instr.now at c.in-Some-get.line.now line in
     let fresh = hands_fresh c.args.code.now places s c.args.state.now h good c.in-Some.instr.now at in
-    image_is c.args.code.now _ (step c.args.code.now trace s) (sym acts) c.act_alone.new.state c.act_alone.result (c.act_alone.ensures.image places s h counts fresh refl)
+    image_is c.args.code.now _ (step_by c.args.code.now (fits_now places s c.args.state.now) s) (sym acts) c.act_alone.new.state c.act_alone.result (c.act_alone.ensures.image places s h counts fresh refl)

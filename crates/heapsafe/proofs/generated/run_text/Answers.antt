@@ -16,7 +16,7 @@ pub returns-in-Core-clause-makes : goal.returns-in-Core-clause-makes
 returns-in-Core-clause-makes c =
     let prepared = subst (λ (p : Prepared). IsPrepared c.args.text.now p) c.in-Core.is c.in_ok-core.ensures in
     IfOk-weaker c.run_core.result _ _
-    (λ ran h. core_makes c.args.text.now (record { heap = c.args.limits.heap; stack = c.args.limits.stack }) c.args.steps c.in-Core.core ran.steps prepared.0 h)
+    (λ ran h. core_makes c.args.text.now c.args.limits c.args.steps c.in-Core.core ran.steps prepared.0 h)
     c.run_core.ensures.made
 
 pub returns-in-Refused-clause-answers : goal.returns-in-Refused-clause-answers
@@ -27,4 +27,4 @@ returns-in-Refused-clause-answers c =
 pub returns-in-Refused-clause-makes : goal.returns-in-Refused-clause-makes
 returns-in-Refused-clause-makes c =
     let prepared = subst (λ (p : Prepared). IsPrepared c.args.text.now p) c.in-Refused.is c.in_ok-core.ensures in
-    refused_makes c.args.text.now (record { heap = c.args.limits.heap; stack = c.args.limits.stack }) c.args.steps c.in-Refused.status prepared
+    refused_makes c.args.text.now c.args.limits c.args.steps c.in-Refused.status prepared

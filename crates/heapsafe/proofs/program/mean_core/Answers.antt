@@ -9,7 +9,7 @@ use Rattle.heapsafe.proofs.program.mean_core.Goals as goal
 pub returns-in-Ok-clause-exact : goal.returns-in-Ok-clause-exact
 returns-in-Ok-clause-exact g c = λ left k same_out same_err.
     let told = c.in-Ok.ensures.told left k in
-    gives_mean c.args.file.now c.args.text.now c.args.core.now left told.put _ _ _ _ _ _ _ _ _ _ _ _ told.took same_err c.args.steps c.in-Ok.end
+    gives_mean c.args.file.now c.args.text.now c.args.core.now left told.put _ _ _ _ _ _ _ _ _ _ _ _ told.took same_err c.args.steps c.args.heap c.in-Ok.end
     told.is c.in-Ok.ensures.faults same_out c.finish.ensures.says
 
 pub returns-in-Ok-clause-faults : goal.returns-in-Ok-clause-faults
@@ -27,7 +27,7 @@ returns-in-Ok-clause-output_fault g c = λ more.
 pub returns-in-Err-clause-exact : goal.returns-in-Err-clause-exact
 returns-in-Err-clause-exact g c = λ left k same_out same_err.
     let told = c.in-Err.ensures.told left k in
-    gives_unfinished c.args.file.now c.args.text.now c.args.core.now left told.put _ _ _ _ _ _ _ 0 0 _ _ _ told.took same_err c.args.steps
+    gives_unfinished c.args.file.now c.args.text.now c.args.core.now left told.put _ _ _ _ _ _ _ 0 0 _ _ _ told.took same_err c.args.steps c.args.heap
     told.is c.refuse.ensures.says
 
 pub returns-in-Err-clause-faults : goal.returns-in-Err-clause-faults
@@ -37,12 +37,12 @@ returns-in-Err-clause-faults g c = λ t.
 pub returns-in-Ok-clause-broken : goal.returns-in-Ok-clause-broken
 returns-in-Ok-clause-broken g c = λ left k fails a is more.
     let told = c.in-Ok.ensures.told left k in
-    broken_mean c.args.file.now c.args.text.now c.args.core.now left told.put _ _ _ _ _ _ _ _ told.took c.args.steps a c.in-Ok.end more is told.is c.finish.ensures.says
+    broken_mean c.args.file.now c.args.text.now c.args.core.now left told.put _ _ _ _ _ _ _ _ told.took c.args.steps c.args.heap a c.in-Ok.end more is told.is c.finish.ensures.says
 
 pub returns-in-Err-clause-broken : goal.returns-in-Err-clause-broken
 returns-in-Err-clause-broken g c = λ left k fails a is more.
     let told = c.in-Err.ensures.told left k in
-    broken_unfinished c.args.file.now c.args.text.now c.args.core.now left told.put _ _ _ _ _ _ _ _ told.took c.args.steps a more is told.is c.refuse.ensures.says
+    broken_unfinished c.args.file.now c.args.text.now c.args.core.now left told.put _ _ _ _ _ _ _ _ told.took c.args.steps c.args.heap a more is told.is c.refuse.ensures.says
 
 pub returns-in-Ok-clause-memory : goal.returns-in-Ok-clause-memory
 returns-in-Ok-clause-memory g c = λ is.

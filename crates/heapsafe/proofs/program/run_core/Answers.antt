@@ -3,7 +3,7 @@ use Rattle.hs_base.specs.declared.ends.End.{End}
 use Rattle.flat_codegen.specs.Lasting.{LeavesImage, cut_run}
 use Rattle.heapsafe.specs.declared.program.Way.TheVariants.{Run}
 use Rattle.heapsafe.specs.Shown.{no_memory}
-use Rattle.heapsafe.specs.Program.{AnswersWay, input_of, room_of}
+use Rattle.heapsafe.specs.Program.{AnswersWay, input_of}
 use Rattle.heapsafe.proofs.Told.{gives_said, said_faults}
 use Rattle.heapsafe.proofs.Ended.{counts_said, gives_run, input_said, output_said, program_faults}
 use Rattle.heapsafe.proofs.Broken.{broken_run, broken_said, wanting_line}
@@ -13,7 +13,6 @@ use Rattle.heapsafe.proofs.program.run_core.Goals as goal
 pub returns-in-Ok-clause-exact : goal.returns-in-Ok-clause-exact
 returns-in-Ok-clause-exact g c = λ left k same_out same_err.
     let kept = c.in-Ok.machine.kept in
-    let room = room_of c.args.limits in
     let told = c.in-Ok.ensures.told left k in
     gives_run c.args.file.now c.args.text.now c.args.core.now left told.put _ _ _ _ _ _ _ _ _ _ _ _ told.took same_err c.args.limits c.args.steps c.args.leaks c.in-Ok.end
     told.is c.in-Ok.ensures.faults same_out
@@ -21,8 +20,8 @@ returns-in-Ok-clause-exact g c = λ left k same_out same_err.
       none = c.finish_run.ensures.says;
       some = λ code asked is.
           let left_is = c.in-Ok.ensures.left left k in
-          let image = subst (λ (x : End). LeavesImage c.args.core.now left_is.0 left c.args.steps room x kept) is left_is.2 in
-          c.finish_run.ensures.leaks code asked is image.places (cut_run c.args.core.now left c.args.steps room).state.objects image.agrees.keeps;
+          let image = subst (λ (x : End). LeavesImage c.args.core.now left_is.0 left c.args.steps c.args.limits x kept) is left_is.2 in
+          c.finish_run.ensures.leaks code asked is image.places (cut_run c.args.core.now left c.args.steps c.args.limits).state.objects image.agrees.keeps;
     })
 
 pub returns-in-Ok-clause-faults : goal.returns-in-Ok-clause-faults
@@ -50,15 +49,14 @@ returns-in-Err-clause-faults g c = λ t.
 pub returns-in-Ok-clause-broken : goal.returns-in-Ok-clause-broken
 returns-in-Ok-clause-broken g c = λ left k fails a is more.
     let kept = c.in-Ok.machine.kept in
-    let room = room_of c.args.limits in
     let told = c.in-Ok.ensures.told left k in
     broken_run c.args.file.now c.args.text.now c.args.core.now left told.put _ _ _ _ _ _ _ _ told.took c.args.limits c.args.steps c.args.leaks a c.in-Ok.end is told.is
     (record {
       none = c.finish_run.ensures.says;
       some = λ code asked exits.
           let left_is = c.in-Ok.ensures.left left k in
-          let image = subst (λ (x : End). LeavesImage c.args.core.now left_is.0 left c.args.steps room x kept) exits left_is.2 in
-          c.finish_run.ensures.leaks code asked exits image.places (cut_run c.args.core.now left c.args.steps room).state.objects image.agrees.keeps;
+          let image = subst (λ (x : End). LeavesImage c.args.core.now left_is.0 left c.args.steps c.args.limits x kept) exits left_is.2 in
+          c.finish_run.ensures.leaks code asked exits image.places (cut_run c.args.core.now left c.args.steps c.args.limits).state.objects image.agrees.keeps;
     })
 
 pub returns-in-Err-clause-broken : goal.returns-in-Err-clause-broken

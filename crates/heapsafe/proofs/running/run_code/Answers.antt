@@ -1,6 +1,6 @@
 -- What the machine answers for the code of a core, within the limits with which it was loaded.
 use Rattle.std.proofs.Common.{[], rules, subst}
-use Rattle.hs_base.specs.Cut.{Room}
+use Rattle.hs_base.specs.declared.ends.Limits.{Limits}
 use Rattle.core_tree.specs.declared.program.Core.{Core}
 use Rattle.compiled_code.specs.Compiled.{IsCompiled}
 use Rattle.flat_codegen.specs.Lasting.{LeavesImage, MakesSteps}
@@ -15,7 +15,7 @@ returns-clause-told g c = λ left k.
     let compiled = subst (λ (core : Core). IsCompiled core pins c.in_ok-code.code) c.in_ok-counted.ensures.core c.in_ok-code.ensures.compiled in
     let ascending = c.listed_pins_are_exact.ensures.ascending c.args.core.now pins c.in_ok-counted.ensures.listed in
     let told =
-    subst (λ (room : Room). Puts (RunAnswers c.args.core.now left c.args.steps room [] c.execute_lent-end.result.1 (g.I.Source.left c.execute_lent-end.new.input)) (g.O.Sink.taken c.args.out.now) (g.O.Sink.taken c.execute_lent-end.result.0.now)) (λ i. record { heap = c.in_ok-machine.ensures.heap i; stack = c.in_ok-machine.ensures.stack i })
+    subst (λ (room : Limits). Puts (RunAnswers c.args.core.now left c.args.steps room [] c.execute_lent-end.result.1 (g.I.Source.left c.execute_lent-end.new.input)) (g.O.Sink.taken c.args.out.now) (g.O.Sink.taken c.execute_lent-end.result.0.now)) (λ i. record { heap = c.in_ok-machine.ensures.heap i; stack = c.in_ok-machine.ensures.stack i })
     (c.execute_lent-end.ensures.told c.args.core.now pins c.requires.sound c.in_ok-counted.ensures.pins ascending compiled left k) in
     search rules
 
@@ -24,7 +24,7 @@ returns-clause-made g c = λ left k.
     let pins = c.in_ok-counted.counted.pins in
     let compiled = subst (λ (core : Core). IsCompiled core pins c.in_ok-code.code) c.in_ok-counted.ensures.core c.in_ok-code.ensures.compiled in
     let ascending = c.listed_pins_are_exact.ensures.ascending c.args.core.now pins c.in_ok-counted.ensures.listed in
-    subst (λ (room : Room). MakesSteps c.args.core.now left c.args.steps room c.execute_lent-end.result.1 (steps_made c.execute_lent-end.new.machine)) (λ i. record { heap = c.in_ok-machine.ensures.heap i; stack = c.in_ok-machine.ensures.stack i })
+    subst (λ (room : Limits). MakesSteps c.args.core.now left c.args.steps room c.execute_lent-end.result.1 (steps_made c.execute_lent-end.new.machine)) (λ i. record { heap = c.in_ok-machine.ensures.heap i; stack = c.in_ok-machine.ensures.stack i })
     (c.execute_lent-end.ensures.made c.args.core.now pins c.requires.sound c.in_ok-counted.ensures.pins ascending compiled left k)
 
 pub returns-clause-left : goal.returns-clause-left
@@ -33,4 +33,4 @@ returns-clause-left g c = λ left k.
     let compiled = subst (λ (core : Core). IsCompiled core pins c.in_ok-code.code) c.in_ok-counted.ensures.core c.in_ok-code.ensures.compiled in
     let ascending = c.listed_pins_are_exact.ensures.ascending c.args.core.now pins c.in_ok-counted.ensures.listed in
     let image = c.execute_lent-end.ensures.left c.args.core.now pins c.requires.sound c.in_ok-counted.ensures.pins ascending compiled left k in
-    (pins, c.in_ok-counted.ensures.pins, subst (λ (room : Room). LeavesImage c.args.core.now pins left c.args.steps room c.execute_lent-end.result.1 c.execute_lent-end.new.machine.kept) (λ i. record { heap = c.in_ok-machine.ensures.heap i; stack = c.in_ok-machine.ensures.stack i }) image)
+    (pins, c.in_ok-counted.ensures.pins, subst (λ (room : Limits). LeavesImage c.args.core.now pins left c.args.steps room c.execute_lent-end.result.1 c.execute_lent-end.new.machine.kept) (λ i. record { heap = c.in_ok-machine.ensures.heap i; stack = c.in_ok-machine.ensures.stack i }) image)

@@ -10,7 +10,7 @@ invariant-statements g l = record {
   input : g.I.Source.faults l.input ≡ g.I.Source.faults l.fn.input;
   out : g.O.Sink.faults l.out ≡ g.O.Sink.faults l.fn.out;
   good : Good l.core l.machine;
-  told : (left taken : List ℕ) (n : ℕ) → g.I.Source.left l.fn.input ≡ Some left → g.O.Sink.taken l.fn.out ≡ Some taken → Begins l.core left n l.fn.machine → Reached l.core left n taken l.machine (g.I.Source.left l.input) (g.O.Sink.taken l.out);
+  told : (left taken : List ℕ) (n : ℕ) → g.I.Source.left l.fn.input ≡ Some left → g.O.Sink.taken l.fn.out ≡ Some taken → Begins l.core left n l.fn.machine → Reached l.core left n l.fn.held.heap taken l.machine l.held (g.I.Source.left l.input) (g.O.Sink.taken l.out);
 }
 
 abbrev pub decreases-statements : goal.decreases-statements

@@ -4,5 +4,5 @@ use Rattle.object_meaning.proofs.Stands.{never_dangles}
 use Rattle.object_meaning.proofs.laws.run_ends.Goals as goal
 
 pub returns : goal.returns
-returns c = λ core sound input n.
-    let e = ends core (all_forward core sound) input n in (e.0, e.1, never_dangles core sound input n e.0 e.1)
+returns c = λ core sound input n heap.
+    let e = ends core (all_forward core sound) input n heap in (e.0, e.1, never_dangles core sound heap input n e.0 e.1)

@@ -9,21 +9,21 @@ use Rattle.flat_machine.proofs.Stepped.{callee_arguments}
 use Rattle.flat_machine.proofs.state.State.act_call.Goals as goal
 
 pub returns-then-not-take_step-clause-alone : goal.returns-then-not-take_step-clause-alone
-returns-then-not-take_step-clause-alone c = λ places s h counts.
-    call_spent c.args.code.now c.args.line c.args.instr c.args.callee.now c.requires.here places s c.args.self.now h c.take_step.new.self (c.take_step.ensures.no c.if-not-take_step.true).1
+returns-then-not-take_step-clause-alone c = λ fits places s h counts.
+    call_spent c.args.code.now fits c.args.line c.args.instr c.args.callee.now c.requires.here places s c.args.self.now h c.take_step.new.self (c.take_step.ensures.no c.if-not-take_step.true).1
 
 pub returns-then-cost-from-clause-alone : goal.returns-then-cost-from-clause-alone
-returns-then-cost-from-clause-alone c = λ places s h counts.
+returns-then-cost-from-clause-alone c = λ fits places s h counts.
     let yes = c.take_step.ensures.yes c.if-not-take_step.false in
-    call_too_deep c.args.code.now c.args.line c.args.instr c.args.callee.now c.requires.here places s c.args.self.now h c.take_step.new.self yes.0 yes.1 c.args.cost c.requires.cost c.take_step.new.self c.stack_left.result c.stack_left.ensures (omega (arith, c.if-cost-from.true, c.from.ensures))
+    call_too_deep c.args.code.now fits c.args.line c.args.instr c.args.callee.now c.requires.here places s c.args.self.now h c.take_step.new.self yes.0 yes.1 c.args.cost c.requires.cost c.take_step.new.self c.stack_left.result c.stack_left.ensures (omega (arith, c.if-cost-from.true, c.from.ensures))
 
 pub returns-then-not-take_step-clause-image : goal.returns-then-not-take_step-clause-image
-returns-then-not-take_step-clause-image c = λ places s has h counts.
+returns-then-not-take_step-clause-image c = λ fits places s has h counts.
     let no = c.take_step.ensures.no c.if-not-take_step.true in
     spent_image c.args.code.now places s c.args.self.now c.take_step.new.self h has counts _ no.1 no.0
 
 pub returns-then-cost-from-clause-image : goal.returns-then-cost-from-clause-image
-returns-then-cost-from-clause-image c = λ places s has h counts.
+returns-then-cost-from-clause-image c = λ fits places s has h counts.
     let yes = c.take_step.ensures.yes c.if-not-take_step.false in
     deep_image c.args.code.now places s c.args.self.now c.take_step.new.self h has counts c.args.line c.args.instr.b s.handed yes.0 yes.1
 
@@ -94,7 +94,7 @@ make_locals-requires-clause-standing c =
     (q.0, at, standing)
 
 pub returns-clause-alone : goal.returns-clause-alone
-returns-clause-alone c = λ places s h counts.
+returns-clause-alone c = λ fits places s h counts.
     let m = c.args.self.now in
     let yes = c.take_step.ensures.yes c.if-not-take_step.false in
     let mid = c.take_step.new.self in

@@ -1,4 +1,4 @@
-use Rattle.std.proofs.Common.{◌≡◌, ℕ, ap, refl, rules, subst, sym, ◌∙◌}
+use Rattle.std.proofs.Common.{◌≡◌, ℕ, Ok, ap, rules, subst, sym, ◌∙◌}
 use Rattle.std.proofs.lemmas.Int.{to_z-of_z}
 use mir.Syntax.{w128}
 use mir.Val.{SFits}
@@ -7,12 +7,10 @@ use Rattle.hs_base.specs.declared.values.Pointer.TheVariants as pointer
 use Rattle.object_meaning.specs.Values.{number_at, pointer_at, size_in}
 use Rattle.code_meaning.specs.Entering.{layout_in}
 use Rattle.std.specs.Prelude.{IfErr}
-use Rattle.object_meaning.specs.Heap.{make}
-use Rattle.code_meaning.specs.CodeState.{same_numbers}
 use Rattle.code_meaning.specs.Freeing.{grow}
 use Rattle.flat_machine.specs.Image.{StopsIn}
+use Rattle.flat_machine.specs.Standing.{fits_now}
 use Rattle.flat_machine.specs.Leading.{Alone}
-use Rattle.flat_machine.proofs.Image.{built_in_image}
 use Rattle.flat_machine.proofs.WordLists.{integer_at_is}
 use Rattle.flat_machine.proofs.Grown.{grow_null}
 use Rattle.flat_machine.proofs.state.State.act_growing.Goals as goal
@@ -23,9 +21,9 @@ returns-then-from-eq0-clause-alone c = λ code places s has h counts form.
     let fits : SFits w128 c.integer.result = search rules in
     let size : c.size_in-size.result ≡ size_in (number_at s.handed 1) = rw (to_z-of_z w128 c.integer.result fits) at c.size_in-size.ensures.value ∙ ap size_in (c.integer.ensures ∙ integer_at_is places s.state.objects s.handed m.handed 1 h.handed) in
     let null = grow_null places s m h c.address-from.result c.address-from.ensures c.if-from-eq0.true in
-    let made = c.make.ensures.alone (layout_in code c.args.instr.b) places s h form in
-    subst (λ (p : Pointer). Alone places s m (grow code c.args.line c.args.instr.a p (size_in (number_at s.handed 1)) (layout_in code c.args.instr.b) s.numbers s.state) c.make.new.self c.make.result) (sym null)
-    (subst (λ (n : ℕ). Alone places s m (grow code c.args.line c.args.instr.a pointer.Null n (layout_in code c.args.instr.b) s.numbers s.state) c.make.new.self c.make.result) size made)
+    let made = c.make.ensures (layout_in code c.args.instr.b) places s h form in
+    subst (λ (p : Pointer). Alone places s m (grow code (fits_now places s m) c.args.line c.args.instr.a p (size_in (number_at s.handed 1)) (layout_in code c.args.instr.b) s.numbers s.state) c.make.new.self (Ok tt)) (sym null)
+    (subst (λ (n : ℕ). Alone places s m (grow code (fits_now places s m) c.args.line c.args.instr.a pointer.Null n (layout_in code c.args.instr.b) s.numbers s.state) c.make.new.self (Ok tt)) size made)
 
 pub returns-else-from-eq0-clause-alone : goal.returns-else-from-eq0-clause-alone
 returns-else-from-eq0-clause-alone c = λ code places s has h counts form.
@@ -33,14 +31,7 @@ returns-else-from-eq0-clause-alone c = λ code places s has h counts form.
     let fits : SFits w128 c.integer.result = search rules in
     let size : c.size_in-size.result ≡ size_in (number_at s.handed 1) = rw (to_z-of_z w128 c.integer.result fits) at c.size_in-size.ensures.value ∙ ap size_in (c.integer.ensures ∙ integer_at_is places s.state.objects s.handed m.handed 1 h.handed) in
     let grown = c.grow_object.ensures.alone code (layout_in code c.args.instr.b) places s has h counts form in
-    subst (λ (n : ℕ). Alone places s m (grow code c.args.line c.args.instr.a (pointer_at s.handed 0) n (layout_in code c.args.instr.b) s.numbers s.state) c.grow_object.new.self c.grow_object.result) size grown
-
-pub returns-then-from-eq0-clause-image : goal.returns-then-from-eq0-clause-image
-returns-then-from-eq0-clause-image c = λ code places s has h counts form.
-    let m = c.args.self.now in
-    let null = grow_null places s m h c.address-from.result c.address-from.ensures c.if-from-eq0.true in
-    subst (λ (p : Pointer). IfErr c.make.result (StopsIn code (grow code c.args.line c.args.instr.a p (size_in (number_at s.handed 1)) (layout_in code c.args.instr.b) s.numbers s.state) c.make.new.self)) (sym null)
-    (built_in_image code places s m c.make.new.self h has counts.numbers (same_numbers s.numbers (make c.args.line c.args.instr.a (size_in (number_at s.handed 1)) (layout_in code c.args.instr.b) s.state)) (refl, refl) c.make.result c.make.ensures.unchanged)
+    subst (λ (n : ℕ). Alone places s m (grow code (fits_now places s m) c.args.line c.args.instr.a (pointer_at s.handed 0) n (layout_in code c.args.instr.b) s.numbers s.state) c.grow_object.new.self c.grow_object.result) size grown
 
 pub returns-else-from-eq0-clause-image : goal.returns-else-from-eq0-clause-image
 returns-else-from-eq0-clause-image c = λ code places s has h counts form.
@@ -48,4 +39,4 @@ returns-else-from-eq0-clause-image c = λ code places s has h counts form.
     let fits : SFits w128 c.integer.result = search rules in
     let size : c.size_in-size.result ≡ size_in (number_at s.handed 1) = rw (to_z-of_z w128 c.integer.result fits) at c.size_in-size.ensures.value ∙ ap size_in (c.integer.ensures ∙ integer_at_is places s.state.objects s.handed m.handed 1 h.handed) in
     let image = c.grow_object.ensures.image code (layout_in code c.args.instr.b) places s has h counts form in
-    subst (λ (n : ℕ). IfErr c.grow_object.result (StopsIn code (grow code c.args.line c.args.instr.a (pointer_at s.handed 0) n (layout_in code c.args.instr.b) s.numbers s.state) c.grow_object.new.self)) size image
+    subst (λ (n : ℕ). IfErr c.grow_object.result (StopsIn code (grow code (fits_now places s m) c.args.line c.args.instr.a (pointer_at s.handed 0) n (layout_in code c.args.instr.b) s.numbers s.state) c.grow_object.new.self)) size image

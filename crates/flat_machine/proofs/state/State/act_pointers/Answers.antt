@@ -39,77 +39,77 @@ compare-requires-clause-other c = subst (λ addr. IsKept c.args.self.now.memory 
 -- What they lead to
 
 pub returns-in-Ok-clause-alone : goal.returns-in-Ok-clause-alone
-returns-in-Ok-clause-alone c = λ code places s h.
+returns-in-Ok-clause-alone c = λ code sizes places s h.
     let fits : SFits w64 c.args.instr.imm = search rules in
     let size = rw (to_z-of_z w64 c.args.instr.imm fits) at c.from.ensures in
     let fits_n : SFits w128 c.integer.result = search rules in
     let fits_size : SFits w128 c.from.result = search rules in
-    let at = kept_here code c.args.line c.args.instr places s c.args.self.now h 0 c.address-p.result c.address-p.ensures in
+    let at = kept_here code sizes c.args.line c.args.instr places s c.args.self.now h 0 c.address-p.result c.address-p.ensures in
     let answers = rw (to_z-of_z w128 c.integer.result fits_n, to_z-of_z w128 c.from.result fits_size) at (c.in-Ok.ensures places s.state.objects (pointer_at s.handed 0) at) in
-    rw c.in-Add.is (add_alone code c.args.line c.args.instr places s c.args.self.now h c.give.new.self c.integer.result c.from.result c.in-Ok.addr c.integer.ensures size answers c.give.ensures)
+    rw c.in-Add.is (add_alone code sizes c.args.line c.args.instr places s c.args.self.now h c.give.new.self c.integer.result c.from.result c.in-Ok.addr c.integer.ensures size answers c.give.ensures)
 
 pub returns-in-Err-clause-alone : goal.returns-in-Err-clause-alone
-returns-in-Err-clause-alone c = λ code places s h.
+returns-in-Err-clause-alone c = λ code sizes places s h.
     let fits : SFits w64 c.args.instr.imm = search rules in
     let size = rw (to_z-of_z w64 c.args.instr.imm fits) at c.from.ensures in
     let fits_n : SFits w128 c.integer.result = search rules in
     let fits_size : SFits w128 c.from.result = search rules in
-    let at = kept_here code c.args.line c.args.instr places s c.args.self.now h 0 c.address-p.result c.address-p.ensures in
+    let at = kept_here code sizes c.args.line c.args.instr places s c.args.self.now h 0 c.address-p.result c.address-p.ensures in
     let answers = rw (to_z-of_z w128 c.integer.result fits_n, to_z-of_z w128 c.from.result fits_size) at (c.in-Err.ensures places s.state.objects (pointer_at s.handed 0) at) in
-    rw c.in-Add.is (add_traps code c.args.line c.args.instr places s c.args.self.now h c.args.self.now c.integer.result c.from.result c.in-Err.kind c.integer.ensures size answers)
+    rw c.in-Add.is (add_traps code sizes c.args.line c.args.instr places s c.args.self.now h c.args.self.now c.integer.result c.from.result c.in-Err.kind c.integer.ensures size answers)
 
 pub returns-in-Ok-moved_down-clause-alone : goal.returns-in-Ok-moved_down-clause-alone
-returns-in-Ok-moved_down-clause-alone c = λ code places s h.
+returns-in-Ok-moved_down-clause-alone c = λ code sizes places s h.
     let fits : SFits w64 c.args.instr.imm = search rules in
     let size = rw (to_z-of_z w64 c.args.instr.imm fits) at c.from-in-Sub.ensures in
     let fits_n : SFits w128 c.integer-in-Sub.result = search rules in
     let fits_size : SFits w128 c.from-in-Sub.result = search rules in
-    let at = kept_here code c.args.line c.args.instr places s c.args.self.now h 0 c.address-p.result c.address-p.ensures in
+    let at = kept_here code sizes c.args.line c.args.instr places s c.args.self.now h 0 c.address-p.result c.address-p.ensures in
     let answers = rw (to_z-of_z w128 c.integer-in-Sub.result fits_n, to_z-of_z w128 c.from-in-Sub.result fits_size) at (c.in-Ok-moved_down.ensures places s.state.objects (pointer_at s.handed 0) at) in
-    rw c.in-Sub.is (sub_alone code c.args.line c.args.instr places s c.args.self.now h c.give-in-Ok-moved_down.new.self c.integer-in-Sub.result c.from-in-Sub.result c.in-Ok-moved_down.addr c.integer-in-Sub.ensures size answers c.give-in-Ok-moved_down.ensures)
+    rw c.in-Sub.is (sub_alone code sizes c.args.line c.args.instr places s c.args.self.now h c.give-in-Ok-moved_down.new.self c.integer-in-Sub.result c.from-in-Sub.result c.in-Ok-moved_down.addr c.integer-in-Sub.ensures size answers c.give-in-Ok-moved_down.ensures)
 
 pub returns-in-Err-moved_down-clause-alone : goal.returns-in-Err-moved_down-clause-alone
-returns-in-Err-moved_down-clause-alone c = λ code places s h.
+returns-in-Err-moved_down-clause-alone c = λ code sizes places s h.
     let fits : SFits w64 c.args.instr.imm = search rules in
     let size = rw (to_z-of_z w64 c.args.instr.imm fits) at c.from-in-Sub.ensures in
     let fits_n : SFits w128 c.integer-in-Sub.result = search rules in
     let fits_size : SFits w128 c.from-in-Sub.result = search rules in
-    let at = kept_here code c.args.line c.args.instr places s c.args.self.now h 0 c.address-p.result c.address-p.ensures in
+    let at = kept_here code sizes c.args.line c.args.instr places s c.args.self.now h 0 c.address-p.result c.address-p.ensures in
     let answers = rw (to_z-of_z w128 c.integer-in-Sub.result fits_n, to_z-of_z w128 c.from-in-Sub.result fits_size) at (c.in-Err-moved_down.ensures places s.state.objects (pointer_at s.handed 0) at) in
-    rw c.in-Sub.is (sub_traps code c.args.line c.args.instr places s c.args.self.now h c.args.self.now c.integer-in-Sub.result c.from-in-Sub.result c.in-Err-moved_down.kind c.integer-in-Sub.ensures size answers)
+    rw c.in-Sub.is (sub_traps code sizes c.args.line c.args.instr places s c.args.self.now h c.args.self.now c.integer-in-Sub.result c.from-in-Sub.result c.in-Err-moved_down.kind c.integer-in-Sub.ensures size answers)
 
 pub returns-in-Ok-difference-clause-alone : goal.returns-in-Ok-difference-clause-alone
-returns-in-Ok-difference-clause-alone c = λ code places s h.
+returns-in-Ok-difference-clause-alone c = λ code sizes places s h.
     let fits : SFits w64 c.args.instr.imm = search rules in
     let size = rw (to_z-of_z w64 c.args.instr.imm fits) at c.from-in-Diff.ensures in
     let fits_size : SFits w128 c.from-in-Diff.result = search rules in
     let fits_n : SFits w128 c.in-Ok-difference.n = search rules in
     let gives = rw (to_z-of_z w128 c.in-Ok-difference.n fits_n) at c.give-in-Ok-difference.ensures in
-    let at = kept_here code c.args.line c.args.instr places s c.args.self.now h 0 c.address-p.result c.address-p.ensures in
-    let other = (kept_here code c.args.line c.args.instr places s c.args.self.now h 1 c.address.result c.address.ensures).stands in
+    let at = kept_here code sizes c.args.line c.args.instr places s c.args.self.now h 0 c.address-p.result c.address-p.ensures in
+    let other = (kept_here code sizes c.args.line c.args.instr places s c.args.self.now h 1 c.address.result c.address.ensures).stands in
     let answers = rw (to_z-of_z w128 c.from-in-Diff.result fits_size) at (c.in-Ok-difference.ensures places s.state.objects (pointer_at s.handed 0) (pointer_at s.handed 1) at other) in
-    rw c.in-Diff.is (diff_alone code c.args.line c.args.instr places s c.args.self.now h c.give-in-Ok-difference.new.self c.from-in-Diff.result c.in-Ok-difference.n size answers gives)
+    rw c.in-Diff.is (diff_alone code sizes c.args.line c.args.instr places s c.args.self.now h c.give-in-Ok-difference.new.self c.from-in-Diff.result c.in-Ok-difference.n size answers gives)
 
 pub returns-in-Err-difference-clause-alone : goal.returns-in-Err-difference-clause-alone
-returns-in-Err-difference-clause-alone c = λ code places s h.
+returns-in-Err-difference-clause-alone c = λ code sizes places s h.
     let fits : SFits w64 c.args.instr.imm = search rules in
     let size = rw (to_z-of_z w64 c.args.instr.imm fits) at c.from-in-Diff.ensures in
     let fits_size : SFits w128 c.from-in-Diff.result = search rules in
-    let at = kept_here code c.args.line c.args.instr places s c.args.self.now h 0 c.address-p.result c.address-p.ensures in
-    let other = (kept_here code c.args.line c.args.instr places s c.args.self.now h 1 c.address.result c.address.ensures).stands in
+    let at = kept_here code sizes c.args.line c.args.instr places s c.args.self.now h 0 c.address-p.result c.address-p.ensures in
+    let other = (kept_here code sizes c.args.line c.args.instr places s c.args.self.now h 1 c.address.result c.address.ensures).stands in
     let answers = rw (to_z-of_z w128 c.from-in-Diff.result fits_size) at (c.in-Err-difference.ensures places s.state.objects (pointer_at s.handed 0) (pointer_at s.handed 1) at other) in
-    rw c.in-Diff.is (diff_traps code c.args.line c.args.instr places s c.args.self.now h c.args.self.now c.from-in-Diff.result c.in-Err-difference.kind size answers)
+    rw c.in-Diff.is (diff_traps code sizes c.args.line c.args.instr places s c.args.self.now h c.args.self.now c.from-in-Diff.result c.in-Err-difference.kind size answers)
 
 pub returns-in-Ok-compare-clause-alone : goal.returns-in-Ok-compare-clause-alone
-returns-in-Ok-compare-clause-alone c = λ code places s h.
+returns-in-Ok-compare-clause-alone c = λ code sizes places s h.
     let fits_n : SFits w128 c.in-Ok-compare.n = search rules in
     let gives = rw (to_z-of_z w128 c.in-Ok-compare.n fits_n) at c.give-in-Ok-compare.ensures in
-    let at = kept_here code c.args.line c.args.instr places s c.args.self.now h 0 c.address-p.result c.address-p.ensures in
-    let other = (kept_here code c.args.line c.args.instr places s c.args.self.now h 1 c.address-in-Pcmp.result c.address-in-Pcmp.ensures).stands in
-    rw c.in-Pcmp.is (pcmp_alone code c.args.line c.args.instr places s c.args.self.now h c.give-in-Ok-compare.new.self c.in-Pcmp.op c.in-Ok-compare.n (c.in-Ok-compare.ensures places s.state.objects (pointer_at s.handed 0) (pointer_at s.handed 1) at other) gives)
+    let at = kept_here code sizes c.args.line c.args.instr places s c.args.self.now h 0 c.address-p.result c.address-p.ensures in
+    let other = (kept_here code sizes c.args.line c.args.instr places s c.args.self.now h 1 c.address-in-Pcmp.result c.address-in-Pcmp.ensures).stands in
+    rw c.in-Pcmp.is (pcmp_alone code sizes c.args.line c.args.instr places s c.args.self.now h c.give-in-Ok-compare.new.self c.in-Pcmp.op c.in-Ok-compare.n (c.in-Ok-compare.ensures places s.state.objects (pointer_at s.handed 0) (pointer_at s.handed 1) at other) gives)
 
 pub returns-in-Err-compare-clause-alone : goal.returns-in-Err-compare-clause-alone
-returns-in-Err-compare-clause-alone c = λ code places s h.
-    let at = kept_here code c.args.line c.args.instr places s c.args.self.now h 0 c.address-p.result c.address-p.ensures in
-    let other = (kept_here code c.args.line c.args.instr places s c.args.self.now h 1 c.address-in-Pcmp.result c.address-in-Pcmp.ensures).stands in
-    rw c.in-Pcmp.is (pcmp_traps code c.args.line c.args.instr places s c.args.self.now h c.args.self.now c.in-Pcmp.op c.in-Err-compare.kind (c.in-Err-compare.ensures places s.state.objects (pointer_at s.handed 0) (pointer_at s.handed 1) at other))
+returns-in-Err-compare-clause-alone c = λ code sizes places s h.
+    let at = kept_here code sizes c.args.line c.args.instr places s c.args.self.now h 0 c.address-p.result c.address-p.ensures in
+    let other = (kept_here code sizes c.args.line c.args.instr places s c.args.self.now h 1 c.address-in-Pcmp.result c.address-in-Pcmp.ensures).stands in
+    rw c.in-Pcmp.is (pcmp_traps code sizes c.args.line c.args.instr places s c.args.self.now h c.args.self.now c.in-Pcmp.op c.in-Err-compare.kind (c.in-Err-compare.ensures places s.state.objects (pointer_at s.handed 0) (pointer_at s.handed 1) at other))

@@ -11,22 +11,22 @@ use Rattle.flat_machine.proofs.Ranged.{at_here, copy_alone, copy_traps}
 use Rattle.flat_machine.proofs.state.State.copy_range.Goals as goal
 
 pub returns-in-Ok-clause-alone : goal.returns-in-Ok-clause-alone
-returns-in-Ok-clause-alone c = λ code instr places s h.
+returns-in-Ok-clause-alone c = λ code sizes instr places s h.
     let m = c.args.self.now in
     let fits : SFits w128 c.integer.result = search rules in
     let count = rw (to_z-of_z w128 c.integer.result fits) at c.bytes_in-n.ensures in
     let to = at_here places s m h 0 c.address-to.result c.address-to.ensures in
     let from = at_here places s m h 1 c.address-from.result c.address-from.ensures in
-    copy_alone places s m h code c.args.line instr c.copy.new.self.memory c.go_on.new.self c.integer.result c.bytes_in-n.result c.integer.ensures count (c.in-Ok.ensures.changes places s.state.objects (pointer_at s.handed 0) (pointer_at s.handed 1) to from.stands) (c.copy.ensures.tracks places s.state.objects (pointer_at s.handed 0) (pointer_at s.handed 1) to from.stands) c.copy.ensures.frame (c.go_on.ensures ∙ ap gone_on c.copy.ensures.others)
+    copy_alone places s m h code sizes c.args.line instr c.copy.new.self.memory c.go_on.new.self c.integer.result c.bytes_in-n.result c.integer.ensures count (c.in-Ok.ensures.changes places s.state.objects (pointer_at s.handed 0) (pointer_at s.handed 1) to from.stands) (c.copy.ensures.tracks places s.state.objects (pointer_at s.handed 0) (pointer_at s.handed 1) to from.stands) c.copy.ensures.frame (c.go_on.ensures ∙ ap gone_on c.copy.ensures.others)
 
 pub returns-in-Err-clause-alone : goal.returns-in-Err-clause-alone
-returns-in-Err-clause-alone c = λ code instr places s h.
+returns-in-Err-clause-alone c = λ code sizes instr places s h.
     let m = c.args.self.now in
     let fits : SFits w128 c.integer.result = search rules in
     let count = rw (to_z-of_z w128 c.integer.result fits) at c.bytes_in-n.ensures in
     let to = at_here places s m h 0 c.address-to.result c.address-to.ensures in
     let from = at_here places s m h 1 c.address-from.result c.address-from.ensures in
-    copy_traps places s m h code c.args.line instr c.copy.new.self.memory c.copy.new.self c.integer.result c.bytes_in-n.result c.in-Err.kind c.integer.ensures count (c.in-Err.ensures.changes places s.state.objects (pointer_at s.handed 0) (pointer_at s.handed 1) to from.stands)
+    copy_traps places s m h code sizes c.args.line instr c.copy.new.self.memory c.copy.new.self c.integer.result c.bytes_in-n.result c.in-Err.kind c.integer.ensures count (c.in-Err.ensures.changes places s.state.objects (pointer_at s.handed 0) (pointer_at s.handed 1) to from.stands)
 
 pub returns-in-Err-clause-unchanged : goal.returns-in-Err-clause-unchanged
 returns-in-Err-clause-unchanged c =

@@ -1,19 +1,17 @@
-use Rattle.std.proofs.Common.{[], ◌∷◌, ◌++◌, length, Ok, Err, subst, sym}
+use Rattle.std.proofs.Common.{[], ◌∷◌, ◌++◌, ◌∙◌, length, Ok, Err, Some, ap, subst, sym}
 use Rattle.std.proofs.lemmas.Result.{err_from_is_err_and}
 use Rattle.hs_base.specs.declared.values.Pointer.TheVariants.{At}
 use Rattle.object_meaning.specs.Making.{heap_object}
 use Rattle.object_meaning.specs.Values.{pointer_at}
-use Rattle.hs_base.specs.declared.ends.End.TheVariants as end
-use Rattle.code_meaning.specs.Freeing.{free, grow}
+use Rattle.code_meaning.specs.Freeing.{free}
 use Rattle.flat_objects.specs.declared.words.Word.TheVariants.{Address}
 use Rattle.flat_objects.specs.Adding.{with_place}
-use Rattle.flat_machine.specs.Kept.{Kept}
+use Rattle.flat_machine.specs.Kept.{Kept, given}
 use Rattle.flat_machine.specs.Standing.{Stands, frees_of}
 use Rattle.flat_machine.specs.Loaded.{HasPins}
 use Rattle.flat_machine.specs.Pinning.{CountsWell, StandsWell}
-use Rattle.flat_machine.specs.Image.{StopsIn}
 use Rattle.flat_machine.specs.Leading.{Alone}
-use Rattle.flat_machine.proofs.Grown.{goes_in, refused_in, stops_in, traps_in, leads_to, grow_refused, grow_stops, grow_store, grow_traps, grow_goes, taken, taken_same, stands_taken, stands_well_taken, counts_taken}
+use Rattle.flat_machine.proofs.Grown.{goes_in, refused_in, traps_in, leads_to, grow_none, grow_refused, grow_store, grow_traps, grow_goes, taken, taken_same, stands_taken, stands_well_taken, counts_taken}
 use Rattle.flat_machine.proofs.state.State.grow_object.Goals as goal
 
 pub may_free-requires-clause-kept : goal.may_free-requires-clause-kept
@@ -33,7 +31,7 @@ returns-in_default-new_object-clause-alone c = λ code element places s has h co
     let m = c.args.self.now in
     let to = leads_to places s m h c.args.from c.requires.address c.requires.some in
     let may = c.in_default.ensures places s.state.objects to.0 to.1 to.3 in
-    grow_stops c.args.line c.args.instr.a c.args.size element places s m h c.args.from to.0 to.1 to.2 to.3.stands may code c.new_object.new.self c.in_default-new_object.ensures.place
+    grow_none c.args.line c.args.instr.a c.args.size element places s m h c.args.from to.0 to.1 to.2 to.3.stands may code c.give.new.self (c.in_default-new_object.ensures.place places s.state.objects h.keeps) (c.give.ensures ∙ ap (λ k. given k (Some c.args.instr.a) (Address 0)) c.in_default-new_object.ensures.none)
 
 pub grow-requires : goal.grow-requires
 grow-requires c =
@@ -132,14 +130,6 @@ returns-in-Err-clause-image c = λ code element places s has h counts form.
     let m = c.args.self.now in
     let to = leads_to places s m h c.args.from c.requires.address c.requires.some in
     refused_in c.args.line c.args.instr.a c.args.size element places s m h c.args.from to.0 to.1 to.2 to.3.stands code c.in-Err.reason (c.in-Err.ensures places s.state.objects to.0 to.1 to.3) has counts _
-
-pub returns-in_default-new_object-clause-image : goal.returns-in_default-new_object-clause-image
-returns-in_default-new_object-clause-image c = λ code element places s has h counts form.
-    let m = c.args.self.now in
-    let to = leads_to places s m h c.args.from c.requires.address c.requires.some in
-    let may = c.in_default.ensures places s.state.objects to.0 to.1 to.3 in
-    subst (λ (k : Kept). StopsIn code (grow code c.args.line c.args.instr.a (pointer_at s.handed 0) c.args.size element s.numbers s.state) k (end.OutOfHeap c.args.line)) (sym c.in_default-new_object.ensures.none)
-    (stops_in c.args.line c.args.instr.a c.args.size element places s m h c.args.from to.0 to.1 to.2 to.3.stands may code has counts)
 
 pub returns-in-Err-grow-clause-image : goal.returns-in-Err-grow-clause-image
 returns-in-Err-grow-clause-image c = λ code element places s has h counts form.

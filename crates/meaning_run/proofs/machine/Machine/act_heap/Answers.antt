@@ -1,3 +1,7 @@
+use Rattle.std.proofs.Common.{refl}
+use Rattle.object_meaning.specs.Scoping.{enter}
+use Rattle.meaning_run.specs.Leading.{with_input}
+use Rattle.meaning_run.proofs.Quiet.{placed_none}
 use Rattle.meaning_run.proofs.machine.Machine.act_heap.Goals as goal
 
 pub returns-in-Malloc : goal.returns-in-Malloc
@@ -13,7 +17,7 @@ pub returns-in-Free : goal.returns-in-Free
 returns-in-Free c = λ left. rw c.in-Free.is (c.free_at.ensures left)
 
 pub returns-in-Enter : goal.returns-in-Enter
-returns-in-Enter c = λ left. rw c.in-Enter.is (c.enter_scope.ensures left)
+returns-in-Enter c = λ left. rw c.in-Enter.is (c.enter_scope.ensures left, placed_none (enter (with_input left c.args.self.now)) c.args.held.now c.enter_scope.result refl)
 
 pub returns-in-Leave : goal.returns-in-Leave
 returns-in-Leave c = λ left. rw c.in-Leave.is (c.leave_scope.ensures left)
