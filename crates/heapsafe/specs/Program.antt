@@ -47,7 +47,7 @@ pub record Done : Type 0 where
   pub ends : Option End
   pub left : Option (List Object)
 
--- what the meaning does, in a heap of so many bytes
+-- what the meaning does in a heap of so many bytes, in which an allocation answers null exactly where first fit finds no place
 abbrev pub meant : Core → List ℕ → ℕ → ℕ → Done
 meant core input steps heap =
     let m = meaning core input steps heap in record { events = m.trace; ends = end_in m.ended; left = None }

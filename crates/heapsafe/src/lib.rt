@@ -180,6 +180,11 @@ fn with_file<T: Texts, I: Source, O: Sink, E: Sink>(
 /// `words` are the arguments after the program's name. The texts are read by name, `input` is the program's input, its
 /// output goes to `out`, and what is said of it goes to `err`.
 ///
+/// For every accepted text, input, number of steps and size of the heap, `run` writes the bytes and answers the status or trap that
+/// the object meaning gives, in which an allocation answers null exactly where first fit finds no place. It stops at the first
+/// bad free or escaping local with its line, never touches a freed object, and reports out of stack exactly where the costs of
+/// the active calls would pass the stack.
+///
 /// Where texts and input are told and neither texts nor streams failed, what is read and answered, and what each stream took that
 /// tells of it, is by `Answers`, or nothing but the line of want of memory. Where a write to a stream failed, the input lost, and
 /// each stream took, a front of what the answer reads and writes, or the error stream a front of the line of a failure.
