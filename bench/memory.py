@@ -51,7 +51,7 @@ static void tell(void) {
 """
 
 NOTHING = "int main(void){return 0;}"
-with open(os.path.join(TOP, "examples", "vector.c"), encoding="ascii") as example:
+with open(os.path.join(TOP, "examples", "programs", "vector.c"), encoding="ascii") as example:
     VECTOR = example.read()
 LAYOUTS = """struct s { char c; char *p; short n; };
 union u { char *p; int *q; };
