@@ -139,7 +139,7 @@ CASES = [
 
 
 def main():
-    program = os.path.abspath(sys.argv[1] if sys.argv[1:] else os.path.join(TOP, "out", "heapsafe"))
+    program = os.path.abspath(sys.argv[1] if sys.argv[1:] else os.path.join(TOP, "out", "unproved", "heapsafe"))
     wrong = 0
     with tempfile.TemporaryDirectory() as folder:
         with open(f"{folder}/shim.c", "w", encoding="ascii") as file:
