@@ -30,11 +30,16 @@ def program_of(kind):
     return f"{TOP}/out/{kind}/heapsafe"
 
 
-def sources():
-    """A checksum of all that the program and what is promised of it are made of."""
-    sum = hashlib.sha256()
+def source_files():
+    """All that the program and what is promised of it are made of."""
     parts = [f"{TOP}/crates/*/src/**/*.rt", f"{TOP}/crates/*/specs/**/*.antt", f"{TOP}/crates.txt"]
-    for name in sorted(name for part in parts for name in glob.glob(part, recursive=True)):
+    return sorted(name for part in parts for name in glob.glob(part, recursive=True))
+
+
+def sources():
+    """A checksum of the sources."""
+    sum = hashlib.sha256()
+    for name in source_files():
         with open(name, "rb") as file:
             sum.update(f"{os.path.relpath(name, TOP)} {os.path.getsize(name)}\n".encode() + file.read())
     return sum.hexdigest()[:16]
@@ -112,11 +117,18 @@ def chosen():
 
 def main():
     words = sys.argv[1:]
+    if not shutil.which("rt"):
+        print("heapsafe: the command `rt` of the Rattle toolchain is wanted in the PATH", file=sys.stderr)
+        return 1
     os.makedirs(f"{TOP}/out", exist_ok=True)
     with open(f"{TOP}/out/lock", "w", encoding="utf-8") as lock:
         fcntl.flock(lock, fcntl.LOCK_EX)
         if words[:1] == ["--keep"]:
-            keep(MADE_BY_RT, "proved", version("proved"), float(words[1]))
+            began = float(words[1])
+            if any(os.path.getmtime(name) > began for name in source_files()):
+                print("heapsafe: a source changed while the gate ran, so its program is not kept", file=sys.stderr)
+                return 1
+            keep(MADE_BY_RT, "proved", version("proved"), began)
             return 0
         kind = chosen()
     if kind:

@@ -7,6 +7,7 @@ import shutil
 import subprocess
 import sys
 import tempfile
+import time
 
 TOP = os.path.dirname(os.path.dirname(os.path.abspath(__file__)))
 USAGE = "heapsafe: bad command line\n"
@@ -22,13 +23,64 @@ def on_terminal(*words):
     child, terminal = pty.fork()
     if child == 0:
         os.execv(words[0], words)
-    written = b""
+    shown = b""
     try:
         while part := os.read(terminal, 4096):
-            written += part
+            shown += part
     except OSError:
         pass  # (so the end of a terminal is told)
-    return written.decode().replace("\r\n", "\n"), os.waitstatus_to_exitcode(os.waitpid(child, 0)[1])
+    return shown.decode().replace("\r\n", "\n"), os.waitstatus_to_exitcode(os.waitpid(child, 0)[1])
+
+
+STUB = """import os, time
+def build(top, program):
+    time.sleep(1)
+    with open(f"{top}/builds", "a") as it:
+        it.write("a build\\n")
+    with open(f"{top}/crates/a/src/lib.rt") as it:
+        text = it.read()
+    with open(program, "w") as it:
+        it.write(f"#!/bin/sh\\necho unproved {text}\\n")
+    os.chmod(program, 0o755)
+    return True
+"""
+
+
+def written(path, text):
+    os.makedirs(os.path.dirname(path), exist_ok=True)
+    with open(path, "w", encoding="utf-8") as file:
+        file.write(text)
+
+
+def faults_of_builds(top, same):
+    """Tries when the launcher builds, in a repository whose build is a stub that takes a second."""
+    for name in ("heapsafe", "tools/build.py"):
+        os.makedirs(os.path.dirname(f"{top}/{name}"), exist_ok=True)
+        shutil.copy(f"{TOP}/{name}", f"{top}/{name}")
+    source = f"{top}/crates/a/src/lib.rt"
+    for path, text in [(f"{top}/tools/build_unproved.py", STUB), (source, "first"), (f"{top}/crates/a/specs/A.antt", ""), (f"{top}/crates.txt", "")]:
+        written(path, text)
+    made = f"{top}/crates/heapsafe_cli/out/heapsafe_cli"
+    written(made, "#!/bin/sh\necho proved\n")
+    os.chmod(made, 0o755)
+    unset = {name: value for name, value in os.environ.items() if name != "HEAPSAFE_PROVED"}
+
+    def answers(what, wanted, builds, **more):
+        both = [subprocess.Popen([f"{top}/heapsafe", "run"], stdout=subprocess.PIPE, stderr=subprocess.DEVNULL, env={**unset, **more}) for _ in range(2)]
+        same(what, [it.communicate()[0].decode() for it in both], [wanted, wanted])
+        with open(f"{top}/builds", encoding="utf-8") as it:
+            same(f"builds, {what}", len(it.readlines()), builds)
+
+    answers("two runs at once", "unproved first\n", 1)
+    os.utime(source)
+    answers("a source that was only touched", "unproved first\n", 1)
+    ran("python3", f"{top}/tools/build.py", "--keep", str(time.time()), env=unset)
+    answers("after a green gate", "proved\n", 1)
+    answers("the other program", "unproved first\n", 1, HEAPSAFE_PROVED="0")
+    written(source, "second")
+    answers("a changed source", "unproved second\n", 2)
+    written(source, "first")
+    answers("the source as the gate saw it", "proved\n", 2)
 
 
 def faults(folder):
@@ -41,6 +93,7 @@ def faults(folder):
         if got != wanted:
             wrong.append(f"{what}: got {got!r}, wanted {wanted!r}")
 
+    faults_of_builds(f"{folder}/stub", same)
     page = ran(program, "--help")
     same("help is on the output", (page[0][:8], page[1:]), ("HeapSafe", ("", 0)))
     same("-h", ran(program, "-h"), page)
@@ -49,12 +102,11 @@ def faults(folder):
     same("the version", (told[0].startswith("heapsafe, sources "), told[1:]), (True, ("", 0)))
     same("a bad command line", ran(program, "rnu", hello), ("", USAGE, 120))
     for word, words in [("rnu", ["rnu", hello]), ("--step", ["run", hello, "--step", "4"]), ("0", ["run", hello, "--steps", "0"]), ("x.c", ["print", hello, "x.c"])]:
-        written, status = on_terminal(program, *words)
-        lines = written.splitlines()
+        shown, status = on_terminal(program, *words)
+        lines = shown.splitlines()
         is_told = lines[:1] == [USAGE.strip()] and len(lines) == 2 and f"'{word}'" in lines[1] and lines[1].endswith("heapsafe --help")
         same(f"on a terminal, {words}", (is_told, status), (True, 120))
-    with open(f"{folder}/own.c", "w", encoding="utf-8") as file:
-        file.write("int main(void) { return 120; }\n")
+    written(f"{folder}/own.c", "int main(void) { return 120; }\n")
     same("a program's own status on a terminal", on_terminal(program, "run", f"{folder}/own.c"), ("", 120))
     os.symlink(program, f"{folder}/link")
     same("through a link", ran(f"{folder}/link", "run", hello), ("hello\n", "", 0))

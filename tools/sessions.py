@@ -82,8 +82,12 @@ def scratch(folder):
             os.symlink(f"{TOP}/{name}", f"{folder}/{name}")
 
 
-def file_fault(name, block, folder):
-    """Makes the file of a block, or says where it differs from that of the repository."""
+def fault_of_file(name, block, folder):
+    """Makes the file of a block that names one, or says where it differs from that of the repository."""
+    if any(line.startswith("$ ") for line in block.text):
+        return [f"{name}:{block.line}: a session stands in a block ```console"]
+    if len(block.words) < 2:
+        return []
     path, text = block.words[1], "".join(block.text)
     if os.path.exists(f"{TOP}/{path}"):
         with open(f"{TOP}/{path}", encoding="utf-8") as file:
@@ -113,12 +117,9 @@ def faults(name):
     with tempfile.TemporaryDirectory() as folder:
         scratch(folder)
         for block in blocks(name):
-            if not block.words:
-                wrong += [f"{shown}:{block.line}: a block without a language"]
-            elif block.words[0] != "console":
-                wrong += file_fault(shown, block, folder) if len(block.words) > 1 else []
+            if block.words[:1] != ["console"]:
+                wrong += fault_of_file(shown, block, folder)
             elif needs(block):
-                wrong += []
                 print(f"{shown}:{block.line}: left out, since {' '.join(needs(block))} is missing")
             else:
                 asked += commands(block)
