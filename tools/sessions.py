@@ -1,5 +1,5 @@
 #!/usr/bin/env python3
-"""sessions.py [--quiet] [DOCUMENT..]: runs the shell sessions of README.md and docs/*.md and compares them to the byte.
+"""sessions.py [--quiet] [DOCUMENT..]: runs the shell sessions of the documents and compares them to the byte.
 
 A session is a block ```console: a line `$ COMMAND`, lines `> ..` that go on with it, and then all that it writes to either
 stream. The commands of a document are run in one shell, one after another, in a scratch folder that has the files of the
@@ -51,6 +51,8 @@ def blocks(name):
                 block.text.append(line)
             elif re.match(r"(    |\t)\$ ", line):
                 sys.exit(f"{name}:{number}: a session stands in a block ```console")
+    if block is not None:
+        sys.exit(f"{name}:{block.line}: a block has no end")
     return found
 
 
@@ -64,7 +66,8 @@ def commands(block):
             goes_on = True
         elif line.startswith("> ") and goes_on:
             found[-1].text += line[2:]
-        elif found:
+        else:
+            found = found or [Command(number, ":\n")]
             found[-1].wanted += line
             goes_on = False
     return found
@@ -112,36 +115,38 @@ def difference(name, command, got):
 
 
 def faults(name):
-    """What is wrong with a document, and how many commands were run."""
-    shown, wrong, asked = os.path.relpath(name, TOP), [], []
+    """What is wrong with a document, how many commands were run, and what was left out."""
+    shown, wrong, asked, left = os.path.relpath(name, TOP), [], [], []
     with tempfile.TemporaryDirectory() as folder:
         scratch(folder)
         for block in blocks(name):
             if block.words[:1] != ["console"]:
                 wrong += fault_of_file(shown, block, folder)
             elif needs(block):
-                print(f"{shown}:{block.line}: left out, since {' '.join(needs(block))} is missing")
+                left += [f"{shown}:{block.line}: left out, since {' '.join(needs(block))} is missing"]
             else:
                 asked += commands(block)
         got = outputs(asked, folder) if asked else []
     got += [None] * (len(asked) - len(got))
     wrong += [difference(shown, command, text) for command, text in zip(asked, got) if text != command.wanted]
-    return wrong, len(asked)
+    return wrong, len(asked), left
 
 
 def main():
     words = [word for word in sys.argv[1:] if word != "--quiet"]
     if any(word.startswith("-") for word in words):
         sys.exit("usage: sessions.py [--quiet] [DOCUMENT..]")
-    names = words or [f"{TOP}/README.md", f"{TOP}/bench/README.md", *sorted(glob.glob(f"{TOP}/docs/*.md"))]
+    names = words or [f"{TOP}/README.md", *sorted(glob.glob(f"{TOP}/*/*.md"))]
     subprocess.run([f"{TOP}/heapsafe"], capture_output=True)  # builds the program where it is missing
     with ThreadPoolExecutor(os.cpu_count()) as pool:
         found = list(pool.map(faults, [os.path.abspath(name) for name in names]))
-    wrong = [it for it, _ in found for it in it]
-    for it in wrong:
-        print(it)
-    if wrong or "--quiet" not in sys.argv[1:]:
-        print(f"{sum(number for _, number in found)} commands in {len(names)} documents, {len(wrong)} faults")
+    is_quiet = "--quiet" in sys.argv[1:]
+    wrong = [line for lines, _, _ in found for line in lines]
+    left = [line for _, _, lines in found for line in lines]
+    for line in wrong if is_quiet else wrong + left:
+        print(line)
+    if wrong or not is_quiet:
+        print(f"{sum(number for _, number, _ in found)} commands in {len(names)} documents, {len(wrong)} faults")
     return 1 if wrong else 0
 
 
