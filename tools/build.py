@@ -95,6 +95,10 @@ def without_proofs(room):
 
 def build(kind):
     """Builds a program of this kind, and says whether that went well."""
+    if not shutil.which("rt"):
+        print("heapsafe: the command `rt` of the Rattle toolchain is wanted in the PATH", file=sys.stderr)
+        return False
+    print(f"heapsafe: building {COSTS[kind]}", file=sys.stderr, flush=True)
     began, told = time.time(), version(kind)
     with tempfile.TemporaryDirectory() as room:
         made = {"proved": by_proofs, "unproved": without_proofs}[kind](room)
@@ -110,16 +114,11 @@ def chosen():
     for kind in wanted:
         if is_same(kind):
             return kind
-    kind = wanted[-1]
-    print(f"heapsafe: building {COSTS[kind]}", file=sys.stderr, flush=True)
-    return kind if build(kind) else None
+    return wanted[-1] if build(wanted[-1]) else None
 
 
 def main():
     words = sys.argv[1:]
-    if not shutil.which("rt"):
-        print("heapsafe: the command `rt` of the Rattle toolchain is wanted in the PATH", file=sys.stderr)
-        return 1
     os.makedirs(f"{TOP}/out", exist_ok=True)
     with open(f"{TOP}/out/lock", "w", encoding="utf-8") as lock:
         fcntl.flock(lock, fcntl.LOCK_EX)

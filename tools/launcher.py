@@ -18,6 +18,15 @@ def ran(*words, **more):
     return it.stdout, it.stderr, it.returncode
 
 
+def has_terminals():
+    try:
+        for end in pty.openpty():
+            os.close(end)
+    except OSError:
+        return False
+    return True
+
+
 def on_terminal(*words):
     """What is written to a terminal, and the status."""
     child, terminal = pty.fork()
@@ -83,6 +92,20 @@ def faults_of_builds(top, same):
     answers("the source as the gate saw it", "proved\n", 2)
 
 
+def faults_on_terminals(folder, installed, same):
+    """Tries the line that a bad command line gets on a terminal."""
+    hello = f"{folder}/hello.c"
+    bad = [("rnu", ["rnu", hello]), ("--step", ["run", hello, "--step", "4"]), ("0", ["run", hello, "--steps", "0"]), ("x.c", ["print", hello, "x.c"])]
+    for word, words in bad:
+        shown, status = on_terminal(f"{TOP}/heapsafe", *words)
+        lines = shown.splitlines()
+        is_told = lines[:1] == [USAGE.strip()] and len(lines) == 2 and f"'{word}'" in lines[1] and lines[1].endswith("heapsafe --help")
+        same(f"on a terminal, {words}", (is_told, status), (True, 120))
+    written(f"{folder}/own.c", "int main(void) { return 120; }\n")
+    same("a program's own status on a terminal", on_terminal(f"{TOP}/heapsafe", "run", f"{folder}/own.c"), ("", 120))
+    same("an installed one on a terminal", on_terminal(installed, "rnu")[0].splitlines()[1:], [f"heapsafe: 'rnu' is no command; see {installed} --help"])
+
+
 def faults(folder):
     """What is not as it should be, line by line."""
     program = f"{TOP}/heapsafe"
@@ -101,13 +124,6 @@ def faults(folder):
     told = ran(program, "--version")
     same("the version", (told[0].startswith("heapsafe, sources "), told[1:]), (True, ("", 0)))
     same("a bad command line", ran(program, "rnu", hello), ("", USAGE, 120))
-    for word, words in [("rnu", ["rnu", hello]), ("--step", ["run", hello, "--step", "4"]), ("0", ["run", hello, "--steps", "0"]), ("x.c", ["print", hello, "x.c"])]:
-        shown, status = on_terminal(program, *words)
-        lines = shown.splitlines()
-        is_told = lines[:1] == [USAGE.strip()] and len(lines) == 2 and f"'{word}'" in lines[1] and lines[1].endswith("heapsafe --help")
-        same(f"on a terminal, {words}", (is_told, status), (True, 120))
-    written(f"{folder}/own.c", "int main(void) { return 120; }\n")
-    same("a program's own status on a terminal", on_terminal(program, "run", f"{folder}/own.c"), ("", 120))
     os.symlink(program, f"{folder}/link")
     same("through a link", ran(f"{folder}/link", "run", hello), ("hello\n", "", 0))
     same("installing", ran(program, "--install", f"{folder}/there"), ("", "", 0))
@@ -115,8 +131,9 @@ def faults(folder):
     installed = f"{folder}/there/bin/heapsafe"
     same("an installed one", ran(installed, "run", "hello.c", cwd=folder), ("hello\n", "", 0))
     same("its version", ran(installed, "--version"), told)
-    same("its line on a terminal", on_terminal(installed, "rnu")[0].splitlines()[1:], [f"heapsafe: 'rnu' is no command; see {installed} --help"])
     same("its manual page", os.path.exists(f"{folder}/there/share/man/man1/heapsafe.1"), True)
+    if has_terminals():
+        faults_on_terminals(folder, installed, same)
     for script in (f"{TOP}/.ci/run", f"{TOP}/examples/check.py"):
         same(f"a word that {script} does not know", ran(script, "--quik")[2], 2)
     return wrong
