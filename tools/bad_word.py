@@ -20,7 +20,7 @@ def number_fault(word, name):
 
 
 def option_fault(words, word, seen):
-    """What is wrong with an option, whose value may be taken off the words behind it."""
+    """What is wrong with an option, whose value may be taken off the words after it."""
     name, equals, value = word.partition("=")
     if name in seen:
         return f"'{name}' stands twice"
@@ -28,8 +28,17 @@ def option_fault(words, word, seen):
     if name not in RANGES:
         return f"'{name}' takes no value" if equals else None
     if not equals and not words:
-        return f"a number is missing behind '{name}'"
+        return f"a number is missing after '{name}'"
     return number_fault(value if equals else words.pop(0), name)
+
+
+def operand_fault(command, word, operands):
+    """What is wrong with a word that is the file, or the number of `self`."""
+    if operands:
+        return f"'{word}' is one word too many"
+    if command == "self":
+        return number_fault(word, "self")
+    return f"'{word}' is no file's name" if not word or word.startswith("-") else None
 
 
 def fault(words):
@@ -39,28 +48,21 @@ def fault(words):
     command = words.pop(0)
     if command not in COMMANDS:
         return f"'{command}' is no command"
-    operands, seen, options = [], [], OPTIONS.get(command, [])
+    operands, seen, has_options = [], [], True
     while words:
-        word = words.pop(0)
-        if word == "--" and options is not None:
-            options = None
-        elif options and word.partition("=")[0] in options:
+        word, found = words.pop(0), None
+        if has_options and word == "--":
+            has_options = False
+        elif has_options and word.partition("=")[0] in OPTIONS.get(command, []):
             found = option_fault(words, word, seen)
-            if found:
-                return found
-        elif word.startswith("-") and options is not None:
-            return f"'{word}' is no option of '{command}'"
-        elif operands:
-            return f"'{word}' is one word too many"
-        elif command == "self":
-            operands.append(word)
-            if number_fault(word, "self"):
-                return number_fault(word, "self")
-        elif not word or word.startswith("-"):
-            return f"'{word}' is no file's name"
+        elif has_options and word.startswith("-"):
+            found = f"'{word}' is no option of '{command}'"
         else:
+            found = operand_fault(command, word, operands)
             operands.append(word)
-    return None if operands else f"{'a number' if command == 'self' else 'a file'} is missing behind '{command}'"
+        if found:
+            return found
+    return None if operands else f"{'a number' if command == 'self' else 'a file'} is missing after '{command}'"
 
 
 def main():

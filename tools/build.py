@@ -21,7 +21,7 @@ import build_unproved
 TOP = os.path.dirname(os.path.dirname(os.path.abspath(__file__)))
 MADE_BY_RT = f"{TOP}/crates/heapsafe_cli/out/heapsafe_cli"
 COSTS = {
-    "unproved": "without proofs, which takes a minute or two; HEAPSAFE_PROVED=1 takes a proved program",
+    "unproved": "without proofs, which takes some minutes; HEAPSAFE_PROVED=1 takes a proved program",
     "proved": "from the proofs, which takes hours on a machine that has kept none",
 }
 
