@@ -51,7 +51,7 @@ static void tell(void) {
 """
 
 NOTHING = "int main(void){return 0;}"
-with open(os.path.join(TOP, "examples", "vector.c"), encoding="ascii") as example:
+with open(os.path.join(TOP, "examples", "programs", "vector.c"), encoding="ascii") as example:
     VECTOR = example.read()
 LAYOUTS = """struct s { char c; char *p; short n; };
 union u { char *p; int *q; };
@@ -139,7 +139,7 @@ CASES = [
 
 
 def main():
-    program = os.path.abspath(sys.argv[1] if sys.argv[1:] else os.path.join(TOP, "out", "heapsafe"))
+    program = os.path.abspath(sys.argv[1] if sys.argv[1:] else os.path.join(TOP, "out", "unproved", "heapsafe"))
     wrong = 0
     with tempfile.TemporaryDirectory() as folder:
         with open(f"{folder}/shim.c", "w", encoding="ascii") as file:

@@ -1,0 +1,4 @@
+#define SIZE 10
+int main(void) {
+  return SIZE;
+}

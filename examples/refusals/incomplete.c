@@ -1,0 +1,6 @@
+struct node;
+
+int main(void) {
+  struct node first;
+  return 0;
+}

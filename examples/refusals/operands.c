@@ -1,0 +1,5 @@
+int main(void) {
+  char *p = "a";
+  char *q = "b";
+  return (p + q)[0];
+}

@@ -1,0 +1,4 @@
+int main(void) {
+  char *p = (char *)4096;
+  return *p;
+}

@@ -1,0 +1,5 @@
+union word { int number; char *text; };
+
+int main(void) {
+  return 0;
+}

@@ -1,0 +1,3 @@
+int main(void) {
+  return sizeof(int[100000000]) > 0;
+}
