@@ -18,7 +18,6 @@ mod arithmetic;
 mod call;
 mod calling;
 mod calls;
-mod counted;
 mod freeing;
 mod growing;
 mod handing;

@@ -10,7 +10,7 @@ use Rattle.flat_machine.specs.Kept.{Kept}
 use Rattle.flat_machine.proofs.state.State.new_object.Goals as goal
 
 pub returns-in-Some-clause-added : goal.returns-in-Some-clause-added
-returns-in-Some-clause-added c = λ places objects element keeps births form.
+returns-in-Some-clause-added g c = λ places objects element keeps births form.
     let memory = ap (λ (k : Kept). k.memory) c.self.view_is in
     let before = subst (λ (m : Memory). Keeps m places objects) (sym memory) keeps in
     let count = ap (λ (k : Kept). k.births) c.self.view_is ∙ births in
@@ -18,7 +18,7 @@ returns-in-Some-clause-added c = λ places objects element keeps births form.
     c.in-Some.ensures.added places objects element before count there
 
 pub returns-in-Some-clause-tracks : goal.returns-in-Some-clause-tracks
-returns-in-Some-clause-tracks c = λ places objects element frees keeps births form tracks.
+returns-in-Some-clause-tracks g c = λ places objects element frees keeps births form tracks.
     let memory = ap (λ (k : Kept). k.memory) c.self.view_is in
     let before = subst (λ (m : Memory). Keeps m places objects) (sym memory) keeps in
     let count = ap (λ (k : Kept). k.births) c.self.view_is ∙ births in
