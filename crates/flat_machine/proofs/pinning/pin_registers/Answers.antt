@@ -31,8 +31,8 @@ loop-i-preserved g c =
           let tracks = known.tracks places all frees pointers may in
           let now : Frees = record frees { pins = take c.loop-i.i pointers ++ frees.pins } in
           let at = pins_next c.args.objects.now c.loop-i.objects places all frees c.args.calls.now.running.words c.args.registers.now pointers (known.keeps places all may.keeps) known.frame c.loop-i.i c.loop-i-test.true c.address_in.result addr may tracks in
-          pinned_next c.args.objects.now c.loop-i.objects places all frees c.args.calls.now.running.words c.args.registers.now pointers (known.keeps places all may.keeps) known.frame c.loop-i.i c.loop-i-test.true c.address_in.result addr may tracks c.pin.new.objects (c.pin.ensures.tracks places all now (take c.loop-i.i pointers) frees.pins (get_or pointers c.loop-i.i Null) at refl);
-      frame = frame_more c.args.objects.now c.loop-i.objects c.pin.new.objects known.frame c.pin.ensures.frame;
+          pinned_next c.args.objects.now c.loop-i.objects places all frees c.args.calls.now.running.words c.args.registers.now pointers (known.keeps places all may.keeps) known.frame c.loop-i.i c.loop-i-test.true c.address_in.result addr may tracks c.pin.new.self (c.pin.ensures.tracks places all now (take c.loop-i.i pointers) frees.pins (get_or pointers c.loop-i.i Null) at refl);
+      frame = frame_more c.args.objects.now c.loop-i.objects c.pin.new.self known.frame c.pin.ensures.frame;
     }
 
 pub returns-clause-tracks : goal.returns-clause-tracks

@@ -31,8 +31,8 @@ loop-i-preserved g c =
           let tracks = known.tracks places all frees pointers others does in
           let now : Frees = record frees { pins = drop c.loop-i.i pointers ++ others } in
           let at = unpins_next c.args.objects.now c.loop-i.objects places all frees c.args.calls.now.running.words c.args.registers.now pointers (known.keeps places all does.keeps) known.frame c.loop-i.i c.loop-i-test.true c.address_in.result addr others does tracks in
-          unpinned_next c.args.objects.now c.loop-i.objects places all frees c.args.calls.now.running.words c.args.registers.now pointers (known.keeps places all does.keeps) known.frame c.loop-i.i c.loop-i-test.true c.address_in.result addr others does tracks c.unpin.new.objects (c.unpin.ensures.tracks places all now [] (drop (suc c.loop-i.i) pointers ++ others) (get_or pointers c.loop-i.i Null) at);
-      frame = frame_more c.args.objects.now c.loop-i.objects c.unpin.new.objects known.frame c.unpin.ensures.frame;
+          unpinned_next c.args.objects.now c.loop-i.objects places all frees c.args.calls.now.running.words c.args.registers.now pointers (known.keeps places all does.keeps) known.frame c.loop-i.i c.loop-i-test.true c.address_in.result addr others does tracks c.unpin.new.self (c.unpin.ensures.tracks places all now [] (drop (suc c.loop-i.i) pointers ++ others) (get_or pointers c.loop-i.i Null) at);
+      frame = frame_more c.args.objects.now c.loop-i.objects c.unpin.new.self known.frame c.unpin.ensures.frame;
     }
 
 pub returns-clause-tracks : goal.returns-clause-tracks

@@ -153,27 +153,27 @@ returns-in-Call-clause-image g c = λ places s h counts fresh is.
 pub returns-in-Set-clause-image : goal.returns-in-Set-clause-image
 returns-in-Set-clause-image g c = λ places s h counts fresh is.
     let still : IsStill c.args.op = search rules in
-    unchanged_image c.args.code.now places s c.args.state.now c.act_values.new.self h c.requires.pins (fits_now places s c.args.state.now) c.args.line c.args.instr c.args.op c.act_values.result still is counts c.act_values.ensures.unchanged (returns-in-Set-clause-alone c places s h counts fresh is)
+    unchanged_image c.args.code.now places s c.args.state.now c.act_values.new.self h c.requires.pins (fits_now places s c.args.state.now) c.args.line c.args.instr c.args.op c.act_values.result still is counts c.act_values.ensures.unchanged (returns-in-Set-clause-alone g c places s h counts fresh is)
 
 pub returns-in-Jump-clause-image : goal.returns-in-Jump-clause-image
 returns-in-Jump-clause-image g c = λ places s h counts fresh is.
     let still : IsStill c.args.op = search rules in
-    unchanged_image c.args.code.now places s c.args.state.now c.act_jump.new.self h c.requires.pins (fits_now places s c.args.state.now) c.args.line c.args.instr c.args.op c.act_jump.result still is counts c.act_jump.ensures.unchanged (returns-in-Jump-clause-alone c places s h counts fresh is)
+    unchanged_image c.args.code.now places s c.args.state.now c.act_jump.new.self h c.requires.pins (fits_now places s c.args.state.now) c.args.line c.args.instr c.args.op c.act_jump.result still is counts c.act_jump.ensures.unchanged (returns-in-Jump-clause-alone g c places s h counts fresh is)
 
 pub returns-in-Load-clause-image : goal.returns-in-Load-clause-image
 returns-in-Load-clause-image g c = λ places s h counts fresh is.
     let still : IsStill c.args.op = search rules in
-    unchanged_image c.args.code.now places s c.args.state.now c.act_memory.new.self h c.requires.pins (fits_now places s c.args.state.now) c.args.line c.args.instr c.args.op c.act_memory.result still is counts c.act_memory.ensures.unchanged (returns-in-Load-clause-alone c places s h counts fresh is)
+    unchanged_image c.args.code.now places s c.args.state.now c.act_memory.new.self h c.requires.pins (fits_now places s c.args.state.now) c.args.line c.args.instr c.args.op c.act_memory.result still is counts c.act_memory.ensures.unchanged (returns-in-Load-clause-alone g c places s h counts fresh is)
 
 pub returns-in-Add-clause-image : goal.returns-in-Add-clause-image
 returns-in-Add-clause-image g c = λ places s h counts fresh is.
     let still : IsStill c.args.op = search rules in
-    unchanged_image c.args.code.now places s c.args.state.now c.act_pointers.new.self h c.requires.pins (fits_now places s c.args.state.now) c.args.line c.args.instr c.args.op c.act_pointers.result still is counts c.act_pointers.ensures.unchanged (returns-in-Add-clause-alone c places s h counts fresh is)
+    unchanged_image c.args.code.now places s c.args.state.now c.act_pointers.new.self h c.requires.pins (fits_now places s c.args.state.now) c.args.line c.args.instr c.args.op c.act_pointers.result still is counts c.act_pointers.ensures.unchanged (returns-in-Add-clause-alone g c places s h counts fresh is)
 
 pub returns-in-Copy-clause-image : goal.returns-in-Copy-clause-image
 returns-in-Copy-clause-image g c = λ places s h counts fresh is.
     let still : IsStill c.args.op = search rules in
-    unchanged_image c.args.code.now places s c.args.state.now c.act_ranges.new.self h c.requires.pins (fits_now places s c.args.state.now) c.args.line c.args.instr c.args.op c.act_ranges.result still is counts c.act_ranges.ensures.unchanged (returns-in-Copy-clause-alone c places s h counts fresh is)
+    unchanged_image c.args.code.now places s c.args.state.now c.act_ranges.new.self h c.requires.pins (fits_now places s c.args.state.now) c.args.line c.args.instr c.args.op c.act_ranges.result still is counts c.act_ranges.ensures.unchanged (returns-in-Copy-clause-alone g c places s h counts fresh is)
 
 pub returns-in-Free-clause-image : goal.returns-in-Free-clause-image
 returns-in-Free-clause-image g c = λ places s h counts fresh is.

@@ -107,7 +107,7 @@ returns-in-Err-clause-image g c = λ code first before places s has h counts.
     let may_leave = may_close places s m h c.requires.open c.pin.new.self.memory keeps tracks in
     let answer = c.in-Err.ensures.outermost places s.state.objects (all_counted m.pins s) may_leave (sym h.tracks.open_scopes ∙ c.requires.open) in
     let closed = same_but m c.pin.new.self c.close_scope.new.self c.pin.ensures.others c.in-Err.ensures.others in
-    let stops = returns-in-Err-clause-checks c code first before places s has h counts in
+    let stops = returns-in-Err-clause-checks g c code first before places s has h counts in
     let last = decided_last code _ first before [] s.numbers s.state m c.in-Err.bad c.first_holder.result stops in
     subst (λ (k : Kept). StopsIn code (checked code first before [] s.numbers s.state) k (end.BadFree c.in-Err.bad c.first_holder.result)) (sym closed)
     (uncounted_image code places s m h c.close_scope.new.self.memory answer.2.keeps answer.2.scopes _ last (end.BadFree c.in-Err.bad c.first_holder.result) tt)

@@ -40,4 +40,4 @@ returns-clause-tracks g c = λ places objects element func index frees keeps bir
     let there = subst (λ (m : Memory). slice_get m.forms c.args.layout ≡ Some (element_of element)) (sym memory) form in
     let tracked = subst (λ (m : Memory). Tracks m places objects frees) (sym memory) tracks in
     let made = c.in-Some.ensures.tracks places objects element func index frees before count there size tracked in
-    subst (λ n. Tracks c.new_local.new.objects (with_place places n c.in-Some.addr) (objects ++ blank (Local func index) c.args.size element.slots ∷ []) frees) (ap (λ (k : Kept). k.births) c.self.view_is) made
+    subst (λ n. Tracks c.new_local.new.self (with_place places n c.in-Some.addr) (objects ++ blank (Local func index) c.args.size element.slots ∷ []) frees) (ap (λ (k : Kept). k.births) c.self.view_is) made

@@ -25,4 +25,4 @@ returns-in-Some-clause-tracks g c = λ places objects element frees keeps births
     let there = subst (λ (m : Memory). slice_get m.forms c.args.layout ≡ Some (element_of element)) (sym memory) form in
     let tracked = subst (λ (m : Memory). Tracks m places objects frees) (sym memory) tracks in
     let made = c.in-Some.ensures.tracks places objects element frees before count there tracked in
-    subst (λ n. Tracks c.new_object.new.objects (with_place places n c.in-Some.addr) (objects ++ heap_object c.args.line c.args.size element ∷ []) frees) (ap (λ (k : Kept). k.births) c.self.view_is) made
+    subst (λ n. Tracks c.new_object.new.self (with_place places n c.in-Some.addr) (objects ++ heap_object c.args.line c.args.size element ∷ []) frees) (ap (λ (k : Kept). k.births) c.self.view_is) made
