@@ -14,6 +14,8 @@ pub mod Loaded
 pub mod Image
 pub mod Well
 pub mod Running
+pub mod Advancing
+pub mod Operations
 pub mod First
 pub mod Machined
 pub mod Loading
