@@ -19,7 +19,7 @@ use flat_code::Code;
 use hs_base::{End, Sink, Source, Steps};
 use std::sync::ledger::{Blank, Ledger};
 
-/// Makes instructions until the run ends.
+/// Makes instructions until the run ends: groups of them in one where that can be, and else one by one.
 pub(crate) fn end_of_run<I: Source, O: Sink, L: Ledger>(
     state: &mut State,
     code: &Code,
@@ -41,6 +41,7 @@ pub(crate) fn end_of_run<I: Source, O: Sink, L: Ledger>(
     step_stays_good();
     step_leaves_less();
     'instructions: loop {
+        state.go(code, loaded.operations.as_slice());
         match one_step(state, code, loaded, input, out, steps) {
             Ok(()) => {}
             Err(end) => return end,
