@@ -1,4 +1,4 @@
-use Rattle.std.proofs.Common.{◌<◌, ◌≤◌, ◌++◌, refl, ◌∙◌, arith}
+use Rattle.std.proofs.Common.{◌++◌, refl, ◌∙◌, arith}
 use Rattle.hs_base.specs.Place.{has_place}
 use Rattle.hs_base.specs.Trace.{bytes_out}
 use Rattle.flat_machine.proofs.Lasting.{left_end}
