@@ -35,10 +35,6 @@ use Rattle.core_soundness.proofs.Agreeing.{came}
 use Rattle.core_soundness.proofs.Settled.{grows_settled}
 use Rattle.core_soundness.proofs.Aiming.{There, there_on, fixed_on, Aimed, name_aimed, string_aimed, valued_aimed, indexed_aimed, dotted_aimed, pointed_aimed, address_aimed, applied_aimed, left_aimed, between_aimed, cast_aimed, settled_convert, settled_combined}
 
--- what an expression grows by, and its value
-found_grew : (e : Tree) (wish : PlainType) (c : Context) (z : Context × Found) → found e wish c ≡ Ok z → Grows c z.0
-found_grew e wish c z q = found_grows e wish c c (grows_refl c) z q
-
 pub value_grew : (e : Tree) (wish : PlainType) (c : Context) (z : Context × Found) → valued e (found e wish c) ≡ Ok z → Grows c z.0
 value_grew e wish c z q = grown_valued e c (found e wish c) (found_grows e wish c c (grows_refl c)) z q
 
