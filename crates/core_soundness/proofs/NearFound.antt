@@ -38,7 +38,8 @@ use Rattle.core_soundness.proofs.Grown.{good, ok_same, never}
 use Rattle.core_soundness.proofs.Agreeing.{came}
 use Rattle.core_soundness.proofs.Reached.{Reached, reached_ok, reached_refused, reached_after, reached_then, Led, led_ok, led_unless}
 use Rattle.core_soundness.proofs.ShortNames.{some_short}
-use Rattle.core_soundness.proofs.Near.{weight, weights, said, Near, near_refl, near_on, near_most}
+use Rattle.core_soundness.proofs.Near.{Near, near_refl, near_on, near_most}
+use Rattle.core_soundness.proofs.Weights.{weight, weights, said, commas_said}
 use Rattle.core_soundness.proofs.NearWork.{valued_near, indexed_near, dotted_near, pointed_near, applied_near, left_near, between_near, cast_near, and_near, and_then_near, or_else_near, or_near, first_near, chosen_near, record_near, scalar_assigned_near, old_near, changed_near, stepped_near, argument_near, PrintsShort, call_near}
 
 -- formats are no longer than objects
@@ -144,15 +145,6 @@ called_near : (line : ℕ) (name : Option PlainNamed) (function : Callee) (wante
 called_near line name function wanted trees c values g =
     reached_after (Near 2 c) (call line (first_literal trees) function (types_of values)) (λ e. let d = call_named line name e.type wanted (first_literal trees) values c in Ok (d.0, found_as e d.1 Unknown))
     (λ e h. reached_ok (Near 2 c) (let d = call_named line name e.type wanted (first_literal trees) values c in (d.0, found_as e d.1 Unknown)) (call_near line name e.type wanted (first_literal trees) values c g))
-
--- commas between parts
-behind_said : (place : Place) (k : ℕ) → said (behind_commas place k) ≡ 6 * k
-behind_said place zero = refl
-behind_said place (suc k) = omega (arith, behind_said place k)
-
-pub commas_said : (place : Place) (k : ℕ) → 6 * k ≤ said (commas place k) + 6
-commas_said place zero = omega arith
-commas_said place (suc k) = omega (arith, behind_said place k)
 
 assigned_near : (k : ℕ) (test : Bool) (line : ℕ) (x : Tree) (target : Found) (c : Context) (r : Context × Found) → Near k c r.0 → Reached (Near (k + 2) c) (cond test (record_assigned line (line_of x) target r) (scalar_assigned line c.code x target r))
 assigned_near k true line x target c r g z q = near_on k 0 (k + 2) (omega arith) g (record_near line (line_of x) target r z q)
