@@ -1,5 +1,5 @@
 -- What expressions make: at most six for each word.
-use Rattle.std.proofs.Common.{◌≡◌, ◌≤◌, ◌+◌, ◌*◌, ℕ, zero, suc, Bool, true, false, cond, nat_lt, length, List, [], ◌∷◌, ◌++◌, Option, Some, None, unwrap_or, Ok, refl, sym, subst, arith, ltb-false}
+use Rattle.std.proofs.Common.{◌≡◌, ◌+◌, ◌*◌, ℕ, Bool, true, false, cond, nat_lt, length, List, [], ◌∷◌, ◌++◌, Option, Some, None, unwrap_or, Ok, refl, sym, subst, arith, ltb-false}
 use Rattle.std.specs.Prelude.{IfSome}
 use Rattle.hs_base.specs.Place.{block_size}
 use Rattle.c_types.specs.declared.types.IntType.TheVariants as i
@@ -12,8 +12,8 @@ use Rattle.c_tree.specs.declared.operator.BinaryOp.TheVariants as b
 use Rattle.c_tree.specs.declared.operator.AssignOp.TheVariants as a
 use Rattle.c_tree.specs.Words as w
 use Rattle.c_tree.specs.Forms as f
-use Rattle.c_tree.specs.Places.{Place, Expression}
-use Rattle.c_tree.specs.Grammar.{assign_level, commas, behind_commas, shape}
+use Rattle.c_tree.specs.Places.{Expression}
+use Rattle.c_tree.specs.Grammar.{assign_level, shape}
 use Rattle.c_tree.specs.Tree.{Tree, Trees, Leaf, At, Node, none, ◌▹◌, count}
 use Rattle.c_decls.specs.declared.built_in.BuiltIn.{BuiltIn}
 use Rattle.c_decls.specs.declared.built_in.BuiltIn.TheVariants as bi
@@ -39,7 +39,7 @@ use Rattle.core_soundness.proofs.Agreeing.{came}
 use Rattle.core_soundness.proofs.Reached.{Reached, reached_ok, reached_refused, reached_after, reached_then, Led, led_ok, led_unless}
 use Rattle.core_soundness.proofs.ShortNames.{some_short}
 use Rattle.core_soundness.proofs.Near.{Near, near_refl, near_on, near_most}
-use Rattle.core_soundness.proofs.Weights.{weight, weights, said, commas_said}
+use Rattle.core_soundness.proofs.Weights.{weight, weights, commas_said}
 use Rattle.core_soundness.proofs.NearWork.{valued_near, indexed_near, dotted_near, pointed_near, applied_near, left_near, between_near, cast_near, and_near, and_then_near, or_else_near, or_near, first_near, chosen_near, record_near, scalar_assigned_near, old_near, changed_near, stepped_near, argument_near, PrintsShort, call_near}
 
 -- formats are no longer than objects

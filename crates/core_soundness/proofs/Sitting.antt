@@ -25,7 +25,7 @@ use Rattle.c_decls.specs.Expressions as types
 use Rattle.c_decls.specs.Expressions.{line_of, int_constant, char_constant, joined, literal, typed, typename}
 use Rattle.elaboration.specs.Addressed.{plain_name}
 use Rattle.elaboration.specs.Context.{Context, With, asked, told, new_label}
-use Rattle.elaboration.specs.Conversions.{Found, Value, Unknown, found_as, valued_as, atom_in, code_line, valued_from, valued}
+use Rattle.elaboration.specs.Conversions.{Found, Unknown, valued_as, atom_in, code_line, valued}
 use Rattle.elaboration.specs.Calls.{Argument, first_type, rest_types, argument_from}
 use Rattle.elaboration.specs.Rules.{constant_found, indexed, dotted, pointed, applied, ahead, ahead_of, typed_value, left_operand, between, cast_to, with_value, and_then, and_ends, and_ended, or_else, or_ends, or_ended, choose, choice_ahead, choice_type, type_ahead, choose_first, chosen, choose_last, choice_found}
 use Rattle.elaboration.specs.Assignments.{record_assigned, scalar_assigned, old_value, changed_by, stepped}
@@ -39,7 +39,6 @@ use Rattle.core_soundness.proofs.Agreement.{found_agrees}
 use Rattle.core_soundness.proofs.Growing.{Grew}
 use Rattle.core_soundness.proofs.Going.{Goes, goes_refl, goes_trans, goes_told}
 use Rattle.core_soundness.proofs.Sorting.{Sits, Lands, Comes, comes_lands, value_grew, stands_grew, held_grew, old_brings, Converting}
-use Rattle.core_soundness.proofs.Operating.{passed}
 use Rattle.core_soundness.proofs.Landing.{found_name, name_lands, constant_lands, string_lands, indexed_lands, dotted_lands, pointed_lands, InMemory, address_lands, applied_lands, left_goes, between_lands, cast_lands}
 use Rattle.core_soundness.proofs.Choosing.{logical_typed, and_then_goes, and_comes, or_else_gives, or_comes, choice_sides, first_goes, first_null, chosen_lands}
 use Rattle.core_soundness.proofs.Assigning.{record_lands, scalar_lands, changing_rule, changed_comes, stepped_comes}

@@ -1,7 +1,7 @@
 -- The types of expressions declare tags alone.
 use Rattle.std.proofs.Common.{ℕ, zero, length, List, [], ◌∷◌, ◌++◌, reverse, Option, Some, None, Ok, subst}
 use Rattle.c_types.specs.Types as ct
-use Rattle.c_types.specs.Types.{PlainType, PlainTypes, first}
+use Rattle.c_types.specs.Types.{PlainType, first}
 use Rattle.c_types.specs.TagTable.{TagTable}
 use Rattle.c_tree.specs.declared.operator.RecordSort.{RecordSort}
 use Rattle.c_tree.specs.declared.operator.RecordSort.TheVariants as r
@@ -16,7 +16,7 @@ use Rattle.c_decls.specs.Refusals.{Checked, then, unless}
 use Rattle.c_decls.specs.Named as n
 use Rattle.c_decls.specs.Named.{PlainNamed}
 use Rattle.c_decls.specs.ScopeList as scopes
-use Rattle.c_decls.specs.ScopeList.{ScopeList, Table, found, with_name, tag_name, named_in, innermost}
+use Rattle.c_decls.specs.ScopeList.{ScopeList, Table, found, with_name, tag_name}
 use Rattle.c_decls.specs.Typed.{PlainTyped, read, constant, is_function, is_void}
 use Rattle.c_decls.specs.PlaceRules.{held_place, element, dot, arrow, stepped, size, cast, choice, assigned, changed, behind_comma}
 use Rattle.c_decls.specs.TypeRules.{address, unary, binary}

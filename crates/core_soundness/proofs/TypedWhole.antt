@@ -32,14 +32,14 @@ use Rattle.c_decls.specs.Refusals.{Checked, refused, then, unless}
 use Rattle.c_decls.specs.Named as n
 use Rattle.c_decls.specs.Named.{PlainNamed}
 use Rattle.c_decls.specs.ScopeList as scopes
-use Rattle.c_decls.specs.ScopeList.{ScopeList, Table, found, found_from, with_name, tag_name, named_in, innermost}
+use Rattle.c_decls.specs.ScopeList.{ScopeList, Table, found, found_from, with_name, tag_name, named_in}
 use Rattle.c_decls.specs.BuiltIns.{built_ins, constant_of}
 use Rattle.c_decls.specs.Typed.{PlainTyped, Operand, Number, PointerTo, Neither, operand, place, value, int, constant, held, read, same, is_void, is_function, is_record, is_null_constant, has_no_size}
 use Rattle.c_decls.specs.TypeRules.{immovable, moving, beside_pointer, sum_types, difference_types, order_types, equal_types, integer_types, logical, binary, unary_of, unary_on_pointer, unary, address}
 use Rattle.c_decls.specs.PlaceRules.{cast_types, cast, chosen_pointer, choice_types, choice, size_answer, size, element_types, element, member_answer, member_among, member_of, dot, arrow_of, arrow, record_assigned, scalar_assigned, assigned, changed_types, changed, stepped, held_place, behind_comma, all_convert, converts, unconverted, is_written}
 use Rattle.c_decls.specs.Callees.{Callee, Takes, Prints, NoFunction, built_in_callee, built_in_value, built_in_named, named, no_function, function_callee, built_in_called, callee_at, called, prints, call}
 use Rattle.c_decls.specs.TypeNames as names
-use Rattle.c_decls.specs.TypeNames.{Context, Layer, ArrayOf, FunctionOf, word_type, record_type, is_union, with_new_tag, same_sort, tag_named, enum_named, type_named, special_type, specs_type, length_from, array_length, array_of, layered, layered_before, with_layers, with_param_layers, adjusted, with_param, declared_param}
+use Rattle.c_decls.specs.TypeNames.{Context, Layer, ArrayOf, FunctionOf, word_type, record_type, with_new_tag, same_sort, tag_named, enum_named, type_named, special_type, specs_type, length_from, array_length, array_of, layered, layered_before, with_layers, with_param_layers, adjusted, with_param, declared_param}
 use Rattle.c_decls.specs.Expressions.{line_of, Found, answered, wanted, changing, one, two, int_constant, char_constant, joined, string, first_literal, callee, in_new_scope, out_of_scope, typed, values, typename, layers, suffix_layers, suffix_layer, param_types, param_type}
 use Rattle.core_soundness.specs.Whole.{Whole, AllWhole, AreMade, NamedWhole, TableWhole, TablesWhole, NamesWhole}
 use Rattle.core_soundness.proofs.Names.{named_push}
