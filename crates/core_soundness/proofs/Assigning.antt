@@ -74,7 +74,7 @@ cond_false false x y v e h = h
 
 pub record_lands : (line right : ℕ) (target : Found) (d z : Context × Found) → 1 ≤ line → is_record target.typed.type ≡ true → Stands (world d.0) target → Stands (world d.0) d.1 → record_assigned line right target d ≡ Ok z → Lands d.0 z
 record_lands line right target d z l r h k q =
-    let t = came (assigned line right d.0.tags target.typed d.1.typed) (λ typed. good (emit line (Copy (atom_in target) (atom_in d.1) (pos (size_or_zero d.0 typed.type))) d.0, found_as typed Empty Unknown)) z q in
+    let t = came (assigned line right d.0.tags target.typed d.1.typed) q in
     let r3 : Checked PlainTyped = unless (not d.1.typed.is_place) Operands line (good (value target.typed.type)) in
     let r2 : Checked PlainTyped = unless (not (same target.typed.type d.1.typed.type)) Assignment line r3 in
     let r1 : Checked PlainTyped = unless (has_no_size d.0.tags target.typed.type) Incomplete line r2 in
@@ -110,10 +110,10 @@ written_scalar line target e typed h =
 -- b is in front of the right side
 pub scalar_lands : (line : ℕ) (b : Context) (tree : Tree) (target : Found) (d z : Context × Found) → 1 ≤ line → 1 ≤ code_line tree → is_record target.typed.type ≡ false → Stands (world b) target → Goes b d.0 → Stands (world d.0) d.1 → scalar_assigned line b.code tree target d ≡ Ok z → Comes b z
 scalar_lands line b tree target d z l l2 r h g k q =
-    let t = came (assigned line (line_of tree) d.0.tags target.typed d.1.typed) (λ typed. then (valued_from tree d.0 d.1) (λ v. good (set_to line b.code typed target v))) z q in
-    let v = came (valued_from tree d.0 d.1) (λ v. good (set_to line b.code t.value target v)) z t.last in
+    let t = came (assigned line (line_of tree) d.0.tags target.typed d.1.typed) q in
+    let v = came (valued_from tree d.0 d.1) t.last in
     let a : then (read (line_of tree) d.0.tags d.1.typed) (places.scalar_assigned line target.typed) ≡ Ok t.value = cond_false (is_record target.typed.type) _ _ t.value r t.is in
-    let e = came (read (line_of tree) d.0.tags d.1.typed) (places.scalar_assigned line target.typed) t.value a in
+    let e = came (read (line_of tree) d.0.tags d.1.typed) a in
     let rule = valued_from_rule tree d.0 d.1 v.value v.is in
     let same_typed : e.value ≡ v.value.1.typed = ok_same e.value v.value.1.typed (sym e.is ∙ rule.typed) in
     let w = written_scalar line target.typed v.value.1.typed t.value (subst (λ (x : PlainTyped). places.scalar_assigned line target.typed x ≡ Ok t.value) same_typed e.last) in
@@ -164,7 +164,7 @@ changed_typed line op tags target e typed h =
 pub changing_rule : (line : ℕ) (op : AssignOp) (keeps_old : Bool) (target : Found) (old : Atom) (d z : Context × Found) → changed_by line op keeps_old target old d ≡ Ok z
     → (typed : PlainTyped) × Changed target.typed typed × (good (changed_answer keeps_old typed old (change_place line (operator_of op) typed target old d.1.typed (atom_in d.1) d.0)) ≡ Ok z)
 changing_rule line op keeps_old target old d z h =
-    let t = came (changed line op d.0.tags target.typed d.1.typed) (λ typed. good (changed_answer keeps_old typed old (change_place line (operator_of op) typed target old d.1.typed (atom_in d.1) d.0))) z h in
+    let t = came (changed line op d.0.tags target.typed d.1.typed) h in
     (t.value, changed_typed line op d.0.tags target.typed d.1.typed t.value t.is, t.last)
 
 pub changed_comes : (line : ℕ) (op : AssignOp) (keeps_old : Bool) (target : Found) (old : Atom) (d z : Context × Found) → 1 ≤ line → Stands (world d.0) target → Held (world d.0) target.typed.type old → Held (world d.0) d.1.typed.type (atom_in d.1) → changed_by line op keeps_old target old d ≡ Ok z → Comes d.0 z

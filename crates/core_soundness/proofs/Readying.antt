@@ -15,12 +15,12 @@ use Rattle.c_decls.specs.Callees.{named}
 use Rattle.c_decls.specs.Typed.{PlainTyped}
 use Rattle.elaboration.specs.Addressed.{plain_name}
 use Rattle.elaboration.specs.Context.{Context, With}
-use Rattle.elaboration.specs.Conversions.{Found, Spot, Local, code_line, valued_from, valued}
+use Rattle.elaboration.specs.Conversions.{Found, Spot, Local, code_line, valued}
 use Rattle.elaboration.specs.Rules.{name_found, is_inner, object_found, built_in_found}
 use Rattle.elaboration.specs.Expressions.{name_answer}
 use Rattle.core_soundness.specs.Worlds.{World, world, local_sort, type_sort, InnerFits, FileFits, TableFits, TablesFit, NamesFit}
 use Rattle.core_soundness.specs.Spoken.{is_register, NoRegister, TakesAddress, Spoken, AllSpoken}
-use Rattle.core_soundness.proofs.Grown.{good, ok_same}
+use Rattle.core_soundness.proofs.Grown.{ok_same}
 use Rattle.core_soundness.proofs.Names.{More, MoreAll, MoreTags, IsNewTag}
 use Rattle.core_soundness.proofs.Agreeing.{came}
 use Rattle.core_soundness.proofs.Growing.{Grew}
@@ -154,7 +154,7 @@ spot_named other typed inner r e = cc
 
 pub name_local : (line : ℕ) (name : List ℕ) (o : Option PlainNamed) (c : Context) (z : Context × Found) (r : ℕ) → name_answer line name o c ≡ Ok z → z.1.spot ≡ Local r → is_register o ≡ true
 name_local line name o c z r h e =
-    let t = came (named line o) (λ e. good (c, name_found e (is_inner c name) o)) z h in
+    let t = came (named line o) h in
     let same : (c, name_found t.value (is_inner c name) o) ≡ z = ok_same (c, name_found t.value (is_inner c name) o) z t.last in
     spot_named o t.value (is_inner c name) r (ap (λ (x : Context × Found). x.1.spot) same ∙ e)
 
@@ -166,6 +166,6 @@ pub record Operated (c : Context) (tree : Tree) (z : Context × Found) : Type 0 
 
 pub valued_operated : (tree : Tree) (c : Context) (answer : With Found) (z : Context × Found) → ((d : Context × Found) → answer ≡ Ok d → Rests c tree d) → valued tree answer ≡ Ok z → Operated c tree z
 valued_operated tree c answer z h q =
-    let d = came answer (λ d. valued_from tree d.0 d.1) z q in
+    let d = came answer q in
     let l = (h d.value d.is).line in
     record { comes = valued_comes tree c answer z l (λ x k. (h x k).sits) q; line = l }

@@ -1,5 +1,5 @@
 -- What conversions and operators do to what is known.
-use Rattle.std.proofs.Common.{◌≡◌, ℕ, pos, Ok, refl}
+use Rattle.std.proofs.Common.{◌≡◌, ℕ, pos, refl}
 use Rattle.c_types.specs.declared.types.IntType.{IntType}
 use Rattle.c_types.specs.Types.{PlainType, Int, Pointer, kind_of}
 use Rattle.core_tree.specs.declared.statements.Atom.{Atom}
@@ -31,11 +31,11 @@ grows_read line type spot c = grows_refl c
 
 pub grown_valued_from : (tree : Tree) (b c : Context) (e : Found) → Grows b c → Grown b (valued_from tree c e)
 grown_valued_from tree b c e g =
-    grown_after b (read (line_of tree) c.tags e.typed) (λ typed. Ok (read_value typed e (read_spot (code_line tree) e.typed.type e.spot c)))
+    grown_after b (read (line_of tree) c.tags e.typed)
     (λ typed h. grown_ok b (read_value typed e (read_spot (code_line tree) e.typed.type e.spot c)) (grows_trans b c _ g (grows_read (code_line tree) e.typed.type e.spot c)))
 
 pub grown_valued : (tree : Tree) (b : Context) (answer : With Found) → Grown b answer → Grown b (valued tree answer)
-grown_valued tree b answer g = grown_then b answer (λ d. valued_from tree d.0 d.1) g (λ d h. grown_valued_from tree b d.0 d.1 h)
+grown_valued tree b answer g = grown_then b g (λ d h. grown_valued_from tree b d.0 d.1 h)
 
 pub grows_convert_integer : (line : ℕ) (ty source : IntType) (a : Atom) (c : Context) → Grows c (convert_integer line ty source a c).0
 unfolding convert_integer
