@@ -1,29 +1,27 @@
 -- What elaborating an expression does to what is known.
-use Rattle.std.proofs.Common.{ℕ, true, false, List, [], ◌∷◌, Option, Some, None}
+use Rattle.std.proofs.Common.{ℕ, true, false, List, Option, Some, None}
 use Rattle.c_types.specs.Types.{PlainType, PlainTypes, Void}
-use Rattle.core_tree.specs.declared.statements.Atom.TheVariants as atom
 use Rattle.c_tree.specs.declared.operator.UnaryOp.TheVariants as u
 use Rattle.c_tree.specs.declared.operator.BinaryOp.TheVariants as b
 use Rattle.c_tree.specs.declared.operator.AssignOp.TheVariants as a
 use Rattle.c_tree.specs.Words as w
 use Rattle.c_tree.specs.Forms as f
 use Rattle.c_tree.specs.Tree.{Tree, Trees, Leaf, At, Node, none, ◌▹◌}
-use Rattle.c_decls.specs.declared.refusal.TypeKind.TheVariants.{Operands}
 use Rattle.c_decls.specs.Refusals.{Checked}
 use Rattle.c_decls.specs.ScopeList.{found as declaration}
 use Rattle.c_decls.specs.Named.{PlainNamed}
-use Rattle.c_decls.specs.Typed.{PlainTyped, is_record, constant}
+use Rattle.c_decls.specs.Typed.{PlainTyped, is_record}
 use Rattle.c_decls.specs.TypeRules.{address}
 use Rattle.c_decls.specs.PlaceRules.{held_place}
 use Rattle.c_decls.specs.Callees.{Callee, NoFunction, named, called, call}
 use Rattle.c_decls.specs.TypeNames as names
-use Rattle.c_decls.specs.Expressions.{line_of, int_constant, char_constant, joined, string, first_literal, typed, typename}
+use Rattle.c_decls.specs.Expressions.{line_of, joined, string, first_literal, typed, typename}
 use Rattle.elaboration.specs.Context.{Context, With, asked, told, new_label}
-use Rattle.elaboration.specs.Conversions.{Found, Value, Unknown, found_as, valued_as, atom_in, valued}
-use Rattle.elaboration.specs.Calls.{Argument, types_of, first_type, rest_types, argument_from, call_named}
-use Rattle.elaboration.specs.Rules.{constant_found, name_found, is_inner, literal_found, left_operand, and_then, or_else, choose, type_ahead, choose_first}
+use Rattle.elaboration.specs.Conversions.{Found, valued}
+use Rattle.elaboration.specs.Calls.{Argument, types_of, first_type, rest_types, argument_from}
+use Rattle.elaboration.specs.Rules.{left_operand, and_then, or_else, choose, type_ahead, choose_first}
 use Rattle.elaboration.specs.Assignments.{record_assigned, scalar_assigned, old_value}
-use Rattle.elaboration.specs.Expressions.{name_answer, literal_answer, unevaluated, address_answer, changing, comma_answer, callee_name, callee, parameters, format_argument, is_printf, call_answer, found, arguments}
+use Rattle.elaboration.specs.Expressions.{name_answer, literal_answer, unevaluated, address_answer, changing, callee_name, callee, parameters, format_argument, is_printf, call_answer, found, arguments}
 use Rattle.core_soundness.proofs.Growth.{Grows, grows_refl, grows_trans, grows_told}
 use Rattle.core_soundness.proofs.Grown.{Grown, grown_ok, grown_refused, grown_after, grown_then, grown_cond}
 use Rattle.core_soundness.proofs.TypedNames.{typed_after, typename_after}

@@ -14,16 +14,16 @@ use Rattle.c_tree.specs.Forms as f
 use Rattle.c_tree.specs.Tree.{Tree, Trees, At, Node, none, ◌▹◌, count}
 use Rattle.c_decls.specs.declared.typed.Folded.{Folded}
 use Rattle.c_decls.specs.declared.typed.Folded.TheVariants.{Is}
-use Rattle.c_decls.specs.declared.refusal.TypeKind.TheVariants.{Operands, Assignment, NotConstant}
+use Rattle.c_decls.specs.declared.refusal.TypeKind.TheVariants.{Assignment}
 use Rattle.c_decls.specs.Refusals.{refused, then}
 use Rattle.c_decls.specs.Typed.{is_null_constant}
 use Rattle.c_decls.specs.PlaceRules.{unconverted}
-use Rattle.c_decls.specs.Expressions.{line_of, typed}
+use Rattle.c_decls.specs.Expressions.{typed}
 use Rattle.elaboration.specs.Context.{Code, Context, asked, emit, anew}
 use Rattle.elaboration.specs.Conversions.{Found, Fixed, Unknown, Nowhere, Inside, code_line, valued}
 use Rattle.elaboration.specs.Reallocates.{reallocates, opened}
 use Rattle.elaboration.specs.Expressions.{found}
-use Rattle.elaboration.specs.Initializers.{Target, InRegister, InMemory, InStatic, bytes_of, static_integer, static_address, static_pointer, static_scalar, with_bytes, with_pointer, fill_scalar, scalar, fill_record, is_same_place, whole, fill_text, is_character, text, by_text, by_expression, parts_of, takes_braces, is_scalar_type, all_surplus, initialize, initialize_parts}
+use Rattle.elaboration.specs.Initializers.{Target, InRegister, InMemory, InStatic, bytes_of, static_integer, static_address, static_pointer, static_scalar, fill_scalar, scalar, fill_record, is_same_place, whole, fill_text, is_character, text, by_text, by_expression, parts_of, takes_braces, is_scalar_type, all_surplus, initialize, initialize_parts}
 use Rattle.core_soundness.proofs.Agreeing.{valued_agrees}
 use Rattle.core_soundness.proofs.Agreement.{found_agrees}
 use Rattle.core_soundness.proofs.Reached.{Led, led_ok, led_refused, led_after, led_unless, led_barred}

@@ -1,5 +1,5 @@
 -- What initializers do to what is known.
-use Rattle.std.proofs.Common.{◌≡◌, ◌+◌, ℕ, pos, Bool, true, false, not, cond, length, min, take, List, [], ◌∷◌, Option, Some, None, refl, ◌∙◌, subst}
+use Rattle.std.proofs.Common.{◌≡◌, ◌+◌, ℕ, pos, Bool, true, false, not, cond, length, min, List, [], ◌∷◌, Option, Some, None, refl, ◌∙◌, subst}
 use Rattle.c_types.specs.Types.{PlainType, Array, Struct, Union}
 use Rattle.core_tree.specs.declared.program.Start.{Start}
 use Rattle.core_tree.specs.declared.statements.Atom.{Atom}
@@ -7,17 +7,16 @@ use Rattle.core_tree.specs.declared.statements.Atom.TheVariants as atom
 use Rattle.core_tree.specs.declared.statements.StmKind.TheVariants.{Off, Copy, Enter}
 use Rattle.c_tree.specs.Forms as f
 use Rattle.c_tree.specs.Tree.{Tree, Trees, At, Node, none, ◌▹◌, count}
-use Rattle.c_decls.specs.declared.refusal.TypeKind.TheVariants.{Assignment, NotConstant, Operands}
+use Rattle.c_decls.specs.declared.refusal.TypeKind.TheVariants.{Assignment}
 use Rattle.c_decls.specs.ScopeList.{ScopeList}
 use Rattle.c_decls.specs.Refusals.{refused, then}
 use Rattle.c_decls.specs.PlaceRules.{unconverted}
-use Rattle.c_decls.specs.Expressions.{line_of}
 use Rattle.elaboration.specs.Context.{Context, emit, anew}
 use Rattle.elaboration.specs.Conversions.{Found, Local, Memory, code_line, atom_in, valued, convert, write, size_or_zero}
 use Rattle.elaboration.specs.Reallocates.{reallocates, opened, closed}
 use Rattle.elaboration.specs.Rules.{with_literal}
 use Rattle.elaboration.specs.Expressions.{found}
-use Rattle.elaboration.specs.Initializers.{Target, InRegister, InMemory, InStatic, with_bytes, static_scalar, member_place, store_at, fill_scalar, scalar, copy_to, fill_record, is_same_place, whole, fill_text, is_character, text, by_text, by_expression, parts_of, takes_braces, is_scalar_type, all_surplus, initialize, initialize_parts}
+use Rattle.elaboration.specs.Initializers.{Target, InRegister, InMemory, InStatic, static_scalar, member_place, store_at, fill_scalar, scalar, copy_to, fill_record, is_same_place, whole, fill_text, is_character, text, by_text, by_expression, parts_of, takes_braces, is_scalar_type, all_surplus, initialize, initialize_parts}
 use Rattle.core_soundness.proofs.Names.{Safe}
 use Rattle.core_soundness.proofs.Growth.{Grows, grows_refl, grows_trans, grows_emit, grows_pointer, grows_code}
 use Rattle.core_soundness.proofs.Reached.{Led, led_ok, led_refused, led_after, led_unless, led_barred}
@@ -156,8 +155,9 @@ mutual
   initialize_fills (Node f.InitExpr (At line ▹ e ▹ none)) in_scalar type offset t b s = by_expression_fills e line type offset t b s
   initialize_fills (Node (f.InitList trailing) (At line ▹ Node f.Inits inits ▹ none)) in_scalar type offset t b s =
       elim (takes_braces type in_scalar) as (λ k. Led (Fills t b) (cond k (initialize_parts line inits (is_scalar_type type) (parts_of b (count inits) type offset) t b) (then (all_surplus inits b) (λ d. refused Assignment line)))) [
-      | true ↦ parts_fill inits line (is_scalar_type type) (parts_of b (count inits) type offset) t b s
-      | false ↦ led_after (Fills t b) (all_surplus inits b) (λ d h. led_refused (Fills t b)) ]
+        | true ↦ parts_fill inits line (is_scalar_type type) (parts_of b (count inits) type offset) t b s
+        | false ↦ led_after (Fills t b) (all_surplus inits b) (λ d h. led_refused (Fills t b))
+      ]
   initialize_fills tree in_scalar type offset t b s = led_refused (Fills t b)
 
   parts_fill : (inits : Trees) (line : ℕ) (in_scalar : Bool) (parts : List (PlainType × ℕ)) (t : Target) (b : Context) → Safe b.scopes → Led (Fills t b) (initialize_parts line inits in_scalar parts t b)

@@ -1,11 +1,10 @@
 -- What expressions make: at most six for each word.
-use Rattle.std.proofs.Common.{◌≡◌, ◌+◌, ◌*◌, ℕ, Bool, true, false, cond, nat_lt, length, List, [], ◌∷◌, ◌++◌, Option, Some, None, unwrap_or, Ok, refl, sym, subst, arith, ltb-false}
+use Rattle.std.proofs.Common.{◌≡◌, ◌+◌, ◌*◌, ℕ, Bool, true, false, cond, nat_lt, length, List, [], Option, Some, None, unwrap_or, Ok, refl, sym, subst, arith, ltb-false}
 use Rattle.std.specs.Prelude.{IfSome}
 use Rattle.hs_base.specs.Place.{block_size}
 use Rattle.c_types.specs.declared.types.IntType.TheVariants as i
 use Rattle.c_types.specs.Types.{PlainType, PlainTypes, Void, Int, Array}
 use Rattle.c_types.specs.TagTable.{TagTable}
-use Rattle.core_tree.specs.declared.statements.Atom.TheVariants as atom
 use Rattle.core_tree.specs.Sound.{IsShort}
 use Rattle.c_tree.specs.declared.operator.UnaryOp.TheVariants as u
 use Rattle.c_tree.specs.declared.operator.BinaryOp.TheVariants as b
@@ -17,23 +16,23 @@ use Rattle.c_tree.specs.Grammar.{assign_level, shape}
 use Rattle.c_tree.specs.Tree.{Tree, Trees, Leaf, At, Node, none, ◌▹◌, count}
 use Rattle.c_decls.specs.declared.built_in.BuiltIn.{BuiltIn}
 use Rattle.c_decls.specs.declared.built_in.BuiltIn.TheVariants as bi
-use Rattle.c_decls.specs.declared.refusal.TypeKind.TheVariants.{Operands, StaticTooLarge, TypeTooLarge}
+use Rattle.c_decls.specs.declared.refusal.TypeKind.TheVariants.{StaticTooLarge, TypeTooLarge}
 use Rattle.c_decls.specs.Named as n
 use Rattle.c_decls.specs.Named.{PlainNamed}
 use Rattle.c_decls.specs.Refusals.{Checked, then, unless}
 use Rattle.c_decls.specs.ScopeList.{found as declaration}
-use Rattle.c_decls.specs.Typed.{PlainTyped, is_record, constant, place}
+use Rattle.c_decls.specs.Typed.{PlainTyped, is_record, place}
 use Rattle.c_decls.specs.TypeRules.{address}
 use Rattle.c_decls.specs.PlaceRules.{held_place}
 use Rattle.c_decls.specs.Callees.{Callee, Prints, NoFunction, named, called, call, built_in_called, callee_at}
 use Rattle.c_decls.specs.TypeNames as names
-use Rattle.c_decls.specs.Expressions.{line_of, int_constant, char_constant, joined, string, literal, first_literal, typed, typename}
-use Rattle.elaboration.specs.Context.{Context, With, asked, told, new_label, literal_object}
-use Rattle.elaboration.specs.Conversions.{Found, Value, Unknown, found_as, valued_as, atom_in, valued}
-use Rattle.elaboration.specs.Calls.{Argument, types_of, first_type, rest_types, argument_from, built_in_at, call_named}
-use Rattle.elaboration.specs.Rules.{constant_found, name_found, is_inner, with_static, with_literal, literal_found, left_operand, and_then, or_else, choose, type_ahead, choose_first}
+use Rattle.c_decls.specs.Expressions.{line_of, joined, string, literal, first_literal, typed, typename}
+use Rattle.elaboration.specs.Context.{Context, With, asked, told, new_label}
+use Rattle.elaboration.specs.Conversions.{Found, valued}
+use Rattle.elaboration.specs.Calls.{Argument, types_of, first_type, rest_types, argument_from, built_in_at}
+use Rattle.elaboration.specs.Rules.{with_static, with_literal, left_operand, and_then, or_else, choose, type_ahead, choose_first}
 use Rattle.elaboration.specs.Assignments.{record_assigned, scalar_assigned, old_value}
-use Rattle.elaboration.specs.Expressions.{name_answer, literal_answer, unevaluated, address_answer, changing, comma_answer, callee_name, callee, parameters, format_argument, is_printf, call_answer, found, arguments}
+use Rattle.elaboration.specs.Expressions.{name_answer, literal_answer, unevaluated, address_answer, changing, callee_name, callee, parameters, format_argument, is_printf, call_answer, found, arguments}
 use Rattle.core_soundness.proofs.Grown.{good, ok_same, never}
 use Rattle.core_soundness.proofs.Agreeing.{came}
 use Rattle.core_soundness.proofs.Reached.{Reached, reached_ok, reached_refused, reached_after, reached_then, Led, led_ok, led_unless}

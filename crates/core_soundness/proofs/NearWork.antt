@@ -7,7 +7,7 @@ use Rattle.core_tree.specs.declared.statements.Atom.TheVariants as atom
 use Rattle.core_tree.specs.declared.statements.UnOp.TheVariants as un
 use Rattle.core_tree.specs.declared.statements.CmpOp.TheVariants as cmp
 use Rattle.core_tree.specs.declared.statements.StmKind.{StmKind}
-use Rattle.core_tree.specs.declared.statements.StmKind.TheVariants.{Set, Conv, Copy, Zero, Load, Loadp, Test, Un, Bin, Cmp, Add, Sub, Off, Diff, Pcmp, Call, Malloc, Calloc, Realloc, Lib, Printf}
+use Rattle.core_tree.specs.declared.statements.StmKind.TheVariants.{Set, Conv, Zero, Load, Loadp, Test, Un, Bin, Cmp, Add, Sub, Off, Diff, Pcmp, Call, Malloc, Calloc, Realloc, Lib, Printf}
 use Rattle.core_tree.specs.Sound.{IsShort}
 use Rattle.c_tree.specs.declared.operator.BinaryOp.{BinaryOp}
 use Rattle.c_tree.specs.declared.operator.BinaryOp.TheVariants as b
@@ -25,10 +25,10 @@ use Rattle.c_decls.specs.Expressions.{line_of}
 use Rattle.c_decls.specs.Typed.{PlainTyped, Operand, Number, PointerTo, operand, read, is_null_constant}
 use Rattle.c_decls.specs.TypeRules.{result_type, unary, binary}
 use Rattle.c_decls.specs.PlaceRules.{cast, choice, dot, arrow, element, assigned, changed}
-use Rattle.elaboration.specs.Context.{Context, With, emit, here, new_label, with_labels, integer_by}
-use Rattle.elaboration.specs.Conversions.{Found, Spot, Local, Memory, Value, Empty, Unknown, Nowhere, found_as, read_spot, read_value, code_line, valued_from, valued, atom_in, holds_all, convert_integer, convert_to, convert, forget, tested, tested_value, write, size_or_zero}
-use Rattle.elaboration.specs.Operations.{working, Working, Calculates, Shifts, Compares, Branches, convert_both, work, on_integers, before_integer, move_pointer, between_pointers, pointer_beside, beside_integer, combine, combined, change, changed_to, member_address, fixed_sum, offset_of, operator_of}
-use Rattle.elaboration.specs.Rules.{set_again, compare_again, at_address, with_value, indexed, member_of, dotted, target_of, pointed, before_number, apply, applied, tells_equal, is_pointer_ahead, ahead, left_operand, between, cast_fixed, cast_to, and_then, and_ends, and_ended, or_else, or_ends, or_ended, chosen_by, choose_first, choose_last, choice_found, chosen}
+use Rattle.elaboration.specs.Context.{Context, With, emit, new_label, with_labels, integer_by}
+use Rattle.elaboration.specs.Conversions.{Found, Spot, Local, Memory, Value, Nowhere, found_as, read_spot, code_line, valued_from, valued, atom_in, holds_all, convert_integer, convert_to, convert, forget, tested, tested_value, write, size_or_zero}
+use Rattle.elaboration.specs.Operations.{working, Working, Calculates, Shifts, Compares, Branches, convert_both, work, on_integers, before_integer, move_pointer, between_pointers, pointer_beside, beside_integer, combine, combined, change, changed_to, member_address, offset_of, operator_of}
+use Rattle.elaboration.specs.Rules.{set_again, compare_again, indexed, dotted, target_of, pointed, before_number, apply, applied, tells_equal, is_pointer_ahead, ahead, left_operand, between, cast_to, and_then, and_ends, and_ended, or_else, or_ended, chosen_by, choose_first, choose_last, chosen}
 use Rattle.elaboration.specs.Assignments.{record_assigned, set_to, scalar_assigned, old_value, change_place, changed_answer, changed_by, one_found, stepped}
 use Rattle.elaboration.specs.Calls.{Argument, argument_from, atom_at, atoms_of, element_layout, built_in_at, lib_name, result_by, printing, with_format, call_built_in, call_of_built_in, call_named}
 use Rattle.core_soundness.proofs.Reached.{Reached, reached_ok, reached_after, reached_then}

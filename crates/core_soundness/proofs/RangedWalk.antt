@@ -24,7 +24,7 @@ use Rattle.c_decls.specs.Callees.{Callee, Takes, NoFunction, called, call}
 use Rattle.c_decls.specs.TypeNames as names
 use Rattle.c_decls.specs.Expressions.{line_of, int_constant, char_constant, joined, first_literal, typed, typename}
 use Rattle.elaboration.specs.Context.{Code, Context, With, asked, told, new_label}
-use Rattle.elaboration.specs.Conversions.{Found, Value, Unknown, Nowhere, found_as, valued_as, atom_in, valued, forget, tested_value, code_line}
+use Rattle.elaboration.specs.Conversions.{Found, Value, Nowhere, found_as, valued_as, atom_in, valued, forget, tested_value, code_line}
 use Rattle.elaboration.specs.Calls.{Argument, atoms_of, types_of, first_type, rest_types, argument_from, call_named}
 use Rattle.elaboration.specs.Rules.{constant_found, tells_equal, is_pointer_ahead, ahead, left_operand, and_then, or_else, choose, type_ahead, chosen_by, choose_first}
 use Rattle.elaboration.specs.Assignments.{record_assigned, scalar_assigned, old_value}

@@ -1,7 +1,7 @@
 -- The types of expressions declare tags alone.
-use Rattle.std.proofs.Common.{ℕ, zero, length, List, [], ◌∷◌, ◌++◌, reverse, Option, Some, None, Ok, subst}
+use Rattle.std.proofs.Common.{ℕ, zero, length, List, [], ◌∷◌, Option, Some, None, Ok, subst}
 use Rattle.c_types.specs.Types as ct
-use Rattle.c_types.specs.Types.{PlainType, first}
+use Rattle.c_types.specs.Types.{PlainType}
 use Rattle.c_types.specs.TagTable.{TagTable}
 use Rattle.c_tree.specs.declared.operator.RecordSort.{RecordSort}
 use Rattle.c_tree.specs.declared.operator.RecordSort.TheVariants as r
@@ -11,18 +11,18 @@ use Rattle.c_tree.specs.Words as w
 use Rattle.c_tree.specs.Forms as f
 use Rattle.c_tree.specs.Tree.{Tree, Trees, Leaf, At, Node, none, ◌▹◌}
 use Rattle.c_tree.specs.Scopes.{name_of}
-use Rattle.c_decls.specs.declared.refusal.TypeKind.TheVariants.{Operands, DeclaredTwice, LeftOut, Incomplete}
+use Rattle.c_decls.specs.declared.refusal.TypeKind.TheVariants.{DeclaredTwice, LeftOut, Incomplete}
 use Rattle.c_decls.specs.Refusals.{Checked}
 use Rattle.c_decls.specs.Named as n
 use Rattle.c_decls.specs.Named.{PlainNamed}
 use Rattle.c_decls.specs.ScopeList as scopes
 use Rattle.c_decls.specs.ScopeList.{ScopeList, Table, found, with_name, tag_name}
-use Rattle.c_decls.specs.Typed.{PlainTyped, read, constant, is_function, is_void}
+use Rattle.c_decls.specs.Typed.{PlainTyped, read, is_function, is_void}
 use Rattle.c_decls.specs.PlaceRules.{held_place, element, dot, arrow, stepped, size, cast, choice, assigned, changed, behind_comma}
 use Rattle.c_decls.specs.TypeRules.{address, unary, binary}
 use Rattle.c_decls.specs.Callees.{named, called, call, no_function}
-use Rattle.c_decls.specs.TypeNames.{Context, PointerTo, ArrayOf, FunctionOf, word_type, record_type, same_sort, tag_named, enum_named, type_named, special_type, specs_type, array_length, with_layers, with_param_layers, adjusted, with_param, declared_param, with_new_tag}
-use Rattle.c_decls.specs.Expressions.{line_of, Found, answered, wanted, changing, one, two, int_constant, char_constant, joined, string, first_literal, callee, in_new_scope, out_of_scope, typed, values, typename, layers, suffix_layers, suffix_layer, param_types, param_type}
+use Rattle.c_decls.specs.TypeNames.{Context, record_type, same_sort, tag_named, enum_named, type_named, special_type, specs_type, array_length, with_layers, with_param_layers, adjusted, with_param, declared_param, with_new_tag}
+use Rattle.c_decls.specs.Expressions.{line_of, Found, answered, wanted, changing, one, two, joined, string, first_literal, callee, in_new_scope, typed, values, typename, layers, suffix_layers, suffix_layer, param_types, param_type}
 use Rattle.core_soundness.proofs.Names.{More, MoreAll, more_refl, more_trans, with_tag_more}
 use Rattle.core_soundness.proofs.Growth.{Longer}
 use Rattle.core_soundness.proofs.Grown.{ok_same, never}
