@@ -1,14 +1,10 @@
 -- Of which parameters and locals the address was taken stays known behind each tree.
 use Rattle.std.proofs.Common.{◌≡◌, ℕ, Bool, true, false, ◌||◌, nat_eq, List, [], ◌∷◌, Option, Some, None, refl}
 use Rattle.std.specs.List.{list_any}
-use Rattle.c_tree.specs.declared.operator.UnaryOp.TheVariants as u
-use Rattle.c_tree.specs.Forms.{Form}
-use Rattle.c_tree.specs.Forms as f
-use Rattle.c_tree.specs.Places.{Place}
-use Rattle.c_tree.specs.Tree.{Tree, Trees, Node, none, ◌▹◌, count}
-use Rattle.c_tree.specs.Grammar.{shape}
-use Rattle.c_tree.specs.Scopes.{name_among, is_scope, places}
+use Rattle.c_tree.specs.{Forms.Form, Places.Place, Tree.Tree, Tree.Trees, Tree.Node, Tree.none, Tree.◌▹◌, Tree.count, Grammar.shape, Scopes.name_among, Scopes.is_scope, Scopes.places}
 use Rattle.elaboration.specs.Addressed.{Taken, number_of, plain_name, with_number, with_address, with_known, declare, left, left_part, taken, all_taken}
+use Rattle.c_tree.specs.declared.operator.UnaryOp.TheVariants as u
+use Rattle.c_tree.specs.Forms as f
 
 -- a number is one of a list
 abbrev pub Has : List ℕ → ℕ → Type 0

@@ -1,29 +1,13 @@
 -- The type of an expression that is elaborated is the one that its types alone give it.
 use Rattle.std.proofs.Common.{◌≡◌, ◌&&◌, ℕ, pos, Bool, true, false, not, cond, List, Option, Some, Ok, Err, refl, sym, ap, ◌∙◌, subst}
-use Rattle.c_types.specs.declared.types.IntType.TheVariants as i
-use Rattle.c_types.specs.Types.{PlainType}
-use Rattle.c_types.specs.TagTable.{TagTable}
-use Rattle.core_tree.specs.declared.statements.Atom.{Atom}
-use Rattle.core_tree.specs.declared.statements.Atom.TheVariants as atom
-use Rattle.core_tree.specs.declared.statements.StmKind.TheVariants.{Copy}
-use Rattle.c_tree.specs.declared.operator.UnaryOp.{UnaryOp}
-use Rattle.c_tree.specs.declared.operator.UnaryOp.TheVariants as u
-use Rattle.c_tree.specs.declared.operator.BinaryOp.{BinaryOp}
-use Rattle.c_tree.specs.declared.operator.BinaryOp.TheVariants as b
-use Rattle.c_tree.specs.declared.operator.AssignOp.{AssignOp}
-use Rattle.c_tree.specs.declared.operator.AssignOp.TheVariants as a
-use Rattle.c_tree.specs.Tree.{Tree}
-use Rattle.c_decls.specs.declared.refusal.TypeKind.TheVariants.{NotLvalue}
-use Rattle.c_decls.specs.Refusals.{Checked, then, unless}
-use Rattle.c_decls.specs.Named as n
-use Rattle.c_decls.specs.Named.{PlainNamed}
+use Rattle.c_types.specs.{Types.PlainType, TagTable.TagTable}
+use Rattle.core_tree.specs.{declared.statements.Atom.Atom, declared.statements.StmKind.TheVariants.Copy}
+use Rattle.c_tree.specs.{declared.operator.UnaryOp.UnaryOp, declared.operator.BinaryOp.BinaryOp, declared.operator.AssignOp.AssignOp, Tree.Tree}
+use Rattle.c_decls.specs.{declared.refusal.TypeKind.TheVariants.NotLvalue, Refusals.Checked, Refusals.then, Refusals.unless, Named.PlainNamed}
 use Rattle.c_decls.specs.Typed.{PlainTyped, Operand, Number, PointerTo, Neither, operand, read, is_null_constant, int}
 use Rattle.c_decls.specs.TypeRules.{address, unary, unary_of, binary}
 use Rattle.c_decls.specs.PlaceRules.{held_place, element, dot, arrow, cast, choice, assigned, changed, changed_types, is_written}
-use Rattle.c_decls.specs.Callees.{named}
-use Rattle.c_decls.specs.TypeNames as names
-use Rattle.c_decls.specs.Expressions as types
-use Rattle.c_decls.specs.Expressions.{line_of, answered, wanted, one, two, string, typed}
+use Rattle.c_decls.specs.{Callees.named, Expressions.line_of, Expressions.answered, Expressions.wanted, Expressions.one, Expressions.two, Expressions.string, Expressions.typed}
 use Rattle.elaboration.specs.Context.{Code, Context, With, asked, told, emit, here}
 use Rattle.elaboration.specs.Conversions.{Found, Value, Empty, Unknown, found_as, atom_in, read_spot, read_value, code_line, valued_from, valued, convert, forget, Nowhere, tested_value, size_or_zero}
 use Rattle.elaboration.specs.Operations.{combined, fixed_sum, offset_of, operator_of, changed_to}
@@ -32,6 +16,14 @@ use Rattle.elaboration.specs.Assignments.{record_assigned, set_to, scalar_assign
 use Rattle.elaboration.specs.Expressions.{name_answer, literal_answer, unevaluated, address_answer, changing}
 use Rattle.core_soundness.proofs.Grown.{good, bad, ok_same, never}
 use Rattle.core_soundness.proofs.Quiet.{Quiet, quiet_read, quiet_convert, quiet_tested_value, quiet_write, quiet_before, quiet_combined, quiet_changed, quiet_literal, quiet_compare_again, quiet_chosen_by, quiet_choose_last}
+use Rattle.c_types.specs.declared.types.IntType.TheVariants as i
+use Rattle.core_tree.specs.declared.statements.Atom.TheVariants as atom
+use Rattle.c_tree.specs.declared.operator.UnaryOp.TheVariants as u
+use Rattle.c_tree.specs.declared.operator.BinaryOp.TheVariants as b
+use Rattle.c_tree.specs.declared.operator.AssignOp.TheVariants as a
+use Rattle.c_decls.specs.Named as n
+use Rattle.c_decls.specs.TypeNames as names
+use Rattle.c_decls.specs.Expressions as types
 
 -- what came before an answer
 pub record Came {A B : Type 0} (r : Checked A) (next : A → Checked B) (y : B) : Type 0 where

@@ -1,27 +1,11 @@
 -- The type of an expression that is elaborated is the one that its types alone give it: calls, and all forms.
 use Rattle.std.proofs.Common.{◌≡◌, ◌+◌, ℕ, Bool, true, false, cond, List, [], ◌∷◌, length, Option, Some, None, Ok, Err, refl, sym, ap, ◌∙◌, subst}
-use Rattle.c_types.specs.declared.types.IntType.TheVariants as i
-use Rattle.c_types.specs.Types as ct
-use Rattle.c_types.specs.Types.{PlainType, PlainTypes, Void, Int, Pointer, Array}
-use Rattle.c_types.specs.TagTable.{TagTable}
-use Rattle.core_tree.specs.declared.statements.Atom.TheVariants as atom
-use Rattle.c_tree.specs.declared.operator.UnaryOp.TheVariants as u
-use Rattle.c_tree.specs.declared.operator.BinaryOp.TheVariants as b
-use Rattle.c_tree.specs.declared.operator.AssignOp.TheVariants as a
-use Rattle.c_tree.specs.Words as w
-use Rattle.c_tree.specs.Forms as f
+use Rattle.c_types.specs.{Types.PlainType, Types.PlainTypes, Types.Void, Types.Int, Types.Pointer, Types.Array, TagTable.TagTable}
 use Rattle.c_tree.specs.Tree.{Tree, Trees, Leaf, At, Node, none, ◌▹◌}
-use Rattle.c_decls.specs.declared.refusal.TypeKind.TheVariants.{TypeTooLarge}
-use Rattle.c_decls.specs.Refusals.{Checked, then, unless}
-use Rattle.c_decls.specs.ScopeList.{found as declaration}
-use Rattle.c_decls.specs.Named.{PlainNamed}
-use Rattle.c_decls.specs.Typed.{PlainTyped, place, value, is_record, constant}
-use Rattle.c_decls.specs.TypeRules.{address, unary, binary}
+use Rattle.c_decls.specs.{declared.refusal.TypeKind.TheVariants.TypeTooLarge, Refusals.Checked, Refusals.then, Refusals.unless, ScopeList.found as declaration, Named.PlainNamed}
+use Rattle.c_decls.specs.{Typed.PlainTyped, Typed.place, Typed.value, Typed.is_record, Typed.constant, TypeRules.address, TypeRules.unary, TypeRules.binary}
 use Rattle.c_decls.specs.PlaceRules.{element, dot, arrow, cast, choice, assigned, changed, behind_comma}
-use Rattle.c_decls.specs.PlaceRules as rules
 use Rattle.c_decls.specs.Callees.{Callee, Takes, Prints, NoFunction, called, call, no_function}
-use Rattle.c_decls.specs.TypeNames as names
-use Rattle.c_decls.specs.Expressions as types
 use Rattle.c_decls.specs.Expressions.{line_of, answered, wanted, one, two, calling, int_constant, char_constant, joined, literal, first_literal, typed, values, typename}
 use Rattle.elaboration.specs.Context.{Code, Context, With, asked, told, new_label}
 use Rattle.elaboration.specs.Conversions.{Found, Unknown, found_as, valued_as, valued}
@@ -29,9 +13,19 @@ use Rattle.elaboration.specs.Calls.{Argument, types_of, first_type, rest_types, 
 use Rattle.elaboration.specs.Rules.{constant_found, left_operand, and_then, or_else, choose, type_ahead, choose_first}
 use Rattle.elaboration.specs.Assignments.{record_assigned, scalar_assigned, old_value, stepped}
 use Rattle.elaboration.specs.Expressions.{changing, comma_answer, callee_name, callee, parameters, format_argument, is_printf, call_answer, found, arguments}
-use Rattle.core_soundness.proofs.Grown.{good, bad, ok_same, never}
-use Rattle.core_soundness.proofs.Quiet.{quiet_read, quiet_tested_value, quiet_argument, quiet_call}
+use Rattle.core_soundness.proofs.{Grown.good, Grown.bad, Grown.ok_same, Grown.never, Quiet.quiet_read, Quiet.quiet_tested_value, Quiet.quiet_argument, Quiet.quiet_call}
 use Rattle.core_soundness.proofs.Agreeing.{came, Ruled, ruled, Agreed, finish, answered_is, wanted_is, one_is, two_is, valued_from_rule, valued_agrees, changing_agrees, name_agrees, ok_agrees, string_agrees, unevaluated_agrees, indexed_rule, dotted_rule, pointed_rule, address_rule, applied_rule, left_typed, quiet_left, between_rule, cast_rule, and_rule, or_rule, choice_rule, quiet_first, record_rule, scalar_rule, changed_rule, stepped_alike, stepped_rule}
+use Rattle.c_types.specs.declared.types.IntType.TheVariants as i
+use Rattle.c_types.specs.Types as ct
+use Rattle.core_tree.specs.declared.statements.Atom.TheVariants as atom
+use Rattle.c_tree.specs.declared.operator.UnaryOp.TheVariants as u
+use Rattle.c_tree.specs.declared.operator.BinaryOp.TheVariants as b
+use Rattle.c_tree.specs.declared.operator.AssignOp.TheVariants as a
+use Rattle.c_tree.specs.Words as w
+use Rattle.c_tree.specs.Forms as f
+use Rattle.c_decls.specs.PlaceRules as rules
+use Rattle.c_decls.specs.TypeNames as names
+use Rattle.c_decls.specs.Expressions as types
 
 -- what is called
 

@@ -2,36 +2,24 @@
 use Rattle.std.proofs.Common.{◌≡◌, ◌+◌, ℕ, Bool, true, false, cond, List, Option, Ok, subst}
 use Rattle.c_types.specs.Types.{PlainType, Void}
 use Rattle.core_tree.specs.declared.statements.Atom.{Atom}
-use Rattle.c_tree.specs.declared.operator.UnaryOp.TheVariants as u
-use Rattle.c_tree.specs.declared.operator.BinaryOp.TheVariants as b
-use Rattle.c_tree.specs.declared.operator.AssignOp.{AssignOp}
-use Rattle.c_tree.specs.declared.operator.AssignOp.TheVariants as a
-use Rattle.c_tree.specs.Words as w
-use Rattle.c_tree.specs.Forms as f
-use Rattle.c_tree.specs.Tree.{Tree, Trees, Leaf, At, Node, none, ◌▹◌}
-use Rattle.c_decls.specs.Refusals.{Checked}
-use Rattle.c_decls.specs.Named.{PlainNamed}
-use Rattle.c_decls.specs.Typed.{PlainTyped, is_record, constant}
-use Rattle.c_decls.specs.TypeRules.{binary}
-use Rattle.c_decls.specs.PlaceRules.{choice, assigned, changed}
+use Rattle.c_tree.specs.{declared.operator.AssignOp.AssignOp, Tree.Tree, Tree.Trees, Tree.Leaf, Tree.At, Tree.Node, Tree.none, Tree.◌▹◌}
+use Rattle.c_decls.specs.{Refusals.Checked, Named.PlainNamed, Typed.PlainTyped, Typed.is_record, Typed.constant, TypeRules.binary, PlaceRules.choice, PlaceRules.assigned, PlaceRules.changed}
 use Rattle.c_decls.specs.Callees.{Callee, call}
-use Rattle.c_decls.specs.TypeNames as names
 use Rattle.c_decls.specs.Expressions.{line_of, int_constant, char_constant, joined, first_literal, typed, typename}
-use Rattle.elaboration.specs.Context.{Code, Context, asked, told, new_label}
-use Rattle.elaboration.specs.Conversions.{Found, atom_in, valued_from, valued}
+use Rattle.elaboration.specs.{Context.Code, Context.Context, Context.asked, Context.told, Context.new_label, Conversions.Found, Conversions.atom_in, Conversions.valued_from, Conversions.valued}
 use Rattle.elaboration.specs.Calls.{Argument, types_of}
 use Rattle.elaboration.specs.Rules.{constant_found, left_operand, and_then, and_ended, or_else, or_ended, choose, type_ahead, choose_first, chosen}
 use Rattle.elaboration.specs.Assignments.{record_assigned, scalar_assigned, old_value, changed_answer, changed_by, one_found, stepped}
 use Rattle.elaboration.specs.Expressions.{unevaluated, changing, comma_answer, callee, callee_name, parameters, call_answer, found, arguments}
-use Rattle.core_soundness.proofs.Growth.{Grows, grows_refl, grows_trans, grows_told}
-use Rattle.core_soundness.proofs.Grown.{ok_same, never}
-use Rattle.core_soundness.proofs.Working.{grown_valued}
-use Rattle.core_soundness.proofs.Ruling.{grows_left}
-use Rattle.core_soundness.proofs.ExprGrows.{found_grows}
-use Rattle.core_soundness.proofs.TypedNames.{typename_after}
-use Rattle.core_soundness.proofs.Agreeing.{came}
-use Rattle.core_soundness.proofs.Settled.{grows_settled}
+use Rattle.core_soundness.proofs.{Growth.Grows, Growth.grows_refl, Growth.grows_trans, Growth.grows_told, Grown.ok_same, Grown.never, Working.grown_valued, Ruling.grows_left, ExprGrows.found_grows}
+use Rattle.core_soundness.proofs.{TypedNames.typename_after, Agreeing.came, Settled.grows_settled}
 use Rattle.core_soundness.proofs.Aiming.{There, there_on, fixed_on, Aimed, name_aimed, string_aimed, valued_aimed, indexed_aimed, dotted_aimed, pointed_aimed, address_aimed, applied_aimed, left_aimed, between_aimed, cast_aimed, settled_convert, settled_combined}
+use Rattle.c_tree.specs.declared.operator.UnaryOp.TheVariants as u
+use Rattle.c_tree.specs.declared.operator.BinaryOp.TheVariants as b
+use Rattle.c_tree.specs.declared.operator.AssignOp.TheVariants as a
+use Rattle.c_tree.specs.Words as w
+use Rattle.c_tree.specs.Forms as f
+use Rattle.c_decls.specs.TypeNames as names
 
 pub value_grew : (e : Tree) (wish : PlainType) (c : Context) (z : Context × Found) → valued e (found e wish c) ≡ Ok z → Grows c z.0
 value_grew e wish c z q = grown_valued e c (found e wish c) (found_grows e wish c c (grows_refl c)) z q

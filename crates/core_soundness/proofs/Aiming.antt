@@ -1,44 +1,27 @@
 -- Fixed addresses are those of objects that are there, at offsets up to their ends (C99 6.6).
 use Rattle.std.proofs.Common.{◌≡◌, ◌≤◌, ◌+◌, ◌*◌, ◌/◌, ◌%◌, ◌&&◌, ◌==◌, ℕ, ℤ, pos, negsuc, neg_ℤ, ◌+ℤ◌, ◌*ℤ◌, Bool, true, false, cond, length, is_some, List, [], ◌∷◌, ◌++◌, slice_get, Option, Some, None, Ok, refl, sym, ap, ◌∙◌, subst, arith}
-use Rattle.std.specs.Prelude.{int_le, nat_le}
-use Rattle.std.specs.Ordering.{int_eq}
-use Rattle.std.specs.Option.{option_or}
+use Rattle.std.specs.{Prelude.int_le, Prelude.nat_le, Ordering.int_eq, Option.option_or}
 use Rattle.std.proofs.lemmas.Bool.{and_parts, leb-true, eq-eqb}
 use Rattle.hs_base.specs.Place.{block_size}
-use Rattle.c_types.specs.declared.layouts.Layout.{Layout}
-use Rattle.c_types.specs.Types as ct
-use Rattle.c_types.specs.Types.{PlainType}
+use Rattle.c_types.specs.{declared.layouts.Layout.Layout, Types.PlainType}
 use Rattle.core_tree.specs.declared.statements.Atom.{Atom}
-use Rattle.core_tree.specs.declared.statements.Atom.TheVariants as atom
-use Rattle.c_tree.specs.declared.operator.UnaryOp.{UnaryOp}
-use Rattle.c_tree.specs.declared.operator.UnaryOp.TheVariants as u
-use Rattle.c_tree.specs.declared.operator.BinaryOp.{BinaryOp}
-use Rattle.c_tree.specs.declared.operator.BinaryOp.TheVariants as b
-use Rattle.c_tree.specs.Tree.{Tree}
-use Rattle.c_decls.specs.declared.refusal.TypeKind.TheVariants.{StaticTooLarge}
-use Rattle.c_decls.specs.declared.typed.Folded.{Folded}
-use Rattle.c_decls.specs.declared.typed.Folded.TheVariants.{Is}
-use Rattle.c_decls.specs.Named as n
-use Rattle.c_decls.specs.Named.{PlainNamed}
-use Rattle.c_decls.specs.ScopeList.{Table, named_in, found_from, found as declaration}
-use Rattle.c_decls.specs.Callees.{named}
+use Rattle.c_tree.specs.{declared.operator.UnaryOp.UnaryOp, declared.operator.BinaryOp.BinaryOp, Tree.Tree}
+use Rattle.c_decls.specs.{declared.refusal.TypeKind.TheVariants.StaticTooLarge, declared.typed.Folded.Folded, declared.typed.Folded.TheVariants.Is, Named.PlainNamed}
+use Rattle.c_decls.specs.{ScopeList.Table, ScopeList.named_in, ScopeList.found_from, ScopeList.found as declaration, Callees.named}
 use Rattle.c_decls.specs.Typed.{PlainTyped, Operand, Number, PointerTo, Neither, operand, read, is_null_constant}
-use Rattle.c_decls.specs.TypeRules.{unary, binary, address}
-use Rattle.c_decls.specs.PlaceRules.{element, dot, arrow, cast}
-use Rattle.c_decls.specs.Expressions.{line_of, string}
+use Rattle.c_decls.specs.{TypeRules.unary, TypeRules.binary, TypeRules.address, PlaceRules.element, PlaceRules.dot, PlaceRules.arrow, PlaceRules.cast, Expressions.line_of, Expressions.string}
 use Rattle.elaboration.specs.Context.{Code, Context, Variable, With, file_variable, literal_object}
 use Rattle.elaboration.specs.Conversions.{Found, Value, Fixed, Unknown, Nowhere, Inside, found_as, atom_in, code_line, read_spot, read_fixed, valued_from, valued, convert, forget, size_or_zero}
 use Rattle.elaboration.specs.Operations.{variable_size, literal_size, static_size, moved_by, moved_times, fixed_sum_of, fixed_sum, combined, offset_of, member_address}
 use Rattle.elaboration.specs.Rules.{object_found, built_in_found, name_found, is_inner, with_static, with_literal, literal_found, indexed, dotted, target_of, pointed, before_number, apply, applied, tells_equal, is_pointer_ahead, ahead, left_operand, between, cast_to}
 use Rattle.elaboration.specs.Expressions.{name_answer, literal_answer, address_answer}
-use Rattle.core_soundness.proofs.Names.{more_refl}
-use Rattle.core_soundness.proofs.Growth.{Longer, Counted, Grows, grows_refl}
-use Rattle.core_soundness.proofs.Grown.{ok_same}
-use Rattle.core_soundness.proofs.Agreeing.{came}
-use Rattle.core_soundness.proofs.Owners.{get_last}
-use Rattle.core_soundness.proofs.Operating.{passed}
-use Rattle.core_soundness.proofs.Working.{grows_read, grows_convert, grows_combined, grows_member}
-use Rattle.core_soundness.proofs.Settled.{Settled, grows_settled}
+use Rattle.core_soundness.proofs.{Names.more_refl, Growth.Longer, Growth.Counted, Growth.Grows, Growth.grows_refl, Grown.ok_same, Agreeing.came, Owners.get_last, Operating.passed}
+use Rattle.core_soundness.proofs.{Working.grows_read, Working.grows_convert, Working.grows_combined, Working.grows_member, Settled.Settled, Settled.grows_settled}
+use Rattle.c_types.specs.Types as ct
+use Rattle.core_tree.specs.declared.statements.Atom.TheVariants as atom
+use Rattle.c_tree.specs.declared.operator.UnaryOp.TheVariants as u
+use Rattle.c_tree.specs.declared.operator.BinaryOp.TheVariants as b
+use Rattle.c_decls.specs.Named as n
 
 -- an offset in a static that is there, up to its end
 pub data Aims (vs : List Variable) (ls : List (List ℕ)) (g n : ℕ) : Type 0 where

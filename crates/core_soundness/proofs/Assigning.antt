@@ -1,31 +1,24 @@
 -- The sorts of what assignments write (C99 6.5.2.4, 6.5.3.1, 6.5.16).
 use Rattle.std.proofs.Common.{◌≡◌, ◌≤◌, ◌&&◌, ℕ, pos, Bool, true, false, not, cond, None, Ok, refl, sym, ap, ◌∙◌, subst}
-use Rattle.c_types.specs.declared.types.IntType.{IntType}
-use Rattle.c_types.specs.Types as types
-use Rattle.c_types.specs.Types.{PlainType}
-use Rattle.c_types.specs.TagTable.{TagTable}
-use Rattle.core_tree.specs.declared.statements.Atom.{Atom}
-use Rattle.core_tree.specs.declared.statements.StmKind.TheVariants.{Copy}
-use Rattle.core_tree.specs.Sorts.{Pointer}
-use Rattle.c_tree.specs.declared.operator.AssignOp.{AssignOp}
-use Rattle.c_tree.specs.Tree.{Tree}
+use Rattle.c_types.specs.{declared.types.IntType.IntType, Types.PlainType, TagTable.TagTable}
+use Rattle.core_tree.specs.{declared.statements.Atom.Atom, declared.statements.StmKind.TheVariants.Copy, Sorts.Pointer}
+use Rattle.c_tree.specs.{declared.operator.AssignOp.AssignOp, Tree.Tree}
 use Rattle.c_decls.specs.declared.refusal.TypeKind.TheVariants.{NotLvalue, Incomplete, Operands, Assignment}
 use Rattle.c_decls.specs.Refusals.{Checked, then, unless}
 use Rattle.c_decls.specs.Typed.{PlainTyped, Operand, Number, PointerTo, Neither, operand, value, is_scalar, is_record, is_array, is_void, same, has_no_size, read}
 use Rattle.c_decls.specs.PlaceRules.{unconverted, unconverted_types, converts, is_written, changed, changed_types, assigned}
-use Rattle.c_decls.specs.PlaceRules as places
 use Rattle.c_decls.specs.Expressions.{line_of}
 use Rattle.elaboration.specs.Context.{Context, emit}
 use Rattle.elaboration.specs.Conversions.{Found, Empty, Unknown, found_as, atom_in, code_line, convert, write, valued_from, size_or_zero}
 use Rattle.elaboration.specs.Operations.{changed_to, operator_of}
 use Rattle.elaboration.specs.Assignments.{record_assigned, set_to, scalar_assigned, old_value, change_place, changed_answer, changed_by, one_found, stepped}
 use Rattle.core_soundness.specs.Worlds.{World, world, Holds, Held, StandsAs, Stands}
-use Rattle.core_soundness.proofs.Grown.{good, ok_same, never}
-use Rattle.core_soundness.proofs.Agreeing.{came, valued_from_rule}
-use Rattle.core_soundness.proofs.Going.{Goes, goes_trans, goes_emit}
+use Rattle.core_soundness.proofs.{Grown.good, Grown.ok_same, Grown.never, Agreeing.came, Agreeing.valued_from_rule, Going.Goes, Going.goes_trans, Going.goes_emit}
 use Rattle.core_soundness.proofs.Sorting.{Lands, Comes, held_grew, stands_as_grew, stands_grew, Converting, converted, write_goes, old_brings, valued_from_comes}
 use Rattle.core_soundness.proofs.Operating.{passed, kept_test, behind_test, unbarred, moved_is, changed_brings}
 use Rattle.core_soundness.proofs.Landing.{in_memory, not_false}
+use Rattle.c_types.specs.Types as types
+use Rattle.c_decls.specs.PlaceRules as places
 
 -- what converts
 pub converting_of : (type : PlainType) (e : PlainTyped) → unconverted type e ≡ None → Converting (operand type) (operand e.type)

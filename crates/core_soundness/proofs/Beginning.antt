@@ -1,37 +1,22 @@
 -- Where a body begins, what is known of addresses is what is known of its parameters.
 use Rattle.std.proofs.Common.{◌≡◌, ◌≤◌, ◌+◌, ℕ, Bool, true, false, cond, nat_lt, length, reverse, List, [], ◌∷◌, ◌++◌, Option, Some, None, IsSome, Ok, refl, sym, ap, ◌∙◌, subst, arith}
 use Rattle.std.specs.Option.{option_or}
-use Rattle.c_types.specs.Types as types
 use Rattle.c_types.specs.Types.{PlainType, PlainTypes}
-use Rattle.c_tree.specs.Forms.{Form}
+use Rattle.c_tree.specs.{Forms.Form, Tree.Tree, Tree.Trees, Tree.Leaf, Tree.At, Tree.Node, Tree.none, Tree.◌▹◌, Grammar.shape}
+use Rattle.c_tree.specs.Scopes.{is_scope, leads_to_name, suffix_params, first_list, params_of, params_among}
+use Rattle.c_decls.specs.{Named.PlainNamed, ScopeList.Table, ScopeList.named_in, ScopeList.found_from, ScopeList.first_or, TypeNames.Layer, TypeNames.PointerTo, TypeNames.FunctionOf}
+use Rattle.c_decls.specs.Expressions.{line_of}
+use Rattle.elaboration.specs.{Addressed.Taken, Addressed.nothing_taken, Addressed.left, Addressed.taken, Addressed.all_taken, Addressed.params_taken, Context.Context, Context.entered}
+use Rattle.elaboration.specs.Declarators.{left_params, layers, suffix_layers, suffix_layer, params}
+use Rattle.elaboration.specs.{Declarations.function_number, Declarations.with_function, Declarations.declared_function, Externals.body_begun, Locals.declared_as}
+use Rattle.core_soundness.specs.{Worlds.World, Worlds.world, Worlds.FileFits, Worlds.TableFits, Spoken.is_register}
+use Rattle.core_soundness.proofs.{Grown.ok_same, Agreeing.came, Parameters.functions, Parameters.functions_joined, Parameters.functions_one, Parameters.functions_reversed}
+use Rattle.core_soundness.proofs.{Formed.IsLayer, Formed.IsSuffix, Formed.AreSuffixes, Formed.Shaped, Formed.Formed, Formed.AllFormed, InStep.Numbered, InStep.Follows, InStep.InStep}
+use Rattle.core_soundness.proofs.{Each.commas_each, Outside.file_register, Leaving.file_none, Counting.counts, Counting.declared_counts, Counting.suffixes_counts, StepsLayers.params_stepped}
+use Rattle.c_types.specs.Types as types
 use Rattle.c_tree.specs.Forms as f
 use Rattle.c_tree.specs.Places as p
-use Rattle.c_tree.specs.Tree.{Tree, Trees, Leaf, At, Node, none, ◌▹◌}
-use Rattle.c_tree.specs.Grammar.{shape}
-use Rattle.c_tree.specs.Scopes.{is_scope, leads_to_name, suffix_params, first_list, params_of, params_among}
 use Rattle.c_decls.specs.Named as n
-use Rattle.c_decls.specs.Named.{PlainNamed}
-use Rattle.c_decls.specs.ScopeList.{Table, named_in, found_from, first_or}
-use Rattle.c_decls.specs.TypeNames.{Layer, PointerTo, FunctionOf}
-use Rattle.c_decls.specs.Expressions.{line_of}
-use Rattle.elaboration.specs.Addressed.{Taken, nothing_taken, left, taken, all_taken, params_taken}
-use Rattle.elaboration.specs.Context.{Context, entered}
-use Rattle.elaboration.specs.Declarators.{left_params, layers, suffix_layers, suffix_layer, params}
-use Rattle.elaboration.specs.Declarations.{function_number, with_function, declared_function}
-use Rattle.elaboration.specs.Externals.{body_begun}
-use Rattle.elaboration.specs.Locals.{declared_as}
-use Rattle.core_soundness.specs.Worlds.{World, world, FileFits, TableFits}
-use Rattle.core_soundness.specs.Spoken.{is_register}
-use Rattle.core_soundness.proofs.Grown.{ok_same}
-use Rattle.core_soundness.proofs.Agreeing.{came}
-use Rattle.core_soundness.proofs.Parameters.{functions, functions_joined, functions_one, functions_reversed}
-use Rattle.core_soundness.proofs.Formed.{IsLayer, IsSuffix, AreSuffixes, Shaped, Formed, AllFormed}
-use Rattle.core_soundness.proofs.InStep.{Numbered, Follows, InStep}
-use Rattle.core_soundness.proofs.Each.{commas_each}
-use Rattle.core_soundness.proofs.Outside.{file_register}
-use Rattle.core_soundness.proofs.Leaving.{file_none}
-use Rattle.core_soundness.proofs.Counting.{counts, declared_counts, suffixes_counts}
-use Rattle.core_soundness.proofs.StepsLayers.{params_stepped}
 
 -- what is known of the parameters of a list that ended: how many they are, of which the address is taken, and their names
 pub record BegunAt (o : Option Trees) (x : ℕ × List ℕ × Table) : Type 0 where

@@ -1,13 +1,10 @@
 -- Code of loops and switches.
 use Rattle.std.proofs.Common.{◌≡◌, ◌⊎◌, ◌≤◌, ◌<◌, ◌+◌, ℕ, ℤ, map, List, [], ◌∷◌, ◌++◌, refl, sym, ap, ◌∙◌, subst, arith, inl, inr, ⊎_elim}
-use Rattle.core_tree.specs.declared.statements.Atom.{Atom}
-use Rattle.core_tree.specs.declared.statements.StmKind.TheVariants.{Jump, Case, Loop}
-use Rattle.elaboration.specs.Context.{Piece, Does, Here}
-use Rattle.elaboration.specs.Statements.{does}
+use Rattle.core_tree.specs.{declared.statements.Atom.Atom, declared.statements.StmKind.TheVariants.Jump, declared.statements.StmKind.TheVariants.Case, declared.statements.StmKind.TheVariants.Loop}
+use Rattle.elaboration.specs.{Context.Piece, Context.Does, Context.Here, Statements.does}
 use Rattle.core_soundness.proofs.Flow.{Marks, Targets, Places, Placed, steps, Flows, Agree, agree_trans, steps_append, targets_append, targets_map, places_append, places_map, placed_left, placed_right, placed_below, flows_append, flows_agree, marked}
 use Rattle.core_soundness.proofs.Fragments.{Way, way_on, way_back, IsWay, Stands, AreEarlier, leads_less, leads_agree, Entered, ArePlaced, Made, Fragment, joined, with_ways, within, closed_by, stm_at}
-use Rattle.core_soundness.proofs.Parts.{one_way, loop_fragment, looped_code}
-use Rattle.core_soundness.proofs.Walking.{Among, IsCase}
+use Rattle.core_soundness.proofs.{Parts.one_way, Parts.loop_fragment, Parts.looped_code, Walking.Among, Walking.IsCase}
 
 -- a loop with a start before its head, a test, a body, and a step behind the label of `continue`; the step was made before
 -- the body

@@ -1,17 +1,11 @@
 -- What the flow of pieces says of the body that they resolve to.
 use Rattle.std.proofs.Common.{◌≡◌, ◌⊎◌, ◌<◌, ◌+◌, ◌-◌, ℕ, zero, suc, Bool, true, false, cond, nat_eq, List, [], ◌∷◌, ◌++◌, length, Option, Some, option_map, slice_get, slice_index_or, All, Contains, refl, sym, ap, ◌∙◌, subst, arith, inl, inr, ⊎_elim, eqb-true}
-use Rattle.std.proofs.lemmas.List.Elements.{All-nil, All-cons}
-use Rattle.std.proofs.lemmas.Bool.{false≢true, eqb-false}
-use Rattle.core_tree.specs.declared.statements.Atom.{Atom}
-use Rattle.core_tree.specs.declared.statements.Stm.{Stm}
-use Rattle.core_tree.specs.declared.statements.LibName.{LibName}
-use Rattle.core_tree.specs.declared.statements.LibName.TheVariants.{Exit, Abort}
-use Rattle.core_tree.specs.declared.statements.StmKind.{StmKind}
+use Rattle.std.proofs.{lemmas.List.Elements.All-nil, lemmas.List.Elements.All-cons, lemmas.Bool.false≢true, lemmas.Bool.eqb-false}
+use Rattle.core_tree.specs.{declared.statements.Atom.Atom, declared.statements.Stm.Stm, declared.statements.LibName.LibName}
+use Rattle.core_tree.specs.{declared.statements.LibName.TheVariants.Exit, declared.statements.LibName.TheVariants.Abort, declared.statements.StmKind.StmKind}
 use Rattle.core_tree.specs.declared.statements.StmKind.TheVariants.{Jump, Zero, Case, Loop, Lib, Enter, Leave, Return}
-use Rattle.core_tree.specs.Statements.{edges, edges_of_lib}
-use Rattle.core_tree.specs.Sound.{EachStatement, LeadsOn, HasScopes, Opens, start, goes, scopes_after}
-use Rattle.elaboration.specs.Context.{Piece, Does, Here}
-use Rattle.elaboration.specs.Resolving.{Numbers, numbered, atom_by, point_in, body_of}
+use Rattle.core_tree.specs.{Statements.edges, Statements.edges_of_lib, Sound.EachStatement, Sound.LeadsOn, Sound.HasScopes, Sound.Opens, Sound.start, Sound.goes, Sound.scopes_after}
+use Rattle.elaboration.specs.{Context.Piece, Context.Does, Context.Here, Resolving.Numbers, Resolving.numbered, Resolving.atom_by, Resolving.point_in, Resolving.body_of}
 use Rattle.core_soundness.proofs.Flow.{Marks, Target, Targets, Placed, steps, Goes, Flows}
 
 -- what is in a short list

@@ -2,47 +2,32 @@
 use Rattle.std.proofs.Common.{◌≡◌, suc, nat_eq, ◌≤◌, ◌==◌, ◌++◌, ◌&&◌, ℕ, Bool, true, false, not, cond, drop, length, List, [], ◌∷◌, slice_get, unwrap_or, Option, Some, None, Ok, refl, sym, subst, arith, eqb-true, ◌⊎◌, inl, inr}
 use Rattle.std.specs.List.{flat_map}
 use Rattle.std.proofs.lemmas.List.Concat.{flat_map-cons}
-use Rattle.c_types.specs.declared.types.IntType.TheVariants as i
-use Rattle.c_types.specs.Types as types
-use Rattle.c_types.specs.Types.{PlainType, PlainTypes, Void, kind_of}
-use Rattle.c_types.specs.TagTable.{TagTable}
-use Rattle.c_print.specs.declared.piece.Piece.{Piece}
-use Rattle.c_print.specs.declared.piece.Piece.TheVariants as p
-use Rattle.c_print.specs.Pieces.{pieces_of}
+use Rattle.c_types.specs.{Types.PlainType, Types.PlainTypes, Types.Void, Types.kind_of, TagTable.TagTable}
+use Rattle.c_print.specs.{declared.piece.Piece.Piece, Pieces.pieces_of}
 use Rattle.hs_base.specs.Numbers.{width}
-use Rattle.core_tree.specs.declared.statements.Atom.{Atom}
-use Rattle.core_tree.specs.declared.statements.StmKind.{StmKind}
+use Rattle.core_tree.specs.{declared.statements.Atom.Atom, declared.statements.StmKind.StmKind}
 use Rattle.core_tree.specs.declared.statements.StmKind.TheVariants.{Call, Malloc, Calloc, Realloc, Free, Lib, Printf, Enter, Leave}
 use Rattle.core_tree.specs.Sorts.{Sort, Integer, Pointer, lib_takes, lib_gives, piece_takes}
 use Rattle.c_tree.specs.Tree.{Trees}
-use Rattle.c_decls.specs.declared.built_in.BuiltIn.{BuiltIn}
-use Rattle.c_decls.specs.declared.built_in.BuiltIn.TheVariants as b
-use Rattle.c_decls.specs.BuiltIns.{built_ins}
-use Rattle.c_decls.specs.declared.refusal.TypeKind.TheVariants.{ArgumentCount, Format}
-use Rattle.c_decls.specs.IntegerTypes.{promoted}
-use Rattle.c_decls.specs.Refusals.{Checked}
-use Rattle.c_decls.specs.Named as n
-use Rattle.c_decls.specs.Named.{PlainNamed}
-use Rattle.c_decls.specs.ScopeList.{named_in}
-use Rattle.c_decls.specs.Typed.{PlainTyped, operand, value, read}
+use Rattle.c_decls.specs.{declared.built_in.BuiltIn.BuiltIn, BuiltIns.built_ins, declared.refusal.TypeKind.TheVariants.ArgumentCount, declared.refusal.TypeKind.TheVariants.Format}
+use Rattle.c_decls.specs.{IntegerTypes.promoted, Refusals.Checked, Named.PlainNamed, ScopeList.named_in, Typed.PlainTyped, Typed.operand, Typed.value, Typed.read}
 use Rattle.c_decls.specs.PlaceRules.{unconverted, all_convert, length_of}
 use Rattle.c_decls.specs.Callees.{Callee, Takes, Prints, NoFunction, built_in_callee, function_callee, no_function, built_in_named, built_in_called, callee_at, named, called, call, prints, is_format, suit, suits_type}
 use Rattle.c_decls.specs.Expressions.{first_literal}
-use Rattle.elaboration.specs.Context.{Context, emit}
-use Rattle.elaboration.specs.Conversions.{Found, Spot, Unknown, found_as, atom_in}
+use Rattle.elaboration.specs.{Context.Context, Context.emit, Conversions.Found, Conversions.Spot, Conversions.Unknown, Conversions.found_as, Conversions.atom_in}
 use Rattle.elaboration.specs.Calls.{Argument, types_of, atoms_of, atom_at, rest_types, argument_from, lib_name, result_by, pointer_result, with_format, printing, call_built_in, call_of_built_in, call_named, element_layout}
 use Rattle.elaboration.specs.Expressions.{call_answer, parameters as params_of}
 use Rattle.core_soundness.specs.Worlds.{World, world, Holds, HoldAll, Held, StandsAs, Receives, IsPrinted, Fits, type_sort, param_sorts, result_sort}
-use Rattle.core_soundness.proofs.Grown.{good, ok_same, never}
-use Rattle.core_soundness.proofs.Names.{more_refl}
-use Rattle.core_soundness.proofs.Agreeing.{came}
-use Rattle.core_soundness.proofs.Owners.{get_last, get_left}
+use Rattle.core_soundness.proofs.{Grown.good, Grown.ok_same, Grown.never, Names.more_refl, Agreeing.came, Owners.get_last, Owners.get_left}
 use Rattle.core_soundness.proofs.Growing.{Grew, grew_trans, holds_grew, all_grew, pieces_grew}
 use Rattle.core_soundness.proofs.Going.{Goes, goes_refl, goes_trans, goes_emit, Gives, gives_integer, gives_pointer}
 use Rattle.core_soundness.proofs.Sorting.{Apart, Lands, held_grew, Converting, converted}
-use Rattle.core_soundness.proofs.Operating.{passed, kept_test, behind_test, unbarred}
-use Rattle.core_soundness.proofs.Landing.{not_false}
-use Rattle.core_soundness.proofs.Assigning.{converting_of}
+use Rattle.core_soundness.proofs.{Operating.passed, Operating.kept_test, Operating.behind_test, Operating.unbarred, Landing.not_false, Assigning.converting_of}
+use Rattle.c_types.specs.declared.types.IntType.TheVariants as i
+use Rattle.c_types.specs.Types as types
+use Rattle.c_print.specs.declared.piece.Piece.TheVariants as p
+use Rattle.c_decls.specs.declared.built_in.BuiltIn.TheVariants as b
+use Rattle.c_decls.specs.Named as n
 
 -- arguments
 

@@ -4,26 +4,17 @@ use Rattle.std.proofs.lemmas.List.Sums.{sum_by-append}
 use Rattle.std.specs.Prelude.{nat_lt}
 use Rattle.hs_base.specs.Place.{block_size}
 use Rattle.c_types.specs.Types.{PlainType, PlainTypes, Int, Pointer, none, first}
-use Rattle.core_tree.specs.declared.statements.Atom.{Atom}
-use Rattle.core_tree.specs.declared.statements.StmKind.{StmKind}
+use Rattle.core_tree.specs.{declared.statements.Atom.Atom, declared.statements.StmKind.StmKind}
 use Rattle.core_tree.specs.declared.statements.StmKind.TheVariants.{Call, Malloc, Calloc, Realloc, Free, Lib, Printf, Enter, Leave}
-use Rattle.c_decls.specs.declared.refusal.TypeKind.TheVariants.{StaticTooLarge}
-use Rattle.c_decls.specs.Refusals.{then, unless}
-use Rattle.c_decls.specs.declared.built_in.BuiltIn.{BuiltIn}
-use Rattle.c_decls.specs.declared.built_in.BuiltIn.TheVariants as b
-use Rattle.c_decls.specs.Named as n
-use Rattle.c_decls.specs.Named.{PlainNamed}
-use Rattle.elaboration.specs.Context.{Does, Context, emit, literal_object}
-use Rattle.elaboration.specs.Conversions.{Found, atom_in}
+use Rattle.c_decls.specs.{declared.refusal.TypeKind.TheVariants.StaticTooLarge, Refusals.then, Refusals.unless, declared.built_in.BuiltIn.BuiltIn, Named.PlainNamed}
+use Rattle.elaboration.specs.{Context.Does, Context.Context, Context.emit, Context.literal_object, Conversions.Found, Conversions.atom_in}
 use Rattle.elaboration.specs.Calls.{Argument, argument_from, atom_at, atoms_of, element_layout, built_in_at, lib_name, result_by, printing, with_format, call_built_in, call_of_built_in, call_named}
 use Rattle.elaboration.specs.Rules.{with_literal}
-use Rattle.core_soundness.proofs.Flow.{agree_refl}
-use Rattle.core_soundness.proofs.Fragments.{nothing, IsPlain}
-use Rattle.core_soundness.proofs.Names.{more_refl}
-use Rattle.core_soundness.proofs.Owners.{get_left}
+use Rattle.core_soundness.proofs.{Flow.agree_refl, Fragments.nothing, Fragments.IsPlain, Names.more_refl, Owners.get_left}
 use Rattle.core_soundness.proofs.Growth.{Grows, Counted, literal_bytes, grows_refl, grows_trans, grows_emit, grows_integer, grows_pointer}
-use Rattle.core_soundness.proofs.Grown.{Grown, good, ok_same, never}
-use Rattle.core_soundness.proofs.Working.{grows_convert}
+use Rattle.core_soundness.proofs.{Grown.Grown, Grown.good, Grown.ok_same, Grown.never, Working.grows_convert}
+use Rattle.c_decls.specs.declared.built_in.BuiltIn.TheVariants as b
+use Rattle.c_decls.specs.Named as n
 
 -- what changes beside the code
 pub grows_format : (bytes : List ℕ) (c : Context) → Grows c (with_format bytes c)

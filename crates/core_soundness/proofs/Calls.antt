@@ -2,20 +2,14 @@
 use Rattle.std.proofs.Common.{◌≡◌, ◌<◌, ℕ, zero, suc, length, List, [], ◌∷◌, map, unwrap_or, Option, Some, None, slice_get, Ok, refl, sym, ap, ◌∙◌, subst, arith}
 use Rattle.std.proofs.lemmas.List.{length-map}
 use Rattle.c_types.specs.TagTable.{TagTable}
-use Rattle.core_tree.specs.declared.program.Core.{Core}
-use Rattle.core_tree.specs.declared.program.Func.{Func}
-use Rattle.core_tree.specs.declared.statements.Stm.{Stm}
-use Rattle.core_tree.specs.declared.statements.StmKind.{StmKind}
-use Rattle.core_tree.specs.declared.statements.StmKind.TheVariants.{Call}
+use Rattle.core_tree.specs.{declared.program.Core.Core, declared.program.Func.Func, declared.statements.Stm.Stm, declared.statements.StmKind.StmKind, declared.statements.StmKind.TheVariants.Call}
 use Rattle.core_tree.specs.Sound.{EachFunc}
 use Rattle.c_tree.specs.Tree.{Trees}
 use Rattle.elaboration.specs.Context.{Piece, Does, Here, Context, Declared, Walked}
 use Rattle.elaboration.specs.Resolving.{Numbers, numbered, body_of, numbers_of, function_of, definition_of, function_by, core_of}
 use Rattle.elaboration.specs.Elaboration.{elaborated}
 use Rattle.core_soundness.specs.Laws.{CallsInside}
-use Rattle.core_soundness.proofs.Cores.{behind}
-use Rattle.core_soundness.proofs.Mains.{main_number}
-use Rattle.core_soundness.proofs.Texts.{Sane, walked_finished}
+use Rattle.core_soundness.proofs.{Cores.behind, Mains.main_number, Texts.Sane, Texts.walked_finished}
 
 -- the function of a call
 abbrev called : StmKind → Option ℕ

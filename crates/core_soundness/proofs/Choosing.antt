@@ -1,31 +1,26 @@
 -- The sorts of what `&&`, `||` and `?:` give, and of what assignments write (C99 6.5.13 to 6.5.16).
 use Rattle.std.proofs.Common.{◌≡◌, ◌≤◌, ◌+◌, ◌&&◌, ◌||◌, ℕ, pos, Bool, true, false, not, cond, Ok, refl, sym, ap, ◌∙◌, subst}
-use Rattle.c_types.specs.declared.types.IntType.TheVariants as i
-use Rattle.c_types.specs.Types as types
 use Rattle.c_types.specs.Types.{PlainType}
 use Rattle.core_tree.specs.declared.statements.Atom.{Atom}
-use Rattle.core_tree.specs.declared.statements.Atom.TheVariants as atom
-use Rattle.core_tree.specs.declared.statements.CmpOp.TheVariants as cmp
 use Rattle.core_tree.specs.declared.statements.StmKind.TheVariants.{Set, Cmp, Zero, Jump}
 use Rattle.core_tree.specs.Sorts.{Sort, Integer, Pointer}
-use Rattle.c_tree.specs.declared.operator.BinaryOp.TheVariants as bin
 use Rattle.c_tree.specs.Tree.{Tree}
-use Rattle.c_decls.specs.declared.refusal.TypeKind.TheVariants.{Operands}
-use Rattle.c_decls.specs.Refusals.{refused}
+use Rattle.c_decls.specs.{declared.refusal.TypeKind.TheVariants.Operands, Refusals.refused}
 use Rattle.c_decls.specs.Typed.{PlainTyped, Operand, Number, PointerTo, Neither, operand, value, is_scalar, is_void, same}
-use Rattle.c_decls.specs.TypeRules.{binary, logical}
-use Rattle.c_decls.specs.PlaceRules.{choice, choice_types, chosen_pointer}
+use Rattle.c_decls.specs.{TypeRules.binary, TypeRules.logical, PlaceRules.choice, PlaceRules.choice_types, PlaceRules.chosen_pointer}
 use Rattle.elaboration.specs.Context.{Code, Context, emit, here, with_labels, new_label, integer_by}
 use Rattle.elaboration.specs.Conversions.{Found, Value, Empty, Unknown, atom_in, code_line, convert, tested_value}
 use Rattle.elaboration.specs.Rules.{set_again, compare_again, and_then, and_ends, and_ended, or_else, or_ends, or_ended, choice_spot, choice_found, chosen_by, choose_first, choose_last, chosen}
 use Rattle.core_soundness.specs.Worlds.{World, world, Holds, HeldAs, Held, StandsAs, Stands}
-use Rattle.core_soundness.proofs.Grown.{good, ok_same, never}
-use Rattle.core_soundness.proofs.Agreeing.{came}
-use Rattle.core_soundness.proofs.Growing.{holds_grew}
+use Rattle.core_soundness.proofs.{Grown.good, Grown.ok_same, Grown.never, Agreeing.came, Growing.holds_grew}
 use Rattle.core_soundness.proofs.Going.{Goes, goes_refl, goes_trans, goes_emit, goes_here, goes_labels, Gives, gives_on, gives_integer, gives_pointer}
 use Rattle.core_soundness.proofs.Sorting.{Apart, Lands, Comes, HasValue, held_as_grew, Converting, converted, tested_value_gives}
-use Rattle.core_soundness.proofs.Operating.{passed, kept_test, behind_test, beside_is}
-use Rattle.core_soundness.proofs.Landing.{made_comes, integer_made, not_false}
+use Rattle.core_soundness.proofs.{Operating.passed, Operating.kept_test, Operating.behind_test, Operating.beside_is, Landing.made_comes, Landing.integer_made, Landing.not_false}
+use Rattle.c_types.specs.declared.types.IntType.TheVariants as i
+use Rattle.c_types.specs.Types as types
+use Rattle.core_tree.specs.declared.statements.Atom.TheVariants as atom
+use Rattle.core_tree.specs.declared.statements.CmpOp.TheVariants as cmp
+use Rattle.c_tree.specs.declared.operator.BinaryOp.TheVariants as bin
 
 -- a register in hand is written again
 

@@ -1,30 +1,19 @@
 -- What the walk over a text says of its core.
 use Rattle.std.proofs.Common.{◌≡◌, ◌≤◌, ◌<◌, ◌+◌, ℕ, zero, suc, List, [], ◌∷◌, ◌++◌, length, map, sum_by, Some, None, slice_get, Ok, Err, All, refl, sym, ap, ◌∙◌, subst, arith, mul-one}
-use Rattle.std.proofs.lemmas.List.Sums.{sum_by-append, sum_by-cons}
-use Rattle.std.proofs.lemmas.List.{length-map}
+use Rattle.std.proofs.{lemmas.List.Sums.sum_by-append, lemmas.List.Sums.sum_by-cons, lemmas.List.length-map}
 use Rattle.hs_base.specs.Place.{block_size}
 use Rattle.c_types.specs.TagTable.{TagTable}
-use Rattle.core_tree.specs.declared.program.Core.{Core}
-use Rattle.core_tree.specs.declared.program.Func.{Func}
-use Rattle.core_tree.specs.declared.program.Static.{Static}
-use Rattle.core_tree.specs.declared.statements.Stm.{Stm}
-use Rattle.core_tree.specs.declared.statements.StmKind.{StmKind}
+use Rattle.core_tree.specs.{declared.program.Core.Core, declared.program.Func.Func, declared.program.Static.Static, declared.statements.Stm.Stm, declared.statements.StmKind.StmKind}
 use Rattle.core_tree.specs.declared.statements.StmKind.TheVariants.{Call, Lib, Printf, Return}
-use Rattle.core_tree.specs.Statements.{operands, edges}
-use Rattle.core_tree.specs.Sound.{EachFunc, EachStatement, LeadsOn, HasScopes, code_size}
+use Rattle.core_tree.specs.{Statements.operands, Statements.edges, Sound.EachFunc, Sound.EachStatement, Sound.LeadsOn, Sound.HasScopes, Sound.code_size}
 use Rattle.c_tree.specs.Tree.{Trees}
 use Rattle.c_decls.specs.Refusals.{Checked, then}
-use Rattle.elaboration.specs.Context.{Piece, Does, Here, Context, Walked}
-use Rattle.elaboration.specs.Externals.{piece_length}
+use Rattle.elaboration.specs.{Context.Piece, Context.Does, Context.Here, Context.Context, Context.Walked, Externals.piece_length}
 use Rattle.elaboration.specs.Resolving.{Numbers, numbered, atom_by, point_in, body_of, numbers_of, function_of, variable_static, literal_static, core_of}
 use Rattle.elaboration.specs.Elaboration.{walked, elaborated}
 use Rattle.core_soundness.specs.Laws.{HasFlow, HasSizes}
-use Rattle.core_soundness.proofs.Flow.{steps}
-use Rattle.core_soundness.proofs.Fragments.{stm_at}
-use Rattle.core_soundness.proofs.Growth.{variable_bytes, literal_bytes}
-use Rattle.core_soundness.proofs.Bodies.{body_length, inside, ahead, scopes}
-use Rattle.core_soundness.proofs.Grown.{ok_same, never}
-use Rattle.core_soundness.proofs.Texts.{Complete, AreComplete, walked_length, Sane, walked_sane}
+use Rattle.core_soundness.proofs.{Flow.steps, Fragments.stm_at, Growth.variable_bytes, Growth.literal_bytes, Bodies.body_length, Bodies.inside, Bodies.ahead, Bodies.scopes}
+use Rattle.core_soundness.proofs.{Grown.ok_same, Grown.never, Texts.Complete, Texts.AreComplete, Texts.walked_length, Texts.Sane, Texts.walked_sane}
 
 -- the walk behind a core
 pub record Behind (unit : Trees) (core : Core) : Type 0 where

@@ -1,36 +1,26 @@
 -- What declares no parameter and no local, and has no parameter list: specs, and layers with no function among them.
 use Rattle.std.proofs.Common.{◌≡◌, ◌+◌, ℕ, ℤ, pos, ◌+ℤ◌, false, is_some, reverse, List, [], ◌∷◌, ◌++◌, Option, Some, None, Result, Ok, Err, refl, sym, ap, ◌∙◌, arith}
-use Rattle.hs_base.specs.declared.ends.IntKind.TheVariants.{I32}
-use Rattle.hs_base.specs.Numbers.{wrapped}
+use Rattle.hs_base.specs.{declared.ends.IntKind.TheVariants.I32, Numbers.wrapped}
+use Rattle.c_types.specs.{declared.tags.TagError.TagError, Types.PlainType, Types.Int, Types.Struct, Types.Union, TagTable.TagTable, TagTable.completion, TagTable.known}
+use Rattle.c_tree.specs.{declared.operator.RecordSort.RecordSort, Tree.Tree, Tree.Trees, Tree.Leaf, Tree.At, Tree.Node, Tree.none, Tree.◌▹◌, Scopes.name_of}
+use Rattle.c_decls.specs.declared.constant.Constant.{Constant}
+use Rattle.c_decls.specs.{declared.refusal.TypeKind.TheVariants.DeclaredTwice, declared.refusal.TypeKind.TheVariants.Incomplete, declared.refusal.TypeKind.TheVariants.LeftOut, Named.PlainNamed}
+use Rattle.c_decls.specs.ScopeList.{Table, named_in, innermost, with_name, tag_name, after_declaration}
+use Rattle.c_decls.specs.{Refusals.Checked, Refusals.then, Refusals.unless, Typed.is_function, Typed.has_no_size}
+use Rattle.c_decls.specs.TypeNames.{Layer, PointerTo, ArrayOf, FunctionOf, word_type, special_type, array_length, with_layers}
+use Rattle.c_decls.specs.Expressions.{line_of, typed, wanted, constant_from}
+use Rattle.elaboration.specs.{Context.Context, Context.asked, Context.told, Context.entered, Locals.declared_as}
+use Rattle.elaboration.specs.Declarators.{constant, with_type, maybe_name, begun_as, begun, completed_by, complete, ended, with_member, member, enumerator, enum_named, left_params, specs, words_type, tag_type, members, member_names, enumerators, layers, suffix_layers, suffix_layer, params}
+use Rattle.core_soundness.proofs.{Grown.good, Grown.ok_same, Grown.never, Agreeing.came, Operating.passed, Operating.kept_test, Operating.behind_test}
+use Rattle.core_soundness.proofs.Parameters.{functions, functions_joined, functions_one, functions_reversed, not_function}
 use Rattle.c_types.specs.declared.types.IntType.TheVariants as i
-use Rattle.c_types.specs.declared.tags.TagError.{TagError}
 use Rattle.c_types.specs.Types as types
-use Rattle.c_types.specs.Types.{PlainType, Int, Struct, Union}
-use Rattle.c_types.specs.TagTable.{TagTable, completion, known}
-use Rattle.c_tree.specs.declared.operator.RecordSort.{RecordSort}
 use Rattle.c_tree.specs.declared.operator.RecordSort.TheVariants as r
 use Rattle.c_tree.specs.Words as w
 use Rattle.c_tree.specs.Forms as f
-use Rattle.c_tree.specs.Tree.{Tree, Trees, Leaf, At, Node, none, ◌▹◌}
-use Rattle.c_tree.specs.Scopes.{name_of}
-use Rattle.c_decls.specs.declared.constant.Constant.{Constant}
-use Rattle.c_decls.specs.declared.refusal.TypeKind.TheVariants.{DeclaredTwice, Incomplete, LeftOut}
 use Rattle.c_decls.specs.Named as n
-use Rattle.c_decls.specs.Named.{PlainNamed}
-use Rattle.c_decls.specs.ScopeList.{Table, named_in, innermost, with_name, tag_name, after_declaration}
-use Rattle.c_decls.specs.Refusals.{Checked, then, unless}
-use Rattle.c_decls.specs.Typed.{is_function, has_no_size}
 use Rattle.c_decls.specs.TypeNames as names
-use Rattle.c_decls.specs.TypeNames.{Layer, PointerTo, ArrayOf, FunctionOf, word_type, special_type, array_length, with_layers}
-use Rattle.c_decls.specs.Expressions.{line_of, typed, wanted, constant_from}
-use Rattle.elaboration.specs.Context.{Context, asked, told, entered}
-use Rattle.elaboration.specs.Locals.{declared_as}
 use Rattle.elaboration.specs.Declarators as d
-use Rattle.elaboration.specs.Declarators.{constant, with_type, maybe_name, begun_as, begun, completed_by, complete, ended, with_member, member, enumerator, enum_named, left_params, specs, words_type, tag_type, members, member_names, enumerators, layers, suffix_layers, suffix_layer, params}
-use Rattle.core_soundness.proofs.Grown.{good, ok_same, never}
-use Rattle.core_soundness.proofs.Agreeing.{came}
-use Rattle.core_soundness.proofs.Operating.{passed, kept_test, behind_test}
-use Rattle.core_soundness.proofs.Parameters.{functions, functions_joined, functions_one, functions_reversed, not_function}
 
 -- how many parameters and locals are declared, which are taken the address of, and the parameters of the list that ended last
 abbrev pub counts : Context → ℕ × List ℕ × Table

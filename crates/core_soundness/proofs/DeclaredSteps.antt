@@ -1,46 +1,27 @@
 -- Declarations of locals go in step with the walk over addresses, and their initializers take the address of no register.
 use Rattle.std.proofs.Common.{◌≡◌, ℕ, Bool, true, false, ◌||◌, cond, List, Option, Some, None, IsSome, Ok, refl, sym, ap, ◌∙◌, subst}
 use Rattle.c_types.specs.Types.{PlainType}
-use Rattle.c_tree.specs.declared.operator.RecordSort.{RecordSort}
+use Rattle.c_tree.specs.{declared.operator.RecordSort.RecordSort, Tree.Tree, Tree.Trees, Tree.Leaf, Tree.At, Tree.Node, Tree.none, Tree.◌▹◌, Grammar.shape}
+use Rattle.c_tree.specs.Scopes.{name_of, name_among, first_name, has_typedef, is_scope}
+use Rattle.c_decls.specs.declared.refusal.TypeKind.TheVariants.{DeclaredTwice, Incomplete, LeftOut}
+use Rattle.c_decls.specs.{ScopeList.named_in, ScopeList.innermost, ScopeList.tag_name, Refusals.Checked, Refusals.unless, Typed.is_function, Typed.has_no_size}
+use Rattle.c_decls.specs.TypeNames.{Layer, has, tag_named}
+use Rattle.elaboration.specs.{Addressed.Taken, Addressed.with_known, Addressed.declare, Addressed.left, Addressed.taken, Addressed.all_taken, Context.Context, Context.asked, Context.told}
+use Rattle.elaboration.specs.{Conversions.Spot, Locals.is_twice, Locals.declared_as, Locals.with_local, Declarators.layers, Declarators.specs, Declarators.with_type, Initializers.with_init_layers}
+use Rattle.elaboration.specs.Declarations.{Storage, Typedef, Outside, is_outside_word, storage_of, specs_alone, specs_before, fill_local, local_object, local_name, name_in, entry, entries, declaration}
+use Rattle.core_soundness.specs.{Spoken.AllSpoken, Written.Written, Written.AllWritten}
+use Rattle.core_soundness.proofs.{Grown.ok_same, Grown.never, Agreeing.came, Operating.kept_test, Operating.behind_test, TypedNames.tag_after, Adding.Has, Adding.Inside, Adding.taken_adds}
+use Rattle.core_soundness.proofs.{Formed.IsLayer, Formed.of_typedefs, Formed.NoInits, Formed.Shaped, Formed.Formed, Formed.AllFormed, InStep.HasScope, InStep.Follows, InStep.InStep, InStep.each}
+use Rattle.core_soundness.proofs.{Still.SameNames, Still.still_names, Keeping.keeps_refl, Keeping.told_keeps, Keeping.keeps_follows, Keeping.stepped_scope}
+use Rattle.core_soundness.proofs.{StepsNames.plain_stepped, StepsNames.not_twice, StepsNames.local_stepped, Each.commas_each}
+use Rattle.core_soundness.proofs.{LocalsSpoken.LocalSpoken, LocalsSpoken.EntrySpoken, LocalsSpoken.EntriesSpoken, LocalsSpoken.DeclarationSpoken, Leaving.scope_more, Good.as_before}
+use Rattle.core_soundness.proofs.{StepsInits.local_went, StepsInits.inits_spoken, StepsLayers.specs_stepped, StepsLayers.layers_stepped}
 use Rattle.c_tree.specs.Words as w
 use Rattle.c_tree.specs.Forms as f
 use Rattle.c_tree.specs.Places as p
-use Rattle.c_tree.specs.Tree.{Tree, Trees, Leaf, At, Node, none, ◌▹◌}
-use Rattle.c_tree.specs.Grammar.{shape}
-use Rattle.c_tree.specs.Scopes.{name_of, name_among, first_name, has_typedef, is_scope}
-use Rattle.c_decls.specs.declared.refusal.TypeKind.TheVariants.{DeclaredTwice, Incomplete, LeftOut}
 use Rattle.c_decls.specs.Named as n
-use Rattle.c_decls.specs.ScopeList.{named_in, innermost, tag_name}
-use Rattle.c_decls.specs.Refusals.{Checked, unless}
-use Rattle.c_decls.specs.Typed.{is_function, has_no_size}
-use Rattle.c_decls.specs.TypeNames.{Layer, has, tag_named}
 use Rattle.elaboration.specs.Addressed as addressed
-use Rattle.elaboration.specs.Addressed.{Taken, with_known, declare, left, taken, all_taken}
-use Rattle.elaboration.specs.Context.{Context, asked, told}
-use Rattle.elaboration.specs.Conversions.{Spot}
-use Rattle.elaboration.specs.Locals.{is_twice, declared_as, with_local}
-use Rattle.elaboration.specs.Declarators.{layers, specs, with_type}
-use Rattle.elaboration.specs.Initializers.{with_init_layers}
 use Rattle.elaboration.specs.Declarations as storages
-use Rattle.elaboration.specs.Declarations.{Storage, Typedef, Outside, is_outside_word, storage_of, specs_alone, specs_before, fill_local, local_object, local_name, name_in, entry, entries, declaration}
-use Rattle.core_soundness.specs.Spoken.{AllSpoken}
-use Rattle.core_soundness.specs.Written.{Written, AllWritten}
-use Rattle.core_soundness.proofs.Grown.{ok_same, never}
-use Rattle.core_soundness.proofs.Agreeing.{came}
-use Rattle.core_soundness.proofs.Operating.{kept_test, behind_test}
-use Rattle.core_soundness.proofs.TypedNames.{tag_after}
-use Rattle.core_soundness.proofs.Adding.{Has, Inside, taken_adds}
-use Rattle.core_soundness.proofs.Formed.{IsLayer, of_typedefs, NoInits, Shaped, Formed, AllFormed}
-use Rattle.core_soundness.proofs.InStep.{HasScope, Follows, InStep, each}
-use Rattle.core_soundness.proofs.Still.{SameNames, still_names}
-use Rattle.core_soundness.proofs.Keeping.{keeps_refl, told_keeps, keeps_follows, stepped_scope}
-use Rattle.core_soundness.proofs.StepsNames.{plain_stepped, not_twice, local_stepped}
-use Rattle.core_soundness.proofs.Each.{commas_each}
-use Rattle.core_soundness.proofs.LocalsSpoken.{LocalSpoken, EntrySpoken, EntriesSpoken, DeclarationSpoken}
-use Rattle.core_soundness.proofs.Leaving.{scope_more}
-use Rattle.core_soundness.proofs.Good.{as_before}
-use Rattle.core_soundness.proofs.StepsInits.{local_went, inits_spoken}
-use Rattle.core_soundness.proofs.StepsLayers.{specs_stepped, layers_stepped}
 
 -- what a declaration leaves behind
 record Stayed (c : Context) (u : Taken) (d : Context) : Type 0 where

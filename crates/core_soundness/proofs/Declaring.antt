@@ -1,31 +1,23 @@
 -- What specs, declarators and the names of locals do to what is known.
 use Rattle.std.proofs.Common.{◌≡◌, ℕ, suc, Bool, true, false, cond, is_some, List, [], ◌∷◌, length, unwrap_or, Option, Some, None, ◌≤◌, refl, arith}
-use Rattle.c_types.specs.declared.types.IntType.TheVariants as i
-use Rattle.c_types.specs.Types.{PlainType, Int}
-use Rattle.c_types.specs.TagTable.{TagTable}
-use Rattle.core_tree.specs.declared.statements.Atom.TheVariants as atom
+use Rattle.c_types.specs.{Types.PlainType, Types.Int, TagTable.TagTable}
 use Rattle.c_tree.specs.Tree.{Tree}
-use Rattle.c_decls.specs.declared.refusal.TypeKind.TheVariants.{DeclaredTwice}
-use Rattle.c_decls.specs.Named as n
-use Rattle.c_decls.specs.Named.{PlainNamed}
-use Rattle.c_decls.specs.ScopeList as scopes
-use Rattle.c_decls.specs.ScopeList.{ScopeList, Table, named_in, innermost, with_name, tag_name, after_declaration}
-use Rattle.c_decls.specs.Refusals.{Checked}
-use Rattle.c_decls.specs.TypeNames as names
-use Rattle.elaboration.specs.Context.{Context, Running, asked, told, entered, local_register}
-use Rattle.elaboration.specs.Conversions.{Memory}
+use Rattle.c_decls.specs.{declared.refusal.TypeKind.TheVariants.DeclaredTwice, Named.PlainNamed}
+use Rattle.c_decls.specs.{ScopeList.ScopeList, ScopeList.Table, ScopeList.named_in, ScopeList.innermost, ScopeList.with_name, ScopeList.tag_name, ScopeList.after_declaration, Refusals.Checked}
+use Rattle.elaboration.specs.{Context.Context, Context.Running, Context.asked, Context.told, Context.entered, Context.local_register, Conversions.Memory}
 use Rattle.elaboration.specs.Locals.{is_twice, declared_as, next_is_memory, with_register, with_memory, counted, with_named, memory_param, register_param, function_param, prototype_param, is_prototype, with_param, local_in, with_local}
 use Rattle.elaboration.specs.Declarators.{constant, with_type, left_params, specs, layers, params}
-use Rattle.core_soundness.proofs.Names.{Safe, first_safe, More, frees, with_name_safe, entered_safe, left_safe}
-use Rattle.core_soundness.proofs.Growth.{grows_told, grows_refl}
+use Rattle.core_soundness.proofs.{Names.Safe, Names.first_safe, Names.More, Names.frees, Names.with_name_safe, Names.entered_safe, Names.left_safe, Growth.grows_told, Growth.grows_refl}
 use Rattle.core_soundness.proofs.Owners.{FileKeeps, IsNoFunction, tied_refl, tied_file, keeps_refl, with_name_keeps, with_name_depth}
-use Rattle.core_soundness.proofs.ShortNames.{Any, any_names}
-use Rattle.core_soundness.proofs.LayersWalk.{Steps, constant_keeps, specs_keep, layers_keep}
-use Rattle.core_soundness.proofs.Reached.{Reached, reached_ok, reached_after, Led, led_ok, led_unless}
-use Rattle.core_soundness.proofs.TypedNames.{After}
-use Rattle.core_soundness.proofs.Working.{grows_write}
+use Rattle.core_soundness.proofs.{ShortNames.Any, ShortNames.any_names, LayersWalk.Steps, LayersWalk.constant_keeps, LayersWalk.specs_keep, LayersWalk.layers_keep}
+use Rattle.core_soundness.proofs.{Reached.Reached, Reached.reached_ok, Reached.reached_after, Reached.Led, Reached.led_ok, Reached.led_unless, TypedNames.After, Working.grows_write}
 use Rattle.core_soundness.proofs.Settled.{ObjectsStay, inner_objects, declared_objects}
 use Rattle.core_soundness.proofs.Passing.{Passes, passes_trans, grows_passes, passes_beside, stays_beside}
+use Rattle.c_types.specs.declared.types.IntType.TheVariants as i
+use Rattle.core_tree.specs.declared.statements.Atom.TheVariants as atom
+use Rattle.c_decls.specs.Named as n
+use Rattle.c_decls.specs.ScopeList as scopes
+use Rattle.c_decls.specs.TypeNames as names
 
 pub passes_refl : (c : Context) → Safe c.scopes → Passes c c
 passes_refl c s = grows_passes c c s (grows_refl c)

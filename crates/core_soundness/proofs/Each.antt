@@ -1,22 +1,15 @@
 -- What the walk over addresses knows behind the nodes of declarations.
 use Rattle.std.proofs.Common.{◌≡◌, ◌+◌, ℕ, Bool, false, List, ◌∷◌, Option, Some, None, Ok, refl, ap, ◌∙◌}
 use Rattle.c_types.specs.Types.{PlainType}
-use Rattle.c_tree.specs.declared.operator.RecordSort.{RecordSort}
-use Rattle.c_tree.specs.Words as w
-use Rattle.c_tree.specs.Forms as f
-use Rattle.c_tree.specs.Places.{Place}
-use Rattle.c_tree.specs.Places as p
-use Rattle.c_tree.specs.Tree.{Tree, Trees, Leaf, At, Node, none, ◌▹◌, count}
+use Rattle.c_tree.specs.{declared.operator.RecordSort.RecordSort, Places.Place, Tree.Tree, Tree.Trees, Tree.Leaf, Tree.At, Tree.Node, Tree.none, Tree.◌▹◌, Tree.count}
 use Rattle.c_tree.specs.Grammar.{shape, rows, some, commas, behind_commas, some_commas}
 use Rattle.c_tree.specs.Scopes.{is_scope, places, name_of, name_among, first_name, leads_to_name}
-use Rattle.elaboration.specs.Context.{Context}
-use Rattle.elaboration.specs.Declarators.{specs}
+use Rattle.elaboration.specs.{Context.Context, Declarators.specs}
 use Rattle.elaboration.specs.Addressed.{Taken, Known, with_local, left_scope, left, left_part, taken, all_taken}
-use Rattle.core_soundness.proofs.Grown.{never}
-use Rattle.core_soundness.proofs.Formed.{NoNodes}
-use Rattle.core_soundness.proofs.InStep.{each}
-use Rattle.core_soundness.proofs.Still.{SameNames, behind_stars}
-use Rattle.core_soundness.proofs.StepsNames.{with_one}
+use Rattle.core_soundness.proofs.{Grown.never, Formed.NoNodes, InStep.each, Still.SameNames, Still.behind_stars, StepsNames.with_one}
+use Rattle.c_tree.specs.Words as w
+use Rattle.c_tree.specs.Forms as f
+use Rattle.c_tree.specs.Places as p
 
 -- parts in turn
 

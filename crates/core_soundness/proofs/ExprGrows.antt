@@ -1,33 +1,25 @@
 -- What elaborating an expression does to what is known.
 use Rattle.std.proofs.Common.{ℕ, true, false, List, Option, Some, None}
 use Rattle.c_types.specs.Types.{PlainType, PlainTypes, Void}
-use Rattle.c_tree.specs.declared.operator.UnaryOp.TheVariants as u
-use Rattle.c_tree.specs.declared.operator.BinaryOp.TheVariants as b
-use Rattle.c_tree.specs.declared.operator.AssignOp.TheVariants as a
-use Rattle.c_tree.specs.Words as w
-use Rattle.c_tree.specs.Forms as f
 use Rattle.c_tree.specs.Tree.{Tree, Trees, Leaf, At, Node, none, ◌▹◌}
-use Rattle.c_decls.specs.Refusals.{Checked}
-use Rattle.c_decls.specs.ScopeList.{found as declaration}
-use Rattle.c_decls.specs.Named.{PlainNamed}
-use Rattle.c_decls.specs.Typed.{PlainTyped, is_record}
-use Rattle.c_decls.specs.TypeRules.{address}
-use Rattle.c_decls.specs.PlaceRules.{held_place}
+use Rattle.c_decls.specs.{Refusals.Checked, ScopeList.found as declaration, Named.PlainNamed, Typed.PlainTyped, Typed.is_record, TypeRules.address, PlaceRules.held_place}
 use Rattle.c_decls.specs.Callees.{Callee, NoFunction, named, called, call}
-use Rattle.c_decls.specs.TypeNames as names
 use Rattle.c_decls.specs.Expressions.{line_of, joined, string, first_literal, typed, typename}
-use Rattle.elaboration.specs.Context.{Context, With, asked, told, new_label}
-use Rattle.elaboration.specs.Conversions.{Found, valued}
+use Rattle.elaboration.specs.{Context.Context, Context.With, Context.asked, Context.told, Context.new_label, Conversions.Found, Conversions.valued}
 use Rattle.elaboration.specs.Calls.{Argument, types_of, first_type, rest_types, argument_from}
 use Rattle.elaboration.specs.Rules.{left_operand, and_then, or_else, choose, type_ahead, choose_first}
 use Rattle.elaboration.specs.Assignments.{record_assigned, scalar_assigned, old_value}
 use Rattle.elaboration.specs.Expressions.{name_answer, literal_answer, unevaluated, address_answer, changing, callee_name, callee, parameters, format_argument, is_printf, call_answer, found, arguments}
 use Rattle.core_soundness.proofs.Growth.{Grows, grows_refl, grows_trans, grows_told}
-use Rattle.core_soundness.proofs.Grown.{Grown, grown_ok, grown_refused, grown_after, grown_then, grown_cond}
-use Rattle.core_soundness.proofs.TypedNames.{typed_after, typename_after}
-use Rattle.core_soundness.proofs.Working.{grown_valued}
-use Rattle.core_soundness.proofs.Calling.{grown_literal, grows_argument, grows_call}
+use Rattle.core_soundness.proofs.{Grown.Grown, Grown.grown_ok, Grown.grown_refused, Grown.grown_after, Grown.grown_then, Grown.grown_cond, TypedNames.typed_after, TypedNames.typename_after}
+use Rattle.core_soundness.proofs.{Working.grown_valued, Calling.grown_literal, Calling.grows_argument, Calling.grows_call}
 use Rattle.core_soundness.proofs.Ruling.{grown_indexed, grown_dotted, grown_pointed, grown_applied, grows_left, grown_between, grown_cast, grown_and, grown_or, grown_choice, grown_record_assigned, grown_scalar_assigned, grows_old, grown_changed, grown_stepped}
+use Rattle.c_tree.specs.declared.operator.UnaryOp.TheVariants as u
+use Rattle.c_tree.specs.declared.operator.BinaryOp.TheVariants as b
+use Rattle.c_tree.specs.declared.operator.AssignOp.TheVariants as a
+use Rattle.c_tree.specs.Words as w
+use Rattle.c_tree.specs.Forms as f
+use Rattle.c_decls.specs.TypeNames as names
 
 grown_name : (line : ℕ) (name : List ℕ) (declared : Option PlainNamed) (b c : Context) → Grows b c → Grown b (name_answer line name declared c)
 grown_name line name declared b c g = grown_after b (named line declared) (λ e h. grown_ok b g)

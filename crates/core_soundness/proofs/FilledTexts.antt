@@ -1,38 +1,25 @@
 -- Initializers of statics fill places one behind another: bytes outside the slots, and pointers in them (C99 6.7.8).
 use Rattle.std.proofs.Common.{◌≡◌, ◌≤◌, ◌+◌, ◌*◌, not, ℕ, Bool, true, false, cond, take, List, [], ◌∷◌, Option, Some, None, Ok, refl, sym, ap, ◌∙◌, subst, arith, length-take}
 use Rattle.hs_base.specs.Numbers.{low_bits}
-use Rattle.c_types.specs.declared.layouts.Layout.{Layout}
-use Rattle.c_types.specs.declared.types.IntType.{IntType}
-use Rattle.c_types.specs.declared.types.IntType.TheVariants as i
+use Rattle.c_types.specs.{declared.layouts.Layout.Layout, declared.types.IntType.IntType}
 use Rattle.c_types.specs.Types.{PlainType, Void, Int, Pointer, Array, Struct, Union, Function, width_of}
-use Rattle.c_types.specs.Layouts.{layout_of, number_layout, pointer_layout, array_layout}
-use Rattle.c_types.specs.TagTable.{CompletedTag, known}
+use Rattle.c_types.specs.{Layouts.layout_of, Layouts.number_layout, Layouts.pointer_layout, Layouts.array_layout, TagTable.CompletedTag, TagTable.known}
 use Rattle.c_types.proofs.MemberLemmas.{some_array}
-use Rattle.core_tree.specs.declared.program.Start.{Start}
-use Rattle.core_tree.specs.declared.statements.StmKind.TheVariants.{Enter}
-use Rattle.c_tree.specs.Forms as f
+use Rattle.core_tree.specs.{declared.program.Start.Start, declared.statements.StmKind.TheVariants.Enter}
 use Rattle.c_tree.specs.Tree.{Tree, Trees, At, Node, none, ◌▹◌, count}
-use Rattle.c_decls.specs.declared.typed.Folded.{Folded}
-use Rattle.c_decls.specs.declared.typed.Folded.TheVariants.{Is}
-use Rattle.c_decls.specs.declared.refusal.TypeKind.TheVariants.{Assignment}
-use Rattle.c_decls.specs.Refusals.{refused, then}
-use Rattle.c_decls.specs.Typed.{is_null_constant}
-use Rattle.c_decls.specs.PlaceRules.{unconverted}
-use Rattle.c_decls.specs.Expressions.{typed}
+use Rattle.c_decls.specs.{declared.typed.Folded.Folded, declared.typed.Folded.TheVariants.Is, declared.refusal.TypeKind.TheVariants.Assignment, Refusals.refused, Refusals.then}
+use Rattle.c_decls.specs.{Typed.is_null_constant, PlaceRules.unconverted, Expressions.typed}
 use Rattle.elaboration.specs.Context.{Code, Context, asked, emit, anew}
 use Rattle.elaboration.specs.Conversions.{Found, Fixed, Unknown, Nowhere, Inside, code_line, valued}
-use Rattle.elaboration.specs.Reallocates.{reallocates, opened}
-use Rattle.elaboration.specs.Expressions.{found}
+use Rattle.elaboration.specs.{Reallocates.reallocates, Reallocates.opened, Expressions.found}
 use Rattle.elaboration.specs.Initializers.{Target, InRegister, InMemory, InStatic, bytes_of, static_integer, static_address, static_pointer, static_scalar, fill_scalar, scalar, fill_record, is_same_place, whole, fill_text, is_character, text, by_text, by_expression, parts_of, takes_braces, is_scalar_type, all_surplus, initialize, initialize_parts}
-use Rattle.core_soundness.proofs.Agreeing.{valued_agrees}
-use Rattle.core_soundness.proofs.Agreement.{found_agrees}
-use Rattle.core_soundness.proofs.Reached.{Led, led_ok, led_refused, led_after, led_unless, led_barred}
-use Rattle.core_soundness.proofs.TypedWhole.{led_cond, typed_good, wanted_good}
-use Rattle.core_soundness.specs.Solid.{Solid}
-use Rattle.core_soundness.proofs.Solid.{fit_of, value_gone, opened_rises}
-use Rattle.core_soundness.proofs.Seats.{Has, Seat, has_row}
+use Rattle.core_soundness.proofs.{Agreeing.valued_agrees, Agreement.found_agrees, Reached.Led, Reached.led_ok, Reached.led_refused, Reached.led_after, Reached.led_unless, Reached.led_barred}
+use Rattle.core_soundness.proofs.{TypedWhole.led_cond, TypedWhole.typed_good, TypedWhole.wanted_good, Solid.fit_of, Solid.value_gone, Solid.opened_rises, Seats.Has, Seats.Seat, Seats.has_row}
 use Rattle.core_soundness.proofs.Filling.{Filled, filled_more, filled_bytes, filled_pointer, bytes_of_length}
 use Rattle.core_soundness.proofs.Seating.{Proper, AllProper, PartsSeated, parts_end, parts_seated}
+use Rattle.core_soundness.specs.Solid.{Solid}
+use Rattle.c_types.specs.declared.types.IntType.TheVariants as i
+use Rattle.c_tree.specs.Forms as f
 
 -- what an expression of an initializer leaves
 

@@ -1,9 +1,7 @@
 -- What a static holds first, while its places are filled one behind another.
 use Rattle.std.proofs.Common.{◌≡◌, ◌≤◌, ◌<◌, ◌+◌, ◌-◌, ◌/◌, ◌==◌, ℕ, zero, suc, Bool, true, false, cond, length, reverse, replicate, map, List, [], ◌∷◌, ◌++◌, slice_get, unwrap_or, refl, sym, ap, ◌∙◌, ⊎_elim, arith, length-append, append_assoc}
-use Rattle.std.specs.Prelude.{nat_eq}
-use Rattle.std.specs.List.{IsDistinct, AllByRecursion}
-use Rattle.std.proofs.lemmas.Bool.{eqb-true, cases_lt}
-use Rattle.std.proofs.lemmas.List.{reverse-append, reverse-reverse, length-reverse, length-replicate}
+use Rattle.std.specs.{Prelude.nat_eq, List.IsDistinct, List.AllByRecursion}
+use Rattle.std.proofs.{lemmas.Bool.eqb-true, lemmas.Bool.cases_lt, lemmas.List.reverse-append, lemmas.List.reverse-reverse, lemmas.List.length-reverse, lemmas.List.length-replicate}
 use Rattle.c_types.specs.declared.layouts.Layout.{Layout}
 use Rattle.core_tree.specs.declared.program.Start.{Start}
 use Rattle.elaboration.specs.Initializers.{bytes_of, with_bytes, with_pointer, without_zeros, trimmed}

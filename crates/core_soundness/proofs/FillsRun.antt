@@ -1,35 +1,22 @@
 -- What initializers do to what fits (C99 6.7.8).
 use Rattle.std.proofs.Common.{◌≡◌, ◌≤◌, ◌<◌, ◌+◌, ◌&&◌, ℕ, pos, Bool, true, false, cond, min, take, length, List, [], ◌∷◌, Option, Some, None, Ok, refl, sym, subst, arith}
 use Rattle.c_types.specs.Types.{PlainType, Array, Struct, Union}
-use Rattle.core_tree.specs.declared.program.Start.{Start}
-use Rattle.core_tree.specs.declared.statements.Atom.TheVariants as atom
-use Rattle.core_tree.specs.declared.statements.StmKind.TheVariants.{Off, Copy}
-use Rattle.core_tree.specs.Sorts.{Pointer}
-use Rattle.c_tree.specs.Forms as f
+use Rattle.core_tree.specs.{declared.program.Start.Start, declared.statements.StmKind.TheVariants.Off, declared.statements.StmKind.TheVariants.Copy, Sorts.Pointer}
 use Rattle.c_tree.specs.Tree.{Tree, Trees, At, Node, none, ◌▹◌, count}
-use Rattle.c_decls.specs.declared.refusal.TypeKind.TheVariants.{Assignment}
-use Rattle.c_decls.specs.Refusals.{Checked, refused, then}
-use Rattle.c_decls.specs.ScopeList.{ScopeList}
-use Rattle.c_decls.specs.Typed.{is_record, same}
+use Rattle.c_decls.specs.{declared.refusal.TypeKind.TheVariants.Assignment, Refusals.Checked, Refusals.refused, Refusals.then, ScopeList.ScopeList, Typed.is_record, Typed.same}
 use Rattle.c_decls.specs.PlaceRules.{unconverted}
 use Rattle.elaboration.specs.Context.{Context, emit}
 use Rattle.elaboration.specs.Conversions.{Found, Local, Memory, atom_in, code_line, valued, convert, write, size_or_zero}
-use Rattle.elaboration.specs.Reallocates.{opened, closed}
-use Rattle.elaboration.specs.Rules.{with_literal}
-use Rattle.elaboration.specs.Expressions.{found}
+use Rattle.elaboration.specs.{Reallocates.opened, Reallocates.closed, Rules.with_literal, Expressions.found}
 use Rattle.elaboration.specs.Initializers.{Target, InRegister, InMemory, InStatic, static_scalar, member_place, store_at, fill_scalar, scalar, copy_to, fill_record, is_same_place, whole, fill_text, is_character, text, by_text, by_expression, parts_of, takes_braces, is_scalar_type, all_surplus, initialize, initialize_parts, with_bytes}
-use Rattle.core_soundness.specs.Worlds.{World, world, Holds, StandsAs, Stands, NamesFit}
-use Rattle.core_soundness.specs.Spoken.{Spoken, AllSpoken}
-use Rattle.core_soundness.proofs.Grown.{good, bad, ok_same, never}
-use Rattle.core_soundness.proofs.Agreeing.{came}
-use Rattle.core_soundness.proofs.Growing.{Grew, holds_grew}
+use Rattle.core_soundness.specs.{Worlds.World, Worlds.world, Worlds.Holds, Worlds.StandsAs, Worlds.Stands, Worlds.NamesFit, Spoken.Spoken, Spoken.AllSpoken}
+use Rattle.core_soundness.proofs.{Grown.good, Grown.bad, Grown.ok_same, Grown.never, Agreeing.came, Growing.Grew, Growing.holds_grew}
 use Rattle.core_soundness.proofs.Going.{Goes, goes_refl, goes_trans, goes_emit, gives_pointer, Gives}
-use Rattle.core_soundness.proofs.Sorting.{held_grew, stands_as_grew, converted, write_goes}
-use Rattle.core_soundness.proofs.Operating.{kept_test, behind_test, unbarred}
-use Rattle.core_soundness.proofs.Landing.{in_memory, literal_there, not_false}
-use Rattle.core_soundness.proofs.Assigning.{converting_of, same_record}
-use Rattle.core_soundness.proofs.Readying.{names_more, all_spoken_more}
+use Rattle.core_soundness.proofs.{Sorting.held_grew, Sorting.stands_as_grew, Sorting.converted, Sorting.write_goes, Operating.kept_test, Operating.behind_test, Operating.unbarred}
+use Rattle.core_soundness.proofs.{Landing.in_memory, Landing.literal_there, Landing.not_false, Assigning.converting_of, Assigning.same_record, Readying.names_more, Readying.all_spoken_more}
 use Rattle.core_soundness.proofs.Running.{opened_rests, closed_goes, Evaluates, evaluates, evaluated_goes, opened_goes}
+use Rattle.core_tree.specs.declared.statements.Atom.TheVariants as atom
+use Rattle.c_tree.specs.Forms as f
 
 -- what is initialized fits
 abbrev pub TargetFits : World → PlainType → Target → Type 0

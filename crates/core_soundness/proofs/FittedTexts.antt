@@ -3,72 +3,39 @@ use Rattle.std.proofs.Common.{◌≡◌, ◌<◌, ◌+◌, ◌==◌, ◌&&◌, n
 use Rattle.std.specs.List.{find}
 use Rattle.std.proofs.lemmas.Bool.{ltb-true, ltb-false, eqb-true}
 use Rattle.hs_base.specs.Place.{block_size}
-use Rattle.c_types.specs.declared.layouts.Layout.{Layout}
-use Rattle.c_types.specs.declared.tags.TagInfo.{TagInfo}
-use Rattle.c_types.specs.Types.{PlainType, Array, Struct, Function}
-use Rattle.c_types.specs.Layouts.{Known, layout_of, no_layout}
-use Rattle.c_types.specs.TagTable.{CompletedTag, TagTable, known, layout_in}
+use Rattle.c_types.specs.{declared.layouts.Layout.Layout, declared.tags.TagInfo.TagInfo, Types.PlainType, Types.Array, Types.Struct, Types.Function}
+use Rattle.c_types.specs.{Layouts.Known, Layouts.layout_of, Layouts.no_layout, TagTable.CompletedTag, TagTable.TagTable, TagTable.known, TagTable.layout_in}
 use Rattle.c_types.proofs.MemberLemmas.{Extends, layout_stays}
-use Rattle.core_tree.specs.declared.program.Core.{Core}
-use Rattle.core_tree.specs.declared.program.Start.{Start}
-use Rattle.core_tree.specs.Sound.{IsStatic}
-use Rattle.c_tree.specs.Forms as f
-use Rattle.c_tree.specs.Tree.{Tree, Trees, At, Node, none, ◌▹◌}
-use Rattle.c_tree.specs.Scopes.{name_of}
+use Rattle.core_tree.specs.{declared.program.Core.Core, declared.program.Start.Start, Sound.IsStatic}
+use Rattle.c_tree.specs.{Tree.Tree, Tree.Trees, Tree.At, Tree.Node, Tree.none, Tree.◌▹◌, Scopes.name_of}
 use Rattle.c_decls.specs.declared.built_in.BuiltIn.{BuiltIn}
 use Rattle.c_decls.specs.declared.refusal.TypeKind.TheVariants.{DeclaredTwice, Incomplete, StaticTooLarge, Undeclared, NoMain}
-use Rattle.c_decls.specs.Named as n
-use Rattle.c_decls.specs.Named.{PlainNamed}
-use Rattle.c_decls.specs.ScopeList.{Table, named_in}
-use Rattle.c_decls.specs.BuiltIns as names
-use Rattle.c_decls.specs.BuiltIns.{built_ins, numbered_from}
-use Rattle.c_decls.specs.Refusals.{refused, unless}
+use Rattle.c_decls.specs.{Named.PlainNamed, ScopeList.Table, ScopeList.named_in, BuiltIns.built_ins, BuiltIns.numbered_from, Refusals.refused, Refusals.unless}
 use Rattle.c_decls.specs.Typed.{is_function, has_no_size, same}
 use Rattle.c_decls.proofs.SameTypes.{same_equal}
-use Rattle.elaboration.specs.Context.{Context, Variable, Declared, first_context}
-use Rattle.elaboration.specs.Conversions.{size_or_zero}
-use Rattle.elaboration.specs.Rules.{with_static}
-use Rattle.elaboration.specs.Locals.{is_twice_in, declared_as}
-use Rattle.elaboration.specs.Declarators.{layers}
-use Rattle.elaboration.specs.Initializers.{Target, InStatic, initialize, surplus, no_start, with_init_layers}
+use Rattle.elaboration.specs.{Context.Context, Context.Variable, Context.Declared, Context.first_context, Conversions.size_or_zero, Rules.with_static, Locals.is_twice_in, Locals.declared_as}
+use Rattle.elaboration.specs.{Declarators.layers, Initializers.Target, Initializers.InStatic, Initializers.initialize, Initializers.surplus, Initializers.no_start, Initializers.with_init_layers}
 use Rattle.elaboration.specs.Declarations.{Storage, Typedef, storage_of, specs_before, declared_function, no_initializer, variable_number_of, with_new_variable, with_variable, start_of, start_in, started_variable, fill_variable, file_object, file_function, file_value, file_name, name_in, entry, entries, declaration}
-use Rattle.elaboration.specs.Externals.{begun, is_defined, external, externals, calls_defined, is_main}
-use Rattle.elaboration.specs.Addressed.{addressed_in}
-use Rattle.elaboration.specs.Resolving.{core_of}
+use Rattle.elaboration.specs.{Externals.begun, Externals.is_defined, Externals.external, Externals.externals, Externals.calls_defined, Externals.is_main, Addressed.addressed_in, Resolving.core_of}
 use Rattle.elaboration.specs.Elaboration.{walked, elaborated}
-use Rattle.core_soundness.specs.Laws.{HasLayouts}
-use Rattle.core_soundness.specs.Whole.{Whole}
-use Rattle.core_soundness.specs.Written.{Written, AllWritten, AreWritten}
-use Rattle.core_soundness.specs.Solid.{Solid}
-use Rattle.core_soundness.proofs.Names.{Safe}
-use Rattle.core_soundness.proofs.Grown.{good, ok_same, never}
-use Rattle.core_soundness.proofs.Agreeing.{came}
-use Rattle.core_soundness.proofs.Operating.{passed, kept_test}
+use Rattle.core_soundness.specs.{Laws.HasLayouts, Whole.Whole, Written.Written, Written.AllWritten, Written.AreWritten, Solid.Solid}
+use Rattle.core_soundness.proofs.{Names.Safe, Grown.good, Grown.ok_same, Grown.never, Agreeing.came, Operating.passed, Operating.kept_test}
 use Rattle.core_soundness.proofs.Owners.{get_left, get_last, get_push, get_below, set_get, Pushed, push_get}
-use Rattle.core_soundness.proofs.Reached.{Led, led_ok, led_refused, led_after, led_unless}
-use Rattle.core_soundness.proofs.TypedWhole.{led_cond}
-use Rattle.core_soundness.proofs.WholeTypes.{whole_stays, some_stays}
-use Rattle.core_soundness.proofs.Cores.{behind as core_behind}
-use Rattle.core_soundness.proofs.Texts.{Sane, external_sane, first_sane}
-use Rattle.core_soundness.proofs.Localizing.{entry_declares, specs_before_passes}
-use Rattle.core_soundness.proofs.Solid.{K}
-use Rattle.core_soundness.proofs.Moving.{rises_refl}
-use Rattle.core_soundness.proofs.SolidLayers.{has_size, declared_rises, typedef_rises, layers_rise}
+use Rattle.core_soundness.proofs.{Reached.Led, Reached.led_ok, Reached.led_refused, Reached.led_after, Reached.led_unless, TypedWhole.led_cond, WholeTypes.whole_stays, WholeTypes.some_stays}
+use Rattle.core_soundness.proofs.{Cores.behind as core_behind, Texts.Sane, Texts.external_sane, Texts.first_sane, Localizing.entry_declares, Localizing.specs_before_passes, Solid.K}
+use Rattle.core_soundness.proofs.{Moving.rises_refl, SolidLayers.has_size, SolidLayers.declared_rises, SolidLayers.typedef_rises, SolidLayers.layers_rise}
 use Rattle.core_soundness.proofs.SolidFills.{declared_function_rises, variable_rises, init_layers_whole, entry_rises, before_rises}
 use Rattle.core_soundness.proofs.SolidTexts.{external_rises, begun_rises, first_solid, core_layouts}
-use Rattle.core_soundness.proofs.TagSorts.{SortedType, SortedName, SortedTable, type_longer, none_sorted}
-use Rattle.core_soundness.proofs.SortedTypes.{init_layers_sorted}
-use Rattle.core_soundness.proofs.TagKinds.{MembersSorted, BodySorted, BodiesSorted, Sorts}
-use Rattle.core_soundness.proofs.Settled.{Settled}
-use Rattle.core_soundness.proofs.Specifying.{levels_refl, declared_levels, layers_level}
-use Rattle.core_soundness.proofs.Aiming.{VariablesStay, There}
-use Rattle.core_soundness.proofs.Seats.{seat_whole}
-use Rattle.core_soundness.proofs.Filling.{Filled, filled_more, filled_trimmed}
-use Rattle.core_soundness.proofs.Seating.{Proper, MembersProper, AllProper}
-use Rattle.core_soundness.proofs.FilledTexts.{TargetFilled, initialize_fills}
-use Rattle.core_soundness.proofs.Pointing.{initialize_points}
+use Rattle.core_soundness.proofs.{TagSorts.SortedType, TagSorts.SortedName, TagSorts.SortedTable, TagSorts.type_longer, TagSorts.none_sorted, SortedTypes.init_layers_sorted}
+use Rattle.core_soundness.proofs.{TagKinds.MembersSorted, TagKinds.BodySorted, TagKinds.BodiesSorted, TagKinds.Sorts, Settled.Settled}
+use Rattle.core_soundness.proofs.{Specifying.levels_refl, Specifying.declared_levels, Specifying.layers_level, Aiming.VariablesStay, Aiming.There, Seats.seat_whole}
+use Rattle.core_soundness.proofs.{Filling.Filled, Filling.filled_more, Filling.filled_trimmed, Seating.Proper, Seating.MembersProper, Seating.AllProper}
+use Rattle.core_soundness.proofs.{FilledTexts.TargetFilled, FilledTexts.initialize_fills, Pointing.initialize_points}
 use Rattle.core_soundness.proofs.PointedTexts.{set_stay, before_level, function_settled, definition_settled, walked_pointed}
 use Rattle.core_soundness.proofs.Statics.{StartsFilled, nothing_filled, statics_sound}
+use Rattle.c_tree.specs.Forms as f
+use Rattle.c_decls.specs.Named as n
+use Rattle.c_decls.specs.BuiltIns as names
 
 -- tags of their sorts are as types name them
 

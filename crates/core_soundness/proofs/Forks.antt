@@ -1,12 +1,10 @@
 -- Code that goes one of two ways.
 use Rattle.std.proofs.Common.{◌≡◌, ◌⊎◌, ◌≤◌, ◌<◌, ◌+◌, ℕ, List, [], ◌∷◌, ◌++◌, refl, ap, ◌∙◌, arith, inl, inr, ⊎_elim, append_assoc}
-use Rattle.core_tree.specs.declared.statements.Atom.{Atom}
-use Rattle.core_tree.specs.declared.statements.StmKind.TheVariants.{Jump, Zero}
+use Rattle.core_tree.specs.{declared.statements.Atom.Atom, declared.statements.StmKind.TheVariants.Jump, declared.statements.StmKind.TheVariants.Zero}
 use Rattle.elaboration.specs.Context.{Piece, Does, Here, Code, Context, emit, here, with_labels}
 use Rattle.core_soundness.proofs.Flow.{Marks, Targets, Places, Placed, steps, Agree, agree_trans, steps_append, targets_append, targets_map, places_append, places_map, placed_left, placed_right, flows_append, flows_agree, marked}
 use Rattle.core_soundness.proofs.Fragments.{Way, IsWay, Leads, AreEarlier, leads_less, leads_agree, earlier_less, Made, Fragment, stm_at}
-use Rattle.core_soundness.proofs.Growth.{Grows, Kept, Counted, kept_trans}
-use Rattle.core_soundness.proofs.Names.{more_trans}
+use Rattle.core_soundness.proofs.{Growth.Grows, Growth.Kept, Growth.Counted, Growth.kept_trans, Names.more_trans}
 
 -- marks of two labels above those so far
 pub record Picked (low one other p q n : ℕ) (m : Marks) : Type 0 where

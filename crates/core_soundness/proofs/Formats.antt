@@ -1,26 +1,12 @@
 -- A format that passes the test of formats is one (C99 7.19.6.1).
 use Rattle.std.proofs.Common.{◌≡◌, ◌≢◌, true≢false, append-nil, ◌≤◌, ◌==◌, ◌&&◌, ℕ, zero, suc, nat_le, nat_eq, Bool, true, false, not, cond, List, [], ◌∷◌, ◌++◌, length, take, drop, slice_index, is_some, codes, unwrap_or, get_or, All, Option, Some, None, refl, sym, ap, ◌∙◌, subst, arith, append_assoc}
-use Rattle.std.specs.List.{flat_map, find, prefix_len, take_while, starts_with}
-use Rattle.std.specs.Cmp.Lexicographic.{pointwise}
-use Rattle.std.specs.Char.{is_ascii_digit}
-use Rattle.std.specs.Str.Parse.{digits_value}
-use Rattle.std.proofs.lemmas.Bool.{eqb-true, eqb-false, leb-true}
-use Rattle.std.proofs.lemmas.List.{take-append-drop}
-use Rattle.std.proofs.lemmas.List.Concat.{flat_map-cons}
-use Rattle.std.proofs.lemmas.List.Folds.{length-prefix_len}
-use Rattle.hs_base.specs.declared.ends.IntKind.{IntKind}
-use Rattle.hs_base.specs.declared.ends.IntKind.TheVariants.{I32}
-use Rattle.c_print.specs.declared.piece.Piece.{Piece}
-use Rattle.c_print.specs.declared.piece.Piece.TheVariants.{Plain, Item}
-use Rattle.c_print.specs.Length.{length_bytes, is_one_of, kind_of}
-use Rattle.c_print.specs.Item.{is_flag, StartsOutside, ReadsItem}
-use Rattle.c_print.specs.Format.{plain_byte, GoesOnPlain, ReadsPieces, IsFormat}
+use Rattle.std.specs.{List.flat_map, List.find, List.prefix_len, List.take_while, List.starts_with, Cmp.Lexicographic.pointwise, Char.is_ascii_digit, Str.Parse.digits_value}
+use Rattle.std.proofs.{lemmas.Bool.eqb-true, lemmas.Bool.eqb-false, lemmas.Bool.leb-true, lemmas.List.take-append-drop, lemmas.List.Concat.flat_map-cons, lemmas.List.Folds.length-prefix_len}
+use Rattle.hs_base.specs.{declared.ends.IntKind.IntKind, declared.ends.IntKind.TheVariants.I32}
+use Rattle.c_print.specs.{declared.piece.Piece.Piece, declared.piece.Piece.TheVariants.Plain, declared.piece.Piece.TheVariants.Item, Length.length_bytes, Length.is_one_of, Length.kind_of}
+use Rattle.c_print.specs.{Item.is_flag, Item.StartsOutside, Item.ReadsItem, Format.plain_byte, Format.GoesOnPlain, Format.ReadsPieces, Format.IsFormat}
 use Rattle.c_print.specs.Pieces.{length_at, item_at, join, pieces_from, pieces_of}
-use Rattle.c_print.proofs.Widths.{width_bytes_value}
-use Rattle.c_print.proofs.Fronts.{front_passes, rest_starts_outside}
-use Rattle.c_print.proofs.Convs.{conv_is_letter}
-use Rattle.c_print.proofs.Parts.{item_is_no_percent}
-use Rattle.c_print.proofs.Pieces.{some_bytes}
+use Rattle.c_print.proofs.{Widths.width_bytes_value, Fronts.front_passes, Fronts.rest_starts_outside, Convs.conv_is_letter, Parts.item_is_no_percent, Pieces.some_bytes}
 use Rattle.c_decls.specs.Callees.{behind_flags, digits_at, behind_digits, behind_length, is_item, is_format_of, is_format}
 
 -- what stands behind the front that passes a test

@@ -1,10 +1,8 @@
 -- The shapes of trees that the walk over addresses stands on: what elaboration does not look at has no nodes, and nothing
 -- stands where a declarator or a suffix is looked for but one of these.
 use Rattle.std.proofs.Common.{◌≡◌, Bool, true, false, IsSome}
-use Rattle.c_tree.specs.Forms.{Form}
+use Rattle.c_tree.specs.{Forms.Form, Tree.Tree, Tree.Trees, Tree.Leaf, Tree.At, Tree.Node, Tree.none, Tree.◌▹◌, Scopes.name_of, Scopes.has_typedef, Scopes.params_of}
 use Rattle.c_tree.specs.Forms as f
-use Rattle.c_tree.specs.Tree.{Tree, Trees, Leaf, At, Node, none, ◌▹◌}
-use Rattle.c_tree.specs.Scopes.{name_of, has_typedef, params_of}
 
 -- parts that are no nodes, of which one is a node, and of which there is at most one
 abbrev pub NoNodes : Trees → Type 0

@@ -2,14 +2,7 @@
 use Rattle.std.proofs.Common.{◌≡◌, ◌≤◌, ◌+◌, ◌==◌, ◌||◌, ◌&&◌, nat_le, not, if◌then◌else◌, ℕ, Bool, true, false, List, [], ◌∷◌, refl, sym, ap, ◌∙◌, subst, arith}
 use Rattle.std.proofs.lemmas.Bool.{eqb-true}
 use Rattle.c_lexer.specs.declared.token.Token.{Token}
-use Rattle.c_tree.specs.declared.word.Keyword.{Keyword}
-use Rattle.c_tree.specs.declared.word.Keyword.TheVariants as k
-use Rattle.c_tree.specs.Words as w
-use Rattle.c_tree.specs.Words.{Word}
-use Rattle.c_tree.specs.Forms.{Form}
-use Rattle.c_tree.specs.Forms as f
-use Rattle.c_tree.specs.Places.{Place, Expression}
-use Rattle.c_tree.specs.Places as p
+use Rattle.c_tree.specs.{declared.word.Keyword.Keyword, Words.Word, Forms.Form, Places.Place, Places.Expression}
 use Rattle.c_tree.specs.Tree.{Tree, Trees, Leaf, At, Node, none, ◌▹◌, count}
 use Rattle.c_tree.specs.Grammar.{shape, rows, some, commas, behind_commas, some_commas, expr, cond_level, form_home, keyword_home, home}
 use Rattle.c_tree.specs.Scopes.{Scope, is_scope, places, after, left, params_of, leads_to_name, first_scope}
@@ -17,6 +10,10 @@ use Rattle.c_tree.specs.Allowed.{Tally, with_keyword, with_word, tally, is_integ
 use Rattle.c_tree.specs.HasTree.{HasTree}
 use Rattle.core_soundness.proofs.Grammatical.{alone, no_line, behind_stars, line_parts, base_parts}
 use Rattle.core_soundness.proofs.Formed.{NoNodes, OneNode, AtMostOne, IsLayer, AreLayers, IsSuffix, AreSuffixes, of_typedefs, NoInits, Shaped, Formed, AllFormed, HasParams, AreFormed}
+use Rattle.c_tree.specs.declared.word.Keyword.TheVariants as k
+use Rattle.c_tree.specs.Words as w
+use Rattle.c_tree.specs.Forms as f
+use Rattle.c_tree.specs.Places as p
 
 -- words
 

@@ -1,8 +1,6 @@
 -- Fragments of code: their labels stand among themselves, and control leaves them at their end, or to labels around them.
 use Rattle.std.proofs.Common.{◌≡◌, ◌⊎◌, ◌≤◌, ◌<◌, ◌+◌, ℕ, Bool, true, false, List, [], ◌∷◌, ◌++◌, refl, ◌∙◌, subst, arith, inl, inr, ⊎_elim, true≢false}
-use Rattle.core_tree.specs.declared.statements.Atom.{Atom}
-use Rattle.core_tree.specs.declared.statements.Stm.{Stm}
-use Rattle.core_tree.specs.declared.statements.StmKind.{StmKind}
+use Rattle.core_tree.specs.{declared.statements.Atom.Atom, declared.statements.Stm.Stm, declared.statements.StmKind.StmKind}
 use Rattle.core_tree.specs.declared.statements.StmKind.TheVariants.{Jump, Zero, Case, Loop, Enter, Leave, Return}
 use Rattle.elaboration.specs.Context.{Piece, Does, Here}
 use Rattle.core_soundness.proofs.Flow.{Marks, Target, Targets, Places, Placed, steps, Goes, Flows, Agree, agree_refl, agree_trans, steps_append, targets_append, targets_map, places_append, places_map, placed_left, placed_right, flows_append, flows_agree, placed_below, marked}

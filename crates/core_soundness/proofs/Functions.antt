@@ -1,19 +1,11 @@
 -- Each function of a core of a text is sound.
 use Rattle.std.proofs.Common.{◌≡◌, All, List, Ok}
-use Rattle.c_lexer.specs.declared.token.Token.{Token}
-use Rattle.c_lexer.specs.Tokens.{IsLexed}
+use Rattle.c_lexer.specs.{declared.token.Token.Token, Tokens.IsLexed}
 use Rattle.c_types.specs.TagTable.{TagTable}
-use Rattle.core_tree.specs.declared.program.Core.{Core}
-use Rattle.core_tree.specs.Sound.{EachFunc, IsFunction}
-use Rattle.c_tree.specs.Tree.{Trees}
-use Rattle.c_tree.specs.HasTree.{HasTree}
+use Rattle.core_tree.specs.{declared.program.Core.Core, Sound.EachFunc, Sound.IsFunction}
+use Rattle.c_tree.specs.{Tree.Trees, HasTree.HasTree}
 use Rattle.elaboration.specs.Elaboration.{elaborated}
-use Rattle.core_soundness.proofs.Cores.{core_flows}
-use Rattle.core_soundness.proofs.Typing.{core_types}
-use Rattle.core_soundness.proofs.Grammatical.{trees_written_all}
-use Rattle.core_soundness.proofs.FormedTrees.{trees_formed_all}
-use Rattle.core_soundness.proofs.SolidTexts.{core_layouts}
-use Rattle.core_soundness.proofs.Numbered.{core_ranges}
+use Rattle.core_soundness.proofs.{Cores.core_flows, Typing.core_types, Grammatical.trees_written_all, FormedTrees.trees_formed_all, SolidTexts.core_layouts, Numbered.core_ranges}
 
 pub functions_sound : (tokens : List Token) (unit : Trees) (core : Core) (tags : TagTable) → All IsLexed tokens → HasTree tokens unit → elaborated unit ≡ Ok (core, tags) → EachFunc core (IsFunction core)
 functions_sound tokens unit core tags l h q f func e =

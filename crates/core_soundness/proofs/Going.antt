@@ -1,14 +1,11 @@
 -- What elaborating an expression does to what fits: its statements fit, and what fitted before it fits behind it.
 use Rattle.std.proofs.Common.{◌≡◌, ◌≤◌, ◌<◌, ◌+◌, ℕ, [], ◌∷◌, Option, max, refl, ◌∙◌, arith}
-use Rattle.core_tree.specs.declared.statements.Atom.{Atom}
-use Rattle.core_tree.specs.declared.statements.StmKind.{StmKind}
-use Rattle.core_tree.specs.Sorts.{Sort, Integer, Pointer}
-use Rattle.c_decls.specs.TypeNames as names
+use Rattle.core_tree.specs.{declared.statements.Atom.Atom, declared.statements.StmKind.StmKind, Sorts.Sort, Sorts.Integer, Sorts.Pointer}
 use Rattle.elaboration.specs.Context.{Does, Here, Context, told, emit, here, with_labels, integer_by, pointer_by, integer_temporary, pointer_temporary}
 use Rattle.core_soundness.specs.Worlds.{World, world, IsRegister, is_integer, is_pointer_temporary, Holds, Fits, PiecesFit}
-use Rattle.core_soundness.proofs.Names.{More, more_refl, more_trans}
-use Rattle.core_soundness.proofs.Owners.{more_keeps}
+use Rattle.core_soundness.proofs.{Names.More, Names.more_refl, Names.more_trans, Owners.more_keeps}
 use Rattle.core_soundness.proofs.Growing.{Grew, grew_refl, grew_trans, fits_any, pieces_grew, pieces_joined}
+use Rattle.c_decls.specs.TypeNames as names
 
 -- the code fits, whatever the function answers
 abbrev pub CodeFits : Option Sort → Context → Type 0

@@ -1,15 +1,10 @@
 -- A tree whose addresses are among given numbers: what is so of a statement is so of each part where it is walked.
 use Rattle.std.proofs.Common.{◌≡◌, ◌≤◌, ℕ, Bool, true, false, List, [], ◌∷◌, refl, sym, ap, ◌∙◌}
-use Rattle.c_tree.specs.Forms.{Form}
-use Rattle.c_tree.specs.Forms as f
-use Rattle.c_tree.specs.Places.{Place}
-use Rattle.c_tree.specs.Tree.{Tree, Trees, Leaf, At, Node, none, ◌▹◌, count}
-use Rattle.c_tree.specs.Grammar.{shape}
-use Rattle.c_tree.specs.Scopes.{is_scope, places}
+use Rattle.c_tree.specs.{Forms.Form, Places.Place, Tree.Tree, Tree.Trees, Tree.Leaf, Tree.At, Tree.Node, Tree.none, Tree.◌▹◌, Tree.count, Grammar.shape, Scopes.is_scope, Scopes.places}
 use Rattle.elaboration.specs.Addressed.{Taken, left_scope, left, left_part, taken, all_taken}
 use Rattle.core_soundness.specs.Written.{HasParts, Written, AllWritten}
-use Rattle.core_soundness.proofs.Adding.{Inside, taken_adds, all_taken_adds}
-use Rattle.core_soundness.proofs.Formed.{NoNodes, Shaped, Formed, AllFormed}
+use Rattle.core_soundness.proofs.{Adding.Inside, Adding.taken_adds, Adding.all_taken_adds, Formed.NoNodes, Formed.Shaped, Formed.Formed, Formed.AllFormed}
+use Rattle.c_tree.specs.Forms as f
 
 -- the addresses that are taken up to the end of a tree are among these
 pub record Good (numbers : List ℕ) (t : Taken) (tree : Tree) : Type 0 where

@@ -1,28 +1,19 @@
 -- The trees of tokens are written as the grammar says.
 use Rattle.std.proofs.Common.{◌≡◌, ◌⊎◌, replicate, ◌≤◌, ℕ, zero, suc, true, false, List, [], ◌∷◌, ◌++◌, All, Option, Some, None, IsSome, refl, sym, ap, ◌∙◌, subst, inl, inr, arith}
 use Rattle.std.proofs.lemmas.List.Elements.{All-tail}
-use Rattle.c_lexer.specs.declared.token.Token.{Token}
-use Rattle.c_lexer.specs.declared.token.TokenKind.{TokenKind}
-use Rattle.c_lexer.specs.declared.token.TokenKind.TheVariants as kind
-use Rattle.c_lexer.specs.Tokens.{IsLexed}
-use Rattle.c_lexer.specs.Pieces.{IsToken}
+use Rattle.c_lexer.specs.{declared.token.Token.Token, declared.token.TokenKind.TokenKind, Tokens.IsLexed, Pieces.IsToken}
 use Rattle.c_lexer.proofs.Constants.{constant_read}
-use Rattle.c_tree.specs.Words as w
-use Rattle.c_tree.specs.Words.{Word}
-use Rattle.c_tree.specs.Forms.{Form}
-use Rattle.c_tree.specs.Forms as f
-use Rattle.c_tree.specs.Places.{Place}
-use Rattle.c_tree.specs.Places as p
-use Rattle.c_tree.specs.Tree.{Tree, Trees, Leaf, At, Node, none, ◌▹◌, count}
-use Rattle.c_tree.specs.declared.word.Keyword.{Keyword}
-use Rattle.c_tree.specs.declared.word.Keyword.TheVariants as k
+use Rattle.c_tree.specs.{Words.Word, Forms.Form, Places.Place, Tree.Tree, Tree.Trees, Tree.Leaf, Tree.At, Tree.Node, Tree.none, Tree.◌▹◌, Tree.count, declared.word.Keyword.Keyword}
 use Rattle.c_tree.specs.Grammar.{Item, Says, Here, Part, key, shape, form_home, keyword_home, home, rows}
 use Rattle.c_tree.specs.Spelling.{Piece, Said, Line, filled, spell, spell_all, IsWord, Spells}
 use Rattle.c_tree.specs.Scopes.{Scope, leads_to_name, places, params_of, params_among, suffix_params, first_list, first_scope}
-use Rattle.c_tree.specs.Allowed.{Takes, IsBase, IsDeclarator, Allowed, AllAllowed, IsExternal, AreExternals}
-use Rattle.c_tree.specs.HasTree.{HasTree}
-use Rattle.core_soundness.specs.Spoken.{HasLists, HasParameters, IsDefinition}
-use Rattle.core_soundness.specs.Written.{IsHeld, HasParts, Written, AllWritten, AreWritten}
+use Rattle.c_tree.specs.{Allowed.Takes, Allowed.IsBase, Allowed.IsDeclarator, Allowed.Allowed, Allowed.AllAllowed, Allowed.IsExternal, Allowed.AreExternals, HasTree.HasTree}
+use Rattle.core_soundness.specs.{Spoken.HasLists, Spoken.HasParameters, Spoken.IsDefinition, Written.IsHeld, Written.HasParts, Written.Written, Written.AllWritten, Written.AreWritten}
+use Rattle.c_lexer.specs.declared.token.TokenKind.TheVariants as kind
+use Rattle.c_tree.specs.Words as w
+use Rattle.c_tree.specs.Forms as f
+use Rattle.c_tree.specs.Places as p
+use Rattle.c_tree.specs.declared.word.Keyword.TheVariants as k
 
 -- a word of a spelling, and a line of it
 abbrev Fits : Piece → Type 0

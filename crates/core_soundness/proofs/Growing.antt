@@ -1,17 +1,15 @@
 -- Operands and statements that fit go on to fit while a text is walked.
 use Rattle.std.proofs.Common.{◌≡◌, ◌≤◌, ℕ, List, [], ◌∷◌, ◌++◌, slice_get, Option, Some, None, option_map, refl, sym, ap, ◌∙◌, subst, arith}
-use Rattle.c_types.specs.Types as types
 use Rattle.c_types.specs.Types.{PlainType}
-use Rattle.core_tree.specs.declared.program.Reg.{Reg as Register}
-use Rattle.core_tree.specs.declared.statements.Atom.{Atom}
-use Rattle.core_tree.specs.declared.statements.Atom.TheVariants as atom
-use Rattle.core_tree.specs.declared.statements.StmKind.{StmKind}
+use Rattle.core_tree.specs.{declared.program.Reg.Reg as Register, declared.statements.Atom.Atom, declared.statements.StmKind.StmKind}
 use Rattle.core_tree.specs.declared.statements.StmKind.TheVariants.{Set, Conv, Un, Bin, Cmp, Add, Sub, Off, Diff, Pcmp, Test, Load, Loadp, Store, Storep, Copy, Clear, Zero, Case, Call, Malloc, Calloc, Realloc, Free, Lib, Printf, Return}
 use Rattle.core_tree.specs.Sorts.{Sort, Integer, Pointer, sort_of}
-use Rattle.c_decls.specs.Named as n
 use Rattle.c_decls.specs.ScopeList.{named_in}
 use Rattle.elaboration.specs.Context.{Piece, Does, Here}
 use Rattle.core_soundness.specs.Worlds.{World, IsRegister, is_local, is_integer, is_pointer_temporary, IsObject, is_variable, is_literal, Holds, HoldAll, local_sort, Receives, IsPrinted, Fits, FitsAnswer, FitsIn, PiecesFit}
+use Rattle.c_types.specs.Types as types
+use Rattle.core_tree.specs.declared.statements.Atom.TheVariants as atom
+use Rattle.c_decls.specs.Named as n
 
 -- what is there stays there
 pub record Grew (w v : World) : Type 0 where

@@ -1,7 +1,6 @@
 -- Answers whose context has grown from another.
 use Rattle.std.proofs.Common.{◌≡◌, ℕ, Bool, true, false, cond, Ok, Err, refl, subst}
-use Rattle.c_decls.specs.declared.refusal.TypeKind.{TypeKind}
-use Rattle.c_decls.specs.Refusals.{Checked, Refusal, refused, then}
+use Rattle.c_decls.specs.{declared.refusal.TypeKind.TypeKind, Refusals.Checked, Refusals.Refusal, Refusals.refused, Refusals.then}
 use Rattle.elaboration.specs.Context.{Context, With}
 use Rattle.core_soundness.proofs.Growth.{Grows}
 

@@ -1,12 +1,10 @@
 -- What elaborating an expression does to what is known: its code is a fragment with no way out but its end.
 use Rattle.std.proofs.Common.{◌≡◌, ◌≤◌, ◌+◌, ℕ, List, [], ◌∷◌, ◌++◌, length, slice_get, Some, sum_by, refl, sym, ap, ◌∙◌, arith, append_assoc, append-nil}
 use Rattle.hs_base.specs.Place.{block_size}
-use Rattle.core_tree.specs.declared.statements.Stm.{Stm}
-use Rattle.core_tree.specs.declared.statements.StmKind.{StmKind}
-use Rattle.c_decls.specs.TypeNames as names
+use Rattle.core_tree.specs.{declared.statements.Stm.Stm, declared.statements.StmKind.StmKind}
 use Rattle.elaboration.specs.Context.{Piece, Does, Code, Context, Variable, told, emit, integer_by, pointer_by}
-use Rattle.core_soundness.proofs.Names.{More, more_refl, more_trans}
-use Rattle.core_soundness.proofs.Fragments.{Fragment, IsPlain, nothing, joined, plain}
+use Rattle.core_soundness.proofs.{Names.More, Names.more_refl, Names.more_trans, Fragments.Fragment, Fragments.IsPlain, Fragments.nothing, Fragments.joined, Fragments.plain}
+use Rattle.c_decls.specs.TypeNames as names
 
 -- the bytes of the blocks of statics
 abbrev pub variable_bytes : List Variable → ℕ

@@ -2,12 +2,11 @@
 use Rattle.std.proofs.Common.{◌≡◌, ℕ, zero, suc, Bool, true, false, nat_eq, length, List, [], ◌∷◌, Some}
 use Rattle.std.specs.List.{list_any}
 use Rattle.c_tree.specs.Tree.{Trees, none, ◌▹◌}
-use Rattle.c_decls.specs.ScopeList as scopes
 use Rattle.c_decls.specs.ScopeList.{ScopeList, Table, found}
-use Rattle.elaboration.specs.Context.{Context}
-use Rattle.elaboration.specs.Addressed.{Taken, number_of, taken}
+use Rattle.elaboration.specs.{Context.Context, Addressed.Taken, Addressed.number_of, Addressed.taken}
 use Rattle.core_soundness.specs.Spoken.{is_register}
 use Rattle.core_soundness.proofs.Names.{More}
+use Rattle.c_decls.specs.ScopeList as scopes
 
 -- a number is one of a list
 abbrev pub among : ℕ → List ℕ → Bool

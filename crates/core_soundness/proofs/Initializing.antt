@@ -1,30 +1,21 @@
 -- What initializers do to what is known.
 use Rattle.std.proofs.Common.{◌≡◌, ◌+◌, ℕ, pos, Bool, true, false, not, cond, length, min, List, [], ◌∷◌, Option, Some, None, refl, ◌∙◌, subst}
 use Rattle.c_types.specs.Types.{PlainType, Array, Struct, Union}
-use Rattle.core_tree.specs.declared.program.Start.{Start}
-use Rattle.core_tree.specs.declared.statements.Atom.{Atom}
-use Rattle.core_tree.specs.declared.statements.Atom.TheVariants as atom
+use Rattle.core_tree.specs.{declared.program.Start.Start, declared.statements.Atom.Atom}
 use Rattle.core_tree.specs.declared.statements.StmKind.TheVariants.{Off, Copy, Enter}
-use Rattle.c_tree.specs.Forms as f
 use Rattle.c_tree.specs.Tree.{Tree, Trees, At, Node, none, ◌▹◌, count}
-use Rattle.c_decls.specs.declared.refusal.TypeKind.TheVariants.{Assignment}
-use Rattle.c_decls.specs.ScopeList.{ScopeList}
-use Rattle.c_decls.specs.Refusals.{refused, then}
-use Rattle.c_decls.specs.PlaceRules.{unconverted}
+use Rattle.c_decls.specs.{declared.refusal.TypeKind.TheVariants.Assignment, ScopeList.ScopeList, Refusals.refused, Refusals.then, PlaceRules.unconverted}
 use Rattle.elaboration.specs.Context.{Context, emit, anew}
 use Rattle.elaboration.specs.Conversions.{Found, Local, Memory, code_line, atom_in, valued, convert, write, size_or_zero}
-use Rattle.elaboration.specs.Reallocates.{reallocates, opened, closed}
-use Rattle.elaboration.specs.Rules.{with_literal}
-use Rattle.elaboration.specs.Expressions.{found}
+use Rattle.elaboration.specs.{Reallocates.reallocates, Reallocates.opened, Reallocates.closed, Rules.with_literal, Expressions.found}
 use Rattle.elaboration.specs.Initializers.{Target, InRegister, InMemory, InStatic, static_scalar, member_place, store_at, fill_scalar, scalar, copy_to, fill_record, is_same_place, whole, fill_text, is_character, text, by_text, by_expression, parts_of, takes_braces, is_scalar_type, all_surplus, initialize, initialize_parts}
-use Rattle.core_soundness.proofs.Names.{Safe}
-use Rattle.core_soundness.proofs.Growth.{Grows, grows_refl, grows_trans, grows_emit, grows_pointer, grows_code}
+use Rattle.core_soundness.proofs.{Names.Safe, Growth.Grows, Growth.grows_refl, Growth.grows_trans, Growth.grows_emit, Growth.grows_pointer, Growth.grows_code}
 use Rattle.core_soundness.proofs.Reached.{Led, led_ok, led_refused, led_after, led_unless, led_barred}
-use Rattle.core_soundness.proofs.Working.{grown_valued, grows_convert, grows_write}
-use Rattle.core_soundness.proofs.Calling.{grown_literal}
-use Rattle.core_soundness.proofs.ExprGrows.{found_grows}
+use Rattle.core_soundness.proofs.{Working.grown_valued, Working.grows_convert, Working.grows_write, Calling.grown_literal, ExprGrows.found_grows}
 use Rattle.core_soundness.proofs.Passing.{Stays, Passes, stays_trans, passes_trans, grows_stays, grows_passes, grows_closed, opened_stays}
 use Rattle.core_soundness.proofs.Declaring.{passes_refl}
+use Rattle.core_tree.specs.declared.statements.Atom.TheVariants as atom
+use Rattle.c_tree.specs.Forms as f
 
 -- a local, whose initializers are code
 abbrev pub IsLocal : Target → Type 0

@@ -2,21 +2,14 @@
 use Rattle.std.proofs.Common.{◌≡◌, ◌≤◌, ◌<◌, ℕ, Bool, true, false, cond, is_some, length, List, [], ◌∷◌, ◌++◌, slice_get, Option, Some, None, Ok, refl, sym, ap, ◌∙◌, subst, arith, ⊎_elim, ltb-false, ltb-true}
 use Rattle.std.specs.Prelude.{nat_lt}
 use Rattle.c_types.specs.Types.{PlainType}
-use Rattle.c_decls.specs.declared.refusal.TypeKind.{TypeKind}
-use Rattle.c_decls.specs.declared.refusal.TypeKind.TheVariants.{DeclaredTwice}
-use Rattle.c_decls.specs.Named as n
-use Rattle.c_decls.specs.Named.{PlainNamed}
-use Rattle.c_decls.specs.Refusals.{Checked, then, unless}
+use Rattle.c_decls.specs.{declared.refusal.TypeKind.TypeKind, declared.refusal.TypeKind.TheVariants.DeclaredTwice, Named.PlainNamed, Refusals.Checked, Refusals.then, Refusals.unless}
 use Rattle.c_decls.specs.ScopeList.{Table, named_in, with_name}
-use Rattle.elaboration.specs.Context.{Context, Declared, Walked}
-use Rattle.elaboration.specs.Locals.{is_twice_in}
+use Rattle.elaboration.specs.{Context.Context, Context.Declared, Context.Walked, Locals.is_twice_in}
 use Rattle.elaboration.specs.Declarations.{function_number, function_number_of, with_function, declared_function}
-use Rattle.core_soundness.proofs.Names.{Safe, with_name_safe}
-use Rattle.core_soundness.proofs.Grown.{good, ok_same, never}
-use Rattle.core_soundness.proofs.Reached.{Led, led_ok, led_after}
-use Rattle.core_soundness.proofs.Owners.{Tied, get_left, get_push, get_below, tied_function, here}
-use Rattle.core_soundness.proofs.Passing.{Passes, passes_beside, stays_beside}
+use Rattle.core_soundness.proofs.{Names.Safe, Names.with_name_safe, Grown.good, Grown.ok_same, Grown.never, Reached.Led, Reached.led_ok, Reached.led_after}
+use Rattle.core_soundness.proofs.{Owners.Tied, Owners.get_left, Owners.get_push, Owners.get_below, Owners.tied_function, Owners.here, Passing.Passes, Passing.passes_beside, Passing.stays_beside}
 use Rattle.core_soundness.proofs.Declaring.{passes_refl}
+use Rattle.c_decls.specs.Named as n
 
 pub record Introduced (name : List ℕ) (index : ℕ) (c d : Context) : Type 0 where
   pub passes : Passes c d

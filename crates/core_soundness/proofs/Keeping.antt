@@ -1,41 +1,28 @@
 -- What expressions leave as it was: as many parameters and locals are declared, and the same of them are taken the address of.
 use Rattle.std.proofs.Common.{◌≡◌, ℕ, zero, suc, Bool, true, false, not, cond, length, List, [], ◌∷◌, Option, Some, None, Ok, ⊎_elim, arith, refl, sym, ap, ◌∙◌, subst}
 use Rattle.std.specs.Option.{option_or}
-use Rattle.c_types.specs.Types.{PlainType, Void}
-use Rattle.core_tree.specs.declared.statements.Atom.{Atom}
-use Rattle.core_tree.specs.declared.statements.StmKind.{StmKind}
+use Rattle.c_types.specs.{Types.PlainType, Types.Void, declared.types.IntType.IntType}
+use Rattle.core_tree.specs.{declared.statements.Atom.Atom, declared.statements.StmKind.StmKind}
 use Rattle.core_tree.specs.declared.statements.StmKind.TheVariants.{Zero, Enter, Leave}
 use Rattle.c_tree.specs.Tree.{Tree}
-use Rattle.c_types.specs.declared.types.IntType.{IntType}
-use Rattle.c_decls.specs.declared.constant.Constant.{Constant}
-use Rattle.c_decls.specs.declared.refusal.TypeKind.TheVariants.{Operands}
-use Rattle.c_decls.specs.Named as n
-use Rattle.c_decls.specs.Named.{PlainNamed}
-use Rattle.c_decls.specs.ScopeList as scopes
-use Rattle.c_decls.specs.ScopeList.{ScopeList, Table, named_in, found_from, found}
-use Rattle.c_decls.specs.IntegerTypes.{promoted}
-use Rattle.c_decls.specs.Typed.{Operand, Number, operand, is_scalar}
-use Rattle.c_decls.specs.Expressions.{line_of, typed, wanted, constant_from}
-use Rattle.c_decls.specs.TypeNames as names
+use Rattle.c_decls.specs.{declared.constant.Constant.Constant, declared.refusal.TypeKind.TheVariants.Operands, Named.PlainNamed}
+use Rattle.c_decls.specs.{ScopeList.ScopeList, ScopeList.Table, ScopeList.named_in, ScopeList.found_from, ScopeList.found, IntegerTypes.promoted}
+use Rattle.c_decls.specs.{Typed.Operand, Typed.Number, Typed.operand, Typed.is_scalar, Expressions.line_of, Expressions.typed, Expressions.wanted, Expressions.constant_from}
 use Rattle.elaboration.specs.Context.{Context, asked, told, emit, anew}
 use Rattle.elaboration.specs.Conversions.{Found, atom_in, code_line, valued, convert_integer, tested_value}
-use Rattle.elaboration.specs.Reallocates.{reallocates, opened, closed}
-use Rattle.elaboration.specs.Expressions as expressions
-use Rattle.elaboration.specs.Declarators.{constant}
+use Rattle.elaboration.specs.{Reallocates.reallocates, Reallocates.opened, Reallocates.closed, Declarators.constant}
 use Rattle.elaboration.specs.Statements.{evaluated, closed_atom, condition, leaves_if_zero, switch_operand_of, switch_operand}
-use Rattle.core_soundness.specs.Spoken.{is_register}
-use Rattle.core_soundness.proofs.Names.{More, MoreTags, MoreAll, IsNewTag, more_refl, more_trans}
-use Rattle.core_soundness.proofs.Owners.{more_depth}
-use Rattle.core_soundness.proofs.Grown.{ok_same, never}
-use Rattle.core_soundness.proofs.Growth.{Grows, grows_refl}
-use Rattle.core_soundness.proofs.Agreeing.{came}
-use Rattle.core_soundness.proofs.Operating.{passed}
-use Rattle.core_soundness.proofs.Working.{grown_valued, grows_convert_integer, grows_tested}
-use Rattle.core_soundness.proofs.ExprGrows.{found_grows}
-use Rattle.core_soundness.proofs.TypedNames.{typed_after, wanted_after}
 use Rattle.elaboration.specs.Addressed.{Taken, Known, number_of}
+use Rattle.core_soundness.specs.Spoken.{is_register}
+use Rattle.core_soundness.proofs.{Names.More, Names.MoreTags, Names.MoreAll, Names.IsNewTag, Names.more_refl, Names.more_trans, Owners.more_depth, Grown.ok_same, Grown.never}
+use Rattle.core_soundness.proofs.{Growth.Grows, Growth.grows_refl, Agreeing.came, Operating.passed, Working.grown_valued, Working.grows_convert_integer, Working.grows_tested, ExprGrows.found_grows}
+use Rattle.core_soundness.proofs.TypedNames.{typed_after, wanted_after}
 use Rattle.core_soundness.proofs.InStep.{among, drops, Keeps, Same, Fewer, HasScope, Numbered, Follows, InStep, Stepped}
 use Rattle.core_soundness.proofs.Still.{SameNames}
+use Rattle.c_decls.specs.Named as n
+use Rattle.c_decls.specs.ScopeList as scopes
+use Rattle.c_decls.specs.TypeNames as names
+use Rattle.elaboration.specs.Expressions as expressions
 
 pub keeps_refl : (c : Context) → Keeps c c
 keeps_refl c = record { more = more_refl c.scopes; declared = refl; addressed = refl }

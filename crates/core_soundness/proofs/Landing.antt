@@ -2,35 +2,16 @@
 use Rattle.std.proofs.Common.{◌≡◌, ◌⊎◌, ◌≤◌, ◌+◌, ◌&&◌, ℕ, pos, Bool, true, false, not, cond, is_some, List, [], ◌∷◌, ◌++◌, length, slice_get, Option, Some, None, Ok, refl, sym, ap, ◌∙◌, subst, inl, inr, ⊎_elim, arith, length-append}
 use Rattle.std.specs.Option.{option_or}
 use Rattle.hs_base.specs.Place.{block_size}
-use Rattle.c_types.specs.declared.types.IntType.{IntType}
-use Rattle.c_types.specs.declared.types.IntType.TheVariants as i
-use Rattle.c_types.specs.Types as types
-use Rattle.c_types.specs.Types.{PlainType}
-use Rattle.c_types.specs.TagTable.{TagTable, PlainMember, members_in}
-use Rattle.core_tree.specs.declared.statements.Atom.{Atom}
-use Rattle.core_tree.specs.declared.statements.Atom.TheVariants as atom
-use Rattle.core_tree.specs.declared.statements.CmpOp.TheVariants as cmp
-use Rattle.core_tree.specs.declared.statements.StmKind.TheVariants.{Cmp}
-use Rattle.core_tree.specs.Sorts.{Integer, Pointer}
-use Rattle.c_tree.specs.declared.operator.BinaryOp.{BinaryOp}
-use Rattle.c_tree.specs.declared.operator.BinaryOp.TheVariants as bin
-use Rattle.c_tree.specs.declared.operator.UnaryOp.{UnaryOp}
-use Rattle.c_tree.specs.declared.operator.UnaryOp.TheVariants as u
-use Rattle.c_tree.specs.Tree.{Tree}
-use Rattle.c_decls.specs.declared.built_in.BuiltIn.{BuiltIn}
-use Rattle.c_decls.specs.declared.built_in.BuiltIn.TheVariants as built
-use Rattle.c_decls.specs.declared.constant.Constant.{Constant}
-use Rattle.c_decls.specs.declared.refusal.TypeKind.TheVariants.{TypeTooLarge, StaticTooLarge, NotLvalue}
-use Rattle.c_decls.specs.Refusals.{refused}
-use Rattle.c_decls.specs.Named as n
-use Rattle.c_decls.specs.Named.{PlainNamed}
-use Rattle.c_decls.specs.ScopeList.{Table, named_in, found_from, found as declaration}
-use Rattle.c_decls.specs.BuiltIns.{built_ins, constant_of}
+use Rattle.c_types.specs.{declared.types.IntType.IntType, Types.PlainType, TagTable.TagTable, TagTable.PlainMember, TagTable.members_in}
+use Rattle.core_tree.specs.{declared.statements.Atom.Atom, declared.statements.StmKind.TheVariants.Cmp, Sorts.Integer, Sorts.Pointer}
+use Rattle.c_tree.specs.{declared.operator.BinaryOp.BinaryOp, declared.operator.UnaryOp.UnaryOp, Tree.Tree}
+use Rattle.c_decls.specs.{declared.built_in.BuiltIn.BuiltIn, declared.constant.Constant.Constant}
+use Rattle.c_decls.specs.{declared.refusal.TypeKind.TheVariants.TypeTooLarge, declared.refusal.TypeKind.TheVariants.StaticTooLarge, declared.refusal.TypeKind.TheVariants.NotLvalue, Refusals.refused}
+use Rattle.c_decls.specs.{Named.PlainNamed, ScopeList.Table, ScopeList.named_in, ScopeList.found_from, ScopeList.found as declaration, BuiltIns.built_ins, BuiltIns.constant_of}
 use Rattle.c_decls.specs.Callees.{named, built_in_named, built_in_value}
 use Rattle.c_decls.specs.Typed.{PlainTyped, Operand, Number, PointerTo, Neither, operand, place, value, int, constant, is_scalar, is_null_constant}
 use Rattle.c_decls.specs.TypeRules.{unary, unary_of, unary_on_integer, unary_type, binary, address}
 use Rattle.c_decls.specs.PlaceRules.{cast, cast_types, null_pointer, element, element_types, dot, arrow, arrow_of, member_among, member_answer}
-use Rattle.c_decls.specs.PlaceRules as places
 use Rattle.c_decls.specs.Expressions.{string}
 use Rattle.elaboration.specs.Context.{Context, literal_object, local_register}
 use Rattle.elaboration.specs.Conversions.{Found, Spot, Local, Memory, Value, Fixed, Unknown, Nowhere, found_as, atom_in, code_line, convert, forget, tested_value}
@@ -38,13 +19,19 @@ use Rattle.elaboration.specs.Operations.{working, move_pointer, combine, combine
 use Rattle.elaboration.specs.Rules.{constant_found, object_found, built_in_found, name_found, is_inner, with_static, with_literal, literal_found, at_address, with_value, indexed, member_of, dotted, target_of, pointed, negated, before_number, apply, applied, tells_equal, is_pointer_ahead, is_pointer_operand, ahead, left_operand, between, cast_fixed, cast_to}
 use Rattle.elaboration.specs.Expressions.{name_answer, literal_answer, address_answer}
 use Rattle.core_soundness.specs.Worlds.{World, world, Holds, HeldAs, Held, StandsAs, Stands, IsObject, is_variable, is_literal, is_local, InnerFits, FileFits, TablesFit, NamesFit, local_sort, type_sort}
-use Rattle.core_soundness.proofs.Grown.{good, ok_same, never}
-use Rattle.core_soundness.proofs.Names.{more_refl}
-use Rattle.core_soundness.proofs.Agreeing.{came}
-use Rattle.core_soundness.proofs.Growing.{Grew, holds_grew, pieces_grew}
+use Rattle.core_soundness.proofs.{Grown.good, Grown.ok_same, Grown.never, Names.more_refl, Agreeing.came, Growing.Grew, Growing.holds_grew, Growing.pieces_grew}
 use Rattle.core_soundness.proofs.Going.{Goes, goes_refl, goes_forgotten, Gives, gives_on, gives_integer}
 use Rattle.core_soundness.proofs.Sorting.{Sits, Lands, Comes, comes_lands, HasValue, Converting, converted, tested_value_gives}
 use Rattle.core_soundness.proofs.Operating.{passed, kept_test, behind_test, moved_is, beside_is, Makes, before_gives, member_gives, move_gives, IsPointed, IsBetween, LeftOf, binary_makes}
+use Rattle.c_types.specs.declared.types.IntType.TheVariants as i
+use Rattle.c_types.specs.Types as types
+use Rattle.core_tree.specs.declared.statements.Atom.TheVariants as atom
+use Rattle.core_tree.specs.declared.statements.CmpOp.TheVariants as cmp
+use Rattle.c_tree.specs.declared.operator.BinaryOp.TheVariants as bin
+use Rattle.c_tree.specs.declared.operator.UnaryOp.TheVariants as u
+use Rattle.c_decls.specs.declared.built_in.BuiltIn.TheVariants as built
+use Rattle.c_decls.specs.Named as n
+use Rattle.c_decls.specs.PlaceRules as places
 
 -- names
 

@@ -1,43 +1,32 @@
 -- What declarators, specs and tags do to what fits (C99 6.7).
 use Rattle.std.proofs.Common.{◌≡◌, ◌<◌, not, option_map, ap, sym, ◌≤◌, ◌∙◌, subst, ⊎_elim, length-append, ℕ, zero, suc, Bool, true, false, ◌||◌, cond, is_some, List, [], ◌∷◌, ◌++◌, length, slice_get, unwrap_or, Option, Some, None, Ok, refl, arith}
-use Rattle.c_types.specs.declared.types.IntType.TheVariants as i
-use Rattle.c_types.specs.Types.{PlainType, PlainTypes, Int, Pointer, Function}
-use Rattle.c_types.specs.Layouts.{no_layout}
-use Rattle.c_types.specs.TagTable.{TagTable, layout_in}
-use Rattle.core_tree.specs.declared.statements.Atom.TheVariants as atom
-use Rattle.c_tree.specs.declared.operator.RecordSort.TheVariants as r
-use Rattle.c_tree.specs.Forms as f
+use Rattle.c_types.specs.{Types.PlainType, Types.PlainTypes, Types.Int, Types.Pointer, Types.Function, Layouts.no_layout, TagTable.TagTable, TagTable.layout_in}
 use Rattle.c_tree.specs.Tree.{Tree, Trees}
-use Rattle.c_decls.specs.declared.refusal.TypeKind.TheVariants.{DeclaredTwice}
-use Rattle.c_decls.specs.Named as n
-use Rattle.c_decls.specs.Named.{PlainNamed}
-use Rattle.c_decls.specs.ScopeList as scopes
+use Rattle.c_decls.specs.{declared.refusal.TypeKind.TheVariants.DeclaredTwice, Named.PlainNamed}
 use Rattle.c_decls.specs.ScopeList.{ScopeList, Table, named_in, innermost, first_or, with_name, tag_name, after_declaration}
-use Rattle.c_decls.specs.Refusals.{Checked}
-use Rattle.c_decls.specs.Typed.{is_scalar}
-use Rattle.c_decls.specs.TypeNames as names
+use Rattle.c_decls.specs.{Refusals.Checked, Typed.is_scalar}
 use Rattle.elaboration.specs.Context.{Context, Running, Code, Variable, asked, told, entered, local_register}
 use Rattle.elaboration.specs.Conversions.{Spot, Memory}
 use Rattle.elaboration.specs.Locals.{is_pointer, is_twice, declared_as, next_is_memory, with_register, with_memory, counted, with_named, memory_param, register_param, function_param, prototype_param, with_param, local_in, with_local}
-use Rattle.elaboration.specs.Declarators as d
 use Rattle.elaboration.specs.Declarators.{constant, with_type, left_params, specs, layers, suffix_layers, suffix_layer, params}
-use Rattle.core_soundness.proofs.Names.{More, MoreAll, more_refl, all_refl}
-use Rattle.core_soundness.proofs.Owners.{IsNoFunction, with_name_keeps, with_name_depth, tag_kept}
+use Rattle.core_soundness.proofs.{Names.More, Names.MoreAll, Names.more_refl, Names.all_refl, Owners.IsNoFunction, Owners.with_name_keeps, Owners.with_name_depth, Owners.tag_kept}
 use Rattle.core_soundness.proofs.ShortNames.{Any, any_names, all_any}
 use Rattle.core_soundness.proofs.LayersWalk.{Steps, constant_keeps, specs_keep, layers_keep, suffixes_keep, suffix_keeps, params_keep}
-use Rattle.core_soundness.proofs.Reached.{Reached, reached_ok, reached_after, Led, led_ok, led_unless}
-use Rattle.core_soundness.proofs.TypedNames.{After}
-use Rattle.core_tree.specs.declared.program.Reg.{Reg as Register}
-use Rattle.core_tree.specs.Sorts.{Sort, sort_of}
-use Rattle.core_soundness.specs.Worlds.{World, world, local_sort, type_sort, is_local, Held, StandsAs, InnerFits, FileFits, TableFits, TablesFit, NamesFit, PiecesFit}
-use Rattle.core_soundness.proofs.Declaring.{tail_depth}
-use Rattle.core_soundness.proofs.Owners.{Pushed, push_get, get_left, get_last}
-use Rattle.core_soundness.proofs.Growing.{Grew, grew_refl, pieces_grew}
-use Rattle.core_soundness.proofs.Going.{goes_told}
-use Rattle.core_soundness.proofs.Sorting.{write_goes}
+use Rattle.core_soundness.proofs.{Reached.Reached, Reached.reached_ok, Reached.reached_after, Reached.Led, Reached.led_ok, Reached.led_unless, TypedNames.After, Declaring.tail_depth}
+use Rattle.core_soundness.proofs.{Owners.Pushed, Owners.push_get, Owners.get_left, Owners.get_last, Growing.Grew, Growing.grew_refl, Growing.pieces_grew, Going.goes_told, Sorting.write_goes}
 use Rattle.core_soundness.proofs.Readying.{names_more, sort_kept}
 use Rattle.core_soundness.proofs.Prototypes.{Aside, aside_refl, left_aside, with_name_outside, own_params, params_beside}
 use Rattle.core_soundness.proofs.Running.{Fine, Runs, tail_more, runs_refl, runs_trans, on_runs, table_grew, names_left, entered_fine}
+use Rattle.core_tree.specs.{declared.program.Reg.Reg as Register, Sorts.Sort, Sorts.sort_of}
+use Rattle.core_soundness.specs.Worlds.{World, world, local_sort, type_sort, is_local, Held, StandsAs, InnerFits, FileFits, TableFits, TablesFit, NamesFit, PiecesFit}
+use Rattle.c_types.specs.declared.types.IntType.TheVariants as i
+use Rattle.core_tree.specs.declared.statements.Atom.TheVariants as atom
+use Rattle.c_tree.specs.declared.operator.RecordSort.TheVariants as r
+use Rattle.c_tree.specs.Forms as f
+use Rattle.c_decls.specs.Named as n
+use Rattle.c_decls.specs.ScopeList as scopes
+use Rattle.c_decls.specs.TypeNames as names
+use Rattle.elaboration.specs.Declarators as d
 
 pub pushed_fits : (P : PlainNamed → Type 0) (name : List ℕ) (v : PlainNamed) (t : Table) → P v → TableFits P t → TableFits P (t ++ (name, v) ∷ [])
 pushed_fits P name v t h f key w e =

@@ -1,39 +1,28 @@
 -- One walk over specs, tags with braces and declarators: what each of their steps keeps, they keep (C99 6.7.2, 6.7.5).
 use Rattle.std.proofs.Common.{◌≡◌, ◌+◌, ◌*◌, ◌≤◌, ℕ, ℤ, pos, Bool, true, ◌||◌, is_some, List, [], Option, Some, None, Result, Ok, Err, arith}
 use Rattle.std.specs.Prelude.{IfSome}
-use Rattle.hs_base.specs.declared.ends.IntKind.TheVariants.{I32}
-use Rattle.hs_base.specs.Numbers.{wrapped}
+use Rattle.hs_base.specs.{declared.ends.IntKind.TheVariants.I32, Numbers.wrapped}
+use Rattle.c_types.specs.{declared.tags.TagError.TagError, Types.PlainType, Types.PlainTypes, Types.Int, Types.Struct, Types.Union, TagTable.TagTable, TagTable.completion}
+use Rattle.c_tree.specs.{declared.operator.RecordSort.RecordSort, Grammar.shape, Tree.Tree, Tree.Trees, Tree.Leaf, Tree.At, Tree.Node, Tree.none, Tree.◌▹◌, Tree.count, Scopes.name_of}
+use Rattle.c_decls.specs.{declared.refusal.TypeKind.TheVariants.DeclaredTwice, declared.refusal.TypeKind.TheVariants.Incomplete, declared.refusal.TypeKind.TheVariants.LeftOut, Named.PlainNamed}
+use Rattle.c_decls.specs.{ScopeList.named_in, ScopeList.innermost, ScopeList.with_name, ScopeList.tag_name, ScopeList.after_declaration, Refusals.Checked}
+use Rattle.c_decls.specs.Typed.{is_void, is_record, is_function, has_no_size}
+use Rattle.c_decls.specs.TypeNames.{special_type, array_length, with_new_tag, with_layers, with_param_layers, adjusted}
+use Rattle.c_decls.specs.Expressions.{line_of, typed, wanted, constant_from}
+use Rattle.elaboration.specs.{Context.Context, Context.asked, Context.told, Context.entered, Locals.is_twice, Locals.declared_as, Locals.with_param}
+use Rattle.elaboration.specs.Declarators.{constant, with_type, maybe_name, begun_as, begun, completed_by, complete, ended, with_member, member, enumerator, enum_named, is_declared, param, left_params, specs, words_type, tag_type, members, member_names, enumerators, layers, suffix_layers, suffix_layer, params}
+use Rattle.core_soundness.proofs.{Names.More, Names.with_tag_more, Agreeing.came}
+use Rattle.core_soundness.proofs.Reached.{Reached, reached_ok, reached_refused, reached_after, reached_unless, Led, led_ok, led_refused, led_unless}
+use Rattle.core_soundness.proofs.{TypedNames.After, TypedNames.typed_after, TypedNames.wanted_after, TypedNames.special_after, ShortNames.Names, ShortNames.AllNames, ShortNames.name_named}
+use Rattle.core_soundness.proofs.Weights.{weight, weights, commas_said}
 use Rattle.c_types.specs.declared.types.IntType.TheVariants as i
-use Rattle.c_types.specs.declared.tags.TagError.{TagError}
-use Rattle.c_types.specs.Types.{PlainType, PlainTypes, Int, Struct, Union}
-use Rattle.c_types.specs.TagTable.{TagTable, completion}
-use Rattle.c_tree.specs.declared.operator.RecordSort.{RecordSort}
 use Rattle.c_tree.specs.declared.operator.RecordSort.TheVariants as r
 use Rattle.c_tree.specs.Words as w
 use Rattle.c_tree.specs.Forms as f
 use Rattle.c_tree.specs.Places as p
-use Rattle.c_tree.specs.Grammar.{shape}
-use Rattle.c_tree.specs.Tree.{Tree, Trees, Leaf, At, Node, none, ◌▹◌, count}
-use Rattle.c_tree.specs.Scopes.{name_of}
-use Rattle.c_decls.specs.declared.refusal.TypeKind.TheVariants.{DeclaredTwice, Incomplete, LeftOut}
 use Rattle.c_decls.specs.Named as n
-use Rattle.c_decls.specs.Named.{PlainNamed}
-use Rattle.c_decls.specs.ScopeList.{named_in, innermost, with_name, tag_name, after_declaration}
-use Rattle.c_decls.specs.Refusals.{Checked}
-use Rattle.c_decls.specs.Typed.{is_void, is_record, is_function, has_no_size}
 use Rattle.c_decls.specs.TypeNames as names
-use Rattle.c_decls.specs.TypeNames.{special_type, array_length, with_new_tag, with_layers, with_param_layers, adjusted}
-use Rattle.c_decls.specs.Expressions.{line_of, typed, wanted, constant_from}
-use Rattle.elaboration.specs.Context.{Context, asked, told, entered}
-use Rattle.elaboration.specs.Locals.{is_twice, declared_as, with_param}
 use Rattle.elaboration.specs.Declarators as d
-use Rattle.elaboration.specs.Declarators.{constant, with_type, maybe_name, begun_as, begun, completed_by, complete, ended, with_member, member, enumerator, enum_named, is_declared, param, left_params, specs, words_type, tag_type, members, member_names, enumerators, layers, suffix_layers, suffix_layer, params}
-use Rattle.core_soundness.proofs.Names.{More, with_tag_more}
-use Rattle.core_soundness.proofs.Agreeing.{came}
-use Rattle.core_soundness.proofs.Reached.{Reached, reached_ok, reached_refused, reached_after, reached_unless, Led, led_ok, led_refused, led_unless}
-use Rattle.core_soundness.proofs.TypedNames.{After, typed_after, wanted_after, special_after}
-use Rattle.core_soundness.proofs.ShortNames.{Names, AllNames, name_named}
-use Rattle.core_soundness.proofs.Weights.{weight, weights, commas_said}
 
 -- the steps of a walk, where R is said of what is known before a part and behind it: whether it stands in a parameter list,
 -- and six for each of its words; and W of the names of parameters

@@ -1,15 +1,11 @@
 -- Behind a scope, what the walk over addresses knows is what it knew before it, with the numbers that were given inside.
 use Rattle.std.proofs.Common.{◌≡◌, ℕ, true, false, List, [], ◌∷◌, Option, Some, None, refl, sym, ap, ◌∙◌, ⊎_elim}
 use Rattle.std.specs.Option.{option_or}
+use Rattle.c_decls.specs.{Named.PlainNamed, Named.Tag, ScopeList.Table, ScopeList.named_in, ScopeList.found_from, ScopeList.tail}
+use Rattle.elaboration.specs.{Addressed.Taken, Addressed.left_scope, Context.Context, Context.left}
+use Rattle.core_soundness.specs.{Worlds.World, Worlds.world, Worlds.FileFits, Worlds.TableFits, Spoken.is_register}
+use Rattle.core_soundness.proofs.{Names.MoreAll, Names.IsNewTag, InStep.among, InStep.HasScope, InStep.Numbered, InStep.InStep}
 use Rattle.c_decls.specs.Named as n
-use Rattle.c_decls.specs.Named.{PlainNamed, Tag}
-use Rattle.c_decls.specs.ScopeList.{Table, named_in, found_from, tail}
-use Rattle.elaboration.specs.Addressed.{Taken, left_scope}
-use Rattle.elaboration.specs.Context.{Context, left}
-use Rattle.core_soundness.specs.Worlds.{World, world, FileFits, TableFits}
-use Rattle.core_soundness.specs.Spoken.{is_register}
-use Rattle.core_soundness.proofs.Names.{MoreAll, IsNewTag}
-use Rattle.core_soundness.proofs.InStep.{among, HasScope, Numbered, InStep}
 
 -- a name at file scope is no register
 pub file_none : (w : World) (g : Table) (name : List ℕ) → TableFits (FileFits w) g → is_register (named_in name g) ≡ true → ⊥

@@ -3,40 +3,24 @@ use Rattle.std.proofs.Common.{◌≡◌, ◌+◌, ℕ, zero, suc, pos, Bool, tru
 use Rattle.std.specs.Prelude.{nat_lt}
 use Rattle.std.proofs.lemmas.List.Sums.{sum_by-append, sum_by-cons}
 use Rattle.hs_base.specs.Place.{block_size}
-use Rattle.c_types.specs.declared.layouts.Layout.{Layout}
-use Rattle.c_types.specs.Types.{PlainType}
-use Rattle.c_types.specs.Layouts.{no_layout}
-use Rattle.c_types.specs.TagTable.{layout_in}
-use Rattle.core_tree.specs.declared.program.Start.{Start}
-use Rattle.core_tree.specs.declared.statements.Atom.{Atom}
-use Rattle.core_tree.specs.declared.statements.Atom.TheVariants as atom
-use Rattle.core_tree.specs.declared.statements.StmKind.TheVariants.{Set, Clear}
-use Rattle.c_tree.specs.Words as w
-use Rattle.c_tree.specs.Forms as f
-use Rattle.c_tree.specs.Tree.{Tree, Trees, Leaf, At, Node, none, ◌▹◌}
-use Rattle.c_tree.specs.Scopes.{name_of}
+use Rattle.c_types.specs.{declared.layouts.Layout.Layout, Types.PlainType, Layouts.no_layout, TagTable.layout_in}
+use Rattle.core_tree.specs.{declared.program.Start.Start, declared.statements.Atom.Atom, declared.statements.StmKind.TheVariants.Set, declared.statements.StmKind.TheVariants.Clear}
+use Rattle.c_tree.specs.{Tree.Tree, Tree.Trees, Tree.Leaf, Tree.At, Tree.Node, Tree.none, Tree.◌▹◌, Scopes.name_of}
 use Rattle.c_decls.specs.declared.refusal.TypeKind.TheVariants.{DeclaredTwice, Incomplete, LeftOut, StaticTooLarge}
-use Rattle.c_decls.specs.Named as n
-use Rattle.c_decls.specs.ScopeList.{named_in, innermost, tag_name}
-use Rattle.c_decls.specs.Refusals.{Checked, then, unless}
-use Rattle.c_decls.specs.Typed.{is_function, has_no_size}
-use Rattle.c_decls.specs.TypeNames.{tag_named}
-use Rattle.elaboration.specs.Context.{Context, Variable, asked}
-use Rattle.elaboration.specs.Conversions.{Spot, Local, Memory, size_or_zero}
-use Rattle.elaboration.specs.Locals.{is_twice, declared_as, with_local}
-use Rattle.elaboration.specs.Declarators.{layers}
+use Rattle.c_decls.specs.{ScopeList.named_in, ScopeList.innermost, ScopeList.tag_name, Refusals.Checked, Refusals.then, Refusals.unless, Typed.is_function, Typed.has_no_size, TypeNames.tag_named}
+use Rattle.elaboration.specs.{Context.Context, Context.Variable, Context.asked, Conversions.Spot, Conversions.Local, Conversions.Memory, Conversions.size_or_zero}
+use Rattle.elaboration.specs.{Locals.is_twice, Locals.declared_as, Locals.with_local, Declarators.layers}
 use Rattle.elaboration.specs.Initializers.{Target, InRegister, InMemory, InStatic, initialize, surplus, no_start, with_init_layers}
 use Rattle.elaboration.specs.Declarations.{Storage, Typedef, Outside, Plain, storage_of, specs_alone, specs_before, zero_of, cleared, fill_memory, fill_register, fill_at, local_object, local_name, declared_function, no_initializer, variable_number_of, with_new_variable, with_variable, start_of, start_in, started_variable, started, fill_variable, file_object, file_function, file_value, file_name, name_in, entry, entries, declaration}
-use Rattle.core_soundness.proofs.Names.{Safe}
-use Rattle.core_soundness.proofs.Growth.{Counted, grows_emit, variable_bytes}
-use Rattle.core_soundness.proofs.Grown.{good, ok_same, never}
-use Rattle.core_soundness.proofs.Reached.{Reached, Led, led_ok, led_refused, led_after, led_unless}
-use Rattle.core_soundness.proofs.TypedNames.{tag_after}
-use Rattle.core_soundness.proofs.Owners.{tied_refl}
-use Rattle.core_soundness.proofs.Introducing.{introduced}
-use Rattle.core_soundness.proofs.Passing.{Stays, Passes, stays_trans, passes_trans, grows_passes}
+use Rattle.core_soundness.proofs.{Names.Safe, Growth.Counted, Growth.grows_emit, Growth.variable_bytes, Grown.good, Grown.ok_same, Grown.never}
+use Rattle.core_soundness.proofs.{Reached.Reached, Reached.Led, Reached.led_ok, Reached.led_refused, Reached.led_after, Reached.led_unless, TypedNames.tag_after, Owners.tied_refl}
+use Rattle.core_soundness.proofs.{Introducing.introduced, Passing.Stays, Passing.Passes, Passing.stays_trans, Passing.passes_trans, Passing.grows_passes}
 use Rattle.core_soundness.proofs.Declaring.{passes_refl, declared_passes, with_local_passes, with_type_passes, specs_passes, layers_pass}
 use Rattle.core_soundness.proofs.Initializing.{initialize_fills}
+use Rattle.core_tree.specs.declared.statements.Atom.TheVariants as atom
+use Rattle.c_tree.specs.Words as w
+use Rattle.c_tree.specs.Forms as f
+use Rattle.c_decls.specs.Named as n
 
 -- locals
 

@@ -3,51 +3,31 @@ use Rattle.std.proofs.Common.{◌≡◌, ◌≤◌, ◌+◌, ℕ, zero, suc, pos
 use Rattle.std.specs.Option.{option_or}
 use Rattle.std.proofs.lemmas.Bool.{ltb-true}
 use Rattle.hs_base.specs.Place.{block_size}
-use Rattle.c_types.specs.Types as types
-use Rattle.c_types.specs.Types.{PlainType, Function}
-use Rattle.c_types.specs.Layouts.{no_layout}
-use Rattle.c_types.specs.TagTable.{layout_in}
-use Rattle.core_tree.specs.declared.program.Start.{Start}
-use Rattle.core_tree.specs.declared.statements.Atom.{Atom}
-use Rattle.core_tree.specs.declared.statements.Atom.TheVariants as atom
-use Rattle.core_tree.specs.declared.statements.StmKind.TheVariants.{Set, Clear}
+use Rattle.c_types.specs.{Types.PlainType, Types.Function, Layouts.no_layout, TagTable.layout_in}
+use Rattle.core_tree.specs.{declared.program.Start.Start, declared.statements.Atom.Atom, declared.statements.StmKind.TheVariants.Set, declared.statements.StmKind.TheVariants.Clear}
 use Rattle.core_tree.specs.Sorts.{Sort, Integer, Pointer}
-use Rattle.c_tree.specs.Words as w
-use Rattle.c_tree.specs.Forms as f
-use Rattle.c_tree.specs.Tree.{Tree, Trees, Leaf, At, Node, none, ◌▹◌}
-use Rattle.c_tree.specs.Scopes.{name_of}
+use Rattle.c_tree.specs.{Tree.Tree, Tree.Trees, Tree.Leaf, Tree.At, Tree.Node, Tree.none, Tree.◌▹◌, Scopes.name_of}
 use Rattle.c_decls.specs.declared.refusal.TypeKind.TheVariants.{DeclaredTwice, Incomplete, LeftOut, StaticTooLarge}
-use Rattle.c_decls.specs.Named as n
-use Rattle.c_decls.specs.Named.{PlainNamed}
-use Rattle.c_decls.specs.ScopeList.{Table, named_in, innermost, with_name, after_declaration, tag_name}
-use Rattle.c_decls.specs.ScopeList as scopes
-use Rattle.c_decls.specs.Refusals.{Checked, then, unless}
-use Rattle.c_decls.specs.Typed.{is_function, has_no_size}
-use Rattle.c_decls.specs.TypeNames.{Layer, tag_named}
-use Rattle.elaboration.specs.Context.{Context, Variable, asked, emit}
-use Rattle.elaboration.specs.Conversions.{Spot, Local, Memory, size_or_zero}
-use Rattle.elaboration.specs.Rules.{with_static}
-use Rattle.elaboration.specs.Locals.{is_twice, declared_as, with_local}
-use Rattle.elaboration.specs.Declarators.{layers}
+use Rattle.c_decls.specs.{Named.PlainNamed, ScopeList.Table, ScopeList.named_in, ScopeList.innermost, ScopeList.with_name, ScopeList.after_declaration, ScopeList.tag_name}
+use Rattle.c_decls.specs.{Refusals.Checked, Refusals.then, Refusals.unless, Typed.is_function, Typed.has_no_size, TypeNames.Layer, TypeNames.tag_named}
+use Rattle.elaboration.specs.{Context.Context, Context.Variable, Context.asked, Context.emit, Conversions.Spot, Conversions.Local, Conversions.Memory, Conversions.size_or_zero, Rules.with_static}
+use Rattle.elaboration.specs.{Locals.is_twice, Locals.declared_as, Locals.with_local, Declarators.layers}
 use Rattle.elaboration.specs.Initializers.{Target, InRegister, InMemory, InStatic, initialize, surplus, no_start, with_init_layers}
-use Rattle.elaboration.specs.Declarations as storages
 use Rattle.elaboration.specs.Declarations.{Storage, Typedef, Outside, storage_of, specs_alone, specs_before, zero_of, cleared, fill_memory, fill_register, fill_at, fill_local, local_object, local_name, function_number, with_function, declared_function, no_initializer, variable_number_of, with_new_variable, with_variable, start_of, start_in, started_variable, started, fill_variable, file_object, file_function, file_value, file_name, name_in, entry, entries, declaration}
-use Rattle.core_soundness.specs.Worlds.{world, Holds, StandsAs, InnerFits, FileFits, TablesFit}
-use Rattle.core_soundness.specs.Spoken.{AllSpoken}
-use Rattle.core_soundness.specs.Written.{Written, AllWritten}
-use Rattle.core_soundness.proofs.Grown.{good, ok_same, never}
-use Rattle.core_soundness.proofs.Names.{more_refl, all_refl, named_push}
-use Rattle.core_soundness.proofs.TypedNames.{tag_after}
-use Rattle.core_soundness.proofs.Agreeing.{came}
-use Rattle.core_soundness.proofs.Growing.{Grew, grew_refl, pieces_grew}
-use Rattle.core_soundness.proofs.Going.{Goes, goes_trans, goes_emit}
-use Rattle.core_soundness.proofs.Operating.{passed, behind_test}
-use Rattle.core_soundness.proofs.Readying.{names_more}
-use Rattle.core_soundness.proofs.Outside.{outside_spoken}
-use Rattle.core_soundness.proofs.LocalsSpoken.{LocalSpoken, EntriesSpoken, DeclarationSpoken}
+use Rattle.core_soundness.specs.{Worlds.world, Worlds.Holds, Worlds.StandsAs, Worlds.InnerFits, Worlds.FileFits, Worlds.TablesFit, Spoken.AllSpoken, Written.Written, Written.AllWritten}
+use Rattle.core_soundness.proofs.{Grown.good, Grown.ok_same, Grown.never, Names.more_refl, Names.all_refl, Names.named_push, TypedNames.tag_after, Agreeing.came}
+use Rattle.core_soundness.proofs.{Growing.Grew, Growing.grew_refl, Growing.pieces_grew, Going.Goes, Going.goes_trans, Going.goes_emit, Operating.passed, Operating.behind_test, Readying.names_more}
+use Rattle.core_soundness.proofs.{Outside.outside_spoken, LocalsSpoken.LocalSpoken, LocalsSpoken.EntriesSpoken, LocalsSpoken.DeclarationSpoken}
 use Rattle.core_soundness.proofs.Running.{Fine, Runs, runs_refl, runs_trans, goes_runs, on_runs, table_grew}
 use Rattle.core_soundness.proofs.LayersRun.{TableKept, rescoped, pushed_fits, with_local_runs, declared_runs, with_type_runs, specs_run, layers_run}
 use Rattle.core_soundness.proofs.FillsRun.{initialize_fits}
+use Rattle.c_types.specs.Types as types
+use Rattle.core_tree.specs.declared.statements.Atom.TheVariants as atom
+use Rattle.c_tree.specs.Words as w
+use Rattle.c_tree.specs.Forms as f
+use Rattle.c_decls.specs.Named as n
+use Rattle.c_decls.specs.ScopeList as scopes
+use Rattle.elaboration.specs.Declarations as storages
 
 -- locals
 

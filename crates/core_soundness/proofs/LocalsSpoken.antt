@@ -2,16 +2,12 @@
 -- the address of no register.
 use Rattle.std.proofs.Common.{◌≡◌, ℕ, false, List, Some, Ok}
 use Rattle.c_types.specs.Types.{PlainType}
-use Rattle.c_tree.specs.Forms as f
-use Rattle.c_tree.specs.Tree.{Tree, Trees, Node, none, ◌▹◌}
-use Rattle.c_tree.specs.Scopes.{name_of}
+use Rattle.c_tree.specs.{Tree.Tree, Tree.Trees, Tree.Node, Tree.none, Tree.◌▹◌, Scopes.name_of}
 use Rattle.c_decls.specs.TypeNames.{Layer}
-use Rattle.elaboration.specs.Context.{Context}
-use Rattle.elaboration.specs.Locals.{with_local}
-use Rattle.elaboration.specs.Declarators.{layers}
-use Rattle.elaboration.specs.Initializers.{with_init_layers}
+use Rattle.elaboration.specs.{Context.Context, Locals.with_local, Declarators.layers, Initializers.with_init_layers}
 use Rattle.elaboration.specs.Declarations.{Storage, storage_of, specs_before, fill_local, entry}
 use Rattle.core_soundness.specs.Spoken.{AllSpoken}
+use Rattle.c_tree.specs.Forms as f
 
 -- of a local that is declared there
 abbrev pub LocalSpoken : ℕ → List ℕ → PlainType → Trees → Context → Context → Type 0

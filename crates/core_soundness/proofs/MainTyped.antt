@@ -2,29 +2,18 @@
 use Rattle.std.proofs.Common.{◌≡◌, ◌+◌, ◌&&◌, ℕ, zero, suc, Bool, true, false, codes, cond, map, List, [], ◌∷◌, slice_get, Option, Some, Ok, refl, sym, ap, ◌∙◌, subst, arith}
 use Rattle.std.specs.Option.{ForSome}
 use Rattle.std.proofs.lemmas.Slice.Eq.{bytes_eq-Decides}
+use Rattle.c_types.specs.{Types.PlainType, Types.PlainTypes, Types.Int, Types.Function, TagTable.TagTable}
+use Rattle.core_tree.specs.{declared.program.Core.Core, declared.program.Func.Func, Sound.is_main, Sound.first_main, Sound.main_of, Sound.IsMain}
+use Rattle.c_tree.specs.Tree.{Trees}
+use Rattle.c_decls.specs.{Named.PlainNamed, ScopeList.named_in, Typed.same}
+use Rattle.c_decls.proofs.SameTypes.{same_equal}
+use Rattle.elaboration.specs.{Context.Context, Context.Declared, Context.Walked, Externals.is_defined, Resolving.function_of, Resolving.core_of, Elaboration.elaborated}
+use Rattle.core_soundness.specs.Written.{AreWritten}
+use Rattle.core_soundness.proofs.{Formed.AreFormed, Cores.behind, Texts.walked_finished, Typing.text_ended, Typing.function_returns}
 use Rattle.c_types.specs.declared.types.IntType.TheVariants as i
 use Rattle.c_types.specs.Types as types
-use Rattle.c_types.specs.Types.{PlainType, PlainTypes, Int, Function}
-use Rattle.c_types.specs.TagTable.{TagTable}
-use Rattle.core_tree.specs.declared.program.Core.{Core}
-use Rattle.core_tree.specs.declared.program.Func.{Func}
-use Rattle.core_tree.specs.Sound.{is_main, first_main, main_of, IsMain}
-use Rattle.c_tree.specs.Tree.{Trees}
 use Rattle.c_decls.specs.Named as n
-use Rattle.c_decls.specs.Named.{PlainNamed}
-use Rattle.c_decls.specs.ScopeList.{named_in}
-use Rattle.c_decls.specs.Typed.{same}
-use Rattle.c_decls.proofs.SameTypes.{same_equal}
-use Rattle.elaboration.specs.Context.{Context, Declared, Walked}
 use Rattle.elaboration.specs.Externals as externals
-use Rattle.elaboration.specs.Externals.{is_defined}
-use Rattle.elaboration.specs.Resolving.{function_of, core_of}
-use Rattle.elaboration.specs.Elaboration.{elaborated}
-use Rattle.core_soundness.specs.Written.{AreWritten}
-use Rattle.core_soundness.proofs.Formed.{AreFormed}
-use Rattle.core_soundness.proofs.Cores.{behind}
-use Rattle.core_soundness.proofs.Texts.{walked_finished}
-use Rattle.core_soundness.proofs.Typing.{text_ended, function_returns}
 
 first_is_main : (funcs : List Func) (func : Func) → slice_get funcs (first_main funcs) ≡ Some func → is_main func ≡ true
 first_is_main [] func e = cc

@@ -1,24 +1,15 @@
 -- Exactly one function of a text is named `main`.
 use Rattle.std.proofs.Common.{◌≡◌, ◌<◌, ◌+◌, ℕ, zero, suc, Bool, true, false, ◌&&◌, cond, is_some, bytes_eq, codes, length, List, [], ◌∷◌, map, count_by, slice_get, Option, Some, None, Ok, refl, sym, ap, ◌∙◌, subst, arith}
-use Rattle.std.proofs.lemmas.List.Sums.{sum_by-cons}
-use Rattle.std.proofs.lemmas.Slice.Eq.{bytes_eq-Decides}
-use Rattle.c_types.specs.declared.types.IntType.TheVariants as i
-use Rattle.c_types.specs.Types.{PlainType, Int, Function, none}
-use Rattle.c_types.specs.TagTable.{TagTable}
-use Rattle.core_tree.specs.declared.program.Core.{Core}
-use Rattle.core_tree.specs.Sound.{is_main}
+use Rattle.std.proofs.{lemmas.List.Sums.sum_by-cons, lemmas.Slice.Eq.bytes_eq-Decides}
+use Rattle.c_types.specs.{Types.PlainType, Types.Int, Types.Function, Types.none, TagTable.TagTable}
+use Rattle.core_tree.specs.{declared.program.Core.Core, Sound.is_main}
 use Rattle.c_tree.specs.Tree.{Trees}
+use Rattle.c_decls.specs.{Named.PlainNamed, ScopeList.named_in, Typed.same}
+use Rattle.elaboration.specs.{Context.Context, Context.Declared, Context.Walked, Externals.is_defined, Resolving.function_of, Elaboration.elaborated}
+use Rattle.core_soundness.proofs.{Texts.Finished, Texts.walked_finished, Cores.behind}
+use Rattle.c_types.specs.declared.types.IntType.TheVariants as i
 use Rattle.c_decls.specs.Named as n
-use Rattle.c_decls.specs.Named.{PlainNamed}
-use Rattle.c_decls.specs.ScopeList.{named_in}
-use Rattle.c_decls.specs.Typed.{same}
-use Rattle.elaboration.specs.Context.{Context, Declared, Walked}
 use Rattle.elaboration.specs.Externals as externals
-use Rattle.elaboration.specs.Externals.{is_defined}
-use Rattle.elaboration.specs.Resolving.{function_of}
-use Rattle.elaboration.specs.Elaboration.{elaborated}
-use Rattle.core_soundness.proofs.Texts.{Finished, walked_finished}
-use Rattle.core_soundness.proofs.Cores.{behind}
 
 -- one that passes a test, and no other
 

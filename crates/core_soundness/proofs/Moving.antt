@@ -1,32 +1,18 @@
 -- What a part of a text leads to: whole types, and statements whose numbers are in range.
 use Rattle.std.proofs.Common.{◌≡◌, ℕ, ℤ, Bool, true, false, cond, List, [], ◌∷◌, Ok, sym, subst}
-use Rattle.core_tree.specs.Sound.{IsNumber}
+use Rattle.core_tree.specs.{Sound.IsNumber, declared.statements.Atom.Atom, declared.statements.StmKind.TheVariants.Enter, declared.statements.StmKind.TheVariants.Leave}
 use Rattle.c_types.specs.Types.{PlainType}
 use Rattle.c_types.proofs.MemberLemmas.{Extends}
-use Rattle.core_tree.specs.declared.statements.Atom.{Atom}
-use Rattle.core_tree.specs.declared.statements.StmKind.TheVariants.{Enter, Leave}
 use Rattle.c_tree.specs.Tree.{Tree}
-use Rattle.c_decls.specs.TypeNames as names
 use Rattle.elaboration.specs.Context.{Context, Walked, asked, told, emit, anew}
-use Rattle.elaboration.specs.Conversions.{Found, Spot, code_line, valued, write}
-use Rattle.elaboration.specs.Reallocates.{reallocates, opened, closed}
+use Rattle.elaboration.specs.{Conversions.Found, Conversions.Spot, Conversions.code_line, Conversions.valued, Conversions.write, Reallocates.reallocates, Reallocates.opened, Reallocates.closed}
 use Rattle.elaboration.specs.Expressions.{found}
-use Rattle.core_soundness.specs.Whole.{Whole}
-use Rattle.core_soundness.specs.Written.{Written}
-use Rattle.core_soundness.proofs.WholeTypes.{extends_refl, whole_stays}
-use Rattle.core_soundness.proofs.TypedNames.{Leads}
-use Rattle.core_soundness.proofs.TagKinds.{Kinds, kinds_refl}
-use Rattle.core_soundness.proofs.TypedWhole.{Fit}
-use Rattle.core_soundness.specs.Ranges.{AtomIn, PiecesIn}
-use Rattle.core_soundness.specs.Solid.{Solid}
-use Rattle.core_soundness.proofs.Growth.{Grows}
-use Rattle.core_soundness.proofs.Working.{grows_write}
-use Rattle.core_soundness.proofs.Ranges.{In, in_emit}
-use Rattle.core_soundness.proofs.RangedWork.{SpotIn, write_in}
-use Rattle.core_soundness.proofs.RangedFound.{E}
-use Rattle.core_soundness.proofs.RangedWalk.{valued_in, found_in}
-use Rattle.core_soundness.proofs.Solid as base
+use Rattle.core_soundness.specs.{Whole.Whole, Written.Written, Ranges.AtomIn, Ranges.PiecesIn, Solid.Solid}
+use Rattle.core_soundness.proofs.{WholeTypes.extends_refl, WholeTypes.whole_stays, TypedNames.Leads, TagKinds.Kinds, TagKinds.kinds_refl, TypedWhole.Fit, Growth.Grows, Working.grows_write}
+use Rattle.core_soundness.proofs.{Ranges.In, Ranges.in_emit, RangedWork.SpotIn, RangedWork.write_in, RangedFound.E, RangedWalk.valued_in, RangedWalk.found_in}
 use Rattle.core_soundness.proofs.Solid.{K, Gone, found_gone, value_gone}
+use Rattle.c_decls.specs.TypeNames as names
+use Rattle.core_soundness.proofs.Solid as base
 
 -- the values of the running switch, and the code of the functions that were walked
 abbrev pub CasesIn : List (ℤ × ℕ) → Type 0

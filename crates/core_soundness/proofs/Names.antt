@@ -3,11 +3,9 @@ use Rattle.std.proofs.Common.{◌≡◌, ◌⊎◌, ℕ, Bool, true, false, cond
 use Rattle.std.specs.Option.{option_or}
 use Rattle.std.proofs.lemmas.Slice.Eq.{bytes_eq-Decides}
 use Rattle.c_types.specs.Types.{PlainType}
-use Rattle.c_decls.specs.Named.{PlainNamed, Tag}
+use Rattle.c_decls.specs.{Named.PlainNamed, Named.Tag, ScopeList.ScopeList, ScopeList.Table, ScopeList.named_in, ScopeList.found_from, ScopeList.found, ScopeList.with_name, ScopeList.tag_name}
+use Rattle.elaboration.specs.{Calls.built_in_at, Reallocates.is_realloc}
 use Rattle.c_decls.specs.ScopeList as scopes
-use Rattle.c_decls.specs.ScopeList.{ScopeList, Table, named_in, found_from, found, with_name, tag_name}
-use Rattle.elaboration.specs.Calls.{built_in_at}
-use Rattle.elaboration.specs.Reallocates.{is_realloc}
 
 -- whether what is found under a name is `realloc`
 abbrev pub frees : Option PlainNamed → Bool

@@ -2,15 +2,9 @@
 use Rattle.std.proofs.Common.{◌≤◌, ◌+◌, ℕ, max, List, [], ◌∷◌, length, All, Option, unwrap_or, arith, length-append}
 use Rattle.std.specs.Prelude.{IfSome}
 use Rattle.std.proofs.lemmas.List.Elements.{All-push}
-use Rattle.c_types.specs.Types.{PlainType}
-use Rattle.c_types.specs.Layouts.{no_layout}
-use Rattle.c_types.specs.TagTable.{layout_in}
-use Rattle.core_tree.specs.declared.program.Mem.{Mem}
-use Rattle.core_tree.specs.declared.program.Reg.{Reg as Register}
-use Rattle.core_tree.specs.declared.statements.StmKind.{StmKind}
-use Rattle.core_tree.specs.Sound.{IsShort}
-use Rattle.elaboration.specs.Context.{Context, Variable, Walked, integer_by, pointer_by}
-use Rattle.elaboration.specs.Calls.{with_format}
+use Rattle.c_types.specs.{Types.PlainType, Layouts.no_layout, TagTable.layout_in}
+use Rattle.core_tree.specs.{declared.program.Mem.Mem, declared.program.Reg.Reg as Register, declared.statements.StmKind.StmKind, Sound.IsShort}
+use Rattle.elaboration.specs.{Context.Context, Context.Variable, Context.Walked, Context.integer_by, Context.pointer_by, Calls.with_format}
 use Rattle.elaboration.specs.Locals.{is_pointer, with_register, with_memory}
 
 -- what of a context is counted, and what has names

@@ -2,46 +2,32 @@
 use Rattle.std.proofs.Common.{◌≡◌, ◌≤◌, ◌+◌, ◌*◌, not, ℕ, zero, suc, pos, Bool, true, false, cond, is_some, nat_lt, length, All, List, [], ◌∷◌, ◌++◌, slice_get, slice_set, Option, Some, None, unwrap_or, Ok, refl, subst, arith}
 use Rattle.std.specs.Prelude.{IfSome}
 use Rattle.std.proofs.lemmas.List.Elements.{All-push, All-head, All-tail, All-cons}
-use Rattle.c_types.specs.Types.{PlainType, Array, Struct, Union}
-use Rattle.c_types.specs.Layouts.{no_layout}
-use Rattle.c_types.specs.TagTable.{layout_in}
-use Rattle.core_tree.specs.declared.program.Start.{Start}
-use Rattle.core_tree.specs.declared.statements.Atom.{Atom}
-use Rattle.core_tree.specs.declared.statements.Atom.TheVariants as atom
-use Rattle.core_tree.specs.declared.statements.StmKind.TheVariants.{Off, Enter, Leave}
-use Rattle.core_tree.specs.Sound.{IsShort}
-use Rattle.c_tree.specs.Words as w
-use Rattle.c_tree.specs.Forms as f
-use Rattle.c_tree.specs.Places as p
-use Rattle.c_tree.specs.Places.{Place}
-use Rattle.c_tree.specs.Grammar.{some_commas, shape}
-use Rattle.c_tree.specs.Tree.{Tree, Trees, Leaf, At, Node, none, ◌▹◌, count}
-use Rattle.c_tree.specs.Scopes.{name_of}
+use Rattle.c_types.specs.{Types.PlainType, Types.Array, Types.Struct, Types.Union, Layouts.no_layout, TagTable.layout_in}
+use Rattle.core_tree.specs.{declared.program.Start.Start, declared.statements.Atom.Atom}
+use Rattle.core_tree.specs.{declared.statements.StmKind.TheVariants.Off, declared.statements.StmKind.TheVariants.Enter, declared.statements.StmKind.TheVariants.Leave, Sound.IsShort}
+use Rattle.c_tree.specs.{Places.Place, Grammar.some_commas, Grammar.shape, Tree.Tree, Tree.Trees, Tree.Leaf, Tree.At, Tree.Node, Tree.none, Tree.◌▹◌, Tree.count, Scopes.name_of}
 use Rattle.c_decls.specs.declared.refusal.TypeKind.TheVariants.{Assignment, DeclaredTwice, Incomplete, LeftOut}
-use Rattle.c_decls.specs.Named as n
-use Rattle.c_decls.specs.ScopeList.{named_in, innermost, tag_name}
-use Rattle.c_decls.specs.Refusals.{Checked, refused, then, unless}
-use Rattle.c_decls.specs.Typed.{is_function, has_no_size}
-use Rattle.c_decls.specs.TypeNames.{tag_named}
-use Rattle.c_decls.specs.PlaceRules.{unconverted}
+use Rattle.c_decls.specs.{ScopeList.named_in, ScopeList.innermost, ScopeList.tag_name, Refusals.Checked, Refusals.refused, Refusals.then, Refusals.unless, Typed.is_function, Typed.has_no_size}
+use Rattle.c_decls.specs.{TypeNames.tag_named, PlaceRules.unconverted}
 use Rattle.elaboration.specs.Context.{Context, With, Variable, asked, emit, anew}
 use Rattle.elaboration.specs.Conversions.{Found, Spot, Local, Memory, code_line, atom_in, valued, convert, write, size_or_zero}
-use Rattle.elaboration.specs.Reallocates.{reallocates, opened, closed}
-use Rattle.elaboration.specs.Rules.{with_static, with_literal}
-use Rattle.elaboration.specs.Expressions.{found}
-use Rattle.elaboration.specs.Locals.{is_twice, declared_as, next_is_memory, with_memory, with_register, local_in, with_local}
-use Rattle.elaboration.specs.Declarators.{layers}
+use Rattle.elaboration.specs.{Reallocates.reallocates, Reallocates.opened, Reallocates.closed, Rules.with_static, Rules.with_literal, Expressions.found}
+use Rattle.elaboration.specs.{Locals.is_twice, Locals.declared_as, Locals.next_is_memory, Locals.with_memory, Locals.with_register, Locals.local_in, Locals.with_local, Declarators.layers}
 use Rattle.elaboration.specs.Initializers.{Target, InRegister, InMemory, InStatic, static_scalar, member_place, store_at, fill_scalar, scalar, copy_to, fill_record, is_same_place, whole, fill_text, is_character, text, by_text, by_expression, parts_of, takes_braces, is_scalar_type, surplus, all_surplus, initialize, initialize_parts, no_start, with_init_layers}
-use Rattle.elaboration.specs.Declarations as storages
 use Rattle.elaboration.specs.Declarations.{Storage, Typedef, Outside, storage_of, specs_alone, specs_before, cleared, fill_memory, fill_register, fill_at, fill_local, local_object, local_name, function_number, with_function, declared_function, no_initializer, variable_number_of, with_new_variable, with_variable, start_of, start_in, started_variable, started, fill_variable, file_object, file_function, file_value, file_name, name_in, entry, entries, declaration}
 use Rattle.core_soundness.proofs.Agreeing.{came}
 use Rattle.core_soundness.proofs.Reached.{Reached, reached_ok, reached_refused, reached_after, reached_unless, reached_barred, Led, led_ok, led_refused, led_after, led_unless}
 use Rattle.core_soundness.proofs.ShortNames.{Short, AllShort, name_short}
 use Rattle.core_soundness.proofs.Near.{Near, near_refl, near_on, near_most, near_pointer, near_register, near_memory}
-use Rattle.core_soundness.proofs.Weights.{weight, weights, said, commas_said}
-use Rattle.core_soundness.proofs.NearWork.{valued_near, convert_near, write_near}
+use Rattle.core_soundness.proofs.{Weights.weight, Weights.weights, Weights.said, Weights.commas_said, NearWork.valued_near, NearWork.convert_near, NearWork.write_near}
 use Rattle.core_soundness.proofs.NearFound.{static_near, literal_near, found_near}
 use Rattle.core_soundness.proofs.NearLayers.{declared_near, named_near, with_type_near, specs_near, layers_near}
+use Rattle.core_tree.specs.declared.statements.Atom.TheVariants as atom
+use Rattle.c_tree.specs.Words as w
+use Rattle.c_tree.specs.Forms as f
+use Rattle.c_tree.specs.Places as p
+use Rattle.c_decls.specs.Named as n
+use Rattle.elaboration.specs.Declarations as storages
 
 -- full expressions
 

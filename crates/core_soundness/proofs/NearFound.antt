@@ -2,44 +2,31 @@
 use Rattle.std.proofs.Common.{◌≡◌, ◌+◌, ◌*◌, ℕ, Bool, true, false, cond, nat_lt, length, List, [], Option, Some, None, unwrap_or, Ok, refl, sym, subst, arith, ltb-false}
 use Rattle.std.specs.Prelude.{IfSome}
 use Rattle.hs_base.specs.Place.{block_size}
-use Rattle.c_types.specs.declared.types.IntType.TheVariants as i
-use Rattle.c_types.specs.Types.{PlainType, PlainTypes, Void, Int, Array}
-use Rattle.c_types.specs.TagTable.{TagTable}
+use Rattle.c_types.specs.{Types.PlainType, Types.PlainTypes, Types.Void, Types.Int, Types.Array, TagTable.TagTable}
 use Rattle.core_tree.specs.Sound.{IsShort}
+use Rattle.c_tree.specs.{Places.Expression, Grammar.assign_level, Grammar.shape, Tree.Tree, Tree.Trees, Tree.Leaf, Tree.At, Tree.Node, Tree.none, Tree.◌▹◌, Tree.count}
+use Rattle.c_decls.specs.{declared.built_in.BuiltIn.BuiltIn, declared.refusal.TypeKind.TheVariants.StaticTooLarge, declared.refusal.TypeKind.TheVariants.TypeTooLarge, Named.PlainNamed}
+use Rattle.c_decls.specs.{Refusals.Checked, Refusals.then, Refusals.unless, ScopeList.found as declaration, Typed.PlainTyped, Typed.is_record, Typed.place, TypeRules.address, PlaceRules.held_place}
+use Rattle.c_decls.specs.Callees.{Callee, Prints, NoFunction, named, called, call, built_in_called, callee_at}
+use Rattle.c_decls.specs.Expressions.{line_of, joined, string, literal, first_literal, typed, typename}
+use Rattle.elaboration.specs.{Context.Context, Context.With, Context.asked, Context.told, Context.new_label, Conversions.Found, Conversions.valued}
+use Rattle.elaboration.specs.Calls.{Argument, types_of, first_type, rest_types, argument_from, built_in_at}
+use Rattle.elaboration.specs.Rules.{with_static, with_literal, left_operand, and_then, or_else, choose, type_ahead, choose_first}
+use Rattle.elaboration.specs.Assignments.{record_assigned, scalar_assigned, old_value}
+use Rattle.elaboration.specs.Expressions.{name_answer, literal_answer, unevaluated, address_answer, changing, callee_name, callee, parameters, format_argument, is_printf, call_answer, found, arguments}
+use Rattle.core_soundness.proofs.{Grown.good, Grown.ok_same, Grown.never, Agreeing.came}
+use Rattle.core_soundness.proofs.Reached.{Reached, reached_ok, reached_refused, reached_after, reached_then, Led, led_ok, led_unless}
+use Rattle.core_soundness.proofs.{ShortNames.some_short, Near.Near, Near.near_refl, Near.near_on, Near.near_most, Weights.weight, Weights.weights, Weights.commas_said}
+use Rattle.core_soundness.proofs.NearWork.{valued_near, indexed_near, dotted_near, pointed_near, applied_near, left_near, between_near, cast_near, and_near, and_then_near, or_else_near, or_near, first_near, chosen_near, record_near, scalar_assigned_near, old_near, changed_near, stepped_near, argument_near, PrintsShort, call_near}
+use Rattle.c_types.specs.declared.types.IntType.TheVariants as i
 use Rattle.c_tree.specs.declared.operator.UnaryOp.TheVariants as u
 use Rattle.c_tree.specs.declared.operator.BinaryOp.TheVariants as b
 use Rattle.c_tree.specs.declared.operator.AssignOp.TheVariants as a
 use Rattle.c_tree.specs.Words as w
 use Rattle.c_tree.specs.Forms as f
-use Rattle.c_tree.specs.Places.{Expression}
-use Rattle.c_tree.specs.Grammar.{assign_level, shape}
-use Rattle.c_tree.specs.Tree.{Tree, Trees, Leaf, At, Node, none, ◌▹◌, count}
-use Rattle.c_decls.specs.declared.built_in.BuiltIn.{BuiltIn}
 use Rattle.c_decls.specs.declared.built_in.BuiltIn.TheVariants as bi
-use Rattle.c_decls.specs.declared.refusal.TypeKind.TheVariants.{StaticTooLarge, TypeTooLarge}
 use Rattle.c_decls.specs.Named as n
-use Rattle.c_decls.specs.Named.{PlainNamed}
-use Rattle.c_decls.specs.Refusals.{Checked, then, unless}
-use Rattle.c_decls.specs.ScopeList.{found as declaration}
-use Rattle.c_decls.specs.Typed.{PlainTyped, is_record, place}
-use Rattle.c_decls.specs.TypeRules.{address}
-use Rattle.c_decls.specs.PlaceRules.{held_place}
-use Rattle.c_decls.specs.Callees.{Callee, Prints, NoFunction, named, called, call, built_in_called, callee_at}
 use Rattle.c_decls.specs.TypeNames as names
-use Rattle.c_decls.specs.Expressions.{line_of, joined, string, literal, first_literal, typed, typename}
-use Rattle.elaboration.specs.Context.{Context, With, asked, told, new_label}
-use Rattle.elaboration.specs.Conversions.{Found, valued}
-use Rattle.elaboration.specs.Calls.{Argument, types_of, first_type, rest_types, argument_from, built_in_at}
-use Rattle.elaboration.specs.Rules.{with_static, with_literal, left_operand, and_then, or_else, choose, type_ahead, choose_first}
-use Rattle.elaboration.specs.Assignments.{record_assigned, scalar_assigned, old_value}
-use Rattle.elaboration.specs.Expressions.{name_answer, literal_answer, unevaluated, address_answer, changing, callee_name, callee, parameters, format_argument, is_printf, call_answer, found, arguments}
-use Rattle.core_soundness.proofs.Grown.{good, ok_same, never}
-use Rattle.core_soundness.proofs.Agreeing.{came}
-use Rattle.core_soundness.proofs.Reached.{Reached, reached_ok, reached_refused, reached_after, reached_then, Led, led_ok, led_unless}
-use Rattle.core_soundness.proofs.ShortNames.{some_short}
-use Rattle.core_soundness.proofs.Near.{Near, near_refl, near_on, near_most}
-use Rattle.core_soundness.proofs.Weights.{weight, weights, commas_said}
-use Rattle.core_soundness.proofs.NearWork.{valued_near, indexed_near, dotted_near, pointed_near, applied_near, left_near, between_near, cast_near, and_near, and_then_near, or_else_near, or_near, first_near, chosen_near, record_near, scalar_assigned_near, old_near, changed_near, stepped_near, argument_near, PrintsShort, call_near}
 
 -- formats are no longer than objects
 

@@ -2,25 +2,18 @@
 use Rattle.std.proofs.Common.{ℕ, Bool, true, false, cond, length, List, [], Option, Some, None, unwrap_or, arith}
 use Rattle.std.specs.Prelude.{IfSome}
 use Rattle.c_types.specs.Types.{PlainType}
-use Rattle.core_tree.specs.declared.statements.Atom.TheVariants as atom
 use Rattle.core_tree.specs.Sound.{IsShort}
 use Rattle.c_tree.specs.Tree.{Tree}
-use Rattle.c_decls.specs.declared.refusal.TypeKind.TheVariants.{DeclaredTwice}
-use Rattle.c_decls.specs.Named as n
-use Rattle.c_decls.specs.Named.{PlainNamed}
-use Rattle.c_decls.specs.ScopeList.{after_declaration}
-use Rattle.c_decls.specs.Refusals.{Checked}
-use Rattle.c_decls.specs.TypeNames as names
-use Rattle.elaboration.specs.Context.{Context, local_register}
-use Rattle.elaboration.specs.Conversions.{Memory}
+use Rattle.c_decls.specs.{declared.refusal.TypeKind.TheVariants.DeclaredTwice, Named.PlainNamed, ScopeList.after_declaration, Refusals.Checked}
+use Rattle.elaboration.specs.{Context.Context, Context.local_register, Conversions.Memory}
 use Rattle.elaboration.specs.Locals.{is_twice, declared_as, next_is_memory, with_register, with_memory, with_named, memory_param, register_param, function_param, prototype_param, is_prototype, with_param}
 use Rattle.elaboration.specs.Declarators.{constant, with_type, specs, layers}
-use Rattle.core_soundness.proofs.Reached.{Reached, reached_ok, reached_after, Led, led_ok, led_unless}
-use Rattle.core_soundness.proofs.ShortNames.{Short, some_short}
-use Rattle.core_soundness.proofs.Near.{Near, near_refl, near_on, near_most, near_register, near_memory}
-use Rattle.core_soundness.proofs.Weights.{weight}
-use Rattle.core_soundness.proofs.NearWork.{write_near}
+use Rattle.core_soundness.proofs.{Reached.Reached, Reached.reached_ok, Reached.reached_after, Reached.Led, Reached.led_ok, Reached.led_unless, ShortNames.Short, ShortNames.some_short}
+use Rattle.core_soundness.proofs.{Near.Near, Near.near_refl, Near.near_on, Near.near_most, Near.near_register, Near.near_memory, Weights.weight, NearWork.write_near}
 use Rattle.core_soundness.proofs.LayersWalk.{Steps, constant_keeps, specs_keep, layers_keep}
+use Rattle.core_tree.specs.declared.statements.Atom.TheVariants as atom
+use Rattle.c_decls.specs.Named as n
+use Rattle.c_decls.specs.TypeNames as names
 
 -- names
 

@@ -1,32 +1,22 @@
 -- What statements make.
 use Rattle.std.proofs.Common.{◌+◌, ◌-◌, not, ℕ, zero, suc, ℤ, true, false, is_some, length, ◌∷◌, ◌++◌, Option, Some, None, Ok, arith}
 use Rattle.hs_base.specs.Numbers.{wrapped}
-use Rattle.c_types.specs.declared.types.IntType.{IntType}
-use Rattle.c_types.specs.Types.{kind_of, PlainType, Void}
+use Rattle.c_types.specs.{declared.types.IntType.IntType, Types.kind_of, Types.PlainType, Types.Void}
 use Rattle.core_tree.specs.declared.statements.StmKind.TheVariants.{Enter, Leave, Jump}
-use Rattle.c_tree.specs.Forms as f
-use Rattle.c_tree.specs.Grammar.{shape}
-use Rattle.c_tree.specs.Tree.{Tree, Trees, At, Node, none, ◌▹◌}
+use Rattle.c_tree.specs.{Grammar.shape, Tree.Tree, Tree.Trees, Tree.At, Tree.Node, Tree.none, Tree.◌▹◌}
 use Rattle.c_decls.specs.declared.refusal.TypeKind.TheVariants.{Operands, Assignment, StrayBreak, CaseTwice, LeftOut}
-use Rattle.c_decls.specs.Refusals.{Checked, refused, then, unless}
-use Rattle.c_decls.specs.IntegerTypes.{promoted}
-use Rattle.c_decls.specs.Typed.{Operand, Number, operand, is_void, is_scalar}
-use Rattle.c_decls.specs.PlaceRules.{unconverted}
-use Rattle.c_decls.specs.Expressions.{line_of}
+use Rattle.c_decls.specs.{Refusals.Checked, Refusals.refused, Refusals.then, Refusals.unless, IntegerTypes.promoted, Typed.Operand, Typed.Number, Typed.operand, Typed.is_void, Typed.is_scalar}
+use Rattle.c_decls.specs.{PlaceRules.unconverted, Expressions.line_of}
 use Rattle.elaboration.specs.Context.{Here, Context, scoped, entered, emit, here, new_label, with_labels, with_pieces}
 use Rattle.elaboration.specs.Conversions.{Found, atom_in, valued, convert, convert_integer, tested_value}
-use Rattle.elaboration.specs.Reallocates.{opened, closed}
-use Rattle.elaboration.specs.Expressions.{found}
-use Rattle.elaboration.specs.Declarators.{constant}
+use Rattle.elaboration.specs.{Reallocates.opened, Reallocates.closed, Expressions.found, Declarators.constant}
 use Rattle.elaboration.specs.Statements.{Around, below, in_loop, in_switch, in_delay, leaves, leave_to, evaluated, maybe_evaluated, condition, leaves_if_zero, maybe_leaves, apart, return_of, return_from, has_case, case_of, cased, defaulted, switch_operand_of, switch_operand, no_cases, switched, looped, for_start, statement, items}
 use Rattle.core_soundness.proofs.Agreeing.{came}
 use Rattle.core_soundness.proofs.Reached.{Reached, reached_ok, reached_refused, reached_after, reached_unless, Led, led_ok, led_refused, led_after, led_unless, led_barred}
-use Rattle.core_soundness.proofs.ShortNames.{Short, AllShort}
-use Rattle.core_soundness.proofs.Near.{Near, near_refl, near_on, near_most}
-use Rattle.core_soundness.proofs.Weights.{weight, weights}
-use Rattle.core_soundness.proofs.NearWork.{integer_near, tested_value_near}
-use Rattle.core_soundness.proofs.NearLayers.{constant_near}
+use Rattle.core_soundness.proofs.{ShortNames.Short, ShortNames.AllShort, Near.Near, Near.near_refl, Near.near_on, Near.near_most, Weights.weight, Weights.weights}
+use Rattle.core_soundness.proofs.{NearWork.integer_near, NearWork.tested_value_near, NearLayers.constant_near}
 use Rattle.core_soundness.proofs.NearFills.{opened_near, closed_near, full_near, converted_near, declaration_near}
+use Rattle.c_tree.specs.Forms as f
 
 scoped_near : (k : ℕ) (c : Context) (inside : Context → Checked Context) → Led (Near k c) (inside (entered c)) → Led (Near k c) (scoped c inside)
 scoped_near k c inside g = led_after (Near k c) (inside (entered c)) (λ d q. led_ok (Near k c) (g d q))

@@ -1,47 +1,27 @@
 -- The lists of a text's core are short.
 use Rattle.std.proofs.Common.{◌≡◌, ◌≤◌, ◌+◌, not, ℕ, zero, suc, Bool, true, false, cond, nat_lt, codes, All, length, map, replicate, List, [], ◌∷◌, ◌++◌, slice_get, sum_by, Option, Some, None, Ok, sym, subst, arith, length-append}
 use Rattle.std.proofs.lemmas.List.{length-replicate}
-use Rattle.std.specs.Prelude.{IfSome}
 use Rattle.std.proofs.lemmas.List.Elements.{All-nil, All-push, All-head, All-tail, All-append, All-map, All-replicate}
-use Rattle.c_types.specs.Types.{PlainType}
-use Rattle.c_types.specs.TagTable.{TagTable}
+use Rattle.std.specs.Prelude.{IfSome}
+use Rattle.c_types.specs.{Types.PlainType, TagTable.TagTable}
 use Rattle.c_lexer.specs.declared.token.Token.{Token}
-use Rattle.core_tree.specs.declared.program.Core.{Core}
-use Rattle.core_tree.specs.declared.program.Func.{Func}
-use Rattle.core_tree.specs.declared.program.Mem.{Mem}
-use Rattle.core_tree.specs.declared.program.Reg.{Reg as Register}
-use Rattle.core_tree.specs.declared.program.Static.{Static}
-use Rattle.core_tree.specs.declared.statements.StmKind.TheVariants.{Return}
-use Rattle.core_tree.specs.Sound.{IsShort, AreShort}
-use Rattle.c_tree.specs.Forms as f
-use Rattle.c_tree.specs.Grammar.{shape}
-use Rattle.c_tree.specs.Tree.{Tree, Trees, At, Node, none, ◌▹◌}
-use Rattle.c_tree.specs.Scopes.{name_of}
-use Rattle.c_tree.specs.HasTree.{HasTree}
+use Rattle.core_tree.specs.{declared.program.Core.Core, declared.program.Func.Func, declared.program.Mem.Mem, declared.program.Reg.Reg as Register, declared.program.Static.Static}
+use Rattle.core_tree.specs.{declared.statements.StmKind.TheVariants.Return, Sound.IsShort, Sound.AreShort}
+use Rattle.c_tree.specs.{Grammar.shape, Tree.Tree, Tree.Trees, Tree.At, Tree.Node, Tree.none, Tree.◌▹◌, Scopes.name_of, HasTree.HasTree}
 use Rattle.c_decls.specs.declared.refusal.TypeKind.TheVariants.{LeftOut, DeclaredTwice, ProgramTooLong, Undeclared, NoMain}
-use Rattle.c_decls.specs.ScopeList.{named_in}
-use Rattle.c_decls.specs.Refusals.{refused}
-use Rattle.c_decls.specs.Typed.{is_function}
-use Rattle.c_decls.specs.TypeNames.{with_layers}
-use Rattle.elaboration.specs.Context.{Context, Variable, Walked, Declared, first_context, emit}
-use Rattle.elaboration.specs.Declarators.{specs, layers}
-use Rattle.elaboration.specs.Declarations.{function_number, declared_function}
-use Rattle.elaboration.specs.Statements.{around_body, items}
+use Rattle.c_decls.specs.{ScopeList.named_in, Refusals.refused, Typed.is_function, TypeNames.with_layers}
+use Rattle.elaboration.specs.{Context.Context, Context.Variable, Context.Walked, Context.Declared, Context.first_context, Context.emit, Declarators.specs, Declarators.layers}
+use Rattle.elaboration.specs.{Declarations.function_number, Declarations.declared_function, Statements.around_body, Statements.items}
 use Rattle.elaboration.specs.Externals.{begun, params_of, is_defined, body_begun, last_answer, piece_length, body_ended, body, defined, named_definition, definition, external, externals, calls_defined, is_main}
-use Rattle.elaboration.specs.Addressed.{addressed_in}
-use Rattle.elaboration.specs.Resolving.{function_of, variable_static, literal_static, temporary, pointer_register, core_of}
+use Rattle.elaboration.specs.{Addressed.addressed_in, Resolving.function_of, Resolving.variable_static, Resolving.literal_static, Resolving.temporary, Resolving.pointer_register, Resolving.core_of}
 use Rattle.elaboration.specs.Elaboration.{walked, elaborated}
 use Rattle.core_soundness.specs.Laws.{HasShortLists}
-use Rattle.core_soundness.proofs.Agreeing.{came}
-use Rattle.core_soundness.proofs.Reached.{Led, led_ok, led_refused, led_after, led_unless}
-use Rattle.core_soundness.proofs.Cores.{behind, core_sizes}
+use Rattle.core_soundness.proofs.{Agreeing.came, Reached.Led, Reached.led_ok, Reached.led_refused, Reached.led_after, Reached.led_unless, Cores.behind, Cores.core_sizes}
 use Rattle.core_soundness.proofs.ShortNames.{Short, AllShort, name_short}
-use Rattle.core_soundness.proofs.Near.{share, Share, Tidy, made_in, temporaries, Sized, Clear, Near, near_on}
-use Rattle.core_soundness.proofs.Weights.{weight, weights}
-use Rattle.core_soundness.proofs.NearLayers.{specs_near, layers_near}
-use Rattle.core_soundness.proofs.NearFills.{declared_function_near, declaration_near}
-use Rattle.core_soundness.proofs.NearStatements.{items_near}
+use Rattle.core_soundness.proofs.{Near.share, Near.Share, Near.Tidy, Near.made_in, Near.temporaries, Near.Sized, Near.Clear, Near.Near, Near.near_on, Weights.weight, Weights.weights}
+use Rattle.core_soundness.proofs.{NearLayers.specs_near, NearLayers.layers_near, NearFills.declared_function_near, NearFills.declaration_near, NearStatements.items_near}
 use Rattle.core_soundness.proofs.Weighed.{unit_weighed, unit_short}
+use Rattle.c_tree.specs.Forms as f
 
 -- what holds between external declarations
 record Steady (c : Context) : Type 0 where

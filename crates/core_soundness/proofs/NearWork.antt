@@ -1,29 +1,12 @@
 -- What conversions, operators and calls make.
 use Rattle.std.proofs.Common.{◌+◌, ◌&&◌, ℕ, pos, Bool, true, false, cond, List, [], ◌∷◌, ◌++◌, length, drop, Option, Some, None, unwrap_or, arith}
-use Rattle.c_types.specs.declared.types.IntType.{IntType}
-use Rattle.c_types.specs.Types.{PlainType, PlainTypes, Int, Pointer, none, first, kind_of}
-use Rattle.core_tree.specs.declared.statements.Atom.{Atom}
-use Rattle.core_tree.specs.declared.statements.Atom.TheVariants as atom
-use Rattle.core_tree.specs.declared.statements.UnOp.TheVariants as un
-use Rattle.core_tree.specs.declared.statements.CmpOp.TheVariants as cmp
-use Rattle.core_tree.specs.declared.statements.StmKind.{StmKind}
+use Rattle.c_types.specs.{declared.types.IntType.IntType, Types.PlainType, Types.PlainTypes, Types.Int, Types.Pointer, Types.none, Types.first, Types.kind_of}
+use Rattle.core_tree.specs.{declared.statements.Atom.Atom, declared.statements.StmKind.StmKind}
 use Rattle.core_tree.specs.declared.statements.StmKind.TheVariants.{Set, Conv, Zero, Load, Loadp, Test, Un, Bin, Cmp, Add, Sub, Off, Diff, Pcmp, Call, Malloc, Calloc, Realloc, Lib, Printf}
 use Rattle.core_tree.specs.Sound.{IsShort}
-use Rattle.c_tree.specs.declared.operator.BinaryOp.{BinaryOp}
-use Rattle.c_tree.specs.declared.operator.BinaryOp.TheVariants as b
-use Rattle.c_tree.specs.declared.operator.UnaryOp.{UnaryOp}
-use Rattle.c_tree.specs.declared.operator.UnaryOp.TheVariants as u
-use Rattle.c_tree.specs.declared.operator.AssignOp.{AssignOp}
-use Rattle.c_tree.specs.Tree.{Tree}
-use Rattle.c_decls.specs.declared.built_in.BuiltIn.{BuiltIn}
-use Rattle.c_decls.specs.declared.built_in.BuiltIn.TheVariants as bi
-use Rattle.c_decls.specs.Named as n
-use Rattle.c_decls.specs.Named.{PlainNamed}
-use Rattle.c_decls.specs.IntegerTypes.{promoted, common_type}
-use Rattle.c_decls.specs.Expressions as types
-use Rattle.c_decls.specs.Expressions.{line_of}
-use Rattle.c_decls.specs.Typed.{PlainTyped, Operand, Number, PointerTo, operand, read, is_null_constant}
-use Rattle.c_decls.specs.TypeRules.{result_type, unary, binary}
+use Rattle.c_tree.specs.{declared.operator.BinaryOp.BinaryOp, declared.operator.UnaryOp.UnaryOp, declared.operator.AssignOp.AssignOp, Tree.Tree}
+use Rattle.c_decls.specs.{declared.built_in.BuiltIn.BuiltIn, Named.PlainNamed, IntegerTypes.promoted, IntegerTypes.common_type, Expressions.line_of}
+use Rattle.c_decls.specs.{Typed.PlainTyped, Typed.Operand, Typed.Number, Typed.PointerTo, Typed.operand, Typed.read, Typed.is_null_constant, TypeRules.result_type, TypeRules.unary, TypeRules.binary}
 use Rattle.c_decls.specs.PlaceRules.{cast, choice, dot, arrow, element, assigned, changed}
 use Rattle.elaboration.specs.Context.{Context, With, emit, new_label, with_labels, integer_by}
 use Rattle.elaboration.specs.Conversions.{Found, Spot, Local, Memory, Value, Nowhere, found_as, read_spot, code_line, valued_from, valued, atom_in, holds_all, convert_integer, convert_to, convert, forget, tested, tested_value, write, size_or_zero}
@@ -33,6 +16,14 @@ use Rattle.elaboration.specs.Assignments.{record_assigned, set_to, scalar_assign
 use Rattle.elaboration.specs.Calls.{Argument, argument_from, atom_at, atoms_of, element_layout, built_in_at, lib_name, result_by, printing, with_format, call_built_in, call_of_built_in, call_named}
 use Rattle.core_soundness.proofs.Reached.{Reached, reached_ok, reached_after, reached_then}
 use Rattle.core_soundness.proofs.Near.{Near, near_refl, near_on, near_most, near_integer, near_pointer, near_forgotten, near_format}
+use Rattle.core_tree.specs.declared.statements.Atom.TheVariants as atom
+use Rattle.core_tree.specs.declared.statements.UnOp.TheVariants as un
+use Rattle.core_tree.specs.declared.statements.CmpOp.TheVariants as cmp
+use Rattle.c_tree.specs.declared.operator.BinaryOp.TheVariants as b
+use Rattle.c_tree.specs.declared.operator.UnaryOp.TheVariants as u
+use Rattle.c_decls.specs.declared.built_in.BuiltIn.TheVariants as bi
+use Rattle.c_decls.specs.Named as n
+use Rattle.c_decls.specs.Expressions as types
 
 near_cond : {A : Type 0} (n : ℕ) (b : Context) (test : Bool) (x y : Context × A) → Near n b x.0 → Near n b y.0 → Near n b (cond test x y).0
 near_cond n b true x y g h = g

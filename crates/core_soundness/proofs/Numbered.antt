@@ -3,26 +3,15 @@ use Rattle.std.proofs.Common.{◌≡◌, ℕ, ℤ, pos, zero, suc, All, map, Lis
 use Rattle.std.specs.List.{flat_map}
 use Rattle.std.proofs.lemmas.List.Elements.{All-cons}
 use Rattle.c_types.specs.TagTable.{TagTable}
-use Rattle.core_tree.specs.declared.program.Core.{Core}
-use Rattle.core_tree.specs.declared.program.Func.{Func}
-use Rattle.core_tree.specs.declared.statements.Atom.{Atom}
-use Rattle.core_tree.specs.declared.statements.Atom.TheVariants as atom
-use Rattle.core_tree.specs.declared.statements.Stm.{Stm}
-use Rattle.core_tree.specs.declared.statements.StmKind.{StmKind}
+use Rattle.core_tree.specs.{declared.program.Core.Core, declared.program.Func.Func, declared.statements.Atom.Atom, declared.statements.Stm.Stm, declared.statements.StmKind.StmKind}
 use Rattle.core_tree.specs.declared.statements.StmKind.TheVariants.{Add, Sub, Off, Diff, Copy, Clear, Case, Malloc, Calloc, Realloc, Return}
-use Rattle.core_tree.specs.Statements.{operands}
-use Rattle.core_tree.specs.LayoutsOfTypes.{IsLayoutOfType}
-use Rattle.core_tree.specs.Sound.{EachFunc, EachStatement, IsNumber, atom_numbers, element_layouts, HasNumbers}
+use Rattle.core_tree.specs.{Statements.operands, LayoutsOfTypes.IsLayoutOfType, Sound.EachFunc, Sound.EachStatement, Sound.IsNumber, Sound.atom_numbers, Sound.element_layouts, Sound.HasNumbers}
 use Rattle.c_tree.specs.Tree.{Trees}
 use Rattle.elaboration.specs.Context.{Piece, Does, Here, Context, Walked}
-use Rattle.elaboration.specs.Resolving.{Numbers, atom_by, numbered, body_of, numbers_of, function_of}
-use Rattle.elaboration.specs.Elaboration.{elaborated}
-use Rattle.core_soundness.specs.Laws.{HasRanges}
-use Rattle.core_soundness.specs.Ranges.{IsStep, AtomsIn, KindIn, PiecesIn}
-use Rattle.core_soundness.specs.Written.{AreWritten}
-use Rattle.core_soundness.proofs.Cores.{behind}
-use Rattle.core_soundness.proofs.Moving.{WalkedIn}
-use Rattle.core_soundness.proofs.SolidTexts.{walked_numbers}
+use Rattle.elaboration.specs.{Resolving.Numbers, Resolving.atom_by, Resolving.numbered, Resolving.body_of, Resolving.numbers_of, Resolving.function_of, Elaboration.elaborated}
+use Rattle.core_soundness.specs.{Laws.HasRanges, Ranges.IsStep, Ranges.AtomsIn, Ranges.KindIn, Ranges.PiecesIn, Written.AreWritten}
+use Rattle.core_soundness.proofs.{Cores.behind, Moving.WalkedIn, SolidTexts.walked_numbers}
+use Rattle.core_tree.specs.declared.statements.Atom.TheVariants as atom
 
 none_all : {X : Type 0} (P : X → Type 0) → All P []
 none_all P j x q = absurd (omega (arith, q))

@@ -1,35 +1,27 @@
 -- The sorts of what operators give (C99 6.5).
 use Rattle.std.proofs.Common.{◌≡◌, ◌≤◌, ℕ, pos, Bool, true, false, cond, Option, Some, None, Ok, refl, sym, ◌∙◌, subst, ◌⊎◌, inl, inr}
-use Rattle.c_types.specs.declared.types.IntType.{IntType}
-use Rattle.c_types.specs.Types as types
-use Rattle.c_types.specs.Types.{PlainType, kind_of}
-use Rattle.c_types.specs.TagTable.{TagTable}
-use Rattle.core_tree.specs.declared.statements.Atom.{Atom}
-use Rattle.core_tree.specs.declared.statements.Atom.TheVariants as atom
-use Rattle.core_tree.specs.declared.statements.UnOp.TheVariants as un
-use Rattle.core_tree.specs.declared.statements.CmpOp.{CmpOp}
-use Rattle.core_tree.specs.declared.statements.CmpOp.TheVariants as cmp
+use Rattle.c_types.specs.{declared.types.IntType.IntType, Types.PlainType, Types.kind_of, TagTable.TagTable}
+use Rattle.core_tree.specs.{declared.statements.Atom.Atom, declared.statements.CmpOp.CmpOp}
 use Rattle.core_tree.specs.declared.statements.StmKind.TheVariants.{Un, Bin, Cmp, Add, Sub, Off, Diff, Pcmp}
 use Rattle.core_tree.specs.Sorts.{Integer, Pointer}
-use Rattle.c_tree.specs.declared.operator.BinaryOp.{BinaryOp}
-use Rattle.c_tree.specs.declared.operator.BinaryOp.TheVariants as bin
-use Rattle.c_tree.specs.declared.operator.UnaryOp.{UnaryOp}
-use Rattle.c_tree.specs.declared.operator.UnaryOp.TheVariants as u
-use Rattle.c_decls.specs.declared.refusal.TypeKind.{TypeKind}
-use Rattle.c_decls.specs.declared.refusal.TypeKind.TheVariants.{PointerAndInteger}
-use Rattle.c_decls.specs.IntegerTypes.{promoted, common_type}
+use Rattle.c_tree.specs.{declared.operator.BinaryOp.BinaryOp, declared.operator.UnaryOp.UnaryOp}
+use Rattle.c_decls.specs.{declared.refusal.TypeKind.TypeKind, declared.refusal.TypeKind.TheVariants.PointerAndInteger, IntegerTypes.promoted, IntegerTypes.common_type}
 use Rattle.c_decls.specs.Refusals.{Checked, refused, unless}
 use Rattle.c_decls.specs.Typed.{PlainTyped, Operand, Number, PointerTo, Neither, operand, value, int, is_null_constant}
 use Rattle.c_decls.specs.TypeRules.{result_type, barred, moving, immovable, beside_pointer, sum_types, difference_types, order_types, equal_types, integer_types, binary}
-use Rattle.elaboration.specs.Context.{Context}
-use Rattle.elaboration.specs.Conversions.{convert_integer, size_or_zero}
+use Rattle.elaboration.specs.{Context.Context, Conversions.convert_integer, Conversions.size_or_zero}
 use Rattle.elaboration.specs.Operations.{working, Working, Calculates, Shifts, Compares, Branches, convert_both, work, on_integers, before_integer, move_pointer, between_pointers, pointer_beside, beside_integer, combine, change, changed_to, member_address}
-use Rattle.core_soundness.specs.Worlds.{world, Holds, HeldAs, Held}
 use Rattle.elaboration.specs.Rules.{tells_equal}
-use Rattle.core_soundness.proofs.Grown.{good, ok_same, never}
-use Rattle.core_soundness.proofs.Growing.{holds_grew}
+use Rattle.core_soundness.specs.Worlds.{world, Holds, HeldAs, Held}
+use Rattle.core_soundness.proofs.{Grown.good, Grown.ok_same, Grown.never, Growing.holds_grew}
 use Rattle.core_soundness.proofs.Going.{Goes, goes_refl, goes_trans, goes_forgotten, Gives, gives_on, gives_integer, gives_pointer}
 use Rattle.core_soundness.proofs.Sorting.{Brings, integer_converted, gives_here}
+use Rattle.c_types.specs.Types as types
+use Rattle.core_tree.specs.declared.statements.Atom.TheVariants as atom
+use Rattle.core_tree.specs.declared.statements.UnOp.TheVariants as un
+use Rattle.core_tree.specs.declared.statements.CmpOp.TheVariants as cmp
+use Rattle.c_tree.specs.declared.operator.BinaryOp.TheVariants as bin
+use Rattle.c_tree.specs.declared.operator.UnaryOp.TheVariants as u
 
 -- what a check that was passed says
 

@@ -1,16 +1,13 @@
 -- At file scope no name stands for a register, and so no expression there takes the address of one.
 use Rattle.std.proofs.Common.{◌≡◌, ℕ, false, length, List, [], ◌∷◌, Option, Some, None, refl, arith}
-use Rattle.c_tree.specs.declared.operator.UnaryOp.TheVariants as u
-use Rattle.c_tree.specs.Forms.{Form}
-use Rattle.c_tree.specs.Forms as f
-use Rattle.c_tree.specs.Tree.{Tree, Trees, Leaf, At, Node, none, ◌▹◌}
-use Rattle.c_decls.specs.Named as n
-use Rattle.c_decls.specs.Named.{PlainNamed}
-use Rattle.c_decls.specs.ScopeList.{ScopeList, Table, named_in, found_from}
+use Rattle.c_tree.specs.{Forms.Form, Tree.Tree, Tree.Trees, Tree.Leaf, Tree.At, Tree.Node, Tree.none, Tree.◌▹◌}
+use Rattle.c_decls.specs.{Named.PlainNamed, ScopeList.ScopeList, ScopeList.Table, ScopeList.named_in, ScopeList.found_from}
 use Rattle.elaboration.specs.Addressed.{plain_name}
-use Rattle.core_soundness.specs.Worlds.{World, FileFits, TableFits}
-use Rattle.core_soundness.specs.Spoken.{is_register, NoRegister, TakesAddress, Spoken, AllSpoken}
+use Rattle.core_soundness.specs.{Worlds.World, Worlds.FileFits, Worlds.TableFits, Spoken.is_register, Spoken.NoRegister, Spoken.TakesAddress, Spoken.Spoken, Spoken.AllSpoken}
 use Rattle.core_soundness.specs.Written.{Written, AllWritten}
+use Rattle.c_tree.specs.declared.operator.UnaryOp.TheVariants as u
+use Rattle.c_tree.specs.Forms as f
+use Rattle.c_decls.specs.Named as n
 
 pub file_register : (w : World) (file : Table) (inner : List Table) (name : List ℕ) → length inner ≡ 0 → TableFits (FileFits w) file → is_register (found_from file name inner) ≡ false
 file_register w file (scope ∷ outer) name e h = absurd (omega (arith, e))

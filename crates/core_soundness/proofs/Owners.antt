@@ -1,14 +1,12 @@
 -- The functions of a text: each has one number by its name, and each body that was walked belongs to one of them.
 use Rattle.std.proofs.Common.{◌≡◌, ◌⊎◌, ◌≤◌, ◌<◌, ◌+◌, ℕ, zero, suc, Bool, true, false, cond, nat_eq, length, List, [], ◌∷◌, ◌++◌, slice_get, slice_set, Option, Some, None, refl, sym, ap, ◌∙◌, subst, arith, inl, inr, ⊎_elim, bytes_eq, eqb-true, length-append}
 use Rattle.std.specs.Option.{option_or}
-use Rattle.std.proofs.lemmas.Bool.{eqb-false}
-use Rattle.std.proofs.lemmas.Slice.Eq.{bytes_eq-Decides}
+use Rattle.std.proofs.{lemmas.Bool.eqb-false, lemmas.Slice.Eq.bytes_eq-Decides}
 use Rattle.c_types.specs.Types.{PlainType}
-use Rattle.c_decls.specs.Named.{PlainNamed, Function, Tag}
-use Rattle.c_decls.specs.ScopeList as scopes
-use Rattle.c_decls.specs.ScopeList.{Table, ScopeList, named_in, with_name}
+use Rattle.c_decls.specs.{Named.PlainNamed, Named.Function, Named.Tag, ScopeList.Table, ScopeList.ScopeList, ScopeList.named_in, ScopeList.with_name}
 use Rattle.elaboration.specs.Context.{Declared, Walked}
 use Rattle.core_soundness.proofs.Names.{More, MoreAll, IsNewTag, named_push}
+use Rattle.c_decls.specs.ScopeList as scopes
 
 -- lists with one thing more
 

@@ -1,43 +1,35 @@
 -- The registers that declarators make: those of the parameters of their function layer, in order (C99 6.7.5.3, 6.9.1).
 use Rattle.std.proofs.Common.{◌≡◌, ◌≤◌, ◌+◌, ℕ, zero, suc, ℤ, pos, ◌+ℤ◌, Bool, true, false, ◌||◌, cond, is_some, map, length, reverse, unwrap_or, ◌⊎◌, inl, inr, ⊎_elim, List, [], ◌∷◌, ◌++◌, Option, Some, None, Result, Ok, Err, refl, sym, ap, ◌∙◌, subst, arith, append-nil, append_assoc}
-use Rattle.hs_base.specs.declared.ends.IntKind.TheVariants.{I32}
-use Rattle.hs_base.specs.Numbers.{wrapped}
+use Rattle.hs_base.specs.{declared.ends.IntKind.TheVariants.I32, Numbers.wrapped}
 use Rattle.std.proofs.lemmas.List.{reverse-append, map-append}
-use Rattle.c_types.specs.declared.types.IntType.TheVariants as i
-use Rattle.c_types.specs.declared.tags.TagError.{TagError}
-use Rattle.c_types.specs.Types as types
-use Rattle.c_types.specs.Types.{PlainType, PlainTypes, Int, Struct, Union, Function, first}
+use Rattle.c_types.specs.{declared.tags.TagError.TagError, Types.PlainType, Types.PlainTypes, Types.Int, Types.Struct, Types.Union, Types.Function, Types.first}
 use Rattle.c_types.specs.TagTable.{TagTable, completion, known}
-use Rattle.core_tree.specs.Sorts.{Sort, sort_of}
-use Rattle.c_tree.specs.declared.operator.RecordSort.{RecordSort}
-use Rattle.c_tree.specs.declared.operator.RecordSort.TheVariants as r
-use Rattle.c_tree.specs.Words as w
-use Rattle.c_tree.specs.Forms as f
-use Rattle.c_tree.specs.Tree.{Tree, Trees, Leaf, At, Node, none, ◌▹◌}
-use Rattle.c_tree.specs.Scopes.{name_of}
+use Rattle.core_tree.specs.{Sorts.Sort, Sorts.sort_of, declared.statements.Atom.Atom}
+use Rattle.c_tree.specs.{declared.operator.RecordSort.RecordSort, Tree.Tree, Tree.Trees, Tree.Leaf, Tree.At, Tree.Node, Tree.none, Tree.◌▹◌, Scopes.name_of}
 use Rattle.c_decls.specs.declared.constant.Constant.{Constant}
-use Rattle.c_decls.specs.declared.refusal.TypeKind.TheVariants.{DeclaredTwice, Incomplete, LeftOut}
-use Rattle.c_decls.specs.Named as n
-use Rattle.c_decls.specs.Named.{PlainNamed}
-use Rattle.c_decls.specs.ScopeList.{named_in, innermost, with_name, tag_name, after_declaration}
-use Rattle.c_decls.specs.Refusals.{Checked, then, unless}
+use Rattle.c_decls.specs.{declared.refusal.TypeKind.TheVariants.DeclaredTwice, declared.refusal.TypeKind.TheVariants.Incomplete, declared.refusal.TypeKind.TheVariants.LeftOut, Named.PlainNamed}
+use Rattle.c_decls.specs.{ScopeList.named_in, ScopeList.innermost, ScopeList.with_name, ScopeList.tag_name, ScopeList.after_declaration, Refusals.Checked, Refusals.then, Refusals.unless}
 use Rattle.c_decls.specs.Typed.{is_void, is_record, is_function, is_array, has_no_size}
-use Rattle.c_decls.specs.TypeNames as names
 use Rattle.c_decls.specs.TypeNames.{Layer, PointerTo, ArrayOf, FunctionOf, word_type, special_type, array_length, layered, with_layers, with_param_layers, adjusted}
 use Rattle.c_decls.specs.Expressions.{line_of, typed, wanted, constant_from}
 use Rattle.elaboration.specs.Context.{Context, Running, asked, told, entered, local_register}
 use Rattle.elaboration.specs.Conversions.{Spot, Local, Memory, write}
-use Rattle.core_tree.specs.declared.statements.Atom.{Atom}
-use Rattle.core_tree.specs.declared.statements.Atom.TheVariants as atom
 use Rattle.elaboration.specs.Locals.{is_pointer, declared_as, next_is_memory, with_register, with_memory, with_named, memory_param, register_param, function_param, prototype_param, with_param}
-use Rattle.elaboration.specs.Declarators as d
 use Rattle.elaboration.specs.Declarators.{constant, with_type, maybe_name, begun_as, begun, completed_by, complete, ended, with_member, member, enumerator, enum_named, is_declared, param, left_params, specs, words_type, tag_type, members, member_names, enumerators, layers, suffix_layers, suffix_layer, params}
 use Rattle.core_soundness.specs.Worlds.{type_sort, param_sorts}
-use Rattle.core_soundness.proofs.Grown.{good, bad, ok_same, never}
-use Rattle.core_soundness.proofs.Agreeing.{came}
+use Rattle.core_soundness.proofs.{Grown.good, Grown.bad, Grown.ok_same, Grown.never, Agreeing.came}
 use Rattle.core_soundness.proofs.Specifying.{levels_refl, begun_levels, member_levels, param_levels, specs_level, member_names_level, layers_level, suffix_levels}
 use Rattle.core_soundness.proofs.Prototypes.{Aside, aside_refl, own_params, specs_beside, layers_beside}
 use Rattle.core_soundness.proofs.Operating.{passed, kept_test, behind_test}
+use Rattle.c_types.specs.declared.types.IntType.TheVariants as i
+use Rattle.c_types.specs.Types as types
+use Rattle.c_tree.specs.declared.operator.RecordSort.TheVariants as r
+use Rattle.c_tree.specs.Words as w
+use Rattle.c_tree.specs.Forms as f
+use Rattle.c_decls.specs.Named as n
+use Rattle.c_decls.specs.TypeNames as names
+use Rattle.core_tree.specs.declared.statements.Atom.TheVariants as atom
+use Rattle.elaboration.specs.Declarators as d
 
 -- the sorts of the parameters and locals so far
 abbrev pub sorts : Context → List Sort

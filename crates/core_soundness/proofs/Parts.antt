@@ -1,7 +1,6 @@
 -- Parts of a body, one behind another and round one another.
 use Rattle.std.proofs.Common.{◌≡◌, ◌⊎◌, ◌≤◌, ◌<◌, ◌+◌, ℕ, zero, suc, List, [], ◌∷◌, ◌++◌, refl, sym, ap, ◌∙◌, subst, arith, inl, inr, ⊎_elim, append_assoc}
-use Rattle.core_tree.specs.declared.statements.Stm.{Stm}
-use Rattle.core_tree.specs.declared.statements.StmKind.{StmKind}
+use Rattle.core_tree.specs.{declared.statements.Stm.Stm, declared.statements.StmKind.StmKind}
 use Rattle.core_tree.specs.declared.statements.StmKind.TheVariants.{Jump, Zero, Case, Loop, Leave}
 use Rattle.elaboration.specs.Context.{Piece, Does, Here, Code}
 use Rattle.core_soundness.proofs.Flow.{Marks, Target, Targets, Places, Placed, steps, Goes, Flows, agree_refl, steps_append, targets_append, places_append}

@@ -1,19 +1,16 @@
 -- What a part of a function, or of a text, leaves as it was.
 use Rattle.std.proofs.Common.{◌≡◌, ◌≤◌, ◌+◌, ℕ, Bool, true, false, ◌||◌, cond, List, [], ◌∷◌, ◌++◌, length, slice_get, Some, refl, sym, ap, ◌∙◌, subst, arith, append_assoc, append-nil}
 use Rattle.core_tree.specs.declared.statements.StmKind.TheVariants.{Enter, Leave}
-use Rattle.c_tree.specs.Words as w
-use Rattle.c_tree.specs.Forms as f
 use Rattle.c_tree.specs.Tree.{Tree, Trees, Leaf, At, Node, none, ◌▹◌}
 use Rattle.c_decls.specs.ScopeList.{ScopeList}
-use Rattle.elaboration.specs.Context.{Piece, Does, Code, Context, emit, anew}
-use Rattle.elaboration.specs.Conversions.{code_line}
+use Rattle.elaboration.specs.{Context.Piece, Context.Does, Context.Code, Context.Context, Context.emit, Context.anew, Conversions.code_line}
 use Rattle.elaboration.specs.Reallocates.{calls_realloc, reallocates, any_reallocates, opened, closed}
 use Rattle.core_soundness.proofs.Fragments.{Fragment, nothing, joined, in_scope, stm_at}
-use Rattle.core_soundness.proofs.Names.{Safe, SafeTable, More, same_frees, more_safe}
-use Rattle.core_soundness.proofs.Owners.{Tied, tied_trans, tied_same, more_keeps, more_depth}
-use Rattle.core_soundness.proofs.Growth.{Counted, Grows, grows_code, grows_trans}
-use Rattle.core_soundness.proofs.Forks.{recoded}
+use Rattle.core_soundness.proofs.{Names.Safe, Names.SafeTable, Names.More, Names.same_frees, Names.more_safe, Owners.Tied, Owners.tied_trans, Owners.tied_same, Owners.more_keeps, Owners.more_depth}
+use Rattle.core_soundness.proofs.{Growth.Counted, Growth.Grows, Growth.grows_code, Growth.grows_trans, Forks.recoded}
 use Rattle.core_soundness.proofs.Settled.{ObjectsStay, Settled, settled_trans, grows_settled}
+use Rattle.c_tree.specs.Words as w
+use Rattle.c_tree.specs.Forms as f
 
 -- what every part leaves as it was
 pub record Stays (c d : Context) : Type 0 where

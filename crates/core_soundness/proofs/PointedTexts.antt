@@ -1,61 +1,35 @@
 -- The pointers that the statics of a core hold first name statics, and offsets in them up to their ends (C99 6.7.8, 6.9.2).
 use Rattle.std.proofs.Common.{◌≡◌, ◌≤◌, ◌<◌, ◌+◌, ◌*◌, ◌/◌, ◌%◌, ◌==◌, not, ℕ, zero, suc, Bool, true, false, cond, is_some, nat_lt, codes, All, length, map, sum_by, List, [], ◌∷◌, ◌++◌, slice_get, slice_set, option_map, unwrap_or, Option, Some, None, Ok, refl, sym, ap, ◌∙◌, subst, ⊎_elim, arith, bytes_eq}
-use Rattle.std.proofs.lemmas.Bool.{ltb-true, ltb-false, eq-eqb}
-use Rattle.std.proofs.lemmas.List.{length-map}
-use Rattle.std.proofs.lemmas.List.Elements.{All-cons, All-nil, All-append}
-use Rattle.std.proofs.lemmas.Option.{slice_get-map}
+use Rattle.std.proofs.{lemmas.Bool.ltb-true, lemmas.Bool.ltb-false, lemmas.Bool.eq-eqb, lemmas.List.length-map}
+use Rattle.std.proofs.{lemmas.List.Elements.All-cons, lemmas.List.Elements.All-nil, lemmas.List.Elements.All-append, lemmas.Option.slice_get-map}
 use Rattle.hs_base.specs.Place.{block_size}
-use Rattle.c_types.specs.Types.{PlainType}
-use Rattle.c_types.specs.Layouts.{no_layout}
-use Rattle.c_types.specs.TagTable.{TagTable, layout_in}
-use Rattle.core_tree.specs.declared.program.Core.{Core}
-use Rattle.core_tree.specs.declared.program.Start.{Start}
-use Rattle.core_tree.specs.declared.program.Static.{Static}
-use Rattle.core_tree.specs.declared.statements.StmKind.TheVariants.{Return}
-use Rattle.core_tree.specs.Sound.{IsTarget}
-use Rattle.c_tree.specs.Words as w
-use Rattle.c_tree.specs.Forms as f
-use Rattle.c_tree.specs.Tree.{Tree, Trees, Leaf, At, Node, none, ◌▹◌}
-use Rattle.c_tree.specs.Scopes.{name_of}
+use Rattle.c_types.specs.{Types.PlainType, Layouts.no_layout, TagTable.TagTable, TagTable.layout_in}
+use Rattle.core_tree.specs.{declared.program.Core.Core, declared.program.Start.Start, declared.program.Static.Static, declared.statements.StmKind.TheVariants.Return, Sound.IsTarget}
+use Rattle.c_tree.specs.{Tree.Tree, Tree.Trees, Tree.Leaf, Tree.At, Tree.Node, Tree.none, Tree.◌▹◌, Scopes.name_of}
 use Rattle.c_decls.specs.declared.built_in.BuiltIn.{BuiltIn}
 use Rattle.c_decls.specs.declared.refusal.TypeKind.TheVariants.{DeclaredTwice, Incomplete, LeftOut, StaticTooLarge, ProgramTooLong, Undeclared, NoMain}
-use Rattle.c_decls.specs.Named as n
 use Rattle.c_decls.specs.Named.{PlainNamed}
 use Rattle.c_decls.specs.ScopeList.{ScopeList, Table, named_in, innermost, with_name, with_name_in, after_declaration, tag_name}
-use Rattle.c_decls.specs.BuiltIns as names
-use Rattle.c_decls.specs.BuiltIns.{built_ins, numbered_from}
-use Rattle.c_decls.specs.Refusals.{refused}
-use Rattle.c_decls.specs.Typed.{is_function, has_no_size}
-use Rattle.c_decls.specs.TypeNames.{with_layers, tag_named}
+use Rattle.c_decls.specs.{BuiltIns.built_ins, BuiltIns.numbered_from, Refusals.refused, Typed.is_function, Typed.has_no_size, TypeNames.with_layers, TypeNames.tag_named}
 use Rattle.elaboration.specs.Context.{Context, Variable, Declared, asked, emit, first_context, file_variable, literal_object}
-use Rattle.elaboration.specs.Conversions.{size_or_zero}
-use Rattle.elaboration.specs.Rules.{with_static}
-use Rattle.elaboration.specs.Locals.{is_twice, declared_as}
-use Rattle.elaboration.specs.Declarators.{specs, layers}
+use Rattle.elaboration.specs.{Conversions.size_or_zero, Rules.with_static, Locals.is_twice, Locals.declared_as, Declarators.specs, Declarators.layers}
 use Rattle.elaboration.specs.Initializers.{Target, InStatic, initialize, surplus, no_start, with_init_layers}
 use Rattle.elaboration.specs.Declarations.{Storage, Typedef, storage_of, specs_alone, specs_before, function_number, with_function, declared_function, no_initializer, variable_number_of, with_new_variable, with_variable, start_of, start_in, started_variable, fill_variable, file_object, file_function, file_value, file_name, name_in, entry, entries, declaration}
 use Rattle.elaboration.specs.Statements.{around_body, items}
 use Rattle.elaboration.specs.Externals.{begun, is_defined, body_begun, last_answer, piece_length, params_of, body_ended, body, defined, named_definition, definition, external, externals, calls_defined, is_main}
-use Rattle.elaboration.specs.Addressed.{addressed_in}
-use Rattle.elaboration.specs.Resolving.{static_by, variable_static, literal_static, core_of}
-use Rattle.elaboration.specs.Elaboration.{walked, elaborated}
-use Rattle.core_soundness.proofs.Names.{Safe, SafeTable}
-use Rattle.core_soundness.proofs.Grown.{good, ok_same}
-use Rattle.core_soundness.proofs.Agreeing.{came}
-use Rattle.core_soundness.proofs.Operating.{passed}
+use Rattle.elaboration.specs.{Addressed.addressed_in, Resolving.static_by, Resolving.variable_static, Resolving.literal_static, Resolving.core_of, Elaboration.walked, Elaboration.elaborated}
+use Rattle.core_soundness.proofs.{Names.Safe, Names.SafeTable, Grown.good, Grown.ok_same, Agreeing.came, Operating.passed}
 use Rattle.core_soundness.proofs.Owners.{get_left, get_last, get_push, get_below, set_get, Pushed, push_get}
-use Rattle.core_soundness.proofs.Reached.{Reached, Led, led_ok, led_refused, led_after, led_unless}
-use Rattle.core_soundness.proofs.TypedNames.{tag_after}
-use Rattle.core_soundness.proofs.TypedWhole.{led_cond}
-use Rattle.core_soundness.proofs.Declaring.{passes_refl, specs_passes, layers_pass}
-use Rattle.core_soundness.proofs.Introducing.{introduced}
-use Rattle.core_soundness.proofs.StatementWalks.{items_walk}
-use Rattle.core_soundness.proofs.Texts.{Sane, external_sane, first_sane}
-use Rattle.core_soundness.proofs.Cores.{behind as core_behind}
-use Rattle.core_soundness.proofs.Settled.{Settled, settled_refl, settled_trans}
+use Rattle.core_soundness.proofs.{Reached.Reached, Reached.Led, Reached.led_ok, Reached.led_refused, Reached.led_after, Reached.led_unless, TypedNames.tag_after, TypedWhole.led_cond}
+use Rattle.core_soundness.proofs.{Declaring.passes_refl, Declaring.specs_passes, Declaring.layers_pass, Introducing.introduced, StatementWalks.items_walk}
+use Rattle.core_soundness.proofs.{Texts.Sane, Texts.external_sane, Texts.first_sane, Cores.behind as core_behind, Settled.Settled, Settled.settled_refl, Settled.settled_trans}
 use Rattle.core_soundness.proofs.Specifying.{Levels, levels_refl, with_type_levels, declared_levels, specs_level, layers_level}
 use Rattle.core_soundness.proofs.Aiming.{Aims, in_variable, in_literal, VariablesStay, same_variables, ObjectsThere, There, there_on}
 use Rattle.core_soundness.proofs.Pointing.{PointersIn, pointers_stay, TargetIn, initialize_points}
+use Rattle.c_tree.specs.Words as w
+use Rattle.c_tree.specs.Forms as f
+use Rattle.c_decls.specs.Named as n
+use Rattle.c_decls.specs.BuiltIns as names
 
 -- each variable that has an initializer holds such pointers
 abbrev pub StartsIn : List Variable → List Variable → List (List ℕ) → Type 0

@@ -1,30 +1,21 @@
 -- The pointers that statics hold first are those of objects that are there (C99 6.7.8).
 use Rattle.std.proofs.Common.{not, ℕ, ℤ, Bool, true, false, cond, List, [], ◌∷◌, ◌++◌, Option, Some, None, Ok, refl, sym, subst}
 use Rattle.std.specs.Prelude.{unsigned_abs}
-use Rattle.c_types.specs.declared.types.IntType.{IntType}
-use Rattle.c_types.specs.Types as types
-use Rattle.c_types.specs.Types.{PlainType, Array, Struct, Union}
-use Rattle.core_tree.specs.declared.program.Start.{Start}
-use Rattle.c_tree.specs.Forms as f
+use Rattle.c_types.specs.{declared.types.IntType.IntType, Types.PlainType, Types.Array, Types.Struct, Types.Union}
+use Rattle.core_tree.specs.{declared.program.Start.Start, declared.statements.StmKind.TheVariants.Enter}
 use Rattle.c_tree.specs.Tree.{Tree, Trees, At, Node, none, ◌▹◌, count}
-use Rattle.c_decls.specs.declared.typed.Folded.{Folded}
-use Rattle.c_decls.specs.declared.typed.Folded.TheVariants.{Is}
-use Rattle.c_decls.specs.declared.refusal.TypeKind.TheVariants.{Assignment}
-use Rattle.c_decls.specs.Refusals.{refused, then}
-use Rattle.c_decls.specs.Typed.{is_null_constant}
-use Rattle.c_decls.specs.PlaceRules.{unconverted}
+use Rattle.c_decls.specs.{declared.typed.Folded.Folded, declared.typed.Folded.TheVariants.Is, declared.refusal.TypeKind.TheVariants.Assignment, Refusals.refused, Refusals.then}
+use Rattle.c_decls.specs.{Typed.is_null_constant, PlaceRules.unconverted}
 use Rattle.elaboration.specs.Context.{Code, Context, Variable, emit, anew}
-use Rattle.core_tree.specs.declared.statements.StmKind.TheVariants.{Enter}
 use Rattle.elaboration.specs.Conversions.{Found, Fixed, Unknown, Nowhere, Inside, code_line, valued}
-use Rattle.elaboration.specs.Reallocates.{reallocates, opened}
-use Rattle.elaboration.specs.Expressions.{found}
+use Rattle.elaboration.specs.{Reallocates.reallocates, Reallocates.opened, Expressions.found}
 use Rattle.elaboration.specs.Initializers.{Target, InRegister, InMemory, InStatic, static_integer, static_address, static_pointer, static_scalar, fill_scalar, scalar, fill_record, is_same_place, whole, fill_text, is_character, text, by_text, by_expression, parts_of, takes_braces, is_scalar_type, all_surplus, initialize, initialize_parts}
-use Rattle.core_soundness.proofs.Growth.{Longer}
-use Rattle.core_soundness.proofs.Reached.{Led, led_ok, led_refused, led_after, led_unless, led_barred}
-use Rattle.core_soundness.proofs.TypedWhole.{led_cond}
+use Rattle.core_soundness.proofs.{Growth.Longer, Reached.Led, Reached.led_ok, Reached.led_refused, Reached.led_after, Reached.led_unless, Reached.led_barred, TypedWhole.led_cond}
 use Rattle.core_soundness.proofs.Settled.{Settled, settled_refl, settled_trans, grows_settled}
 use Rattle.core_soundness.proofs.Aiming.{Aims, FixedAt, VariablesStay, same_variables, aims_stay, There, there_on, Aimed}
 use Rattle.core_soundness.proofs.AimedWalk.{value_grew, value_aimed}
+use Rattle.c_types.specs.Types as types
+use Rattle.c_tree.specs.Forms as f
 
 -- each pointer is one to a static that is there
 abbrev pub PointersIn : List Variable → List (List ℕ) → List (ℕ × ℕ × ℕ) → Type 0

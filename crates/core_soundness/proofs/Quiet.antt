@@ -2,32 +2,22 @@
 use Rattle.std.proofs.Common.{◌≡◌, ◌+◌, ℕ, Bool, true, false, cond, List, [], ◌∷◌, ◌++◌, length, Option, Some, None, Ok, refl, ◌∙◌, subst}
 use Rattle.std.specs.Prelude.{nat_lt}
 use Rattle.hs_base.specs.Place.{block_size}
-use Rattle.c_types.specs.declared.types.IntType.{IntType}
-use Rattle.c_types.specs.Types.{PlainType, PlainTypes, Int, Pointer, none, first, kind_of}
-use Rattle.core_tree.specs.declared.statements.Atom.{Atom}
-use Rattle.core_tree.specs.declared.statements.Atom.TheVariants as atom
-use Rattle.core_tree.specs.declared.statements.StmKind.{StmKind}
-use Rattle.core_tree.specs.declared.statements.StmKind.TheVariants.{Call, Lib}
-use Rattle.c_tree.specs.declared.operator.BinaryOp.{BinaryOp}
-use Rattle.c_tree.specs.declared.operator.BinaryOp.TheVariants as b
-use Rattle.c_tree.specs.declared.operator.UnaryOp.{UnaryOp}
-use Rattle.c_tree.specs.declared.operator.UnaryOp.TheVariants as u
-use Rattle.c_tree.specs.Tree.{Tree}
-use Rattle.c_decls.specs.declared.refusal.TypeKind.TheVariants.{StaticTooLarge}
-use Rattle.c_decls.specs.declared.built_in.BuiltIn.{BuiltIn}
-use Rattle.c_decls.specs.declared.built_in.BuiltIn.TheVariants as bi
-use Rattle.c_decls.specs.Named as n
-use Rattle.c_decls.specs.Named.{PlainNamed}
-use Rattle.c_decls.specs.Refusals.{then, unless}
-use Rattle.c_decls.specs.IntegerTypes.{promoted, common_type}
-use Rattle.c_decls.specs.TypeRules.{result_type}
-use Rattle.c_decls.specs.Typed.{PlainTyped, Operand, Number, PointerTo, operand}
+use Rattle.c_types.specs.{declared.types.IntType.IntType, Types.PlainType, Types.PlainTypes, Types.Int, Types.Pointer, Types.none, Types.first, Types.kind_of}
+use Rattle.core_tree.specs.{declared.statements.Atom.Atom, declared.statements.StmKind.StmKind, declared.statements.StmKind.TheVariants.Call, declared.statements.StmKind.TheVariants.Lib}
+use Rattle.c_tree.specs.{declared.operator.BinaryOp.BinaryOp, declared.operator.UnaryOp.UnaryOp, Tree.Tree}
+use Rattle.c_decls.specs.{declared.refusal.TypeKind.TheVariants.StaticTooLarge, declared.built_in.BuiltIn.BuiltIn, Named.PlainNamed, Refusals.then, Refusals.unless}
+use Rattle.c_decls.specs.{IntegerTypes.promoted, IntegerTypes.common_type, TypeRules.result_type, Typed.PlainTyped, Typed.Operand, Typed.Number, Typed.PointerTo, Typed.operand}
 use Rattle.elaboration.specs.Context.{Code, Context, asked, literal_object}
 use Rattle.elaboration.specs.Conversions.{Found, Spot, Local, Memory, read_spot, atom_in, holds_all, convert_integer, convert_to, convert, tested, tested_value, code_line, write}
 use Rattle.elaboration.specs.Operations.{working, Working, Shifts, Compares, Branches, convert_both, work, on_integers, before_integer, move_pointer, between_pointers, pointer_beside, beside_integer, combine, combined, change, changed_to}
 use Rattle.elaboration.specs.Calls.{Argument, argument_from, atoms_of, built_in_at, lib_name, result_by, call_built_in, call_of_built_in, call_named}
 use Rattle.elaboration.specs.Rules.{set_again, compare_again, with_literal, chosen_by, choose_last}
 use Rattle.core_soundness.proofs.Grown.{good, ok_same, never}
+use Rattle.core_tree.specs.declared.statements.Atom.TheVariants as atom
+use Rattle.c_tree.specs.declared.operator.BinaryOp.TheVariants as b
+use Rattle.c_tree.specs.declared.operator.UnaryOp.TheVariants as u
+use Rattle.c_decls.specs.declared.built_in.BuiltIn.TheVariants as bi
+use Rattle.c_decls.specs.Named as n
 
 abbrev pub Quiet : Context → Context → Type 0
 Quiet c d = asked d ≡ asked c

@@ -2,29 +2,17 @@
 use Rattle.std.proofs.Common.{◌≡◌, ◌≤◌, ◌==◌, ◌&&◌, not, ℕ, pos, Bool, true, false, cond, is_none, nat_lt, List, [], ◌∷◌, ◌++◌, map, fold, zip, Option, Some, None, option_map, unwrap_or, refl, sym, ap, ◌∙◌, subst, arith, bytes_eq}
 use Rattle.std.specs.List.{find}
 use Rattle.std.proofs.lemmas.Bool.{ltb-false}
-use Rattle.c_types.specs.declared.layouts.Layout.{Layout}
-use Rattle.c_types.specs.declared.tags.TagError.TheVariants.{PointerInUnion, TooLarge}
+use Rattle.c_types.specs.{declared.layouts.Layout.Layout, declared.tags.TagError.TheVariants.PointerInUnion, declared.tags.TagError.TheVariants.TooLarge}
 use Rattle.c_types.specs.Types.{PlainType, Int, Pointer, Struct, Union}
 use Rattle.c_types.specs.Layouts.{Known, Placed, none_placed, offset_after, place, placed, no_layout, keeps_union_rule}
 use Rattle.c_types.specs.TagTable.{CompletedTag, TagTable, PlainMember, known, learn, tag_layout, member_layout, refusal, placed_members, members_in, layout_in}
-use Rattle.c_types.proofs.MemberLemmas.{Extends, sized_stays}
-use Rattle.c_types.proofs.Places.{stays_known}
-use Rattle.c_types.proofs.Sound.{rounded_le}
+use Rattle.c_types.proofs.{MemberLemmas.Extends, MemberLemmas.sized_stays, Places.stays_known, Sound.rounded_le}
 use Rattle.core_tree.specs.Sound.{IsNumber}
-use Rattle.c_decls.specs.declared.refusal.TypeKind.{TypeKind}
-use Rattle.c_decls.specs.declared.refusal.TypeKind.TheVariants.{Operands, Incomplete}
-use Rattle.c_decls.specs.Typed.{is_void, has_no_size}
+use Rattle.c_decls.specs.{declared.refusal.TypeKind.TypeKind, declared.refusal.TypeKind.TheVariants.Operands, declared.refusal.TypeKind.TheVariants.Incomplete, Typed.is_void, Typed.has_no_size}
 use Rattle.c_decls.specs.TypeRules.{immovable}
-use Rattle.elaboration.specs.Context.{Context}
-use Rattle.elaboration.specs.Conversions.{size_or_zero}
-use Rattle.elaboration.specs.Operations.{offset_among, offset_of}
-use Rattle.elaboration.specs.Calls.{byte_layout, element_layout}
-use Rattle.core_soundness.specs.Whole.{Whole, AreMade, MembersWhole}
-use Rattle.core_soundness.proofs.WholeTypes.{nothing, made_sized, is_layout, learn_extends}
-use Rattle.core_soundness.specs.Solid.{Solid}
-use Rattle.core_soundness.proofs.Solid.{K}
-use Rattle.core_soundness.specs.Ranges.{IsStep, IsElement}
-use Rattle.core_soundness.proofs.Ranges.{small_number, small_step, zero_number}
+use Rattle.elaboration.specs.{Context.Context, Conversions.size_or_zero, Operations.offset_among, Operations.offset_of, Calls.byte_layout, Calls.element_layout}
+use Rattle.core_soundness.specs.{Whole.Whole, Whole.AreMade, Whole.MembersWhole, Solid.Solid, Ranges.IsStep, Ranges.IsElement}
+use Rattle.core_soundness.proofs.{WholeTypes.nothing, WholeTypes.made_sized, WholeTypes.is_layout, WholeTypes.learn_extends, Solid.K, Ranges.small_number, Ranges.small_step, Ranges.zero_number}
 
 -- sizes of types
 

@@ -2,33 +2,18 @@
 use Rattle.std.proofs.Common.{◌≡◌, ◌<◌, ◌+◌, ◌&&◌, ◌^◌, not, ℕ, pos, zero, suc, Bool, true, false, cond, length, drop, List, [], ◌∷◌, ◌++◌, slice_get, Option, Some, None, unwrap_or, Ok, refl, sym, subst, arith}
 use Rattle.std.specs.Prelude.{slice_index_or}
 use Rattle.std.proofs.lemmas.Int.{ints}
-use Rattle.c_types.specs.Types as ct
 use Rattle.c_types.specs.Types.{PlainType, PlainTypes, Void, Int, Pointer}
-use Rattle.core_tree.specs.declared.statements.Atom.{Atom}
-use Rattle.core_tree.specs.declared.statements.Atom.TheVariants as atom
-use Rattle.core_tree.specs.declared.statements.CmpOp.TheVariants as cmp
-use Rattle.core_tree.specs.declared.statements.StmKind.{StmKind}
+use Rattle.core_tree.specs.{declared.statements.Atom.Atom, declared.statements.StmKind.StmKind}
 use Rattle.core_tree.specs.declared.statements.StmKind.TheVariants.{Set, Cmp, Zero, Jump, Copy, Call, Malloc, Calloc, Realloc, Free, Lib, Printf, Enter, Leave}
 use Rattle.core_tree.specs.Sound.{IsNumber}
-use Rattle.c_tree.specs.declared.operator.UnaryOp.{UnaryOp}
-use Rattle.c_tree.specs.declared.operator.UnaryOp.TheVariants as u
-use Rattle.c_tree.specs.declared.operator.BinaryOp.{BinaryOp}
-use Rattle.c_tree.specs.declared.operator.BinaryOp.TheVariants as b
-use Rattle.c_tree.specs.declared.operator.AssignOp.{AssignOp}
-use Rattle.c_tree.specs.Tree.{Tree}
-use Rattle.c_decls.specs.declared.built_in.BuiltIn.{BuiltIn}
-use Rattle.c_decls.specs.declared.built_in.BuiltIn.TheVariants as built
-use Rattle.c_decls.specs.declared.constant.Constant.{Constant}
-use Rattle.c_decls.specs.declared.refusal.TypeKind.TheVariants.{Operands, StaticTooLarge}
-use Rattle.c_decls.specs.Named as n
-use Rattle.c_decls.specs.Named.{PlainNamed}
-use Rattle.c_decls.specs.ScopeList.{found as declaration}
+use Rattle.c_tree.specs.{declared.operator.UnaryOp.UnaryOp, declared.operator.BinaryOp.BinaryOp, declared.operator.AssignOp.AssignOp, Tree.Tree}
+use Rattle.c_decls.specs.{declared.built_in.BuiltIn.BuiltIn, declared.constant.Constant.Constant}
+use Rattle.c_decls.specs.{declared.refusal.TypeKind.TheVariants.Operands, declared.refusal.TypeKind.TheVariants.StaticTooLarge, Named.PlainNamed, ScopeList.found as declaration}
 use Rattle.c_decls.specs.BuiltIns.{built_ins, constant_of}
 use Rattle.c_decls.specs.Typed.{PlainTyped, Operand, Number, PointerTo, Neither, operand, place, value, constant, is_null_constant}
 use Rattle.c_decls.specs.TypeRules.{unary, binary, moving}
 use Rattle.c_decls.specs.PlaceRules.{element, element_types, dot, arrow, cast, choice, assigned, changed, changed_types, moves}
-use Rattle.c_decls.specs.Callees.{named, built_in_named, built_in_value}
-use Rattle.c_decls.specs.Expressions.{line_of, string, typed}
+use Rattle.c_decls.specs.{Callees.named, Callees.built_in_named, Callees.built_in_value, Expressions.line_of, Expressions.string, Expressions.typed}
 use Rattle.elaboration.specs.Context.{Code, Context, emit, here, new_label, with_labels, integer_by}
 use Rattle.elaboration.specs.Conversions.{Found, Spot, Value, Nowhere, found_as, atom_in, valued_from, convert, forget, tested_value, code_line, write, size_or_zero}
 use Rattle.elaboration.specs.Operations.{working, Branches, offset_of, operator_of, changed_to}
@@ -36,21 +21,20 @@ use Rattle.elaboration.specs.Calls.{Argument, atoms_of, atom_at, argument_from, 
 use Rattle.elaboration.specs.Rules.{set_again, compare_again, constant_found, object_found, built_in_found, name_found, is_inner, with_static, with_literal, indexed, dotted, target_of, pointed, negated, before_number, apply, applied, tells_equal, is_pointer_ahead, ahead, left_operand, between, cast_to, and_then, and_ends, and_ended, or_else, or_ended, chosen_by, choose_first, choice_spot, chosen}
 use Rattle.elaboration.specs.Assignments.{record_assigned, scalar_assigned, old_value, changed_answer, changed_by, one_found, stepped}
 use Rattle.elaboration.specs.Expressions.{name_answer, literal_answer}
-use Rattle.core_soundness.specs.Whole.{Whole, NamedWhole}
-use Rattle.core_soundness.proofs.Grown.{good, ok_same, never}
-use Rattle.core_soundness.proofs.Working.{grows_read}
-use Rattle.core_soundness.proofs.Quiet.{quiet_read}
-use Rattle.core_soundness.proofs.Agreeing.{came}
-use Rattle.core_soundness.proofs.Operating.{behind_test, moved_is}
-use Rattle.core_soundness.proofs.Reached.{Led, led_ok, led_after, led_unless}
-use Rattle.core_soundness.proofs.WholeTypes.{whole_stays}
-use Rattle.core_soundness.proofs.TypedWhole.{found_whole, assigned_whole}
-use Rattle.core_soundness.specs.Ranges.{AtomIn, AtomsIn, PiecesIn}
+use Rattle.core_soundness.specs.{Whole.Whole, Whole.NamedWhole, Ranges.AtomIn, Ranges.AtomsIn, Ranges.PiecesIn, Solid.Solid}
+use Rattle.core_soundness.proofs.{Grown.good, Grown.ok_same, Grown.never, Working.grows_read, Quiet.quiet_read, Agreeing.came, Operating.behind_test, Operating.moved_is}
+use Rattle.core_soundness.proofs.{Reached.Led, Reached.led_ok, Reached.led_after, Reached.led_unless, WholeTypes.whole_stays, TypedWhole.found_whole, TypedWhole.assigned_whole}
 use Rattle.core_soundness.proofs.Ranges.{In, Has, in_emit, in_here, in_integer, in_pointer, zero_number, one_number}
 use Rattle.core_soundness.proofs.Ranged.{size_number, offset_number, wanted_element}
 use Rattle.core_soundness.proofs.RangedWork.{SpotIn, spot_atom, read_in, valued_from_in, convert_in, tested_in, write_in, before_in, Steps, combined_in, Pointed, pointed_of, moving_step, IsBetween, binary_steps, changed_in, member_in}
-use Rattle.core_soundness.specs.Solid.{Solid}
 use Rattle.core_soundness.proofs.Solid.{K, Rises, same_kept, same_rises}
+use Rattle.c_types.specs.Types as ct
+use Rattle.core_tree.specs.declared.statements.Atom.TheVariants as atom
+use Rattle.core_tree.specs.declared.statements.CmpOp.TheVariants as cmp
+use Rattle.c_tree.specs.declared.operator.UnaryOp.TheVariants as u
+use Rattle.c_tree.specs.declared.operator.BinaryOp.TheVariants as b
+use Rattle.c_decls.specs.declared.built_in.BuiltIn.TheVariants as built
+use Rattle.c_decls.specs.Named as n
 
 -- an expression whose code and place are in range
 abbrev pub E : Context × Found → Type 0

@@ -2,26 +2,11 @@
 use Rattle.std.proofs.Common.{◌≡◌, ◌+◌, ◌&&◌, ℕ, Bool, true, false, cond, List, [], ◌∷◌, Option, Some, None, option_map, Ok, refl, sym, ◌∙◌, subst}
 use Rattle.hs_base.specs.declared.ends.IntKind.TheVariants.{I8}
 use Rattle.c_lexer.specs.Numbers.{number_value}
-use Rattle.c_types.specs.declared.layouts.Layout.{Layout}
-use Rattle.c_types.specs.Types as ct
-use Rattle.c_types.specs.Types.{PlainType, PlainTypes, Void, Int, Pointer}
+use Rattle.c_types.specs.{declared.layouts.Layout.Layout, Types.PlainType, Types.PlainTypes, Types.Void, Types.Int, Types.Pointer}
 use Rattle.c_types.specs.TagTable.{TagTable, CompletedTag, known, layout_in}
-use Rattle.core_tree.specs.declared.statements.Atom.TheVariants as atom
-use Rattle.c_tree.specs.declared.operator.UnaryOp.TheVariants as u
-use Rattle.c_tree.specs.declared.operator.BinaryOp.{BinaryOp}
-use Rattle.c_tree.specs.declared.operator.BinaryOp.TheVariants as b
-use Rattle.c_tree.specs.declared.operator.AssignOp.TheVariants as a
-use Rattle.c_tree.specs.Words as w
-use Rattle.c_tree.specs.Forms as f
-use Rattle.c_tree.specs.Tree.{Tree, Trees, Leaf, At, Node, none, ◌▹◌}
-use Rattle.c_decls.specs.Refusals.{Checked, then}
-use Rattle.c_decls.specs.Named.{PlainNamed}
-use Rattle.c_decls.specs.ScopeList.{found as declaration}
-use Rattle.c_decls.specs.Typed.{PlainTyped, is_record, is_null_constant}
-use Rattle.c_decls.specs.TypeRules.{address}
-use Rattle.c_decls.specs.PlaceRules.{held_place, size, size_answer}
-use Rattle.c_decls.specs.Callees.{Callee, Takes, NoFunction, called, call}
-use Rattle.c_decls.specs.TypeNames as names
+use Rattle.c_tree.specs.{declared.operator.BinaryOp.BinaryOp, Tree.Tree, Tree.Trees, Tree.Leaf, Tree.At, Tree.Node, Tree.none, Tree.◌▹◌}
+use Rattle.c_decls.specs.{Refusals.Checked, Refusals.then, Named.PlainNamed, ScopeList.found as declaration, Typed.PlainTyped, Typed.is_record, Typed.is_null_constant, TypeRules.address}
+use Rattle.c_decls.specs.{PlaceRules.held_place, PlaceRules.size, PlaceRules.size_answer, Callees.Callee, Callees.Takes, Callees.NoFunction, Callees.called, Callees.call}
 use Rattle.c_decls.specs.Expressions.{line_of, int_constant, char_constant, joined, first_literal, typed, typename}
 use Rattle.elaboration.specs.Context.{Code, Context, With, asked, told, new_label}
 use Rattle.elaboration.specs.Conversions.{Found, Value, Nowhere, found_as, valued_as, atom_in, valued, forget, tested_value, code_line}
@@ -29,24 +14,22 @@ use Rattle.elaboration.specs.Calls.{Argument, atoms_of, types_of, first_type, re
 use Rattle.elaboration.specs.Rules.{constant_found, tells_equal, is_pointer_ahead, ahead, left_operand, and_then, or_else, choose, type_ahead, chosen_by, choose_first}
 use Rattle.elaboration.specs.Assignments.{record_assigned, scalar_assigned, old_value}
 use Rattle.elaboration.specs.Expressions.{unevaluated, changing, comma_answer, callee, callee_name, parameters, format_argument, is_printf, call_answer, found, arguments}
-use Rattle.core_soundness.specs.Whole.{Whole, AllWhole, AreMade}
-use Rattle.core_soundness.specs.Written.{Written, AllWritten}
-use Rattle.core_soundness.proofs.Grown.{good, ok_same, never}
-use Rattle.core_soundness.proofs.Growth.{Grows, grows_refl}
-use Rattle.core_soundness.proofs.Working.{grows_tested}
-use Rattle.core_soundness.proofs.Quiet.{quiet_tested_value}
-use Rattle.core_soundness.proofs.Agreeing.{came, left_typed}
-use Rattle.core_soundness.proofs.Reached.{Led, led_ok, led_after}
-use Rattle.core_soundness.proofs.WholeTypes.{nothing, whole_stays, all_stay, extends_refl, made_sized}
-use Rattle.core_soundness.proofs.TypedNames.{typename_leads}
-use Rattle.core_soundness.proofs.TagKinds.{kinds_refl}
+use Rattle.core_soundness.specs.{Whole.Whole, Whole.AllWhole, Whole.AreMade, Written.Written, Written.AllWritten, Ranges.AtomsIn, Solid.Solid}
+use Rattle.core_soundness.proofs.{Grown.good, Grown.ok_same, Grown.never, Growth.Grows, Growth.grows_refl, Working.grows_tested, Quiet.quiet_tested_value, Agreeing.came, Agreeing.left_typed}
+use Rattle.core_soundness.proofs.{Reached.Led, Reached.led_ok, Reached.led_after, WholeTypes.nothing, WholeTypes.whole_stays, WholeTypes.all_stay, WholeTypes.extends_refl, WholeTypes.made_sized}
+use Rattle.core_soundness.proofs.{TypedNames.typename_leads, TagKinds.kinds_refl}
 use Rattle.core_soundness.proofs.TypedWhole.{led_cond, found_whole, called_whole, typed_good, typename_good, CW}
-use Rattle.core_soundness.specs.Ranges.{AtomsIn}
-use Rattle.core_soundness.proofs.Ranges.{In, small_number}
-use Rattle.core_soundness.proofs.RangedWork.{SpotIn, spot_atom, read_in, valued_from_in}
+use Rattle.core_soundness.proofs.{Ranges.In, Ranges.small_number, RangedWork.SpotIn, RangedWork.spot_atom, RangedWork.read_in, RangedWork.valued_from_in}
 use Rattle.core_soundness.proofs.RangedFound.{E, named_in_range, constant_in, held_number, string_in, indexed_in, dotted_in, pointed_in, applied_in, left_in, between_in, cast_in, and_then_in, and_ended_in, or_else_in, or_ended_in, first_in, chosen_in, record_in, scalar_in, changed_by_in, old_solid, stepped_in, call_in, argument_in}
-use Rattle.core_soundness.specs.Solid.{Solid}
 use Rattle.core_soundness.proofs.Solid.{wrapped_number, K, Rises, rises_refl, rises_trans, same_kept, same_rises, fit_of, told_rises, told_whole, found_gone, value_gone, converted_rises}
+use Rattle.c_types.specs.Types as ct
+use Rattle.core_tree.specs.declared.statements.Atom.TheVariants as atom
+use Rattle.c_tree.specs.declared.operator.UnaryOp.TheVariants as u
+use Rattle.c_tree.specs.declared.operator.BinaryOp.TheVariants as b
+use Rattle.c_tree.specs.declared.operator.AssignOp.TheVariants as a
+use Rattle.c_tree.specs.Words as w
+use Rattle.c_tree.specs.Forms as f
+use Rattle.c_decls.specs.TypeNames as names
 
 -- sizes
 

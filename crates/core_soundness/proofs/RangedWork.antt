@@ -1,35 +1,24 @@
 -- Conversions and operators keep the numbers of statements in range.
 use Rattle.std.proofs.Common.{◌≡◌, ℕ, pos, Ok, refl, sym, subst}
-use Rattle.c_types.specs.declared.types.IntType.{IntType}
-use Rattle.c_types.specs.Types.{PlainType, Int, Pointer, kind_of}
-use Rattle.core_tree.specs.declared.statements.Atom.{Atom}
-use Rattle.core_tree.specs.declared.statements.Atom.TheVariants as atom
-use Rattle.core_tree.specs.declared.statements.UnOp.TheVariants as un
-use Rattle.core_tree.specs.declared.statements.CmpOp.{CmpOp}
-use Rattle.core_tree.specs.declared.statements.CmpOp.TheVariants as cmp
+use Rattle.c_types.specs.{declared.types.IntType.IntType, Types.PlainType, Types.Int, Types.Pointer, Types.kind_of}
+use Rattle.core_tree.specs.{declared.statements.Atom.Atom, declared.statements.CmpOp.CmpOp}
 use Rattle.core_tree.specs.declared.statements.StmKind.TheVariants.{Set, Conv, Load, Loadp, Store, Storep, Test, Un, Bin, Cmp, Add, Sub, Off, Diff, Pcmp}
 use Rattle.core_tree.specs.Sound.{IsNumber}
-use Rattle.c_tree.specs.declared.operator.BinaryOp.{BinaryOp}
-use Rattle.c_tree.specs.declared.operator.BinaryOp.TheVariants as b
-use Rattle.c_tree.specs.declared.operator.UnaryOp.{UnaryOp}
-use Rattle.c_tree.specs.declared.operator.UnaryOp.TheVariants as u
-use Rattle.c_tree.specs.Tree.{Tree}
-use Rattle.c_decls.specs.IntegerTypes.{promoted, common_type}
-use Rattle.c_decls.specs.Expressions.{line_of}
+use Rattle.c_tree.specs.{declared.operator.BinaryOp.BinaryOp, declared.operator.UnaryOp.UnaryOp, Tree.Tree}
+use Rattle.c_decls.specs.{IntegerTypes.promoted, IntegerTypes.common_type, Expressions.line_of}
 use Rattle.c_decls.specs.Typed.{PlainTyped, Operand, Number, PointerTo, Neither, operand, read, value, int}
 use Rattle.c_decls.specs.TypeRules.{result_type, immovable, moving, sum_types, difference_types, integer_types, binary}
 use Rattle.elaboration.specs.Context.{Code, Context}
 use Rattle.elaboration.specs.Conversions.{Found, Spot, Local, Memory, Value, Empty, read_spot, read_value, code_line, valued_from, atom_in, atom_of, holds_all, convert_integer, convert_to, convert, tested, write, size_or_zero}
 use Rattle.elaboration.specs.Operations.{working, Working, Calculates, Shifts, Compares, Branches, convert_both, work, on_integers, before_integer, move_pointer, between_pointers, pointer_beside, beside_integer, combine, combined, change, changed_to, member_address}
-use Rattle.core_soundness.specs.Whole.{Whole}
-use Rattle.core_soundness.proofs.Grown.{good, ok_same, never}
-use Rattle.core_soundness.proofs.Agreeing.{came}
-use Rattle.core_soundness.proofs.Operating.{behind_test, unbarred}
-use Rattle.core_soundness.specs.Ranges.{IsStep, AtomIn, PiecesIn}
-use Rattle.core_soundness.proofs.Ranges.{In, Has, in_emit, in_integer, in_pointer, has_cond}
-use Rattle.core_soundness.proofs.Ranged.{moved_step}
-use Rattle.core_soundness.specs.Solid.{Solid}
-use Rattle.core_soundness.proofs.Solid.{wrapped_number, K}
+use Rattle.core_soundness.specs.{Whole.Whole, Ranges.IsStep, Ranges.AtomIn, Ranges.PiecesIn, Solid.Solid}
+use Rattle.core_soundness.proofs.{Grown.good, Grown.ok_same, Grown.never, Agreeing.came, Operating.behind_test, Operating.unbarred}
+use Rattle.core_soundness.proofs.{Ranges.In, Ranges.Has, Ranges.in_emit, Ranges.in_integer, Ranges.in_pointer, Ranges.has_cond, Ranged.moved_step, Solid.wrapped_number, Solid.K}
+use Rattle.core_tree.specs.declared.statements.Atom.TheVariants as atom
+use Rattle.core_tree.specs.declared.statements.UnOp.TheVariants as un
+use Rattle.core_tree.specs.declared.statements.CmpOp.TheVariants as cmp
+use Rattle.c_tree.specs.declared.operator.BinaryOp.TheVariants as b
+use Rattle.c_tree.specs.declared.operator.UnaryOp.TheVariants as u
 
 -- where an expression is
 abbrev pub SpotIn : Spot → Type 0

@@ -1,9 +1,7 @@
 -- Code whose numbers are in range, with one statement more.
 use Rattle.std.proofs.Common.{◌≤◌, ℕ, pos, Bool, true, false, cond, List, [], ◌∷◌, ◌++◌, arith}
 use Rattle.std.proofs.lemmas.Int.{ints}
-use Rattle.core_tree.specs.declared.statements.Atom.{Atom}
-use Rattle.core_tree.specs.declared.statements.StmKind.{StmKind}
-use Rattle.core_tree.specs.Sound.{IsNumber}
+use Rattle.core_tree.specs.{declared.statements.Atom.Atom, declared.statements.StmKind.StmKind, Sound.IsNumber}
 use Rattle.elaboration.specs.Context.{Piece, Does, Here, Context, emit, here, integer_by, pointer_by}
 use Rattle.core_soundness.specs.Ranges.{IsStep, AtomIn, KindIn, PiecesIn}
 

@@ -1,8 +1,6 @@
 -- Answers with what is known behind them.
 use Rattle.std.proofs.Common.{◌≡◌, ℕ, Bool, true, false, Option, Some, None, Ok, Err, refl, subst}
-use Rattle.c_decls.specs.declared.refusal.TypeKind.{TypeKind}
-use Rattle.c_decls.specs.Refusals.{Checked, refused, then, unless}
-use Rattle.c_decls.specs.TypeRules.{barred}
+use Rattle.c_decls.specs.{declared.refusal.TypeKind.TypeKind, Refusals.Checked, Refusals.refused, Refusals.then, Refusals.unless, TypeRules.barred}
 use Rattle.core_soundness.proofs.Grown.{ok_same, never}
 
 -- R of what is known behind an answer

@@ -2,30 +2,19 @@
 use Rattle.std.proofs.Common.{◌≡◌, ◌≤◌, ℕ, Bool, true, false, List, [], ◌∷◌, slice_get, Option, Some, None, option_map, Ok, refl, sym, ap, ◌∙◌, subst, ⊎_elim, arith}
 use Rattle.std.specs.Option.{option_or}
 use Rattle.c_types.specs.Types.{PlainType}
-use Rattle.c_tree.specs.declared.operator.UnaryOp.TheVariants as u
-use Rattle.c_tree.specs.Forms.{Form}
-use Rattle.c_tree.specs.Forms as f
-use Rattle.c_tree.specs.Tree.{Tree, Trees, Leaf, At, Node, none, ◌▹◌}
-use Rattle.core_tree.specs.declared.program.Reg.{Reg as Register}
-use Rattle.core_tree.specs.Sorts.{Sort}
-use Rattle.c_decls.specs.Named as n
-use Rattle.c_decls.specs.Named.{PlainNamed, Tag}
-use Rattle.c_decls.specs.ScopeList.{ScopeList, Table, named_in, found_from, found as declaration}
-use Rattle.c_decls.specs.Callees.{named}
+use Rattle.c_tree.specs.{Forms.Form, Tree.Tree, Tree.Trees, Tree.Leaf, Tree.At, Tree.Node, Tree.none, Tree.◌▹◌}
+use Rattle.core_tree.specs.{declared.program.Reg.Reg as Register, Sorts.Sort}
+use Rattle.c_decls.specs.{Named.PlainNamed, Named.Tag, ScopeList.ScopeList, ScopeList.Table, ScopeList.named_in, ScopeList.found_from, ScopeList.found as declaration, Callees.named}
 use Rattle.c_decls.specs.Typed.{PlainTyped}
-use Rattle.elaboration.specs.Addressed.{plain_name}
-use Rattle.elaboration.specs.Context.{Context, With}
-use Rattle.elaboration.specs.Conversions.{Found, Spot, Local, code_line, valued}
-use Rattle.elaboration.specs.Rules.{name_found, is_inner, object_found, built_in_found}
-use Rattle.elaboration.specs.Expressions.{name_answer}
+use Rattle.elaboration.specs.{Addressed.plain_name, Context.Context, Context.With, Conversions.Found, Conversions.Spot, Conversions.Local, Conversions.code_line, Conversions.valued}
+use Rattle.elaboration.specs.{Rules.name_found, Rules.is_inner, Rules.object_found, Rules.built_in_found, Expressions.name_answer}
 use Rattle.core_soundness.specs.Worlds.{World, world, local_sort, type_sort, InnerFits, FileFits, TableFits, TablesFit, NamesFit}
 use Rattle.core_soundness.specs.Spoken.{is_register, NoRegister, TakesAddress, Spoken, AllSpoken}
-use Rattle.core_soundness.proofs.Grown.{ok_same}
-use Rattle.core_soundness.proofs.Names.{More, MoreAll, MoreTags, IsNewTag}
-use Rattle.core_soundness.proofs.Agreeing.{came}
-use Rattle.core_soundness.proofs.Growing.{Grew}
-use Rattle.core_soundness.proofs.Going.{Goes}
+use Rattle.core_soundness.proofs.{Grown.ok_same, Names.More, Names.MoreAll, Names.MoreTags, Names.IsNewTag, Agreeing.came, Growing.Grew, Going.Goes}
 use Rattle.core_soundness.proofs.Sorting.{Sits, Lands, lands_sits, Apart, Comes, valued_comes}
+use Rattle.c_tree.specs.declared.operator.UnaryOp.TheVariants as u
+use Rattle.c_tree.specs.Forms as f
+use Rattle.c_decls.specs.Named as n
 
 -- names
 

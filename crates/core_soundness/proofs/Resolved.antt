@@ -1,24 +1,18 @@
 -- What fits while a text is walked is typed in its core.
 use Rattle.std.proofs.Common.{◌≡◌, ◌≤◌, ◌<◌, ◌+◌, ◌*◌, ◌/◌, ◌%◌, ◌==◌, ℕ, zero, suc, cond, map, length, replicate, List, [], ◌∷◌, ◌++◌, slice_get, Option, Some, None, option_map, refl, sym, ap, ◌∙◌, subst, arith, length-append}
 use Rattle.std.specs.List.{flat_map}
-use Rattle.std.proofs.lemmas.List.{length-map}
-use Rattle.std.proofs.lemmas.Nat.{div-mul-add, mod-mul-add}
+use Rattle.std.proofs.{lemmas.List.length-map, lemmas.Nat.div-mul-add, lemmas.Nat.mod-mul-add}
 use Rattle.c_print.specs.Pieces.{pieces_of}
-use Rattle.core_tree.specs.declared.program.Core.{Core}
-use Rattle.core_tree.specs.declared.program.Func.{Func}
-use Rattle.core_tree.specs.declared.program.Reg.{Reg as Register}
-use Rattle.core_tree.specs.declared.statements.Atom.{Atom}
-use Rattle.core_tree.specs.declared.statements.Atom.TheVariants as atom
-use Rattle.core_tree.specs.declared.statements.Stm.{Stm}
+use Rattle.core_tree.specs.{declared.program.Core.Core, declared.program.Func.Func, declared.program.Reg.Reg as Register, declared.statements.Atom.Atom, declared.statements.Stm.Stm}
 use Rattle.core_tree.specs.declared.statements.StmKind.{StmKind}
 use Rattle.core_tree.specs.declared.statements.StmKind.TheVariants.{Set, Conv, Un, Bin, Cmp, Add, Sub, Off, Diff, Pcmp, Test, Load, Loadp, Store, Storep, Copy, Clear, Zero, Case, Call, Malloc, Calloc, Realloc, Free, Lib, Printf, Return}
 use Rattle.core_tree.specs.Sorts.{Sort, Integer, Pointer, sort_of, register_sort, atom_sort, TakesAll, GivesResult, TakesCall, TakesFormat, IsTyped, HasRegister, piece_takes, lib_takes, lib_gives}
 use Rattle.core_tree.specs.Sound.{answer_sort}
-use Rattle.core_soundness.proofs.Formats.{format_is}
+use Rattle.core_soundness.proofs.{Formats.format_is, Owners.get_left}
 use Rattle.elaboration.specs.Context.{Piece, Does, Here, Context, Walked, local_register, integer_temporary, pointer_temporary, file_variable, literal_object}
 use Rattle.elaboration.specs.Resolving.{Numbers, atom_by, atoms_by, numbered, body_of, register_by, static_by, numbers_of, temporary, pointer_register, function_of, variable_static, literal_static, core_of}
 use Rattle.core_soundness.specs.Worlds.{World, walked_world, IsRegister, is_local, is_integer, is_pointer_temporary, IsObject, is_variable, is_literal, Holds, HoldAll, Receives, IsCall, IsPrinted, Fits, FitsAnswer, FitsIn, PiecesFit}
-use Rattle.core_soundness.proofs.Owners.{get_left}
+use Rattle.core_tree.specs.declared.statements.Atom.TheVariants as atom
 
 -- numbers
 

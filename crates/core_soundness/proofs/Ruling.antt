@@ -2,28 +2,23 @@
 use Rattle.std.proofs.Common.{◌≡◌, ◌+◌, ◌&&◌, ℕ, pos, Bool, true, false, List, sym, subst}
 use Rattle.c_types.specs.Types.{PlainType, Int, Pointer}
 use Rattle.core_tree.specs.declared.statements.Atom.{Atom}
-use Rattle.core_tree.specs.declared.statements.Atom.TheVariants as atom
-use Rattle.core_tree.specs.declared.statements.CmpOp.TheVariants as cmp
 use Rattle.core_tree.specs.declared.statements.StmKind.TheVariants.{Set, Cmp, Copy, Zero, Jump}
-use Rattle.c_tree.specs.declared.operator.BinaryOp.{BinaryOp}
-use Rattle.c_tree.specs.declared.operator.BinaryOp.TheVariants as bin
-use Rattle.c_tree.specs.declared.operator.UnaryOp.{UnaryOp}
-use Rattle.c_tree.specs.declared.operator.UnaryOp.TheVariants as u
-use Rattle.c_tree.specs.declared.operator.AssignOp.{AssignOp}
-use Rattle.c_tree.specs.Tree.{Tree}
-use Rattle.c_decls.specs.Typed.{PlainTyped, Operand, Number, operand, is_null_constant}
-use Rattle.c_decls.specs.TypeRules.{unary, binary}
+use Rattle.c_tree.specs.{declared.operator.BinaryOp.BinaryOp, declared.operator.UnaryOp.UnaryOp, declared.operator.AssignOp.AssignOp, Tree.Tree}
+use Rattle.c_decls.specs.{Typed.PlainTyped, Typed.Operand, Typed.Number, Typed.operand, Typed.is_null_constant, TypeRules.unary, TypeRules.binary}
 use Rattle.c_decls.specs.PlaceRules.{cast, choice, dot, arrow, element, assigned, changed}
-use Rattle.c_decls.specs.Expressions as types
 use Rattle.elaboration.specs.Context.{Context, emit, here, new_label, with_labels, integer_by}
 use Rattle.elaboration.specs.Conversions.{Found, Value, Nowhere, found_as, atom_in, convert, forget, tested_value, code_line, size_or_zero}
 use Rattle.elaboration.specs.Operations.{offset_of, operator_of, changed_to}
 use Rattle.elaboration.specs.Rules.{set_again, compare_again, indexed, dotted, target_of, pointed, before_number, apply, applied, tells_equal, is_pointer_ahead, ahead, left_operand, between, cast_to, and_then, and_ends, and_ended, or_else, or_ends, or_ended, chosen_by, choose_first, choose_last, chosen}
 use Rattle.elaboration.specs.Assignments.{record_assigned, set_to, scalar_assigned, old_value, change_place, changed_answer, changed_by, one_found, stepped}
 use Rattle.core_soundness.proofs.Growth.{Grows, grows_refl, grows_trans, grows_emit, grows_integer, grows_pointer, grows_forgotten}
-use Rattle.core_soundness.proofs.Grown.{Grown, grown_ok, grown_after, grown_then, grows_cond}
-use Rattle.core_soundness.proofs.Forks.{grows_fork}
+use Rattle.core_soundness.proofs.{Grown.Grown, Grown.grown_ok, Grown.grown_after, Grown.grown_then, Grown.grows_cond, Forks.grows_fork}
 use Rattle.core_soundness.proofs.Working.{grows_read, grown_valued_from, grows_convert, grows_tested, tested_labels, grows_write, grows_before, grows_combined, grows_changed, grows_member}
+use Rattle.core_tree.specs.declared.statements.Atom.TheVariants as atom
+use Rattle.core_tree.specs.declared.statements.CmpOp.TheVariants as cmp
+use Rattle.c_tree.specs.declared.operator.BinaryOp.TheVariants as bin
+use Rattle.c_tree.specs.declared.operator.UnaryOp.TheVariants as u
+use Rattle.c_decls.specs.Expressions as types
 
 grows_set_again : (line : ℕ) (t a : Atom) (c : Context) → Grows c (set_again line t a c)
 grows_set_again line (atom.Reg r) a c = grows_emit line (Set r a) c tt

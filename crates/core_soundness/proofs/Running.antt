@@ -1,27 +1,16 @@
 -- What a part of a function does to what fits.
 use Rattle.std.proofs.Common.{◌≡◌, ◌≤◌, ℕ, Bool, true, false, cond, List, [], ◌∷◌, length, Option, Ok, refl, sym, ◌∙◌, subst, arith}
 use Rattle.c_types.specs.Types.{PlainType}
-use Rattle.core_tree.specs.declared.statements.StmKind.TheVariants.{Enter, Leave}
-use Rattle.core_tree.specs.Sorts.{Sort}
+use Rattle.core_tree.specs.{declared.statements.StmKind.TheVariants.Enter, declared.statements.StmKind.TheVariants.Leave, Sorts.Sort}
 use Rattle.c_tree.specs.Tree.{Tree}
-use Rattle.c_decls.specs.Named.{PlainNamed}
-use Rattle.c_decls.specs.ScopeList.{ScopeList, Table, entered as scope_entered}
+use Rattle.c_decls.specs.{Named.PlainNamed, ScopeList.ScopeList, ScopeList.Table, ScopeList.entered as scope_entered}
+use Rattle.elaboration.specs.{Context.Context, Context.emit, Context.anew, Context.entered, Context.left, Conversions.Found, Conversions.code_line, Conversions.valued}
+use Rattle.elaboration.specs.{Reallocates.reallocates, Reallocates.opened, Reallocates.closed, Expressions.found}
+use Rattle.core_soundness.specs.{Worlds.World, Worlds.world, Worlds.InnerFits, Worlds.TableFits, Worlds.TablesFit, Worlds.NamesFit, Spoken.Spoken}
+use Rattle.core_soundness.proofs.{Names.MoreAll, Names.all_refl, Names.all_trans, Owners.more_depth, Declaring.tail_depth, Agreeing.came, Growing.Grew, Growing.grew_refl, Growing.grew_trans}
+use Rattle.core_soundness.proofs.{Going.CodeFits, Going.Goes, Going.goes_refl, Going.goes_trans, Going.goes_emit, Sorting.Comes, Sorting.valued_comes}
+use Rattle.core_soundness.proofs.{Readying.names_more, Readying.inner_kept, Readying.Rests, Sitting.found_rests}
 use Rattle.c_decls.specs.ScopeList as scopes
-use Rattle.elaboration.specs.Context.{Context, emit, anew, entered, left}
-use Rattle.elaboration.specs.Conversions.{Found, code_line, valued}
-use Rattle.elaboration.specs.Reallocates.{reallocates, opened, closed}
-use Rattle.elaboration.specs.Expressions.{found}
-use Rattle.core_soundness.specs.Worlds.{World, world, InnerFits, TableFits, TablesFit, NamesFit}
-use Rattle.core_soundness.specs.Spoken.{Spoken}
-use Rattle.core_soundness.proofs.Names.{MoreAll, all_refl, all_trans}
-use Rattle.core_soundness.proofs.Owners.{more_depth}
-use Rattle.core_soundness.proofs.Declaring.{tail_depth}
-use Rattle.core_soundness.proofs.Agreeing.{came}
-use Rattle.core_soundness.proofs.Growing.{Grew, grew_refl, grew_trans}
-use Rattle.core_soundness.proofs.Going.{CodeFits, Goes, goes_refl, goes_trans, goes_emit}
-use Rattle.core_soundness.proofs.Sorting.{Comes, valued_comes}
-use Rattle.core_soundness.proofs.Readying.{names_more, inner_kept, Rests}
-use Rattle.core_soundness.proofs.Sitting.{found_rests}
 
 -- the parameters of the list that ended last fit
 abbrev pub ParamsFit : Context → Type 0

@@ -1,24 +1,15 @@
 -- The parts that braces are for lie in seats, one behind another (C99 6.7.8).
 use Rattle.std.proofs.Common.{◌≡◌, ◌≤◌, ◌+◌, ◌*◌, ◌==◌, ◌&&◌, not, ℕ, zero, suc, Bool, true, false, cond, is_some, take, map, fold, zip, List, [], ◌∷◌, Option, Some, None, option_map, unwrap_or, refl, sym, ap, ◌∙◌, subst, arith}
-use Rattle.std.specs.Option.{option_or}
-use Rattle.std.specs.List.{find}
+use Rattle.std.specs.{Option.option_or, List.find}
 use Rattle.std.proofs.lemmas.Bool.{eqb-true}
-use Rattle.c_types.specs.declared.layouts.Layout.{Layout}
-use Rattle.c_types.specs.declared.tags.TagError.{TagError}
-use Rattle.c_types.specs.declared.tags.TagError.TheVariants.{PointerInUnion}
+use Rattle.c_types.specs.{declared.layouts.Layout.Layout, declared.tags.TagError.TagError, declared.tags.TagError.TheVariants.PointerInUnion}
 use Rattle.c_types.specs.Types.{PlainType, Void, Int, Pointer, Array, Struct, Union, Function}
 use Rattle.c_types.specs.Layouts.{Known, Placed, none_placed, placed, layout_of, array_layout, members_layout, keeps_union_rule, IsSound}
 use Rattle.c_types.specs.TagTable.{CompletedTag, PlainMember, known, learn, tag_layout, member_layout, placed_members}
-use Rattle.c_types.proofs.MemberLemmas.{Extends, some_array}
-use Rattle.c_types.proofs.Places.{stays_known}
-use Rattle.c_types.proofs.Sound.{layout_sound, member_sound, known_sound}
-use Rattle.elaboration.specs.Context.{Context}
-use Rattle.elaboration.specs.Conversions.{size_or_zero}
-use Rattle.elaboration.specs.Initializers.{elements, struct_parts, parts_of}
-use Rattle.core_soundness.specs.Whole.{AreMade, MembersWhole}
-use Rattle.core_soundness.proofs.WholeTypes.{nothing, members_stay, learn_extends}
-use Rattle.core_soundness.proofs.Ranged.{members_same}
-use Rattle.core_soundness.specs.Solid.{Solid}
+use Rattle.c_types.proofs.{MemberLemmas.Extends, MemberLemmas.some_array, Places.stays_known, Sound.layout_sound, Sound.member_sound, Sound.known_sound}
+use Rattle.elaboration.specs.{Context.Context, Conversions.size_or_zero, Initializers.elements, Initializers.struct_parts, Initializers.parts_of}
+use Rattle.core_soundness.specs.{Whole.AreMade, Whole.MembersWhole, Solid.Solid}
+use Rattle.core_soundness.proofs.{WholeTypes.nothing, WholeTypes.members_stay, WholeTypes.learn_extends, Ranged.members_same}
 use Rattle.core_soundness.proofs.Seats.{Seat, seat_within, seat_element, Seated, EachSound, rest_placed, fold_rest, struct_seats, union_seat}
 
 -- a type that is a struct by its word is no union

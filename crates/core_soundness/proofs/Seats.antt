@@ -1,7 +1,6 @@
 -- Where a type lies in a whole: its slots are those of the whole there, and no other slot of the whole touches it.
 use Rattle.std.proofs.Common.{◌≡◌, ◌⊎◌, ◌≤◌, ◌<◌, ◌+◌, ◌*◌, ◌==◌, ◌||◌, ℕ, zero, suc, Bool, true, false, cond, filter, fold, List, [], ◌∷◌, ◌++◌, refl, sym, ap, ◌∙◌, subst, inl, inr, ⊎_elim, arith}
-use Rattle.std.specs.Prelude.{nat_le}
-use Rattle.std.specs.List.{flat_map, range_with_len, list_any, list_all}
+use Rattle.std.specs.{Prelude.nat_le, List.flat_map, List.range_with_len, List.list_any, List.list_all}
 use Rattle.std.proofs.lemmas.Bool.{eqb-true, eq-eqb, leb-true, and_parts}
 use Rattle.c_types.specs.declared.layouts.Layout.{Layout}
 use Rattle.c_types.specs.Layouts.{Placed, none_placed, offset_after, place, placed, moved, array_layout, members_layout, has_slot, keeps_union_rule, AreSlots, IsSound}

@@ -1,13 +1,10 @@
 -- What was made at file scope stays while a part of a function is walked: its variables, its names of objects, and literals.
 use Rattle.std.proofs.Common.{◌≡◌, ◌≤◌, ℕ, Bool, true, false, cond, is_some, List, [], ◌∷◌, ◌++◌, length, Some, refl, sym, ◌∙◌, subst, ⊎_elim, arith}
 use Rattle.c_types.specs.Types.{PlainType}
-use Rattle.c_decls.specs.Named as n
-use Rattle.c_decls.specs.Named.{PlainNamed}
-use Rattle.c_decls.specs.ScopeList.{ScopeList, Table, named_in, innermost, with_name, with_name_in, after_declaration}
+use Rattle.c_decls.specs.{Named.PlainNamed, ScopeList.ScopeList, ScopeList.Table, ScopeList.named_in, ScopeList.innermost, ScopeList.with_name, ScopeList.with_name_in, ScopeList.after_declaration}
 use Rattle.elaboration.specs.Context.{Context}
-use Rattle.core_soundness.proofs.Names.{MoreTags, IsNewTag}
-use Rattle.core_soundness.proofs.Owners.{Pushed, push_get}
-use Rattle.core_soundness.proofs.Growth.{Longer, Grows}
+use Rattle.core_soundness.proofs.{Names.MoreTags, Names.IsNewTag, Owners.Pushed, Owners.push_get, Growth.Longer, Growth.Grows}
+use Rattle.c_decls.specs.Named as n
 
 -- each object of the second table is one of the first
 abbrev pub ObjectsStay : Table → Table → Type 0

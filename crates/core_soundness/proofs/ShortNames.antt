@@ -2,10 +2,9 @@
 use Rattle.std.proofs.Common.{ℕ, Bool, true, false, if◌then◌else◌, List, [], Option, Some, None, unwrap_or, arith}
 use Rattle.std.specs.Prelude.{IfSome}
 use Rattle.core_tree.specs.Sound.{IsShort}
-use Rattle.c_tree.specs.Words as w
-use Rattle.c_tree.specs.Words.{Word}
-use Rattle.c_tree.specs.Tree.{Tree, Trees, Leaf, At, Node, none, ◌▹◌}
+use Rattle.c_tree.specs.{Words.Word, Tree.Tree, Tree.Trees, Tree.Leaf, Tree.At, Tree.Node, Tree.none, Tree.◌▹◌}
 use Rattle.c_tree.specs.Scopes.{first_name, word_name, leads_to_name, name_of, name_among}
+use Rattle.c_tree.specs.Words as w
 
 -- W of each name
 abbrev pub WordNames : (List ℕ → Type 0) → Word → Type 0

@@ -1,30 +1,12 @@
 -- Each expression is where it says, and its code fits (C99 6.5).
 use Rattle.std.proofs.Common.{◌≡◌, ◌≤◌, ◌+◌, ℕ, ℤ, pos, Bool, true, false, cond, is_some, ⊎_elim, List, [], ◌∷◌, Option, Some, None, Ok, refl, sym, ap, ◌∙◌, subst}
-use Rattle.c_types.specs.declared.types.IntType.TheVariants as i
-use Rattle.c_types.specs.Types as ct
-use Rattle.c_types.specs.Types.{PlainType, PlainTypes, Void}
-use Rattle.c_types.specs.TagTable.{size_in}
-use Rattle.core_tree.specs.declared.statements.Atom.TheVariants as atom
-use Rattle.c_tree.specs.declared.operator.UnaryOp.TheVariants as u
-use Rattle.c_tree.specs.declared.operator.BinaryOp.TheVariants as b
-use Rattle.c_tree.specs.declared.operator.AssignOp.TheVariants as a
-use Rattle.c_tree.specs.Words as w
-use Rattle.c_tree.specs.Forms as f
+use Rattle.c_types.specs.{Types.PlainType, Types.PlainTypes, Types.Void, TagTable.size_in}
 use Rattle.c_tree.specs.Tree.{Tree, Trees, Leaf, At, Node, none, ◌▹◌}
-use Rattle.c_decls.specs.declared.typed.Folded.TheVariants.{Is}
-use Rattle.c_decls.specs.Refusals.{Checked, then}
-use Rattle.c_decls.specs.ScopeList.{named_in, found_from, found as declaration}
-use Rattle.c_decls.specs.Named as n
-use Rattle.c_decls.specs.Named.{PlainNamed}
-use Rattle.c_decls.specs.Typed.{PlainTyped, operand, is_record, integer}
-use Rattle.c_decls.specs.TypeRules.{binary}
-use Rattle.c_decls.specs.PlaceRules.{held_place, choice, size_answer}
+use Rattle.c_decls.specs.{declared.typed.Folded.TheVariants.Is, Refusals.Checked, Refusals.then, ScopeList.named_in, ScopeList.found_from, ScopeList.found as declaration, Named.PlainNamed}
+use Rattle.c_decls.specs.{Typed.PlainTyped, Typed.operand, Typed.is_record, Typed.integer, TypeRules.binary, PlaceRules.held_place, PlaceRules.choice, PlaceRules.size_answer}
 use Rattle.c_decls.specs.Callees.{Callee, Takes, Prints, NoFunction, called}
-use Rattle.c_decls.specs.TypeNames as names
-use Rattle.c_decls.specs.Expressions as types
 use Rattle.c_decls.specs.Expressions.{line_of, int_constant, char_constant, joined, literal, typed, typename}
-use Rattle.elaboration.specs.Addressed.{plain_name}
-use Rattle.elaboration.specs.Context.{Context, With, asked, told, new_label}
+use Rattle.elaboration.specs.{Addressed.plain_name, Context.Context, Context.With, Context.asked, Context.told, Context.new_label}
 use Rattle.elaboration.specs.Conversions.{Found, valued_as, atom_in, code_line, valued}
 use Rattle.elaboration.specs.Calls.{Argument, first_type, rest_types, argument_from}
 use Rattle.elaboration.specs.Rules.{constant_found, ahead, ahead_of, typed_value, left_operand, and_then, or_else, choose, choice_ahead, choice_type, type_ahead, choose_first}
@@ -32,11 +14,8 @@ use Rattle.elaboration.specs.Assignments.{record_assigned, scalar_assigned, old_
 use Rattle.elaboration.specs.Expressions.{unevaluated, changing, comma_answer, callee_name, callee, parameters, format_argument, is_printf, found, arguments}
 use Rattle.core_soundness.specs.Worlds.{World, world, HeldAs, Held, StandsAs, Stands, NamesFit}
 use Rattle.core_soundness.specs.Spoken.{NoRegister, TakesAddress, Spoken, AllSpoken}
-use Rattle.core_soundness.proofs.Grown.{good, ok_same, never}
-use Rattle.core_soundness.proofs.TypedNames.{typed_after, typename_after}
-use Rattle.core_soundness.proofs.Agreeing.{came, quiet_left, quiet_first, valued_agrees}
-use Rattle.core_soundness.proofs.Agreement.{found_agrees}
-use Rattle.core_soundness.proofs.Growing.{Grew}
+use Rattle.core_soundness.proofs.{Grown.good, Grown.ok_same, Grown.never, TypedNames.typed_after, TypedNames.typename_after}
+use Rattle.core_soundness.proofs.{Agreeing.came, Agreeing.quiet_left, Agreeing.quiet_first, Agreeing.valued_agrees, Agreement.found_agrees, Growing.Grew}
 use Rattle.core_soundness.proofs.Going.{Goes, goes_refl, goes_trans, goes_told}
 use Rattle.core_soundness.proofs.Sorting.{Sits, Lands, Comes, comes_lands, value_grew, stands_grew, held_grew, old_brings, Converting}
 use Rattle.core_soundness.proofs.Landing.{found_name, name_lands, constant_lands, string_lands, indexed_lands, dotted_lands, pointed_lands, InMemory, address_lands, applied_lands, left_goes, between_lands, cast_lands}
@@ -44,6 +23,17 @@ use Rattle.core_soundness.proofs.Choosing.{logical_typed, and_then_goes, and_com
 use Rattle.core_soundness.proofs.Assigning.{record_lands, scalar_lands, changing_rule, changed_comes, stepped_comes}
 use Rattle.core_soundness.proofs.CallSorts.{arguments_grew, AllHeld, argument_goes, CallOf, call_of, call_lands}
 use Rattle.core_soundness.proofs.Readying.{ready_on, NamesRegister, Rests, rests, name_local, valued_operated, names_more, all_spoken_more}
+use Rattle.c_types.specs.declared.types.IntType.TheVariants as i
+use Rattle.c_types.specs.Types as ct
+use Rattle.core_tree.specs.declared.statements.Atom.TheVariants as atom
+use Rattle.c_tree.specs.declared.operator.UnaryOp.TheVariants as u
+use Rattle.c_tree.specs.declared.operator.BinaryOp.TheVariants as b
+use Rattle.c_tree.specs.declared.operator.AssignOp.TheVariants as a
+use Rattle.c_tree.specs.Words as w
+use Rattle.c_tree.specs.Forms as f
+use Rattle.c_decls.specs.Named as n
+use Rattle.c_decls.specs.TypeNames as names
+use Rattle.c_decls.specs.Expressions as types
 
 -- sizes
 

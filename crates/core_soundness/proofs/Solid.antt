@@ -6,35 +6,22 @@ use Rattle.hs_base.specs.declared.ends.IntKind.{IntKind}
 use Rattle.hs_base.specs.declared.ends.IntKind.TheVariants.{I8, U8, I16, U16, I32, U32, I64, U64}
 use Rattle.hs_base.specs.Numbers.{wrapped}
 use Rattle.hs_base.proofs.Wrapping.{low_bits_lt}
-use Rattle.c_types.specs.declared.layouts.Layout.{Layout}
-use Rattle.c_types.specs.Types.{PlainType}
-use Rattle.c_types.specs.Layouts.{Known, no_layout}
-use Rattle.c_types.specs.TagTable.{CompletedTag, known, layout_in}
+use Rattle.c_types.specs.{declared.layouts.Layout.Layout, Types.PlainType, Layouts.Known, Layouts.no_layout, TagTable.CompletedTag, TagTable.known, TagTable.layout_in}
 use Rattle.c_types.proofs.MemberLemmas.{Extends}
-use Rattle.core_tree.specs.declared.program.Mem.{Mem}
-use Rattle.core_tree.specs.LayoutsOfTypes.{IsLayoutOfType}
-use Rattle.core_tree.specs.Sound.{IsNumber}
+use Rattle.core_tree.specs.{declared.program.Mem.Mem, LayoutsOfTypes.IsLayoutOfType, Sound.IsNumber, declared.statements.StmKind.TheVariants.Enter, declared.statements.StmKind.TheVariants.Leave}
+use Rattle.core_tree.specs.declared.statements.Atom.{Atom}
 use Rattle.c_tree.specs.Tree.{Tree}
-use Rattle.c_decls.specs.TypeNames as names
 use Rattle.c_decls.specs.Expressions.{typed}
 use Rattle.elaboration.specs.Context.{Context, Variable, Walked, asked, told, emit, anew}
 use Rattle.elaboration.specs.Conversions.{Found, code_line, valued, convert, atom_in, write, Spot}
-use Rattle.elaboration.specs.Reallocates.{reallocates, opened, closed}
-use Rattle.elaboration.specs.Expressions.{found}
-use Rattle.core_tree.specs.declared.statements.StmKind.TheVariants.{Enter, Leave}
-use Rattle.core_tree.specs.declared.statements.Atom.{Atom}
-use Rattle.core_soundness.specs.Whole.{Whole, AreMade, TableWhole, NamesWhole}
-use Rattle.core_soundness.specs.Solid.{MemsLaid, VariablesLaid, WalkedLaid, Solid}
-use Rattle.core_soundness.proofs.Growth.{Grows, Kept, grows_refl}
-use Rattle.core_soundness.proofs.Working.{grown_valued, grows_convert, grows_write}
-use Rattle.core_soundness.proofs.ExprGrows.{found_grows}
-use Rattle.core_soundness.proofs.Quiet.{quiet_convert, quiet_write}
-use Rattle.core_soundness.proofs.Agreeing.{valued_agrees}
-use Rattle.core_soundness.proofs.Agreement.{found_agrees}
-use Rattle.core_soundness.proofs.WholeTypes.{nothing, all_stay, extends_refl, is_layout}
-use Rattle.core_soundness.proofs.TypedNames.{Leads, typed_leads, wanted_leads}
+use Rattle.elaboration.specs.{Reallocates.reallocates, Reallocates.opened, Reallocates.closed, Expressions.found}
+use Rattle.core_soundness.specs.{Whole.Whole, Whole.AreMade, Whole.TableWhole, Whole.NamesWhole, Solid.MemsLaid, Solid.VariablesLaid, Solid.WalkedLaid, Solid.Solid}
+use Rattle.core_soundness.proofs.{Growth.Grows, Growth.Kept, Growth.grows_refl, Working.grown_valued, Working.grows_convert, Working.grows_write, ExprGrows.found_grows}
+use Rattle.core_soundness.proofs.{Quiet.quiet_convert, Quiet.quiet_write, Agreeing.valued_agrees, Agreement.found_agrees}
+use Rattle.core_soundness.proofs.{WholeTypes.nothing, WholeTypes.all_stay, WholeTypes.extends_refl, WholeTypes.is_layout, TypedNames.Leads, TypedNames.typed_leads, TypedNames.wanted_leads}
 use Rattle.core_soundness.proofs.TagKinds.{Kinds, kinds_refl, leads_kinds, same_kinds}
 use Rattle.core_soundness.proofs.TypedWhole.{Fit, LayersWhole, LayerWhole, typed_good, wanted_good}
+use Rattle.c_decls.specs.TypeNames as names
 
 -- numbers that registers hold
 pub wrapped_number : (k : IntKind) (v : ℤ) → IsNumber (wrapped k v)

@@ -1,65 +1,43 @@
 -- Initializers and declarations keep whole types, and what they make has the layouts of types (C99 6.7, 6.7.8, 6.9.2).
 use Rattle.std.proofs.Common.{◌≡◌, ◌≤◌, ◌+◌, not, ℕ, zero, suc, pos, Bool, true, false, cond, is_some, nat_lt, min, length, List, [], ◌∷◌, ◌++◌, slice_get, slice_set, Option, Some, None, unwrap_or, Ok, refl, subst, arith}
 use Rattle.hs_base.specs.Place.{block_size}
-use Rattle.c_types.specs.Types as types
-use Rattle.c_types.specs.Types.{PlainType, Array, Struct, Union, Function}
-use Rattle.c_types.specs.Layouts.{Known, no_layout}
-use Rattle.c_types.specs.TagTable.{TagTable, known, layout_in}
-use Rattle.core_tree.specs.declared.program.Start.{Start}
-use Rattle.core_tree.specs.declared.statements.Atom.{Atom}
-use Rattle.core_tree.specs.declared.statements.Atom.TheVariants as atom
-use Rattle.core_tree.specs.declared.statements.StmKind.TheVariants.{Set, Clear, Off, Copy}
-use Rattle.core_tree.specs.LayoutsOfTypes.{IsLayoutOfType}
-use Rattle.core_tree.specs.Sound.{IsNumber}
+use Rattle.c_types.specs.{Types.PlainType, Types.Array, Types.Struct, Types.Union, Types.Function, Layouts.Known, Layouts.no_layout, TagTable.TagTable, TagTable.known, TagTable.layout_in}
 use Rattle.c_types.specs.declared.layouts.Layout.{Layout}
-use Rattle.c_tree.specs.Words as w
-use Rattle.c_tree.specs.Forms as f
-use Rattle.c_tree.specs.Tree.{Tree, Trees, Leaf, At, Node, none, ◌▹◌, count}
-use Rattle.c_tree.specs.Scopes.{name_of}
+use Rattle.core_tree.specs.{declared.program.Start.Start, declared.statements.Atom.Atom}
+use Rattle.core_tree.specs.declared.statements.StmKind.TheVariants.{Set, Clear, Off, Copy}
+use Rattle.core_tree.specs.{LayoutsOfTypes.IsLayoutOfType, Sound.IsNumber}
+use Rattle.c_tree.specs.{Tree.Tree, Tree.Trees, Tree.Leaf, Tree.At, Tree.Node, Tree.none, Tree.◌▹◌, Tree.count, Scopes.name_of}
 use Rattle.c_decls.specs.declared.refusal.TypeKind.TheVariants.{Assignment, DeclaredTwice, Incomplete, LeftOut, StaticTooLarge}
-use Rattle.c_decls.specs.Named as n
-use Rattle.c_decls.specs.ScopeList.{named_in, innermost, tag_name, after_declaration}
-use Rattle.c_decls.specs.Refusals.{Checked, refused, then, unless}
-use Rattle.c_decls.specs.Typed.{is_function, has_no_size}
-use Rattle.c_decls.specs.TypeNames.{Layer, ArrayOf, layered_before, tag_named}
-use Rattle.c_decls.specs.PlaceRules.{unconverted}
+use Rattle.c_decls.specs.{ScopeList.named_in, ScopeList.innermost, ScopeList.tag_name, ScopeList.after_declaration, Refusals.Checked, Refusals.refused, Refusals.then, Refusals.unless}
+use Rattle.c_decls.specs.{Typed.is_function, Typed.has_no_size, TypeNames.Layer, TypeNames.ArrayOf, TypeNames.layered_before, TypeNames.tag_named, PlaceRules.unconverted}
 use Rattle.elaboration.specs.Context.{Context, Variable, asked, emit}
 use Rattle.elaboration.specs.Conversions.{Found, Spot, Local, Memory, atom_in, valued, convert, write, size_or_zero}
-use Rattle.elaboration.specs.Reallocates.{opened}
-use Rattle.elaboration.specs.Rules.{with_static, with_literal}
-use Rattle.elaboration.specs.Expressions.{found}
+use Rattle.elaboration.specs.{Reallocates.opened, Rules.with_static, Rules.with_literal, Expressions.found}
 use Rattle.elaboration.specs.Locals.{is_twice, declared_as, next_is_memory, with_memory, with_register, local_in, counted_local, with_local}
 use Rattle.elaboration.specs.Declarators.{layers}
 use Rattle.elaboration.specs.Initializers.{Target, InRegister, InMemory, InStatic, static_scalar, member_place, store_at, fill_scalar, scalar, copy_to, fill_record, is_same_place, whole, fill_text, is_character, text, by_text, by_expression, parts_of, takes_braces, is_scalar_type, surplus, all_surplus, initialize, initialize_parts, no_start, text_length, given_length, with_init_layers}
-use Rattle.elaboration.specs.Declarations as storages
 use Rattle.elaboration.specs.Declarations.{Storage, Typedef, Outside, storage_of, specs_alone, specs_before, zero_of, cleared, fill_memory, fill_register, fill_at, fill_local, local_object, local_name, function_number, with_function, declared_function, no_initializer, variable_number_of, with_new_variable, with_variable, start_of, start_in, started_variable, started, fill_variable, file_object, file_function, file_value, file_name, name_in, entry, entries, declaration}
-use Rattle.core_soundness.specs.Whole.{Whole}
-use Rattle.core_soundness.specs.Written.{HasParts, Written, AllWritten}
-use Rattle.core_soundness.proofs.Growth.{grows_refl}
-use Rattle.core_soundness.proofs.Calling.{grown_literal}
-use Rattle.core_soundness.proofs.Quiet.{quiet_literal}
+use Rattle.core_soundness.specs.{Whole.Whole, Written.HasParts, Written.Written, Written.AllWritten, Ranges.AtomIn, Solid.VariablesLaid, Solid.Solid}
+use Rattle.core_soundness.proofs.{Growth.grows_refl, Calling.grown_literal, Quiet.quiet_literal}
 use Rattle.core_soundness.proofs.Reached.{Led, led_ok, led_refused, led_after, led_unless, led_barred}
 use Rattle.core_soundness.proofs.WholeTypes.{whole_stays, extends_refl, some_stays}
 use Rattle.core_soundness.proofs.TypedWhole.{LayersWhole, LayerWhole, led_cond, layered_whole, before_whole, tag_good}
-use Rattle.core_soundness.specs.Ranges.{AtomIn}
-use Rattle.core_soundness.proofs.Ranges.{In, in_emit, in_pointer, zero_number, small_number}
-use Rattle.core_soundness.proofs.Ranged.{size_number}
-use Rattle.core_soundness.proofs.RangedWork.{SpotIn, spot_atom, convert_in, write_in}
-use Rattle.core_soundness.proofs.RangedFound.{literal_in}
+use Rattle.core_soundness.proofs.{Ranges.In, Ranges.in_emit, Ranges.in_pointer, Ranges.zero_number, Ranges.small_number, Ranged.size_number}
+use Rattle.core_soundness.proofs.{RangedWork.SpotIn, RangedWork.spot_atom, RangedWork.convert_in, RangedWork.write_in, RangedFound.literal_in}
 use Rattle.core_soundness.proofs.Within.{Within, PartsIn, within_stays, parts_stay, within_number, parts_in, starts_within, row_short}
-use Rattle.core_soundness.proofs.Solid as base
-use Rattle.core_soundness.specs.Solid.{VariablesLaid, Solid}
-use Rattle.core_soundness.proofs.Solid.{variables_push, K, same_kept, same_rises, converted_rises, laid, fit_of}
-use Rattle.c_types.proofs.MemberLemmas.{Extends}
-use Rattle.core_soundness.proofs.Growth.{Longer}
-use Rattle.core_soundness.proofs.Operating.{passed}
-use Rattle.core_soundness.proofs.TypedNames.{tag_leads}
-use Rattle.core_soundness.proofs.TagSorts.{SortedType, type_longer, innermost_sorted}
-use Rattle.core_soundness.proofs.SortedTypes.{tag_sorted, init_layers_sorted}
-use Rattle.core_soundness.proofs.TagKinds.{Sorts, kinds_refl}
-use Rattle.core_soundness.proofs.Working.{grows_convert, grows_write}
+use Rattle.core_soundness.proofs.{Solid.variables_push, Solid.K, Solid.same_kept, Solid.same_rises, Solid.converted_rises, Solid.laid, Solid.fit_of, Growth.Longer, Operating.passed}
+use Rattle.core_soundness.proofs.{TypedNames.tag_leads, TagSorts.SortedType, TagSorts.type_longer, TagSorts.innermost_sorted, SortedTypes.tag_sorted, SortedTypes.init_layers_sorted}
+use Rattle.core_soundness.proofs.{TagKinds.Sorts, TagKinds.kinds_refl, Working.grows_convert, Working.grows_write}
 use Rattle.core_soundness.proofs.Moving.{same_cases, same_walked, Rises, rises_refl, rises_trans, opened_rises, closed_rises, went_rises, found_went, value_went}
 use Rattle.core_soundness.proofs.SolidLayers.{T, R1, named_rises, declared_rises, typedef_rises, memory_rises, has_size, specs_rise, layers_rise, asked_type_rises}
+use Rattle.c_types.proofs.MemberLemmas.{Extends}
+use Rattle.c_types.specs.Types as types
+use Rattle.core_tree.specs.declared.statements.Atom.TheVariants as atom
+use Rattle.c_tree.specs.Words as w
+use Rattle.c_tree.specs.Forms as f
+use Rattle.c_decls.specs.Named as n
+use Rattle.elaboration.specs.Declarations as storages
+use Rattle.core_soundness.proofs.Solid as base
 
 -- initializers
 

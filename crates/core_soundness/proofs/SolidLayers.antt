@@ -2,43 +2,23 @@
 use Rattle.std.proofs.Common.{◌≡◌, ℕ, ℤ, pos, Bool, true, false, ◌||◌, cond, is_some, is_none, All, List, [], ◌∷◌, ◌++◌, length, reverse, slice_get, unwrap_or, option_map, Option, Some, None, Ok, refl, ap, ◌∙◌, arith}
 use Rattle.std.specs.Option.{option_map_or}
 use Rattle.std.proofs.lemmas.List.Elements.{All-cons}
-use Rattle.hs_base.specs.declared.ends.IntKind.TheVariants.{I32}
-use Rattle.hs_base.specs.Numbers.{wrapped}
-use Rattle.c_types.specs.declared.layouts.Layout.{Layout}
-use Rattle.c_types.specs.declared.types.IntType.TheVariants as i
-use Rattle.c_types.specs.declared.tags.TagInfo.{TagInfo}
-use Rattle.c_types.specs.declared.tags.TagError.{TagError}
-use Rattle.c_types.specs.Types.{PlainType, PlainTypes, Void, Int, Pointer, Array, Struct, Union, Function}
-use Rattle.c_types.specs.Layouts.{Known, layout_of}
-use Rattle.c_types.specs.TagTable as tables
+use Rattle.hs_base.specs.{declared.ends.IntKind.TheVariants.I32, Numbers.wrapped}
+use Rattle.c_types.specs.{declared.layouts.Layout.Layout, declared.tags.TagInfo.TagInfo, declared.tags.TagError.TagError}
+use Rattle.c_types.specs.{Types.PlainType, Types.PlainTypes, Types.Void, Types.Int, Types.Pointer, Types.Array, Types.Struct, Types.Union, Types.Function, Layouts.Known, Layouts.layout_of}
 use Rattle.c_types.specs.TagTable.{TagTable, CompletedTag, refusal, layout_in}
 use Rattle.core_tree.specs.LayoutsOfTypes.{HasLayout}
-use Rattle.core_tree.specs.declared.statements.Atom.TheVariants as atom
-use Rattle.c_tree.specs.declared.operator.RecordSort.{RecordSort}
-use Rattle.c_tree.specs.declared.operator.RecordSort.TheVariants as r
-use Rattle.c_tree.specs.Words as w
-use Rattle.c_tree.specs.Forms as f
-use Rattle.c_tree.specs.Tree.{Tree, Trees, Leaf, At, Node, none, ◌▹◌}
-use Rattle.c_tree.specs.Scopes.{name_of}
-use Rattle.c_decls.specs.declared.refusal.TypeKind.TheVariants.{DeclaredTwice, Incomplete, LeftOut}
-use Rattle.c_decls.specs.Named as n
-use Rattle.c_decls.specs.Named.{PlainNamed}
-use Rattle.c_decls.specs.ScopeList.{Table, named_in, innermost, first_or, with_name, tag_name}
-use Rattle.c_decls.specs.Refusals.{Checked, then, unless}
+use Rattle.c_tree.specs.{declared.operator.RecordSort.RecordSort, Tree.Tree, Tree.Trees, Tree.Leaf, Tree.At, Tree.Node, Tree.none, Tree.◌▹◌, Scopes.name_of}
+use Rattle.c_decls.specs.{declared.refusal.TypeKind.TheVariants.DeclaredTwice, declared.refusal.TypeKind.TheVariants.Incomplete, declared.refusal.TypeKind.TheVariants.LeftOut, Named.PlainNamed}
+use Rattle.c_decls.specs.{ScopeList.Table, ScopeList.named_in, ScopeList.innermost, ScopeList.first_or, ScopeList.with_name, ScopeList.tag_name, Refusals.Checked, Refusals.then, Refusals.unless}
 use Rattle.c_decls.specs.Typed.{is_void, is_record, is_array, is_function, has_no_size}
-use Rattle.c_decls.specs.TypeNames as names
 use Rattle.c_decls.specs.TypeNames.{Layer, record_type, is_union, special_type, array_length, with_layers, with_param_layers, adjusted}
 use Rattle.c_decls.specs.Expressions.{line_of, typed, wanted, constant_from}
-use Rattle.elaboration.specs.Context.{Context, asked, entered, local_register}
-use Rattle.elaboration.specs.Conversions.{Memory}
+use Rattle.elaboration.specs.{Context.Context, Context.asked, Context.entered, Context.local_register, Conversions.Memory}
 use Rattle.elaboration.specs.Locals.{is_twice, declared_as, next_is_memory, with_register, with_memory, counted, with_named, memory_param, register_param, function_param, prototype_param, is_prototype, with_param}
-use Rattle.elaboration.specs.Declarators as d
 use Rattle.elaboration.specs.Declarators.{constant, with_type, maybe_name, newly_named, begun_as, begun, completed_by, complete, ended, with_member, member, enumerator, enum_named, is_declared, param, left_params, specs, words_type, tag_type, members, member_names, enumerators, layers, suffix_layers, suffix_layer, params}
-use Rattle.core_soundness.specs.Whole.{Whole, AllWhole, MembersWhole, NamedWhole, TableWhole, TablesWhole}
-use Rattle.core_soundness.specs.Written.{HasParts, Written, AllWritten}
-use Rattle.core_soundness.proofs.Grown.{good, ok_same, never}
-use Rattle.core_soundness.proofs.Agreeing.{came}
-use Rattle.core_soundness.proofs.Operating.{behind_test}
+use Rattle.core_soundness.specs.{Whole.Whole, Whole.AllWhole, Whole.MembersWhole, Whole.NamedWhole, Whole.TableWhole, Whole.TablesWhole, Written.HasParts, Written.Written, Written.AllWritten}
+use Rattle.core_soundness.specs.Solid.{Solid}
+use Rattle.core_soundness.proofs.{Grown.good, Grown.ok_same, Grown.never, Agreeing.came, Operating.behind_test}
 use Rattle.core_soundness.proofs.Reached.{Led, led_ok, led_refused, led_after, led_unless}
 use Rattle.core_soundness.proofs.WholeTypes.{whole_stays, members_stay, table_stays, names_stay, push_extends, extends_refl, made_push, whole_fits}
 use Rattle.core_soundness.proofs.TagSorts.{SortedType, SortedName, type_longer, table_longer, scopes_longer, with_name_sorted, entered_sorted, left_sorted, none_sorted, first_sorted, innermost_sorted, push_longer, new_sorted}
@@ -46,9 +26,17 @@ use Rattle.core_soundness.proofs.TypedNames.{Leads, typed_leads, wanted_leads, s
 use Rattle.core_soundness.proofs.SortedTypes.{ST, word_sorted, special_sorted, with_layers_sorted}
 use Rattle.core_soundness.proofs.TagKinds.{MembersSorted, members_longer, bodies_longer, bodies_push, Sorts, kinds_refl, leads_kinds}
 use Rattle.core_soundness.proofs.TypedWhole.{GoodType, LayersWhole, LayerWhole, layers_append, layers_reverse, with_name_whole, entered_whole, left_whole, with_layers_whole, with_param_layers_whole, adjusted_whole, special_good, word_whole, length_some, typed_good, wanted_good}
-use Rattle.core_soundness.specs.Solid.{Solid}
 use Rattle.core_soundness.proofs.Solid.{wrapped_number, mems_push, K, fit_of, told_whole, layers_stay, layer_stays, laid}
 use Rattle.core_soundness.proofs.Moving.{Rises, rises_refl, rises_trans, told_rises, write_rises}
+use Rattle.c_types.specs.declared.types.IntType.TheVariants as i
+use Rattle.c_types.specs.TagTable as tables
+use Rattle.core_tree.specs.declared.statements.Atom.TheVariants as atom
+use Rattle.c_tree.specs.declared.operator.RecordSort.TheVariants as r
+use Rattle.c_tree.specs.Words as w
+use Rattle.c_tree.specs.Forms as f
+use Rattle.c_decls.specs.Named as n
+use Rattle.c_decls.specs.TypeNames as names
+use Rattle.elaboration.specs.Declarators as d
 
 -- answers behind a context: with a whole type, with layers, with members, with the types of parameters
 abbrev pub T : Context → Context × PlainType → Type 0

@@ -1,70 +1,39 @@
 -- Statements, functions and texts keep whole types (C99 6.8, 6.9).
 use Rattle.std.proofs.Common.{take, drop, ◌≡◌, ◌≤◌, ◌+◌, ◌*◌, ◌-◌, not, ℕ, zero, suc, ℤ, Bool, true, false, cond, is_some, nat_lt, codes, All, length, map, List, [], ◌∷◌, ◌++◌, slice_get, sum_by, Option, Some, None, Ok, refl, sym, subst, arith, bytes_eq}
-use Rattle.std.proofs.lemmas.List.Elements.{All-cons}
-use Rattle.std.proofs.lemmas.List.Sums.{sum_by-append, sum_by-cons}
+use Rattle.std.proofs.{lemmas.List.Elements.All-cons, lemmas.List.Sums.sum_by-append, lemmas.List.Sums.sum_by-cons}
 use Rattle.hs_base.specs.Place.{block_size}
-use Rattle.c_types.specs.declared.types.IntType.{IntType}
-use Rattle.c_types.specs.declared.types.IntType.TheVariants as i
-use Rattle.c_types.specs.Types as types
-use Rattle.c_types.specs.Types.{PlainType, Void, Function}
-use Rattle.c_types.specs.Layouts.{Known, array_layout, number_layout}
-use Rattle.c_types.specs.TagTable.{TagTable}
-use Rattle.core_tree.specs.declared.program.Core.{Core}
-use Rattle.core_tree.specs.declared.program.Func.{Func}
-use Rattle.core_tree.specs.declared.program.Mem.{Mem}
-use Rattle.core_tree.specs.declared.program.Static.{Static}
-use Rattle.core_tree.specs.declared.statements.Atom.{Atom}
+use Rattle.c_types.specs.{declared.types.IntType.IntType, Types.PlainType, Types.Void, Types.Function, Layouts.Known, Layouts.array_layout, Layouts.number_layout, TagTable.TagTable}
+use Rattle.core_tree.specs.{declared.program.Core.Core, declared.program.Func.Func, declared.program.Mem.Mem, declared.program.Static.Static, declared.statements.Atom.Atom}
 use Rattle.core_tree.specs.declared.statements.StmKind.TheVariants.{Enter, Leave, Return, Jump, Zero, Loop, Case}
-use Rattle.core_tree.specs.Statements.{given}
-use Rattle.core_tree.specs.LayoutsOfTypes.{IsLayoutOfType}
-use Rattle.core_tree.specs.Sound.{IsNumber}
-use Rattle.c_tree.specs.Forms as f
-use Rattle.c_tree.specs.Tree.{Tree, Trees, At, Node, none, ◌▹◌}
-use Rattle.c_tree.specs.Scopes.{name_of}
+use Rattle.core_tree.specs.{Statements.given, LayoutsOfTypes.IsLayoutOfType, Sound.IsNumber}
+use Rattle.c_tree.specs.{Tree.Tree, Tree.Trees, Tree.At, Tree.Node, Tree.none, Tree.◌▹◌, Scopes.name_of}
 use Rattle.c_decls.specs.declared.refusal.TypeKind.TheVariants.{Operands, Assignment, StrayBreak, CaseTwice, LeftOut, DeclaredTwice, ProgramTooLong, Undeclared, NoMain}
-use Rattle.c_decls.specs.declared.built_in.BuiltIn.{BuiltIn}
-use Rattle.c_decls.specs.Named as n
-use Rattle.c_decls.specs.ScopeList.{named_in}
-use Rattle.c_decls.specs.BuiltIns as names
-use Rattle.c_decls.specs.BuiltIns.{built_ins, numbered_from}
-use Rattle.c_decls.specs.Refusals.{Checked, refused, then, unless}
-use Rattle.c_decls.specs.IntegerTypes.{promoted}
-use Rattle.c_decls.specs.Typed.{Operand, Number, operand, is_void, is_scalar, is_function}
-use Rattle.c_decls.specs.TypeNames.{with_layers}
-use Rattle.c_decls.specs.PlaceRules.{unconverted}
+use Rattle.c_decls.specs.{declared.built_in.BuiltIn.BuiltIn, ScopeList.named_in, BuiltIns.built_ins, BuiltIns.numbered_from, Refusals.Checked, Refusals.refused, Refusals.then, Refusals.unless}
+use Rattle.c_decls.specs.{IntegerTypes.promoted, Typed.Operand, Typed.Number, Typed.operand, Typed.is_void, Typed.is_scalar, Typed.is_function, TypeNames.with_layers, PlaceRules.unconverted}
 use Rattle.c_decls.specs.Expressions.{line_of}
 use Rattle.elaboration.specs.Context.{Here, Context, Variable, Walked, scoped, entered, emit, here, new_label, with_labels, with_pieces, first_context, Declared}
 use Rattle.elaboration.specs.Conversions.{Found, atom_in, valued, convert, convert_integer, tested_value, code_line}
-use Rattle.elaboration.specs.Reallocates.{opened, closed}
-use Rattle.elaboration.specs.Expressions.{found}
-use Rattle.elaboration.specs.Declarators.{specs, layers, constant}
+use Rattle.elaboration.specs.{Reallocates.opened, Reallocates.closed, Expressions.found, Declarators.specs, Declarators.layers, Declarators.constant}
 use Rattle.elaboration.specs.Declarations.{function_number, declared_function}
 use Rattle.elaboration.specs.Statements.{Around, around_body, below, in_loop, in_switch, in_delay, leaves, leave_to, evaluated, maybe_evaluated, condition, leaves_if_zero, maybe_leaves, apart, behind, return_of, return_from, has_case, case_of, cased, defaulted, switch_operand_of, switch_operand, no_cases, switched, looped, for_start, statement, items, dispatch, does, cases_of}
 use Rattle.elaboration.specs.Externals.{begun, answer_of, params_of, is_defined, body_begun, last_answer, body_ended, body, defined, named_definition, definition, external, externals, calls_defined, is_main}
-use Rattle.elaboration.specs.Addressed.{addressed_in}
-use Rattle.elaboration.specs.Resolving.{function_of, variable_static, literal_static, core_of}
-use Rattle.elaboration.specs.Elaboration.{walked, elaborated}
-use Rattle.core_soundness.specs.Whole.{Whole, TableWhole}
-use Rattle.core_soundness.specs.Written.{Written, AllWritten, AreWritten}
-use Rattle.core_soundness.specs.Laws.{HasLayouts}
-use Rattle.core_soundness.proofs.Working.{grows_tested, grows_convert_integer}
-use Rattle.core_soundness.proofs.Quiet.{quiet_convert_integer}
-use Rattle.core_soundness.proofs.Cores.{behind as core_behind, core_sizes}
+use Rattle.elaboration.specs.{Addressed.addressed_in, Resolving.function_of, Resolving.variable_static, Resolving.literal_static, Resolving.core_of, Elaboration.walked, Elaboration.elaborated}
+use Rattle.core_soundness.specs.{Whole.Whole, Whole.TableWhole, Written.Written, Written.AllWritten, Written.AreWritten, Laws.HasLayouts}
+use Rattle.core_soundness.specs.{Solid.MemsLaid, Solid.VariablesLaid, Solid.WalkedLaid, Solid.Solid, Ranges.AtomIn, Ranges.AtomsIn, Ranges.PiecesIn}
+use Rattle.core_soundness.proofs.{Working.grows_tested, Working.grows_convert_integer, Quiet.quiet_convert_integer, Cores.behind as core_behind, Cores.core_sizes}
 use Rattle.core_soundness.proofs.Reached.{Led, led_ok, led_refused, led_after, led_unless, led_barred}
-use Rattle.core_soundness.proofs.WholeTypes.{whole_stays, extends_refl, is_layout}
-use Rattle.core_soundness.proofs.TagSorts.{none_sorted, entered_sorted, left_sorted}
-use Rattle.core_soundness.proofs.TagKinds.{kinds_refl}
-use Rattle.core_soundness.proofs.TypedWhole.{left_whole, with_layers_whole}
-use Rattle.core_soundness.specs.Solid.{MemsLaid, VariablesLaid, WalkedLaid, Solid}
-use Rattle.core_soundness.proofs.Solid.{walked_push, K, same_kept, same_rises, wrapped_number}
-use Rattle.core_soundness.specs.Ranges.{AtomIn, AtomsIn, PiecesIn}
-use Rattle.core_soundness.proofs.Ranges.{In, in_emit, in_here, pieces_joined, zero_number}
-use Rattle.core_soundness.proofs.RangedWork.{spot_atom, convert_integer_in}
-use Rattle.core_soundness.proofs.RangedFound.{tested_value_in}
-use Rattle.core_soundness.proofs.RangedWalk.{tested_solid}
+use Rattle.core_soundness.proofs.{WholeTypes.whole_stays, WholeTypes.extends_refl, WholeTypes.is_layout, TagSorts.none_sorted, TagSorts.entered_sorted, TagSorts.left_sorted, TagKinds.kinds_refl}
+use Rattle.core_soundness.proofs.{TypedWhole.left_whole, TypedWhole.with_layers_whole, Solid.walked_push, Solid.K, Solid.same_kept, Solid.same_rises, Solid.wrapped_number}
+use Rattle.core_soundness.proofs.{Ranges.In, Ranges.in_emit, Ranges.in_here, Ranges.pieces_joined, Ranges.zero_number, RangedWork.spot_atom, RangedWork.convert_integer_in}
+use Rattle.core_soundness.proofs.{RangedFound.tested_value_in, RangedWalk.tested_solid}
 use Rattle.core_soundness.proofs.Moving.{CasesIn, WalkedIn, same_cases, same_walked, Rises, rises_refl, rises_trans, closed_rises, Full, full_value}
 use Rattle.core_soundness.proofs.SolidLayers.{constant_rises, entered_solid, specs_rise, layers_rise}
 use Rattle.core_soundness.proofs.SolidFills.{declared_function_rises, declaration_rises, scalar_value}
+use Rattle.c_types.specs.declared.types.IntType.TheVariants as i
+use Rattle.c_types.specs.Types as types
+use Rattle.c_tree.specs.Forms as f
+use Rattle.c_decls.specs.Named as n
+use Rattle.c_decls.specs.BuiltIns as names
 
 -- scopes
 

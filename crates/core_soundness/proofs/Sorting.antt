@@ -1,24 +1,19 @@
 -- The sorts of what conversions and operators give.
 use Rattle.std.proofs.Common.{◌≡◌, ◌≤◌, ℕ, Bool, true, false, cond, Ok, refl, sym, subst}
-use Rattle.c_types.specs.declared.types.IntType.{IntType}
-use Rattle.c_types.specs.Types as types
-use Rattle.c_types.specs.Types.{PlainType, kind_of}
-use Rattle.c_types.specs.TagTable.{TagTable}
+use Rattle.c_types.specs.{declared.types.IntType.IntType, Types.PlainType, Types.kind_of, TagTable.TagTable}
 use Rattle.core_tree.specs.declared.statements.Atom.{Atom}
-use Rattle.core_tree.specs.declared.statements.Atom.TheVariants as atom
 use Rattle.core_tree.specs.declared.statements.StmKind.TheVariants.{Set, Conv, Load, Loadp, Store, Storep, Test}
 use Rattle.core_tree.specs.Sorts.{Sort, Integer, Pointer}
 use Rattle.c_tree.specs.Tree.{Tree}
-use Rattle.c_decls.specs.Refusals.{Refusal}
-use Rattle.c_decls.specs.Expressions.{line_of}
+use Rattle.c_decls.specs.{Refusals.Refusal, Expressions.line_of}
 use Rattle.c_decls.specs.Typed.{PlainTyped, Operand, Number, PointerTo, Neither, operand, held, read, is_scalar, has_no_size}
 use Rattle.elaboration.specs.Context.{Context, With, integer_by, pointer_by}
 use Rattle.elaboration.specs.Conversions.{Found, Spot, Local, Memory, Value, Empty, read_spot, read_value, code_line, valued_from, valued, atom_in, holds_all, convert_integer, convert_to, convert, tested, tested_value, write}
 use Rattle.core_soundness.specs.Worlds.{World, world, Holds, HeldAs, Held, StandsAs, Stands}
-use Rattle.core_soundness.proofs.Grown.{good, bad, ok_same, never}
-use Rattle.core_soundness.proofs.Agreeing.{came}
-use Rattle.core_soundness.proofs.Growing.{Grew, register_grew, holds_grew}
+use Rattle.core_soundness.proofs.{Grown.good, Grown.bad, Grown.ok_same, Grown.never, Agreeing.came, Growing.Grew, Growing.register_grew, Growing.holds_grew}
 use Rattle.core_soundness.proofs.Going.{Goes, goes_refl, goes_trans, goes_emit, goes_forgotten, Gives, gives_integer, gives_pointer}
+use Rattle.c_types.specs.Types as types
+use Rattle.core_tree.specs.declared.statements.Atom.TheVariants as atom
 
 pub held_as_grew : (w v : World) (o : Operand) (a : Atom) → Grew w v → HeldAs w o a → HeldAs v o a
 held_as_grew w v (Number ty) a g h = holds_grew w v Integer a g h

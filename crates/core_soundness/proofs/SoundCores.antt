@@ -1,21 +1,12 @@
 -- The core of a text is sound.
 use Rattle.std.proofs.Common.{◌≡◌, ◌≤◌, All, List, Ok, length}
-use Rattle.c_lexer.specs.declared.token.Token.{Token}
-use Rattle.c_lexer.specs.Tokens.{IsLexed}
+use Rattle.c_lexer.specs.{declared.token.Token.Token, Tokens.IsLexed}
 use Rattle.c_types.specs.TagTable.{TagTable}
-use Rattle.core_tree.specs.declared.program.Core.{Core}
-use Rattle.core_tree.specs.Sound.{IsShort, IsSound}
-use Rattle.c_tree.specs.Tree.{Trees}
-use Rattle.c_tree.specs.HasTree.{HasTree}
+use Rattle.core_tree.specs.{declared.program.Core.Core, Sound.IsShort, Sound.IsSound}
+use Rattle.c_tree.specs.{Tree.Trees, HasTree.HasTree}
 use Rattle.elaboration.specs.Elaboration.{elaborated}
-use Rattle.core_soundness.proofs.Cores.{core_sizes}
-use Rattle.core_soundness.proofs.FormedTrees.{trees_formed_all}
-use Rattle.core_soundness.proofs.Functions.{functions_sound}
-use Rattle.core_soundness.proofs.Grammatical.{trees_written_all}
-use Rattle.core_soundness.proofs.Mains.{core_main}
-use Rattle.core_soundness.proofs.MainTyped.{core_main_typed}
-use Rattle.core_soundness.proofs.NearTexts.{core_short}
-use Rattle.core_soundness.proofs.FittedTexts.{core_statics}
+use Rattle.core_soundness.proofs.{Cores.core_sizes, FormedTrees.trees_formed_all, Functions.functions_sound, Grammatical.trees_written_all, Mains.core_main, MainTyped.core_main_typed}
+use Rattle.core_soundness.proofs.{NearTexts.core_short, FittedTexts.core_statics}
 
 pub cores_sound : (tokens : List Token) (unit : Trees) (core : Core) (tags : TagTable) → All IsLexed tokens → length tokens ≤ 268435456 → All (λ (token : Token). IsShort token.bytes) tokens → HasTree tokens unit → elaborated unit ≡ Ok (core, tags) → IsSound core
 cores_sound tokens unit core tags l few short h q =

@@ -1,32 +1,23 @@
 -- Specs and declarators make no objects at file scope, and leave what was made there.
 use Rattle.std.proofs.Common.{◌≡◌, ℕ, Bool, true, false, cond, List, [], length, slice_get, unwrap_or, Option, Some, None, ◌≤◌, refl, sym, ◌∙◌, subst, arith}
-use Rattle.c_types.specs.declared.types.IntType.TheVariants as i
 use Rattle.c_types.specs.Types.{PlainType, Int}
-use Rattle.core_tree.specs.declared.statements.Atom.TheVariants as atom
-use Rattle.c_tree.specs.declared.operator.RecordSort.{RecordSort}
-use Rattle.c_tree.specs.declared.operator.RecordSort.TheVariants as r
-use Rattle.c_tree.specs.Tree.{Tree, Trees}
-use Rattle.c_decls.specs.declared.refusal.TypeKind.TheVariants.{DeclaredTwice}
-use Rattle.c_decls.specs.Named as n
-use Rattle.c_decls.specs.Named.{PlainNamed}
-use Rattle.c_decls.specs.ScopeList.{tag_name}
-use Rattle.c_decls.specs.Refusals.{Checked}
-use Rattle.c_decls.specs.TypeNames as names
-use Rattle.elaboration.specs.Context.{Context, asked, told, entered, local_register}
-use Rattle.elaboration.specs.Conversions.{Memory}
+use Rattle.c_tree.specs.{declared.operator.RecordSort.RecordSort, Tree.Tree, Tree.Trees}
+use Rattle.c_decls.specs.{declared.refusal.TypeKind.TheVariants.DeclaredTwice, Named.PlainNamed, ScopeList.tag_name, Refusals.Checked}
+use Rattle.elaboration.specs.{Context.Context, Context.asked, Context.told, Context.entered, Context.local_register, Conversions.Memory}
 use Rattle.elaboration.specs.Locals.{is_twice, declared_as, next_is_memory, with_register, with_memory, with_named, memory_param, register_param, function_param, prototype_param, is_prototype, with_param}
-use Rattle.elaboration.specs.Declarators as d
 use Rattle.elaboration.specs.Declarators.{with_type, begun, member, param, left_params, specs, member_names, layers, suffix_layer}
-use Rattle.core_soundness.proofs.Names.{More}
-use Rattle.core_soundness.proofs.Growth.{Grows, grows_told}
-use Rattle.core_soundness.proofs.Owners.{more_depth, with_name_depth}
+use Rattle.core_soundness.proofs.{Names.More, Growth.Grows, Growth.grows_told, Owners.more_depth, Owners.with_name_depth}
 use Rattle.core_soundness.proofs.ShortNames.{Any, any_name, any_names, all_any}
 use Rattle.core_soundness.proofs.LayersWalk.{Steps, begun_keeps, member_keeps, param_keeps, specs_keep, names_keep, layers_keep, suffix_keeps}
-use Rattle.core_soundness.proofs.Reached.{Reached, reached_ok, reached_after, Led, led_ok, led_unless}
-use Rattle.core_soundness.proofs.TypedNames.{After}
-use Rattle.core_soundness.proofs.Working.{grows_write}
+use Rattle.core_soundness.proofs.{Reached.Reached, Reached.reached_ok, Reached.reached_after, Reached.Led, Reached.led_ok, Reached.led_unless, TypedNames.After, Working.grows_write}
 use Rattle.core_soundness.proofs.Declaring.{after_depth, tail_depth}
 use Rattle.core_soundness.proofs.Settled.{ObjectsStay, Settled, settled_refl, settled_trans, grows_settled, IsNoObject, with_name_objects, inner_objects, declared_objects}
+use Rattle.c_types.specs.declared.types.IntType.TheVariants as i
+use Rattle.core_tree.specs.declared.statements.Atom.TheVariants as atom
+use Rattle.c_tree.specs.declared.operator.RecordSort.TheVariants as r
+use Rattle.c_decls.specs.Named as n
+use Rattle.c_decls.specs.TypeNames as names
+use Rattle.elaboration.specs.Declarators as d
 
 -- what was made at file scope stays, and as many scopes are open
 pub record Levels (c d : Context) : Type 0 where

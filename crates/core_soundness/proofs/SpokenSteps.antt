@@ -1,32 +1,21 @@
 -- Behind an expression that elaboration has gone through, `&` stood before no name that stands for a register.
 use Rattle.std.proofs.Common.{◌≡◌, ◌||◌, ℕ, Bool, true, false, List, [], ◌∷◌, Option, Some, None, Ok, refl, sym, ap, ◌∙◌, subst}
 use Rattle.std.proofs.lemmas.Bool.{eq-eqb}
-use Rattle.c_types.specs.declared.types.IntType.{IntType}
-use Rattle.c_types.specs.Types.{PlainType, Void}
+use Rattle.c_types.specs.{declared.types.IntType.IntType, Types.PlainType, Types.Void}
 use Rattle.core_tree.specs.declared.statements.Atom.{Atom}
-use Rattle.c_tree.specs.declared.operator.UnaryOp.TheVariants as u
-use Rattle.c_tree.specs.Forms.{Form}
-use Rattle.c_tree.specs.Forms as f
-use Rattle.c_tree.specs.Places.{Place}
-use Rattle.c_tree.specs.Tree.{Tree, Trees, Leaf, At, Node, none, ◌▹◌, count}
-use Rattle.c_tree.specs.Grammar.{shape}
-use Rattle.c_tree.specs.Scopes.{is_scope, places}
+use Rattle.c_tree.specs.{Forms.Form, Places.Place, Tree.Tree, Tree.Trees, Tree.Leaf, Tree.At, Tree.Node, Tree.none, Tree.◌▹◌, Tree.count, Grammar.shape, Scopes.is_scope, Scopes.places}
 use Rattle.c_decls.specs.ScopeList.{ScopeList, found}
-use Rattle.elaboration.specs.Context.{Context}
-use Rattle.elaboration.specs.Conversions as conversions
-use Rattle.elaboration.specs.Conversions.{valued}
-use Rattle.elaboration.specs.Reallocates.{opened}
+use Rattle.elaboration.specs.{Context.Context, Conversions.valued, Reallocates.opened}
 use Rattle.elaboration.specs.Addressed.{Taken, Known, number_of, plain_name, with_number, with_address, left, left_part, taken, all_taken}
-use Rattle.elaboration.specs.Expressions as expressions
 use Rattle.elaboration.specs.Statements.{evaluated, maybe_evaluated, condition, leaves_if_zero, maybe_leaves, return_of, return_from, switch_operand}
-use Rattle.core_soundness.specs.Spoken.{is_register, NoRegister, TakesAddress, Spoken, AllSpoken}
-use Rattle.core_soundness.specs.Written.{Written, AllWritten}
-use Rattle.core_soundness.proofs.Agreeing.{came}
-use Rattle.core_soundness.proofs.Adding.{Has, Inside, left_adds, part_adds, all_taken_adds}
-use Rattle.core_soundness.proofs.Formed.{Shaped, Formed, AllFormed}
+use Rattle.core_soundness.specs.{Spoken.is_register, Spoken.NoRegister, Spoken.TakesAddress, Spoken.Spoken, Spoken.AllSpoken, Written.Written, Written.AllWritten}
+use Rattle.core_soundness.proofs.{Agreeing.came, Adding.Has, Adding.Inside, Adding.left_adds, Adding.part_adds, Adding.all_taken_adds, Formed.Shaped, Formed.Formed, Formed.AllFormed}
 use Rattle.core_soundness.proofs.InStep.{among, Numbered, Follows}
-use Rattle.core_soundness.proofs.Still.{Held, Still, AllStill, SameNames, Calm, still_names, all_still_names, part_names}
-use Rattle.core_soundness.proofs.Calm.{found_calm}
+use Rattle.core_soundness.proofs.{Still.Held, Still.Still, Still.AllStill, Still.SameNames, Still.Calm, Still.still_names, Still.all_still_names, Still.part_names, Calm.found_calm}
+use Rattle.c_tree.specs.declared.operator.UnaryOp.TheVariants as u
+use Rattle.c_tree.specs.Forms as f
+use Rattle.elaboration.specs.Conversions as conversions
+use Rattle.elaboration.specs.Expressions as expressions
 
 -- each name that stands for a register has a number that is none of these
 abbrev pub AreNumbered : ScopeList → Taken → List ℕ → Type 0

@@ -2,29 +2,24 @@
 use Rattle.std.proofs.Common.{◌≡◌, ◌⊎◌, ◌≤◌, ◌<◌, ◌+◌, ◌-◌, ℕ, ℤ, Bool, true, false, not, length, List, [], ◌∷◌, ◌++◌, take, drop, Option, Some, None, Ok, refl, sym, ap, ◌∙◌, subst, arith, inl, inr, ⊎_elim, append_assoc, append-nil, true≢false}
 use Rattle.std.specs.Prelude.{is_some}
 use Rattle.hs_base.specs.Numbers.{wrapped}
-use Rattle.c_types.specs.declared.types.IntType.{IntType}
-use Rattle.c_types.specs.Types.{kind_of}
+use Rattle.c_types.specs.{declared.types.IntType.IntType, Types.kind_of}
 use Rattle.core_tree.specs.declared.statements.Atom.{Atom}
 use Rattle.core_tree.specs.declared.statements.StmKind.TheVariants.{Jump, Loop, Enter, Leave}
-use Rattle.c_tree.specs.Forms as f
 use Rattle.c_tree.specs.Tree.{Tree, Trees, At, Node, none, ◌▹◌}
 use Rattle.c_decls.specs.declared.refusal.TypeKind.TheVariants.{StrayBreak, CaseTwice, LeftOut}
 use Rattle.c_decls.specs.Refusals.{Checked, refused, then}
 use Rattle.elaboration.specs.Context.{Piece, Does, Here, Code, Context, entered, left, scoped, emit, here, new_label, with_labels, with_pieces}
-use Rattle.elaboration.specs.Declarators.{constant}
-use Rattle.elaboration.specs.Declarations.{declaration}
+use Rattle.elaboration.specs.{Declarators.constant, Declarations.declaration}
 use Rattle.elaboration.specs.Statements.{Around, below, in_loop, in_switch, in_delay, leave_to, evaluated, maybe_evaluated, leaves_if_zero, maybe_leaves, apart, has_case, with_case, cased, defaulted, dispatch, default_or, switch_operand, no_cases, switched, looped, for_start, statement, items}
 use Rattle.core_soundness.proofs.Flow.{Marks}
 use Rattle.core_soundness.proofs.Fragments.{Way, way_on, IsWay, Stands, Leads, AreEarlier, earlier_less, Fragment, anywhere, in_scope, jump_leaves, with_ways, stm_at}
-use Rattle.core_soundness.proofs.Names.{Safe, left_safe, entered_safe}
-use Rattle.core_soundness.proofs.Reached.{Led, led_ok, led_refused, led_after, led_unless}
-use Rattle.core_soundness.proofs.Owners.{tied_refl, tied_trans}
-use Rattle.core_soundness.proofs.Passing.{Stays, Passes, stays_trans, stays_beside}
-use Rattle.core_soundness.proofs.Declaring.{passes_refl, constant_passes, tail_depth}
-use Rattle.core_soundness.proofs.Localizing.{declaration_declares}
+use Rattle.core_soundness.proofs.{Names.Safe, Names.left_safe, Names.entered_safe, Reached.Led, Reached.led_ok, Reached.led_refused, Reached.led_after, Reached.led_unless}
+use Rattle.core_soundness.proofs.{Owners.tied_refl, Owners.tied_trans, Passing.Stays, Passing.Passes, Passing.stays_trans, Passing.stays_beside}
+use Rattle.core_soundness.proofs.{Declaring.passes_refl, Declaring.constant_passes, Declaring.tail_depth, Localizing.declaration_declares}
 use Rattle.core_soundness.proofs.Parts.{Part, part_trans, part_ways, part_closed, ways_more, one_way, looped_code}
 use Rattle.core_soundness.proofs.Walking.{ways_of, ways, IsOutside, Fits, fits_more, fits_below, fits_delay, fits_loop, fits_switch, IsCase, HasLabel, Among, same_labels, Walks, walks_trans, passes_part, part_anywhere, walks_passes, walks_scoped, part_below, below_labels, evaluated_passes, maybe_evaluated_passes, Tests, leaves_tests, maybe_tests, out_walks, return_from_walks, switch_operand_passes, case_among}
 use Rattle.core_soundness.proofs.Blocks.{loop_rest, for_fragment, do_fragment, label_fragment, dispatch_fragment}
+use Rattle.c_tree.specs.Forms as f
 
 -- what stays is seen beside code
 pub stays_recoded : (c d : Context) (x y : Code) → Stays (record c { code = x }) d → Stays c (record d { code = y })

@@ -1,21 +1,13 @@
 -- A static is sound, where its layout is one of a type, its first bytes and pointers fill that, and the pointers name statics.
 use Rattle.std.proofs.Common.{◌≡◌, ◌<◌, ◌+◌, ℕ, suc, All, length, map, List, [], ◌∷◌, ◌++◌, slice_get, unwrap_or, Option, Some, None, refl, sym, ap, subst, inl, inr, arith}
-use Rattle.std.specs.Prelude.{Contains, nat_eq}
-use Rattle.std.specs.List.{IsDistinct}
+use Rattle.std.specs.{Prelude.Contains, Prelude.nat_eq, List.IsDistinct}
 use Rattle.std.proofs.lemmas.List.Elements.{All-cons, All-nil, All-append, All-head, All-tail}
 use Rattle.c_types.specs.Layouts.{array_layout, number_layout}
-use Rattle.core_tree.specs.declared.program.Core.{Core}
-use Rattle.core_tree.specs.declared.program.Start.{Start}
-use Rattle.core_tree.specs.declared.program.Static.{Static}
-use Rattle.core_tree.specs.LayoutsOfTypes.{IsLayoutOfType}
-use Rattle.core_tree.specs.Sound.{IsStatic, IsTarget}
-use Rattle.elaboration.specs.Context.{Context, Variable}
-use Rattle.elaboration.specs.Initializers.{no_start, trimmed}
+use Rattle.core_tree.specs.{declared.program.Core.Core, declared.program.Start.Start, declared.program.Static.Static, LayoutsOfTypes.IsLayoutOfType, Sound.IsStatic, Sound.IsTarget}
+use Rattle.elaboration.specs.{Context.Context, Context.Variable, Initializers.no_start, Initializers.trimmed}
 use Rattle.elaboration.specs.Resolving.{static_by, start_by, variable_static, literal_static, core_of}
 use Rattle.core_soundness.specs.Laws.{HasLayouts}
-use Rattle.core_soundness.proofs.Seats.{Has, has_row}
-use Rattle.core_soundness.proofs.Filling.{byte, PointersBelow, places, Filled, trimmed_length}
-use Rattle.core_soundness.proofs.Pointing.{PointersIn}
+use Rattle.core_soundness.proofs.{Seats.Has, Seats.has_row, Filling.byte, Filling.PointersBelow, Filling.places, Filling.Filled, Filling.trimmed_length, Pointing.PointersIn}
 use Rattle.core_soundness.proofs.PointedTexts.{StartsIn, Pointed, pointers_target}
 
 -- the first bytes and pointers of each variable that has an initializer fill its layout

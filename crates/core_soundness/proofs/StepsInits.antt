@@ -2,40 +2,26 @@
 use Rattle.std.proofs.Common.{◌≡◌, ◌+◌, ℕ, pos, Bool, true, false, not, cond, length, min, List, [], ◌∷◌, Option, Some, None, Ok, refl, subst}
 use Rattle.c_types.specs.Types.{PlainType, Array, Struct, Union}
 use Rattle.core_tree.specs.declared.statements.Atom.{Atom}
-use Rattle.core_tree.specs.declared.statements.Atom.TheVariants as atom
 use Rattle.core_tree.specs.declared.statements.StmKind.TheVariants.{Off, Copy, Clear, Set}
-use Rattle.c_tree.specs.Forms as f
-use Rattle.c_tree.specs.Places as p
-use Rattle.c_tree.specs.Tree.{Tree, Trees, At, Node, none, ◌▹◌, count}
-use Rattle.c_tree.specs.Grammar.{shape}
-use Rattle.c_decls.specs.declared.refusal.TypeKind.TheVariants.{Assignment}
-use Rattle.c_decls.specs.Refusals.{refused, then}
-use Rattle.c_decls.specs.PlaceRules.{unconverted}
+use Rattle.c_tree.specs.{Tree.Tree, Tree.Trees, Tree.At, Tree.Node, Tree.none, Tree.◌▹◌, Tree.count, Grammar.shape}
+use Rattle.c_decls.specs.{declared.refusal.TypeKind.TheVariants.Assignment, Refusals.refused, Refusals.then, PlaceRules.unconverted}
 use Rattle.elaboration.specs.Context.{Context, emit}
 use Rattle.elaboration.specs.Conversions.{Found, Spot, Local, Memory, atom_in, valued, convert, write, size_or_zero}
-use Rattle.elaboration.specs.Reallocates.{opened}
-use Rattle.elaboration.specs.Rules.{with_literal}
-use Rattle.elaboration.specs.Expressions.{found}
-use Rattle.elaboration.specs.Addressed.{Taken, taken}
+use Rattle.elaboration.specs.{Reallocates.opened, Rules.with_literal, Expressions.found, Addressed.Taken, Addressed.taken}
 use Rattle.elaboration.specs.Initializers.{Target, InRegister, InMemory, InStatic, static_scalar, member_place, store_at, fill_scalar, scalar, copy_to, fill_record, is_same_place, whole, fill_text, is_character, text, by_text, by_expression, parts_of, takes_braces, is_scalar_type, all_surplus, initialize, initialize_parts}
 use Rattle.elaboration.specs.Locals.{next_is_memory, local_in, with_local}
 use Rattle.elaboration.specs.Declarations.{zero_of, cleared, fill_memory, fill_register, fill_at, fill_local}
-use Rattle.core_soundness.specs.Spoken.{Spoken, AllSpoken}
-use Rattle.core_soundness.specs.Written.{Written}
-use Rattle.core_soundness.proofs.Grown.{good, ok_same, never}
-use Rattle.core_soundness.proofs.Growth.{Grows, grows_refl, grows_pointer}
-use Rattle.core_soundness.proofs.Reached.{Reached, reached_ok, reached_refused, reached_after, reached_unless, reached_barred}
-use Rattle.core_soundness.proofs.Agreeing.{came}
-use Rattle.core_soundness.proofs.Working.{grown_valued, grows_convert, grows_write}
-use Rattle.core_soundness.proofs.Calling.{grown_literal}
-use Rattle.core_soundness.proofs.ExprGrows.{found_grows}
-use Rattle.core_soundness.proofs.Adding.{Inside}
-use Rattle.core_soundness.proofs.Formed.{Shaped, Formed, AllFormed}
-use Rattle.core_soundness.proofs.InStep.{Keeps, Follows}
-use Rattle.core_soundness.proofs.Still.{Still, AllStill, Calm, some_commas_held, calm_node}
+use Rattle.core_soundness.specs.{Spoken.Spoken, Spoken.AllSpoken, Written.Written}
+use Rattle.core_soundness.proofs.{Grown.good, Grown.ok_same, Grown.never, Growth.Grows, Growth.grows_refl, Growth.grows_pointer}
+use Rattle.core_soundness.proofs.{Reached.Reached, Reached.reached_ok, Reached.reached_refused, Reached.reached_after, Reached.reached_unless, Reached.reached_barred, Agreeing.came}
+use Rattle.core_soundness.proofs.{Working.grown_valued, Working.grows_convert, Working.grows_write, Calling.grown_literal, ExprGrows.found_grows, Adding.Inside}
+use Rattle.core_soundness.proofs.{Formed.Shaped, Formed.Formed, Formed.AllFormed, InStep.Keeps, InStep.Follows, Still.Still, Still.AllStill, Still.Calm, Still.some_commas_held, Still.calm_node}
 use Rattle.core_soundness.proofs.Calm.{text_calm, unary_calm, found_calm}
 use Rattle.core_soundness.proofs.Keeping.{keeps_refl, keeps_trans, grows_keeps, emit_keeps, opened_keeps, closed_keeps, found_keeps, full_keeps}
 use Rattle.core_soundness.proofs.SpokenSteps.{calm_spoken, valued_calm}
+use Rattle.core_tree.specs.declared.statements.Atom.TheVariants as atom
+use Rattle.c_tree.specs.Forms as f
+use Rattle.c_tree.specs.Places as p
 
 -- a tree that declares nothing was gone through
 abbrev pub Went : Tree → Context → Context → Type 0

@@ -1,14 +1,11 @@
 -- Each tag that was completed is of the sort that it was made of, and so are its members and all types that have names.
 use Rattle.std.proofs.Common.{◌≡◌, ℕ, List, [], ◌∷◌, ◌++◌, slice_get, Some, sym, ap, subst}
-use Rattle.c_types.specs.declared.tags.TagInfo.{TagInfo}
-use Rattle.c_types.specs.Types.{PlainType}
-use Rattle.c_types.specs.TagTable.{CompletedTag}
+use Rattle.c_types.specs.{declared.tags.TagInfo.TagInfo, Types.PlainType, TagTable.CompletedTag}
 use Rattle.c_decls.specs.ScopeList.{ScopeList, Table}
-use Rattle.c_decls.specs.TypeNames as names
 use Rattle.elaboration.specs.Context.{Context, asked}
-use Rattle.core_soundness.proofs.Growth.{Longer}
-use Rattle.core_soundness.proofs.TagSorts.{SortedType, SortedTable, SortedScopes, type_longer, table_longer}
+use Rattle.core_soundness.proofs.{Growth.Longer, TagSorts.SortedType, TagSorts.SortedTable, TagSorts.SortedScopes, TagSorts.type_longer, TagSorts.table_longer}
 use Rattle.core_soundness.proofs.TypedNames.{Leads, leads_refl}
+use Rattle.c_decls.specs.TypeNames as names
 
 abbrev pub MembersSorted : List TagInfo → List (List ℕ × PlainType) → Type 0
 MembersSorted made [] = Unit {0}

@@ -1,14 +1,10 @@
 -- The tokens of a text are no more than its bytes, and none is longer than it.
 use Rattle.std.proofs.Common.{◌≡◌, ◌≤◌, ◌+◌, ℕ, List, [], ◌∷◌, length, take, drop, All, Result, Ok, Err, refl, subst, arith, length-drop, length-take-le}
 use Rattle.std.proofs.lemmas.List.Elements.{All-nil, All-cons, All-weaker}
-use Rattle.c_lexer.specs.Tokens.{first_place, behind, IsCut, answer_with, answer_of, HasTokens}
-use Rattle.c_lexer.specs.declared.place.Place.{Place}
-use Rattle.c_lexer.specs.declared.piece.PieceKind.{PieceKind}
-use Rattle.c_lexer.specs.declared.piece.PieceKind.TheVariants as kind
-use Rattle.c_lexer.specs.declared.piece.Piece.{Piece}
-use Rattle.c_lexer.specs.declared.token.Token.{Token}
-use Rattle.c_lexer.specs.declared.token.LexError.{LexError}
+use Rattle.c_lexer.specs.{Tokens.first_place, Tokens.behind, Tokens.IsCut, Tokens.answer_with, Tokens.answer_of, Tokens.HasTokens, declared.place.Place.Place, declared.piece.PieceKind.PieceKind}
+use Rattle.c_lexer.specs.{declared.piece.Piece.Piece, declared.token.Token.Token, declared.token.LexError.LexError}
 use Rattle.core_soundness.specs.Laws.{AreWithin}
+use Rattle.c_lexer.specs.declared.piece.PieceKind.TheVariants as kind
 
 abbrev Answer : Type 0
 Answer = Result (List Token) LexError

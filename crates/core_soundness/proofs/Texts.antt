@@ -3,40 +3,23 @@ use Rattle.std.proofs.Common.{◌≡◌, ◌⊎◌, ◌≤◌, ◌+◌, ℕ, Boo
 use Rattle.std.specs.Prelude.{nat_lt}
 use Rattle.std.proofs.lemmas.List.Sums.{sum_by-append}
 use Rattle.c_types.specs.Types.{PlainType}
-use Rattle.core_tree.specs.declared.statements.Atom.{Atom}
-use Rattle.core_tree.specs.declared.statements.StmKind.TheVariants.{Return}
-use Rattle.c_tree.specs.Forms as f
-use Rattle.c_tree.specs.Tree as t
-use Rattle.c_tree.specs.Tree.{Tree, Trees, At, Node, ◌▹◌}
-use Rattle.c_tree.specs.Scopes.{name_of}
+use Rattle.core_tree.specs.{declared.statements.Atom.Atom, declared.statements.StmKind.TheVariants.Return}
+use Rattle.c_tree.specs.{Tree.Tree, Tree.Trees, Tree.At, Tree.Node, Tree.◌▹◌, Scopes.name_of}
 use Rattle.c_decls.specs.declared.refusal.TypeKind.TheVariants.{Undeclared, DeclaredTwice, NoMain, LeftOut, ProgramTooLong}
-use Rattle.c_decls.specs.declared.built_in.BuiltIn.{BuiltIn}
-use Rattle.c_decls.specs.BuiltIns.{built_ins, numbered_from, first_scopes, name_of as name_of_built_in}
-use Rattle.c_decls.specs.Named as n
-use Rattle.c_decls.specs.ScopeList.{named_in}
-use Rattle.c_decls.specs.Refusals.{Checked, refused}
-use Rattle.c_decls.specs.Typed.{is_function}
-use Rattle.c_decls.specs.TypeNames.{with_layers}
+use Rattle.c_decls.specs.{declared.built_in.BuiltIn.BuiltIn, BuiltIns.built_ins, BuiltIns.numbered_from, BuiltIns.first_scopes, BuiltIns.name_of as name_of_built_in, ScopeList.named_in}
+use Rattle.c_decls.specs.{Refusals.Checked, Refusals.refused, Typed.is_function, TypeNames.with_layers}
 use Rattle.elaboration.specs.Context.{Piece, Does, Code, no_code, Declared, Walked, Context, first_context, emit}
-use Rattle.elaboration.specs.Addressed.{addressed_in}
-use Rattle.elaboration.specs.Declarators.{specs, layers}
-use Rattle.elaboration.specs.Declarations.{function_number, declared_function}
-use Rattle.elaboration.specs.Statements.{around_body, items}
+use Rattle.elaboration.specs.{Addressed.addressed_in, Declarators.specs, Declarators.layers, Declarations.function_number, Declarations.declared_function, Statements.around_body, Statements.items}
 use Rattle.elaboration.specs.Externals.{begun, define, params_of, is_defined, body_begun, last_answer, piece_length, body_ended, body, defined, named_definition, definition, external, externals, calls_defined, is_main, ended}
 use Rattle.elaboration.specs.Elaboration.{walked}
-use Rattle.core_soundness.proofs.Flow.{Marks, Targets, Placed, Flows, targets_append, targets_map, placed_left, flows_append}
-use Rattle.core_soundness.proofs.Fragments.{Fragment, stm_at}
-use Rattle.core_soundness.proofs.Names.{Safe, SafeTable}
-use Rattle.core_soundness.proofs.Growth.{Counted}
-use Rattle.core_soundness.proofs.Reached.{Led, led_ok, led_refused, led_after, led_unless}
-use Rattle.core_soundness.proofs.Passing.{Stays, Passes, passes_trans}
-use Rattle.core_soundness.proofs.Declaring.{passes_refl, specs_passes, layers_pass}
-use Rattle.core_soundness.proofs.Localizing.{declaration_declares}
-use Rattle.core_soundness.proofs.Owners.{Named, Strict, defined_named, defined_here, pushed_named, pushed_strict}
-use Rattle.core_soundness.proofs.Introducing.{introduced}
-use Rattle.core_soundness.proofs.Parts.{Part, part_trans}
-use Rattle.core_soundness.proofs.Walking.{Walks, passes_part}
-use Rattle.core_soundness.proofs.StatementWalks.{items_walk}
+use Rattle.core_soundness.proofs.{Flow.Marks, Flow.Targets, Flow.Placed, Flow.Flows, Flow.targets_append, Flow.targets_map, Flow.placed_left, Flow.flows_append, Fragments.Fragment, Fragments.stm_at}
+use Rattle.core_soundness.proofs.{Names.Safe, Names.SafeTable, Growth.Counted, Reached.Led, Reached.led_ok, Reached.led_refused, Reached.led_after, Reached.led_unless}
+use Rattle.core_soundness.proofs.{Passing.Stays, Passing.Passes, Passing.passes_trans, Declaring.passes_refl, Declaring.specs_passes, Declaring.layers_pass, Localizing.declaration_declares}
+use Rattle.core_soundness.proofs.{Owners.Named, Owners.Strict, Owners.defined_named, Owners.defined_here, Owners.pushed_named, Owners.pushed_strict, Introducing.introduced}
+use Rattle.core_soundness.proofs.{Parts.Part, Parts.part_trans, Walking.Walks, Walking.passes_part, StatementWalks.items_walk}
+use Rattle.c_tree.specs.Forms as f
+use Rattle.c_tree.specs.Tree as t
+use Rattle.c_decls.specs.Named as n
 
 -- a function whose code is whole: it ends in a return, its labels are placed, and control flows
 pub record Complete (pieces : List Piece) : Type 0 where

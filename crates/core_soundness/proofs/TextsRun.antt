@@ -1,55 +1,34 @@
 -- The functions of a text fit (C99 6.9).
 use Rattle.std.proofs.Common.{◌≡◌, ◌≤◌, ◌+◌, ◌&&◌, ◌||◌, ℕ, suc, Bool, true, false, not, cond, nat_lt, reverse, is_some, map, length, List, [], ◌∷◌, ◌++◌, slice_get, Option, Some, None, IsSome, Ok, refl, sym, ap, ◌∙◌, subst, inl, inr, ⊎_elim, arith, bytes_eq}
-use Rattle.std.specs.Option.{option_or}
+use Rattle.std.specs.{Option.option_or, List.sum_by}
 use Rattle.std.proofs.lemmas.Slice.Eq.{bytes_eq-Decides}
-use Rattle.c_types.specs.Types as types
 use Rattle.c_types.specs.Types.{PlainType, PlainTypes, Void, Int, Function, none}
-use Rattle.core_tree.specs.declared.program.Reg.{Reg as Register}
-use Rattle.core_tree.specs.declared.statements.StmKind.TheVariants.{Return}
-use Rattle.core_tree.specs.Sorts.{Sort, sort_of}
-use Rattle.c_tree.specs.Forms as f
-use Rattle.c_tree.specs.Tree as t
-use Rattle.c_tree.specs.Tree.{Tree, Trees, At, Node, ◌▹◌}
-use Rattle.c_tree.specs.Scopes.{name_of, params_of}
-use Rattle.c_decls.specs.declared.refusal.TypeKind.TheVariants.{DeclaredTwice, ProgramTooLong}
-use Rattle.c_decls.specs.Named as n
-use Rattle.c_decls.specs.Named.{PlainNamed}
-use Rattle.c_decls.specs.ScopeList.{Table, named_in, with_name}
-use Rattle.c_decls.specs.declared.built_in.BuiltIn.{BuiltIn}
-use Rattle.c_decls.specs.BuiltIns.{built_ins, numbered_from}
-use Rattle.c_decls.specs.Refusals.{then, unless}
-use Rattle.c_decls.specs.Typed.{same, is_array, is_record, is_function}
-use Rattle.c_decls.specs.TypeNames.{Layer, FunctionOf, with_layers}
-use Rattle.c_decls.specs.PlaceRules.{length_of}
+use Rattle.core_tree.specs.{declared.program.Reg.Reg as Register, declared.statements.StmKind.TheVariants.Return, Sorts.Sort, Sorts.sort_of}
+use Rattle.c_tree.specs.{Tree.Tree, Tree.Trees, Tree.At, Tree.Node, Tree.◌▹◌, Scopes.name_of, Scopes.params_of}
+use Rattle.c_decls.specs.{declared.refusal.TypeKind.TheVariants.DeclaredTwice, declared.refusal.TypeKind.TheVariants.ProgramTooLong, Named.PlainNamed}
+use Rattle.c_decls.specs.{ScopeList.Table, ScopeList.named_in, ScopeList.with_name, declared.built_in.BuiltIn.BuiltIn, BuiltIns.built_ins, BuiltIns.numbered_from, Refusals.then, Refusals.unless}
+use Rattle.c_decls.specs.{Typed.same, Typed.is_array, Typed.is_record, Typed.is_function, TypeNames.Layer, TypeNames.FunctionOf, TypeNames.with_layers, PlaceRules.length_of}
 use Rattle.c_decls.proofs.SameTypes.{same_equal}
-use Rattle.elaboration.specs.Context.{no_code, Declared, Context, Walked, entered, emit, first_context}
-use Rattle.elaboration.specs.Locals.{is_twice_in}
+use Rattle.elaboration.specs.{Context.no_code, Context.Declared, Context.Context, Context.Walked, Context.entered, Context.emit, Context.first_context, Locals.is_twice_in}
 use Rattle.elaboration.specs.Declarators.{specs, layers, suffix_layers, suffix_layer, params, left_params}
 use Rattle.elaboration.specs.Declarations.{function_number, function_number_of, with_function, declared_function, declaration}
 use Rattle.elaboration.specs.Statements.{around_body, items}
-use Rattle.std.specs.List.{sum_by}
 use Rattle.elaboration.specs.Externals.{piece_length, begun, is_defined, body_begun, last_answer, body_ended, body, defined, named_definition, definition, external, externals}
-use Rattle.core_soundness.specs.Worlds.{World, world, walked_world, FitsAnswer, PiecesFit, InnerFits, FileFits, TableFits, TablesFit, result_sort, param_sorts}
-use Rattle.core_soundness.specs.Spoken.{IsList, HasLists, HasParameters, IsDefinition}
-use Rattle.core_soundness.specs.Written.{Written, AllWritten, AreWritten}
 use Rattle.elaboration.specs.Addressed.{Taken, nothing_taken, params_taken, addressed_in}
-use Rattle.core_soundness.proofs.Grown.{good, ok_same, never}
-use Rattle.core_soundness.proofs.Names.{named_push}
-use Rattle.core_soundness.proofs.Owners.{get_push}
-use Rattle.core_soundness.proofs.Agreeing.{came}
-use Rattle.core_soundness.proofs.Growing.{Grew, pieces_grew}
-use Rattle.core_soundness.proofs.Going.{CodeFits}
-use Rattle.core_soundness.proofs.Operating.{passed, kept_test, behind_test}
-use Rattle.core_soundness.proofs.Landing.{not_false}
+use Rattle.core_soundness.specs.Worlds.{World, world, walked_world, FitsAnswer, PiecesFit, InnerFits, FileFits, TableFits, TablesFit, result_sort, param_sorts}
+use Rattle.core_soundness.specs.{Spoken.IsList, Spoken.HasLists, Spoken.HasParameters, Spoken.IsDefinition, Written.Written, Written.AllWritten, Written.AreWritten}
+use Rattle.core_soundness.proofs.{Grown.good, Grown.ok_same, Grown.never, Names.named_push, Owners.get_push, Agreeing.came, Growing.Grew, Growing.pieces_grew, Going.CodeFits}
+use Rattle.core_soundness.proofs.{Operating.passed, Operating.kept_test, Operating.behind_test, Landing.not_false}
 use Rattle.core_soundness.proofs.Running.{Fine, Runs, runs_refl, runs_trans, ParamsFit, entered_fine}
 use Rattle.core_soundness.proofs.LayersRun.{specs_run, layers_run, suffixes_run, suffix_runs, first_fits, params_run}
-use Rattle.core_soundness.proofs.LocalsRun.{file_declaration_runs, function_runs}
-use Rattle.core_soundness.proofs.StatementsRun.{Stands_in, items_run, return_fits}
-use Rattle.core_soundness.proofs.Formed.{Shaped, Formed, AllFormed, HasParams, AreFormed}
-use Rattle.core_soundness.proofs.Good.{Good, body_good}
-use Rattle.core_soundness.proofs.Counting.{specs_counts}
+use Rattle.core_soundness.proofs.{LocalsRun.file_declaration_runs, LocalsRun.function_runs, StatementsRun.Stands_in, StatementsRun.items_run, StatementsRun.return_fits}
+use Rattle.core_soundness.proofs.{Formed.Shaped, Formed.Formed, Formed.AllFormed, Formed.HasParams, Formed.AreFormed, Good.Good, Good.body_good, Counting.specs_counts}
 use Rattle.core_soundness.proofs.Beginning.{Begun, layers_start, body_step}
 use Rattle.core_soundness.proofs.Parameters.{sorts, functions, function_sorts, functions_joined, functions_reversed, functions_one, makes_function, specs_sorts, layers_added}
+use Rattle.c_types.specs.Types as types
+use Rattle.c_tree.specs.Forms as f
+use Rattle.c_tree.specs.Tree as t
+use Rattle.c_decls.specs.Named as n
 
 -- a function that was walked
 

@@ -1,33 +1,25 @@
 -- The types of expressions declare tags alone.
 use Rattle.std.proofs.Common.{ℕ, zero, length, List, [], ◌∷◌, Option, Some, None, Ok, subst}
+use Rattle.c_types.specs.{Types.PlainType, TagTable.TagTable}
+use Rattle.c_tree.specs.{declared.operator.RecordSort.RecordSort, Tree.Tree, Tree.Trees, Tree.Leaf, Tree.At, Tree.Node, Tree.none, Tree.◌▹◌, Scopes.name_of}
+use Rattle.c_decls.specs.{declared.refusal.TypeKind.TheVariants.DeclaredTwice, declared.refusal.TypeKind.TheVariants.LeftOut, declared.refusal.TypeKind.TheVariants.Incomplete, Refusals.Checked}
+use Rattle.c_decls.specs.{Named.PlainNamed, ScopeList.ScopeList, ScopeList.Table, ScopeList.found, ScopeList.with_name, ScopeList.tag_name}
+use Rattle.c_decls.specs.Typed.{PlainTyped, read, is_function, is_void}
+use Rattle.c_decls.specs.PlaceRules.{held_place, element, dot, arrow, stepped, size, cast, choice, assigned, changed, behind_comma}
+use Rattle.c_decls.specs.{TypeRules.address, TypeRules.unary, TypeRules.binary, Callees.named, Callees.called, Callees.call, Callees.no_function}
+use Rattle.c_decls.specs.TypeNames.{Context, record_type, same_sort, tag_named, enum_named, type_named, special_type, specs_type, array_length, with_layers, with_param_layers, adjusted, with_param, declared_param, with_new_tag}
+use Rattle.c_decls.specs.Expressions.{line_of, Found, answered, wanted, changing, one, two, joined, string, first_literal, callee, in_new_scope, typed, values, typename, layers, suffix_layers, suffix_layer, param_types, param_type}
+use Rattle.core_soundness.proofs.{Names.More, Names.MoreAll, Names.more_refl, Names.more_trans, Names.with_tag_more, Growth.Longer, Grown.ok_same, Grown.never}
+use Rattle.core_soundness.proofs.Reached.{Reached, reached_ok, reached_refused, reached_after, reached_then, reached_unless}
+use Rattle.core_soundness.proofs.TagSorts.{SortedScopes, scopes_longer, with_name_sorted, entered_sorted, left_sorted, push_longer, new_sorted}
 use Rattle.c_types.specs.Types as ct
-use Rattle.c_types.specs.Types.{PlainType}
-use Rattle.c_types.specs.TagTable.{TagTable}
-use Rattle.c_tree.specs.declared.operator.RecordSort.{RecordSort}
 use Rattle.c_tree.specs.declared.operator.RecordSort.TheVariants as r
 use Rattle.c_tree.specs.declared.operator.UnaryOp.TheVariants as u
 use Rattle.c_tree.specs.declared.operator.AssignOp.TheVariants as a
 use Rattle.c_tree.specs.Words as w
 use Rattle.c_tree.specs.Forms as f
-use Rattle.c_tree.specs.Tree.{Tree, Trees, Leaf, At, Node, none, ◌▹◌}
-use Rattle.c_tree.specs.Scopes.{name_of}
-use Rattle.c_decls.specs.declared.refusal.TypeKind.TheVariants.{DeclaredTwice, LeftOut, Incomplete}
-use Rattle.c_decls.specs.Refusals.{Checked}
 use Rattle.c_decls.specs.Named as n
-use Rattle.c_decls.specs.Named.{PlainNamed}
 use Rattle.c_decls.specs.ScopeList as scopes
-use Rattle.c_decls.specs.ScopeList.{ScopeList, Table, found, with_name, tag_name}
-use Rattle.c_decls.specs.Typed.{PlainTyped, read, is_function, is_void}
-use Rattle.c_decls.specs.PlaceRules.{held_place, element, dot, arrow, stepped, size, cast, choice, assigned, changed, behind_comma}
-use Rattle.c_decls.specs.TypeRules.{address, unary, binary}
-use Rattle.c_decls.specs.Callees.{named, called, call, no_function}
-use Rattle.c_decls.specs.TypeNames.{Context, record_type, same_sort, tag_named, enum_named, type_named, special_type, specs_type, array_length, with_layers, with_param_layers, adjusted, with_param, declared_param, with_new_tag}
-use Rattle.c_decls.specs.Expressions.{line_of, Found, answered, wanted, changing, one, two, joined, string, first_literal, callee, in_new_scope, typed, values, typename, layers, suffix_layers, suffix_layer, param_types, param_type}
-use Rattle.core_soundness.proofs.Names.{More, MoreAll, more_refl, more_trans, with_tag_more}
-use Rattle.core_soundness.proofs.Growth.{Longer}
-use Rattle.core_soundness.proofs.Grown.{ok_same, never}
-use Rattle.core_soundness.proofs.Reached.{Reached, reached_ok, reached_refused, reached_after, reached_then, reached_unless}
-use Rattle.core_soundness.proofs.TagSorts.{SortedScopes, scopes_longer, with_name_sorted, entered_sorted, left_sorted, push_longer, new_sorted}
 
 -- what is known behind has more tags than before
 abbrev pub After : Context → Context → Type 0

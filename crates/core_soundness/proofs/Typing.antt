@@ -1,38 +1,23 @@
 -- The functions of a core are typed.
 use Rattle.std.proofs.Common.{◌≡◌, ◌≤◌, ◌<◌, ℕ, zero, suc, Bool, true, false, cond, is_some, not, codes, map, length, replicate, take, List, [], ◌∷◌, ◌++◌, slice_get, unwrap_or, Option, Some, None, option_map, Ok, refl, sym, ap, ◌∙◌, subst, arith, length-append}
 use Rattle.std.proofs.lemmas.List.{length-map}
-use Rattle.c_types.specs.Types as types
-use Rattle.c_types.specs.Types.{PlainType, PlainTypes, Function}
-use Rattle.c_types.specs.TagTable.{TagTable}
-use Rattle.core_tree.specs.declared.program.Core.{Core}
-use Rattle.core_tree.specs.declared.program.Func.{Func}
-use Rattle.core_tree.specs.declared.program.Reg.{Reg as Register}
-use Rattle.core_tree.specs.declared.statements.Atom.{Atom}
-use Rattle.core_tree.specs.declared.statements.Stm.{Stm}
-use Rattle.core_tree.specs.declared.statements.StmKind.{StmKind}
-use Rattle.core_tree.specs.declared.statements.StmKind.TheVariants.{Call}
+use Rattle.c_types.specs.{Types.PlainType, Types.PlainTypes, Types.Function, TagTable.TagTable}
+use Rattle.core_tree.specs.{declared.program.Core.Core, declared.program.Func.Func, declared.program.Reg.Reg as Register, declared.statements.Atom.Atom, declared.statements.Stm.Stm}
+use Rattle.core_tree.specs.{declared.statements.StmKind.StmKind, declared.statements.StmKind.TheVariants.Call}
 use Rattle.core_tree.specs.Sorts.{Sort, sort_of, register_sort, GivesResult, TakesCall, HasRegister}
 use Rattle.core_tree.specs.Sound.{EachFunc, EachReturn, answer_sort, GivesAnswer}
 use Rattle.c_tree.specs.Tree.{Trees}
-use Rattle.c_decls.specs.Named as n
-use Rattle.c_decls.specs.ScopeList.{named_in}
-use Rattle.c_decls.specs.declared.refusal.TypeKind.TheVariants.{Undeclared, NoMain}
-use Rattle.c_decls.specs.PlaceRules.{length_of}
+use Rattle.c_decls.specs.{ScopeList.named_in, declared.refusal.TypeKind.TheVariants.Undeclared, declared.refusal.TypeKind.TheVariants.NoMain, PlaceRules.length_of}
 use Rattle.elaboration.specs.Context.{Piece, Does, Here, Context, Declared, Walked, first_context}
 use Rattle.elaboration.specs.Externals.{externals, is_defined, is_main, calls_defined}
 use Rattle.elaboration.specs.Resolving.{atoms_by, numbered, body_of, temporary, pointer_register, numbers_of, function_of, core_of, definition_of, function_by}
 use Rattle.elaboration.specs.Elaboration.{walked, elaborated}
-use Rattle.core_soundness.specs.Worlds.{walked_world, IsCall, result_sort, param_sorts, PiecesFit}
-use Rattle.core_soundness.specs.Written.{AreWritten}
-use Rattle.core_soundness.proofs.Formed.{AreFormed}
-use Rattle.core_soundness.specs.Laws.{HasTypes}
-use Rattle.core_soundness.proofs.Grown.{good, bad, ok_same, never}
-use Rattle.core_soundness.proofs.Agreeing.{came}
-use Rattle.core_soundness.proofs.Operating.{passed}
-use Rattle.core_soundness.proofs.Cores.{behind}
-use Rattle.core_soundness.proofs.Texts.{Sane, walked_sane}
+use Rattle.core_soundness.specs.{Worlds.walked_world, Worlds.IsCall, Worlds.result_sort, Worlds.param_sorts, Worlds.PiecesFit, Written.AreWritten, Laws.HasTypes}
+use Rattle.core_soundness.proofs.{Formed.AreFormed, Grown.good, Grown.bad, Grown.ok_same, Grown.never, Agreeing.came, Operating.passed, Cores.behind, Texts.Sane, Texts.walked_sane}
 use Rattle.core_soundness.proofs.TextsRun.{WalkedFits, Between, externals_between, first_between}
 use Rattle.core_soundness.proofs.Resolved.{result_resolves, all_resolve, statements_resolve, returns_resolve}
+use Rattle.c_types.specs.Types as types
+use Rattle.c_decls.specs.Named as n
 
 -- calls of functions that are defined
 

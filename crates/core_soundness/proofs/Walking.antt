@@ -1,31 +1,21 @@
 -- What statements do to what is known: their code, and the labels of a switch among them.
 use Rattle.std.proofs.Common.{◌≡◌, ◌⊎◌, ◌≤◌, ◌<◌, ◌+◌, ℕ, zero, suc, ℤ, Bool, false, not, List, [], ◌∷◌, ◌++◌, length, take, drop, Option, Some, None, refl, sym, ap, ap₂, ◌∙◌, subst, arith, inl, inr, ⊎_elim, append_assoc, append-nil}
-use Rattle.c_types.specs.declared.types.IntType.{IntType}
-use Rattle.c_types.specs.Types.{PlainType, Void}
-use Rattle.core_tree.specs.declared.statements.Atom.{Atom}
-use Rattle.core_tree.specs.declared.statements.StmKind.{StmKind}
+use Rattle.c_types.specs.{declared.types.IntType.IntType, Types.PlainType, Types.Void}
+use Rattle.core_tree.specs.{declared.statements.Atom.Atom, declared.statements.StmKind.StmKind}
 use Rattle.core_tree.specs.declared.statements.StmKind.TheVariants.{Zero, Leave, Return}
 use Rattle.c_tree.specs.Tree.{Tree, Trees, none, ◌▹◌}
-use Rattle.c_decls.specs.declared.refusal.TypeKind.TheVariants.{Operands, Assignment}
-use Rattle.c_decls.specs.IntegerTypes.{promoted}
-use Rattle.c_decls.specs.Typed.{Operand, Number, operand, is_void, is_scalar}
-use Rattle.c_decls.specs.PlaceRules.{unconverted}
-use Rattle.c_decls.specs.Expressions.{line_of}
+use Rattle.c_decls.specs.{declared.refusal.TypeKind.TheVariants.Operands, declared.refusal.TypeKind.TheVariants.Assignment, IntegerTypes.promoted}
+use Rattle.c_decls.specs.{Typed.Operand, Typed.Number, Typed.operand, Typed.is_void, Typed.is_scalar, PlaceRules.unconverted, Expressions.line_of}
 use Rattle.elaboration.specs.Context.{Piece, Does, Code, Context, Running, entered, left, emit}
 use Rattle.elaboration.specs.Conversions.{Found, atom_in, valued, convert, convert_integer, code_line, tested_value}
-use Rattle.elaboration.specs.Reallocates.{opened, closed}
-use Rattle.elaboration.specs.Expressions.{found}
+use Rattle.elaboration.specs.{Reallocates.opened, Reallocates.closed, Expressions.found}
 use Rattle.elaboration.specs.Statements.{Around, below, in_loop, in_switch, in_delay, leaves, evaluated, maybe_evaluated, condition, leaves_if_zero, maybe_leaves, returned, return_of, return_from, switch_operand_of, switch_operand}
 use Rattle.core_soundness.proofs.Flow.{Marks, Target, Goes}
 use Rattle.core_soundness.proofs.Fragments.{Way, way_on, IsWay, Leads, AreEarlier, earlier_less, anywhere, joined, zero_leaves, stm_at}
-use Rattle.core_soundness.proofs.Names.{Safe, left_safe}
-use Rattle.core_soundness.proofs.Growth.{Grows, grows_refl, grows_trans}
+use Rattle.core_soundness.proofs.{Names.Safe, Names.left_safe, Growth.Grows, Growth.grows_refl, Growth.grows_trans}
 use Rattle.core_soundness.proofs.Reached.{Reached, reached_ok, reached_refused, reached_after, reached_unless, Led, led_ok, led_after, led_unless, led_barred}
-use Rattle.core_soundness.proofs.Working.{grown_valued, grows_convert, grows_convert_integer, grows_tested}
-use Rattle.core_soundness.proofs.ExprGrows.{found_grows}
-use Rattle.core_soundness.proofs.Owners.{tied_refl}
-use Rattle.core_soundness.proofs.Passing.{Stays, Passes, stays_trans, grows_passes, grows_closed, stays_beside}
-use Rattle.core_soundness.proofs.Declaring.{passes_refl, tail_depth}
+use Rattle.core_soundness.proofs.{Working.grown_valued, Working.grows_convert, Working.grows_convert_integer, Working.grows_tested, ExprGrows.found_grows, Owners.tied_refl}
+use Rattle.core_soundness.proofs.{Passing.Stays, Passing.Passes, Passing.stays_trans, Passing.grows_passes, Passing.grows_closed, Passing.stays_beside, Declaring.passes_refl, Declaring.tail_depth}
 use Rattle.core_soundness.proofs.Parts.{Part, part_trans, part_ways, leave_pieces, out_fragment}
 
 -- where `break` and `continue` lead

@@ -3,19 +3,14 @@ use Rattle.std.proofs.Common.{◌≡◌, ◌≤◌, ◌<◌, ◌+◌, ◌*◌, �
 use Rattle.std.proofs.lemmas.List.Elements.{All-tail}
 use Rattle.core_tree.specs.Sound.{IsShort}
 use Rattle.c_lexer.specs.declared.token.Token.{Token}
-use Rattle.c_tree.specs.Words as w
-use Rattle.c_tree.specs.Words.{Word}
-use Rattle.c_tree.specs.Forms as f
-use Rattle.c_tree.specs.Places as p
-use Rattle.c_tree.specs.Places.{Place}
-use Rattle.c_tree.specs.Tree.{Tree, Trees, Leaf, At, Node, none, ◌▹◌, count}
+use Rattle.c_tree.specs.{Words.Word, Places.Place, Tree.Tree, Tree.Trees, Tree.Leaf, Tree.At, Tree.Node, Tree.none, Tree.◌▹◌, Tree.count}
 use Rattle.c_tree.specs.Grammar.{Item, Says, Here, Part, shape, rows}
 use Rattle.c_tree.specs.Spelling.{Piece, Said, Line, filled, spell, spell_all, IsWord, Spells}
-use Rattle.c_tree.specs.Scopes.{Scope, places, first_scope}
-use Rattle.c_tree.specs.Allowed.{Allowed, AllAllowed, IsExternal, AreExternals}
-use Rattle.c_tree.specs.HasTree.{HasTree}
-use Rattle.core_soundness.proofs.ShortNames.{ShortWord, Short, AllShort}
-use Rattle.core_soundness.proofs.Weights.{said, weight, weights}
+use Rattle.c_tree.specs.{Scopes.Scope, Scopes.places, Scopes.first_scope, Allowed.Allowed, Allowed.AllAllowed, Allowed.IsExternal, Allowed.AreExternals, HasTree.HasTree}
+use Rattle.core_soundness.proofs.{ShortNames.ShortWord, ShortNames.Short, ShortNames.AllShort, Weights.said, Weights.weight, Weights.weights}
+use Rattle.c_tree.specs.Words as w
+use Rattle.c_tree.specs.Forms as f
+use Rattle.c_tree.specs.Places as p
 
 -- the words of a spelling
 abbrev told : List Piece → ℕ

@@ -1,7 +1,6 @@
 -- How much trees weigh: six for each of their words.
 use Rattle.std.proofs.Common.{◌≡◌, ◌≤◌, ◌+◌, ◌*◌, ℕ, zero, suc, List, [], ◌∷◌, refl, arith}
-use Rattle.c_tree.specs.Places.{Place}
-use Rattle.c_tree.specs.Grammar.{Item, Says, Here, Part, shape, commas, behind_commas}
+use Rattle.c_tree.specs.{Places.Place, Grammar.Item, Grammar.Says, Grammar.Here, Grammar.Part, Grammar.shape, Grammar.commas, Grammar.behind_commas}
 use Rattle.c_tree.specs.Tree.{Tree, Trees, Leaf, At, Node, none, ◌▹◌, count}
 
 abbrev pub said : List Item → ℕ

@@ -1,23 +1,18 @@
 -- Types that are whole stay so, and have sizes from 1 to that of the largest object.
 use Rattle.std.proofs.Common.{◌≡◌, ◌≤◌, ◌*◌, ◌==◌, ℕ, zero, suc, Bool, true, false, cond, is_some, List, [], ◌∷◌, ◌++◌, map, fold, zip, Option, Some, None, IsSome, IfSome, option_map, unwrap_or, refl, sym, ap, ◌∙◌, subst, arith}
-use Rattle.std.specs.Option.{option_or}
-use Rattle.std.specs.List.{find}
+use Rattle.std.specs.{Option.option_or, List.find}
 use Rattle.std.proofs.lemmas.List.Sums.{fold_push}
-use Rattle.c_types.specs.declared.layouts.Layout.{Layout}
-use Rattle.c_types.specs.declared.types.IntType.{IntType}
-use Rattle.c_types.specs.declared.types.IntType.TheVariants as i
+use Rattle.c_types.specs.{declared.layouts.Layout.Layout, declared.types.IntType.IntType}
 use Rattle.c_types.specs.Types.{PlainType, PlainTypes, Int, Pointer, Array, Struct, Union, Function, none, first, width_of}
 use Rattle.c_types.specs.Layouts.{Known, ArraysFit, Placed, none_placed, place, placed, layout_of, number_layout, pointer_layout, no_layout, members_layout}
 use Rattle.c_types.specs.TagTable.{CompletedTag, TagTable, PlainMember, learn, known, tag_layout, member_layout, placed_members, members_in}
-use Rattle.c_types.proofs.MemberLemmas.{Extends, some_array, layout_stays}
-use Rattle.c_types.proofs.Places.{stays_known}
-use Rattle.c_types.proofs.Sound.{rounded_le}
+use Rattle.c_types.proofs.{MemberLemmas.Extends, MemberLemmas.some_array, MemberLemmas.layout_stays, Places.stays_known, Sound.rounded_le}
 use Rattle.core_tree.specs.LayoutsOfTypes.{IsCompleted, AreCompleted, IsLayoutOfType}
 use Rattle.core_tree.proofs.TypeLayouts.{type_layout_small}
-use Rattle.c_decls.specs.Named as n
-use Rattle.c_decls.specs.Named.{PlainNamed}
-use Rattle.c_decls.specs.ScopeList.{ScopeList, Table}
+use Rattle.c_decls.specs.{Named.PlainNamed, ScopeList.ScopeList, ScopeList.Table}
 use Rattle.core_soundness.specs.Whole.{IsRow, Whole, AllWhole, MembersWhole, AreMade, NamedWhole, TableWhole, TablesWhole, NamesWhole}
+use Rattle.c_types.specs.declared.types.IntType.TheVariants as i
+use Rattle.c_decls.specs.Named as n
 
 abbrev pub nothing : Known
 nothing = λ tag. None

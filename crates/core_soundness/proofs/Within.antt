@@ -1,24 +1,15 @@
 -- What initializers are for lies inside an object.
 use Rattle.std.proofs.Common.{◌≡◌, ◌≤◌, ◌+◌, ◌*◌, ◌==◌, ℕ, pos, zero, suc, Bool, true, false, cond, take, List, [], ◌∷◌, ◌++◌, map, fold, zip, Option, Some, None, option_map, unwrap_or, refl, sym, ap, ◌∙◌, subst, arith, append_assoc}
-use Rattle.std.specs.Option.{option_or}
-use Rattle.std.specs.List.{find}
+use Rattle.std.specs.{Option.option_or, List.find}
 use Rattle.std.proofs.lemmas.Bool.{eqb-true}
-use Rattle.c_types.specs.declared.layouts.Layout.{Layout}
-use Rattle.c_types.specs.Types.{PlainType, Array, Struct, Union}
+use Rattle.c_types.specs.{declared.layouts.Layout.Layout, Types.PlainType, Types.Array, Types.Struct, Types.Union}
 use Rattle.c_types.specs.Layouts.{Known, Placed, none_placed, offset_after, place, placed, layout_of, no_layout}
 use Rattle.c_types.specs.TagTable.{CompletedTag, PlainMember, learn, tag_layout, member_layout, placed_members, members_in}
-use Rattle.c_types.proofs.MemberLemmas.{Extends, layout_stays, some_array}
-use Rattle.c_types.proofs.Places.{stays_known}
-use Rattle.c_types.proofs.Sound.{rounded_le}
+use Rattle.c_types.proofs.{MemberLemmas.Extends, MemberLemmas.layout_stays, MemberLemmas.some_array, Places.stays_known, Sound.rounded_le}
 use Rattle.core_tree.specs.Sound.{IsNumber}
-use Rattle.elaboration.specs.Context.{Context}
-use Rattle.elaboration.specs.Conversions.{size_or_zero}
-use Rattle.elaboration.specs.Initializers.{elements, struct_parts, parts_of}
-use Rattle.core_soundness.specs.Whole.{Whole, AreMade, MembersWhole}
-use Rattle.core_soundness.proofs.WholeTypes.{nothing, whole_stays, members_stay, learn_extends, made_sized}
-use Rattle.core_soundness.proofs.Ranges.{small_number}
-use Rattle.core_soundness.proofs.Ranged.{members_same}
-use Rattle.core_soundness.specs.Solid.{Solid}
+use Rattle.elaboration.specs.{Context.Context, Conversions.size_or_zero, Initializers.elements, Initializers.struct_parts, Initializers.parts_of}
+use Rattle.core_soundness.specs.{Whole.Whole, Whole.AreMade, Whole.MembersWhole, Solid.Solid}
+use Rattle.core_soundness.proofs.{WholeTypes.nothing, WholeTypes.whole_stays, WholeTypes.members_stay, WholeTypes.learn_extends, WholeTypes.made_sized, Ranges.small_number, Ranged.members_same}
 use Rattle.core_soundness.proofs.Solid.{K}
 
 abbrev pub Within : Known → PlainType → ℕ → Type 0

@@ -1,25 +1,20 @@
 -- What conversions and operators do to what is known.
 use Rattle.std.proofs.Common.{◌≡◌, ℕ, pos, refl}
-use Rattle.c_types.specs.declared.types.IntType.{IntType}
-use Rattle.c_types.specs.Types.{PlainType, Int, Pointer, kind_of}
+use Rattle.c_types.specs.{declared.types.IntType.IntType, Types.PlainType, Types.Int, Types.Pointer, Types.kind_of}
 use Rattle.core_tree.specs.declared.statements.Atom.{Atom}
-use Rattle.core_tree.specs.declared.statements.Atom.TheVariants as atom
-use Rattle.core_tree.specs.declared.statements.UnOp.TheVariants as un
 use Rattle.core_tree.specs.declared.statements.StmKind.TheVariants.{Set, Conv, Load, Loadp, Store, Storep, Test, Un, Bin, Cmp, Add, Sub, Off, Diff, Pcmp}
-use Rattle.c_tree.specs.declared.operator.BinaryOp.{BinaryOp}
-use Rattle.c_tree.specs.declared.operator.BinaryOp.TheVariants as b
-use Rattle.c_tree.specs.declared.operator.UnaryOp.{UnaryOp}
-use Rattle.c_tree.specs.declared.operator.UnaryOp.TheVariants as u
-use Rattle.c_tree.specs.Tree.{Tree}
-use Rattle.c_decls.specs.IntegerTypes.{promoted, common_type}
-use Rattle.c_decls.specs.Expressions.{line_of}
-use Rattle.c_decls.specs.Typed.{PlainTyped, Operand, Number, PointerTo, operand, read}
+use Rattle.c_tree.specs.{declared.operator.BinaryOp.BinaryOp, declared.operator.UnaryOp.UnaryOp, Tree.Tree}
+use Rattle.c_decls.specs.{IntegerTypes.promoted, IntegerTypes.common_type, Expressions.line_of, Typed.PlainTyped, Typed.Operand, Typed.Number, Typed.PointerTo, Typed.operand, Typed.read}
 use Rattle.c_decls.specs.TypeRules.{result_type}
 use Rattle.elaboration.specs.Context.{Context, With}
 use Rattle.elaboration.specs.Conversions.{Found, Spot, Local, Memory, read_spot, code_line, valued_from, valued, atom_in, holds_all, convert_integer, convert_to, convert, tested, write, size_or_zero}
 use Rattle.elaboration.specs.Operations.{working, Working, Calculates, Shifts, Compares, Branches, convert_both, work, on_integers, before_integer, move_pointer, between_pointers, pointer_beside, beside_integer, combine, combined, change, changed_to, member_address}
 use Rattle.core_soundness.proofs.Growth.{Grows, grows_refl, grows_trans, grows_emit, grows_integer, grows_pointer, grows_forgotten}
 use Rattle.core_soundness.proofs.Grown.{Grown, grown_ok, grown_after, grown_then, grows_cond}
+use Rattle.core_tree.specs.declared.statements.Atom.TheVariants as atom
+use Rattle.core_tree.specs.declared.statements.UnOp.TheVariants as un
+use Rattle.c_tree.specs.declared.operator.BinaryOp.TheVariants as b
+use Rattle.c_tree.specs.declared.operator.UnaryOp.TheVariants as u
 
 pub grows_read : (line : ℕ) (type : PlainType) (spot : Spot) (c : Context) → Grows c (read_spot line type spot c).0
 unfolding read_spot
