@@ -3,14 +3,14 @@ use Rattle.std.proofs.Common.{◌≡◌, ℕ, ◌+◌, Bool, true, false, cond, 
 use Rattle.std.proofs.lemmas.Bool.{ltb-false}
 use Rattle.c_types.specs.{Types.PlainType, Types.Int, TagTable.TagTable}
 use Rattle.c_tree.specs.Tree.{Tree, Trees}
-use Rattle.c_decls.specs.{declared.refusal.TypeKind.TheVariants.DeclaredTwice, Named.PlainNamed}
+use Rattle.c_decls.specs.{Named.PlainNamed}
 use Rattle.c_decls.specs.ScopeList.{ScopeList, Table, named_in, innermost, with_name, tag_name, after_declaration}
 use Rattle.elaboration.specs.Context.{Context, Running, told, entered}
-use Rattle.elaboration.specs.Locals.{is_twice, declared_as, counted, with_named, prototype_param, function_param, is_prototype, with_param}
+use Rattle.elaboration.specs.Locals.{counted, with_named, prototype_param, function_param, is_prototype, with_param}
 use Rattle.elaboration.specs.Declarators.{left_params, specs, layers, params}
 use Rattle.core_soundness.proofs.{Names.More, Names.MoreTags, Names.MoreAll, Names.tags_refl, Names.tags_trans, Names.all_refl, Names.all_trans, Owners.more_depth, Owners.with_name_depth}
 use Rattle.core_soundness.proofs.{ShortNames.Any, ShortNames.any_names, ShortNames.all_any, LayersWalk.Steps, LayersWalk.specs_keep, LayersWalk.layers_keep, LayersWalk.params_keep}
-use Rattle.core_soundness.proofs.{Reached.Reached, Reached.Led, Reached.led_ok, Reached.led_unless, Declaring.tail_depth, Running.tail_more}
+use Rattle.core_soundness.proofs.{Reached.Reached, Declaring.tail_depth, Running.tail_more}
 use Rattle.c_types.specs.declared.types.IntType.TheVariants as i
 use Rattle.c_decls.specs.Named as n
 use Rattle.c_decls.specs.ScopeList as scopes
@@ -75,11 +75,6 @@ after_aside name v c deep = by (is_some (named_in name (innermost c.scopes)))
     by : (t : Bool) → Aside c (record c { scopes = cond t c.scopes (with_name c.scopes name v) })
     by true = aside_refl c
     by false = name_aside name v c deep
-
-declared_aside : (line : ℕ) (name : List ℕ) (v : PlainNamed) (b : Context) → 1 ≤ length b.scopes.inner → (c : Context) → Aside b c → Led (Aside b) (declared_as line name v c)
-declared_aside line name v b deep c p =
-    led_unless (Aside b) (is_twice c.scopes name v) DeclaredTwice line
-    (λ q. led_ok (Aside b) (aside_trans b c _ p (after_aside name v c (omega (arith, deep, p.depth)))))
 
 -- constants, specs and declarators
 
