@@ -13,7 +13,7 @@ returns-then-addr-self-clause-owner g c = λ held holds.
 
 pub returns-then-place-len-clause-owner : goal.returns-then-place-len-clause-owner
 returns-then-place-len-clause-owner g c = λ held holds.
-    let heap : HeapModel = record { base = c.self.inside.base; len = c.self.inside.len; marks = c.self.inside.marks.items } in
+    let heap : HeapModel = record { base = c.self.inside.base; len = c.self.inside.len; marks = c.self.inside.marks } in
     let same : heap ≡ c.args.self.now = c.self.view_is in
     let off = c.args.addr - c.self.inside.base in
     let past : length heap.marks ≤ off / 16 = omega (arith, c.len.ensures) in
@@ -22,7 +22,7 @@ returns-then-place-len-clause-owner g c = λ held holds.
 
 pub returns-in-Of-clause-owner : goal.returns-in-Of-clause-owner
 returns-in-Of-clause-owner g c = λ held holds.
-    let heap : HeapModel = record { base = c.self.inside.base; len = c.self.inside.len; marks = c.self.inside.marks.items } in
+    let heap : HeapModel = record { base = c.self.inside.base; len = c.self.inside.len; marks = c.self.inside.marks } in
     let same : heap ≡ c.args.self.now = c.self.view_is in
     let off = c.args.addr - c.self.inside.base in
     let below : off / 16 < length heap.marks = omega (arith, c.len.ensures) in
@@ -33,7 +33,7 @@ returns-in-Of-clause-owner g c = λ held holds.
 
 pub returns-in-Free-clause-owner : goal.returns-in-Free-clause-owner
 returns-in-Free-clause-owner g c = λ held holds.
-    let heap : HeapModel = record { base = c.self.inside.base; len = c.self.inside.len; marks = c.self.inside.marks.items } in
+    let heap : HeapModel = record { base = c.self.inside.base; len = c.self.inside.len; marks = c.self.inside.marks } in
     let same : heap ≡ c.args.self.now = c.self.view_is in
     let off = c.args.addr - c.self.inside.base in
     let below : off / 16 < length heap.marks = omega (arith, c.len.ensures) in
