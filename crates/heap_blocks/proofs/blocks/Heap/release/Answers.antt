@@ -1,4 +1,4 @@
-use Rattle.std.proofs.Common.{◌≡◌, ◌+◌, ◌-◌, ◌/◌, ℕ, List, ◌∙◌, sym, ap, subst}
+use Rattle.std.proofs.Common.{◌≡◌, ◌+◌, ◌-◌, ◌/◌, ℕ, List, refl, sym, ap, subst}
 use Rattle.hs_base.specs.Place.{without_block}
 use Rattle.heap_blocks.specs.declared.marks.Mark.{Mark}
 use Rattle.heap_blocks.specs.declared.marks.Mark.TheVariants.{Free}
