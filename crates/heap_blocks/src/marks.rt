@@ -19,6 +19,8 @@ pub fn fill_marks(marks: &mut Items<Mark>, from: usize, count: usize, mark: Mark
     requires { from + count ≤ length marks.old }
     ensures { Filled marks.old marks.new from count mark }
 {
+    // The marks are so many that a number of 64 bits counts them.
+    let _all = marks.len();
     for place in from..from + count {
         marks.set(place, mark);
     }
