@@ -13,6 +13,7 @@ use hs_base::{Pointer, Steps};
 use std::sync::ledger::Ledger;
 
 /// One more for the granule of an address. Null is in none.
+#[inline(always)]
 fn count<L: Ledger>(counts: &mut Counts, addr: u32, steps: &mut Steps<L>)
     requires granule { addr / 16 < length counts.old.counts }
     requires room { sum counts.old.counts < counts.old.most }
@@ -25,6 +26,7 @@ fn count<L: Ledger>(counts: &mut Counts, addr: u32, steps: &mut Steps<L>)
 }
 
 /// One less for the granule of an address. Null is in none.
+#[inline(always)]
 fn uncount<L: Ledger>(counts: &mut Counts, addr: u32, steps: &mut Steps<L>)
     requires granule { addr / 16 < length counts.old.counts }
     requires some { 0 < addr → 0 < slice_index counts.old.counts (addr / 16) }
@@ -39,6 +41,7 @@ fn uncount<L: Ledger>(counts: &mut Counts, addr: u32, steps: &mut Steps<L>)
 impl FlatObjects {
     /// Writes an address over that in a slot: the one that stood there counts no longer, and the new one does. At most four
     /// steps.
+    #[inline(always)]
     pub(crate) fn put_pointer<L: Ledger>(&mut self, slot: u32, target: u32, steps: &mut Steps<L>)
         requires inside { slot + 4 ≤ length self.old.bytes }
         requires goes_from { word self.old.bytes slot 4 / 16 < length self.old.counts.counts }
@@ -55,6 +58,7 @@ impl FlatObjects {
     }
 
     /// Counts a pointer that stands outside of all objects, by its address. Null counts nowhere. At most one step.
+    #[inline(always)]
     pub fn pin<L: Ledger>(&mut self, addr: u32, steps: &mut Steps<L>)
         requires { IsPinnable self.old addr }
         ensures keeps { (places : ℕ → ℕ) (objects : List Object) → Keeps self.old places objects → Keeps self.new places objects }
@@ -66,6 +70,7 @@ impl FlatObjects {
     }
 
     /// Counts a pinned pointer no longer, by its address. At most one step.
+    #[inline(always)]
     pub fn unpin<L: Ledger>(&mut self, addr: u32, steps: &mut Steps<L>)
         requires { IsUnpinnable self.old addr }
         ensures keeps { (places : ℕ → ℕ) (objects : List Object) → Keeps self.old places objects → Keeps self.new places objects }

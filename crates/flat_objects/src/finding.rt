@@ -25,6 +25,7 @@ pub(crate) struct Found {
 
 impl FlatObjects {
     /// The start of the object whose block holds the byte at an address of a range. The answer is that of one of the ranges.
+    #[inline(always)]
     pub(crate) fn owner<L: Ledger>(&self, addr: u32, steps: &mut Steps<L>) -> Option<u32>
         ensures owner { (range : Range) (held : List Block) → (heap_of self.now range).base ≤ addr → addr < end_of (heap_of self.now range) → Holds (heap_of self.now range) held → result ≡ owner_of (heap_of self.now range) held addr }
         ensures from { (held : Range → List Block) → ((range : Range) → Holds (heap_of self.now range) (held range)) → (range : Range) × (result ≡ owner_of (heap_of self.now range) (held range) addr) }
@@ -40,6 +41,7 @@ impl FlatObjects {
     }
 
     /// The object of an address that is not null, and its offset in it. At most eleven steps.
+    #[inline(always)]
     pub(crate) fn find<L: Ledger>(&self, addr: u32, steps: &mut Steps<L>) -> Found
         requires kept { IsKept self.now addr }
         requires some { 0 < addr }

@@ -179,6 +179,7 @@ impl Heap {
 
     /// The address of the object whose block holds the byte at an address, if one does. It reads one mark, and no byte.
     /// At most four steps.
+    #[inline(always)]
     pub fn owner<L: Ledger>(
         &self,
         bytes: &FlatBytes,

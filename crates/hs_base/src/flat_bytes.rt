@@ -81,7 +81,7 @@ impl FlatBytes {
     }
 
     /// The number at an address, of a width of 1, 2, 4 or 8 bytes, the lowest byte first. One step.
-    #[inline]
+    #[inline(always)]
     pub fn read<L: Ledger>(&self, addr: u32, width: u32, steps: &mut Steps<L>) -> u64
         requires width { (width ≡ 1) ⊎ ((width ≡ 2) ⊎ ((width ≡ 4) ⊎ (width ≡ 8))) }
         requires inside { addr + width ≤ length self.now }
@@ -95,7 +95,7 @@ impl FlatBytes {
 
     /// Writes a number at an address, of a width of 1, 2, 4 or 8 bytes, the lowest byte first. All other bytes stay. One
     /// step.
-    #[inline]
+    #[inline(always)]
     pub fn write<L: Ledger>(&mut self, addr: u32, width: u32, value: u64, steps: &mut Steps<L>)
         requires width { (width ≡ 1) ⊎ ((width ≡ 2) ⊎ ((width ≡ 4) ⊎ (width ≡ 8))) }
         requires inside { addr + width ≤ length self.old }

@@ -1,6 +1,6 @@
 //! Integer arithmetic of each kind: the operands are converted to the kind first and the result last (C99 6.3.1.3).
 //! A value may come in as any number.
-ghost use Rattle.std.specs.Prelude.{◌≡◌, ◌≤◌, ◌<◌, ◌^◌, ◌↔◌, IsTrue, IfSome};
+ghost use Rattle.std.specs.Prelude.{◌≡◌, ◌*◌, ◌≤◌, ◌<◌, ◌^◌, ◌↔◌, IsTrue, IfSome};
 ghost use Rattle.hs_base.specs.Numbers.{is_signed, width, wrapped, low_bits};
 ghost use Rattle.hs_base.specs.Arithmetic.{IsInRange, and_of, complement_of, difference_of, greatest, least, left_shift_of, negation_of, or_of, places_of, product_of, quotient_of, remainder_of, right_shift_of, sum_of, width_in_bits, xor_of};
 
@@ -8,6 +8,7 @@ use crate::IntKind;
 
 impl IntKind {
     /// The width in bytes (C99 5.2.4.2.1).
+    #[inline(always)]
     pub fn bytes(self) -> u32
         ensures { result ≡ width self }
     {
@@ -20,6 +21,7 @@ impl IntKind {
     }
 
     /// The width in bits.
+    #[inline(always)]
     pub fn bits(self) -> u32
         ensures value { result ≡ width_in_bits self }
         ensures bound { result ≤ 64 }
@@ -67,6 +69,7 @@ impl IntKind {
     }
 
     /// The number converted to the kind: its low bits, read as the kind reads them (C99 6.3.1.3).
+    #[inline(always)]
     pub fn wrap(self, n: i128) -> i128
         ensures value { result ≡ wrapped self n }
         ensures in_range { IsInRange self result }
@@ -79,6 +82,15 @@ impl IntKind {
             IntKind::I64 => low.cast_signed() as i128,
             IntKind::U8 | IntKind::U16 | IntKind::U32 | IntKind::U64 => low as i128,
         }
+    }
+
+    /// The low bits of a number, as many as the kind has.
+    #[inline(always)]
+    pub fn low_bits(self, n: i128) -> u64
+        ensures value { result ≡ low_bits (8 * width self) n }
+        ensures bound { result < 2 ^ (8 * width self) }
+    {
+        lowest_bits(n, self.bits())
     }
 
     /// Whether the kind has this number, so that a conversion to the kind keeps it.
@@ -220,6 +232,7 @@ impl IntKind {
 }
 
 /// So many of the lowest bits of a number in two's complement.
+#[inline(always)]
 fn lowest_bits(n: i128, count: u32) -> u64
     requires { count ≤ 64 }
     ensures value { result ≡ low_bits count n }

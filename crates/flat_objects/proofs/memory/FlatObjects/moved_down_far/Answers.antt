@@ -3,7 +3,7 @@ use Rattle.std.proofs.lemmas.Int.{to_z-of_z}
 use mir.Syntax.{w128}
 use mir.Val.{SFits}
 use Rattle.flat_objects.proofs.Distances.{minus_is}
-use Rattle.flat_objects.proofs.memory.FlatObjects.moved_down.Goals as goal
+use Rattle.flat_objects.proofs.memory.FlatObjects.moved_down_far.Goals as goal
 
 pub returns-in-Some-checked_sub : goal.returns-in-Some-checked_sub
 returns-in-Some-checked_sub g c =
