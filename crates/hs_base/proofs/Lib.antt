@@ -3,3 +3,4 @@ pub mod Wrapping
 pub mod Quotients
 pub mod Words
 pub mod Placing
+mod Filling

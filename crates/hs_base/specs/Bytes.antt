@@ -1,6 +1,10 @@
 -- Words in a list of bytes.
-use Rattle.std.specs.Prelude.{ℕ, List, take, drop}
+use Rattle.std.specs.Prelude.{ℕ, ◌-◌, List, ◌++◌, length, replicate, take, drop}
 use Rattle.hs_base.specs.Access.{little_endian, bytes_of, overlaid}
+
+-- so many bytes of which the first are given and the others 0
+unfoldable pub filled_up : List ℕ → ℕ → List ℕ
+filled_up first size = first ++ replicate (size - length first) 0
 
 -- n bytes from an address on
 unfoldable pub part : List ℕ → ℕ → ℕ → List ℕ
