@@ -21,7 +21,9 @@ use crate::places::{
     assigned, behind_comma, cast, changed, choice, element, held_place, size, stepped,
 };
 use crate::typer::Typer;
-use c_decls::{TypeError, TypeKind, Typed, address, binary, is_function, refused, unary};
+use c_decls::{
+    TypeError, TypeKind, Typed, address, binary, inner_line, is_function, is_void, line_of, refused, unary,
+};
 use c_tree::{
     AssignOp, Base, Declarator, Expr, ExprKind, Param, Suffix, SuffixKind, TypeName, UnaryOp,
 };
@@ -133,7 +135,7 @@ impl Typer<'_> {
             }
             ExprKind::Cast(typename, operand) => {
                 let ty = self.typename(tags, typename)?;
-                let x = self.wanted(tags, operand)?;
+                let x = self.cast_operand(tags, &ty, operand)?;
                 cast(line, ty, &x)
             }
             ExprKind::Binary(op, left, right) => {
@@ -151,7 +153,7 @@ impl Typer<'_> {
                 if is_plain(*op) {
                     let x = self.typed(tags, left)?;
                     let y = self.typed(tags, right)?;
-                    assigned(line, right.line, tags, x, y)
+                    assigned(line, line_of(right), tags, x, y)
                 } else {
                     let x = self.changing(tags, left)?;
                     let y = self.wanted(tags, right)?;
@@ -159,8 +161,8 @@ impl Typer<'_> {
                 }
             }
             ExprKind::Comma(left, right) => {
-                self.wanted(tags, left)?;
-                let y = self.wanted(tags, right)?;
+                self.unused(tags, left)?;
+                let y = self.unused(tags, right)?;
                 Ok(behind_comma(y))
             }
         }
@@ -173,7 +175,30 @@ impl Typer<'_> {
             (rules.wanted (expr_view e.now) (rules.typed (expr_view e.now) (context_of self.old tags.now))) }
     {
         let x = self.typed(tags, e)?;
-        x.read(e.line, tags)
+        x.wanted_value(line_of(e), tags)
+    }
+
+    /// An operand whose value is not used.
+    #[cycle(walk)]
+    fn unused(&mut self, tags: &Tags, e: &Expr) -> Result<Typed, TypeError>
+        ensures { Walks plain_typed (context_of self.new tags.now) result
+            (rules.unused (expr_view e.now) (rules.typed (expr_view e.now) (context_of self.old tags.now))) }
+    {
+        let x = self.typed(tags, e)?;
+        x.read(line_of(e), tags)
+    }
+
+    /// The operand of a cast to a type; to void no value is used.
+    #[cycle(walk)]
+    fn cast_operand(&mut self, tags: &Tags, ty: &CType, e: &Expr) -> Result<Typed, TypeError>
+        ensures { Walks plain_typed (context_of self.new tags.now) result
+            (rules.cast_operand (plain ty.now) (expr_view e.now) (rules.typed (expr_view e.now) (context_of self.old tags.now))) }
+    {
+        if is_void(ty) {
+            self.unused(tags, e)
+        } else {
+            self.wanted(tags, e)
+        }
     }
 
     /// An operand that is read and written: what it holds must be a value.
@@ -183,7 +208,7 @@ impl Typer<'_> {
             (rules.changing (expr_view e.now) (rules.typed (expr_view e.now) (context_of self.old tags.now))) }
     {
         let x = self.typed(tags, e)?;
-        held_place(e.line, tags, x)
+        held_place(line_of(e), tags, x)
     }
 
     /// What is called at a line: a name, or a value.
@@ -201,7 +226,7 @@ impl Typer<'_> {
             }
             _ => {
                 let x = self.kind(tags, line, kind)?;
-                no_function(line, tags, x)
+                no_function(inner_line(kind, line), tags, x)
             }
         }
     }
@@ -303,7 +328,7 @@ impl Typer<'_> {
                 None => Ok(Layer::ArrayOf(line, None)),
                 Some(held) => {
                     let x = self.wanted(tags, held)?;
-                    let length = array_length(held.line, &x)?;
+                    let length = array_length(line_of(held), &x)?;
                     Ok(Layer::ArrayOf(line, Some(length)))
                 }
             },
