@@ -22,7 +22,8 @@ use crate::places::{
 };
 use crate::typer::Typer;
 use c_decls::{
-    TypeError, TypeKind, Typed, address, binary, inner_line, is_function, is_void, line_of, refused, unary,
+    TypeError, TypeKind, Typed, address, binary, inner_line, is_function, is_void, line_of,
+    refused, unary,
 };
 use c_tree::{
     AssignOp, Base, Declarator, Expr, ExprKind, Param, Suffix, SuffixKind, TypeName, UnaryOp,
