@@ -11,7 +11,7 @@ ghost use Rattle.c_decls.specs.Expressions as rules;
 ghost use Rattle.c_typing.specs.Callee.{plain_callee};
 ghost use Rattle.c_typing.specs.Layers.{plain_layer, plain_layers};
 ghost use Rattle.c_typing.specs.Walks.{Walks, context_of};
-ghost use Rattle.c_typing.specs.Parts.{behind, is_plain};
+ghost use Rattle.c_typing.specs.Parts.{behind, is_plain, operand_of};
 
 use crate::callees::{Callee, call, called, named, no_function};
 use crate::layers::{Layer, adjusted, array_length, with_layers, with_param_layers};
@@ -136,7 +136,7 @@ impl Typer<'_> {
             }
             ExprKind::Cast(typename, operand) => {
                 let ty = self.typename(tags, typename)?;
-                let x = self.cast_operand(tags, &ty, operand)?;
+                let x = self.cast_operand(tags, is_void(&ty), operand)?;
                 cast(line, ty, &x)
             }
             ExprKind::Binary(op, left, right) => {
@@ -189,13 +189,13 @@ impl Typer<'_> {
         x.read(line_of(e), tags)
     }
 
-    /// The operand of a cast to a type; to void no value is used.
+    /// The operand of a cast, to void or to a type of values; to void no value is used.
     #[cycle(walk)]
-    fn cast_operand(&mut self, tags: &Tags, ty: &CType, e: &Expr) -> Result<Typed, TypeError>
+    fn cast_operand(&mut self, tags: &Tags, to_void: bool, e: &Expr) -> Result<Typed, TypeError>
         ensures { Walks plain_typed (context_of self.new tags.now) result
-            (rules.cast_operand (plain ty.now) (expr_view e.now) (rules.typed (expr_view e.now) (context_of self.old tags.now))) }
+            (operand_of to_void (expr_view e.now) (rules.typed (expr_view e.now) (context_of self.old tags.now))) }
     {
-        if is_void(ty) {
+        if to_void {
             self.unused(tags, e)
         } else {
             self.wanted(tags, e)
@@ -314,7 +314,7 @@ impl Typer<'_> {
 
     /// The layer of a suffix at a line.
     #[cycle(walk)]
-    #[tactic(auto, unfolding(c_decls::specs::Expressions::suffix_layer, c_tree::specs::View::suffix_tree, c_tree::specs::View::held_trees))]
+    #[tactic(auto, unfolding(c_decls::specs::Expressions::suffix_layer, c_decls::specs::Expressions::line_of, c_tree::specs::View::suffix_tree, c_tree::specs::View::held_trees))]
     fn suffix_layer(
         &mut self,
         tags: &Tags,

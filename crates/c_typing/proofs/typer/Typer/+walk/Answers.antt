@@ -1,4 +1,4 @@
-use Rattle.std.proofs.Common.{◌≡◌, ◌∙◌, ◌++◌, List, refl, ap, sym, subst, map, Vec, Global, Err, Ok, Option, Some, ℕ}
+use Rattle.std.proofs.Common.{◌≡◌, ◌∙◌, ◌++◌, List, refl, ap, sym, subst, map, Vec, Global, Err, Ok, Option, Some, ℕ, Bool}
 use Rattle.std.proofs.lemmas.Result.{err_from_is_err_and}
 use Rattle.c_types.specs.declared.types.CType.{CType}
 use Rattle.c_types.specs.Types.{PlainType, PlainTypes, plain, plain_list}
@@ -14,11 +14,11 @@ use Rattle.c_decls.specs.Typed.{PlainTyped, plain_typed}
 use Rattle.c_decls.specs.Callees.{call}
 use Rattle.c_decls.specs.ScopeList.{ScopeList}
 use Rattle.c_decls.specs.TypeNames.{Context, Layer}
-use Rattle.c_decls.specs.Expressions.{line_of, suffix_layer, suffix_layers, param_type, param_types, values, in_new_scope, out_of_scope}
+use Rattle.c_decls.specs.Expressions.{line_of, typed, suffix_layer, suffix_layers, param_type, param_types, values, in_new_scope, out_of_scope}
 use Rattle.c_typing.specs.declared.layers.Layer.{Layer as CodeLayer}
 use Rattle.c_typing.specs.Callee.{plain_callee}
 use Rattle.c_typing.specs.Layers.{plain_layer, plain_layers}
-use Rattle.c_typing.specs.Parts.{behind}
+use Rattle.c_typing.specs.Parts.{behind, operand_of}
 use Rattle.c_typing.specs.Walks.{Walks, context_of, with_new}
 use Rattle.c_typing.proofs.Turns.{in_turn, left, behind_none, refused_next, turned, turn_refused, turned_all}
 use Rattle.c_typing.proofs.Walked.{wanted_walks, unused_walks, changing_walks, callee_walks, callee_refused, valued, values_turns, suffix_turns, param_turns, with_types, as_types, as_plain_list, call_walks, call_refused, values_refused, sizeof_walks, sizeof_refused, cast_walks, cast_type_refused, cast_value_refused, plain_op, other_op, assign_walks, assign_left_refused, assign_right_refused, change_walks, change_left_refused, change_right_refused, direct_walks, array_walks, array_refused, params_walk, params_refused}
@@ -249,14 +249,17 @@ kind-returns-in_err-x-in-Cast t c =
     (cast_value_refused c.args.kind.now c.args.line c.in-Cast.typename c.in-Cast.operand c.deref-in-Cast.result.now c.deref-in-Cast-2.result.now
     (context_of c.args.self.now c.args.tags.now) (context_of c.typename-in-Cast.new.self c.args.tags.now) (context_of c.cast_operand.new.self c.args.tags.now)
     (plain c.in_ok-ty-in-Cast.ty) c.in_err-x-in-Cast.field-0.0
-    c.in-Cast.is c.deref-in-Cast.ensures c.deref-in-Cast-2.ensures c.in_ok-ty-in-Cast.ensures c.in_err-x-in-Cast.ensures)
+    c.in-Cast.is c.deref-in-Cast.ensures c.deref-in-Cast-2.ensures c.in_ok-ty-in-Cast.ensures
+    (subst (λ (k : Bool). Walks plain_typed (context_of c.cast_operand.new.self c.args.tags.now) (Err c.in_err-x-in-Cast.field-0.0) (operand_of k (expr_view c.deref-in-Cast-2.result.now) (typed (expr_view c.deref-in-Cast-2.result.now) (context_of c.typename-in-Cast.new.self c.args.tags.now))))
+    c.is_void.ensures c.in_err-x-in-Cast.ensures))
 
 pub kind-returns-in_ok-x-in-Cast : goal.kind-returns-in_ok-x-in-Cast
 kind-returns-in_ok-x-in-Cast t c =
     cast_walks c.args.kind.now c.args.line c.in-Cast.typename c.in-Cast.operand c.deref-in-Cast.result.now c.deref-in-Cast-2.result.now
     (context_of c.args.self.now c.args.tags.now) (context_of c.typename-in-Cast.new.self c.args.tags.now) (context_of c.cast_operand.new.self c.args.tags.now)
     (plain c.in_ok-ty-in-Cast.ty) (plain_typed c.in_ok-x-in-Cast.x) c.cast.result
-    c.in-Cast.is c.deref-in-Cast.ensures c.deref-in-Cast-2.ensures c.in_ok-ty-in-Cast.ensures c.in_ok-x-in-Cast.ensures c.cast.ensures
+    c.in-Cast.is c.deref-in-Cast.ensures c.deref-in-Cast-2.ensures c.in_ok-ty-in-Cast.ensures
+    (ap (λ (k : Bool). operand_of k (expr_view c.deref-in-Cast-2.result.now) (typed (expr_view c.deref-in-Cast-2.result.now) (context_of c.typename-in-Cast.new.self c.args.tags.now))) (sym c.is_void.ensures) ∙ c.in_ok-x-in-Cast.ensures) c.cast.ensures
 
 -- assignments
 
