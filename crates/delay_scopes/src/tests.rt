@@ -14,7 +14,7 @@ use adjusters::Adjuster;
 use c_types::Layout;
 use count_table::Counts;
 use heap_blocks::{HEADER_SIZE, Header, Heap};
-use hs_base::{BadFree, FlatBytes, Items, Line, NoMemory, Reason, Steps};
+use hs_base::{BadFree, CountRight, FlatBytes, Items, Line, NoMemory, Reason, Steps};
 use std::alloc::Global;
 use std::marker::Brand;
 use std::process::Abort;
@@ -314,7 +314,7 @@ fn tries<L: Ledger, R: Abort>(rt: &R, alloc: Global, blank: Blank) -> Result<(),
     requires parts { blank.parts ≡ L.parts }
     requires some { 0 < blank.parts }
 {
-    let mut steps = Steps::<L>::new(blank);
+    let mut steps = Steps::<L>::new(blank, &CountRight::new(alloc));
     let mut bytes = FlatBytes::new(alloc, 256)?;
     let mut heap = Heap::new(alloc, 64, 192)?;
     has_objects(rt, &mut heap, &mut bytes, &mut steps);

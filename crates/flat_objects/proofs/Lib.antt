@@ -24,6 +24,7 @@ mod HeldBlocks
 mod Again
 mod Queueing
 mod Numbers
+mod Working
 mod Released
 mod Answered
 mod Sought

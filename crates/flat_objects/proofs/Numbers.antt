@@ -79,7 +79,7 @@ living_split w objects queue are =
 -- The words in slots
 
 module _ (memory : Memory) (places : ℕ → ℕ) (objects : List Object) (keeps : Keeps memory places objects) where
-  slots_as : (b : ℕ) → IsThere objects b → slots_of memory.forms memory.bytes (places b) ≡ (object_at objects b).slots
+  pub slots_as : (b : ℕ) → IsThere objects b → slots_of memory.forms memory.bytes (places b) ≡ (object_at objects b).slots
   slots_as b there =
       let old = keeps.standing b there in
       let form = old.slots.0 in

@@ -1,13 +1,14 @@
 -- Frees, and the check at the end of the outermost scope.
-use Rattle.std.specs.Prelude.{◌≡◌, ◌<◌, ℕ, List, [], ◌∷◌, ◌++◌, map, Option, Some, None, Result, Ok, Err}
+use Rattle.std.specs.Prelude.{◌≡◌, ◌<◌, ◌+◌, ◌*◌, ◌/◌, ℕ, List, [], ◌∷◌, ◌++◌, length, map, Option, Some, None, Result, Ok, Err}
+use Rattle.std.specs.List.{sum_by}
 use Rattle.hs_base.specs.declared.ends.BadFree.{BadFree}
 use Rattle.hs_base.specs.declared.ends.Reason.{Reason}
 use Rattle.hs_base.specs.declared.ends.Reason.TheVariants.{Held}
 use Rattle.hs_base.specs.declared.values.Pointer.{Pointer}
 use Rattle.hs_base.specs.declared.values.Pointer.TheVariants as pointer
-use Rattle.hs_base.specs.Freeing.{buried, line_of_free, pointers_to, queued}
+use Rattle.hs_base.specs.Freeing.{buried, line_of_free, objects_of, pointers_to, queued}
 use Rattle.hs_base.specs.Object.{Object, object_at}
-use Rattle.hs_base.specs.Place.{blocks_after}
+use Rattle.hs_base.specs.Place.{block_size, blocks_after}
 use Rattle.hs_base.specs.Trace.{Gone}
 use Rattle.flat_objects.specs.Memory.{Memory, Statics, Locals, Heap}
 use Rattle.flat_objects.specs.Standing.{IsAddressOf}
@@ -49,6 +50,11 @@ pub record MayLeave (memory : Memory) (places : ℕ → ℕ) (objects : List Obj
 
 abbrev pub IsInScope : Memory → Type 0
 IsInScope memory = (places : ℕ → ℕ) × (objects : List Object) × (frees : Frees) × MayLeave memory places objects frees
+
+-- the most steps that a check takes: for each queued object 16, 2 for each granule of its block and 4 for each of its slots
+abbrev pub work_of : List Object → List ℕ → ℕ
+work_of objects queue =
+    sum_by (λ (o : Object). 16 + 2 * (block_size o.size / 16) + 4 * length o.slots) (objects_of objects queue)
 
 -- how many of the pointers that count lead to the object of a birth
 abbrev pub number_of : List Object → Frees → ℕ → ℕ

@@ -7,7 +7,7 @@ ghost use Rattle.hs_base.specs.Object.{Object};
 ghost use Rattle.flat_objects.specs.Memory.{SameFrame};
 ghost use Rattle.flat_objects.specs.Keeping.{Keeps};
 ghost use Rattle.flat_objects.specs.Counting.{Frees, Tracks};
-ghost use Rattle.flat_objects.specs.Freeing.{AnswersCheck, AnswersFree, IsFreeable, IsInScope, MayFree, MayLeave, number_of};
+ghost use Rattle.flat_objects.specs.Freeing.{AnswersCheck, AnswersFree, IsFreeable, IsInScope, MayFree, MayLeave, number_of, work_of};
 
 use crate::memory::FlatObjects;
 use delay_scopes::laws::other_bytes_stay;
@@ -53,11 +53,16 @@ impl FlatObjects {
     /// counts that is not inside a queued object is a bad free, at the line of its own free. With none, all queued objects
     /// are dead and their blocks are given back in the order of their frees. After a bad free the objects, the
     /// queue and the open scopes are as they were, and the counts are of no more use.
+    ///
+    /// The end of an inner scope takes no step, and the check for each queued object at most 16, 2 for each granule of its block
+    /// and 4 for each of its slots.
     pub fn leave<L: Ledger>(&mut self, steps: &mut Steps<L>) -> Result<(), BadFree>
         requires { IsInScope self.old }
         ensures inner { (places : ℕ → ℕ) (objects : List Object) (frees : Frees) → MayLeave self.old places objects frees → 1 < frees.scopes → (result ≡ Ok tt) × Keeps self.new places objects × Tracks self.new places objects (record frees { scopes = frees.scopes - 1 }) }
         ensures outermost { (places : ℕ → ℕ) (objects : List Object) (frees : Frees) → MayLeave self.old places objects frees → frees.scopes ≡ 1 → AnswersCheck self.old self.new places objects frees result (check_numbers objects frees.queue (number_of objects frees)) }
         ensures frame { SameFrame self.old self.new }
+        ensures idle { (places : ℕ → ℕ) (objects : List Object) (frees : Frees) → MayLeave self.old places objects frees → 1 < frees.scopes → steps.new ≡ steps.old }
+        ensures work { (places : ℕ → ℕ) (objects : List Object) (frees : Frees) → MayLeave self.old places objects frees → frees.scopes ≡ 1 → steps.new ≤ steps.old + work_of objects frees.queue }
     {
         other_bytes_stay();
         self.scopes.leave(

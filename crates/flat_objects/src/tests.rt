@@ -10,7 +10,7 @@ ghost use Rattle.flat_objects.specs.Ranges.{IsGrowable};
 use super::*;
 use c_types::Layout;
 use core_tree::CmpOp;
-use hs_base::{IntKind, Items, Leak, NoMemory, Pointer, Reason, Steps, TrapKind};
+use hs_base::{CountRight, IntKind, Items, Leak, NoMemory, Pointer, Reason, Steps, TrapKind};
 use std::alloc::Global;
 use std::marker::Brand;
 use std::process::Abort;
@@ -136,7 +136,7 @@ fn places<L: Ledger, R: Abort>(rt: &R, alloc: Global, blank: Blank) -> Result<()
     requires parts { blank.parts ≡ L.parts }
     requires some { 0 < blank.parts }
 {
-    let mut steps = Steps::<L>::new(blank);
+    let mut steps = Steps::<L>::new(blank, &CountRight::new(alloc));
     let number = Layout {
         size: 4,
         align: 4,
@@ -159,7 +159,7 @@ fn ranges<L: Ledger, R: Abort>(rt: &R, alloc: Global, blank: Blank) -> Result<()
     requires parts { blank.parts ≡ L.parts }
     requires some { 0 < blank.parts }
 {
-    let mut steps = Steps::<L>::new(blank);
+    let mut steps = Steps::<L>::new(blank, &CountRight::new(alloc));
     let byte = Layout {
         size: 1,
         align: 1,
@@ -182,7 +182,7 @@ fn frees<L: Ledger, R: Abort>(rt: &R, alloc: Global, blank: Blank) -> Result<(),
     requires parts { blank.parts ≡ L.parts }
     requires some { 0 < blank.parts }
 {
-    let mut steps = Steps::<L>::new(blank);
+    let mut steps = Steps::<L>::new(blank, &CountRight::new(alloc));
     let pointer = Layout {
         size: 4,
         align: 4,

@@ -11,7 +11,7 @@ ghost use Rattle.heap_blocks.specs.Held.{Holds, HasAddress, HasBounds, HasHeader
 use crate::headers::{HEADER_SIZE, Header};
 use crate::marks::{Mark, fill_marks};
 use hole_tree::Holes;
-use hs_base::{FlatBytes, Line, NoMemory, Steps};
+use hs_base::{FlatBytes, Items, Line, NoMemory, Steps};
 use std::alloc::Global;
 use std::marker::Model;
 use std::sync::ledger::Ledger;
@@ -50,7 +50,7 @@ fn write_block<L: Ledger>(bytes: &mut FlatBytes, block: u32, header: &Header, st
 pub struct Heap {
     base: u32,
     len: u32,
-    marks: Vec<Mark>,
+    marks: Items<Mark>,
     holes: Holes,
 }
 
@@ -59,9 +59,9 @@ impl Model for Heap {
 
     ghost Value = { HeapModel };
 
-    ghost view = { λ h. record { base = h.base; len = h.len; marks = h.marks.items } };
+    ghost view = { λ h. record { base = h.base; len = h.len; marks = h.marks } };
 
-    ghost invariant = { λ h. IsHeapWithHoles h.base h.len h.marks.items h.holes };
+    ghost invariant = { λ h. IsHeapWithHoles h.base h.len h.marks h.holes };
 }
 
 impl Heap {
@@ -75,7 +75,7 @@ impl Heap {
         Ok(Heap {
             base,
             len,
-            marks: vec![in alloc; Mark::Free; len as usize / 16]?,
+            marks: Items::from(vec![in alloc; Mark::Free; len as usize / 16]?),
             holes: Holes::new(alloc, len / 16)?,
         })
     }
@@ -140,7 +140,7 @@ impl Heap {
         let count = size as u32 / 16 + 3;
         self.holes.take(from, count);
         fill_marks(
-            self.marks.as_mut_slice(),
+            &mut self.marks,
             from as usize,
             count as usize,
             Mark::Of(from),
@@ -170,7 +170,7 @@ impl Heap {
         let count = size / 16 + 3;
         self.holes.give(from, count);
         fill_marks(
-            self.marks.as_mut_slice(),
+            &mut self.marks,
             from as usize,
             count as usize,
             Mark::Free,
@@ -194,11 +194,12 @@ impl Heap {
         if addr < self.base {
             return None;
         }
+        let marks = self.marks.as_slice();
         let place = (addr - self.base) as usize / 16;
-        if place >= self.marks.len() {
+        if place >= marks.len() {
             return None;
         }
-        match self.marks[place] {
+        match marks[place] {
             Mark::Of(start) => Some(self.base + 16 * start + HEADER_SIZE),
             Mark::Free => None,
         }

@@ -4,7 +4,7 @@ ghost use Rattle.std.specs.Prelude.{◌≡◌, ◌+◌, ◌^◌, ◌<◌, ◌++�
 ghost use Rattle.hs_base.specs.Place.{Block, without_block};
 
 use super::*;
-use hs_base::{FlatBytes, NoMemory, Steps};
+use hs_base::{CountRight, FlatBytes, NoMemory, Steps};
 use std::alloc::Global;
 use std::marker::{Brand, Model};
 use std::process::Abort;
@@ -199,7 +199,7 @@ fn plays_lists<L: Ledger, R: Abort>(
     requires parts { blank.parts ≡ L.parts }
     requires some { 0 < blank.parts }
 {
-    let mut steps = Steps::<L>::new(blank);
+    let mut steps = Steps::<L>::new(blank, &CountRight::new(alloc));
     let mut dice = Dice { state: 9 };
     for _ in 0..lists {
         plays(rt, alloc, &mut dice, &mut steps)?;

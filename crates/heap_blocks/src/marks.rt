@@ -3,6 +3,8 @@
 ghost use Rattle.std.specs.Prelude.{◌+◌, ◌≤◌, length};
 ghost use Rattle.heap_blocks.specs.Runs.{Filled};
 
+use hs_base::Items;
+
 /// What stands in 16 bytes of the heap.
 #[derive(Clone, Copy, Debug, PartialEq, Eq)]
 pub enum Mark {
@@ -13,11 +15,13 @@ pub enum Mark {
 }
 
 /// Sets so many marks from a place on.
-pub fn fill_marks(marks: &mut [Mark], from: usize, count: usize, mark: Mark)
+pub fn fill_marks(marks: &mut Items<Mark>, from: usize, count: usize, mark: Mark)
     requires { from + count ≤ length marks.old }
     ensures { Filled marks.old marks.new from count mark }
 {
+    // The marks are so many that a number of 64 bits counts them.
+    let _all = marks.len();
     for place in from..from + count {
-        marks[place] = mark;
+        marks.set(place, mark);
     }
 }

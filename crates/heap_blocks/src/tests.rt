@@ -4,7 +4,7 @@ ghost use Rattle.std.specs.Prelude.{◌≡◌, ◌+◌, ◌<◌, ◌≤◌, [], 
 ghost use Rattle.heap_blocks.specs.Held.{HasBounds, Holds};
 
 use super::*;
-use hs_base::{FlatBytes, NoMemory, Steps};
+use hs_base::{CountRight, FlatBytes, NoMemory, Steps};
 use std::alloc::Global;
 use std::marker::Brand;
 use std::process::Abort;
@@ -167,7 +167,7 @@ fn fills<L: Ledger, R: Abort>(rt: &R, alloc: Global, blank: Blank) -> Result<(),
     requires parts { blank.parts ≡ L.parts }
     requires some { 0 < blank.parts }
 {
-    let mut steps = Steps::<L>::new(blank);
+    let mut steps = Steps::<L>::new(blank, &CountRight::new(alloc));
     let mut bytes = FlatBytes::new(alloc, 400)?;
     let mut heap = Heap::new(alloc, 64, 287)?;
     fills_heap(rt, &mut heap, &mut bytes, &mut steps);

@@ -112,6 +112,7 @@ impl FlatBytes {
 #[cfg(test)]
 mod tests {
     use super::*;
+    use crate::steps::CountRight;
     use std::marker::Brand;
     use std::process::Abort;
     use std::sync::ledger::Blank;
@@ -170,7 +171,7 @@ mod tests {
         requires parts { blank.parts ≡ L.parts }
         requires some { 0 < blank.parts }
     {
-        let mut steps = Steps::<L>::new(blank);
+        let mut steps = Steps::<L>::new(blank, &CountRight::new(alloc));
         writes_then_reads(rt, alloc, 1, 0x81, &mut steps)?;
         writes_then_reads(rt, alloc, 2, 0x8182, &mut steps)?;
         writes_then_reads(rt, alloc, 4, 0x8182_8384, &mut steps)?;

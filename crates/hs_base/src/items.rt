@@ -1,6 +1,6 @@
 //! Lists that contracts see as lists.
 
-ghost use Rattle.std.specs.Prelude.{◌≡◌, ◌++◌, ◌∷◌, [], ◌<◌, ◌+◌, ◌^◌, length, IfOk, IfSome, OnErr, IsTrue, ◌↔◌, option_copied, slice_get};
+ghost use Rattle.std.specs.Prelude.{◌≡◌, ◌++◌, ◌∷◌, [], ◌<◌, ◌+◌, ◌^◌, length, IfOk, IfSome, OnErr, IsTrue, ◌↔◌, option_copied, slice_get, slice_set};
 
 use std::alloc::{AllocError, AllocFailed, Global};
 use std::marker::Model;
@@ -101,5 +101,13 @@ impl<T: Drop> Items<T> {
     {
         self.list.push(item)?;
         Ok(())
+    }
+
+    /// Writes an item over that at a place.
+    pub fn set(&mut self, place: usize, item: T)
+        requires { place < length self.old }
+        ensures { self.new ≡ slice_set self.old place item }
+    {
+        self.list[place] = item;
     }
 }

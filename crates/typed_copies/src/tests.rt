@@ -8,7 +8,7 @@ ghost use Rattle.typed_copies.specs.Copying.{IsInside, words_of};
 
 use super::*;
 use c_types::Layout;
-use hs_base::NoMemory;
+use hs_base::{CountRight, NoMemory};
 use std::alloc::Global;
 use std::marker::Brand;
 use std::process::Abort;
@@ -568,7 +568,7 @@ fn all_of_them<L: Ledger, R: Abort>(rt: &R, alloc: Global, blank: Blank) -> Resu
     requires parts { blank.parts ≡ L.parts }
     requires some { 0 < blank.parts }
 {
-    let mut steps = Steps::<L>::new(blank);
+    let mut steps = Steps::<L>::new(blank, &CountRight::new(alloc));
     let forms = all_forms(alloc)?;
     bytes_move_over_themselves(rt, alloc, &forms, &mut steps)?;
     pointers_move_over_themselves(rt, alloc, &forms, &mut steps)?;

@@ -4,7 +4,7 @@ ghost use Rattle.std.specs.Prelude.{◌≡◌, ◌<◌, ◌⊎◌};
 
 use super::*;
 use c_types::Layout;
-use hs_base::NoMemory;
+use hs_base::{CountRight, NoMemory};
 use std::alloc::Global;
 use std::marker::Brand;
 use std::process::Abort;
@@ -23,7 +23,7 @@ fn ends<L: Ledger, R: Abort>(
     requires some { 0 < blank.parts }
     requires answer { (answer ≡ 0) ⊎ (answer ≡ 48) }
 {
-    let mut steps = Steps::<L>::new(blank);
+    let mut steps = Steps::<L>::new(blank, &CountRight::new(alloc));
     let pointer = Layout {
         size: 4,
         align: 4,

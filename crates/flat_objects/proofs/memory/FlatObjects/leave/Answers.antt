@@ -1,4 +1,4 @@
-use Rattle.std.proofs.Common.{◌≡◌, ◌<◌, ◌∙◌, inl, inr, refl, sym, subst, arith}
+use Rattle.std.proofs.Common.{◌≡◌, ◌<◌, ◌≤◌, ◌+◌, ◌∙◌, ℕ, inl, inr, refl, sym, subst, arith}
 use Rattle.std.specs.Prelude.{map}
 use Rattle.std.proofs.lemmas.Bool.{cases_lt}
 use Rattle.hs_base.specs.Freeing.{check_numbers}
@@ -7,6 +7,7 @@ use Rattle.flat_objects.specs.Keeping.{blocks_of}
 use Rattle.flat_objects.specs.Freeing.{AnswersCheck, MayLeave, number_of}
 use Rattle.flat_objects.proofs.Answered.{SameSizes, inner_kept, inner_sizes, leave_frame, may_check, outer_answers, outer_sizes, queue_kept}
 use Rattle.flat_objects.proofs.Frames.{still_memory}
+use Rattle.flat_objects.proofs.Working.{work_is}
 use Rattle.flat_objects.proofs.memory.FlatObjects.leave.Goals as goal
 use Rattle.flat_objects.proofs.memory.FlatObjects.leave.Goals.{After-leave}
 
@@ -69,3 +70,21 @@ returns-clause-frame g c =
     let memory : Memory = record { bytes = c.self.inside.bytes; statics = c.self.inside.statics; locals = c.self.inside.locals; heap = c.self.inside.heap; counts = c.self.inside.counts; scopes = c.self.inside.scopes; forms = c.self.inside.forms } in
     let next : Memory = record memory { heap = c.leave.new.heap; bytes = c.leave.new.bytes; counts = c.leave.new.counts; scopes = c.leave.new.self } in
     subst (λ (m : Memory). SameFrame m next) c.self.view_is (leave_frame memory c.leave.new.heap c.leave.new.bytes c.leave.new.counts c.leave.new.self (sizes g c))
+
+pub returns-clause-idle : goal.returns-clause-idle
+returns-clause-idle g c = λ places objects frees told inner.
+    let memory : Memory = record { bytes = c.self.inside.bytes; statics = c.self.inside.statics; locals = c.self.inside.locals; heap = c.self.inside.heap; counts = c.self.inside.counts; scopes = c.self.inside.scopes; forms = c.self.inside.forms } in
+    let may = subst (λ (m : Memory). MayLeave m places objects frees) (sym c.self.view_is) told in
+    let deep : 1 < memory.scopes.depth = omega (arith, may.tracks.open_scopes) in
+    let one = c.leave.ensures.inner deep in
+    one.2
+
+pub returns-clause-work : goal.returns-clause-work
+returns-clause-work g c = λ places objects frees told outer.
+    let memory : Memory = record { bytes = c.self.inside.bytes; statics = c.self.inside.statics; locals = c.self.inside.locals; heap = c.self.inside.heap; counts = c.self.inside.counts; scopes = c.self.inside.scopes; forms = c.self.inside.forms } in
+    let may = subst (λ (m : Memory). MayLeave m places objects frees) (sym c.self.view_is) told in
+    let held = blocks_of memory places objects Heap in
+    let queue = map places frees.queue in
+    let depth : memory.scopes.depth ≡ 1 = may.tracks.open_scopes ∙ outer in
+    let ready = may_check c.self.inside.locals_from c.self.inside.heap_from memory c.self.invariant places objects frees may memory.heap memory.bytes memory.counts memory.scopes in
+    subst (λ (n : ℕ). c.leave.new.steps ≤ c.args.steps.now + n) (work_is memory places objects may.keeps frees.queue may.tracks.queued) (c.leave.ensures.work held queue depth ready)

@@ -1,7 +1,5 @@
 use Rattle.std.proofs.Common.{◌≡◌, ◌+◌, ◌*◌, ◌/◌, ◌∙◌, ℕ, List, Option, Some, sym, ap, subst, arith}
 use Rattle.std.specs.Prelude.{option_map}
-use Rattle.std.specs.Vec.{with_items}
-use Rattle.std.proofs.lemmas.List.{with_items_is}
 use Rattle.hs_base.specs.Place.{block_size, with_block}
 use Rattle.heap_blocks.specs.declared.headers.Header.{Header}
 use Rattle.heap_blocks.specs.declared.marks.Mark.{Mark}
@@ -17,7 +15,7 @@ use Rattle.heap_blocks.proofs.blocks.Heap.place.Goals as goal
 
 pub take-requires-clause-free : goal.take-requires-clause-free
 take-requires-clause-free g c =
-    let heap : HeapModel = record { base = c.self.inside.base; len = c.self.inside.len; marks = c.self.inside.marks.items } in
+    let heap : HeapModel = record { base = c.self.inside.base; len = c.self.inside.len; marks = c.self.inside.marks } in
     let same : heap ≡ c.args.self.now = c.self.view_is in
     let count = c.args.size / 16 + 3 in
     let first = subst (λ (h : HeapModel). IsFirstRun h.marks count c.in-Some.from) (sym same) c.in-Some.ensures in
@@ -25,17 +23,15 @@ take-requires-clause-free g c =
 
 pub invariant_of-self : goal.invariant_of-self
 invariant_of-self g c =
-    let heap : HeapModel = record { base = c.self.inside.base; len = c.self.inside.len; marks = c.self.inside.marks.items } in
+    let heap : HeapModel = record { base = c.self.inside.base; len = c.self.inside.len; marks = c.self.inside.marks } in
     let same : heap ≡ c.args.self.now = c.self.view_is in
     let count = c.args.size / 16 + 3 in
     let first = subst (λ (h : HeapModel). IsFirstRun h.marks count c.in-Some.from) (sym same) c.in-Some.ensures in
-    let marked = subst (λ (l : List Mark). Filled l c.fill_marks.new.marks c.in-Some.from count (Of c.in-Some.from)) c.as_mut_slice.ensures.value c.fill_marks.ensures in
-    let marks : (with_items c.self.inside.marks c.fill_marks.new.marks).items ≡ c.fill_marks.new.marks =
-    with_items_is c.self.inside.marks c.fill_marks.new.marks (c.fill_marks.ensures.long ∙ c.as_mut_slice.ensures.len) in
-    subst (λ (l : List Mark). IsHeapWithHoles heap.base heap.len l c.take.new.self) (sym marks) (record {
+    let marked = c.fill_marks.ensures in
+    record {
       shape = shape_placed heap.base heap.len heap.marks c.fill_marks.new.marks c.in-Some.from count c.self.invariant.shape (omega arith) first.run.inside marked;
       same = same_filled heap.marks c.self.inside.holes c.self.invariant.same c.fill_marks.new.marks c.take.new.self c.in-Some.from count (Of c.in-Some.from) marked c.take.ensures;
-    })
+    }
 
 pub returns-in_default-clause-address : goal.returns-in_default-clause-address
 returns-in_default-clause-address g c = λ held holds.
@@ -64,16 +60,13 @@ returns-clause-address g c = λ held holds.
 
 pub returns-clause-held : goal.returns-clause-held
 returns-clause-held g c = λ held holds.
-    let heap : HeapModel = record { base = c.self.inside.base; len = c.self.inside.len; marks = c.self.inside.marks.items } in
+    let heap : HeapModel = record { base = c.self.inside.base; len = c.self.inside.len; marks = c.self.inside.marks } in
     let same : heap ≡ c.args.self.now = c.self.view_is in
     let count = c.args.size / 16 + 3 in
     let first = subst (λ (h : HeapModel). IsFirstRun h.marks count c.in-Some.from) (sym same) c.in-Some.ensures in
-    let marked = subst (λ (l : List Mark). Filled l c.fill_marks.new.marks c.in-Some.from count (Of c.in-Some.from)) c.as_mut_slice.ensures.value c.fill_marks.ensures in
-    let marks : (with_items c.self.inside.marks c.fill_marks.new.marks).items ≡ c.fill_marks.new.marks =
-    with_items_is c.self.inside.marks c.fill_marks.new.marks (c.fill_marks.ensures.long ∙ c.as_mut_slice.ensures.len) in
-    subst (λ (l : List Mark). Holds (marked_heap heap l) (with_block held c.args.birth (block_size c.args.size) (fit_of c.args.self.now held c.args.size))) (sym marks)
-    (subst (λ (h : HeapModel). Holds (marked_heap heap c.fill_marks.new.marks) (with_block held c.args.birth (block_size c.args.size) (fit_of h held c.args.size))) same
-    (placed_holds heap held c.args.size c.self.invariant.shape (subst (λ (h : HeapModel). Holds h held) (sym same) holds) c.in-Some.from c.args.birth c.fill_marks.new.marks first marked))
+    let marked = c.fill_marks.ensures in
+    subst (λ (h : HeapModel). Holds (marked_heap heap c.fill_marks.new.marks) (with_block held c.args.birth (block_size c.args.size) (fit_of h held c.args.size))) same
+    (placed_holds heap held c.args.size c.self.invariant.shape (subst (λ (h : HeapModel). Holds h held) (sym same) holds) c.in-Some.from c.args.birth c.fill_marks.new.marks first marked)
 
 pub returns-clause-headers : goal.returns-clause-headers
 returns-clause-headers g c = λ held holds headers.
@@ -89,7 +82,7 @@ returns-clause-object g c = λ held holds headers.
     let fit = fit_of old held c.args.size in
     let addr = c.self.inside.base + 16 * c.in-Some.from + 32 in
     let base : c.self.inside.base ≡ old.base = ap (λ (h : HeapModel). h.base) c.self.view_is in
-    let new : HeapModel = record { base = c.self.inside.base; len = c.self.inside.len; marks = (with_items c.self.inside.marks c.fill_marks.new.marks).items } in
+    let new : HeapModel = record { base = c.self.inside.base; len = c.self.inside.len; marks = c.fill_marks.new.marks } in
     new_object new c.write_block.new.bytes held c.args.birth c.args.size addr fit
     (subst (λ (n : ℕ). Some addr ≡ option_map (λ (p : ℕ). n + p + 32) fit) (sym base) (returns-clause-address g c held holds))
     (returns-clause-held g c held holds) (returns-clause-headers g c held holds headers)

@@ -1,6 +1,4 @@
-use Rattle.std.proofs.Common.{◌≡◌, ◌+◌, ◌-◌, ◌/◌, ℕ, List, ◌∙◌, sym, ap, subst}
-use Rattle.std.specs.Vec.{with_items}
-use Rattle.std.proofs.lemmas.List.{with_items_is}
+use Rattle.std.proofs.Common.{◌≡◌, ◌+◌, ◌-◌, ◌/◌, ℕ, List, refl, sym, ap, subst}
 use Rattle.hs_base.specs.Place.{without_block}
 use Rattle.heap_blocks.specs.declared.marks.Mark.{Mark}
 use Rattle.heap_blocks.specs.declared.marks.Mark.TheVariants.{Free}
@@ -14,7 +12,7 @@ use Rattle.heap_blocks.proofs.blocks.Heap.release.Goals as goal
 
 pub give-requires-clause-taken : goal.give-requires-clause-taken
 give-requires-clause-taken g c =
-    let heap : HeapModel = record { base = c.self.inside.base; len = c.self.inside.len; marks = c.self.inside.marks.items } in
+    let heap : HeapModel = record { base = c.self.inside.base; len = c.self.inside.len; marks = c.self.inside.marks } in
     let same : heap ≡ c.args.self.now = c.self.view_is in
     let held = c.requires.object.0 in
     let b = c.requires.object.1 in
@@ -23,26 +21,20 @@ give-requires-clause-taken g c =
 
 pub invariant_of-self : goal.invariant_of-self
 invariant_of-self g c =
-    let marks = c.self.inside.marks.items in
+    let marks = c.self.inside.marks in
     let from = (c.args.addr - 32 - c.self.inside.base) / 16 in
     let count = c.read_size-size.result / 16 + 3 in
-    let marked = subst (λ (l : List Mark). Filled l c.fill_marks.new.marks from count Free) c.as_mut_slice.ensures.value c.fill_marks.ensures in
-    let items : (with_items c.self.inside.marks c.fill_marks.new.marks).items ≡ c.fill_marks.new.marks =
-    with_items_is c.self.inside.marks c.fill_marks.new.marks (c.fill_marks.ensures.long ∙ c.as_mut_slice.ensures.len) in
-    subst (λ (l : List Mark). IsHeapWithHoles c.self.inside.base c.self.inside.len l c.give.new.self) (sym items) (record {
+    let marked = c.fill_marks.ensures in
+    record {
       shape = shape_freed c.self.inside.base c.self.inside.len marks c.fill_marks.new.marks from count c.self.invariant.shape marked;
       same = same_filled marks c.self.inside.holes c.self.invariant.same c.fill_marks.new.marks c.give.new.self from count Free marked c.give.ensures;
-    })
+    }
 
 pub returns-clause-held : goal.returns-clause-held
 returns-clause-held g c = λ held b object births.
-    let heap : HeapModel = record { base = c.self.inside.base; len = c.self.inside.len; marks = c.self.inside.marks.items } in
+    let heap : HeapModel = record { base = c.self.inside.base; len = c.self.inside.len; marks = c.self.inside.marks } in
     let same : heap ≡ c.args.self.now = c.self.view_is in
-    let marks : (with_items c.self.inside.marks c.fill_marks.new.marks).items ≡ c.fill_marks.new.marks =
-    with_items_is c.self.inside.marks c.fill_marks.new.marks (c.fill_marks.ensures.long ∙ c.as_mut_slice.ensures.len) in
-    let after =
-    released heap c.args.bytes.now c.args.addr c.read_size-size.result held b c.as_mut_slice.result.now c.fill_marks.new.marks (subst (λ (h : HeapModel). IsObject h c.args.bytes.now c.args.addr held b) (sym same) object) births c.read_size-size.ensures.size c.as_mut_slice.ensures.value c.fill_marks.ensures in
-    subst (λ (l : List Mark). Holds (marked_heap heap l) (without_block held b.birth)) (sym marks) after
+    released heap c.args.bytes.now c.args.addr c.read_size-size.result held b heap.marks c.fill_marks.new.marks (subst (λ (h : HeapModel). IsObject h c.args.bytes.now c.args.addr held b) (sym same) object) births c.read_size-size.ensures.size refl c.fill_marks.ensures
 
 pub returns-clause-headers : goal.returns-clause-headers
 returns-clause-headers g c = λ held b object.

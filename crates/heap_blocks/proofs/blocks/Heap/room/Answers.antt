@@ -9,4 +9,4 @@ pub returns : goal.returns
 returns c =
     let count = c.args.size / 16 + 3 in
     subst (λ (l : List Mark). MatchOption c.first.result (HasNoRun l count) (IsFirstRun l count)) (ap (λ (h : HeapModel). h.marks) c.self.view_is)
-    (run_answer c.self.inside.marks.items c.self.inside.holes c.self.invariant.same count c.first.result c.first.ensures)
+    (run_answer c.self.inside.marks c.self.inside.holes c.self.invariant.same count c.first.result c.first.ensures)
