@@ -40,3 +40,7 @@ pub mod Walked
 pub mod Image
 pub mod Halted
 pub mod Lasting
+pub mod Advancing
+pub mod Grouped
+pub mod Gathered
+pub mod Onward

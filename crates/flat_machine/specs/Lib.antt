@@ -10,10 +10,12 @@ pub mod Leading
 pub mod Putting
 pub mod Writing
 pub mod Groups
+pub mod Operations
 pub mod Loaded
 pub mod Image
 pub mod Well
 pub mod Running
+pub mod Advancing
 pub mod First
 pub mod Machined
 pub mod Loading

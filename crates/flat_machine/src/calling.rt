@@ -19,7 +19,8 @@ use crate::state::State;
 use crate::words::{address_in, integer_in};
 use flat_code::{Code, Entry, Instr, Op};
 use flat_objects::Word;
-use hs_base::{End, IntKind, Line};
+use hs_base::{End, IntKind, Line, Steps};
+use std::sync::ledger::Ledger;
 
 /// A number converted to an int, and from there to a byte.
 pub(crate) fn byte_in(n: i128) -> u8
@@ -38,13 +39,14 @@ pub(crate) fn chosen(instr: Instr) -> Option<u32>
 impl State {
     /// Takes a step, and calls a function that costs so much, if the stack has room for it. While the call waits, the pointers that
     /// count at it are pinned. The memory locals of the function are made.
-    pub(crate) fn act_call(
+    pub(crate) fn act_call<L: Ledger>(
         &mut self,
         code: &Code,
         line: Line,
         instr: Instr,
         callee: &Entry,
         cost: u64,
+        steps: &mut Steps<L>,
     ) -> Result<(), End>
         requires point { self.old.calls.running.point + 1 < 2 ^ 64 }
         requires cost { cost ≡ cost_of code.now (Some callee.now) }
@@ -62,21 +64,27 @@ impl State {
             return Err(End::OutOfStack(line));
         }
         self.all_fit();
-        self.pin();
+        self.pin(steps);
         self.enter(instr.b, callee, cost as u32);
-        self.make_locals(code, callee);
+        self.make_locals(code, callee, steps);
         Ok(())
     }
 
     /// A return with an answer. The memory locals of the call end, and the first that escapes ends the run.
-    pub(crate) fn act_return(&mut self, code: &Code, line: Line, answer: Word) -> Result<(), End>
+    pub(crate) fn act_return<L: Ledger>(
+        &mut self,
+        code: &Code,
+        line: Line,
+        answer: Word,
+        steps: &mut Steps<L>,
+    ) -> Result<(), End>
         requires call { WaitsAtCall code.now self.old.calls.waiting }
         requires locals { HasAllLocals code.now self.old.calls }
         requires returns { IsReturning self.old answer }
         ensures alone { (places : ℕ → ℕ) (c : CodeState) (v : Value) → Stands places c self.old → CountsWell self.old c → StandsFor places c.state.objects v answer → Alone places c self.old (give_back code.now line v c.numbers c.state) self.new result }
         ensures image { (places : ℕ → ℕ) (c : CodeState) (v : Value) → HasPins code.now self.old.pins → Stands places c self.old → CountsWell self.old c → StandsFor places c.state.objects v answer → IfErr result (StopsIn code.now (give_back code.now line v c.numbers c.state) self.new) }
     {
-        if let Some(local) = self.end_locals(address_in(answer)) {
+        if let Some(local) = self.end_locals(address_in(answer), steps) {
             return Err(End::Escape {
                 func: self.func(),
                 local,
@@ -86,7 +94,7 @@ impl State {
         if !self.back() {
             return Err(End::Exit(byte_in(integer_in(answer))));
         }
-        self.unpin();
+        self.unpin(steps);
         let Some(instr) = code.instrs.get(self.point()) else {
             unreachable!()
         };

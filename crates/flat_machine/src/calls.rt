@@ -1,11 +1,17 @@
 //! The active calls.
 
 ghost use Rattle.std.specs.Prelude.{◌≡◌, ◌+◌, ◌*◌, ◌/◌, ◌<◌, ◌≤◌, ◌^◌, ◌++◌, [], ◌∷◌, IfOk, IsTrue, false, map, drop, take, length, slice_index, slice_index_or};
-ghost use Rattle.flat_machine.specs.Kept.{Active, GoesBack, at_point, call_number, onward, put, taken_by, with_local};
+ghost use Rattle.flat_machine.specs.Kept.{Active, GoesBack, Kept, at_point, call_number, onward, put, taken_by, with_local};
 ghost use Rattle.flat_machine.specs.Words.{no_word, first_word};
+ghost use Rattle.flat_code.specs.WellFormed.{IsWellFormed};
+ghost use Rattle.flat_machine.specs.Operations.{AreGathered};
+ghost use Rattle.flat_machine.specs.Advancing.{Advances, Runs, RunsAt};
 
 use crate::call::Call;
+use crate::going::go;
+use crate::operation::Operation;
 use crate::words::{behind, push_all, push_first_words};
+use flat_code::Code;
 use flat_objects::Word;
 use hs_base::NoMemory;
 use std::alloc::Global;
@@ -293,6 +299,32 @@ impl Calls {
             from: self.locals.len(),
             used: caller.used + cost,
         };
+    }
+
+    /// Does operations in the running call until one is left to be made by itself, and answers the steps that are left.
+    pub(crate) fn go(
+        &mut self,
+        code: &Code,
+        operations: &[Operation],
+        statics: &[u32],
+        left: u64,
+    ) -> u64
+        requires formed { IsWellFormed code.now }
+        requires gathered { AreGathered code.now operations.now }
+        requires runs { Runs code.now statics.now self.old.running.locals self.old.running.words self.old.running.point left }
+        ensures { (kept : Kept) → kept.calls ≡ self.old → RunsAt code.now statics.now self.old.running.locals self.old.running.words self.old.running.point left kept → Advances code.now kept (record kept { calls = self.new; steps = result }) }
+    {
+        let (point, left) = go(
+            code,
+            operations,
+            &mut self.words[self.running.base..],
+            statics,
+            &self.locals[self.running.from..],
+            self.running.point,
+            left,
+        );
+        self.running.point = point;
+        left
     }
 
     /// The newest of the waiting calls runs again, where there is one.

@@ -21,32 +21,38 @@ ghost use Rattle.flat_machine.specs.Leading.{Alone, Checks};
 
 use crate::state::State;
 use flat_code::{Instr, Op};
-use hs_base::{BadFree, End, Holder, Line};
+use hs_base::{BadFree, End, Holder, Line, Steps};
+use std::sync::ledger::Ledger;
 
 impl State {
     /// Closes the outermost scope, and goes on. The pointers that count at the instruction are pinned for the time of the check. Where
     /// an object is held, it answers the bad free and the first holder.
-    fn check(&mut self) -> Result<(), (BadFree, Option<Holder>)>
+    fn check<L: Ledger>(&mut self, steps: &mut Steps<L>) -> Result<(), (BadFree, Option<Holder>)>
         requires point { self.old.calls.running.point + 1 < 2 ^ 64 }
         requires open { self.old.memory.scopes.depth ≡ 1 }
         requires standing { IsStanding self.old }
         ensures checks { (code : Program) (first : ℕ → ℕ) (before : Situation) (places : ℕ → ℕ) (c : CodeState) → HasPins code self.old.pins → Stands places c self.old → CountsWell self.old c → Checks places c self.old (checked code first before [] c.numbers c.state) self.new result }
         ensures image { (code : Program) (first : ℕ → ℕ) (before : Situation) (places : ℕ → ℕ) (c : CodeState) → HasPins code self.old.pins → Stands places c self.old → CountsWell self.old c → IfErr result (λ held. StopsIn code (checked code first before [] c.numbers c.state) self.new (end.BadFree held.0 held.1)) }
     {
-        self.pin();
-        match self.close_scope() {
+        self.pin(steps);
+        match self.close_scope(steps) {
             Ok(()) => {
-                self.unpin();
+                self.unpin(steps);
                 self.go_on();
                 Ok(())
             }
-            Err(bad) => Err((bad, self.first_holder())),
+            Err(bad) => Err((bad, self.first_holder(steps))),
         }
     }
 
     /// Frees the object at an address where no scope is open: the free has one of its own, which a free that is bad does not
     /// open.
-    fn free_alone(&mut self, line: Line, addr: u32) -> Result<(), End>
+    fn free_alone<L: Ledger>(
+        &mut self,
+        line: Line,
+        addr: u32,
+        steps: &mut Steps<L>,
+    ) -> Result<(), End>
         requires point { self.old.calls.running.point + 1 < 2 ^ 64 }
         requires open { self.old.memory.scopes.depth ≡ 0 }
         requires standing { IsStanding self.old }
@@ -55,21 +61,26 @@ impl State {
         ensures alone { (code : Program) (places : ℕ → ℕ) (c : CodeState) → HasPins code self.old.pins → Stands places c self.old → CountsWell self.old c → Alone places c self.old (free code line (pointer_at c.handed 0) c.numbers c.state) self.new result }
         ensures image { (code : Program) (places : ℕ → ℕ) (c : CodeState) → HasPins code self.old.pins → Stands places c self.old → CountsWell self.old c → IfErr result (StopsIn code (free code line (pointer_at c.handed 0) c.numbers c.state) self.new) }
     {
-        if let Err(reason) = self.may_free(addr) {
+        if let Err(reason) = self.may_free(addr, steps) {
             return Err(End::BadFree(BadFree { reason, line }, None));
         }
         self.open_scope();
-        let Ok(()) = self.queue(addr, line) else {
+        let Ok(()) = self.queue(addr, line, steps) else {
             unreachable!()
         };
-        match self.check() {
+        match self.check(steps) {
             Ok(()) => Ok(()),
             Err((bad, holder)) => Err(End::BadFree(bad, holder)),
         }
     }
 
     /// Frees the object at an address where a scope is open: it waits for the end of that.
-    fn free_in_scope(&mut self, line: Line, addr: u32) -> Result<(), End>
+    fn free_in_scope<L: Ledger>(
+        &mut self,
+        line: Line,
+        addr: u32,
+        steps: &mut Steps<L>,
+    ) -> Result<(), End>
         requires point { self.old.calls.running.point + 1 < 2 ^ 64 }
         requires open { 0 < self.old.memory.scopes.depth }
         requires standing { IsStanding self.old }
@@ -78,7 +89,7 @@ impl State {
         ensures alone { (code : Program) (places : ℕ → ℕ) (c : CodeState) → HasPins code self.old.pins → Stands places c self.old → CountsWell self.old c → Alone places c self.old (free code line (pointer_at c.handed 0) c.numbers c.state) self.new result }
         ensures image { (code : Program) (places : ℕ → ℕ) (c : CodeState) → HasPins code self.old.pins → Stands places c self.old → CountsWell self.old c → IfErr result (StopsIn code (free code line (pointer_at c.handed 0) c.numbers c.state) self.new) }
     {
-        if let Err(bad) = self.queue(addr, line) {
+        if let Err(bad) = self.queue(addr, line, steps) {
             return Err(End::BadFree(bad, None));
         }
         self.go_on();
@@ -86,7 +97,12 @@ impl State {
     }
 
     /// Frees the object at an address, which was handed over. A free of null does nothing.
-    pub(crate) fn free(&mut self, line: Line, addr: u32) -> Result<(), End>
+    pub(crate) fn free<L: Ledger>(
+        &mut self,
+        line: Line,
+        addr: u32,
+        steps: &mut Steps<L>,
+    ) -> Result<(), End>
         requires point { self.old.calls.running.point + 1 < 2 ^ 64 }
         requires standing { IsStanding self.old }
         requires address { addr ≡ address_at self.old.handed 0 }
@@ -98,14 +114,14 @@ impl State {
             return Ok(());
         }
         if self.scopes() == 0 {
-            self.free_alone(line, addr)
+            self.free_alone(line, addr, steps)
         } else {
-            self.free_in_scope(line, addr)
+            self.free_in_scope(line, addr, steps)
         }
     }
 
     /// Closes a scope, the outermost one with a check.
-    fn leave(&mut self) -> Result<(), End>
+    fn leave<L: Ledger>(&mut self, steps: &mut Steps<L>) -> Result<(), End>
         requires point { self.old.calls.running.point + 1 < 2 ^ 64 }
         requires open { 0 < self.old.memory.scopes.depth }
         requires standing { IsStanding self.old }
@@ -113,18 +129,24 @@ impl State {
         ensures image { (code : Program) (places : ℕ → ℕ) (c : CodeState) → HasPins code self.old.pins → Stands places c self.old → CountsWell self.old c → IfErr result (StopsIn code (leave code c.state.scopes c.numbers c.state) self.new) }
     {
         if self.scopes() == 1 {
-            return match self.check() {
+            return match self.check(steps) {
                 Ok(()) => Ok(()),
                 Err((bad, holder)) => Err(End::BadFree(bad, holder)),
             };
         }
-        let _ = self.close_scope();
+        let _ = self.close_scope(steps);
         self.go_on();
         Ok(())
     }
 
     /// An instruction that frees an object, or opens or closes a scope.
-    pub(crate) fn act_freeing(&mut self, line: Line, instr: Instr, op: Op) -> Result<(), End>
+    pub(crate) fn act_freeing<L: Ledger>(
+        &mut self,
+        line: Line,
+        instr: Instr,
+        op: Op,
+        steps: &mut Steps<L>,
+    ) -> Result<(), End>
         requires point { self.old.calls.running.point + 1 < 2 ^ 64 }
         requires freeing { IsFreeing op }
         requires deep { self.old.memory.scopes.depth < 2 ^ 64 - 1 }
@@ -134,13 +156,13 @@ impl State {
         ensures image { (code : Program) (fits : ℕ → Bool) (places : ℕ → ℕ) (c : CodeState) → HasPins code self.old.pins → Stands places c self.old → CountsWell self.old c → IfErr result (StopsIn code (act code fits line instr op c.handed c.numbers c.state) self.new) }
     {
         match op {
-            Op::Free => self.free(line, self.address(0)),
+            Op::Free => self.free(line, self.address(0), steps),
             Op::Enter => {
                 self.open_scope();
                 self.go_on();
                 Ok(())
             }
-            Op::Leave => self.leave(),
+            Op::Leave => self.leave(steps),
             _ => unreachable!(),
         }
     }

@@ -22,14 +22,22 @@ use crate::making::size_in;
 use crate::state::State;
 use flat_code::Instr;
 use flat_objects::Word;
-use hs_base::{BadFree, End, Line};
+use hs_base::{BadFree, End, Line, Steps};
+use std::sync::ledger::Ledger;
 
 impl State {
     /// Grows the object at an address that is not null. A new object of another size takes the first bytes of the old one, as
     /// many as both have, and a register its address; then the old object is freed, in a scope of its own where none is open.
     /// The pointers that count in that check are those behind the instruction, with the new address. Where the heap has no place
     /// for the new object the register takes null, and the old object stays as it was.
-    fn grow_object(&mut self, line: Line, instr: Instr, size: u64, from: u32) -> Result<(), End>
+    fn grow_object<L: Ledger>(
+        &mut self,
+        line: Line,
+        instr: Instr,
+        size: u64,
+        from: u32,
+        steps: &mut Steps<L>,
+    ) -> Result<(), End>
         requires point { self.old.calls.running.point + 1 < 2 ^ 64 }
         requires births { self.old.births + 1 < 2 ^ 64 }
         requires form { (element : Layout) × (slice_get self.old.memory.forms instr.b ≡ Some (element_of element)) }
@@ -39,24 +47,29 @@ impl State {
         ensures alone { (code : Program) (element : Layout) (places : ℕ → ℕ) (c : CodeState) → HasPins code self.old.pins → Stands places c self.old → CountsWell self.old (without_register instr.a c) → slice_get self.old.memory.forms instr.b ≡ Some (element_of element) → Alone places c self.old (grow code (fits_now places c self.old) line instr.a (pointer_at c.handed 0) size element c.numbers c.state) self.new result }
         ensures image { (code : Program) (element : Layout) (places : ℕ → ℕ) (c : CodeState) → HasPins code self.old.pins → Stands places c self.old → CountsWell self.old (without_register instr.a c) → slice_get self.old.memory.forms instr.b ≡ Some (element_of element) → IfErr result (StopsIn code (grow code (fits_now places c self.old) line instr.a (pointer_at c.handed 0) size element c.numbers c.state) self.new) }
     {
-        if let Err(reason) = self.may_free(from) {
+        if let Err(reason) = self.may_free(from, steps) {
             return Err(End::BadFree(BadFree { reason, line }, None));
         }
-        let Some(to) = self.new_object(size, instr.b, line) else {
+        let Some(to) = self.new_object(size, instr.b, line, steps) else {
             self.give(Some(instr.a), Word::Address(0));
             return Ok(());
         };
-        if let Err(kind) = self.grow(to, from) {
+        if let Err(kind) = self.grow(to, from, steps) {
             return Err(End::Trap(kind, line));
         }
         // The check of the free counts the new address.
         self.put(instr.a, Word::Address(to));
-        self.free(line, from)?;
+        self.free(line, from, steps)?;
         Ok(())
     }
 
     /// An instruction that grows an object; one that grows null makes an object.
-    pub(crate) fn act_growing(&mut self, line: Line, instr: Instr) -> Result<(), End>
+    pub(crate) fn act_growing<L: Ledger>(
+        &mut self,
+        line: Line,
+        instr: Instr,
+        steps: &mut Steps<L>,
+    ) -> Result<(), End>
         requires point { self.old.calls.running.point + 1 < 2 ^ 64 }
         requires births { self.old.births + 1 < 2 ^ 64 }
         requires form { (element : Layout) × (slice_get self.old.memory.forms instr.b ≡ Some (element_of element)) }
@@ -67,10 +80,10 @@ impl State {
         let size = size_in(self.integer(1));
         let from = self.address(0);
         if from == 0 {
-            self.make(line, instr.a, size, instr.b);
+            self.make(line, instr.a, size, instr.b, steps);
             Ok(())
         } else {
-            self.grow_object(line, instr, size, from)
+            self.grow_object(line, instr, size, from, steps)
         }
     }
 }

@@ -19,11 +19,11 @@ ghost use Rattle.flat_code.specs.declared.program.Code.{Code as Program};
 ghost use Rattle.code_meaning.specs.Checking.{holders};
 
 use crate::calls::Calls;
-use crate::counted;
 use crate::state::State;
 use crate::words::address_in;
 use flat_objects::{FlatObjects, Holding};
-use hs_base::{Holder, Pointer};
+use hs_base::{Holder, Pointer, Steps};
+use std::sync::ledger::Ledger;
 
 /// The memory local of a birth: the number of its function and its own, if it is one of these calls.
 fn owner_of(calls: &Calls, birth: u64) -> Option<(u32, u32)>
@@ -66,29 +66,30 @@ pub(crate) fn inside_holder(found: Holding, statics: usize, calls: &Calls) -> Ho
 }
 
 /// Says whether an address leads to the object that starts at another.
-fn leads_to(objects: &FlatObjects, addr: u32, start: u32) -> bool
+fn leads_to<L: Ledger>(objects: &FlatObjects, addr: u32, start: u32, steps: &mut Steps<L>) -> bool
     requires one { IsKept objects.now addr }
     requires other { IsKept objects.now start }
     ensures { (places : ℕ → ℕ) (all : List Object) (p : Pointer) (birth : ℕ) → KeepsAt objects.now places all p addr → IsThere all birth → start ≡ places birth → result ≡ is_pointer_to birth p }
 {
-    counted::difference(objects, addr, start, 1).is_ok()
+    objects.difference(addr, start, 1, steps).is_ok()
 }
 
 /// The first of some registers of a call whose pointer leads to the object that starts at an address. Calls are numbered from the
 /// oldest on.
-pub(crate) fn first_register(
+pub(crate) fn first_register<L: Ledger>(
     objects: &FlatObjects,
     calls: &Calls,
     k: usize,
     registers: &[u32],
     start: u32,
+    steps: &mut Steps<L>,
 ) -> Option<u32>
     requires { IsHolding objects.now (call_number calls.now k) registers.now start }
     ensures { (places : ℕ → ℕ) (all : List Object) (frame : Situation) (birth : ℕ) → HoldsIn objects.now places all frame (call_number calls.now k) registers.now birth start → result ≡ find (λ r. is_pointer_to birth (pointer_of_register frame r)) registers.now }
 {
     for i in 0..registers.len() {
         let addr = address_in(calls.word_of(k, registers[i]));
-        if leads_to(objects, addr, start) {
+        if leads_to(objects, addr, start, steps) {
             return Some(registers[i]);
         }
     }
@@ -98,32 +99,32 @@ pub(crate) fn first_register(
 impl State {
     /// The first of the registers that count in the calls, from the oldest on, whose pointer leads to the object that starts at an
     /// address, which is named.
-    fn holder_in_calls(&self, start: u32) -> Option<Holder>
+    fn holder_in_calls<L: Ledger>(&self, start: u32, steps: &mut Steps<L>) -> Option<Holder>
         requires named { IsNamed self.now }
         requires start { self.now.memory.scopes.named ≡ Some start }
         ensures { (places : ℕ → ℕ) (c : CodeState) (birth : ℕ) → NamesHeld places c birth self.now → result ≡ first_of (flat_map (in_frame self.now.pins birth) (reverse c.state.waiting ++ c.state.running ∷ [])) }
     {
         let waiting = self.waiting();
         for k in 0..waiting {
-            if let Some(holder) = self.holder_in(k, start) {
+            if let Some(holder) = self.holder_in(k, start, steps) {
                 return Some(holder);
             }
         }
-        self.holder_in(waiting, start)
+        self.holder_in(waiting, start, steps)
     }
 
     /// The first holder of the object that the memory names: inside an object, by birth, or else among the registers that count in
     /// the calls, from the oldest on.
-    pub(crate) fn first_holder(&self) -> Option<Holder>
+    pub(crate) fn first_holder<L: Ledger>(&self, steps: &mut Steps<L>) -> Option<Holder>
         requires { IsNamed self.now }
         ensures { (code : Program) (places : ℕ → ℕ) (c : CodeState) (birth : ℕ) → HasPins code self.now.pins → NamesHeld places c birth self.now → result ≡ first_of (holders code c.state birth c.state.queue) }
     {
         let Some(start) = self.held() else {
             unreachable!()
         };
-        if let Some(holder) = self.holder_inside(start) {
+        if let Some(holder) = self.holder_inside(start, steps) {
             return Some(holder);
         }
-        self.holder_in_calls(start)
+        self.holder_in_calls(start, steps)
     }
 }

@@ -8,6 +8,8 @@ ghost use Rattle.flat_machine.specs.Standing.{Stands};
 
 use crate::state::State;
 use flat_code::{Code, Entry};
+use hs_base::Steps;
+use std::sync::ledger::Ledger;
 
 /// The size of a layout.
 pub(crate) fn size_of(code: &Code, layout: u32) -> u32
@@ -23,7 +25,12 @@ pub(crate) fn size_of(code: &Code, layout: u32) -> u32
 impl State {
     /// Makes the memory locals of the running call, which is of a function, in their order. All their bytes are zero, and their
     /// pointers are null.
-    pub(crate) fn make_locals(&mut self, code: &Code, entry: &Entry)
+    pub(crate) fn make_locals<L: Ledger>(
+        &mut self,
+        code: &Code,
+        entry: &Entry,
+        steps: &mut Steps<L>,
+    )
         requires there { All (λ n. IsSome (slice_get code.now.layouts n)) entry.now.mems }
         requires may { MayMakeLocals code.now entry.now self.old }
         requires standing { StandsForSome self.old }
@@ -32,7 +39,7 @@ impl State {
         for k in 0..entry.mems.len() {
             let layout = entry.mems.as_slice()[k];
             let size = size_of(code, layout);
-            let _addr = self.new_local(size, layout);
+            let _addr = self.new_local(size, layout, steps);
         }
     }
 }

@@ -15,7 +15,8 @@ use crate::running::whole_run;
 use crate::state::State;
 use flat_code::Code;
 use hs_base::{End, Leak, Line, Sink, Source};
-use std::marker::Model;
+use std::marker::{Brand, Model};
+use std::sync::ledger::Blank;
 
 /// A machine that has loaded a code, and runs it once.
 #[derive(Drop)]
@@ -86,7 +87,15 @@ impl Machine {
         }
         self.state.allow(budget);
         self.budget = budget;
-        let end = whole_run(&mut self.state, code, &self.loaded, self.stack, input, out);
+        let end = whole_run::<I, O, Brand>(
+            &mut self.state,
+            code,
+            &self.loaded,
+            self.stack,
+            input,
+            out,
+            Blank::new(1),
+        );
         self.ended = Some(end);
         end
     }
@@ -105,6 +114,6 @@ impl Machine {
         requires { KeepsSome self.now.kept.memory }
         ensures { (places : ℕ → ℕ) (objects : List Object) → Keeps self.now.kept.memory places objects → result ≡ leak_after after objects }
     {
-        self.state.leak(after)
+        self.state.leak::<Brand>(after, Blank::new(1))
     }
 }

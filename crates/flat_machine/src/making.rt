@@ -16,7 +16,8 @@ ghost use Rattle.flat_machine.specs.Leading.{Alone};
 use crate::state::State;
 use flat_code::{Instr, Op};
 use flat_objects::Word;
-use hs_base::Line;
+use hs_base::{Line, Steps};
+use std::sync::ledger::Ledger;
 
 /// A number converted to `size_t`.
 pub(crate) fn size_in(n: i128) -> u64
@@ -28,19 +29,32 @@ pub(crate) fn size_in(n: i128) -> u64
 
 impl State {
     /// Makes an object of so many bytes; a register takes its address, or null where the heap has no place for it.
-    pub(crate) fn make(&mut self, line: Line, r: u32, size: u64, layout: u32)
+    pub(crate) fn make<L: Ledger>(
+        &mut self,
+        line: Line,
+        r: u32,
+        size: u64,
+        layout: u32,
+        steps: &mut Steps<L>,
+    )
         requires point { self.old.calls.running.point + 1 < 2 ^ 64 }
         requires births { self.old.births + 1 < 2 ^ 64 }
         ensures { (element : Layout) (places : ℕ → ℕ) (c : CodeState) → Stands places c self.old → slice_get self.old.memory.forms layout ≡ Some (element_of element) → Alone places c self.old (same_numbers c.numbers (make (fits_now places c self.old) line r size element c.state)) self.new (Ok tt) }
     {
-        match self.new_object(size, layout, line) {
+        match self.new_object(size, layout, line, steps) {
             Some(addr) => self.give(Some(r), Word::Address(addr)),
             None => self.give(Some(r), Word::Address(0)),
         }
     }
 
     /// An instruction that makes an object: all its bytes are zero, and its pointers are null.
-    pub(crate) fn act_making(&mut self, line: Line, instr: Instr, op: Op)
+    pub(crate) fn act_making<L: Ledger>(
+        &mut self,
+        line: Line,
+        instr: Instr,
+        op: Op,
+        steps: &mut Steps<L>,
+    )
         requires point { self.old.calls.running.point + 1 < 2 ^ 64 }
         requires making { IsMaking op }
         requires births { self.old.births + 1 < 2 ^ 64 }
@@ -48,10 +62,10 @@ impl State {
     {
         let size = size_in(self.integer(0));
         match op {
-            Op::Malloc => self.make(line, instr.a, size, instr.b),
+            Op::Malloc => self.make(line, instr.a, size, instr.b, steps),
             Op::Calloc => {
                 let element = size_in(self.integer(1));
-                self.make(line, instr.a, size * element, instr.b)
+                self.make(line, instr.a, size * element, instr.b, steps)
             }
             _ => unreachable!(),
         }

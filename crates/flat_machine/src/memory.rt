@@ -15,11 +15,18 @@ ghost use Rattle.flat_machine.specs.Leading.{Alone};
 use crate::state::State;
 use flat_code::{Instr, Op};
 use flat_objects::Word;
-use hs_base::{End, Line};
+use hs_base::{End, Line, Steps};
+use std::sync::ledger::Ledger;
 
 impl State {
     /// An instruction that reads or writes an object.
-    pub(crate) fn act_memory(&mut self, line: Line, instr: Instr, op: Op) -> Result<(), End>
+    pub(crate) fn act_memory<L: Ledger>(
+        &mut self,
+        line: Line,
+        instr: Instr,
+        op: Op,
+        steps: &mut Steps<L>,
+    ) -> Result<(), End>
         requires point { self.old.calls.running.point + 1 < 2 ^ 64 }
         requires memory { IsMemory op }
         requires kept { IsKept self.old.memory (address_at self.old.handed 0) }
@@ -29,14 +36,14 @@ impl State {
     {
         let addr = self.address(0);
         match op {
-            Op::Load(kind) => match self.load(kind, addr) {
+            Op::Load(kind) => match self.load(kind, addr, steps) {
                 Ok(n) => {
                     self.give(Some(instr.a), Word::Number(n));
                     Ok(())
                 }
                 Err(kind) => Err(End::Trap(kind, line)),
             },
-            Op::Loadp => match self.load_pointer(addr) {
+            Op::Loadp => match self.load_pointer(addr, steps) {
                 Ok(target) => {
                     self.give(Some(instr.a), Word::Address(target));
                     Ok(())
@@ -45,7 +52,7 @@ impl State {
             },
             Op::Store(kind) => {
                 let n = self.integer(1);
-                match self.store(kind, addr, n) {
+                match self.store(kind, addr, n, steps) {
                     Ok(()) => {
                         self.go_on();
                         Ok(())
@@ -55,7 +62,7 @@ impl State {
             }
             Op::Storep => {
                 let target = self.address(1);
-                match self.store_pointer(addr, target) {
+                match self.store_pointer(addr, target, steps) {
                     Ok(()) => {
                         self.go_on();
                         Ok(())

@@ -16,11 +16,18 @@ use crate::calling::byte_in;
 use crate::state::State;
 use core_tree::LibName;
 use flat_objects::Word;
-use hs_base::{End, Line, Sink, Source, TrapKind, put_all};
+use hs_base::{End, Line, Sink, Source, Steps, TrapKind, put_all};
+use std::sync::ledger::Ledger;
 
 impl State {
     /// `puts`.
-    fn act_puts<O: Sink>(&mut self, line: Line, r: Option<u32>, out: &mut O) -> Result<(), End>
+    fn act_puts<O: Sink, L: Ledger>(
+        &mut self,
+        line: Line,
+        r: Option<u32>,
+        out: &mut O,
+        steps: &mut Steps<L>,
+    ) -> Result<(), End>
         requires point { self.old.calls.running.point + 1 < 2 ^ 64 }
         requires count { O.faults out.old + 1 < 2 ^ 64 }
         requires kept { IsKept self.old.memory (address_at self.old.handed 0) }
@@ -29,7 +36,7 @@ impl State {
         ensures unchanged { IfErr result (λ _. self.new ≡ self.old) }
         ensures moves { (places : ℕ → ℕ) (c : CodeState) → Stands places c self.old → Moves self.old (same_numbers c.numbers (call_lib line libs.Puts r c.handed c.state)) self.new result }
     {
-        match self.put_line(self.address(0), out) {
+        match self.put_line(self.address(0), out, steps) {
             Ok(()) => {
                 self.give(r, Word::Number(0));
                 Ok(())
@@ -80,13 +87,14 @@ impl State {
     }
 
     /// A call of a built-in function that writes no object; a register takes its answer.
-    pub(crate) fn act_lib<I: Source, O: Sink>(
+    pub(crate) fn act_lib<I: Source, O: Sink, L: Ledger>(
         &mut self,
         line: Line,
         name: LibName,
         r: Option<u32>,
         input: &mut I,
         out: &mut O,
+        steps: &mut Steps<L>,
     ) -> Result<(), End>
         requires point { self.old.calls.running.point + 1 < 2 ^ 64 }
         requires name { IsPlainLib name }
@@ -101,10 +109,10 @@ impl State {
         match name {
             LibName::Getchar => self.get(r, input),
             LibName::Putchar => self.put_char(r, self.integer(0), out),
-            LibName::Puts => self.act_puts(line, r, out),
+            LibName::Puts => self.act_puts(line, r, out, steps),
             LibName::Exit => Err(End::Exit(byte_in(self.integer(0)))),
             LibName::Abort => Err(End::Trap(TrapKind::Abort, line)),
-            LibName::Strlen | LibName::Strcmp => self.act_string(line, name, r),
+            LibName::Strlen | LibName::Strcmp => self.act_string(line, name, r, steps),
             _ => unreachable!(),
         }
     }

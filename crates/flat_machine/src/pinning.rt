@@ -8,10 +8,10 @@ ghost use Rattle.flat_objects.specs.Counting.{Frees, Tracks};
 ghost use Rattle.flat_machine.specs.Pinning.{DoesCount, IsCountable, IsCounted, MayCount};
 
 use crate::calls::Calls;
-use crate::counted;
 use crate::words::address_in;
 use flat_objects::FlatObjects;
-use hs_base::{Items, Pointer};
+use hs_base::{Items, Pointer, Steps};
+use std::sync::ledger::Ledger;
 
 /// The registers that count at an instruction, and none where it has no site.
 pub(crate) fn pins_at(pins: &[Items<u32>], point: usize) -> &[u32]
@@ -25,25 +25,35 @@ pub(crate) fn pins_at(pins: &[Items<u32>], point: usize) -> &[u32]
 }
 
 /// Pins some registers of the running call.
-pub(crate) fn pin_registers(objects: &mut FlatObjects, calls: &Calls, registers: &[u32])
+pub(crate) fn pin_registers<L: Ledger>(
+    objects: &mut FlatObjects,
+    calls: &Calls,
+    registers: &[u32],
+    steps: &mut Steps<L>,
+)
     requires { IsCountable objects.old calls.now.running.words registers.now }
     ensures keeps { (places : ℕ → ℕ) (all : List Object) → Keeps objects.old places all → Keeps objects.new places all }
     ensures tracks { (places : ℕ → ℕ) (all : List Object) (frees : Frees) (pointers : List Pointer) → MayCount objects.old places all frees calls.now.running.words registers.now pointers → Tracks objects.new places all (record frees { pins = pointers ++ frees.pins }) }
     ensures frame { SameFrame objects.old objects.new }
 {
     for i in 0..registers.len() {
-        counted::pin(objects, address_in(calls.word(registers[i])));
+        objects.pin(address_in(calls.word(registers[i])), steps);
     }
 }
 
 /// Unpins some registers of the running call.
-pub(crate) fn unpin_registers(objects: &mut FlatObjects, calls: &Calls, registers: &[u32])
+pub(crate) fn unpin_registers<L: Ledger>(
+    objects: &mut FlatObjects,
+    calls: &Calls,
+    registers: &[u32],
+    steps: &mut Steps<L>,
+)
     requires { IsCounted objects.old calls.now.running.words registers.now }
     ensures keeps { (places : ℕ → ℕ) (all : List Object) → Keeps objects.old places all → Keeps objects.new places all }
     ensures tracks { (places : ℕ → ℕ) (all : List Object) (frees : Frees) (pointers others : List Pointer) → DoesCount objects.old places all frees calls.now.running.words registers.now pointers others → Tracks objects.new places all (record frees { pins = others }) }
     ensures frame { SameFrame objects.old objects.new }
 {
     for i in 0..registers.len() {
-        counted::unpin(objects, address_in(calls.word(registers[i])));
+        objects.unpin(address_in(calls.word(registers[i])), steps);
     }
 }

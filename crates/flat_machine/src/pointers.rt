@@ -14,11 +14,18 @@ ghost use Rattle.flat_machine.specs.Leading.{Alone};
 use crate::state::State;
 use flat_code::{Instr, Op};
 use flat_objects::Word;
-use hs_base::{End, Line};
+use hs_base::{End, Line, Steps};
+use std::sync::ledger::Ledger;
 
 impl State {
     /// An instruction that moves, subtracts or compares pointers.
-    pub(crate) fn act_pointers(&mut self, line: Line, instr: Instr, op: Op) -> Result<(), End>
+    pub(crate) fn act_pointers<L: Ledger>(
+        &mut self,
+        line: Line,
+        instr: Instr,
+        op: Op,
+        steps: &mut Steps<L>,
+    ) -> Result<(), End>
         requires point { self.old.calls.running.point + 1 < 2 ^ 64 }
         requires pointers { IsPointers op }
         requires kept { (k : ℕ) → IsKept self.old.memory (address_at self.old.handed k) }
@@ -28,28 +35,28 @@ impl State {
     {
         let p = self.address(0);
         match op {
-            Op::Add => match self.moved_up(p, self.integer(1), i128::from(instr.imm)) {
+            Op::Add => match self.moved_up(p, self.integer(1), i128::from(instr.imm), steps) {
                 Ok(addr) => {
                     self.give(Some(instr.a), Word::Address(addr));
                     Ok(())
                 }
                 Err(kind) => Err(End::Trap(kind, line)),
             },
-            Op::Sub => match self.moved_down(p, self.integer(1), i128::from(instr.imm)) {
+            Op::Sub => match self.moved_down(p, self.integer(1), i128::from(instr.imm), steps) {
                 Ok(addr) => {
                     self.give(Some(instr.a), Word::Address(addr));
                     Ok(())
                 }
                 Err(kind) => Err(End::Trap(kind, line)),
             },
-            Op::Diff => match self.difference(p, self.address(1), i128::from(instr.imm)) {
+            Op::Diff => match self.difference(p, self.address(1), i128::from(instr.imm), steps) {
                 Ok(n) => {
                     self.give(Some(instr.a), Word::Number(n));
                     Ok(())
                 }
                 Err(kind) => Err(End::Trap(kind, line)),
             },
-            Op::Pcmp(op) => match self.compare(op, p, self.address(1)) {
+            Op::Pcmp(op) => match self.compare(op, p, self.address(1), steps) {
                 Ok(n) => {
                     self.give(Some(instr.a), Word::Number(n));
                     Ok(())

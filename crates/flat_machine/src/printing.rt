@@ -23,7 +23,8 @@ use crate::put_error::PutError;
 use crate::state::State;
 use c_print::{Piece, put_number, put_repeated};
 use flat_objects::Word;
-use hs_base::{End, Failed, IntKind, Line, Sink, put_all};
+use hs_base::{End, Failed, IntKind, Line, Sink, Steps, put_all};
+use std::sync::ledger::Ledger;
 
 /// How a string stands in its width.
 #[derive(Clone, Copy)]
@@ -94,12 +95,13 @@ fn place_behind(piece: &Piece, place: usize) -> usize
 
 impl State {
     /// Writes the string of so many bytes at an address, filled by spaces to a width; answers how many bytes that is.
-    fn put_padded<O: Sink>(
+    fn put_padded<O: Sink, L: Ledger>(
         &self,
         addr: u32,
         len: u32,
         field: StringField,
         out: &mut O,
+        steps: &mut Steps<L>,
     ) -> Result<u64, Failed>
         requires count { O.faults out.old + 1 < 2 ^ 64 }
         requires string { HasString self.now.memory addr len }
@@ -109,32 +111,44 @@ impl State {
     {
         let fill = field.width.saturating_sub(len);
         if field.left {
-            self.put_string(addr, len, out)?;
+            self.put_string(addr, len, out, steps)?;
             put_repeated(out, b' ', fill)?;
         } else {
             put_repeated(out, b' ', fill)?;
-            self.put_string(addr, len, out)?;
+            self.put_string(addr, len, out, steps)?;
         }
         Ok(u64::from(len) + u64::from(fill))
     }
 
     /// Writes the string at an address as an item does; answers how many bytes that is. Nothing is written where the string
     /// traps.
-    fn put_text<O: Sink>(&self, addr: u32, field: StringField, out: &mut O) -> Result<u64, PutError>
+    fn put_text<O: Sink, L: Ledger>(
+        &self,
+        addr: u32,
+        field: StringField,
+        out: &mut O,
+        steps: &mut Steps<L>,
+    ) -> Result<u64, PutError>
         requires count { O.faults out.old + 1 < 2 ^ 64 }
         requires kept { IsKept self.now.memory addr }
         ensures puts { (places : ℕ → ℕ) (objects : List Object) (p : Pointer) → KeepsAt self.now.memory places objects p addr → PutsText (O.taken out.old) (O.taken out.new) (padded_at objects p field) result }
         ensures len { (places : ℕ → ℕ) (objects : List Object) (p : Pointer) → KeepsAt self.now.memory places objects p addr → IfOk result (IsLengthOf (padded_at objects p field)) }
         ensures cause { CountsPut (O.faults out.old) (O.faults out.new) result }
     {
-        match self.string_length(addr) {
-            Ok(len) => Ok(self.put_padded(addr, len, field, out)?),
+        match self.string_length(addr, steps) {
+            Ok(len) => Ok(self.put_padded(addr, len, field, out, steps)?),
             Err(kind) => Err(PutError::Trapped(kind)),
         }
     }
 
     /// Writes a piece with the argument at a place; answers how many bytes that is.
-    fn put_piece<O: Sink>(&self, piece: &Piece, place: usize, out: &mut O) -> Result<u64, PutError>
+    fn put_piece<O: Sink, L: Ledger>(
+        &self,
+        piece: &Piece,
+        place: usize,
+        out: &mut O,
+        steps: &mut Steps<L>,
+    ) -> Result<u64, PutError>
         requires count { O.faults out.old + 1 < 2 ^ 64 }
         requires given { IsGiven piece.now }
         requires kept { IsKept self.now.memory (address_at self.now.handed place) }
@@ -143,13 +157,18 @@ impl State {
         ensures cause { CountsPut (O.faults out.old) (O.faults out.new) result }
     {
         match string_field(piece) {
-            Some(field) => self.put_text(self.address(place), field, out),
+            Some(field) => self.put_text(self.address(place), field, out, steps),
             None => Ok(put_number_piece(out, piece, self.integer(place))?),
         }
     }
 
     /// Writes pieces with what was handed over, one after another; answers how many bytes that is.
-    fn put_pieces<O: Sink>(&self, pieces: &[Piece], out: &mut O) -> Result<i128, PutError>
+    fn put_pieces<O: Sink, L: Ledger>(
+        &self,
+        pieces: &[Piece],
+        out: &mut O,
+        steps: &mut Steps<L>,
+    ) -> Result<i128, PutError>
         requires count { O.faults out.old + 1 < 2 ^ 64 }
         requires given { All IsGiven pieces.now }
         requires kept { (k : ℕ) → IsKept self.now.memory (address_at self.now.handed k) }
@@ -160,7 +179,7 @@ impl State {
         let mut written = 0;
         for i in 0..pieces.len() {
             let piece = &pieces[i];
-            match self.put_piece(piece, place, out) {
+            match self.put_piece(piece, place, out, steps) {
                 Ok(len) => written += i128::from(len),
                 Err(error) => return Err(error),
             }
@@ -170,12 +189,13 @@ impl State {
     }
 
     /// A call of printf with a format of these pieces.
-    pub(crate) fn act_printf<O: Sink>(
+    pub(crate) fn act_printf<O: Sink, L: Ledger>(
         &mut self,
         line: Line,
         r: u32,
         pieces: &[Piece],
         out: &mut O,
+        steps: &mut Steps<L>,
     ) -> Result<(), End>
         requires point { self.old.calls.running.point + 1 < 2 ^ 64 }
         requires count { O.faults out.old + 1 < 2 ^ 64 }
@@ -186,7 +206,7 @@ impl State {
         ensures unchanged { IfErr result (λ _. self.new ≡ self.old) }
         ensures moves { (places : ℕ → ℕ) (c : CodeState) (format : List ℕ) → Stands places c self.old → pieces.now ≡ pieces_of format → Moves self.old (same_numbers c.numbers (print_format line r format c.handed c.state)) self.new result }
     {
-        match self.put_pieces(pieces, out) {
+        match self.put_pieces(pieces, out, steps) {
             Ok(n) => {
                 self.give(Some(r), Word::Number(IntKind::I32.wrap(n)));
                 Ok(())

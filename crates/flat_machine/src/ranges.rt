@@ -25,7 +25,8 @@ use crate::state::State;
 use core_tree::LibName;
 use flat_code::Op;
 use flat_objects::Word;
-use hs_base::{End, Line, Sink, Source};
+use hs_base::{End, Line, Sink, Source, Steps};
+use std::sync::ledger::Ledger;
 
 /// A number of bytes; there are none below 0.
 fn bytes_in(n: i128) -> u64
@@ -37,7 +38,7 @@ fn bytes_in(n: i128) -> u64
 
 impl State {
     /// Copies a range of bytes.
-    fn copy_range(&mut self, line: Line) -> Result<(), End>
+    fn copy_range<L: Ledger>(&mut self, line: Line, steps: &mut Steps<L>) -> Result<(), End>
         requires point { self.old.calls.running.point + 1 < 2 ^ 64 }
         requires storable { IsStorable self.old.memory (address_at self.old.handed 0) (address_at self.old.handed 1) }
         requires small { bytes_in (integer_at self.old.handed 2) < 2 ^ 64 }
@@ -47,7 +48,7 @@ impl State {
         let to = self.address(0);
         let from = self.address(1);
         let n = bytes_in(self.integer(2));
-        match self.copy(to, from, n) {
+        match self.copy(to, from, n, steps) {
             Ok(()) => {
                 self.go_on();
                 Ok(())
@@ -57,7 +58,7 @@ impl State {
     }
 
     /// Sets a range of bytes to zero; the pointers within become null.
-    fn clear_range(&mut self, line: Line) -> Result<(), End>
+    fn clear_range<L: Ledger>(&mut self, line: Line, steps: &mut Steps<L>) -> Result<(), End>
         requires point { self.old.calls.running.point + 1 < 2 ^ 64 }
         requires settable { IsSettable self.old.memory (address_at self.old.handed 0) }
         requires small { bytes_in (integer_at self.old.handed 1) < 2 ^ 64 }
@@ -66,7 +67,7 @@ impl State {
     {
         let start = self.address(0);
         let n = bytes_in(self.integer(1));
-        match self.set_bytes(start, 0, n) {
+        match self.set_bytes(start, 0, n, steps) {
             Ok(()) => {
                 self.go_on();
                 Ok(())
@@ -76,7 +77,12 @@ impl State {
     }
 
     /// An instruction that copies or clears a range of bytes.
-    pub(crate) fn act_ranges(&mut self, line: Line, op: Op) -> Result<(), End>
+    pub(crate) fn act_ranges<L: Ledger>(
+        &mut self,
+        line: Line,
+        op: Op,
+        steps: &mut Steps<L>,
+    ) -> Result<(), End>
         requires point { self.old.calls.running.point + 1 < 2 ^ 64 }
         requires ranges { IsRanges op }
         requires storable { IsStorable self.old.memory (address_at self.old.handed 0) (address_at self.old.handed 1) }
@@ -86,14 +92,19 @@ impl State {
         ensures unchanged { IfErr result (λ _. self.new ≡ self.old) }
     {
         match op {
-            Op::Copy => self.copy_range(line),
-            Op::Clear => self.clear_range(line),
+            Op::Copy => self.copy_range(line, steps),
+            Op::Clear => self.clear_range(line, steps),
             _ => unreachable!(),
         }
     }
 
     /// `memcpy` and `memmove`.
-    fn act_copy(&mut self, line: Line, r: Option<u32>) -> Result<(), End>
+    fn act_copy<L: Ledger>(
+        &mut self,
+        line: Line,
+        r: Option<u32>,
+        steps: &mut Steps<L>,
+    ) -> Result<(), End>
         requires point { self.old.calls.running.point + 1 < 2 ^ 64 }
         requires storable { IsStorable self.old.memory (address_at self.old.handed 0) (address_at self.old.handed 1) }
         ensures leads { (places : ℕ → ℕ) (c : CodeState) → Stands places c self.old → Alone places c self.old (other_numbers (behind_lib libs.Memcpy c.handed c.numbers) c.numbers (call_lib line libs.Memcpy r c.handed c.state)) self.new result }
@@ -102,7 +113,7 @@ impl State {
     {
         let to = self.address(0);
         let from = self.address(1);
-        match self.copy(to, from, size_in(self.integer(2))) {
+        match self.copy(to, from, size_in(self.integer(2)), steps) {
             Ok(()) => {
                 self.give(r, Word::Address(to));
                 Ok(())
@@ -112,7 +123,12 @@ impl State {
     }
 
     /// `memset`.
-    fn act_set(&mut self, line: Line, r: Option<u32>) -> Result<(), End>
+    fn act_set<L: Ledger>(
+        &mut self,
+        line: Line,
+        r: Option<u32>,
+        steps: &mut Steps<L>,
+    ) -> Result<(), End>
         requires point { self.old.calls.running.point + 1 < 2 ^ 64 }
         requires settable { IsSettable self.old.memory (address_at self.old.handed 0) }
         ensures leads { (places : ℕ → ℕ) (c : CodeState) → Stands places c self.old → Alone places c self.old (other_numbers (behind_lib libs.Memset c.handed c.numbers) c.numbers (call_lib line libs.Memset r c.handed c.state)) self.new result }
@@ -121,7 +137,7 @@ impl State {
     {
         let start = self.address(0);
         let byte = byte_in(self.integer(1));
-        match self.set_bytes(start, byte, size_in(self.integer(2))) {
+        match self.set_bytes(start, byte, size_in(self.integer(2)), steps) {
             Ok(()) => {
                 self.give(r, Word::Address(start));
                 Ok(())
@@ -131,7 +147,13 @@ impl State {
     }
 
     /// A call of a built-in function that writes a range of bytes; a register takes the address of its destination.
-    fn act_range_lib(&mut self, line: Line, name: LibName, r: Option<u32>) -> Result<(), End>
+    fn act_range_lib<L: Ledger>(
+        &mut self,
+        line: Line,
+        name: LibName,
+        r: Option<u32>,
+        steps: &mut Steps<L>,
+    ) -> Result<(), End>
         requires point { self.old.calls.running.point + 1 < 2 ^ 64 }
         requires name { IsRangeLib name }
         requires storable { IsStorable self.old.memory (address_at self.old.handed 0) (address_at self.old.handed 1) }
@@ -141,21 +163,22 @@ impl State {
         ensures unchanged { IfErr result (λ _. self.new ≡ self.old) }
     {
         match name {
-            LibName::Memcpy => self.act_copy(line, r),
-            LibName::Memmove => self.act_copy(line, r),
-            LibName::Memset => self.act_set(line, r),
+            LibName::Memcpy => self.act_copy(line, r, steps),
+            LibName::Memmove => self.act_copy(line, r, steps),
+            LibName::Memset => self.act_set(line, r, steps),
             _ => unreachable!(),
         }
     }
 
     /// A call of a built-in function; a register takes its answer.
-    pub(crate) fn act_built_in<I: Source, O: Sink>(
+    pub(crate) fn act_built_in<I: Source, O: Sink, L: Ledger>(
         &mut self,
         line: Line,
         name: LibName,
         r: Option<u32>,
         input: &mut I,
         out: &mut O,
+        steps: &mut Steps<L>,
     ) -> Result<(), End>
         requires point { self.old.calls.running.point + 1 < 2 ^ 64 }
         requires kept { (k : ℕ) → IsKept self.old.memory (address_at self.old.handed k) }
@@ -170,9 +193,9 @@ impl State {
     {
         match name {
             LibName::Memcpy | LibName::Memmove | LibName::Memset => {
-                self.act_range_lib(line, name, r)
+                self.act_range_lib(line, name, r, steps)
             }
-            _ => self.act_lib(line, name, r, input, out),
+            _ => self.act_lib(line, name, r, input, out, steps),
         }
     }
 }

@@ -16,15 +16,17 @@ use crate::state::State;
 use crate::steps::one_step;
 use code_soundness::{run_begins_well, step_leaves_less, step_stays_good};
 use flat_code::Code;
-use hs_base::{End, Sink, Source};
+use hs_base::{End, Sink, Source, Steps};
+use std::sync::ledger::{Blank, Ledger};
 
-/// Makes instructions until the run ends.
-pub(crate) fn end_of_run<I: Source, O: Sink>(
+/// Makes instructions until the run ends: groups of them in one where that can be, and else one by one.
+pub(crate) fn end_of_run<I: Source, O: Sink, L: Ledger>(
     state: &mut State,
     code: &Code,
     loaded: &Loaded,
     input: &mut I,
     out: &mut O,
+    steps: &mut Steps<L>,
 ) -> End
     requires formed { IsWellFormed code.now }
     requires loaded { IsLoaded code.now loaded.now }
@@ -39,7 +41,8 @@ pub(crate) fn end_of_run<I: Source, O: Sink>(
     step_stays_good();
     step_leaves_less();
     'instructions: loop {
-        match one_step(state, code, loaded, input, out) {
+        state.go(code, loaded.operations.as_slice());
+        match one_step(state, code, loaded, input, out, steps) {
             Ok(()) => {}
             Err(end) => return end,
         }
@@ -47,7 +50,13 @@ pub(crate) fn end_of_run<I: Source, O: Sink>(
 }
 
 /// The first instruction: calls main, if a step is left and the stack has room for it, and makes its memory locals.
-fn begin(state: &mut State, code: &Code, loaded: &Loaded, stack: u32) -> Result<(), End>
+fn begin<L: Ledger>(
+    state: &mut State,
+    code: &Code,
+    loaded: &Loaded,
+    stack: u32,
+    steps: &mut Steps<L>,
+) -> Result<(), End>
     requires formed { IsWellFormed code.now }
     requires bytes { HoldsBytes code.now }
     requires loaded { IsLoaded code.now loaded.now }
@@ -80,19 +89,23 @@ fn begin(state: &mut State, code: &Code, loaded: &Loaded, stack: u32) -> Result<
     }
     state.all_fit();
     state.begin(main.first, *cost as u32);
-    state.make_locals(code, main);
+    state.make_locals(code, main, steps);
     Ok(())
 }
 
-/// Runs code from its first instruction on, on a stack of so many bytes.
-pub(crate) fn whole_run<I: Source, O: Sink>(
+/// Runs code from its first instruction on, on a stack of so many bytes. All that the run does is counted by one counter.
+pub(crate) fn whole_run<I: Source, O: Sink, L: Ledger>(
     state: &mut State,
     code: &Code,
     loaded: &Loaded,
     stack: u32,
     input: &mut I,
     out: &mut O,
+    blank: Blank,
 ) -> End
+    requires name { blank.name ≡ L.name }
+    requires parts { blank.parts ≡ L.parts }
+    requires some { 0 < blank.parts }
     requires formed { IsWellFormed code.now }
     requires bytes { HoldsBytes code.now }
     requires loaded { IsLoaded code.now loaded.now }
@@ -105,8 +118,9 @@ pub(crate) fn whole_run<I: Source, O: Sink>(
     ensures left { (left : List ℕ) (n : ℕ) (limits : Limits) (taken : List ℕ) → n ≡ state.old.steps → limits.stack ≡ stack → limits.heap ≡ state.old.memory.heap.len → I.left input.old ≡ Some left → O.taken out.old ≡ Some taken → LeavesImage code.now left n limits result state.new }
     ensures faults { RunCounts result (I.faults input.old) (I.faults input.new) (O.faults out.old) (O.faults out.new) }
 {
-    match begin(state, code, loaded, stack) {
-        Ok(()) => end_of_run(state, code, loaded, input, out),
+    let mut steps = Steps::<L>::new(blank);
+    match begin(state, code, loaded, stack, &mut steps) {
+        Ok(()) => end_of_run(state, code, loaded, input, out, &mut steps),
         Err(end) => end,
     }
 }

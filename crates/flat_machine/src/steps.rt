@@ -28,7 +28,8 @@ use c_print::Piece;
 use code_soundness::running_pins_are_fresh;
 use flat_code::{Code, Instr, Op};
 use flat_objects::Word;
-use hs_base::{End, Items, Line, Sink, Source};
+use hs_base::{End, Items, Line, Sink, Source, Steps};
+use std::sync::ledger::Ledger;
 
 /// The pieces at a place, and none where there are none.
 fn pieces_at(formats: &[Items<Piece>], k: u32) -> &[Piece]
@@ -43,12 +44,13 @@ fn pieces_at(formats: &[Items<Piece>], k: u32) -> &[Piece]
 }
 
 /// Calls a function.
-fn call(
+fn call<L: Ledger>(
     state: &mut State,
     code: &Code,
     loaded: &Loaded,
     line: Line,
     instr: Instr,
+    steps: &mut Steps<L>,
 ) -> Result<(), End>
     requires point { state.old.calls.running.point + 1 < 2 ^ 64 }
     requires formed { IsWellFormed code.now }
@@ -65,17 +67,18 @@ fn call(
     let Some(cost) = loaded.costs.get(f) else {
         unreachable!()
     };
-    state.act_call(code, line, instr, callee, *cost)
+    state.act_call(code, line, instr, callee, *cost, steps)
 }
 
 /// An instruction that neither writes nor reads a byte.
-fn act_alone(
+fn act_alone<L: Ledger>(
     state: &mut State,
     code: &Code,
     loaded: &Loaded,
     line: Line,
     instr: Instr,
     op: Op,
+    steps: &mut Steps<L>,
 ) -> Result<(), End>
     requires point { state.old.calls.running.point + 1 < 2 ^ 64 }
     requires formed { IsWellFormed code.now }
@@ -115,33 +118,34 @@ fn act_alone(
         }
         Op::Jump | Op::Zero | Op::Case | Op::Loop => state.act_jump(line, instr, op),
         Op::Load(..) | Op::Loadp | Op::Store(..) | Op::Storep => {
-            state.act_memory(line, instr, op)
+            state.act_memory(line, instr, op, steps)
         }
-        Op::Add | Op::Sub | Op::Diff | Op::Pcmp(..) => state.act_pointers(line, instr, op),
-        Op::Copy | Op::Clear => state.act_ranges(line, op),
+        Op::Add | Op::Sub | Op::Diff | Op::Pcmp(..) => state.act_pointers(line, instr, op, steps),
+        Op::Copy | Op::Clear => state.act_ranges(line, op, steps),
         Op::Malloc | Op::Calloc => {
-            state.act_making(line, instr, op);
+            state.act_making(line, instr, op, steps);
             Ok(())
         }
-        Op::Realloc => state.act_growing(line, instr),
-        Op::Free | Op::Enter | Op::Leave => state.act_freeing(line, instr, op),
-        Op::Call => call(state, code, loaded, line, instr),
-        Op::Return => state.act_return(code, line, Word::Number(0)),
+        Op::Realloc => state.act_growing(line, instr, steps),
+        Op::Free | Op::Enter | Op::Leave => state.act_freeing(line, instr, op, steps),
+        Op::Call => call(state, code, loaded, line, instr, steps),
+        Op::Return => state.act_return(code, line, Word::Number(0), steps),
         Op::Give => {
             let answer = state.word(0);
-            state.act_return(code, line, answer)
+            state.act_return(code, line, answer, steps)
         }
         _ => unreachable!(),
     }
 }
 
 /// One instruction of well formed code.
-pub(crate) fn one_step<I: Source, O: Sink>(
+pub(crate) fn one_step<I: Source, O: Sink, L: Ledger>(
     state: &mut State,
     code: &Code,
     loaded: &Loaded,
     input: &mut I,
     out: &mut O,
+    steps: &mut Steps<L>,
 ) -> Result<(), End>
     requires formed { IsWellFormed code.now }
     requires loaded { IsLoaded code.now loaded.now }
@@ -164,11 +168,11 @@ pub(crate) fn one_step<I: Source, O: Sink>(
     };
     let instr = *instr;
     match instr.op {
-        Op::Lib(name) => state.act_built_in(*line, name, chosen(instr), input, out),
+        Op::Lib(name) => state.act_built_in(*line, name, chosen(instr), input, out, steps),
         Op::Printf => {
             let pieces = pieces_at(loaded.formats.as_slice(), instr.b);
-            state.act_printf(*line, instr.a, pieces, out)
+            state.act_printf(*line, instr.a, pieces, out, steps)
         }
-        op => act_alone(state, code, loaded, *line, instr, op),
+        op => act_alone(state, code, loaded, *line, instr, op, steps),
     }
 }

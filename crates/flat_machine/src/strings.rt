@@ -19,14 +19,21 @@ use crate::put_error::PutError;
 use crate::state::State;
 use core_tree::LibName;
 use flat_objects::Word;
-use hs_base::{End, Failed, Line, Sink, put_all};
+use hs_base::{End, Failed, Line, Sink, Steps, put_all};
+use std::sync::ledger::Ledger;
 
 /// How many bytes of a string are written at once.
 const CHUNK: usize = 64;
 
 impl State {
     /// The bytes of the string at an address from a place on, as many as are asked for.
-    fn chunk(&self, addr: u32, from: u32, count: u32) -> [u8; CHUNK]
+    fn chunk<L: Ledger>(
+        &self,
+        addr: u32,
+        from: u32,
+        count: u32,
+        steps: &mut Steps<L>,
+    ) -> [u8; CHUNK]
         requires short { count ≤ 64 }
         requires fits { from + count < 2 ^ 32 }
         requires string { (len : ℕ) × HasString self.now.memory addr len × (from + count ≤ len) }
@@ -34,14 +41,20 @@ impl State {
     {
         let mut chunk = [0; CHUNK];
         for i in 0..count {
-            chunk[i as usize] = self.string_byte(addr, from + i);
+            chunk[i as usize] = self.string_byte(addr, from + i, steps);
         }
         chunk
     }
 
     /// Writes the string of so many bytes at an address. After a failure, which is the last call on the sink, a part of it
     /// was taken.
-    pub(crate) fn put_string<O: Sink>(&self, addr: u32, len: u32, out: &mut O) -> Result<(), Failed>
+    pub(crate) fn put_string<O: Sink, L: Ledger>(
+        &self,
+        addr: u32,
+        len: u32,
+        out: &mut O,
+        steps: &mut Steps<L>,
+    ) -> Result<(), Failed>
         requires count { O.faults out.old + 1 < 2 ^ 64 }
         requires string { HasString self.now.memory addr len }
         ensures bytes { (places : ℕ → ℕ) (objects : List Object) (p : Pointer) (text : List ℕ) → IsString self.now.memory places objects p addr text → len ≡ length text → PutsAll (O.taken out.old) (O.taken out.new) text result }
@@ -50,7 +63,7 @@ impl State {
         let mut done = 0;
         while done < len {
             let count = (len - done).min(CHUNK as u32);
-            let chunk = self.chunk(addr, done, count);
+            let chunk = self.chunk(addr, done, count, steps);
             put_all(out, &chunk[..count as usize])?;
             done += count;
         }
@@ -58,27 +71,33 @@ impl State {
     }
 
     /// Writes the string at an address and a line end. Nothing is written where the string traps.
-    pub(crate) fn put_line<O: Sink>(&self, addr: u32, out: &mut O) -> Result<(), PutError>
+    pub(crate) fn put_line<O: Sink, L: Ledger>(
+        &self,
+        addr: u32,
+        out: &mut O,
+        steps: &mut Steps<L>,
+    ) -> Result<(), PutError>
         requires count { O.faults out.old + 1 < 2 ^ 64 }
         requires kept { IsKept self.now.memory addr }
         ensures puts { (places : ℕ → ℕ) (objects : List Object) (p : Pointer) → KeepsAt self.now.memory places objects p addr → PutsText (O.taken out.old) (O.taken out.new) (line_at objects p) result }
         ensures cause { CountsPut (O.faults out.old) (O.faults out.new) result }
     {
-        let len = match self.string_length(addr) {
+        let len = match self.string_length(addr, steps) {
             Ok(len) => len,
             Err(kind) => return Err(PutError::Trapped(kind)),
         };
-        self.put_string(addr, len, out)?;
+        self.put_string(addr, len, out, steps)?;
         put_all(out, b"\n")?;
         Ok(())
     }
 
     /// A call of a built-in function that reads strings; a register takes its answer.
-    pub(crate) fn act_string(
+    pub(crate) fn act_string<L: Ledger>(
         &mut self,
         line: Line,
         name: LibName,
         r: Option<u32>,
+        steps: &mut Steps<L>,
     ) -> Result<(), End>
         requires point { self.old.calls.running.point + 1 < 2 ^ 64 }
         requires name { IsStringLib name }
@@ -89,14 +108,14 @@ impl State {
     {
         let p = self.address(0);
         match name {
-            LibName::Strlen => match self.string_length(p) {
+            LibName::Strlen => match self.string_length(p, steps) {
                 Ok(n) => {
                     self.give(r, Word::Number(i128::from(n)));
                     Ok(())
                 }
                 Err(kind) => Err(End::Trap(kind, line)),
             },
-            LibName::Strcmp => match self.string_order(p, self.address(1)) {
+            LibName::Strcmp => match self.string_order(p, self.address(1), steps) {
                 Ok(n) => {
                     self.give(r, Word::Number(n));
                     Ok(())

@@ -7,22 +7,22 @@ use Rattle.flat_machine.proofs.Holders.{find_first, find_none, more_none, pointe
 use Rattle.flat_machine.proofs.holding.first_register.Goals as goal
 
 pub loop-i-init : goal.loop-i-init
-loop-i-init c = λ places all frame birth holds j lt. absurd (omega (arith, lt))
+loop-i-init g c = λ places all frame birth holds j lt. absurd (omega (arith, lt))
 
 pub leads_to-requires-clause-one : goal.leads_to-requires-clause-one
-leads_to-requires-clause-one c =
+leads_to-requires-clause-one g c =
     let addr = c.address_in-addr.ensures ∙ ap address_in c.word_of.ensures in
     let q = c.requires in
     let r = get_or c.args.registers.now c.loop-i.i 0 in
     (q.0, q.1, pointer_of_register q.2 r, pointer_kept c.args.objects.now q.0 q.1 q.2 (call_number c.args.calls.now c.args.k) c.args.registers.now q.3 c.args.start q.4 c.loop-i.i c.loop-i-test.true c.address_in-addr.result addr)
 
 pub leads_to-requires-clause-other : goal.leads_to-requires-clause-other
-leads_to-requires-clause-other c =
+leads_to-requires-clause-other g c =
     let q = c.requires in
     (q.0, q.1, _, start_kept c.args.objects.now q.0 q.1 q.2 (call_number c.args.calls.now c.args.k) c.args.registers.now q.3 c.args.start q.4)
 
 pub returns-then-leads_to : goal.returns-then-leads_to
-returns-then-leads_to c = λ places all frame birth holds.
+returns-then-leads_to g c = λ places all frame birth holds.
     let addr = c.address_in-addr.ensures ∙ ap address_in c.word_of.ensures in
     let p = pointer_of_register frame (get_or c.args.registers.now c.loop-i.i 0) in
     let kept = pointer_kept c.args.objects.now places all frame (call_number c.args.calls.now c.args.k) c.args.registers.now birth c.args.start holds c.loop-i.i c.loop-i-test.true c.address_in-addr.result addr in
@@ -30,7 +30,7 @@ returns-then-leads_to c = λ places all frame birth holds.
     sym (find_first (λ r. is_pointer_to birth (pointer_of_register frame r)) c.args.registers.now c.loop-i.i c.loop-i-test.true (c.loop-i.invariant places all frame birth holds) leads)
 
 pub loop-i-preserved : goal.loop-i-preserved
-loop-i-preserved c = λ places all frame birth holds.
+loop-i-preserved g c = λ places all frame birth holds.
     let addr = c.address_in-addr.ensures ∙ ap address_in c.word_of.ensures in
     let p = pointer_of_register frame (get_or c.args.registers.now c.loop-i.i 0) in
     let kept = pointer_kept c.args.objects.now places all frame (call_number c.args.calls.now c.args.k) c.args.registers.now birth c.args.start holds c.loop-i.i c.loop-i-test.true c.address_in-addr.result addr in
@@ -38,5 +38,5 @@ loop-i-preserved c = λ places all frame birth holds.
     more_none (λ r. is_pointer_to birth (pointer_of_register frame r)) c.args.registers.now c.loop-i.i (c.loop-i.invariant places all frame birth holds) other
 
 pub returns : goal.returns
-returns c = λ places all frame birth holds.
+returns g c = λ places all frame birth holds.
     sym (find_none (λ r. is_pointer_to birth (pointer_of_register frame r)) c.args.registers.now (λ j lt. c.loop-i.invariant places all frame birth holds j (omega (arith, lt, c.loop-i-test.false))))

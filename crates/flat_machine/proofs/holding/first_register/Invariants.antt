@@ -8,5 +8,5 @@ use Rattle.flat_machine.specs.Holding.{HoldsIn}
 use Rattle.flat_machine.proofs.holding.first_register.Given as goal
 
 abbrev pub invariant-loop-i : goal.invariant-loop-i
-invariant-loop-i l =
+invariant-loop-i g l =
     (places : ℕ → ℕ) (all : List Object) (frame : Situation) (birth : ℕ) → HoldsIn l.objects places all frame (call_number l.calls l.k) l.registers birth l.start → (j : ℕ) → j < l.i → is_pointer_to birth (pointer_of_register frame (get_or l.registers j 0)) ≡ false

@@ -8,7 +8,7 @@ use Rattle.flat_machine.specs.Pinning.{MayCount}
 use Rattle.flat_machine.proofs.pinning.pin_registers.Given as goal
 
 abbrev pub invariant-loop-i : goal.invariant-loop-i
-invariant-loop-i l = record {
+invariant-loop-i g l = record {
   keeps : (places : ℕ → ℕ) (all : List Object) → Keeps l.fn.objects places all → Keeps l.objects places all;
   tracks : (places : ℕ → ℕ) (all : List Object) (frees : Frees) (pointers : List Pointer) → MayCount l.fn.objects places all frees l.calls.running.words l.registers pointers → Tracks l.objects places all (record frees { pins = take l.i pointers ++ frees.pins });
   frame : SameFrame l.fn.objects l.objects;

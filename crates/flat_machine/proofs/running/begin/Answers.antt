@@ -9,22 +9,22 @@ use Rattle.flat_machine.proofs.Starts.{spent, spent_left, refused, refused_left,
 use Rattle.flat_machine.proofs.running.begin.Goals as goal
 
 pub unreachable-requires : goal.unreachable-requires
-unreachable-requires c = line_no_none c.args.code.now c.requires.formed c.in_default.ensures.item
+unreachable-requires g c = line_no_none c.args.code.now c.requires.formed c.in_default.ensures.item
 
 pub unreachable-requires-in_default-get : goal.unreachable-requires-in_default-get
-unreachable-requires-in_default-get c =
+unreachable-requires-in_default-get g c =
     main_no_none c.args.code.now c.args.stack c.args.state.now c.requires.first c.func-func.result c.func-func.ensures c.in_default-get.ensures.item
 
 pub unreachable-requires-in_default-get-2 : goal.unreachable-requires-in_default-get-2
-unreachable-requires-in_default-get-2 c =
+unreachable-requires-in_default-get-2 g c =
     no_cost c.args.loaded.now.costs c.args.code.now c.requires.loaded.costs c.func-func.result c.in-Some-get.main.now (sym c.in-Some-get.ensures.item) c.in_default-get-2.ensures.item
 
 pub returns-then-not-take_step-clause-ends : goal.returns-then-not-take_step-clause-ends
-returns-then-not-take_step-clause-ends c = λ input n room taken same stack.
+returns-then-not-take_step-clause-ends g c = λ input n room taken same stack.
     spent c.args.code.now c.requires.formed c.args.stack c.args.state.now c.requires.first c.in-Some.line.now c.in-Some.ensures.item input n room taken same (c.take_step.ensures.no c.if-not-take_step.true).1
 
 pub returns-then-cost-from-clause-ends : goal.returns-then-cost-from-clause-ends
-returns-then-cost-from-clause-ends c = λ input n room taken same stack.
+returns-then-cost-from-clause-ends g c = λ input n room taken same stack.
     let main = main_is_there c.args.code.now c.args.stack c.args.state.now c.requires.first c.func-func.result c.in-Some-get.main.now c.func-func.ensures c.in-Some-get.ensures.item in
     let cost = cost_is c.args.loaded.now.costs c.args.code.now c.requires.loaded.costs c.func-func.result c.in-Some-get-2.cost.now c.in-Some-get.main.now (sym c.in-Some-get.ensures.item) c.in-Some-get-2.ensures.item ∙ ap (λ (x : Entry). cost_of c.args.code.now (Some x)) main in
     let yes = c.take_step.ensures.yes c.if-not-take_step.false in
@@ -33,7 +33,7 @@ returns-then-cost-from-clause-ends c = λ input n room taken same stack.
     refused c.args.code.now c.requires.formed c.args.stack c.args.state.now c.requires.first c.in-Some.line.now c.in-Some.ensures.item input c.take_step.new.self.steps steps c.in-Some-get-2.cost.now cost n room taken same lt
 
 pub begin-requires-clause-more : goal.begin-requires-clause-more
-begin-requires-clause-more c =
+begin-requires-clause-more g c =
     let m = c.args.state.now in
     let main = main_is_there c.args.code.now c.args.stack m c.requires.first c.func-func.result c.in-Some-get.main.now c.func-func.ensures c.in-Some-get.ensures.item in
     let cost = cost_is c.args.loaded.now.costs c.args.code.now c.requires.loaded.costs c.func-func.result c.in-Some-get-2.cost.now c.in-Some-get.main.now (sym c.in-Some-get.ensures.item) c.in-Some-get-2.ensures.item ∙ ap (λ (x : Entry). cost_of c.args.code.now (Some x)) main in
@@ -42,7 +42,7 @@ begin-requires-clause-more c =
     plain_less c.args.code.now c.requires.formed c.args.stack m c.requires.first c.in-Some.line.now c.in-Some.ensures.item c.in-Some-get-2.cost.now cost c.take_step.new.self c.take_step.new.self.steps yes.1
 
 pub begin-requires-clause-room : goal.begin-requires-clause-room
-begin-requires-clause-room c =
+begin-requires-clause-room g c =
     let m = c.args.state.now in
     let main = main_is_there c.args.code.now c.args.stack m c.requires.first c.func-func.result c.in-Some-get.main.now c.func-func.ensures c.in-Some-get.ensures.item in
     let cost = cost_is c.args.loaded.now.costs c.args.code.now c.requires.loaded.costs c.func-func.result c.in-Some-get-2.cost.now c.in-Some-get.main.now (sym c.in-Some-get.ensures.item) c.in-Some-get-2.ensures.item ∙ ap (λ (x : Entry). cost_of c.args.code.now (Some x)) main in
@@ -52,10 +52,10 @@ begin-requires-clause-room c =
     omega (arith, le, c.requires.first.room, ap (λ (x : Kept). x.calls.room) yes.1)
 
 pub make_locals-requires-clause-there : goal.make_locals-requires-clause-there
-make_locals-requires-clause-there c = mems_there c.args.code.now c.requires.formed c.func-func.result c.in-Some-get.main.now (sym c.in-Some-get.ensures.item)
+make_locals-requires-clause-there g c = mems_there c.args.code.now c.requires.formed c.func-func.result c.in-Some-get.main.now (sym c.in-Some-get.ensures.item)
 
 pub make_locals-requires-clause-may : goal.make_locals-requires-clause-may
-make_locals-requires-clause-may c =
+make_locals-requires-clause-may g c =
     let m = c.args.state.now in
     let main = main_is_there c.args.code.now c.args.stack m c.requires.first c.func-func.result c.in-Some-get.main.now c.func-func.ensures c.in-Some-get.ensures.item in
     let cost = cost_is c.args.loaded.now.costs c.args.code.now c.requires.loaded.costs c.func-func.result c.in-Some-get-2.cost.now c.in-Some-get.main.now (sym c.in-Some-get.ensures.item) c.in-Some-get-2.ensures.item ∙ ap (λ (x : Entry). cost_of c.args.code.now (Some x)) main in
@@ -65,7 +65,7 @@ make_locals-requires-clause-may c =
     may_make_main c.args.code.now c.requires.formed c.args.stack m c.requires.first c.in-Some.line.now c.in-Some.ensures.item [] c.take_step.new.self.steps steps c.in-Some-get-2.cost.now cost c.in-Some-get.main.now main c.take_step.new.self c.begin.new.self yes.1 c.begin.ensures le (subst (λ (k : Kept). taken_by k.calls ≤ k.calls.used) yes.1 c.all_fit.ensures.taken)
 
 pub make_locals-requires-clause-standing : goal.make_locals-requires-clause-standing
-make_locals-requires-clause-standing c =
+make_locals-requires-clause-standing g c =
     let m = c.args.state.now in
     let main = main_is_there c.args.code.now c.args.stack m c.requires.first c.func-func.result c.in-Some-get.main.now c.func-func.ensures c.in-Some-get.ensures.item in
     let cost = cost_is c.args.loaded.now.costs c.args.code.now c.requires.loaded.costs c.func-func.result c.in-Some-get-2.cost.now c.in-Some-get.main.now (sym c.in-Some-get.ensures.item) c.in-Some-get-2.ensures.item ∙ ap (λ (x : Entry). cost_of c.args.code.now (Some x)) main in
@@ -74,7 +74,7 @@ make_locals-requires-clause-standing c =
     (c.requires.first.places, called c.args.code.now c.requires.formed c.args.stack m c.requires.first c.in-Some.line.now c.in-Some.ensures.item [] c.take_step.new.self.steps steps c.in-Some-get-2.cost.now cost _, stands_begins c.args.code.now c.requires.formed c.args.stack m c.requires.first c.in-Some.line.now c.in-Some.ensures.item [] c.take_step.new.self.steps steps c.in-Some-get-2.cost.now cost c.in-Some-get.main.now main c.take_step.new.self c.begin.new.self yes.1 c.begin.ensures)
 
 pub returns-clause-well : goal.returns-clause-well
-returns-clause-well c =
+returns-clause-well g c =
     let m = c.args.state.now in
     let main = main_is_there c.args.code.now c.args.stack m c.requires.first c.func-func.result c.in-Some-get.main.now c.func-func.ensures c.in-Some-get.ensures.item in
     let cost = cost_is c.args.loaded.now.costs c.args.code.now c.requires.loaded.costs c.func-func.result c.in-Some-get-2.cost.now c.in-Some-get.main.now (sym c.in-Some-get.ensures.item) c.in-Some-get-2.ensures.item ∙ ap (λ (x : Entry). cost_of c.args.code.now (Some x)) main in
@@ -86,7 +86,7 @@ returns-clause-well c =
     well_called c.args.code.now c.requires.formed c.args.stack m c.requires.first c.in-Some.line.now c.in-Some.ensures.item c.run_begins_well.ensures c.requires.bytes c.take_step.new.self.steps steps c.in-Some-get-2.cost.now cost c.requires.budget le small c.make_locals.new.self made
 
 pub returns-clause-room : goal.returns-clause-room
-returns-clause-room c =
+returns-clause-room g c =
     let m = c.args.state.now in
     let main = main_is_there c.args.code.now c.args.stack m c.requires.first c.func-func.result c.in-Some-get.main.now c.func-func.ensures c.in-Some-get.ensures.item in
     let cost = cost_is c.args.loaded.now.costs c.args.code.now c.requires.loaded.costs c.func-func.result c.in-Some-get-2.cost.now c.in-Some-get.main.now (sym c.in-Some-get.ensures.item) c.in-Some-get-2.ensures.item ∙ ap (λ (x : Entry). cost_of c.args.code.now (Some x)) main in
@@ -97,7 +97,7 @@ returns-clause-room c =
     room_all c.args.code.now c.requires.formed c.args.stack m c.requires.first c.in-Some.line.now c.in-Some.ensures.item [] c.take_step.new.self.steps steps c.in-Some-get-2.cost.now cost le c.make_locals.new.self made
 
 pub returns-clause-reaches : goal.returns-clause-reaches
-returns-clause-reaches c = λ input n room taken same stack heap.
+returns-clause-reaches g c = λ input n room taken same stack heap.
     let m = c.args.state.now in
     let main = main_is_there c.args.code.now c.args.stack m c.requires.first c.func-func.result c.in-Some-get.main.now c.func-func.ensures c.in-Some-get.ensures.item in
     let cost = cost_is c.args.loaded.now.costs c.args.code.now c.requires.loaded.costs c.func-func.result c.in-Some-get-2.cost.now c.in-Some-get.main.now (sym c.in-Some-get.ensures.item) c.in-Some-get-2.ensures.item ∙ ap (λ (x : Entry). cost_of c.args.code.now (Some x)) main in
@@ -110,17 +110,17 @@ returns-clause-reaches c = λ input n room taken same stack heap.
     reached_all c.args.code.now c.requires.formed c.args.stack m c.requires.first c.in-Some.line.now c.in-Some.ensures.item input c.take_step.new.self.steps steps c.in-Some-get-2.cost.now cost le c.make_locals.new.self made n room taken same heap (omega (arith, le, stack)) good less
 
 pub returns-then-not-take_step-clause-left : goal.returns-then-not-take_step-clause-left
-returns-then-not-take_step-clause-left c = λ input n room same stack.
+returns-then-not-take_step-clause-left g c = λ input n room same stack.
     let no = c.take_step.ensures.no c.if-not-take_step.true in
     spent_left c.args.code.now c.requires.formed c.args.stack c.args.state.now c.requires.first c.in-Some.line.now c.in-Some.ensures.item input n room same no.1 c.take_step.new.self no.0
 
 pub returns-then-not-take_step-clause-kept : goal.returns-then-not-take_step-clause-kept
-returns-then-not-take_step-clause-kept c =
+returns-then-not-take_step-clause-kept g c =
     let no = c.take_step.ensures.no c.if-not-take_step.true in
     subst (λ (k : Kept). KeepsSome k.memory) (sym no.0) (c.requires.first.places, _, c.requires.first.stands.keeps)
 
 pub returns-then-cost-from-clause-left : goal.returns-then-cost-from-clause-left
-returns-then-cost-from-clause-left c = λ input n room same stack.
+returns-then-cost-from-clause-left g c = λ input n room same stack.
     let main = main_is_there c.args.code.now c.args.stack c.args.state.now c.requires.first c.func-func.result c.in-Some-get.main.now c.func-func.ensures c.in-Some-get.ensures.item in
     let cost = cost_is c.args.loaded.now.costs c.args.code.now c.requires.loaded.costs c.func-func.result c.in-Some-get-2.cost.now c.in-Some-get.main.now (sym c.in-Some-get.ensures.item) c.in-Some-get-2.ensures.item ∙ ap (λ (x : Entry). cost_of c.args.code.now (Some x)) main in
     let yes = c.take_step.ensures.yes c.if-not-take_step.false in
@@ -129,6 +129,6 @@ returns-then-cost-from-clause-left c = λ input n room same stack.
     refused_left c.args.code.now c.requires.formed c.args.stack c.args.state.now c.requires.first c.in-Some.line.now c.in-Some.ensures.item input c.take_step.new.self.steps steps c.in-Some-get-2.cost.now cost n room same lt c.take_step.new.self yes.1
 
 pub returns-then-cost-from-clause-kept : goal.returns-then-cost-from-clause-kept
-returns-then-cost-from-clause-kept c =
+returns-then-cost-from-clause-kept g c =
     let yes = c.take_step.ensures.yes c.if-not-take_step.false in
     subst (λ (k : Kept). KeepsSome k.memory) (sym yes.1) (c.requires.first.places, _, c.requires.first.stands.keeps)

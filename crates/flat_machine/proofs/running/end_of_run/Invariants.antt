@@ -2,7 +2,7 @@ use Rattle.std.proofs.Common.{◌≡◌, ℕ, List}
 use Rattle.hs_base.specs.declared.ends.Limits.{Limits}
 use Rattle.flat_machine.specs.Well.{IsWell}
 use Rattle.flat_machine.specs.Running.{Reached}
-use Rattle.flat_machine.proofs.Loops.{enough_for}
+use Rattle.flat_machine.specs.Advancing.{enough_for}
 use Rattle.flat_machine.proofs.running.end_of_run.Given as goal
 
 abbrev pub invariant-instructions : goal.invariant-instructions

@@ -6,13 +6,13 @@ pub returns-in-Ok-clause-told : goal.returns-in-Ok-clause-told
 returns-in-Ok-clause-told g c = λ left n room taken same stack heap l t.
     c.end_of_run.ensures.told left n room taken (c.in-Ok.ensures.room ∙ sym stack) (reached_told c.args.code.now left n room taken c.begin.new.state _ _ l t (c.in-Ok.ensures.reaches left n room taken same stack heap))
 
-pub returns-in-Err-clause-told : goal.returns-in-Err-clause-told
-returns-in-Err-clause-told g c = λ left n room taken same stack heap l t.
+pub returns-clause-told : goal.returns-clause-told
+returns-clause-told g c = λ left n room taken same stack heap l t.
     rw (l, t) (c.in-Err.ensures.ends left n room taken same stack)
 
 pub returns-in-Ok-clause-left : goal.returns-in-Ok-clause-left
 returns-in-Ok-clause-left g c = λ left n room taken same stack heap l t.
     c.end_of_run.ensures.left left n room taken (c.in-Ok.ensures.room ∙ sym stack) (reached_told c.args.code.now left n room taken c.begin.new.state _ _ l t (c.in-Ok.ensures.reaches left n room taken same stack heap))
 
-pub returns-in-Err-clause-left : goal.returns-in-Err-clause-left
-returns-in-Err-clause-left g c = λ left n room taken same stack heap l t. c.in-Err.ensures.left left n room same stack
+pub returns-clause-left : goal.returns-clause-left
+returns-clause-left g c = λ left n room taken same stack heap l t. c.in-Err.ensures.left left n room same stack

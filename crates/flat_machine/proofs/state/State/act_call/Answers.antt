@@ -9,40 +9,40 @@ use Rattle.flat_machine.proofs.Stepped.{callee_arguments}
 use Rattle.flat_machine.proofs.state.State.act_call.Goals as goal
 
 pub returns-then-not-take_step-clause-alone : goal.returns-then-not-take_step-clause-alone
-returns-then-not-take_step-clause-alone c = λ fits places s h counts.
+returns-then-not-take_step-clause-alone g c = λ fits places s h counts.
     call_spent c.args.code.now fits c.args.line c.args.instr c.args.callee.now c.requires.here places s c.args.self.now h c.take_step.new.self (c.take_step.ensures.no c.if-not-take_step.true).1
 
 pub returns-then-cost-from-clause-alone : goal.returns-then-cost-from-clause-alone
-returns-then-cost-from-clause-alone c = λ fits places s h counts.
+returns-then-cost-from-clause-alone g c = λ fits places s h counts.
     let yes = c.take_step.ensures.yes c.if-not-take_step.false in
     call_too_deep c.args.code.now fits c.args.line c.args.instr c.args.callee.now c.requires.here places s c.args.self.now h c.take_step.new.self yes.0 yes.1 c.args.cost c.requires.cost c.take_step.new.self c.stack_left.result c.stack_left.ensures (omega (arith, c.if-cost-from.true, c.from.ensures))
 
 pub returns-then-not-take_step-clause-image : goal.returns-then-not-take_step-clause-image
-returns-then-not-take_step-clause-image c = λ fits places s has h counts.
+returns-then-not-take_step-clause-image g c = λ fits places s has h counts.
     let no = c.take_step.ensures.no c.if-not-take_step.true in
     spent_image c.args.code.now places s c.args.self.now c.take_step.new.self h has counts _ no.1 no.0
 
 pub returns-then-cost-from-clause-image : goal.returns-then-cost-from-clause-image
-returns-then-cost-from-clause-image c = λ fits places s has h counts.
+returns-then-cost-from-clause-image g c = λ fits places s has h counts.
     let yes = c.take_step.ensures.yes c.if-not-take_step.false in
     deep_image c.args.code.now places s c.args.self.now c.take_step.new.self h has counts c.args.line c.args.instr.b s.handed yes.0 yes.1
 
 pub pin-requires : goal.pin-requires
-pin-requires c =
+pin-requires g c =
     let q = c.requires.standing in
     let m = c.args.self.now in
     let yes = c.take_step.ensures.yes c.if-not-take_step.false in
     (q.0, q.1.state.objects, frees_of m.pins q.1, pinned_in m.pins q.1.state.running, call_counts q.0 q.1 m c.take_step.new.self q.2.stands q.2.counts q.2.room yes.1)
 
 pub enter-requires-clause-point : goal.enter-requires-clause-point
-enter-requires-clause-point c =
+enter-requires-clause-point g c =
     let m = c.args.self.now in
     let yes = c.take_step.ensures.yes c.if-not-take_step.false in
     let mid = c.take_step.new.self in
     omega (arith, c.requires.point, ap (λ (k : Kept). k.calls.running.point) yes.1, ap (λ (k : Kept). k.calls.running.point) c.pin.ensures.others)
 
 pub enter-requires-clause-room : goal.enter-requires-clause-room
-enter-requires-clause-room c =
+enter-requires-clause-room g c =
     let m = c.args.self.now in
     let yes = c.take_step.ensures.yes c.if-not-take_step.false in
     let mid = c.take_step.new.self in
@@ -52,10 +52,10 @@ enter-requires-clause-room c =
     omega (arith, room, used, whole, ap (λ (k : Kept). k.calls.used) c.pin.ensures.others, ap (λ (k : Kept). k.calls.room) c.pin.ensures.others)
 
 pub enter-requires-clause-cost : goal.enter-requires-clause-cost
-enter-requires-clause-cost c = omega (arith, cost_registers c.args.code.now c.args.callee.now c.args.cost c.requires.cost)
+enter-requires-clause-cost g c = omega (arith, cost_registers c.args.code.now c.args.callee.now c.args.cost c.requires.cost)
 
 pub enter-requires-clause-arguments : goal.enter-requires-clause-arguments
-enter-requires-clause-arguments c =
+enter-requires-clause-arguments g c =
     let m = c.args.self.now in
     let yes = c.take_step.ensures.yes c.if-not-take_step.false in
     let mid = c.take_step.new.self in
@@ -63,7 +63,7 @@ enter-requires-clause-arguments c =
     omega (arith, arguments, ap (λ (k : Kept). length k.handed) yes.1, ap (λ (k : Kept). length k.handed) c.pin.ensures.others)
 
 pub make_locals-requires-clause-may : goal.make_locals-requires-clause-may
-make_locals-requires-clause-may c =
+make_locals-requires-clause-may g c =
     let m = c.args.self.now in
     let yes = c.take_step.ensures.yes c.if-not-take_step.false in
     let mid = c.take_step.new.self in
@@ -78,7 +78,7 @@ make_locals-requires-clause-may c =
     subst (MayMakeLocals c.args.code.now c.args.callee.now) (sym called) (may_make c.args.code.now c.args.instr m c.requires.may c.args.callee.now mid.steps yes.0 c.pin.new.self.memory frame c.args.cost c.requires.cost room small fit arguments)
 
 pub make_locals-requires-clause-standing : goal.make_locals-requires-clause-standing
-make_locals-requires-clause-standing c =
+make_locals-requires-clause-standing g c =
     let q = c.requires.standing in
     let m = c.args.self.now in
     let yes = c.take_step.ensures.yes c.if-not-take_step.false in
@@ -94,7 +94,7 @@ make_locals-requires-clause-standing c =
     (q.0, at, standing)
 
 pub returns-clause-alone : goal.returns-clause-alone
-returns-clause-alone c = λ fits places s h counts.
+returns-clause-alone g c = λ fits places s h counts.
     let m = c.args.self.now in
     let yes = c.take_step.ensures.yes c.if-not-take_step.false in
     let mid = c.take_step.new.self in

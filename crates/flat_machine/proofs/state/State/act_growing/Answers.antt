@@ -16,7 +16,7 @@ use Rattle.flat_machine.proofs.Grown.{grow_null}
 use Rattle.flat_machine.proofs.state.State.act_growing.Goals as goal
 
 pub returns-then-from-eq0-clause-alone : goal.returns-then-from-eq0-clause-alone
-returns-then-from-eq0-clause-alone c = λ code places s has h counts form.
+returns-then-from-eq0-clause-alone g c = λ code places s has h counts form.
     let m = c.args.self.now in
     let fits : SFits w128 c.integer.result = search rules in
     let size : c.size_in-size.result ≡ size_in (number_at s.handed 1) = rw (to_z-of_z w128 c.integer.result fits) at c.size_in-size.ensures.value ∙ ap size_in (c.integer.ensures ∙ integer_at_is places s.state.objects s.handed m.handed 1 h.handed) in
@@ -26,7 +26,7 @@ returns-then-from-eq0-clause-alone c = λ code places s has h counts form.
     (subst (λ (n : ℕ). Alone places s m (grow code (fits_now places s m) c.args.line c.args.instr.a pointer.Null n (layout_in code c.args.instr.b) s.numbers s.state) c.make.new.self (Ok tt)) size made)
 
 pub returns-else-from-eq0-clause-alone : goal.returns-else-from-eq0-clause-alone
-returns-else-from-eq0-clause-alone c = λ code places s has h counts form.
+returns-else-from-eq0-clause-alone g c = λ code places s has h counts form.
     let m = c.args.self.now in
     let fits : SFits w128 c.integer.result = search rules in
     let size : c.size_in-size.result ≡ size_in (number_at s.handed 1) = rw (to_z-of_z w128 c.integer.result fits) at c.size_in-size.ensures.value ∙ ap size_in (c.integer.ensures ∙ integer_at_is places s.state.objects s.handed m.handed 1 h.handed) in
@@ -34,7 +34,7 @@ returns-else-from-eq0-clause-alone c = λ code places s has h counts form.
     subst (λ (n : ℕ). Alone places s m (grow code (fits_now places s m) c.args.line c.args.instr.a (pointer_at s.handed 0) n (layout_in code c.args.instr.b) s.numbers s.state) c.grow_object.new.self c.grow_object.result) size grown
 
 pub returns-else-from-eq0-clause-image : goal.returns-else-from-eq0-clause-image
-returns-else-from-eq0-clause-image c = λ code places s has h counts form.
+returns-else-from-eq0-clause-image g c = λ code places s has h counts form.
     let m = c.args.self.now in
     let fits : SFits w128 c.integer.result = search rules in
     let size : c.size_in-size.result ≡ size_in (number_at s.handed 1) = rw (to_z-of_z w128 c.integer.result fits) at c.size_in-size.ensures.value ∙ ap size_in (c.integer.ensures ∙ integer_at_is places s.state.objects s.handed m.handed 1 h.handed) in

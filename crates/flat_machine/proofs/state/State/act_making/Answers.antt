@@ -8,13 +8,13 @@ use Rattle.flat_machine.proofs.Makings.{malloc_alone, calloc_alone}
 use Rattle.flat_machine.proofs.state.State.act_making.Goals as goal
 
 pub returns-in-Malloc : goal.returns-in-Malloc
-returns-in-Malloc c = λ code places s h form.
+returns-in-Malloc g c = λ code places s h form.
     let fits : SFits w128 c.integer.result = search rules in
     let size = rw (to_z-of_z w128 c.integer.result fits) at c.size_in-size.ensures.value in
     rw c.in-Malloc.is (malloc_alone code (fits_now places s c.args.self.now) c.args.line c.args.instr places s c.args.self.now c.make.new.self h c.integer.result c.size_in-size.result c.integer.ensures size (c.make.ensures (layout_in code c.args.instr.b) places s h form))
 
 pub returns-in-Calloc : goal.returns-in-Calloc
-returns-in-Calloc c = λ code places s h form.
+returns-in-Calloc g c = λ code places s h form.
     let fits : SFits w128 c.integer.result = search rules in
     let count = rw (to_z-of_z w128 c.integer.result fits) at c.size_in-size.ensures.value in
     let fits_other : SFits w128 c.integer-in-Calloc.result = search rules in

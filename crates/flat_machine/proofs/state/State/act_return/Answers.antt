@@ -15,14 +15,14 @@ use Rattle.flat_machine.proofs.Backs.{back_is, call_no_none, call_is, goes_back,
 use Rattle.flat_machine.proofs.state.State.act_return.Goals as goal
 
 pub end_locals-requires : goal.end_locals-requires
-end_locals-requires c =
+end_locals-requires g c =
     let m = c.args.self.now in
     let q = c.requires.returns in
     let may = subst (MayEnd m.memory q.0 q.1.state.objects (frees_of m.pins q.1) (births q.0 q.1 m q.3.stands) (pointer_in q.2) m.calls.running.locals) (sym c.address_in.ensures) (may_end q.0 q.1 m q.3.stands q.2 c.args.answer q.3.answer q.3.room) in
     (q.0, q.1.state.objects, frees_of m.pins q.1, births q.0 q.1 m q.3.stands, pointer_in q.2, may)
 
 pub returns-in-Some-clause-alone : goal.returns-in-Some-clause-alone
-returns-in-Some-clause-alone c = λ places s v h counts p.
+returns-in-Some-clause-alone g c = λ places s v h counts p.
     let m = c.args.self.now in
     let q = c.requires.returns in
     let may = subst (MayEnd m.memory places s.state.objects (frees_of m.pins s) (births places s m h) (pointer_in v) m.calls.running.locals) (sym c.address_in.ensures) (may_end places s m h v c.args.answer p (room_same places s q.0 q.1 m h q.3)) in
@@ -31,7 +31,7 @@ returns-in-Some-clause-alone c = λ places s v h counts p.
     return_escapes c.args.code.now c.args.line places s m h counts v c.args.answer p c.requires.locals c.end_locals.new.self c.func.result c.in-Some.local answer.0 func answer.1 answer.2
 
 pub returns-then-not-back-clause-alone : goal.returns-then-not-back-clause-alone
-returns-then-not-back-clause-alone c = λ places s v h counts p.
+returns-then-not-back-clause-alone g c = λ places s v h counts p.
     let m = c.args.self.now in
     let q = c.requires.returns in
     let mid = c.end_locals.new.self in
@@ -45,7 +45,7 @@ returns-then-not-back-clause-alone c = λ places s v h counts p.
     return_exits c.args.code.now c.args.line places s m h counts v c.args.answer p c.requires.locals mid.memory answer.0 answer.1 frame c.back.new.self c.byte_in.result last byte
 
 pub unpin-requires : goal.unpin-requires
-unpin-requires c =
+unpin-requires g c =
     let m = c.args.self.now in
     let q = c.requires.returns in
     let mid = c.end_locals.new.self in
@@ -59,7 +59,7 @@ unpin-requires c =
     unpin_there c.args.code.now c.args.line q.0 q.1 m q.3.stands q.3.counts q.2 c.args.answer q.3.answer c.requires.locals mid.memory answer.0 answer.1 frame c.back.new.self goes same
 
 pub unreachable-requires : goal.unreachable-requires
-unreachable-requires c =
+unreachable-requires g c =
     let m = c.args.self.now in
     let mid = c.end_locals.new.self in
     let ended = c.in_default.ensures.others in
@@ -71,7 +71,7 @@ unreachable-requires c =
     call_no_none c.args.code.now m.calls c.back.new.self.calls goes c.requires.call c.point.result point c.in_default-get.ensures.item
 
 pub returns-clause-alone : goal.returns-clause-alone
-returns-clause-alone c = λ places s v h counts p.
+returns-clause-alone g c = λ places s v h counts p.
     let m = c.args.self.now in
     let q = c.requires.returns in
     let mid = c.end_locals.new.self in
@@ -90,7 +90,7 @@ returns-clause-alone c = λ places s v h counts p.
     return_alone c.args.code.now c.args.line places s m h counts v c.args.answer p c.requires.locals mid.memory answer.0 answer.1 frame c.back.new.self goes same c.unpin.new.self c.give.new.self c.in-Some-get.instr.now at is c.unpin.ensures.others c.unpin.ensures.frame (c.unpin.ensures.keeps places objects) (c.unpin.ensures.tracks places objects) (c.give.ensures ∙ ap (λ r. given c.unpin.new.self r c.args.answer) c.chosen.ensures)
 
 pub returns-in-Some-clause-image : goal.returns-in-Some-clause-image
-returns-in-Some-clause-image c = λ places s v has h counts p.
+returns-in-Some-clause-image g c = λ places s v has h counts p.
     let m = c.args.self.now in
     let q = c.requires.returns in
     let may = subst (MayEnd m.memory places s.state.objects (frees_of m.pins s) (births places s m h) (pointer_in v) m.calls.running.locals) (sym c.address_in.ensures) (may_end places s m h v c.args.answer p (room_same places s q.0 q.1 m h q.3)) in
@@ -99,7 +99,7 @@ returns-in-Some-clause-image c = λ places s v has h counts p.
     (escapes_in c.args.code.now c.args.line places s m h counts v c.args.answer p c.requires.locals c.end_locals.new.self.memory answer.3 answer.4 answer.0 answer.1 c.func.result c.in-Some.local)
 
 pub returns-then-not-back-clause-image : goal.returns-then-not-back-clause-image
-returns-then-not-back-clause-image c = λ places s v has h counts p.
+returns-then-not-back-clause-image g c = λ places s v has h counts p.
     let m = c.args.self.now in
     let q = c.requires.returns in
     let mid = c.end_locals.new.self in

@@ -9,7 +9,7 @@ use Rattle.flat_machine.proofs.Ranged.{at_here, set_lib_alone, set_lib_traps}
 use Rattle.flat_machine.proofs.state.State.act_set.Goals as goal
 
 pub returns-in-Ok-clause-leads : goal.returns-in-Ok-clause-leads
-returns-in-Ok-clause-leads c = λ places s h.
+returns-in-Ok-clause-leads g c = λ places s h.
     let m = c.args.self.now in
     let fits_byte : SFits w128 c.integer.result = search rules in
     let byte = rw (to_z-of_z w128 c.integer.result fits_byte) at c.byte_in-byte.ensures in
@@ -19,7 +19,7 @@ returns-in-Ok-clause-leads c = λ places s h.
     set_lib_alone places s m h c.args.line c.args.r c.set_bytes.new.self.memory c.give.new.self c.integer-2.result c.size_in.result c.integer.result c.byte_in-byte.result c.integer.ensures byte c.address-start.result c.address-start.ensures c.integer-2.ensures count (c.in-Ok.ensures.changes places s.state.objects (pointer_at s.handed 0) start) (c.set_bytes.ensures.tracks places s.state.objects (pointer_at s.handed 0) start) c.set_bytes.ensures.frame (c.give.ensures ∙ ap (λ k. given k c.args.r (Address c.address-start.result)) c.set_bytes.ensures.others)
 
 pub returns-in-Err-clause-leads : goal.returns-in-Err-clause-leads
-returns-in-Err-clause-leads c = λ places s h.
+returns-in-Err-clause-leads g c = λ places s h.
     let m = c.args.self.now in
     let fits_byte : SFits w128 c.integer.result = search rules in
     let byte = rw (to_z-of_z w128 c.integer.result fits_byte) at c.byte_in-byte.ensures in

@@ -16,13 +16,13 @@ use Rattle.flat_machine.proofs.Frees.{same_but}
 use Rattle.flat_machine.proofs.state.State.check.Goals as goal
 
 pub pin-requires : goal.pin-requires
-pin-requires c =
+pin-requires g c =
     let q = c.requires.standing in
     let m = c.args.self.now in
     (q.0, q.1.state.objects, frees_of m.pins q.1, pinned_in m.pins q.1.state.running, may_count q.0 q.1 m q.2.stands q.2.counts.pinned q.2.room)
 
 pub close_scope-requires : goal.close_scope-requires
-close_scope-requires c =
+close_scope-requires g c =
     let q = c.requires.standing in
     let m = c.args.self.now in
     let h = q.2.stands in
@@ -32,7 +32,7 @@ close_scope-requires c =
     (q.0, q.1.state.objects, all_counted m.pins q.1, may_close q.0 q.1 m h c.requires.open c.pin.new.self.memory keeps tracks)
 
 pub unpin-requires : goal.unpin-requires
-unpin-requires c =
+unpin-requires g c =
     let q = c.requires.standing in
     let m = c.args.self.now in
     let h = q.2.stands in
@@ -48,7 +48,7 @@ unpin-requires c =
     subst (λ (k : Kept). IsCounted k.memory k.calls.running.words (pins_of k.pins k.calls.running)) (sym closed) (q.0, buried q.1.state.objects, frees, own, (frees_of m.pins q.1).pins, does)
 
 pub first_holder-requires : goal.first_holder-requires
-first_holder-requires c =
+first_holder-requires g c =
     let q = c.requires.standing in
     let m = c.args.self.now in
     let h = q.2.stands in
@@ -63,7 +63,7 @@ first_holder-requires c =
     (q.0, q.1, answer.0, subst (NamesHeld q.0 q.1 answer.0) (sym closed) names)
 
 pub returns-in-Ok-clause-checks : goal.returns-in-Ok-clause-checks
-returns-in-Ok-clause-checks c = λ code first before places s has h counts.
+returns-in-Ok-clause-checks g c = λ code first before places s has h counts.
     let m = c.args.self.now in
     let own = pinned_in m.pins s.state.running in
     let may = may_count places s m h counts.pinned c.requires.standing.2.room in
@@ -84,7 +84,7 @@ returns-in-Ok-clause-checks c = λ code first before places s has h counts.
     check_goes places s m h counts c.pin.new.self.memory c.close_scope.new.self.memory answer.1 c.unpin.new.self.memory kept left c.pin.ensures.frame framed closed_frame code first before has answer.0 c.go_on.new.self (c.go_on.ensures ∙ ap gone_on unpinned)
 
 pub returns-in-Err-clause-checks : goal.returns-in-Err-clause-checks
-returns-in-Err-clause-checks c = λ code first before places s has h counts.
+returns-in-Err-clause-checks g c = λ code first before places s has h counts.
     let m = c.args.self.now in
     let own = pinned_in m.pins s.state.running in
     let may = may_count places s m h counts.pinned c.requires.standing.2.room in
@@ -98,7 +98,7 @@ returns-in-Err-clause-checks c = λ code first before places s has h counts.
     check_fails places s m h counts c.pin.new.self.memory c.close_scope.new.self.memory tracks c.in-Err.bad answer code first before has c.close_scope.new.self c.first_holder.result (c.first_holder.ensures code places s answer.0 has_closed names)
 
 pub returns-in-Err-clause-image : goal.returns-in-Err-clause-image
-returns-in-Err-clause-image c = λ code first before places s has h counts.
+returns-in-Err-clause-image g c = λ code first before places s has h counts.
     let m = c.args.self.now in
     let own = pinned_in m.pins s.state.running in
     let may = may_count places s m h counts.pinned c.requires.standing.2.room in
@@ -107,7 +107,7 @@ returns-in-Err-clause-image c = λ code first before places s has h counts.
     let may_leave = may_close places s m h c.requires.open c.pin.new.self.memory keeps tracks in
     let answer = c.in-Err.ensures.outermost places s.state.objects (all_counted m.pins s) may_leave (sym h.tracks.open_scopes ∙ c.requires.open) in
     let closed = same_but m c.pin.new.self c.close_scope.new.self c.pin.ensures.others c.in-Err.ensures.others in
-    let stops = returns-in-Err-clause-checks c code first before places s has h counts in
+    let stops = returns-in-Err-clause-checks g c code first before places s has h counts in
     let last = decided_last code _ first before [] s.numbers s.state m c.in-Err.bad c.first_holder.result stops in
     subst (λ (k : Kept). StopsIn code (checked code first before [] s.numbers s.state) k (end.BadFree c.in-Err.bad c.first_holder.result)) (sym closed)
     (uncounted_image code places s m h c.close_scope.new.self.memory answer.2.keeps answer.2.scopes _ last (end.BadFree c.in-Err.bad c.first_holder.result) tt)

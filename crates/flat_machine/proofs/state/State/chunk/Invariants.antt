@@ -6,7 +6,7 @@ use Rattle.flat_machine.proofs.state.State.chunk.Given as goal
 
 -- the first `i` bytes are read
 abbrev pub invariant-loop-i : goal.invariant-loop-i
-invariant-loop-i l = record {
+invariant-loop-i g l = record {
   long : length l.chunk ≡ 64;
   read : (places : ℕ → ℕ) (objects : List Object) (p : Pointer) (text : List ℕ) → IsString l.self.memory places objects p l.addr text → l.from + l.count ≤ length text → take l.i l.chunk ≡ take l.i (drop l.from text);
 }

@@ -8,7 +8,7 @@ use Rattle.flat_machine.proofs.Ranged.{at_here, clear_alone, clear_traps}
 use Rattle.flat_machine.proofs.state.State.clear_range.Goals as goal
 
 pub returns-in-Ok-clause-alone : goal.returns-in-Ok-clause-alone
-returns-in-Ok-clause-alone c = λ code sizes instr places s h.
+returns-in-Ok-clause-alone g c = λ code sizes instr places s h.
     let m = c.args.self.now in
     let fits : SFits w128 c.integer.result = search rules in
     let count = rw (to_z-of_z w128 c.integer.result fits) at c.bytes_in-n.ensures in
@@ -16,7 +16,7 @@ returns-in-Ok-clause-alone c = λ code sizes instr places s h.
     clear_alone places s m h code sizes c.args.line instr c.set_bytes.new.self.memory c.go_on.new.self c.integer.result c.bytes_in-n.result c.integer.ensures count (c.in-Ok.ensures.changes places s.state.objects (pointer_at s.handed 0) start) (c.set_bytes.ensures.tracks places s.state.objects (pointer_at s.handed 0) start) c.set_bytes.ensures.frame (c.go_on.ensures ∙ ap gone_on c.set_bytes.ensures.others)
 
 pub returns-in-Err-clause-alone : goal.returns-in-Err-clause-alone
-returns-in-Err-clause-alone c = λ code sizes instr places s h.
+returns-in-Err-clause-alone g c = λ code sizes instr places s h.
     let m = c.args.self.now in
     let fits : SFits w128 c.integer.result = search rules in
     let count = rw (to_z-of_z w128 c.integer.result fits) at c.bytes_in-n.ensures in

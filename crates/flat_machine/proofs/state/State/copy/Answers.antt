@@ -7,5 +7,5 @@ use Rattle.flat_machine.specs.Kept.{Kept}
 use Rattle.flat_machine.proofs.state.State.copy.Goals as goal
 
 pub returns-clause-tracks : goal.returns-clause-tracks
-returns-clause-tracks c = λ places objects p q.
-    subst (λ (m : Kept). KeepsAt m.memory places objects p c.args.to → IsAddressOf places objects q c.args.from → StaysTracked m.memory c.copy.new.objects places objects (copied objects p q c.args.n)) c.self.view_is (c.copy.ensures.tracks places objects p q)
+returns-clause-tracks g c = λ places objects p q.
+    subst (λ (m : Kept). KeepsAt m.memory places objects p c.args.to → IsAddressOf places objects q c.args.from → StaysTracked m.memory c.copy.new.self places objects (copied objects p q c.args.n)) c.self.view_is (c.copy.ensures.tracks places objects p q)

@@ -11,7 +11,7 @@ use Rattle.flat_machine.proofs.Ranged.{at_here, copy_alone, copy_traps}
 use Rattle.flat_machine.proofs.state.State.copy_range.Goals as goal
 
 pub returns-in-Ok-clause-alone : goal.returns-in-Ok-clause-alone
-returns-in-Ok-clause-alone c = λ code sizes instr places s h.
+returns-in-Ok-clause-alone g c = λ code sizes instr places s h.
     let m = c.args.self.now in
     let fits : SFits w128 c.integer.result = search rules in
     let count = rw (to_z-of_z w128 c.integer.result fits) at c.bytes_in-n.ensures in
@@ -20,7 +20,7 @@ returns-in-Ok-clause-alone c = λ code sizes instr places s h.
     copy_alone places s m h code sizes c.args.line instr c.copy.new.self.memory c.go_on.new.self c.integer.result c.bytes_in-n.result c.integer.ensures count (c.in-Ok.ensures.changes places s.state.objects (pointer_at s.handed 0) (pointer_at s.handed 1) to from.stands) (c.copy.ensures.tracks places s.state.objects (pointer_at s.handed 0) (pointer_at s.handed 1) to from.stands) c.copy.ensures.frame (c.go_on.ensures ∙ ap gone_on c.copy.ensures.others)
 
 pub returns-in-Err-clause-alone : goal.returns-in-Err-clause-alone
-returns-in-Err-clause-alone c = λ code sizes instr places s h.
+returns-in-Err-clause-alone g c = λ code sizes instr places s h.
     let m = c.args.self.now in
     let fits : SFits w128 c.integer.result = search rules in
     let count = rw (to_z-of_z w128 c.integer.result fits) at c.bytes_in-n.ensures in
@@ -29,7 +29,7 @@ returns-in-Err-clause-alone c = λ code sizes instr places s h.
     copy_traps places s m h code sizes c.args.line instr c.copy.new.self.memory c.copy.new.self c.integer.result c.bytes_in-n.result c.in-Err.kind c.integer.ensures count (c.in-Err.ensures.changes places s.state.objects (pointer_at s.handed 0) (pointer_at s.handed 1) to from.stands)
 
 pub returns-in-Err-clause-unchanged : goal.returns-in-Err-clause-unchanged
-returns-in-Err-clause-unchanged c =
+returns-in-Err-clause-unchanged g c =
     let q = c.requires.storable in
     let to = subst (KeepsAt c.args.self.now.memory q.0 q.1 q.3) (sym c.address-to.ensures) q.5.at in
     let from = subst (IsAddressOf q.0 q.1 q.4) (sym c.address-from.ensures) q.5.stands in

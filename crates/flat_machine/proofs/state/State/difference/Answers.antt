@@ -7,7 +7,7 @@ use Rattle.flat_machine.specs.Kept.{Kept}
 use Rattle.flat_machine.proofs.state.State.difference.Goals as goal
 
 pub returns : goal.returns
-returns c = λ places all p q at stands.
+returns g c = λ places all p q at stands.
     let fits : SFits w128 c.args.element = search rules in
     let memory = ap (λ (k : Kept). k.memory) c.self.view_is in
     let inside = subst (λ memory. KeepsAt memory places all p c.args.p) (sym memory) at in

@@ -11,7 +11,7 @@ use Rattle.flat_machine.proofs.Frees.{same_but, free_fails_in, may_free, free_re
 use Rattle.flat_machine.proofs.state.State.free_alone.Goals as goal
 
 pub queue-requires : goal.queue-requires
-queue-requires c =
+queue-requires g c =
     let q = c.requires.standing in
     let m = c.args.self.now in
     let h = q.2.stands in
@@ -23,13 +23,13 @@ both_ways : (x : Result ℕ Reason) (birth : ℕ) (why : Reason) → x ≡ Ok bi
 both_ways x birth why one other = cc
 
 pub may_free-requires-clause-kept : goal.may_free-requires-clause-kept
-may_free-requires-clause-kept c =
+may_free-requires-clause-kept g c =
     let q = c.requires.standing in
     let to = leads_to q.0 q.1 c.args.self.now q.2.stands c.args.addr c.requires.address c.requires.some in
     (q.0, q.1.state.objects, At to.0 to.1, to.3)
 
 pub unreachable-requires : goal.unreachable-requires
-unreachable-requires c =
+unreachable-requires g c =
     let q = c.requires.standing in
     let m = c.args.self.now in
     let h = q.2.stands in
@@ -39,19 +39,19 @@ unreachable-requires c =
     both_ways (freed_at q.1.state.objects some.0 some.1) some.0 c.in_default-queue.field-0.reason can a.0
 
 pub returns-in-Err-clause-alone : goal.returns-in-Err-clause-alone
-returns-in-Err-clause-alone c = λ code places s has h counts.
+returns-in-Err-clause-alone g c = λ code places s has h counts.
     let m = c.args.self.now in
     let to = leads_to places s m h c.args.addr c.requires.address c.requires.some in
     free_refused places s m h c.args.line to.0 to.1 to.2 code (record { reason = c.in-Err.reason; line = c.args.line }) (c.in-Err.ensures places s.state.objects to.0 to.1 to.3) refl m
 
 pub returns-in-Err-clause-image : goal.returns-in-Err-clause-image
-returns-in-Err-clause-image c = λ code places s has h counts.
+returns-in-Err-clause-image g c = λ code places s has h counts.
     let m = c.args.self.now in
     let to = leads_to places s m h c.args.addr c.requires.address c.requires.some in
     refused_image code places s m m h has counts c.args.line to.0 to.1 to.2 c.in-Err.reason (c.in-Err.ensures places s.state.objects to.0 to.1 to.3) refl _
 
 pub check-requires-clause-open : goal.check-requires-clause-open
-check-requires-clause-open c =
+check-requires-clause-open g c =
     let q = c.requires.standing in
     let m = c.args.self.now in
     let h = q.2.stands in
@@ -60,7 +60,7 @@ check-requires-clause-open c =
     omega (arith, a.2.tracks.open_scopes, h.tracks.open_scopes, c.requires.open)
 
 pub check-requires-clause-standing : goal.check-requires-clause-standing
-check-requires-clause-standing c =
+check-requires-clause-standing g c =
     let q = c.requires.standing in
     let m = c.args.self.now in
     let h = q.2.stands in
@@ -78,7 +78,7 @@ check-requires-clause-standing c =
     )
 
 pub returns-in-Ok-check-clause-alone : goal.returns-in-Ok-check-clause-alone
-returns-in-Ok-check-clause-alone c = λ code places s has h counts.
+returns-in-Ok-check-clause-alone g c = λ code places s has h counts.
     let m = c.args.self.now in
     let some = may_free places s m h c.args.addr (s.state.scopes + 1) c.open_scope.new.self.memory c.requires.address c.requires.some (omega arith) (c.open_scope.ensures.keeps places s.state.objects h.keeps) (c.open_scope.ensures.tracks places s.state.objects (frees_of m.pins s) h.tracks) in
     let same = same_but m c.open_scope.new.self c.queue.new.self c.open_scope.ensures.others c.in-Ok.ensures.others in
@@ -89,7 +89,7 @@ returns-in-Ok-check-clause-alone c = λ code places s has h counts.
     free_goes places s m h c.args.line some.0 some.1 some.2 a.0 a.1 (s.state.scopes + 1) c.queue.new.self.memory a.2 c.queue.new.self same frame code (omega (arith, none)) none c.check.new.self goes
 
 pub returns-in-Err-check-clause-alone : goal.returns-in-Err-check-clause-alone
-returns-in-Err-check-clause-alone c = λ code places s has h counts.
+returns-in-Err-check-clause-alone g c = λ code places s has h counts.
     let m = c.args.self.now in
     let some = may_free places s m h c.args.addr (s.state.scopes + 1) c.open_scope.new.self.memory c.requires.address c.requires.some (omega arith) (c.open_scope.ensures.keeps places s.state.objects h.keeps) (c.open_scope.ensures.tracks places s.state.objects (frees_of m.pins s) h.tracks) in
     let same = same_but m c.open_scope.new.self c.queue.new.self c.open_scope.ensures.others c.in-Ok.ensures.others in
@@ -100,7 +100,7 @@ returns-in-Err-check-clause-alone c = λ code places s has h counts.
     free_fails places s m h c.args.line some.0 some.1 some.2 a.0 a.1 (s.state.scopes + 1) c.queue.new.self.memory a.2 c.queue.new.self same frame code (omega (arith, none)) none c.check.new.self c.in-Err-check.bad c.in-Err-check.holder fails
 
 pub returns-in-Err-check-clause-image : goal.returns-in-Err-check-clause-image
-returns-in-Err-check-clause-image c = λ code places s has h counts.
+returns-in-Err-check-clause-image g c = λ code places s has h counts.
     let m = c.args.self.now in
     let some = may_free places s m h c.args.addr (s.state.scopes + 1) c.open_scope.new.self.memory c.requires.address c.requires.some (omega arith) (c.open_scope.ensures.keeps places s.state.objects h.keeps) (c.open_scope.ensures.tracks places s.state.objects (frees_of m.pins s) h.tracks) in
     let same = same_but m c.open_scope.new.self c.queue.new.self c.open_scope.ensures.others c.in-Ok.ensures.others in

@@ -15,26 +15,26 @@ use Rattle.flat_machine.proofs.Grown.{goes_in, refused_in, traps_in, leads_to, g
 use Rattle.flat_machine.proofs.state.State.grow_object.Goals as goal
 
 pub may_free-requires-clause-kept : goal.may_free-requires-clause-kept
-may_free-requires-clause-kept c =
+may_free-requires-clause-kept g c =
     let q = c.requires.standing in
     let to = leads_to q.0 q.1 c.args.self.now q.2.stands c.args.from c.requires.address c.requires.some in
     (q.0, q.1.state.objects, At to.0 to.1, to.3)
 
 pub returns-in-Err-clause-alone : goal.returns-in-Err-clause-alone
-returns-in-Err-clause-alone c = λ code element places s has h counts form.
+returns-in-Err-clause-alone g c = λ code element places s has h counts form.
     let m = c.args.self.now in
     let to = leads_to places s m h c.args.from c.requires.address c.requires.some in
     grow_refused c.args.line c.args.instr.a c.args.size element places s m h c.args.from to.0 to.1 to.2 to.3.stands code c.in-Err.reason (c.in-Err.ensures places s.state.objects to.0 to.1 to.3) m
 
 pub returns-in_default-new_object-clause-alone : goal.returns-in_default-new_object-clause-alone
-returns-in_default-new_object-clause-alone c = λ code element places s has h counts form.
+returns-in_default-new_object-clause-alone g c = λ code element places s has h counts form.
     let m = c.args.self.now in
     let to = leads_to places s m h c.args.from c.requires.address c.requires.some in
     let may = c.in_default.ensures places s.state.objects to.0 to.1 to.3 in
     grow_none c.args.line c.args.instr.a c.args.size element places s m h c.args.from to.0 to.1 to.2 to.3.stands may code c.give.new.self (c.in_default-new_object.ensures.place places s.state.objects h.keeps) (c.give.ensures ∙ ap (λ k. given k (Some c.args.instr.a) (Address 0)) c.in_default-new_object.ensures.none)
 
 pub grow-requires : goal.grow-requires
-grow-requires c =
+grow-requires g c =
     let q = c.requires.standing in
     let m = c.args.self.now in
     let to = leads_to q.0 q.1 m q.2.stands c.args.from c.requires.address c.requires.some in
@@ -48,7 +48,7 @@ grow-requires c =
     (places', objects, frees_of m.pins q.1, length q.1.state.objects, to.0, store)
 
 pub returns-in-Err-grow-clause-alone : goal.returns-in-Err-grow-clause-alone
-returns-in-Err-grow-clause-alone c = λ code element places s has h counts form.
+returns-in-Err-grow-clause-alone g c = λ code element places s has h counts form.
     let m = c.args.self.now in
     let to = leads_to places s m h c.args.from c.requires.address c.requires.some in
     let may = c.in_default.ensures places s.state.objects to.0 to.1 to.3 in
@@ -62,7 +62,7 @@ returns-in-Err-grow-clause-alone c = λ code element places s has h counts form.
     grow_traps c.args.line c.args.instr.a c.args.size element places s m h c.args.from to.0 to.1 to.2 to.3.stands may c.new_object.new.self.memory c.in-Some.to made.frame added tracked made.place code c.in-Err-grow.kind c.grow.new.self.memory c.grow.new.self changes
 
 pub free-requires-clause-standing : goal.free-requires-clause-standing
-free-requires-clause-standing c =
+free-requires-clause-standing g c =
     let q = c.requires.standing in
     let m = c.args.self.now in
     let to = leads_to q.0 q.1 m q.2.stands c.args.from c.requires.address c.requires.some in
@@ -81,7 +81,7 @@ free-requires-clause-standing c =
     (places', now, subst (λ (k : Kept). StandsWell places' now k) (sym same) well)
 
 pub returns-in_err-free-clause-alone : goal.returns-in_err-free-clause-alone
-returns-in_err-free-clause-alone c = λ code element places s has h counts form.
+returns-in_err-free-clause-alone g c = λ code element places s has h counts form.
     let m = c.args.self.now in
     let to = leads_to places s m h c.args.from c.requires.address c.requires.some in
     let may = c.in_default.ensures places s.state.objects to.0 to.1 to.3 in
@@ -103,7 +103,7 @@ returns-in_err-free-clause-alone c = λ code element places s has h counts form.
     rw (p.1, p.2) (grow_goes c.args.line c.args.instr.a c.args.size element places s m h c.args.from to.0 to.1 to.2 to.3.stands may c.new_object.new.self.memory c.in-Some.to made.frame added tracked made.place c.grow.new.self.memory changes stays c.grow.ensures.frame code c.free.new.self (Err c.in_err-free.field-0.0) (subst (λ (k : Kept). Alone places' now k (free code c.args.line (pointer_at now.handed 0) now.numbers now.state) c.free.new.self (Err c.in_err-free.field-0.0)) same freed))
 
 pub returns-clause-alone : goal.returns-clause-alone
-returns-clause-alone c = λ code element places s has h counts form.
+returns-clause-alone g c = λ code element places s has h counts form.
     let m = c.args.self.now in
     let to = leads_to places s m h c.args.from c.requires.address c.requires.some in
     let may = c.in_default.ensures places s.state.objects to.0 to.1 to.3 in
@@ -126,13 +126,13 @@ returns-clause-alone c = λ code element places s has h counts form.
 -- Ends
 
 pub returns-in-Err-clause-image : goal.returns-in-Err-clause-image
-returns-in-Err-clause-image c = λ code element places s has h counts form.
+returns-in-Err-clause-image g c = λ code element places s has h counts form.
     let m = c.args.self.now in
     let to = leads_to places s m h c.args.from c.requires.address c.requires.some in
     refused_in c.args.line c.args.instr.a c.args.size element places s m h c.args.from to.0 to.1 to.2 to.3.stands code c.in-Err.reason (c.in-Err.ensures places s.state.objects to.0 to.1 to.3) has counts _
 
 pub returns-in-Err-grow-clause-image : goal.returns-in-Err-grow-clause-image
-returns-in-Err-grow-clause-image c = λ code element places s has h counts form.
+returns-in-Err-grow-clause-image g c = λ code element places s has h counts form.
     let m = c.args.self.now in
     let to = leads_to places s m h c.args.from c.requires.address c.requires.some in
     let may = c.in_default.ensures places s.state.objects to.0 to.1 to.3 in
@@ -146,7 +146,7 @@ returns-in-Err-grow-clause-image c = λ code element places s has h counts form.
     traps_in c.args.line c.args.instr.a c.args.size element places s m h c.args.from to.0 to.1 to.2 to.3.stands may c.new_object.new.self.memory c.in-Some.to made.frame added tracked made.place code c.in-Err-grow.kind c.grow.new.self.memory c.new_object.new.self c.grow.new.self changes has counts made.some c.grow.ensures.others
 
 pub returns-in_err-free-clause-image : goal.returns-in_err-free-clause-image
-returns-in_err-free-clause-image c = λ code element places s has h counts form.
+returns-in_err-free-clause-image g c = λ code element places s has h counts form.
     let m = c.args.self.now in
     let to = leads_to places s m h c.args.from c.requires.address c.requires.some in
     let may = c.in_default.ensures places s.state.objects to.0 to.1 to.3 in

@@ -5,5 +5,5 @@ use Rattle.flat_machine.specs.Standing.{Stands}
 use Rattle.flat_machine.proofs.state.State.make_locals.Given as goal
 
 abbrev pub invariant-loop-k : goal.invariant-loop-k
-invariant-loop-k l =
+invariant-loop-k g l =
     (places : ℕ → ℕ) (c : CodeState) → Stands places c l.fn.self → HasMade l.code l.entry places c l.k l.fn.self l.self

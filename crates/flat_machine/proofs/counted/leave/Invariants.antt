@@ -1,5 +1,0 @@
-use Rattle.flat_machine.proofs.counted.leave.Given as goal
-
--- the ledger of this call
-abbrev pub ghosts-leave_with : goal.ghosts-leave_with
-ghosts-leave_with a = record { name = a.blank.name; parts = a.blank.parts }
