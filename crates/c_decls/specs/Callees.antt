@@ -23,7 +23,7 @@ use Rattle.c_decls.specs.Named as n
 use Rattle.c_decls.specs.Named.{PlainNamed}
 use Rattle.c_decls.specs.Refusals.{Checked, refused, then, unless}
 use Rattle.c_decls.specs.declared.typed.Folded.TheVariants.{Varies}
-use Rattle.c_decls.specs.Typed.{PlainTyped, place, value, constant, read}
+use Rattle.c_decls.specs.Typed.{PlainTyped, place, value, constant, wanted_value}
 use Rattle.c_decls.specs.PlaceRules.{length_of, all_convert}
 
 abbrev void_pointer : PlainType
@@ -96,7 +96,7 @@ named line (Some (n.Tag type)) = refused Operands line
 
 -- what a value is that is called
 abbrev pub no_function : ℕ → TagTable → Checked PlainTyped → Checked Callee
-no_function line tags answer = then answer (λ e. then (read line tags e) (λ held. Ok NoFunction))
+no_function line tags answer = then answer (λ e. then (wanted_value line tags e) (λ held. Ok NoFunction))
 
 abbrev pub function_callee : PlainType → Callee
 function_callee (Function answer params) = Takes answer params

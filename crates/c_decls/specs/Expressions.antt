@@ -25,7 +25,7 @@ use Rattle.c_decls.specs.ScopeList.{ScopeList, found, entered, left}
 use Rattle.c_decls.specs.Refusals.{Checked, refused, then, unless}
 use Rattle.c_decls.specs.declared.typed.Folded.TheVariants.{Varies, Traps, Is}
 use Rattle.c_decls.specs.declared.typed.Folded.{Folded}
-use Rattle.c_decls.specs.Typed.{PlainTyped, place, value, constant, is_function, read}
+use Rattle.c_decls.specs.Typed.{PlainTyped, place, value, constant, is_void, is_function, read, wanted_value}
 use Rattle.c_decls.specs.TypeRules.{unary, address, binary}
 use Rattle.c_decls.specs.PlaceRules.{cast, choice, size, element, dot, arrow, assigned, changed, stepped, held_place, behind_comma}
 use Rattle.c_decls.specs.Callees.{Callee, named, called, no_function, call}
@@ -35,8 +35,10 @@ use Rattle.c_decls.specs.TypeNames.{Context, Layer, PointerTo, ArrayOf, Function
 abbrev pub Found : Type 0
 Found = Checked (Context × PlainTyped)
 
--- the line of a node
-abbrev pub line_of : Tree → ℕ
+-- the line of a node; parentheses round an expression give none, nor does an initializer that is one
+unfoldable pub line_of : Tree → ℕ
+line_of (Node f.Paren (At line ▹ e ▹ none)) = line_of e
+line_of (Node f.InitExpr (At line ▹ e ▹ none)) = line_of e
 line_of (Node any (At line ▹ parts)) = line
 line_of _ = 0
 
@@ -45,7 +47,15 @@ answered context answer = then answer (λ e. Ok (context, e))
 
 -- an operand whose value is wanted
 abbrev pub wanted : Tree → Found → Found
-wanted tree answer = then answer (λ e. answered e.0 (read (line_of tree) e.0.tags e.1))
+wanted tree answer = then answer (λ e. answered e.0 (wanted_value (line_of tree) e.0.tags e.1))
+
+-- an operand whose value is not used: an assignment to a struct or a union may stand there
+abbrev pub unused : Tree → Found → Found
+unused tree answer = then answer (λ e. answered e.0 (read (line_of tree) e.0.tags e.1))
+
+-- the operand of a cast, which to void uses no value
+abbrev pub cast_operand : PlainType → Tree → Found → Found
+cast_operand type tree answer = cond (is_void type) (unused tree answer) (wanted tree answer)
 
 -- an operand that is read and written: what it holds must be a value
 abbrev pub changing : Tree → Found → Found
@@ -130,7 +140,7 @@ unfoldable mutual
   typed (Node f.SizeofType (At line ▹ name ▹ none)) c =
       then (typename name c) (λ t. answered t.0 (size line t.0.tags t.1))
   typed (Node f.Cast (At line ▹ name ▹ e ▹ none)) c =
-      then (typename name c) (λ t. one (wanted e (typed e t.0)) (λ tags d. cast line t.1 d))
+      then (typename name c) (λ t. one (cast_operand t.1 e (typed e t.0)) (λ tags d. cast line t.1 d))
   typed (Node (f.Binary op) (At line ▹ e ▹ g ▹ none)) c =
       two (wanted e (typed e c)) (λ d. wanted g (typed g d)) (binary line op)
   typed (Node f.Cond (At line ▹ e ▹ g ▹ h ▹ none)) c =
@@ -140,7 +150,7 @@ unfoldable mutual
   typed (Node (f.Assign op) (At line ▹ e ▹ g ▹ none)) c =
       two (changing e (typed e c)) (λ d. wanted g (typed g d)) (changed line op)
   typed (Node f.Comma (At line ▹ e ▹ g ▹ none)) c =
-      two (wanted e (typed e c)) (λ d. wanted g (typed g d)) (λ tags x y. Ok (behind_comma y))
+      two (unused e (typed e c)) (λ d. unused g (typed g d)) (λ tags x y. Ok (behind_comma y))
   typed tree c = refused Operands (line_of tree)
 
   -- the values of arguments, in turn

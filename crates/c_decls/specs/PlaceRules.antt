@@ -15,7 +15,7 @@ use Rattle.c_decls.specs.IntegerTypes.{common_type}
 use Rattle.c_decls.specs.Refusals.{Checked, refused, then, unless}
 use Rattle.c_decls.specs.declared.typed.Folded.TheVariants.{Varies, Traps, Is}
 use Rattle.c_decls.specs.declared.typed.Folded.{Folded}
-use Rattle.c_decls.specs.Typed.{PlainTyped, place, value, integer, int, Operand, Number, PointerTo, Neither, operand, same, is_void, is_scalar, is_record, is_array, has_no_size, is_null_constant, read}
+use Rattle.c_decls.specs.Typed.{PlainTyped, place, value, integer, int, Operand, Number, PointerTo, Neither, operand, same, is_void, is_scalar, is_record, is_array, has_no_size, is_null_constant, has_no_value, wanted_value}
 use Rattle.c_decls.specs.TypeRules.{fold_one, chosen, barred, moving, beside_pointer}
 
 -- a number converted to a type
@@ -127,10 +127,10 @@ is_written e = e.is_place && not (is_array e.type)
 -- `=` to a struct or a union, from a place of the same type
 abbrev pub record_assigned : ℕ → TagTable → PlainTyped → PlainTyped → Checked PlainTyped
 record_assigned line tags target e =
-    unless (not target.is_place) NotLvalue line
+    unless (has_no_value e) Operands line
+    (unless (not target.is_place) NotLvalue line
     (unless (has_no_size tags target.type) Incomplete line
-    (unless (not (same target.type e.type)) Assignment line
-    (unless (not e.is_place) Operands line (Ok (value target.type)))))
+    (unless (not (same target.type e.type)) Assignment line (Ok (value target.type)))))
 
 -- `=` to a scalar, from a value
 abbrev pub scalar_assigned : ℕ → PlainTyped → PlainTyped → Checked PlainTyped
@@ -139,10 +139,10 @@ scalar_assigned line target e =
     (unless (is_void target.type) Incomplete line
     (converts line target.type e (Ok (value target.type))))
 
--- `=` (C99 6.5.16.1); where a struct or a union is written, its right side is no value
+-- `=` (C99 6.5.16.1); where a struct or a union is written, its right side is a place, which is not read
 abbrev pub assigned : ℕ → ℕ → TagTable → PlainTyped → PlainTyped → Checked PlainTyped
 assigned line right tags target e =
-    cond (is_record target.type) (record_assigned line tags target e) (then (read right tags e) (scalar_assigned line target))
+    cond (is_record target.type) (record_assigned line tags target e) (then (wanted_value right tags e) (scalar_assigned line target))
 
 -- `++` and `--`, and the operators with `=`, on a pointer
 abbrev pub moves : AssignOp → Bool
@@ -167,7 +167,7 @@ stepped line tags target = changed line a.Add tags target int
 
 -- an operand of an operator that reads a place and writes it: what it holds is refused where it is no value
 abbrev pub held_place : ℕ → TagTable → PlainTyped → Checked PlainTyped
-held_place line tags e = then (read line tags e) (λ held. Ok e)
+held_place line tags e = then (wanted_value line tags e) (λ held. Ok e)
 
 -- the right side of a comma
 abbrev pub behind_comma : PlainTyped → PlainTyped

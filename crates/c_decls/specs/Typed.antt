@@ -1,5 +1,5 @@
 -- What is known of an expression: its type, whether it is a place, and its value where it is constant (C99 6.3, 6.6).
-use Rattle.std.specs.Prelude.{ℕ, ℤ, pos, zero, Bool, true, false, ◌&&◌, ◌||◌, nat_eq, is_none, cond, Ok}
+use Rattle.std.specs.Prelude.{ℕ, ℤ, pos, zero, Bool, true, false, not, ◌&&◌, ◌||◌, nat_eq, is_none, cond, Ok}
 use Rattle.c_types.specs.declared.types.IntType.{IntType}
 use Rattle.c_types.specs.declared.types.IntType.TheVariants as i
 use Rattle.c_types.specs.Types.{plain, PlainType, PlainTypes, Void, Int, Pointer, Array, Struct, Union, Function, none, first}
@@ -12,7 +12,7 @@ use Rattle.c_decls.specs.declared.typed.Folded.{Folded}
 use Rattle.c_decls.specs.declared.typed.Folded.TheVariants.{Varies, Is}
 use Rattle.c_decls.specs.declared.refusal.TypeKind.TheVariants.{Operands, Incomplete}
 use Rattle.c_decls.specs.Constants.{typed}
-use Rattle.c_decls.specs.Refusals.{Checked, refused}
+use Rattle.c_decls.specs.Refusals.{Checked, refused, unless}
 
 -- an expression: its type, whether it is a place, its value, and whether it is `NULL`, or an integer constant
 -- expression of value 0 that is cast to `void *`
@@ -128,9 +128,17 @@ held line tags (Struct tag) = cond (has_no_size tags (Struct tag)) (refused Inco
 held line tags (Union tag) = cond (has_no_size tags (Union tag)) (refused Incomplete line) (refused Operands line)
 held line tags (Function answer params) = refused Operands line
 
--- an expression where a value is wanted
+-- an expression that is evaluated: what a place holds, or the expression itself
 abbrev pub read : ℕ → TagTable → PlainTyped → Checked PlainTyped
 read line tags e = cond e.is_place (held line tags e.type) (Ok e)
+
+-- a struct or a union that is no place is an assignment, which has no value
+abbrev pub has_no_value : PlainTyped → Bool
+has_no_value e = is_record e.type && not e.is_place
+
+-- an expression where a value is wanted
+abbrev pub wanted_value : ℕ → TagTable → PlainTyped → Checked PlainTyped
+wanted_value line tags e = unless (has_no_value e) Operands line (read line tags e)
 
 -- an expression, without where its type lies in memory
 abbrev pub plain_typed : Typed → PlainTyped

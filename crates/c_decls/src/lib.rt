@@ -14,12 +14,13 @@
 //!   of the operators stand in `specs/TypeRules.antt` and `specs/PlaceRules.antt`, those of calls in `specs/Callees.antt`,
 //!   and those of the names of types in `specs/TypeNames.antt`. `proofs/Examples.antt` has expressions worked out by hand.
 //! - [`Typed`] is what is known of an expression; [`binary`], [`unary`] and [`address`] are the rules of operators as code.
-//!   Where they refuse, [`TypeError::Bad`] has the kind and the line.
+//!   Where they refuse, [`TypeError::Bad`] has the kind and the line. [`line_of`] is the line of an expression.
 #![tactic(auto)]
 
 mod built_in;
 mod constant;
 mod integers;
+mod lines;
 mod named;
 mod refusal;
 mod rules;
@@ -30,6 +31,7 @@ mod typed;
 pub use built_in::BuiltIn;
 pub use constant::Constant;
 pub use integers::{common_type, number_type, promoted};
+pub use lines::{init_line, inner_line, line_of};
 pub use named::{Named, tag_name};
 pub use refusal::{TypeError, TypeKind};
 pub use rules::{address, binary, chosen, immovable, result_type, unary, value_unless};

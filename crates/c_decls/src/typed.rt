@@ -3,7 +3,7 @@
 ghost use Rattle.std.specs.Prelude.{◌≡◌, cond, Err};
 ghost use Rattle.c_types.specs.Types.{plain};
 ghost use Rattle.c_decls.specs.Refusals.{Answers};
-ghost use Rattle.c_decls.specs.Typed.{plain_typed, place, value, integer, constant as constant_typed, int, held, is_zero, is_void, is_record, is_array, is_function, is_scalar, has_no_size, is_null_constant, operand, plain_operand, read, same};
+ghost use Rattle.c_decls.specs.Typed.{plain_typed, place, value, integer, constant as constant_typed, int, held, is_zero, is_void, is_record, is_array, is_function, is_scalar, has_no_size, is_null_constant, operand, plain_operand, read, has_no_value, wanted_value, same};
 
 use crate::constant::Constant;
 use crate::refusal::{TypeError, TypeKind};
@@ -97,7 +97,7 @@ impl Typed {
         self.is_null || is_zero(&self.ty, self.folded)
     }
 
-    /// The expression where a value is wanted: what a place holds, and for an array the address of its first element
+    /// The expression where it is evaluated: what a place holds, and for an array the address of its first element
     /// (C99 6.3.2.1).
     pub fn read(self, line: Line, tags: &Tags) -> Result<Typed, TypeError>
         ensures { Answers plain_typed result (read line tags.now (plain_typed self)) }
@@ -107,6 +107,23 @@ impl Typed {
         } else {
             Ok(self)
         }
+    }
+
+    /// Whether the expression is an assignment to a struct or a union, which has no value.
+    pub fn has_no_value(&self) -> bool
+        ensures { result ≡ has_no_value (plain_typed self.now) }
+    {
+        is_record(&self.ty) && !self.is_place
+    }
+
+    /// The expression where a value is wanted.
+    pub fn wanted_value(self, line: Line, tags: &Tags) -> Result<Typed, TypeError>
+        ensures { Answers plain_typed result (wanted_value line tags.now (plain_typed self)) }
+    {
+        if self.has_no_value() {
+            return refused(TypeKind::Operands, line);
+        }
+        self.read(line, tags)
     }
 }
 

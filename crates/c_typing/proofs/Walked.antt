@@ -24,11 +24,11 @@ use Rattle.c_decls.specs.declared.refusal.TypeError.{TypeError}
 use Rattle.c_decls.specs.declared.refusal.TypeError.TheVariants as e
 use Rattle.c_decls.specs.declared.typed.Typed.{Typed}
 use Rattle.c_decls.specs.Refusals.{Checked, Answers, Meets, refused, then}
-use Rattle.c_decls.specs.Typed.{PlainTyped, plain_typed, read}
+use Rattle.c_decls.specs.Typed.{PlainTyped, plain_typed, read, wanted_value}
 use Rattle.c_decls.specs.PlaceRules.{held_place, size, cast, assigned, changed}
 use Rattle.c_decls.specs.Callees.{Callee, no_function, call}
 use Rattle.c_decls.specs.TypeNames.{Context, Layer, ArrayOf, FunctionOf, array_length}
-use Rattle.c_decls.specs.Expressions.{Found, typed, wanted, changing, answered, callee, line_of, values, typename, layers, suffix_layer, suffix_layers, param_type, param_types, first_literal, in_new_scope, out_of_scope}
+use Rattle.c_decls.specs.Expressions.{Found, typed, wanted, unused, cast_operand, changing, answered, callee, line_of, values, typename, layers, suffix_layer, suffix_layers, param_type, param_types, first_literal, in_new_scope, out_of_scope}
 use Rattle.c_typing.specs.declared.callees.Callee.{Callee as CodeCallee}
 use Rattle.c_typing.specs.declared.layers.Layer.{Layer as CodeLayer}
 use Rattle.c_typing.specs.Callee.{plain_callee}
@@ -38,31 +38,6 @@ use Rattle.c_typing.specs.Parts.{is_plain}
 use Rattle.c_typing.specs.Walks.{Walks}
 use Rattle.c_typing.proofs.Turns.{in_turn}
 
--- the line of an expression's tree
-pub line_of_expr : (kind : ExprKind) (line : ℕ) → line_of (expr_tree kind line) ≡ line
-unfolding expr_tree
-line_of_expr (x.Name bytes) line = refl
-line_of_expr (x.Int bytes) line = refl
-line_of_expr (x.Char bytes) line = refl
-line_of_expr (x.Str parts) line = refl
-line_of_expr (x.Paren' p at kind) line = refl
-line_of_expr (x.Index' p at kind q at2 kind2) line = refl
-line_of_expr (x.Call' p at kind shape arguments) line = refl
-line_of_expr (x.Dot' p at kind name) line = refl
-line_of_expr (x.Arrow' p at kind name) line = refl
-line_of_expr (x.PostInc' p at kind) line = refl
-line_of_expr (x.PostDec' p at kind) line = refl
-line_of_expr (x.PreInc' p at kind) line = refl
-line_of_expr (x.PreDec' p at kind) line = refl
-line_of_expr (x.Unary' op p at kind) line = refl
-line_of_expr (x.SizeofExpr' p at kind) line = refl
-line_of_expr (x.SizeofType' p at at2 shape words declarator) line = refl
-line_of_expr (x.Cast' p at at2 shape words declarator q at3 kind) line = refl
-line_of_expr (x.Binary' op p at kind q at2 kind2) line = refl
-line_of_expr (x.Cond' p at kind q at2 kind2 r at3 kind3) line = refl
-line_of_expr (x.Assign' op p at kind q at2 kind2) line = refl
-line_of_expr (x.Comma' p at kind q at2 kind2) line = refl
-
 -- an answer of a rule in a context
 pub answers_walk : {A B : Type 0} (view : A → B) (c : Context) (r : Result A TypeError) (w : Checked B) → Answers view r w →
     Walks view c r (then w (λ e. Ok (c, e)))
@@ -71,29 +46,38 @@ answers_walk view c (Err (e.Bad kind line)) w h = ap (λ w. then w (λ e. Ok (c,
 answers_walk view c (Err e.NoMemory) w h = tt
 
 -- an operand whose value is wanted
-pub wanted_walks : (kind : ExprKind) (line : ℕ) (c d : Context) (x : PlainTyped) (r : Result Typed TypeError) →
-    typed (expr_tree kind line) c ≡ Ok (d, x) → Answers plain_typed r (read line d.tags x) →
+pub wanted_walks : (kind : ExprKind) (line at : ℕ) (c d : Context) (x : PlainTyped) (r : Result Typed TypeError) →
+    at ≡ line_of (expr_tree kind line) → typed (expr_tree kind line) c ≡ Ok (d, x) → Answers plain_typed r (wanted_value at d.tags x) →
     Walks plain_typed d r (wanted (expr_tree kind line) (typed (expr_tree kind line) c))
-wanted_walks kind line c d x r is h =
+wanted_walks kind line at c d x r there is h =
     subst (λ (a : Found). Walks plain_typed d r (wanted (expr_tree kind line) a)) (sym is)
-    (subst (λ (l : ℕ). Walks plain_typed d r (answered d (read l d.tags x))) (sym (line_of_expr kind line))
-    (answers_walk plain_typed d r (read line d.tags x) h))
+    (subst (λ (l : ℕ). Walks plain_typed d r (answered d (wanted_value l d.tags x))) there
+    (answers_walk plain_typed d r (wanted_value at d.tags x) h))
+
+-- an operand whose value is not used
+pub unused_walks : (kind : ExprKind) (line at : ℕ) (c d : Context) (x : PlainTyped) (r : Result Typed TypeError) →
+    at ≡ line_of (expr_tree kind line) → typed (expr_tree kind line) c ≡ Ok (d, x) → Answers plain_typed r (read at d.tags x) →
+    Walks plain_typed d r (unused (expr_tree kind line) (typed (expr_tree kind line) c))
+unused_walks kind line at c d x r there is h =
+    subst (λ (a : Found). Walks plain_typed d r (unused (expr_tree kind line) a)) (sym is)
+    (subst (λ (l : ℕ). Walks plain_typed d r (answered d (read l d.tags x))) there
+    (answers_walk plain_typed d r (read at d.tags x) h))
 
 -- an operand that is changed
-pub changing_walks : (kind : ExprKind) (line : ℕ) (c d : Context) (x : PlainTyped) (r : Result Typed TypeError) →
-    typed (expr_tree kind line) c ≡ Ok (d, x) → Answers plain_typed r (held_place line d.tags x) →
+pub changing_walks : (kind : ExprKind) (line at : ℕ) (c d : Context) (x : PlainTyped) (r : Result Typed TypeError) →
+    at ≡ line_of (expr_tree kind line) → typed (expr_tree kind line) c ≡ Ok (d, x) → Answers plain_typed r (held_place at d.tags x) →
     Walks plain_typed d r (changing (expr_tree kind line) (typed (expr_tree kind line) c))
-changing_walks kind line c d x r is h =
+changing_walks kind line at c d x r there is h =
     subst (λ (a : Found). Walks plain_typed d r (changing (expr_tree kind line) a)) (sym is)
-    (subst (λ (l : ℕ). Walks plain_typed d r (answered d (held_place l d.tags x))) (sym (line_of_expr kind line))
-    (answers_walk plain_typed d r (held_place line d.tags x) h))
+    (subst (λ (l : ℕ). Walks plain_typed d r (answered d (held_place l d.tags x))) there
+    (answers_walk plain_typed d r (held_place at d.tags x) h))
 
 -- what is called where it is no name
 abbrev valued_callee : ℕ → Found → Checked (Context × Callee)
 valued_callee line a = then a (λ d. then (no_function line d.0.tags (Ok d.1)) (λ c. Ok (d.0, c)))
 
 callee_other : (kind : ExprKind) (line : ℕ) (c : Context) (a : Found) → ((name : List ℕ) → kind ≡ x.Name name → ⊥) →
-    callee (expr_tree kind line) c a ≡ valued_callee line a
+    callee (expr_tree kind line) c a ≡ valued_callee (line_of (expr_tree kind line)) a
 unfolding expr_tree
 callee_other (x.Name bytes) line c a not = absurd (not bytes refl)
 callee_other (x.Int bytes) line c a not = refl
@@ -117,20 +101,21 @@ callee_other (x.Cond' p at kind q at2 kind2 r at3 kind3) line c a not = refl
 callee_other (x.Assign' op p at kind q at2 kind2) line c a not = refl
 callee_other (x.Comma' p at kind q at2 kind2) line c a not = refl
 
-pub callee_walks : (kind : ExprKind) (line : ℕ) (c d : Context) (y : PlainTyped) (r : Result CodeCallee TypeError) →
-    ((name : List ℕ) → kind ≡ x.Name name → ⊥) → typed (expr_tree kind line) c ≡ Ok (d, y) →
-    Answers plain_callee r (no_function line d.tags (Ok y)) →
+pub callee_walks : (kind : ExprKind) (line at : ℕ) (c d : Context) (y : PlainTyped) (r : Result CodeCallee TypeError) →
+    ((name : List ℕ) → kind ≡ x.Name name → ⊥) → at ≡ line_of (expr_tree kind line) → typed (expr_tree kind line) c ≡ Ok (d, y) →
+    Answers plain_callee r (no_function at d.tags (Ok y)) →
     Walks plain_callee d r (callee (expr_tree kind line) c (typed (expr_tree kind line) c))
-callee_walks kind line c d y r not is h =
+callee_walks kind line at c d y r not there is h =
     subst (λ (a : Checked (Context × Callee)). Walks plain_callee d r a) (sym (callee_other kind line c (typed (expr_tree kind line) c) not))
-    (subst (λ (a : Found). Walks plain_callee d r (valued_callee line a)) (sym is)
-    (answers_walk plain_callee d r (no_function line d.tags (Ok y)) h))
+    (subst (λ (l : ℕ). Walks plain_callee d r (valued_callee l (typed (expr_tree kind line) c))) there
+    (subst (λ (a : Found). Walks plain_callee d r (valued_callee at a)) (sym is)
+    (answers_walk plain_callee d r (no_function at d.tags (Ok y)) h)))
 
 pub callee_refused : (kind : ExprKind) (line : ℕ) (c d : Context) (error : TypeError) →
     ((name : List ℕ) → kind ≡ x.Name name → ⊥) → Walks plain_typed d (Err error) (typed (expr_tree kind line) c) →
     Walks plain_callee d (Err error) (callee (expr_tree kind line) c (typed (expr_tree kind line) c))
 callee_refused kind line c d (e.Bad k at) not h =
-    callee_other kind line c (typed (expr_tree kind line) c) not ∙ ap (valued_callee line) h
+    callee_other kind line c (typed (expr_tree kind line) c) not ∙ ap (valued_callee (line_of (expr_tree kind line))) h
 callee_refused kind line c d e.NoMemory not h = tt
 
 -- arguments, suffixes and parameters are gone through in turn
@@ -290,7 +275,7 @@ abbrev cast_value : ℕ → PlainType → Found → Found
 cast_value line p operand = then operand (λ e. answered e.0 (cast line p e.1))
 
 abbrev cast_by : ℕ → Expr → Checked (Context × PlainType) → Found
-cast_by line e named = then named (λ t. cast_value line t.1 (wanted (expr_view e) (typed (expr_view e) t.0)))
+cast_by line e named = then named (λ t. cast_value line t.1 (cast_operand t.1 (expr_view e) (typed (expr_view e) t.0)))
 
 cast_is : (kind : ExprKind) (line : ℕ) (type : Box TypeName Global) (operand : Box Expr Global) (c : Context) →
     kind ≡ x.Cast type operand →
@@ -302,14 +287,14 @@ cast_is kind line type operand c is =
 pub cast_walks : (kind : ExprKind) (line : ℕ) (type : Box TypeName Global) (operand : Box Expr Global) (t : TypeName) (b : Expr)
     (c d f : Context) (p : PlainType) (y : PlainTyped) (r : Result Typed TypeError) →
     kind ≡ x.Cast type operand → t ≡ type.value → b ≡ operand.value →
-    typename (typename_view t) c ≡ Ok (d, p) → wanted (expr_view b) (typed (expr_view b) d) ≡ Ok (f, y) →
+    typename (typename_view t) c ≡ Ok (d, p) → cast_operand p (expr_view b) (typed (expr_view b) d) ≡ Ok (f, y) →
     Answers plain_typed r (cast line p y) →
     Walks plain_typed f r (typed (expr_tree kind line) c)
 cast_walks kind line type operand t b c d f p y r is at same named valued h =
     let whole : typed (expr_tree kind line) c ≡ answered f (cast line p y) =
     cast_is kind line type operand c is
     ∙ ap (cast_by line operand.value) (subst (λ (t : TypeName). typename (typename_view t) c ≡ Ok (d, p)) at named)
-    ∙ ap (cast_value line p) (subst (λ (e : Expr). wanted (expr_view e) (typed (expr_view e) d) ≡ Ok (f, y)) same valued) in
+    ∙ ap (cast_value line p) (subst (λ (e : Expr). cast_operand p (expr_view e) (typed (expr_view e) d) ≡ Ok (f, y)) same valued) in
     subst (λ (w : Found). Walks plain_typed f r w) (sym whole) (answers_walk plain_typed f r (cast line p y) h)
 
 pub cast_type_refused : (kind : ExprKind) (line : ℕ) (type : Box TypeName Global) (operand : Box Expr Global) (t : TypeName)
@@ -325,12 +310,12 @@ pub cast_value_refused : (kind : ExprKind) (line : ℕ) (type : Box TypeName Glo
     (c d f : Context) (p : PlainType) (error : TypeError) →
     kind ≡ x.Cast type operand → t ≡ type.value → b ≡ operand.value →
     typename (typename_view t) c ≡ Ok (d, p) →
-    Walks plain_typed f (Err error) (wanted (expr_view b) (typed (expr_view b) d)) →
+    Walks plain_typed f (Err error) (cast_operand p (expr_view b) (typed (expr_view b) d)) →
     Walks plain_typed f (Err error) (typed (expr_tree kind line) c)
 cast_value_refused kind line type operand t b c d f p (e.Bad k l) is at same named h =
     cast_is kind line type operand c is
     ∙ ap (cast_by line operand.value) (subst (λ (t : TypeName). typename (typename_view t) c ≡ Ok (d, p)) at named)
-    ∙ ap (cast_value line p) (subst (λ (e : Expr). wanted (expr_view e) (typed (expr_view e) d) ≡ refused k l) same h)
+    ∙ ap (cast_value line p) (subst (λ (e : Expr). cast_operand p (expr_view e) (typed (expr_view e) d) ≡ refused k l) same h)
 cast_value_refused kind line type operand t b c d f p e.NoMemory is at same named h = tt
 
 -- assignments
@@ -367,12 +352,12 @@ other_op op h e = true≢false (sym (ap is_plain e) ∙ h)
 
 pub assign_walks : (kind : ExprKind) (line at : ℕ) (left_one right_one : Box Expr Global) (l g : Expr)
     (c d f : Context) (y z : PlainTyped) (r : Result Typed TypeError) →
-    kind ≡ x.Assign a.Plain left_one right_one → l ≡ left_one.value → g ≡ right_one.value → at ≡ right_one.value.line →
+    kind ≡ x.Assign a.Plain left_one right_one → l ≡ left_one.value → g ≡ right_one.value → at ≡ line_of (expr_view right_one.value) →
     typed (expr_view l) c ≡ Ok (d, y) → typed (expr_view g) d ≡ Ok (f, z) →
     Answers plain_typed r (assigned line at f.tags y z) →
     Walks plain_typed f r (typed (expr_tree kind line) c)
 assign_walks kind line at left_one right_one l g c d f y z r is same other place begun second h =
-    let there = line_of_expr right_one.value.kind right_one.value.line ∙ sym place in
+    let there = sym place in
     let whole : typed (expr_tree kind line) c ≡ answered f (assigned line at f.tags y z) =
     assign_is kind line left_one right_one c is
     ∙ ap (assigned_by line (line_of (expr_view right_one.value)) right_one.value)
@@ -481,11 +466,11 @@ array_is kind line held c is =
     ap (λ k. suffix_layer (suffix_tree k line) c) is ∙ ap (λ t. suffix_layer t c) (array_tree (Some held) line)
 
 pub array_walks : (kind : SuffixKind) (line at : ℕ) (held : Box Expr Global) (b : Expr) (c d : Context) (y : PlainTyped)
-    (r : Result ℕ TypeError) → kind ≡ s.Array (Some held) → b ≡ held.value → at ≡ held.value.line →
+    (r : Result ℕ TypeError) → kind ≡ s.Array (Some held) → b ≡ held.value → at ≡ line_of (expr_view held.value) →
     wanted (expr_view b) (typed (expr_view b) c) ≡ Ok (d, y) → Answers (λ n. n) r (array_length at y) →
     Walks (λ n. ArrayOf line (Some n)) d r (suffix_layer (suffix_tree kind line) c)
 array_walks kind line at held b c d y r is same place valued h =
-    let there = line_of_expr held.value.kind held.value.line ∙ sym place in
+    let there = sym place in
     let whole : suffix_layer (suffix_tree kind line) c ≡ array_answer line d (array_length at y) =
     array_is kind line held c is
     ∙ ap (lengthed line (line_of (expr_view held.value))) (subst (λ (x : Expr). wanted (expr_view x) (typed (expr_view x) c) ≡ Ok (d, y)) same valued)

@@ -12,7 +12,7 @@ ghost use Rattle.c_typing.specs.Walks.{Walks, here, with_new};
 
 use crate::lent::Around;
 use crate::typer::{Typer, is_made};
-use c_decls::{Constant, Folded, Scopes, TypeError, TypeKind, Typed, refused};
+use c_decls::{Constant, Folded, Scopes, TypeError, TypeKind, Typed, line_of, refused};
 use c_tree::{Expr, Spec, TypeName};
 use c_types::{CType, TagInfo, Tags};
 use hs_base::{Line, NoMemory};
@@ -149,6 +149,6 @@ pub fn constant(
     ensures { Meets (λ k. k) result (rules.constant_value scopes.now tags.now (expr_view e.now)) }
 {
     let x = value_ahead(alloc, scopes, tags, e)?;
-    let constant = constant_from(e.line, &x)?;
+    let constant = constant_from(line_of(e), &x)?;
     Ok(constant)
 }

@@ -163,7 +163,7 @@ pub fn named(alloc: Global, line: Line, named: Option<&Named>) -> Result<Typed, 
 pub fn no_function(line: Line, tags: &Tags, e: Typed) -> Result<Callee, TypeError>
     ensures { Answers plain_callee result (rules.no_function line tags.now (Ok (plain_typed e))) }
 {
-    e.read(line, tags)?;
+    e.wanted_value(line, tags)?;
     Ok(Callee::NoFunction)
 }
 

@@ -246,14 +246,16 @@ fn record_assigned(line: Line, tags: &Tags, target: Typed, e: &Typed) -> Result<
     ensures { Answers plain_typed result
         (rules.record_assigned line tags.now (plain_typed target) (plain_typed e.now)) }
 {
-    if !target.is_place {
+    if e.has_no_value() {
+        refused(TypeKind::Operands, line)
+    } else if !target.is_place {
         refused(TypeKind::NotLvalue, line)
     } else if has_no_size(tags, &target.ty) {
         refused(TypeKind::Incomplete, line)
     } else if !is_same(&target.ty, &e.ty) {
         refused(TypeKind::Assignment, line)
     } else {
-        value_if(e.is_place, TypeKind::Operands, line, target.ty)
+        Ok(Typed::value(target.ty))
     }
 }
 
@@ -284,7 +286,7 @@ pub fn assigned(
     if is_record(&target.ty) {
         record_assigned(line, tags, target, &e)
     } else {
-        let e = e.read(right, tags)?;
+        let e = e.wanted_value(right, tags)?;
         scalar_assigned(line, target, &e)
     }
 }
@@ -336,6 +338,9 @@ pub fn stepped(line: Line, tags: &Tags, target: Typed) -> Result<Typed, TypeErro
 pub fn held_place(line: Line, tags: &Tags, e: Typed) -> Result<Typed, TypeError>
     ensures { Answers plain_typed result (rules.held_place line tags.now (plain_typed e)) }
 {
+    if e.has_no_value() {
+        return refused(TypeKind::Operands, line);
+    }
     if !e.is_place {
         return Ok(e);
     }

@@ -11,7 +11,7 @@ ghost use Rattle.c_decls.specs.Expressions as rules;
 ghost use Rattle.c_typing.specs.Callee.{plain_callee};
 ghost use Rattle.c_typing.specs.Layers.{plain_layer, plain_layers};
 ghost use Rattle.c_typing.specs.Walks.{Walks, context_of};
-ghost use Rattle.c_typing.specs.Parts.{behind, is_plain};
+ghost use Rattle.c_typing.specs.Parts.{behind, is_plain, operand_of};
 
 use crate::callees::{Callee, call, called, named, no_function};
 use crate::layers::{Layer, adjusted, array_length, with_layers, with_param_layers};
@@ -21,7 +21,10 @@ use crate::places::{
     assigned, behind_comma, cast, changed, choice, element, held_place, size, stepped,
 };
 use crate::typer::Typer;
-use c_decls::{TypeError, TypeKind, Typed, address, binary, is_function, refused, unary};
+use c_decls::{
+    TypeError, TypeKind, Typed, address, binary, inner_line, is_function, is_void, line_of,
+    refused, unary,
+};
 use c_tree::{
     AssignOp, Base, Declarator, Expr, ExprKind, Param, Suffix, SuffixKind, TypeName, UnaryOp,
 };
@@ -133,7 +136,7 @@ impl Typer<'_> {
             }
             ExprKind::Cast(typename, operand) => {
                 let ty = self.typename(tags, typename)?;
-                let x = self.wanted(tags, operand)?;
+                let x = self.cast_operand(tags, is_void(&ty), operand)?;
                 cast(line, ty, &x)
             }
             ExprKind::Binary(op, left, right) => {
@@ -151,7 +154,7 @@ impl Typer<'_> {
                 if is_plain(*op) {
                     let x = self.typed(tags, left)?;
                     let y = self.typed(tags, right)?;
-                    assigned(line, right.line, tags, x, y)
+                    assigned(line, line_of(right), tags, x, y)
                 } else {
                     let x = self.changing(tags, left)?;
                     let y = self.wanted(tags, right)?;
@@ -159,8 +162,8 @@ impl Typer<'_> {
                 }
             }
             ExprKind::Comma(left, right) => {
-                self.wanted(tags, left)?;
-                let y = self.wanted(tags, right)?;
+                self.unused(tags, left)?;
+                let y = self.unused(tags, right)?;
                 Ok(behind_comma(y))
             }
         }
@@ -173,7 +176,30 @@ impl Typer<'_> {
             (rules.wanted (expr_view e.now) (rules.typed (expr_view e.now) (context_of self.old tags.now))) }
     {
         let x = self.typed(tags, e)?;
-        x.read(e.line, tags)
+        x.wanted_value(line_of(e), tags)
+    }
+
+    /// An operand whose value is not used.
+    #[cycle(walk)]
+    fn unused(&mut self, tags: &Tags, e: &Expr) -> Result<Typed, TypeError>
+        ensures { Walks plain_typed (context_of self.new tags.now) result
+            (rules.unused (expr_view e.now) (rules.typed (expr_view e.now) (context_of self.old tags.now))) }
+    {
+        let x = self.typed(tags, e)?;
+        x.read(line_of(e), tags)
+    }
+
+    /// The operand of a cast, to void or to a type of values; to void no value is used.
+    #[cycle(walk)]
+    fn cast_operand(&mut self, tags: &Tags, to_void: bool, e: &Expr) -> Result<Typed, TypeError>
+        ensures { Walks plain_typed (context_of self.new tags.now) result
+            (operand_of to_void (expr_view e.now) (rules.typed (expr_view e.now) (context_of self.old tags.now))) }
+    {
+        if to_void {
+            self.unused(tags, e)
+        } else {
+            self.wanted(tags, e)
+        }
     }
 
     /// An operand that is read and written: what it holds must be a value.
@@ -183,7 +209,7 @@ impl Typer<'_> {
             (rules.changing (expr_view e.now) (rules.typed (expr_view e.now) (context_of self.old tags.now))) }
     {
         let x = self.typed(tags, e)?;
-        held_place(e.line, tags, x)
+        held_place(line_of(e), tags, x)
     }
 
     /// What is called at a line: a name, or a value.
@@ -201,7 +227,7 @@ impl Typer<'_> {
             }
             _ => {
                 let x = self.kind(tags, line, kind)?;
-                no_function(line, tags, x)
+                no_function(inner_line(kind, line), tags, x)
             }
         }
     }
@@ -288,7 +314,7 @@ impl Typer<'_> {
 
     /// The layer of a suffix at a line.
     #[cycle(walk)]
-    #[tactic(auto, unfolding(c_decls::specs::Expressions::suffix_layer, c_tree::specs::View::suffix_tree, c_tree::specs::View::held_trees))]
+    #[tactic(auto, unfolding(c_decls::specs::Expressions::suffix_layer, c_decls::specs::Expressions::line_of, c_tree::specs::View::suffix_tree, c_tree::specs::View::held_trees))]
     fn suffix_layer(
         &mut self,
         tags: &Tags,
@@ -303,7 +329,7 @@ impl Typer<'_> {
                 None => Ok(Layer::ArrayOf(line, None)),
                 Some(held) => {
                     let x = self.wanted(tags, held)?;
-                    let length = array_length(held.line, &x)?;
+                    let length = array_length(line_of(held), &x)?;
                     Ok(Layer::ArrayOf(line, Some(length)))
                 }
             },

@@ -13,11 +13,11 @@ use Rattle.c_tree.specs.declared.operator.BinaryOp.TheVariants as b
 use Rattle.c_tree.specs.declared.operator.AssignOp.{AssignOp}
 use Rattle.c_tree.specs.declared.operator.AssignOp.TheVariants as a
 use Rattle.c_tree.specs.Tree.{Tree}
-use Rattle.c_decls.specs.declared.refusal.TypeKind.TheVariants.{NotLvalue}
+use Rattle.c_decls.specs.declared.refusal.TypeKind.TheVariants.{NotLvalue, Operands}
 use Rattle.c_decls.specs.Refusals.{Checked, then, unless}
 use Rattle.c_decls.specs.Named as n
 use Rattle.c_decls.specs.Named.{PlainNamed}
-use Rattle.c_decls.specs.Typed.{PlainTyped, Operand, Number, PointerTo, Neither, operand, read, is_null_constant, int}
+use Rattle.c_decls.specs.Typed.{PlainTyped, Operand, Number, PointerTo, Neither, operand, read, is_null_constant, int, is_void, has_no_value, wanted_value}
 use Rattle.c_decls.specs.TypeRules.{address, unary, unary_of, binary}
 use Rattle.c_decls.specs.PlaceRules.{held_place, element, dot, arrow, cast, choice, assigned, changed, changed_types, is_written}
 use Rattle.c_decls.specs.Callees.{named}
@@ -25,11 +25,11 @@ use Rattle.c_decls.specs.TypeNames as names
 use Rattle.c_decls.specs.Expressions as types
 use Rattle.c_decls.specs.Expressions.{line_of, answered, wanted, one, two, calling, int_constant, char_constant, joined, string, literal, first_literal, typed, values, typename}
 use Rattle.elaboration.specs.Context.{Code, Context, With, asked, told, emit, here}
-use Rattle.elaboration.specs.Conversions.{Found, Value, Empty, Unknown, found_as, atom_in, read_spot, read_value, code_line, valued_from, valued, convert, forget, Nowhere, tested_value, size_or_zero}
+use Rattle.elaboration.specs.Conversions.{Found, Value, Empty, Unknown, found_as, atom_in, read_spot, read_value, code_line, valued_from, valued, convert, forget, Nowhere, tested_value, size_or_zero, unused, wanted_from}
 use Rattle.elaboration.specs.Operations.{combined, fixed_sum, offset_of, operator_of, changed_to}
 use Rattle.elaboration.specs.Rules.{constant_found, object_found, built_in_found, name_found, is_inner, with_literal, literal_found, at_address, with_value, indexed, member_of, dotted, target_of, pointed, apply, applied, before_number, left_operand, tells_equal, is_pointer_ahead, ahead, between, cast_fixed, cast_to, and_ends, and_ended, or_ends, or_ended, choose_first, choose_last, choice_found, chosen}
 use Rattle.elaboration.specs.Assignments.{record_assigned, set_to, scalar_assigned, old_value, change_place, changed_answer, changed_by, one_found, stepped}
-use Rattle.elaboration.specs.Expressions.{name_answer, literal_answer, unevaluated, address_answer, changing}
+use Rattle.elaboration.specs.Expressions.{name_answer, literal_answer, unevaluated, address_answer, changing, cast_operand}
 use Rattle.core_soundness.proofs.Grown.{good, bad, ok_same, never}
 use Rattle.core_soundness.proofs.Quiet.{Quiet, quiet_read, quiet_convert, quiet_tested_value, quiet_write, quiet_before, quiet_combined, quiet_changed, quiet_literal, quiet_compare_again, quiet_chosen_by, quiet_choose_last}
 
@@ -68,8 +68,11 @@ finish x known z e same = subst (λ (m : names.Context). x ≡ Ok (m, z.1.typed)
 pub answered_is : (known : names.Context) (r : Checked PlainTyped) (t : PlainTyped) → r ≡ Ok t → answered known r ≡ Ok (known, t)
 answered_is known r t e = ap (λ (x : Checked PlainTyped). answered known x) e
 
-pub wanted_is : (tree : Tree) (x : types.Found) (known : names.Context) (t v : PlainTyped) → x ≡ Ok (known, t) → read (line_of tree) known.tags t ≡ Ok v → wanted tree x ≡ Ok (known, v)
-wanted_is tree x known t v e h = ap (λ (y : types.Found). wanted tree y) e ∙ answered_is known (read (line_of tree) known.tags t) v h
+pub wanted_is : (tree : Tree) (x : types.Found) (known : names.Context) (t v : PlainTyped) → x ≡ Ok (known, t) → wanted_value (line_of tree) known.tags t ≡ Ok v → wanted tree x ≡ Ok (known, v)
+wanted_is tree x known t v e h = ap (λ (y : types.Found). wanted tree y) e ∙ answered_is known (wanted_value (line_of tree) known.tags t) v h
+
+pub unused_is : (tree : Tree) (x : types.Found) (known : names.Context) (t v : PlainTyped) → x ≡ Ok (known, t) → read (line_of tree) known.tags t ≡ Ok v → types.unused tree x ≡ Ok (known, v)
+unused_is tree x known t v e h = ap (λ (y : types.Found). types.unused tree y) e ∙ answered_is known (read (line_of tree) known.tags t) v h
 
 changing_is : (tree : Tree) (x : types.Found) (known : names.Context) (t v : PlainTyped) → x ≡ Ok (known, t) → held_place (line_of tree) known.tags t ≡ Ok v → types.changing tree x ≡ Ok (known, v)
 changing_is tree x known t v e h = ap (λ (y : types.Found). types.changing tree y) e ∙ answered_is known (held_place (line_of tree) known.tags t) v h
@@ -88,18 +91,39 @@ pub valued_from_rule : (tree : Tree) (c : Context) (e : Found) (z : Context × F
 valued_from_rule tree c e z h =
     ruled (read (line_of tree) c.tags e.typed) (λ t. read_value t e (read_spot (code_line tree) e.typed.type e.spot c)) (asked c) z (λ t. refl) (λ t. quiet_read (code_line tree) e.typed.type e.spot c) h
 
+-- a value that is wanted: the expression has one, and is evaluated
+pub wanted_from_rule : (tree : Tree) (c : Context) (e : Found) (z : Context × Found) → wanted_from tree c e ≡ Ok z → Ruled (wanted_value (line_of tree) c.tags e.typed) (asked c) z
+wanted_from_rule tree c e z h = by (has_no_value e.typed) h
+  where
+    by : (k : Bool) → unless k Operands (line_of tree) (valued_from tree c e) ≡ Ok z → Ruled (unless k Operands (line_of tree) (read (line_of tree) c.tags e.typed)) (asked c) z
+    by true h = never _ _ z h
+    by false h = valued_from_rule tree c e z h
+
 pub valued_agrees : (tree : Tree) (answer : With Found) (x : types.Found) (z : Context × Found) → ((d : Context × Found) → answer ≡ Ok d → Agreed x d) → valued tree answer ≡ Ok z → Agreed (wanted tree x) z
 valued_agrees tree answer x z h e =
+    let d = came answer (λ d. wanted_from tree d.0 d.1) z e in
+    let rule = wanted_from_rule tree d.value.0 d.value.1 z d.last in
+    finish (wanted tree x) (asked d.value.0) z (wanted_is tree x (asked d.value.0) d.value.1.typed z.1.typed (h d.value d.is) rule.typed) rule.same
+
+pub unused_agrees : (tree : Tree) (answer : With Found) (x : types.Found) (z : Context × Found) → ((d : Context × Found) → answer ≡ Ok d → Agreed x d) → unused tree answer ≡ Ok z → Agreed (types.unused tree x) z
+unused_agrees tree answer x z h e =
     let d = came answer (λ d. valued_from tree d.0 d.1) z e in
     let rule = valued_from_rule tree d.value.0 d.value.1 z d.last in
-    finish (wanted tree x) (asked d.value.0) z (wanted_is tree x (asked d.value.0) d.value.1.typed z.1.typed (h d.value d.is) rule.typed) rule.same
+    finish (types.unused tree x) (asked d.value.0) z (unused_is tree x (asked d.value.0) d.value.1.typed z.1.typed (h d.value d.is) rule.typed) rule.same
+
+pub cast_agrees : (type : PlainType) (tree : Tree) (answer : With Found) (x : types.Found) (z : Context × Found) → ((d : Context × Found) → answer ≡ Ok d → Agreed x d) → cast_operand type tree answer ≡ Ok z → Agreed (types.cast_operand type tree x) z
+cast_agrees type tree answer x z h e = by (is_void type) e
+  where
+    by : (k : Bool) → cond k (unused tree answer) (valued tree answer) ≡ Ok z → Agreed (cond k (types.unused tree x) (wanted tree x)) z
+    by true e = unused_agrees tree answer x z h e
+    by false e = valued_agrees tree answer x z h e
 
 pub changing_agrees : (tree : Tree) (answer : With Found) (x : types.Found) (z : Context × Found) → ((d : Context × Found) → answer ≡ Ok d → Agreed x d) → changing tree answer ≡ Ok z → Agreed (types.changing tree x) z
 changing_agrees tree answer x z h e =
     let d = came answer (λ d. then (held_place (line_of tree) d.0.tags d.1.typed) (λ held. Ok d)) z e in
     let k = came (held_place (line_of tree) d.value.0.tags d.value.1.typed) (λ held. good d.value) z d.last in
     let same : d.value ≡ z = ok_same d.value z k.last in
-    let held : k.value ≡ d.value.1.typed = held_same (read (line_of tree) d.value.0.tags d.value.1.typed) d.value.1.typed k.value k.is in
+    let held : k.value ≡ d.value.1.typed = held_same (wanted_value (line_of tree) d.value.0.tags d.value.1.typed) d.value.1.typed k.value k.is in
     subst (Agreed (types.changing tree x)) same (changing_is tree x (asked d.value.0) d.value.1.typed d.value.1.typed (h d.value d.is) (k.is ∙ ap (λ (t : PlainTyped). good t) held))
   where
     held_same : (r : Checked PlainTyped) (t v : PlainTyped) → then r (λ held. good t) ≡ Ok v → v ≡ t

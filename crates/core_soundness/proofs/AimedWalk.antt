@@ -19,28 +19,32 @@ use Rattle.c_decls.specs.Callees.{Callee, call}
 use Rattle.c_decls.specs.TypeNames as names
 use Rattle.c_decls.specs.Expressions.{line_of, int_constant, char_constant, joined, first_literal, typed, typename}
 use Rattle.elaboration.specs.Context.{Code, Context, asked, told, emit, here, new_label}
-use Rattle.elaboration.specs.Conversions.{Found, Empty, Unknown, found_as, atom_in, valued_from, valued, tested_value, size_or_zero}
+use Rattle.elaboration.specs.Conversions.{Found, Empty, Unknown, found_as, atom_in, valued_from, valued, tested_value, size_or_zero, unused}
 use Rattle.elaboration.specs.Operations.{operator_of}
 use Rattle.elaboration.specs.Calls.{Argument, types_of, call_named}
 use Rattle.elaboration.specs.Rules.{constant_found, indexed, dotted, pointed, applied, left_operand, between, cast_to, with_value, and_then, and_ends, and_ended, or_else, or_ends, or_ended, choose, type_ahead, choose_first, choose_last, choice_found, chosen}
 use Rattle.elaboration.specs.Assignments.{record_assigned, set_to, scalar_assigned, old_value, change_place, changed_answer, changed_by, one_found, stepped}
-use Rattle.elaboration.specs.Expressions.{unevaluated, address_answer, changing, comma_answer, callee, callee_name, parameters, call_answer, found, arguments}
+use Rattle.elaboration.specs.Expressions.{unevaluated, address_answer, changing, comma_answer, callee, callee_name, parameters, call_answer, found, arguments, cast_operand}
 use Rattle.core_soundness.proofs.Growth.{Grows, grows_refl, grows_trans, grows_told}
 use Rattle.core_soundness.proofs.Grown.{good, ok_same, never}
-use Rattle.core_soundness.proofs.Working.{grown_valued}
+use Rattle.core_soundness.proofs.Working.{grown_valued, grown_unused}
 use Rattle.core_soundness.proofs.Ruling.{grows_left}
 use Rattle.core_soundness.proofs.ExprGrows.{found_grows}
 use Rattle.core_soundness.proofs.TypedNames.{typename_after}
 use Rattle.core_soundness.proofs.Agreeing.{came}
 use Rattle.core_soundness.proofs.Settled.{grows_settled}
-use Rattle.core_soundness.proofs.Aiming.{There, there_on, fixed_on, Aimed, name_aimed, string_aimed, valued_aimed, indexed_aimed, dotted_aimed, pointed_aimed, address_aimed, applied_aimed, left_aimed, between_aimed, cast_aimed, settled_convert, settled_combined}
+use Rattle.core_soundness.proofs.Aiming.{There, there_on, fixed_on, Aimed, name_aimed, string_aimed, valued_aimed, indexed_aimed, dotted_aimed, pointed_aimed, address_aimed, applied_aimed, left_aimed, between_aimed, cast_aimed, settled_convert, settled_combined, unused_aimed}
+use Rattle.core_soundness.proofs.Unused.{valued_unused, cast_unused}
 
 -- what an expression grows by, and its value
 found_grew : (e : Tree) (wish : PlainType) (c : Context) (z : Context × Found) → found e wish c ≡ Ok z → Grows c z.0
 found_grew e wish c z q = found_grows e wish c c (grows_refl c) z q
 
+pub unused_grew : (e : Tree) (wish : PlainType) (c : Context) (z : Context × Found) → unused e (found e wish c) ≡ Ok z → Grows c z.0
+unused_grew e wish c z q = grown_unused e c (found e wish c) (found_grows e wish c c (grows_refl c)) z q
+
 pub value_grew : (e : Tree) (wish : PlainType) (c : Context) (z : Context × Found) → valued e (found e wish c) ≡ Ok z → Grows c z.0
-value_grew e wish c z q = grown_valued e c (found e wish c) (found_grows e wish c c (grows_refl c)) z q
+value_grew e wish c z q = unused_grew e wish c z (valued_unused e (found e wish c) z q)
 
 value_there : (e : Tree) (wish : PlainType) (c : Context) (z : Context × Found) → There c → valued e (found e wish c) ≡ Ok z → There z.0
 value_there e wish c z h q = there_on c z.0 (grows_settled c z.0 (value_grew e wish c z q)) h
@@ -120,13 +124,14 @@ found_aimed (Node (f.Unary op) (At line ▹ e ▹ none)) wish c z h q =
 found_aimed (Node f.SizeofExpr (At line ▹ e ▹ none)) wish c z h q = unevaluated_aimed c (typed (Node f.SizeofExpr (At line ▹ e ▹ none)) (asked c)) z q
 found_aimed (Node f.SizeofType (At line ▹ name ▹ none)) wish c z h q = unevaluated_aimed c (typed (Node f.SizeofType (At line ▹ name ▹ none)) (asked c)) z q
 found_aimed (Node f.Cast (At line ▹ name ▹ e ▹ none)) wish c z h q =
-    let y = came (typename name (asked c)) (λ y. then (valued e (found e y.1 (told y.0 c))) (λ d. cast_to line y.1 c.code d.0 d.1)) z q in
+    let y = came (typename name (asked c)) (λ y. then (cast_operand y.1 e (found e y.1 (told y.0 c))) (λ d. cast_to line y.1 c.code d.0 d.1)) z q in
     let begun = told y.value.0 c in
-    let d = came (valued e (found e y.value.1 begun)) (λ d. cast_to line y.value.1 c.code d.0 d.1) z y.last in
+    let d = came (cast_operand y.value.1 e (found e y.value.1 begun)) (λ d. cast_to line y.value.1 c.code d.0 d.1) z y.last in
+    let operand = cast_unused y.value.1 e (found e y.value.1 begun) d.value d.is in
     let g : Grows c begun = grows_told y.value.0 c (typename_after name (asked c) y.value y.is) in
     let near = there_on c begun (grows_settled c begun g) h in
-    let one = valued_aimed e (found e y.value.1 begun) d.value (λ x k. found_aimed e y.value.1 begun x near k) d.is in
-    cast_aimed line y.value.1 c.code d.value.0 d.value.1 z (settled_convert line c y.value.1 d.value.1.typed (atom_in d.value.1) d.value.0 (grows_trans c begun d.value.0 g (value_grew e y.value.1 begun d.value d.is))) one d.last
+    let one = unused_aimed e (found e y.value.1 begun) d.value (λ x k. found_aimed e y.value.1 begun x near k) operand in
+    cast_aimed line y.value.1 c.code d.value.0 d.value.1 z (settled_convert line c y.value.1 d.value.1.typed (atom_in d.value.1) d.value.0 (grows_trans c begun d.value.0 g (unused_grew e y.value.1 begun d.value operand))) one d.last
 found_aimed (Node (f.Binary b.And) (At line ▹ e ▹ e2 ▹ none)) wish c z h q =
     let d = came (valued e (found e Void c)) (λ d. let begun = and_then line e d in then (valued e2 (found e2 Void begun)) (λ r. and_ended line (new_label d.0) e2 d.1 r)) z q in
     let r = came (valued e2 (found e2 Void (and_then line e d.value))) (λ r. and_ended line (new_label d.value.0) e2 d.value.1 r) z d.last in
@@ -162,8 +167,8 @@ found_aimed (Node (f.Assign op) (At line ▹ e ▹ e2 ▹ none)) wish c z h q =
     let r = came (valued e2 (found e2 Void old.0)) (λ r. changed_by line op false d.value.1 old.1 r) z d.last in
     changed_aimed line op false d.value.1 old.1 r.value z r.last
 found_aimed (Node f.Comma (At line ▹ e ▹ e2 ▹ none)) wish c z h q =
-    let d = came (valued e (found e Void c)) (λ d. then (valued e2 (found e2 Void d.0)) (λ r. good (comma_answer r))) z q in
-    let r = came (valued e2 (found e2 Void d.value.0)) (λ r. good (comma_answer r)) z d.last in
+    let d = came (unused e (found e Void c)) (λ d. then (unused e2 (found e2 Void d.0)) (λ r. good (comma_answer r))) z q in
+    let r = came (unused e2 (found e2 Void d.value.0)) (λ r. good (comma_answer r)) z d.last in
     subst Aimed (ok_same (comma_answer r.value) z r.last) tt
 found_aimed tree wish c z h q = never (Aimed z) _ z q
 

@@ -11,7 +11,7 @@ use Rattle.c_tree.specs.declared.operator.AssignOp.{AssignOp}
 use Rattle.c_tree.specs.Tree.{Tree}
 use Rattle.c_decls.specs.declared.refusal.TypeKind.TheVariants.{NotLvalue, Incomplete, Operands, Assignment}
 use Rattle.c_decls.specs.Refusals.{Checked, then, unless}
-use Rattle.c_decls.specs.Typed.{PlainTyped, Operand, Number, PointerTo, Neither, operand, value, is_scalar, is_record, is_array, is_void, same, has_no_size, read}
+use Rattle.c_decls.specs.Typed.{PlainTyped, Operand, Number, PointerTo, Neither, operand, value, is_scalar, is_record, is_array, is_void, same, has_no_size, read, has_no_value, wanted_value}
 use Rattle.c_decls.specs.PlaceRules.{unconverted, unconverted_types, converts, is_written, changed, changed_types, assigned}
 use Rattle.c_decls.specs.PlaceRules as places
 use Rattle.c_decls.specs.Expressions.{line_of}
@@ -88,20 +88,52 @@ cond_false : {A : Type 0} (k : Bool) (x y : Checked A) (v : A) → k ≡ false �
 cond_false true x y v e h = cc
 cond_false false x y v e h = h
 
+record_again : (s t : PlainType) → is_record s ≡ true → same s t ≡ true → is_record t ≡ true
+unfolding same
+record_again (types.Struct tag) (types.Struct other) r e = refl
+record_again (types.Struct tag) (types.Int ty) r e = cc
+record_again (types.Struct tag) (types.Pointer target) r e = cc
+record_again (types.Struct tag) types.Void r e = cc
+record_again (types.Struct tag) (types.Array element length) r e = cc
+record_again (types.Struct tag) (types.Union other) r e = cc
+record_again (types.Struct tag) (types.Function answer params) r e = cc
+record_again (types.Union tag) (types.Union other) r e = refl
+record_again (types.Union tag) (types.Int ty) r e = cc
+record_again (types.Union tag) (types.Pointer target) r e = cc
+record_again (types.Union tag) types.Void r e = cc
+record_again (types.Union tag) (types.Array element length) r e = cc
+record_again (types.Union tag) (types.Struct other) r e = cc
+record_again (types.Union tag) (types.Function answer params) r e = cc
+record_again types.Void t r e = cc
+record_again (types.Int ty) t r e = cc
+record_again (types.Pointer target) t r e = cc
+record_again (types.Array element length) t r e = cc
+record_again (types.Function answer params) t r e = cc
+
+-- a struct or a union that is no assignment is a place
+record_place : (type : PlainType) (e : PlainTyped) → is_record type ≡ true → same type e.type ≡ true → has_no_value e ≡ false → e.is_place ≡ true
+record_place type e r s h = by (is_record e.type) e.is_place (record_again type e.type r s) h
+  where
+    by : (k p : Bool) → k ≡ true → k && not p ≡ false → p ≡ true
+    by true true e h = refl
+    by true false e h = cc
+    by false p e h = cc
+
 pub record_lands : (line right : ℕ) (target : Found) (d z : Context × Found) → 1 ≤ line → is_record target.typed.type ≡ true → Stands (world d.0) target → Stands (world d.0) d.1 → record_assigned line right target d ≡ Ok z → Lands d.0 z
 record_lands line right target d z l r h k q =
     let t = came (assigned line right d.0.tags target.typed d.1.typed) (λ typed. good (emit line (Copy (atom_in target) (atom_in d.1) (pos (size_or_zero d.0 typed.type))) d.0, found_as typed Empty Unknown)) z q in
-    let r3 : Checked PlainTyped = unless (not d.1.typed.is_place) Operands line (good (value target.typed.type)) in
+    let r3 : Checked PlainTyped = good (value target.typed.type) in
     let r2 : Checked PlainTyped = unless (not (same target.typed.type d.1.typed.type)) Assignment line r3 in
     let r1 : Checked PlainTyped = unless (has_no_size d.0.tags target.typed.type) Incomplete line r2 in
-    let a : unless (not target.typed.is_place) NotLvalue line r1 ≡ Ok t.value = cond_true (is_record target.typed.type) _ _ t.value r t.is in
+    let r0 : Checked PlainTyped = unless (not target.typed.is_place) NotLvalue line r1 in
+    let all : unless (has_no_value d.1.typed) Operands line r0 ≡ Ok t.value = cond_true (is_record target.typed.type) _ _ t.value r t.is in
+    let a = behind_test (has_no_value d.1.typed) Operands line r0 t.value all in
     let flag : target.typed.is_place ≡ true = not_false target.typed.is_place (kept_test (not target.typed.is_place) NotLvalue line r1 t.value a) in
     let a1 = behind_test (not target.typed.is_place) NotLvalue line r1 t.value a in
     let a2 = behind_test (has_no_size d.0.tags target.typed.type) Incomplete line r2 t.value a1 in
     let alike : same target.typed.type d.1.typed.type ≡ true = not_false (same target.typed.type d.1.typed.type) (kept_test (not (same target.typed.type d.1.typed.type)) Assignment line r3 t.value a2) in
-    let a3 = behind_test (not (same target.typed.type d.1.typed.type)) Assignment line r3 t.value a2 in
-    let flag2 : d.1.typed.is_place ≡ true = not_false d.1.typed.is_place (kept_test (not d.1.typed.is_place) Operands line (good (value target.typed.type)) t.value a3) in
-    let made : value target.typed.type ≡ t.value = passed (not d.1.typed.is_place) Operands line (value target.typed.type) t.value a3 in
+    let flag2 : d.1.typed.is_place ≡ true = record_place target.typed.type d.1.typed r alike (kept_test (has_no_value d.1.typed) Operands line r0 t.value all) in
+    let made : value target.typed.type ≡ t.value = passed (not (same target.typed.type d.1.typed.type)) Assignment line (value target.typed.type) t.value a2 in
     let o = record_operand target.typed.type r in
     let one : Holds (world d.0) Pointer (atom_in target) = in_memory (world d.0) target.typed.type target.spot target refl o.1 (stands_flag (world d.0) target true flag h) in
     let two : Holds (world d.0) Pointer (atom_in d.1) = in_memory (world d.0) d.1.typed.type d.1.spot d.1 refl (same_record target.typed.type d.1.typed.type r alike) (stands_flag (world d.0) d.1 true flag2 k) in
@@ -128,10 +160,11 @@ pub scalar_lands : (line : ℕ) (b : Context) (tree : Tree) (target : Found) (d 
 scalar_lands line b tree target d z l l2 r h g k q =
     let t = came (assigned line (line_of tree) d.0.tags target.typed d.1.typed) (λ typed. then (valued_from tree d.0 d.1) (λ v. good (set_to line b.code typed target v))) z q in
     let v = came (valued_from tree d.0 d.1) (λ v. good (set_to line b.code t.value target v)) z t.last in
-    let a : then (read (line_of tree) d.0.tags d.1.typed) (places.scalar_assigned line target.typed) ≡ Ok t.value = cond_false (is_record target.typed.type) _ _ t.value r t.is in
-    let e = came (read (line_of tree) d.0.tags d.1.typed) (places.scalar_assigned line target.typed) t.value a in
+    let a : then (wanted_value (line_of tree) d.0.tags d.1.typed) (places.scalar_assigned line target.typed) ≡ Ok t.value = cond_false (is_record target.typed.type) _ _ t.value r t.is in
+    let e = came (wanted_value (line_of tree) d.0.tags d.1.typed) (places.scalar_assigned line target.typed) t.value a in
+    let read_is = behind_test (has_no_value d.1.typed) Operands (line_of tree) (read (line_of tree) d.0.tags d.1.typed) e.value e.is in
     let rule = valued_from_rule tree d.0 d.1 v.value v.is in
-    let same_typed : e.value ≡ v.value.1.typed = ok_same e.value v.value.1.typed (sym e.is ∙ rule.typed) in
+    let same_typed : e.value ≡ v.value.1.typed = ok_same e.value v.value.1.typed (sym read_is ∙ rule.typed) in
     let w = written_scalar line target.typed v.value.1.typed t.value (subst (λ (x : PlainTyped). places.scalar_assigned line target.typed x ≡ Ok t.value) same_typed e.last) in
     let c = valued_from_comes tree d.0 d.1 v.value l2 k v.is in
     let gv : Goes b v.value.0 = goes_trans b d.0 v.value.0 g c.goes in

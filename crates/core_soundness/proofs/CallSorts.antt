@@ -24,7 +24,7 @@ use Rattle.c_decls.specs.Refusals.{Checked, then}
 use Rattle.c_decls.specs.Named as n
 use Rattle.c_decls.specs.Named.{PlainNamed}
 use Rattle.c_decls.specs.ScopeList.{named_in}
-use Rattle.c_decls.specs.Typed.{PlainTyped, operand, value, read}
+use Rattle.c_decls.specs.Typed.{PlainTyped, operand, value, wanted_value}
 use Rattle.c_decls.specs.PlaceRules.{unconverted, all_convert, length_of}
 use Rattle.c_decls.specs.Callees.{Callee, Takes, Prints, NoFunction, built_in_callee, function_callee, no_function, built_in_named, built_in_called, callee_at, named, called, call, prints, is_format, suit, suits_type}
 use Rattle.c_decls.specs.Expressions.{first_literal}
@@ -263,8 +263,8 @@ CallOf v other function = function ≡ NoFunction
 
 no_function_is : (line : ℕ) (tags : TagTable) (answer : Checked PlainTyped) (function : Callee) → no_function line tags answer ≡ Ok function → function ≡ NoFunction
 no_function_is line tags answer function h =
-    let e = came answer (λ e. then (read line tags e) (λ held. good NoFunction)) function h in
-    let k = came (read line tags e.value) (λ held. good NoFunction) function e.last in
+    let e = came answer (λ e. then (wanted_value line tags e) (λ held. good NoFunction)) function h in
+    let k = came (wanted_value line tags e.value) (λ held. good NoFunction) function e.last in
     sym (ok_same NoFunction function k.last)
 
 built_in_of : (line : ℕ) (tags : TagTable) (o : Option BuiltIn) (k : Callee) (function : Callee) → built_in_called line tags o k ≡ Ok function → (function ≡ k) ⊎ (function ≡ NoFunction)

@@ -22,7 +22,7 @@ use Rattle.c_decls.specs.PlaceRules as rules
 use Rattle.c_decls.specs.TypeRules.{address, unary, binary}
 use Rattle.c_decls.specs.Callees.{Callee, called, call, no_function}
 use Rattle.c_decls.specs.TypeNames.{Context, Layer, PointerTo, ArrayOf, FunctionOf, special_type, specs_type, array_length, with_layers}
-use Rattle.c_decls.specs.Expressions.{Found, line_of, answered, wanted, changing, one, two, callee, calling, first_literal, typed, values, typename, layers, suffix_layers, suffix_layer, param_types, in_new_scope, out_of_scope}
+use Rattle.c_decls.specs.Expressions.{Found, line_of, answered, wanted, changing, one, two, callee, calling, first_literal, typed, values, typename, layers, suffix_layers, suffix_layer, param_types, in_new_scope, out_of_scope, unused, cast_operand}
 use Rattle.elaboration.specs.Context.{asked}
 use Rattle.elaboration.specs.Context as elaboration
 use Rattle.elaboration.specs.Conversions as conversions
@@ -34,6 +34,7 @@ use Rattle.core_soundness.proofs.Operating.{kept_test, behind_test}
 use Rattle.core_soundness.proofs.Parameters.{functions, functions_joined, functions_one, functions_reversed, not_function}
 use Rattle.core_soundness.proofs.Formed.{NoNodes, OneNode, IsLayer, Shaped, Formed, AllFormed}
 use Rattle.core_soundness.proofs.Still.{declares, restores, Held, Still, AllStill, Calm, rows_held, commas_held, here_held, some_held, behind_stars, no_nodes_still, calm_node, calm_address}
+use Rattle.core_soundness.proofs.Unused.{type_cast_unused}
 
 -- what an answer shows, whatever it is
 abbrev pub Shows : {A : Type 0} → Type 0 → Checked A → Type 0
@@ -51,6 +52,12 @@ shows_both P Q (Err x) next g h d e = never (P × Q) x d e
 
 wanted_shows : (P : Type 0) (tree : Tree) (x : Found) → Shows P x → Shows P (wanted tree x)
 wanted_shows P tree x h = shows_first P x _ h
+
+unused_shows : (P : Type 0) (tree : Tree) (x : Found) → Shows P x → Shows P (unused tree x)
+unused_shows P tree x h = shows_first P x _ h
+
+cast_shows : (P : Type 0) (type : PlainType) (tree : Tree) (x : Found) → Shows P x → Shows P (cast_operand type tree x)
+cast_shows P type tree x h d q = unused_shows P tree x h d (type_cast_unused type tree x d q)
 
 changing_shows : (P : Type 0) (tree : Tree) (x : Found) → Shows P x → Shows P (changing tree x)
 changing_shows P tree x h = shows_first P x _ h
@@ -188,8 +195,8 @@ mutual
       size_calm line name (shows_first (Still name) (typename name c) (λ t. answered t.0 (size line t.0.tags t.1)) (typename_still name c g.1.1.0) d q)
   typed_calm (Node f.Cast (At line ▹ name ▹ e ▹ none)) c g d q =
       cast_calm line name e
-      (shows_both (Still name) (Calm e) (typename name c) (λ t. one (wanted e (typed e t.0)) (λ tags x. cast line t.1 x)) (typename_still name c g.1.1.0)
-      (λ t h. one_shows (Calm e) (wanted e (typed e t.0)) (λ tags x. cast line t.1 x) (wanted_shows (Calm e) e (typed e t.0) (typed_calm e t.0 g.1.1.1.0))) d q)
+      (shows_both (Still name) (Calm e) (typename name c) (λ t. one (cast_operand t.1 e (typed e t.0)) (λ tags x. cast line t.1 x)) (typename_still name c g.1.1.0)
+      (λ t h. one_shows (Calm e) (cast_operand t.1 e (typed e t.0)) (λ tags x. cast line t.1 x) (cast_shows (Calm e) t.1 e (typed e t.0) (typed_calm e t.0 g.1.1.1.0))) d q)
   typed_calm (Node (f.Binary op) (At line ▹ e ▹ x ▹ none)) c g d q =
       binary_calm (f.Binary op) line e x refl refl tt
       (two_shows (Calm e) (Calm x) (wanted e (typed e c)) (λ k. wanted x (typed x k)) (binary line op)
@@ -208,8 +215,8 @@ mutual
       (changing_shows (Calm e) e (typed e c) (typed_calm e c g.1.1.0)) (λ k. wanted_shows (Calm x) x (typed x k) (typed_calm x k g.1.1.1.0)) d q)
   typed_calm (Node f.Comma (At line ▹ e ▹ x ▹ none)) c g d q =
       binary_calm f.Comma line e x refl refl tt
-      (two_shows (Calm e) (Calm x) (wanted e (typed e c)) (λ k. wanted x (typed x k)) (λ tags v r. Ok (behind_comma r))
-      (wanted_shows (Calm e) e (typed e c) (typed_calm e c g.1.1.0)) (λ k. wanted_shows (Calm x) x (typed x k) (typed_calm x k g.1.1.1.0)) d q)
+      (two_shows (Calm e) (Calm x) (unused e (typed e c)) (λ k. unused x (typed x k)) (λ tags v r. Ok (behind_comma r))
+      (unused_shows (Calm e) e (typed e c) (typed_calm e c g.1.1.0)) (λ k. unused_shows (Calm x) x (typed x k) (typed_calm x k g.1.1.1.0)) d q)
   typed_calm tree c g d q = never (Calm tree) _ d q
 
   values_still : (arguments : Trees) (c : Context) → AllFormed arguments → Shows (AllStill arguments) (values arguments c)

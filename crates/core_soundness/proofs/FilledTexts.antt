@@ -19,12 +19,12 @@ use Rattle.c_decls.specs.declared.refusal.TypeKind.TheVariants.{Operands, Assign
 use Rattle.c_decls.specs.Refusals.{refused, then, unless}
 use Rattle.c_decls.specs.Typed.{is_null_constant}
 use Rattle.c_decls.specs.PlaceRules.{unconverted, converts}
-use Rattle.c_decls.specs.Expressions.{line_of, typed}
+use Rattle.c_decls.specs.Expressions.{line_of, typed, string}
 use Rattle.elaboration.specs.Context.{Code, Context, asked, emit, anew}
 use Rattle.elaboration.specs.Conversions.{Found, Fixed, Unknown, Nowhere, Inside, code_line, valued}
 use Rattle.elaboration.specs.Reallocates.{reallocates, opened}
 use Rattle.elaboration.specs.Expressions.{found}
-use Rattle.elaboration.specs.Initializers.{Target, InRegister, InMemory, InStatic, bytes_of, static_integer, static_address, static_pointer, static_scalar, with_bytes, with_pointer, fill_scalar, scalar, fill_record, is_same_place, whole, fill_text, is_character, text, by_text, by_expression, parts_of, takes_braces, is_scalar_type, all_surplus, initialize, initialize_parts}
+use Rattle.elaboration.specs.Initializers.{Target, InRegister, InMemory, InStatic, bytes_of, static_integer, static_address, static_pointer, static_scalar, with_bytes, with_pointer, fill_scalar, scalar, fill_record, is_same_place, whole, fill_text, is_character, text, by_text, by_expression, parts_of, takes_braces, is_scalar_type, all_surplus, initialize, initialize_parts, not_whole}
 use Rattle.core_soundness.proofs.Agreeing.{valued_agrees}
 use Rattle.core_soundness.proofs.Agreement.{found_agrees}
 use Rattle.core_soundness.proofs.Reached.{Led, led_ok, led_refused, led_after, led_unless, led_barred}
@@ -34,6 +34,7 @@ use Rattle.core_soundness.proofs.Solid.{fit_of, value_gone, opened_rises}
 use Rattle.core_soundness.proofs.Seats.{Has, Seat, has_row}
 use Rattle.core_soundness.proofs.Filling.{Filled, filled_more, filled_bytes, filled_pointer, bytes_of_length}
 use Rattle.core_soundness.proofs.Seating.{Proper, AllProper, PartsSeated, parts_end, parts_seated}
+use Rattle.core_soundness.proofs.Unused.{behind_string}
 
 -- what an expression of an initializer leaves
 
@@ -142,8 +143,8 @@ module _ (ts : List CompletedTag) (room : ℕ) (slots : List ℕ) where
 
   whole_fills : (e : Tree) (line : ℕ) (type : PlainType) (offset low high : ℕ) (target : Target) (c : Context) → TargetFilled slots low target → Led (Fills slots high c) (whole e line type offset target c)
   whole_fills e line type offset low high target c h =
-      led_after (Fills slots high c) (found e type (opened e c)) (λ d. unless (not (is_same_place type d.1.typed)) Assignment line (fill_record e line type offset d target))
-      (λ d q. led_unless (Fills slots high c) (not (is_same_place type d.1.typed)) Assignment line (fill_record e line type offset d target) (λ x. record_fills e line type offset low high c d target h))
+      led_after (Fills slots high c) (found e type (opened e c)) (λ d. unless (not (is_same_place type d.1.typed)) (not_whole d.1.typed) line (fill_record e line type offset d target))
+      (λ d q. led_unless (Fills slots high c) (not (is_same_place type d.1.typed)) (not_whole d.1.typed) line (fill_record e line type offset d target) (λ x. record_fills e line type offset low high c d target h))
 
   -- texts
 
@@ -177,12 +178,13 @@ module _ (ts : List CompletedTag) (room : ℕ) (slots : List ℕ) where
   by_text_fills e line element size offset low None l target c solid q k seat h = whole_fills e line (Array element size) offset low (offset + l.size) target c h
   by_text_fills e line element size offset low (Some bytes) l target c solid q k seat h = by (is_character element) refl
     where
-      by : (t : Bool) → is_character element ≡ t → Led (Fills slots (offset + l.size) c) (cond t (fill_text e line bytes size offset target c) (whole e line (Array element size) offset target c))
-      by true is =
+      by : (t : Bool) → is_character element ≡ t → Led (Fills slots (offset + l.size) c) (cond t (then (string line bytes) (λ literal. fill_text e line bytes size offset target c)) (whole e line (Array element size) offset target c))
+      by true is z s =
           let r = some_array (layout_of (known ts) element) size l q in
           let same : array_layout size (number_layout 1) ≡ l = ap (array_layout size) (character_width element r.0 is r.1) ∙ r.2 in
           subst (λ (x : Layout). Led (Fills slots (offset + x.size) c) (fill_text e line bytes size offset target c)) same
           (text_fills e line bytes size offset low target c solid k (subst (λ (x : Layout). Seat room slots offset x) (sym same) seat) h)
+          z (behind_string line bytes (fill_text e line bytes size offset target c) z s)
       by false is = whole_fills e line (Array element size) offset low (offset + l.size) target c h
 
   expression_fills : (e : Tree) (line : ℕ) (type : PlainType) (offset low : ℕ) (l : Layout) (target : Target) (c : Context) → Solid c → layout_of (known ts) type ≡ Some l → low ≤ offset → Seat room slots offset l → TargetFilled slots low target → Led (Fills slots (offset + l.size) c) (by_expression e line type offset target c)
@@ -204,7 +206,7 @@ module _ (ts : List CompletedTag) (all : AllProper ts) (room : ℕ) (slots : Lis
     unfolding initialize initialize_parts
 
     pub initialize_fills : (tree : Tree) (in_scalar : Bool) (type : PlainType) (offset low : ℕ) (l : Layout) (target : Target) (c : Context) → Solid c → c.tags.completed ≡ ts → Proper ts type → layout_of (known ts) type ≡ Some l → low ≤ offset → Seat room slots offset l → TargetFilled slots low target → Led (Fills slots (offset + l.size) c) (initialize tree in_scalar type offset target c)
-    initialize_fills (Node f.InitExpr (At line ▹ e ▹ none)) in_scalar type offset low l target c solid same p q k seat h = expression_fills ts room slots e line type offset low l target c solid q k seat h
+    initialize_fills (Node f.InitExpr (At line ▹ e ▹ none)) in_scalar type offset low l target c solid same p q k seat h = expression_fills ts room slots e (line_of e) type offset low l target c solid q k seat h
     initialize_fills (Node (f.InitList trailing) (At line ▹ Node f.Inits inits ▹ none)) in_scalar type offset low l target c solid same p q k seat h =
         led_cond (Fills slots (offset + l.size) c) (takes_braces type in_scalar) (initialize_parts line inits (is_scalar_type type) (parts_of c (count inits) type offset) target c) (then (all_surplus inits c) (λ d. refused Assignment line))
         (parts_fill inits line (is_scalar_type type) (parts_of c (count inits) type offset) low offset (offset + l.size) target c solid same k (seated_parts ts room slots c (count inits) type offset l solid same all p q seat) h)

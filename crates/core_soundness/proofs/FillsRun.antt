@@ -18,7 +18,7 @@ use Rattle.elaboration.specs.Conversions.{Found, Local, Memory, atom_in, code_li
 use Rattle.elaboration.specs.Reallocates.{opened, closed}
 use Rattle.elaboration.specs.Rules.{with_literal}
 use Rattle.elaboration.specs.Expressions.{found}
-use Rattle.elaboration.specs.Initializers.{Target, InRegister, InMemory, InStatic, static_scalar, member_place, store_at, fill_scalar, scalar, copy_to, fill_record, is_same_place, whole, copy_text, fill_text, is_character, text, by_text, by_expression, parts_of, takes_braces, is_scalar_type, all_surplus, initialize, initialize_parts, with_bytes}
+use Rattle.elaboration.specs.Initializers.{Target, InRegister, InMemory, InStatic, static_scalar, member_place, store_at, fill_scalar, scalar, copy_to, fill_record, is_same_place, whole, copy_text, fill_text, is_character, text, by_text, by_expression, parts_of, takes_braces, is_scalar_type, all_surplus, initialize, initialize_parts, with_bytes, not_whole}
 use Rattle.core_soundness.specs.Worlds.{World, world, Holds, StandsAs, Stands, NamesFit}
 use Rattle.core_soundness.specs.Spoken.{Spoken, AllSpoken}
 use Rattle.core_soundness.proofs.Grown.{good, bad, ok_same, never}
@@ -31,6 +31,8 @@ use Rattle.core_soundness.proofs.Landing.{in_memory, literal_there, not_false}
 use Rattle.core_soundness.proofs.Assigning.{converting_of, same_record}
 use Rattle.core_soundness.proofs.Readying.{names_more, all_spoken_more}
 use Rattle.core_soundness.proofs.Running.{opened_rests, closed_goes, Evaluates, evaluates, evaluated_goes, opened_goes}
+use Rattle.core_soundness.proofs.Unused.{behind_string}
+use Rattle.c_decls.specs.Expressions.{string}
 
 -- what is initialized fits
 abbrev pub TargetFits : World → PlainType → Target → Type 0
@@ -131,13 +133,13 @@ fill_record_fits e line type offset c d (InStatic start) z g l held h q = never 
 
 whole_fits : (e : Tree) (line : ℕ) (type : PlainType) (offset : ℕ) (t : Target) (c : Context) (z : Context × Target) → Spoken c.scopes e → NamesFit (world c) c.scopes → TargetFits (world c) type t → whole e line type offset t c ≡ Ok z → Fills c t z
 whole_fits e line type offset t c z s n h q =
-    let d = came (found e type (opened e c)) (λ d. unless (not (is_same_place type d.1.typed)) Assignment line (fill_record e line type offset d t)) z q in
+    let d = came (found e type (opened e c)) (λ d. unless (not (is_same_place type d.1.typed)) (not_whole d.1.typed) line (fill_record e line type offset d t)) z q in
     let o = opened_rests e type c d.value s n d.is in
     fill_record_fits e line type offset c d.value t z (goes_trans c (opened e c) d.value.0 o.goes o.rests.sits.goes) o.rests.line
     (record_held (world d.value.0) type d.value.1 (not_false _ (kept_test _ _ line _ z d.last)) o.rests.sits.stands) h (behind_test _ _ line _ z d.last)
 
 text_line : (e : Tree) (s : ScopeList) (bytes : List ℕ) → text e ≡ Some bytes → Spoken s e → 1 ≤ code_line e
-unfolding Spoken AllSpoken code_line
+unfolding Spoken AllSpoken line_of
 text_line (Node f.Str (At line ▹ Node f.Strings parts ▹ none)) s bytes h k = k.1.0
 text_line e s bytes h k = cc
 
@@ -158,8 +160,8 @@ by_text_fits : (e : Tree) (line : ℕ) (element : PlainType) (size offset : ℕ)
 by_text_fits e line element size offset None t c z is s n h q = whole_fits e line (Array element size) offset t c z s n h q
 by_text_fits e line element size offset (Some bytes) t c z is s n h q = by (is_character element) q
   where
-    by : (k : Bool) → cond k (fill_text e line bytes size offset t c) (whole e line (Array element size) offset t c) ≡ Ok z → Fills c t z
-    by true q = fill_text_fits e line bytes (Array element size) size offset t c z (text_line e c.scopes bytes is s) h q
+    by : (k : Bool) → cond k (then (string line bytes) (λ literal. fill_text e line bytes size offset t c)) (whole e line (Array element size) offset t c) ≡ Ok z → Fills c t z
+    by true q = fill_text_fits e line bytes (Array element size) size offset t c z (text_line e c.scopes bytes is s) h (behind_string line bytes (fill_text e line bytes size offset t c) z q)
     by false q = whole_fits e line (Array element size) offset t c z s n h q
 
 by_expression_fits : (e : Tree) (line : ℕ) (type : PlainType) (offset : ℕ) (t : Target) (c : Context) (z : Context × Target) → Spoken c.scopes e → NamesFit (world c) c.scopes → TargetFits (world c) type t → by_expression e line type offset t c ≡ Ok z → Fills c t z
@@ -210,7 +212,7 @@ mutual
   unfolding initialize initialize_parts Spoken AllSpoken
 
   pub initialize_fits : (tree : Tree) (in_scalar : Bool) (type : PlainType) (offset : ℕ) (t : Target) (c : Context) (z : Context × Target) → Spoken c.scopes tree → NamesFit (world c) c.scopes → TargetFits (world c) type t → initialize tree in_scalar type offset t c ≡ Ok z → Fills c t z
-  initialize_fits (Node f.InitExpr (At line ▹ e ▹ none)) in_scalar type offset t c z s n h q = by_expression_fits e line type offset t c z s.1.1.0 n h q
+  initialize_fits (Node f.InitExpr (At line ▹ e ▹ none)) in_scalar type offset t c z s n h q = by_expression_fits e (line_of e) type offset t c z s.1.1.0 n h q
   initialize_fits (Node (f.InitList trailing) (At line ▹ Node f.Inits inits ▹ none)) in_scalar type offset t c z s n h q =
       cond_parts (takes_braces type in_scalar) c t (initialize_parts line inits (is_scalar_type type) (parts_of c (count inits) type offset) t c) (then (all_surplus inits c) (λ d. refused Assignment line)) z
       (λ k. initialize_parts_fit inits line (is_scalar_type type) (parts_of c (count inits) type offset) t c z s.1.1.0.1 n (parts_fit c (count inits) type offset t h) k) (λ k. surplus_never c t inits line z k) q

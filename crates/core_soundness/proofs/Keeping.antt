@@ -25,7 +25,7 @@ use Rattle.c_decls.specs.PlaceRules.{unconverted, converts}
 use Rattle.c_decls.specs.Expressions.{line_of, typed, wanted, constant_from}
 use Rattle.c_decls.specs.TypeNames as names
 use Rattle.elaboration.specs.Context.{Context, With, asked, told, emit, anew}
-use Rattle.elaboration.specs.Conversions.{Found, Local, Memory, atom_in, code_line, valued, convert, convert_integer, write, size_or_zero, tested_value}
+use Rattle.elaboration.specs.Conversions.{Found, Local, Memory, atom_in, code_line, valued, convert, convert_integer, write, size_or_zero, tested_value, unused}
 use Rattle.elaboration.specs.Reallocates.{reallocates, opened, closed}
 use Rattle.elaboration.specs.Rules.{with_literal}
 use Rattle.elaboration.specs.Expressions as expressions
@@ -39,12 +39,13 @@ use Rattle.core_soundness.proofs.Growth.{Grows, grows_refl, grows_trans}
 use Rattle.core_soundness.proofs.Reached.{Reached, reached_ok, reached_after, reached_then, reached_unless, Led, led_ok, led_after, led_unless}
 use Rattle.core_soundness.proofs.Agreeing.{came}
 use Rattle.core_soundness.proofs.Operating.{passed, behind_test}
-use Rattle.core_soundness.proofs.Working.{grown_valued, grows_convert, grows_write, grows_convert_integer, grows_tested}
+use Rattle.core_soundness.proofs.Working.{grown_unused, grows_convert, grows_write, grows_convert_integer, grows_tested}
 use Rattle.core_soundness.proofs.ExprGrows.{found_grows}
 use Rattle.core_soundness.proofs.TypedNames.{typed_after, wanted_after}
 use Rattle.elaboration.specs.Addressed.{Taken, Known, number_of}
 use Rattle.core_soundness.proofs.InStep.{among, drops, Keeps, Same, Fewer, HasScope, Numbered, Follows, InStep, Stepped}
 use Rattle.core_soundness.proofs.Still.{SameNames}
+use Rattle.core_soundness.proofs.Unused.{valued_unused}
 
 pub keeps_refl : (c : Context) → Keeps c c
 keeps_refl c = record { more = more_refl c.scopes; declared = refl; addressed = refl }
@@ -81,16 +82,20 @@ closed_keeps e c = by (reallocates c.scopes e)
 pub found_keeps : (e : Tree) (wish : PlainType) (c : Context) (d : Context × Found) → expressions.found e wish c ≡ Ok d → Keeps c d.0
 found_keeps e wish c d q = grows_keeps c d.0 (found_grows e wish c c (grows_refl c) d q)
 
+pub unused_keeps : (e : Tree) (wish : PlainType) (c : Context) (d : Context × Found) → unused e (expressions.found e wish c) ≡ Ok d → Keeps c d.0
+unused_keeps e wish c d q = grows_keeps c d.0 (grown_unused e c (expressions.found e wish c) (found_grows e wish c c (grows_refl c)) d q)
+
 pub valued_keeps : (e : Tree) (wish : PlainType) (c : Context) (d : Context × Found) → valued e (expressions.found e wish c) ≡ Ok d → Keeps c d.0
-valued_keeps e wish c d q = grows_keeps c d.0 (grown_valued e c (expressions.found e wish c) (found_grows e wish c c (grows_refl c)) d q)
+valued_keeps e wish c d q = unused_keeps e wish c d (valued_unused e (expressions.found e wish c) d q)
 
 pub full_keeps : (e : Tree) (wish : PlainType) (c : Context) (d : Context × Found) → valued e (expressions.found e wish (opened e c)) ≡ Ok d → Keeps c d.0
 full_keeps e wish c d q = keeps_trans c (opened e c) d.0 (opened_keeps e c) (valued_keeps e wish (opened e c) d q)
 
 pub evaluated_keeps : (e : Tree) (c z : Context) → evaluated e c ≡ Ok z → Keeps c z
 evaluated_keeps e c z q =
-    let d = came (valued e (expressions.found e Void (opened e c))) (λ d. good (closed e d.0)) z q in
-    subst (Keeps c) (ok_same (closed e d.value.0) z d.last) (keeps_trans c d.value.0 _ (full_keeps e Void c d.value d.is) (closed_keeps e d.value.0))
+    let d = came (unused e (expressions.found e Void (opened e c))) (λ d. good (closed e d.0)) z q in
+    let k = keeps_trans c (opened e c) d.value.0 (opened_keeps e c) (unused_keeps e Void (opened e c) d.value d.is) in
+    subst (Keeps c) (ok_same (closed e d.value.0) z d.last) (keeps_trans c d.value.0 _ k (closed_keeps e d.value.0))
 
 pub condition_keeps : (e : Tree) (c : Context) (z : Context × Atom) → condition e c ≡ Ok z → Keeps c z.0
 condition_keeps e c z q =

@@ -6,6 +6,7 @@ mod Growth
 mod Settled
 mod Forks
 mod Grown
+mod Unused
 mod Working
 mod Calling
 mod Ruling

@@ -8,7 +8,7 @@ use Rattle.core_tree.specs.declared.statements.StmKind.TheVariants.{Enter, Leave
 use Rattle.c_tree.specs.Tree.{Tree}
 use Rattle.c_decls.specs.TypeNames as names
 use Rattle.elaboration.specs.Context.{Context, Walked, asked, told, emit, anew}
-use Rattle.elaboration.specs.Conversions.{Found, Spot, code_line, valued, write}
+use Rattle.elaboration.specs.Conversions.{Found, Spot, code_line, valued, write, unused}
 use Rattle.elaboration.specs.Reallocates.{reallocates, opened, closed}
 use Rattle.elaboration.specs.Expressions.{found}
 use Rattle.core_soundness.specs.Whole.{Whole}
@@ -24,9 +24,10 @@ use Rattle.core_soundness.proofs.Working.{grows_write}
 use Rattle.core_soundness.proofs.Ranges.{In, in_emit}
 use Rattle.core_soundness.proofs.RangedWork.{SpotIn, write_in}
 use Rattle.core_soundness.proofs.RangedFound.{E}
-use Rattle.core_soundness.proofs.RangedWalk.{valued_in, found_in}
+use Rattle.core_soundness.proofs.RangedWalk.{valued_in, found_in, unused_in}
 use Rattle.core_soundness.proofs.Solid as base
-use Rattle.core_soundness.proofs.Solid.{K, Gone, found_gone, value_gone}
+use Rattle.core_soundness.proofs.Solid.{K, Gone, found_gone, value_gone, unused_gone}
+use Rattle.core_soundness.proofs.Unused.{valued_unused}
 
 -- the values of the running switch, and the code of the functions that were walked
 abbrev pub CasesIn : List (ℤ × ℕ) → Type 0
@@ -95,16 +96,22 @@ went_rises c z g = with_code c z.0 g.gone.rises (λ k. (g.fits k).0) (same_cases
 pub found_went : (e : Tree) (wish : PlainType) (c : Context) (z : Context × Found) → Solid c → Written e → Whole (K c) wish → found e wish c ≡ Ok z → Went c z
 found_went e wish c z h w t q = record { gone = found_gone e wish c z h q; fits = λ k. found_in e wish c z h w t k q }
 
+pub unused_went : (e : Tree) (wish : PlainType) (c : Context) (z : Context × Found) → Solid c → Written e → Whole (K c) wish → unused e (found e wish c) ≡ Ok z → Went c z
+unused_went e wish c z h w t q = record { gone = unused_gone e wish c z h q; fits = λ k. unused_in e wish c z (λ x s. found_in e wish c x h w t k s) q }
+
 pub value_went : (e : Tree) (wish : PlainType) (c : Context) (z : Context × Found) → Solid c → Written e → Whole (K c) wish → valued e (found e wish c) ≡ Ok z → Went c z
-value_went e wish c z h w t q = record { gone = value_gone e wish c z h q; fits = λ k. valued_in e wish c z (λ x s. found_in e wish c x h w t k s) q }
+value_went e wish c z h w t q = unused_went e wish c z h w t (valued_unused e (found e wish c) z q)
 
 -- a full expression
 pub record Full (c : Context) (z : Context × Found) : Type 0 where
   pub rises : Rises c z.0
   pub fits : In c → E z
 
-pub full_value : (e : Tree) (wish : PlainType) (c : Context) (z : Context × Found) → Solid c → Written e → Whole (K c) wish → valued e (found e wish (opened e c)) ≡ Ok z → Full c z
-full_value e wish c z h w t q =
+pub full_unused : (e : Tree) (wish : PlainType) (c : Context) (z : Context × Found) → Solid c → Written e → Whole (K c) wish → unused e (found e wish (opened e c)) ≡ Ok z → Full c z
+full_unused e wish c z h w t q =
     let o = opened_rises e c h in
-    let v = value_went e wish (opened e c) z o.solid w (whole_stays wish (K c) (K (opened e c)) o.more t) q in
+    let v = unused_went e wish (opened e c) z o.solid w (whole_stays wish (K c) (K (opened e c)) o.more t) q in
     record { rises = rises_trans c (opened e c) z.0 o (went_rises (opened e c) z v); fits = λ k. v.fits (o.code k) }
+
+pub full_value : (e : Tree) (wish : PlainType) (c : Context) (z : Context × Found) → Solid c → Written e → Whole (K c) wish → valued e (found e wish (opened e c)) ≡ Ok z → Full c z
+full_value e wish c z h w t q = full_unused e wish c z h w t (valued_unused e (found e wish (opened e c)) z q)

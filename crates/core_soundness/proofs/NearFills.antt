@@ -24,7 +24,7 @@ use Rattle.c_decls.specs.Refusals.{Checked, refused, then, unless}
 use Rattle.c_decls.specs.Typed.{is_function, has_no_size}
 use Rattle.c_decls.specs.TypeNames.{tag_named}
 use Rattle.c_decls.specs.PlaceRules.{unconverted, converts}
-use Rattle.c_decls.specs.Expressions.{line_of}
+use Rattle.c_decls.specs.Expressions.{line_of, string}
 use Rattle.elaboration.specs.Context.{Context, With, Variable, asked, emit, anew}
 use Rattle.elaboration.specs.Conversions.{Found, Spot, Local, Memory, Value, Empty, code_line, atom_in, valued, convert, write, size_or_zero}
 use Rattle.elaboration.specs.Reallocates.{reallocates, opened, closed}
@@ -32,7 +32,7 @@ use Rattle.elaboration.specs.Rules.{with_static, with_literal}
 use Rattle.elaboration.specs.Expressions.{found}
 use Rattle.elaboration.specs.Locals.{is_twice, declared_as, next_is_memory, with_memory, with_register, local_in, with_local}
 use Rattle.elaboration.specs.Declarators.{layers}
-use Rattle.elaboration.specs.Initializers.{Target, InRegister, InMemory, InStatic, static_scalar, member_place, store_at, fill_scalar, scalar, copy_to, fill_record, is_same_place, whole, copy_text, fill_text, is_character, text, by_text, by_expression, parts_of, takes_braces, is_scalar_type, surplus, all_surplus, initialize, initialize_parts, with_bytes, no_start, with_init_layers}
+use Rattle.elaboration.specs.Initializers.{Target, InRegister, InMemory, InStatic, static_scalar, member_place, store_at, fill_scalar, scalar, copy_to, fill_record, is_same_place, whole, copy_text, fill_text, is_character, text, by_text, by_expression, parts_of, takes_braces, is_scalar_type, surplus, all_surplus, initialize, initialize_parts, with_bytes, no_start, with_init_layers, not_whole}
 use Rattle.elaboration.specs.Declarations as storages
 use Rattle.elaboration.specs.Declarations.{Storage, Typedef, Outside, storage_of, specs_alone, specs_before, zero_of, cleared, fill_memory, fill_register, fill_at, fill_local, local_object, local_name, function_number, with_function, declared_function, no_initializer, variable_number_of, with_new_variable, with_variable, start_of, start_in, started_variable, started, fill_variable, file_object, file_function, file_value, file_name, name_in, entry, entries, declaration}
 use Rattle.core_soundness.proofs.Agreeing.{came}
@@ -42,6 +42,7 @@ use Rattle.core_soundness.proofs.Near.{weight, weights, said, Near, near_refl, n
 use Rattle.core_soundness.proofs.NearWork.{valued_near, convert_near, write_near}
 use Rattle.core_soundness.proofs.NearFound.{static_near, literal_near, commas_said, found_near}
 use Rattle.core_soundness.proofs.NearLayers.{declared_near, named_near, with_type_near, specs_near, layers_near}
+use Rattle.core_soundness.proofs.Unused.{behind_string}
 
 -- full expressions
 
@@ -112,8 +113,8 @@ fill_record_near k e line type offset c d (InStatic start) g = reached_refused (
 
 whole_near : (e : Tree) (line : ℕ) (type : PlainType) (offset : ℕ) (target : Target) (c : Context) → Reached (Near (weight e + 3) c) (whole e line type offset target c)
 whole_near e line type offset target c =
-    reached_after (Near (weight e + 3) c) (found e type (opened e c)) (λ d. unless (not (is_same_place type d.1.typed)) Assignment line (fill_record e line type offset d target))
-    (λ d q. reached_unless (Near (weight e + 3) c) (not (is_same_place type d.1.typed)) Assignment line (fill_record e line type offset d target)
+    reached_after (Near (weight e + 3) c) (found e type (opened e c)) (λ d. unless (not (is_same_place type d.1.typed)) (not_whole d.1.typed) line (fill_record e line type offset d target))
+    (λ d q. reached_unless (Near (weight e + 3) c) (not (is_same_place type d.1.typed)) (not_whole d.1.typed) line (fill_record e line type offset d target)
     (fill_record_near (weight e) e line type offset c d target (near_on 0 (weight e) (weight e) (omega arith) (opened_near e c) (found_near e type (opened e c) d q))))
 
 fill_text_near : (e : Tree) (line : ℕ) (bytes : List ℕ) (size offset : ℕ) (target : Target) (c : Context) → Reached (Near 1 c) (fill_text e line bytes size offset target c)
@@ -129,8 +130,8 @@ by_text_near : (e : Tree) (line : ℕ) (element : PlainType) (size offset : ℕ)
 by_text_near e line element size offset None target c = whole_near e line (Array element size) offset target c
 by_text_near e line element size offset (Some bytes) target c = by (is_character element)
   where
-    by : (t : Bool) → Reached (Near (weight e + 3) c) (cond t (fill_text e line bytes size offset target c) (whole e line (Array element size) offset target c))
-    by true z q = near_most 1 (weight e + 3) (omega arith) (fill_text_near e line bytes size offset target c z q)
+    by : (t : Bool) → Reached (Near (weight e + 3) c) (cond t (then (string line bytes) (λ literal. fill_text e line bytes size offset target c)) (whole e line (Array element size) offset target c))
+    by true z q = near_most 1 (weight e + 3) (omega arith) (fill_text_near e line bytes size offset target c z (behind_string line bytes (fill_text e line bytes size offset target c) z q))
     by false z q = whole_near e line (Array element size) offset target c z q
 
 by_expression_near : (e : Tree) (line : ℕ) (type : PlainType) (offset : ℕ) (target : Target) (c : Context) → Reached (Near (weight e + 3) c) (by_expression e line type offset target c)
@@ -151,7 +152,7 @@ mutual
   unfolding initialize initialize_parts shape
 
   initialize_near : (tree : Tree) (in_scalar : Bool) (type : PlainType) (offset : ℕ) (target : Target) (c : Context) → Reached (Near (weight tree + 3) c) (initialize tree in_scalar type offset target c)
-  initialize_near (Node f.InitExpr (At line ▹ e ▹ none)) in_scalar type offset target c z q = near_most (weight e + 3) _ (omega arith) (by_expression_near e line type offset target c z q)
+  initialize_near (Node f.InitExpr (At line ▹ e ▹ none)) in_scalar type offset target c z q = near_most (weight e + 3) _ (omega arith) (by_expression_near e (line_of e) type offset target c z q)
   initialize_near (Node (f.InitList trailing) (At line ▹ Node f.Inits inits ▹ none)) in_scalar type offset target c z q =
       let room = some_commas_said p.Init (count inits) in
       near_most (weights inits + 3 * count inits) _ (omega (arith, room))

@@ -13,19 +13,20 @@ use Rattle.c_decls.specs.declared.refusal.TypeKind.TheVariants.{Operands, Assign
 use Rattle.c_decls.specs.Refusals.{refused, then, unless}
 use Rattle.c_decls.specs.Typed.{is_null_constant}
 use Rattle.c_decls.specs.PlaceRules.{unconverted, converts}
-use Rattle.c_decls.specs.Expressions.{line_of}
+use Rattle.c_decls.specs.Expressions.{line_of, string}
 use Rattle.elaboration.specs.Context.{Code, Context, Variable, emit, anew}
 use Rattle.core_tree.specs.declared.statements.StmKind.TheVariants.{Enter}
 use Rattle.elaboration.specs.Conversions.{Found, Fixed, Unknown, Nowhere, Inside, code_line, valued}
 use Rattle.elaboration.specs.Reallocates.{reallocates, opened}
 use Rattle.elaboration.specs.Expressions.{found}
-use Rattle.elaboration.specs.Initializers.{Target, InRegister, InMemory, InStatic, static_integer, static_address, static_pointer, static_scalar, with_bytes, fill_scalar, scalar, fill_record, is_same_place, whole, fill_text, is_character, text, by_text, by_expression, parts_of, takes_braces, is_scalar_type, all_surplus, initialize, initialize_parts}
+use Rattle.elaboration.specs.Initializers.{Target, InRegister, InMemory, InStatic, static_integer, static_address, static_pointer, static_scalar, with_bytes, fill_scalar, scalar, fill_record, is_same_place, whole, fill_text, is_character, text, by_text, by_expression, parts_of, takes_braces, is_scalar_type, all_surplus, initialize, initialize_parts, not_whole}
 use Rattle.core_soundness.proofs.Growth.{Longer}
 use Rattle.core_soundness.proofs.Reached.{Led, led_ok, led_refused, led_after, led_unless, led_barred}
 use Rattle.core_soundness.proofs.TypedWhole.{led_cond}
 use Rattle.core_soundness.proofs.Settled.{Settled, settled_refl, settled_trans, grows_settled}
 use Rattle.core_soundness.proofs.Aiming.{Aims, FixedAt, VariablesStay, same_variables, aims_stay, There, there_on, Aimed}
 use Rattle.core_soundness.proofs.AimedWalk.{value_grew, value_aimed}
+use Rattle.core_soundness.proofs.Unused.{behind_string}
 
 -- each pointer is one to a static that is there
 abbrev pub PointersIn : List Variable → List (List ℕ) → List (ℕ × ℕ × ℕ) → Type 0
@@ -106,8 +107,8 @@ record_points e line type offset c d (InStatic start) h = led_refused (Points c)
 
 whole_points : (e : Tree) (line : ℕ) (type : PlainType) (offset : ℕ) (target : Target) (c : Context) → TargetIn c target → Led (Points c) (whole e line type offset target c)
 whole_points e line type offset target c h =
-    led_after (Points c) (found e type (opened e c)) (λ d. unless (not (is_same_place type d.1.typed)) Assignment line (fill_record e line type offset d target))
-    (λ d q. led_unless (Points c) (not (is_same_place type d.1.typed)) Assignment line (fill_record e line type offset d target) (λ x. record_points e line type offset c d target h))
+    led_after (Points c) (found e type (opened e c)) (λ d. unless (not (is_same_place type d.1.typed)) (not_whole d.1.typed) line (fill_record e line type offset d target))
+    (λ d q. led_unless (Points c) (not (is_same_place type d.1.typed)) (not_whole d.1.typed) line (fill_record e line type offset d target) (λ x. record_points e line type offset c d target h))
 
 text_points : (e : Tree) (line : ℕ) (bytes : List ℕ) (size offset : ℕ) (target : Target) (c : Context) → TargetIn c target → Led (Points c) (fill_text e line bytes size offset target c)
 text_points e line bytes size offset (InMemory at mem) c h = absurd h
@@ -117,7 +118,8 @@ text_points e line bytes size offset (InRegister at register) c h = led_refused 
 by_text_points : (e : Tree) (line : ℕ) (element : PlainType) (size offset : ℕ) (o : Option (List ℕ)) (target : Target) (c : Context) → TargetIn c target → Led (Points c) (by_text e line element size offset o target c)
 by_text_points e line element size offset None target c h = whole_points e line (Array element size) offset target c h
 by_text_points e line element size offset (Some bytes) target c h =
-    led_cond (Points c) (is_character element) (fill_text e line bytes size offset target c) (whole e line (Array element size) offset target c) (text_points e line bytes size offset target c h) (whole_points e line (Array element size) offset target c h)
+    led_cond (Points c) (is_character element) (then (string line bytes) (λ literal. fill_text e line bytes size offset target c)) (whole e line (Array element size) offset target c)
+    (λ z q. text_points e line bytes size offset target c h z (behind_string line bytes (fill_text e line bytes size offset target c) z q)) (whole_points e line (Array element size) offset target c h)
 
 by_expression_points : (e : Tree) (line : ℕ) (type : PlainType) (offset : ℕ) (target : Target) (c : Context) → There c → TargetIn c target → Led (Points c) (by_expression e line type offset target c)
 by_expression_points e line (Array element size) offset target c n h = by_text_points e line element size offset (text e) target c h
@@ -129,7 +131,7 @@ mutual
   unfolding initialize initialize_parts
 
   pub initialize_points : (tree : Tree) (in_scalar : Bool) (type : PlainType) (offset : ℕ) (target : Target) (c : Context) → There c → TargetIn c target → Led (Points c) (initialize tree in_scalar type offset target c)
-  initialize_points (Node f.InitExpr (At line ▹ e ▹ none)) in_scalar type offset target c n h = by_expression_points e line type offset target c n h
+  initialize_points (Node f.InitExpr (At line ▹ e ▹ none)) in_scalar type offset target c n h = by_expression_points e (line_of e) type offset target c n h
   initialize_points (Node (f.InitList trailing) (At line ▹ Node f.Inits inits ▹ none)) in_scalar type offset target c n h =
       led_cond (Points c) (takes_braces type in_scalar) (initialize_parts line inits (is_scalar_type type) (parts_of c (count inits) type offset) target c) (then (all_surplus inits c) (λ d. refused Assignment line))
       (parts_point inits line (is_scalar_type type) (parts_of c (count inits) type offset) target c n h)

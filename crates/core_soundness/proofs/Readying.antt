@@ -15,7 +15,7 @@ use Rattle.c_decls.specs.Callees.{named}
 use Rattle.c_decls.specs.Typed.{PlainTyped}
 use Rattle.elaboration.specs.Addressed.{plain_name}
 use Rattle.elaboration.specs.Context.{Context, With}
-use Rattle.elaboration.specs.Conversions.{Found, Spot, Local, code_line, valued_from, valued}
+use Rattle.elaboration.specs.Conversions.{Found, Spot, Local, code_line, valued_from, valued, unused}
 use Rattle.elaboration.specs.Rules.{name_found, is_inner, object_found, built_in_found}
 use Rattle.elaboration.specs.Expressions.{name_answer}
 use Rattle.core_soundness.specs.Worlds.{World, world, local_sort, type_sort, InnerFits, FileFits, TableFits, TablesFit, NamesFit}
@@ -25,7 +25,8 @@ use Rattle.core_soundness.proofs.Names.{More, MoreAll, MoreTags, IsNewTag}
 use Rattle.core_soundness.proofs.Agreeing.{came}
 use Rattle.core_soundness.proofs.Growing.{Grew}
 use Rattle.core_soundness.proofs.Going.{Goes}
-use Rattle.core_soundness.proofs.Sorting.{Sits, Lands, lands_sits, Apart, Comes, valued_comes}
+use Rattle.core_soundness.proofs.Sorting.{Sits, Lands, lands_sits, Apart, Comes, unused_comes}
+use Rattle.core_soundness.proofs.Unused.{valued_unused}
 
 -- names
 
@@ -175,8 +176,11 @@ pub record Operated (c : Context) (tree : Tree) (z : Context × Found) : Type 0 
   pub comes : Comes c z
   pub line : 1 ≤ code_line tree
 
-pub valued_operated : (tree : Tree) (c : Context) (answer : With Found) (z : Context × Found) → ((d : Context × Found) → answer ≡ Ok d → Rests c tree d) → valued tree answer ≡ Ok z → Operated c tree z
-valued_operated tree c answer z h q =
+pub unused_operated : (tree : Tree) (c : Context) (answer : With Found) (z : Context × Found) → ((d : Context × Found) → answer ≡ Ok d → Rests c tree d) → unused tree answer ≡ Ok z → Operated c tree z
+unused_operated tree c answer z h q =
     let d = came answer (λ d. valued_from tree d.0 d.1) z q in
     let l = (h d.value d.is).line in
-    record { comes = valued_comes tree c answer z l (λ x k. (h x k).sits) q; line = l }
+    record { comes = unused_comes tree c answer z l (λ x k. (h x k).sits) q; line = l }
+
+pub valued_operated : (tree : Tree) (c : Context) (answer : With Found) (z : Context × Found) → ((d : Context × Found) → answer ≡ Ok d → Rests c tree d) → valued tree answer ≡ Ok z → Operated c tree z
+valued_operated tree c answer z h q = unused_operated tree c answer z h (valued_unused tree answer z q)

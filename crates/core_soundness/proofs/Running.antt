@@ -8,7 +8,7 @@ use Rattle.c_decls.specs.Named.{PlainNamed}
 use Rattle.c_decls.specs.ScopeList.{ScopeList, Table, entered as scope_entered}
 use Rattle.c_decls.specs.ScopeList as scopes
 use Rattle.elaboration.specs.Context.{Context, emit, anew, entered, left}
-use Rattle.elaboration.specs.Conversions.{Found, code_line, valued_from, valued}
+use Rattle.elaboration.specs.Conversions.{Found, code_line, valued_from, valued, unused}
 use Rattle.elaboration.specs.Reallocates.{reallocates, opened, closed}
 use Rattle.elaboration.specs.Expressions.{found}
 use Rattle.core_soundness.specs.Worlds.{World, world, InnerFits, TableFits, TablesFit, NamesFit}
@@ -19,9 +19,10 @@ use Rattle.core_soundness.proofs.Declaring.{tail_depth}
 use Rattle.core_soundness.proofs.Agreeing.{came}
 use Rattle.core_soundness.proofs.Growing.{Grew, grew_refl, grew_trans}
 use Rattle.core_soundness.proofs.Going.{CodeFits, Goes, goes_refl, goes_trans, goes_emit}
-use Rattle.core_soundness.proofs.Sorting.{Comes, valued_comes}
+use Rattle.core_soundness.proofs.Sorting.{Comes, unused_comes}
 use Rattle.core_soundness.proofs.Readying.{names_more, inner_kept, Rests}
 use Rattle.core_soundness.proofs.Sitting.{found_rests}
+use Rattle.core_soundness.proofs.Unused.{valued_unused}
 
 -- the parameters of the list that ended last fit
 abbrev pub ParamsFit : Context → Type 0
@@ -142,11 +143,14 @@ pub record Evaluates (c : Context) (e : Tree) (z : Context × Found) : Type 0 wh
   pub comes : Comes (opened e c) z
   pub line : 1 ≤ code_line e
 
-pub evaluates : (e : Tree) (type : PlainType) (c : Context) (z : Context × Found) → Spoken c.scopes e → NamesFit (world c) c.scopes → valued e (found e type (opened e c)) ≡ Ok z → Evaluates c e z
-evaluates e type c z s h q =
+pub evaluates_unused : (e : Tree) (type : PlainType) (c : Context) (z : Context × Found) → Spoken c.scopes e → NamesFit (world c) c.scopes → unused e (found e type (opened e c)) ≡ Ok z → Evaluates c e z
+evaluates_unused e type c z s h q =
     let d = came (found e type (opened e c)) (λ d. valued_from e d.0 d.1) z q in
     let o = opened_rests e type c d.value s h d.is in
-    record { begun = o.goes; comes = valued_comes e (opened e c) (found e type (opened e c)) z o.rests.line (λ x k. (opened_rests e type c x s h k).rests.sits) q; line = o.rests.line }
+    record { begun = o.goes; comes = unused_comes e (opened e c) (found e type (opened e c)) z o.rests.line (λ x k. (opened_rests e type c x s h k).rests.sits) q; line = o.rests.line }
+
+pub evaluates : (e : Tree) (type : PlainType) (c : Context) (z : Context × Found) → Spoken c.scopes e → NamesFit (world c) c.scopes → valued e (found e type (opened e c)) ≡ Ok z → Evaluates c e z
+evaluates e type c z s h q = evaluates_unused e type c z s h (valued_unused e (found e type (opened e c)) z q)
 
 -- all that is known of it goes on from the start
 pub evaluated_goes : (c : Context) (e : Tree) (z : Context × Found) → Evaluates c e z → Goes c z.0

@@ -18,7 +18,7 @@ use Rattle.c_tree.specs.Tree.{Tree}
 use Rattle.c_decls.specs.TypeNames as names
 use Rattle.c_decls.specs.Expressions.{typed}
 use Rattle.elaboration.specs.Context.{Context, Variable, Walked, asked, told, emit, anew}
-use Rattle.elaboration.specs.Conversions.{Found, code_line, valued, convert, atom_in, write, Spot}
+use Rattle.elaboration.specs.Conversions.{Found, code_line, valued, convert, atom_in, write, Spot, unused}
 use Rattle.elaboration.specs.Reallocates.{reallocates, opened, closed}
 use Rattle.elaboration.specs.Expressions.{found}
 use Rattle.core_tree.specs.declared.statements.StmKind.TheVariants.{Enter, Leave}
@@ -26,15 +26,16 @@ use Rattle.core_tree.specs.declared.statements.Atom.{Atom}
 use Rattle.core_soundness.specs.Whole.{Whole, AreMade, TableWhole, NamesWhole}
 use Rattle.core_soundness.specs.Solid.{MemsLaid, VariablesLaid, WalkedLaid, Solid}
 use Rattle.core_soundness.proofs.Growth.{Grows, Kept, grows_refl}
-use Rattle.core_soundness.proofs.Working.{grown_valued, grows_convert, grows_write}
+use Rattle.core_soundness.proofs.Working.{grown_unused, grows_convert, grows_write}
 use Rattle.core_soundness.proofs.ExprGrows.{found_grows}
 use Rattle.core_soundness.proofs.Quiet.{quiet_convert, quiet_write}
-use Rattle.core_soundness.proofs.Agreeing.{valued_agrees}
+use Rattle.core_soundness.proofs.Agreeing.{unused_agrees}
 use Rattle.core_soundness.proofs.Agreement.{found_agrees}
 use Rattle.core_soundness.proofs.WholeTypes.{nothing, all_stay, extends_refl, is_layout}
-use Rattle.core_soundness.proofs.TypedNames.{Leads, typed_leads, wanted_leads}
+use Rattle.core_soundness.proofs.TypedNames.{Leads, typed_leads, unused_leads}
 use Rattle.core_soundness.proofs.TagKinds.{Kinds, kinds_refl, leads_kinds, same_kinds}
-use Rattle.core_soundness.proofs.TypedWhole.{Fit, LayersWhole, LayerWhole, typed_good, wanted_good}
+use Rattle.core_soundness.proofs.TypedWhole.{Fit, LayersWhole, LayerWhole, typed_good, unused_good}
+use Rattle.core_soundness.proofs.Unused.{valued_unused}
 
 -- numbers that registers hold
 pub wrapped_number : (k : IntKind) (v : ℤ) → IsNumber (wrapped k v)
@@ -167,12 +168,15 @@ found_gone e wish c z h q =
     let k = found_grows e wish c c (grows_refl c) z q in
     record { rises = found_fits c z.0 h (g.0.completed, g.0.names) k.kept (typed_leads e (asked c) (asked z.0, z.1.typed) (found_agrees e wish c z q)); grows = k; whole = subst (λ (x : List CompletedTag). Whole (known x) z.1.typed.type) (sym g.0.completed) g.1 }
 
+pub unused_gone : (e : Tree) (wish : PlainType) (c : Context) (z : Context × Found) → Solid c → unused e (found e wish c) ≡ Ok z → Gone c z
+unused_gone e wish c z h q =
+    let agreed = unused_agrees e (found e wish c) (typed e (asked c)) z (λ x k. found_agrees e wish c x k) q in
+    let g = unused_good c.tags.completed h.made e (typed e (asked c)) (typed_good c.tags.completed h.made e (asked c) (fit_of c h)) (asked z.0, z.1.typed) agreed in
+    let k = grown_unused e c (found e wish c) (found_grows e wish c c (grows_refl c)) z q in
+    record { rises = found_fits c z.0 h (g.0.completed, g.0.names) k.kept (unused_leads (asked c) e (typed e (asked c)) (typed_leads e (asked c)) (asked z.0, z.1.typed) agreed); grows = k; whole = subst (λ (x : List CompletedTag). Whole (known x) z.1.typed.type) (sym g.0.completed) g.1 }
+
 pub value_gone : (e : Tree) (wish : PlainType) (c : Context) (z : Context × Found) → Solid c → valued e (found e wish c) ≡ Ok z → Gone c z
-value_gone e wish c z h q =
-    let agreed = valued_agrees e (found e wish c) (typed e (asked c)) z (λ x k. found_agrees e wish c x k) q in
-    let g = wanted_good c.tags.completed h.made e (typed e (asked c)) (typed_good c.tags.completed h.made e (asked c) (fit_of c h)) (asked z.0, z.1.typed) agreed in
-    let k = grown_valued e c (found e wish c) (found_grows e wish c c (grows_refl c)) z q in
-    record { rises = found_fits c z.0 h (g.0.completed, g.0.names) k.kept (wanted_leads (asked c) e (typed e (asked c)) (typed_leads e (asked c)) (asked z.0, z.1.typed) agreed); grows = k; whole = subst (λ (x : List CompletedTag). Whole (known x) z.1.typed.type) (sym g.0.completed) g.1 }
+value_gone e wish c z h q = unused_gone e wish c z h (valued_unused e (found e wish c) z q)
 
 -- the value of a full expression
 pub full_value : (e : Tree) (wish : PlainType) (c : Context) (z : Context × Found) → Solid c → valued e (found e wish (opened e c)) ≡ Ok z → Rises c z.0

@@ -23,7 +23,7 @@ use Rattle.c_decls.specs.Refusals.{Checked, refused, then, unless}
 use Rattle.c_decls.specs.Typed.{is_function, has_no_size}
 use Rattle.c_decls.specs.TypeNames.{Layer, ArrayOf, layered_before, tag_named}
 use Rattle.c_decls.specs.PlaceRules.{unconverted, converts}
-use Rattle.c_decls.specs.Expressions.{line_of}
+use Rattle.c_decls.specs.Expressions.{line_of, string}
 use Rattle.elaboration.specs.Context.{Context, Variable, asked, emit}
 use Rattle.elaboration.specs.Conversions.{Found, Spot, Local, Memory, Value, Empty, atom_in, valued, convert, write, size_or_zero}
 use Rattle.elaboration.specs.Reallocates.{opened, closed}
@@ -31,7 +31,7 @@ use Rattle.elaboration.specs.Rules.{with_static, with_literal}
 use Rattle.elaboration.specs.Expressions.{found}
 use Rattle.elaboration.specs.Locals.{is_twice, declared_as, next_is_memory, with_memory, with_register, local_in, counted_local, with_local}
 use Rattle.elaboration.specs.Declarators.{layers}
-use Rattle.elaboration.specs.Initializers.{Target, InRegister, InMemory, InStatic, static_scalar, member_place, store_at, fill_scalar, scalar, copy_to, fill_record, is_same_place, whole, copy_text, fill_text, is_character, text, by_text, by_expression, parts_of, takes_braces, is_scalar_type, surplus, all_surplus, initialize, initialize_parts, with_bytes, no_start, text_length, given_length, with_init_layers}
+use Rattle.elaboration.specs.Initializers.{Target, InRegister, InMemory, InStatic, static_scalar, member_place, store_at, fill_scalar, scalar, copy_to, fill_record, is_same_place, whole, copy_text, fill_text, is_character, text, by_text, by_expression, parts_of, takes_braces, is_scalar_type, surplus, all_surplus, initialize, initialize_parts, with_bytes, no_start, text_length, given_length, with_init_layers, not_whole}
 use Rattle.elaboration.specs.Declarations as storages
 use Rattle.elaboration.specs.Declarations.{Storage, Typedef, Outside, storage_of, specs_alone, specs_before, zero_of, cleared, fill_memory, fill_register, fill_at, fill_local, local_object, local_name, function_number, with_function, declared_function, no_initializer, variable_number_of, with_new_variable, with_variable, start_of, start_in, started_variable, started, fill_variable, file_object, file_function, file_value, file_name, name_in, entry, entries, declaration}
 use Rattle.core_soundness.specs.Whole.{Whole}
@@ -61,6 +61,7 @@ use Rattle.core_soundness.proofs.TagKinds.{Sorts, kinds_refl}
 use Rattle.core_soundness.proofs.Working.{grows_convert, grows_write}
 use Rattle.core_soundness.proofs.Moving.{same_cases, same_walked, Rises, rises_refl, rises_trans, opened_rises, closed_rises, went_rises, found_went, value_went}
 use Rattle.core_soundness.proofs.SolidLayers.{T, R1, named_rises, declared_rises, typedef_rises, memory_rises, has_size, specs_rise, layers_rise, asked_type_rises}
+use Rattle.core_soundness.proofs.Unused.{behind_string}
 
 -- initializers
 
@@ -153,10 +154,10 @@ fill_record_rises e line type offset c d (InStatic start) r f t m = led_refused 
 
 whole_rises : (e : Tree) (line : ℕ) (type : PlainType) (offset : ℕ) (target : Target) (c : Context) → Solid c → Written e → Whole (K c) type → IsNumber (pos offset) → Led (R1 c) (whole e line type offset target c)
 whole_rises e line type offset target c h w t m =
-    led_after (R1 c) (found e type (opened e c)) (λ d. unless (not (is_same_place type d.1.typed)) Assignment line (fill_record e line type offset d target))
+    led_after (R1 c) (found e type (opened e c)) (λ d. unless (not (is_same_place type d.1.typed)) (not_whole d.1.typed) line (fill_record e line type offset d target))
     (λ d q. let o = opened_rises e c h in
     let g = found_went e type (opened e c) d o.solid w (whole_stays type (K c) (K (opened e c)) o.more t) q in
-    led_unless (R1 c) (not (is_same_place type d.1.typed)) Assignment line (fill_record e line type offset d target)
+    led_unless (R1 c) (not (is_same_place type d.1.typed)) (not_whole d.1.typed) line (fill_record e line type offset d target)
     (λ x. fill_record_rises e line type offset c d target (rises_trans c (opened e c) d.0 o (went_rises (opened e c) d g)) (λ k. (g.fits (o.code k)).1) t m))
 
 least : (a b bound : ℕ) → b ≤ bound → min a b ≤ bound
@@ -188,7 +189,8 @@ fill_text_rises e line bytes size offset (InRegister at register) c h small m = 
 by_text_rises : (e : Tree) (line : ℕ) (element : PlainType) (size offset : ℕ) (o : Option (List ℕ)) (target : Target) (c : Context) → Solid c → Written e → Whole (K c) (Array element size) → IsNumber (pos offset) → Led (R1 c) (by_text e line element size offset o target c)
 by_text_rises e line element size offset None target c h w t m = whole_rises e line (Array element size) offset target c h w t m
 by_text_rises e line element size offset (Some bytes) target c h w t m =
-    led_cond (R1 c) (is_character element) (fill_text e line bytes size offset target c) (whole e line (Array element size) offset target c) (fill_text_rises e line bytes size offset target c h (row_short c element size h t) m) (whole_rises e line (Array element size) offset target c h w t m)
+    led_cond (R1 c) (is_character element) (then (string line bytes) (λ literal. fill_text e line bytes size offset target c)) (whole e line (Array element size) offset target c)
+    (λ z q. fill_text_rises e line bytes size offset target c h (row_short c element size h t) m z (behind_string line bytes (fill_text e line bytes size offset target c) z q)) (whole_rises e line (Array element size) offset target c h w t m)
 
 by_expression_rises : (e : Tree) (line : ℕ) (type : PlainType) (offset : ℕ) (target : Target) (c : Context) → Solid c → Written e → Whole (K c) type → IsNumber (pos offset) → Led (R1 c) (by_expression e line type offset target c)
 by_expression_rises e line (Array element size) offset target c h w t m = by_text_rises e line element size offset (text e) target c h w t m
@@ -200,7 +202,7 @@ mutual
   unfolding initialize initialize_parts Written AllWritten
 
   pub initialize_rises : (tree : Tree) (in_scalar : Bool) (type : PlainType) (offset : ℕ) (target : Target) (c : Context) → Solid c → Written tree → Whole (K c) type → Within (K c) type offset → Led (R1 c) (initialize tree in_scalar type offset target c)
-  initialize_rises (Node f.InitExpr (At line ▹ e ▹ none)) in_scalar type offset target c h w t v = by_expression_rises e line type offset target c h w.1.1.0 t (within_number (K c) type offset v)
+  initialize_rises (Node f.InitExpr (At line ▹ e ▹ none)) in_scalar type offset target c h w t v = by_expression_rises e (line_of e) type offset target c h w.1.1.0 t (within_number (K c) type offset v)
   initialize_rises (Node (f.InitList trailing) (At line ▹ Node f.Inits inits ▹ none)) in_scalar type offset target c h w t v =
       led_cond (R1 c) (takes_braces type in_scalar) (initialize_parts line inits (is_scalar_type type) (parts_of c (count inits) type offset) target c) (then (all_surplus inits c) (λ d. refused Assignment line))
       (parts_rise inits line (is_scalar_type type) (parts_of c (count inits) type offset) target c h w.1.1.0.1 (parts_in c (count inits) type offset h t v))
@@ -432,24 +434,28 @@ name_in_rises past false line storage (Some name) type inits c r v w s = local_n
 
 -- the length that an initializer gives
 
-text_some : (k : Known) (line : ℕ) (o : Option (List ℕ)) → LayerWhole k (ArrayOf line (text_length o))
-text_some k line None = tt
-text_some k line (Some bytes) = omega arith
+text_some : (element : PlainType) (o : Option (List ℕ)) → 1 ≤ text_length element o
+text_some element None = omega arith
+text_some element (Some bytes) = by (is_character element)
+  where
+    by : (t : Bool) → 1 ≤ cond t (length bytes + 1) 1
+    by true = omega arith
+    by false = omega arith
 
 inits_some : (inits : Trees) → HasParts f.Inits inits → 1 ≤ count inits
 unfolding HasParts
 inits_some none h = absurd h
 inits_some (init ▹ rest) h = omega arith
 
-given_some : (k : Known) (line : ℕ) (inits : Trees) → AllWritten inits → LayerWhole k (ArrayOf line (given_length inits))
+given_some : (k : Known) (line : ℕ) (element : PlainType) (inits : Trees) → AllWritten inits → LayerWhole k (ArrayOf line (given_length element inits))
 unfolding Written AllWritten
-given_some k line (Node f.InitExpr (At at ▹ e ▹ none) ▹ none) w = text_some k line (text e)
-given_some k line (Node (f.InitList trailing) (At at ▹ Node f.Inits inits ▹ none) ▹ none) w = inits_some inits w.0.1.1.0.0
-given_some k line inits w = tt
+given_some k line element (Node f.InitExpr (At at ▹ e ▹ none) ▹ none) w = text_some element (text e)
+given_some k line element (Node (f.InitList trailing) (At at ▹ Node f.Inits inits ▹ none) ▹ none) w = inits_some inits w.0.1.1.0.0
+given_some k line element inits w = tt
 
 pub init_layers_whole : (tags : TagTable) (ls : List Layer) (inits : Trees) (type : PlainType) → AllWritten inits → Whole (known tags.completed) type → LayersWhole (known tags.completed) ls → Led (Whole (known tags.completed)) (with_init_layers tags ls inits type)
 init_layers_whole tags [] inits type w h g = led_ok (Whole (known tags.completed)) type h
-init_layers_whole tags (ArrayOf line None ∷ []) inits type w h g = layered_whole tags.completed tags (ArrayOf line (given_length inits)) type refl h (given_some (known tags.completed) line inits w)
+init_layers_whole tags (ArrayOf line None ∷ []) inits type w h g = layered_whole tags.completed tags (ArrayOf line (given_length type inits)) type refl h (given_some (known tags.completed) line type inits w)
 init_layers_whole tags (ArrayOf line None ∷ (next ∷ ls)) inits type w h g =
     led_after (Whole (known tags.completed)) (layered_before tags (ArrayOf line None) (next ∷ ls) type) (λ inner. with_init_layers tags (next ∷ ls) inits inner)
     (λ inner q. init_layers_whole tags (next ∷ ls) inits inner w (before_whole tags.completed tags (ArrayOf line None) (next ∷ ls) type refl h g.0 inner q) g.1)

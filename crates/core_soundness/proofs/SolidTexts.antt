@@ -35,7 +35,7 @@ use Rattle.c_decls.specs.TypeNames.{with_layers}
 use Rattle.c_decls.specs.PlaceRules.{unconverted, converts}
 use Rattle.c_decls.specs.Expressions.{line_of}
 use Rattle.elaboration.specs.Context.{Here, Context, Variable, Walked, scoped, entered, left, emit, here, new_label, with_labels, with_pieces, first_context, Declared}
-use Rattle.elaboration.specs.Conversions.{Found, atom_in, valued, convert, convert_integer, tested_value, code_line}
+use Rattle.elaboration.specs.Conversions.{Found, atom_in, valued, convert, convert_integer, tested_value, code_line, unused}
 use Rattle.elaboration.specs.Reallocates.{opened, closed}
 use Rattle.elaboration.specs.Expressions.{found}
 use Rattle.elaboration.specs.Declarators.{specs, layers, constant}
@@ -63,7 +63,7 @@ use Rattle.core_soundness.proofs.Ranges.{In, in_emit, in_here, pieces_joined, ze
 use Rattle.core_soundness.proofs.RangedWork.{spot_atom, convert_integer_in}
 use Rattle.core_soundness.proofs.RangedFound.{tested_value_in}
 use Rattle.core_soundness.proofs.RangedWalk.{tested_solid}
-use Rattle.core_soundness.proofs.Moving.{CasesIn, WalkedIn, same_cases, same_walked, Rises, rises_refl, rises_trans, closed_rises, Full, full_value}
+use Rattle.core_soundness.proofs.Moving.{CasesIn, WalkedIn, same_cases, same_walked, Rises, rises_refl, rises_trans, closed_rises, Full, full_value, full_unused}
 use Rattle.core_soundness.proofs.SolidLayers.{constant_rises, entered_solid, specs_rise, layers_rise}
 use Rattle.core_soundness.proofs.SolidFills.{declared_function_rises, declaration_rises, scalar_value}
 
@@ -101,8 +101,8 @@ leave_rises line delays (Some exit) c h =
 
 evaluated_rises : (e : Tree) (c : Context) → Solid c → Written e → Led (Rises c) (evaluated e c)
 evaluated_rises e c h w =
-    led_after (Rises c) (valued e (found e Void (opened e c))) (λ d. Ok (closed e d.0))
-    (λ d q. let r = full_value e Void c d h w tt q in led_ok (Rises c) (closed e d.0) (rises_trans c d.0 _ r.rises (closed_rises e d.0 r.rises.solid)))
+    led_after (Rises c) (unused e (found e Void (opened e c))) (λ d. Ok (closed e d.0))
+    (λ d q. let r = full_unused e Void c d h w tt q in led_ok (Rises c) (closed e d.0) (rises_trans c d.0 _ r.rises (closed_rises e d.0 r.rises.solid)))
 
 maybe_evaluated_rises : (es : Trees) (c : Context) → Solid c → AllWritten es → Led (Rises c) (maybe_evaluated es c)
 unfolding AllWritten

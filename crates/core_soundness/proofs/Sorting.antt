@@ -13,7 +13,7 @@ use Rattle.c_decls.specs.Refusals.{Refusal}
 use Rattle.c_decls.specs.Expressions.{line_of}
 use Rattle.c_decls.specs.Typed.{PlainTyped, Operand, Number, PointerTo, Neither, operand, held, read, is_scalar, has_no_size}
 use Rattle.elaboration.specs.Context.{Context, With, integer_by, pointer_by}
-use Rattle.elaboration.specs.Conversions.{Found, Spot, Local, Memory, Value, Empty, read_spot, read_value, code_line, valued_from, valued, atom_in, holds_all, convert_integer, convert_to, convert, tested, tested_value, write}
+use Rattle.elaboration.specs.Conversions.{Found, Spot, Local, Memory, Value, Empty, read_spot, read_value, code_line, valued_from, atom_in, holds_all, convert_integer, convert_to, convert, tested, tested_value, write, unused}
 use Rattle.core_soundness.specs.Worlds.{World, world, Holds, HeldAs, Held, StandsAs, Stands}
 use Rattle.core_soundness.proofs.Grown.{good, bad, ok_same, never}
 use Rattle.core_soundness.proofs.Agreeing.{came}
@@ -156,8 +156,8 @@ valued_from_comes tree c e z l h q =
     let r = reads (code_line tree) (line_of tree) c.tags e.typed.is_place e.typed e.spot c t.value l refl h t.is in
     subst (Comes c) (ok_same (read_value t.value e (read_spot (code_line tree) e.typed.type e.spot c)) z t.last) (record { goes = r.0.goes; value = record { spot = refl; value = r.1; held = r.0.held } })
 
-pub valued_comes : (tree : Tree) (c : Context) (answer : With Found) (z : Context × Found) → 1 ≤ code_line tree → ((d : Context × Found) → answer ≡ Ok d → Sits c d) → valued tree answer ≡ Ok z → Comes c z
-valued_comes tree c answer z l h q =
+pub unused_comes : (tree : Tree) (c : Context) (answer : With Found) (z : Context × Found) → 1 ≤ code_line tree → ((d : Context × Found) → answer ≡ Ok d → Sits c d) → unused tree answer ≡ Ok z → Comes c z
+unused_comes tree c answer z l h q =
     let d = came answer (λ d. valued_from tree d.0 d.1) z q in
     let one = h d.value d.is in
     let two = valued_from_comes tree d.value.0 d.value.1 z l one.stands d.last in

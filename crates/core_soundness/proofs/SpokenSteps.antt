@@ -19,7 +19,7 @@ use Rattle.c_decls.specs.PlaceRules.{converts}
 use Rattle.c_decls.specs.Expressions.{line_of}
 use Rattle.elaboration.specs.Context.{Context}
 use Rattle.elaboration.specs.Conversions as conversions
-use Rattle.elaboration.specs.Conversions.{valued, valued_from, tested_value}
+use Rattle.elaboration.specs.Conversions.{valued, valued_from, tested_value, unused}
 use Rattle.elaboration.specs.Reallocates.{opened, closed}
 use Rattle.elaboration.specs.Addressed.{Taken, Known, number_of, plain_name, with_number, with_address, left, left_part, taken, all_taken}
 use Rattle.elaboration.specs.Expressions as expressions
@@ -35,6 +35,7 @@ use Rattle.core_soundness.proofs.Formed.{AtMostOne, Shaped, Formed, AllFormed}
 use Rattle.core_soundness.proofs.InStep.{among, Numbered, Follows}
 use Rattle.core_soundness.proofs.Still.{Held, Still, AllStill, SameNames, Calm, still_names, all_still_names, part_names}
 use Rattle.core_soundness.proofs.Calm.{found_calm}
+use Rattle.core_soundness.proofs.Unused.{valued_unused}
 
 -- each name that stands for a register has a number that is none of these
 abbrev pub AreNumbered : ScopeList → Taken → List ℕ → Type 0
@@ -99,13 +100,16 @@ found_spoken e wish t c d h i w g q = calm_spoken e t c h i w (found_calm e wish
 
 -- full expressions
 
-pub valued_calm : (e : Tree) (wish : PlainType) (c : Context) (d : Context × conversions.Found) → Formed e → valued e (expressions.found e wish c) ≡ Ok d → Calm e
-valued_calm e wish c d g q =
+pub unused_calm : (e : Tree) (wish : PlainType) (c : Context) (d : Context × conversions.Found) → Formed e → unused e (expressions.found e wish c) ≡ Ok d → Calm e
+unused_calm e wish c d g q =
     let x = came (expressions.found e wish c) (λ x. valued_from e x.0 x.1) d q in found_calm e wish c x.value g x.is
+
+pub valued_calm : (e : Tree) (wish : PlainType) (c : Context) (d : Context × conversions.Found) → Formed e → valued e (expressions.found e wish c) ≡ Ok d → Calm e
+valued_calm e wish c d g q = unused_calm e wish c d g (valued_unused e (expressions.found e wish c) d q)
 
 pub evaluated_calm : (e : Tree) (c z : Context) → Formed e → evaluated e c ≡ Ok z → Calm e
 evaluated_calm e c z g q =
-    let d = came (valued e (expressions.found e Void (opened e c))) (λ d. good (closed e d.0)) z q in valued_calm e Void (opened e c) d.value g d.is
+    let d = came (unused e (expressions.found e Void (opened e c))) (λ d. good (closed e d.0)) z q in unused_calm e Void (opened e c) d.value g d.is
 
 pub condition_calm : (e : Tree) (c : Context) (z : Context × Atom) → Formed e → condition e c ≡ Ok z → Calm e
 condition_calm e c z g q =

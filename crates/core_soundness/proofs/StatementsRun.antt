@@ -17,7 +17,7 @@ use Rattle.c_decls.specs.IntegerTypes.{promoted}
 use Rattle.c_decls.specs.Typed.{Operand, Number, PointerTo, Neither, operand, is_void, is_scalar}
 use Rattle.c_decls.specs.PlaceRules.{unconverted, converts}
 use Rattle.elaboration.specs.Context.{Here, Context, entered, left, scoped, emit, here, new_label, with_labels, with_pieces}
-use Rattle.elaboration.specs.Conversions.{Found, atom_in, valued, convert, convert_integer, tested_value}
+use Rattle.elaboration.specs.Conversions.{Found, atom_in, valued, convert, convert_integer, tested_value, unused}
 use Rattle.elaboration.specs.Reallocates.{opened, closed}
 use Rattle.elaboration.specs.Expressions.{found}
 use Rattle.elaboration.specs.Addressed.{Taken, left_scope, taken}
@@ -35,7 +35,7 @@ use Rattle.core_soundness.proofs.Sorting.{Comes, HasValue, converted, integer_co
 use Rattle.core_soundness.proofs.Operating.{passed, kept_test, behind_test, unbarred}
 use Rattle.core_soundness.proofs.Landing.{not_false}
 use Rattle.core_soundness.proofs.Assigning.{converting_of}
-use Rattle.core_soundness.proofs.Running.{Fine, Runs, runs_refl, runs_trans, goes_runs, on_runs, entered_fine, runs_left, closed_goes, Evaluates, evaluates, evaluated_goes}
+use Rattle.core_soundness.proofs.Running.{Fine, Runs, runs_refl, runs_trans, goes_runs, on_runs, entered_fine, runs_left, closed_goes, Evaluates, evaluates, evaluated_goes, evaluates_unused}
 use Rattle.core_soundness.proofs.LayersRun.{constant_runs}
 use Rattle.core_soundness.proofs.LocalsRun.{local_declaration_runs}
 use Rattle.core_soundness.proofs.Adding.{Has, Inside}
@@ -51,8 +51,8 @@ use Rattle.core_soundness.proofs.DeclaredSteps.{declaration_spoken, declaration_
 
 evaluated_runs : (e : Tree) (c z : Context) → Spoken c.scopes e → NamesFit (world c) c.scopes → evaluated e c ≡ Ok z → Goes c z
 evaluated_runs e c z p h q =
-    let d = came (valued e (found e Void (opened e c))) (λ d. good (closed e d.0)) z q in
-    let v = evaluates e Void c d.value p h d.is in
+    let d = came (unused e (found e Void (opened e c))) (λ d. good (closed e d.0)) z q in
+    let v = evaluates_unused e Void c d.value p h d.is in
     subst (Goes c) (ok_same (closed e d.value.0) z d.last) (goes_trans c d.value.0 _ (evaluated_goes c e d.value v) (closed_goes e d.value.0 v.line))
 
 maybe_evaluated_runs : (es : Trees) (c z : Context) → AllSpoken c.scopes es → NamesFit (world c) c.scopes → maybe_evaluated es c ≡ Ok z → Goes c z

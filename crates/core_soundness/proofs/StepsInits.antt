@@ -12,14 +12,14 @@ use Rattle.c_tree.specs.Grammar.{shape}
 use Rattle.c_decls.specs.declared.refusal.TypeKind.TheVariants.{Assignment, NotConstant, Operands}
 use Rattle.c_decls.specs.Refusals.{refused, then, unless}
 use Rattle.c_decls.specs.PlaceRules.{converts, unconverted}
-use Rattle.c_decls.specs.Expressions.{line_of}
+use Rattle.c_decls.specs.Expressions.{line_of, string}
 use Rattle.elaboration.specs.Context.{Context, emit}
 use Rattle.elaboration.specs.Conversions.{Found, Spot, Local, Memory, Value, Empty, code_line, atom_in, valued, convert, write, size_or_zero}
 use Rattle.elaboration.specs.Reallocates.{opened, closed}
 use Rattle.elaboration.specs.Rules.{with_literal}
 use Rattle.elaboration.specs.Expressions.{found}
 use Rattle.elaboration.specs.Addressed.{Taken, taken}
-use Rattle.elaboration.specs.Initializers.{Target, InRegister, InMemory, InStatic, with_bytes, static_scalar, member_place, store_at, fill_scalar, scalar, copy_to, fill_record, is_same_place, whole, copy_text, fill_text, is_character, text, by_text, by_expression, parts_of, takes_braces, is_scalar_type, all_surplus, initialize, initialize_parts}
+use Rattle.elaboration.specs.Initializers.{Target, InRegister, InMemory, InStatic, with_bytes, static_scalar, member_place, store_at, fill_scalar, scalar, copy_to, fill_record, is_same_place, whole, copy_text, fill_text, is_character, text, by_text, by_expression, parts_of, takes_braces, is_scalar_type, all_surplus, initialize, initialize_parts, not_whole}
 use Rattle.elaboration.specs.Locals.{next_is_memory, local_in, with_local}
 use Rattle.elaboration.specs.Declarations.{zero_of, cleared, fill_memory, fill_register, fill_at, fill_local}
 use Rattle.core_soundness.specs.Spoken.{Spoken, AllSpoken}
@@ -38,6 +38,7 @@ use Rattle.core_soundness.proofs.Still.{Still, AllStill, Calm, some_commas_held,
 use Rattle.core_soundness.proofs.Calm.{text_calm, unary_calm, found_calm}
 use Rattle.core_soundness.proofs.Keeping.{keeps_refl, keeps_trans, grows_keeps, emit_keeps, opened_keeps, closed_keeps, found_keeps, full_keeps}
 use Rattle.core_soundness.proofs.SpokenSteps.{calm_spoken, valued_calm}
+use Rattle.core_soundness.proofs.Unused.{behind_string}
 
 -- a tree that declares nothing was gone through
 abbrev pub Went : Tree → Context → Context → Type 0
@@ -95,8 +96,8 @@ fill_record_went e line type offset b d t x = reached_refused (Went e b) NotCons
 whole_went : (e : Tree) (line : ℕ) (type : PlainType) (offset : ℕ) (t : Target) (b : Context) → Formed e → Reached (Went e b) (whole e line type offset t b)
 whole_went e line type offset t b g =
     let begun = opened e b in
-    reached_after (Went e b) (found e type begun) (λ d. unless (not (is_same_place type d.1.typed)) Assignment line (fill_record e line type offset d t))
-    (λ d h. reached_unless (Went e b) (not (is_same_place type d.1.typed)) Assignment line (fill_record e line type offset d t)
+    reached_after (Went e b) (found e type begun) (λ d. unless (not (is_same_place type d.1.typed)) (not_whole d.1.typed) line (fill_record e line type offset d t))
+    (λ d h. reached_unless (Went e b) (not (is_same_place type d.1.typed)) (not_whole d.1.typed) line (fill_record e line type offset d t)
     (fill_record_went e line type offset b d t (found_calm e type begun d g h, keeps_trans b begun d.0 (opened_keeps e b) (found_keeps e type begun d h))))
 
 text_is_calm : (e : Tree) (bytes : List ℕ) → Formed e → text e ≡ Some bytes → Calm e
@@ -124,8 +125,8 @@ by_text_went : (e : Tree) (line : ℕ) (element : PlainType) (size offset : ℕ)
 by_text_went e line element size offset None t b is g = whole_went e line (Array element size) offset t b g
 by_text_went e line element size offset (Some bytes) t b is g = by (is_character element)
   where
-    by : (k : Bool) → Reached (Went e b) (cond k (fill_text e line bytes size offset t b) (whole e line (Array element size) offset t b))
-    by true = fill_text_went e line bytes size offset t b (text_is_calm e bytes g is)
+    by : (k : Bool) → Reached (Went e b) (cond k (then (string line bytes) (λ literal. fill_text e line bytes size offset t b)) (whole e line (Array element size) offset t b))
+    by true z q = fill_text_went e line bytes size offset t b (text_is_calm e bytes g is) z (behind_string line bytes (fill_text e line bytes size offset t b) z q)
     by false = whole_went e line (Array element size) offset t b g
 
 by_expression_went : (e : Tree) (line : ℕ) (type : PlainType) (offset : ℕ) (t : Target) (b : Context) → Formed e → Reached (Went e b) (by_expression e line type offset t b)
@@ -147,7 +148,7 @@ mutual
 
   pub initialize_went : (tree : Tree) (in_scalar : Bool) (type : PlainType) (offset : ℕ) (t : Target) (b : Context) → Formed tree → Reached (Went tree b) (initialize tree in_scalar type offset t b)
   initialize_went (Node f.InitExpr (At line ▹ e ▹ none)) in_scalar type offset t b g d q =
-      let x = by_expression_went e line type offset t b g.1.1.0 d q in (init_calm line e x.0, x.1)
+      let x = by_expression_went e (line_of e) type offset t b g.1.1.0 d q in (init_calm line e x.0, x.1)
   initialize_went (Node (f.InitList trailing) (At line ▹ Node f.Inits inits ▹ none)) in_scalar type offset t b g d q =
       elim (takes_braces type in_scalar) as (λ k. cond k (initialize_parts line inits (is_scalar_type type) (parts_of b (count inits) type offset) t b) (then (all_surplus inits b) (λ y. refused Assignment line)) ≡ good d → Went (Node (f.InitList trailing) (At line ▹ Node f.Inits inits ▹ none)) b d.0) [
         | true ↦ λ r. let x = parts_went inits line (is_scalar_type type) (parts_of b (count inits) type offset) t b g.1.1.0.1 d r in (list_calm trailing line inits x.0, x.1)

@@ -17,17 +17,18 @@ use Rattle.c_decls.specs.Named as n
 use Rattle.c_decls.specs.Named.{PlainNamed}
 use Rattle.c_decls.specs.ScopeList as scopes
 use Rattle.c_decls.specs.ScopeList.{ScopeList, Table, found, with_name, tag_name, named_in, innermost}
-use Rattle.c_decls.specs.Typed.{PlainTyped, read, constant, is_function, is_void}
+use Rattle.c_decls.specs.Typed.{PlainTyped, read, constant, is_function, is_void, wanted_value}
 use Rattle.c_decls.specs.PlaceRules.{held_place, element, dot, arrow, stepped, size, cast, choice, assigned, changed, behind_comma}
 use Rattle.c_decls.specs.TypeRules.{address, unary, binary}
 use Rattle.c_decls.specs.Callees.{named, called, call, no_function}
 use Rattle.c_decls.specs.TypeNames.{Context, PointerTo, ArrayOf, FunctionOf, word_type, record_type, same_sort, tag_named, enum_named, type_named, special_type, specs_type, array_length, with_layers, with_param_layers, adjusted, with_param, declared_param, with_new_tag}
-use Rattle.c_decls.specs.Expressions.{line_of, Found, answered, wanted, changing, one, two, int_constant, char_constant, joined, string, first_literal, callee, in_new_scope, out_of_scope, typed, values, typename, layers, suffix_layers, suffix_layer, param_types, param_type}
+use Rattle.c_decls.specs.Expressions.{line_of, Found, answered, wanted, changing, one, two, int_constant, char_constant, joined, string, first_literal, callee, in_new_scope, out_of_scope, typed, values, typename, layers, suffix_layers, suffix_layer, param_types, param_type, unused, cast_operand}
 use Rattle.core_soundness.proofs.Names.{More, MoreAll, more_refl, more_trans, with_tag_more}
 use Rattle.core_soundness.proofs.Growth.{Longer}
 use Rattle.core_soundness.proofs.Grown.{ok_same, never}
 use Rattle.core_soundness.proofs.Reached.{Reached, reached_ok, reached_refused, reached_after, reached_then, reached_unless}
 use Rattle.core_soundness.proofs.TagSorts.{SortedScopes, scopes_longer, with_name_sorted, entered_sorted, left_sorted, push_longer, new_sorted}
+use Rattle.core_soundness.proofs.Unused.{wanted_unused, type_cast_unused}
 
 -- what is known behind has more tags than before
 abbrev pub After : Context → Context → Type 0
@@ -54,9 +55,15 @@ module _ (b : Context) where
   answered_leads : (c : Context) (x : Checked PlainTyped) → Leads b c → Reached (Leads b) (answered c x)
   answered_leads c x g = reached_after (Leads b) x (λ e. Ok (c, e)) (λ e h. reached_ok (Leads b) (c, e) g)
 
-  pub wanted_leads : (tree : Tree) (x : Found) → Reached (Leads b) x → Reached (Leads b) (wanted tree x)
-  wanted_leads tree x g =
+  pub unused_leads : (tree : Tree) (x : Found) → Reached (Leads b) x → Reached (Leads b) (unused tree x)
+  unused_leads tree x g =
       reached_then (Leads b) (Leads b) x (λ e. answered e.0 (read (line_of tree) e.0.tags e.1)) g (λ d h. answered_leads d.0 (read (line_of tree) d.0.tags d.1) h)
+
+  pub wanted_leads : (tree : Tree) (x : Found) → Reached (Leads b) x → Reached (Leads b) (wanted tree x)
+  wanted_leads tree x g d q = unused_leads tree x g d (wanted_unused tree x d q)
+
+  cast_leads : (type : PlainType) (tree : Tree) (x : Found) → Reached (Leads b) x → Reached (Leads b) (cast_operand type tree x)
+  cast_leads type tree x g d q = unused_leads tree x g d (type_cast_unused type tree x d q)
 
   changing_leads : (tree : Tree) (x : Found) → Reached (Leads b) x → Reached (Leads b) (changing tree x)
   changing_leads tree x g =
@@ -212,8 +219,8 @@ mutual
   typed_leads (Node f.SizeofType (At line ▹ name ▹ none)) c =
       reached_then (Leads c) (Leads c) (typename name c) (λ t. answered t.0 (size line t.0.tags t.1)) (typename_leads name c) (λ t h. answered_leads c t.0 (size line t.0.tags t.1) h)
   typed_leads (Node f.Cast (At line ▹ name ▹ e ▹ none)) c =
-      reached_then (Leads c) (Leads c) (typename name c) (λ t. one (wanted e (typed e t.0)) (λ tags d. cast line t.1 d)) (typename_leads name c)
-      (λ t h. one_leads c (wanted e (typed e t.0)) (λ tags d. cast line t.1 d) (wanted_leads c e (typed e t.0) (leads_trans_on c t.0 (typed e t.0) h (typed_leads e t.0))))
+      reached_then (Leads c) (Leads c) (typename name c) (λ t. one (cast_operand t.1 e (typed e t.0)) (λ tags d. cast line t.1 d)) (typename_leads name c)
+      (λ t h. one_leads c (cast_operand t.1 e (typed e t.0)) (λ tags d. cast line t.1 d) (cast_leads c t.1 e (typed e t.0) (leads_trans_on c t.0 (typed e t.0) h (typed_leads e t.0))))
   typed_leads (Node (f.Binary op) (At line ▹ e ▹ g ▹ none)) c =
       two_leads c (wanted e (typed e c)) (λ d. wanted g (typed g d)) (binary line op) (wanted_leads c e (typed e c) (typed_leads e c))
       (λ d h. wanted_leads c g (typed g d) (leads_trans_on c d (typed g d) h (typed_leads g d)))
@@ -227,8 +234,8 @@ mutual
       two_leads c (changing e (typed e c)) (λ d. wanted g (typed g d)) (changed line op) (changing_leads c e (typed e c) (typed_leads e c))
       (λ d h. wanted_leads c g (typed g d) (leads_trans_on c d (typed g d) h (typed_leads g d)))
   typed_leads (Node f.Comma (At line ▹ e ▹ g ▹ none)) c =
-      two_leads c (wanted e (typed e c)) (λ d. wanted g (typed g d)) (λ tags x y. Ok (behind_comma y)) (wanted_leads c e (typed e c) (typed_leads e c))
-      (λ d h. wanted_leads c g (typed g d) (leads_trans_on c d (typed g d) h (typed_leads g d)))
+      two_leads c (unused e (typed e c)) (λ d. unused g (typed g d)) (λ tags x y. Ok (behind_comma y)) (unused_leads c e (typed e c) (typed_leads e c))
+      (λ d h. unused_leads c g (typed g d) (leads_trans_on c d (typed g d) h (typed_leads g d)))
   typed_leads tree c = reached_refused (Leads c) Operands (line_of tree)
 
   values_leads : (arguments : Trees) (c : Context) → Reached (Leads c) (values arguments c)
@@ -305,5 +312,5 @@ special_after line tree c d e = (special_leads line tree c d e).more
 
 pub wanted_after : (b : Context) (tree : Tree) (x : Found) → Reached (After b) x → Reached (After b) (wanted tree x)
 wanted_after b tree x g =
-    reached_then (After b) (After b) x (λ e. answered e.0 (read (line_of tree) e.0.tags e.1)) g
-    (λ d h. reached_after (After b) (read (line_of tree) d.0.tags d.1) (λ e. Ok (d.0, e)) (λ e k. reached_ok (After b) (d.0, e) h))
+    reached_then (After b) (After b) x (λ e. answered e.0 (wanted_value (line_of tree) e.0.tags e.1)) g
+    (λ d h. reached_after (After b) (wanted_value (line_of tree) d.0.tags d.1) (λ e. Ok (d.0, e)) (λ e k. reached_ok (After b) (d.0, e) h))

@@ -13,7 +13,7 @@ use Rattle.c_decls.specs.Typed.{Operand, Number, operand, is_void, is_scalar}
 use Rattle.c_decls.specs.PlaceRules.{converts, unconverted}
 use Rattle.c_decls.specs.Expressions.{line_of}
 use Rattle.elaboration.specs.Context.{Piece, Does, Code, Context, Running, entered, left, emit}
-use Rattle.elaboration.specs.Conversions.{Found, atom_in, valued, convert, convert_integer, code_line, tested_value}
+use Rattle.elaboration.specs.Conversions.{Found, atom_in, valued, convert, convert_integer, code_line, tested_value, unused}
 use Rattle.elaboration.specs.Reallocates.{opened, closed}
 use Rattle.elaboration.specs.Expressions.{found}
 use Rattle.elaboration.specs.Statements.{Around, below, in_loop, in_switch, in_delay, leaves, evaluated, maybe_evaluated, closed_atom, condition, leaves_if_zero, maybe_leaves, returned, return_value, return_of, return_from, switch_operand_of, switch_operand}
@@ -22,7 +22,7 @@ use Rattle.core_soundness.proofs.Fragments.{Way, way_on, IsWay, Leads, AreEarlie
 use Rattle.core_soundness.proofs.Names.{Safe, left_safe}
 use Rattle.core_soundness.proofs.Growth.{Grows, grows_refl, grows_trans}
 use Rattle.core_soundness.proofs.Reached.{Reached, reached_ok, reached_refused, reached_after, reached_unless, Led, led_ok, led_after, led_unless, led_barred}
-use Rattle.core_soundness.proofs.Working.{grown_valued, grows_convert, grows_convert_integer, grows_tested}
+use Rattle.core_soundness.proofs.Working.{grown_valued, grows_convert, grows_convert_integer, grows_tested, grown_unused}
 use Rattle.core_soundness.proofs.ExprGrows.{found_grows}
 use Rattle.core_soundness.proofs.Owners.{tied_refl}
 use Rattle.core_soundness.proofs.Passing.{Stays, Passes, stays_trans, grows_passes, grows_closed, stays_beside}
@@ -170,8 +170,8 @@ grows_tested_value tree d = grows_tested (code_line tree) d.1.typed.type (atom_i
 pub evaluated_passes : (e : Tree) (c : Context) → Safe c.scopes → Led (Passes c) (evaluated e c)
 evaluated_passes e c s =
     let begun = opened e c in
-    led_after (Passes c) (valued e (found e Void begun)) (λ d. Ok (closed e d.0))
-    (λ d h. led_ok (Passes c) (closed e d.0) (grows_passes c (closed e d.0) s (grows_closed e c d.0 s (grown_valued e begun (found e Void begun) (found_grows e Void begun begun (grows_refl begun)) d h))))
+    led_after (Passes c) (unused e (found e Void begun)) (λ d. Ok (closed e d.0))
+    (λ d h. led_ok (Passes c) (closed e d.0) (grows_passes c (closed e d.0) s (grows_closed e c d.0 s (grown_unused e begun (found e Void begun) (found_grows e Void begun begun (grows_refl begun)) d h))))
 
 pub maybe_evaluated_passes : (e : Trees) (c : Context) → Safe c.scopes → Led (Passes c) (maybe_evaluated e c)
 maybe_evaluated_passes none c s = led_ok (Passes c) c (passes_refl c s)

@@ -16,10 +16,11 @@ use Rattle.c_decls.specs.Expressions.{line_of}
 use Rattle.c_decls.specs.Typed.{PlainTyped, Operand, Number, PointerTo, operand, read}
 use Rattle.c_decls.specs.TypeRules.{result_type}
 use Rattle.elaboration.specs.Context.{Context, With}
-use Rattle.elaboration.specs.Conversions.{Found, Spot, Local, Memory, read_spot, read_value, code_line, valued_from, valued, atom_in, holds_all, convert_integer, convert_to, convert, tested, write, size_or_zero}
+use Rattle.elaboration.specs.Conversions.{Found, Spot, Local, Memory, read_spot, read_value, code_line, valued_from, valued, atom_in, holds_all, convert_integer, convert_to, convert, tested, write, size_or_zero, unused}
 use Rattle.elaboration.specs.Operations.{working, Working, Calculates, Shifts, Compares, Branches, convert_both, work, on_integers, before_integer, move_pointer, between_pointers, pointer_beside, beside_integer, combine, combined, change, changed_to, member_address}
 use Rattle.core_soundness.proofs.Growth.{Grows, grows_refl, grows_trans, grows_emit, grows_integer, grows_pointer, grows_forgotten}
 use Rattle.core_soundness.proofs.Grown.{Grown, grown_ok, grown_after, grown_then, grows_cond}
+use Rattle.core_soundness.proofs.Unused.{valued_unused}
 
 pub grows_read : (line : ℕ) (type : PlainType) (spot : Spot) (c : Context) → Grows c (read_spot line type spot c).0
 unfolding read_spot
@@ -34,8 +35,11 @@ grown_valued_from tree b c e g =
     grown_after b (read (line_of tree) c.tags e.typed) (λ typed. Ok (read_value typed e (read_spot (code_line tree) e.typed.type e.spot c)))
     (λ typed h. grown_ok b (read_value typed e (read_spot (code_line tree) e.typed.type e.spot c)) (grows_trans b c _ g (grows_read (code_line tree) e.typed.type e.spot c)))
 
+pub grown_unused : (tree : Tree) (b : Context) (answer : With Found) → Grown b answer → Grown b (unused tree answer)
+grown_unused tree b answer g = grown_then b answer (λ d. valued_from tree d.0 d.1) g (λ d h. grown_valued_from tree b d.0 d.1 h)
+
 pub grown_valued : (tree : Tree) (b : Context) (answer : With Found) → Grown b answer → Grown b (valued tree answer)
-grown_valued tree b answer g = grown_then b answer (λ d. valued_from tree d.0 d.1) g (λ d h. grown_valued_from tree b d.0 d.1 h)
+grown_valued tree b answer g d q = grown_unused tree b answer g d (valued_unused tree answer d q)
 
 pub grows_convert_integer : (line : ℕ) (ty source : IntType) (a : Atom) (c : Context) → Grows c (convert_integer line ty source a c).0
 unfolding convert_integer

@@ -1,5 +1,4 @@
 pub mod ListRules
-pub mod Lines
 pub mod Twice
 pub mod Signatures
 pub mod CodeSizes

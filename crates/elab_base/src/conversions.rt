@@ -6,7 +6,7 @@ ghost use Rattle.c_types.specs.TagTable.{size_in};
 ghost use Rattle.c_tree.specs.View.{expr_tree};
 ghost use Rattle.c_decls.specs.Refusals.{Meets};
 ghost use Rattle.c_decls.specs.Typed.{operand};
-ghost use Rattle.elaboration.specs.Conversions.{code_line, read_spot, valued_from, holds_all, convert_integer, convert_to, tested, write, size_or_zero};
+ghost use Rattle.elaboration.specs.Conversions.{read_spot, valued_from, wanted_from, holds_all, convert_integer, convert_to, tested, write, size_or_zero};
 ghost use Rattle.elab_base.specs.Marks.{cut};
 ghost use Rattle.elab_base.specs.PlainFound.{plain_spot, plain_found};
 
@@ -14,22 +14,11 @@ use crate::code::Mark;
 use crate::elaborator::Elaborator;
 use crate::found::{Fixed, Found, Spot};
 use crate::sizes::size_in;
-use c_decls::{Operand, TypeError, is_array, operand_of};
-use c_tree::{Expr, ExprKind};
+use c_decls::{Operand, TypeError, TypeKind, is_array, line_of, operand_of, refused};
+use c_tree::Expr;
 use c_types::{CType, IntType};
 use core_tree::{Atom, StmKind};
 use hs_base::{IntKind, Line, NoMemory};
-
-/// The line of an expression, which parentheses do not give.
-#[tactic(auto, unfolding(elaboration::specs::Conversions::code_line, c_tree::specs::View::expr_tree))]
-pub fn code_line(e: &Expr) -> Line
-    ensures { result ≡ code_line (expr_tree e.now.kind e.now.line) }
-{
-    match &e.kind {
-        ExprKind::Paren(inside) => code_line(inside),
-        _ => e.line,
-    }
-}
 
 /// Whether a kind holds every number of another.
 fn holds_all(kind: IntKind, source: IntKind) -> bool
@@ -81,19 +70,19 @@ impl Elaborator {
         }
     }
 
-    /// The value of an expression that is elaborated (C99 6.3.2.1).
-    #[tactic(auto, using(crate::proofs::Lines::line_of_expr), unfolding(elaboration::specs::Conversions::read_spot))]
+    /// An expression that is elaborated, where it is evaluated (C99 6.3.2.1).
+    #[tactic(auto, unfolding(elaboration::specs::Conversions::read_spot))]
     pub fn valued_from(&mut self, e: &Expr, found: Found) -> Result<Found, TypeError>
         ensures { Meets (λ value. (self.new, plain_found value)) result (valued_from (expr_tree e.now.kind e.now.line) self.old (plain_found found)) }
     {
         let Found { typed, spot, fixed } = found;
         let is_place = typed.is_place;
         let is_array = is_array(&typed.ty);
-        let typed = typed.read(e.line, self.tags())?;
+        let typed = typed.read(line_of(e), self.tags())?;
         let value = if is_array {
             spot.atom()
         } else {
-            self.read_spot(code_line(e), &typed.ty, spot)?
+            self.read_spot(line_of(e), &typed.ty, spot)?
         };
         Ok(Found {
             typed,
@@ -104,6 +93,16 @@ impl Elaborator {
                 fixed
             },
         })
+    }
+
+    /// An expression that is elaborated, where a value is wanted: an assignment to a struct or a union has none.
+    pub fn wanted_from(&mut self, e: &Expr, found: Found) -> Result<Found, TypeError>
+        ensures { Meets (λ value. (self.new, plain_found value)) result (wanted_from (expr_tree e.now.kind e.now.line) self.old (plain_found found)) }
+    {
+        if found.typed.has_no_value() {
+            return refused(TypeKind::Operands, line_of(e));
+        }
+        self.valued_from(e, found)
     }
 
     /// An integer of one type converted to another: nothing happens where every number stays, and a number is converted at

@@ -26,7 +26,6 @@ mod switches;
 mod variables;
 
 pub use code::{Code, Mark};
-pub use conversions::code_line;
 pub use elaborator::{Elaborator, Parts};
 pub use found::{Fixed, Found, Spot};
 pub use names::{Declared, Variable, Walked};

@@ -1,28 +1,17 @@
--- Names one behind another, and the lines of initializers.
+-- Names one behind another.
 use Rattle.std.proofs.Common.{◌≡◌, ◌<◌, ◌≤◌, ◌+◌, ℕ, zero, suc, Bool, List, [], ◌∷◌, Option, Some, None, Ok, Err, drop, length, get_or, refl, ap, sym, ◌∙◌, arith}
 use Rattle.std.proofs.Math.Seq.{drop-cons}
 use Rattle.c_types.specs.Types.{PlainType}
 use Rattle.c_tree.specs.declared.tree.Declarator.{Declarator}
 use Rattle.c_tree.specs.declared.statement.Init.{Init}
-use Rattle.c_tree.specs.declared.statement.InitKind.{InitKind}
-use Rattle.c_tree.specs.declared.statement.InitKind.TheVariants as i
 use Rattle.c_tree.specs.Tree.{Tree, Trees, none, ◌▹◌}
 use Rattle.c_tree.specs.View.{declarator_tree}
-use Rattle.c_tree.specs.StatementView.{trees, entry_view, init_tree, init_view}
-use Rattle.c_decls.specs.Expressions.{line_of}
+use Rattle.c_tree.specs.StatementView.{trees, entry_view}
 use Rattle.c_decls.specs.Refusals.{Checked, Refusal, then}
 use Rattle.elaboration.specs.Context.{Context}
 use Rattle.elaboration.specs.Declarators.{specs}
 use Rattle.elaboration.specs.Declarations.{Storage, specs_alone, specs_before, entry, entries}
 use Rattle.elab_inits.specs.GivenLengths.{held}
-
-by_kind : (kind : InitKind) (line : ℕ) → line_of (init_tree kind line) ≡ line
-unfolding init_tree
-by_kind (i.Expr e) line = refl
-by_kind (i.List' shape inits trailing) line = refl
-
-pub line_of_init : (init : Init) → line_of (init_view init) ≡ init.line
-line_of_init init = by_kind init.kind init.line
 
 abbrev Name : Type 0
 Name = Declarator × Option Init

@@ -9,7 +9,7 @@ ghost use Rattle.elab_inits.specs.PlainTarget.{plain_target};
 ghost use Rattle.elab_declarations.specs.PlainStorage.{plain_storage};
 
 use crate::words::Storage;
-use c_decls::{Named, TypeError, TypeKind, has_no_size, is_function, refused};
+use c_decls::{Named, TypeError, TypeKind, has_no_size, init_line, is_function, refused};
 use c_tree::Init;
 use c_types::CType;
 use core_tree::Start;
@@ -19,7 +19,6 @@ use hs_base::Line;
 use std::alloc::Global;
 
 /// A function has no initializer; one that it has is gone through, and refused.
-#[tactic(auto, using(crate::proofs::Entries::line_of_init))]
 fn no_initializer(state: &mut Elaborator, init: Option<&Init>) -> Result<(), TypeError>
     ensures { Meets (λ _. state.new) result (rules.no_initializer (held (option_copied init.entry)) state.old) }
 {
@@ -27,7 +26,7 @@ fn no_initializer(state: &mut Elaborator, init: Option<&Init>) -> Result<(), Typ
         None => Ok(()),
         Some(init) => {
             surplus(state, init)?;
-            refused(TypeKind::Assignment, init.line)
+            refused(TypeKind::Assignment, init_line(init))
         }
     }
 }

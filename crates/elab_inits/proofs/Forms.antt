@@ -8,6 +8,7 @@ use Rattle.c_tree.specs.declared.statement.InitKind.TheVariants as i
 use Rattle.c_tree.specs.Tree.{Tree, none, ◌▹◌}
 use Rattle.c_tree.specs.StatementView.{trees, expr_view, init_tree, init_view}
 use Rattle.c_tree.proofs.StatementViews.{init_list_tree}
+use Rattle.c_decls.specs.Expressions.{line_of}
 use Rattle.c_decls.specs.Refusals.{then}
 use Rattle.elaboration.specs.Context.{Context}
 use Rattle.elaboration.specs.Reallocates.{opened}
@@ -30,7 +31,7 @@ surplus_list kind list trailing line c h =
 
 module _ (in_scalar : Bool) (type : PlainType) (offset : ℕ) (target : Target) (c : Context) where
   pub init_expr : (kind : InitKind) (e : Expr) (line : ℕ) → kind ≡ i.Expr e →
-      initialize (init_tree kind line) in_scalar type offset target c ≡ by_expression (expr_view e) line type offset target c
+      initialize (init_tree kind line) in_scalar type offset target c ≡ by_expression (expr_view e) (line_of (expr_view e)) type offset target c
   unfolding initialize init_tree
   init_expr kind e line h = ap (λ (k : InitKind). initialize (init_tree k line) in_scalar type offset target c) h
 
@@ -41,14 +42,14 @@ module _ (in_scalar : Bool) (type : PlainType) (offset : ℕ) (target : Target) 
       ap (λ (k : InitKind). initialize (init_tree k line) in_scalar type offset target c) h
       ∙ ap (λ (tree : Tree). initialize tree in_scalar type offset target c) (init_list_tree list trailing line)
 
-pub length_of_expr : (kind : InitKind) (e : Expr) (line : ℕ) → kind ≡ i.Expr e →
-    given_length (init_tree kind line ▹ none) ≡ text_length (text (expr_view e))
+pub length_of_expr : (element : PlainType) (kind : InitKind) (e : Expr) (line : ℕ) → kind ≡ i.Expr e →
+    given_length element (init_tree kind line ▹ none) ≡ Some (text_length element (text (expr_view e)))
 unfolding init_tree
-length_of_expr kind e line h = ap (λ (k : InitKind). given_length (init_tree k line ▹ none)) h
+length_of_expr element kind e line h = ap (λ (k : InitKind). given_length element (init_tree k line ▹ none)) h
 
-pub length_of_list : (kind : InitKind) (list : Vec Init Global) (trailing : Bool) (line : ℕ) → kind ≡ i.List list trailing →
-    given_length (init_tree kind line ▹ none) ≡ Some (length list.items)
-length_of_list kind list trailing line h =
-    ap (λ (k : InitKind). given_length (init_tree k line ▹ none)) h
-    ∙ ap (λ (tree : Tree). given_length (tree ▹ none)) (init_list_tree list trailing line)
+pub length_of_list : (element : PlainType) (kind : InitKind) (list : Vec Init Global) (trailing : Bool) (line : ℕ) → kind ≡ i.List list trailing →
+    given_length element (init_tree kind line ▹ none) ≡ Some (length list.items)
+length_of_list element kind list trailing line h =
+    ap (λ (k : InitKind). given_length element (init_tree k line ▹ none)) h
+    ∙ ap (λ (tree : Tree). given_length element (tree ▹ none)) (init_list_tree list trailing line)
     ∙ ap Some (count_trees list.items)

@@ -13,7 +13,7 @@ use crate::expressions::by_expression;
 use crate::parts::{Part, part_at, parts_of, takes_braces};
 use crate::targets::Target;
 use crate::unwanted::all_surplus;
-use c_decls::{TypeError, TypeKind, refused};
+use c_decls::{TypeError, TypeKind, line_of, refused};
 use c_tree::{Init, InitKind};
 use c_types::CType;
 use elab_base::Elaborator;
@@ -39,7 +39,7 @@ pub fn initialize(
         (rules.initialize (init_view init.now) in_scalar (plain ty.now) offset (plain_target target) state.old) }
 {
     match &init.kind {
-        InitKind::Expr(e) => by_expression(state, e, init.line, ty, offset, target),
+        InitKind::Expr(e) => by_expression(state, e, line_of(e), ty, offset, target),
         InitKind::List(list, _) => {
             list_of(state, list, init.line, in_scalar, ty, offset, target)
         }

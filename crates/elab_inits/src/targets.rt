@@ -4,13 +4,14 @@ ghost use Rattle.std.specs.Prelude.{◌≡◌, IfOk};
 ghost use Rattle.c_types.specs.Types.{plain};
 ghost use Rattle.c_tree.specs.StatementView.{expr_view};
 ghost use Rattle.c_decls.specs.Refusals.{Meets};
+ghost use Rattle.c_decls.specs.Typed.{plain_typed};
 ghost use Rattle.elab_base.specs.Marks.{cut};
 ghost use Rattle.elab_base.specs.PlainFound.{plain_found};
-ghost use Rattle.elaboration.specs.Initializers.{member_place, store_at, fill_scalar, scalar, copy_to, fill_record, whole, is_same_place};
+ghost use Rattle.elaboration.specs.Initializers.{member_place, store_at, fill_scalar, scalar, copy_to, fill_record, not_whole, whole, is_same_place};
 ghost use Rattle.elab_inits.specs.PlainTarget.{plain_target};
 
 use crate::starts::static_scalar;
-use c_decls::{TypeError, TypeKind, is_record, is_same, refused};
+use c_decls::{TypeError, TypeKind, Typed, is_record, is_same, refused};
 use c_tree::Expr;
 use c_types::CType;
 use c_typing::unconverted;
@@ -122,6 +123,17 @@ fn fill_record(
     }
 }
 
+/// Why an expression is no place of a struct or union: an assignment has no value at all.
+fn not_whole(e: &Typed) -> TypeKind
+    ensures { result ≡ not_whole (plain_typed e.now) }
+{
+    if e.has_no_value() {
+        TypeKind::Operands
+    } else {
+        TypeKind::Assignment
+    }
+}
+
 /// A struct, union or array by an expression, which must be a place of this struct or union.
 pub(crate) fn whole(
     state: &mut Elaborator,
@@ -136,7 +148,7 @@ pub(crate) fn whole(
     opened(state, e)?;
     let found = found(state, e, ty)?;
     if !(found.typed.is_place && is_record(ty) && is_same(ty, &found.typed.ty)) {
-        return refused(TypeKind::Assignment, line);
+        return refused(not_whole(&found.typed), line);
     }
     fill_record(state, e, line, ty, offset, &found, target)
 }

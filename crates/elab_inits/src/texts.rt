@@ -4,8 +4,8 @@ ghost use Rattle.std.specs.Prelude.{◌≡◌, ◌+◌, IfOk, length, min, take}
 ghost use Rattle.c_types.specs.Types.{plain};
 ghost use Rattle.c_tree.specs.View.{literal_leaves};
 ghost use Rattle.c_tree.specs.StatementView.{expr_view};
-ghost use Rattle.c_decls.specs.Expressions.{joined};
-ghost use Rattle.c_decls.specs.Refusals.{Meets};
+ghost use Rattle.c_decls.specs.Expressions.{joined, string};
+ghost use Rattle.c_decls.specs.Refusals.{Meets, then};
 ghost use Rattle.elaboration.specs.Initializers as rules;
 ghost use Rattle.elab_inits.specs.PlainTarget.{plain_target};
 
@@ -14,7 +14,7 @@ use crate::targets::{Target, member_place};
 use c_decls::{TypeError, TypeKind, refused};
 use c_tree::Expr;
 use c_types::{CType, IntType};
-use c_typing::joined;
+use c_typing::{joined, string};
 use core_tree::{Atom, Start, StmKind};
 use elab_base::Elaborator;
 use elab_trees::opened;
@@ -81,9 +81,10 @@ pub(crate) fn fill_text(
     target: Target,
 ) -> Result<Target, TypeError>
     ensures { Meets (λ filled. (state.new, plain_target filled)) result
-        (rules.fill_text (expr_view e.now) line (joined (literal_leaves literals.now)) size offset (plain_target target) state.old) }
+        (then (string line (joined (literal_leaves literals.now))) (λ _. rules.fill_text (expr_view e.now) line (joined (literal_leaves literals.now)) size offset (plain_target target) state.old)) }
 {
     let bytes = joined(state.alloc(), literals)?;
+    string(state.alloc(), line, bytes.as_slice())?;
     match target {
         Target::Memory(at, mem) => {
             opened(state, e)?;

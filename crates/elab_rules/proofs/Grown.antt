@@ -18,7 +18,7 @@ use Rattle.hs_base.specs.Place.{block_size}
 use Rattle.c_decls.specs.declared.refusal.TypeKind.TheVariants.{StaticTooLarge}
 use Rattle.c_decls.specs.Named.{PlainNamed}
 use Rattle.c_decls.specs.Refusals.{Checked, then}
-use Rattle.c_decls.specs.Typed.{PlainTyped, Operand, Number, PointerTo, Neither, operand, is_record}
+use Rattle.c_decls.specs.Typed.{PlainTyped, Operand, Number, PointerTo, Neither, operand, is_record, is_void}
 use Rattle.c_decls.specs.Callees.{Callee, call, called, named, NoFunction}
 use Rattle.c_decls.specs.ScopeList.{found as declaration}
 use Rattle.c_decls.specs.TypeRules.{unary, address, binary}
@@ -26,14 +26,14 @@ use Rattle.c_decls.specs.PlaceRules.{cast, choice, dot, arrow, element, assigned
 use Rattle.c_decls.specs.TypeNames as names
 use Rattle.c_decls.specs.Expressions.{line_of, first_literal, joined, string, typed, typename}
 use Rattle.elaboration.specs.Context.{Piece, Code, Context, With, asked, told, new_label}
-use Rattle.elaboration.specs.Conversions.{Found, valued, valued_from, atom_in, tested, convert_to, convert, code_line}
+use Rattle.elaboration.specs.Conversions.{Found, valued, valued_from, atom_in, tested, convert_to, convert, code_line, unused}
 use Rattle.elaboration.specs.Calls.{Argument, types_of, rest_types, first_type, argument_from}
 use Rattle.elaboration.specs.Operations.{operator_of, working, change}
 use Rattle.elaboration.specs.Rules.{with_literal, indexed, dotted, pointed, applied, apply, before_number, left_operand, between, cast_to, and_then, and_ended, or_else, or_ended, choose, choose_first, chosen, type_ahead}
 use Rattle.elaboration.specs.Assignments.{record_assigned, scalar_assigned, old_value, change_place, changed_by, changed_answer, one_found, stepped}
-use Rattle.elaboration.specs.Expressions.{name_answer, literal_answer, unevaluated, address_answer, changing, callee, parameters, format_argument, is_printf, call_answer, callee_name, found, arguments}
+use Rattle.elaboration.specs.Expressions.{name_answer, literal_answer, unevaluated, address_answer, changing, callee, parameters, format_argument, is_printf, call_answer, callee_name, found, arguments, cast_operand}
 use Rattle.elab_rules.specs.Behind.{Behind, From}
-use Rattle.elab_rules.proofs.Growth.{one, Grown, then_grown, rule_grown, unless_grown, cond_from, read_from, convert_from, tested_from, write_from, before_from, combine_from, change_from, set_from, compare_from, chosen_from, call_from, argument_grown, valued_from_grown, valued_grown}
+use Rattle.elab_rules.proofs.Growth.{one, Grown, then_grown, rule_grown, unless_grown, cond_from, read_from, convert_from, tested_from, write_from, before_from, combine_from, change_from, set_from, compare_from, chosen_from, call_from, argument_grown, valued_from_grown, valued_grown, unused_grown}
 
 module _ (xs : List Piece) (line : ℕ) where
   pub literal_grown : (bytes : List ℕ) (c : Context) → From xs c → Grown xs (with_literal line bytes c)
@@ -145,6 +145,14 @@ module _ (xs : List Piece) where
   callee_grown kind at c answer h k =
       then_grown xs (valued (expr_tree kind at) answer) _ (valued_grown xs (expr_tree kind at) answer k) (λ d g. g)
 
+-- the operand of a cast
+pub operand_grown : (xs : List Piece) (type : PlainType) (tree : Tree) (answer : With Found) → Grown xs answer → Grown xs (cast_operand type tree answer)
+operand_grown xs type tree answer h = by (is_void type)
+  where
+    by : (test : Bool) → Grown xs (cond test (unused tree answer) (valued tree answer))
+    by true = unused_grown xs tree answer h
+    by false = valued_grown xs tree answer h
+
 -- `=` to a struct or a union, or to a scalar
 assigned_grown : (xs : List Piece) (line : ℕ) (is_one : Bool) (before : Code) (tree : Tree) (target : Found) (d : Context × Found) → Behind xs before.pieces → From xs d.0 → Grown xs (cond is_one (record_assigned line (line_of tree) target d) (scalar_assigned line before tree target d))
 assigned_grown xs line true before tree target d b h = record_grown xs line (line_of tree) target d h
@@ -189,7 +197,7 @@ mutual
   found_grown xs (e.SizeofType' p at at2 shape words declarator) line wanted c h =
       unevaluated_grown xs c (typed (expr_tree (e.SizeofType' p at at2 shape words declarator) line) (asked c)) h
   found_grown xs (e.Cast' p at at2 shape words declarator q at3 kind) line wanted c h =
-      rule_grown xs (typename (Node f.Typename (At at ▹ Node f.Specs (At at2 ▹ spec_trees words) ▹ declarator_tree declarator ▹ none)) (asked c)) _ (λ t. let g : From xs (told t.0 c) = record { more = h.more; is = h.is } in then_grown xs (valued (expr_tree kind at3) (found (expr_tree kind at3) t.1 (told t.0 c))) _ (valued_grown xs (expr_tree kind at3) (found (expr_tree kind at3) t.1 (told t.0 c)) (found_grown xs kind at3 t.1 (told t.0 c) g)) (λ d k. cast_grown xs line t.1 c.code d.0 d.1 h k))
+      rule_grown xs (typename (Node f.Typename (At at ▹ Node f.Specs (At at2 ▹ spec_trees words) ▹ declarator_tree declarator ▹ none)) (asked c)) _ (λ t. let g : From xs (told t.0 c) = record { more = h.more; is = h.is } in then_grown xs (cast_operand t.1 (expr_tree kind at3) (found (expr_tree kind at3) t.1 (told t.0 c))) _ (operand_grown xs t.1 (expr_tree kind at3) (found (expr_tree kind at3) t.1 (told t.0 c)) (found_grown xs kind at3 t.1 (told t.0 c) g)) (λ d k. cast_grown xs line t.1 c.code d.0 d.1 h k))
   found_grown xs (e.Binary' b.And p at kind q at2 kind2) line wanted c h =
       then_grown xs (valued (expr_tree kind at) (found (expr_tree kind at) Void c)) _ (valued_grown xs (expr_tree kind at) (found (expr_tree kind at) Void c) (found_grown xs kind at Void c h)) (λ d k. let begun = and_then line (expr_tree kind at) d in then_grown xs (valued (expr_tree kind2 at2) (found (expr_tree kind2 at2) Void begun)) _ (valued_grown xs (expr_tree kind2 at2) (found (expr_tree kind2 at2) Void begun) (found_grown xs kind2 at2 Void begun (and_then_from xs line (expr_tree kind at) d k))) (λ r g. and_ended_grown xs line (new_label d.0) (expr_tree kind2 at2) d.1 r g))
   found_grown xs (e.Binary' b.Or p at kind q at2 kind2) line wanted c h =
@@ -203,7 +211,7 @@ mutual
   found_grown xs (e.Assign' op p at kind q at2 kind2) line wanted c h =
       then_grown xs (changing (expr_tree kind at) (found (expr_tree kind at) Void c)) _ (changing_grown xs (expr_tree kind at) (found (expr_tree kind at) Void c) (found_grown xs kind at Void c h)) (λ d k. let old = old_value line d in then_grown xs (valued (expr_tree kind2 at2) (found (expr_tree kind2 at2) Void old.0)) _ (valued_grown xs (expr_tree kind2 at2) (found (expr_tree kind2 at2) Void old.0) (found_grown xs kind2 at2 Void old.0 (old_from xs line d k))) (λ r g. changed_grown xs line op false d.1 old.1 r g))
   found_grown xs (e.Comma' p at kind q at2 kind2) line wanted c h =
-      then_grown xs (valued (expr_tree kind at) (found (expr_tree kind at) Void c)) _ (valued_grown xs (expr_tree kind at) (found (expr_tree kind at) Void c) (found_grown xs kind at Void c h)) (λ d k. then_grown xs (valued (expr_tree kind2 at2) (found (expr_tree kind2 at2) Void d.0)) _ (valued_grown xs (expr_tree kind2 at2) (found (expr_tree kind2 at2) Void d.0) (found_grown xs kind2 at2 Void d.0 k)) (λ r g. g))
+      then_grown xs (unused (expr_tree kind at) (found (expr_tree kind at) Void c)) _ (unused_grown xs (expr_tree kind at) (found (expr_tree kind at) Void c) (found_grown xs kind at Void c h)) (λ d k. then_grown xs (unused (expr_tree kind2 at2) (found (expr_tree kind2 at2) Void d.0)) _ (unused_grown xs (expr_tree kind2 at2) (found (expr_tree kind2 at2) Void d.0) (found_grown xs kind2 at2 Void d.0 k)) (λ r g. g))
 
   pub arguments_grown : {m : _} (xs : List Piece) (line : ℕ) (target : Callee) (params : PlainTypes) (values : Row_of-Expr m) (c : Context) → From xs c → Grown xs (arguments line target params (expr_trees values) c)
   arguments_grown xs line target params end_of-Expr c h = h

@@ -16,15 +16,16 @@ use Rattle.c_tree.specs.Tree.{Tree}
 use Rattle.c_decls.specs.declared.built_in.BuiltIn.{BuiltIn}
 use Rattle.c_decls.specs.declared.built_in.BuiltIn.TheVariants as x
 use Rattle.c_decls.specs.declared.refusal.TypeKind.{TypeKind}
+use Rattle.c_decls.specs.declared.refusal.TypeKind.TheVariants.{Operands}
 use Rattle.c_decls.specs.Named as n
 use Rattle.c_decls.specs.Named.{PlainNamed}
 use Rattle.c_decls.specs.Refusals.{Checked, refused, then, unless}
-use Rattle.c_decls.specs.Typed.{PlainTyped, Operand, Number, PointerTo, Neither, operand, read}
+use Rattle.c_decls.specs.Typed.{PlainTyped, Operand, Number, PointerTo, Neither, operand, read, has_no_value}
 use Rattle.c_decls.specs.Expressions.{line_of}
 use Rattle.elab_base.specs.Marks.{mark_of, cut}
 use Rattle.elab_rules.specs.Behind.{Behind, From}
 use Rattle.elaboration.specs.Context.{Piece, Does, Here, Code, Context, With}
-use Rattle.elaboration.specs.Conversions.{Found, Spot, Local, Memory, Value, Empty, read_spot, valued_from, valued, convert_integer, convert_to, convert, tested, write, holds_all}
+use Rattle.elaboration.specs.Conversions.{Found, Spot, Local, Memory, Value, Empty, read_spot, valued_from, valued, convert_integer, convert_to, convert, tested, write, holds_all, unused, wanted_from}
 use Rattle.elaboration.specs.Operations.{Working, Calculates, Shifts, Compares, Branches, work, before_integer, move_pointer, between_pointers, pointer_beside, beside_integer, combine, change, working}
 use Rattle.elaboration.specs.Calls.{Argument, result_by, call_built_in, call_of_built_in, call_named, argument_from, built_in_at}
 use Rattle.elaboration.specs.Rules.{set_again, compare_again, chosen_by}
@@ -182,5 +183,15 @@ pub valued_from_grown : (xs : List Piece) (tree : Tree) (d : Context) (e : Found
 valued_from_grown xs tree d e h =
     rule_grown xs (read (line_of tree) d.tags e.typed) _ (λ typed. read_from xs _ e.typed.type e.spot d h)
 
+pub unused_grown : (xs : List Piece) (tree : Tree) (answer : With Found) → Grown xs answer → Grown xs (unused tree answer)
+unused_grown xs tree answer h = then_grown xs answer _ h (λ d k. valued_from_grown xs tree d.0 d.1 k)
+
+wanted_from_grown : (xs : List Piece) (tree : Tree) (d : Context) (e : Found) → From xs d → Grown xs (wanted_from tree d e)
+wanted_from_grown xs tree d e h = by (has_no_value e.typed)
+  where
+    by : (test : Bool) → Grown xs (unless test Operands (line_of tree) (valued_from tree d e))
+    by true = tt
+    by false = valued_from_grown xs tree d e h
+
 pub valued_grown : (xs : List Piece) (tree : Tree) (answer : With Found) → Grown xs answer → Grown xs (valued tree answer)
-valued_grown xs tree answer h = then_grown xs answer _ h (λ d k. valued_from_grown xs tree d.0 d.1 k)
+valued_grown xs tree answer h = then_grown xs answer _ h (λ d k. wanted_from_grown xs tree d.0 d.1 k)

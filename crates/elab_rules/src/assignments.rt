@@ -15,7 +15,7 @@ ghost use Rattle.elaboration.specs.Conversions.{Unknown, found_as, atom_of};
 ghost use Rattle.elaboration.specs.Assignments.{record_assigned, set_to, scalar_assigned, old_value, change_place, changed_by, stepped};
 
 use crate::copies::copied;
-use c_decls::{TypeError, Typed};
+use c_decls::{TypeError, Typed, line_of};
 use c_tree::{AssignOp, BinaryOp, Expr};
 use c_typing::{assigned, changed, held_place};
 use core_tree::{Atom, StmKind};
@@ -62,7 +62,6 @@ fn set_to(
 
 /// `=` to a scalar: the answer is the converted value (C99 6.5.16.1). The mark stands in front of the right side's code,
 /// which has grown since.
-#[tactic(auto, using(elab_base::proofs::Lines::line_of_expr))]
 pub fn scalar_assigned(
     state: &mut Elaborator,
     line: Line,
@@ -75,18 +74,17 @@ pub fn scalar_assigned(
 {
     let spot = target.spot;
     let copy = copied(state.alloc(), &e.typed)?;
-    let typed = assigned(line, tree.line, state.tags(), target.typed, copy)?;
+    let typed = assigned(line, line_of(tree), state.tags(), target.typed, copy)?;
     let value = state.valued_from(tree, e)?;
     Ok(set_to(state, line, before, typed, spot, &value)?)
 }
 
 /// What a place that is read and written holds must be a value (C99 6.3.2.1).
-#[tactic(auto, using(elab_base::proofs::Lines::line_of_expr))]
 pub fn changing(state: &Elaborator, tree: &Expr, found: Found) -> Result<Found, TypeError>
     ensures { Meets (λ same. plain_found same) result (then (held_place (line_of (expr_view tree.now)) state.now.tags (plain_typed found.typed)) (λ _. Ok (plain_found found))) }
 {
     let Found { typed, spot, fixed } = found;
-    let typed = held_place(tree.line, state.tags(), typed)?;
+    let typed = held_place(line_of(tree), state.tags(), typed)?;
     Ok(Found { typed, spot, fixed })
 }
 

@@ -12,12 +12,12 @@ ghost use Rattle.elaboration.specs.Context.{new_label};
 ghost use Rattle.elaboration.specs.Conversions.{Found as PlainFound, code_line, tested, tested_value};
 ghost use Rattle.elaboration.specs.Rules.{set_again, compare_again, and_then, and_ends, and_ended, or_else, or_ends, or_ended, chosen_by, choose_first, choose_last, choice_spot, chosen};
 
-use c_decls::{TypeError, Typed, binary};
+use c_decls::{TypeError, Typed, binary, line_of};
 use c_tree::{BinaryOp, Expr};
 use c_types::CType;
 use c_typing::choice;
 use core_tree::{Atom, CmpOp, StmKind};
-use elab_base::{Elaborator, Fixed, Found, Mark, Spot, code_line};
+use elab_base::{Elaborator, Fixed, Found, Mark, Spot};
 use hs_base::{Line, NoMemory};
 
 /// A label behind another.
@@ -36,7 +36,7 @@ pub(crate) fn tested_atom(
 ) -> Result<Atom, NoMemory>
     ensures { IfOk result (λ a. (state.new, a) ≡ tested (code_line (expr_view tree.now)) (plain ty.now) value state.old) }
 {
-    state.tested(code_line(tree), ty, value)
+    state.tested(line_of(tree), ty, value)
 }
 
 /// A value of that tree as an integer that is 0 or not.

@@ -10,7 +10,7 @@ ghost use Rattle.elab_base.specs.PlainFound.{plain_found};
 ghost use Rattle.elab_statements.specs.Held.{held};
 
 use crate::jumps::returned;
-use c_decls::{TypeError, TypeKind, is_scalar, is_void, refused};
+use c_decls::{TypeError, TypeKind, is_scalar, is_void, line_of, refused};
 use c_tree::Expr;
 use c_types::CType;
 use c_typing::unconverted;
@@ -18,7 +18,7 @@ use core_tree::{Atom, StmKind};
 use elab_base::{Elaborator, Found, Mark};
 use elab_rules::tested_value;
 use elab_trees::{closed, opened};
-use elab_values::value_of;
+use elab_values::{unused_of, value_of};
 use hs_base::Line;
 
 /// An expression as a statement: its value is not used (C99 6.8.3).
@@ -26,7 +26,7 @@ pub(crate) fn evaluated(state: &mut Elaborator, e: &Expr) -> Result<(), TypeErro
     ensures { Meets (λ _. state.new) result (evaluated (expr_view e.now) state.old) }
 {
     opened(state, e)?;
-    value_of(state, e, &CType::Void)?;
+    unused_of(state, e, &CType::Void)?;
     closed(state, e)?;
     Ok(())
 }
@@ -42,14 +42,13 @@ pub(crate) fn maybe_evaluated(state: &mut Elaborator, e: Option<&Expr>) -> Resul
 }
 
 /// A condition, as an integer that is 0 or not (C99 6.8.4.1, 6.8.5).
-#[tactic(auto, using(elab_base::proofs::Lines::line_of_expr))]
 fn condition(state: &mut Elaborator, e: &Expr) -> Result<Atom, TypeError>
     ensures { Meets (λ truth. (state.new, truth)) result (condition (expr_view e.now) state.old) }
 {
     opened(state, e)?;
     let found = value_of(state, e, &CType::Void)?;
     if !is_scalar(&found.typed.ty) {
-        return refused(TypeKind::Operands, e.line);
+        return refused(TypeKind::Operands, line_of(e));
     }
     let truth = tested_value(state, e, &found)?;
     closed(state, e)?;

@@ -9,7 +9,7 @@ ghost use Rattle.elab_statements.specs.Switches.{case_pieces, dispatch_of};
 ghost use Rattle.elab_statements.specs.PlainAround.{plain_around};
 
 use crate::around::Around;
-use c_decls::{TypeError, TypeKind, promoted, refused};
+use c_decls::{TypeError, TypeKind, line_of, promoted, refused};
 use c_tree::Expr;
 use c_types::{CType, IntType};
 use core_tree::{Atom, Stm, StmKind};
@@ -83,7 +83,6 @@ pub(crate) fn defaulted(
 }
 
 /// The operand of a switch: an integer, converted to its promoted type.
-#[tactic(auto, using(elab_base::proofs::Lines::line_of_expr))]
 pub(crate) fn switch_operand(
     state: &mut Elaborator,
     line: Line,
@@ -105,7 +104,7 @@ pub(crate) fn switch_operand(
         | CType::Array(_, _)
         | CType::Struct(_)
         | CType::Union(_)
-        | CType::Function(_) => refused(TypeKind::Operands, e.line),
+        | CType::Function(_) => refused(TypeKind::Operands, line_of(e)),
     }
 }
 

@@ -5,9 +5,10 @@ ghost use Rattle.c_tree.specs.StatementView.{expr_view};
 ghost use Rattle.elaboration.specs.Reallocates.{opened, closed};
 
 use crate::reallocating::reallocates;
+use c_decls::line_of;
 use c_tree::Expr;
 use core_tree::StmKind;
-use elab_base::{Elaborator, code_line};
+use elab_base::Elaborator;
 use hs_base::NoMemory;
 
 /// A full expression begins: its temporaries are numbered anew, and one that reallocates opens a scope.
@@ -20,7 +21,7 @@ pub fn opened(state: &mut Elaborator, e: &Expr) -> Result<(), NoMemory>
 {
     state.begin_expression();
     if reallocates(state.scopes(), e) {
-        state.emit(code_line(e), StmKind::Enter)?;
+        state.emit(line_of(e), StmKind::Enter)?;
     }
     Ok(())
 }
@@ -34,7 +35,7 @@ pub fn closed(state: &mut Elaborator, e: &Expr) -> Result<(), NoMemory>
     ensures { IfOk result (λ _. state.new ≡ closed (expr_view e.now) state.old) }
 {
     if reallocates(state.scopes(), e) {
-        state.emit(code_line(e), StmKind::Leave)?;
+        state.emit(line_of(e), StmKind::Leave)?;
     }
     Ok(())
 }

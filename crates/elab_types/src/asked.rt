@@ -12,7 +12,7 @@ ghost use Rattle.elaboration.specs.Context.{asked};
 ghost use Rattle.elaboration.specs.Declarators as plain;
 ghost use Rattle.elab_types.specs.Steps.{with_told, typed_in, wanted_in, array_layer};
 
-use c_decls::{Constant, Scopes, TypeError, Typed};
+use c_decls::{Constant, Scopes, TypeError, Typed, line_of};
 use c_tree::{Expr, Spec};
 use c_types::{CType, Tags};
 use c_typing as types;
@@ -32,32 +32,29 @@ pub fn typed(state: &mut Elaborator, e: &Expr) -> Result<Typed, TypeError>
 }
 
 /// An expression whose value is wanted.
-#[tactic(auto, using(elab_base::proofs::Lines::line_of_expr))]
 pub fn wanted(state: &mut Elaborator, e: &Expr) -> Result<Typed, TypeError>
     ensures { Meets (λ x. (state.new, plain_typed x)) result (wanted_in (expr_view e.now) state.old) }
 {
     let x = typed(state, e)?;
-    let value = x.read(e.line, state.tags())?;
+    let value = x.wanted_value(line_of(e), state.tags())?;
     Ok(value)
 }
 
 /// An expression that must be constant; it is gone through whole first (C99 6.6).
-#[tactic(auto, using(elab_base::proofs::Lines::line_of_expr))]
 pub fn constant(state: &mut Elaborator, e: &Expr) -> Result<Constant, TypeError>
     ensures { Meets (λ k. (state.new, k)) result (plain.constant (expr_view e.now) state.old) }
 {
     let x = wanted(state, e)?;
-    let constant = constant_from(e.line, &x)?;
+    let constant = constant_from(line_of(e), &x)?;
     Ok(constant)
 }
 
 /// The layer of an array whose length is given (C99 6.7.5.2).
-#[tactic(auto, using(elab_base::proofs::Lines::line_of_expr))]
 pub(crate) fn array_layer(state: &mut Elaborator, line: Line, e: &Expr) -> Result<Layer, TypeError>
     ensures { Meets (λ layer. (state.new, plain_layer layer)) result (array_layer line (expr_view e.now) state.old) }
 {
     let x = wanted(state, e)?;
-    let length = array_length(e.line, &x)?;
+    let length = array_length(line_of(e), &x)?;
     Ok(Layer::ArrayOf(line, Some(length)))
 }
 

@@ -219,7 +219,7 @@ fn suffix_layers(
 
 /// The layer of a suffix. The scope of a parameter list is kept for the body that may follow.
 #[cycle(walk)]
-#[tactic(auto, using(crate::proofs::Nodes::params_is, crate::proofs::Nodes::array_is), unfolding(elaboration::specs::Declarators::suffix_layer, c_tree::specs::View::suffix_tree, c_tree::specs::View::held_trees))]
+#[tactic(auto, using(crate::proofs::Nodes::params_is, crate::proofs::Nodes::array_is), unfolding(elaboration::specs::Declarators::suffix_layer, c_decls::specs::Expressions::line_of, c_tree::specs::View::suffix_tree, c_tree::specs::View::held_trees))]
 fn suffix_layer(state: &mut Elaborator, suffix: &Suffix) -> Result<Layer, TypeError>
     ensures { Meets (λ layer. (state.new, plain_layer layer)) result (plain.suffix_layer (suffix_view suffix.now) state.old) }
 {

@@ -22,13 +22,13 @@ use Rattle.elab_base.specs.Marks.{mark_of, cut}
 use Rattle.elab_values.specs.Arguments.{taken_argument}
 use Rattle.elab_values.specs.Forms.{between_values, changed_place}
 use Rattle.elab_values.specs.Told.{told_with}
-use Rattle.elab_values.proofs.Steps.{cut_value}
+use Rattle.elab_values.proofs.Steps.{cut_value, cut_operand}
 use Rattle.elaboration.specs.Context.{Code, Context, With, asked, told, new_label}
 use Rattle.elaboration.specs.Conversions.{Found, atom_in, convert}
 use Rattle.elaboration.specs.Calls.{Argument}
 use Rattle.elaboration.specs.Rules.{left_operand, between, cast_to, and_then, and_ended, or_else, or_ended, choose, type_ahead, choose_first, chosen}
 use Rattle.elaboration.specs.Assignments.{record_assigned, scalar_assigned, old_value, changed_by}
-use Rattle.elaboration.specs.Expressions.{found, value_of, changing}
+use Rattle.elaboration.specs.Expressions.{found, value_of, changing, cast_operand}
 
 -- what is refused stays refused
 pub refused_next : {A B V W : Type 0} (from : V → A) (to : W → B) (error : TypeError) (first : Checked A) (next : A → Checked B) →
@@ -124,23 +124,23 @@ module _ (line : ℕ) where
   -- a cast
 
   pub cast_second : (name e : Tree) (c k : Context) (type : PlainType) → told_with c (typename name (asked c)) ≡ Ok (k, type) →
-      found (Node f.Cast (At line ▹ name ▹ e ▹ none)) Void c ≡ then (value_of e type k) (λ d. cast_to line type c.code d.0 d.1)
+      found (Node f.Cast (At line ▹ name ▹ e ▹ none)) Void c ≡ then (cast_operand type e (found e type k)) (λ d. cast_to line type c.code d.0 d.1)
   unfolding found
   cast_second name e c k type named = by (typename name (asked c)) named
     where
       by : (answer : Checked (names.Context × PlainType)) → told_with c answer ≡ Ok (k, type) →
-          then answer (λ t. then (value_of e t.1 (told t.0 c)) (λ d. cast_to line t.1 c.code d.0 d.1)) ≡ then (value_of e type k) (λ d. cast_to line type c.code d.0 d.1)
+          then answer (λ t. then (cast_operand t.1 e (found e t.1 (told t.0 c))) (λ d. cast_to line t.1 c.code d.0 d.1)) ≡ then (cast_operand type e (found e type k)) (λ d. cast_to line type c.code d.0 d.1)
       by (Ok t) h =
           let same : (told t.0 c, t.1) ≡ (k, type) = cc in
-          ap (λ (t : Context × PlainType). then (value_of e t.1 t.0) (λ d. cast_to line t.1 c.code d.0 d.1)) same
+          ap (λ (t : Context × PlainType). then (cast_operand t.1 e (found e t.1 t.0)) (λ d. cast_to line t.1 c.code d.0 d.1)) same
       by (Err refusal) h = cc
 
   pub cast_last : (name : Tree) (kind : ExprKind) (at : ℕ) (m : Mark) (c k r : Context) (type : PlainType) (x : Found) →
-      m ≡ mark_of c.code → told_with c (typename name (asked c)) ≡ Ok (k, type) → value_of (expr_tree kind at) type k ≡ Ok (r, x) →
+      m ≡ mark_of c.code → told_with c (typename name (asked c)) ≡ Ok (k, type) → cast_operand type (expr_tree kind at) (found (expr_tree kind at) type k) ≡ Ok (r, x) →
       found (Node f.Cast (At line ▹ name ▹ expr_tree kind at ▹ none)) Void c ≡ cast_to line type (cut m r.code) r x
   cast_last name kind at m c k r type x marked named second =
       let kept : k.code ≡ c.code = told_code c k type (typename name (asked c)) named in
-      let back : cut m r.code ≡ c.code = cut_value kind at type m k r x (marked ∙ ap mark_of (sym kept)) second ∙ kept in
+      let back : cut m r.code ≡ c.code = cut_operand kind at type m k r x (marked ∙ ap mark_of (sym kept)) second ∙ kept in
       cast_second name (expr_tree kind at) c k type named
       ∙ ap (λ (w : With Found). then w (λ d. cast_to line type c.code d.0 d.1)) second
       ∙ ap (λ (code : Code). cast_to line type code r x) (sym back)
@@ -151,7 +151,7 @@ module _ (line : ℕ) where
   cast_refused name e c refusal named = by (typename name (asked c)) named
     where
       by : (answer : Checked (names.Context × PlainType)) → told_with c answer ≡ Err refusal →
-          then answer (λ t. then (value_of e t.1 (told t.0 c)) (λ d. cast_to line t.1 c.code d.0 d.1)) ≡ Err refusal
+          then answer (λ t. then (cast_operand t.1 e (found e t.1 (told t.0 c))) (λ d. cast_to line t.1 c.code d.0 d.1)) ≡ Err refusal
       by (Ok t) h = cc
       by (Err other) h = let same : other ≡ refusal = cc in ap (λ (k : Refusal). let all : With Found = Err k in all) same
 

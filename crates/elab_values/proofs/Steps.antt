@@ -23,12 +23,12 @@ use Rattle.elab_base.specs.declared.code.Mark.{Mark}
 use Rattle.elab_base.specs.Marks.{mark_of, cut}
 use Rattle.elab_rules.specs.Behind.{Behind, From}
 use Rattle.elab_rules.proofs.Growth.{Grown, none_behind, cut_back, valued_grown}
-use Rattle.elab_rules.proofs.Grown.{found_grown}
+use Rattle.elab_rules.proofs.Grown.{found_grown, operand_grown}
 use Rattle.elab_values.specs.Forms.{before_value, between_values, changed_place}
 use Rattle.c_decls.specs.Expressions.{typed}
 use Rattle.elaboration.specs.Context.{Context, With, asked}
-use Rattle.elaboration.specs.Conversions.{Found, valued}
-use Rattle.elaboration.specs.Expressions.{found, value_of, callee, callee_name, comma_answer, unevaluated}
+use Rattle.elaboration.specs.Conversions.{Found, valued, unused}
+use Rattle.elaboration.specs.Expressions.{found, value_of, callee, callee_name, comma_answer, unevaluated, cast_operand}
 
 -- code
 
@@ -46,6 +46,16 @@ cut_value kind line wanted m c d e marked is =
     let h : From c.code.pieces d =
     subst P is (valued_grown c.code.pieces (expr_tree kind line) (found (expr_tree kind line) wanted c)
     (found_grown c.code.pieces kind line wanted c (none_behind c.code.pieces))) in
+    ap (λ n. cut n d.code) marked ∙ cut_back c.code d.code h
+
+-- the code in front of the operand of a cast
+pub cut_operand : (kind : ExprKind) (line : ℕ) (type : PlainType) (m : Mark) (c d : Context) (e : Found) → m ≡ mark_of c.code →
+    cast_operand type (expr_tree kind line) (found (expr_tree kind line) type c) ≡ Ok (d, e) → cut m d.code ≡ c.code
+cut_operand kind line type m c d e marked is =
+    let P : With Found → Type 0 = λ w. Grown c.code.pieces w in
+    let h : From c.code.pieces d =
+    subst P is (operand_grown c.code.pieces type (expr_tree kind line) (found (expr_tree kind line) type c)
+    (found_grown c.code.pieces kind line type c (none_behind c.code.pieces))) in
     ap (λ n. cut n d.code) marked ∙ cut_back c.code d.code h
 
 -- forms
@@ -76,12 +86,12 @@ index_is kind p q e g line wanted c h first second =
     ∙ ap (λ (u : Expr). found (Node f.Index (At line ▹ expr_view e ▹ expr_view u ▹ none)) Void c) (sym second)
 
 abbrev commas : Tree → Tree → Context → With Found
-commas e g c = then (value_of e Void c) (λ d. then (value_of g Void d.0) (λ r. Ok (comma_answer r)))
+commas e g c = then (unused e (found e Void c)) (λ d. then (unused g (found g Void d.0)) (λ r. Ok (comma_answer r)))
 
 pub comma_is : (kind : ExprKind) (p q : Box Expr Global) (e g : Expr) (line : ℕ) (wanted : PlainType) (c : Context) →
     kind ≡ x.Comma p q → e ≡ p.value → g ≡ q.value →
     found (expr_tree kind line) wanted c
-    ≡ then (value_of (expr_view e) Void c) (λ d. then (value_of (expr_view g) Void d.0) (λ r. Ok (comma_answer r)))
+    ≡ then (unused (expr_view e) (found (expr_view e) Void c)) (λ d. then (unused (expr_view g) (found (expr_view g) Void d.0)) (λ r. Ok (comma_answer r)))
 unfolding found expr_tree
 comma_is kind p q e g line wanted c h first second =
     ap (λ (k : ExprKind). found (expr_tree k line) wanted c) h

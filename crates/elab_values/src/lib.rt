@@ -1,7 +1,7 @@
 //! The walk of elaboration over expressions (C99 6.5).
 //!
 //! [`found`] adds the code of an expression to the state and answers what it is: a place, or a value where it is none, or
-//! its first refusal; [`value_of`] answers its value. The parts are gone through from left to right, and the whole after
+//! its first refusal; [`value_of`] answers its value, and [`unused_of`] evaluates it without wanting one. The parts are gone through from left to right, and the whole after
 //! its parts, by the rules of `elab_rules`. Where the code of one part hangs on the type of a part behind it, this type
 //! is asked for ahead, from scopes and tags that are only lent.
 #![tactic(auto)]
@@ -12,4 +12,4 @@ mod leaves;
 mod types;
 mod walk;
 
-pub use walk::{found, value_of};
+pub use walk::{found, unused_of, value_of};

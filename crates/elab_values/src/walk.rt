@@ -17,13 +17,14 @@ ghost use Rattle.elab_operators.specs.PlainArguments.{plain_argument};
 ghost use Rattle.elab_values.specs.Arguments.{target_at, types_from, argument, loose_argument, printed_argument, taken_argument};
 ghost use Rattle.elab_values.specs.Forms.{before_value, between_values, changed_place};
 ghost use Rattle.elaboration.specs.Assignments.{stepped};
-ghost use Rattle.elaboration.specs.Expressions.{found, arguments, value_of, callee, changing, comma_answer, parameters};
+ghost use Rattle.elaboration.specs.Conversions.{unused};
+ghost use Rattle.elaboration.specs.Expressions.{found, arguments, value_of, callee, cast_operand, changing, comma_answer, parameters};
 
 use crate::ahead::{left_operand, type_ahead};
 use crate::calls::{call_answer, called_name, format_typed};
 use crate::leaves::{character, integer, literal, name};
 use crate::types::{typename, unevaluated};
-use c_decls::{TypeError, is_record};
+use c_decls::{TypeError, is_record, is_void, line_of};
 use c_tree::{AssignOp, BinaryOp, Expr, ExprKind, TypeName, UnaryOp};
 use c_types::{CType, Signature};
 use c_typing::{Callee, behind_comma, called};
@@ -84,7 +85,33 @@ pub fn value_of(state: &mut Elaborator, tree: &Expr, wanted: &CType) -> Result<F
     ensures { Meets (λ e. (state.new, plain_found e)) result (value_of (expr_view tree.now) (plain wanted.now) state.old) }
 {
     let e = found(state, tree, wanted)?;
+    state.wanted_from(tree, e)
+}
+
+/// An expression whose value is not used, in a full expression that has begun: an assignment to a struct or a union may
+/// stand there.
+///
+/// # Errors
+///
+/// As [`found`].
+#[cycle(walk)]
+pub fn unused_of(state: &mut Elaborator, tree: &Expr, wanted: &CType) -> Result<Found, TypeError>
+    ensures { Meets (λ e. (state.new, plain_found e)) result (unused (expr_view tree.now) (found (expr_view tree.now) (plain wanted.now) state.old)) }
+{
+    let e = found(state, tree, wanted)?;
     state.valued_from(tree, e)
+}
+
+/// The operand of a cast to a type; to void no value is used (C99 6.5.4).
+#[cycle(walk)]
+fn cast_operand(state: &mut Elaborator, ty: &CType, tree: &Expr) -> Result<Found, TypeError>
+    ensures { Meets (λ e. (state.new, plain_found e)) result (cast_operand (plain ty.now) (expr_view tree.now) (found (expr_view tree.now) (plain ty.now) state.old)) }
+{
+    if is_void(ty) {
+        unused_of(state, tree, ty)
+    } else {
+        value_of(state, tree, ty)
+    }
 }
 
 /// An operand that is read and written.
@@ -215,7 +242,7 @@ fn cast(state: &mut Elaborator, line: Line, ty: &TypeName, e: &Expr) -> Result<F
 {
     let before = state.mark();
     let ty = typename(state, ty)?;
-    let x = value_of(state, e, &ty)?;
+    let x = cast_operand(state, &ty, e)?;
     cast_to(state, line, ty, before, x)
 }
 
@@ -296,7 +323,7 @@ fn assign(state: &mut Elaborator, line: Line, e: &Expr, g: &Expr) -> Result<Foun
     let before = state.mark();
     let y = found(state, g, &target.typed.ty)?;
     if is_record(&target.typed.ty) {
-        record_assigned(state, line, g.line, target, y)
+        record_assigned(state, line, line_of(g), target, y)
     } else {
         scalar_assigned(state, line, before, g, target, y)
     }
@@ -322,10 +349,10 @@ fn change(
 /// `e, g` (C99 6.5.17)
 #[cycle(walk)]
 fn comma(state: &mut Elaborator, e: &Expr, g: &Expr) -> Result<Found, TypeError>
-    ensures { Meets (λ whole. (state.new, plain_found whole)) result (then (value_of (expr_view e.now) Void state.old) (λ d. then (value_of (expr_view g.now) Void d.0) (λ r. Ok (comma_answer r)))) }
+    ensures { Meets (λ whole. (state.new, plain_found whole)) result (then (unused (expr_view e.now) (found (expr_view e.now) Void state.old)) (λ d. then (unused (expr_view g.now) (found (expr_view g.now) Void d.0)) (λ r. Ok (comma_answer r)))) }
 {
-    value_of(state, e, &CType::Void)?;
-    let last = value_of(state, g, &CType::Void)?;
+    unused_of(state, e, &CType::Void)?;
+    let last = unused_of(state, g, &CType::Void)?;
     Ok(Found {
         typed: behind_comma(last.typed),
         spot: last.spot,

@@ -9,10 +9,10 @@ use Rattle.c_types.specs.TagTable.{size_in}
 use Rattle.core_tree.specs.declared.statements.Atom.{Atom}
 use Rattle.core_tree.specs.declared.statements.Atom.TheVariants as atom
 use Rattle.core_tree.specs.declared.statements.StmKind.TheVariants.{Set, Conv, Load, Loadp, Store, Storep, Test}
-use Rattle.c_tree.specs.Forms as f
-use Rattle.c_tree.specs.Tree.{Tree, At, Node, none, ◌▹◌}
-use Rattle.c_decls.specs.Refusals.{then}
-use Rattle.c_decls.specs.Typed.{PlainTyped, Operand, Number, PointerTo, operand, read}
+use Rattle.c_tree.specs.Tree.{Tree}
+use Rattle.c_decls.specs.declared.refusal.TypeKind.TheVariants.{Operands}
+use Rattle.c_decls.specs.Refusals.{then, unless}
+use Rattle.c_decls.specs.Typed.{PlainTyped, Operand, Number, PointerTo, operand, read, has_no_value}
 use Rattle.c_decls.specs.Expressions.{line_of}
 use Rattle.elaboration.specs.Context.{Code, Context, With, emit, integer_by, pointer_by}
 
@@ -50,9 +50,8 @@ atom_of (Memory address) = address
 atom_of (Value value) = value
 atom_of Empty = atom.Null
 
--- the line of an expression, which parentheses do not give
-unfoldable pub code_line : Tree → ℕ
-code_line (Node f.Paren (At line ▹ e ▹ none)) = code_line e
+-- the line of an expression's code
+abbrev pub code_line : Tree → ℕ
 code_line e = line_of e
 
 -- reading
@@ -74,13 +73,21 @@ abbrev pub read_value : PlainTyped → Found → Context × Atom → Context × 
 read_value typed e d =
     (d.0, found_as typed (Value d.1) (cond e.typed.is_place (read_fixed e.typed.type e.fixed) e.fixed))
 
--- V: the value of an expression
+-- V: an expression that is evaluated
 abbrev pub valued_from : Tree → Context → Found → With Found
 valued_from tree c e =
     then (read (line_of tree) c.tags e.typed) (λ typed. Ok (read_value typed e (read_spot (code_line tree) e.typed.type e.spot c)))
 
+-- V where no value is used: an assignment to a struct or a union may stand there
+abbrev pub unused : Tree → With Found → With Found
+unused tree answer = then answer (λ d. valued_from tree d.0 d.1)
+
+-- V where a value is wanted
+abbrev pub wanted_from : Tree → Context → Found → With Found
+wanted_from tree c e = unless (has_no_value e.typed) Operands (line_of tree) (valued_from tree c e)
+
 abbrev pub valued : Tree → With Found → With Found
-valued tree answer = then answer (λ d. valued_from tree d.0 d.1)
+valued tree answer = then answer (λ d. wanted_from tree d.0 d.1)
 
 abbrev pub atom_in : Found → Atom
 atom_in e = atom_of e.spot

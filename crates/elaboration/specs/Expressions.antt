@@ -13,14 +13,14 @@ use Rattle.c_decls.specs.declared.refusal.TypeKind.TheVariants.{Operands}
 use Rattle.c_decls.specs.Refusals.{Checked, refused, then}
 use Rattle.c_decls.specs.ScopeList.{found as declaration}
 use Rattle.c_decls.specs.Named.{PlainNamed}
-use Rattle.c_decls.specs.Typed.{PlainTyped, is_record, constant}
+use Rattle.c_decls.specs.Typed.{PlainTyped, is_void, is_record, constant}
 use Rattle.c_decls.specs.TypeRules.{address}
 use Rattle.c_decls.specs.PlaceRules.{behind_comma, held_place}
 use Rattle.c_decls.specs.Callees.{Callee, Takes, Prints, NoFunction, named, called, call}
 use Rattle.c_decls.specs.TypeNames as names
 use Rattle.c_decls.specs.Expressions.{line_of, int_constant, char_constant, joined, string, literal, first_literal, typed, typename}
 use Rattle.elaboration.specs.Context.{Context, With, asked, told, new_label}
-use Rattle.elaboration.specs.Conversions.{Found, Value, Unknown, found_as, valued_as, atom_in, valued}
+use Rattle.elaboration.specs.Conversions.{Found, Value, Unknown, found_as, valued_as, atom_in, unused, valued}
 use Rattle.elaboration.specs.Calls.{Argument, types_of, first_type, rest_types, argument_from, call_named}
 use Rattle.elaboration.specs.Rules.{constant_found, name_found, is_inner, with_literal, literal_found, indexed, dotted, pointed, applied, left_operand, between, cast_to, and_then, and_ended, or_else, or_ended, choose, type_ahead, choose_first, chosen}
 use Rattle.elaboration.specs.Assignments.{record_assigned, scalar_assigned, old_value, changed_by, stepped}
@@ -47,6 +47,10 @@ address_answer line c e = then (address line e.typed) (λ type. Ok (c, found_as 
 abbrev pub changing : Tree → With Found → With Found
 changing tree answer =
     then answer (λ d. then (held_place (line_of tree) d.0.tags d.1.typed) (λ held. Ok d))
+
+-- the operand of a cast, which to void uses no value (C99 6.5.4)
+abbrev pub cast_operand : PlainType → Tree → With Found → With Found
+cast_operand type tree answer = cond (is_void type) (unused tree answer) (valued tree answer)
 
 -- the right side of a comma (C99 6.5.17)
 abbrev pub comma_answer : Context × Found → Context × Found
@@ -120,7 +124,7 @@ unfoldable mutual
   found (Node f.SizeofType (At line ▹ name ▹ none)) wanted c =
       unevaluated c (typed (Node f.SizeofType (At line ▹ name ▹ none)) (asked c))
   found (Node f.Cast (At line ▹ name ▹ e ▹ none)) wanted c =
-      then (typename name (asked c)) (λ t. then (valued e (found e t.1 (told t.0 c))) (λ d. cast_to line t.1 c.code d.0 d.1))
+      then (typename name (asked c)) (λ t. then (cast_operand t.1 e (found e t.1 (told t.0 c))) (λ d. cast_to line t.1 c.code d.0 d.1))
   found (Node (f.Binary b.And) (At line ▹ e ▹ g ▹ none)) wanted c =
       then (valued e (found e Void c)) (λ d. let begun = and_then line e d in then (valued g (found g Void begun)) (λ r. and_ended line (new_label d.0) g d.1 r))
   found (Node (f.Binary b.Or) (At line ▹ e ▹ g ▹ none)) wanted c =
@@ -134,7 +138,7 @@ unfoldable mutual
   found (Node (f.Assign op) (At line ▹ e ▹ g ▹ none)) wanted c =
       then (changing e (found e Void c)) (λ d. let old = old_value line d in then (valued g (found g Void old.0)) (λ r. changed_by line op false d.1 old.1 r))
   found (Node f.Comma (At line ▹ e ▹ g ▹ none)) wanted c =
-      then (valued e (found e Void c)) (λ d. then (valued g (found g Void d.0)) (λ r. Ok (comma_answer r)))
+      then (unused e (found e Void c)) (λ d. then (unused g (found g Void d.0)) (λ r. Ok (comma_answer r)))
   found tree wanted c = refused Operands (line_of tree)
 
   -- arguments in turn: V, and C to the type of the parameter

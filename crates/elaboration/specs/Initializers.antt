@@ -11,14 +11,15 @@ use Rattle.core_tree.specs.declared.statements.Atom.TheVariants as atom
 use Rattle.core_tree.specs.declared.statements.StmKind.TheVariants.{Off, Copy}
 use Rattle.c_tree.specs.Forms as f
 use Rattle.c_tree.specs.Tree.{Tree, Trees, At, Node, none, ◌▹◌, count}
+use Rattle.c_decls.specs.declared.refusal.TypeKind.{TypeKind}
 use Rattle.c_decls.specs.declared.refusal.TypeKind.TheVariants.{Assignment, NotConstant, Operands}
 use Rattle.c_decls.specs.Refusals.{Checked, refused, then, unless}
 use Rattle.c_decls.specs.declared.typed.Folded.{Folded}
 use Rattle.c_decls.specs.declared.typed.Folded.TheVariants.{Is}
-use Rattle.c_decls.specs.Typed.{PlainTyped, same, is_record, is_null_constant}
+use Rattle.c_decls.specs.Typed.{PlainTyped, same, is_record, is_null_constant, has_no_value}
 use Rattle.c_decls.specs.TypeNames.{Layer, ArrayOf, layered, layered_before}
 use Rattle.c_decls.specs.PlaceRules.{converts}
-use Rattle.c_decls.specs.Expressions.{line_of, joined}
+use Rattle.c_decls.specs.Expressions.{line_of, joined, string}
 use Rattle.elaboration.specs.Context.{Code, Context, With, emit, pointer_by}
 use Rattle.elaboration.specs.Conversions.{Found, Local, Memory, Fixed, Unknown, Nowhere, Inside, atom_in, valued, convert, write, size_or_zero}
 use Rattle.elaboration.specs.Reallocates.{opened, closed}
@@ -118,10 +119,14 @@ fill_record e line type offset d target = refused NotConstant line
 abbrev pub is_same_place : PlainType → PlainTyped → Bool
 is_same_place type e = e.is_place && is_record type && same type e.type
 
+-- why an expression is none: an assignment has no value at all
+abbrev pub not_whole : PlainTyped → TypeKind
+not_whole e = cond (has_no_value e) Operands Assignment
+
 -- a struct, union or array by an expression: it must be a place of this struct or union
 abbrev pub whole : Tree → ℕ → PlainType → ℕ → Target → Context → Filled
 whole e line type offset target c =
-    then (found e type (opened e c)) (λ d. unless (not (is_same_place type d.1.typed)) Assignment line (fill_record e line type offset d target))
+    then (found e type (opened e c)) (λ d. unless (not (is_same_place type d.1.typed)) (not_whole d.1.typed) line (fill_record e line type offset d target))
 
 -- a string for an array of a character type, cut to its length: `copy p gK n` of a local
 abbrev pub copy_text : ℕ → ℕ → ℕ → ℕ → Context × ℕ → Filled
@@ -150,7 +155,7 @@ text e = None
 abbrev pub by_text : Tree → ℕ → PlainType → ℕ → ℕ → Option (List ℕ) → Target → Context → Filled
 by_text e line element size offset None target c = whole e line (Array element size) offset target c
 by_text e line element size offset (Some bytes) target c =
-    cond (is_character element) (fill_text e line bytes size offset target c)
+    cond (is_character element) (then (string line bytes) (λ literal. fill_text e line bytes size offset target c))
     (whole e line (Array element size) offset target c)
 
 abbrev pub by_expression : Tree → ℕ → PlainType → ℕ → Target → Context → Filled
@@ -203,7 +208,8 @@ unfoldable mutual
 unfoldable mutual
   -- an initializer for a type at an offset of what is initialized; whether it stands in the braces of a scalar
   pub initialize : Tree → Bool → PlainType → ℕ → Target → Context → Filled
-  initialize (Node f.InitExpr (At line ▹ e ▹ none)) in_scalar type offset target c = by_expression e line type offset target c
+  initialize (Node f.InitExpr (At line ▹ e ▹ none)) in_scalar type offset target c =
+      by_expression e (line_of e) type offset target c
   initialize (Node (f.InitList trailing) (At line ▹ Node f.Inits inits ▹ none)) in_scalar type offset target c =
       cond (takes_braces type in_scalar)
       (initialize_parts line inits (is_scalar_type type) (parts_of c (count inits) type offset) target c)
@@ -220,19 +226,20 @@ unfoldable mutual
 
 -- lengths
 
--- the length that an initializer gives to an array: so many as stand in its braces, or the bytes of a string with its zero
-abbrev pub text_length : Option (List ℕ) → Option ℕ
-text_length None = None
-text_length (Some bytes) = Some (length bytes + 1)
+-- the length that an initializer gives to an array: so many as stand in its braces, or for characters the bytes of a string
+-- with its zero; any other expression is refused where it is gone through, so its length is of no matter
+abbrev pub text_length : PlainType → Option (List ℕ) → ℕ
+text_length element None = 1
+text_length element (Some bytes) = cond (is_character element) (length bytes + 1) 1
 
-abbrev pub given_length : Trees → Option ℕ
-given_length (Node f.InitExpr (At line ▹ e ▹ none) ▹ none) = text_length (text e)
-given_length (Node (f.InitList trailing) (At line ▹ Node f.Inits inits ▹ none) ▹ none) = Some (count inits)
-given_length inits = None
+abbrev pub given_length : PlainType → Trees → Option ℕ
+given_length element (Node f.InitExpr (At line ▹ e ▹ none) ▹ none) = Some (text_length element (text e))
+given_length element (Node (f.InitList trailing) (At line ▹ Node f.Inits inits ▹ none) ▹ none) = Some (count inits)
+given_length element inits = None
 
 -- a type with layers, whose array next to the name may take its length from the initializer
 abbrev pub with_init_layers : TagTable → List Layer → Trees → PlainType → Checked PlainType
 with_init_layers tags [] inits type = Ok type
-with_init_layers tags (ArrayOf line None ∷ []) inits type = layered tags (ArrayOf line (given_length inits)) type
+with_init_layers tags (ArrayOf line None ∷ []) inits type = layered tags (ArrayOf line (given_length type inits)) type
 with_init_layers tags (layer ∷ layers) inits type =
     then (layered_before tags layer layers type) (λ inner. with_init_layers tags layers inits inner)

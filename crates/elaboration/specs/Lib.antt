@@ -15,4 +15,3 @@ pub mod Statements
 pub mod Externals
 pub mod Resolving
 pub mod Elaboration
-pub mod Built

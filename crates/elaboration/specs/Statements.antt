@@ -17,7 +17,7 @@ use Rattle.c_decls.specs.Typed.{Operand, Number, operand, is_void, is_scalar}
 use Rattle.c_decls.specs.PlaceRules.{converts}
 use Rattle.c_decls.specs.Expressions.{line_of}
 use Rattle.elaboration.specs.Context.{Piece, Does, Here, Code, Context, With, scoped, emit, here, new_label, with_labels, with_pieces}
-use Rattle.elaboration.specs.Conversions.{Found, atom_in, valued, convert, convert_integer, tested_value}
+use Rattle.elaboration.specs.Conversions.{Found, atom_in, unused, valued, convert, convert_integer, tested_value}
 use Rattle.elaboration.specs.Reallocates.{opened, closed}
 use Rattle.elaboration.specs.Expressions.{found}
 use Rattle.elaboration.specs.Declarators.{constant}
@@ -64,7 +64,7 @@ leave_to line delays (Some exit) c = Ok (emit line (Jump exit.0) (leaves line (d
 
 -- an expression as a statement: its value is not used (C99 6.8.3)
 abbrev pub evaluated : Tree → Context → Checked Context
-evaluated e c = then (valued e (found e Void (opened e c))) (λ d. Ok (closed e d.0))
+evaluated e c = then (unused e (found e Void (opened e c))) (λ d. Ok (closed e d.0))
 
 abbrev pub maybe_evaluated : Trees → Context → Checked Context
 maybe_evaluated none c = Ok c

@@ -11,7 +11,6 @@
 //!   `specs/Declarations.antt` local and file-scope names.
 //! - `specs/Addressed.antt` says which locals are objects in memory because their address is taken.
 //! - `specs/Statements.antt` has the statements, and `specs/Externals.antt` functions and texts.
-//! - `specs/Built.antt` says which texts declare types alone, beside a small `main`.
 //!
 //! `proofs/Rows.antt` has texts whose core or refusal was worked out by hand. The kinds of refusals are those of `c_decls`.
 //! The crate has definitions alone; `core_soundness` has laws of every core that a text has.

@@ -83,7 +83,7 @@ fn lists(rt: HostRuntime) -> Result<(), Fail> {
 #[test]
 fn texts_that_are_refused(rt: HostRuntime) -> Result<(), Fail> {
     let alloc = rt.alloc();
-    let rows: [(&[u8], &[u8]); 19] = [
+    let rows: [(&[u8], &[u8]); 30] = [
         (
             b"int main(void){\nreturn j;\n}",
             b"a.c:2: type: undeclared\n  return j;\n",
@@ -156,6 +156,50 @@ fn texts_that_are_refused(rt: HostRuntime) -> Result<(), Fail> {
         (
             b"char a[67108864];\nint main(void){return 0;}",
             b"a.c:1: type: static too large\n  char a[67108864];\n",
+        ),
+        (
+            b"struct s{int i;}s,t;\nint h(int a,int b){return a;}\nint main(void){\nh(s=t,zz);\nreturn 0;}",
+            b"a.c:4: type: operands\n  h(s=t,zz);\n",
+        ),
+        (
+            b"struct s{int i;}s,t;int x;\nint main(void){\nx=(\ns=t);\nreturn 0;}",
+            b"a.c:4: type: operands\n  s=t);\n",
+        ),
+        (
+            b"struct s{int i;}s,t,u;\nint main(void){\ns=\nt=u;\nreturn 0;}",
+            b"a.c:3: type: operands\n  s=\n",
+        ),
+        (
+            b"int *p;\nint main(void){int x=(\np);\nreturn 0;}",
+            b"a.c:3: type: pointer and integer\n  p);\n",
+        ),
+        (
+            b"int main(void){\nchar a[]=(\n\"abc\");\nreturn 0;}",
+            b"a.c:3: type: assignment\n  \"abc\");\n",
+        ),
+        (
+            b"int main(void){\nint a[]=zz;\nreturn 0;}",
+            b"a.c:2: type: undeclared\n  int a[]=zz;\n",
+        ),
+        (
+            b"int x={\n{\n1}};\nint main(void){return 0;}",
+            b"a.c:2: type: assignment\n  {\n",
+        ),
+        (
+            b"int *p;int main(void){\nint x={p,zz};\nreturn 0;}",
+            b"a.c:2: type: pointer and integer\n  int x={p,zz};\n",
+        ),
+        (
+            b"int x;int a[2]={\n1,\nx};\nint main(void){return 0;}",
+            b"a.c:3: type: not constant\n  x};\n",
+        ),
+        (
+            b"int *p;int main(void){switch(\n(\np)){}return 0;}",
+            b"a.c:3: type: operands\n  p)){}return 0;}\n",
+        ),
+        (
+            b"struct s{int i;}s;int main(void){\ns+=zz;\nreturn 0;}",
+            b"a.c:2: type: operands\n  s+=zz;\n",
         ),
     ];
     for (text, said) in rows {

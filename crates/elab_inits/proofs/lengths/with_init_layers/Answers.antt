@@ -5,7 +5,7 @@ use Rattle.c_decls.specs.Refusals.{Checked, Meets}
 use Rattle.c_decls.specs.TypeNames.{with_layers}
 use Rattle.c_typing.specs.declared.layers.Layer.{Layer}
 use Rattle.c_typing.specs.Layers.{plain_layer, plain_layers}
-use Rattle.elab_inits.specs.GivenLengths.{held, with_given}
+use Rattle.elab_inits.specs.GivenLengths.{held, given_behind, with_given}
 use Rattle.std.specs.Prelude.{option_copied}
 use Rattle.elab_inits.proofs.GivenLengths.{given_set, no_layers}
 use Rattle.elab_inits.proofs.lengths.with_init_layers.Goals as goal
@@ -20,7 +20,7 @@ returns c =
       | in-Some w ↦
           subst (λ (whole : Checked PlainType). Meets plain c.with_layers.result whole)
           (sym (given_set tags inits c.args.layers.items w.in-Some.layer.now w.give_length.new.layer base w.in-Some.ensures.item.3.0 w.in-Some.ensures.value
-          (w.give_length.ensures ∙ ap (λ (g : Option ℕ). with_given g (plain_layer w.in-Some.layer.now)) c.in_ok-given.ensures)
+          (w.give_length.ensures ∙ ap (λ (g : Option ℕ). with_given g (plain_layer w.in-Some.layer.now)) (c.in_ok-given.ensures ∙ ap (λ (n : ℕ). given_behind n base inits) c.len.ensures))
           ∙ ap (λ (v : Vec Layer Global). with_layers tags (plain_layers v.items) base) (sym w.layers-is)))
           c.with_layers.ensures
       | in_default w ↦

@@ -183,7 +183,7 @@ pub cast-returns : goal.cast-returns
 cast-returns t c =
     meets_by _ _ _ _
     (cast_last c.args.line (typename_view c.args.ty.now) c.args.e.now.kind c.args.e.now.line c.mark-before.result
-    c.args.state.now c.typename.new.state c.value_of.new.state (plain c.in_ok-ty.ty) (plain_found c.in_ok-x.x)
+    c.args.state.now c.typename.new.state c.cast_operand.new.state (plain c.in_ok-ty.ty) (plain_found c.in_ok-x.x)
     c.mark-before.ensures c.in_ok-ty.ensures c.in_ok-x.ensures)
     c.cast_to.ensures
 

@@ -14,6 +14,9 @@ decreases-found l = 8 * size-Expr l.tree.now
 abbrev pub decreases-value_of : goal.decreases-value_of
 decreases-value_of l = 8 * size-Expr l.tree.now + 1
 
+abbrev pub decreases-unused_of : goal.decreases-unused_of
+decreases-unused_of l = 8 * size-Expr l.tree.now + 1
+
 abbrev pub decreases-place_of : goal.decreases-place_of
 decreases-place_of l = 8 * size-Expr l.tree.now + 1
 
@@ -45,7 +48,10 @@ abbrev pub decreases-unary : goal.decreases-unary
 decreases-unary l = 8 * size-Expr l.e.now + 2
 
 abbrev pub decreases-cast : goal.decreases-cast
-decreases-cast l = 8 * size-Expr l.e.now + 2
+decreases-cast l = 8 * size-Expr l.e.now + 3
+
+abbrev pub decreases-cast_operand : goal.decreases-cast_operand
+decreases-cast_operand l = 8 * size-Expr l.tree.now + 2
 
 abbrev pub decreases-and : goal.decreases-and
 decreases-and l = 8 * max (size-Expr l.e.now) (size-Expr l.g.now) + 2

@@ -1,4 +1,4 @@
-use Rattle.std.proofs.Common.{◌≡◌, ◌∙◌, ◌++◌, List, refl, ap, sym, subst, map, Vec, Global, Err, Ok, Option, Some, ℕ}
+use Rattle.std.proofs.Common.{◌≡◌, ◌∙◌, ◌++◌, List, refl, ap, sym, subst, map, Vec, Global, Err, Ok, Option, Some, ℕ, Bool}
 use Rattle.std.proofs.lemmas.Result.{err_from_is_err_and}
 use Rattle.c_types.specs.declared.types.CType.{CType}
 use Rattle.c_types.specs.Types.{PlainType, PlainTypes, plain, plain_list}
@@ -14,30 +14,35 @@ use Rattle.c_decls.specs.Typed.{PlainTyped, plain_typed}
 use Rattle.c_decls.specs.Callees.{call}
 use Rattle.c_decls.specs.ScopeList.{ScopeList}
 use Rattle.c_decls.specs.TypeNames.{Context, Layer}
-use Rattle.c_decls.specs.Expressions.{suffix_layer, suffix_layers, param_type, param_types, values, in_new_scope, out_of_scope}
+use Rattle.c_decls.specs.Expressions.{line_of, typed, suffix_layer, suffix_layers, param_type, param_types, values, in_new_scope, out_of_scope}
 use Rattle.c_typing.specs.declared.layers.Layer.{Layer as CodeLayer}
 use Rattle.c_typing.specs.Callee.{plain_callee}
 use Rattle.c_typing.specs.Layers.{plain_layer, plain_layers}
-use Rattle.c_typing.specs.Parts.{behind}
+use Rattle.c_typing.specs.Parts.{behind, operand_of}
 use Rattle.c_typing.specs.Walks.{Walks, context_of, with_new}
 use Rattle.c_typing.proofs.Turns.{in_turn, left, behind_none, refused_next, turned, turn_refused, turned_all}
-use Rattle.c_typing.proofs.Walked.{wanted_walks, changing_walks, callee_walks, callee_refused, valued, values_turns, suffix_turns, param_turns, with_types, as_types, as_plain_list, call_walks, call_refused, values_refused, sizeof_walks, sizeof_refused, cast_walks, cast_type_refused, cast_value_refused, plain_op, other_op, assign_walks, assign_left_refused, assign_right_refused, change_walks, change_left_refused, change_right_refused, direct_walks, array_walks, array_refused, params_walk, params_refused}
+use Rattle.c_typing.proofs.Walked.{wanted_walks, unused_walks, changing_walks, callee_walks, callee_refused, valued, values_turns, suffix_turns, param_turns, with_types, as_types, as_plain_list, call_walks, call_refused, values_refused, sizeof_walks, sizeof_refused, cast_walks, cast_type_refused, cast_value_refused, plain_op, other_op, assign_walks, assign_left_refused, assign_right_refused, change_walks, change_left_refused, change_right_refused, direct_walks, array_walks, array_refused, params_walk, params_refused}
 use Rattle.c_typing.proofs.typer.Typer.+walk.Goals as goal
 
 pub wanted-returns : goal.wanted-returns
 wanted-returns t c =
-    wanted_walks c.args.e.now.kind c.args.e.now.line (context_of c.args.self.now c.args.tags.now) (context_of c.typed.new.self c.args.tags.now)
-    (plain_typed c.in_ok-x.x) c.read.result c.in_ok-x.ensures c.read.ensures
+    wanted_walks c.args.e.now.kind c.args.e.now.line c.line_of.result (context_of c.args.self.now c.args.tags.now) (context_of c.typed.new.self c.args.tags.now)
+    (plain_typed c.in_ok-x.x) c.wanted_value.result c.line_of.ensures c.in_ok-x.ensures c.wanted_value.ensures
+
+pub unused-returns : goal.unused-returns
+unused-returns t c =
+    unused_walks c.args.e.now.kind c.args.e.now.line c.line_of.result (context_of c.args.self.now c.args.tags.now) (context_of c.typed.new.self c.args.tags.now)
+    (plain_typed c.in_ok-x.x) c.read.result c.line_of.ensures c.in_ok-x.ensures c.read.ensures
 
 pub changing-returns : goal.changing-returns
 changing-returns t c =
-    changing_walks c.args.e.now.kind c.args.e.now.line (context_of c.args.self.now c.args.tags.now) (context_of c.typed.new.self c.args.tags.now)
-    (plain_typed c.in_ok-x.x) c.held_place.result c.in_ok-x.ensures c.held_place.ensures
+    changing_walks c.args.e.now.kind c.args.e.now.line c.line_of.result (context_of c.args.self.now c.args.tags.now) (context_of c.typed.new.self c.args.tags.now)
+    (plain_typed c.in_ok-x.x) c.held_place.result c.line_of.ensures c.in_ok-x.ensures c.held_place.ensures
 
 pub callee-returns-in_ok-x-in_default : goal.callee-returns-in_ok-x-in_default
 callee-returns-in_ok-x-in_default t c =
-    callee_walks c.args.kind.now c.args.line (context_of c.args.self.now c.args.tags.now) (context_of c.kind.new.self c.args.tags.now)
-    (plain_typed c.in_ok-x-in_default.x) c.no_function.result c.in_default.not-Name c.in_ok-x-in_default.ensures c.no_function.ensures
+    callee_walks c.args.kind.now c.args.line c.inner_line.result (context_of c.args.self.now c.args.tags.now) (context_of c.kind.new.self c.args.tags.now)
+    (plain_typed c.in_ok-x-in_default.x) c.no_function.result c.in_default.not-Name c.inner_line.ensures c.in_ok-x-in_default.ensures c.no_function.ensures
 
 pub callee-returns-in_err-x-in_default : goal.callee-returns-in_err-x-in_default
 callee-returns-in_err-x-in_default t c =
@@ -110,9 +115,9 @@ layers-returns-in_ok-layers-in-Direct t c =
 pub suffix_layer-returns-in_ok-length-in-Some : goal.suffix_layer-returns-in_ok-length-in-Some
 suffix_layer-returns-in_ok-length-in-Some t c =
     let is : c.args.kind.now ≡ s.Array (Some c.in-Some.held) = c.in-Array.is ∙ ap s.Array c.in-Some.is in
-    array_walks c.args.kind.now c.args.line c.deref-in-Some.result.now.line c.in-Some.held c.deref.result.now
+    array_walks c.args.kind.now c.args.line c.line_of.result c.in-Some.held c.deref.result.now
     (context_of c.args.self.now c.args.tags.now) (context_of c.wanted.new.self c.args.tags.now) (plain_typed c.in_ok-x-in-Some.x)
-    (Ok c.in_ok-length-in-Some.length) is c.deref.ensures (ap (λ (e : Expr). e.line) c.deref-in-Some.ensures)
+    (Ok c.in_ok-length-in-Some.length) is c.deref.ensures (c.line_of.ensures ∙ ap (λ (e : Expr). line_of (expr_view e)) c.deref-in-Some.ensures)
     c.in_ok-x-in-Some.ensures c.in_ok-length-in-Some.ensures
 
 pub suffix_layer-returns-in_ok-leave-in-Params : goal.suffix_layer-returns-in_ok-leave-in-Params
@@ -138,9 +143,9 @@ suffix_layer-returns-in_err-length-in-Some t c =
     let p = err_from_is_err_and c.from_residual-in_err-length-in-Some.result c.from_residual-in_err-length-in-Some.ensures.1 in
     let is : c.args.kind.now ≡ s.Array (Some c.in-Some.held) = c.in-Array.is ∙ ap s.Array c.in-Some.is in
     rw (p.1, p.2)
-    (array_walks c.args.kind.now c.args.line c.deref-in-Some.result.now.line c.in-Some.held c.deref.result.now
+    (array_walks c.args.kind.now c.args.line c.line_of.result c.in-Some.held c.deref.result.now
     (context_of c.args.self.now c.args.tags.now) (context_of c.wanted.new.self c.args.tags.now) (plain_typed c.in_ok-x-in-Some.x)
-    (Err c.in_err-length-in-Some.field-0.0) is c.deref.ensures (ap (λ (e : Expr). e.line) c.deref-in-Some.ensures)
+    (Err c.in_err-length-in-Some.field-0.0) is c.deref.ensures (c.line_of.ensures ∙ ap (λ (e : Expr). line_of (expr_view e)) c.deref-in-Some.ensures)
     c.in_ok-x-in-Some.ensures c.in_err-length-in-Some.ensures)
 
 pub suffix_layer-returns-in_err-types-in-Params : goal.suffix_layer-returns-in_err-types-in-Params
@@ -242,16 +247,19 @@ kind-returns-in_err-x-in-Cast t c =
     let p = err_from_is_err_and c.from_residual-in_err-x-in-Cast.result c.from_residual-in_err-x-in-Cast.ensures.1 in
     rw (p.1, p.2)
     (cast_value_refused c.args.kind.now c.args.line c.in-Cast.typename c.in-Cast.operand c.deref-in-Cast.result.now c.deref-in-Cast-2.result.now
-    (context_of c.args.self.now c.args.tags.now) (context_of c.typename-in-Cast.new.self c.args.tags.now) (context_of c.wanted-in-Cast.new.self c.args.tags.now)
+    (context_of c.args.self.now c.args.tags.now) (context_of c.typename-in-Cast.new.self c.args.tags.now) (context_of c.cast_operand.new.self c.args.tags.now)
     (plain c.in_ok-ty-in-Cast.ty) c.in_err-x-in-Cast.field-0.0
-    c.in-Cast.is c.deref-in-Cast.ensures c.deref-in-Cast-2.ensures c.in_ok-ty-in-Cast.ensures c.in_err-x-in-Cast.ensures)
+    c.in-Cast.is c.deref-in-Cast.ensures c.deref-in-Cast-2.ensures c.in_ok-ty-in-Cast.ensures
+    (subst (λ (k : Bool). Walks plain_typed (context_of c.cast_operand.new.self c.args.tags.now) (Err c.in_err-x-in-Cast.field-0.0) (operand_of k (expr_view c.deref-in-Cast-2.result.now) (typed (expr_view c.deref-in-Cast-2.result.now) (context_of c.typename-in-Cast.new.self c.args.tags.now))))
+    c.is_void.ensures c.in_err-x-in-Cast.ensures))
 
 pub kind-returns-in_ok-x-in-Cast : goal.kind-returns-in_ok-x-in-Cast
 kind-returns-in_ok-x-in-Cast t c =
     cast_walks c.args.kind.now c.args.line c.in-Cast.typename c.in-Cast.operand c.deref-in-Cast.result.now c.deref-in-Cast-2.result.now
-    (context_of c.args.self.now c.args.tags.now) (context_of c.typename-in-Cast.new.self c.args.tags.now) (context_of c.wanted-in-Cast.new.self c.args.tags.now)
+    (context_of c.args.self.now c.args.tags.now) (context_of c.typename-in-Cast.new.self c.args.tags.now) (context_of c.cast_operand.new.self c.args.tags.now)
     (plain c.in_ok-ty-in-Cast.ty) (plain_typed c.in_ok-x-in-Cast.x) c.cast.result
-    c.in-Cast.is c.deref-in-Cast.ensures c.deref-in-Cast-2.ensures c.in_ok-ty-in-Cast.ensures c.in_ok-x-in-Cast.ensures c.cast.ensures
+    c.in-Cast.is c.deref-in-Cast.ensures c.deref-in-Cast-2.ensures c.in_ok-ty-in-Cast.ensures
+    (ap (λ (k : Bool). operand_of k (expr_view c.deref-in-Cast-2.result.now) (typed (expr_view c.deref-in-Cast-2.result.now) (context_of c.typename-in-Cast.new.self c.args.tags.now))) (sym c.is_void.ensures) ∙ c.in_ok-x-in-Cast.ensures) c.cast.ensures
 
 -- assignments
 
@@ -277,10 +285,10 @@ kind-returns-in_err-y-in-Assign t c =
 pub kind-returns-in_ok-y-in-Assign : goal.kind-returns-in_ok-y-in-Assign
 kind-returns-in_ok-y-in-Assign t c =
     let is = c.in-Assign.is ∙ ap (λ (op : AssignOp). x.Assign op c.in-Assign.left c.in-Assign.right) (plain_op c.in-Assign.op (sym c.is_plain.ensures ∙ c.if-is_plain.true)) in
-    assign_walks c.args.kind.now c.args.line c.deref-then-is_plain-3.result.now.line c.in-Assign.left c.in-Assign.right c.deref-then-is_plain.result.now c.deref-then-is_plain-2.result.now
+    assign_walks c.args.kind.now c.args.line c.line_of.result c.in-Assign.left c.in-Assign.right c.deref-then-is_plain.result.now c.deref-then-is_plain-2.result.now
     (context_of c.args.self.now c.args.tags.now) (context_of c.typed-then-is_plain.new.self c.args.tags.now) (context_of c.typed-then-is_plain-2.new.self c.args.tags.now)
     (plain_typed c.in_ok-x-in-Assign.x) (plain_typed c.in_ok-y-in-Assign.y) c.assigned.result
-    is c.deref-then-is_plain.ensures c.deref-then-is_plain-2.ensures (ap (λ (e : Expr). e.line) c.deref-then-is_plain-3.ensures)
+    is c.deref-then-is_plain.ensures c.deref-then-is_plain-2.ensures (c.line_of.ensures ∙ ap (λ (e : Expr). line_of (expr_view e)) c.deref-then-is_plain-3.ensures)
     c.in_ok-x-in-Assign.ensures c.in_ok-y-in-Assign.ensures c.assigned.ensures
 
 pub kind-returns-in_err-x-in-Assign-2 : goal.kind-returns-in_err-x-in-Assign-2
