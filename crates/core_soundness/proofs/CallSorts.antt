@@ -311,9 +311,6 @@ function_called line name (types.Array element length) wanted index params forma
 function_called line name (types.Struct tag) wanted index params format vs c e l there h q k = never _ _ e k
 function_called line name (types.Union tag) wanted index params format vs c e l there h q k = never _ _ e k
 
-prints_held : (v : World) (params : PlainTypes) (x : Argument) (vs : List Argument) → AllHeld v Prints types.none (x ∷ vs) → ArgumentsHeld v types.none vs
-prints_held v params x vs h = h
-
 printf_called : (line : ℕ) (format : Option (List ℕ)) (vs : List Argument) (c : Context) (e : PlainTyped) → 1 ≤ line → AllHeld (world c) Prints types.none vs → prints line format (types_of vs) ≡ Ok e → Answered c e (printing line (unwrap_or format []) (drop 1 (atoms_of vs)) c)
 printf_called line None vs c e l h k = never _ _ e k
 printf_called line (Some bytes) [] c e l h k = never _ _ e k

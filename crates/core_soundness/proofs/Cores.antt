@@ -93,9 +93,6 @@ length_sum : {A : Type 0} (f : A → ℕ) (xs : List A) → ((x : A) → 1 ≤ f
 length_sum f [] h = omega arith
 length_sum f (x ∷ xs) h = omega (arith, h x, length_sum f xs h, sum_by-cons f x xs)
 
-static_size : Static → ℕ
-static_size static = block_size static.layout.size
-
 static_sum : (c : Context) → sum_by (λ (static : Static). block_size static.layout.size) (core_of c).statics ≡ variable_bytes c.variables + literal_bytes c.literals
 static_sum c =
     let size : Static → ℕ = λ (static : Static). block_size static.layout.size in

@@ -144,10 +144,6 @@ filled_bytes room slots low offset l start bytes h e seat none fits =
 
 -- a pointer
 
-all_push : (P : ℕ → Type 0) (xs : List ℕ) (y : ℕ) → AllByRecursion P xs → P y → AllByRecursion P (xs ++ (y ∷ []))
-all_push P [] y h k = (k, tt)
-all_push P (x ∷ xs) y h k = (h.0, all_push P xs y h.1 k)
-
 distinct_push : (slots : List ℕ) (low : ℕ) (ps : List (ℕ × ℕ × ℕ)) (p : ℕ × ℕ × ℕ) → low ≤ p.0 → PointersBelow slots low ps → IsDistinct nat_eq (places ps) → IsDistinct nat_eq (places (ps ++ (p ∷ [])))
 unfolding IsDistinct
 distinct_push slots low [] p e h d = (tt, tt)

@@ -30,11 +30,6 @@ in_order low p q n m =
       other_depth = b.depth;
     }
 
-pub out_of_order : (low p q n : ℕ) (m : Marks) → Picked low (low + 1) low p q n m
-out_of_order low p q n m =
-    let a = in_order low q p n m in
-    record { marks = a.marks; same = a.same; one_point = a.other_point; one_depth = a.other_depth; other_point = a.one_point; other_depth = a.one_depth }
-
 abbrev pub forked : ℕ → Atom → ℕ → List Piece → ℕ → ℕ → List Piece → List Piece
 forked line a one first at other second =
     Does (stm_at line (Zero a one)) ∷ (first ++ (Does (stm_at at (Jump other)) ∷ Here one ∷ (second ++ (Here other ∷ []))))

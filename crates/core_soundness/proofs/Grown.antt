@@ -35,14 +35,6 @@ pub grown_then : {A B : Type 0} (b : Context) (r : With A) (f : Context × A →
 grown_then b (Ok a) f g h d e = h a (g a refl) d e
 grown_then b (Err x) f g h d e = never (Grows b d.0) x d e
 
--- the same from another context on
-pub grown_on : {A : Type 0} (b c : Context) (r : With A) → Grows b c → Grown c r → Grown b r
-grown_on b c r g h d e = grows_trans b c d.0 g (h d e)
-
-pub grown_unless : {A : Type 0} (b : Context) (test : Bool) (kind : TypeKind) (line : ℕ) (r : With A) → Grown b r → Grown b (unless test kind line r)
-grown_unless b true kind line r g d e = never (Grows b d.0) _ d e
-grown_unless b false kind line r g d e = g d e
-
 pub grown_cond : {A : Type 0} (b : Context) (test : Bool) (r s : With A) → Grown b r → Grown b s → Grown b (cond test r s)
 grown_cond b true r s x y = x
 grown_cond b false r s x y = y

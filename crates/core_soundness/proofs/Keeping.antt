@@ -207,9 +207,6 @@ scope_of (t ∷ ts) (u ∷ us) e h = tt
 pub stepped_scope : (t u : Taken) (c d : Context) → Stepped t c u d → HasScope c.scopes.inner → HasScope d.scopes.inner
 stepped_scope t u c d s h = scope_of c.scopes.inner d.scopes.inner s.depth h
 
-pub stepped_step : (t u : Taken) (c d : Context) → u.typedef ≡ t.typedef → InStep t c → Stepped t c u d → InStep u d
-stepped_step t u c d e h s = (e ∙ h.0, stepped_scope t u c d s h.1, s.follows)
-
 pub stepped_names : (t u v : Taken) (c d : Context) → SameNames u v → Stepped t c u d → Stepped t c v d
 stepped_names t u v c d s x = record {
   follows = (s.1 ∙ x.follows.0, λ name e. numbered_kept u v d.running.addressed d.running.addressed name s.0 refl (x.follows.1 name e));

@@ -190,8 +190,5 @@ pub first_safe : (file : Table) (inner : List Table) → SafeTable file → Safe
 first_safe file [] s h = s
 first_safe file (t ∷ ts) s h = h.0
 
-pub innermost_safe : (s : ScopeList) → Safe s → SafeTable (innermost s)
-innermost_safe s h = first_safe s.file s.inner h.file h.inner
-
 pub left_safe : (s : ScopeList) → Safe s → Safe (scopes.left s)
 left_safe s h = record { file = h.file; inner = tail_safe s.inner h.inner }

@@ -141,13 +141,6 @@ grows_closed e b c s g =
     let same : reallocates c.scopes e ≡ reallocates b.scopes e = reallocates_same e b.scopes c.scopes (more_cond b c (code_line e) (reallocates b.scopes e) g) s in
     subst (λ r. Grows b (cond r (emit (code_line e) Leave c) c)) (sym same) (closed_in b c (code_line e) (reallocates b.scopes e) s g)
 
-pub opened_safe : (e : Tree) (c : Context) → Safe c.scopes → Safe (opened e c).scopes
-opened_safe e c s = by (reallocates c.scopes e)
-  where
-    by : (r : Bool) → Safe (cond r (emit (code_line e) Enter (anew c)) (anew c)).scopes
-    by true = s
-    by false = s
-
 -- one that is not closed
 pub opened_stays : (e : Tree) (c d : Context) → Safe c.scopes → Grows (opened e c) d → Stays c d
 opened_stays e c d s = by (reallocates c.scopes e)

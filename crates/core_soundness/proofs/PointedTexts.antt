@@ -108,11 +108,6 @@ record NumberIs (vs : List Variable) (index : ℕ) : Type 0 where
   near : index ≤ length vs
   there : index < length vs → (v : Variable) × (slice_get vs index ≡ Some v)
 
-get_there : (vs : List Variable) (i : ℕ) → i < length vs → (v : Variable) × (slice_get vs i ≡ Some v)
-get_there [] i h = absurd (omega (arith, h))
-get_there (v ∷ vs) zero h = (v, refl)
-get_there (v ∷ vs) (suc i) h = get_there vs i (omega (arith, h))
-
 number_is : (c : Context) (name : List ℕ) → There c → NumberIs c.variables (variable_number_of c (named_in name c.scopes.file))
 number_is c name h = by (named_in name c.scopes.file) refl
   where

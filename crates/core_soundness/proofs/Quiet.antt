@@ -32,9 +32,6 @@ use Rattle.core_soundness.proofs.Grown.{good, ok_same, never}
 abbrev pub Quiet : Context → Context → Type 0
 Quiet c d = asked d ≡ asked c
 
-pub quiet_trans : (a b c : Context) → Quiet a b → Quiet b c → Quiet a c
-quiet_trans a b c x y = y ∙ x
-
 quiet_cond : {A : Type 0} (c : Context) (test : Bool) (x y : Context × A) → Quiet c x.0 → Quiet c y.0 → Quiet c (cond test x y).0
 quiet_cond c true x y g h = g
 quiet_cond c false x y g h = h

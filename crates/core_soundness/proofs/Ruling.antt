@@ -115,12 +115,6 @@ grown_and line tree right x b d r h g =
     grown_after b (binary line bin.And r.0.tags x.typed r.1.typed) (λ typed. Ok (with_value typed Unknown (and_ends line (new_label d.0) (tested_value right r))))
     (λ typed k. grown_ok b (with_value typed Unknown (and_ends line (new_label d.0) (tested_value right r))) (grows_trans b d.0 _ h (grows_and_ends line tree right d r g)))
 
--- the first way of `||` stands before its right side
-or_label : (line : ℕ) (tree : Tree) (d : Context × Found) → Context × Atom
-or_label line tree d =
-    let t = tested_value tree d in
-    integer_by line (λ r. Set r (atom.Int (pos 1))) (emit line (Zero t.1 (new_label t.0)) (with_labels 2 t.0))
-
 grows_or_ends : (line : ℕ) (tree right : Tree) (i : Atom) (d r : Context × Found) → Grows (or_else line tree d).0 r.0 → Grows d.0 (or_ends line (new_label d.0 + 1) i (tested_value right r)).0
 grows_or_ends line tree right i d r g =
     let t = tested_value tree d in

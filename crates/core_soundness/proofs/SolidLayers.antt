@@ -125,9 +125,6 @@ memory_rises name type c h w s = record {
   walked = λ k. k;
 }
 
-pub register_rises : (name : Option (List ℕ)) (type : PlainType) (c : Context) → Solid c → Rises c (with_register name type c)
-register_rises name type c h = record { solid = h; more = extends_refl (K c); kinds = kinds_refl c; code = λ k. k; cases = λ k. k; walked = λ k. k }
-
 pub counted_rises : (c x : Context) → Rises c x → Rises c (counted x)
 counted_rises c x r = record { solid = r.solid; more = r.more; kinds = r.kinds; code = r.code; cases = r.cases; walked = r.walked }
 

@@ -173,10 +173,6 @@ return_rises line delays (e ▹ rest) c h w = return_of_rises line delays e c.ru
 
 -- switches
 
-cases_joined : (xs ys : List (ℤ × ℕ)) → CasesIn xs → CasesIn ys → CasesIn (xs ++ ys)
-cases_joined [] ys g h = h
-cases_joined (x ∷ xs) ys g h = (g.0, cases_joined xs ys g.1 h)
-
 cases_put : (place : ℕ) (v : ℤ) (label : ℕ) (xs : List (ℤ × ℕ)) → IsNumber v → CasesIn xs → CasesIn (take place xs ++ ((v, label) ∷ drop place xs))
 cases_put zero v label xs n g = (n, g)
 cases_put (suc place) v label [] n g = (n, tt)

@@ -95,9 +95,6 @@ mutual
 pub calm_spoken : (e : Tree) (t : Taken) (c : Context) → Follows t c → Inside (taken e t).addressed c.running.addressed → Written e → Calm e → Spoken c.scopes e
 calm_spoken e t c h i w x = still_spoken e c.scopes t c.running.addressed h.1 i w x.still
 
-pub found_spoken : (e : Tree) (wish : PlainType) (t : Taken) (c : Context) (d : Context × conversions.Found) → Follows t c → Inside (taken e t).addressed c.running.addressed → Written e → Formed e → expressions.found e wish c ≡ Ok d → Spoken c.scopes e
-found_spoken e wish t c d h i w g q = calm_spoken e t c h i w (found_calm e wish c d g q)
-
 -- full expressions
 
 pub unused_calm : (e : Tree) (wish : PlainType) (c : Context) (d : Context × conversions.Found) → Formed e → unused e (expressions.found e wish c) ≡ Ok d → Calm e
@@ -132,9 +129,6 @@ returned_calm line delays e type c z g q =
 
 pub evaluated_spoken : (e : Tree) (t : Taken) (c z : Context) → Follows t c → Inside (taken e t).addressed c.running.addressed → Written e → Formed e → evaluated e c ≡ Ok z → Spoken c.scopes e
 evaluated_spoken e t c z h i w g q = calm_spoken e t c h i w (evaluated_calm e c z g q)
-
-pub condition_spoken : (e : Tree) (t : Taken) (c : Context) (z : Context × Atom) → Follows t c → Inside (taken e t).addressed c.running.addressed → Written e → Formed e → condition e c ≡ Ok z → Spoken c.scopes e
-condition_spoken e t c z h i w g q = calm_spoken e t c h i w (condition_calm e c z g q)
 
 pub leaves_spoken : (line label : ℕ) (e : Tree) (t : Taken) (c z : Context) → Follows t c → Inside (taken e t).addressed c.running.addressed → Written e → Formed e → leaves_if_zero line label e c ≡ Ok z → Spoken c.scopes e
 leaves_spoken line label e t c z h i w g q = calm_spoken e t c h i w (leaves_calm line label e c z g q)

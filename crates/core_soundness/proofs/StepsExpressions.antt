@@ -38,14 +38,8 @@ use Rattle.core_soundness.proofs.Keeping.{keeps_refl, keeps_trans, grows_keeps, 
 pub calm_step : (e : Tree) (t : Taken) (c d : Context) → Calm e → Keeps c d → InStep t c → InStep (taken e t) d
 calm_step e t c d x k h = keeps_step t (taken e t) c d (calm_same e t x) k h
 
-pub found_in_step : (e : Tree) (wish : PlainType) (t : Taken) (c : Context) (d : Context × conversions.Found) → Formed e → InStep t c → expressions.found e wish c ≡ Ok d → InStep (taken e t) d.0
-found_in_step e wish t c d g h q = calm_step e t c d.0 (found_calm e wish c d g q) (found_keeps e wish c d q) h
-
 pub evaluated_in_step : (e : Tree) (t : Taken) (c z : Context) → Formed e → InStep t c → evaluated e c ≡ Ok z → InStep (taken e t) z
 evaluated_in_step e t c z g h q = calm_step e t c z (evaluated_calm e c z g q) (evaluated_keeps e c z q) h
-
-pub condition_in_step : (e : Tree) (t : Taken) (c : Context) (z : Context × Atom) → Formed e → InStep t c → condition e c ≡ Ok z → InStep (taken e t) z.0
-condition_in_step e t c z g h q = calm_step e t c z.0 (condition_calm e c z g q) (condition_keeps e c z q) h
 
 pub leaves_in_step : (line label : ℕ) (e : Tree) (t : Taken) (c z : Context) → Formed e → InStep t c → leaves_if_zero line label e c ≡ Ok z → InStep (taken e t) z
 leaves_in_step line label e t c z g h q = calm_step e t c z (leaves_calm line label e c z g q) (leaves_keeps line label e c z q) h

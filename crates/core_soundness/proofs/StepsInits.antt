@@ -166,10 +166,6 @@ mutual
       let more = parts_went rest line in_scalar parts d.1 d.0 g.1 z e in
       ((one.0.still, more.0), keeps_trans b d.0 z.0 one.1 more.1))
 
-pub initialize_spoken : (init : Tree) (in_scalar : Bool) (type : PlainType) (offset : ℕ) (target : Target) (t : Taken) (c : Context) (z : Context × Target) → Follows t c → Inside (taken init t).addressed c.running.addressed → Written init → Formed init
-    → initialize init in_scalar type offset target c ≡ Ok z → Spoken c.scopes init
-initialize_spoken init in_scalar type offset target t c z h i w g q = calm_spoken init t c h i w (initialize_went init in_scalar type offset target c g z q).0
-
 -- the initializer of a local, where it is one of these
 
 abbrev pub IsSpot : Spot → Type 0

@@ -54,9 +54,6 @@ Kinds c d = KindsAt c.tags.made c.tags.completed c.scopes c.params d.tags.made d
 pub kinds_refl : (c : Context) → Kinds c c
 kinds_refl c = record { made = λ i u e. e; sorts = λ h. h }
 
-pub kinds_trans : (a b c : Context) → Kinds a b → Kinds b c → Kinds a c
-kinds_trans a b c x y = record { made = λ i u e. y.made i u (x.made i u e); sorts = λ h. y.sorts (x.sorts h) }
-
 -- other scopes and tags, of which as many are completed
 pub leads_kinds : (c d : Context) → Leads (asked c) (asked d) → d.params ≡ c.params → d.tags.completed ≡ c.tags.completed → Kinds c d
 leads_kinds c d l p q = record {

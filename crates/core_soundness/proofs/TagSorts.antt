@@ -79,13 +79,6 @@ with_name_sorted made s key v h g = by s.inner g.inner
     by [] k = record { file = table_push made key v s.file h g.file; inner = tt }
     by (t ∷ ts) k = record { file = g.file; inner = (table_push made key v t h k.0, k.1) }
 
-pub declared_sorted : (made : List TagInfo) (s : ScopeList) (key : List ℕ) (v : PlainNamed) → SortedName made v → SortedScopes made s → SortedScopes made (after_declaration s key v)
-declared_sorted made s key v h g = by (is_some (named_in key (innermost s)))
-  where
-    by : (t : Bool) → SortedScopes made (cond t s (with_name s key v))
-    by true = g
-    by false = with_name_sorted made s key v h g
-
 -- scopes
 
 pub none_sorted : (made : List TagInfo) → SortedTable made []

@@ -57,11 +57,6 @@ complete_push : (ws : List Walked) (w : Walked) → AreComplete ws → Complete 
 complete_push [] w h k = (k, tt)
 complete_push (v ∷ ws) w h k = (h.0, complete_push ws w h.1 k)
 
-pub complete_at : (ws : List Walked) (i : ℕ) (w : Walked) → AreComplete ws → slice_get ws i ≡ Some w → Complete w.code.pieces
-complete_at [] i w h e = cc
-complete_at (v ∷ ws) zero w h e = let same : v ≡ w = cc in subst (λ (x : Walked). Complete x.code.pieces) same h.0
-complete_at (v ∷ ws) (suc i) w h e = complete_at ws i w h.1 e
-
 -- how many statements and operands a function has
 abbrev pub walked_length : Walked → ℕ
 walked_length w = sum_by piece_length w.code.pieces

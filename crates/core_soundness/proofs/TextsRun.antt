@@ -200,9 +200,6 @@ function_kept : (k : Bool) (name key : List ℕ) (type : PlainType) (index : ℕ
 function_kept true name key type index x e = e
 function_kept false name key type index x e = e
 
-function_number_at : (c : Context) (file : Table) (o : Option PlainNamed) → ℕ
-function_number_at c file o = function_number_of (record c { scopes = record { file = file; inner = [] } }) o
-
 -- a file scope alone, by what it has under the name
 flat_typed : (line : ℕ) (name : List ℕ) (type : PlainType) (c : Context) (file : Table) (o : Option PlainNamed) (d : Context) → named_in name file ≡ o
     → (let x : Context = record c { scopes = record { file = file; inner = [] } } in

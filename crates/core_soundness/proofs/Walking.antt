@@ -151,17 +151,6 @@ pub below_labels : (a : Around) (c d : Context) → a.labelled ≡ false → Wal
 below_labels a c d e w l h =
     ⊎_elim (λ (k : HasLabel l c.running). k) (λ (k : Among l w.entries). absurd (subst (Among l) (w.unlabelled e) k)) (w.cases l h)
 
--- a part round a statement in which no label of the switch may stand
-pub walks_round : (a inner : Around) (c d e f : Context) → inner.labelled ≡ false → Walks inner d e → d.running ≡ c.running → f.running ≡ e.running
-    → Part (ways a) a.delays c.code f.code [] → Stays c f → Walks a c f
-walks_round a inner c d e f un w same same2 p s = record {
-  entries = [];
-  part = p;
-  cases = λ l h. inl (subst (HasLabel l) same (below_labels inner d e un w l (subst (HasLabel l) same2 h)));
-  unlabelled = λ q. refl;
-  stays = s;
-}
-
 -- expressions
 
 grows_tested_value : (tree : Tree) (d : Context × Found) → Grows d.0 (tested_value tree d).0

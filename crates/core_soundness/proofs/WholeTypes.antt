@@ -182,9 +182,6 @@ made_sized tags type l m h e = (layout_some (known tags) (learns_some nothing ta
 
 -- members that are found
 
-abbrev MemberWhole : Known → PlainMember → Type 0
-MemberWhole k m = Whole k m.type
-
 placed_whole : (k : Known) (ms : List (List ℕ × PlainType)) (ps : List (ℕ × Layout)) (p : PlainMember → Bool) (m : PlainMember) → MembersWhole k ms
     → find p (map (λ (x : (List ℕ × PlainType) × (ℕ × Layout)). record { name = x.0.0; type = x.0.1; offset = x.1.0 }) (zip ms ps)) ≡ Some m → Whole k m.type
 placed_whole k [] ps p m h e = cc

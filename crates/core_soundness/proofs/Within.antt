@@ -67,11 +67,6 @@ RowsIn k end [] ps = Unit {0}
 RowsIn k end (m ∷ ms) [] = Unit {0}
 RowsIn k end (m ∷ ms) (p ∷ ps) = (p.0 + (member_layout k m).size ≤ end) × RowsIn k end ms ps
 
-rows_on : (k : Known) (one other : ℕ) (ms : List (List ℕ × PlainType)) (ps : List (ℕ × Layout)) → one ≤ other → RowsIn k one ms ps → RowsIn k other ms ps
-rows_on k one other [] ps e h = tt
-rows_on k one other (m ∷ ms) [] e h = tt
-rows_on k one other (m ∷ ms) (p ∷ ps) e h = (omega (arith, e, h.0), rows_on k one other ms ps e h.1)
-
 rows_rest : (k : Known) (u : Bool) (p : Placed) (ms : List (List ℕ × PlainType)) → RowsIn k (fold (place u) p (map (member_layout k) ms)).end ms (rest_placed u p (map (member_layout k) ms))
 unfolding rest_placed
 rows_rest k u p [] = tt
