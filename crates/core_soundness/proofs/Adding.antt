@@ -65,10 +65,9 @@ mutual
   unfolding taken all_taken
 
   pub taken_adds : (tree : Tree) (t : Taken) (k : ℕ) → Has t.addressed k → Has (taken tree t).addressed k
-  taken_adds (Leaf word) t k h = h
-  taken_adds (At line) t k h = h
   taken_adds (Node form parts) t k h =
       left_adds form parts t (all_taken parts (places (shape form (count parts))) t) k (all_taken_adds parts (places (shape form (count parts))) t k h)
+  taken_adds other t k h = h
 
   pub all_taken_adds : (parts : Trees) (ps : List Place) (t : Taken) (k : ℕ) → Has t.addressed k → Has (all_taken parts ps t).addressed k
   all_taken_adds none ps t k h = h

@@ -197,11 +197,8 @@ apply_of : (line : ℕ) (op : UnaryOp) (tree : Tree) (t : PlainTyped) (c : Conte
 apply_of line u.Deref tree t c e o is h = refl
 apply_of line u.Not tree t c e o is h = refl
 apply_of line op tree t c e (Number ty) is h = ap (λ (x : Operand). (before_number line op t x c e).1.typed) is
-apply_of line u.Plus tree t c e (PointerTo target) is h = never _ _ t h
-apply_of line u.Minus tree t c e (PointerTo target) is h = never _ _ t h
-apply_of line u.Complement tree t c e (PointerTo target) is h = never _ _ t h
-apply_of line u.Address tree t c e (PointerTo target) is h = never _ _ t h
 apply_of line op tree t c e Neither is h = never _ _ t h
+apply_of line other tree t c e (PointerTo target) is h = never _ _ t h
 
 pub applied_rule : (line : ℕ) (op : UnaryOp) (tree : Tree) (c : Context) (e : Found) (z : Context × Found) → applied line op tree c e ≡ Ok z → Ruled (unary line op c.tags e.typed) (asked c) z
 applied_rule line op tree c e z h =

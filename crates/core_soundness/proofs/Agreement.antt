@@ -89,13 +89,11 @@ SameTypes NoFunction xs ys = xs ≡ ys
 same_all : (function : Callee) (xs : List PlainTyped) → SameTypes function xs xs
 same_all Prints [] = tt
 same_all Prints (x ∷ xs) = refl
-same_all (Takes answer params) xs = refl
-same_all NoFunction xs = refl
+same_all other xs = refl
 
 same_rest : (function : Callee) (x : PlainTyped) (xs ys : List PlainTyped) → xs ≡ ys → SameTypes function (x ∷ xs) (x ∷ ys)
 same_rest Prints x xs ys e = e
-same_rest (Takes answer params) x xs ys e = ap (λ (l : List PlainTyped). x ∷ l) e
-same_rest NoFunction x xs ys e = ap (λ (l : List PlainTyped). x ∷ l) e
+same_rest other x xs ys e = ap (λ (l : List PlainTyped). x ∷ l) e
 
 call_same : (line : ℕ) (format : Option (List ℕ)) (function : Callee) (xs ys : List PlainTyped) → SameTypes function xs ys → call line format function xs ≡ call line format function ys
 call_same line format (Takes answer params) xs ys h = ap (λ (l : List PlainTyped). call line format (Takes answer params) l) h

@@ -68,9 +68,8 @@ aims_stay vs ws ls ms g i x y (in_variable k v at there inside) = let r = x k v 
 aims_stay vs ws ls ms g i x y (in_literal k bytes at there inside) = in_literal k bytes at (y k bytes there) inside
 
 pub fixed_stays : (vs ws : List Variable) (ls ms : List (List ℕ)) (fixed : Fixed) → VariablesStay vs ws → Longer ls ms → FixedIn vs ls fixed → FixedIn ws ms fixed
-fixed_stays vs ws ls ms Unknown x y h = tt
-fixed_stays vs ws ls ms Nowhere x y h = tt
 fixed_stays vs ws ls ms (Inside g at) x y h = (h.0, h.1, aims_stay vs ws ls ms g h.0 x y h.2)
+fixed_stays vs ws ls ms other x y h = tt
 
 pub fixed_on : (c d : Context) (fixed : Fixed) → Settled c d → FixedAt c fixed → FixedAt d fixed
 fixed_on c d fixed s h = fixed_stays c.variables d.variables c.literals d.literals fixed (same_variables c.variables d.variables s.variables) s.literals h
@@ -143,17 +142,13 @@ moved_in c distance (Inside g at) h = moved_to c g h.0 (at +ℤ distance) h.2
 
 times_in : (c : Context) (down : Bool) (size : ℕ) (folded : Folded) (fixed : Fixed) → FixedAt c fixed → FixedAt c (moved_times c down size folded fixed)
 times_in c down size (Is k) fixed h = moved_in c (cond down (neg_ℤ (k *ℤ pos size)) (k *ℤ pos size)) fixed h
-times_in c down size Varies fixed h = tt
-times_in c down size Traps fixed h = tt
+times_in c down size other fixed h = tt
 
 sum_of_in : (c : Context) (down : Bool) (s t : Operand) (x y : Found) → FixedAt c x.fixed → FixedAt c y.fixed → FixedAt c (fixed_sum_of c down s t x y)
 sum_of_in c down (PointerTo target) (Number t) x y h k = times_in c down (size_or_zero c target) y.typed.folded x.fixed h
 sum_of_in c down (Number s) (PointerTo target) x y h k = times_in c down (size_or_zero c target) x.typed.folded y.fixed k
-sum_of_in c down (PointerTo target) (PointerTo other) x y h k = tt
-sum_of_in c down (PointerTo target) Neither x y h k = tt
-sum_of_in c down (Number s) (Number t) x y h k = tt
-sum_of_in c down (Number s) Neither x y h k = tt
 sum_of_in c down Neither t x y h k = tt
+sum_of_in c down others other x y h k = tt
 
 pub sum_in : (c : Context) (op : BinaryOp) (x y : Found) → FixedAt c x.fixed → FixedAt c y.fixed → FixedAt c (fixed_sum c op x y)
 unfolding fixed_sum
@@ -187,12 +182,7 @@ built_in_aimed c typed false = tt
 name_in : (c : Context) (typed : PlainTyped) (name : List ℕ) (o : Option PlainNamed) → declaration c.scopes name ≡ o → There c → FixedAt c (name_found typed (is_inner c name) o).fixed
 name_in c typed name (Some (n.Object type i)) e h = object_in c typed name type i (is_inner c name) refl h e
 name_in c typed name (Some (n.BuiltIn i)) e h = built_in_aimed c typed typed.is_null
-name_in c typed name (Some (n.Register type i)) e h = tt
-name_in c typed name (Some (n.Function type i)) e h = tt
-name_in c typed name (Some (n.Typedef type)) e h = tt
-name_in c typed name (Some (n.Constant type x)) e h = tt
-name_in c typed name (Some (n.Tag type)) e h = tt
-name_in c typed name None e h = tt
+name_in c typed name other e h = tt
 
 pub name_aimed : (line : ℕ) (name : List ℕ) (c : Context) (z : Context × Found) → There c → name_answer line name (declaration c.scopes name) c ≡ Ok z → Aimed z
 name_aimed line name c z h q =
@@ -218,12 +208,7 @@ string_aimed line bytes c z h =
 
 read_in : (vs : List Variable) (ls : List (List ℕ)) (type : PlainType) (fixed : Fixed) → FixedIn vs ls fixed → FixedIn vs ls (read_fixed type fixed)
 read_in vs ls (ct.Array element length) fixed h = h
-read_in vs ls Void fixed h = tt
-read_in vs ls (ct.Int ty) fixed h = tt
-read_in vs ls (ct.Pointer target) fixed h = tt
-read_in vs ls (ct.Struct tag) fixed h = tt
-read_in vs ls (ct.Union tag) fixed h = tt
-read_in vs ls (ct.Function answer params) fixed h = tt
+read_in vs ls other fixed h = tt
 
 either_in : (vs : List Variable) (ls : List (List ℕ)) (t : Bool) (one other : Fixed) → FixedIn vs ls one → FixedIn vs ls other → FixedIn vs ls (cond t one other)
 either_in vs ls true one other h k = h
@@ -294,8 +279,7 @@ settled_combined line op b x y c g =
 
 number_aimed : (line : ℕ) (op : UnaryOp) (typed : PlainTyped) (o : Operand) (c : Context) (e : Found) → FixedAt c e.fixed → Aimed (before_number line op typed o c e)
 number_aimed line op typed (Number ty) c e h = tt
-number_aimed line op typed (PointerTo target) c e h = h
-number_aimed line op typed Neither c e h = h
+number_aimed line op typed other c e h = h
 
 apply_aimed : (line : ℕ) (op : UnaryOp) (tree : Tree) (typed : PlainTyped) (c : Context) (e : Found) → FixedAt c e.fixed → Aimed (apply line op tree typed c e)
 apply_aimed line u.Deref tree typed c e h = h

@@ -52,33 +52,17 @@ stands_flag w e k q h = subst (λ (x : Bool). StandsAs w x e.typed.type e.spot) 
 record_operand : (type : PlainType) → is_record type ≡ true → (operand type ≡ Neither) × (is_scalar type ≡ false)
 record_operand (types.Struct tag) e = (refl, refl)
 record_operand (types.Union tag) e = (refl, refl)
-record_operand types.Void e = cc
-record_operand (types.Int ty) e = cc
-record_operand (types.Pointer target) e = cc
-record_operand (types.Array element length) e = cc
-record_operand (types.Function answer params) e = cc
+record_operand other e = cc
 
 pub same_record : (s t : PlainType) → is_record s ≡ true → same s t ≡ true → is_scalar t ≡ false
 unfolding same
 same_record (types.Struct tag) (types.Int ty) r e = cc
 same_record (types.Struct tag) (types.Pointer target) r e = cc
-same_record (types.Struct tag) types.Void r e = refl
-same_record (types.Struct tag) (types.Array element length) r e = refl
-same_record (types.Struct tag) (types.Struct other) r e = refl
-same_record (types.Struct tag) (types.Union other) r e = refl
-same_record (types.Struct tag) (types.Function answer params) r e = refl
 same_record (types.Union tag) (types.Int ty) r e = cc
 same_record (types.Union tag) (types.Pointer target) r e = cc
-same_record (types.Union tag) types.Void r e = refl
-same_record (types.Union tag) (types.Array element length) r e = refl
-same_record (types.Union tag) (types.Struct other) r e = refl
-same_record (types.Union tag) (types.Union other) r e = refl
-same_record (types.Union tag) (types.Function answer params) r e = refl
-same_record types.Void t r e = cc
-same_record (types.Int ty) t r e = cc
-same_record (types.Pointer target) t r e = cc
-same_record (types.Array element length) t r e = cc
-same_record (types.Function answer params) t r e = cc
+same_record (types.Struct tag) other r e = refl
+same_record (types.Union tag) other r e = refl
+same_record other t r e = cc
 
 cond_true : {A : Type 0} (k : Bool) (x y : Checked A) (v : A) → k ≡ true → cond k x y ≡ Ok v → x ≡ Ok v
 cond_true true x y v e h = h
@@ -188,20 +172,12 @@ pub record Changed (target typed : PlainTyped) : Type 0 where
 scalar_number : (type : PlainType) (ty : IntType) → operand type ≡ Number ty → is_scalar type ≡ true
 scalar_number (types.Int t) ty e = refl
 scalar_number (types.Pointer t) ty e = refl
-scalar_number types.Void ty e = cc
-scalar_number (types.Array element length) ty e = cc
-scalar_number (types.Struct tag) ty e = cc
-scalar_number (types.Union tag) ty e = cc
-scalar_number (types.Function answer params) ty e = cc
+scalar_number other ty e = cc
 
 scalar_pointer : (type target : PlainType) → operand type ≡ PointerTo target → is_scalar type ≡ true
 scalar_pointer (types.Int t) ty e = refl
 scalar_pointer (types.Pointer t) ty e = refl
-scalar_pointer types.Void ty e = cc
-scalar_pointer (types.Array element length) ty e = cc
-scalar_pointer (types.Struct tag) ty e = cc
-scalar_pointer (types.Union tag) ty e = cc
-scalar_pointer (types.Function answer params) ty e = cc
+scalar_pointer other ty e = cc
 
 pub changed_typed : (line : ℕ) (op : AssignOp) (tags : TagTable) (target e typed : PlainTyped) → changed line op tags target e ≡ Ok typed → Changed target typed
 changed_typed line op tags target e typed h =

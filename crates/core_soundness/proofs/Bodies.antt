@@ -130,9 +130,8 @@ module _ (num : Numbers) where
     depth_at (Here l ∷ a) p n k h i = depth_at a p n k h.2 i
 
     depth_start : (a : List Piece) (p n k : ℕ) (h : Flows m a p n k) → depth_at a p n k h 0 ≡ n
-    depth_start [] p n k h = refl
-    depth_start (Does stm ∷ a) p n k h = refl
     depth_start (Here l ∷ a) p n k h = depth_start a p n k h.2
+    depth_start other p n k h = refl
 
     -- a statement of the body is one of the pieces
     record Standing (Q : ℕ → Type 0) (point here next : ℕ) (stm : Stm) : Type 0 where

@@ -83,11 +83,7 @@ argument_goes line (types.first type rest) b c e l g h = let k = converted line 
 param_held : (w : World) (type : PlainType) (e : PlainTyped) (a : Atom) → unconverted type e ≡ None → Held w type a → Holds w (type_sort type) a
 param_held w (types.Int ty) e a u h = h
 param_held w (types.Pointer target) e a u h = h
-param_held w types.Void e a u h = cc
-param_held w (types.Array element length) e a u h = cc
-param_held w (types.Struct tag) e a u h = cc
-param_held w (types.Union tag) e a u h = cc
-param_held w (types.Function answer params) e a u h = cc
+param_held w other e a u h = cc
 
 pub params_held : (w : World) (line : ℕ) (params : PlainTypes) (vs : List Argument) (r : Checked PlainTyped) (e : PlainTyped) → length (types_of vs) ≡ length_of params → all_convert line params (types_of vs) r ≡ Ok e → ArgumentsHeld w params vs → HoldAll w (param_sorts params) (atoms_of vs) × (r ≡ Ok e)
 params_held w line types.none [] r e same h k = (tt, h)
@@ -268,9 +264,8 @@ no_function_is line tags answer function h =
     sym (ok_same NoFunction function k.last)
 
 built_in_of : (line : ℕ) (tags : TagTable) (o : Option BuiltIn) (k : Callee) (function : Callee) → built_in_called line tags o k ≡ Ok function → (function ≡ k) ⊎ (function ≡ NoFunction)
-built_in_of line tags o (Takes answer params) function h = inl (sym (ok_same _ function h))
-built_in_of line tags o Prints function h = inl (sym (ok_same _ function h))
 built_in_of line tags o NoFunction function h = inr (no_function_is line tags (built_in_named line o) function h)
+built_in_of line tags o other function h = inl (sym (ok_same _ function h))
 
 pub call_of : (line : ℕ) (v : World) (tags : TagTable) (name : List ℕ) (o : Option PlainNamed) (function : Callee) → ((type : PlainType) (index : ℕ) → o ≡ Some (n.Function type index) → named_in name v.file ≡ Some (n.Function type index)) → called line tags o ≡ Ok function → CallOf v o function
 call_of line v tags name (Some (n.Function type index)) function k h = (sym (ok_same _ function h), (name, k type index refl))
@@ -304,12 +299,7 @@ function_called line name (types.Function answer takes) wanted index params form
     let r = takes_called (world c) line format answer takes vs e k held in
     subst (λ (t : PlainTyped). Answered c t (call_named line (Some (n.Function (types.Function answer takes) index)) t.type wanted format vs c)) r.1
     (function_answered line name answer takes index vs c l there r.0)
-function_called line name types.Void wanted index params format vs c e l there h q k = never _ _ e k
-function_called line name (types.Int ty) wanted index params format vs c e l there h q k = never _ _ e k
-function_called line name (types.Pointer target) wanted index params format vs c e l there h q k = never _ _ e k
-function_called line name (types.Array element length) wanted index params format vs c e l there h q k = never _ _ e k
-function_called line name (types.Struct tag) wanted index params format vs c e l there h q k = never _ _ e k
-function_called line name (types.Union tag) wanted index params format vs c e l there h q k = never _ _ e k
+function_called line name other wanted index params format vs c e l there h q k = never _ _ e k
 
 printf_called : (line : ℕ) (format : Option (List ℕ)) (vs : List Argument) (c : Context) (e : PlainTyped) → 1 ≤ line → AllHeld (world c) Prints types.none vs → prints line format (types_of vs) ≡ Ok e → Answered c e (printing line (unwrap_or format []) (drop 1 (atoms_of vs)) c)
 printf_called line None vs c e l h k = never _ _ e k
@@ -346,12 +336,7 @@ named_called line (Some (n.Function type index)) function wanted format vs c e l
 named_called line (Some (n.BuiltIn index)) function wanted format vs c e l (inl q) h k =
     at_built_in line (slice_get built_ins index) wanted format vs c e l (subst (λ (x : Callee). AllHeld (world c) x (params_of x) vs) q h) (subst (λ (x : Callee). call line format x (types_of vs) ≡ Ok e) q k)
 named_called line (Some (n.BuiltIn index)) function wanted format vs c e l (inr q) h k = never_called line format (types_of vs) function e q k
-named_called line (Some (n.Object type index)) function wanted format vs c e l q h k = never_called line format (types_of vs) function e q k
-named_called line (Some (n.Register type index)) function wanted format vs c e l q h k = never_called line format (types_of vs) function e q k
-named_called line (Some (n.Typedef type)) function wanted format vs c e l q h k = never_called line format (types_of vs) function e q k
-named_called line (Some (n.Constant type x)) function wanted format vs c e l q h k = never_called line format (types_of vs) function e q k
-named_called line (Some (n.Tag type)) function wanted format vs c e l q h k = never_called line format (types_of vs) function e q k
-named_called line None function wanted format vs c e l q h k = never_called line format (types_of vs) function e q k
+named_called line other function wanted format vs c e l q h k = never_called line format (types_of vs) function e q k
 
 pub call_lands : (line : ℕ) (o : Option PlainNamed) (function : Callee) (wanted : PlainType) (trees : Trees) (c : Context) (vs : List Argument) (z : Context × Found) → 1 ≤ line → CallOf (world c) o function → AllHeld (world c) function (params_of function) vs
     → call_answer line o function wanted trees c vs ≡ Ok z → Lands c z

@@ -237,8 +237,6 @@ mutual
   typename_still tree c g d q = never (Still tree) _ d q
 
   pub layers_still : (tree : Tree) (c : Context) → Formed tree → IsLayer tree → (d : Context × List Layer) → layers tree c ≡ Ok d → functions d.1 ≡ 0 → Still tree
-  layers_still (Leaf word) c g i d q n = tt
-  layers_still (At line) c g i d q n = tt
   layers_still (Node (f.Pointer consts) (At line ▹ declarator ▹ none)) c g i d q n =
       let l = came (layers declarator c) (λ l. good (l.0, PointerTo line ∷ l.1)) d q in
       let same : (l.value.0, PointerTo line ∷ l.value.1) ≡ d = ok_same (l.value.0, PointerTo line ∷ l.value.1) d l.last in
@@ -253,6 +251,7 @@ mutual
   layers_still (Node f.Parens (At line ▹ declarator ▹ none)) c g i d q n = parens_still line declarator (layers_still declarator c g.1.1.0 g.0 d q n)
   layers_still (Node f.Nothing none) c g i d q n = (refl, tt, tt)
   layers_still (Node _ parts) c g i d q n = absurd i
+  layers_still other c g i d q n = tt
 
   pub suffixes_still : (suffixes : Trees) (c : Context) → AllFormed suffixes → (d : Context × List Layer) → suffix_layers suffixes c ≡ Ok d → functions d.1 ≡ 0 → AllStill suffixes
   suffixes_still none c g d q n = tt

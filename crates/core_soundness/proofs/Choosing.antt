@@ -31,17 +31,11 @@ use Rattle.core_soundness.proofs.Landing.{made_comes, integer_made, not_false}
 
 pub set_again_goes : (line : ℕ) (sort : Sort) (t a : Atom) (c : Context) → 1 ≤ line → Holds (world c) sort t → Holds (world c) sort a → Goes c (set_again line t a c)
 set_again_goes line sort (atom.Reg r) a c l h k = goes_emit line (Set r a) c l (sort, h, k)
-set_again_goes line sort (atom.Int v) a c l h k = goes_refl c
-set_again_goes line sort atom.Null a c l h k = goes_refl c
-set_again_goes line sort (atom.Static g) a c l h k = goes_refl c
-set_again_goes line sort (atom.Mem m) a c l h k = goes_refl c
+set_again_goes line sort other a c l h k = goes_refl c
 
 compare_again_goes : (line : ℕ) (t a : Atom) (c : Context) → 1 ≤ line → Holds (world c) Integer t → Holds (world c) Integer a → Goes c (compare_again line t a c)
 compare_again_goes line (atom.Reg r) a c l h k = goes_emit line (Cmp cmp.Ne r a (atom.Int (pos 0))) c l (h, k, refl)
-compare_again_goes line (atom.Int v) a c l h k = goes_refl c
-compare_again_goes line atom.Null a c l h k = goes_refl c
-compare_again_goes line (atom.Static g) a c l h k = goes_refl c
-compare_again_goes line (atom.Mem m) a c l h k = goes_refl c
+compare_again_goes line other a c l h k = goes_refl c
 
 -- `&&` and `||`
 
@@ -163,12 +157,7 @@ pointer_chosen line x y typed s t o m e = one (same s t || y.is_null) e
 
 void_operand : (type : PlainType) → is_void type ≡ true → operand type ≡ Neither
 void_operand types.Void e = refl
-void_operand (types.Int ty) e = cc
-void_operand (types.Pointer target) e = cc
-void_operand (types.Array element length) e = cc
-void_operand (types.Struct tag) e = cc
-void_operand (types.Union tag) e = cc
-void_operand (types.Function answer params) e = cc
+void_operand other e = cc
 
 void_chosen : (line : ℕ) (x y typed : PlainTyped) (s t : Operand) → cond (is_void x.type && is_void y.type) (good (value x.type)) (refused Operands line) ≡ Ok typed → Sides s t typed
 void_chosen line x y typed s t e = by (is_void x.type) (is_void y.type) refl e
@@ -212,11 +201,7 @@ chosen_by_goes line b (types.Pointer target) e d l g h k =
     let r = converted line b (types.Pointer target) e d.1 d.0 l g h in
     let s = gives_pointer line (λ t. Set t v.1) v.0 l (λ w t gw there. (Pointer, there, holds_grew (world v.0) w Pointer v.1 gw (r.held k))) in
     record { goes = goes_trans b v.0 _ r.goes s.goes; held = s.holds }
-chosen_by_goes line b types.Void e d l g h k = record { goes = g; held = tt }
-chosen_by_goes line b (types.Array element length) e d l g h k = record { goes = g; held = tt }
-chosen_by_goes line b (types.Struct tag) e d l g h k = record { goes = g; held = tt }
-chosen_by_goes line b (types.Union tag) e d l g h k = record { goes = g; held = tt }
-chosen_by_goes line b (types.Function answer params) e d l g h k = record { goes = g; held = tt }
+chosen_by_goes line b other e d l g h k = record { goes = g; held = tt }
 
 pub first_goes : (line other : ℕ) (b : Context) (type : PlainType) (d : Context × Found) → 1 ≤ line → Goes b d.0 → HasValue (world d.0) d.1 → Converting (operand type) (operand d.1.typed.type) → Chosen b type (choose_first line other b.code type d)
 first_goes line other b type d l g h k =
@@ -234,11 +219,7 @@ set_typed line Neither t a c l n h k = subst (λ (x : Atom). Goes c (set_again l
 pub first_null : (line other : ℕ) (before : Code) (type : PlainType) (d : Context × Found) → operand type ≡ Neither → (choose_first line other before type d).1 ≡ atom.Null
 first_null line other before (types.Int ty) d e = cc
 first_null line other before (types.Pointer target) d e = cc
-first_null line other before types.Void d e = refl
-first_null line other before (types.Array element length) d e = refl
-first_null line other before (types.Struct tag) d e = refl
-first_null line other before (types.Union tag) d e = refl
-first_null line other before (types.Function answer params) d e = refl
+first_null line other before others d e = refl
 
 choice_stands : (w : World) (typed : PlainTyped) (a : Atom) → typed.is_place ≡ false → HeldAs w (operand typed.type) a → Stands w (choice_found typed a)
 choice_stands w typed a p h = by typed.type p h

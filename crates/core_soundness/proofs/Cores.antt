@@ -48,9 +48,8 @@ record BodyFlow (body : List Stm) : Type 0 where
   scopes : HasScopes body
 
 some_step : (front : List Piece) (stm : Stm) → 0 < steps (front ++ (Does stm ∷ []))
-some_step [] stm = omega arith
-some_step (Does other ∷ front) stm = omega arith
 some_step (Here l ∷ front) stm = some_step front stm
+some_step other stm = omega arith
 
 body_flow : (num : Numbers) (pieces : List Piece) → Complete pieces → ((l : ℕ) → num.point l ≡ point_in pieces l) → BodyFlow (body_of num pieces)
 body_flow num pieces c =

@@ -183,7 +183,6 @@ entries_step (tree ▹ rest) line storage base t c z e bare g s h q = never _ _ 
 
 entries_spoken : (names : Trees) (line : ℕ) (storage : Storage) (base : PlainType) (t : Taken) (c : Context) → t.typedef ≡ is_typedef storage → (t.typedef ≡ true → NoInits names) → AllFormed names → AllWritten names → HasScope c.scopes.inner → Follows t c → Inside (each names t).addressed c.running.addressed → EntriesSpoken line storage base names c
 unfolding EntriesSpoken each Shaped Formed AllFormed Written AllWritten
-entries_spoken none line storage base t c e bare g w s h i = tt
 entries_spoken (Node f.Entry (Node f.Declared (declarator ▹ none) ▹ Node f.MaybeInit inits ▹ none) ▹ rest) line storage base t c e bare g w s h i =
     λ d q.
     let tree : Tree = Node f.Entry (Node f.Declared (declarator ▹ none) ▹ Node f.MaybeInit inits ▹ none) in
@@ -194,7 +193,7 @@ entries_spoken (Node f.Entry (Node f.Declared (declarator ▹ none) ▹ Node f.M
       entries_spoken rest line storage base (taken tree t) d (typed ∙ e) (λ k. (no_inits (Node f.Declared (declarator ▹ none)) inits rest (bare (sym typed ∙ k))).1) g.1 w.1 one.stayed.scope one.stayed.follows
           (λ k has. subst (λ (ks : List ℕ). Has ks k) (sym one.stayed.addressed) (i k has)),
     )
-entries_spoken (tree ▹ rest) line storage base t c e bare g w s h i = tt
+entries_spoken other line storage base t c e bare g w s h i = tt
 
 -- specs
 

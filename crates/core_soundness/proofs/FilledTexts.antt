@@ -68,9 +68,8 @@ TargetFilled slots low (InMemory line mem) = ⊥
 TargetFilled slots low (InStatic start) = Filled slots low start
 
 target_more : (slots : List ℕ) (low high : ℕ) (target : Target) → low ≤ high → TargetFilled slots low target → TargetFilled slots high target
-target_more slots low high (InRegister line register) e h = absurd h
-target_more slots low high (InMemory line mem) e h = absurd h
 target_more slots low high (InStatic start) e h = filled_more slots low high start e h
+target_more slots low high other e h = absurd h
 
 abbrev pub Fills : List ℕ → ℕ → Context → Context × Target → Type 0
 Fills slots high c z = Kept c z.0 × TargetFilled slots high z.1
@@ -82,8 +81,7 @@ module _ (ts : List CompletedTag) (room : ℕ) (slots : List ℕ) where
   integer_filled line ty offset low start (Is v) e seat h =
       led_ok (Filled slots (offset + width_of ty)) (with_bytes start offset (bytes_of (width_of ty) (low_bits (8 * width_of ty) v)))
       (filled_bytes room slots low offset (number_layout (width_of ty)) start (bytes_of (width_of ty) (low_bits (8 * width_of ty) v)) h e seat (λ s k. k) (omega (arith, bytes_of_length (width_of ty) (low_bits (8 * width_of ty) v))))
-  integer_filled line ty offset low start Varies e seat h = led_refused (Filled slots (offset + width_of ty)) NotConstant line
-  integer_filled line ty offset low start Traps e seat h = led_refused (Filled slots (offset + width_of ty)) NotConstant line
+  integer_filled line ty offset low start other e seat h = led_refused (Filled slots (offset + width_of ty)) NotConstant line
 
   address_filled : (line offset low : ℕ) (start : Start) (fixed : Fixed) → low ≤ offset → Has slots offset → Filled slots low start → Led (Filled slots (offset + 4)) (static_address line offset start fixed)
   address_filled line offset low start Unknown e there h = led_refused (Filled slots (offset + 4)) NotConstant line
@@ -117,16 +115,13 @@ module _ (ts : List CompletedTag) (room : ℕ) (slots : List ℕ) where
       (pointer_filled line offset low start e k (subst (λ (x : Layout). Seat room slots offset x) (sym same) seat) h)
   scalar_filled_at line Void offset low l start e a q k seat h = cc
   scalar_filled_at line (Function answer params) offset low l start e a q k seat h = cc
-  scalar_filled_at line (Array element n) offset low l start e a q k seat h = absurd a
-  scalar_filled_at line (Struct tag) offset low l start e a q k seat h = absurd a
-  scalar_filled_at line (Union tag) offset low l start e a q k seat h = absurd a
+  scalar_filled_at line other offset low l start e a q k seat h = absurd a
 
   fill_filled : (e : Tree) (line : ℕ) (type : PlainType) (offset low : ℕ) (l : Layout) (before : Code) (target : Target) (c : Context) (d : Context × Found) → NoAggregate type → layout_of (known ts) type ≡ Some l → low ≤ offset → Seat room slots offset l → Kept c d.0 → TargetFilled slots low target → Led (Fills slots (offset + l.size) c) (fill_scalar e line type offset before d target)
-  fill_filled e line type offset low l before (InRegister at register) c d a q k seat s h = absurd h
-  fill_filled e line type offset low l before (InMemory at mem) c d a q k seat s h = absurd h
   fill_filled e line type offset low l before (InStatic start) c d a q k seat s h =
       led_after (Fills slots (offset + l.size) c) (static_scalar line type offset start d.1) (λ filled. Ok (d.0, InStatic filled))
       (λ filled r. led_ok (Fills slots (offset + l.size) c) (d.0, InStatic filled) (s, scalar_filled_at line type offset low l start d.1 a q k seat h filled r))
+  fill_filled e line type offset low l before other c d a q k seat s h = absurd h
 
   scalar_fills : (e : Tree) (line : ℕ) (type : PlainType) (offset low : ℕ) (l : Layout) (target : Target) (c : Context) → NoAggregate type → Solid c → layout_of (known ts) type ≡ Some l → low ≤ offset → Seat room slots offset l → TargetFilled slots low target → Led (Fills slots (offset + l.size) c) (scalar e line type offset target c)
   scalar_fills e line type offset low l target c a solid q k seat h =
@@ -138,8 +133,7 @@ module _ (ts : List CompletedTag) (room : ℕ) (slots : List ℕ) where
 
   record_fills : (e : Tree) (line : ℕ) (type : PlainType) (offset low high : ℕ) (c : Context) (d : Context × Found) (target : Target) → TargetFilled slots low target → Led (Fills slots high c) (fill_record e line type offset d target)
   record_fills e line type offset low high c d (InMemory at mem) h = absurd h
-  record_fills e line type offset low high c d (InRegister at register) h = led_refused (Fills slots high c) NotConstant line
-  record_fills e line type offset low high c d (InStatic start) h = led_refused (Fills slots high c) NotConstant line
+  record_fills e line type offset low high c d other h = led_refused (Fills slots high c) NotConstant line
 
   whole_fills : (e : Tree) (line : ℕ) (type : PlainType) (offset low high : ℕ) (target : Target) (c : Context) → TargetFilled slots low target → Led (Fills slots high c) (whole e line type offset target c)
   whole_fills e line type offset low high target c h =

@@ -48,25 +48,22 @@ SameTarget (InStatic start) (InRegister line register) = ⊥
 SameTarget (InStatic start) (InMemory line mem) = ⊥
 
 target_refl : (t : Target) → SameTarget t t
-target_refl (InRegister line register) = refl
-target_refl (InMemory line mem) = refl
 target_refl (InStatic start) = tt
+target_refl other = refl
 
 target_trans : (t u v : Target) → SameTarget t u → SameTarget u v → SameTarget t v
-target_trans (InRegister line register) u v x y = subst (λ (k : Target). SameTarget k v) x y
-target_trans (InMemory line mem) u v x y = subst (λ (k : Target). SameTarget k v) x y
 target_trans (InStatic start) (InStatic other) (InStatic third) x y = tt
 target_trans (InStatic start) (InStatic other) (InRegister line register) x y = y
 target_trans (InStatic start) (InStatic other) (InMemory line mem) x y = y
 target_trans (InStatic start) (InRegister line register) v x y = absurd x
 target_trans (InStatic start) (InMemory line mem) v x y = absurd x
+target_trans other u v x y = subst (λ (k : Target). SameTarget k v) x y
 
 target_on : (v w : World) (type : PlainType) (t u : Target) → Grew v w → SameTarget t u → TargetFits v type t → TargetFits w type u
 target_on v w type (InRegister line register) u g s h = subst (TargetFits w type) (sym s) (h.0, stands_as_grew v w true type (Local register) g h.1)
 target_on v w type (InMemory line mem) u g s h = subst (TargetFits w type) (sym s) (h.0, omega (arith, h.1, g.mems))
 target_on v w type (InStatic start) (InStatic other) g s h = tt
-target_on v w type (InStatic start) (InRegister line register) g s h = absurd s
-target_on v w type (InStatic start) (InMemory line mem) g s h = absurd s
+target_on v w type (InStatic start) other g s h = absurd s
 
 -- what is filled, and where the walk goes
 pub record Fills (c : Context) (t : Target) (z : Context × Target) : Type 0 where
@@ -128,8 +125,7 @@ fill_record_fits e line type offset c d (InMemory at mem) z g l held h q =
     let gs : Goes place.0 s = goes_emit at (Copy place.1 (atom_in d.1) (pos (size_or_zero place.0 type))) place.0 h.0 (pg.holds, holds_grew (world d.0) (world place.0) Pointer (atom_in d.1) pg.goes.grew held) in
     subst (Fills c (InMemory at mem)) (ok_same (closed e s, InMemory at mem) z q)
     (record { goes = goes_trans c d.0 _ g (goes_trans d.0 place.0 _ pg.goes (goes_trans place.0 s _ gs (closed_goes e s l))); same = refl })
-fill_record_fits e line type offset c d (InRegister at register) z g l held h q = never _ _ z q
-fill_record_fits e line type offset c d (InStatic start) z g l held h q = never _ _ z q
+fill_record_fits e line type offset c d other z g l held h q = never _ _ z q
 
 whole_fits : (e : Tree) (line : ℕ) (type : PlainType) (offset : ℕ) (t : Target) (c : Context) (z : Context × Target) → Spoken c.scopes e → NamesFit (world c) c.scopes → TargetFits (world c) type t → whole e line type offset t c ≡ Ok z → Fills c t z
 whole_fits e line type offset t c z s n h q =
@@ -193,13 +189,10 @@ parts_fit : (c : Context) (asked : ℕ) (type : PlainType) (offset : ℕ) (t : T
 unfolding parts_of
 parts_fit c asked type offset (InMemory line mem) h = in_memory_parts (world c) line mem (parts_of c asked type offset) h
 parts_fit c asked type offset (InStatic start) h = in_static_parts (world c) start (parts_of c asked type offset)
-parts_fit c asked (types.Int ty) offset (InRegister line register) h = (h, tt)
-parts_fit c asked (types.Pointer target) offset (InRegister line register) h = (h, tt)
-parts_fit c asked Void offset (InRegister line register) h = (h, tt)
-parts_fit c asked (types.Function answer params) offset (InRegister line register) h = (h, tt)
 parts_fit c asked (Array element n) offset (InRegister line register) h = let clash : false ≡ true = h.1.0 in cc
 parts_fit c asked (Struct tag) offset (InRegister line register) h = let clash : false ≡ true = h.1.0 in cc
 parts_fit c asked (Union tag) offset (InRegister line register) h = let clash : false ≡ true = h.1.0 in cc
+parts_fit c asked other offset (InRegister line register) h = (h, tt)
 
 cond_parts : (k : Bool) (c : Context) (t : Target) (one other : Checked (Context × Target)) (z : Context × Target) → (one ≡ Ok z → Fills c t z) → (other ≡ Ok z → Fills c t z) → cond k one other ≡ Ok z → Fills c t z
 cond_parts true c t one other z x y q = x q

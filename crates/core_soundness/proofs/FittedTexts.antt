@@ -93,11 +93,7 @@ proper_type made ts (Struct tag) h s = λ done e.
     let same : b.1.0.0 ≡ s.0 = info_same b.1.0.0 s.0 (sym b.1.0.1 ∙ (ap (slice_get made) b.0 ∙ s.1)) in
     b.1.0.2 ∙ (ap (λ (x : TagInfo). x.is_union) same ∙ s.2)
 proper_type made ts (Array element m) h s = proper_type made ts element h s
-proper_type made ts Void h s = tt
-proper_type made ts (Int ty) h s = tt
-proper_type made ts (Pointer target) h s = tt
-proper_type made ts (Union tag) h s = tt
-proper_type made ts (Function answer params) h s = tt
+proper_type made ts other h s = tt
 
 proper_members : (made : List TagInfo) (ts : List CompletedTag) (ms : List (List ℕ × PlainType)) → BodiesSorted made ts → MembersSorted made ms → MembersProper ts ms
 proper_members made ts [] h s = tt
@@ -129,9 +125,8 @@ same_known c d e tag l q = ap (λ (ts : List CompletedTag). known ts tag) e ∙ 
 -- an initializer of a variable
 
 target_filled : (slots : List ℕ) (high : ℕ) (t : Target) → TargetFilled slots high t → Filled slots high (start_in t)
-target_filled slots high (InRegister line register) h = absurd h
-target_filled slots high (InMemory line mem) h = absurd h
 target_filled slots high (InStatic start) h = filled_trimmed slots high start h
+target_filled slots high other h = absurd h
 
 objects_set : (k : Known) (vs ws : List Variable) (file : Table) → VariablesStay vs ws → LaidObjects k vs file → LaidObjects k ws file
 objects_set k vs ws file x h name type i e =
@@ -308,8 +303,7 @@ value_fitted line name type inits c flat h w ks st fit =
 
 file_name_fitted : (line : ℕ) (storage : Storage) (name : List ℕ) (type : PlainType) (inits : Trees) (c : Context) → length c.scopes.inner ≡ 0 → Solid c → Whole (K c) type → Sorts c → SortedType c.tags.made type → Fitted c → Led Fitted (file_name line storage name type inits c)
 file_name_fitted line Typedef name type inits c flat h w ks st fit = λ d q. fitted_on c d (declared_levels line name (n.Typedef type) c c tt (levels_refl c) d q).settled (typedef_rises c c (rises_refl c h) line name type w (λ x. st) d q).more fit
-file_name_fitted line Outside name type inits c flat h w ks st fit = value_fitted line name type inits c flat h w ks st fit
-file_name_fitted line storages.Plain name type inits c flat h w ks st fit = value_fitted line name type inits c flat h w ks st fit
+file_name_fitted line other name type inits c flat h w ks st fit = value_fitted line name type inits c flat h w ks st fit
 
 name_fitted : (line : ℕ) (storage : Storage) (name : Option (List ℕ)) (type : PlainType) (inits : Trees) (c : Context) → length c.scopes.inner ≡ 0 → Solid c → Whole (K c) type → Sorts c → SortedType c.tags.made type → Fitted c → Led Fitted (name_in true line storage name type inits c)
 name_fitted line storage None type inits c flat h w ks st fit = led_ok Fitted c fit

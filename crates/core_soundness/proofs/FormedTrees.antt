@@ -44,27 +44,22 @@ strings_formed (tree ▹ rest) scope a = strings_alone (tree ▹ rest) scope a
 
 line_alone : (parts : Trees) (scope : Scope) → AllAllowed parts (p.Line ∷ []) scope → NoNodes parts
 unfolding AllAllowed Takes
-line_alone none scope a = tt
-line_alone (Leaf word ▹ none) scope a = tt
 line_alone (Leaf word ▹ more ▹ rest) scope a = absurd a.2
-line_alone (At line ▹ none) scope a = tt
 line_alone (At line ▹ more ▹ rest) scope a = absurd a.2
 line_alone (Node form parts ▹ rest) scope a = absurd (no_line form a.0)
+line_alone other scope a = tt
 
 name_alone : (parts : Trees) (scope : Scope) → AllAllowed parts (p.Name ∷ []) scope → NoNodes parts
 unfolding AllAllowed Takes
-name_alone none scope a = tt
-name_alone (Leaf word ▹ none) scope a = tt
 name_alone (Leaf word ▹ more ▹ rest) scope a = absurd a.2
-name_alone (At line ▹ none) scope a = tt
 name_alone (At line ▹ more ▹ rest) scope a = absurd a.2
 name_alone (Node form parts ▹ rest) scope a = absurd (no_name form a.0)
+name_alone other scope a = tt
 
 at_most : (parts : Trees) (place : Place) (scope : Scope) → AllAllowed parts (place ∷ []) scope → AtMostOne parts
 unfolding AllAllowed
-at_most none place scope a = tt
-at_most (tree ▹ none) place scope a = tt
 at_most (tree ▹ more ▹ rest) place scope a = absurd a.2
+at_most other place scope a = tt
 
 -- specs
 
@@ -203,9 +198,8 @@ params_formed (At line) h = let e : p.Line ≡ p.Params = h in cc
 params_formed (Node form parts) h = (parts, ap (λ (x : Form). Node x parts) (params_form form h))
 
 array_formed : (line : ℕ) (parts : Trees) → AtMostOne parts → IsSuffix (Node f.ArraySuffix (At line ▹ Node f.MaybeLength parts ▹ none))
-array_formed line none h = tt
-array_formed line (e ▹ none) h = tt
 array_formed line (e ▹ more ▹ rest) h = absurd h
+array_formed line other h = tt
 
 suffix_formed : (tree : Tree) (scope : Scope) → home tree ≡ p.Suffix → Allowed tree scope → IsSuffix tree
 unfolding Allowed AllAllowed Takes shape form_home
@@ -234,10 +228,8 @@ suffixes_formed (tree ▹ rest) scope a = (suffix_formed tree scope a.0 a.1, suf
 -- what is no specs keeps whether typedef names are declared
 typedef_kept : (tree : Tree) (scope : Scope) → (home tree ≡ p.Specs → ⊥) → (after tree scope).typedef ≡ scope.typedef
 unfolding after left form_home
-typedef_kept (Leaf word) scope n = refl
-typedef_kept (At line) scope n = refl
 typedef_kept (Node f.Specs parts) scope n = absurd (n refl)
-typedef_kept (Node form parts) scope n = refl
+typedef_kept other scope n = refl
 
 typedef_begun : (words : Tree) (scope : Scope) → of_typedefs words ≡ true → (after words scope).typedef ≡ true
 unfolding after left
@@ -335,9 +327,8 @@ mutual
   unfolding Allowed AllAllowed Formed AllFormed
 
   tree_formed : (tree : Tree) (scope : Scope) → Allowed tree scope → Formed tree
-  tree_formed (Leaf word) scope a = tt
-  tree_formed (At line) scope a = tt
   tree_formed (Node form parts) scope a = (shaped form parts scope a.0 a.1, trees_formed parts (places (shape form (count parts))) scope a.1)
+  tree_formed other scope a = tt
 
   trees_formed : (trees : Trees) (ps : List Place) (scope : Scope) → AllAllowed trees ps scope → AllFormed trees
   trees_formed none ps scope a = tt

@@ -122,11 +122,10 @@ part_same false t = refl
 words_taken : (parts : Trees) (ps : List Place) (t : Taken) → NoNodes parts → all_taken parts ps t ≡ t
 unfolding taken all_taken
 words_taken none ps t h = refl
-words_taken (Leaf word ▹ rest) [] t h = refl
 words_taken (Leaf word ▹ rest) (place ∷ ps) t h = ap (λ (u : Taken). all_taken rest ps u) (part_same (is_scope place) t) ∙ words_taken rest ps t h
-words_taken (At line ▹ rest) [] t h = refl
 words_taken (At line ▹ rest) (place ∷ ps) t h = ap (λ (u : Taken). all_taken rest ps u) (part_same (is_scope place) t) ∙ words_taken rest ps t h
 words_taken (Node form parts ▹ rest) ps t h = absurd h
+words_taken other [] t h = refl
 
 pub empty_taken : (parts : Trees) (t : Taken) → Formed (Node f.Empty parts) → t ≡ taken (Node f.Empty parts) t
 unfolding taken left Formed Shaped

@@ -46,12 +46,11 @@ word_held word token l h = tt
 spelled_fit : (pieces : List Piece) (tokens rest : List Token) → All IsLexed tokens → Spells pieces tokens rest → AllFit pieces
 unfolding Spells
 spelled_fit [] tokens rest l h = tt
-spelled_fit (Said word ∷ pieces) [] rest l h = absurd h
 spelled_fit (Said word ∷ pieces) (token ∷ tokens) rest l h =
     (word_held word token (l 0 token (omega arith)) h.0, spelled_fit pieces tokens rest (All-tail IsLexed token tokens l) h.1)
-spelled_fit (Line line ∷ pieces) [] rest l h = absurd h
 spelled_fit (Line line ∷ pieces) (token ∷ tokens) rest l h =
     (subst (λ (k : ℕ). 1 ≤ k) h.0 (l 0 token (omega arith)).1, spelled_fit pieces (token ∷ tokens) rest l h.1)
+spelled_fit other [] rest l h = absurd h
 
 parts_fit : (one other : List Piece) → AllFit (one ++ other) → AllFit one × AllFit other
 parts_fit [] other h = (tt, h)
@@ -63,12 +62,11 @@ unfolding AllAllowed spell_all
 filled_fit [] none scope a h = tt
 filled_fit [] (tree ▹ rest) scope a h = absurd a
 filled_fit (Says word ∷ items) parts scope a h = filled_fit items parts scope a h.1
-filled_fit (Here ∷ items) none scope a h = absurd a
 filled_fit (Here ∷ items) (tree ▹ rest) scope a h =
     let r = parts_fit (spell tree) (filled items (spell_all rest)) h in (r.0, filled_fit items rest _ a.2 r.1)
-filled_fit (Part place ∷ items) none scope a h = absurd a
 filled_fit (Part place ∷ items) (tree ▹ rest) scope a h =
     let r = parts_fit (spell tree) (filled items (spell_all rest)) h in (r.0, filled_fit items rest _ a.2 r.1)
+filled_fit other none scope a h = absurd a
 
 has_parts : (form : Form) (parts : Trees) (scope : Scope) → AllAllowed parts (places (shape form (count parts))) scope → HasParts form parts
 unfolding shape AllAllowed HasParts Takes
@@ -84,10 +82,9 @@ mutual
   unfolding Allowed AllAllowed spell spell_all Written AllWritten
 
   tree_written : (tree : Tree) (scope : Scope) → Allowed tree scope → AllFit (spell tree) → Written tree
-  tree_written (Leaf word) scope a h = h.0
-  tree_written (At line) scope a h = h.0
   tree_written (Node form parts) scope a h =
       (has_parts form parts scope a.1, trees_written parts (places (shape form (count parts))) scope a.1 (filled_fit (shape form (count parts)) parts scope a.1 h))
+  tree_written other scope a h = h.0
 
   trees_written : (trees : Trees) (ps : List Place) (scope : Scope) → AllAllowed trees ps scope → EachFit (spell_all trees) → AllWritten trees
   trees_written none ps scope a h = tt
@@ -122,8 +119,7 @@ list_first : (suffixes : Trees) → IsSome (suffix_params (Node f.Suffixes suffi
 unfolding suffix_params
 list_first (Node f.FunctionSuffix parts ▹ rest) e = inl tt
 list_first (Node f.VoidSuffix parts ▹ rest) e = inl tt
-list_first none e = no_list e
-list_first (tree ▹ rest) e = no_list e
+list_first other e = no_list e
 
 pub behind_stars : (consts : ℕ) → places (replicate consts (key k.Const) ++ Part p.AnyDeclarator ∷ []) ≡ p.AnyDeclarator ∷ []
 behind_stars zero = refl
@@ -195,8 +191,6 @@ either (inr x) f = inr x
 
 has_list : (tree : Tree) (scope : Scope) → Allowed tree scope → (home tree ≡ p.Declared → ⊥) → IsSome (params_of tree) → HasParameters tree
 unfolding Allowed AllAllowed params_of params_among leads_to_name HasParameters shape Takes form_home
-has_list (Leaf word) scope a n h = no_list h
-has_list (At line) scope a n h = no_list h
 has_list (Node (f.Pointer consts) (At line ▹ declarator ▹ none)) scope a n h =
     let b : AllAllowed (At line ▹ declarator ▹ none) (p.Line ∷ p.AnyDeclarator ∷ []) scope = subst (λ (ps : List Place). AllAllowed (At line ▹ declarator ▹ none) (p.Line ∷ ps) scope) (behind_stars consts) a.1 in
     has_list declarator _ b.2.1 (declarator_named (home declarator) b.2.0) (alone declarator h)
@@ -214,7 +208,7 @@ has_list (Node f.Parens parts) scope a n h =
     let r = line_parts parts p.PointerLayer scope a.1 in
     let e : parts ≡ (At r.0 ▹ r.1 ▹ none) = r.2 in cc
 has_list (Node f.Declared parts) scope a n h = absurd (n refl)
-has_list (Node form parts) scope a n h = no_list h
+has_list other scope a n h = no_list h
 
 -- external declarations
 

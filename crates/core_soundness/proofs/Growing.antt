@@ -56,10 +56,9 @@ object_grew w v i g (is_literal k e h) = is_literal k e (omega (arith, h, g.lite
 
 pub holds_grew : (w v : World) (sort : Sort) (a : Atom) → Grew w v → Holds w sort a → Holds v sort a
 holds_grew w v sort (atom.Reg r) g h = register_grew w v sort r g h
-holds_grew w v sort (atom.Int k) g h = h
-holds_grew w v sort atom.Null g h = h
 holds_grew w v sort (atom.Static i) g h = (h.0, object_grew w v i g h.1)
 holds_grew w v sort (atom.Mem m) g h = (h.0, omega (arith, h.1, g.mems))
+holds_grew w v sort other g h = h
 
 pub all_grew : (w v : World) (sorts : List Sort) (atoms : List Atom) → Grew w v → HoldAll w sorts atoms → HoldAll v sorts atoms
 all_grew w v [] [] g h = tt
@@ -96,10 +95,8 @@ fits_grew w v (Store k p a) g h = (holds_grew w v Pointer p g h.0, holds_grew w 
 fits_grew w v (Storep p q) g h = (holds_grew w v Pointer p g h.0, holds_grew w v Pointer q g h.1)
 fits_grew w v (Copy p q k) g h = (holds_grew w v Pointer p g h.0, holds_grew w v Pointer q g h.1)
 fits_grew w v (Clear p k) g h = holds_grew w v Pointer p g h
-fits_grew w v (Jump l) g h = tt
 fits_grew w v (Zero a l) g h = holds_grew w v Integer a g h
 fits_grew w v (Case a k l) g h = holds_grew w v Integer a g h
-fits_grew w v (Loop l) g h = tt
 fits_grew w v (Call f r args) g h = record {
   name = h.name;
   answer = h.answer;
@@ -108,6 +105,7 @@ fits_grew w v (Call f r args) g h = record {
   called = (h.called.0, h.called.1, g.calls h.called.0 (f, h.called.1) h.called.2);
   takes = all_grew w v _ args g h.takes;
   gives = receives_grew w v _ r g h.gives;
+fits_grew w v other g h = tt
 }
 fits_grew w v (Malloc r k t) g h = (register_grew w v Pointer r g h.0, holds_grew w v Integer k g h.1)
 fits_grew w v (Calloc r m k t) g h = (register_grew w v Pointer r g h.0, holds_grew w v Integer m g h.1, holds_grew w v Integer k g h.2)
@@ -115,9 +113,8 @@ fits_grew w v (Realloc r p k t) g h = (register_grew w v Pointer r g h.0, holds_
 fits_grew w v (Free p) g h = holds_grew w v Pointer p g h
 fits_grew w v (Lib name r args) g h = (receives_grew w v _ r g h.0, all_grew w v _ args g h.1)
 fits_grew w v (Printf r k args) g h = (register_grew w v Integer r g h.0, printed_grew w v args k (slice_get w.formats k) refl g h.1)
-fits_grew w v Enter g h = tt
-fits_grew w v Leave g h = tt
 fits_grew w v (Return a) g h = absurd h
+fits_grew w v other g h = tt
 
 pub answer_grew : (w v : World) (answer : Option Sort) (a : Option Atom) → Grew w v → FitsAnswer w answer a → FitsAnswer v answer a
 answer_grew w v None None g h = tt

@@ -115,8 +115,7 @@ operand_of_keeps line e (Number ty) d z q =
     let v = convert_integer line (promoted ty) ty (atom_in d.1) d.0 in
     subst (λ (y : Context × (IntType × Atom)). Keeps d.0 y.0) (ok_same (closed e v.0, (promoted ty, v.1)) z q)
     (keeps_trans d.0 v.0 (closed e v.0) (grows_keeps d.0 v.0 (grows_convert_integer line (promoted ty) ty (atom_in d.1) d.0)) (closed_keeps e v.0))
-operand_of_keeps line e (PointerTo target) d z q = never _ _ z q
-operand_of_keeps line e Neither d z q = never _ _ z q
+operand_of_keeps line e other d z q = never _ _ z q
 
 pub operand_keeps : (line : ℕ) (e : Tree) (c : Context) (z : Context × (IntType × Atom)) → switch_operand line e c ≡ Ok z → Keeps c z.0
 operand_keeps line e c z q =

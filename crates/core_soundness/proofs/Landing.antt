@@ -65,11 +65,7 @@ found_name w file (table ∷ outer) name v h e = by (named_in name table) refl (
 scalar_held : (w : World) (type : PlainType) (k : ℕ) → is_scalar type ≡ true → local_sort w k ≡ Some (type_sort type) → Held w type (atom.Reg (local_register k))
 scalar_held w (types.Int ty) k s h = is_local k refl h
 scalar_held w (types.Pointer target) k s h = is_local k refl h
-scalar_held w types.Void k s h = tt
-scalar_held w (types.Array element length) k s h = tt
-scalar_held w (types.Struct tag) k s h = tt
-scalar_held w (types.Union tag) k s h = tt
-scalar_held w (types.Function answer params) k s h = tt
+scalar_held w other k s h = tt
 
 built_in_stands : (w : World) (line : ℕ) (name : BuiltIn) (o : Option Constant) (e : PlainTyped) → built_in_value line name o ≡ Ok e → Stands w (built_in_found e e.is_null)
 built_in_stands w line built.Null o e h = subst (λ (x : PlainTyped). Stands w (built_in_found x x.is_null)) (ok_same _ e h) refl
@@ -91,9 +87,7 @@ name_stands w file inner line (n.Object type k) e (inr f) h =
     subst (λ (x : PlainTyped). Stands w (name_found x inner (Some (n.Object type k)))) (ok_same (place type) e h) (subst (λ (x : Bool). Stands w (object_found (place type) x k)) (sym f.0) (refl, is_variable k refl f.1))
 name_stands w file inner line (n.BuiltIn index) e f h = built_in_at w line (slice_get built_ins index) e h
 name_stands w file inner line (n.Constant type k) e f h = subst (λ (x : PlainTyped). Stands w (constant_found x)) (ok_same _ e h) refl
-name_stands w file inner line (n.Function type k) e f h = never _ _ e h
-name_stands w file inner line (n.Typedef type) e f h = never _ _ e h
-name_stands w file inner line (n.Tag type) e f h = never _ _ e h
+name_stands w file inner line other e f h = never _ _ e h
 
 pub name_lands : (line : ℕ) (name : List ℕ) (c : Context) (z : Context × Found) → NamesFit (world c) c.scopes → name_answer line name (declaration c.scopes name) c ≡ Ok z → Sits c z
 name_lands line name c z f h = by (declaration c.scopes name) refl h
@@ -151,8 +145,7 @@ string_lands line bytes c z h =
 pub in_memory : (w : World) (type : PlainType) (spot : Spot) (e : Found) → e.spot ≡ spot → is_scalar type ≡ false → StandsAs w true type spot → Holds w Pointer (atom_in e)
 in_memory w type (Local r) e q s h = let clash : false ≡ true = sym s ∙ h.0 in cc
 in_memory w type (Memory a) e q s h = subst (λ (x : Spot). Holds w Pointer (atom_in (record e { spot = x }))) (sym q) h
-in_memory w type (Value a) e q s h = absurd h
-in_memory w type Empty e q s h = absurd h
+in_memory w type other e q s h = absurd h
 
 -- a pointer in hand is a place
 at_lands : (c : Context) (type : PlainType) (fixed : Fixed) (d : Context × Atom) → Gives c Pointer d → Lands c (at_address (place type) fixed d)
@@ -177,11 +170,8 @@ element_moves : (line : ℕ) (c : Context) (s t : Operand) (typed : PlainTyped) 
 unfolding IsPlaced
 element_moves line c (PointerTo target) (Number ty) typed p q l e h k = ((target, moved_is line c.tags target (place target) typed e), added_first line c target ty p q (move_gives line bin.Add target p q c l h k))
 element_moves line c (Number ty) (PointerTo target) typed p q l e h k = ((target, moved_is line c.tags target (place target) typed e), added_last line c target ty p q (move_gives line bin.Add target q p c l k h))
-element_moves line c (PointerTo target) (PointerTo other) typed p q l e h k = never _ _ typed e
-element_moves line c (PointerTo target) Neither typed p q l e h k = never _ _ typed e
-element_moves line c (Number ty) (Number other) typed p q l e h k = never _ _ typed e
-element_moves line c (Number ty) Neither typed p q l e h k = never _ _ typed e
 element_moves line c Neither t typed p q l e h k = never _ _ typed e
+element_moves line c others other typed p q l e h k = never _ _ typed e
 
 pub indexed_lands : (line : ℕ) (c : Context) (x y : Found) (z : Context × Found) → 1 ≤ line → HasValue (world c) x → HasValue (world c) y → indexed line c x y ≡ Ok z → Lands c z
 indexed_lands line c x y z l h k q =
@@ -201,11 +191,7 @@ member_placed line name (Some members) typed e = by _ e
 member_of_placed : (line : ℕ) (name : List ℕ) (tags : TagTable) (type : PlainType) (typed : PlainTyped) → places.member_of line name tags type ≡ Ok typed → IsPlaced typed × (is_scalar type ≡ false)
 member_of_placed line name tags (types.Struct tag) typed e = (member_placed line name (members_in tags tag) typed e, refl)
 member_of_placed line name tags (types.Union tag) typed e = (member_placed line name (members_in tags tag) typed e, refl)
-member_of_placed line name tags types.Void typed e = never _ _ typed e
-member_of_placed line name tags (types.Int ty) typed e = never _ _ typed e
-member_of_placed line name tags (types.Pointer target) typed e = never _ _ typed e
-member_of_placed line name tags (types.Array element length) typed e = never _ _ typed e
-member_of_placed line name tags (types.Function answer params) typed e = never _ _ typed e
+member_of_placed line name tags other typed e = never _ _ typed e
 
 pub not_false : (k : Bool) → not k ≡ false → k ≡ true
 not_false true e = refl
@@ -221,8 +207,7 @@ dotted_lands line name c e z l h q =
 
 arrow_placed : (line : ℕ) (name : List ℕ) (w : World) (tags : TagTable) (o : Operand) (typed : PlainTyped) (a : Atom) → arrow_of line name tags o ≡ Ok typed → HeldAs w o a → IsPlaced typed × Holds w Pointer a
 arrow_placed line name w tags (PointerTo target) typed a e h = ((member_of_placed line name tags target typed e).0, h)
-arrow_placed line name w tags (Number ty) typed a e h = never _ _ typed e
-arrow_placed line name w tags Neither typed a e h = never _ _ typed e
+arrow_placed line name w tags other typed a e h = never _ _ typed e
 
 pub pointed_lands : (line : ℕ) (name : List ℕ) (c : Context) (e : Found) (z : Context × Found) → 1 ≤ line → HasValue (world c) e → pointed line name c e ≡ Ok z → Lands c z
 pointed_lands line name c e z l h q =
@@ -237,8 +222,7 @@ InMemory e = (r : ℕ) → e.spot ≡ Local r → ⊥
 address_held : (w : World) (type : PlainType) (spot : Spot) (e : Found) → e.spot ≡ spot → InMemory e → StandsAs w true type spot → Holds w Pointer (atom_in e)
 address_held w type (Local r) e q n h = absurd (n r q)
 address_held w type (Memory a) e q n h = subst (λ (x : Spot). Holds w Pointer (atom_in (record e { spot = x }))) (sym q) h
-address_held w type (Value a) e q n h = absurd h
-address_held w type Empty e q n h = absurd h
+address_held w type other e q n h = absurd h
 
 pub address_lands : (line : ℕ) (c : Context) (e : Found) (z : Context × Found) → InMemory e → Stands (world c) e → address_answer line c e ≡ Ok z → Lands c z
 address_lands line c e z m h q =
@@ -271,20 +255,12 @@ tested_not line tree typed c e z l l2 h s p q k =
 number_scalar : (type : PlainType) (ty : IntType) → operand type ≡ Number ty → is_scalar type ≡ true
 number_scalar (types.Int t) ty e = refl
 number_scalar (types.Pointer t) ty e = refl
-number_scalar types.Void ty e = cc
-number_scalar (types.Array element length) ty e = cc
-number_scalar (types.Struct tag) ty e = cc
-number_scalar (types.Union tag) ty e = cc
-number_scalar (types.Function answer params) ty e = cc
+number_scalar other ty e = cc
 
 pointer_scalar : (type target : PlainType) → operand type ≡ PointerTo target → is_scalar type ≡ true
 pointer_scalar (types.Int t) ty e = refl
 pointer_scalar (types.Pointer t) ty e = refl
-pointer_scalar types.Void ty e = cc
-pointer_scalar (types.Array element length) ty e = cc
-pointer_scalar (types.Struct tag) ty e = cc
-pointer_scalar (types.Union tag) ty e = cc
-pointer_scalar (types.Function answer params) ty e = cc
+pointer_scalar other ty e = cc
 
 -- `+`, `-` and `~`
 calculated_lands : (line : ℕ) (op : UnaryOp) (typed : PlainTyped) (o : Operand) (c : Context) (e : Found) (z : Context × Found) (s : IntType) → 1 ≤ line → HeldAs (world c) o (atom_in e) → (ty : IntType) → o ≡ Number s → typed.is_place ≡ false → typed.type ≡ types.Int ty
@@ -292,8 +268,7 @@ calculated_lands : (line : ℕ) (op : UnaryOp) (typed : PlainTyped) (o : Operand
 calculated_lands line op typed (Number t) c e z s l h ty q p r k =
     let m = made_comes c typed Unknown _ z (integer_made c ty typed _ p r (before_gives line op t (atom_in e) c l h)) k in
     comes_lands c z m
-calculated_lands line op typed (PointerTo target) c e z s l h ty q p r k = cc
-calculated_lands line op typed Neither c e z s l h ty q p r k = cc
+calculated_lands line op typed other c e z s l h ty q p r k = cc
 
 IsNumberType : PlainTyped → Type 0
 IsNumberType typed = (ty : IntType) × (typed.is_place ≡ false) × (typed.type ≡ types.Int ty)
@@ -328,9 +303,8 @@ not_typed line e typed (PointerTo target) h = let r = not_result int typed refl 
 not_typed line e typed Neither h = never _ _ typed h
 
 deref_lands : (line : ℕ) (c : Context) (o : Operand) (e : Found) (typed : PlainTyped) (z : Context × Found) → HeldAs (world c) o (atom_in e) → unary_of line u.Deref e.typed o ≡ Ok typed → good (c, found_as typed (Memory (atom_in e)) e.fixed) ≡ Ok z → Lands c z
-deref_lands line c (Number ty) e typed z h t k = never _ _ typed t
 deref_lands line c (PointerTo target) e typed z h t k = subst (Lands c) (ap (λ (x : PlainTyped). (c, found_as x (Memory (atom_in e)) e.fixed)) (ok_same (place target) typed t) ∙ ok_same _ z k) (record { goes = goes_refl c; stands = h; apart = tt })
-deref_lands line c Neither e typed z h t k = never _ _ typed t
+deref_lands line c other e typed z h t k = never _ _ typed t
 
 plain_lands : (line : ℕ) (op : UnaryOp) (typed : PlainTyped) (c : Context) (e : Found) (z : Context × Found) → IsPlain op → 1 ≤ line → HasValue (world c) e → unary line op c.tags e.typed ≡ Ok typed → good (before_number line op typed (operand e.typed.type) c e) ≡ Ok z → Lands c z
 plain_lands line op typed c e z p l h t k = let r = plain_number line op e.typed typed (operand e.typed.type) p t in plain_applied line op (operand e.typed.type) typed c e z l h.held r.1 r.0.0 r.0.1 k
@@ -352,12 +326,7 @@ applied_lands line op tree c e z l l2 h q =
 -- what comes next, where it is known ahead
 pub is_pointed : (type : PlainType) → is_pointer_operand (operand type) ≡ true → IsPointed (operand type)
 is_pointed (types.Pointer target) e = tt
-is_pointed types.Void e = cc
-is_pointed (types.Int ty) e = cc
-is_pointed (types.Array element length) e = cc
-is_pointed (types.Struct tag) e = cc
-is_pointed (types.Union tag) e = cc
-is_pointed (types.Function answer params) e = cc
+is_pointed other e = cc
 
 and_first : (x y : Bool) → x && y ≡ true → x ≡ true
 and_first true y e = refl
@@ -395,19 +364,15 @@ cast_converts : (line : ℕ) (type : PlainType) (e typed : PlainTyped) (s t : Op
 cast_converts line type e typed (Number ty) (Number source) o h = subst (λ (x : PlainTyped). (x.is_place ≡ false) × (operand x.type ≡ operand type) × Unit {0}) (ok_same _ typed h) (refl, sym o, tt)
 cast_converts line type e typed (PointerTo target) (PointerTo source) o h = subst (λ (x : PlainTyped). (x.is_place ≡ false) × (operand x.type ≡ operand type) × Unit {0}) (ok_same _ typed h) (refl, refl, tt)
 cast_converts line type e typed (PointerTo target) (Number source) o h = subst (λ (x : PlainTyped). (x.is_place ≡ false) × (operand x.type ≡ operand type) × Unit {0}) (ok_same (null_pointer type target) typed (beside_is line e _ typed h)) (refl, refl, tt)
-cast_converts line type e typed (Number ty) (PointerTo source) o h = never _ _ typed h
-cast_converts line type e typed (Number ty) Neither o h = never _ _ typed h
 cast_converts line type e typed (PointerTo target) Neither o h = never _ _ typed h
 cast_converts line type e typed Neither t o h = never _ _ typed h
+cast_converts line type e typed (Number ty) other o h = never _ _ typed h
 
 cast_typed : (line : ℕ) (type : PlainType) (e typed : PlainTyped) → cast line type e ≡ Ok typed → (typed.is_place ≡ false) × (operand typed.type ≡ operand type) × Converting (operand type) (operand e.type)
 cast_typed line types.Void e typed h = subst (λ (x : PlainTyped). (x.is_place ≡ false) × (operand x.type ≡ Neither) × Unit {0}) (ok_same (value types.Void) typed h) (refl, refl, tt)
 cast_typed line (types.Int ty) e typed h = cast_converts line (types.Int ty) e typed (Number ty) (operand e.type) refl h
 cast_typed line (types.Pointer target) e typed h = cast_converts line (types.Pointer target) e typed (PointerTo target) (operand e.type) refl h
-cast_typed line (types.Array element length) e typed h = never _ _ typed h
-cast_typed line (types.Struct tag) e typed h = never _ _ typed h
-cast_typed line (types.Union tag) e typed h = never _ _ typed h
-cast_typed line (types.Function answer params) e typed h = never _ _ typed h
+cast_typed line other e typed h = never _ _ typed h
 
 pub cast_lands : (line : ℕ) (type : PlainType) (b c : Context) (e : Found) (z : Context × Found) → 1 ≤ line → Goes b c → HasValue (world c) e → cast_to line type b.code c e ≡ Ok z → Comes b z
 cast_lands line type b c e z l g h q =

@@ -156,11 +156,7 @@ named_runs answer (Some name) v k c deep i h f = rescoped answer c (with_name c.
 register_held : (w : World) (type : PlainType) (k : ℕ) → local_sort w k ≡ Some (type_sort type) → Held w type (atom.Reg (local_register k))
 register_held w (Int ty) k h = is_local k refl h
 register_held w (Pointer target) k h = is_local k refl h
-register_held w Void k h = tt
-register_held w (Array element length) k h = tt
-register_held w (Struct tag) k h = tt
-register_held w (Union tag) k h = tt
-register_held w (Function result params) k h = tt
+register_held w other k h = tt
 
 pub last_sort : (name : Option (List ℕ)) (type : PlainType) (c : Context) → local_sort (world (with_register name type c)) (length c.running.locals) ≡ Some (type_sort type)
 last_sort name type c = ap (λ (o : Option Register). option_map sort_of o) (get_last c.running.locals (record { name = name; pointer = is_pointer type }))

@@ -62,8 +62,7 @@ fill_register_passes line type (init ▹ rest) register c s =
 fill_at_passes : (line : ℕ) (type : PlainType) (inits : Trees) (spot : Spot) (c : Context) → Safe c.scopes → Led (Passes c) (fill_at line type inits spot c)
 fill_at_passes line type inits (Local register) c s = fill_register_passes line type inits register c s
 fill_at_passes line type inits (Memory mem) c s = fill_memory_passes line type inits mem c s
-fill_at_passes line type inits (Value a) c s = led_ok (Passes c) c (passes_refl c s)
-fill_at_passes line type inits Empty c s = led_ok (Passes c) c (passes_refl c s)
+fill_at_passes line type inits other c s = led_ok (Passes c) c (passes_refl c s)
 
 led_on : (b c : Context) (r : Checked Context) → Passes b c → Led (Passes c) r → Led (Passes b) r
 led_on b c r p h d e = passes_trans b c d p (h d e)
@@ -187,8 +186,7 @@ file_value_stays line name type inits c s flat = by (is_function type)
 
 file_name_stays : (line : ℕ) (storage : Storage) (name : List ℕ) (type : PlainType) (inits : Trees) (c : Context) → Safe c.scopes → length c.scopes.inner ≡ 0 → Led (Stays c) (file_name line storage name type inits c)
 file_name_stays line Typedef name type inits c s flat = λ d h. (declared_passes line name (n.Typedef type) c c refl tt (passes_refl c s) d h).stays
-file_name_stays line Outside name type inits c s flat = file_value_stays line name type inits c s flat
-file_name_stays line Plain name type inits c s flat = file_value_stays line name type inits c s flat
+file_name_stays line other name type inits c s flat = file_value_stays line name type inits c s flat
 
 -- names with their initializers, at file scope and inside functions
 pub record Declares (file : Bool) (b c : Context) : Type 0 where

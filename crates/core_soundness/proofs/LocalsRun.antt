@@ -72,11 +72,7 @@ fill_memory_goes line type (init ▹ rest) (atom.Static v) c z l p g h q = subst
 zero_set : (line : ℕ) (type : PlainType) (register : ℕ) (c : Context) → 1 ≤ line → StandsAs (world c) true type (Local register) → Goes c (emit line (Set register (zero_of type)) c)
 zero_set line (types.Int ty) register c l h = goes_emit line (Set register (atom.Int (pos 0))) c l (Integer, h.1, refl)
 zero_set line (types.Pointer target) register c l h = goes_emit line (Set register atom.Null) c l (Pointer, h.1, refl)
-zero_set line Void register c l h = let clash : false ≡ true = h.0 in cc
-zero_set line (Array element length) register c l h = let clash : false ≡ true = h.0 in cc
-zero_set line (Struct tag) register c l h = let clash : false ≡ true = h.0 in cc
-zero_set line (Union tag) register c l h = let clash : false ≡ true = h.0 in cc
-zero_set line (Function answer params) register c l h = let clash : false ≡ true = h.0 in cc
+zero_set line other register c l h = let clash : false ≡ true = h.0 in cc
 
 fill_register_goes : (line : ℕ) (type : PlainType) (inits : Trees) (register : ℕ) (c z : Context) → 1 ≤ line → AllSpoken c.scopes inits → Fine c → StandsAs (world c) true type (Local register) → fill_register line type inits register c ≡ Ok z → Goes c z
 unfolding AllSpoken
@@ -89,8 +85,7 @@ fill_register_goes line type (init ▹ rest) register c z l p g h q =
 fill_at_goes : (line : ℕ) (type : PlainType) (inits : Trees) (spot : Spot) (c z : Context) → 1 ≤ line → AllSpoken c.scopes inits → Fine c → StandsAs (world c) true type spot → fill_at line type inits spot c ≡ Ok z → Goes c z
 fill_at_goes line type inits (Local register) c z l p g h q = fill_register_goes line type inits register c z l p g h q
 fill_at_goes line type inits (Memory mem) c z l p g h q = fill_memory_goes line type inits mem c z l p g h q
-fill_at_goes line type inits (Value a) c z l p g h q = absurd h
-fill_at_goes line type inits Empty c z l p g h q = absurd h
+fill_at_goes line type inits other c z l p g h q = absurd h
 
 module _ (answer : Option Sort) where
   local_object_runs : (line : ℕ) (name : List ℕ) (type : PlainType) (inits : Trees) (k : ℕ) (c z : Context) → 1 ≤ line → LocalSpoken line name type inits c z → Fine c → length c.scopes.inner ≡ suc k → local_object line name type inits c ≡ Ok z → Runs answer c z
@@ -171,13 +166,7 @@ more_variables answer c v bytes g =
 
 number_small : (c : Context) (o : Option PlainNamed) → ((v : PlainNamed) → o ≡ Some v → FileFits (world c) v) → variable_number_of c o ≤ length c.variables
 number_small c (Some (n.Object type i)) h = omega (arith, h (n.Object type i) refl)
-number_small c (Some (n.Register type i)) h = omega arith
-number_small c (Some (n.Function type i)) h = omega arith
-number_small c (Some (n.Typedef type)) h = omega arith
-number_small c (Some (n.Constant type i)) h = omega arith
-number_small c (Some (n.BuiltIn i)) h = omega arith
-number_small c (Some (n.Tag type)) h = omega arith
-number_small c None h = omega arith
+number_small c other h = omega arith
 
 -- a variable with its name
 variable_runs : (answer : Option Sort) (line index : ℕ) (name : List ℕ) (type : PlainType) (c z : Context) → length c.scopes.inner ≡ 0 → index ≤ length c.variables → Fine c → with_variable line index name type (record c { scopes = after_declaration c.scopes name (n.Object type index) }) ≡ Ok z → Runs answer c z
@@ -262,8 +251,7 @@ place_on false c d e h = (h.0, e ∙ h.1)
 
 file_name_runs : (answer : Option Sort) (line : ℕ) (storage : Storage) (name : List ℕ) (type : PlainType) (inits : Trees) (c z : Context) → AllWritten inits → Fine c → length c.scopes.inner ≡ 0 → file_name line storage name type inits c ≡ Ok z → Runs answer c z
 file_name_runs answer line Typedef name type inits c z p g flat q = declared_runs answer line name (n.Typedef type) c c tt tt tt (runs_refl answer c g) z q
-file_name_runs answer line Outside name type inits c z p g flat q = file_value_runs answer line name type inits c z p g flat q
-file_name_runs answer line storages.Plain name type inits c z p g flat q = file_value_runs answer line name type inits c z p g flat q
+file_name_runs answer line other name type inits c z p g flat q = file_value_runs answer line name type inits c z p g flat q
 
 -- what is asked of the initializers of a name at its place
 abbrev NameSpoken : Bool → ℕ → Option (List ℕ) → PlainType → Trees → Context → Context → Type 0

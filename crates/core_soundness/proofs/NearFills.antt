@@ -108,8 +108,7 @@ fill_record_near k e line type offset c d (InMemory at mem) g =
     let place = member_place at mem offset d.0 in
     let s = copy_to at type (atom_in d.1) place in
     reached_ok (Near (k + 3) c) (closed e s, InMemory at mem) (near_on k 1 (k + 3) (omega arith) g (near_on 1 0 1 (omega arith) (place_near at mem offset d.0) (closed_near e s)))
-fill_record_near k e line type offset c d (InRegister at register) g = reached_refused (Near (k + 3) c) NotConstant line
-fill_record_near k e line type offset c d (InStatic start) g = reached_refused (Near (k + 3) c) NotConstant line
+fill_record_near k e line type offset c d other g = reached_refused (Near (k + 3) c) NotConstant line
 
 whole_near : (e : Tree) (line : ℕ) (type : PlainType) (offset : ℕ) (target : Target) (c : Context) → Reached (Near (weight e + 3) c) (whole e line type offset target c)
 whole_near e line type offset target c =
@@ -193,8 +192,7 @@ fill_register_near line type (init ▹ rest) register c =
 fill_at_near : (line : ℕ) (type : PlainType) (inits : Trees) (spot : Spot) (c : Context) → Led (Near (starting inits) c) (fill_at line type inits spot c)
 fill_at_near line type inits (Local register) c = fill_register_near line type inits register c
 fill_at_near line type inits (Memory mem) c = fill_memory_near line type inits mem c
-fill_at_near line type inits (Value a) c = led_ok (Near (starting inits) c) c (near_most 0 (starting inits) (omega arith) (near_refl c))
-fill_at_near line type inits Empty c = led_ok (Near (starting inits) c) c (near_most 0 (starting inits) (omega arith) (near_refl c))
+fill_at_near line type inits other c = led_ok (Near (starting inits) c) c (near_most 0 (starting inits) (omega arith) (near_refl c))
 
 with_local_near : (name : List ℕ) (type : PlainType) (c : Context) → IsShort name → Near 1 c (with_local name type c).0
 with_local_near name type c h = by (next_is_memory type c)
@@ -309,8 +307,7 @@ file_value_near line name type inits c h = by (is_function type)
 
 file_name_near : (line : ℕ) (storage : Storage) (name : List ℕ) (type : PlainType) (inits : Trees) (c : Context) → IsShort name → Led (Near (1 + starting inits) c) (file_name line storage name type inits c)
 file_name_near line Typedef name type inits c h z q = near_most 0 (1 + starting inits) (omega arith) (declared_near line name (n.Typedef type) c z q)
-file_name_near line Outside name type inits c h z q = file_value_near line name type inits c h z q
-file_name_near line storages.Plain name type inits c h z q = file_value_near line name type inits c h z q
+file_name_near line other name type inits c h z q = file_value_near line name type inits c h z q
 
 name_in_near : (file : Bool) (line : ℕ) (storage : Storage) (name : Option (List ℕ)) (type : PlainType) (inits : Trees) (c : Context) → IfSome name IsShort → Led (Near (1 + starting inits) c) (name_in file line storage name type inits c)
 name_in_near true line storage None type inits c h = led_ok (Near (1 + starting inits) c) c (near_most 0 (1 + starting inits) (omega arith) (near_refl c))

@@ -76,13 +76,7 @@ formats_short (e ▹ rest) line params c z h = some_short (literal e) (first_sho
 called_printf : (line : ℕ) (tags : TagTable) (o : Option PlainNamed) (k : Callee) → called line tags o ≡ Ok k → built_in_at o ≡ Some bi.Printf → k ≡ Prints
 called_printf line tags (Some (n.BuiltIn index)) k h e =
     sym (ok_same Prints k (subst (λ (o : Option BuiltIn). built_in_called line tags o (callee_at o) ≡ Ok k) e h))
-called_printf line tags (Some (n.Function type index)) k h e = cc
-called_printf line tags (Some (n.Object type index)) k h e = cc
-called_printf line tags (Some (n.Register type index)) k h e = cc
-called_printf line tags (Some (n.Typedef type)) k h e = cc
-called_printf line tags (Some (n.Constant type c)) k h e = cc
-called_printf line tags (Some (n.Tag type)) k h e = cc
-called_printf line tags None k h e = cc
+called_printf line tags other k h e = cc
 
 printf_callee : (e : Tree) (c : Context) (answer : With Found) (d : Context × Callee) → callee e c answer ≡ Ok d → built_in_at (callee_name e c) ≡ Some bi.Printf → d.1 ≡ Prints
 printf_callee (Node f.Name (At line ▹ Leaf (w.Name name) ▹ none)) c answer d h e =

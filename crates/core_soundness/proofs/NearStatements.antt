@@ -106,8 +106,7 @@ operand_of_near : (k line : ℕ) (e : Tree) (o : Operand) (c : Context) (d : Con
 operand_of_near k line e (Number ty) c d g =
     let v = convert_integer line (promoted ty) ty (atom_in d.1) d.0 in
     reached_ok (Near (k + 1) c) (closed e v.0, (promoted ty, v.1)) (near_on k 1 (k + 1) (omega arith) g (near_on 1 0 1 (omega arith) (integer_near line (promoted ty) ty (atom_in d.1) d.0) (closed_near e v.0)))
-operand_of_near k line e (PointerTo target) c d g = reached_refused (Near (k + 1) c) Operands (line_of e)
-operand_of_near k line e Neither c d g = reached_refused (Near (k + 1) c) Operands (line_of e)
+operand_of_near k line e other c d g = reached_refused (Near (k + 1) c) Operands (line_of e)
 
 operand_near : (line : ℕ) (e : Tree) (c : Context) → Reached (Near (weight e + 1 + 1) c) (switch_operand line e c)
 operand_near line e c =

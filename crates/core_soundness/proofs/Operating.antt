@@ -120,9 +120,7 @@ move_gives line op target p k c l h q = gives_pointer line (λ r. Add r p k (pos
 
 pub between_gives : (line : ℕ) (how : Working) (target : PlainType) (p q : Atom) (c : Context) → 1 ≤ line → Holds (world c) Pointer p → Holds (world c) Pointer q → Gives c Integer (between_pointers line how target p q c)
 between_gives line (Compares op) target p q c l h k = gives_integer line (λ r. Pcmp op r p q) c l (λ v r g i. (i, holds_grew (world c) v Pointer p g h, holds_grew (world c) v Pointer q g k))
-between_gives line (Calculates op) target p q c l h k = gives_integer line (λ r. Diff r p q (pos (size_or_zero c target))) c l (λ v r g i. (i, holds_grew (world c) v Pointer p g h, holds_grew (world c) v Pointer q g k))
-between_gives line (Shifts op) target p q c l h k = gives_integer line (λ r. Diff r p q (pos (size_or_zero c target))) c l (λ v r g i. (i, holds_grew (world c) v Pointer p g h, holds_grew (world c) v Pointer q g k))
-between_gives line Branches target p q c l h k = gives_integer line (λ r. Diff r p q (pos (size_or_zero c target))) c l (λ v r g i. (i, holds_grew (world c) v Pointer p g h, holds_grew (world c) v Pointer q g k))
+between_gives line other target p q c l h k = gives_integer line (λ r. Diff r p q (pos (size_or_zero c target))) c l (λ v r g i. (i, holds_grew (world c) v Pointer p g h, holds_grew (world c) v Pointer q g k))
 
 pub member_gives : (line offset : ℕ) (p : Atom) (c : Context) → 1 ≤ line → Holds (world c) Pointer p → Gives c Pointer (member_address line offset p c)
 member_gives line offset p c l h = gives_pointer line (λ r. Off r p (pos offset)) c l (λ v r g i. (i, holds_grew (world c) v Pointer p g h))
@@ -167,10 +165,9 @@ module _ (line : ℕ) (l : 1 ≤ line) (b c : Context) (g : Goes b c) where
   sum_makes tags x y typed (Number s) (Number t) p q o m e h k = number_made (result_type bin.Add s t) typed _ _ refl refl (ok_same _ typed e) (numbers bin.Add s t p q h k)
   sum_makes tags x y typed (PointerTo target) (Number t) p q o m e h k = makes_pointer b x.type target typed _ o (moved_is line tags target (value x.type) typed e) (moves_first bin.Add target p q h k)
   sum_makes tags x y typed (Number s) (PointerTo target) p q o m e h k = makes_pointer b y.type target typed _ m (moved_is line tags target (value y.type) typed e) (moves_last bin.Add target p q h k)
-  sum_makes tags x y typed (PointerTo target) (PointerTo other) p q o m e h k = never _ _ typed e
-  sum_makes tags x y typed (PointerTo target) Neither p q o m e h k = never _ _ typed e
   sum_makes tags x y typed (Number s) Neither p q o m e h k = never _ _ typed e
   sum_makes tags x y typed Neither t p q o m e h k = never _ _ typed e
+  sum_makes tags x y typed (PointerTo target) other p q o m e h k = never _ _ typed e
 
   pub difference_makes : (tags : TagTable) (x y typed : PlainTyped) (s t : Operand) (p q : Atom) → operand x.type ≡ s → operand y.type ≡ t → difference_types line tags x y s t ≡ Ok typed → HeldAs (world b) s p → HeldAs (world c) t q → Makes b typed (combine line bin.Subtract b.code s t p q c)
   unfolding working
@@ -178,26 +175,22 @@ module _ (line : ℕ) (l : 1 ≤ line) (b c : Context) (g : Goes b c) where
   difference_makes tags x y typed (PointerTo target) (Number t) p q o m e h k = makes_pointer b x.type target typed _ o (moved_is line tags target (value x.type) typed e) (moves_first bin.Subtract target p q h k)
   difference_makes tags x y typed (PointerTo target) (PointerTo other) p q o m e h k =
       number_made _ typed int _ refl refl (moved_is line tags target int typed (behind_test _ _ line _ typed e)) (pointers (working bin.Subtract) target p q h k)
-  difference_makes tags x y typed (Number s) (PointerTo target) p q o m e h k = never _ _ typed e
   difference_makes tags x y typed (PointerTo target) Neither p q o m e h k = never _ _ typed e
-  difference_makes tags x y typed (Number s) Neither p q o m e h k = never _ _ typed e
   difference_makes tags x y typed Neither t p q o m e h k = never _ _ typed e
+  difference_makes tags x y typed (Number s) other p q o m e h k = never _ _ typed e
 
   pub order_makes : (op : BinaryOp) (x y typed : PlainTyped) (s t : Operand) (p q : Atom) → order_types op line x y s t ≡ Ok typed → HeldAs (world b) s p → HeldAs (world c) t q → Makes b typed (combine line op b.code s t p q c)
   order_makes op x y typed (Number s) (Number t) p q e h k = number_made (result_type op s t) typed _ _ refl refl (ok_same _ typed e) (numbers op s t p q h k)
   order_makes op x y typed (PointerTo target) (PointerTo other) p q e h k = number_made _ typed int _ refl refl (passed _ _ line int typed e) (pointers (working op) target p q h k)
   order_makes op x y typed (PointerTo target) (Number t) p q e h k = never _ _ typed (beside_is line y _ typed e)
   order_makes op x y typed (Number s) (PointerTo other) p q e h k = never _ _ typed (beside_is line x _ typed e)
-  order_makes op x y typed (PointerTo target) Neither p q e h k = never _ _ typed e
-  order_makes op x y typed (Number s) Neither p q e h k = never _ _ typed e
   order_makes op x y typed Neither t p q e h k = never _ _ typed e
+  order_makes op x y typed other Neither p q e h k = never _ _ typed e
 
   pub integer_makes : (op : BinaryOp) (x y typed : PlainTyped) (s t : Operand) (p q : Atom) → integer_types op line x y s t ≡ Ok typed → HeldAs (world b) s p → HeldAs (world c) t q → Makes b typed (combine line op b.code s t p q c)
   integer_makes op x y typed (Number s) (Number t) p q e h k = number_made (result_type op s t) typed _ _ refl refl (ok_same _ typed e) (numbers op s t p q h k)
-  integer_makes op x y typed (Number s) (PointerTo other) p q e h k = never _ _ typed e
-  integer_makes op x y typed (Number s) Neither p q e h k = never _ _ typed e
-  integer_makes op x y typed (PointerTo target) t p q e h k = never _ _ typed e
-  integer_makes op x y typed Neither t p q e h k = never _ _ typed e
+  integer_makes op x y typed (Number s) other p q e h k = never _ _ typed e
+  integer_makes op x y typed other t p q e h k = never _ _ typed e
 
   -- comparisons of pointers with null pointer constants
   first_compared : (op : BinaryOp) (how : Working) (test : CmpOp) (target : PlainType) (p q : Atom) → how ≡ Compares test → Holds (world b) Pointer p → Gives b Integer (pointer_beside line op how b.code target p q c)
@@ -225,9 +218,8 @@ module _ (line : ℕ) (l : 1 ≤ line) (b c : Context) (g : Goes b c) where
   equal_makes op test x y typed (PointerTo target) (PointerTo other) p q w e h k = number_made _ typed int _ refl refl (passed _ _ line int typed e) (pointers (working op) target p q (left_pointer target (PointerTo other) p h) k)
   equal_makes op test x y typed (PointerTo target) (Number t) p q w e h k = number_made _ typed int _ refl refl (ok_same int typed (beside_is line y (good int) typed e)) (first_compared op (working op) test target p q w (left_pointer target (Number t) p h))
   equal_makes op test x y typed (Number s) (PointerTo other) p q w e h k = number_made _ typed int _ refl refl (ok_same int typed (beside_is line x (good int) typed e)) (last_compared op (working op) test other p q w k)
-  equal_makes op test x y typed (PointerTo target) Neither p q w e h k = never _ _ typed e
-  equal_makes op test x y typed (Number s) Neither p q w e h k = never _ _ typed e
   equal_makes op test x y typed Neither t p q w e h k = never _ _ typed e
+  equal_makes op test x y typed other Neither p q w e h k = never _ _ typed e
 
   left_held : (op : BinaryOp) (s t : Operand) (p : Atom) → tells_equal op ≡ false → LeftOf b op s t p → HeldAs (world b) s p
   left_held op s t p n (inl h) = h
@@ -239,8 +231,6 @@ module _ (line : ℕ) (l : 1 ≤ line) (b c : Context) (g : Goes b c) where
 
   pub binary_makes : (op : BinaryOp) (tags : TagTable) (x y typed : PlainTyped) (p q : Atom) → IsBetween op → binary line op tags x y ≡ Ok typed → LeftOf b op (operand x.type) (operand y.type) p → Held (world c) y.type q → Makes b typed (combine line op b.code (operand x.type) (operand y.type) p q c)
   unfolding working
-  binary_makes bin.Or tags x y typed p q i e h k = absurd i
-  binary_makes bin.And tags x y typed p q i e h k = absurd i
   binary_makes bin.Add tags x y typed p q i e h k = sum_makes tags x y typed (operand x.type) (operand y.type) p q refl refl e (left_held bin.Add _ _ p refl h) k
   binary_makes bin.Subtract tags x y typed p q i e h k = difference_makes tags x y typed (operand x.type) (operand y.type) p q refl refl e (left_held bin.Subtract _ _ p refl h) k
   binary_makes bin.Less tags x y typed p q i e h k = order_makes bin.Less x y typed (operand x.type) (operand y.type) p q e (left_held bin.Less _ _ p refl h) k
@@ -257,6 +247,7 @@ module _ (line : ℕ) (l : 1 ≤ line) (b c : Context) (g : Goes b c) where
   binary_makes bin.Multiply tags x y typed p q i e h k = integer_makes bin.Multiply x y typed (operand x.type) (operand y.type) p q e (left_held bin.Multiply _ _ p refl h) k
   binary_makes bin.Divide tags x y typed p q i e h k = integer_makes bin.Divide x y typed (operand x.type) (operand y.type) p q e (left_held bin.Divide _ _ p refl h) k
   binary_makes bin.Remainder tags x y typed p q i e h k = integer_makes bin.Remainder x y typed (operand x.type) (operand y.type) p q e (left_held bin.Remainder _ _ p refl h) k
+  binary_makes other tags x y typed p q i e h k = absurd i
 
 -- an operator with `=`
 
@@ -267,11 +258,9 @@ change_brings line op (Number s) (Number t) old y c l h k =
     let two = integer_converted line s (result_type op s t) d.1 d.0 l one.holds in
     (goes_trans c d.0 _ one.goes two.goes, two.holds)
 change_brings line op (PointerTo target) (Number t) old y c l h k = let g = move_gives line op target old y c l h k in (g.goes, g.holds)
-change_brings line op (Number s) (PointerTo other) old y c l h k = (goes_refl c, h)
-change_brings line op (Number s) Neither old y c l h k = (goes_refl c, h)
-change_brings line op (PointerTo target) (PointerTo other) old y c l h k = (goes_refl c, h)
-change_brings line op (PointerTo target) Neither old y c l h k = (goes_refl c, h)
 change_brings line op Neither t old y c l h k = (goes_refl c, tt)
+change_brings line op others (PointerTo other) old y c l h k = (goes_refl c, h)
+change_brings line op other Neither old y c l h k = (goes_refl c, h)
 
 pub changed_brings : (line : ℕ) (op : BinaryOp) (type : PlainType) (old : Atom) (e : PlainTyped) (y : Atom) (c : Context) → 1 ≤ line → Held (world c) type old → Held (world c) e.type y → Brings c type (changed_to line op type old e y c)
 changed_brings line op type old e y c l h k = let r = change_brings line op (operand type) (operand e.type) old y c l h k in record { goes = r.0; held = r.1 }

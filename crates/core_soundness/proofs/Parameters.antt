@@ -85,8 +85,7 @@ functions_one (ArrayOf line length) ls = omega arith
 
 sorts_one : (x : Layer) (ls : List Layer) → function_sorts (x ∷ ls) ≡ function_sorts (x ∷ []) ++ function_sorts ls
 sorts_one (FunctionOf line params) ls = ap (λ (s : List Sort). s ++ function_sorts ls) (sym (append-nil (param_sorts params)))
-sorts_one (PointerTo line) ls = refl
-sorts_one (ArrayOf line length) ls = refl
+sorts_one other ls = refl
 
 pub functions_reversed : (a : List Layer) → functions (reverse a) ≡ functions a
 functions_reversed [] = refl

@@ -116,13 +116,7 @@ number_is c name h = by (named_in name c.scopes.file) refl
 
     by : (o : Option PlainNamed) → named_in name c.scopes.file ≡ o → NumberIs c.variables (variable_number_of c o)
     by (Some (n.Object type i)) e = let r = h name type i e in record { near = omega (arith, get_below c.variables i r.0 r.1); there = λ k. r }
-    by (Some (n.Register type i)) e = next
-    by (Some (n.Function type i)) e = next
-    by (Some (n.Typedef type)) e = next
-    by (Some (n.Constant type i)) e = next
-    by (Some (n.BuiltIn i)) e = next
-    by (Some (n.Tag type)) e = next
-    by None e = next
+    by other e = next
 
 -- a variable with its name
 new_pointed : (line index : ℕ) (name : List ℕ) (type : PlainType) (c z : Context) → index ≡ length c.variables → Pointed c → with_new_variable line name type (record c { scopes = after_declaration c.scopes name (n.Object type index) }) ≡ Ok z → Pointed z
@@ -184,9 +178,8 @@ start_pointed index c start None e h p = record { there = h.there; starts = h.st
 start_pointed index c start (Some v) e h p = record { there = there_more c.variables _ c.scopes.file (set_stay c.variables index v start e) h.there; starts = set_starts c.variables c.literals index v start e h.starts p }
 
 target_start : (c : Context) (t : Target) → TargetIn c t → PointersIn c.variables c.literals (start_in t).pointers
-target_start c (InRegister line register) h = absurd h
-target_start c (InMemory line mem) h = absurd h
 target_start c (InStatic start) h = h
+target_start c other h = absurd h
 
 fill_pointed : (line index : ℕ) (type : PlainType) (inits : Trees) (c : Context) → Pointed c → Led Pointed (fill_variable line index type inits c)
 fill_pointed line index type none c h = led_ok Pointed c h
@@ -233,8 +226,7 @@ value_pointed line name type inits c h =
 
 file_name_pointed : (line : ℕ) (storage : Storage) (name : List ℕ) (type : PlainType) (inits : Trees) (c : Context) → Pointed c → Led Pointed (file_name line storage name type inits c)
 file_name_pointed line Typedef name type inits c h = λ d q. settled_pointed c d (declared_levels line name (n.Typedef type) c c tt (levels_refl c) d q).settled h
-file_name_pointed line Outside name type inits c h = value_pointed line name type inits c h
-file_name_pointed line storages.Plain name type inits c h = value_pointed line name type inits c h
+file_name_pointed line other name type inits c h = value_pointed line name type inits c h
 
 name_pointed : (line : ℕ) (storage : Storage) (name : Option (List ℕ)) (type : PlainType) (inits : Trees) (c : Context) → Pointed c → Led Pointed (name_in true line storage name type inits c)
 name_pointed line storage None type inits c h = led_ok Pointed c h

@@ -71,8 +71,7 @@ pointer_points line offset start c e h k = led_cond (StartIn c) (is_null_constan
 
 integer_points : (line : ℕ) (ty : IntType) (offset : ℕ) (start : Start) (c : Context) (folded : Folded) → StartIn c start → Led (StartIn c) (static_integer line ty offset start folded)
 integer_points line ty offset start c (Is v) h = led_ok (StartIn c) _ h
-integer_points line ty offset start c Varies h = led_refused (StartIn c) NotConstant line
-integer_points line ty offset start c Traps h = led_refused (StartIn c) NotConstant line
+integer_points line ty offset start c other h = led_refused (StartIn c) NotConstant line
 
 static_points : (line : ℕ) (type : PlainType) (offset : ℕ) (start : Start) (c : Context) (e : Found) → StartIn c start → FixedAt c e.fixed → Led (StartIn c) (static_scalar line type offset start e)
 static_points line (types.Int ty) offset start c e h k = integer_points line ty offset start c e.typed.folded h
@@ -86,11 +85,10 @@ opened_settled e c = by (reallocates c.scopes e)
     by false = record { variables = refl; literals = λ i w q. q; objects = λ name type i q. q }
 
 fill_points : (e : Tree) (line : ℕ) (type : PlainType) (offset : ℕ) (before : Code) (target : Target) (c : Context) (d : Context × Found) → Settled c d.0 → Aimed d → TargetIn c target → Led (Points c) (fill_scalar e line type offset before d target)
-fill_points e line type offset before (InRegister at register) c d s k h = absurd h
-fill_points e line type offset before (InMemory at mem) c d s k h = absurd h
 fill_points e line type offset before (InStatic start) c d s k h =
     led_after (Points c) (static_scalar line type offset start d.1) (λ filled. Ok (d.0, InStatic filled))
     (λ filled q. led_ok (Points c) (d.0, InStatic filled) (s, static_points line type offset start d.0 d.1 (start_on c d.0 start s h) k filled q))
+fill_points e line type offset before other c d s k h = absurd h
 
 scalar_points : (e : Tree) (line : ℕ) (type : PlainType) (offset : ℕ) (target : Target) (c : Context) → There c → TargetIn c target → Led (Points c) (scalar e line type offset target c)
 scalar_points e line type offset target c n h =
@@ -102,8 +100,7 @@ scalar_points e line type offset target c n h =
 
 record_points : (e : Tree) (line : ℕ) (type : PlainType) (offset : ℕ) (c : Context) (d : Context × Found) (target : Target) → TargetIn c target → Led (Points c) (fill_record e line type offset d target)
 record_points e line type offset c d (InMemory at mem) h = absurd h
-record_points e line type offset c d (InRegister at register) h = led_refused (Points c) NotConstant line
-record_points e line type offset c d (InStatic start) h = led_refused (Points c) NotConstant line
+record_points e line type offset c d other h = led_refused (Points c) NotConstant line
 
 whole_points : (e : Tree) (line : ℕ) (type : PlainType) (offset : ℕ) (target : Target) (c : Context) → TargetIn c target → Led (Points c) (whole e line type offset target c)
 whole_points e line type offset target c h =

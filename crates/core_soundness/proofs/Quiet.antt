@@ -83,10 +83,9 @@ quiet_both line to_left s x to_right t y c =
     quiet_convert_integer line to_right t y d.0 ∙ quiet_convert_integer line to_left s x c
 
 quiet_work : (line : ℕ) (w : Working) (s : IntType) (x : Atom) (t : IntType) (y : Atom) (c : Context) → Quiet c (work line w s x t y c).0
-quiet_work line (Calculates op) s x t y c = quiet_both line (common_type s t) s x (common_type s t) t y c
 quiet_work line (Shifts op) s x t y c = quiet_both line (promoted s) s x (promoted t) t y c
-quiet_work line (Compares op) s x t y c = quiet_both line (common_type s t) s x (common_type s t) t y c
 quiet_work line Branches s x t y c = refl
+quiet_work line other s x t y c = quiet_both line (common_type s t) s x (common_type s t) t y c
 
 pub quiet_before : (line : ℕ) (op : UnaryOp) (ty : IntType) (x : Atom) (c : Context) → Quiet c (before_integer line op ty x c).0
 unfolding before_integer

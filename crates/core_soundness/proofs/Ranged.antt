@@ -61,12 +61,7 @@ element_of c type (Some l) h w e = let r = made_sized c.tags.completed type l h.
 pub wanted_element : (c : Context) (type : PlainType) → Solid c → Whole (K c) type → IsElement (element_layout c.tags type)
 unfolding element_layout
 wanted_element c (Pointer target) h w = element_of c target (layout_in c.tags target) h w refl
-wanted_element c Void h w = byte_element
-wanted_element c (Int ty) h w = byte_element
-wanted_element c (Array element m) h w = byte_element
-wanted_element c (Struct tag) h w = byte_element
-wanted_element c (Union tag) h w = byte_element
-wanted_element c (Function answer params) h w = byte_element
+wanted_element c other h w = byte_element
 
 -- offsets of members
 
@@ -166,8 +161,4 @@ pub offset_number : (c : Context) (name : List ℕ) (type : PlainType) → Solid
 unfolding offset_of
 offset_number c name (Struct tag) h = small_number _ (among_small name (members_in c.tags tag) (λ members m e q. member_offset c.tags tag members (λ (m : PlainMember). bytes_eq name m.name) m h.made e q))
 offset_number c name (Union tag) h = small_number _ (among_small name (members_in c.tags tag) (λ members m e q. member_offset c.tags tag members (λ (m : PlainMember). bytes_eq name m.name) m h.made e q))
-offset_number c name Void h = zero_number
-offset_number c name (Int ty) h = zero_number
-offset_number c name (Pointer target) h = zero_number
-offset_number c name (Array element m) h = zero_number
-offset_number c name (Function answer params) h = zero_number
+offset_number c name other h = zero_number

@@ -106,9 +106,7 @@ name_in c line inner (n.Register type k) e w h = tt
 name_in c line inner (n.Object type k) e w h = object_in e inner k
 name_in c line inner (n.BuiltIn k) e w h = built_in_in line (slice_get built_ins k) e h
 name_in c line inner (n.Constant type x) e w h = subst (λ (y : PlainTyped). SpotIn (constant_found y).spot) (ok_same _ e h) w
-name_in c line inner (n.Function type k) e w h = never _ _ e h
-name_in c line inner (n.Typedef type) e w h = never _ _ e h
-name_in c line inner (n.Tag type) e w h = never _ _ e h
+name_in c line inner other e w h = never _ _ e h
 
 pub named_in_range : (line : ℕ) (name : List ℕ) (c : Context) (z : Context × Found) → Solid c → In c → name_answer line name (declaration c.scopes name) c ≡ Ok z → E z
 named_in_range line name c z h g q = by (declaration c.scopes name) refl q
@@ -150,10 +148,9 @@ unfolding working
 element_steps line c (PointerTo target) (Number ty) z h p q e = moving_step line c target (place target) z h p e
 element_steps line c (Number ty) (PointerTo target) z h p q e = moving_step line c target (place target) z h q e
 element_steps line c (PointerTo target) (PointerTo other) z h p q e = never _ _ z e
-element_steps line c (PointerTo target) Neither z h p q e = tt
 element_steps line c (Number s) (Number t) z h p q e = tt
-element_steps line c (Number s) Neither z h p q e = tt
 element_steps line c Neither t z h p q e = tt
+element_steps line c other Neither z h p q e = tt
 
 pub indexed_in : (line : ℕ) (c : Context) (x y : Found) → Solid c → In c → SpotIn x.spot → SpotIn y.spot → Whole (K c) x.typed.type → Whole (K c) y.typed.type → Led E (indexed line c x y)
 indexed_in line c x y h g p q v w =
@@ -185,8 +182,7 @@ negated_in line tree t c e g s =
 
 number_in : (line : ℕ) (op : UnaryOp) (t : PlainTyped) (o : Operand) (c : Context) (e : Found) → In c → SpotIn e.spot → E (before_number line op t o c e)
 number_in line op t (Number ty) c e g s = before_in line op ty (atom_in e) c g (spot_atom e.spot s)
-number_in line op t (PointerTo target) c e g s = (g, s)
-number_in line op t Neither c e g s = (g, s)
+number_in line op t other c e g s = (g, s)
 
 apply_in : (line : ℕ) (op : UnaryOp) (tree : Tree) (t : PlainTyped) (c : Context) (e : Found) → In c → SpotIn e.spot → E (apply line op tree t c e)
 apply_in line u.Deref tree t c e g s = (g, spot_atom e.spot s)
@@ -217,17 +213,11 @@ cast_in line type before c e f g s =
 
 set_again_in : (line : ℕ) (t x : Atom) (c : Context) → In c → AtomIn x → In (set_again line t x c)
 set_again_in line (atom.Reg r) x c g h = in_emit line (Set r x) c g ((h, tt), tt)
-set_again_in line (atom.Int v) x c g h = g
-set_again_in line atom.Null x c g h = g
-set_again_in line (atom.Static v) x c g h = g
-set_again_in line (atom.Mem m) x c g h = g
+set_again_in line other x c g h = g
 
 compare_again_in : (line : ℕ) (t x : Atom) (c : Context) → In c → AtomIn x → In (compare_again line t x c)
 compare_again_in line (atom.Reg r) x c g h = in_emit line (Cmp cmp.Ne r x (atom.Int (pos 0))) c g ((h, (zero_number, tt)), tt)
-compare_again_in line (atom.Int v) x c g h = g
-compare_again_in line atom.Null x c g h = g
-compare_again_in line (atom.Static v) x c g h = g
-compare_again_in line (atom.Mem m) x c g h = g
+compare_again_in line other x c g h = g
 
 pub and_then_in : (line : ℕ) (tree : Tree) (d : Context × Found) → E d → In (and_then line tree d)
 and_then_in line tree d h =
@@ -284,12 +274,7 @@ first_in line other before type d f h =
 
 choice_spot_in : (type : PlainType) (x : Atom) → AtomIn x → SpotIn (choice_spot type x)
 choice_spot_in Void x h = tt
-choice_spot_in (Int ty) x h = h
-choice_spot_in (Pointer target) x h = h
-choice_spot_in (ct.Array element m) x h = h
-choice_spot_in (ct.Struct tag) x h = h
-choice_spot_in (ct.Union tag) x h = h
-choice_spot_in (ct.Function answer params) x h = h
+choice_spot_in other x h = h
 
 pub chosen_in : (line end : ℕ) (before : Code) (t : Atom) (test x : Found) (d : Context × Found) → PiecesIn before.pieces → AtomIn t → E d → Led E (chosen line end before t test x d)
 chosen_in line end before t test x d f p h =
@@ -324,11 +309,9 @@ changed_steps line op c type (Number ty) (Number source) z o h p e = subst (λ (
 changed_steps line op c type (PointerTo target) (Number source) z o h p e =
     let m = behind_test (not (moves op)) Operands line (moving line c.tags target (value type)) z e in
     subst (λ (x : PlainTyped). Steps Branches (operand x.type) (Number source) c) (moved_is line c.tags target (value type) z m) (subst (λ (x : Operand). Steps Branches x (Number source) c) (sym o) (moving_step line c target (value type) z h p m))
-changed_steps line op c type (Number ty) (PointerTo source) z o h p e = never _ _ z e
-changed_steps line op c type (Number ty) Neither z o h p e = never _ _ z e
-changed_steps line op c type (PointerTo target) (PointerTo source) z o h p e = never _ _ z e
-changed_steps line op c type (PointerTo target) Neither z o h p e = never _ _ z e
 changed_steps line op c type Neither t z o h p e = never _ _ z e
+changed_steps line op c type other (PointerTo source) z o h p e = never _ _ z e
+changed_steps line op c type other Neither z o h p e = never _ _ z e
 
 pub changed_by_in : (line : ℕ) (op : AssignOp) (keeps : Bool) (target : Found) (old : Atom) (d : Context × Found) → Solid d.0 → Whole (K d.0) target.typed.type → SpotIn target.spot → AtomIn old → E d → Led E (changed_by line op keeps target old d)
 changed_by_in line op keeps target old d s w p o h =
@@ -395,13 +378,8 @@ of_built_in line (Some name) answer wanted format args c s w g h = built_in line
 
 pub call_in : (line : ℕ) (o : Option PlainNamed) (answer wanted : PlainType) (format : Option (List ℕ)) (args : List Argument) (c : Context) → Solid c → Whole (K c) wanted → In c → AtomsIn (atoms_of args) → R (call_named line o answer wanted format args c)
 call_in line (Some (n.Function type index)) answer wanted format args c s w g h = result_in line answer (λ r. Call index r (atoms_of args)) (record c { calls = c.calls ++ (index, line) ∷ [] }) g (λ r. (h, tt))
-call_in line (Some (n.Object type i)) answer wanted format args c s w g h = (g, tt)
-call_in line (Some (n.Register type i)) answer wanted format args c s w g h = (g, tt)
-call_in line (Some (n.Typedef type)) answer wanted format args c s w g h = (g, tt)
-call_in line (Some (n.Constant type x)) answer wanted format args c s w g h = (g, tt)
-call_in line (Some (n.Tag type)) answer wanted format args c s w g h = (g, tt)
 call_in line (Some (n.BuiltIn i)) answer wanted format args c s w g h = of_built_in line (slice_get built_ins i) answer wanted format args c s w g h
-call_in line None answer wanted format args c s w g h = (g, tt)
+call_in line other answer wanted format args c s w g h = (g, tt)
 
 pub argument_in : (line : ℕ) (params : PlainTypes) (before : Code) (c : Context) (e : Found) → PiecesIn before.pieces → In c → SpotIn e.spot → In (argument_from line params before c e).0 × AtomIn (argument_from line params before c e).1.1
 argument_in line ct.none before c e f g s = (g, spot_atom e.spot s)

@@ -111,11 +111,7 @@ left_solid op before right d h = by (tells_equal op && is_null_constant d.1.type
 chosen_solid : (line : ℕ) (base : Context) (type : PlainType) (x : Context × Found) → Grows base x.0 → Solid x.0 → Rises x.0 (chosen_by line base.code type x.1.typed (x.0, atom_in x.1)).0
 chosen_solid line base (Int ty) x g h = let r = converted_rises line base (Int ty) x g h in record { solid = r.solid; more = r.more; kinds = r.kinds }
 chosen_solid line base (Pointer target) x g h = let r = converted_rises line base (Pointer target) x g h in record { solid = r.solid; more = r.more; kinds = r.kinds }
-chosen_solid line base Void x g h = rises_refl x.0 h
-chosen_solid line base (ct.Array element m) x g h = rises_refl x.0 h
-chosen_solid line base (ct.Struct tag) x g h = rises_refl x.0 h
-chosen_solid line base (ct.Union tag) x g h = rises_refl x.0 h
-chosen_solid line base (ct.Function answer params) x g h = rises_refl x.0 h
+chosen_solid line base other x g h = rises_refl x.0 h
 
 first_solid : (line other : ℕ) (base : Context) (type : PlainType) (x : Context × Found) → Grows base x.0 → Solid x.0 → Rises x.0 (choose_first line other base.code type x).0
 first_solid line other base type x g h = let r = chosen_solid line base type x g h in record { solid = r.solid; more = r.more; kinds = r.kinds }
@@ -135,8 +131,7 @@ record Called (c : Context) (d : Context × Callee) : Type 0 where
 
 params_whole : (c : Context) (h : Solid c) (function : Callee) → CW c.tags.completed h.made function → AllWhole (K c) (parameters function)
 params_whole c h (Takes answer params) k = k.1
-params_whole c h Prints k = tt
-params_whole c h NoFunction k = tt
+params_whole c h other k = tt
 
 name_called : (line : ℕ) (name : List ℕ) (c : Context) (d : Context × Callee) → Solid c → In c → then (called line c.tags (declaration c.scopes name)) (λ function. good (c, function)) ≡ Ok d → Called c d
 name_called line name c d h g q =

@@ -40,10 +40,9 @@ SpotIn (Value a) = AtomIn a
 SpotIn Empty = Unit {0}
 
 pub spot_atom : (spot : Spot) → SpotIn spot → AtomIn (atom_of spot)
-spot_atom (Local r) h = tt
 spot_atom (Memory a) h = h
 spot_atom (Value a) h = h
-spot_atom Empty h = tt
+spot_atom other h = tt
 
 pub read_in : (line : ℕ) (type : PlainType) (spot : Spot) (c : Context) → In c → SpotIn spot → Has (read_spot line type spot c)
 unfolding read_spot
@@ -140,21 +139,15 @@ Needs how S = S
 
 between_in : (line : ℕ) (how : Working) (target : PlainType) (p q : Atom) (c : Context) → In c → AtomIn p → AtomIn q → Needs how (Step c target) → Has (between_pointers line how target p q c)
 between_in line (Compares op) target p q c g h k s = in_integer line (λ r. Pcmp op r p q) c g (λ r. ((h, (k, tt)), tt))
-between_in line (Calculates op) target p q c g h k s = in_integer line (λ r. Diff r p q (pos (size_or_zero c target))) c g (λ r. ((h, (k, tt)), s))
-between_in line (Shifts op) target p q c g h k s = in_integer line (λ r. Diff r p q (pos (size_or_zero c target))) c g (λ r. ((h, (k, tt)), s))
-between_in line Branches target p q c g h k s = in_integer line (λ r. Diff r p q (pos (size_or_zero c target))) c g (λ r. ((h, (k, tt)), s))
+between_in line other target p q c g h k s = in_integer line (λ r. Diff r p q (pos (size_or_zero c target))) c g (λ r. ((h, (k, tt)), s))
 
 first_in : (line : ℕ) (op : BinaryOp) (how : Working) (before : Code) (target : PlainType) (p m : Atom) (c : Context) → PiecesIn before.pieces → In c → AtomIn p → AtomIn m → Needs how (Step c target) → Has (pointer_beside line op how before target p m c)
 first_in line op (Compares test) before target p m c f g h k s = in_integer line (λ r. Pcmp test r p atom.Null) (record c { code = before }) f (λ r. ((h, (tt, tt)), tt))
-first_in line op (Calculates x) before target p m c f g h k s = move_in line op target p m c g h k s
-first_in line op (Shifts x) before target p m c f g h k s = move_in line op target p m c g h k s
-first_in line op Branches before target p m c f g h k s = move_in line op target p m c g h k s
+first_in line op other before target p m c f g h k s = move_in line op target p m c g h k s
 
 last_in : (line : ℕ) (op : BinaryOp) (how : Working) (target : PlainType) (m p : Atom) (c : Context) → In c → AtomIn m → AtomIn p → Needs how (Step c target) → Has (beside_integer line op how target m p c)
 last_in line op (Compares test) target m p c g h k s = in_integer line (λ r. Pcmp test r atom.Null p) c g (λ r. ((tt, (k, tt)), tt))
-last_in line op (Calculates x) target m p c g h k s = move_in line op target p m c g k h s
-last_in line op (Shifts x) target m p c g h k s = move_in line op target p m c g k h s
-last_in line op Branches target m p c g h k s = move_in line op target p m c g k h s
+last_in line op other target m p c g h k s = move_in line op target p m c g k h s
 
 -- the sizes that an operator needs
 abbrev pub Steps : Working → Operand → Operand → Context → Type 0
@@ -168,9 +161,8 @@ combine_in line op before (Number s) (Number t) x y c f g h k q = work_in line (
 combine_in line op before (PointerTo target) (Number t) x y c f g h k q = first_in line op (working op) before target x y c f g h k q
 combine_in line op before (Number s) (PointerTo target) x y c f g h k q = last_in line op (working op) target x y c g h k q
 combine_in line op before (PointerTo target) (PointerTo other) x y c f g h k q = between_in line (working op) target x y c g h k q
-combine_in line op before (PointerTo target) Neither x y c f g h k q = (g, h)
-combine_in line op before (Number s) Neither x y c f g h k q = (g, h)
 combine_in line op before Neither t x y c f g h k q = (g, h)
+combine_in line op before other Neither x y c f g h k q = (g, h)
 
 pub combined_in : (line : ℕ) (op : BinaryOp) (before : Code) (x y : Found) (c : Context) → PiecesIn before.pieces → In c → SpotIn x.spot → SpotIn y.spot → Steps (working op) (operand x.typed.type) (operand y.typed.type) c → Has (combined line op before x y c)
 combined_in line op before x y c f g h k q = combine_in line op before (operand x.typed.type) (operand y.typed.type) (atom_in x) (atom_in y) c f g (spot_atom x.spot h) (spot_atom y.spot k) q
@@ -182,22 +174,15 @@ Pointed c (PointerTo target) = Whole (K c) target
 Pointed c Neither = Unit {0}
 
 pub pointed_of : (c : Context) (type : PlainType) → Whole (K c) type → Pointed c (operand type)
-pointed_of c types.Void h = tt
-pointed_of c (Int ty) h = tt
 pointed_of c (Pointer target) h = h
-pointed_of c (types.Array element m) h = tt
-pointed_of c (types.Struct tag) h = tt
-pointed_of c (types.Union tag) h = tt
-pointed_of c (types.Function answer params) h = tt
+pointed_of c other h = tt
 
 pub moving_step : (line : ℕ) (c : Context) (target : PlainType) (x t : PlainTyped) → Solid c → Whole (K c) target → moving line c.tags target x ≡ Ok t → Step c target
 moving_step line c target x t h w q = moved_step c target h w (unbarred (immovable c.tags target) line (good x) t q).0
 
 needs_all : (how : Working) (S : Type 0) → S → Needs how S
 needs_all (Compares op) S x = tt
-needs_all (Calculates op) S x = x
-needs_all (Shifts op) S x = x
-needs_all Branches S x = x
+needs_all other S x = x
 
 compared_steps : (how : Working) (test : CmpOp) (s t : Operand) (c : Context) → how ≡ Compares test → Steps how s t c
 compared_steps how test s t c e = subst (λ (x : Working). Steps x s t c) (sym e) (by s t)
@@ -215,26 +200,23 @@ sum_steps : (how : Working) (line : ℕ) (c : Context) (x y z : PlainTyped) (s t
 sum_steps how line c x y z (PointerTo target) (Number t) h p q e = needs_all how _ (moving_step line c target (value x.type) z h p e)
 sum_steps how line c x y z (Number s) (PointerTo target) h p q e = needs_all how _ (moving_step line c target (value y.type) z h q e)
 sum_steps how line c x y z (PointerTo target) (PointerTo other) h p q e = never _ _ z e
-sum_steps how line c x y z (PointerTo target) Neither h p q e = tt
 sum_steps how line c x y z (Number s) (Number t) h p q e = tt
-sum_steps how line c x y z (Number s) Neither h p q e = tt
 sum_steps how line c x y z Neither t h p q e = tt
+sum_steps how line c x y z other Neither h p q e = tt
 
 difference_steps : (how : Working) (line : ℕ) (c : Context) (x y z : PlainTyped) (s t : Operand) → Solid c → Pointed c s → Pointed c t → difference_types line c.tags x y s t ≡ Ok z → Steps how s t c
 difference_steps how line c x y z (PointerTo target) (Number t) h p q e = needs_all how _ (moving_step line c target (value x.type) z h p e)
 difference_steps how line c x y z (PointerTo target) (PointerTo other) h p q e = needs_all how _ (moving_step line c target int z h p (behind_test _ _ line _ z e))
 difference_steps how line c x y z (Number s) (PointerTo target) h p q e = never _ _ z e
-difference_steps how line c x y z (PointerTo target) Neither h p q e = tt
 difference_steps how line c x y z (Number s) (Number t) h p q e = tt
-difference_steps how line c x y z (Number s) Neither h p q e = tt
 difference_steps how line c x y z Neither t h p q e = tt
+difference_steps how line c x y z other Neither h p q e = tt
 
 integer_steps : (how : Working) (op : BinaryOp) (line : ℕ) (c : Context) (x y z : PlainTyped) (s t : Operand) → integer_types op line x y s t ≡ Ok z → Steps how s t c
-integer_steps how op line c x y z (Number s) (Number t) e = tt
 integer_steps how op line c x y z (Number s) (PointerTo other) e = never _ _ z e
-integer_steps how op line c x y z (Number s) Neither e = tt
 integer_steps how op line c x y z (PointerTo target) t e = never _ _ z e
 integer_steps how op line c x y z Neither t e = tt
+integer_steps how op line c x y z (Number s) other e = tt
 
 -- `&&` and `||` are not among these
 abbrev pub IsBetween : BinaryOp → Type 0
@@ -262,11 +244,8 @@ change_in line op (Number s) (Number t) old y c g h k q =
     let r = work_in line (working op) s old t y c g h k in
     convert_integer_in line s (result_type op s t) d.1 d.0 r.0 r.1
 change_in line op (PointerTo target) (Number t) old y c g h k q = move_in line op target old y c g h k q
-change_in line op (Number s) (PointerTo target) old y c g h k q = (g, h)
-change_in line op (PointerTo target) (PointerTo other) old y c g h k q = (g, h)
-change_in line op (PointerTo target) Neither old y c g h k q = (g, h)
-change_in line op (Number s) Neither old y c g h k q = (g, h)
 change_in line op Neither t old y c g h k q = (g, h)
+change_in line op others other old y c g h k q = (g, h)
 
 pub changed_in : (line : ℕ) (op : BinaryOp) (type : PlainType) (old : Atom) (e : PlainTyped) (y : Atom) (c : Context) → In c → AtomIn old → AtomIn y → Steps Branches (operand type) (operand e.type) c → Has (changed_to line op type old e y c)
 changed_in line op type old e y c g h k q = change_in line op (operand type) (operand e.type) old y c g h k q

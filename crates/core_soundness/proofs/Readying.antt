@@ -41,19 +41,12 @@ pub inner_kept : (a b : World) (v : PlainNamed) → Grew a b → InnerFits a v �
 inner_kept a b (n.Object type i) g h = omega (arith, h, g.mems)
 inner_kept a b (n.Register type i) g h = (h.0, sort_kept a b i (type_sort type) g h.1)
 inner_kept a b (n.Function type i) g h = h
-inner_kept a b (n.Typedef type) g h = tt
-inner_kept a b (n.Constant type i) g h = tt
-inner_kept a b (n.BuiltIn i) g h = tt
-inner_kept a b (n.Tag type) g h = tt
+inner_kept a b other g h = tt
 
 pub file_kept : (a b : World) (v : PlainNamed) → Grew a b → FileFits a v → FileFits b v
 file_kept a b (n.Object type i) g h = omega (arith, h, g.variables)
 file_kept a b (n.Register type i) g h = h
-file_kept a b (n.Function type i) g h = tt
-file_kept a b (n.Typedef type) g h = tt
-file_kept a b (n.Constant type i) g h = tt
-file_kept a b (n.BuiltIn i) g h = tt
-file_kept a b (n.Tag type) g h = tt
+file_kept a b other g h = tt
 
 some_tag : (v w : PlainNamed) → Some v ≡ Some w → v ≡ w
 some_tag v w e = cc
@@ -158,11 +151,7 @@ spot_named : (o : Option PlainNamed) (typed : PlainTyped) (inner : Bool) (r : �
 spot_named (Some (n.Register type i)) typed inner r e = refl
 spot_named (Some (n.Object type i)) typed inner r e = absurd (plain_spot inner typed i r e)
 spot_named (Some (n.BuiltIn i)) typed inner r e = absurd (built_in_spot typed.is_null typed r e)
-spot_named (Some (n.Function type i)) typed inner r e = cc
-spot_named (Some (n.Typedef type)) typed inner r e = cc
-spot_named (Some (n.Constant type i)) typed inner r e = cc
-spot_named (Some (n.Tag type)) typed inner r e = cc
-spot_named None typed inner r e = cc
+spot_named other typed inner r e = cc
 
 pub name_local : (line : ℕ) (name : List ℕ) (o : Option PlainNamed) (c : Context) (z : Context × Found) (r : ℕ) → name_answer line name o c ≡ Ok z → z.1.spot ≡ Local r → is_register o ≡ true
 name_local line name o c z r h e =

@@ -145,10 +145,9 @@ module _ (c : Context) (w : Walked) where
 
   pub atom_resolves : (sort : Sort) (a : Atom) → Holds here sort a → atom_sort core func (atom_by num a) ≡ Some sort
   atom_resolves sort (atom.Reg r) h = register_resolves sort r h
-  atom_resolves sort (atom.Int k) h = ap (λ (s : Sort). Some s) (sym h)
-  atom_resolves sort atom.Null h = ap (λ (s : Sort). Some s) (sym h)
   atom_resolves sort (atom.Static g) h = object_resolves g h.1 ∙ ap (λ (s : Sort). Some s) (sym h.0)
   atom_resolves sort (atom.Mem m) h = get_there w.running.mems Pointer m h.1 ∙ ap (λ (s : Sort). Some s) (sym h.0)
+  atom_resolves sort other h = ap (λ (s : Sort). Some s) (sym h)
 
   pub all_resolve : (sorts : List Sort) (atoms : List Atom) → HoldAll here sorts atoms → TakesAll core func sorts (atoms_by num atoms)
   all_resolve [] [] h = refl
@@ -189,10 +188,8 @@ module _ (c : Context) (w : Walked) where
     kind_resolves (Storep p q) h = (atom_resolves Pointer p h.0, atom_resolves Pointer q h.1)
     kind_resolves (Copy p q k) h = (atom_resolves Pointer p h.0, atom_resolves Pointer q h.1)
     kind_resolves (Clear p k) h = atom_resolves Pointer p h
-    kind_resolves (Jump l) h = tt
     kind_resolves (Zero a l) h = atom_resolves Integer a h
     kind_resolves (Case a v l) h = atom_resolves Integer a h
-    kind_resolves (Loop l) h = tt
     kind_resolves (Call f r args) h = calls f r args h
     kind_resolves (Malloc r k t) h = (register_resolves Pointer r h.0, atom_resolves Integer k h.1)
     kind_resolves (Calloc r m k t) h = (register_resolves Pointer r h.0, atom_resolves Integer m h.1, atom_resolves Integer k h.2)
@@ -200,9 +197,8 @@ module _ (c : Context) (w : Walked) where
     kind_resolves (Free p) h = atom_resolves Pointer p h
     kind_resolves (Lib name r args) h = (result_resolves (lib_gives name) r h.0, all_resolve (lib_takes name) args h.1)
     kind_resolves (Printf r k args) h = (register_resolves Integer r h.0, printed_resolves args (slice_get w.running.formats k) h.1)
-    kind_resolves Enter h = tt
-    kind_resolves Leave h = tt
     kind_resolves (Return a) h = absurd h
+    kind_resolves other h = tt
 
     answer_typed : (answer : Option Sort) (a : Option Atom) → FitsAnswer here answer a → IsTyped core func (numbered num (Return a))
     unfolding numbered

@@ -105,13 +105,7 @@ record Named (c : Context) (o : Option PlainNamed) (d : Context × Callee) : Typ
 
 call_grew : (u v : World) (o : Option PlainNamed) (function : Callee) → Grew u v → CallOf u o function → CallOf v o function
 call_grew u v (Some (n.Function type index)) function g h = (h.0, (h.1.0, g.file h.1.0 type index h.1.1))
-call_grew u v (Some (n.BuiltIn index)) function g h = h
-call_grew u v (Some (n.Object type index)) function g h = h
-call_grew u v (Some (n.Register type index)) function g h = h
-call_grew u v (Some (n.Typedef type)) function g h = h
-call_grew u v (Some (n.Constant type x)) function g h = h
-call_grew u v (Some (n.Tag type)) function g h = h
-call_grew u v None function g h = h
+call_grew u v other function g h = h
 
 at_file : (c : Context) (name : List ℕ) (type : PlainType) (index : ℕ) → NamesFit (world c) c.scopes → declaration c.scopes name ≡ Some (n.Function type index) → named_in name c.scopes.file ≡ Some (n.Function type index)
 at_file c name type index h e =
@@ -162,8 +156,7 @@ format_found (Some bytes) c answer walked d h q =
 
 one_argument : (target : Callee) (e : Tree) (c : Context) (answer : Checked (names.Context × PlainTyped)) (walked : With Found) (d : Context × Found) → ((x : Context × Found) → walked ≡ Ok x → Comes c x) → format_argument (is_printf target e) c answer walked ≡ Ok d → OneArgument c target d
 one_argument Prints e c answer walked d h q = format_found (literal e) c answer walked d h q
-one_argument (Takes answer2 params) e c answer walked d h q = let k = h d q in record { goes = k.goes; held = λ x. k.value.held }
-one_argument NoFunction e c answer walked d h q = let k = h d q in record { goes = k.goes; held = λ x. k.value.held }
+one_argument other e c answer walked d h q = let k = h d q in record { goes = k.goes; held = λ x. k.value.held }
 
 -- one argument more, with those behind it
 more_arguments : (line : ℕ) (target : Callee) (params : PlainTypes) (c : Context) (d : Context × Found) (more z : Context × List Argument) → 1 ≤ line → HasParams target params → OneArgument c target d
@@ -187,8 +180,7 @@ more_arguments line NoFunction params c d more z l p o k e =
 
 has_params : (function : Callee) → HasParams function (parameters function)
 has_params Prints = refl
-has_params (Takes answer takes) = tt
-has_params NoFunction = tt
+has_params other = tt
 
 in_memory_by : (c : Context) (e : Tree) (d : Context × Found) → NoRegister c.scopes (plain_name e) → Rests c e d → InMemory d.1
 in_memory_by c e d s r k q = by (plain_name e) s (r.local k q)

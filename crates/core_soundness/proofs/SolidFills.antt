@@ -149,8 +149,7 @@ fill_record_rises e line type offset c d (InMemory at mem) r f t m =
       cases = λ k. z.cases (r.cases k);
       walked = λ k. z.walked (r.walked k);
     })
-fill_record_rises e line type offset c d (InRegister at register) r f t m = led_refused (R1 c) NotConstant line
-fill_record_rises e line type offset c d (InStatic start) r f t m = led_refused (R1 c) NotConstant line
+fill_record_rises e line type offset c d other r f t m = led_refused (R1 c) NotConstant line
 
 whole_rises : (e : Tree) (line : ℕ) (type : PlainType) (offset : ℕ) (target : Target) (c : Context) → Solid c → Written e → Whole (K c) type → IsNumber (pos offset) → Led (R1 c) (whole e line type offset target c)
 whole_rises e line type offset target c h w t m =
@@ -236,12 +235,7 @@ fill_memory_rises line type (init ▹ rest) (atom.Static x) c h w t v m = led_ok
 
 zero_in : (type : PlainType) → AtomIn (zero_of type)
 zero_in (types.Pointer target) = tt
-zero_in Void = zero_number
-zero_in (types.Int ty) = zero_number
-zero_in (Array element m) = zero_number
-zero_in (Struct tag) = zero_number
-zero_in (Union tag) = zero_number
-zero_in (Function answer params) = zero_number
+zero_in other = zero_number
 
 fill_register_rises : (line : ℕ) (type : PlainType) (inits : Trees) (register : ℕ) (c : Context) → Solid c → AllWritten inits → Whole (K c) type → Within (K c) type 0 → Led (Rises c) (fill_register line type inits register c)
 unfolding AllWritten
@@ -252,8 +246,7 @@ fill_register_rises line type (init ▹ rest) register c h w t v =
 fill_at_rises : (line : ℕ) (type : PlainType) (inits : Trees) (spot : Spot) (c : Context) → Solid c → AllWritten inits → Whole (K c) type → Within (K c) type 0 → SpotIn spot → Led (Rises c) (fill_at line type inits spot c)
 fill_at_rises line type inits (Local register) c h w t v s = fill_register_rises line type inits register c h w t v
 fill_at_rises line type inits (Memory mem) c h w t v s = fill_memory_rises line type inits mem c h w t v s
-fill_at_rises line type inits (Value a) c h w t v s = led_ok (Rises c) c (rises_refl c h)
-fill_at_rises line type inits Empty c h w t v s = led_ok (Rises c) c (rises_refl c h)
+fill_at_rises line type inits other c h w t v s = led_ok (Rises c) c (rises_refl c h)
 
 with_local_rises : (name : List ℕ) (type : PlainType) (c : Context) → Solid c → Whole (K c) type → is_some (layout_in c.tags type) ≡ true → Rises c (with_local name type c).0
 with_local_rises name type c h w s = by (next_is_memory type c)
@@ -423,8 +416,7 @@ file_value_rises line name type inits c h v w =
 
 file_name_rises : (past : Context) (line : ℕ) (storage : Storage) (name : List ℕ) (type : PlainType) (inits : Trees) (c : Context) → Rises past c → AllWritten inits → Whole (K c) type → (Sorts past → SortedType c.tags.made type) → Led (Onward past c) (file_name line storage name type inits c)
 file_name_rises past line Typedef name type inits c r v w s = typedef_onward past c r line name type w s
-file_name_rises past line Outside name type inits c r v w s = onward_led past c (file_value line name type inits c) r (file_value_rises line name type inits c r.solid v w)
-file_name_rises past line storages.Plain name type inits c r v w s = onward_led past c (file_value line name type inits c) r (file_value_rises line name type inits c r.solid v w)
+file_name_rises past line other name type inits c r v w s = onward_led past c (file_value line name type inits c) r (file_value_rises line name type inits c r.solid v w)
 
 pub name_in_rises : (past : Context) (file : Bool) (line : ℕ) (storage : Storage) (name : Option (List ℕ)) (type : PlainType) (inits : Trees) (c : Context) → Rises past c → AllWritten inits → Whole (K c) type → (Sorts past → SortedType c.tags.made type) → Led (Onward past c) (name_in file line storage name type inits c)
 name_in_rises past true line storage None type inits c r v w s = onward_led past c (Ok c) r (led_ok (Rises c) c (rises_refl c r.solid))

@@ -153,13 +153,9 @@ param_made name type c h w s = counted_rises c _ (by (is_prototype c.scopes))
 
 -- a parameter has a layout: it is an integer or a pointer
 param_sized : (k : Known) (type : PlainType) → is_void type ≡ false → is_record type || is_function type ≡ false → is_array type ≡ false → is_some (layout_of k type) ≡ true
-param_sized k Void a b e = cc
 param_sized k (Int ty) a b e = refl
 param_sized k (Pointer target) a b e = refl
-param_sized k (Array element m) a b e = cc
-param_sized k (Struct tag) a b e = cc
-param_sized k (Union tag) a b e = cc
-param_sized k (Function answer ps) a b e = cc
+param_sized k other a b e = cc
 
 adjusted_flat : (type : PlainType) → is_array (adjusted type) ≡ false
 adjusted_flat Void = refl
@@ -172,13 +168,10 @@ adjusted_flat (Function answer ps) = refl
 
 -- a parameter is no struct, union or array
 param_sorted : (type : PlainType) (made : List TagInfo) → is_record type || is_function type ≡ false → is_array type ≡ false → SortedType made type
-param_sorted Void made b e = tt
-param_sorted (Int ty) made b e = tt
-param_sorted (Pointer target) made b e = tt
 param_sorted (Array element m) made b e = cc
 param_sorted (Struct tag) made b e = cc
 param_sorted (Union tag) made b e = cc
-param_sorted (Function answer ps) made b e = tt
+param_sorted other made b e = tt
 
 param_rises : (line : ℕ) (name : Option (List ℕ)) (type : PlainType) (c : Context) → Solid c → Whole (K c) type → is_array type ≡ false → Led (T c) (param line name type c)
 param_rises line name type c h w flat =
@@ -218,13 +211,7 @@ newly_rises sort name c h = record {
 
 begun_as_rises : (sort : RecordSort) (name : List ℕ) (o : Option PlainNamed) (c : Context) → Solid c → Rises c (begun_as sort name o c).0
 begun_as_rises sort name (Some (n.Tag type)) c h = rises_refl c h
-begun_as_rises sort name (Some (n.Object type i)) c h = newly_rises sort name c h
-begun_as_rises sort name (Some (n.Register type i)) c h = newly_rises sort name c h
-begun_as_rises sort name (Some (n.Function type i)) c h = newly_rises sort name c h
-begun_as_rises sort name (Some (n.Typedef type)) c h = newly_rises sort name c h
-begun_as_rises sort name (Some (n.Constant type x)) c h = newly_rises sort name c h
-begun_as_rises sort name (Some (n.BuiltIn i)) c h = newly_rises sort name c h
-begun_as_rises sort name None c h = newly_rises sort name c h
+begun_as_rises sort name other c h = newly_rises sort name c h
 
 begun_rises : (sort : RecordSort) (name : Option (List ℕ)) (c : Context) → Solid c → Rises c (begun sort name c).0
 begun_rises sort None c h = record { solid = h; more = extends_refl (K c); kinds = record { made = push_longer c.tags.made _; sorts = λ ks. record { names = scopes_longer c.scopes c.tags.made _ (push_longer c.tags.made _) ks.names; list = table_longer c.params c.tags.made _ (push_longer c.tags.made _) ks.list; bodies = bodies_longer c.tags.completed c.tags.made _ (push_longer c.tags.made _) ks.bodies } }; code = λ k. k; cases = λ k. k; walked = λ k. k }
@@ -233,13 +220,7 @@ begun_rises sort (Some name) c h = begun_as_rises sort name (named_in (tag_name 
 -- the type that a struct or union with braces begins with
 begun_as_sorted : (sort : RecordSort) (name : List ℕ) (o : Option PlainNamed) (c : Context) → ((type : PlainType) → o ≡ Some (n.Tag type) → SortedType c.tags.made type) → SortedType (begun_as sort name o c).0.tags.made (begun_as sort name o c).1
 begun_as_sorted sort name (Some (n.Tag type)) c h = h type refl
-begun_as_sorted sort name (Some (n.Object type i)) c h = new_sorted sort c.tags.made name
-begun_as_sorted sort name (Some (n.Register type i)) c h = new_sorted sort c.tags.made name
-begun_as_sorted sort name (Some (n.Function type i)) c h = new_sorted sort c.tags.made name
-begun_as_sorted sort name (Some (n.Typedef type)) c h = new_sorted sort c.tags.made name
-begun_as_sorted sort name (Some (n.Constant type x)) c h = new_sorted sort c.tags.made name
-begun_as_sorted sort name (Some (n.BuiltIn i)) c h = new_sorted sort c.tags.made name
-begun_as_sorted sort name None c h = new_sorted sort c.tags.made name
+begun_as_sorted sort name other c h = new_sorted sort c.tags.made name
 
 begun_sorted : (sort : RecordSort) (name : Option (List ℕ)) (c : Context) → Sorts c → SortedType (begun sort name c).0.tags.made (begun sort name c).1
 begun_sorted sort None c ks = new_sorted sort c.tags.made []

@@ -227,8 +227,7 @@ operand_of_rises line e (Number ty) c d r =
       },
       λ g. let f = r.fits g in (convert_integer_in line (promoted ty) ty (atom_in d.1) d.0 f.0 (spot_atom d.1.spot f.1)).1,
     )
-operand_of_rises line e (PointerTo target) c d r = led_refused (O1 c) Operands (line_of e)
-operand_of_rises line e Neither c d r = led_refused (O1 c) Operands (line_of e)
+operand_of_rises line e other c d r = led_refused (O1 c) Operands (line_of e)
 
 operand_rises : (line : ℕ) (e : Tree) (c : Context) → Solid c → Written e → Led (O1 c) (switch_operand line e c)
 operand_rises line e c h w =
@@ -404,12 +403,7 @@ begun_rises line addressed c h = record {
 
 answer_whole : (k : Known) (type : PlainType) → Whole k type → Whole k (answer_of type)
 answer_whole k (Function answer params) h = h.0
-answer_whole k Void h = tt
-answer_whole k (types.Int ty) h = tt
-answer_whole k (types.Pointer target) h = tt
-answer_whole k (types.Array element m) h = tt
-answer_whole k (types.Struct tag) h = tt
-answer_whole k (types.Union tag) h = tt
+answer_whole k other h = tt
 
 body_begun_rises : (index : ℕ) (type : PlainType) (c : Context) → Solid c → Whole (K c) type → Rises c (body_begun index type c)
 body_begun_rises index type c h w = record {
@@ -424,11 +418,7 @@ body_begun_rises index type c h w = record {
 last_in : (type : PlainType) → AtomsIn (given (last_answer type))
 last_in Void = tt
 last_in (types.Pointer target) = (tt, tt)
-last_in (types.Int ty) = (zero_number, tt)
-last_in (types.Array element m) = (zero_number, tt)
-last_in (types.Struct tag) = (zero_number, tt)
-last_in (types.Union tag) = (zero_number, tt)
-last_in (Function answer params) = (zero_number, tt)
+last_in other = (zero_number, tt)
 
 walked_in : (xs : List Walked) (x : Walked) → WalkedIn xs → PiecesIn x.code.pieces → WalkedIn (xs ++ x ∷ [])
 walked_in [] x h k = (k, tt)

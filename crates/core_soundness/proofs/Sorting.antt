@@ -31,12 +31,9 @@ held_grew w v type a g h = held_as_grew w v (operand type) a g h
 pub stands_as_grew : (w v : World) (is_place : Bool) (type : PlainType) (spot : Spot) → Grew w v → StandsAs w is_place type spot → StandsAs v is_place type spot
 stands_as_grew w v true type (Local r) g h = (h.0, held_grew w v type (atom.Reg r) g h.1)
 stands_as_grew w v true type (Memory a) g h = holds_grew w v Pointer a g h
-stands_as_grew w v true type (Value a) g h = absurd h
-stands_as_grew w v true type Empty g h = absurd h
-stands_as_grew w v false type (Local r) g h = absurd h
-stands_as_grew w v false type (Memory a) g h = absurd h
 stands_as_grew w v false type (Value a) g h = held_grew w v type a g h
 stands_as_grew w v false type Empty g h = h
+stands_as_grew w v others type other g h = absurd h
 
 pub stands_grew : (w v : World) (e : Found) → Grew w v → Stands w e → Stands v e
 stands_grew w v e g h = stands_as_grew w v e.typed.is_place e.typed.type e.spot g h
@@ -99,24 +96,20 @@ reads_place line at tags (types.Int ty) (Local r) c typed l h e =
 reads_place line at tags (types.Int ty) (Memory a) c typed l h e =
     let g = gives_integer line (λ t. Load (kind_of ty) t a) c l (λ v t grew there. (there, holds_grew (world c) v Pointer a grew h)) in
     subst (λ (x : PlainTyped). Brings c x.type (integer_by line (λ t. Load (kind_of ty) t a) c) × (x.is_place ≡ false)) (ok_same _ typed e) (record { goes = g.goes; held = g.holds }, refl)
-reads_place line at tags (types.Int ty) (Value a) c typed l h e = absurd h
-reads_place line at tags (types.Int ty) Empty c typed l h e = absurd h
 reads_place line at tags (types.Pointer target) (Local r) c typed l h e =
     let g = gives_pointer line (λ t. Set t (atom.Reg r)) c l (λ v t grew there. (Pointer, there, register_grew (world c) v Pointer r grew h.1)) in
     subst (λ (x : PlainTyped). Brings c x.type (pointer_by line (λ t. Set t (atom.Reg r)) c) × (x.is_place ≡ false)) (ok_same _ typed e) (record { goes = g.goes; held = g.holds }, refl)
 reads_place line at tags (types.Pointer target) (Memory a) c typed l h e =
     let g = gives_pointer line (λ t. Loadp t a) c l (λ v t grew there. (there, holds_grew (world c) v Pointer a grew h)) in
     subst (λ (x : PlainTyped). Brings c x.type (pointer_by line (λ t. Loadp t a) c) × (x.is_place ≡ false)) (ok_same _ typed e) (record { goes = g.goes; held = g.holds }, refl)
-reads_place line at tags (types.Pointer target) (Value a) c typed l h e = absurd h
-reads_place line at tags (types.Pointer target) Empty c typed l h e = absurd h
 reads_place line at tags (types.Array element length) (Local r) c typed l h e = let clash : false ≡ true = h.0 in cc
 reads_place line at tags (types.Array element length) (Memory a) c typed l h e =
     subst (λ (x : PlainTyped). Brings c x.type (c, a) × (x.is_place ≡ false)) (ok_same _ typed e) (record { goes = goes_refl c; held = h }, refl)
-reads_place line at tags (types.Array element length) (Value a) c typed l h e = absurd h
-reads_place line at tags (types.Array element length) Empty c typed l h e = absurd h
 reads_place line at tags (types.Struct tag) spot c typed l h e = no_record _ (has_no_size tags (types.Struct tag)) _ _ typed e
 reads_place line at tags (types.Union tag) spot c typed l h e = no_record _ (has_no_size tags (types.Union tag)) _ _ typed e
 reads_place line at tags (types.Function answer params) spot c typed l h e = never _ _ typed e
+reads_place line at tags other (Value a) c typed l h e = absurd h
+reads_place line at tags other Empty c typed l h e = absurd h
 
 -- a value is read as it is
 value_read : (line : ℕ) (type : PlainType) (a : Atom) (c : Context) → read_spot line type (Value a) c ≡ (c, a)
@@ -140,10 +133,9 @@ empty_read line (types.Union tag) c = refl
 empty_read line (types.Function answer params) c = refl
 
 reads_value : (line : ℕ) (type : PlainType) (spot : Spot) (c : Context) → StandsAs (world c) false type spot → Brings c type (read_spot line type spot c)
-reads_value line type (Local r) c h = absurd h
-reads_value line type (Memory a) c h = absurd h
 reads_value line type (Value a) c h = subst (Brings c type) (sym (value_read line type a c)) (record { goes = goes_refl c; held = h })
 reads_value line type Empty c h = subst (Brings c type) (sym (empty_read line type c)) (record { goes = goes_refl c; held = subst (λ (o : Operand). HeldAs (world c) o atom.Null) (sym h) tt })
+reads_value line type other c h = absurd h
 
 reads : (line at : ℕ) (tags : TagTable) (is_place : Bool) (e : PlainTyped) (spot : Spot) (c : Context) (typed : PlainTyped) → 1 ≤ line → e.is_place ≡ is_place → StandsAs (world c) is_place e.type spot → cond is_place (held at tags e.type) (Ok e) ≡ Ok typed → Brings c typed.type (read_spot line e.type spot c) × (typed.is_place ≡ false)
 reads line at tags true e spot c typed l same h k = reads_place line at tags e.type spot c typed l h k
@@ -214,14 +206,13 @@ pub record Converted (c : Context) (wanted given : Operand) (d : Context × Atom
 converts_to : (line : ℕ) (b : Context) (wanted given : Operand) (a : Atom) (c : Context) → 1 ≤ line → Goes b c → HeldAs (world c) given a → Converted b wanted given (convert_to line b.code wanted given a c)
 converts_to line b (Number ty) (Number source) a c l g h =
     let k = integer_converted line ty source a c l h in record { goes = goes_trans b c _ g k.goes; held = λ q. k.holds }
-converts_to line b (Number ty) (PointerTo source) a c l g h = record { goes = g; held = λ q. absurd q }
-converts_to line b (Number ty) Neither a c l g h = record { goes = g; held = λ q. absurd q }
 converts_to line b (PointerTo target) (Number source) a c l g h = record { goes = goes_forgotten b c g; held = λ q. refl }
 converts_to line b (PointerTo target) (PointerTo source) a c l g h = record { goes = g; held = λ q. h }
 converts_to line b (PointerTo target) Neither a c l g h = record { goes = g; held = λ q. absurd q }
 converts_to line b Neither (Number source) a c l g h = record { goes = g; held = λ q. tt }
 converts_to line b Neither (PointerTo source) a c l g h = record { goes = g; held = λ q. tt }
 converts_to line b Neither Neither a c l g h = record { goes = g; held = λ q. tt }
+converts_to line b (Number ty) other a c l g h = record { goes = g; held = λ q. absurd q }
 
 -- what is converted began behind a context
 pub converted : (line : ℕ) (b : Context) (type : PlainType) (e : PlainTyped) (a : Atom) (c : Context) → 1 ≤ line → Goes b c → Held (world c) e.type a → Converted b (operand type) (operand e.type) (convert line b.code type e a c)
@@ -229,13 +220,9 @@ converted line b type e a c l g h = converts_to line b (operand type) (operand e
 
 pub tested_gives : (line : ℕ) (type : PlainType) (a : Atom) (c : Context) → 1 ≤ line → is_scalar type ≡ true → Held (world c) type a → Gives c Integer (tested line type a c)
 unfolding tested
-tested_gives line types.Void a c l s h = cc
 tested_gives line (types.Int ty) a c l s h = gives_here c Integer a h
 tested_gives line (types.Pointer target) a c l s h = gives_integer line (λ t. Test t a) c l (λ v t g i. (i, holds_grew (world c) v Pointer a g h))
-tested_gives line (types.Array element length) a c l s h = cc
-tested_gives line (types.Struct tag) a c l s h = cc
-tested_gives line (types.Union tag) a c l s h = cc
-tested_gives line (types.Function answer params) a c l s h = cc
+tested_gives line other a c l s h = cc
 
 pub tested_value_gives : (tree : Tree) (d : Context × Found) → 1 ≤ code_line tree → is_scalar d.1.typed.type ≡ true → HasValue (world d.0) d.1 → Gives d.0 Integer (tested_value tree d)
 tested_value_gives tree d l s h = tested_gives (code_line tree) d.1.typed.type (atom_in d.1) d.0 l s h.held
@@ -247,15 +234,6 @@ write_goes line (types.Int ty) (Local r) a c l s h = goes_emit line (Set r a) c 
 write_goes line (types.Int ty) (Memory p) a c l s h = goes_emit line (Store (kind_of ty) p a) c l (s, h)
 write_goes line (types.Pointer target) (Local r) a c l s h = goes_emit line (Set r a) c l (Pointer, s.1, h)
 write_goes line (types.Pointer target) (Memory p) a c l s h = goes_emit line (Storep p a) c l (s, h)
-write_goes line types.Void (Local r) a c l s h = let clash : false ≡ true = s.0 in cc
-write_goes line (types.Array element length) (Local r) a c l s h = let clash : false ≡ true = s.0 in cc
-write_goes line (types.Struct tag) (Local r) a c l s h = let clash : false ≡ true = s.0 in cc
-write_goes line (types.Union tag) (Local r) a c l s h = let clash : false ≡ true = s.0 in cc
-write_goes line (types.Function answer params) (Local r) a c l s h = let clash : false ≡ true = s.0 in cc
-write_goes line type (Value v) a c l s h = absurd s
-write_goes line type Empty a c l s h = absurd s
-write_goes line types.Void (Memory p) a c l s h = goes_refl c
-write_goes line (types.Array element length) (Memory p) a c l s h = goes_refl c
-write_goes line (types.Struct tag) (Memory p) a c l s h = goes_refl c
-write_goes line (types.Union tag) (Memory p) a c l s h = goes_refl c
-write_goes line (types.Function answer params) (Memory p) a c l s h = goes_refl c
+write_goes line other (Local r) a c l s h = let clash : false ≡ true = s.0 in cc
+write_goes line other (Memory p) a c l s h = goes_refl c
+write_goes line type other a c l s h = absurd s

@@ -123,11 +123,7 @@ returned_runs answer line delays a c l g h =
 answer_held : (w : World) (answer : Option Sort) (type : PlainType) (a : Atom) → result_sort type ≡ answer → (operand type ≡ Neither → ⊥) → Held w type a → FitsAnswer w answer (Some a)
 answer_held w answer (types.Int ty) a e n h = subst (λ (o : Option Sort). FitsAnswer w o (Some a)) e h
 answer_held w answer (types.Pointer target) a e n h = subst (λ (o : Option Sort). FitsAnswer w o (Some a)) e h
-answer_held w answer Void a e n h = absurd (n refl)
-answer_held w answer (types.Array element length) a e n h = absurd (n refl)
-answer_held w answer (types.Struct tag) a e n h = absurd (n refl)
-answer_held w answer (types.Union tag) a e n h = absurd (n refl)
-answer_held w answer (types.Function result params) a e n h = absurd (n refl)
+answer_held w answer other a e n h = absurd (n refl)
 
 never_neither : (type : PlainType) (e : Rattle.c_decls.specs.Typed.PlainTyped) → unconverted type e ≡ None → operand type ≡ Neither → ⊥
 never_neither type e u o = by (operand type) o u
@@ -156,12 +152,7 @@ return_of_runs answer line delays e type c z l p g s q =
 
 void_answer : (w : World) (answer : Option Sort) (type : PlainType) → result_sort type ≡ answer → is_void type ≡ true → FitsAnswer w answer None
 void_answer w answer Void e v = subst (λ (o : Option Sort). FitsAnswer w o None) e tt
-void_answer w answer (types.Int ty) e v = cc
-void_answer w answer (types.Pointer target) e v = cc
-void_answer w answer (types.Array element length) e v = cc
-void_answer w answer (types.Struct tag) e v = cc
-void_answer w answer (types.Union tag) e v = cc
-void_answer w answer (types.Function result params) e v = cc
+void_answer w answer other e v = cc
 
 return_from_runs : (answer : Option Sort) (line delays : ℕ) (es : Trees) (c z : Context) → 1 ≤ line → AllSpoken c.scopes es → Fine c → result_sort c.running.answer ≡ answer → return_from line delays es c ≡ Ok z → Runs answer c z
 unfolding AllSpoken
@@ -183,8 +174,7 @@ operand_of_runs line e (Number ty) c d z l v h q =
     let g = closed_goes e x.0 v.line in
     subst (Operand_at c) (ok_same (closed e x.0, (promoted ty, x.1)) z q)
     (record { goes = goes_trans c d.0 _ (evaluated_goes c e d v) (goes_trans d.0 x.0 _ k.goes g); holds = holds_grew (world x.0) _ Integer x.1 g.grew k.holds })
-operand_of_runs line e (PointerTo target) c d z l v h q = never _ _ z q
-operand_of_runs line e Neither c d z l v h q = never _ _ z q
+operand_of_runs line e other c d z l v h q = never _ _ z q
 
 operand_runs : (line : ℕ) (e : Tree) (c : Context) (z : Context × (IntType × Atom)) → 1 ≤ line → Spoken c.scopes e → NamesFit (world c) c.scopes → switch_operand line e c ≡ Ok z → Operand_at c z
 operand_runs line e c z l p h q =

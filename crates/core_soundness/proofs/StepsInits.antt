@@ -210,12 +210,7 @@ register_went line type (init ▹ more ▹ rest) register c z g q = absurd g.0
 pub fill_went : (line : ℕ) (type : PlainType) (inits : Trees) (spot : Spot) (c z : Context) → Formed (Node f.MaybeInit inits) → IsSpot spot → fill_at line type inits spot c ≡ Ok z → Went (Node f.MaybeInit inits) c z
 fill_went line type inits (Local register) c z g s q = register_went line type inits register c z g q
 fill_went line type inits (Memory (atom.Mem mem)) c z g s q = memory_went line type inits mem c z g q
-fill_went line type inits (Memory atom.Null) c z g s q = absurd s
-fill_went line type inits (Memory (atom.Int v)) c z g s q = absurd s
-fill_went line type inits (Memory (atom.Reg r)) c z g s q = absurd s
-fill_went line type inits (Memory (atom.Static v)) c z g s q = absurd s
-fill_went line type inits (Value a) c z g s q = absurd s
-fill_went line type inits Empty c z g s q = absurd s
+fill_went line type inits other c z g s q = absurd s
 
 pub local_went : (line : ℕ) (name : List ℕ) (type : PlainType) (inits : Trees) (c z : Context) → Formed (Node f.MaybeInit inits) → fill_local line type inits (with_local name type c) ≡ Ok z → Went (Node f.MaybeInit inits) (with_local name type c).0 z
 local_went line name type inits c z g q = fill_went line type inits (with_local name type c).1 (with_local name type c).0 z g (local_spot name type c) q

@@ -223,8 +223,6 @@ mutual
   enumerators_stepped (tree ▹ rest) next t c z g h q = never _ _ z q
 
   pub layers_stepped : (tree : Tree) (t : Taken) (c : Context) (z : Context × List Layer) → Formed tree → IsLayer tree → Follows t c → layers tree c ≡ Ok z → Stepped t c (taken tree t) z.0
-  layers_stepped (Leaf word) t c z g o h q = subst (λ (y : Context × List Layer). Stepped t c t y.0) (ok_same (c, []) z q) (stepped_refl t c h)
-  layers_stepped (At line) t c z g o h q = subst (λ (y : Context × List Layer). Stepped t c t y.0) (ok_same (c, []) z q) (stepped_refl t c h)
   layers_stepped (Node (f.Pointer consts) (At line ▹ declarator ▹ none)) t c z g o h q =
       let l = came (layers declarator c) (λ l. good (l.0, PointerTo line ∷ l.1)) z q in
       let a = layers_stepped declarator t c l.value g.1.1.0 g.0 h l.is in
@@ -243,6 +241,7 @@ mutual
   layers_stepped (Node f.Nothing none) t c z g o h q =
       subst (λ (y : Context × List Layer). Stepped t c (taken (Node f.Nothing none) t) y.0) (ok_same (c, []) z q) (stepped_names t t (taken (Node f.Nothing none) t) c c (refl, refl) (stepped_refl t c h))
   layers_stepped (Node _ parts) t c z g o h q = absurd o
+  layers_stepped other t c z g o h q = subst (λ (y : Context × List Layer). Stepped t c t y.0) (ok_same (c, []) z q) (stepped_refl t c h)
 
   suffixes_stepped : (parts : Trees) (t : Taken) (c : Context) (z : Context × List Layer) → AreSuffixes parts → AllFormed parts → Follows t c → suffix_layers parts c ≡ Ok z → Stepped t c (each parts t) z.0
   suffixes_stepped none t c z o g h q = subst (λ (y : Context × List Layer). Stepped t c t y.0) (ok_same (c, []) z q) (stepped_refl t c h)

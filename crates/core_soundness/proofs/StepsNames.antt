@@ -118,13 +118,8 @@ named_depth file (t ∷ ts) name v = refl
 -- a name that stands for no register is declared
 
 again_plain : (w v : PlainNamed) → is_register (Some v) ≡ false → is_same_again w v ≡ true → is_register (Some w) ≡ false
-again_plain (n.Object type i) v e q = refl
-again_plain (n.Function type i) v e q = refl
-again_plain (n.Typedef type) v e q = refl
-again_plain (n.Constant type i) v e q = refl
-again_plain (n.BuiltIn i) v e q = refl
-again_plain (n.Tag type) v e q = refl
 again_plain (n.Register type i) v e q = cc
+again_plain other v e q = refl
 
 not_of : (b : Bool) → not b ≡ false → b ≡ true
 not_of true e = refl

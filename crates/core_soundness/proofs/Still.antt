@@ -111,10 +111,9 @@ mutual
   unfolding taken all_taken Still AllStill
 
   pub still_names : (tree : Tree) (t : Taken) → Still tree → SameNames t (taken tree t)
-  still_names (Leaf word) t h = (refl, refl)
-  still_names (At line) t h = (refl, refl)
   still_names (Node form parts) t h =
       left_names form parts t (all_taken parts (places (shape form (count parts))) t) h.0 (all_still_names parts (places (shape form (count parts))) t h.2)
+  still_names other t h = (refl, refl)
 
   pub all_still_names : (parts : Trees) (ps : List Place) (t : Taken) → AllStill parts → SameNames t (all_taken parts ps t)
   all_still_names none ps t h = (refl, refl)

@@ -40,22 +40,15 @@ pub record SortedScopes (made : List TagInfo) (s : ScopeList) : Type 0 where
 -- with more tags
 
 pub type_longer : (type : PlainType) (j k : List TagInfo) → Longer j k → SortedType j type → SortedType k type
-type_longer Void j k x h = tt
-type_longer (Int ty) j k x h = tt
-type_longer (Pointer target) j k x h = tt
 type_longer (Array element m) j k x h = type_longer element j k x h
 type_longer (Struct tag) j k x h = (h.0, x tag h.0 h.1, h.2)
 type_longer (Union tag) j k x h = (h.0, x tag h.0 h.1, h.2)
-type_longer (Function answer params) j k x h = tt
+type_longer other j k x h = tt
 
 pub name_longer : (v : PlainNamed) (j k : List TagInfo) → Longer j k → SortedName j v → SortedName k v
 name_longer (n.Tag type) j k x h = type_longer type j k x h
 name_longer (n.Typedef type) j k x h = type_longer type j k x h
-name_longer (n.Object type i) j k x h = tt
-name_longer (n.Register type i) j k x h = tt
-name_longer (n.Function type i) j k x h = tt
-name_longer (n.Constant type v) j k x h = tt
-name_longer (n.BuiltIn i) j k x h = tt
+name_longer other j k x h = tt
 
 pub table_longer : (t : Table) (j k : List TagInfo) → Longer j k → SortedTable j t → SortedTable k t
 table_longer t j k x h name v e = name_longer v j k x (h name v e)

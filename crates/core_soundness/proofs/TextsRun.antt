@@ -234,10 +234,7 @@ last_fits : (v : World) (type : PlainType) → (is_array type || is_function typ
 last_fits v Void e = tt
 last_fits v (Int ty) e = refl
 last_fits v (types.Pointer target) e = refl
-last_fits v (types.Array element length) e = cc
-last_fits v (types.Struct tag) e = cc
-last_fits v (types.Union tag) e = cc
-last_fits v (Function answer ps) e = cc
+last_fits v other e = cc
 
 -- the body of a function of a name, in front of which c stands between external declarations
 body_between : (line end : ℕ) (name : List ℕ) (answer : PlainType) (ps : PlainTypes) (index : ℕ) (more : List Sort) (c e z : Context) → 1 ≤ end → Between c → Statics c e → e.walked ≡ c.walked → Fine e → CodeFits (result_sort answer) e → e.running.answer ≡ answer
@@ -305,12 +302,7 @@ named_between line (Some name) (Function answer ps) base tree given numbers c b 
     let m = makes_function l.0.tags l.1 base answer ps made list.some in
     defined_between line name answer ps tree given numbers c b l.0 z h s same addressed p (begins m.single) (r (result_sort answer)) (subst (λ (x : Rattle.elaboration.specs.Context.Code). PiecesFit (result_sort answer) (world b) x.pieces) (sym code) tt)
     ((r (result_sort answer)).depth ∙ flat) list.params m.plain (regs m.single ∙ m.sorts) q
-named_between line (Some name) Void base tree given numbers c b l z h s same addressed p begins r code flat list regs made q = never _ _ z q
-named_between line (Some name) (Int ty) base tree given numbers c b l z h s same addressed p begins r code flat list regs made q = never _ _ z q
-named_between line (Some name) (types.Pointer target) base tree given numbers c b l z h s same addressed p begins r code flat list regs made q = never _ _ z q
-named_between line (Some name) (types.Array element length) base tree given numbers c b l z h s same addressed p begins r code flat list regs made q = never _ _ z q
-named_between line (Some name) (types.Struct tag) base tree given numbers c b l z h s same addressed p begins r code flat list regs made q = never _ _ z q
-named_between line (Some name) (types.Union tag) base tree given numbers c b l z h s same addressed p begins r code flat list regs made q = never _ _ z q
+named_between line (Some name) other base tree given numbers c b l z h s same addressed p begins r code flat list regs made q = never _ _ z q
 
 definition_between : (line : ℕ) (words declarator tree : Tree) (c z : Context) → 1 ≤ line → Written tree → Formed words → Formed (Node f.Declared (declarator ▹ t.none)) → Formed tree → HasParameters declarator → IsSome (params_of declarator) → Between c → definition line words declarator tree (begun line (addressed_in declarator tree) c) ≡ Ok z → Between z
 unfolding Formed AllFormed Shaped

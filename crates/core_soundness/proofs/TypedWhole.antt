@@ -155,12 +155,7 @@ module _ (ts : List CompletedTag) where
 
   pub adjusted_whole : (type : PlainType) → Whole (known ts) type → Whole (known ts) (adjusted type)
   adjusted_whole (Array element m) h = h.0
-  adjusted_whole Void h = h
-  adjusted_whole (Int ty) h = h
-  adjusted_whole (Pointer target) h = h
-  adjusted_whole (Struct tag) h = h
-  adjusted_whole (Union tag) h = h
-  adjusted_whole (Function answer params) h = h
+  adjusted_whole other h = h
 
 -- the rules of expressions
 
@@ -174,13 +169,8 @@ module _ (ts : List CompletedTag) (made : AreMade nothing ts) where
   WO Neither = Unit {0}
 
   operand_whole : (type : PlainType) → Whole (known ts) type → WO (operand type)
-  operand_whole Void h = tt
-  operand_whole (Int ty) h = tt
   operand_whole (Pointer target) h = h
-  operand_whole (Array element m) h = tt
-  operand_whole (Struct tag) h = tt
-  operand_whole (Union tag) h = tt
-  operand_whole (Function answer params) h = tt
+  operand_whole other h = tt
 
   held_whole : (line : ℕ) (tags : TagTable) (type : PlainType) → Whole (known ts) type → Led W (held line tags type)
   held_whole line tags Void h = led_refused W Incomplete line
@@ -215,10 +205,9 @@ module _ (ts : List CompletedTag) (made : AreMade nothing ts) where
   named_whole line (Some (n.Object type i)) h = led_ok W _ (h (n.Object type i) refl)
   named_whole line (Some (n.Register type i)) h = led_ok W _ (h (n.Register type i) refl)
   named_whole line (Some (n.Function type i)) h = led_refused W LeftOut line
-  named_whole line (Some (n.Typedef type)) h = led_refused W Operands line
   named_whole line (Some (n.Constant type x)) h = led_ok W _ tt
   named_whole line (Some (n.BuiltIn i)) h = built_in_whole line (slice_get built_ins i)
-  named_whole line (Some (n.Tag type)) h = led_refused W Operands line
+  named_whole line other h = led_refused W Operands line
 
   string_whole : (line : ℕ) (bytes : List ℕ) → Led W (string line bytes)
   string_whole line bytes =
@@ -413,12 +402,7 @@ module _ (ts : List CompletedTag) (made : AreMade nothing ts) where
 
   function_whole : (type : PlainType) → Whole (known ts) type → CW (function_callee type)
   function_whole (Function answer params) h = h
-  function_whole Void h = tt
-  function_whole (Int ty) h = tt
-  function_whole (Pointer target) h = tt
-  function_whole (Array element m) h = tt
-  function_whole (Struct tag) h = tt
-  function_whole (Union tag) h = tt
+  function_whole other h = tt
 
   built_in_callee_whole : (name : BuiltIn) → CW (built_in_callee name)
   built_in_callee_whole built.Malloc = (tt, (tt, tt))
@@ -443,8 +427,7 @@ module _ (ts : List CompletedTag) (made : AreMade nothing ts) where
 
   built_in_called_whole : (line : ℕ) (tags : TagTable) (o : Option BuiltIn) (function : Callee) → CW function → Led CW (built_in_called line tags o function)
   built_in_called_whole line tags o NoFunction h = no_function_whole line tags (built_in_named line o)
-  built_in_called_whole line tags o (Takes answer params) h = led_ok CW _ h
-  built_in_called_whole line tags o Prints h = led_ok CW _ h
+  built_in_called_whole line tags o other h = led_ok CW _ h
 
   pub called_whole : (line : ℕ) (tags : TagTable) (o : Option PlainNamed) → NamedBy o → Led CW (called line tags o)
   called_whole line tags (Some (n.Function type i)) h = led_ok CW _ (function_whole type (h (n.Function type i) refl))

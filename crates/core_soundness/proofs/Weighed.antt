@@ -35,31 +35,28 @@ told_joined (Line line ∷ one) other = told_joined one other
 spelled_told : (pieces : List Piece) (tokens rest : List Token) → Spells pieces tokens rest → told pieces ≤ length tokens
 unfolding Spells
 spelled_told [] tokens rest h = omega arith
-spelled_told (Said word ∷ pieces) [] rest h = absurd h
 spelled_told (Said word ∷ pieces) (token ∷ tokens) rest h = omega (arith, spelled_told pieces tokens rest h.1)
-spelled_told (Line line ∷ pieces) [] rest h = absurd h
 spelled_told (Line line ∷ pieces) (token ∷ tokens) rest h = spelled_told pieces (token ∷ tokens) rest h.1
+spelled_told other [] rest h = absurd h
 
 filled_told : (items : List Item) (parts : Trees) (scope : Scope) → AllAllowed parts (places items) scope → said items + 6 * told_all (spell_all parts) ≤ 6 * told (filled items (spell_all parts))
 unfolding AllAllowed spell_all
 filled_told [] none scope a = omega arith
 filled_told [] (tree ▹ rest) scope a = absurd a
 filled_told (Says word ∷ items) parts scope a = omega (arith, filled_told items parts scope a)
-filled_told (Here ∷ items) none scope a = absurd a
 filled_told (Here ∷ items) (tree ▹ rest) scope a = omega (arith, filled_told items rest _ a.2, told_joined (spell tree) (filled items (spell_all rest)))
-filled_told (Part place ∷ items) none scope a = absurd a
 filled_told (Part place ∷ items) (tree ▹ rest) scope a = omega (arith, filled_told items rest _ a.2, told_joined (spell tree) (filled items (spell_all rest)))
+filled_told other none scope a = absurd a
 
 mutual
   unfolding Allowed AllAllowed spell spell_all
 
   tree_weighed : (tree : Tree) (scope : Scope) → Allowed tree scope → weight tree ≤ 6 * told (spell tree)
-  tree_weighed (Leaf word) scope a = omega arith
-  tree_weighed (At line) scope a = omega arith
   tree_weighed (Node form parts) scope a =
       let parts_fit = trees_weighed parts (places (shape form (count parts))) scope a.1 in
       let whole = filled_told (shape form (count parts)) parts scope a.1 in
       omega (arith, parts_fit, whole)
+  tree_weighed other scope a = omega arith
 
   trees_weighed : (trees : Trees) (ps : List Place) (scope : Scope) → AllAllowed trees ps scope → weights trees ≤ 6 * told_all (spell_all trees)
   trees_weighed none ps scope a = omega arith
@@ -89,11 +86,10 @@ word_fits word token l h = tt
 spelled_fit : (pieces : List Piece) (tokens rest : List Token) → All IsSmall tokens → Spells pieces tokens rest → AllFit pieces
 unfolding Spells
 spelled_fit [] tokens rest l h = tt
-spelled_fit (Said word ∷ pieces) [] rest l h = absurd h
 spelled_fit (Said word ∷ pieces) (token ∷ tokens) rest l h =
     (word_fits word token (l 0 token (omega arith)) h.0, spelled_fit pieces tokens rest (All-tail IsSmall token tokens l) h.1)
-spelled_fit (Line line ∷ pieces) [] rest l h = absurd h
 spelled_fit (Line line ∷ pieces) (token ∷ tokens) rest l h = (tt, spelled_fit pieces (token ∷ tokens) rest l h.1)
+spelled_fit other [] rest l h = absurd h
 
 parts_fit : (one other : List Piece) → AllFit (one ++ other) → AllFit one × AllFit other
 parts_fit [] other h = (tt, h)
@@ -104,12 +100,11 @@ unfolding AllAllowed spell_all
 filled_fit [] none scope a h = tt
 filled_fit [] (tree ▹ rest) scope a h = absurd a
 filled_fit (Says word ∷ items) parts scope a h = filled_fit items parts scope a h.1
-filled_fit (Here ∷ items) none scope a h = absurd a
 filled_fit (Here ∷ items) (tree ▹ rest) scope a h =
     let r = parts_fit (spell tree) (filled items (spell_all rest)) h in (r.0, filled_fit items rest _ a.2 r.1)
-filled_fit (Part place ∷ items) none scope a h = absurd a
 filled_fit (Part place ∷ items) (tree ▹ rest) scope a h =
     let r = parts_fit (spell tree) (filled items (spell_all rest)) h in (r.0, filled_fit items rest _ a.2 r.1)
+filled_fit other none scope a h = absurd a
 
 mutual
   unfolding Allowed AllAllowed spell spell_all

@@ -29,13 +29,10 @@ row_stays j k element n x h = (h.0, layout_stays j k x element h.0 h.1, h.2, h.3
 
 mutual
   pub whole_stays : (type : PlainType) (j k : Known) → Extends j k → Whole j type → Whole k type
-  whole_stays Void j k x h = tt
-  whole_stays (Int ty) j k x h = tt
   whole_stays (Pointer target) j k x h = whole_stays target j k x h
   whole_stays (Array element n) j k x h = (whole_stays element j k x h.0, row_stays j k element n x h.1)
-  whole_stays (Struct tag) j k x h = tt
-  whole_stays (Union tag) j k x h = tt
   whole_stays (Function answer params) j k x h = (whole_stays answer j k x h.0, all_stay params j k x h.1)
+  whole_stays other j k x h = tt
 
   pub all_stay : (types : PlainTypes) (j k : Known) → Extends j k → AllWhole j types → AllWhole k types
   all_stay none j k x h = tt
@@ -58,8 +55,7 @@ named_stays (n.Register type i) j k x h = whole_stays type j k x h
 named_stays (n.Function type i) j k x h = whole_stays type j k x h
 named_stays (n.Typedef type) j k x h = whole_stays type j k x h
 named_stays (n.Constant type value) j k x h = h
-named_stays (n.BuiltIn i) j k x h = tt
-named_stays (n.Tag type) j k x h = tt
+named_stays other j k x h = tt
 
 pub table_stays : (t : Table) (j k : Known) → Extends j k → TableWhole j t → TableWhole k t
 table_stays t j k x h name v e = named_stays v j k x (h name v e)
@@ -96,14 +92,9 @@ made_completed k (t ∷ tags) h = (h.0.0, made_completed (learn k t) tags h.1)
 -- sizes
 
 pub whole_fits : (type : PlainType) (k : Known) → Whole k type → ArraysFit k type
-whole_fits Void k h = tt
-whole_fits (Int ty) k h = tt
-whole_fits (Pointer target) k h = tt
 whole_fits (Array element n) k h =
     (whole_fits element k h.0, subst (λ (o : Option Layout). IfSome o (λ l. n * l.size ≤ 268435456)) (sym h.1.1) h.1.2)
-whole_fits (Struct tag) k h = tt
-whole_fits (Union tag) k h = tt
-whole_fits (Function answer params) k h = tt
+whole_fits other k h = tt
 
 pub is_layout : (tags : List CompletedTag) (type : PlainType) (l : Layout) → AreMade nothing tags → Whole (known tags) type → layout_of (known tags) type ≡ Some l → IsLayoutOfType l
 is_layout tags type l m h e = record { tags = tags; completed = made_completed nothing tags m; type = type; fits = whole_fits type (known tags) h; layout = e }
@@ -130,7 +121,6 @@ product_some zero m h k = absurd (omega (arith, h))
 product_some (suc n) m h k = omega arith
 
 layout_some : (k : Known) → AllSized k → (type : PlainType) (l : Layout) → Whole k type → layout_of k type ≡ Some l → 1 ≤ l.size
-layout_some k a Void l w e = cc
 layout_some k a (Int int) l w e = let same : number_layout (width_of int) ≡ l = cc in subst (λ (x : Layout). 1 ≤ x.size) same (width_some int)
 layout_some k a (Pointer target) l w e = let same : pointer_layout ≡ l = cc in subst (λ (x : Layout). 1 ≤ x.size) same (omega arith)
 layout_some k a (Array element n) l w e =
@@ -138,7 +128,7 @@ layout_some k a (Array element n) l w e =
     subst (λ (x : Layout). 1 ≤ x.size) r.2 (product_some n r.0.size w.1.3 (layout_some k a element r.0 w.0 r.1))
 layout_some k a (Struct tag) l w e = a tag l e
 layout_some k a (Union tag) l w e = a tag l e
-layout_some k a (Function answer params) l w e = cc
+layout_some k a other l w e = cc
 
 -- members are placed one behind another, or all at 0
 placed_far : (u : Bool) (p : Placed) (ls : List Layout) → p.end ≤ (fold (place u) p ls).end

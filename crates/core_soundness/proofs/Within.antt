@@ -150,10 +150,7 @@ parts_in c asked (Array element n) offset h w v =
     array_in c asked n offset element r.0 w.0 r.1 (subst (λ (x : Layout). offset + x.size ≤ 268435456) (sym r.2) v.2)
 parts_in c asked (Struct tag) offset h w v = struct_in c tag offset v.0 h v.1 v.2
 parts_in c asked (Union tag) offset h w v = first_in (K c) (struct_parts offset (members_in c.tags tag)) (struct_in c tag offset v.0 h v.1 v.2)
-parts_in c asked Void offset h w v = ((w, v), tt)
-parts_in c asked (Int ty) offset h w v = ((w, v), tt)
-parts_in c asked (Pointer target) offset h w v = ((w, v), tt)
-parts_in c asked (Function answer params) offset h w v = ((w, v), tt)
+parts_in c asked other offset h w v = ((w, v), tt)
 
 -- at the start of an object
 pub starts_within : (c : Context) (type : PlainType) (l : Layout) → Solid c → Whole (K c) type → layout_of (K c) type ≡ Some l → Within (K c) type 0
