@@ -32,6 +32,8 @@ use Rattle.elaboration.specs.Declarators.{constant, with_type, maybe_name, unnam
 use Rattle.core_soundness.proofs.Names.{Safe, first_safe, More, frees, with_name_safe, entered_safe, left_safe, with_tag_more}
 use Rattle.core_soundness.proofs.Growth.{grows_told, grows_refl}
 use Rattle.core_soundness.proofs.Owners.{FileKeeps, IsNoFunction, tied_refl, tied_file, keeps_refl, with_name_keeps, with_name_depth}
+use Rattle.core_soundness.proofs.ShortNames.{Any, any_names}
+use Rattle.core_soundness.proofs.LayersWalk.{Steps, constant_keeps, specs_keep, layers_keep}
 use Rattle.core_soundness.proofs.Reached.{Reached, reached_ok, reached_refused, reached_after, reached_then, reached_unless, Led, led_ok, led_refused, led_after, led_unless}
 use Rattle.core_soundness.proofs.TypedNames.{After, typed_after, wanted_after, special_after}
 use Rattle.core_soundness.proofs.Working.{grows_write}
@@ -77,10 +79,14 @@ after_depth s name named = by (is_some (named_in name (innermost s)))
     by true = refl
     by false = with_name_depth s name named
 
+after_passes : (name : List ℕ) (named : PlainNamed) (c : Context) → frees (Some named) ≡ false → IsNoFunction named → Safe c.scopes → Passes c (record c { scopes = after_declaration c.scopes name named })
+after_passes name named c e no_function s =
+    scopes_changed c _ (after_safe c.scopes name named e s) (after_keeps c.scopes name named no_function) (after_depth c.scopes name named) (λ h. declared_objects c.scopes name named (inner_objects c.scopes name named h))
+
 pub declared_passes : (line : ℕ) (name : List ℕ) (named : PlainNamed) (b c : Context) → frees (Some named) ≡ false → IsNoFunction named → Passes b c → Led (Passes b) (declared_as line name named c)
 declared_passes line name named b c e no_function p =
     led_unless (Passes b) (is_twice c.scopes name named) DeclaredTwice line (Ok (record c { scopes = after_declaration c.scopes name named }))
-    (λ q. led_ok (Passes b) (record c { scopes = after_declaration c.scopes name named }) (passes_trans b c _ p (scopes_changed c _ (after_safe c.scopes name named e p.stays.safe) (after_keeps c.scopes name named no_function) (after_depth c.scopes name named) (λ h. declared_objects c.scopes name named (inner_objects c.scopes name named h)))))
+    (λ q. led_ok (Passes b) (record c { scopes = after_declaration c.scopes name named }) (passes_trans b c _ p (after_passes name named c e no_function p.stays.safe)))
 
 named_passes : (name : Option (List ℕ)) (named : PlainNamed) (c : Context) → frees (Some named) ≡ false → IsNoFunction named → Safe c.scopes → Passes c (with_named name named c)
 named_passes None named c e no_function s = passes_refl c s
@@ -136,67 +142,11 @@ local_in_passes false name type c s =
 pub with_local_passes : (name : List ℕ) (type : PlainType) (c : Context) → Safe c.scopes → Passes c (with_local name type c).0
 with_local_passes name type c s = counted_passes c _ (local_in_passes (next_is_memory type c) name type c s)
 
--- constants and tags
-
-pub constant_passes : (e : Tree) (b c : Context) → Passes b c → Reached (Passes b) (constant e c)
-constant_passes e b c p =
-    reached_after (Passes b) (wanted e (typed e (asked c))) (λ x. then (constant_from (line_of e) x.1.type x.1.folded) (λ k. Ok (told x.0 c, k)))
-    (λ x h. reached_after (Passes b) (constant_from (line_of e) x.1.type x.1.folded) (λ k. Ok (told x.0 c, k))
-    (λ k q. reached_ok (Passes b) (told x.0 c, k) (passes_trans b c _ p (told_passes x.0 c (wanted_after (asked c) e (typed e (asked c)) (typed_after e (asked c)) x h) p.stays.safe))))
+-- constants, specs and declarators
 
 pub with_type_passes : (answer : Checked (names.Context × PlainType)) (b c : Context) → Reached (After (asked c)) answer → Passes b c → Reached (Passes b) (with_type answer c)
 with_type_passes answer b c g p =
     reached_after (Passes b) answer (λ x. Ok (told x.0 c, x.1)) (λ x h. reached_ok (Passes b) (told x.0 c, x.1) (passes_trans b c _ p (told_passes x.0 c (g x h) p.stays.safe)))
-
-newly_passes : (sort : RecordSort) (name : List ℕ) (b c : Context) → Passes b c → Passes b (newly_named sort name c).0
-newly_passes sort name b c p = passes_trans b c _ p (told_passes (with_new_tag sort name (asked c)).0 c (with_tag_more c.scopes name _) p.stays.safe)
-
-begun_as_passes : (sort : RecordSort) (name : List ℕ) (named : Option PlainNamed) (b c : Context) → Passes b c → Passes b (begun_as sort name named c).0
-begun_as_passes sort name (Some (n.Tag type)) b c p = p
-begun_as_passes sort name other b c p = newly_passes sort name b c p
-
-begun_passes : (sort : RecordSort) (name : Option (List ℕ)) (b c : Context) → Passes b c → Passes b (begun sort name c).0
-begun_passes sort None b c p = passes_trans b c _ p (tags_changed c _ p.stays.safe)
-begun_passes sort (Some name) b c p = begun_as_passes sort name (named_in (tag_name name) (innermost c.scopes)) b c p
-
-completed_passes : (line : ℕ) (b c : Context) (type : PlainType) (result : Result TagTable TagError) → Passes b c → Reached (Passes b) (completed_by line c type result)
-completed_passes line b c type (Ok tags) p = reached_ok (Passes b) (record c { tags = tags }, type) (passes_trans b c _ p (tags_changed c tags p.stays.safe))
-completed_passes line b c type (Err error) p = reached_refused (Passes b) _ line
-
-complete_passes : (line number : ℕ) (type : PlainType) (b c : Context) (list : d.Members) → Passes b c → Reached (Passes b) (complete line number type c list)
-complete_passes line number type b c list p = reached_unless (Passes b) _ DeclaredTwice line _ (completed_passes line b c type (completion c.tags number list) p)
-
-ended_passes : (line : ℕ) (sort : RecordSort) (type : PlainType) (b c : Context) (list : d.Members) → Passes b c → Reached (Passes b) (ended line sort type c list)
-ended_passes line r.Struct (Struct number) b c list p = complete_passes line number (Struct number) b c list p
-ended_passes line r.Union (Union number) b c list p = complete_passes line number (Union number) b c list p
-ended_passes line sort type b c list p = reached_refused (Passes b) DeclaredTwice line
-
-member_passes : (line : ℕ) (name : Option (List ℕ)) (type : PlainType) (list : d.Members) (b c : Context) → Passes b c → Reached (Passes b) (member line name type list c)
-member_passes line name type list b c p =
-    reached_unless (Passes b) (is_function type) LeftOut line _
-    (reached_unless (Passes b) (has_no_size c.tags type) Incomplete line _
-    (reached_after (Passes b) (with_member line name type list) (λ more. Ok (c, more)) (λ more h. reached_ok (Passes b) (c, more) p)))
-
-enumerator_passes : (line : ℕ) (name : List ℕ) (value : ℤ) (b c : Context) → Passes b c → Reached (Passes b) (enumerator line name value c)
-enumerator_passes line name value b c p =
-    reached_after (Passes b) (declared_as line name (n.Constant i.Int (wrapped I32 value)) c) (λ x. Ok (x, wrapped I32 value +ℤ pos 1))
-    (λ x h. reached_ok (Passes b) (x, wrapped I32 value +ℤ pos 1) (declared_passes line name (n.Constant i.Int (wrapped I32 value)) b c refl tt p x h))
-
-enum_named_passes : (line : ℕ) (name : Option (List ℕ)) (b c : Context) → Passes b c → Reached (Passes b) (enum_named line name c)
-enum_named_passes line None b c p = reached_ok (Passes b) (c, Int i.Int) p
-enum_named_passes line (Some name) b c p =
-    reached_unless (Passes b) _ DeclaredTwice line _
-    (reached_ok (Passes b) (record c { scopes = with_name c.scopes (tag_name name) (n.Tag (Int i.Int)) }, Int i.Int)
-    (passes_trans b c _ p (scopes_changed c _ (with_name_safe c.scopes (tag_name name) (n.Tag (Int i.Int)) refl p.stays.safe) (with_name_keeps c.scopes (tag_name name) (n.Tag (Int i.Int)) tt) (with_name_depth c.scopes (tag_name name) (n.Tag (Int i.Int))) (λ h. inner_objects c.scopes (tag_name name) (n.Tag (Int i.Int)) h))))
-
--- parameters
-
-param_passes : (line : ℕ) (name : Option (List ℕ)) (type : PlainType) (b c : Context) → Passes b c → Reached (Passes b) (param line name type c)
-param_passes line name type b c p =
-    reached_unless (Passes b) (is_void type) Incomplete line _
-    (reached_unless (Passes b) (is_record type || is_function type) LeftOut line _
-    (reached_unless (Passes b) (is_declared name c) DeclaredTwice line _
-    (reached_ok (Passes b) (with_param name type c, type) (passes_trans b c _ p (with_param_passes name type c p.stays.safe)))))
 
 pub tail_depth : (inner : List Table) (k : ℕ) → length inner ≡ suc k → length (scopes.tail inner) ≡ k
 tail_depth [] k e = absurd (omega arith)
@@ -223,91 +173,27 @@ left_params_passes c x p = record {
   };
 }
 
-mutual
-  unfolding specs words_type tag_type members member_names enumerators layers suffix_layers suffix_layer params
+abbrev Kept : Bool → ℕ → Context → Context → Type 0
+Kept deep n c d = Safe c.scopes → Passes c d
 
-  pub specs_passes : (tree : Tree) (b c : Context) → Passes b c → Reached (Passes b) (specs tree c)
-  specs_passes (Node f.Specs (At line ▹ words)) b c p = words_passes words line words b c p
-  specs_passes tree b c p = reached_refused (Passes b) Operands (line_of tree)
+passes_step : Steps Any Kept
+passes_step = record {
+  stop = λ deep n c s. passes_refl c s;
+  join = λ deep m n k a b c h x y s. let p = x s in passes_trans a b c p (y p.stays.safe);
+  tells = λ deep t c m s. told_passes t c m s;
+  retags = λ deep tags c s. tags_changed c tags s;
+  enumerates = λ deep name value c s. after_passes name (n.Constant i.Int value) c refl tt s;
+  names = λ deep name c s. named_passes (Some (tag_name name)) (n.Tag (Int i.Int)) c refl tt s;
+  takes = λ name type c h s. with_param_passes name type c s;
+  lists = λ deep n parts c x q h s. left_params_passes c x.0 (h (entered_safe c.scopes s));
+  unlists = λ deep c s. passes_beside c _ refl refl refl (stays_beside c _ s refl refl refl refl refl (λ h x. refl) refl (tied_refl c.functions c.scopes.file c.walked) (λ h name type i e. e));
+}
 
-  words_passes : (rest : Trees) (line : ℕ) (words : Trees) (b c : Context) → Passes b c → Reached (Passes b) (words_type line words rest c)
-  words_passes none line words b c p = reached_ok (Passes b) (c, word_type words) p
-  words_passes (Leaf word ▹ rest) line words b c p = words_passes rest line words b c p
-  words_passes (At at ▹ rest) line words b c p = words_passes rest line words b c p
-  words_passes (Node form parts ▹ rest) line words b c p = tag_passes (Node form parts) line b c p
+pub constant_passes : (e : Tree) (b c : Context) → Passes b c → Reached (Passes b) (constant e c)
+constant_passes e b c p z q = passes_trans b c z.0 p (constant_keeps Any Kept passes_step false e c z q p.stays.safe)
 
-  tag_passes : (tree : Tree) (line : ℕ) (b c : Context) → Passes b c → Reached (Passes b) (tag_type line tree c)
-  tag_passes (Node (f.RecordBody sort) (At at ▹ Node f.MaybeName name ▹ Node f.Members parts ▹ none)) line b c p =
-      let start = begun sort (maybe_name name) c in
-      reached_then (Passes b) (Passes b) (members parts [] start.0) (λ m. ended at sort start.1 m.0 m.1) (members_passes parts [] b start.0 (begun_passes sort (maybe_name name) b c p))
-      (λ m h. ended_passes at sort start.1 b m.0 m.1 h)
-  tag_passes (Node (f.EnumBody trailing) (At at ▹ Node f.MaybeName name ▹ Node f.Enumerators parts ▹ none)) line b c p =
-      reached_after (Passes b) (enumerators parts (pos 0) c) (λ e. enum_named at (maybe_name name) e)
-      (λ e h. enum_named_passes at (maybe_name name) b e (enumerators_pass parts (pos 0) b c p e h))
-  tag_passes tree line b c p = with_type_passes (special_type line tree (asked c)) b c (special_after line tree (asked c)) p
+pub specs_passes : (tree : Tree) (b c : Context) → Passes b c → Reached (Passes b) (specs tree c)
+specs_passes tree b c p z q = passes_trans b c z.0 p (specs_keep Any Kept passes_step false tree c (any_names tree) z q p.stays.safe)
 
-  members_passes : (parts : Trees) (list : d.Members) (b c : Context) → Passes b c → Reached (Passes b) (members parts list c)
-  members_passes none list b c p = reached_ok (Passes b) (c, list) p
-  members_passes (Node f.Member (At line ▹ words ▹ Node f.MemberNames declarators ▹ none) ▹ rest) list b c p =
-      reached_then (Passes b) (Passes b) (specs words c) (λ base. then (member_names line base.1 declarators list base.0) (λ m. members rest m.1 m.0)) (specs_passes words b c p)
-      (λ base h. reached_then (Passes b) (Passes b) (member_names line base.1 declarators list base.0) (λ m. members rest m.1 m.0) (member_names_pass declarators line base.1 list b base.0 h)
-      (λ m q. members_passes rest m.1 b m.0 q))
-  members_passes (tree ▹ rest) list b c p = reached_refused (Passes b) Operands (line_of tree)
-
-  member_names_pass : (parts : Trees) (line : ℕ) (base : PlainType) (list : d.Members) (b c : Context) → Passes b c → Reached (Passes b) (member_names line base parts list c)
-  member_names_pass none line base list b c p = reached_ok (Passes b) (c, list) p
-  member_names_pass (declarator ▹ rest) line base list b c p =
-      reached_then (Passes b) (Passes b) (layers declarator c) (λ l. then (with_layers l.0.tags l.1 base) (λ type. then (member line (name_of declarator) type list l.0) (λ m. member_names line base rest m.1 m.0))) (layers_pass declarator b c p)
-      (λ l h. reached_after (Passes b) (with_layers l.0.tags l.1 base) (λ type. then (member line (name_of declarator) type list l.0) (λ m. member_names line base rest m.1 m.0))
-      (λ type q. reached_then (Passes b) (Passes b) (member line (name_of declarator) type list l.0) (λ m. member_names line base rest m.1 m.0) (member_passes line (name_of declarator) type list b l.0 h)
-      (λ m z. member_names_pass rest line base m.1 b m.0 z)))
-
-  enumerators_pass : (parts : Trees) (next : ℤ) (b c : Context) → Passes b c → Led (Passes b) (enumerators parts next c)
-  enumerators_pass none next b c p = led_ok (Passes b) c p
-  enumerators_pass (Node f.Enumerator (At line ▹ Leaf (w.Name name) ▹ Node f.MaybeValue none ▹ none) ▹ rest) next b c p =
-      led_after (Passes b) (enumerator line name next c) (λ e. enumerators rest e.1 e.0) (λ e h. enumerators_pass rest e.1 b e.0 (enumerator_passes line name next b c p e h))
-  enumerators_pass (Node f.Enumerator (At line ▹ Leaf (w.Name name) ▹ Node f.MaybeValue (value ▹ none) ▹ none) ▹ rest) next b c p =
-      led_after (Passes b) (constant value c) (λ k. then (enumerator line name k.1.value k.0) (λ e. enumerators rest e.1 e.0))
-      (λ k h. led_after (Passes b) (enumerator line name k.1.value k.0) (λ e. enumerators rest e.1 e.0)
-      (λ e q. enumerators_pass rest e.1 b e.0 (enumerator_passes line name k.1.value b k.0 (constant_passes value b c p k h) e q)))
-  enumerators_pass (tree ▹ rest) next b c p = led_refused (Passes b) Operands (line_of tree)
-
-  pub layers_pass : (tree : Tree) (b c : Context) → Passes b c → Reached (Passes b) (layers tree c)
-  layers_pass (Node (f.Pointer consts) (At line ▹ declarator ▹ none)) b c p =
-      reached_then (Passes b) (Passes b) (layers declarator c) (λ l. Ok (l.0, PointerTo line ∷ l.1)) (layers_pass declarator b c p) (λ l h. reached_ok (Passes b) (l.0, PointerTo line ∷ l.1) h)
-  layers_pass (Node f.Direct (base ▹ Node f.Suffixes suffixes ▹ none)) b c p =
-      reached_then (Passes b) (Passes b) (layers base c) (λ l. then (suffix_layers suffixes l.0) (λ s. Ok (s.0, reverse s.1 ++ l.1))) (layers_pass base b c p)
-      (λ l h. reached_then (Passes b) (Passes b) (suffix_layers suffixes l.0) (λ s. Ok (s.0, reverse s.1 ++ l.1)) (suffixes_pass suffixes b l.0 h)
-      (λ s q. reached_ok (Passes b) (s.0, reverse s.1 ++ l.1) q))
-  layers_pass (Node f.Parens (At line ▹ declarator ▹ none)) b c p = layers_pass declarator b c p
-  layers_pass tree b c p = reached_ok (Passes b) (c, []) p
-
-  suffixes_pass : (parts : Trees) (b c : Context) → Passes b c → Reached (Passes b) (suffix_layers parts c)
-  suffixes_pass none b c p = reached_ok (Passes b) (c, []) p
-  suffixes_pass (suffix ▹ rest) b c p =
-      reached_then (Passes b) (Passes b) (suffix_layer suffix c) (λ l. then (suffix_layers rest l.0) (λ more. Ok (more.0, l.1 ∷ more.1))) (suffix_pass suffix b c p)
-      (λ l h. reached_then (Passes b) (Passes b) (suffix_layers rest l.0) (λ more. Ok (more.0, l.1 ∷ more.1)) (suffixes_pass rest b l.0 h)
-      (λ more q. reached_ok (Passes b) (more.0, l.1 ∷ more.1) q))
-
-  suffix_pass : (tree : Tree) (b c : Context) → Passes b c → Reached (Passes b) (suffix_layer tree c)
-  suffix_pass (Node f.ArraySuffix (At line ▹ Node f.MaybeLength none ▹ none)) b c p = reached_ok (Passes b) (c, ArrayOf line None) p
-  suffix_pass (Node f.ArraySuffix (At line ▹ Node f.MaybeLength (e ▹ none) ▹ none)) b c p =
-      reached_after (Passes b) (wanted e (typed e (asked c))) (λ x. then (array_length (line_of e) x.1) (λ length. Ok (told x.0 c, ArrayOf line (Some length))))
-      (λ x h. reached_after (Passes b) (array_length (line_of e) x.1) (λ length. Ok (told x.0 c, ArrayOf line (Some length)))
-      (λ long q. reached_ok (Passes b) (told x.0 c, ArrayOf line (Some long)) (passes_trans b c _ p (told_passes x.0 c (wanted_after (asked c) e (typed e (asked c)) (typed_after e (asked c)) x h) p.stays.safe))))
-  suffix_pass (Node f.FunctionSuffix (At line ▹ Node f.Params parts ▹ none)) b c p =
-      reached_then (Passes b) (Passes (entered c)) (params parts (entered c)) (λ x. Ok (left_params x.0, FunctionOf line x.1)) (params_pass parts (entered c) (entered c) (passes_refl (entered c) (entered_safe c.scopes p.stays.safe)))
-      (λ x h. reached_ok (Passes b) (left_params x.0, FunctionOf line x.1) (passes_trans b c (left_params x.0) p (left_params_passes c x.0 h)))
-  suffix_pass tree b c p =
-      reached_ok (Passes b) (record c { params = [] }, FunctionOf (line_of tree) types.none) (passes_trans b c _ p (passes_beside c _ refl refl refl (stays_beside c _ p.stays.safe refl refl refl refl refl (λ h x. refl) refl (tied_refl c.functions c.scopes.file c.walked) (λ h name type i e. e))))
-
-  params_pass : (parts : Trees) (b c : Context) → Passes b c → Reached (Passes b) (params parts c)
-  params_pass none b c p = reached_ok (Passes b) (c, types.none) p
-  params_pass (Node f.Param (At line ▹ words ▹ declarator ▹ none) ▹ rest) b c p =
-      reached_then (Passes b) (Passes b) (specs words c) (λ base. then (layers declarator base.0) (λ l. then (with_param_layers l.0.tags l.1 base.1) (λ type. then (param line (name_of declarator) (adjusted type) l.0) (λ x. then (params rest x.0) (λ more. Ok (more.0, first x.1 more.1)))))) (specs_passes words b c p)
-      (λ base h. reached_then (Passes b) (Passes b) (layers declarator base.0) (λ l. then (with_param_layers l.0.tags l.1 base.1) (λ type. then (param line (name_of declarator) (adjusted type) l.0) (λ x. then (params rest x.0) (λ more. Ok (more.0, first x.1 more.1))))) (layers_pass declarator b base.0 h)
-      (λ l q. reached_after (Passes b) (with_param_layers l.0.tags l.1 base.1) (λ type. then (param line (name_of declarator) (adjusted type) l.0) (λ x. then (params rest x.0) (λ more. Ok (more.0, first x.1 more.1))))
-      (λ type z. reached_then (Passes b) (Passes b) (param line (name_of declarator) (adjusted type) l.0) (λ x. then (params rest x.0) (λ more. Ok (more.0, first x.1 more.1))) (param_passes line (name_of declarator) (adjusted type) b l.0 q)
-      (λ x y. reached_then (Passes b) (Passes b) (params rest x.0) (λ more. Ok (more.0, first x.1 more.1)) (params_pass rest b x.0 y)
-      (λ more v. reached_ok (Passes b) (more.0, first x.1 more.1) v)))))
-  params_pass (tree ▹ rest) b c p = reached_refused (Passes b) Operands (line_of tree)
+pub layers_pass : (tree : Tree) (b c : Context) → Passes b c → Reached (Passes b) (layers tree c)
+layers_pass tree b c p z q = passes_trans b c z.0 p (layers_keep Any Kept passes_step false tree c (any_names tree) z q p.stays.safe)

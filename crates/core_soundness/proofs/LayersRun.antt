@@ -32,6 +32,8 @@ use Rattle.elaboration.specs.Declarators as d
 use Rattle.elaboration.specs.Declarators.{constant, with_type, maybe_name, unnamed, newly_named, begun_as, begun, completed_by, complete, ended, with_member, member, enumerator, enum_named, is_declared, param, left_params, specs, words_type, tag_type, members, member_names, enumerators, layers, suffix_layers, suffix_layer, params}
 use Rattle.core_soundness.proofs.Names.{More, MoreAll, more_refl, all_refl, with_tag_more}
 use Rattle.core_soundness.proofs.Owners.{IsNoFunction, with_name_keeps, with_name_depth, tag_kept}
+use Rattle.core_soundness.proofs.ShortNames.{Any, any_names, all_any}
+use Rattle.core_soundness.proofs.LayersWalk.{Steps, constant_keeps, specs_keep, layers_keep, suffixes_keep, suffix_keeps, params_keep}
 use Rattle.core_soundness.proofs.Reached.{Reached, reached_ok, reached_refused, reached_after, reached_then, reached_unless, Led, led_ok, led_refused, led_after, led_unless}
 use Rattle.core_soundness.proofs.TypedNames.{After, typed_after, wanted_after, special_after}
 use Rattle.core_tree.specs.declared.program.Reg.{Reg as Register}
@@ -231,78 +233,20 @@ module _ (answer : Option Sort) where
   scopes_run name v b c i h q p =
       runs_trans answer b c _ p (rescoped answer c (with_name c.scopes name v) (with_name_keeps c.scopes name v i).kept (with_name_depth c.scopes name v) (with_name_outside c.scopes name v) (with_name_any (world c) c.scopes name v h q p.fine.names) p.fine)
 
-  pub declared_runs : (line : ℕ) (name : List ℕ) (v : PlainNamed) (b c : Context) → IsNoFunction v → InnerFits (world c) v → FileFits (world c) v → Runs answer b c → Led (Runs answer b) (declared_as line name v c)
-  declared_runs line name v b c i h q p =
-      led_unless (Runs answer b) (is_twice c.scopes name v) DeclaredTwice line (Ok (record c { scopes = after_declaration c.scopes name v }))
-      (λ e. led_ok (Runs answer b) (record c { scopes = after_declaration c.scopes name v }) (by (is_some (named_in name (innermost c.scopes)))))
+  after_runs : (name : List ℕ) (v : PlainNamed) (b c : Context) → IsNoFunction v → InnerFits (world c) v → FileFits (world c) v → Runs answer b c → Runs answer b (record c { scopes = after_declaration c.scopes name v })
+  after_runs name v b c i h q p = by (is_some (named_in name (innermost c.scopes)))
     where
       by : (t : Bool) → Runs answer b (record c { scopes = cond t c.scopes (with_name c.scopes name v) })
       by true = record { grew = p.grew; fine = record { names = p.fine.names; lined = p.fine.lined }; fits = p.fits; answer = p.answer; addressed = p.addressed; outside = p.outside; depth = p.depth; params = p.params; walked = p.walked }
       by false = scopes_run name v b c i h q p
 
-  -- constants and tags
+  pub declared_runs : (line : ℕ) (name : List ℕ) (v : PlainNamed) (b c : Context) → IsNoFunction v → InnerFits (world c) v → FileFits (world c) v → Runs answer b c → Led (Runs answer b) (declared_as line name v c)
+  declared_runs line name v b c i h q p =
+      led_unless (Runs answer b) (is_twice c.scopes name v) DeclaredTwice line (Ok (record c { scopes = after_declaration c.scopes name v }))
+      (λ e. led_ok (Runs answer b) (record c { scopes = after_declaration c.scopes name v }) (after_runs name v b c i h q p))
 
-  pub constant_runs : (e : Tree) (b c : Context) → Runs answer b c → Reached (Runs answer b) (constant e c)
-  constant_runs e b c p =
-      reached_after (Runs answer b) (wanted e (typed e (asked c))) (λ x. then (constant_from (line_of e) x.1.type x.1.folded) (λ k. Ok (told x.0 c, k)))
-      (λ x h. reached_after (Runs answer b) (constant_from (line_of e) x.1.type x.1.folded) (λ k. Ok (told x.0 c, k))
-      (λ k q. reached_ok (Runs answer b) (told x.0 c, k) (told_runs x.0 b c (wanted_after (asked c) e (typed e (asked c)) (typed_after e (asked c)) x h) p)))
+  -- parameter lists
 
-  pub with_type_runs : (given : Checked (names.Context × PlainType)) (b c : Context) → Reached (After (asked c)) given → Runs answer b c → Reached (Runs answer b) (with_type given c)
-  with_type_runs given b c g p =
-      reached_after (Runs answer b) given (λ x. Ok (told x.0 c, x.1)) (λ x h. reached_ok (Runs answer b) (told x.0 c, x.1) (told_runs x.0 b c (g x h) p))
-
-  newly_runs : (sort : RecordSort) (name : List ℕ) (b c : Context) → Runs answer b c → Runs answer b (newly_named sort name c).0
-  newly_runs sort name b c p = told_runs (with_new_tag sort name (asked c)).0 b c (with_tag_more c.scopes name _) p
-
-  begun_as_runs : (sort : RecordSort) (name : List ℕ) (named : Option PlainNamed) (b c : Context) → Runs answer b c → Runs answer b (begun_as sort name named c).0
-  begun_as_runs sort name (Some (n.Tag type)) b c p = p
-  begun_as_runs sort name other b c p = newly_runs sort name b c p
-
-  begun_runs : (sort : RecordSort) (name : Option (List ℕ)) (b c : Context) → Runs answer b c → Runs answer b (begun sort name c).0
-  begun_runs sort None b c p = tags_run _ b c p
-  begun_runs sort (Some name) b c p = begun_as_runs sort name (named_in (tag_name name) (innermost c.scopes)) b c p
-
-  completed_runs : (line : ℕ) (b c : Context) (type : PlainType) (result : Result TagTable TagError) → Runs answer b c → Reached (Runs answer b) (completed_by line c type result)
-  completed_runs line b c type (Ok tags) p = reached_ok (Runs answer b) (record c { tags = tags }, type) (tags_run tags b c p)
-  completed_runs line b c type (Err error) p = reached_refused (Runs answer b) _ line
-
-  complete_runs : (line number : ℕ) (type : PlainType) (b c : Context) (list : d.Members) → Runs answer b c → Reached (Runs answer b) (complete line number type c list)
-  complete_runs line number type b c list p = reached_unless (Runs answer b) _ DeclaredTwice line _ (completed_runs line b c type (completion c.tags number list) p)
-
-  ended_runs : (line : ℕ) (sort : RecordSort) (type : PlainType) (b c : Context) (list : d.Members) → Runs answer b c → Reached (Runs answer b) (ended line sort type c list)
-  ended_runs line r.Struct (Struct number) b c list p = complete_runs line number (Struct number) b c list p
-  ended_runs line r.Union (Union number) b c list p = complete_runs line number (Union number) b c list p
-  ended_runs line sort type b c list p = reached_refused (Runs answer b) DeclaredTwice line
-
-  member_runs : (line : ℕ) (name : Option (List ℕ)) (type : PlainType) (list : d.Members) (b c : Context) → Runs answer b c → Reached (Runs answer b) (member line name type list c)
-  member_runs line name type list b c p =
-      reached_unless (Runs answer b) (is_function type) LeftOut line _
-      (reached_unless (Runs answer b) (has_no_size c.tags type) Incomplete line _
-      (reached_after (Runs answer b) (with_member line name type list) (λ more. Ok (c, more)) (λ more h. reached_ok (Runs answer b) (c, more) p)))
-
-  enumerator_runs : (line : ℕ) (name : List ℕ) (value : ℤ) (b c : Context) → Runs answer b c → Reached (Runs answer b) (enumerator line name value c)
-  enumerator_runs line name value b c p =
-      reached_after (Runs answer b) (declared_as line name (n.Constant i.Int (wrapped I32 value)) c) (λ x. Ok (x, wrapped I32 value +ℤ pos 1))
-      (λ x h. reached_ok (Runs answer b) (x, wrapped I32 value +ℤ pos 1) (declared_runs line name (n.Constant i.Int (wrapped I32 value)) b c tt tt tt p x h))
-
-  enum_named_runs : (line : ℕ) (name : Option (List ℕ)) (b c : Context) → Runs answer b c → Reached (Runs answer b) (enum_named line name c)
-  enum_named_runs line None b c p = reached_ok (Runs answer b) (c, Int i.Int) p
-  enum_named_runs line (Some name) b c p =
-      reached_unless (Runs answer b) _ DeclaredTwice line _
-      (reached_ok (Runs answer b) (record c { scopes = with_name c.scopes (tag_name name) (n.Tag (Int i.Int)) }, Int i.Int)
-      (scopes_run (tag_name name) (n.Tag (Int i.Int)) b c tt tt tt p))
-
-  -- parameters
-
-  param_runs : (line : ℕ) (name : Option (List ℕ)) (type : PlainType) (b c : Context) → length b.scopes.inner ≡ 1 → Runs answer b c → Reached (Runs answer b) (param line name type c)
-  param_runs line name type b c deep p =
-      reached_unless (Runs answer b) (is_void type) Incomplete line _
-      (reached_unless (Runs answer b) (is_record type || is_function type) LeftOut line _
-      (reached_unless (Runs answer b) (is_declared name c) DeclaredTwice line _
-      (reached_ok (Runs answer b) (with_param name type c, type) (runs_trans answer b c _ p (with_param_runs answer name type c (p.depth ∙ deep) p.fine)))))
-
-  -- a list of parameters in a scope of its own
   left_params_runs : (c x : Context) → Runs answer (entered c) x → Runs answer c (left_params x)
   left_params_runs c x p = record {
     grew = p.grew;
@@ -334,102 +278,60 @@ module _ (answer : Option Sort) where
       }
 
   -- a list at file scope, and one inside another scope
-  list_runs : (line : ℕ) (parts : Trees) (b c : Context) → (length c.scopes.inner ≡ 0 → Reached (Runs answer (entered c)) (params parts (entered c))) → Runs answer b c → Reached (Runs answer b) (then (params parts (entered c)) (λ x. Ok (left_params x.0, FunctionOf line x.1)))
-  list_runs line parts b c own p = by (length c.scopes.inner) refl
+  list_runs : (parts : Trees) (c : Context) (x : Context × PlainTypes) → params parts (entered c) ≡ Ok x → (length c.scopes.inner ≡ 0 → Runs answer (entered c) x.0) → Fine c → Runs answer c (left_params x.0)
+  list_runs parts c x q own f = by (length c.scopes.inner) refl
     where
-      by : (k : ℕ) → length c.scopes.inner ≡ k → Reached (Runs answer b) (then (params parts (entered c)) (λ x. Ok (left_params x.0, FunctionOf line x.1)))
-      by zero flat =
-          reached_then (Runs answer b) (Runs answer (entered c)) (params parts (entered c)) (λ x. Ok (left_params x.0, FunctionOf line x.1)) (own flat)
-          (λ x h. reached_ok (Runs answer b) (left_params x.0, FunctionOf line x.1) (runs_trans answer b c (left_params x.0) p (left_params_runs c x.0 h)))
-      by (suc k) deep =
-          reached_then (Runs answer b) (Aside (entered c)) (params parts (entered c)) (λ x. Ok (left_params x.0, FunctionOf line x.1)) (params_beside parts (entered c) (omega (arith, deep)) (entered c) (aside_refl (entered c)))
-          (λ x h. reached_ok (Runs answer b) (left_params x.0, FunctionOf line x.1) (runs_trans answer b c (left_params x.0) p (prototype_runs c x.0 (omega (arith, deep)) p.fine h)))
+      by : (k : ℕ) → length c.scopes.inner ≡ k → Runs answer c (left_params x.0)
+      by zero flat = left_params_runs c x.0 (own flat)
+      by (suc k) deep = prototype_runs c x.0 (omega (arith, deep)) f (params_beside parts (entered c) (omega (arith, deep)) (entered c) (aside_refl (entered c)) x q)
 
-  mutual
-    unfolding specs words_type tag_type members member_names enumerators layers suffix_layers suffix_layer params
+  no_list_runs : (c : Context) → Fine c → Runs answer c (record c { params = [] })
+  no_list_runs c f = record { grew = grew_refl (world c); fine = record { names = f.names; lined = f.lined }; fits = λ k. k; answer = refl; addressed = refl; outside = all_refl (scopes.tail c.scopes.inner); depth = refl; params = λ flat h name v e. cc; walked = refl }
 
-    pub specs_run : (tree : Tree) (b c : Context) → Runs answer b c → Reached (Runs answer b) (specs tree c)
-    specs_run (Node f.Specs (At line ▹ words)) b c p = words_run words line words b c p
-    specs_run tree b c p = reached_refused (Runs answer b) Operands (line_of tree)
+  -- specs and declarators, and parameter lists at file scope
+  abbrev Flat : Bool → Context → Type 0
+  Flat true c = length c.scopes.inner ≡ 1
+  Flat false c = Unit {0}
 
-    words_run : (rest : Trees) (line : ℕ) (words : Trees) (b c : Context) → Runs answer b c → Reached (Runs answer b) (words_type line words rest c)
-    words_run none line words b c p = reached_ok (Runs answer b) (c, word_type words) p
-    words_run (Leaf word ▹ rest) line words b c p = words_run rest line words b c p
-    words_run (At at ▹ rest) line words b c p = words_run rest line words b c p
-    words_run (Node form parts ▹ rest) line words b c p = tag_runs (Node form parts) line b c p
+  flat_on : (deep : Bool) (b c : Context) → length c.scopes.inner ≡ length b.scopes.inner → Flat deep b → Flat deep c
+  flat_on true b c e h = e ∙ h
+  flat_on false b c e h = tt
 
-    tag_runs : (tree : Tree) (line : ℕ) (b c : Context) → Runs answer b c → Reached (Runs answer b) (tag_type line tree c)
-    tag_runs (Node (f.RecordBody sort) (At at ▹ Node f.MaybeName name ▹ Node f.Members parts ▹ none)) line b c p =
-        let start = begun sort (maybe_name name) c in
-        reached_then (Runs answer b) (Runs answer b) (members parts [] start.0) (λ m. ended at sort start.1 m.0 m.1) (members_run parts [] b start.0 (begun_runs sort (maybe_name name) b c p))
-        (λ m h. ended_runs at sort start.1 b m.0 m.1 h)
-    tag_runs (Node (f.EnumBody trailing) (At at ▹ Node f.MaybeName name ▹ Node f.Enumerators parts ▹ none)) line b c p =
-        reached_after (Runs answer b) (enumerators parts (pos 0) c) (λ e. enum_named at (maybe_name name) e)
-        (λ e h. enum_named_runs at (maybe_name name) b e (enumerators_run parts (pos 0) b c p e h))
-    tag_runs tree line b c p = with_type_runs (special_type line tree (asked c)) b c (special_after line tree (asked c)) p
+  abbrev Kept : Bool → ℕ → Context → Context → Type 0
+  Kept deep n c d = Flat deep c → Fine c → Runs answer c d
 
-    members_run : (parts : Trees) (list : d.Members) (b c : Context) → Runs answer b c → Reached (Runs answer b) (members parts list c)
-    members_run none list b c p = reached_ok (Runs answer b) (c, list) p
-    members_run (Node f.Member (At line ▹ words ▹ Node f.MemberNames declarators ▹ none) ▹ rest) list b c p =
-        reached_then (Runs answer b) (Runs answer b) (specs words c) (λ base. then (member_names line base.1 declarators list base.0) (λ m. members rest m.1 m.0)) (specs_run words b c p)
-        (λ base h. reached_then (Runs answer b) (Runs answer b) (member_names line base.1 declarators list base.0) (λ m. members rest m.1 m.0) (member_names_run declarators line base.1 list b base.0 h)
-        (λ m q. members_run rest m.1 b m.0 q))
-    members_run (tree ▹ rest) list b c p = reached_refused (Runs answer b) Operands (line_of tree)
+  runs_step : Steps Any Kept
+  runs_step = record {
+    stop = λ deep n c h f. runs_refl answer c f;
+    join = λ deep m n k a b c e x y h f. let p = x h f in runs_trans answer a b c p (y (flat_on deep a b p.depth h) p.fine);
+    tells = λ deep t c m h f. told_runs t c c m (runs_refl answer c f);
+    retags = λ deep tags c h f. tags_run tags c c (runs_refl answer c f);
+    enumerates = λ deep name value c h f. after_runs name (n.Constant i.Int value) c c tt tt tt (runs_refl answer c f);
+    names = λ deep name c h f. scopes_run (tag_name name) (n.Tag (Int i.Int)) c c tt tt tt (runs_refl answer c f);
+    takes = λ name type c named h f. with_param_runs answer name type c h f;
+    lists = λ deep n parts c x q p h f. list_runs parts c x q (λ flat. p (omega (arith, flat)) (entered_fine c f)) f;
+    unlists = λ deep c h f. no_list_runs c f;
+  }
 
-    member_names_run : (parts : Trees) (line : ℕ) (base : PlainType) (list : d.Members) (b c : Context) → Runs answer b c → Reached (Runs answer b) (member_names line base parts list c)
-    member_names_run none line base list b c p = reached_ok (Runs answer b) (c, list) p
-    member_names_run (declarator ▹ rest) line base list b c p =
-        reached_then (Runs answer b) (Runs answer b) (layers declarator c) (λ l. then (with_layers l.0.tags l.1 base) (λ type. then (member line (name_of declarator) type list l.0) (λ m. member_names line base rest m.1 m.0))) (layers_run declarator b c p)
-        (λ l h. reached_after (Runs answer b) (with_layers l.0.tags l.1 base) (λ type. then (member line (name_of declarator) type list l.0) (λ m. member_names line base rest m.1 m.0))
-        (λ type q. reached_then (Runs answer b) (Runs answer b) (member line (name_of declarator) type list l.0) (λ m. member_names line base rest m.1 m.0) (member_runs line (name_of declarator) type list b l.0 h)
-        (λ m z. member_names_run rest line base m.1 b m.0 z)))
+  pub constant_runs : (e : Tree) (b c : Context) → Runs answer b c → Reached (Runs answer b) (constant e c)
+  constant_runs e b c p z q = runs_trans answer b c z.0 p (constant_keeps Any Kept runs_step false e c z q tt p.fine)
 
-    enumerators_run : (parts : Trees) (next : ℤ) (b c : Context) → Runs answer b c → Led (Runs answer b) (enumerators parts next c)
-    enumerators_run none next b c p = led_ok (Runs answer b) c p
-    enumerators_run (Node f.Enumerator (At line ▹ Leaf (w.Name name) ▹ Node f.MaybeValue none ▹ none) ▹ rest) next b c p =
-        led_after (Runs answer b) (enumerator line name next c) (λ e. enumerators rest e.1 e.0) (λ e h. enumerators_run rest e.1 b e.0 (enumerator_runs line name next b c p e h))
-    enumerators_run (Node f.Enumerator (At line ▹ Leaf (w.Name name) ▹ Node f.MaybeValue (value ▹ none) ▹ none) ▹ rest) next b c p =
-        led_after (Runs answer b) (constant value c) (λ k. then (enumerator line name k.1.value k.0) (λ e. enumerators rest e.1 e.0))
-        (λ k h. led_after (Runs answer b) (enumerator line name k.1.value k.0) (λ e. enumerators rest e.1 e.0)
-        (λ e q. enumerators_run rest e.1 b e.0 (enumerator_runs line name k.1.value b k.0 (constant_runs value b c p k h) e q)))
-    enumerators_run (tree ▹ rest) next b c p = led_refused (Runs answer b) Operands (line_of tree)
+  pub with_type_runs : (given : Checked (names.Context × PlainType)) (b c : Context) → Reached (After (asked c)) given → Runs answer b c → Reached (Runs answer b) (with_type given c)
+  with_type_runs given b c g p =
+      reached_after (Runs answer b) given (λ x. Ok (told x.0 c, x.1)) (λ x h. reached_ok (Runs answer b) (told x.0 c, x.1) (told_runs x.0 b c (g x h) p))
 
-    pub layers_run : (tree : Tree) (b c : Context) → Runs answer b c → Reached (Runs answer b) (layers tree c)
-    layers_run (Node (f.Pointer consts) (At line ▹ declarator ▹ none)) b c p =
-        reached_then (Runs answer b) (Runs answer b) (layers declarator c) (λ l. Ok (l.0, PointerTo line ∷ l.1)) (layers_run declarator b c p) (λ l h. reached_ok (Runs answer b) (l.0, PointerTo line ∷ l.1) h)
-    layers_run (Node f.Direct (base ▹ Node f.Suffixes suffixes ▹ none)) b c p =
-        reached_then (Runs answer b) (Runs answer b) (layers base c) (λ l. then (suffix_layers suffixes l.0) (λ s. Ok (s.0, reverse s.1 ++ l.1))) (layers_run base b c p)
-        (λ l h. reached_then (Runs answer b) (Runs answer b) (suffix_layers suffixes l.0) (λ s. Ok (s.0, reverse s.1 ++ l.1)) (suffixes_run suffixes b l.0 h)
-        (λ s q. reached_ok (Runs answer b) (s.0, reverse s.1 ++ l.1) q))
-    layers_run (Node f.Parens (At line ▹ declarator ▹ none)) b c p = layers_run declarator b c p
-    layers_run tree b c p = reached_ok (Runs answer b) (c, []) p
+  pub specs_run : (tree : Tree) (b c : Context) → Runs answer b c → Reached (Runs answer b) (specs tree c)
+  specs_run tree b c p z q = runs_trans answer b c z.0 p (specs_keep Any Kept runs_step false tree c (any_names tree) z q tt p.fine)
 
-    pub suffixes_run : (parts : Trees) (b c : Context) → Runs answer b c → Reached (Runs answer b) (suffix_layers parts c)
-    suffixes_run none b c p = reached_ok (Runs answer b) (c, []) p
-    suffixes_run (suffix ▹ rest) b c p =
-        reached_then (Runs answer b) (Runs answer b) (suffix_layer suffix c) (λ l. then (suffix_layers rest l.0) (λ more. Ok (more.0, l.1 ∷ more.1))) (suffix_runs suffix b c p)
-        (λ l h. reached_then (Runs answer b) (Runs answer b) (suffix_layers rest l.0) (λ more. Ok (more.0, l.1 ∷ more.1)) (suffixes_run rest b l.0 h)
-        (λ more q. reached_ok (Runs answer b) (more.0, l.1 ∷ more.1) q))
+  pub layers_run : (tree : Tree) (b c : Context) → Runs answer b c → Reached (Runs answer b) (layers tree c)
+  layers_run tree b c p z q = runs_trans answer b c z.0 p (layers_keep Any Kept runs_step false tree c (any_names tree) z q tt p.fine)
 
-    pub suffix_runs : (tree : Tree) (b c : Context) → Runs answer b c → Reached (Runs answer b) (suffix_layer tree c)
-    suffix_runs (Node f.ArraySuffix (At line ▹ Node f.MaybeLength none ▹ none)) b c p = reached_ok (Runs answer b) (c, ArrayOf line None) p
-    suffix_runs (Node f.ArraySuffix (At line ▹ Node f.MaybeLength (e ▹ none) ▹ none)) b c p =
-        reached_after (Runs answer b) (wanted e (typed e (asked c))) (λ x. then (array_length (line_of e) x.1) (λ length. Ok (told x.0 c, ArrayOf line (Some length))))
-        (λ x h. reached_after (Runs answer b) (array_length (line_of e) x.1) (λ length. Ok (told x.0 c, ArrayOf line (Some length)))
-        (λ long q. reached_ok (Runs answer b) (told x.0 c, ArrayOf line (Some long)) (told_runs x.0 b c (wanted_after (asked c) e (typed e (asked c)) (typed_after e (asked c)) x h) p)))
-    suffix_runs (Node f.FunctionSuffix (At line ▹ Node f.Params parts ▹ none)) b c p =
-        list_runs line parts b c (λ flat. params_run parts (entered c) (entered c) (omega (arith, flat)) (runs_refl answer (entered c) (entered_fine c p.fine))) p
-    suffix_runs tree b c p =
-        reached_ok (Runs answer b) (record c { params = [] }, FunctionOf (line_of tree) types.none) (runs_trans answer b c _ p (record { grew = grew_refl (world c); fine = record { names = p.fine.names; lined = p.fine.lined }; fits = λ k. k; answer = refl; addressed = refl; outside = all_refl (scopes.tail c.scopes.inner); depth = refl; params = λ flat h name v e. cc; walked = refl }))
+  pub suffixes_run : (parts : Trees) (b c : Context) → Runs answer b c → Reached (Runs answer b) (suffix_layers parts c)
+  suffixes_run parts b c p z q = runs_trans answer b c z.0 p (suffixes_keep Any Kept runs_step false parts c (all_any parts) z q tt p.fine)
 
-    -- the list of a function's own parameters
-    pub params_run : (parts : Trees) (b c : Context) → length b.scopes.inner ≡ 1 → Runs answer b c → Reached (Runs answer b) (params parts c)
-    params_run none b c deep p = reached_ok (Runs answer b) (c, types.none) p
-    params_run (Node f.Param (At line ▹ words ▹ declarator ▹ none) ▹ rest) b c deep p =
-        reached_then (Runs answer b) (Runs answer b) (specs words c) (λ base. then (layers declarator base.0) (λ l. then (with_param_layers l.0.tags l.1 base.1) (λ type. then (param line (name_of declarator) (adjusted type) l.0) (λ x. then (params rest x.0) (λ more. Ok (more.0, first x.1 more.1)))))) (specs_run words b c p)
-        (λ base h. reached_then (Runs answer b) (Runs answer b) (layers declarator base.0) (λ l. then (with_param_layers l.0.tags l.1 base.1) (λ type. then (param line (name_of declarator) (adjusted type) l.0) (λ x. then (params rest x.0) (λ more. Ok (more.0, first x.1 more.1))))) (layers_run declarator b base.0 h)
-        (λ l q. reached_after (Runs answer b) (with_param_layers l.0.tags l.1 base.1) (λ type. then (param line (name_of declarator) (adjusted type) l.0) (λ x. then (params rest x.0) (λ more. Ok (more.0, first x.1 more.1))))
-        (λ type z. reached_then (Runs answer b) (Runs answer b) (param line (name_of declarator) (adjusted type) l.0) (λ x. then (params rest x.0) (λ more. Ok (more.0, first x.1 more.1))) (param_runs line (name_of declarator) (adjusted type) b l.0 deep q)
-        (λ x y. reached_then (Runs answer b) (Runs answer b) (params rest x.0) (λ more. Ok (more.0, first x.1 more.1)) (params_run rest b x.0 deep y)
-        (λ more v. reached_ok (Runs answer b) (more.0, first x.1 more.1) v)))))
-    params_run (tree ▹ rest) b c deep p = reached_refused (Runs answer b) Operands (line_of tree)
+  pub suffix_runs : (tree : Tree) (b c : Context) → Runs answer b c → Reached (Runs answer b) (suffix_layer tree c)
+  suffix_runs tree b c p z q = runs_trans answer b c z.0 p (suffix_keeps Any Kept runs_step false tree c (any_names tree) z q tt p.fine)
+
+  -- the list of a function's own parameters
+  pub params_run : (parts : Trees) (b c : Context) → length b.scopes.inner ≡ 1 → Runs answer b c → Reached (Runs answer b) (params parts c)
+  params_run parts b c deep p z q = runs_trans answer b c z.0 p (params_keep Any Kept runs_step parts c (all_any parts) z q (p.depth ∙ deep) p.fine)

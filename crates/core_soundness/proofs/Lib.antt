@@ -17,6 +17,9 @@ mod SortedTypes
 mod TagKinds
 mod ExprGrows
 mod Passing
+mod ShortNames
+mod Weights
+mod LayersWalk
 mod Declaring
 mod Specifying
 mod Initializing
@@ -72,7 +75,6 @@ mod SolidFills
 mod SolidTexts
 mod Numbered
 mod Functions
-mod ShortNames
 mod Near
 mod NearWork
 mod NearFound

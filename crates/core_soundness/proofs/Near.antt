@@ -15,23 +15,6 @@ use Rattle.elaboration.specs.Context.{Context, Variable, Walked, integer_by, poi
 use Rattle.elaboration.specs.Calls.{with_format}
 use Rattle.elaboration.specs.Locals.{is_pointer, with_register, with_memory}
 
--- six for each word of a tree
-abbrev pub said : List Item → ℕ
-said [] = 0
-said (Says word ∷ items) = 6 + said items
-said (Here ∷ items) = said items
-said (Part place ∷ items) = said items
-
-abbrev mutual
-  pub weight : Tree → ℕ
-  weight (Leaf word) = 6
-  weight (At line) = 0
-  weight (Node form parts) = said (shape form (count parts)) + weights parts
-
-  pub weights : Trees → ℕ
-  weights none = 0
-  weights (tree ▹ rest) = weight tree + weights rest
-
 -- what of a context is counted, and what has names
 pub record Share : Type 0 where
   pub locals : List Register

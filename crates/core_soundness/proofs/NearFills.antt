@@ -38,9 +38,10 @@ use Rattle.elaboration.specs.Declarations.{Storage, Typedef, Outside, storage_of
 use Rattle.core_soundness.proofs.Agreeing.{came}
 use Rattle.core_soundness.proofs.Reached.{Reached, reached_ok, reached_refused, reached_after, reached_unless, reached_barred, Led, led_ok, led_refused, led_after, led_unless}
 use Rattle.core_soundness.proofs.ShortNames.{Short, AllShort, name_short}
-use Rattle.core_soundness.proofs.Near.{weight, weights, said, Near, near_refl, near_on, near_most, near_pointer, near_register, near_memory}
+use Rattle.core_soundness.proofs.Near.{Near, near_refl, near_on, near_most, near_pointer, near_register, near_memory}
+use Rattle.core_soundness.proofs.Weights.{weight, weights, said, commas_said}
 use Rattle.core_soundness.proofs.NearWork.{valued_near, convert_near, write_near}
-use Rattle.core_soundness.proofs.NearFound.{static_near, literal_near, commas_said, found_near}
+use Rattle.core_soundness.proofs.NearFound.{static_near, literal_near, found_near}
 use Rattle.core_soundness.proofs.NearLayers.{declared_near, named_near, with_type_near, specs_near, layers_near}
 use Rattle.core_soundness.proofs.Unused.{behind_string}
 

@@ -146,15 +146,6 @@ called_near line name function wanted trees c values g =
     reached_after (Near 2 c) (call line (first_literal trees) function (types_of values)) (λ e. let d = call_named line name e.type wanted (first_literal trees) values c in Ok (d.0, found_as e d.1 Unknown))
     (λ e h. reached_ok (Near 2 c) (let d = call_named line name e.type wanted (first_literal trees) values c in (d.0, found_as e d.1 Unknown)) (call_near line name e.type wanted (first_literal trees) values c g))
 
--- commas between parts
-behind_said : (place : Place) (k : ℕ) → said (behind_commas place k) ≡ 6 * k
-behind_said place zero = refl
-behind_said place (suc k) = omega (arith, behind_said place k)
-
-pub commas_said : (place : Place) (k : ℕ) → 6 * k ≤ said (commas place k) + 6
-commas_said place zero = omega arith
-commas_said place (suc k) = omega (arith, behind_said place k)
-
 assigned_near : (k : ℕ) (test : Bool) (line : ℕ) (x : Tree) (target : Found) (c : Context) (r : Context × Found) → Near k c r.0 → Reached (Near (k + 2) c) (cond test (record_assigned line (line_of x) target r) (scalar_assigned line c.code x target r))
 assigned_near k true line x target c r g z q = near_on k 0 (k + 2) (omega arith) g (record_near line (line_of x) target r z q)
 assigned_near k false line x target c r g z q = scalar_assigned_near k line x target c r g z q

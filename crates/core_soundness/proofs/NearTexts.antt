@@ -37,7 +37,8 @@ use Rattle.core_soundness.proofs.Agreeing.{came}
 use Rattle.core_soundness.proofs.Reached.{Led, led_ok, led_refused, led_after, led_unless}
 use Rattle.core_soundness.proofs.Cores.{behind, core_sizes}
 use Rattle.core_soundness.proofs.ShortNames.{Short, AllShort, name_short}
-use Rattle.core_soundness.proofs.Near.{weight, weights, share, Share, Tidy, made_in, temporaries, Sized, Clear, Near, near_on}
+use Rattle.core_soundness.proofs.Near.{share, Share, Tidy, made_in, temporaries, Sized, Clear, Near, near_on}
+use Rattle.core_soundness.proofs.Weights.{weight, weights}
 use Rattle.core_soundness.proofs.NearLayers.{specs_near, layers_near}
 use Rattle.core_soundness.proofs.NearFills.{declared_function_near, declaration_near}
 use Rattle.core_soundness.proofs.NearStatements.{items_near}

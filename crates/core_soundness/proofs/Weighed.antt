@@ -15,7 +15,7 @@ use Rattle.c_tree.specs.Scopes.{Scope, places, first_scope}
 use Rattle.c_tree.specs.Allowed.{Allowed, AllAllowed, IsExternal, AreExternals}
 use Rattle.c_tree.specs.HasTree.{HasTree}
 use Rattle.core_soundness.proofs.ShortNames.{ShortWord, Short, AllShort}
-use Rattle.core_soundness.proofs.Near.{said, weight, weights}
+use Rattle.core_soundness.proofs.Weights.{said, weight, weights}
 
 -- the words of a spelling
 abbrev told : List Piece → ℕ
