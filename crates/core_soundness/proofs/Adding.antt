@@ -1,14 +1,14 @@
 -- Of which parameters and locals the address was taken stays known behind each tree.
-use Rattle.std.proofs.Common.{◌≡◌, ℕ, Bool, true, false, ◌||◌, cond, nat_eq, List, [], ◌∷◌, Option, Some, None, refl, sym, ap, ◌∙◌}
+use Rattle.std.proofs.Common.{◌≡◌, ℕ, Bool, true, false, ◌||◌, nat_eq, List, [], ◌∷◌, Option, Some, None, refl}
 use Rattle.std.specs.List.{list_any}
 use Rattle.c_tree.specs.declared.operator.UnaryOp.TheVariants as u
 use Rattle.c_tree.specs.Forms.{Form}
 use Rattle.c_tree.specs.Forms as f
 use Rattle.c_tree.specs.Places.{Place}
-use Rattle.c_tree.specs.Tree.{Tree, Trees, Leaf, At, Node, none, ◌▹◌, count}
+use Rattle.c_tree.specs.Tree.{Tree, Trees, Node, none, ◌▹◌, count}
 use Rattle.c_tree.specs.Grammar.{shape}
-use Rattle.c_tree.specs.Scopes.{name_among, has_typedef, is_scope, places}
-use Rattle.elaboration.specs.Addressed.{Taken, number_of, plain_name, with_number, with_address, with_known, with_local, declare, left_scope, left, left_part, taken, all_taken}
+use Rattle.c_tree.specs.Scopes.{name_among, is_scope, places}
+use Rattle.elaboration.specs.Addressed.{Taken, number_of, plain_name, with_number, with_address, with_known, declare, left, left_part, taken, all_taken}
 
 -- a number is one of a list
 abbrev pub Has : List ℕ → ℕ → Type 0

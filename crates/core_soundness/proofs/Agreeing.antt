@@ -23,7 +23,7 @@ use Rattle.c_decls.specs.PlaceRules.{held_place, element, dot, arrow, cast, choi
 use Rattle.c_decls.specs.Callees.{named}
 use Rattle.c_decls.specs.TypeNames as names
 use Rattle.c_decls.specs.Expressions as types
-use Rattle.c_decls.specs.Expressions.{line_of, answered, wanted, one, two, calling, int_constant, char_constant, joined, string, literal, first_literal, typed, values, typename}
+use Rattle.c_decls.specs.Expressions.{line_of, answered, wanted, one, two, string, typed}
 use Rattle.elaboration.specs.Context.{Code, Context, With, asked, told, emit, here}
 use Rattle.elaboration.specs.Conversions.{Found, Value, Empty, Unknown, found_as, atom_in, read_spot, read_value, code_line, valued_from, valued, convert, forget, Nowhere, tested_value, size_or_zero, unused, wanted_from}
 use Rattle.elaboration.specs.Operations.{combined, fixed_sum, offset_of, operator_of, changed_to}

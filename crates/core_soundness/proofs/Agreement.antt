@@ -17,12 +17,12 @@ use Rattle.c_decls.specs.ScopeList.{found as declaration}
 use Rattle.c_decls.specs.Named.{PlainNamed}
 use Rattle.c_decls.specs.Typed.{PlainTyped, place, value, is_record, constant}
 use Rattle.c_decls.specs.TypeRules.{address, unary, binary}
-use Rattle.c_decls.specs.PlaceRules.{element, dot, arrow, size, cast, choice, assigned, changed, behind_comma}
+use Rattle.c_decls.specs.PlaceRules.{element, dot, arrow, cast, choice, assigned, changed, behind_comma}
 use Rattle.c_decls.specs.PlaceRules as rules
 use Rattle.c_decls.specs.Callees.{Callee, Takes, Prints, NoFunction, called, call, no_function}
 use Rattle.c_decls.specs.TypeNames as names
 use Rattle.c_decls.specs.Expressions as types
-use Rattle.c_decls.specs.Expressions.{line_of, answered, wanted, one, two, calling, int_constant, char_constant, joined, string, literal, first_literal, typed, values, typename}
+use Rattle.c_decls.specs.Expressions.{line_of, answered, wanted, one, two, calling, int_constant, char_constant, joined, literal, first_literal, typed, values, typename}
 use Rattle.elaboration.specs.Context.{Code, Context, With, asked, told, new_label}
 use Rattle.elaboration.specs.Conversions.{Found, Unknown, found_as, valued_as, valued, unused, wanted_from}
 use Rattle.elaboration.specs.Calls.{Argument, types_of, first_type, rest_types, argument_from, call_named}

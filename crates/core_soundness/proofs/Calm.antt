@@ -1,5 +1,5 @@
 -- An expression that is typed declares nothing: tags have no braces there, and no type of a function is named (C99 6.5).
-use Rattle.std.proofs.Common.{◌≡◌, ◌+◌, ℕ, Bool, true, false, List, [], ◌∷◌, ◌++◌, reverse, Option, Some, None, Ok, Err, refl, sym, ap, ◌∙◌, subst, arith}
+use Rattle.std.proofs.Common.{◌≡◌, ◌+◌, ℕ, true, false, List, [], ◌∷◌, ◌++◌, reverse, Some, Ok, Err, refl, sym, ap, ◌∙◌, subst, arith}
 use Rattle.c_types.specs.Types as ct
 use Rattle.c_types.specs.Types.{PlainType}
 use Rattle.c_types.specs.TagTable.{TagTable}
@@ -10,7 +10,7 @@ use Rattle.c_tree.specs.Forms.{Form}
 use Rattle.c_tree.specs.Forms as f
 use Rattle.c_tree.specs.Places.{Place, Expression}
 use Rattle.c_tree.specs.Places as p
-use Rattle.c_tree.specs.Tree.{Tree, Trees, Leaf, At, Node, none, ◌▹◌, count}
+use Rattle.c_tree.specs.Tree.{Tree, Trees, Leaf, At, Node, none, ◌▹◌}
 use Rattle.c_tree.specs.Grammar.{shape, assign_level}
 use Rattle.c_tree.specs.Scopes.{places}
 use Rattle.c_decls.specs.declared.refusal.TypeKind.TheVariants.{LeftOut}
@@ -20,17 +20,17 @@ use Rattle.c_decls.specs.Typed.{PlainTyped, is_function}
 use Rattle.c_decls.specs.PlaceRules.{element, choice, assigned, changed, behind_comma, size, cast}
 use Rattle.c_decls.specs.PlaceRules as rules
 use Rattle.c_decls.specs.TypeRules.{address, unary, binary}
-use Rattle.c_decls.specs.Callees.{Callee, called, call, no_function}
+use Rattle.c_decls.specs.Callees.{call, no_function}
 use Rattle.c_decls.specs.TypeNames.{Context, Layer, PointerTo, ArrayOf, FunctionOf, special_type, specs_type, array_length, with_layers}
 use Rattle.c_decls.specs.Expressions.{Found, line_of, answered, wanted, changing, one, two, callee, calling, first_literal, typed, values, typename, layers, suffix_layers, suffix_layer, param_types, in_new_scope, out_of_scope, unused, cast_operand}
 use Rattle.elaboration.specs.Context.{asked}
 use Rattle.elaboration.specs.Context as elaboration
 use Rattle.elaboration.specs.Conversions as conversions
 use Rattle.elaboration.specs.Expressions as expressions
-use Rattle.core_soundness.proofs.Grown.{good, bad, ok_same, never}
+use Rattle.core_soundness.proofs.Grown.{good, ok_same, never}
 use Rattle.core_soundness.proofs.Agreeing.{came}
 use Rattle.core_soundness.proofs.Agreement.{found_agrees}
-use Rattle.core_soundness.proofs.Operating.{kept_test, behind_test}
+use Rattle.core_soundness.proofs.Operating.{kept_test}
 use Rattle.core_soundness.proofs.Parameters.{functions, functions_joined, functions_one, functions_reversed, not_function}
 use Rattle.core_soundness.proofs.Formed.{NoNodes, OneNode, IsLayer, Shaped, Formed, AllFormed}
 use Rattle.core_soundness.proofs.Still.{declares, restores, Held, Still, AllStill, Calm, rows_held, commas_held, here_held, some_held, behind_stars, no_nodes_still, calm_node, calm_address}

@@ -1,5 +1,5 @@
 -- What the walk over addresses knows behind the nodes of declarations.
-use Rattle.std.proofs.Common.{◌≡◌, ◌+◌, ℕ, zero, suc, Bool, true, false, List, [], ◌∷◌, Option, Some, None, Ok, refl, sym, ap, ◌∙◌, subst}
+use Rattle.std.proofs.Common.{◌≡◌, ◌+◌, ℕ, Bool, false, List, ◌∷◌, Option, Some, None, Ok, refl, ap, ◌∙◌}
 use Rattle.c_types.specs.Types.{PlainType}
 use Rattle.c_tree.specs.declared.operator.RecordSort.{RecordSort}
 use Rattle.c_tree.specs.Words as w
@@ -11,7 +11,7 @@ use Rattle.c_tree.specs.Grammar.{shape, rows, some, commas, behind_commas, some_
 use Rattle.c_tree.specs.Scopes.{is_scope, places, name_of, name_among, first_name, leads_to_name}
 use Rattle.elaboration.specs.Context.{Context}
 use Rattle.elaboration.specs.Declarators.{specs}
-use Rattle.elaboration.specs.Addressed.{Taken, Known, with_known, with_local, left_scope, left, left_part, taken, all_taken}
+use Rattle.elaboration.specs.Addressed.{Taken, Known, with_local, left_scope, left, left_part, taken, all_taken}
 use Rattle.core_soundness.proofs.Grown.{never}
 use Rattle.core_soundness.proofs.Formed.{NoNodes}
 use Rattle.core_soundness.proofs.InStep.{each}

@@ -1,6 +1,5 @@
 -- Initializers of statics fill places one behind another: bytes outside the slots, and pointers in them (C99 6.7.8).
-use Rattle.std.proofs.Common.{◌≡◌, ◌≤◌, ◌<◌, ◌+◌, ◌*◌, not, ℕ, zero, suc, Bool, true, false, cond, min, take, length, List, [], ◌∷◌, ◌++◌, Option, Some, None, Ok, refl, sym, ap, ◌∙◌, subst, arith, length-take}
-use Rattle.std.specs.List.{flat_map}
+use Rattle.std.proofs.Common.{◌≡◌, ◌≤◌, ◌+◌, ◌*◌, not, ℕ, Bool, true, false, cond, take, List, [], ◌∷◌, Option, Some, None, Ok, refl, sym, ap, ◌∙◌, subst, arith, length-take}
 use Rattle.hs_base.specs.Numbers.{low_bits}
 use Rattle.c_types.specs.declared.layouts.Layout.{Layout}
 use Rattle.c_types.specs.declared.types.IntType.{IntType}
@@ -14,7 +13,7 @@ use Rattle.core_tree.specs.declared.statements.StmKind.TheVariants.{Enter}
 use Rattle.c_tree.specs.Forms as f
 use Rattle.c_tree.specs.Tree.{Tree, Trees, At, Node, none, ◌▹◌, count}
 use Rattle.c_decls.specs.declared.typed.Folded.{Folded}
-use Rattle.c_decls.specs.declared.typed.Folded.TheVariants.{Is, Varies, Traps}
+use Rattle.c_decls.specs.declared.typed.Folded.TheVariants.{Is}
 use Rattle.c_decls.specs.declared.refusal.TypeKind.TheVariants.{Operands, Assignment, NotConstant}
 use Rattle.c_decls.specs.Refusals.{refused, then, unless}
 use Rattle.c_decls.specs.Typed.{is_null_constant}

@@ -5,7 +5,7 @@ use Rattle.std.proofs.lemmas.Bool.{ltb-true, ltb-false, eqb-true}
 use Rattle.hs_base.specs.Place.{block_size}
 use Rattle.c_types.specs.declared.layouts.Layout.{Layout}
 use Rattle.c_types.specs.declared.tags.TagInfo.{TagInfo}
-use Rattle.c_types.specs.Types.{PlainType, Void, Int, Pointer, Array, Struct, Union, Function}
+use Rattle.c_types.specs.Types.{PlainType, Array, Struct, Function}
 use Rattle.c_types.specs.Layouts.{Known, layout_of, no_layout}
 use Rattle.c_types.specs.TagTable.{CompletedTag, TagTable, known, layout_in}
 use Rattle.c_types.proofs.MemberLemmas.{Extends, layout_stays}
@@ -31,9 +31,8 @@ use Rattle.elaboration.specs.Conversions.{size_or_zero}
 use Rattle.elaboration.specs.Rules.{with_static}
 use Rattle.elaboration.specs.Locals.{is_twice_in, declared_as}
 use Rattle.elaboration.specs.Declarators.{layers}
-use Rattle.elaboration.specs.Initializers.{Target, InRegister, InMemory, InStatic, initialize, surplus, no_start, with_init_layers}
-use Rattle.elaboration.specs.Declarations as storages
-use Rattle.elaboration.specs.Declarations.{Storage, Typedef, Outside, storage_of, specs_before, declared_function, no_initializer, variable_number_of, with_new_variable, with_variable, start_of, start_in, started_variable, started, fill_variable, file_object, file_function, file_value, file_name, name_in, entry, entries, declaration}
+use Rattle.elaboration.specs.Initializers.{Target, InStatic, initialize, surplus, no_start, with_init_layers}
+use Rattle.elaboration.specs.Declarations.{Storage, Typedef, storage_of, specs_before, declared_function, no_initializer, variable_number_of, with_new_variable, with_variable, start_of, start_in, started_variable, started, fill_variable, file_object, file_function, file_value, file_name, name_in, entry, entries, declaration}
 use Rattle.elaboration.specs.Externals.{begun, is_defined, external, externals, calls_defined, is_main, ended}
 use Rattle.elaboration.specs.Addressed.{addressed_in}
 use Rattle.elaboration.specs.Resolving.{core_of}

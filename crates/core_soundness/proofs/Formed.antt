@@ -1,6 +1,6 @@
 -- The shapes of trees that the walk over addresses stands on: what elaboration does not look at has no nodes, and nothing
 -- stands where a declarator or a suffix is looked for but one of these.
-use Rattle.std.proofs.Common.{◌≡◌, Bool, true, false, ◌||◌, Option, Some, None, IsSome}
+use Rattle.std.proofs.Common.{◌≡◌, Bool, true, false, IsSome}
 use Rattle.c_tree.specs.Forms.{Form}
 use Rattle.c_tree.specs.Forms as f
 use Rattle.c_tree.specs.Tree.{Tree, Trees, Leaf, At, Node, none, ◌▹◌}

@@ -8,10 +8,10 @@ use Rattle.c_lexer.specs.Tokens.{IsLexed}
 use Rattle.c_lexer.specs.Pieces.{IsToken}
 use Rattle.c_lexer.proofs.Constants.{constant_read}
 use Rattle.c_tree.specs.Words as w
-use Rattle.c_tree.specs.Words.{Word, word_kind, word_bytes}
+use Rattle.c_tree.specs.Words.{Word}
 use Rattle.c_tree.specs.Forms.{Form}
 use Rattle.c_tree.specs.Forms as f
-use Rattle.c_tree.specs.Places.{Place, Expression}
+use Rattle.c_tree.specs.Places.{Place}
 use Rattle.c_tree.specs.Places as p
 use Rattle.c_tree.specs.Tree.{Tree, Trees, Leaf, At, Node, none, ◌▹◌, count}
 use Rattle.c_tree.specs.declared.word.Keyword.{Keyword}
@@ -50,7 +50,8 @@ spelled_fit (Said word ∷ pieces) (token ∷ tokens) rest l h =
     (word_held word token (l 0 token (omega arith)) h.0, spelled_fit pieces tokens rest (All-tail IsLexed token tokens l) h.1)
 spelled_fit (Line line ∷ pieces) (token ∷ tokens) rest l h =
     (subst (λ (k : ℕ). 1 ≤ k) h.0 (l 0 token (omega arith)).1, spelled_fit pieces (token ∷ tokens) rest l h.1)
-spelled_fit other [] rest l h = absurd h
+spelled_fit (Said word ∷ pieces) [] rest l h = absurd h
+spelled_fit (Line line ∷ pieces) [] rest l h = absurd h
 
 parts_fit : (one other : List Piece) → AllFit (one ++ other) → AllFit one × AllFit other
 parts_fit [] other h = (tt, h)

@@ -1,12 +1,12 @@
 -- Operands and statements that fit go on to fit while a text is walked.
 use Rattle.std.proofs.Common.{◌≡◌, ◌≤◌, ℕ, List, [], ◌∷◌, ◌++◌, slice_get, Option, Some, None, option_map, refl, sym, ap, ◌∙◌, subst, arith}
 use Rattle.c_types.specs.Types as types
-use Rattle.c_types.specs.Types.{PlainType, PlainTypes}
+use Rattle.c_types.specs.Types.{PlainType}
 use Rattle.core_tree.specs.declared.program.Reg.{Reg as Register}
 use Rattle.core_tree.specs.declared.statements.Atom.{Atom}
 use Rattle.core_tree.specs.declared.statements.Atom.TheVariants as atom
 use Rattle.core_tree.specs.declared.statements.StmKind.{StmKind}
-use Rattle.core_tree.specs.declared.statements.StmKind.TheVariants.{Set, Conv, Un, Bin, Cmp, Add, Sub, Off, Diff, Pcmp, Test, Load, Loadp, Store, Storep, Copy, Clear, Jump, Zero, Case, Loop, Call, Malloc, Calloc, Realloc, Free, Lib, Printf, Enter, Leave, Return}
+use Rattle.core_tree.specs.declared.statements.StmKind.TheVariants.{Set, Conv, Un, Bin, Cmp, Add, Sub, Off, Diff, Pcmp, Test, Load, Loadp, Store, Storep, Copy, Clear, Zero, Case, Call, Malloc, Calloc, Realloc, Free, Lib, Printf, Return}
 use Rattle.core_tree.specs.Sorts.{Sort, Integer, Pointer, sort_of}
 use Rattle.c_decls.specs.Named as n
 use Rattle.c_decls.specs.ScopeList.{named_in}
@@ -105,7 +105,6 @@ fits_grew w v (Call f r args) g h = record {
   called = (h.called.0, h.called.1, g.calls h.called.0 (f, h.called.1) h.called.2);
   takes = all_grew w v _ args g h.takes;
   gives = receives_grew w v _ r g h.gives;
-fits_grew w v other g h = tt
 }
 fits_grew w v (Malloc r k t) g h = (register_grew w v Pointer r g h.0, holds_grew w v Integer k g h.1)
 fits_grew w v (Calloc r m k t) g h = (register_grew w v Pointer r g h.0, holds_grew w v Integer m g h.1, holds_grew w v Integer k g h.2)

@@ -1,9 +1,9 @@
 -- Answers whose context has grown from another.
 use Rattle.std.proofs.Common.{◌≡◌, ℕ, Bool, true, false, cond, Ok, Err, refl, subst}
 use Rattle.c_decls.specs.declared.refusal.TypeKind.{TypeKind}
-use Rattle.c_decls.specs.Refusals.{Checked, Refusal, refused, then, unless}
+use Rattle.c_decls.specs.Refusals.{Checked, Refusal, refused, then}
 use Rattle.elaboration.specs.Context.{Context, With}
-use Rattle.core_soundness.proofs.Growth.{Grows, grows_trans}
+use Rattle.core_soundness.proofs.Growth.{Grows}
 
 abbrev pub good : {A : Type 0} → A → Checked A
 good x = Ok x

@@ -1,7 +1,7 @@
 -- What the walk over addresses knows at a place goes with what elaboration knows there.
-use Rattle.std.proofs.Common.{◌≡◌, ℕ, zero, suc, Bool, true, false, nat_eq, length, List, [], ◌∷◌, Option, Some, None, refl, sym, ap, ◌∙◌, subst}
+use Rattle.std.proofs.Common.{◌≡◌, ℕ, zero, suc, Bool, true, false, nat_eq, length, List, [], ◌∷◌, Some}
 use Rattle.std.specs.List.{list_any}
-use Rattle.c_tree.specs.Tree.{Tree, Trees, none, ◌▹◌}
+use Rattle.c_tree.specs.Tree.{Trees, none, ◌▹◌}
 use Rattle.c_decls.specs.ScopeList as scopes
 use Rattle.c_decls.specs.ScopeList.{ScopeList, Table, found}
 use Rattle.elaboration.specs.Context.{Context}

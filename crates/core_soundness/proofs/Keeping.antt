@@ -1,42 +1,34 @@
 -- What expressions leave as it was: as many parameters and locals are declared, and the same of them are taken the address of.
-use Rattle.std.proofs.Common.{◌≡◌, ℕ, zero, suc, Bool, true, false, not, cond, min, length, List, [], ◌∷◌, ◌++◌, Option, Some, None, Ok, Err, ⊎_elim, arith, refl, sym, ap, ◌∙◌, subst}
+use Rattle.std.proofs.Common.{◌≡◌, ℕ, zero, suc, Bool, true, false, not, cond, length, List, [], ◌∷◌, Option, Some, None, Ok, ⊎_elim, arith, refl, sym, ap, ◌∙◌, subst}
 use Rattle.std.specs.Option.{option_or}
-use Rattle.c_types.specs.Types as types
-use Rattle.c_types.specs.Types.{PlainType, Void, Int, Array, Struct, Union}
-use Rattle.core_tree.specs.declared.program.Start.{Start}
+use Rattle.c_types.specs.Types.{PlainType, Void}
 use Rattle.core_tree.specs.declared.statements.Atom.{Atom}
-use Rattle.core_tree.specs.declared.statements.Atom.TheVariants as atom
 use Rattle.core_tree.specs.declared.statements.StmKind.{StmKind}
-use Rattle.core_tree.specs.declared.statements.StmKind.TheVariants.{Zero, Off, Copy, Enter, Leave}
-use Rattle.c_tree.specs.Forms as f
-use Rattle.c_tree.specs.Tree.{Tree, Trees, At, Node, none, ◌▹◌, count}
+use Rattle.core_tree.specs.declared.statements.StmKind.TheVariants.{Zero, Enter, Leave}
+use Rattle.c_tree.specs.Tree.{Tree}
 use Rattle.c_types.specs.declared.types.IntType.{IntType}
 use Rattle.c_decls.specs.declared.constant.Constant.{Constant}
-use Rattle.c_decls.specs.declared.refusal.TypeKind.TheVariants.{Assignment, Operands, NotConstant}
+use Rattle.c_decls.specs.declared.refusal.TypeKind.TheVariants.{Operands}
 use Rattle.c_decls.specs.Named as n
 use Rattle.c_decls.specs.Named.{PlainNamed}
 use Rattle.c_decls.specs.ScopeList as scopes
 use Rattle.c_decls.specs.ScopeList.{ScopeList, Table, named_in, found_from, found}
-use Rattle.c_decls.specs.Refusals.{Checked, refused, then, unless}
-use Rattle.c_decls.specs.TypeRules.{barred}
+use Rattle.c_decls.specs.Refusals.{then, unless}
 use Rattle.c_decls.specs.IntegerTypes.{promoted}
-use Rattle.c_decls.specs.Typed.{Operand, Number, PointerTo, Neither, operand, is_scalar}
-use Rattle.c_decls.specs.PlaceRules.{unconverted, converts}
+use Rattle.c_decls.specs.Typed.{Operand, Number, operand, is_scalar}
 use Rattle.c_decls.specs.Expressions.{line_of, typed, wanted, constant_from}
 use Rattle.c_decls.specs.TypeNames as names
 use Rattle.elaboration.specs.Context.{Context, With, asked, told, emit, anew}
 use Rattle.elaboration.specs.Conversions.{Found, Local, Memory, atom_in, code_line, valued, convert, convert_integer, write, size_or_zero, tested_value, unused}
 use Rattle.elaboration.specs.Reallocates.{reallocates, opened, closed}
-use Rattle.elaboration.specs.Rules.{with_literal}
 use Rattle.elaboration.specs.Expressions as expressions
 use Rattle.elaboration.specs.Declarators.{constant}
 use Rattle.elaboration.specs.Statements.{evaluated, closed_atom, condition, leaves_if_zero, switch_operand_of, switch_operand}
 use Rattle.core_soundness.specs.Spoken.{is_register}
 use Rattle.core_soundness.proofs.Names.{More, MoreTags, MoreAll, IsNewTag, more_refl, more_trans}
 use Rattle.core_soundness.proofs.Owners.{more_depth}
-use Rattle.core_soundness.proofs.Grown.{Grown, good, bad, ok_same, never, grown_then}
-use Rattle.core_soundness.proofs.Growth.{Grows, grows_refl, grows_trans}
-use Rattle.core_soundness.proofs.Reached.{Reached, reached_ok, reached_after, reached_then, reached_unless, Led, led_ok, led_after, led_unless}
+use Rattle.core_soundness.proofs.Grown.{good, ok_same, never}
+use Rattle.core_soundness.proofs.Growth.{Grows, grows_refl}
 use Rattle.core_soundness.proofs.Agreeing.{came}
 use Rattle.core_soundness.proofs.Operating.{passed, behind_test}
 use Rattle.core_soundness.proofs.Working.{grown_unused, grows_convert, grows_write, grows_convert_integer, grows_tested}

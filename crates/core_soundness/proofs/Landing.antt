@@ -29,11 +29,11 @@ use Rattle.c_decls.specs.BuiltIns.{built_ins, constant_of}
 use Rattle.c_decls.specs.Callees.{named, built_in_named, built_in_value}
 use Rattle.c_decls.specs.Typed.{PlainTyped, Operand, Number, PointerTo, Neither, operand, place, value, int, constant, is_scalar, is_null_constant}
 use Rattle.c_decls.specs.TypeRules.{unary, unary_of, unary_on_integer, unary_type, binary, address}
-use Rattle.c_decls.specs.PlaceRules.{cast, cast_types, null_pointer, element, element_types, dot, arrow, arrow_of, member_among, member_answer, size, size_answer}
+use Rattle.c_decls.specs.PlaceRules.{cast, cast_types, null_pointer, element, element_types, dot, arrow, arrow_of, member_among, member_answer}
 use Rattle.c_decls.specs.PlaceRules as places
 use Rattle.c_decls.specs.Expressions.{string}
 use Rattle.elaboration.specs.Context.{Context, literal_object, local_register}
-use Rattle.elaboration.specs.Conversions.{Found, Spot, Local, Memory, Value, Empty, Fixed, Unknown, Nowhere, found_as, atom_in, code_line, convert, forget, tested_value}
+use Rattle.elaboration.specs.Conversions.{Found, Spot, Local, Memory, Value, Fixed, Unknown, Nowhere, found_as, atom_in, code_line, convert, forget, tested_value}
 use Rattle.elaboration.specs.Operations.{working, move_pointer, combine, combined, fixed_sum, moved_by, offset_of}
 use Rattle.elaboration.specs.Rules.{constant_found, object_found, built_in_found, name_found, is_inner, with_static, with_literal, literal_found, at_address, with_value, indexed, member_of, dotted, target_of, pointed, negated, before_number, apply, applied, tells_equal, is_pointer_ahead, is_pointer_operand, ahead, left_operand, between, cast_fixed, cast_to}
 use Rattle.elaboration.specs.Expressions.{name_answer, literal_answer, address_answer}

@@ -1,41 +1,32 @@
 -- What declarators, specs and tags do to what fits (C99 6.7).
-use Rattle.std.proofs.Common.{◌≡◌, ◌<◌, not, option_map, ap, sym, ◌≤◌, ◌∙◌, subst, ⊎_elim, length-append, ℕ, zero, suc, ℤ, pos, ◌+ℤ◌, Bool, true, false, ◌||◌, cond, is_some, List, [], ◌∷◌, ◌++◌, length, reverse, slice_get, unwrap_or, Option, Some, None, Result, Ok, Err, refl, arith}
-use Rattle.hs_base.specs.declared.ends.IntKind.TheVariants.{I32}
-use Rattle.hs_base.specs.Numbers.{wrapped}
+use Rattle.std.proofs.Common.{◌≡◌, ◌<◌, not, option_map, ap, sym, ◌≤◌, ◌∙◌, subst, ⊎_elim, length-append, ℕ, zero, suc, Bool, true, false, ◌||◌, cond, is_some, List, [], ◌∷◌, ◌++◌, length, slice_get, unwrap_or, Option, Some, None, Ok, refl, arith}
 use Rattle.c_types.specs.declared.types.IntType.TheVariants as i
-use Rattle.c_types.specs.declared.tags.TagError.{TagError}
-use Rattle.c_types.specs.Types as types
-use Rattle.c_types.specs.Types.{PlainType, PlainTypes, Void, Int, Pointer, Array, Struct, Union, Function, first}
+use Rattle.c_types.specs.Types.{PlainType, PlainTypes, Int, Pointer, Function}
 use Rattle.c_types.specs.Layouts.{no_layout}
-use Rattle.c_types.specs.TagTable.{TagTable, completion, layout_in}
+use Rattle.c_types.specs.TagTable.{TagTable, layout_in}
 use Rattle.core_tree.specs.declared.statements.Atom.TheVariants as atom
-use Rattle.c_tree.specs.declared.operator.RecordSort.{RecordSort}
 use Rattle.c_tree.specs.declared.operator.RecordSort.TheVariants as r
-use Rattle.c_tree.specs.Words as w
 use Rattle.c_tree.specs.Forms as f
-use Rattle.c_tree.specs.Tree.{Tree, Trees, Leaf, At, Node, none, ◌▹◌}
-use Rattle.c_tree.specs.Scopes.{name_of}
-use Rattle.c_decls.specs.declared.refusal.TypeKind.TheVariants.{Operands, DeclaredTwice, Incomplete, LeftOut}
+use Rattle.c_tree.specs.Tree.{Tree, Trees}
+use Rattle.c_decls.specs.declared.refusal.TypeKind.TheVariants.{DeclaredTwice}
 use Rattle.c_decls.specs.Named as n
 use Rattle.c_decls.specs.Named.{PlainNamed}
 use Rattle.c_decls.specs.ScopeList as scopes
 use Rattle.c_decls.specs.ScopeList.{ScopeList, Table, named_in, innermost, first_or, with_name, tag_name, after_declaration}
-use Rattle.c_decls.specs.Refusals.{Checked, then}
-use Rattle.c_decls.specs.Typed.{is_void, is_record, is_function, is_scalar, has_no_size}
+use Rattle.c_decls.specs.Refusals.{Checked}
+use Rattle.c_decls.specs.Typed.{is_scalar}
 use Rattle.c_decls.specs.TypeNames as names
-use Rattle.c_decls.specs.TypeNames.{Layer, PointerTo, ArrayOf, FunctionOf, word_type, record_type, is_union, with_new_tag, special_type, array_length, with_layers, with_param_layers, adjusted}
-use Rattle.c_decls.specs.Expressions.{line_of, typed, wanted, constant_from}
 use Rattle.elaboration.specs.Context.{Context, Running, Code, Variable, asked, told, entered, local_register}
 use Rattle.elaboration.specs.Conversions.{Spot, Memory}
 use Rattle.elaboration.specs.Locals.{is_pointer, is_twice, declared_as, next_is_memory, with_register, with_memory, counted, with_named, memory_param, register_param, function_param, prototype_param, with_param, local_in, with_local}
 use Rattle.elaboration.specs.Declarators as d
-use Rattle.elaboration.specs.Declarators.{constant, with_type, maybe_name, unnamed, newly_named, begun_as, begun, completed_by, complete, ended, with_member, member, enumerator, enum_named, is_declared, param, left_params, specs, words_type, tag_type, members, member_names, enumerators, layers, suffix_layers, suffix_layer, params}
-use Rattle.core_soundness.proofs.Names.{More, MoreAll, more_refl, all_refl, with_tag_more}
+use Rattle.elaboration.specs.Declarators.{constant, with_type, left_params, specs, layers, suffix_layers, suffix_layer, params}
+use Rattle.core_soundness.proofs.Names.{More, MoreAll, more_refl, all_refl}
 use Rattle.core_soundness.proofs.Owners.{IsNoFunction, with_name_keeps, with_name_depth, tag_kept}
 use Rattle.core_soundness.proofs.ShortNames.{Any, any_names, all_any}
 use Rattle.core_soundness.proofs.LayersWalk.{Steps, constant_keeps, specs_keep, layers_keep, suffixes_keep, suffix_keeps, params_keep}
-use Rattle.core_soundness.proofs.Reached.{Reached, reached_ok, reached_refused, reached_after, reached_then, reached_unless, Led, led_ok, led_refused, led_after, led_unless}
-use Rattle.core_soundness.proofs.TypedNames.{After, typed_after, wanted_after, special_after}
+use Rattle.core_soundness.proofs.Reached.{Reached, reached_ok, reached_after, Led, led_ok, led_unless}
+use Rattle.core_soundness.proofs.TypedNames.{After}
 use Rattle.core_tree.specs.declared.program.Reg.{Reg as Register}
 use Rattle.core_tree.specs.Sorts.{Sort, sort_of}
 use Rattle.core_soundness.specs.Worlds.{World, world, local_sort, type_sort, is_local, Held, StandsAs, InnerFits, FileFits, TableFits, TablesFit, NamesFit, PiecesFit}

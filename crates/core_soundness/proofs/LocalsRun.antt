@@ -4,7 +4,7 @@ use Rattle.std.specs.Option.{option_or}
 use Rattle.std.proofs.lemmas.Bool.{ltb-true}
 use Rattle.hs_base.specs.Place.{block_size}
 use Rattle.c_types.specs.Types as types
-use Rattle.c_types.specs.Types.{PlainType, Void, Array, Struct, Union, Function}
+use Rattle.c_types.specs.Types.{PlainType, Function}
 use Rattle.c_types.specs.Layouts.{no_layout}
 use Rattle.c_types.specs.TagTable.{layout_in}
 use Rattle.core_tree.specs.declared.program.Start.{Start}
@@ -19,14 +19,14 @@ use Rattle.c_tree.specs.Scopes.{name_of}
 use Rattle.c_decls.specs.declared.refusal.TypeKind.TheVariants.{Assignment, DeclaredTwice, Incomplete, LeftOut, StaticTooLarge}
 use Rattle.c_decls.specs.Named as n
 use Rattle.c_decls.specs.Named.{PlainNamed}
-use Rattle.c_decls.specs.ScopeList.{ScopeList, Table, named_in, innermost, with_name, after_declaration, tag_name}
+use Rattle.c_decls.specs.ScopeList.{Table, named_in, innermost, with_name, after_declaration, tag_name}
 use Rattle.c_decls.specs.ScopeList as scopes
 use Rattle.c_decls.specs.Refusals.{Checked, then, unless}
 use Rattle.c_decls.specs.Typed.{is_function, has_no_size}
 use Rattle.c_decls.specs.TypeNames.{Layer, tag_named}
 use Rattle.c_decls.specs.Expressions.{line_of}
 use Rattle.elaboration.specs.Context.{Context, Variable, asked, emit}
-use Rattle.elaboration.specs.Conversions.{Spot, Local, Memory, Value, Empty, size_or_zero}
+use Rattle.elaboration.specs.Conversions.{Spot, Local, Memory, size_or_zero}
 use Rattle.elaboration.specs.Rules.{with_static}
 use Rattle.elaboration.specs.Locals.{is_twice, declared_as, with_local}
 use Rattle.elaboration.specs.Declarators.{layers}

@@ -1,9 +1,9 @@
 -- What is asked of the initializers of the locals that a declaration declares: where they are filled with success, they take
 -- the address of no register.
-use Rattle.std.proofs.Common.{◌≡◌, ℕ, Bool, true, false, List, [], ◌∷◌, Option, Some, None, Ok}
+use Rattle.std.proofs.Common.{◌≡◌, ℕ, false, List, Some, Ok}
 use Rattle.c_types.specs.Types.{PlainType}
 use Rattle.c_tree.specs.Forms as f
-use Rattle.c_tree.specs.Tree.{Tree, Trees, Leaf, At, Node, none, ◌▹◌}
+use Rattle.c_tree.specs.Tree.{Tree, Trees, Node, none, ◌▹◌}
 use Rattle.c_tree.specs.Scopes.{name_of}
 use Rattle.c_decls.specs.TypeNames.{Layer}
 use Rattle.elaboration.specs.Context.{Context}

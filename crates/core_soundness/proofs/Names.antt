@@ -5,7 +5,7 @@ use Rattle.std.proofs.lemmas.Slice.Eq.{bytes_eq-Decides}
 use Rattle.c_types.specs.Types.{PlainType}
 use Rattle.c_decls.specs.Named.{PlainNamed, Tag}
 use Rattle.c_decls.specs.ScopeList as scopes
-use Rattle.c_decls.specs.ScopeList.{ScopeList, Table, named_in, found_from, found, with_name, tag_name, innermost}
+use Rattle.c_decls.specs.ScopeList.{ScopeList, Table, named_in, found_from, found, with_name, tag_name}
 use Rattle.elaboration.specs.Calls.{built_in_at}
 use Rattle.elaboration.specs.Reallocates.{is_realloc}
 

@@ -9,8 +9,6 @@ use Rattle.core_tree.specs.declared.program.Mem.{Mem}
 use Rattle.core_tree.specs.declared.program.Reg.{Reg as Register}
 use Rattle.core_tree.specs.declared.statements.StmKind.{StmKind}
 use Rattle.core_tree.specs.Sound.{IsShort}
-use Rattle.c_tree.specs.Grammar.{Item, Says, Here, Part, shape}
-use Rattle.c_tree.specs.Tree.{Tree, Trees, Leaf, At, Node, none, ◌▹◌, count}
 use Rattle.elaboration.specs.Context.{Context, Variable, Walked, integer_by, pointer_by}
 use Rattle.elaboration.specs.Calls.{with_format}
 use Rattle.elaboration.specs.Locals.{is_pointer, with_register, with_memory}

@@ -26,7 +26,7 @@ use Rattle.c_decls.specs.TypeNames.{tag_named}
 use Rattle.c_decls.specs.PlaceRules.{unconverted, converts}
 use Rattle.c_decls.specs.Expressions.{line_of, string}
 use Rattle.elaboration.specs.Context.{Context, With, Variable, asked, emit, anew}
-use Rattle.elaboration.specs.Conversions.{Found, Spot, Local, Memory, Value, Empty, code_line, atom_in, valued, convert, write, size_or_zero}
+use Rattle.elaboration.specs.Conversions.{Found, Spot, Local, Memory, code_line, atom_in, valued, convert, write, size_or_zero}
 use Rattle.elaboration.specs.Reallocates.{reallocates, opened, closed}
 use Rattle.elaboration.specs.Rules.{with_static, with_literal}
 use Rattle.elaboration.specs.Expressions.{found}

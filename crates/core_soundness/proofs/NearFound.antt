@@ -1,5 +1,5 @@
 -- What expressions make: at most six for each word.
-use Rattle.std.proofs.Common.{◌≡◌, ◌≤◌, ◌+◌, ◌*◌, ℕ, zero, suc, Bool, true, false, cond, nat_lt, length, List, [], ◌∷◌, ◌++◌, Option, Some, None, unwrap_or, Ok, refl, sym, subst, arith, ltb-false}
+use Rattle.std.proofs.Common.{◌≡◌, ◌+◌, ◌*◌, ℕ, Bool, true, false, cond, nat_lt, length, List, [], ◌∷◌, ◌++◌, Option, Some, None, unwrap_or, Ok, refl, sym, subst, arith, ltb-false}
 use Rattle.std.specs.Prelude.{IfSome}
 use Rattle.hs_base.specs.Place.{block_size}
 use Rattle.c_types.specs.declared.types.IntType.TheVariants as i
@@ -12,8 +12,8 @@ use Rattle.c_tree.specs.declared.operator.BinaryOp.TheVariants as b
 use Rattle.c_tree.specs.declared.operator.AssignOp.TheVariants as a
 use Rattle.c_tree.specs.Words as w
 use Rattle.c_tree.specs.Forms as f
-use Rattle.c_tree.specs.Places.{Place, Expression}
-use Rattle.c_tree.specs.Grammar.{assign_level, commas, behind_commas, shape}
+use Rattle.c_tree.specs.Places.{Expression}
+use Rattle.c_tree.specs.Grammar.{assign_level, shape}
 use Rattle.c_tree.specs.Tree.{Tree, Trees, Leaf, At, Node, none, ◌▹◌, count}
 use Rattle.c_decls.specs.declared.built_in.BuiltIn.{BuiltIn}
 use Rattle.c_decls.specs.declared.built_in.BuiltIn.TheVariants as bi

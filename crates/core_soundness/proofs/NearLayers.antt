@@ -1,43 +1,24 @@
 -- What specs, tags, declarators and parameters make.
-use Rattle.std.proofs.Common.{◌+◌, ◌*◌, ℕ, ℤ, pos, ◌+ℤ◌, Bool, true, false, ◌||◌, cond, is_some, length, reverse, List, [], ◌∷◌, ◌++◌, Option, Some, None, unwrap_or, Result, Ok, Err, arith}
+use Rattle.std.proofs.Common.{ℕ, Bool, true, false, cond, length, List, [], Option, Some, None, unwrap_or, Ok, arith}
 use Rattle.std.specs.Prelude.{IfSome}
-use Rattle.hs_base.specs.declared.ends.IntKind.TheVariants.{I32}
-use Rattle.hs_base.specs.Numbers.{wrapped}
-use Rattle.c_types.specs.declared.types.IntType.TheVariants as i
-use Rattle.c_types.specs.declared.tags.TagError.{TagError}
-use Rattle.c_types.specs.Types as types
-use Rattle.c_types.specs.Types.{PlainType, PlainTypes, Int, Struct, Union, first}
-use Rattle.c_types.specs.TagTable.{TagTable, known, completion}
+use Rattle.c_types.specs.Types.{PlainType}
 use Rattle.core_tree.specs.declared.statements.Atom.TheVariants as atom
 use Rattle.core_tree.specs.Sound.{IsShort}
-use Rattle.c_tree.specs.declared.operator.RecordSort.{RecordSort}
-use Rattle.c_tree.specs.declared.operator.RecordSort.TheVariants as r
-use Rattle.c_tree.specs.Words as w
-use Rattle.c_tree.specs.Forms as f
-use Rattle.c_tree.specs.Places as p
-use Rattle.c_tree.specs.Grammar.{shape}
-use Rattle.c_tree.specs.Tree.{Tree, Trees, Leaf, At, Node, none, ◌▹◌, count}
-use Rattle.c_tree.specs.Scopes.{name_of}
-use Rattle.c_decls.specs.declared.refusal.TypeKind.TheVariants.{Operands, DeclaredTwice, Incomplete, LeftOut}
+use Rattle.c_tree.specs.Tree.{Tree}
+use Rattle.c_decls.specs.declared.refusal.TypeKind.TheVariants.{DeclaredTwice}
 use Rattle.c_decls.specs.Named as n
 use Rattle.c_decls.specs.Named.{PlainNamed}
-use Rattle.c_decls.specs.ScopeList.{named_in, innermost, with_name, tag_name, after_declaration}
-use Rattle.c_decls.specs.Refusals.{Checked, then, unless}
-use Rattle.c_decls.specs.Typed.{is_void, is_record, is_function, has_no_size}
+use Rattle.c_decls.specs.ScopeList.{after_declaration}
+use Rattle.c_decls.specs.Refusals.{Checked}
 use Rattle.c_decls.specs.TypeNames as names
-use Rattle.c_decls.specs.TypeNames.{Layer, PointerTo, ArrayOf, FunctionOf, word_type, special_type, array_length, with_layers, with_param_layers, adjusted}
-use Rattle.c_decls.specs.Expressions.{line_of, typed, wanted, constant_from}
-use Rattle.elaboration.specs.Context.{Context, asked, told, entered, local_register}
+use Rattle.elaboration.specs.Context.{Context, told, local_register}
 use Rattle.elaboration.specs.Conversions.{Memory}
 use Rattle.elaboration.specs.Locals.{is_twice, declared_as, next_is_memory, with_register, with_memory, with_named, memory_param, register_param, function_param, prototype_param, is_prototype, with_param}
-use Rattle.elaboration.specs.Declarators as d
-use Rattle.elaboration.specs.Declarators.{constant, with_type, maybe_name, begun_as, begun, completed_by, complete, ended, with_member, member, enumerator, enum_named, is_declared, param, left_params, specs, words_type, tag_type, members, member_names, enumerators, layers, suffix_layers, suffix_layer, params}
-use Rattle.core_soundness.proofs.Grown.{good}
-use Rattle.core_soundness.proofs.Agreeing.{came}
-use Rattle.core_soundness.proofs.Reached.{Reached, reached_ok, reached_refused, reached_after, reached_unless, Led, led_ok, led_refused, led_unless}
-use Rattle.core_soundness.proofs.ShortNames.{Short, AllShort, name_short, some_short}
+use Rattle.elaboration.specs.Declarators.{constant, with_type, specs, layers}
+use Rattle.core_soundness.proofs.Reached.{Reached, reached_ok, reached_after, Led, led_ok, led_unless}
+use Rattle.core_soundness.proofs.ShortNames.{Short, some_short}
 use Rattle.core_soundness.proofs.Near.{Near, near_refl, near_on, near_most, near_register, near_memory}
-use Rattle.core_soundness.proofs.Weights.{weight, weights, commas_said}
+use Rattle.core_soundness.proofs.Weights.{weight}
 use Rattle.core_soundness.proofs.NearWork.{write_near}
 use Rattle.core_soundness.proofs.LayersWalk.{Steps, constant_keeps, specs_keep, layers_keep}
 

@@ -4,8 +4,8 @@ use Rattle.core_tree.specs.declared.statements.Stm.{Stm}
 use Rattle.core_tree.specs.declared.statements.StmKind.{StmKind}
 use Rattle.core_tree.specs.declared.statements.StmKind.TheVariants.{Jump, Zero, Case, Loop, Leave}
 use Rattle.elaboration.specs.Context.{Piece, Does, Here, Code}
-use Rattle.core_soundness.proofs.Flow.{Marks, Target, Targets, Places, Placed, steps, Goes, Flows, Agree, agree_refl, agree_trans, steps_append, targets_append, targets_map, places_append, places_map, placed_left, placed_right, flows_append, flows_agree, marked}
-use Rattle.core_soundness.proofs.Fragments.{Way, way_on, way_back, IsWay, Stands, Leads, AreEarlier, leads_less, leads_agree, earlier_less, Made, Fragment, joined, with_ways, within, closed_by, opened_by, loop_leaves, stm_at}
+use Rattle.core_soundness.proofs.Flow.{Marks, Target, Targets, Places, Placed, steps, Goes, Flows, agree_refl, steps_append, targets_append, places_append}
+use Rattle.core_soundness.proofs.Fragments.{Way, way_on, way_back, IsWay, Leads, AreEarlier, leads_less, Fragment, joined, with_ways, within, closed_by, opened_by, loop_leaves, stm_at}
 
 pub ways_more : (w : Way) (ws : List Way) (n low high : ℕ) (a : List Piece) (s : List ℕ) → Fragment ws n low high a s → Fragment (w ∷ ws) n low high a s
 ways_more w ws n low high a s f = with_ways ws (w ∷ ws) n low high a s (λ l h. inr h) (λ m end h. h.1) f

@@ -33,9 +33,8 @@ use Rattle.elaboration.specs.Conversions.{size_or_zero}
 use Rattle.elaboration.specs.Rules.{with_static}
 use Rattle.elaboration.specs.Locals.{is_twice, declared_as}
 use Rattle.elaboration.specs.Declarators.{specs, layers}
-use Rattle.elaboration.specs.Initializers.{Target, InRegister, InMemory, InStatic, initialize, surplus, no_start, with_init_layers}
-use Rattle.elaboration.specs.Declarations as storages
-use Rattle.elaboration.specs.Declarations.{Storage, Typedef, Outside, storage_of, specs_alone, specs_before, function_number, with_function, declared_function, no_initializer, variable_number_of, with_new_variable, with_variable, start_of, start_in, started_variable, started, fill_variable, file_object, file_function, file_value, file_name, name_in, entry, entries, declaration}
+use Rattle.elaboration.specs.Initializers.{Target, InStatic, initialize, surplus, no_start, with_init_layers}
+use Rattle.elaboration.specs.Declarations.{Storage, Typedef, storage_of, specs_alone, specs_before, function_number, with_function, declared_function, no_initializer, variable_number_of, with_new_variable, with_variable, start_of, start_in, started_variable, started, fill_variable, file_object, file_function, file_value, file_name, name_in, entry, entries, declaration}
 use Rattle.elaboration.specs.Statements.{around_body, items}
 use Rattle.elaboration.specs.Externals.{begun, is_defined, body_begun, last_answer, piece_length, params_of, body_ended, body, defined, named_definition, definition, external, externals, calls_defined, is_main, ended}
 use Rattle.elaboration.specs.Addressed.{addressed_in}

@@ -3,12 +3,12 @@ use Rattle.std.proofs.Common.{not, ℕ, ℤ, Bool, true, false, cond, take, List
 use Rattle.std.specs.Prelude.{unsigned_abs}
 use Rattle.c_types.specs.declared.types.IntType.{IntType}
 use Rattle.c_types.specs.Types as types
-use Rattle.c_types.specs.Types.{PlainType, Void, Array, Struct, Union, Function}
+use Rattle.c_types.specs.Types.{PlainType, Array, Struct, Union}
 use Rattle.core_tree.specs.declared.program.Start.{Start}
 use Rattle.c_tree.specs.Forms as f
 use Rattle.c_tree.specs.Tree.{Tree, Trees, At, Node, none, ◌▹◌, count}
 use Rattle.c_decls.specs.declared.typed.Folded.{Folded}
-use Rattle.c_decls.specs.declared.typed.Folded.TheVariants.{Is, Varies, Traps}
+use Rattle.c_decls.specs.declared.typed.Folded.TheVariants.{Is}
 use Rattle.c_decls.specs.declared.refusal.TypeKind.TheVariants.{Operands, Assignment, NotConstant}
 use Rattle.c_decls.specs.Refusals.{refused, then, unless}
 use Rattle.c_decls.specs.Typed.{is_null_constant}

@@ -1,39 +1,25 @@
 -- Parts that stand inside a scope: their parameter lists are those of prototypes, of which nothing is made (C99 6.2.1).
-use Rattle.std.proofs.Common.{◌≡◌, ℕ, ℤ, pos, ◌+ℤ◌, ◌+◌, Bool, true, false, ◌||◌, cond, is_some, nat_lt, List, [], ◌∷◌, ◌++◌, length, reverse, Option, Some, None, Result, Ok, Err, ◌≤◌, refl, ap, ◌∙◌, arith}
+use Rattle.std.proofs.Common.{◌≡◌, ℕ, ◌+◌, Bool, true, false, cond, is_some, nat_lt, List, [], ◌∷◌, length, Option, Some, None, Ok, ◌≤◌, refl, ap, ◌∙◌, arith}
 use Rattle.std.proofs.lemmas.Bool.{ltb-false}
-use Rattle.hs_base.specs.declared.ends.IntKind.TheVariants.{I32}
-use Rattle.hs_base.specs.Numbers.{wrapped}
 use Rattle.c_types.specs.declared.types.IntType.TheVariants as i
-use Rattle.c_types.specs.declared.tags.TagError.{TagError}
-use Rattle.c_types.specs.Types as types
-use Rattle.c_types.specs.Types.{PlainType, PlainTypes, Int, Struct, Union, first}
-use Rattle.c_types.specs.TagTable.{TagTable, completion}
-use Rattle.c_tree.specs.declared.operator.RecordSort.{RecordSort}
-use Rattle.c_tree.specs.declared.operator.RecordSort.TheVariants as r
-use Rattle.c_tree.specs.Words as w
-use Rattle.c_tree.specs.Forms as f
-use Rattle.c_tree.specs.Tree.{Tree, Trees, Leaf, At, Node, none, ◌▹◌}
-use Rattle.c_tree.specs.Scopes.{name_of}
-use Rattle.c_decls.specs.declared.refusal.TypeKind.TheVariants.{Operands, DeclaredTwice, Incomplete, LeftOut}
+use Rattle.c_types.specs.Types.{PlainType, Int}
+use Rattle.c_types.specs.TagTable.{TagTable}
+use Rattle.c_tree.specs.Tree.{Tree, Trees}
+use Rattle.c_decls.specs.declared.refusal.TypeKind.TheVariants.{DeclaredTwice}
 use Rattle.c_decls.specs.Named as n
 use Rattle.c_decls.specs.Named.{PlainNamed}
 use Rattle.c_decls.specs.ScopeList as scopes
 use Rattle.c_decls.specs.ScopeList.{ScopeList, Table, named_in, innermost, with_name, tag_name, after_declaration}
-use Rattle.c_decls.specs.Refusals.{Checked, then}
-use Rattle.c_decls.specs.Typed.{is_void, is_record, is_function, has_no_size}
 use Rattle.c_decls.specs.TypeNames as names
-use Rattle.c_decls.specs.TypeNames.{Layer, PointerTo, ArrayOf, FunctionOf, word_type, record_type, is_union, with_new_tag, special_type, array_length, with_layers, with_param_layers, adjusted}
-use Rattle.c_decls.specs.Expressions.{line_of, typed, wanted, constant_from}
-use Rattle.elaboration.specs.Context.{Context, Running, asked, told, entered}
+use Rattle.elaboration.specs.Context.{Context, Running, told, entered}
 use Rattle.elaboration.specs.Locals.{is_twice, declared_as, counted, with_named, prototype_param, function_param, is_prototype, with_param}
 use Rattle.elaboration.specs.Declarators as d
-use Rattle.elaboration.specs.Declarators.{constant, with_type, maybe_name, unnamed, newly_named, begun_as, begun, completed_by, complete, ended, with_member, member, enumerator, enum_named, is_declared, param, left_params, specs, words_type, tag_type, members, member_names, enumerators, layers, suffix_layers, suffix_layer, params}
-use Rattle.core_soundness.proofs.Names.{More, MoreTags, MoreAll, tags_refl, tags_trans, all_refl, all_trans, with_tag_more}
+use Rattle.elaboration.specs.Declarators.{left_params, specs, layers, params}
+use Rattle.core_soundness.proofs.Names.{More, MoreTags, MoreAll, tags_refl, tags_trans, all_refl, all_trans}
 use Rattle.core_soundness.proofs.Owners.{more_depth, with_name_depth}
 use Rattle.core_soundness.proofs.ShortNames.{Any, any_names, all_any}
 use Rattle.core_soundness.proofs.LayersWalk.{Steps, specs_keep, layers_keep, params_keep}
-use Rattle.core_soundness.proofs.Reached.{Reached, reached_ok, reached_refused, reached_after, reached_then, reached_unless, Led, led_ok, led_refused, led_after, led_unless}
-use Rattle.core_soundness.proofs.TypedNames.{After, typed_after, wanted_after, special_after}
+use Rattle.core_soundness.proofs.Reached.{Reached, Led, led_ok, led_unless}
 use Rattle.core_soundness.proofs.Declaring.{tail_depth}
 use Rattle.core_soundness.proofs.Running.{tail_more}
 
@@ -124,7 +110,14 @@ pub own_params : (c : Context) → length c.scopes.inner ≡ 1 → is_prototype 
 own_params c deep = ap (λ (k : ℕ). nat_lt 1 k) deep
 
 -- a list inside another scope is that of a prototype
-with_-- a list of parameters in a scope of its own
+with_param_aside : (name : Option (List ℕ)) (type : PlainType) (c : Context) → 2 ≤ length c.scopes.inner → Aside c (with_param name type c)
+with_param_aside name type c deep = by (is_prototype c.scopes) refl
+  where
+    by : (t : Bool) → is_prototype c.scopes ≡ t → Aside c (counted (cond t (prototype_param name type c) (function_param name type c)))
+    by true e = counted_aside c _ (named_aside name (n.Object type 0) c (omega (arith, deep)))
+    by false e = absurd (omega (arith, deep, ltb-false 1 (length c.scopes.inner) e))
+
+-- a list of parameters in a scope of its own
 pub left_aside : (c x : Context) → Aside (entered c) x → Aside c (left_params x)
 left_aside c x p = record {
   code = p.code;

@@ -24,7 +24,7 @@ use Rattle.c_decls.specs.TypeRules.{result_type}
 use Rattle.c_decls.specs.Typed.{PlainTyped, Operand, Number, PointerTo, operand}
 use Rattle.elaboration.specs.Context.{Code, Context, asked, literal_object}
 use Rattle.elaboration.specs.Conversions.{Found, Spot, Local, Memory, read_spot, atom_in, holds_all, convert_integer, convert_to, convert, tested, tested_value, code_line, write}
-use Rattle.elaboration.specs.Operations.{working, Working, Calculates, Shifts, Compares, Branches, convert_both, work, on_integers, before_integer, move_pointer, between_pointers, pointer_beside, beside_integer, combine, combined, change, changed_to}
+use Rattle.elaboration.specs.Operations.{working, Working, Shifts, Compares, Branches, convert_both, work, on_integers, before_integer, move_pointer, between_pointers, pointer_beside, beside_integer, combine, combined, change, changed_to}
 use Rattle.elaboration.specs.Calls.{Argument, argument_from, atoms_of, built_in_at, lib_name, result_by, call_built_in, call_of_built_in, call_named}
 use Rattle.elaboration.specs.Rules.{set_again, compare_again, with_literal, chosen_by, choose_last}
 use Rattle.core_soundness.proofs.Grown.{good, ok_same, never}

@@ -4,7 +4,7 @@ use Rattle.std.specs.List.{find}
 use Rattle.std.proofs.lemmas.Bool.{ltb-false}
 use Rattle.c_types.specs.declared.layouts.Layout.{Layout}
 use Rattle.c_types.specs.declared.tags.TagError.TheVariants.{PointerInUnion, TooLarge}
-use Rattle.c_types.specs.Types.{PlainType, Void, Int, Pointer, Array, Struct, Union, Function}
+use Rattle.c_types.specs.Types.{PlainType, Int, Pointer, Struct, Union}
 use Rattle.c_types.specs.Layouts.{Known, Placed, none_placed, offset_after, place, placed, no_layout, keeps_union_rule}
 use Rattle.c_types.specs.TagTable.{CompletedTag, TagTable, PlainMember, known, learn, tag_layout, member_layout, refusal, placed_members, members_in, layout_in}
 use Rattle.c_types.proofs.MemberLemmas.{Extends, sized_stays}

@@ -31,7 +31,7 @@ use Rattle.c_decls.specs.TypeRules.{unary, binary, moving}
 use Rattle.c_decls.specs.PlaceRules.{element, element_types, dot, arrow, cast, choice, assigned, changed, changed_types, moves}
 use Rattle.c_decls.specs.Callees.{named, built_in_named, built_in_value}
 use Rattle.c_decls.specs.Expressions.{line_of, string, typed}
-use Rattle.elaboration.specs.Context.{Code, Context, With, asked, told, emit, here, new_label, with_labels, integer_by}
+use Rattle.elaboration.specs.Context.{Code, Context, emit, here, new_label, with_labels, integer_by}
 use Rattle.elaboration.specs.Conversions.{Found, Spot, Value, Empty, Unknown, Nowhere, found_as, atom_in, valued_from, convert, forget, tested_value, code_line, write, size_or_zero}
 use Rattle.elaboration.specs.Operations.{working, Branches, combined, fixed_sum, offset_of, operator_of, changed_to}
 use Rattle.elaboration.specs.Calls.{Argument, atoms_of, atom_at, argument_from, lib_name, result_by, with_format, call_built_in, call_of_built_in, call_named, element_layout}
@@ -47,7 +47,7 @@ use Rattle.core_soundness.proofs.Operating.{behind_test, moved_is}
 use Rattle.core_soundness.proofs.Reached.{Led, led_ok, led_after, led_unless}
 use Rattle.core_soundness.proofs.WholeTypes.{whole_stays}
 use Rattle.core_soundness.proofs.TypedWhole.{found_whole, assigned_whole}
-use Rattle.core_soundness.specs.Ranges.{IsStep, AtomIn, AtomsIn, PiecesIn}
+use Rattle.core_soundness.specs.Ranges.{AtomIn, AtomsIn, PiecesIn}
 use Rattle.core_soundness.proofs.Ranges.{In, Has, in_emit, in_here, in_integer, in_pointer, zero_number, one_number}
 use Rattle.core_soundness.proofs.Ranged.{size_number, offset_number, wanted_element}
 use Rattle.core_soundness.proofs.RangedWork.{SpotIn, spot_atom, read_in, valued_from_in, convert_in, tested_in, write_in, before_in, Steps, combined_in, Pointed, pointed_of, moving_step, IsBetween, binary_steps, changed_in, member_in}

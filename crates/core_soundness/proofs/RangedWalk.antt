@@ -20,7 +20,7 @@ use Rattle.c_decls.specs.ScopeList.{found as declaration}
 use Rattle.c_decls.specs.Typed.{PlainTyped, is_record, is_null_constant}
 use Rattle.c_decls.specs.TypeRules.{address}
 use Rattle.c_decls.specs.PlaceRules.{held_place, size, size_answer}
-use Rattle.c_decls.specs.Callees.{Callee, Takes, Prints, NoFunction, called, call}
+use Rattle.c_decls.specs.Callees.{Callee, Takes, NoFunction, called, call}
 use Rattle.c_decls.specs.TypeNames as names
 use Rattle.c_decls.specs.Expressions.{line_of, int_constant, char_constant, joined, first_literal, typed, typename}
 use Rattle.elaboration.specs.Context.{Code, Context, With, asked, told, new_label}

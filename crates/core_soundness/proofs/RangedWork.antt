@@ -1,7 +1,6 @@
 -- Conversions and operators keep the numbers of statements in range.
 use Rattle.std.proofs.Common.{◌≡◌, ℕ, pos, Ok, refl, sym, subst}
 use Rattle.c_types.specs.declared.types.IntType.{IntType}
-use Rattle.c_types.specs.Types as types
 use Rattle.c_types.specs.Types.{PlainType, Int, Pointer, kind_of}
 use Rattle.core_tree.specs.declared.statements.Atom.{Atom}
 use Rattle.core_tree.specs.declared.statements.Atom.TheVariants as atom

@@ -11,7 +11,7 @@ use Rattle.core_tree.specs.declared.statements.Atom.{Atom}
 use Rattle.core_tree.specs.declared.statements.Atom.TheVariants as atom
 use Rattle.core_tree.specs.declared.statements.Stm.{Stm}
 use Rattle.core_tree.specs.declared.statements.StmKind.{StmKind}
-use Rattle.core_tree.specs.declared.statements.StmKind.TheVariants.{Set, Conv, Un, Bin, Cmp, Add, Sub, Off, Diff, Pcmp, Test, Load, Loadp, Store, Storep, Copy, Clear, Jump, Zero, Case, Loop, Call, Malloc, Calloc, Realloc, Free, Lib, Printf, Enter, Leave, Return}
+use Rattle.core_tree.specs.declared.statements.StmKind.TheVariants.{Set, Conv, Un, Bin, Cmp, Add, Sub, Off, Diff, Pcmp, Test, Load, Loadp, Store, Storep, Copy, Clear, Zero, Case, Call, Malloc, Calloc, Realloc, Free, Lib, Printf, Return}
 use Rattle.core_tree.specs.Sorts.{Sort, Integer, Pointer, sort_of, register_sort, atom_sort, TakesAll, GivesResult, TakesCall, TakesFormat, IsTyped, HasRegister, piece_takes, lib_takes, lib_gives}
 use Rattle.core_tree.specs.Sound.{answer_sort}
 use Rattle.core_soundness.proofs.Formats.{format_is}

@@ -39,7 +39,6 @@ use Rattle.core_soundness.proofs.Agreement.{found_agrees}
 use Rattle.core_soundness.proofs.Growing.{Grew}
 use Rattle.core_soundness.proofs.Going.{Goes, goes_refl, goes_trans, goes_told}
 use Rattle.core_soundness.proofs.Sorting.{Sits, Lands, Comes, comes_lands, value_grew, stands_grew, held_grew, old_brings, Converting}
-use Rattle.core_soundness.proofs.Operating.{passed}
 use Rattle.core_soundness.proofs.Landing.{found_name, name_lands, constant_lands, string_lands, indexed_lands, dotted_lands, pointed_lands, InMemory, address_lands, applied_lands, left_goes, between_lands, cast_lands}
 use Rattle.core_soundness.proofs.Choosing.{logical_typed, and_then_goes, and_comes, or_else_gives, or_comes, choice_sides, first_goes, first_null, chosen_lands}
 use Rattle.core_soundness.proofs.Assigning.{record_lands, scalar_lands, changing_rule, changed_comes, stepped_comes}

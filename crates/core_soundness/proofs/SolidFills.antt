@@ -2,7 +2,7 @@
 use Rattle.std.proofs.Common.{◌≡◌, ◌≤◌, ◌+◌, not, ℕ, zero, suc, pos, Bool, true, false, cond, is_some, nat_lt, min, take, length, List, [], ◌∷◌, ◌++◌, slice_get, slice_set, Option, Some, None, unwrap_or, Ok, refl, subst, arith}
 use Rattle.hs_base.specs.Place.{block_size}
 use Rattle.c_types.specs.Types as types
-use Rattle.c_types.specs.Types.{PlainType, Void, Array, Struct, Union, Function}
+use Rattle.c_types.specs.Types.{PlainType, Array, Struct, Union, Function}
 use Rattle.c_types.specs.Layouts.{Known, no_layout}
 use Rattle.c_types.specs.TagTable.{TagTable, known, layout_in}
 use Rattle.core_tree.specs.declared.program.Start.{Start}
@@ -25,7 +25,7 @@ use Rattle.c_decls.specs.TypeNames.{Layer, ArrayOf, layered_before, tag_named}
 use Rattle.c_decls.specs.PlaceRules.{unconverted, converts}
 use Rattle.c_decls.specs.Expressions.{line_of, string}
 use Rattle.elaboration.specs.Context.{Context, Variable, asked, emit}
-use Rattle.elaboration.specs.Conversions.{Found, Spot, Local, Memory, Value, Empty, atom_in, valued, convert, write, size_or_zero}
+use Rattle.elaboration.specs.Conversions.{Found, Spot, Local, Memory, atom_in, valued, convert, write, size_or_zero}
 use Rattle.elaboration.specs.Reallocates.{opened, closed}
 use Rattle.elaboration.specs.Rules.{with_static, with_literal}
 use Rattle.elaboration.specs.Expressions.{found}

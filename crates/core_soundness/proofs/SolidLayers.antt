@@ -12,7 +12,7 @@ use Rattle.c_types.specs.Types as types
 use Rattle.c_types.specs.Types.{PlainType, PlainTypes, Void, Int, Pointer, Array, Struct, Union, Function, first}
 use Rattle.c_types.specs.Layouts.{Known, layout_of}
 use Rattle.c_types.specs.TagTable as tables
-use Rattle.c_types.specs.TagTable.{TagTable, CompletedTag, completion, refusal, known, layout_in, size_in}
+use Rattle.c_types.specs.TagTable.{TagTable, CompletedTag, completion, refusal, layout_in}
 use Rattle.core_tree.specs.LayoutsOfTypes.{HasLayout}
 use Rattle.core_tree.specs.declared.statements.Atom.TheVariants as atom
 use Rattle.c_tree.specs.declared.operator.RecordSort.{RecordSort}
@@ -28,13 +28,13 @@ use Rattle.c_decls.specs.ScopeList.{Table, named_in, innermost, first_or, with_n
 use Rattle.c_decls.specs.Refusals.{Checked, then, unless}
 use Rattle.c_decls.specs.Typed.{is_void, is_record, is_array, is_function, has_no_size}
 use Rattle.c_decls.specs.TypeNames as names
-use Rattle.c_decls.specs.TypeNames.{Layer, PointerTo, ArrayOf, FunctionOf, word_type, record_type, is_union, with_new_tag, special_type, array_length, with_layers, with_param_layers, adjusted}
+use Rattle.c_decls.specs.TypeNames.{Layer, PointerTo, ArrayOf, FunctionOf, word_type, record_type, is_union, special_type, array_length, with_layers, with_param_layers, adjusted}
 use Rattle.c_decls.specs.Expressions.{line_of, typed, wanted, constant_from}
 use Rattle.elaboration.specs.Context.{Context, asked, told, entered, local_register}
 use Rattle.elaboration.specs.Conversions.{Memory}
 use Rattle.elaboration.specs.Locals.{is_twice, declared_as, next_is_memory, with_register, with_memory, counted, with_named, memory_param, register_param, function_param, prototype_param, is_prototype, with_param}
 use Rattle.elaboration.specs.Declarators as d
-use Rattle.elaboration.specs.Declarators.{constant, with_type, maybe_name, unnamed, newly_named, begun_as, begun, completed_by, complete, ended, with_member, member, enumerator, enum_named, is_declared, param, left_params, specs, words_type, tag_type, members, member_names, enumerators, layers, suffix_layers, suffix_layer, params}
+use Rattle.elaboration.specs.Declarators.{constant, with_type, maybe_name, newly_named, begun_as, begun, completed_by, complete, ended, with_member, member, enumerator, enum_named, is_declared, param, left_params, specs, words_type, tag_type, members, member_names, enumerators, layers, suffix_layers, suffix_layer, params}
 use Rattle.core_soundness.specs.Whole.{Whole, AllWhole, MembersWhole, NamedWhole, TableWhole, TablesWhole}
 use Rattle.core_soundness.specs.Written.{HasParts, Written, AllWritten}
 use Rattle.core_soundness.proofs.Grown.{good, ok_same, never}

@@ -24,13 +24,12 @@ use Rattle.c_tree.specs.Scopes.{name_of}
 use Rattle.c_decls.specs.declared.refusal.TypeKind.TheVariants.{Operands, Assignment, StrayBreak, CaseTwice, LeftOut, DeclaredTwice, ProgramTooLong, Undeclared, NoMain}
 use Rattle.c_decls.specs.declared.built_in.BuiltIn.{BuiltIn}
 use Rattle.c_decls.specs.Named as n
-use Rattle.c_decls.specs.Named.{PlainNamed}
 use Rattle.c_decls.specs.ScopeList.{named_in}
 use Rattle.c_decls.specs.BuiltIns as names
 use Rattle.c_decls.specs.BuiltIns.{built_ins, numbered_from}
 use Rattle.c_decls.specs.Refusals.{Checked, refused, then, unless}
 use Rattle.c_decls.specs.IntegerTypes.{promoted}
-use Rattle.c_decls.specs.Typed.{Operand, Number, PointerTo, Neither, operand, is_void, is_scalar, is_function}
+use Rattle.c_decls.specs.Typed.{Operand, Number, operand, is_void, is_scalar, is_function}
 use Rattle.c_decls.specs.TypeNames.{with_layers}
 use Rattle.c_decls.specs.PlaceRules.{unconverted, converts}
 use Rattle.c_decls.specs.Expressions.{line_of}

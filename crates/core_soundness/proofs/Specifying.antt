@@ -1,40 +1,29 @@
 -- Specs and declarators make no objects at file scope, and leave what was made there.
-use Rattle.std.proofs.Common.{◌≡◌, ℕ, ℤ, pos, ◌+ℤ◌, Bool, true, false, ◌||◌, cond, List, [], ◌∷◌, ◌++◌, length, reverse, slice_get, unwrap_or, Option, Some, None, Result, Ok, Err, ◌≤◌, refl, sym, ◌∙◌, subst, arith}
-use Rattle.hs_base.specs.declared.ends.IntKind.TheVariants.{I32}
-use Rattle.hs_base.specs.Numbers.{wrapped}
+use Rattle.std.proofs.Common.{◌≡◌, ℕ, Bool, true, false, cond, List, [], length, slice_get, unwrap_or, Option, Some, None, Ok, ◌≤◌, refl, sym, ◌∙◌, subst, arith}
 use Rattle.c_types.specs.declared.types.IntType.TheVariants as i
-use Rattle.c_types.specs.declared.tags.TagError.{TagError}
-use Rattle.c_types.specs.Types as types
-use Rattle.c_types.specs.Types.{PlainType, PlainTypes, Int, Struct, Union, first}
-use Rattle.c_types.specs.TagTable.{TagTable, completion}
+use Rattle.c_types.specs.Types.{PlainType, Int}
 use Rattle.core_tree.specs.declared.statements.Atom.TheVariants as atom
 use Rattle.c_tree.specs.declared.operator.RecordSort.{RecordSort}
 use Rattle.c_tree.specs.declared.operator.RecordSort.TheVariants as r
-use Rattle.c_tree.specs.Words as w
-use Rattle.c_tree.specs.Forms as f
-use Rattle.c_tree.specs.Tree.{Tree, Trees, Leaf, At, Node, none, ◌▹◌}
-use Rattle.c_tree.specs.Scopes.{name_of}
-use Rattle.c_decls.specs.declared.refusal.TypeKind.TheVariants.{Operands, DeclaredTwice, Incomplete, LeftOut}
+use Rattle.c_tree.specs.Tree.{Tree, Trees}
+use Rattle.c_decls.specs.declared.refusal.TypeKind.TheVariants.{DeclaredTwice}
 use Rattle.c_decls.specs.Named as n
 use Rattle.c_decls.specs.Named.{PlainNamed}
-use Rattle.c_decls.specs.ScopeList.{named_in, innermost, with_name, tag_name, after_declaration}
-use Rattle.c_decls.specs.Refusals.{Checked, then}
-use Rattle.c_decls.specs.Typed.{is_void, is_record, is_function, has_no_size}
+use Rattle.c_decls.specs.ScopeList.{tag_name, after_declaration}
+use Rattle.c_decls.specs.Refusals.{Checked}
 use Rattle.c_decls.specs.TypeNames as names
-use Rattle.c_decls.specs.TypeNames.{Layer, PointerTo, ArrayOf, FunctionOf, word_type, record_type, is_union, with_new_tag, special_type, array_length, with_layers, with_param_layers, adjusted}
-use Rattle.c_decls.specs.Expressions.{line_of, typed, wanted, constant_from}
 use Rattle.elaboration.specs.Context.{Context, asked, told, entered, local_register}
 use Rattle.elaboration.specs.Conversions.{Memory}
 use Rattle.elaboration.specs.Locals.{is_twice, declared_as, next_is_memory, with_register, with_memory, with_named, memory_param, register_param, function_param, prototype_param, is_prototype, with_param}
 use Rattle.elaboration.specs.Declarators as d
-use Rattle.elaboration.specs.Declarators.{constant, with_type, maybe_name, unnamed, newly_named, begun_as, begun, completed_by, complete, ended, with_member, member, enumerator, enum_named, is_declared, param, left_params, specs, words_type, tag_type, members, member_names, enumerators, layers, suffix_layers, suffix_layer, params}
-use Rattle.core_soundness.proofs.Names.{More, with_tag_more}
+use Rattle.elaboration.specs.Declarators.{with_type, begun, member, param, left_params, specs, member_names, layers, suffix_layer}
+use Rattle.core_soundness.proofs.Names.{More}
 use Rattle.core_soundness.proofs.Growth.{Grows, grows_told}
 use Rattle.core_soundness.proofs.Owners.{more_depth, with_name_depth}
 use Rattle.core_soundness.proofs.ShortNames.{Any, any_name, any_names, all_any}
 use Rattle.core_soundness.proofs.LayersWalk.{Steps, begun_keeps, member_keeps, param_keeps, specs_keep, names_keep, layers_keep, suffix_keeps}
-use Rattle.core_soundness.proofs.Reached.{Reached, reached_ok, reached_refused, reached_after, reached_then, reached_unless, Led, led_ok, led_refused, led_after, led_unless}
-use Rattle.core_soundness.proofs.TypedNames.{After, typed_after, wanted_after, special_after}
+use Rattle.core_soundness.proofs.Reached.{Reached, reached_ok, reached_after, Led, led_ok, led_unless}
+use Rattle.core_soundness.proofs.TypedNames.{After}
 use Rattle.core_soundness.proofs.Working.{grows_write}
 use Rattle.core_soundness.proofs.Declaring.{after_depth, tail_depth}
 use Rattle.core_soundness.proofs.Settled.{ObjectsStay, Settled, settled_refl, settled_trans, grows_settled, IsNoObject, with_name_objects, inner_objects, declared_objects}

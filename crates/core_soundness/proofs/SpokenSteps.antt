@@ -1,5 +1,5 @@
 -- Behind an expression that elaboration has gone through, `&` stood before no name that stands for a register.
-use Rattle.std.proofs.Common.{◌≡◌, ◌||◌, ℕ, Bool, true, false, not, is_some, nat_eq, List, [], ◌∷◌, Option, Some, None, Ok, refl, sym, ap, ◌∙◌, subst}
+use Rattle.std.proofs.Common.{◌≡◌, ◌||◌, ℕ, Bool, true, false, not, List, [], ◌∷◌, Option, Some, None, Ok, refl, sym, ap, ◌∙◌, subst}
 use Rattle.std.proofs.lemmas.Bool.{eq-eqb}
 use Rattle.c_types.specs.declared.types.IntType.{IntType}
 use Rattle.c_types.specs.Types.{PlainType, Void}
@@ -13,7 +13,7 @@ use Rattle.c_tree.specs.Grammar.{shape}
 use Rattle.c_tree.specs.Scopes.{is_scope, places}
 use Rattle.c_decls.specs.declared.refusal.TypeKind.TheVariants.{Assignment, Operands}
 use Rattle.c_decls.specs.ScopeList.{ScopeList, found}
-use Rattle.c_decls.specs.Refusals.{Checked, then, unless}
+use Rattle.c_decls.specs.Refusals.{unless}
 use Rattle.c_decls.specs.Typed.{operand, is_scalar, is_void}
 use Rattle.c_decls.specs.PlaceRules.{converts}
 use Rattle.c_decls.specs.Expressions.{line_of}
@@ -31,7 +31,7 @@ use Rattle.core_soundness.specs.Written.{Written, AllWritten}
 use Rattle.core_soundness.proofs.Grown.{good}
 use Rattle.core_soundness.proofs.Agreeing.{came}
 use Rattle.core_soundness.proofs.Adding.{Has, Inside, left_adds, part_adds, all_taken_adds}
-use Rattle.core_soundness.proofs.Formed.{AtMostOne, Shaped, Formed, AllFormed}
+use Rattle.core_soundness.proofs.Formed.{Shaped, Formed, AllFormed}
 use Rattle.core_soundness.proofs.InStep.{among, Numbered, Follows}
 use Rattle.core_soundness.proofs.Still.{Held, Still, AllStill, SameNames, Calm, still_names, all_still_names, part_names}
 use Rattle.core_soundness.proofs.Calm.{found_calm}

@@ -31,7 +31,7 @@ use Rattle.core_soundness.proofs.Names.{all_refl, all_trans}
 use Rattle.core_soundness.proofs.Agreeing.{came}
 use Rattle.core_soundness.proofs.Growing.{Grew, grew_refl, grew_trans, holds_grew, pieces_grew, pieces_joined}
 use Rattle.core_soundness.proofs.Going.{Goes, goes_refl, goes_trans, goes_emit, goes_here, goes_labels}
-use Rattle.core_soundness.proofs.Sorting.{Comes, HasValue, converted, integer_converted, tested_value_gives}
+use Rattle.core_soundness.proofs.Sorting.{converted, integer_converted, tested_value_gives}
 use Rattle.core_soundness.proofs.Operating.{passed, kept_test, behind_test, unbarred}
 use Rattle.core_soundness.proofs.Landing.{not_false}
 use Rattle.core_soundness.proofs.Assigning.{converting_of}

@@ -1,39 +1,38 @@
 -- Expressions go in step (C99 6.5, 6.8.3).
-use Rattle.std.proofs.Common.{◌≡◌, ◌-◌, ℕ, zero, suc, not, List, Option, Some, None, Ok, refl, sym, ap, ◌∙◌, subst}
+use Rattle.std.proofs.Common.{◌≡◌, ℕ, zero, suc, not, Option, Some, None, Ok, refl, subst}
 use Rattle.c_types.specs.declared.types.IntType.{IntType}
-use Rattle.c_types.specs.Types.{PlainType, Void}
+use Rattle.c_types.specs.Types.{PlainType}
 use Rattle.core_tree.specs.declared.statements.Atom.{Atom}
 use Rattle.core_tree.specs.declared.statements.StmKind.TheVariants.{Leave, Return}
 use Rattle.c_tree.specs.Forms as f
-use Rattle.c_tree.specs.Tree.{Tree, Trees, Leaf, At, Node, none, ◌▹◌, count}
+use Rattle.c_tree.specs.Tree.{Tree, Trees, Node, none, ◌▹◌}
 use Rattle.c_tree.specs.Grammar.{shape}
 use Rattle.c_tree.specs.Scopes.{is_scope}
 use Rattle.c_decls.specs.declared.constant.Constant.{Constant}
 use Rattle.c_decls.specs.declared.refusal.TypeKind.TheVariants.{Assignment}
-use Rattle.c_decls.specs.Refusals.{Checked, then, unless}
+use Rattle.c_decls.specs.Refusals.{then, unless}
 use Rattle.c_decls.specs.Typed.{is_void}
 use Rattle.c_decls.specs.PlaceRules.{converts, unconverted}
 use Rattle.c_decls.specs.Expressions.{line_of, typed, wanted, constant_from}
 use Rattle.elaboration.specs.Context.{Context, asked, told, emit}
 use Rattle.elaboration.specs.Conversions.{atom_in, valued, convert}
-use Rattle.elaboration.specs.Conversions as conversions
 use Rattle.elaboration.specs.Reallocates.{opened, closed}
 use Rattle.elaboration.specs.Addressed.{Taken, left, taken, all_taken}
 use Rattle.elaboration.specs.Expressions as expressions
 use Rattle.elaboration.specs.Declarators.{constant}
-use Rattle.elaboration.specs.Statements.{evaluated, maybe_evaluated, condition, leaves_if_zero, maybe_leaves, leaves, returned, return_value, return_of, return_from, switch_operand}
+use Rattle.elaboration.specs.Statements.{evaluated, maybe_evaluated, leaves_if_zero, maybe_leaves, leaves, returned, return_value, return_of, return_from, switch_operand}
 use Rattle.core_soundness.proofs.Grown.{good, ok_same}
 use Rattle.core_soundness.proofs.Growth.{Grows, grows_refl}
 use Rattle.core_soundness.proofs.Agreeing.{came}
-use Rattle.core_soundness.proofs.Operating.{passed, behind_test, unbarred}
+use Rattle.core_soundness.proofs.Operating.{behind_test, unbarred}
 use Rattle.core_soundness.proofs.Working.{grown_valued, grows_convert}
 use Rattle.core_soundness.proofs.ExprGrows.{found_grows}
 use Rattle.core_soundness.proofs.Formed.{Shaped, Formed, AllFormed}
-use Rattle.core_soundness.proofs.InStep.{Keeps, Same, Follows, InStep}
+use Rattle.core_soundness.proofs.InStep.{Keeps, InStep}
 use Rattle.core_soundness.proofs.Still.{Calm, calm_same}
-use Rattle.core_soundness.proofs.Calm.{shows_first, typed_calm, found_calm}
-use Rattle.core_soundness.proofs.SpokenSteps.{evaluated_calm, condition_calm, leaves_calm, operand_calm, returned_calm}
-use Rattle.core_soundness.proofs.Keeping.{keeps_refl, keeps_trans, grows_keeps, emit_keeps, opened_keeps, closed_keeps, found_keeps, full_keeps, evaluated_keeps, condition_keeps, leaves_keeps, operand_keeps, constant_keeps, keeps_step}
+use Rattle.core_soundness.proofs.Calm.{shows_first, typed_calm}
+use Rattle.core_soundness.proofs.SpokenSteps.{evaluated_calm, leaves_calm, operand_calm, returned_calm}
+use Rattle.core_soundness.proofs.Keeping.{keeps_refl, keeps_trans, grows_keeps, emit_keeps, opened_keeps, closed_keeps, evaluated_keeps, leaves_keeps, operand_keeps, constant_keeps, keeps_step}
 
 pub calm_step : (e : Tree) (t : Taken) (c d : Context) → Calm e → Keeps c d → InStep t c → InStep (taken e t) d
 calm_step e t c d x k h = keeps_step t (taken e t) c d (calm_same e t x) k h

@@ -1,7 +1,6 @@
 -- Initializers declare nothing, and go in step (C99 6.7.8).
-use Rattle.std.proofs.Common.{◌≡◌, ◌+◌, ℕ, pos, Bool, true, false, not, cond, length, min, take, List, [], ◌∷◌, Option, Some, None, Ok, refl, ◌∙◌, subst}
+use Rattle.std.proofs.Common.{◌≡◌, ◌+◌, ℕ, pos, Bool, true, false, not, cond, length, min, take, List, [], ◌∷◌, Option, Some, None, Ok, refl, subst}
 use Rattle.c_types.specs.Types.{PlainType, Array, Struct, Union}
-use Rattle.core_tree.specs.declared.program.Start.{Start}
 use Rattle.core_tree.specs.declared.statements.Atom.{Atom}
 use Rattle.core_tree.specs.declared.statements.Atom.TheVariants as atom
 use Rattle.core_tree.specs.declared.statements.StmKind.TheVariants.{Off, Copy, Clear, Set}
@@ -9,12 +8,12 @@ use Rattle.c_tree.specs.Forms as f
 use Rattle.c_tree.specs.Places as p
 use Rattle.c_tree.specs.Tree.{Tree, Trees, At, Node, none, ◌▹◌, count}
 use Rattle.c_tree.specs.Grammar.{shape}
-use Rattle.c_decls.specs.declared.refusal.TypeKind.TheVariants.{Assignment, NotConstant, Operands}
+use Rattle.c_decls.specs.declared.refusal.TypeKind.TheVariants.{Assignment, NotConstant}
 use Rattle.c_decls.specs.Refusals.{refused, then, unless}
 use Rattle.c_decls.specs.PlaceRules.{converts, unconverted}
 use Rattle.c_decls.specs.Expressions.{line_of, string}
 use Rattle.elaboration.specs.Context.{Context, emit}
-use Rattle.elaboration.specs.Conversions.{Found, Spot, Local, Memory, Value, Empty, code_line, atom_in, valued, convert, write, size_or_zero}
+use Rattle.elaboration.specs.Conversions.{Found, Spot, Local, Memory, atom_in, valued, convert, write, size_or_zero}
 use Rattle.elaboration.specs.Reallocates.{opened, closed}
 use Rattle.elaboration.specs.Rules.{with_literal}
 use Rattle.elaboration.specs.Expressions.{found}
@@ -25,7 +24,7 @@ use Rattle.elaboration.specs.Declarations.{zero_of, cleared, fill_memory, fill_r
 use Rattle.core_soundness.specs.Spoken.{Spoken, AllSpoken}
 use Rattle.core_soundness.specs.Written.{Written}
 use Rattle.core_soundness.proofs.Grown.{good, ok_same, never}
-use Rattle.core_soundness.proofs.Growth.{Grows, grows_refl, grows_emit, grows_pointer}
+use Rattle.core_soundness.proofs.Growth.{Grows, grows_refl, grows_pointer}
 use Rattle.core_soundness.proofs.Reached.{Reached, reached_ok, reached_refused, reached_after, reached_unless, reached_barred}
 use Rattle.core_soundness.proofs.Agreeing.{came}
 use Rattle.core_soundness.proofs.Working.{grown_valued, grows_convert, grows_write}

@@ -1,5 +1,5 @@
 -- Specs, tags with braces and declarators go in step (C99 6.7.2, 6.7.5).
-use Rattle.std.proofs.Common.{◌≡◌, ◌||◌, ℕ, zero, suc, ℤ, pos, ◌+ℤ◌, Bool, true, false, is_some, length, reverse, List, [], ◌∷◌, ◌++◌, Option, Some, None, Result, Ok, Err, refl, sym, ap, ◌∙◌, subst}
+use Rattle.std.proofs.Common.{◌≡◌, ◌||◌, ℕ, suc, ℤ, pos, ◌+ℤ◌, false, is_some, length, reverse, List, [], ◌∷◌, ◌++◌, Option, Some, None, Result, Ok, Err, refl, sym, ap, ◌∙◌, subst}
 use Rattle.hs_base.specs.declared.ends.IntKind.TheVariants.{I32}
 use Rattle.hs_base.specs.Numbers.{wrapped}
 use Rattle.c_types.specs.declared.types.IntType.TheVariants as i
@@ -18,8 +18,7 @@ use Rattle.c_decls.specs.declared.constant.Constant.{Constant}
 use Rattle.c_decls.specs.declared.refusal.TypeKind.TheVariants.{DeclaredTwice, Incomplete, LeftOut}
 use Rattle.c_decls.specs.Named as n
 use Rattle.c_decls.specs.Named.{PlainNamed}
-use Rattle.c_decls.specs.ScopeList as scopes
-use Rattle.c_decls.specs.ScopeList.{named_in, innermost, first_or, with_name, tag_name}
+use Rattle.c_decls.specs.ScopeList.{named_in, innermost, with_name, tag_name}
 use Rattle.c_decls.specs.Refusals.{Checked, then, unless}
 use Rattle.c_decls.specs.Typed.{is_void, is_record, is_function, has_no_size}
 use Rattle.c_decls.specs.TypeNames as names
@@ -28,12 +27,12 @@ use Rattle.c_decls.specs.Expressions.{line_of, typed, wanted}
 use Rattle.elaboration.specs.Context.{Context, asked, told, entered}
 use Rattle.elaboration.specs.Context as context
 use Rattle.elaboration.specs.Declarators as d
-use Rattle.elaboration.specs.Declarators.{constant, with_type, maybe_name, unnamed, newly_named, begun_as, begun, completed_by, complete, ended, with_member, member, enumerator, enum_named, is_declared, param, left_params, specs, words_type, tag_type, members, member_names, enumerators, layers, suffix_layers, suffix_layer, params}
+use Rattle.elaboration.specs.Declarators.{constant, with_type, maybe_name, begun_as, begun, completed_by, complete, ended, with_member, member, enumerator, enum_named, is_declared, param, left_params, specs, words_type, tag_type, members, member_names, enumerators, layers, suffix_layers, suffix_layer, params}
 use Rattle.elaboration.specs.Locals.{declared_as, with_param}
 use Rattle.elaboration.specs.Addressed as walk
 use Rattle.elaboration.specs.Addressed.{Taken, left_scope, left, taken, all_taken}
 use Rattle.core_soundness.proofs.Names.{More, more_refl, with_tag_more}
-use Rattle.core_soundness.proofs.Grown.{good, bad, ok_same, never}
+use Rattle.core_soundness.proofs.Grown.{good, ok_same, never}
 use Rattle.core_soundness.proofs.Agreeing.{came}
 use Rattle.core_soundness.proofs.Operating.{passed, kept_test, behind_test}
 use Rattle.core_soundness.proofs.TypedNames.{typed_after, wanted_after, special_after}
@@ -45,7 +44,7 @@ use Rattle.core_soundness.proofs.Calm.{shows_first, typed_calm, special_still}
 use Rattle.core_soundness.proofs.Keeping.{keeps_refl, told_keeps, constant_keeps, keeps_stepped, stepped_refl, stepped_trans, stepped_names, stepped_scope}
 use Rattle.core_soundness.proofs.StepsExpressions.{constant_calm}
 use Rattle.core_soundness.proofs.StepsNames.{with_one, IsNew, plain_stepped, param_stepped}
-use Rattle.core_soundness.proofs.Each.{no_nodes_each, suffixes_taken, specs_taken, pointer_taken, direct_taken, parens_taken, array_taken, open_array_taken, function_taken, member_taken, enumerator_taken, valued_enumerator_taken, record_taken, enum_taken, specs_unnamed, param_taken}
+use Rattle.core_soundness.proofs.Each.{no_nodes_each, specs_taken, pointer_taken, direct_taken, parens_taken, array_taken, open_array_taken, function_taken, member_taken, enumerator_taken, valued_enumerator_taken, record_taken, enum_taken, specs_unnamed, param_taken}
 
 -- what declares nothing
 kept_stepped : (t : Taken) (c d : Context) → Keeps c d → Follows t c → Stepped t c t d

@@ -9,16 +9,15 @@ use Rattle.c_decls.specs.Named as n
 use Rattle.c_decls.specs.Named.{PlainNamed}
 use Rattle.c_decls.specs.ScopeList as scopes
 use Rattle.c_decls.specs.ScopeList.{ScopeList, Table, named_in, found_from, found, innermost, first_or, with_name, with_name_in, after_declaration}
-use Rattle.c_decls.specs.Refusals.{unless}
 use Rattle.c_decls.specs.Typed.{is_scalar}
 use Rattle.elaboration.specs.Context.{Context, local_register}
 use Rattle.elaboration.specs.Conversions.{Memory, write}
 use Rattle.elaboration.specs.Locals.{is_same_again, is_file, is_twice_in, is_twice, declared_as, next_is_memory, with_register, with_memory, counted, with_named, memory_param, register_param, function_param, prototype_param, is_prototype, with_param, local_in, with_local}
 use Rattle.elaboration.specs.Addressed as walk
-use Rattle.elaboration.specs.Addressed.{Taken, Known, number_of, with_known}
+use Rattle.elaboration.specs.Addressed.{Taken, number_of}
 use Rattle.core_soundness.specs.Spoken.{is_register}
 use Rattle.core_soundness.proofs.Names.{named_push}
-use Rattle.core_soundness.proofs.Grown.{good, ok_same}
+use Rattle.core_soundness.proofs.Grown.{good}
 use Rattle.core_soundness.proofs.Working.{grows_write}
 use Rattle.core_soundness.proofs.Operating.{passed, kept_test}
 use Rattle.core_soundness.proofs.InStep.{among, drops, HasScope, Numbered, Fewer, Keeps, Follows, Stepped}

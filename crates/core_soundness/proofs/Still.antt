@@ -1,5 +1,5 @@
 -- Trees that declare nothing: behind them the walk over addresses knows the same names.
-use Rattle.std.proofs.Common.{◌≡◌, ℕ, zero, suc, Bool, true, false, List, [], ◌∷◌, ◌++◌, replicate, Option, Some, None, refl, sym, ap, ◌∙◌, subst}
+use Rattle.std.proofs.Common.{◌≡◌, ℕ, zero, suc, Bool, true, false, List, [], ◌∷◌, ◌++◌, replicate, Option, Some, None, refl, ◌∙◌}
 use Rattle.c_tree.specs.declared.operator.UnaryOp.TheVariants as u
 use Rattle.c_tree.specs.declared.word.Keyword.TheVariants as k
 use Rattle.c_tree.specs.Forms.{Form}
@@ -7,9 +7,9 @@ use Rattle.c_tree.specs.Forms as f
 use Rattle.c_tree.specs.Places.{Place}
 use Rattle.c_tree.specs.Places as p
 use Rattle.c_tree.specs.Tree.{Tree, Trees, Leaf, At, Node, none, ◌▹◌, count}
-use Rattle.c_tree.specs.Grammar.{Item, Part, key, shape, rows, some, commas, behind_commas, some_commas, here_rows}
+use Rattle.c_tree.specs.Grammar.{Part, key, shape, rows, some, commas, behind_commas, some_commas, here_rows}
 use Rattle.c_tree.specs.Scopes.{is_scope, places}
-use Rattle.elaboration.specs.Addressed.{Taken, number_of, plain_name, with_number, with_address, left_scope, left, left_part, taken, all_taken}
+use Rattle.elaboration.specs.Addressed.{Taken, number_of, plain_name, with_number, with_address, left, left_part, taken, all_taken}
 use Rattle.core_soundness.proofs.Formed.{NoNodes}
 use Rattle.core_soundness.proofs.InStep.{Same}
 

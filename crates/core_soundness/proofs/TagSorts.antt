@@ -1,14 +1,14 @@
 -- Types name tags of the sort that these were made of (C99 6.7.2.3).
-use Rattle.std.proofs.Common.{◌≡◌, ℕ, Bool, true, false, cond, is_some, List, [], ◌∷◌, ◌++◌, length, slice_get, Option, Some, None, refl, ◌∙◌, subst, ⊎_elim}
+use Rattle.std.proofs.Common.{◌≡◌, ℕ, true, false, List, [], ◌∷◌, ◌++◌, length, slice_get, Option, Some, None, refl, ◌∙◌, subst, ⊎_elim}
 use Rattle.std.specs.Option.{option_or}
 use Rattle.c_types.specs.declared.tags.TagInfo.{TagInfo}
-use Rattle.c_types.specs.Types.{PlainType, Void, Int, Pointer, Array, Struct, Union, Function}
+use Rattle.c_types.specs.Types.{PlainType, Array, Struct, Union}
 use Rattle.c_tree.specs.declared.operator.RecordSort.{RecordSort}
 use Rattle.c_tree.specs.declared.operator.RecordSort.TheVariants as r
 use Rattle.c_decls.specs.Named as n
 use Rattle.c_decls.specs.Named.{PlainNamed}
 use Rattle.c_decls.specs.ScopeList as scopes
-use Rattle.c_decls.specs.ScopeList.{ScopeList, Table, named_in, found_from, found, innermost, with_name, with_name_in, after_declaration, first_or}
+use Rattle.c_decls.specs.ScopeList.{ScopeList, Table, named_in, found_from, found, innermost, with_name, with_name_in, first_or}
 use Rattle.c_decls.specs.TypeNames.{record_type, is_union}
 use Rattle.core_soundness.proofs.Owners.{get_left, get_last, Pushed, push_get}
 use Rattle.core_soundness.proofs.Growth.{Longer}

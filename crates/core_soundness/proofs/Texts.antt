@@ -1,5 +1,5 @@
 -- What the external declarations of a text do to what is known.
-use Rattle.std.proofs.Common.{◌≡◌, ◌⊎◌, ◌≤◌, ◌+◌, ℕ, zero, suc, Bool, true, false, not, cond, is_some, length, List, [], ◌∷◌, ◌++◌, sum_by, Option, Some, None, slice_get, slice_set, bytes_eq, Ok, codes, refl, sym, ap, ◌∙◌, subst, arith, ⊎_elim, ltb-false, true≢false}
+use Rattle.std.proofs.Common.{◌≡◌, ◌⊎◌, ◌≤◌, ◌+◌, ℕ, Bool, true, false, not, cond, is_some, length, List, [], ◌∷◌, ◌++◌, sum_by, Option, Some, None, slice_get, slice_set, bytes_eq, Ok, codes, refl, sym, ap, ◌∙◌, subst, arith, ⊎_elim, ltb-false, true≢false}
 use Rattle.std.specs.Prelude.{nat_lt}
 use Rattle.std.proofs.lemmas.List.Sums.{sum_by-append}
 use Rattle.c_types.specs.Types.{PlainType}

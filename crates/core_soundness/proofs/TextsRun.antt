@@ -9,7 +9,7 @@ use Rattle.core_tree.specs.declared.statements.StmKind.TheVariants.{Return}
 use Rattle.core_tree.specs.Sorts.{Sort, sort_of}
 use Rattle.c_tree.specs.Forms as f
 use Rattle.c_tree.specs.Tree as t
-use Rattle.c_tree.specs.Tree.{Tree, Trees, Leaf, At, Node, ◌▹◌}
+use Rattle.c_tree.specs.Tree.{Tree, Trees, At, Node, ◌▹◌}
 use Rattle.c_tree.specs.Scopes.{name_of, params_of}
 use Rattle.c_decls.specs.declared.refusal.TypeKind.TheVariants.{DeclaredTwice, ProgramTooLong}
 use Rattle.c_decls.specs.Named as n
@@ -22,7 +22,7 @@ use Rattle.c_decls.specs.Typed.{same, is_array, is_record, is_function}
 use Rattle.c_decls.specs.TypeNames.{Layer, FunctionOf, with_layers}
 use Rattle.c_decls.specs.PlaceRules.{length_of}
 use Rattle.c_decls.proofs.SameTypes.{same_equal}
-use Rattle.elaboration.specs.Context.{Piece, Does, running_at, no_code, Declared, Context, Walked, entered, emit, first_context}
+use Rattle.elaboration.specs.Context.{no_code, Declared, Context, Walked, entered, emit, first_context}
 use Rattle.elaboration.specs.Locals.{is_twice_in}
 use Rattle.elaboration.specs.Declarators.{specs, layers, suffix_layers, suffix_layer, params, left_params}
 use Rattle.elaboration.specs.Declarations.{function_number, function_number_of, with_function, declared_function, declaration}

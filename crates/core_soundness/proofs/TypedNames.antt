@@ -1,7 +1,7 @@
 -- The types of expressions declare tags alone.
 use Rattle.std.proofs.Common.{ℕ, zero, length, List, [], ◌∷◌, ◌++◌, reverse, Option, Some, None, Ok, subst}
 use Rattle.c_types.specs.Types as ct
-use Rattle.c_types.specs.Types.{PlainType, PlainTypes, first}
+use Rattle.c_types.specs.Types.{PlainType, first}
 use Rattle.c_types.specs.TagTable.{TagTable}
 use Rattle.c_tree.specs.declared.operator.RecordSort.{RecordSort}
 use Rattle.c_tree.specs.declared.operator.RecordSort.TheVariants as r

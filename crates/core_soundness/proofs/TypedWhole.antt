@@ -32,7 +32,7 @@ use Rattle.c_decls.specs.Refusals.{Checked, refused, then, unless}
 use Rattle.c_decls.specs.Named as n
 use Rattle.c_decls.specs.Named.{PlainNamed}
 use Rattle.c_decls.specs.ScopeList as scopes
-use Rattle.c_decls.specs.ScopeList.{ScopeList, Table, found, found_from, with_name, tag_name, named_in, innermost}
+use Rattle.c_decls.specs.ScopeList.{ScopeList, Table, found, found_from, with_name, tag_name, named_in}
 use Rattle.c_decls.specs.BuiltIns.{built_ins, constant_of}
 use Rattle.c_decls.specs.Typed.{PlainTyped, Operand, Number, PointerTo, Neither, operand, place, value, int, constant, held, read, same, is_void, is_function, is_record, is_null_constant, has_no_size, has_no_value, wanted_value}
 use Rattle.c_decls.specs.TypeRules.{immovable, moving, beside_pointer, sum_types, difference_types, order_types, equal_types, integer_types, logical, binary, unary_of, unary_on_pointer, unary, address}

@@ -15,7 +15,6 @@ use Rattle.core_tree.specs.Sorts.{Sort, sort_of, register_sort, GivesResult, Tak
 use Rattle.core_tree.specs.Sound.{EachFunc, EachReturn, answer_sort, GivesAnswer}
 use Rattle.c_tree.specs.Tree.{Trees}
 use Rattle.c_decls.specs.Named as n
-use Rattle.c_decls.specs.Named.{PlainNamed}
 use Rattle.c_decls.specs.ScopeList.{named_in}
 use Rattle.c_decls.specs.declared.refusal.TypeKind.TheVariants.{Undeclared, NoMain}
 use Rattle.c_decls.specs.Refusals.{unless}

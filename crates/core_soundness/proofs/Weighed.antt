@@ -37,7 +37,8 @@ unfolding Spells
 spelled_told [] tokens rest h = omega arith
 spelled_told (Said word ∷ pieces) (token ∷ tokens) rest h = omega (arith, spelled_told pieces tokens rest h.1)
 spelled_told (Line line ∷ pieces) (token ∷ tokens) rest h = spelled_told pieces (token ∷ tokens) rest h.1
-spelled_told other [] rest h = absurd h
+spelled_told (Said word ∷ pieces) [] rest h = absurd h
+spelled_told (Line line ∷ pieces) [] rest h = absurd h
 
 filled_told : (items : List Item) (parts : Trees) (scope : Scope) → AllAllowed parts (places items) scope → said items + 6 * told_all (spell_all parts) ≤ 6 * told (filled items (spell_all parts))
 unfolding AllAllowed spell_all
@@ -89,7 +90,8 @@ spelled_fit [] tokens rest l h = tt
 spelled_fit (Said word ∷ pieces) (token ∷ tokens) rest l h =
     (word_fits word token (l 0 token (omega arith)) h.0, spelled_fit pieces tokens rest (All-tail IsSmall token tokens l) h.1)
 spelled_fit (Line line ∷ pieces) (token ∷ tokens) rest l h = (tt, spelled_fit pieces (token ∷ tokens) rest l h.1)
-spelled_fit other [] rest l h = absurd h
+spelled_fit (Said word ∷ pieces) [] rest l h = absurd h
+spelled_fit (Line line ∷ pieces) [] rest l h = absurd h
 
 parts_fit : (one other : List Piece) → AllFit (one ++ other) → AllFit one × AllFit other
 parts_fit [] other h = (tt, h)

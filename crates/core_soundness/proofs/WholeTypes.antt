@@ -6,7 +6,7 @@ use Rattle.std.proofs.lemmas.List.Sums.{fold_push}
 use Rattle.c_types.specs.declared.layouts.Layout.{Layout}
 use Rattle.c_types.specs.declared.types.IntType.{IntType}
 use Rattle.c_types.specs.declared.types.IntType.TheVariants as i
-use Rattle.c_types.specs.Types.{PlainType, PlainTypes, Void, Int, Pointer, Array, Struct, Union, Function, none, first, width_of}
+use Rattle.c_types.specs.Types.{PlainType, PlainTypes, Int, Pointer, Array, Struct, Union, Function, none, first, width_of}
 use Rattle.c_types.specs.Layouts.{Known, ArraysFit, Placed, none_placed, place, placed, layout_of, number_layout, pointer_layout, no_layout, members_layout}
 use Rattle.c_types.specs.TagTable.{CompletedTag, TagTable, PlainMember, learn, known, tag_layout, member_layout, placed_members, members_in}
 use Rattle.c_types.proofs.MemberLemmas.{Extends, some_array, layout_stays}

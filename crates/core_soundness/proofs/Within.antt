@@ -1,10 +1,10 @@
 -- What initializers are for lies inside an object.
-use Rattle.std.proofs.Common.{◌≡◌, ◌≤◌, ◌<◌, ◌+◌, ◌*◌, ◌==◌, ℕ, pos, zero, suc, Bool, true, false, cond, max, take, List, [], ◌∷◌, ◌++◌, map, fold, zip, Option, Some, None, option_map, unwrap_or, refl, sym, ap, ◌∙◌, subst, arith, append_assoc}
+use Rattle.std.proofs.Common.{◌≡◌, ◌≤◌, ◌+◌, ◌*◌, ◌==◌, ℕ, pos, zero, suc, Bool, true, false, cond, take, List, [], ◌∷◌, ◌++◌, map, fold, zip, Option, Some, None, option_map, unwrap_or, refl, sym, ap, ◌∙◌, subst, arith, append_assoc}
 use Rattle.std.specs.Option.{option_or}
 use Rattle.std.specs.List.{find}
 use Rattle.std.proofs.lemmas.Bool.{eqb-true}
 use Rattle.c_types.specs.declared.layouts.Layout.{Layout}
-use Rattle.c_types.specs.Types.{PlainType, Void, Int, Pointer, Array, Struct, Union, Function}
+use Rattle.c_types.specs.Types.{PlainType, Array, Struct, Union}
 use Rattle.c_types.specs.Layouts.{Known, Placed, none_placed, offset_after, place, placed, layout_of, no_layout}
 use Rattle.c_types.specs.TagTable.{CompletedTag, PlainMember, learn, tag_layout, member_layout, placed_members, members_in}
 use Rattle.c_types.proofs.MemberLemmas.{Extends, layout_stays, some_array}
