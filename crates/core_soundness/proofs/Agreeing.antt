@@ -39,9 +39,9 @@ pub record Came {A B : Type 0} (r : Checked A) (next : A → Checked B) (y : B) 
   pub is : r ≡ Ok value
   pub last : next value ≡ Ok y
 
-pub came : {A B : Type 0} (r : Checked A) (next : A → Checked B) (y : B) → then r next ≡ Ok y → Came r next y
-came (Ok x) next y h = record { value = x; is = refl; last = h }
-came (Err x) next y h = never (Came (bad x) next y) x y h
+pub came : {A B : Type 0} (r : Checked A) {next : A → Checked B} {y : B} → then r next ≡ Ok y → Came r next y
+came (Ok x) {next} {y} h = record { value = x; is = refl; last = h }
+came (Err x) {next} {y} h = never (Came (bad x) next y) x y h
 
 -- a rule that was kept, and what is known behind it
 pub record Ruled (r : Checked PlainTyped) (known : names.Context) (z : Context × Found) : Type 0 where
@@ -120,8 +120,8 @@ cast_agrees type tree answer x z h e = by (is_void type) e
 
 pub changing_agrees : (tree : Tree) (answer : With Found) (x : types.Found) (z : Context × Found) → ((d : Context × Found) → answer ≡ Ok d → Agreed x d) → changing tree answer ≡ Ok z → Agreed (types.changing tree x) z
 changing_agrees tree answer x z h e =
-    let d = came answer (λ d. then (held_place (line_of tree) d.0.tags d.1.typed) (λ held. Ok d)) z e in
-    let k = came (held_place (line_of tree) d.value.0.tags d.value.1.typed) (λ held. good d.value) z d.last in
+    let d = came answer e in
+    let k = came (held_place (line_of tree) d.value.0.tags d.value.1.typed) d.last in
     let same : d.value ≡ z = ok_same d.value z k.last in
     let held : k.value ≡ d.value.1.typed = held_same (wanted_value (line_of tree) d.value.0.tags d.value.1.typed) d.value.1.typed k.value k.is in
     subst (Agreed (types.changing tree x)) same (changing_is tree x (asked d.value.0) d.value.1.typed d.value.1.typed (h d.value d.is) (k.is ∙ ap (λ (t : PlainTyped). good t) held))
@@ -156,15 +156,15 @@ ok_agrees c e z h = subst (Agreed (Ok (asked c, e.typed))) (ok_same (c, e) z h) 
 
 pub string_agrees : (line : ℕ) (bytes : List ℕ) (c : Context) (z : Context × Found) → literal_answer line bytes c ≡ Ok z → Agreed (answered (asked c) (string line bytes)) z
 string_agrees line bytes c z h =
-    let e = came (string line bytes) (λ e. then (with_literal line bytes c) (λ d. good (literal_found e d))) z h in
-    let d = came (with_literal line bytes c) (λ d. good (literal_found e.value d)) z e.last in
+    let e = came (string line bytes) h in
+    let d = came (with_literal line bytes c) e.last in
     let same : literal_found e.value d.value ≡ z = ok_same (literal_found e.value d.value) z d.last in
     subst (Agreed (answered (asked c) (string line bytes))) same
     (finish (answered (asked c) (string line bytes)) (asked c) (literal_found e.value d.value) (answered_is (asked c) (string line bytes) e.value e.is) (quiet_literal line bytes c d.value d.is))
 
 pub unevaluated_agrees : (x : types.Found) (c : Context) (z : Context × Found) → unevaluated c x ≡ Ok z → Agreed x z
 unevaluated_agrees x c z h =
-    let d = came x (λ d. good (told d.0 c, constant_found d.1)) z h in
+    let d = came x h in
     subst (Agreed x) (ok_same (told d.value.0 c, constant_found d.value.1) z d.last) d.is
 
 -- rules
@@ -202,7 +202,7 @@ apply_of line other tree t c e (PointerTo target) is h = never _ _ t h
 
 pub applied_rule : (line : ℕ) (op : UnaryOp) (tree : Tree) (c : Context) (e : Found) (z : Context × Found) → applied line op tree c e ≡ Ok z → Ruled (unary line op c.tags e.typed) (asked c) z
 applied_rule line op tree c e z h =
-    let t = came (unary line op c.tags e.typed) (λ t. good (apply line op tree t c e)) z h in
+    let t = came (unary line op c.tags e.typed) h in
     let same : apply line op tree t.value c e ≡ z = ok_same (apply line op tree t.value c e) z t.last in
     let is : (apply line op tree t.value c e).1.typed ≡ t.value = apply_of line op tree t.value c e (operand e.typed.type) refl t.is in
     record {
@@ -261,8 +261,8 @@ quiet_set_to line before t target d =
 
 pub scalar_rule : (line : ℕ) (before : Code) (tree : Tree) (target : Found) (d : Context × Found) (z : Context × Found) → scalar_assigned line before tree target d ≡ Ok z → Ruled (assigned line (line_of tree) d.0.tags target.typed d.1.typed) (asked d.0) z
 scalar_rule line before tree target d z h =
-    let t = came (assigned line (line_of tree) d.0.tags target.typed d.1.typed) (λ t. then (valued_from tree d.0 d.1) (λ v. good (set_to line before t target v))) z h in
-    let v = came (valued_from tree d.0 d.1) (λ v. good (set_to line before t.value target v)) z t.last in
+    let t = came (assigned line (line_of tree) d.0.tags target.typed d.1.typed) h in
+    let v = came (valued_from tree d.0 d.1) t.last in
     let same : set_to line before t.value target v.value ≡ z = ok_same (set_to line before t.value target v.value) z v.last in
     let read_rule = valued_from_rule tree d.0 d.1 v.value v.is in
     record {

@@ -121,7 +121,7 @@ format_argued : (format : Option (List ℕ)) (e : Tree) (c : Context) (walked : 
     → format_argument format c (typed e (asked c)) walked ≡ Ok d → Argued Prints (wanted e (typed e (asked c))) c d
 format_argued None e c walked d is h k = argued_value Prints (wanted e (typed e (asked c))) c d (h d k)
 format_argued (Some bytes) e c walked d is h k =
-    let t = came (typed e (asked c)) (λ x. good (c, valued_as x.1 atom.Null)) d k in
+    let t = came (typed e (asked c)) k in
     let text : TextOf (Some bytes) (asked c) t.value = subst (λ (o : Option (List ℕ)). TextOf o (asked c) t.value) (sym is) (text_of e (asked c) t.value t.is) in
     let same : (c, valued_as t.value.1 atom.Null) ≡ d = ok_same (c, valued_as t.value.1 atom.Null) d t.last in
     subst (Argued Prints (wanted e (typed e (asked c))) c) same
@@ -178,15 +178,15 @@ mutual
   found_agrees (Node f.Str (At line ▹ Node f.Strings parts ▹ none)) wish c z h = string_agrees line (joined parts) c z h
   found_agrees (Node f.Paren (At line ▹ e ▹ none)) wish c z h = found_agrees e wish c z h
   found_agrees (Node f.Index (At line ▹ e ▹ g ▹ none)) wish c z h =
-      let d = came (valued e (found e Void c)) (λ d. then (valued g (found g Void d.0)) (λ r. indexed line r.0 d.1 r.1)) z h in
-      let r = came (valued g (found g Void d.value.0)) (λ r. indexed line r.0 d.value.1 r.1) z d.last in
+      let d = came (valued e (found e Void c)) h in
+      let r = came (valued g (found g Void d.value.0)) d.last in
       two_agrees (wanted e (typed e (asked c))) (λ k. wanted g (typed g k)) (element line) d.value r.value z
       (valued_agrees e (found e Void c) (typed e (asked c)) d.value (λ x k. found_agrees e Void c x k) d.is)
       (valued_agrees g (found g Void d.value.0) (typed g (asked d.value.0)) r.value (λ x k. found_agrees g Void d.value.0 x k) r.is)
       (indexed_rule line r.value.0 d.value.1 r.value.1 z r.last)
   found_agrees (Node f.Call (At line ▹ e ▹ Node f.Arguments trees ▹ none)) wish c z h =
-      let d = came (callee e c (found e Void c)) (λ d. then (arguments line d.1 (parameters d.1) trees d.0) (λ v. call_answer line (callee_name e c) d.1 wish trees v.0 v.1)) z h in
-      let v = came (arguments line d.value.1 (parameters d.value.1) trees d.value.0) (λ v. call_answer line (callee_name e c) d.value.1 wish trees v.0 v.1) z d.last in
+      let d = came (callee e c (found e Void c)) h in
+      let v = came (arguments line d.value.1 (parameters d.value.1) trees d.value.0) d.last in
       let called_one = callee_agrees e c (found e Void c) (typed e (asked c)) d.value (λ x k. found_agrees e Void c x k) d.is in
       let args = arguments_agree trees line d.value.1 (parameters d.value.1) d.value.0 v.value v.is in
       let rule = call_rule line (callee_name e c) d.value.1 wish trees v.value.0 v.value.1 z v.last in
@@ -194,32 +194,32 @@ mutual
       (calling_is line trees (types.callee e (asked c) (typed e (asked c))) (λ k. values trees k) (asked d.value.0) (asked v.value.0) d.value.1 args.types z.1.typed called_one args.is
       (sym (call_same line (first_literal trees) d.value.1 (types_of v.value.1) args.types args.same) ∙ rule.typed)) rule.same
   found_agrees (Node f.Dot (At line ▹ e ▹ Leaf (w.Name name) ▹ none)) wish c z h =
-      let d = came (found e Void c) (λ d. dotted line name d.0 d.1) z h in
+      let d = came (found e Void c) h in
       one_agrees (typed e (asked c)) (dot line name) d.value z (found_agrees e Void c d.value d.is) (dotted_rule line name d.value.0 d.value.1 z d.last)
   found_agrees (Node f.Arrow (At line ▹ e ▹ Leaf (w.Name name) ▹ none)) wish c z h =
-      let d = came (valued e (found e Void c)) (λ d. pointed line name d.0 d.1) z h in
+      let d = came (valued e (found e Void c)) h in
       one_agrees (wanted e (typed e (asked c))) (arrow line name) d.value z (valued_agrees e (found e Void c) (typed e (asked c)) d.value (λ x k. found_agrees e Void c x k) d.is) (pointed_rule line name d.value.0 d.value.1 z d.last)
   found_agrees (Node f.PostInc (At line ▹ e ▹ none)) wish c z h =
-      let d = came (changing e (found e Void c)) (λ d. stepped line a.Add true d) z h in
+      let d = came (changing e (found e Void c)) h in
       one_agrees (types.changing e (typed e (asked c))) (rules.stepped line) d.value z (changing_agrees e (found e Void c) (typed e (asked c)) d.value (λ x k. found_agrees e Void c x k) d.is) (stepped_rule line a.Add true d.value z d.last)
   found_agrees (Node f.PostDec (At line ▹ e ▹ none)) wish c z h =
-      let d = came (changing e (found e Void c)) (λ d. stepped line a.Subtract true d) z h in
+      let d = came (changing e (found e Void c)) h in
       let rule = stepped_rule line a.Subtract true d.value z d.last in
       one_agrees (types.changing e (typed e (asked c))) (rules.stepped line) d.value z (changing_agrees e (found e Void c) (typed e (asked c)) d.value (λ x k. found_agrees e Void c x k) d.is)
       (record { typed = sym (stepped_alike line d.value.0.tags d.value.1.typed) ∙ rule.typed; same = rule.same })
   found_agrees (Node f.PreInc (At line ▹ e ▹ none)) wish c z h =
-      let d = came (changing e (found e Void c)) (λ d. stepped line a.Add false d) z h in
+      let d = came (changing e (found e Void c)) h in
       one_agrees (types.changing e (typed e (asked c))) (rules.stepped line) d.value z (changing_agrees e (found e Void c) (typed e (asked c)) d.value (λ x k. found_agrees e Void c x k) d.is) (stepped_rule line a.Add false d.value z d.last)
   found_agrees (Node f.PreDec (At line ▹ e ▹ none)) wish c z h =
-      let d = came (changing e (found e Void c)) (λ d. stepped line a.Subtract false d) z h in
+      let d = came (changing e (found e Void c)) h in
       let rule = stepped_rule line a.Subtract false d.value z d.last in
       one_agrees (types.changing e (typed e (asked c))) (rules.stepped line) d.value z (changing_agrees e (found e Void c) (typed e (asked c)) d.value (λ x k. found_agrees e Void c x k) d.is)
       (record { typed = sym (stepped_alike line d.value.0.tags d.value.1.typed) ∙ rule.typed; same = rule.same })
   found_agrees (Node (f.Unary u.Address) (At line ▹ e ▹ none)) wish c z h =
-      let d = came (found e Void c) (λ d. address_answer line d.0 d.1) z h in
+      let d = came (found e Void c) h in
       one_agrees (typed e (asked c)) (λ tags x. address line x) d.value z (found_agrees e Void c d.value d.is) (address_rule line d.value.0 d.value.1 z d.last)
   found_agrees (Node (f.Unary op) (At line ▹ e ▹ none)) wish c z h =
-      let d = came (valued e (found e Void c)) (λ d. applied line op e d.0 d.1) z h in
+      let d = came (valued e (found e Void c)) h in
       one_agrees (wanted e (typed e (asked c))) (unary line op) d.value z (valued_agrees e (found e Void c) (typed e (asked c)) d.value (λ x k. found_agrees e Void c x k) d.is) (applied_rule line op e d.value.0 d.value.1 z d.last)
   found_agrees (Node f.SizeofExpr (At line ▹ e ▹ none)) wish c z h = unevaluated_agrees (typed (Node f.SizeofExpr (At line ▹ e ▹ none)) (asked c)) c z h
   found_agrees (Node f.SizeofType (At line ▹ name ▹ none)) wish c z h = unevaluated_agrees (typed (Node f.SizeofType (At line ▹ name ▹ none)) (asked c)) c z h
@@ -230,27 +230,27 @@ mutual
       ∙ one_agrees (types.cast_operand t.value.1 e (typed e t.value.0)) (λ tags x. cast line t.value.1 x) d.value z
       (cast_agrees t.value.1 e (found e t.value.1 (told t.value.0 c)) (typed e t.value.0) d.value (λ x k. found_agrees e t.value.1 (told t.value.0 c) x k) d.is) (cast_rule line t.value.1 c.code d.value.0 d.value.1 z d.last)
   found_agrees (Node (f.Binary b.And) (At line ▹ e ▹ g ▹ none)) wish c z h =
-      let d = came (valued e (found e Void c)) (λ d. let begun = and_then line e d in then (valued g (found g Void begun)) (λ r. and_ended line (new_label d.0) g d.1 r)) z h in
+      let d = came (valued e (found e Void c)) h in
       let begun = and_then line e d.value in
-      let r = came (valued g (found g Void begun)) (λ r. and_ended line (new_label d.value.0) g d.value.1 r) z d.last in
+      let r = came (valued g (found g Void begun)) d.last in
       let quiet : asked begun ≡ asked d.value.0 = quiet_tested_value e d.value in
       two_agrees (wanted e (typed e (asked c))) (λ k. wanted g (typed g k)) (binary line b.And) d.value r.value z
       (valued_agrees e (found e Void c) (typed e (asked c)) d.value (λ x k. found_agrees e Void c x k) d.is)
       (subst (λ (m : names.Context). Agreed (wanted g (typed g m)) r.value) quiet (valued_agrees g (found g Void begun) (typed g (asked begun)) r.value (λ x k. found_agrees g Void begun x k) r.is))
       (and_rule line (new_label d.value.0) g d.value.1 r.value z r.last)
   found_agrees (Node (f.Binary b.Or) (At line ▹ e ▹ g ▹ none)) wish c z h =
-      let d = came (valued e (found e Void c)) (λ d. let begun = or_else line e d in then (valued g (found g Void begun.0)) (λ r. or_ended line (new_label d.0 + 1) g begun.1 d.1 r)) z h in
+      let d = came (valued e (found e Void c)) h in
       let begun = or_else line e d.value in
-      let r = came (valued g (found g Void begun.0)) (λ r. or_ended line (new_label d.value.0 + 1) g begun.1 d.value.1 r) z d.last in
+      let r = came (valued g (found g Void begun.0)) d.last in
       let quiet : asked begun.0 ≡ asked d.value.0 = quiet_tested_value e d.value in
       two_agrees (wanted e (typed e (asked c))) (λ k. wanted g (typed g k)) (binary line b.Or) d.value r.value z
       (valued_agrees e (found e Void c) (typed e (asked c)) d.value (λ x k. found_agrees e Void c x k) d.is)
       (subst (λ (m : names.Context). Agreed (wanted g (typed g m)) r.value) quiet (valued_agrees g (found g Void begun.0) (typed g (asked begun.0)) r.value (λ x k. found_agrees g Void begun.0 x k) r.is))
       (or_rule line (new_label d.value.0 + 1) g begun.1 d.value.1 r.value z r.last)
   found_agrees (Node (f.Binary op) (At line ▹ e ▹ g ▹ none)) wish c z h =
-      let d = came (valued e (found e Void c)) (λ d. let begun = left_operand op c.code g d in then (valued g (found g Void begun.0)) (λ r. between line op begun.0.code r.0 begun.1 r.1)) z h in
+      let d = came (valued e (found e Void c)) h in
       let begun = left_operand op c.code g d.value in
-      let r = came (valued g (found g Void begun.0)) (λ r. between line op begun.0.code r.0 begun.1 r.1) z d.last in
+      let r = came (valued g (found g Void begun.0)) d.last in
       let quiet : asked begun.0 ≡ asked d.value.0 = quiet_left op c.code g d.value in
       let rule = between_rule line op begun.0.code r.value.0 begun.1 r.value.1 z r.last in
       two_agrees (wanted e (typed e (asked c))) (λ k. wanted g (typed g k)) (binary line op) d.value r.value z
@@ -258,11 +258,11 @@ mutual
       (subst (λ (m : names.Context). Agreed (wanted g (typed g m)) r.value) quiet (valued_agrees g (found g Void begun.0) (typed g (asked begun.0)) r.value (λ x k. found_agrees g Void begun.0 x k) r.is))
       (record { typed = ap (λ (t : PlainTyped). binary line op r.value.0.tags t r.value.1.typed) (sym (left_typed op c.code g d.value)) ∙ rule.typed; same = rule.same })
   found_agrees (Node f.Cond (At line ▹ e ▹ g ▹ k ▹ none)) wish c z h =
-      let d = came (valued e (found e Void c)) (λ d. let begun = choose line e d in then (valued g (found g Void begun)) (λ x. let first = choose_first line (new_label d.0) begun.code (type_ahead line d.1 k x) x in then (valued k (found k Void first.0)) (λ y. chosen line (new_label d.0 + 1) first.0.code first.1 d.1 x.1 y))) z h in
+      let d = came (valued e (found e Void c)) h in
       let begun = choose line e d.value in
-      let x = came (valued g (found g Void begun)) (λ x. let first = choose_first line (new_label d.value.0) begun.code (type_ahead line d.value.1 k x) x in then (valued k (found k Void first.0)) (λ y. chosen line (new_label d.value.0 + 1) first.0.code first.1 d.value.1 x.1 y)) z d.last in
+      let x = came (valued g (found g Void begun)) d.last in
       let first = choose_first line (new_label d.value.0) begun.code (type_ahead line d.value.1 k x.value) x.value in
-      let y = came (valued k (found k Void first.0)) (λ y. chosen line (new_label d.value.0 + 1) first.0.code first.1 d.value.1 x.value.1 y) z x.last in
+      let y = came (valued k (found k Void first.0)) x.last in
       let quiet : asked begun ≡ asked d.value.0 = quiet_tested_value e d.value in
       let quiet2 : asked first.0 ≡ asked x.value.0 = quiet_first line (new_label d.value.0) begun.code (type_ahead line d.value.1 k x.value) x.value in
       ap (λ (p : types.Found). then p (λ test. two (wanted g (typed g test.0)) (λ m. wanted k (typed k m)) (λ tags v q. choice line test.1 v q)))
@@ -272,14 +272,14 @@ mutual
       (subst (λ (m : names.Context). Agreed (wanted k (typed k m)) y.value) quiet2 (valued_agrees k (found k Void first.0) (typed k (asked first.0)) y.value (λ v q. found_agrees k Void first.0 v q) y.is))
       (choice_rule line (new_label d.value.0 + 1) first.0.code first.1 d.value.1 x.value.1 y.value z y.last)
   found_agrees (Node (f.Assign a.Plain) (At line ▹ e ▹ g ▹ none)) wish c z h =
-      let d = came (found e Void c) (λ d. then (found g d.1.typed.type d.0) (λ r. cond (is_record d.1.typed.type) (record_assigned line (line_of g) d.1 r) (scalar_assigned line d.0.code g d.1 r))) z h in
-      let r = came (found g d.value.1.typed.type d.value.0) (λ r. cond (is_record d.value.1.typed.type) (record_assigned line (line_of g) d.value.1 r) (scalar_assigned line d.value.0.code g d.value.1 r)) z d.last in
+      let d = came (found e Void c) h in
+      let r = came (found g d.value.1.typed.type d.value.0) d.last in
       two_agrees (typed e (asked c)) (λ k. typed g k) (assigned line (line_of g)) d.value r.value z (found_agrees e Void c d.value d.is) (found_agrees g d.value.1.typed.type d.value.0 r.value r.is)
       (assigned_rule (is_record d.value.1.typed.type) line d.value.0.code g d.value.1 r.value z r.last)
   found_agrees (Node (f.Assign op) (At line ▹ e ▹ g ▹ none)) wish c z h =
-      let d = came (changing e (found e Void c)) (λ d. let old = old_value line d in then (valued g (found g Void old.0)) (λ r. changed_by line op false d.1 old.1 r)) z h in
+      let d = came (changing e (found e Void c)) h in
       let old = old_value line d.value in
-      let r = came (valued g (found g Void old.0)) (λ r. changed_by line op false d.value.1 old.1 r) z d.last in
+      let r = came (valued g (found g Void old.0)) d.last in
       let quiet : asked old.0 ≡ asked d.value.0 = quiet_read line d.value.1.typed.type d.value.1.spot d.value.0 in
       two_agrees (types.changing e (typed e (asked c))) (λ k. wanted g (typed g k)) (changed line op) d.value r.value z
       (changing_agrees e (found e Void c) (typed e (asked c)) d.value (λ x k. found_agrees e Void c x k) d.is)
@@ -300,9 +300,9 @@ mutual
   arguments_agree none line function params c z h =
       subst (ArgumentsAgree function (good (asked c, []))) (ok_same (c, []) z h) (record { types = []; is = refl; same = same_all function [] })
   arguments_agree (e ▹ rest) line function params c z h =
-      let d = came (format_argument (is_printf function e) c (typed e (asked c)) (valued e (found e (first_type params) c))) (λ d. let v = argument_from line params c.code d.0 d.1 in then (arguments line NoFunction (rest_types params) rest v.0) (λ more. good (more.0, v.1 ∷ more.1))) z h in
+      let d = came (format_argument (is_printf function e) c (typed e (asked c)) (valued e (found e (first_type params) c))) h in
       let v = argument_from line params c.code d.value.0 d.value.1 in
-      let more = came (arguments line NoFunction (rest_types params) rest v.0) (λ more. good (more.0, v.1 ∷ more.1)) z d.last in
+      let more = came (arguments line NoFunction (rest_types params) rest v.0) d.last in
       let one_argument = argued function e c (valued e (found e (first_type params) c)) d.value (λ x k. valued_agrees e (found e (first_type params) c) (typed e (asked c)) x (λ y q. found_agrees e (first_type params) c y q) k) d.is in
       let others = arguments_agree rest line NoFunction (rest_types params) v.0 more.value more.is in
       let quiet : asked v.0 ≡ asked d.value.0 = quiet_argument line params c.code d.value.0 d.value.1 in

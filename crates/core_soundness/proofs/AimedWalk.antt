@@ -1,8 +1,7 @@
 -- The walk over expressions keeps fixed addresses inside their objects (C99 6.6).
-use Rattle.std.proofs.Common.{◌≡◌, ◌+◌, ℕ, pos, Bool, true, false, cond, List, Option, Ok, subst}
+use Rattle.std.proofs.Common.{◌≡◌, ◌+◌, ℕ, Bool, true, false, cond, List, Option, Ok, subst}
 use Rattle.c_types.specs.Types.{PlainType, Void}
 use Rattle.core_tree.specs.declared.statements.Atom.{Atom}
-use Rattle.core_tree.specs.declared.statements.StmKind.TheVariants.{Copy}
 use Rattle.c_tree.specs.declared.operator.UnaryOp.TheVariants as u
 use Rattle.c_tree.specs.declared.operator.BinaryOp.TheVariants as b
 use Rattle.c_tree.specs.declared.operator.AssignOp.{AssignOp}
@@ -10,7 +9,7 @@ use Rattle.c_tree.specs.declared.operator.AssignOp.TheVariants as a
 use Rattle.c_tree.specs.Words as w
 use Rattle.c_tree.specs.Forms as f
 use Rattle.c_tree.specs.Tree.{Tree, Trees, Leaf, At, Node, none, ◌▹◌}
-use Rattle.c_decls.specs.Refusals.{Checked, then}
+use Rattle.c_decls.specs.Refusals.{Checked}
 use Rattle.c_decls.specs.Named.{PlainNamed}
 use Rattle.c_decls.specs.Typed.{PlainTyped, is_record, constant}
 use Rattle.c_decls.specs.TypeRules.{binary}
@@ -53,10 +52,10 @@ value_there e wish c z h q = there_on c z.0 (grows_settled c z.0 (value_grew e w
 
 call_aimed : (line : ℕ) (name : Option PlainNamed) (function : Callee) (wanted : PlainType) (trees : Trees) (c : Context) (values : List Argument) (z : Context × Found) → call_answer line name function wanted trees c values ≡ Ok z → Aimed z
 call_aimed line name function wanted trees c values z q =
-    let e = came (call line (first_literal trees) function (types_of values)) (λ e. let d = call_named line name e.type wanted (first_literal trees) values c in good (d.0, found_as e d.1 Unknown)) z q in subst Aimed (ok_same _ z e.last) tt
+    let e = came (call line (first_literal trees) function (types_of values)) q in subst Aimed (ok_same _ z e.last) tt
 
 unevaluated_aimed : (c : Context) (answer : Checked (names.Context × PlainTyped)) (z : Context × Found) → unevaluated c answer ≡ Ok z → Aimed z
-unevaluated_aimed c answer z q = let t = came answer (λ d. good (told d.0 c, constant_found d.1)) z q in subst Aimed (ok_same _ z t.last) tt
+unevaluated_aimed c answer z q = let t = came answer q in subst Aimed (ok_same _ z t.last) tt
 
 answer_aimed : (keeps : Bool) (typed : PlainTyped) (old : Atom) (v : Context × Atom) → Aimed (changed_answer keeps typed old v)
 answer_aimed true typed old v = tt
@@ -64,7 +63,7 @@ answer_aimed false typed old v = tt
 
 changed_aimed : (line : ℕ) (op : AssignOp) (keeps : Bool) (target : Found) (old : Atom) (d z : Context × Found) → changed_by line op keeps target old d ≡ Ok z → Aimed z
 changed_aimed line op keeps target old d z q =
-    let t = came (changed line op d.0.tags target.typed d.1.typed) (λ typed. good (changed_answer keeps typed old (change_place line (operator_of op) typed target old d.1.typed (atom_in d.1) d.0))) z q in
+    let t = came (changed line op d.0.tags target.typed d.1.typed) q in
     subst Aimed (ok_same _ z t.last) (answer_aimed keeps t.value old _)
 
 stepped_aimed : (line : ℕ) (op : AssignOp) (keeps : Bool) (d z : Context × Found) → stepped line op keeps d ≡ Ok z → Aimed z
@@ -72,22 +71,22 @@ stepped_aimed line op keeps d z q = changed_aimed line op keeps d.1 (old_value l
 
 assigned_aimed : (k : Bool) (line : ℕ) (before : Code) (tree : Tree) (target : Found) (d z : Context × Found) → cond k (record_assigned line (line_of tree) target d) (scalar_assigned line before tree target d) ≡ Ok z → Aimed z
 assigned_aimed true line before tree target d z q =
-    let t = came (assigned line (line_of tree) d.0.tags target.typed d.1.typed) (λ typed. good (emit line (Copy (atom_in target) (atom_in d.1) (pos (size_or_zero d.0 typed.type))) d.0, found_as typed Empty Unknown)) z q in subst Aimed (ok_same _ z t.last) tt
+    let t = came (assigned line (line_of tree) d.0.tags target.typed d.1.typed) q in subst Aimed (ok_same _ z t.last) tt
 assigned_aimed false line before tree target d z q =
-    let t = came (assigned line (line_of tree) d.0.tags target.typed d.1.typed) (λ typed. then (valued_from tree d.0 d.1) (λ v. good (set_to line before typed target v))) z q in
-    let v = came (valued_from tree d.0 d.1) (λ v. good (set_to line before t.value target v)) z t.last in subst Aimed (ok_same _ z v.last) tt
+    let t = came (assigned line (line_of tree) d.0.tags target.typed d.1.typed) q in
+    let v = came (valued_from tree d.0 d.1) t.last in subst Aimed (ok_same _ z v.last) tt
 
 and_aimed : (line label : ℕ) (tree : Tree) (x : Found) (d z : Context × Found) → and_ended line label tree x d ≡ Ok z → Aimed z
 and_aimed line label tree x d z q =
-    let t = came (binary line b.And d.0.tags x.typed d.1.typed) (λ typed. good (with_value typed Unknown (and_ends line label (tested_value tree d)))) z q in subst Aimed (ok_same _ z t.last) tt
+    let t = came (binary line b.And d.0.tags x.typed d.1.typed) q in subst Aimed (ok_same _ z t.last) tt
 
 or_aimed : (line end : ℕ) (tree : Tree) (i : Atom) (x : Found) (d z : Context × Found) → or_ended line end tree i x d ≡ Ok z → Aimed z
 or_aimed line end tree i x d z q =
-    let t = came (binary line b.Or d.0.tags x.typed d.1.typed) (λ typed. good (with_value typed Unknown (or_ends line end i (tested_value tree d)))) z q in subst Aimed (ok_same _ z t.last) tt
+    let t = came (binary line b.Or d.0.tags x.typed d.1.typed) q in subst Aimed (ok_same _ z t.last) tt
 
 chosen_aimed : (line end : ℕ) (before : Code) (t : Atom) (test x : Found) (d z : Context × Found) → chosen line end before t test x d ≡ Ok z → Aimed z
 chosen_aimed line end before t test x d z q =
-    let y = came (choice line test.typed x.typed d.1.typed) (λ typed. let v = choose_last line before typed.type t d in good (here end v.0, choice_found typed v.1)) z q in subst Aimed (ok_same _ z y.last) tt
+    let y = came (choice line test.typed x.typed d.1.typed) q in subst Aimed (ok_same _ z y.last) tt
 
 pub found_aimed : (tree : Tree) (wish : PlainType) (c : Context) (z : Context × Found) → There c → found tree wish c ≡ Ok z → Aimed z
 unfolding found
@@ -97,29 +96,29 @@ found_aimed (Node f.Char (At line ▹ Leaf (w.Char bytes) ▹ none)) wish c z h 
 found_aimed (Node f.Str (At line ▹ Node f.Strings parts ▹ none)) wish c z h q = string_aimed line (joined parts) c z q
 found_aimed (Node f.Paren (At line ▹ e ▹ none)) wish c z h q = found_aimed e wish c z h q
 found_aimed (Node f.Index (At line ▹ e ▹ e2 ▹ none)) wish c z h q =
-    let d = came (valued e (found e Void c)) (λ d. then (valued e2 (found e2 Void d.0)) (λ r. indexed line r.0 d.1 r.1)) z q in
-    let r = came (valued e2 (found e2 Void d.value.0)) (λ r. indexed line r.0 d.value.1 r.1) z d.last in
+    let d = came (valued e (found e Void c)) q in
+    let r = came (valued e2 (found e2 Void d.value.0)) d.last in
     let one = valued_aimed e (found e Void c) d.value (λ x k. found_aimed e Void c x h k) d.is in
     let near = value_there e Void c d.value h d.is in
     let two = valued_aimed e2 (found e2 Void d.value.0) r.value (λ x k. found_aimed e2 Void d.value.0 x near k) r.is in
     indexed_aimed line r.value.0 d.value.1 r.value.1 z (fixed_on d.value.0 r.value.0 d.value.1.fixed (grows_settled d.value.0 r.value.0 (value_grew e2 Void d.value.0 r.value r.is)) one) two r.last
 found_aimed (Node f.Call (At line ▹ e ▹ Node f.Arguments values ▹ none)) wish c z h q =
-    let d = came (callee e c (found e Void c)) (λ d. then (arguments line d.1 (parameters d.1) values d.0) (λ v. call_answer line (callee_name e c) d.1 wish values v.0 v.1)) z q in
-    let v = came (arguments line d.value.1 (parameters d.value.1) values d.value.0) (λ v. call_answer line (callee_name e c) d.value.1 wish values v.0 v.1) z d.last in
+    let d = came (callee e c (found e Void c)) q in
+    let v = came (arguments line d.value.1 (parameters d.value.1) values d.value.0) d.last in
     call_aimed line (callee_name e c) d.value.1 wish values v.value.0 v.value.1 z v.last
 found_aimed (Node f.Dot (At line ▹ e ▹ Leaf (w.Name name) ▹ none)) wish c z h q =
-    let d = came (found e Void c) (λ d. dotted line name d.0 d.1) z q in dotted_aimed line name d.value.0 d.value.1 z (found_aimed e Void c d.value h d.is) d.last
+    let d = came (found e Void c) q in dotted_aimed line name d.value.0 d.value.1 z (found_aimed e Void c d.value h d.is) d.last
 found_aimed (Node f.Arrow (At line ▹ e ▹ Leaf (w.Name name) ▹ none)) wish c z h q =
-    let d = came (valued e (found e Void c)) (λ d. pointed line name d.0 d.1) z q in
+    let d = came (valued e (found e Void c)) q in
     pointed_aimed line name d.value.0 d.value.1 z (valued_aimed e (found e Void c) d.value (λ x k. found_aimed e Void c x h k) d.is) d.last
-found_aimed (Node f.PostInc (At line ▹ e ▹ none)) wish c z h q = let d = came (changing e (found e Void c)) (λ d. stepped line a.Add true d) z q in stepped_aimed line a.Add true d.value z d.last
-found_aimed (Node f.PostDec (At line ▹ e ▹ none)) wish c z h q = let d = came (changing e (found e Void c)) (λ d. stepped line a.Subtract true d) z q in stepped_aimed line a.Subtract true d.value z d.last
-found_aimed (Node f.PreInc (At line ▹ e ▹ none)) wish c z h q = let d = came (changing e (found e Void c)) (λ d. stepped line a.Add false d) z q in stepped_aimed line a.Add false d.value z d.last
-found_aimed (Node f.PreDec (At line ▹ e ▹ none)) wish c z h q = let d = came (changing e (found e Void c)) (λ d. stepped line a.Subtract false d) z q in stepped_aimed line a.Subtract false d.value z d.last
+found_aimed (Node f.PostInc (At line ▹ e ▹ none)) wish c z h q = let d = came (changing e (found e Void c)) q in stepped_aimed line a.Add true d.value z d.last
+found_aimed (Node f.PostDec (At line ▹ e ▹ none)) wish c z h q = let d = came (changing e (found e Void c)) q in stepped_aimed line a.Subtract true d.value z d.last
+found_aimed (Node f.PreInc (At line ▹ e ▹ none)) wish c z h q = let d = came (changing e (found e Void c)) q in stepped_aimed line a.Add false d.value z d.last
+found_aimed (Node f.PreDec (At line ▹ e ▹ none)) wish c z h q = let d = came (changing e (found e Void c)) q in stepped_aimed line a.Subtract false d.value z d.last
 found_aimed (Node (f.Unary u.Address) (At line ▹ e ▹ none)) wish c z h q =
-    let d = came (found e Void c) (λ d. address_answer line d.0 d.1) z q in address_aimed line d.value.0 d.value.1 z (found_aimed e Void c d.value h d.is) d.last
+    let d = came (found e Void c) q in address_aimed line d.value.0 d.value.1 z (found_aimed e Void c d.value h d.is) d.last
 found_aimed (Node (f.Unary op) (At line ▹ e ▹ none)) wish c z h q =
-    let d = came (valued e (found e Void c)) (λ d. applied line op e d.0 d.1) z q in
+    let d = came (valued e (found e Void c)) q in
     applied_aimed line op e d.value.0 d.value.1 z (valued_aimed e (found e Void c) d.value (λ x k. found_aimed e Void c x h k) d.is) d.last
 found_aimed (Node f.SizeofExpr (At line ▹ e ▹ none)) wish c z h q = unevaluated_aimed c (typed (Node f.SizeofExpr (At line ▹ e ▹ none)) (asked c)) z q
 found_aimed (Node f.SizeofType (At line ▹ name ▹ none)) wish c z h q = unevaluated_aimed c (typed (Node f.SizeofType (At line ▹ name ▹ none)) (asked c)) z q
@@ -133,38 +132,38 @@ found_aimed (Node f.Cast (At line ▹ name ▹ e ▹ none)) wish c z h q =
     let one = unused_aimed e (found e y.value.1 begun) d.value (λ x k. found_aimed e y.value.1 begun x near k) operand in
     cast_aimed line y.value.1 c.code d.value.0 d.value.1 z (settled_convert line c y.value.1 d.value.1.typed (atom_in d.value.1) d.value.0 (grows_trans c begun d.value.0 g (unused_grew e y.value.1 begun d.value operand))) one d.last
 found_aimed (Node (f.Binary b.And) (At line ▹ e ▹ e2 ▹ none)) wish c z h q =
-    let d = came (valued e (found e Void c)) (λ d. let begun = and_then line e d in then (valued e2 (found e2 Void begun)) (λ r. and_ended line (new_label d.0) e2 d.1 r)) z q in
-    let r = came (valued e2 (found e2 Void (and_then line e d.value))) (λ r. and_ended line (new_label d.value.0) e2 d.value.1 r) z d.last in
+    let d = came (valued e (found e Void c)) q in
+    let r = came (valued e2 (found e2 Void (and_then line e d.value))) d.last in
     and_aimed line (new_label d.value.0) e2 d.value.1 r.value z r.last
 found_aimed (Node (f.Binary b.Or) (At line ▹ e ▹ e2 ▹ none)) wish c z h q =
-    let d = came (valued e (found e Void c)) (λ d. let begun = or_else line e d in then (valued e2 (found e2 Void begun.0)) (λ r. or_ended line (new_label d.0 + 1) e2 begun.1 d.1 r)) z q in
+    let d = came (valued e (found e Void c)) q in
     let begun = or_else line e d.value in
-    let r = came (valued e2 (found e2 Void begun.0)) (λ r. or_ended line (new_label d.value.0 + 1) e2 begun.1 d.value.1 r) z d.last in
+    let r = came (valued e2 (found e2 Void begun.0)) d.last in
     or_aimed line (new_label d.value.0 + 1) e2 begun.1 d.value.1 r.value z r.last
 found_aimed (Node (f.Binary op) (At line ▹ e ▹ e2 ▹ none)) wish c z h q =
-    let d = came (valued e (found e Void c)) (λ d. let begun = left_operand op c.code e2 d in then (valued e2 (found e2 Void begun.0)) (λ r. between line op begun.0.code r.0 begun.1 r.1)) z q in
+    let d = came (valued e (found e Void c)) q in
     let begun = left_operand op c.code e2 d.value in
-    let r = came (valued e2 (found e2 Void begun.0)) (λ r. between line op begun.0.code r.0 begun.1 r.1) z d.last in
+    let r = came (valued e2 (found e2 Void begun.0)) d.last in
     let one = left_aimed op c.code e2 d.value (valued_aimed e (found e Void c) d.value (λ x k. found_aimed e Void c x h k) d.is) in
     let near = there_on c begun.0 (grows_settled c begun.0 (grows_left op c e2 d.value (value_grew e Void c d.value d.is))) h in
     let two = valued_aimed e2 (found e2 Void begun.0) r.value (λ x k. found_aimed e2 Void begun.0 x near k) r.is in
     let g = value_grew e2 Void begun.0 r.value r.is in
     between_aimed line op begun.0 r.value.0 begun.1 r.value.1 z (settled_combined line op begun.0 begun.1 r.value.1 r.value.0 g) (fixed_on begun.0 r.value.0 begun.1.fixed (grows_settled begun.0 r.value.0 g) one) two r.last
 found_aimed (Node f.Cond (At line ▹ e ▹ e2 ▹ e3 ▹ none)) wish c z h q =
-    let d = came (valued e (found e Void c)) (λ d. let begun = choose line e d in then (valued e2 (found e2 Void begun)) (λ x. let first = choose_first line (new_label d.0) begun.code (type_ahead line d.1 e3 x) x in then (valued e3 (found e3 Void first.0)) (λ y. chosen line (new_label d.0 + 1) first.0.code first.1 d.1 x.1 y))) z q in
+    let d = came (valued e (found e Void c)) q in
     let begun = choose line e d.value in
-    let x = came (valued e2 (found e2 Void begun)) (λ x. let first = choose_first line (new_label d.value.0) begun.code (type_ahead line d.value.1 e3 x) x in then (valued e3 (found e3 Void first.0)) (λ y. chosen line (new_label d.value.0 + 1) first.0.code first.1 d.value.1 x.1 y)) z d.last in
+    let x = came (valued e2 (found e2 Void begun)) d.last in
     let first = choose_first line (new_label d.value.0) begun.code (type_ahead line d.value.1 e3 x.value) x.value in
-    let y = came (valued e3 (found e3 Void first.0)) (λ y. chosen line (new_label d.value.0 + 1) first.0.code first.1 d.value.1 x.value.1 y) z x.last in
+    let y = came (valued e3 (found e3 Void first.0)) x.last in
     chosen_aimed line (new_label d.value.0 + 1) first.0.code first.1 d.value.1 x.value.1 y.value z y.last
 found_aimed (Node (f.Assign a.Plain) (At line ▹ e ▹ e2 ▹ none)) wish c z h q =
-    let d = came (found e Void c) (λ d. then (found e2 d.1.typed.type d.0) (λ r. cond (is_record d.1.typed.type) (record_assigned line (line_of e2) d.1 r) (scalar_assigned line d.0.code e2 d.1 r))) z q in
-    let r = came (found e2 d.value.1.typed.type d.value.0) (λ r. cond (is_record d.value.1.typed.type) (record_assigned line (line_of e2) d.value.1 r) (scalar_assigned line d.value.0.code e2 d.value.1 r)) z d.last in
+    let d = came (found e Void c) q in
+    let r = came (found e2 d.value.1.typed.type d.value.0) d.last in
     assigned_aimed (is_record d.value.1.typed.type) line d.value.0.code e2 d.value.1 r.value z r.last
 found_aimed (Node (f.Assign op) (At line ▹ e ▹ e2 ▹ none)) wish c z h q =
-    let d = came (changing e (found e Void c)) (λ d. let old = old_value line d in then (valued e2 (found e2 Void old.0)) (λ r. changed_by line op false d.1 old.1 r)) z q in
+    let d = came (changing e (found e Void c)) q in
     let old = old_value line d.value in
-    let r = came (valued e2 (found e2 Void old.0)) (λ r. changed_by line op false d.value.1 old.1 r) z d.last in
+    let r = came (valued e2 (found e2 Void old.0)) d.last in
     changed_aimed line op false d.value.1 old.1 r.value z r.last
 found_aimed (Node f.Comma (At line ▹ e ▹ e2 ▹ none)) wish c z h q =
     let d = came (unused e (found e Void c)) (λ d. then (unused e2 (found e2 Void d.0)) (λ r. good (comma_answer r))) z q in

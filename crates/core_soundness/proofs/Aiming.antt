@@ -18,7 +18,6 @@ use Rattle.c_tree.specs.Tree.{Tree}
 use Rattle.c_decls.specs.declared.refusal.TypeKind.TheVariants.{StaticTooLarge}
 use Rattle.c_decls.specs.declared.typed.Folded.{Folded}
 use Rattle.c_decls.specs.declared.typed.Folded.TheVariants.{Is}
-use Rattle.c_decls.specs.Refusals.{then}
 use Rattle.c_decls.specs.Named as n
 use Rattle.c_decls.specs.Named.{PlainNamed}
 use Rattle.c_decls.specs.ScopeList.{Table, named_in, found_from, found as declaration}
@@ -30,11 +29,11 @@ use Rattle.c_decls.specs.Expressions.{line_of, string}
 use Rattle.elaboration.specs.Context.{Code, Context, Variable, With, file_variable, literal_object}
 use Rattle.elaboration.specs.Conversions.{Found, Value, Fixed, Unknown, Nowhere, Inside, found_as, atom_in, code_line, read_spot, read_fixed, read_value, valued_from, valued, convert, forget, size_or_zero, unused}
 use Rattle.elaboration.specs.Operations.{variable_size, literal_size, static_size, moved_by, moved_times, fixed_sum_of, fixed_sum, combined, offset_of, member_address}
-use Rattle.elaboration.specs.Rules.{object_found, built_in_found, name_found, is_inner, with_static, with_literal, literal_found, at_address, with_value, indexed, member_of, dotted, target_of, pointed, before_number, apply, applied, tells_equal, is_pointer_ahead, ahead, left_operand, between, cast_fixed, cast_to}
+use Rattle.elaboration.specs.Rules.{object_found, built_in_found, name_found, is_inner, with_static, with_literal, literal_found, indexed, dotted, target_of, pointed, before_number, apply, applied, tells_equal, is_pointer_ahead, ahead, left_operand, between, cast_to}
 use Rattle.elaboration.specs.Expressions.{name_answer, literal_answer, address_answer}
 use Rattle.core_soundness.proofs.Names.{more_refl}
 use Rattle.core_soundness.proofs.Growth.{Longer, Counted, Grows, grows_refl}
-use Rattle.core_soundness.proofs.Grown.{good, ok_same}
+use Rattle.core_soundness.proofs.Grown.{ok_same}
 use Rattle.core_soundness.proofs.Agreeing.{came}
 use Rattle.core_soundness.proofs.Owners.{get_last}
 use Rattle.core_soundness.proofs.Operating.{passed}
@@ -186,12 +185,12 @@ name_in c typed name other e h = tt
 
 pub name_aimed : (line : ℕ) (name : List ℕ) (c : Context) (z : Context × Found) → There c → name_answer line name (declaration c.scopes name) c ≡ Ok z → Aimed z
 name_aimed line name c z h q =
-    let e = came (named line (declaration c.scopes name)) (λ e. good (c, name_found e (is_inner c name) (declaration c.scopes name))) z q in
+    let e = came (named line (declaration c.scopes name)) q in
     subst Aimed (ok_same (c, name_found e.value (is_inner c name) (declaration c.scopes name)) z e.last) (name_in c e.value name (declaration c.scopes name) refl h)
 
 literal_there : (line : ℕ) (bytes : List ℕ) (c : Context) (d : Context × ℕ) → with_literal line bytes c ≡ Ok d → Aims d.0.variables d.0.literals d.1 0
 literal_there line bytes c d h =
-    let s = came (with_static line (length bytes + 1) c) (λ s. good (record s { literals = s.literals ++ bytes ∷ [] }, literal_object (length c.literals))) d h in
+    let s = came (with_static line (length bytes + 1) c) h in
     let k = c.static_bytes + block_size (length bytes + 1) in
     let e : record c { static_bytes = k } ≡ s.value = passed _ StaticTooLarge line (record c { static_bytes = k }) s.value s.is in
     let same : (record c { static_bytes = k; literals = c.literals ++ bytes ∷ [] }, literal_object (length c.literals)) ≡ d =
@@ -200,8 +199,8 @@ literal_there line bytes c d h =
 
 pub string_aimed : (line : ℕ) (bytes : List ℕ) (c : Context) (z : Context × Found) → literal_answer line bytes c ≡ Ok z → Aimed z
 string_aimed line bytes c z h =
-    let e = came (string line bytes) (λ e. then (with_literal line bytes c) (λ d. good (literal_found e d))) z h in
-    let d = came (with_literal line bytes c) (λ d. good (literal_found e.value d)) z e.last in
+    let e = came (string line bytes) h in
+    let d = came (with_literal line bytes c) e.last in
     subst Aimed (ok_same (literal_found e.value d.value) z d.last) (0, refl, literal_there line bytes c d.value d.is)
 
 -- values
@@ -216,7 +215,7 @@ either_in vs ls false one other h k = k
 
 pub valued_from_aimed : (tree : Tree) (c : Context) (e : Found) (z : Context × Found) → FixedAt c e.fixed → valued_from tree c e ≡ Ok z → Aimed z
 valued_from_aimed tree c e z h q =
-    let t = came (read (line_of tree) c.tags e.typed) (λ typed. good (read_value typed e (read_spot (code_line tree) e.typed.type e.spot c))) z q in
+    let t = came (read (line_of tree) c.tags e.typed) q in
     let d = (read_spot (code_line tree) e.typed.type e.spot c).0 in
     let k = fixed_on c d e.fixed (grows_settled c d (grows_read (code_line tree) e.typed.type e.spot c)) h in
     subst Aimed (ok_same _ z t.last) (either_in d.variables d.literals e.typed.is_place (read_fixed e.typed.type e.fixed) e.fixed (read_in d.variables d.literals e.typed.type e.fixed k) k)
@@ -231,7 +230,7 @@ valued_aimed tree answer z h q = unused_aimed tree answer z h (valued_unused tre
 
 pub indexed_aimed : (line : ℕ) (c : Context) (x y : Found) (z : Context × Found) → FixedAt c x.fixed → FixedAt c y.fixed → indexed line c x y ≡ Ok z → Aimed z
 indexed_aimed line c x y z h k q =
-    let t = came (element line c.tags x.typed y.typed) (λ typed. good (at_address typed (fixed_sum c b.Add x y) (combined line b.Add c.code x y c))) z q in
+    let t = came (element line c.tags x.typed y.typed) q in
     let d = (combined line b.Add c.code x y c).0 in
     subst Aimed (ok_same _ z t.last) (fixed_on c d (fixed_sum c b.Add x y) (grows_settled c d (grows_combined line b.Add c x y c (grows_refl c))) (sum_in c b.Add x y h k))
 
@@ -241,17 +240,17 @@ member_aimed line offset c e h =
 
 pub dotted_aimed : (line : ℕ) (name : List ℕ) (c : Context) (e : Found) (z : Context × Found) → FixedAt c e.fixed → dotted line name c e ≡ Ok z → Aimed z
 dotted_aimed line name c e z h q =
-    let t = came (dot line name c.tags e.typed) (λ typed. good (member_of line (offset_of c.tags name e.typed.type) typed c e)) z q in
+    let t = came (dot line name c.tags e.typed) q in
     subst Aimed (ok_same _ z t.last) (member_aimed line (offset_of c.tags name e.typed.type) c e h)
 
 pub pointed_aimed : (line : ℕ) (name : List ℕ) (c : Context) (e : Found) (z : Context × Found) → FixedAt c e.fixed → pointed line name c e ≡ Ok z → Aimed z
 pointed_aimed line name c e z h q =
-    let t = came (arrow line name c.tags e.typed) (λ typed. good (member_of line (offset_of c.tags name (target_of (operand e.typed.type))) typed c e)) z q in
+    let t = came (arrow line name c.tags e.typed) q in
     subst Aimed (ok_same _ z t.last) (member_aimed line (offset_of c.tags name (target_of (operand e.typed.type))) c e h)
 
 pub address_aimed : (line : ℕ) (c : Context) (e : Found) (z : Context × Found) → FixedAt c e.fixed → address_answer line c e ≡ Ok z → Aimed z
 address_aimed line c e z h q =
-    let t = came (address line e.typed) (λ type. good (c, found_as type (Value (atom_in e)) e.fixed)) z q in subst Aimed (ok_same _ z t.last) h
+    let t = came (address line e.typed) q in subst Aimed (ok_same _ z t.last) h
 
 -- code that is behind other code
 
@@ -288,7 +287,7 @@ apply_aimed line op tree typed c e h = number_aimed line op typed (operand e.typ
 
 pub applied_aimed : (line : ℕ) (op : UnaryOp) (tree : Tree) (c : Context) (e : Found) (z : Context × Found) → FixedAt c e.fixed → applied line op tree c e ≡ Ok z → Aimed z
 applied_aimed line op tree c e z h q =
-    let t = came (unary line op c.tags e.typed) (λ typed. good (apply line op tree typed c e)) z q in subst Aimed (ok_same _ z t.last) (apply_aimed line op tree t.value c e h)
+    let t = came (unary line op c.tags e.typed) q in subst Aimed (ok_same _ z t.last) (apply_aimed line op tree t.value c e h)
 
 pub left_aimed : (op : BinaryOp) (before : Code) (right : Tree) (d : Context × Found) → Aimed d → Aimed (left_operand op before right d)
 left_aimed op before right d h = by (tells_equal op && is_null_constant d.1.typed && is_pointer_ahead (ahead right d.0))
@@ -299,11 +298,11 @@ left_aimed op before right d h = by (tells_equal op && is_null_constant d.1.type
 
 pub between_aimed : (line : ℕ) (op : BinaryOp) (base c : Context) (x y : Found) (z : Context × Found) → Settled c (combined line op base.code x y c).0 → FixedAt c x.fixed → FixedAt c y.fixed → between line op base.code c x y ≡ Ok z → Aimed z
 between_aimed line op base c x y z s h k q =
-    let t = came (binary line op c.tags x.typed y.typed) (λ typed. good (with_value typed (fixed_sum c op x y) (combined line op base.code x y c))) z q in
+    let t = came (binary line op c.tags x.typed y.typed) q in
     subst Aimed (ok_same _ z t.last) (fixed_on c (combined line op base.code x y c).0 (fixed_sum c op x y) s (sum_in c op x y h k))
 
 pub cast_aimed : (line : ℕ) (type : PlainType) (before : Code) (c : Context) (e : Found) (z : Context × Found) → Settled c (convert line before type e.typed (atom_in e) c).0 → FixedAt c e.fixed → cast_to line type before c e ≡ Ok z → Aimed z
 cast_aimed line type before c e z s h q =
-    let t = came (cast line type e.typed) (λ typed. good (with_value typed (cast_fixed e.typed e.fixed) (convert line before type e.typed (atom_in e) c))) z q in
+    let t = came (cast line type e.typed) q in
     let d = (convert line before type e.typed (atom_in e) c).0 in
     subst Aimed (ok_same _ z t.last) (either_in d.variables d.literals (is_null_constant e.typed) Nowhere e.fixed tt (fixed_on c d e.fixed s h))

@@ -197,7 +197,7 @@ changed_typed line op tags target e typed h =
 pub changing_rule : (line : ℕ) (op : AssignOp) (keeps_old : Bool) (target : Found) (old : Atom) (d z : Context × Found) → changed_by line op keeps_old target old d ≡ Ok z
     → (typed : PlainTyped) × Changed target.typed typed × (good (changed_answer keeps_old typed old (change_place line (operator_of op) typed target old d.1.typed (atom_in d.1) d.0)) ≡ Ok z)
 changing_rule line op keeps_old target old d z h =
-    let t = came (changed line op d.0.tags target.typed d.1.typed) (λ typed. good (changed_answer keeps_old typed old (change_place line (operator_of op) typed target old d.1.typed (atom_in d.1) d.0))) z h in
+    let t = came (changed line op d.0.tags target.typed d.1.typed) h in
     (t.value, changed_typed line op d.0.tags target.typed d.1.typed t.value t.is, t.last)
 
 pub changed_comes : (line : ℕ) (op : AssignOp) (keeps_old : Bool) (target : Found) (old : Atom) (d z : Context × Found) → 1 ≤ line → Stands (world d.0) target → Held (world d.0) target.typed.type old → Held (world d.0) d.1.typed.type (atom_in d.1) → changed_by line op keeps_old target old d ≡ Ok z → Comes d.0 z

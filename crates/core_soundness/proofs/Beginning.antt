@@ -12,7 +12,6 @@ use Rattle.c_tree.specs.Scopes.{is_scope, leads_to_name, suffix_params, first_li
 use Rattle.c_decls.specs.Named as n
 use Rattle.c_decls.specs.Named.{PlainNamed}
 use Rattle.c_decls.specs.ScopeList.{Table, named_in, found_from, first_or}
-use Rattle.c_decls.specs.Refusals.{then}
 use Rattle.c_decls.specs.TypeNames.{Layer, PointerTo, FunctionOf}
 use Rattle.c_decls.specs.Expressions.{line_of}
 use Rattle.elaboration.specs.Addressed.{Taken, nothing_taken, left, taken, all_taken, params_taken}
@@ -23,7 +22,7 @@ use Rattle.elaboration.specs.Externals.{body_begun}
 use Rattle.elaboration.specs.Locals.{declared_as}
 use Rattle.core_soundness.specs.Worlds.{World, world, FileFits, TableFits}
 use Rattle.core_soundness.specs.Spoken.{is_register}
-use Rattle.core_soundness.proofs.Grown.{good, ok_same}
+use Rattle.core_soundness.proofs.Grown.{ok_same}
 use Rattle.core_soundness.proofs.Agreeing.{came}
 use Rattle.core_soundness.proofs.Parameters.{functions, functions_joined, functions_one, functions_reversed}
 use Rattle.core_soundness.proofs.Formed.{IsLayer, IsSuffix, AreSuffixes, Shaped, Formed, AllFormed}
@@ -96,7 +95,7 @@ suffix_begun : (tree : Tree) (rest : Trees) (c : Context) (z : Context × Layer)
 unfolding suffix_layer suffix_params Formed AllFormed
 suffix_begun (Node f.ArraySuffix parts) rest c z i g s zero_yet flat h q = no_params s
 suffix_begun (Node f.FunctionSuffix (At line ▹ Node f.Params parts ▹ none)) rest c z i g s zero_yet flat h q =
-    let x = came (params parts (entered c)) (λ x. good (left_params x.0, FunctionOf line x.1)) z q in
+    let x = came (params parts (entered c)) q in
     subst (Suffixed (Some (Node f.Params parts ▹ none))) (ok_same (left_params x.value.0, FunctionOf line x.value.1) z x.last)
     (record { one = refl; begun = list_begun line parts c x.value g.1.1.0.1 zero_yet flat h x.is })
 suffix_begun (Node f.VoidSuffix parts) rest c z i g s zero_yet flat h q =
@@ -113,8 +112,8 @@ unfolding suffix_layers AllFormed
 suffixes_start none c z i g s zero_yet flat h q = no_suffix s
 suffixes_start (suffix ▹ rest) c z i g s zero_yet flat h q =
     let o : Option Trees = suffix_params (Node f.Suffixes (suffix ▹ rest) ▹ none) in
-    let l = came (suffix_layer suffix c) (λ l. then (suffix_layers rest l.0) (λ more. good (more.0, l.1 ∷ more.1))) z q in
-    let m = came (suffix_layers rest l.value.0) (λ more. good (more.0, l.value.1 ∷ more.1)) z l.last in
+    let l = came (suffix_layer suffix c) q in
+    let m = came (suffix_layers rest l.value.0) l.last in
     let a = suffix_begun suffix rest c l.value i.0 g.0 s zero_yet flat h l.is in
     subst (Starts o) (ok_same (m.value.0, l.value.1 ∷ m.value.1) z m.last)
     (record {
@@ -155,7 +154,7 @@ unfolding layers params_of params_among leads_to_name Shaped Formed AllFormed
 layers_start (Leaf word) c z i g s zero_yet flat h q = no_params s
 layers_start (At line) c z i g s zero_yet flat h q = no_params s
 layers_start (Node (f.Pointer consts) (At line ▹ declarator ▹ none)) c z i g s zero_yet flat h q =
-    let l = came (layers declarator c) (λ l. good (l.0, PointerTo line ∷ l.1)) z q in
+    let l = came (layers declarator c) q in
     let e = alone_is declarator s in
     let a = layers_start declarator c l.value g.0 g.1.1.0 (is_some_of (params_of declarator) (params_among (declarator ▹ none)) e s) zero_yet flat h l.is in
     subst (λ (o : Option Trees). Starts o z) e (subst (Starts (params_of declarator)) (ok_same (l.value.0, PointerTo line ∷ l.value.1) z l.last) (record { some = a.some; begun = λ k. a.begun k }))
@@ -163,14 +162,14 @@ layers_start (Node f.Parens (At line ▹ declarator ▹ none)) c z i g s zero_ye
     let e = alone_is declarator s in
     subst (λ (o : Option Trees). Starts o z) e (layers_start declarator c z g.0 g.1.1.0 (is_some_of (params_of declarator) (params_among (declarator ▹ none)) e s) zero_yet flat h q)
 layers_start (Node f.Direct (Leaf word ▹ Node f.Suffixes suffixes ▹ none)) c z i g s zero_yet flat h q =
-    let v = came (suffix_layers suffixes c) (λ v. good (v.0, reverse v.1 ++ [])) z q in
+    let v = came (suffix_layers suffixes c) q in
     let a = suffixes_start suffixes c v.value g.0.1 g.1.1.0.1 s zero_yet flat h v.is in
     let sum = joined_functions v.value.1 [] in
     subst (Starts (suffix_params (Node f.Suffixes suffixes ▹ none))) (ok_same (v.value.0, reverse v.value.1 ++ []) z v.last)
     (record { some = omega (arith, a.some, sum); begun = λ k. a.begun (omega (arith, k, sum)) })
 layers_start (Node f.Direct (Node form parts ▹ Node f.Suffixes suffixes ▹ none)) c z i g s zero_yet flat h q =
-    let l = came (layers (Node form parts) c) (λ l. then (suffix_layers suffixes l.0) (λ v. good (v.0, reverse v.1 ++ l.1))) z q in
-    let v = came (suffix_layers suffixes l.value.0) (λ v. good (v.0, reverse v.1 ++ l.value.1)) z l.last in
+    let l = came (layers (Node form parts) c) q in
+    let v = came (suffix_layers suffixes l.value.0) l.last in
     let e = base_is form parts suffixes s in
     let a = layers_start (Node form parts) c l.value g.0.0 g.1.0 (is_some_of (params_of (Node form parts)) (params_among (Node form parts ▹ Node f.Suffixes suffixes ▹ none)) e s) zero_yet flat h l.is in
     let sum = joined_functions v.value.1 l.value.1 in
@@ -188,7 +187,7 @@ layers_start (Node form parts) c z i g s zero_yet flat h q = absurd i
 function_counts : (line : ℕ) (name : List ℕ) (type : PlainType) (c z : Context) → declared_function line name type c ≡ Ok z → counts z ≡ counts c
 function_counts line name type c z q =
     let index = function_number name c in
-    let d = came (declared_as line name (n.Function type index) c) (λ d. good (with_function index name d)) z q in
+    let d = came (declared_as line name (n.Function type index) c) q in
     ap counts (sym (ok_same (with_function index name d.value) z d.last)) ∙ kept index d.value ∙ declared_counts line name (n.Function type index) c d.value d.is
   where
     kept : (index : ℕ) (d : Context) → counts (with_function index name d) ≡ counts d

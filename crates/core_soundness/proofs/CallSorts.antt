@@ -20,7 +20,7 @@ use Rattle.c_decls.specs.declared.built_in.BuiltIn.TheVariants as b
 use Rattle.c_decls.specs.BuiltIns.{built_ins}
 use Rattle.c_decls.specs.declared.refusal.TypeKind.TheVariants.{ArgumentCount, Format}
 use Rattle.c_decls.specs.IntegerTypes.{promoted}
-use Rattle.c_decls.specs.Refusals.{Checked, then}
+use Rattle.c_decls.specs.Refusals.{Checked}
 use Rattle.c_decls.specs.Named as n
 use Rattle.c_decls.specs.Named.{PlainNamed}
 use Rattle.c_decls.specs.ScopeList.{named_in}
@@ -341,7 +341,7 @@ named_called line other function wanted format vs c e l q h k = never_called lin
 pub call_lands : (line : ℕ) (o : Option PlainNamed) (function : Callee) (wanted : PlainType) (trees : Trees) (c : Context) (vs : List Argument) (z : Context × Found) → 1 ≤ line → CallOf (world c) o function → AllHeld (world c) function (params_of function) vs
     → call_answer line o function wanted trees c vs ≡ Ok z → Lands c z
 call_lands line o function wanted trees c vs z l q h k =
-    let e = came (call line (first_literal trees) function (types_of vs)) (λ e. good ((call_named line o e.type wanted (first_literal trees) vs c).0, found_as e (call_named line o e.type wanted (first_literal trees) vs c).1 Unknown)) z k in
+    let e = came (call line (first_literal trees) function (types_of vs)) k in
     let a = named_called line o function wanted (first_literal trees) vs c e.value l q h e.is in
     subst (Lands c) (ok_same ((call_named line o e.value.type wanted (first_literal trees) vs c).0, found_as e.value (call_named line o e.value.type wanted (first_literal trees) vs c).1 Unknown) z e.last)
     (record { goes = a.goes; stands = a.stands; apart = a.apart })

@@ -15,7 +15,7 @@ use Rattle.c_tree.specs.Grammar.{shape, assign_level}
 use Rattle.c_tree.specs.Scopes.{places}
 use Rattle.c_decls.specs.declared.refusal.TypeKind.TheVariants.{LeftOut}
 use Rattle.c_decls.specs.ScopeList.{found}
-use Rattle.c_decls.specs.Refusals.{Checked, then, unless}
+use Rattle.c_decls.specs.Refusals.{Checked, then}
 use Rattle.c_decls.specs.Typed.{PlainTyped, is_function}
 use Rattle.c_decls.specs.PlaceRules.{element, choice, assigned, changed, behind_comma, size, cast}
 use Rattle.c_decls.specs.PlaceRules as rules
@@ -228,9 +228,9 @@ mutual
 
   pub typename_still : (name : Tree) (c : Context) → Formed name → Shows (Still name) (typename name c)
   typename_still (Node f.Typename (At line ▹ Node f.Specs (At at ▹ words) ▹ declarator ▹ none)) c g d q =
-      let base = came (specs_type at words words c) (λ base. then (layers declarator base.0) (λ l. then (with_layers l.0.tags l.1 base.1) (λ type. unless (is_function type) LeftOut line (good (l.0, type))))) d q in
-      let l = came (layers declarator base.value.0) (λ l. then (with_layers l.0.tags l.1 base.value.1) (λ type. unless (is_function type) LeftOut line (good (l.0, type)))) d base.last in
-      let t = came (with_layers l.value.0.tags l.value.1 base.value.1) (λ type. unless (is_function type) LeftOut line (good (l.value.0, type))) d l.last in
+      let base = came (specs_type at words words c) q in
+      let l = came (layers declarator base.value.0) base.last in
+      let t = came (with_layers l.value.0.tags l.value.1 base.value.1) l.last in
       let plain = kept_test (is_function t.value) LeftOut line (good (l.value.0, t.value)) d t.last in
       named_still line (Node f.Specs (At at ▹ words)) declarator (specs_still at at words c g.1.1.0.0 base.value base.is)
       (layers_still declarator base.value.0 g.1.1.1.0 g.0 l.value l.is (not_function l.value.0.tags l.value.1 base.value.1 t.value t.is plain))
@@ -238,12 +238,12 @@ mutual
 
   pub layers_still : (tree : Tree) (c : Context) → Formed tree → IsLayer tree → (d : Context × List Layer) → layers tree c ≡ Ok d → functions d.1 ≡ 0 → Still tree
   layers_still (Node (f.Pointer consts) (At line ▹ declarator ▹ none)) c g i d q n =
-      let l = came (layers declarator c) (λ l. good (l.0, PointerTo line ∷ l.1)) d q in
+      let l = came (layers declarator c) q in
       let same : (l.value.0, PointerTo line ∷ l.value.1) ≡ d = ok_same (l.value.0, PointerTo line ∷ l.value.1) d l.last in
       pointer_still consts line declarator (layers_still declarator c g.1.1.0 g.0 l.value l.is (ap (λ (x : Context × List Layer). functions x.1) same ∙ n))
   layers_still (Node f.Direct (base ▹ Node f.Suffixes suffixes ▹ none)) c g i d q n =
-      let l = came (layers base c) (λ l. then (suffix_layers suffixes l.0) (λ s. good (s.0, reverse s.1 ++ l.1))) d q in
-      let s = came (suffix_layers suffixes l.value.0) (λ s. good (s.0, reverse s.1 ++ l.value.1)) d l.last in
+      let l = came (layers base c) q in
+      let s = came (suffix_layers suffixes l.value.0) l.last in
       let same : (s.value.0, reverse s.value.1 ++ l.value.1) ≡ d = ok_same (s.value.0, reverse s.value.1 ++ l.value.1) d s.last in
       let sum : functions s.value.1 + functions l.value.1 ≡ 0 = ap (λ (k : ℕ). k + functions l.value.1) (sym (functions_reversed s.value.1)) ∙ sym (functions_joined (reverse s.value.1) l.value.1) ∙ ap (λ (x : Context × List Layer). functions x.1) same ∙ n in
       let both = none_first (functions s.value.1) (functions l.value.1) sum in
@@ -256,8 +256,8 @@ mutual
   pub suffixes_still : (suffixes : Trees) (c : Context) → AllFormed suffixes → (d : Context × List Layer) → suffix_layers suffixes c ≡ Ok d → functions d.1 ≡ 0 → AllStill suffixes
   suffixes_still none c g d q n = tt
   suffixes_still (suffix ▹ rest) c g d q n =
-      let l = came (suffix_layer suffix c) (λ l. then (suffix_layers rest l.0) (λ more. good (more.0, l.1 ∷ more.1))) d q in
-      let m = came (suffix_layers rest l.value.0) (λ more. good (more.0, l.value.1 ∷ more.1)) d l.last in
+      let l = came (suffix_layer suffix c) q in
+      let m = came (suffix_layers rest l.value.0) l.last in
       let same : (m.value.0, l.value.1 ∷ m.value.1) ≡ d = ok_same (m.value.0, l.value.1 ∷ m.value.1) d m.last in
       let both = none_first (functions (l.value.1 ∷ [])) (functions m.value.1) (sym (functions_one l.value.1 m.value.1) ∙ ap (λ (x : Context × List Layer). functions x.1) same ∙ n) in
       (suffix_still suffix c g.0 l.value l.is both.0, suffixes_still rest l.value.0 g.1 m.value m.is both.1)
@@ -267,7 +267,7 @@ mutual
   suffix_still (Node f.ArraySuffix (At line ▹ Node f.MaybeLength (e ▹ none) ▹ none)) c g d q n =
       array_still line e (shows_first (Calm e) (wanted e (typed e c)) (λ x. then (array_length (line_of e) x.1) (λ length. Ok (x.0, ArrayOf line (Some length)))) (wanted_shows (Calm e) e (typed e c) (typed_calm e c g.1.1.0.1.0)) d q).still
   suffix_still (Node f.FunctionSuffix (At line ▹ Node f.Params params ▹ none)) c g d q n =
-      let x = came (param_types params (in_new_scope c)) (λ x. good (out_of_scope x.0, FunctionOf line x.1)) d q in
+      let x = came (param_types params (in_new_scope c)) q in
       let same : (out_of_scope x.value.0, FunctionOf line x.value.1) ≡ d = ok_same (out_of_scope x.value.0, FunctionOf line x.value.1) d x.last in
       let one : 1 ≡ 0 = ap (λ (y : Context × Layer). functions (y.1 ∷ [])) same ∙ n in
       absurd (omega (arith, one))

@@ -17,7 +17,7 @@ use Rattle.c_decls.specs.TypeRules.{binary, logical}
 use Rattle.c_decls.specs.PlaceRules.{choice, choice_types, chosen_pointer}
 use Rattle.elaboration.specs.Context.{Code, Context, emit, here, with_labels, new_label, integer_by}
 use Rattle.elaboration.specs.Conversions.{Found, Value, Empty, Unknown, atom_in, code_line, convert, tested_value}
-use Rattle.elaboration.specs.Rules.{set_again, compare_again, with_value, and_then, and_ends, and_ended, or_else, or_ends, or_ended, choice_spot, choice_found, chosen_by, choose_first, choose_last, chosen}
+use Rattle.elaboration.specs.Rules.{set_again, compare_again, and_then, and_ends, and_ended, or_else, or_ends, or_ended, choice_spot, choice_found, chosen_by, choose_first, choose_last, chosen}
 use Rattle.core_soundness.specs.Worlds.{World, world, Holds, HeldAs, Held, StandsAs, Stands}
 use Rattle.core_soundness.proofs.Grown.{good, ok_same, never}
 use Rattle.core_soundness.proofs.Agreeing.{came}
@@ -76,7 +76,7 @@ and_ends_gives line label t l h =
 
 pub and_comes : (line label : ℕ) (tree : Tree) (x : Found) (b : Context) (d z : Context × Found) → 1 ≤ line → 1 ≤ code_line tree → Goes b d.0 → HasValue (world d.0) d.1 → and_ended line label tree x d ≡ Ok z → Comes b z
 and_comes line label tree x b d z l l2 g h q =
-    let t = came (binary line bin.And d.0.tags x.typed d.1.typed) (λ typed. good (with_value typed Unknown (and_ends line label (tested_value tree d)))) z q in
+    let t = came (binary line bin.And d.0.tags x.typed d.1.typed) q in
     let r = logical_typed line _ x.typed d.1.typed t.value t.is in
     let v = tested_value_gives tree d l2 r.right h in
     let e = and_ends_gives line label (tested_value tree d) l v.holds in
@@ -103,7 +103,7 @@ or_ends_gives line end i t l h k =
 
 pub or_comes : (line end : ℕ) (tree : Tree) (i : Atom) (x : Found) (b : Context) (d z : Context × Found) → 1 ≤ line → 1 ≤ code_line tree → Goes b d.0 → Holds (world b) Integer i → HasValue (world d.0) d.1 → or_ended line end tree i x d ≡ Ok z → Comes b z
 or_comes line end tree i x b d z l l2 g hi h q =
-    let t = came (binary line bin.Or d.0.tags x.typed d.1.typed) (λ typed. good (with_value typed Unknown (or_ends line end i (tested_value tree d)))) z q in
+    let t = came (binary line bin.Or d.0.tags x.typed d.1.typed) q in
     let r = logical_typed line _ x.typed d.1.typed t.value t.is in
     let v = tested_value_gives tree d l2 r.right h in
     let tv = tested_value tree d in
@@ -246,7 +246,7 @@ choice_apart (types.Function answer params) a = tt
 pub chosen_lands : (line end : ℕ) (b : Context) (t : Atom) (test x : Found) (typed : PlainTyped) (d z : Context × Found) → 1 ≤ line → choice line test.typed x.typed d.1.typed ≡ Ok typed → (operand typed.type ≡ Neither → t ≡ atom.Null) → HeldAs (world b) (operand typed.type) t
     → Goes b d.0 → HasValue (world d.0) d.1 → chosen line end b.code t test x d ≡ Ok z → Lands b z
 chosen_lands line end b t test x typed d z l is n ht g h q =
-    let k = came (choice line test.typed x.typed d.1.typed) (λ typed. good (here end (choose_last line b.code typed.type t d).0, choice_found typed (choose_last line b.code typed.type t d).1)) z q in
+    let k = came (choice line test.typed x.typed d.1.typed) q in
     let same : typed ≡ k.value = ok_same typed k.value (sym is ∙ k.is) in
     let s = choice_sides line test.typed x.typed d.1.typed typed is in
     let v = convert line b.code typed.type d.1.typed (atom_in d.1) d.0 in

@@ -11,7 +11,7 @@ use Rattle.c_tree.specs.Scopes.{name_of, name_among, first_name, has_typedef, is
 use Rattle.c_decls.specs.declared.refusal.TypeKind.TheVariants.{DeclaredTwice, Incomplete, LeftOut}
 use Rattle.c_decls.specs.Named as n
 use Rattle.c_decls.specs.ScopeList.{named_in, innermost, tag_name}
-use Rattle.c_decls.specs.Refusals.{Checked, then, unless}
+use Rattle.c_decls.specs.Refusals.{Checked, unless}
 use Rattle.c_decls.specs.Typed.{is_function, has_no_size}
 use Rattle.c_decls.specs.TypeNames.{Layer, has, tag_named}
 use Rattle.elaboration.specs.Addressed as addressed
@@ -25,7 +25,7 @@ use Rattle.elaboration.specs.Declarations as storages
 use Rattle.elaboration.specs.Declarations.{Storage, Typedef, Outside, is_outside_word, storage_of, specs_alone, specs_before, fill_local, local_object, local_name, name_in, entry, entries, declaration}
 use Rattle.core_soundness.specs.Spoken.{AllSpoken}
 use Rattle.core_soundness.specs.Written.{Written, AllWritten}
-use Rattle.core_soundness.proofs.Grown.{good, ok_same, never}
+use Rattle.core_soundness.proofs.Grown.{ok_same, never}
 use Rattle.core_soundness.proofs.Agreeing.{came}
 use Rattle.core_soundness.proofs.Operating.{kept_test, behind_test}
 use Rattle.core_soundness.proofs.TypedNames.{tag_after}
@@ -133,8 +133,8 @@ entry_step : (line : ℕ) (storage : Storage) (base : PlainType) (declarator : T
 entry_step line storage base declarator inits t c z e bare gd layer named g s h q =
     let o = some_of (name_of declarator) named in
     let name = o.0 in
-    let x = came (layers declarator c) (λ x. then (with_init_layers x.0.tags x.1 inits base) (λ type. name_in false line storage (name_of declarator) type inits x.0)) z q in
-    let y = came (with_init_layers x.value.0.tags x.value.1 inits base) (λ type. name_in false line storage (name_of declarator) type inits x.value.0) z x.last in
+    let x = came (layers declarator c) q in
+    let y = came (with_init_layers x.value.0.tags x.value.1 inits base) x.last in
     let k : local_name line storage name y.value inits x.value.0 ≡ Ok z = ap (λ (v : Option (List ℕ)). name_in false line storage v y.value inits x.value.0) (sym o.1) ∙ y.last in
     let l = layers_stepped declarator t c x.value gd layer h x.is in
     let td : Taken = as_before t (taken declarator t) in
@@ -173,7 +173,7 @@ unfolding entries each Shaped Formed AllFormed
 entries_step none line storage base t c z e bare g s h q = subst (λ (x : Context). Stayed c t x) (ok_same c z q) (record { follows = h; addressed = refl; scope = s })
 entries_step (Node f.Entry (Node f.Declared (declarator ▹ none) ▹ Node f.MaybeInit inits ▹ none) ▹ rest) line storage base t c z e bare g s h q =
     let tree : Tree = Node f.Entry (Node f.Declared (declarator ▹ none) ▹ Node f.MaybeInit inits ▹ none) in
-    let d = came (entry false line storage base declarator inits c) (λ d. entries false line storage base rest d) z q in
+    let d = came (entry false line storage base declarator inits c) q in
     let gd = g.0.1.0 in
     let one = entry_step line storage base declarator inits t c d.value e (λ k. (no_inits (Node f.Declared (declarator ▹ none)) inits rest (bare k)).0) gd.1.0 gd.0.0 gd.0.1 g.0.1.1.0 s h d.is in
     let typed = entry_typed (Node f.Declared (declarator ▹ none)) inits t in
@@ -231,7 +231,7 @@ tag_stays : (line at : ℕ) (sort : RecordSort) (name : List ℕ) (t : Taken) (c
 unfolding taken all_taken left shape is_scope
 tag_stays line at sort name t c z s h q =
     let given = tag_named at sort name (asked c) (named_in (tag_name name) (innermost c.scopes)) in
-    let x = came given (λ x. good (told x.0 c, x.1)) z q in
+    let x = came given q in
     let m = tag_after at sort name (asked c) (named_in (tag_name name) (innermost c.scopes)) x.value x.is in
     let k = told_keeps x.value.0 c m in
     subst (λ (y : Context × PlainType). Stayed c (taken (Node f.Specs (At line ▹ Node (f.RecordTag sort) (At at ▹ Leaf (w.Name name) ▹ none) ▹ none)) t) y.0) (ok_same (told x.value.0 c, x.value.1) z x.last)
@@ -259,7 +259,7 @@ local_taken line words names t = ap (λ (u : Taken). as_before t u) (sym (commas
 pub declaration_in_step : (line : ℕ) (words names : Tree) (t : Taken) (c z : Context) → Formed (Node f.Local (At line ▹ words ▹ names ▹ none)) → InStep t c → declaration false line words names c ≡ Ok z → InStep (taken (Node f.Local (At line ▹ words ▹ names ▹ none)) t) z
 unfolding declaration Shaped Formed AllFormed
 declaration_in_step line words (Node f.Names names) t c z g s q =
-    let base = came (specs_before words names c) (λ base. entries false line (storage_of words) base.1 names base.0) z q in
+    let base = came (specs_before words names c) q in
     let b = before_stays words names t c base.value s.0 g.1.1.0 s.1 s.2 base.is in
     let e = entries_step names line (storage_of words) base.value.1 (taken words t) base.value.0 z b.storage (λ k. g.0 (b.none k)) g.1.1.1.0.1 b.stayed.scope b.stayed.follows base.last in
     subst (λ (u : Taken). InStep u z) (local_taken line words names t) (s.0, e.scope, e.follows)

@@ -133,7 +133,7 @@ with_local_passes name type c s = counted_passes c _ (local_in_passes (next_is_m
 
 pub with_type_passes : (answer : Checked (names.Context × PlainType)) (b c : Context) → Reached (After (asked c)) answer → Passes b c → Reached (Passes b) (with_type answer c)
 with_type_passes answer b c g p =
-    reached_after (Passes b) answer (λ x. Ok (told x.0 c, x.1)) (λ x h. reached_ok (Passes b) (told x.0 c, x.1) (passes_trans b c _ p (told_passes x.0 c (g x h) p.stays.safe)))
+    reached_after (Passes b) answer (λ x h. reached_ok (Passes b) (told x.0 c, x.1) (passes_trans b c _ p (told_passes x.0 c (g x h) p.stays.safe)))
 
 pub tail_depth : (inner : List Table) (k : ℕ) → length inner ≡ suc k → length (scopes.tail inner) ≡ k
 tail_depth [] k e = absurd (omega arith)

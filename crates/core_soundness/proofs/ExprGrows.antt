@@ -1,5 +1,5 @@
 -- What elaborating an expression does to what is known.
-use Rattle.std.proofs.Common.{◌+◌, ℕ, true, false, cond, List, [], ◌∷◌, Option, Some, None, Ok}
+use Rattle.std.proofs.Common.{ℕ, true, false, List, [], ◌∷◌, Option, Some, None}
 use Rattle.c_types.specs.Types.{PlainType, PlainTypes, Void}
 use Rattle.core_tree.specs.declared.statements.Atom.TheVariants as atom
 use Rattle.c_tree.specs.declared.operator.UnaryOp.TheVariants as u
@@ -9,7 +9,7 @@ use Rattle.c_tree.specs.Words as w
 use Rattle.c_tree.specs.Forms as f
 use Rattle.c_tree.specs.Tree.{Tree, Trees, Leaf, At, Node, none, ◌▹◌}
 use Rattle.c_decls.specs.declared.refusal.TypeKind.TheVariants.{Operands}
-use Rattle.c_decls.specs.Refusals.{Checked, then}
+use Rattle.c_decls.specs.Refusals.{Checked}
 use Rattle.c_decls.specs.ScopeList.{found as declaration}
 use Rattle.c_decls.specs.Named.{PlainNamed}
 use Rattle.c_decls.specs.Typed.{PlainTyped, is_record, constant}
@@ -33,40 +33,35 @@ use Rattle.core_soundness.proofs.Ruling.{grown_indexed, grown_dotted, grown_poin
 use Rattle.core_soundness.proofs.Unused.{cast_unused}
 
 grown_name : (line : ℕ) (name : List ℕ) (declared : Option PlainNamed) (b c : Context) → Grows b c → Grown b (name_answer line name declared c)
-grown_name line name declared b c g =
-    grown_after b (named line declared) (λ e. Ok (c, name_found e (is_inner c name) declared)) (λ e h. grown_ok b (c, name_found e (is_inner c name) declared) g)
+grown_name line name declared b c g = grown_after b (named line declared) (λ e h. grown_ok b (c, name_found e (is_inner c name) declared) g)
 
 grown_string : (line : ℕ) (bytes : List ℕ) (b c : Context) → Grows b c → Grown b (literal_answer line bytes c)
 grown_string line bytes b c g =
-    grown_after b (string line bytes) (λ e. then (with_literal line bytes c) (λ d. Ok (literal_found e d)))
-    (λ e h. grown_then b (with_literal line bytes c) (λ d. Ok (literal_found e d)) (grown_literal line bytes b c g) (λ d k. grown_ok b (literal_found e d) k))
+    grown_after b (string line bytes) (λ e h. grown_then b (grown_literal line bytes b c g) (λ d k. grown_ok b (literal_found e d) k))
 
 grown_unevaluated : (tree : Tree) (b c : Context) → Grows b c → Grown b (unevaluated c (typed tree (asked c)))
 grown_unevaluated tree b c g =
-    grown_after b (typed tree (asked c)) (λ d. Ok (told d.0 c, constant_found d.1))
+    grown_after b (typed tree (asked c))
     (λ d h. grown_ok b (told d.0 c, constant_found d.1) (grows_trans b c _ g (grows_told d.0 c (typed_after tree (asked c) d h))))
 
 grown_address : (line : ℕ) (b c : Context) (e : Found) → Grows b c → Grown b (address_answer line c e)
-grown_address line b c e g =
-    grown_after b (address line e.typed) (λ type. Ok (c, found_as type (Value (atom_in e)) e.fixed)) (λ type h. grown_ok b (c, found_as type (Value (atom_in e)) e.fixed) g)
+grown_address line b c e g = grown_after b (address line e.typed) (λ type h. grown_ok b (c, found_as type (Value (atom_in e)) e.fixed) g)
 
 grown_changing : (tree : Tree) (b : Context) (answer : With Found) → Grown b answer → Grown b (changing tree answer)
-grown_changing tree b answer g =
-    grown_then b answer (λ d. then (held_place (line_of tree) d.0.tags d.1.typed) (λ held. Ok d)) g
-    (λ d h. grown_after b (held_place (line_of tree) d.0.tags d.1.typed) (λ held. Ok d) (λ held k. grown_ok b d h))
+grown_changing tree b answer g = grown_then b g (λ d h. grown_after b (held_place (line_of tree) d.0.tags d.1.typed) (λ held k. grown_ok b d h))
 
 grown_callee : (tree : Tree) (b c : Context) (answer : With Found) → Grows b c → Grown b answer → Grown b (callee tree c answer)
 grown_callee (Node f.Name (At line ▹ Leaf (w.Name name) ▹ none)) b c answer g h =
-    grown_after b (called line c.tags (declaration c.scopes name)) (λ function. Ok (c, function)) (λ function k. grown_ok b (c, function) g)
-grown_callee tree b c answer g h = grown_then b (valued tree answer) (λ d. Ok (d.0, NoFunction)) (grown_valued tree b answer h) (λ d k. grown_ok b (d.0, NoFunction) k)
+    grown_after b (called line c.tags (declaration c.scopes name)) (λ function k. grown_ok b (c, function) g)
+grown_callee tree b c answer g h = grown_then b (grown_valued tree b answer h) (λ d k. grown_ok b (d.0, NoFunction) k)
 
 grown_format : (format : Option (List ℕ)) (b c : Context) (answer : Checked (names.Context × PlainTyped)) (walked : With Found) → Grows b c → Grown b walked → Grown b (format_argument format c answer walked)
-grown_format (Some bytes) b c answer walked g h = grown_after b answer (λ d. Ok (c, valued_as d.1 atom.Null)) (λ d k. grown_ok b (c, valued_as d.1 atom.Null) g)
+grown_format (Some bytes) b c answer walked g h = grown_after b answer (λ d k. grown_ok b (c, valued_as d.1 atom.Null) g)
 grown_format None b c answer walked g h = h
 
 grown_call : (line : ℕ) (name : Option PlainNamed) (function : Callee) (wanted : PlainType) (trees : Trees) (b c : Context) (values : List Argument) → Grows b c → Grown b (call_answer line name function wanted trees c values)
 grown_call line name function wanted trees b c values g =
-    grown_after b (call line (first_literal trees) function (types_of values)) (λ e. let d = call_named line name e.type wanted (first_literal trees) values c in Ok (d.0, found_as e d.1 Unknown))
+    grown_after b (call line (first_literal trees) function (types_of values))
     (λ e h. grown_ok b (let d = call_named line name e.type wanted (first_literal trees) values c in (d.0, found_as e d.1 Unknown)) (grows_trans b c _ g (grows_call line name e.type wanted (first_literal trees) values c)))
 
 mutual
@@ -79,29 +74,28 @@ mutual
   found_grows (Node f.Str (At line ▹ Node f.Strings parts ▹ none)) wanted c0 c g = grown_string line (joined parts) c0 c g
   found_grows (Node f.Paren (At line ▹ e ▹ none)) wanted c0 c g = found_grows e wanted c0 c g
   found_grows (Node f.Index (At line ▹ e ▹ x ▹ none)) wanted c0 c g =
-      grown_then c0 (valued e (found e Void c)) (λ d. then (valued x (found x Void d.0)) (λ r. indexed line r.0 d.1 r.1)) (grown_valued e c0 (found e Void c) (found_grows e Void c0 c g))
-      (λ d h. grown_then c0 (valued x (found x Void d.0)) (λ r. indexed line r.0 d.1 r.1) (grown_valued x c0 (found x Void d.0) (found_grows x Void c0 d.0 h))
-      (λ r k. grown_indexed line c0 r.0 d.1 r.1 k))
+      grown_then c0 (grown_valued e c0 (found e Void c) (found_grows e Void c0 c g))
+      (λ d h. grown_then c0 (grown_valued x c0 (found x Void d.0) (found_grows x Void c0 d.0 h)) (λ r k. grown_indexed line c0 r.0 d.1 r.1 k))
   found_grows (Node f.Call (At line ▹ e ▹ Node f.Arguments values ▹ none)) wanted c0 c g =
-      grown_then c0 (callee e c (found e Void c)) (λ d. then (arguments line d.1 (parameters d.1) values d.0) (λ v. call_answer line (callee_name e c) d.1 wanted values v.0 v.1)) (grown_callee e c0 c (found e Void c) g (found_grows e Void c0 c g))
-      (λ d h. grown_then c0 (arguments line d.1 (parameters d.1) values d.0) (λ v. call_answer line (callee_name e c) d.1 wanted values v.0 v.1) (arguments_grow values line d.1 (parameters d.1) c0 d.0 h)
+      grown_then c0 (grown_callee e c0 c (found e Void c) g (found_grows e Void c0 c g))
+      (λ d h. grown_then c0 (arguments_grow values line d.1 (parameters d.1) c0 d.0 h)
       (λ v k. grown_call line (callee_name e c) d.1 wanted values c0 v.0 v.1 k))
   found_grows (Node f.Dot (At line ▹ e ▹ Leaf (w.Name name) ▹ none)) wanted c0 c g =
-      grown_then c0 (found e Void c) (λ d. dotted line name d.0 d.1) (found_grows e Void c0 c g) (λ d h. grown_dotted line name c0 d.0 d.1 h)
+      grown_then c0 (found_grows e Void c0 c g) (λ d h. grown_dotted line name c0 d.0 d.1 h)
   found_grows (Node f.Arrow (At line ▹ e ▹ Leaf (w.Name name) ▹ none)) wanted c0 c g =
-      grown_then c0 (valued e (found e Void c)) (λ d. pointed line name d.0 d.1) (grown_valued e c0 (found e Void c) (found_grows e Void c0 c g)) (λ d h. grown_pointed line name c0 d.0 d.1 h)
+      grown_then c0 (grown_valued e c0 (found e Void c) (found_grows e Void c0 c g)) (λ d h. grown_pointed line name c0 d.0 d.1 h)
   found_grows (Node f.PostInc (At line ▹ e ▹ none)) wanted c0 c g =
-      grown_then c0 (changing e (found e Void c)) (λ d. stepped line a.Add true d) (grown_changing e c0 (found e Void c) (found_grows e Void c0 c g)) (λ d h. grown_stepped line a.Add true c0 d h)
+      grown_then c0 (grown_changing e c0 (found e Void c) (found_grows e Void c0 c g)) (λ d h. grown_stepped line a.Add true c0 d h)
   found_grows (Node f.PostDec (At line ▹ e ▹ none)) wanted c0 c g =
-      grown_then c0 (changing e (found e Void c)) (λ d. stepped line a.Subtract true d) (grown_changing e c0 (found e Void c) (found_grows e Void c0 c g)) (λ d h. grown_stepped line a.Subtract true c0 d h)
+      grown_then c0 (grown_changing e c0 (found e Void c) (found_grows e Void c0 c g)) (λ d h. grown_stepped line a.Subtract true c0 d h)
   found_grows (Node f.PreInc (At line ▹ e ▹ none)) wanted c0 c g =
-      grown_then c0 (changing e (found e Void c)) (λ d. stepped line a.Add false d) (grown_changing e c0 (found e Void c) (found_grows e Void c0 c g)) (λ d h. grown_stepped line a.Add false c0 d h)
+      grown_then c0 (grown_changing e c0 (found e Void c) (found_grows e Void c0 c g)) (λ d h. grown_stepped line a.Add false c0 d h)
   found_grows (Node f.PreDec (At line ▹ e ▹ none)) wanted c0 c g =
-      grown_then c0 (changing e (found e Void c)) (λ d. stepped line a.Subtract false d) (grown_changing e c0 (found e Void c) (found_grows e Void c0 c g)) (λ d h. grown_stepped line a.Subtract false c0 d h)
+      grown_then c0 (grown_changing e c0 (found e Void c) (found_grows e Void c0 c g)) (λ d h. grown_stepped line a.Subtract false c0 d h)
   found_grows (Node (f.Unary u.Address) (At line ▹ e ▹ none)) wanted c0 c g =
-      grown_then c0 (found e Void c) (λ d. address_answer line d.0 d.1) (found_grows e Void c0 c g) (λ d h. grown_address line c0 d.0 d.1 h)
+      grown_then c0 (found_grows e Void c0 c g) (λ d h. grown_address line c0 d.0 d.1 h)
   found_grows (Node (f.Unary op) (At line ▹ e ▹ none)) wanted c0 c g =
-      grown_then c0 (valued e (found e Void c)) (λ d. applied line op e d.0 d.1) (grown_valued e c0 (found e Void c) (found_grows e Void c0 c g)) (λ d h. grown_applied line op e c0 d.0 d.1 h)
+      grown_then c0 (grown_valued e c0 (found e Void c) (found_grows e Void c0 c g)) (λ d h. grown_applied line op e c0 d.0 d.1 h)
   found_grows (Node f.SizeofExpr (At line ▹ e ▹ none)) wanted c0 c g = grown_unevaluated (Node f.SizeofExpr (At line ▹ e ▹ none)) c0 c g
   found_grows (Node f.SizeofType (At line ▹ name ▹ none)) wanted c0 c g = grown_unevaluated (Node f.SizeofType (At line ▹ name ▹ none)) c0 c g
   found_grows (Node f.Cast (At line ▹ name ▹ e ▹ none)) wanted c0 c g =
@@ -110,41 +104,40 @@ mutual
       let start : Grows c (told t.0 c) = grows_told t.0 c (typename_after name (asked c) t h) in
       grows_trans c0 c d.0 g (grown_then c (cast_operand t.1 e (found e t.1 (told t.0 c))) (λ x. cast_to line t.1 c.code x.0 x.1) (λ x k. grown_unused e c (found e t.1 (told t.0 c)) (found_grows e t.1 c (told t.0 c) start) x (cast_unused t.1 e (found e t.1 (told t.0 c)) x k)) (λ x k. grown_cast line t.1 c x.0 x.1 k) d q))
   found_grows (Node (f.Binary b.And) (At line ▹ e ▹ x ▹ none)) wanted c0 c g =
-      grown_then c0 (valued e (found e Void c)) (λ d. let begun = and_then line e d in then (valued x (found x Void begun)) (λ r. and_ended line (new_label d.0) x d.1 r)) (grown_valued e c0 (found e Void c) (found_grows e Void c0 c g))
+      grown_then c0 (grown_valued e c0 (found e Void c) (found_grows e Void c0 c g))
       (λ d h. let begun = and_then line e d in
-      grown_after c0 (valued x (found x Void begun)) (λ r. and_ended line (new_label d.0) x d.1 r)
+      grown_after c0 (valued x (found x Void begun))
       (λ r k. grown_and line e x d.1 c0 d r h (grown_valued x begun (found x Void begun) (found_grows x Void begun begun (grows_refl begun)) r k)))
   found_grows (Node (f.Binary b.Or) (At line ▹ e ▹ x ▹ none)) wanted c0 c g =
-      grown_then c0 (valued e (found e Void c)) (λ d. let begun = or_else line e d in then (valued x (found x Void begun.0)) (λ r. or_ended line (new_label d.0 + 1) x begun.1 d.1 r)) (grown_valued e c0 (found e Void c) (found_grows e Void c0 c g))
+      grown_then c0 (grown_valued e c0 (found e Void c) (found_grows e Void c0 c g))
       (λ d h. let begun = or_else line e d in
-      grown_after c0 (valued x (found x Void begun.0)) (λ r. or_ended line (new_label d.0 + 1) x begun.1 d.1 r)
+      grown_after c0 (valued x (found x Void begun.0))
       (λ r k. grown_or line e x begun.1 d.1 c0 d r h (grown_valued x begun.0 (found x Void begun.0) (found_grows x Void begun.0 begun.0 (grows_refl begun.0)) r k)))
   found_grows (Node (f.Binary op) (At line ▹ e ▹ x ▹ none)) wanted c0 c g =
-      grown_after c0 (valued e (found e Void c)) (λ d. let begun = left_operand op c.code x d in then (valued x (found x Void begun.0)) (λ r. between line op begun.0.code r.0 begun.1 r.1))
+      grown_after c0 (valued e (found e Void c))
       (λ d h z q. let begun = left_operand op c.code x d in
       let start : Grows c begun.0 = grows_left op c x d (grown_valued e c (found e Void c) (found_grows e Void c c (grows_refl c)) d h) in
       grows_trans c0 c z.0 g (grows_trans c begun.0 z.0 start
-      (grown_then begun.0 (valued x (found x Void begun.0)) (λ r. between line op begun.0.code r.0 begun.1 r.1) (grown_valued x begun.0 (found x Void begun.0) (found_grows x Void begun.0 begun.0 (grows_refl begun.0)))
+      (grown_then begun.0 (grown_valued x begun.0 (found x Void begun.0) (found_grows x Void begun.0 begun.0 (grows_refl begun.0)))
       (λ r k. grown_between line op begun.0 r.0 begun.1 r.1 k) z q)))
   found_grows (Node f.Cond (At line ▹ e ▹ x ▹ y ▹ none)) wanted c0 c g =
-      grown_then c0 (valued e (found e Void c)) (λ d. let begun = choose line e d in then (valued x (found x Void begun)) (λ v. let first = choose_first line (new_label d.0) begun.code (type_ahead line d.1 y v) v in then (valued y (found y Void first.0)) (λ r. chosen line (new_label d.0 + 1) first.0.code first.1 d.1 v.1 r))) (grown_valued e c0 (found e Void c) (found_grows e Void c0 c g))
+      grown_then c0 (grown_valued e c0 (found e Void c) (found_grows e Void c0 c g))
       (λ d h. let begun = choose line e d in
-      grown_after c0 (valued x (found x Void begun)) (λ v. let first = choose_first line (new_label d.0) begun.code (type_ahead line d.1 y v) v in then (valued y (found y Void first.0)) (λ r. chosen line (new_label d.0 + 1) first.0.code first.1 d.1 v.1 r))
+      grown_after c0 (valued x (found x Void begun))
       (λ v k. let first = choose_first line (new_label d.0) begun.code (type_ahead line d.1 y v) v in
-      grown_after c0 (valued y (found y Void first.0)) (λ r. chosen line (new_label d.0 + 1) first.0.code first.1 d.1 v.1 r)
+      grown_after c0 (valued y (found y Void first.0))
       (λ r q. grown_choice line e (type_ahead line d.1 y v) d.1 c0 d v r h
       (grown_valued x begun (found x Void begun) (found_grows x Void begun begun (grows_refl begun)) v k)
       (grown_valued y first.0 (found y Void first.0) (found_grows y Void first.0 first.0 (grows_refl first.0)) r q))))
   found_grows (Node (f.Assign a.Plain) (At line ▹ e ▹ x ▹ none)) wanted c0 c g =
-      grown_then c0 (found e Void c) (λ d. then (found x d.1.typed.type d.0) (λ r. cond (is_record d.1.typed.type) (record_assigned line (line_of x) d.1 r) (scalar_assigned line d.0.code x d.1 r))) (found_grows e Void c0 c g)
-      (λ d h z q. grows_trans c0 d.0 z.0 h
-      (grown_then d.0 (found x d.1.typed.type d.0) (λ r. cond (is_record d.1.typed.type) (record_assigned line (line_of x) d.1 r) (scalar_assigned line d.0.code x d.1 r)) (found_grows x d.1.typed.type d.0 d.0 (grows_refl d.0))
+      grown_then c0 (found_grows e Void c0 c g) (λ d h z q. grows_trans c0 d.0 z.0 h
+      (grown_then d.0 (found_grows x d.1.typed.type d.0 d.0 (grows_refl d.0))
       (λ r k. grown_cond d.0 (is_record d.1.typed.type) (record_assigned line (line_of x) d.1 r) (scalar_assigned line d.0.code x d.1 r)
       (grown_record_assigned line (line_of x) d.1 d.0 r k) (grown_scalar_assigned line x d.1 d.0 r k)) z q))
   found_grows (Node (f.Assign op) (At line ▹ e ▹ x ▹ none)) wanted c0 c g =
-      grown_then c0 (changing e (found e Void c)) (λ d. let old = old_value line d in then (valued x (found x Void old.0)) (λ r. changed_by line op false d.1 old.1 r)) (grown_changing e c0 (found e Void c) (found_grows e Void c0 c g))
+      grown_then c0 (grown_changing e c0 (found e Void c) (found_grows e Void c0 c g))
       (λ d h. let old = old_value line d in
-      grown_then c0 (valued x (found x Void old.0)) (λ r. changed_by line op false d.1 old.1 r) (grown_valued x c0 (found x Void old.0) (found_grows x Void c0 old.0 (grows_trans c0 d.0 old.0 h (grows_old line d))))
+      grown_then c0 (grown_valued x c0 (found x Void old.0) (found_grows x Void c0 old.0 (grows_trans c0 d.0 old.0 h (grows_old line d))))
       (λ r k. grown_changed line op false d.1 old.1 c0 r k))
   found_grows (Node f.Comma (At line ▹ e ▹ x ▹ none)) wanted c0 c g =
       grown_then c0 (unused e (found e Void c)) (λ d. then (unused x (found x Void d.0)) (λ r. Ok (comma_answer r))) (grown_unused e c0 (found e Void c) (found_grows e Void c0 c g))
@@ -155,8 +148,8 @@ mutual
   pub arguments_grow : (trees : Trees) (line : ℕ) (target : Callee) (params : PlainTypes) (c0 c : Context) → Grows c0 c → Grown c0 (arguments line target params trees c)
   arguments_grow none line target params c0 c g = grown_ok c0 (c, []) g
   arguments_grow (e ▹ rest) line target params c0 c g =
-      grown_after c0 (format_argument (is_printf target e) c (typed e (asked c)) (valued e (found e (first_type params) c))) (λ d. let v = argument_from line params c.code d.0 d.1 in then (arguments line NoFunction (rest_types params) rest v.0) (λ more. Ok (more.0, v.1 ∷ more.1)))
+      grown_after c0 (format_argument (is_printf target e) c (typed e (asked c)) (valued e (found e (first_type params) c)))
       (λ d h. let v = argument_from line params c.code d.0 d.1 in
       let walked : Grows c d.0 = grown_format (is_printf target e) c c (typed e (asked c)) (valued e (found e (first_type params) c)) (grows_refl c) (grown_valued e c (found e (first_type params) c) (found_grows e (first_type params) c c (grows_refl c))) d h in
-      grown_then c0 (arguments line NoFunction (rest_types params) rest v.0) (λ more. Ok (more.0, v.1 ∷ more.1)) (arguments_grow rest line NoFunction (rest_types params) c0 v.0 (grows_trans c0 c v.0 g (grows_argument line params c d.0 d.1 walked)))
+      grown_then c0 (arguments_grow rest line NoFunction (rest_types params) c0 v.0 (grows_trans c0 c v.0 g (grows_argument line params c d.0 d.1 walked)))
       (λ more k. grown_ok c0 (more.0, v.1 ∷ more.1) k))

@@ -15,7 +15,7 @@ use Rattle.c_tree.specs.Tree.{Tree, Trees, At, Node, none, ◌▹◌, count}
 use Rattle.c_decls.specs.declared.typed.Folded.{Folded}
 use Rattle.c_decls.specs.declared.typed.Folded.TheVariants.{Is}
 use Rattle.c_decls.specs.declared.refusal.TypeKind.TheVariants.{Operands, Assignment, NotConstant}
-use Rattle.c_decls.specs.Refusals.{refused, then, unless}
+use Rattle.c_decls.specs.Refusals.{refused, then}
 use Rattle.c_decls.specs.Typed.{is_null_constant}
 use Rattle.c_decls.specs.PlaceRules.{unconverted, converts}
 use Rattle.c_decls.specs.Expressions.{line_of, typed, string}
@@ -118,7 +118,7 @@ module _ (ts : List CompletedTag) (room : ℕ) (slots : List ℕ) where
 
   fill_filled : (e : Tree) (line : ℕ) (type : PlainType) (offset low : ℕ) (l : Layout) (before : Code) (target : Target) (c : Context) (d : Context × Found) → NoAggregate type → layout_of (known ts) type ≡ Some l → low ≤ offset → Seat room slots offset l → Kept c d.0 → TargetFilled slots low target → Led (Fills slots (offset + l.size) c) (fill_scalar e line type offset before d target)
   fill_filled e line type offset low l before (InStatic start) c d a q k seat s h =
-      led_after (Fills slots (offset + l.size) c) (static_scalar line type offset start d.1) (λ filled. Ok (d.0, InStatic filled))
+      led_after (Fills slots (offset + l.size) c) (static_scalar line type offset start d.1)
       (λ filled r. led_ok (Fills slots (offset + l.size) c) (d.0, InStatic filled) (s, scalar_filled_at line type offset low l start d.1 a q k seat h filled r))
   fill_filled e line type offset low l before other c d a q k seat s h = absurd h
 
@@ -126,7 +126,7 @@ module _ (ts : List CompletedTag) (room : ℕ) (slots : List ℕ) where
   scalar_fills e line type offset low l target c a solid q k seat h =
       let begun = opened e c in
       let o = opened_kept e c solid in
-      led_after (Fills slots (offset + l.size) c) (valued e (found e type begun)) (λ d. converts line type d.1.typed (fill_scalar e line type offset begun.code d target))
+      led_after (Fills slots (offset + l.size) c) (valued e (found e type begun))
       (λ d r. led_barred (Fills slots (offset + l.size) c) (unconverted type d.1.typed) line (fill_scalar e line type offset begun.code d target)
       (fill_filled e line type offset low l begun.code target c d a q k seat (kept_trans c begun d.0 o (value_kept e type begun d o.solid r)) h))
 
@@ -203,15 +203,15 @@ module _ (ts : List CompletedTag) (all : AllProper ts) (room : ℕ) (slots : Lis
     initialize_fills (Node (f.InitList trailing) (At line ▹ Node f.Inits inits ▹ none)) in_scalar type offset low l target c solid same p q k seat h =
         led_cond (Fills slots (offset + l.size) c) (takes_braces type in_scalar) (initialize_parts line inits (is_scalar_type type) (parts_of c (count inits) type offset) target c) (then (all_surplus inits c) (λ d. refused Assignment line))
         (parts_fill inits line (is_scalar_type type) (parts_of c (count inits) type offset) low offset (offset + l.size) target c solid same k (seated_parts ts room slots c (count inits) type offset l solid same all p q seat) h)
-        (led_after (Fills slots (offset + l.size) c) (all_surplus inits c) (λ d. refused Assignment line) (λ d r. led_refused (Fills slots (offset + l.size) c) Assignment line))
+        (led_after (Fills slots (offset + l.size) c) (all_surplus inits c) (λ d r. led_refused (Fills slots (offset + l.size) c) Assignment line))
     initialize_fills tree in_scalar type offset low l target c solid same p q k seat h = led_refused (Fills slots (offset + l.size) c) Operands (line_of tree)
 
     parts_fill : (inits : Trees) (line : ℕ) (in_scalar : Bool) (parts : List (PlainType × ℕ)) (low base high : ℕ) (target : Target) (c : Context) → Solid c → c.tags.completed ≡ ts → low ≤ base → PartsSeated ts room slots base high parts → TargetFilled slots low target → Led (Fills slots high c) (initialize_parts line inits in_scalar parts target c)
     parts_fill none line in_scalar parts low base high target c solid same k seats h =
         let far = parts_end ts room slots base high parts seats in led_ok (Fills slots high c) (c, target) (kept_refl c solid, target_more slots low high target (omega (arith, k, far)) h)
-    parts_fill (init ▹ rest) line in_scalar [] low base high target c solid same k seats h = led_after (Fills slots high c) (all_surplus (init ▹ rest) c) (λ d. refused Assignment line) (λ d q. led_refused (Fills slots high c) Assignment line)
+    parts_fill (init ▹ rest) line in_scalar [] low base high target c solid same k seats h = led_after (Fills slots high c) (all_surplus (init ▹ rest) c) (λ d q. led_refused (Fills slots high c) Assignment line)
     parts_fill (init ▹ rest) line in_scalar (part ∷ parts) low base high target c solid same k seats h =
-        led_after (Fills slots high c) (initialize init in_scalar part.0 part.1 target c) (λ d. initialize_parts line rest in_scalar parts d.1 d.0)
+        led_after (Fills slots high c) (initialize init in_scalar part.0 part.1 target c)
         (λ d q z s.
         let one = initialize_fills init in_scalar part.0 part.1 low seats.1.0 target c solid same seats.1.3 seats.1.1 (omega (arith, k, seats.0)) seats.1.2 h d q in
         let last = parts_fill rest line in_scalar parts (part.1 + seats.1.0.size) (part.1 + seats.1.0.size) high d.1 d.0 one.0.solid (one.0.completed ∙ same) (omega arith) seats.1.4 one.1 z s in

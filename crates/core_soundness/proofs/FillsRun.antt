@@ -1,5 +1,5 @@
 -- What initializers do to what fits (C99 6.7.8).
-use Rattle.std.proofs.Common.{◌≡◌, ◌≤◌, ◌<◌, ◌+◌, ◌&&◌, ℕ, pos, Bool, true, false, not, cond, min, take, length, List, [], ◌∷◌, Option, Some, None, Ok, refl, sym, subst, arith}
+use Rattle.std.proofs.Common.{◌≡◌, ◌≤◌, ◌<◌, ◌+◌, ◌&&◌, ℕ, pos, Bool, true, false, cond, min, take, length, List, [], ◌∷◌, Option, Some, None, Ok, refl, sym, subst, arith}
 use Rattle.c_types.specs.Types.{PlainType, Array, Struct, Union}
 use Rattle.core_tree.specs.declared.program.Start.{Start}
 use Rattle.core_tree.specs.declared.statements.Atom.TheVariants as atom
@@ -8,10 +8,10 @@ use Rattle.core_tree.specs.Sorts.{Pointer}
 use Rattle.c_tree.specs.Forms as f
 use Rattle.c_tree.specs.Tree.{Tree, Trees, At, Node, none, ◌▹◌, count}
 use Rattle.c_decls.specs.declared.refusal.TypeKind.TheVariants.{Assignment}
-use Rattle.c_decls.specs.Refusals.{Checked, refused, then, unless}
+use Rattle.c_decls.specs.Refusals.{Checked, refused, then}
 use Rattle.c_decls.specs.ScopeList.{ScopeList}
 use Rattle.c_decls.specs.Typed.{is_record, same}
-use Rattle.c_decls.specs.PlaceRules.{unconverted, converts}
+use Rattle.c_decls.specs.PlaceRules.{unconverted}
 use Rattle.elaboration.specs.Context.{Context, emit}
 use Rattle.elaboration.specs.Conversions.{Found, Local, Memory, atom_in, code_line, valued, convert, write, size_or_zero}
 use Rattle.elaboration.specs.Reallocates.{opened, closed}
@@ -96,12 +96,12 @@ fill_scalar_fits e line type offset c d (InMemory at mem) z v u h q =
     subst (Fills c (InMemory at mem)) (ok_same (closed e s, InMemory at mem) z q)
     (record { goes = goes_trans c x.0 _ gx (goes_trans x.0 place.0 _ pg.goes (goes_trans place.0 s _ gs (closed_goes e s v.line))); same = refl })
 fill_scalar_fits e line type offset c d (InStatic start) z v u h q =
-    let s = came (static_scalar line type offset start d.1) (λ filled. good (d.0, InStatic filled)) z q in
+    let s = came (static_scalar line type offset start d.1) q in
     subst (Fills c (InStatic start)) (ok_same (d.0, InStatic s.value) z s.last) (record { goes = evaluated_goes c e d v; same = tt })
 
 scalar_fits : (e : Tree) (line : ℕ) (type : PlainType) (offset : ℕ) (t : Target) (c : Context) (z : Context × Target) → Spoken c.scopes e → NamesFit (world c) c.scopes → TargetFits (world c) type t → scalar e line type offset t c ≡ Ok z → Fills c t z
 scalar_fits e line type offset t c z s n h q =
-    let d = came (valued e (found e type (opened e c))) (λ d. converts line type d.1.typed (fill_scalar e line type offset (opened e c).code d t)) z q in
+    let d = came (valued e (found e type (opened e c))) q in
     let k = unbarred (unconverted type d.value.1.typed) line (fill_scalar e line type offset (opened e c).code d.value t) z d.last in
     fill_scalar_fits e line type offset c d.value t z (evaluates e type c d.value s n d.is) k.0 h k.1
 
@@ -140,7 +140,7 @@ text_line e s bytes h k = cc
 
 fill_text_fits : (e : Tree) (line : ℕ) (bytes : List ℕ) (type : PlainType) (size offset : ℕ) (t : Target) (c : Context) (z : Context × Target) → 1 ≤ code_line e → TargetFits (world c) type t → fill_text e line bytes size offset t c ≡ Ok z → Fills c t z
 fill_text_fits e line bytes type size offset (InMemory at mem) c z l h q =
-    let d = came (with_literal line bytes (opened e c)) (λ d. copy_text at mem offset (min (length bytes + 1) size) d) z q in
+    let d = came (with_literal line bytes (opened e c)) q in
     let k = literal_there line bytes (opened e c) d.value d.is in
     let g : Goes c d.value.0 = goes_trans c (opened e c) d.value.0 (opened_goes e c l) k.goes in
     let place = member_place at mem offset d.value.0 in
@@ -198,7 +198,7 @@ cond_parts true c t one other z x y q = x q
 cond_parts false c t one other z x y q = y q
 
 surplus_never : (c : Context) (t : Target) (inits : Trees) (line : ℕ) (z : Context × Target) → then (all_surplus inits c) (λ d. bad (record { kind = Assignment; line = line })) ≡ good z → Fills c t z
-surplus_never c t inits line z q = let d = came (all_surplus inits c) (λ d. bad (record { kind = Assignment; line = line })) z q in never _ _ z d.last
+surplus_never c t inits line z q = let d = came (all_surplus inits c) q in never _ _ z d.last
 
 mutual
   unfolding initialize initialize_parts Spoken AllSpoken
@@ -214,7 +214,7 @@ mutual
   initialize_parts_fit none line in_scalar parts t c z s n h q = subst (Fills c t) (ok_same (c, t) z q) (record { goes = goes_refl c; same = target_refl t })
   initialize_parts_fit (init ▹ rest) line in_scalar [] t c z s n h q = surplus_never c t (init ▹ rest) line z q
   initialize_parts_fit (init ▹ rest) line in_scalar (part ∷ parts) t c z s n h q =
-      let d = came (initialize init in_scalar part.0 part.1 t c) (λ d. initialize_parts line rest in_scalar parts d.1 d.0) z q in
+      let d = came (initialize init in_scalar part.0 part.1 t c) q in
       let one = initialize_fits init in_scalar part.0 part.1 t c d.value s.0 n h.0 d.is in
       let two = initialize_parts_fit rest line in_scalar parts d.value.1 d.value.0 z (all_spoken_more c.scopes d.value.0.scopes rest one.goes.more s.1) (names_more (world c) (world d.value.0) c.scopes d.value.0.scopes one.goes.grew one.goes.more n) (all_targets_on (world c) (world d.value.0) parts t d.value.1 one.goes.grew one.same h.1) d.last in
       record { goes = goes_trans c d.value.0 z.0 one.goes two.goes; same = target_trans t d.value.1 z.1 one.same two.same }

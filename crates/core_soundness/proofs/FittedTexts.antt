@@ -33,7 +33,7 @@ use Rattle.elaboration.specs.Locals.{is_twice_in, declared_as}
 use Rattle.elaboration.specs.Declarators.{layers}
 use Rattle.elaboration.specs.Initializers.{Target, InStatic, initialize, surplus, no_start, with_init_layers}
 use Rattle.elaboration.specs.Declarations.{Storage, Typedef, storage_of, specs_before, declared_function, no_initializer, variable_number_of, with_new_variable, with_variable, start_of, start_in, started_variable, started, fill_variable, file_object, file_function, file_value, file_name, name_in, entry, entries, declaration}
-use Rattle.elaboration.specs.Externals.{begun, is_defined, external, externals, calls_defined, is_main, ended}
+use Rattle.elaboration.specs.Externals.{begun, is_defined, external, externals, calls_defined, is_main}
 use Rattle.elaboration.specs.Addressed.{addressed_in}
 use Rattle.elaboration.specs.Resolving.{core_of}
 use Rattle.elaboration.specs.Elaboration.{walked, elaborated}
@@ -155,7 +155,7 @@ fill_fitted line index type (init ▹ rest) c v solid ks st h at laid =
     let ts = c.tags.completed in
     let l = v.layout in
     led_unless Fitted (is_some (start_of (slice_get c.variables index))) DeclaredTwice line (then (initialize init false type 0 (InStatic no_start) c) (λ d. Ok (started index d)))
-    (λ t. led_after Fitted (initialize init false type 0 (InStatic no_start) c) (λ d. Ok (started index d))
+    (λ t. led_after Fitted (initialize init false type 0 (InStatic no_start) c)
     (λ d q. let points = initialize_points init false type 0 (InStatic no_start) c (there_of c h) tt d q in
     let fills = initialize_fills ts (all_proper c.tags.made ts ks.bodies) l.size l.slots init false type 0 0 l (InStatic no_start) c solid refl (proper_type c.tags.made ts type ks.bodies st) laid (omega arith) (seat_whole l) (nothing_filled l.slots 0) d q in
     let near = fitted_on c d.0 points.0 (same_known c d.0 fills.0.completed) h in
@@ -189,7 +189,7 @@ module _ (name : List ℕ) (type : PlainType) (c : Context) (file : Table) where
   new_placed line index x e s h q =
       let d = pushed index in
       let v : Variable = record { name = name; layout = unwrap_or (layout_in c.tags type) no_layout; start = None } in
-      let y = came (with_static line (size_or_zero d type) d) (λ z. good (record z { variables = z.variables ++ (record { name = name; layout = unwrap_or (layout_in z.tags type) no_layout; start = None }) ∷ [] })) x q in
+      let y = came (with_static line (size_or_zero d type) d) q in
       let k = d.static_bytes + block_size (size_or_zero d type) in
       let p : record d { static_bytes = k } ≡ y.value = passed _ StaticTooLarge line (record d { static_bytes = k }) y.value y.is in
       let same : record d { static_bytes = k; variables = c.variables ++ v ∷ [] } ≡ x =
@@ -280,9 +280,9 @@ object_fitted line name type inits c flat h w ks st fit =
     let index = variable_number_of c (named_in name c.scopes.file) in
     led_unless Fitted (has_no_size c.tags type) Incomplete line (then (declared_as line name (n.Object type index) c) (λ d. then (with_variable line index name type d) (λ v. fill_variable line index type inits v)))
     (λ t. let sized = has_size c.tags type t in
-    led_after Fitted (declared_as line name (n.Object type index) c) (λ d. then (with_variable line index name type d) (λ v. fill_variable line index type inits v))
+    led_after Fitted (declared_as line name (n.Object type index) c)
     (λ d q. let r = declared_rises line name (n.Object type index) c h w (λ x. tt) d q in
-    led_after Fitted (with_variable line index name type d) (λ v. fill_variable line index type inits v)
+    led_after Fitted (with_variable line index name type d)
     (λ x s. let k = variable_rises line index name type d r.solid (whole_stays type (K c) (K d) r.more w) (some_stays (K c) (K d) type r.more sized) x s in
     let p = placed line name type c d x flat sized fit q s in
     fill_fitted line index type inits x p.variable k.solid (k.kinds.sorts (r.kinds.sorts ks)) (type_longer type c.tags.made x.tags.made (λ i u e. k.kinds.made i u (r.kinds.made i u e)) st) p.fitted p.there p.laid)))
@@ -291,12 +291,12 @@ object_fitted line name type inits c flat h w ks st fit =
 
 no_initializer_fitted : (inits : Trees) (c : Context) → Fitted c → Led Fitted (no_initializer inits c)
 no_initializer_fitted none c h = led_ok Fitted c h
-no_initializer_fitted (init ▹ rest) c h = led_after Fitted (surplus init c) (λ d. refused Assignment (line_of init)) (λ d q. led_refused Fitted Assignment (line_of init))
+no_initializer_fitted (init ▹ rest) c h = led_after Fitted (surplus init c) (λ d q. led_refused Fitted Assignment (line_of init))
 
 value_fitted : (line : ℕ) (name : List ℕ) (type : PlainType) (inits : Trees) (c : Context) → length c.scopes.inner ≡ 0 → Solid c → Whole (K c) type → Sorts c → SortedType c.tags.made type → Fitted c → Led Fitted (file_value line name type inits c)
 value_fitted line name type inits c flat h w ks st fit =
     led_cond Fitted (is_function type) (file_function line name type inits c) (file_object line name type inits c)
-    (led_after Fitted (declared_function line name type c) (λ d. no_initializer inits d)
+    (led_after Fitted (declared_function line name type c)
     (λ d q. no_initializer_fitted inits d (fitted_on c d (function_settled line name type c d q) (declared_function_rises line name type c h w d q).more fit)))
     (object_fitted line name type inits c flat h w ks st fit)
 
@@ -319,10 +319,10 @@ record Steady (c : Context) : Type 0 where
 
 entry_fitted : (line : ℕ) (storage : Storage) (base : PlainType) (declarator : Tree) (inits : Trees) (c : Context) → Steady c → Whole (K c) base → SortedType c.tags.made base → Written declarator → AllWritten inits → Led Fitted (entry true line storage base declarator inits c)
 entry_fitted line storage base declarator inits c k b st w v =
-    led_after Fitted (layers declarator c) (λ l. then (with_init_layers l.0.tags l.1 inits base) (λ type. name_in true line storage (name_of declarator) type inits l.0))
+    led_after Fitted (layers declarator c)
     (λ l q. let r = layers_rise declarator c k.solid w l q in
     let m = layers_level declarator c c (levels_refl c) l q in
-    led_after Fitted (with_init_layers l.0.tags l.1 inits base) (λ type. name_in true line storage (name_of declarator) type inits l.0)
+    led_after Fitted (with_init_layers l.0.tags l.1 inits base)
     (λ type s. name_fitted line storage (name_of declarator) type inits l.0 (m.depth ∙ k.flat) r.0.solid
     (init_layers_whole l.0.tags l.1 inits base v (whole_stays base (K c) (K l.0) r.0.more b) r.1 type s)
     (r.0.kinds.sorts k.sorts)
@@ -333,7 +333,7 @@ entries_fitted : (names : Trees) (line : ℕ) (storage : Storage) (base : PlainT
 unfolding entries Written AllWritten
 entries_fitted none line storage base c k b st w = led_ok Fitted c k.fitted
 entries_fitted (Node f.Entry (Node f.Declared (declarator ▹ none) ▹ Node f.MaybeInit inits ▹ none) ▹ rest) line storage base c k b st w =
-    led_after Fitted (entry true line storage base declarator inits c) (λ d. entries true line storage base rest d)
+    led_after Fitted (entry true line storage base declarator inits c)
     (λ d q. let o = entry_rises c true line storage base declarator inits c (rises_refl c k.solid) b (λ x. st) w.0.1.0.1.0 w.0.1.1.0.1 d q in
     let y = (entry_declares true line storage base declarator inits c k.safe (λ t. k.flat) d q).stays in
     entries_fitted rest line storage base d
@@ -344,7 +344,7 @@ entries_fitted (tree ▹ rest) line storage base c k b st w = led_refused Fitted
 declaration_fitted : (line : ℕ) (words tree : Tree) (c : Context) → Steady c → Written words → Written tree → Led Fitted (declaration true line words tree c)
 unfolding declaration Written
 declaration_fitted line words (Node f.Names names) c k v w =
-    led_after Fitted (specs_before words names c) (λ base. entries true line (storage_of words) base.1 names base.0)
+    led_after Fitted (specs_before words names c)
     (λ base q. let b = before_rises words names c k.solid v base q in
     let m = before_level words names c base q in
     let y = (specs_before_passes words names c k.safe base q).stays in
@@ -371,7 +371,7 @@ externals_fitted : (unit : Trees) (c : Context) → Sane c → Solid c → Sorts
 unfolding externals
 externals_fitted none c s h ks w fit = led_ok Fitted c fit
 externals_fitted (tree ▹ rest) c s h ks w fit =
-    led_after Fitted (external tree c) (λ d. externals rest d)
+    led_after Fitted (external tree c)
     (λ d q. let r = external_rises tree c h w.0.0 d q in
     externals_fitted rest d (external_sane tree c s d q) r.solid (r.kinds.sorts ks) w.1 (external_fitted tree c s h ks w.0.0 fit d q))
 
@@ -406,9 +406,9 @@ calls_fitted functions (call ∷ calls) c h = led_cond Fitted (is_defined (slice
 
 walked_fitted : (unit : Trees) → AreWritten unit → Led Fitted (walked unit)
 walked_fitted unit w =
-    led_after Fitted (externals unit first_context) ended
+    led_after Fitted (externals unit first_context)
     (λ x s. let r = externals_fitted unit first_context first_sane first_solid first_sorts w first_fitted x s in
-    led_after Fitted (calls_defined x.functions x.calls x) (λ d. unless (not (is_main d.functions (named_in (codes "main") d.scopes.file))) NoMain 1 (Ok d))
+    led_after Fitted (calls_defined x.functions x.calls x)
     (λ d k. led_unless Fitted (not (is_main d.functions (named_in (codes "main") d.scopes.file))) NoMain 1 (Ok d) (λ y. led_ok Fitted d (calls_fitted x.functions x.calls x r d k))))
 
 -- the statics of a core

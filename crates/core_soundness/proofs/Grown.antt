@@ -27,13 +27,12 @@ pub grown_refused : {A : Type 0} (b : Context) (kind : TypeKind) (line : ℕ) �
 grown_refused b kind line d e = never (Grows b d.0) _ d e
 
 -- what is checked first; and what comes next
-pub grown_after : {A B : Type 0} (b : Context) (r : Checked A) (f : A → With B) → ((a : A) → r ≡ Ok a → Grown b (f a)) → Grown b (then r f)
-grown_after b (Ok a) f h d e = h a refl d e
-grown_after b (Err x) f h d e = never (Grows b d.0) x d e
+pub grown_after : {A B : Type 0} (b : Context) (r : Checked A) {f : A → With B} → ((a : A) → r ≡ Ok a → Grown b (f a)) → Grown b (then r f)
+grown_after b (Ok a) h d e = h a refl d e
+grown_after b (Err x) h d e = never (Grows b d.0) x d e
 
-pub grown_then : {A B : Type 0} (b : Context) (r : With A) (f : Context × A → With B) → Grown b r → ((d : Context × A) → Grows b d.0 → Grown b (f d)) → Grown b (then r f)
-grown_then b (Ok a) f g h d e = h a (g a refl) d e
-grown_then b (Err x) f g h d e = never (Grows b d.0) x d e
+pub grown_then : {A B : Type 0} (b : Context) {r : With A} {f : Context × A → With B} → Grown b r → ((d : Context × A) → Grows b d.0 → Grown b (f d)) → Grown b (then r f)
+grown_then b {r} {f} g h = grown_after b r {f = f} (λ a e. h a (g a e))
 
 pub grown_cond : {A : Type 0} (b : Context) (test : Bool) (r s : With A) → Grown b r → Grown b s → Grown b (cond test r s)
 grown_cond b true r s x y = x

@@ -1,5 +1,5 @@
 -- What initializers do to what is known.
-use Rattle.std.proofs.Common.{◌≡◌, ◌+◌, ℕ, pos, Bool, true, false, not, cond, length, min, take, List, [], ◌∷◌, Option, Some, None, Ok, refl, ◌∙◌, subst}
+use Rattle.std.proofs.Common.{◌≡◌, ◌+◌, ℕ, pos, Bool, true, false, not, cond, length, min, take, List, [], ◌∷◌, Option, Some, None, refl, ◌∙◌, subst}
 use Rattle.c_types.specs.Types.{PlainType, Array, Struct, Union}
 use Rattle.core_tree.specs.declared.program.Start.{Start}
 use Rattle.core_tree.specs.declared.statements.Atom.{Atom}
@@ -83,13 +83,13 @@ fill_scalar_fills e line type offset b d (InMemory at mem) s g =
     (grows_trans begun v.0 _ (grows_convert at begun type d.1.typed (atom_in d.1) d.0 g)
     (grows_trans v.0 place.0 _ (grows_place at mem offset v.0) (grows_write at type (Memory place.1) v.1 place.0)))))
 fill_scalar_fills e line type offset b d (InStatic start) s g =
-    led_after (Fills (InStatic start) b) (static_scalar line type offset start d.1) (λ filled. Ok (d.0, InStatic filled))
+    led_after (Fills (InStatic start) b) (static_scalar line type offset start d.1)
     (λ filled h. led_ok (Fills (InStatic start) b) (d.0, InStatic filled) (static_fills start filled b d.0 (opened_stays e b d.0 s g)))
 
 scalar_fills : (e : Tree) (line : ℕ) (type : PlainType) (offset : ℕ) (t : Target) (b : Context) → Safe b.scopes → Led (Fills t b) (scalar e line type offset t b)
 scalar_fills e line type offset t b s =
     let begun = opened e b in
-    led_after (Fills t b) (valued e (found e type begun)) (λ d. converts line type d.1.typed (fill_scalar e line type offset begun.code d t))
+    led_after (Fills t b) (valued e (found e type begun))
     (λ d h. led_barred (Fills t b) (unconverted type d.1.typed) line (fill_scalar e line type offset begun.code d t)
     (fill_scalar_fills e line type offset b d t s (grown_valued e begun (found e type begun) (found_grows e type begun begun (grows_refl begun)) d h)))
 
@@ -123,7 +123,7 @@ text_opens_none e s bytes h = cc
 fill_text_fills : (e : Tree) (line : ℕ) (bytes : List ℕ) (size offset : ℕ) (t : Target) (b : Context) → text e ≡ Some bytes → Safe b.scopes → Led (Fills t b) (fill_text e line bytes size offset t b)
 fill_text_fills e line bytes size offset (InMemory at mem) b is s =
     let begun = opened e b in
-    led_after (Fills (InMemory at mem) b) (with_literal line bytes begun) (λ d. copy_text at mem offset (min (length bytes + 1) size) d)
+    led_after (Fills (InMemory at mem) b) (with_literal line bytes begun)
     (λ d h. let place = member_place at mem offset d.0 in
     let k : ℕ = min (length bytes + 1) size in
     led_ok (Fills (InMemory at mem) b) (emit at (Copy place.1 (atom.Static d.1) (pos k)) place.0, InMemory at mem)
@@ -157,16 +157,15 @@ mutual
   initialize_fills (Node f.InitExpr (At line ▹ e ▹ none)) in_scalar type offset t b s = by_expression_fills e (line_of e) type offset t b s
   initialize_fills (Node (f.InitList trailing) (At line ▹ Node f.Inits inits ▹ none)) in_scalar type offset t b s =
       elim (takes_braces type in_scalar) as (λ k. Led (Fills t b) (cond k (initialize_parts line inits (is_scalar_type type) (parts_of b (count inits) type offset) t b) (then (all_surplus inits b) (λ d. refused Assignment line)))) [
-        | true ↦ parts_fill inits line (is_scalar_type type) (parts_of b (count inits) type offset) t b s
-        | false ↦ led_after (Fills t b) (all_surplus inits b) (λ d. refused Assignment line) (λ d h. led_refused (Fills t b) Assignment line)
-      ]
+      | true ↦ parts_fill inits line (is_scalar_type type) (parts_of b (count inits) type offset) t b s
+      | false ↦ led_after (Fills t b) (all_surplus inits b) (λ d h. led_refused (Fills t b) Assignment line) ]
   initialize_fills tree in_scalar type offset t b s = led_refused (Fills t b) Operands (line_of tree)
 
   parts_fill : (inits : Trees) (line : ℕ) (in_scalar : Bool) (parts : List (PlainType × ℕ)) (t : Target) (b : Context) → Safe b.scopes → Led (Fills t b) (initialize_parts line inits in_scalar parts t b)
   parts_fill none line in_scalar parts t b s = led_ok (Fills t b) (b, t) (fills_refl t b s)
   parts_fill (init ▹ rest) line in_scalar [] t b s =
-      led_after (Fills t b) (all_surplus (init ▹ rest) b) (λ d. refused Assignment line) (λ d h. led_refused (Fills t b) Assignment line)
+      led_after (Fills t b) (all_surplus (init ▹ rest) b) (λ d h. led_refused (Fills t b) Assignment line)
   parts_fill (init ▹ rest) line in_scalar (part ∷ parts) t b s =
-      led_after (Fills t b) (initialize init in_scalar part.0 part.1 t b) (λ d. initialize_parts line rest in_scalar parts d.1 d.0)
+      led_after (Fills t b) (initialize init in_scalar part.0 part.1 t b)
       (λ d h z e. let one : Fills t b d = initialize_fills init in_scalar part.0 part.1 t b s d h in
       fills_trans t d.1 z.1 b d.0 z.0 one (parts_fill rest line in_scalar parts d.1 d.0 one.stays.safe z e))

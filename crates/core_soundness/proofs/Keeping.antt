@@ -13,7 +13,6 @@ use Rattle.c_decls.specs.Named as n
 use Rattle.c_decls.specs.Named.{PlainNamed}
 use Rattle.c_decls.specs.ScopeList as scopes
 use Rattle.c_decls.specs.ScopeList.{ScopeList, Table, named_in, found_from, found}
-use Rattle.c_decls.specs.Refusals.{then, unless}
 use Rattle.c_decls.specs.IntegerTypes.{promoted}
 use Rattle.c_decls.specs.Typed.{Operand, Number, operand, is_scalar}
 use Rattle.c_decls.specs.Expressions.{line_of, typed, wanted, constant_from}
@@ -27,7 +26,7 @@ use Rattle.elaboration.specs.Statements.{evaluated, closed_atom, condition, leav
 use Rattle.core_soundness.specs.Spoken.{is_register}
 use Rattle.core_soundness.proofs.Names.{More, MoreTags, MoreAll, IsNewTag, more_refl, more_trans}
 use Rattle.core_soundness.proofs.Owners.{more_depth}
-use Rattle.core_soundness.proofs.Grown.{good, ok_same, never}
+use Rattle.core_soundness.proofs.Grown.{ok_same, never}
 use Rattle.core_soundness.proofs.Growth.{Grows, grows_refl}
 use Rattle.core_soundness.proofs.Agreeing.{came}
 use Rattle.core_soundness.proofs.Operating.{passed, behind_test}
@@ -91,7 +90,7 @@ evaluated_keeps e c z q =
 
 pub condition_keeps : (e : Tree) (c : Context) (z : Context × Atom) → condition e c ≡ Ok z → Keeps c z.0
 condition_keeps e c z q =
-    let d = came (valued e (expressions.found e Void (opened e c))) (λ d. unless (not (is_scalar d.1.typed.type)) Operands (line_of e) (good (closed_atom e (tested_value e d)))) z q in
+    let d = came (valued e (expressions.found e Void (opened e c))) q in
     let t = tested_value e d.value in
     let g : Keeps d.value.0 t.0 = grows_keeps d.value.0 t.0 (grows_tested (code_line e) d.value.1.typed.type (atom_in d.value.1) d.value.0) in
     subst (λ (y : Context × Atom). Keeps c y.0) (passed (not (is_scalar d.value.1.typed.type)) Operands (line_of e) (closed_atom e t) z d.last)
@@ -99,7 +98,7 @@ condition_keeps e c z q =
 
 pub leaves_keeps : (line label : ℕ) (e : Tree) (c z : Context) → leaves_if_zero line label e c ≡ Ok z → Keeps c z
 leaves_keeps line label e c z q =
-    let d = came (condition e c) (λ d. good (emit line (Zero d.1 label) d.0)) z q in
+    let d = came (condition e c) q in
     subst (Keeps c) (ok_same (emit line (Zero d.value.1 label) d.value.0) z d.last) (keeps_trans c d.value.0 _ (condition_keeps e c d.value d.is) (emit_keeps line (Zero d.value.1 label) d.value.0))
 
 operand_of_keeps : (line : ℕ) (e : Tree) (o : Operand) (d : Context × Found) (z : Context × (IntType × Atom)) → switch_operand_of line e o d ≡ Ok z → Keeps d.0 z.0
@@ -111,13 +110,13 @@ operand_of_keeps line e other d z q = never _ _ z q
 
 pub operand_keeps : (line : ℕ) (e : Tree) (c : Context) (z : Context × (IntType × Atom)) → switch_operand line e c ≡ Ok z → Keeps c z.0
 operand_keeps line e c z q =
-    let d = came (valued e (expressions.found e Void (opened e c))) (λ d. switch_operand_of line e (operand d.1.typed.type) d) z q in
+    let d = came (valued e (expressions.found e Void (opened e c))) q in
     keeps_trans c d.value.0 z.0 (full_keeps e Void c d.value d.is) (operand_of_keeps line e (operand d.value.1.typed.type) d.value z d.last)
 
 pub constant_keeps : (e : Tree) (c : Context) (z : Context × Constant) → constant e c ≡ Ok z → Keeps c z.0
 constant_keeps e c z q =
-    let x = came (wanted e (typed e (asked c))) (λ x. then (constant_from (line_of e) x.1.type x.1.folded) (λ k. good (told x.0 c, k))) z q in
-    let k = came (constant_from (line_of e) x.value.1.type x.value.1.folded) (λ k. good (told x.value.0 c, k)) z x.last in
+    let x = came (wanted e (typed e (asked c))) q in
+    let k = came (constant_from (line_of e) x.value.1.type x.value.1.folded) x.last in
     subst (λ (y : Context × Constant). Keeps c y.0) (ok_same (told x.value.0 c, k.value) z k.last)
     (told_keeps x.value.0 c (wanted_after (asked c) e (typed e (asked c)) (typed_after e (asked c)) x.value x.is))
 

@@ -21,7 +21,7 @@ use Rattle.c_decls.specs.declared.built_in.BuiltIn.{BuiltIn}
 use Rattle.c_decls.specs.declared.built_in.BuiltIn.TheVariants as built
 use Rattle.c_decls.specs.declared.constant.Constant.{Constant}
 use Rattle.c_decls.specs.declared.refusal.TypeKind.TheVariants.{TypeTooLarge, StaticTooLarge, NotLvalue}
-use Rattle.c_decls.specs.Refusals.{refused, then}
+use Rattle.c_decls.specs.Refusals.{refused}
 use Rattle.c_decls.specs.Named as n
 use Rattle.c_decls.specs.Named.{PlainNamed}
 use Rattle.c_decls.specs.ScopeList.{Table, named_in, found_from, found as declaration}
@@ -95,7 +95,7 @@ name_lands line name c z f h = by (declaration c.scopes name) refl h
     by : (o : Option PlainNamed) → declaration c.scopes name ≡ o → name_answer line name o c ≡ Ok z → Sits c z
     by None q k = never (Sits c z) _ z k
     by (Some v) q k =
-        let e = came (named line (Some v)) (λ e. good (c, name_found e (is_inner c name) (Some v))) z k in
+        let e = came (named line (Some v)) k in
         let there = found_name (world c) c.scopes.file c.scopes.inner name v f.inner q in
         subst (Sits c) (ok_same (c, name_found e.value (is_inner c name) (Some v)) z e.last)
         (record {
@@ -121,7 +121,7 @@ pub record Literal (c : Context) (d : Context × ℕ) : Type 0 where
 
 pub literal_there : (line : ℕ) (bytes : List ℕ) (c : Context) (d : Context × ℕ) → with_literal line bytes c ≡ Ok d → Literal c d
 literal_there line bytes c d h =
-    let s = came (with_static line (length bytes + 1) c) (λ s. good (record s { literals = s.literals ++ bytes ∷ [] }, literal_object (length c.literals))) d h in
+    let s = came (with_static line (length bytes + 1) c) h in
     let k = c.static_bytes + block_size (length bytes + 1) in
     let e : record c { static_bytes = k } ≡ s.value = passed _ StaticTooLarge line (record c { static_bytes = k }) s.value s.is in
     let last : good (record s.value { literals = s.value.literals ++ bytes ∷ [] }, literal_object (length c.literals)) ≡ Ok d = s.last in
@@ -131,8 +131,8 @@ literal_there line bytes c d h =
 
 pub string_lands : (line : ℕ) (bytes : List ℕ) (c : Context) (z : Context × Found) → literal_answer line bytes c ≡ Ok z → Lands c z
 string_lands line bytes c z h =
-    let e = came (string line bytes) (λ e. then (with_literal line bytes c) (λ d. good (literal_found e d))) z h in
-    let d = came (with_literal line bytes c) (λ d. good (literal_found e.value d)) z e.last in
+    let e = came (string line bytes) h in
+    let d = came (with_literal line bytes c) e.last in
     let l = literal_there line bytes c d.value d.is in
     let type : place (types.Array (types.Int i.Char) (length bytes + 1)) ≡ e.value = passed _ TypeTooLarge line _ e.value e.is in
     let flag : e.value.is_place ≡ true = sym (ap (λ (x : PlainTyped). x.is_place) type) in
@@ -175,7 +175,7 @@ element_moves line c others other typed p q l e h k = never _ _ typed e
 
 pub indexed_lands : (line : ℕ) (c : Context) (x y : Found) (z : Context × Found) → 1 ≤ line → HasValue (world c) x → HasValue (world c) y → indexed line c x y ≡ Ok z → Lands c z
 indexed_lands line c x y z l h k q =
-    let t = came (element line c.tags x.typed y.typed) (λ typed. good (at_address typed (fixed_sum c bin.Add x y) (combined line bin.Add c.code x y c))) z q in
+    let t = came (element line c.tags x.typed y.typed) q in
     let m = element_moves line c (operand x.typed.type) (operand y.typed.type) t.value (atom_in x) (atom_in y) l t.is h.held k.held in
     at_place c t.value (fixed_sum c bin.Add x y) (combined line bin.Add c.code x y c) z m.0 m.1 t.last
 
@@ -199,7 +199,7 @@ not_false false e = cc
 
 pub dotted_lands : (line : ℕ) (name : List ℕ) (c : Context) (e : Found) (z : Context × Found) → 1 ≤ line → Stands (world c) e → dotted line name c e ≡ Ok z → Lands c z
 dotted_lands line name c e z l h q =
-    let t = came (dot line name c.tags e.typed) (λ typed. good (member_of line (offset_of c.tags name e.typed.type) typed c e)) z q in
+    let t = came (dot line name c.tags e.typed) q in
     let flag : e.typed.is_place ≡ true = not_false _ (kept_test _ _ line _ t.value t.is) in
     let m = member_of_placed line name c.tags e.typed.type t.value (behind_test _ _ line _ t.value t.is) in
     let there : Holds (world c) Pointer (atom_in e) = in_memory (world c) e.typed.type e.spot e refl m.1 (subst (λ (x : Bool). StandsAs (world c) x e.typed.type e.spot) flag h) in
@@ -211,7 +211,7 @@ arrow_placed line name w tags other typed a e h = never _ _ typed e
 
 pub pointed_lands : (line : ℕ) (name : List ℕ) (c : Context) (e : Found) (z : Context × Found) → 1 ≤ line → HasValue (world c) e → pointed line name c e ≡ Ok z → Lands c z
 pointed_lands line name c e z l h q =
-    let t = came (arrow line name c.tags e.typed) (λ typed. good (member_of line (offset_of c.tags name (target_of (operand e.typed.type))) typed c e)) z q in
+    let t = came (arrow line name c.tags e.typed) q in
     let m = arrow_placed line name (world c) c.tags (operand e.typed.type) t.value (atom_in e) t.is h.held in
     at_place c t.value (moved_by c (pos (offset_of c.tags name (target_of (operand e.typed.type)))) e.fixed) _ z m.0 (member_gives line (offset_of c.tags name (target_of (operand e.typed.type))) (atom_in e) c l m.1) t.last
 
@@ -226,7 +226,7 @@ address_held w type other e q n h = absurd h
 
 pub address_lands : (line : ℕ) (c : Context) (e : Found) (z : Context × Found) → InMemory e → Stands (world c) e → address_answer line c e ≡ Ok z → Lands c z
 address_lands line c e z m h q =
-    let t = came (address line e.typed) (λ type. good (c, found_as type (Value (atom_in e)) e.fixed)) z q in
+    let t = came (address line e.typed) q in
     let r = by e.typed.is_place t.value t.is in
     let there : Holds (world c) Pointer (atom_in e) = address_held (world c) e.typed.type e.spot e refl m (subst (λ (x : Bool). StandsAs (world c) x e.typed.type e.spot) r.0 h) in
     subst (Lands c) (ap (λ (x : PlainTyped). (c, found_as x (Value (atom_in e)) e.fixed)) r.1 ∙ ok_same _ z t.last) (record { goes = goes_refl c; stands = there; apart = tt })
@@ -318,7 +318,7 @@ apply_lands line op tree typed c e z l l2 h t k = plain_lands line op typed c e 
 
 pub applied_lands : (line : ℕ) (op : UnaryOp) (tree : Tree) (c : Context) (e : Found) (z : Context × Found) → 1 ≤ line → 1 ≤ code_line tree → HasValue (world c) e → applied line op tree c e ≡ Ok z → Lands c z
 applied_lands line op tree c e z l l2 h q =
-    let t = came (unary line op c.tags e.typed) (λ typed. good (apply line op tree typed c e)) z q in
+    let t = came (unary line op c.tags e.typed) q in
     apply_lands line op tree t.value c e z l l2 h t.is t.last
 
 -- two operands
@@ -355,7 +355,7 @@ left_goes op b right d g h = by (tells_equal op && is_null_constant d.1.typed &&
 
 pub between_lands : (line : ℕ) (op : BinaryOp) (b c : Context) (x y : Found) (z : Context × Found) → IsBetween op → 1 ≤ line → Goes b c → LeftOf b op (operand x.typed.type) (operand y.typed.type) (atom_in x) → HasValue (world c) y → between line op b.code c x y ≡ Ok z → Comes b z
 between_lands line op b c x y z i l g h k q =
-    let t = came (binary line op c.tags x.typed y.typed) (λ typed. good (with_value typed (fixed_sum c op x y) (combined line op b.code x y c))) z q in
+    let t = came (binary line op c.tags x.typed y.typed) q in
     made_comes b t.value (fixed_sum c op x y) (combined line op b.code x y c) z (binary_makes line l b c g op c.tags x.typed y.typed t.value (atom_in x) (atom_in y) i t.is h k.held) t.last
 
 -- casts
@@ -376,7 +376,7 @@ cast_typed line other e typed h = never _ _ typed h
 
 pub cast_lands : (line : ℕ) (type : PlainType) (b c : Context) (e : Found) (z : Context × Found) → 1 ≤ line → Goes b c → HasValue (world c) e → cast_to line type b.code c e ≡ Ok z → Comes b z
 cast_lands line type b c e z l g h q =
-    let t = came (cast line type e.typed) (λ typed. good (with_value typed (cast_fixed e.typed e.fixed) (convert line b.code type e.typed (atom_in e) c))) z q in
+    let t = came (cast line type e.typed) q in
     let r = cast_typed line type e.typed t.value t.is in
     let d = convert line b.code type e.typed (atom_in e) c in
     let k = converted line b type e.typed (atom_in e) c l g h.held in

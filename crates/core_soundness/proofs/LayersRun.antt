@@ -309,7 +309,7 @@ module _ (answer : Option Sort) where
 
   pub with_type_runs : (given : Checked (names.Context × PlainType)) (b c : Context) → Reached (After (asked c)) given → Runs answer b c → Reached (Runs answer b) (with_type given c)
   with_type_runs given b c g p =
-      reached_after (Runs answer b) given (λ x. Ok (told x.0 c, x.1)) (λ x h. reached_ok (Runs answer b) (told x.0 c, x.1) (told_runs x.0 b c (g x h) p))
+      reached_after (Runs answer b) given (λ x h. reached_ok (Runs answer b) (told x.0 c, x.1) (told_runs x.0 b c (g x h) p))
 
   pub specs_run : (tree : Tree) (b c : Context) → Runs answer b c → Reached (Runs answer b) (specs tree c)
   specs_run tree b c p z q = runs_trans answer b c z.0 p (specs_keep Any Kept runs_step false tree c (any_names tree) z q tt p.fine)

@@ -20,7 +20,7 @@ use Rattle.c_decls.specs.declared.refusal.TypeKind.TheVariants.{Operands, Declar
 use Rattle.c_decls.specs.Named as n
 use Rattle.c_decls.specs.Named.{PlainNamed}
 use Rattle.c_decls.specs.ScopeList.{named_in, innermost, with_name, tag_name, after_declaration}
-use Rattle.c_decls.specs.Refusals.{Checked, then}
+use Rattle.c_decls.specs.Refusals.{Checked}
 use Rattle.c_decls.specs.Typed.{is_void, is_record, is_function, has_no_size}
 use Rattle.c_decls.specs.TypeNames as names
 use Rattle.c_decls.specs.TypeNames.{PointerTo, ArrayOf, FunctionOf, word_type, special_type, array_length, with_new_tag, with_layers, with_param_layers, adjusted}
@@ -30,7 +30,6 @@ use Rattle.elaboration.specs.Locals.{is_twice, declared_as, with_param}
 use Rattle.elaboration.specs.Declarators as d
 use Rattle.elaboration.specs.Declarators.{constant, with_type, maybe_name, begun_as, begun, completed_by, complete, ended, with_member, member, enumerator, enum_named, is_declared, param, left_params, specs, words_type, tag_type, members, member_names, enumerators, layers, suffix_layers, suffix_layer, params}
 use Rattle.core_soundness.proofs.Names.{More, with_tag_more}
-use Rattle.core_soundness.proofs.Grown.{good}
 use Rattle.core_soundness.proofs.Agreeing.{came}
 use Rattle.core_soundness.proofs.Reached.{Reached, reached_ok, reached_refused, reached_after, reached_unless, Led, led_ok, led_refused, led_unless}
 use Rattle.core_soundness.proofs.TypedNames.{After, typed_after, wanted_after, special_after}
@@ -65,12 +64,11 @@ module _ (W : List ℕ → Type 0) (R : Bool → ℕ → Context → Context →
 
   pub constant_keeps : (deep : Bool) (e : Tree) (c : Context) → Reached (R deep 0 c) (constant e c)
   constant_keeps deep e c =
-      reached_after (R deep 0 c) (wanted e (typed e (asked c))) (λ x. then (constant_from (line_of e) x.1.type x.1.folded) (λ k. Ok (told x.0 c, k)))
-      (λ x h. reached_after (R deep 0 c) (constant_from (line_of e) x.1.type x.1.folded) (λ k. Ok (told x.0 c, k))
+      reached_after (R deep 0 c) (wanted e (typed e (asked c))) (λ x h. reached_after (R deep 0 c) (constant_from (line_of e) x.1.type x.1.folded)
       (λ k q. reached_ok (R deep 0 c) (told x.0 c, k) (step.tells deep x.0 c (wanted_after (asked c) e (typed e (asked c)) (typed_after e (asked c)) x h))))
 
   pub with_type_keeps : (deep : Bool) (answer : Checked (names.Context × PlainType)) (c : Context) → Reached (After (asked c)) answer → Reached (R deep 0 c) (with_type answer c)
-  with_type_keeps deep answer c g = reached_after (R deep 0 c) answer (λ x. Ok (told x.0 c, x.1)) (λ x h. reached_ok (R deep 0 c) (told x.0 c, x.1) (step.tells deep x.0 c (g x h)))
+  with_type_keeps deep answer c g = reached_after (R deep 0 c) answer (λ x h. reached_ok (R deep 0 c) (told x.0 c, x.1) (step.tells deep x.0 c (g x h)))
 
   begun_as_keeps : (deep : Bool) (sort : RecordSort) (name : List ℕ) (o : Option PlainNamed) (c : Context) → R deep 0 c (begun_as sort name o c).0
   begun_as_keeps deep sort name (Some (n.Tag type)) c = step.stop deep 0 c
@@ -94,15 +92,14 @@ module _ (W : List ℕ → Type 0) (R : Bool → ℕ → Context → Context →
 
   pub member_keeps : (deep : Bool) (line : ℕ) (name : Option (List ℕ)) (type : PlainType) (list : d.Members) (c : Context) → Reached (R deep 0 c) (member line name type list c)
   member_keeps deep line name type list c =
-      reached_unless (R deep 0 c) (is_function type) LeftOut line _
-      (reached_unless (R deep 0 c) (has_no_size c.tags type) Incomplete line _
-      (reached_after (R deep 0 c) (with_member line name type list) (λ more. Ok (c, more)) (λ more h. reached_ok (R deep 0 c) (c, more) (step.stop deep 0 c))))
+      reached_unless (R deep 0 c) (is_function type) LeftOut line _ (reached_unless (R deep 0 c) (has_no_size c.tags type) Incomplete line _
+      (reached_after (R deep 0 c) (with_member line name type list) (λ more h. reached_ok (R deep 0 c) (c, more) (step.stop deep 0 c))))
 
   enumerator_keeps : (deep : Bool) (line : ℕ) (name : List ℕ) (value : ℤ) (c : Context) → Reached (R deep 0 c) (enumerator line name value c)
   enumerator_keeps deep line name value c =
       let held = wrapped I32 value in
       let z : Context = record c { scopes = after_declaration c.scopes name (n.Constant i.Int held) } in
-      reached_after (R deep 0 c) (declared_as line name (n.Constant i.Int held) c) (λ e. Ok (e, held +ℤ pos 1))
+      reached_after (R deep 0 c) (declared_as line name (n.Constant i.Int held) c)
       (λ e q. reached_ok (R deep 0 c) (e, held +ℤ pos 1) (led_unless (R deep 0 c) (is_twice c.scopes name (n.Constant i.Int held)) DeclaredTwice line (Ok z) (λ t. led_ok (R deep 0 c) z (step.enumerates deep name held c)) e q))
 
   enum_named_keeps : (deep : Bool) (line : ℕ) (name : Option (List ℕ)) (c : Context) → Reached (R deep 0 c) (enum_named line name c)
@@ -122,11 +119,11 @@ module _ (W : List ℕ → Type 0) (R : Bool → ℕ → Context → Context →
   unfolding enumerators
   enumerators_keep deep none next c z q = led_ok (R deep 0 c) c (step.stop deep 0 c) z q
   enumerators_keep deep (Node f.Enumerator (At line ▹ Leaf (w.Name name) ▹ Node f.MaybeValue none ▹ none) ▹ rest) next c z q =
-      let e = came (enumerator line name next c) (λ e. enumerators rest e.1 e.0) z q in
+      let e = came (enumerator line name next c) q in
       both 0 0 0 (omega arith) (enumerator_keeps deep line name next c e.value e.is) (enumerators_keep deep rest e.value.1 e.value.0 z e.last)
   enumerators_keep deep (Node f.Enumerator (At line ▹ Leaf (w.Name name) ▹ Node f.MaybeValue (value ▹ none) ▹ none) ▹ rest) next c z q =
-      let k = came (constant value c) (λ k. then (enumerator line name k.1.value k.0) (λ e. enumerators rest e.1 e.0)) z q in
-      let e = came (enumerator line name k.value.1.value k.value.0) (λ e. enumerators rest e.1 e.0) z k.last in
+      let k = came (constant value c) q in
+      let e = came (enumerator line name k.value.1.value k.value.0) k.last in
       both 0 0 0 (omega arith) (constant_keeps deep value c k.value k.is) (both 0 0 0 (omega arith) (enumerator_keeps deep line name k.value.1.value k.value.0 e.value e.is) (enumerators_keep deep rest e.value.1 e.value.0 z e.last))
   enumerators_keep deep (tree ▹ rest) next c z q = led_refused (R deep 0 c) Operands (line_of tree) z q
 
@@ -146,19 +143,19 @@ module _ (W : List ℕ → Type 0) (R : Bool → ℕ → Context → Context →
     tag_keeps : (deep : Bool) (tree : Tree) (line : ℕ) (c : Context) → Names W tree → Reached (R deep (weight tree) c) (tag_type line tree c)
     tag_keeps deep (Node (f.RecordBody sort) (At at ▹ Node f.MaybeName name ▹ Node f.Members parts ▹ none)) line c h z q =
         let start = begun sort (maybe_name name) c in
-        let m = came (members parts [] start.0) (λ m. ended at sort start.1 m.0 m.1) z q in
+        let m = came (members parts [] start.0) q in
         let one = both 0 (weights parts) (weights parts) (omega arith) (begun_keeps deep sort (maybe_name name) c) (members_keep deep parts [] start.0 h.1.1.0 m.value m.is) in
         both (weights parts) 0 _ (omega arith) one (ended_keeps deep at sort start.1 m.value.0 m.value.1 z m.last)
     tag_keeps deep (Node (f.EnumBody trailing) (At at ▹ Node f.MaybeName name ▹ Node f.Enumerators parts ▹ none)) line c h z q =
-        let e = came (enumerators parts (pos 0) c) (λ e. enum_named at (maybe_name name) e) z q in
+        let e = came (enumerators parts (pos 0) c) q in
         both 0 0 _ (omega arith) (enumerators_keep deep parts (pos 0) c e.value e.is) (enum_named_keeps deep at (maybe_name name) e.value z e.last)
     tag_keeps deep tree line c h z q = within 0 (weight tree) (omega arith) (with_type_keeps deep (special_type line tree (asked c)) c (special_after line tree (asked c)) z q)
 
     members_keep : (deep : Bool) (parts : Trees) (list : d.Members) (c : Context) → AllNames W parts → Reached (R deep (weights parts) c) (members parts list c)
     members_keep deep none list c h z q = reached_ok (R deep 0 c) (c, list) (step.stop deep 0 c) z q
     members_keep deep (Node f.Member (At line ▹ words ▹ Node f.MemberNames declarators ▹ none) ▹ rest) list c h z q =
-        let base = came (specs words c) (λ base. then (member_names line base.1 declarators list base.0) (λ m. members rest m.1 m.0)) z q in
-        let m = came (member_names line base.value.1 declarators list base.value.0) (λ m. members rest m.1 m.0) z base.last in
+        let base = came (specs words c) q in
+        let m = came (member_names line base.value.1 declarators list base.value.0) base.last in
         let one = specs_keep deep words c h.0.1.0 base.value base.is in
         let two = names_keep deep declarators line base.value.1 list base.value.0 h.0.1.1.0 m.value m.is in
         let three = members_keep deep rest m.value.1 m.value.0 h.1 z m.last in
@@ -168,9 +165,9 @@ module _ (W : List ℕ → Type 0) (R : Bool → ℕ → Context → Context →
     pub names_keep : (deep : Bool) (parts : Trees) (line : ℕ) (base : PlainType) (list : d.Members) (c : Context) → AllNames W parts → Reached (R deep (weights parts) c) (member_names line base parts list c)
     names_keep deep none line base list c h z q = reached_ok (R deep 0 c) (c, list) (step.stop deep 0 c) z q
     names_keep deep (declarator ▹ rest) line base list c h z q =
-        let l = came (layers declarator c) (λ l. then (with_layers l.0.tags l.1 base) (λ type. then (member line (name_of declarator) type list l.0) (λ m. member_names line base rest m.1 m.0))) z q in
-        let t = came (with_layers l.value.0.tags l.value.1 base) (λ type. then (member line (name_of declarator) type list l.value.0) (λ m. member_names line base rest m.1 m.0)) z l.last in
-        let m = came (member line (name_of declarator) t.value list l.value.0) (λ m. member_names line base rest m.1 m.0) z t.last in
+        let l = came (layers declarator c) q in
+        let t = came (with_layers l.value.0.tags l.value.1 base) l.last in
+        let m = came (member line (name_of declarator) t.value list l.value.0) t.last in
         let one = layers_keep deep declarator c h.0 l.value l.is in
         let two = member_keeps deep line (name_of declarator) t.value list l.value.0 m.value m.is in
         let three = names_keep deep rest line base m.value.1 m.value.0 h.1 z m.last in
@@ -178,12 +175,12 @@ module _ (W : List ℕ → Type 0) (R : Bool → ℕ → Context → Context →
 
     pub layers_keep : (deep : Bool) (tree : Tree) (c : Context) → Names W tree → Reached (R deep (weight tree) c) (layers tree c)
     layers_keep deep (Node (f.Pointer consts) (At line ▹ declarator ▹ none)) c h z q =
-        let l = came (layers declarator c) (λ l. good (l.0, PointerTo line ∷ l.1)) z q in
+        let l = came (layers declarator c) q in
         let one = layers_keep deep declarator c h.1.0 l.value l.is in
         within (weight declarator) _ (omega arith) (reached_ok (R deep (weight declarator) c) (l.value.0, PointerTo line ∷ l.value.1) one z l.last)
     layers_keep deep (Node f.Direct (base ▹ Node f.Suffixes suffixes ▹ none)) c h z q =
-        let l = came (layers base c) (λ l. then (suffix_layers suffixes l.0) (λ s. good (s.0, reverse s.1 ++ l.1))) z q in
-        let s = came (suffix_layers suffixes l.value.0) (λ s. good (s.0, reverse s.1 ++ l.value.1)) z l.last in
+        let l = came (layers base c) q in
+        let s = came (suffix_layers suffixes l.value.0) l.last in
         let one = layers_keep deep base c h.0 l.value l.is in
         let two = suffixes_keep deep suffixes l.value.0 h.1.0 s.value s.is in
         both (weight base) (weights suffixes) _ (omega arith) one (reached_ok (R deep (weights suffixes) l.value.0) (s.value.0, reverse s.value.1 ++ l.value.1) two z s.last)
@@ -193,8 +190,8 @@ module _ (W : List ℕ → Type 0) (R : Bool → ℕ → Context → Context →
     pub suffixes_keep : (deep : Bool) (parts : Trees) (c : Context) → AllNames W parts → Reached (R deep (weights parts) c) (suffix_layers parts c)
     suffixes_keep deep none c h z q = reached_ok (R deep 0 c) (c, []) (step.stop deep 0 c) z q
     suffixes_keep deep (suffix ▹ rest) c h z q =
-        let l = came (suffix_layer suffix c) (λ l. then (suffix_layers rest l.0) (λ more. good (more.0, l.1 ∷ more.1))) z q in
-        let m = came (suffix_layers rest l.value.0) (λ more. good (more.0, l.value.1 ∷ more.1)) z l.last in
+        let l = came (suffix_layer suffix c) q in
+        let m = came (suffix_layers rest l.value.0) l.last in
         let one = suffix_keeps deep suffix c h.0 l.value l.is in
         let two = suffixes_keep deep rest l.value.0 h.1 m.value m.is in
         both (weight suffix) (weights rest) _ (omega arith) one (reached_ok (R deep (weights rest) l.value.0) (m.value.0, l.value.1 ∷ m.value.1) two z m.last)
@@ -202,11 +199,11 @@ module _ (W : List ℕ → Type 0) (R : Bool → ℕ → Context → Context →
     pub suffix_keeps : (deep : Bool) (tree : Tree) (c : Context) → Names W tree → Reached (R deep (weight tree) c) (suffix_layer tree c)
     suffix_keeps deep (Node f.ArraySuffix (At line ▹ Node f.MaybeLength none ▹ none)) c h z q = within 0 _ (omega arith) (reached_ok (R deep 0 c) (c, ArrayOf line None) (step.stop deep 0 c) z q)
     suffix_keeps deep (Node f.ArraySuffix (At line ▹ Node f.MaybeLength (e ▹ none) ▹ none)) c h z q =
-        let x = came (wanted e (typed e (asked c))) (λ x. then (array_length (line_of e) x.1) (λ size. good (told x.0 c, ArrayOf line (Some size)))) z q in
-        let m = came (array_length (line_of e) x.value.1) (λ size. good (told x.value.0 c, ArrayOf line (Some size))) z x.last in
+        let x = came (wanted e (typed e (asked c))) q in
+        let m = came (array_length (line_of e) x.value.1) x.last in
         within 0 _ (omega arith) (reached_ok (R deep 0 c) (told x.value.0 c, ArrayOf line (Some m.value)) (step.tells deep x.value.0 c (wanted_after (asked c) e (typed e (asked c)) (typed_after e (asked c)) x.value x.is)) z m.last)
     suffix_keeps deep (Node f.FunctionSuffix (At line ▹ Node f.Params parts ▹ none)) c h z q =
-        let x = came (params parts (entered c)) (λ x. good (left_params x.0, FunctionOf line x.1)) z q in
+        let x = came (params parts (entered c)) q in
         let one = params_keep parts (entered c) h.1.0 x.value x.is in
         let room = commas_said p.Param (count parts) in
         within (weights parts + 2 * count parts) _ (omega (arith, room)) (reached_ok (R deep (weights parts + 2 * count parts) c) (left_params x.value.0, FunctionOf line x.value.1) (step.lists deep (weights parts + 2 * count parts) parts c x.value x.is one) z x.last)
@@ -215,11 +212,11 @@ module _ (W : List ℕ → Type 0) (R : Bool → ℕ → Context → Context →
     pub params_keep : (parts : Trees) (c : Context) → AllNames W parts → Reached (R true (weights parts + 2 * count parts) c) (params parts c)
     params_keep none c h z q = reached_ok (R true 0 c) (c, types.none) (step.stop true 0 c) z q
     params_keep (Node f.Param (At line ▹ words ▹ declarator ▹ none) ▹ rest) c h z q =
-        let base = came (specs words c) (λ base. then (layers declarator base.0) (λ l. then (with_param_layers l.0.tags l.1 base.1) (λ type. then (param line (name_of declarator) (adjusted type) l.0) (λ x. then (params rest x.0) (λ more. good (more.0, first x.1 more.1)))))) z q in
-        let l = came (layers declarator base.value.0) (λ l. then (with_param_layers l.0.tags l.1 base.value.1) (λ type. then (param line (name_of declarator) (adjusted type) l.0) (λ x. then (params rest x.0) (λ more. good (more.0, first x.1 more.1))))) z base.last in
-        let t = came (with_param_layers l.value.0.tags l.value.1 base.value.1) (λ type. then (param line (name_of declarator) (adjusted type) l.value.0) (λ x. then (params rest x.0) (λ more. good (more.0, first x.1 more.1)))) z l.last in
-        let x = came (param line (name_of declarator) (adjusted t.value) l.value.0) (λ x. then (params rest x.0) (λ more. good (more.0, first x.1 more.1))) z t.last in
-        let m = came (params rest x.value.0) (λ more. good (more.0, first x.value.1 more.1)) z x.last in
+        let base = came (specs words c) q in
+        let l = came (layers declarator base.value.0) base.last in
+        let t = came (with_param_layers l.value.0.tags l.value.1 base.value.1) l.last in
+        let x = came (param line (name_of declarator) (adjusted t.value) l.value.0) t.last in
+        let m = came (params rest x.value.0) x.last in
         let one = specs_keep true words c h.0.1.0 base.value base.is in
         let two = layers_keep true declarator base.value.0 h.0.1.1.0 l.value l.is in
         let three = param_keeps line (name_of declarator) (adjusted t.value) l.value.0 (name_named W declarator h.0.1.1.0) x.value x.is in

@@ -18,7 +18,7 @@ use Rattle.c_tree.specs.Scopes.{name_of}
 use Rattle.c_decls.specs.declared.refusal.TypeKind.TheVariants.{Operands, Assignment, DeclaredTwice, Incomplete, LeftOut, StaticTooLarge}
 use Rattle.c_decls.specs.Named as n
 use Rattle.c_decls.specs.ScopeList.{named_in, innermost, tag_name}
-use Rattle.c_decls.specs.Refusals.{Checked, refused, then, unless}
+use Rattle.c_decls.specs.Refusals.{Checked, then, unless}
 use Rattle.c_decls.specs.Typed.{is_function, has_no_size}
 use Rattle.c_decls.specs.TypeNames.{tag_named}
 use Rattle.c_decls.specs.Expressions.{line_of}
@@ -48,14 +48,14 @@ fill_memory_passes : (line : ℕ) (type : PlainType) (inits : Trees) (mem : Atom
 fill_memory_passes line type (init ▹ rest) (atom.Mem mem) c s =
     let d = cleared line type (atom.Mem mem) c in
     let first = cleared_passes line type (atom.Mem mem) c s in
-    led_after (Passes c) (initialize init false type 0 (InMemory line mem) d) (λ x. Ok x.0)
+    led_after (Passes c) (initialize init false type 0 (InMemory line mem) d)
     (λ x h. led_ok (Passes c) x.0 (passes_trans c d x.0 first ((initialize_fills init false type 0 (InMemory line mem) d s x h).passes tt)))
 fill_memory_passes line type inits mem c s = led_ok (Passes c) (cleared line type mem c) (cleared_passes line type mem c s)
 
 fill_register_passes : (line : ℕ) (type : PlainType) (inits : Trees) (register : ℕ) (c : Context) → Safe c.scopes → Led (Passes c) (fill_register line type inits register c)
 fill_register_passes line type none register c s = led_ok (Passes c) (emit line (Set register (zero_of type)) c) (grows_passes c _ s (grows_emit line (Set register (zero_of type)) c tt))
 fill_register_passes line type (init ▹ rest) register c s =
-    led_after (Passes c) (initialize init false type 0 (InRegister line register) c) (λ x. Ok x.0)
+    led_after (Passes c) (initialize init false type 0 (InRegister line register) c)
     (λ x h. led_ok (Passes c) x.0 ((initialize_fills init false type 0 (InRegister line register) c s x h).passes tt))
 
 fill_at_passes : (line : ℕ) (type : PlainType) (inits : Trees) (spot : Spot) (c : Context) → Safe c.scopes → Led (Passes c) (fill_at line type inits spot c)
@@ -84,7 +84,7 @@ local_name_passes line Plain name type inits b c p = local_object_passes line na
 
 no_initializer_stays : (inits : Trees) (c : Context) → Safe c.scopes → Led (Stays c) (no_initializer inits c)
 no_initializer_stays none c s = led_ok (Stays c) c (passes_refl c s).stays
-no_initializer_stays (init ▹ rest) c s = led_after (Stays c) (surplus init c) (λ d. refused Assignment (line_of init)) (λ d h. led_refused (Stays c) Assignment (line_of init))
+no_initializer_stays (init ▹ rest) c s = led_after (Stays c) (surplus init c) (λ d h. led_refused (Stays c) Assignment (line_of init))
 
 -- the layout of a variable is that of its type
 same_size : (layout : Option Layout) → (unwrap_or layout no_layout).size ≡ unwrap_or (option_map (λ (l : Layout). l.size) layout) 0
@@ -157,7 +157,7 @@ fill_variable_stays : (line index : ℕ) (type : PlainType) (inits : Trees) (c :
 fill_variable_stays line index type none c s flat = led_ok (Stays c) c (passes_refl c s).stays
 fill_variable_stays line index type (init ▹ rest) c s flat =
     led_unless (Stays c) (is_some (start_of (slice_get c.variables index))) DeclaredTwice line _ (λ q.
-    led_after (Stays c) (initialize init false type 0 (InStatic no_start) c) (λ d. Ok (started index d))
+    led_after (Stays c) (initialize init false type 0 (InStatic no_start) c)
     (λ d h. let one = (initialize_fills init false type 0 (InStatic no_start) c s d h).stays in
     led_ok (Stays c) (started index d) (stays_trans c d.0 _ one (started_stays index d one.safe (one.depth ∙ flat)))))
 
@@ -165,15 +165,15 @@ file_object_stays : (line : ℕ) (name : List ℕ) (type : PlainType) (inits : T
 file_object_stays line name type inits c s flat =
     let index = variable_number_of c (named_in name c.scopes.file) in
     led_unless (Stays c) (has_no_size c.tags type) Incomplete line _ (λ q.
-    led_after (Stays c) (declared_as line name (n.Object type index) c) (λ d. then (with_variable line index name type d) (λ v. fill_variable line index type inits v))
+    led_after (Stays c) (declared_as line name (n.Object type index) c)
     (λ d h. let one = (declared_passes line name (n.Object type index) c c refl tt (passes_refl c s) d h).stays in
-    led_after (Stays c) (with_variable line index name type d) (λ v. fill_variable line index type inits v)
+    led_after (Stays c) (with_variable line index name type d)
     (λ v k x e. let two = variable_stays line index name type d one.safe (one.depth ∙ flat) v k in
     stays_trans c v x (stays_trans c d v one two) (fill_variable_stays line index type inits v two.safe (two.depth ∙ one.depth ∙ flat) x e))))
 
 file_function_stays : (line : ℕ) (name : List ℕ) (type : PlainType) (inits : Trees) (c : Context) → Safe c.scopes → length c.scopes.inner ≡ 0 → Led (Stays c) (file_function line name type inits c)
 file_function_stays line name type inits c s flat =
-    led_after (Stays c) (declared_function line name type c) (λ d. no_initializer inits d)
+    led_after (Stays c) (declared_function line name type c)
     (λ d h x e. let one = (introduced line name type c s flat d h).passes.stays in stays_trans c d x one (no_initializer_stays inits d one.safe x e))
 
 file_value_stays : (line : ℕ) (name : List ℕ) (type : PlainType) (inits : Trees) (c : Context) → Safe c.scopes → length c.scopes.inner ≡ 0 → Led (Stays c) (file_value line name type inits c)
@@ -207,16 +207,16 @@ name_in_declares false line storage (Some name) type inits c s flat = λ d h. pa
 
 pub entry_declares : (file : Bool) (line : ℕ) (storage : Storage) (base : PlainType) (declarator : Tree) (inits : Trees) (c : Context) → Safe c.scopes → (file ≡ true → length c.scopes.inner ≡ 0) → Led (Declares file c) (entry file line storage base declarator inits c)
 entry_declares file line storage base declarator inits c s flat =
-    led_after (Declares file c) (layers declarator c) (λ l. then (with_init_layers l.0.tags l.1 inits base) (λ type. name_in file line storage (name_of declarator) type inits l.0))
+    led_after (Declares file c) (layers declarator c)
     (λ l h. let one = layers_pass declarator c c (passes_refl c s) l h in
-    led_after (Declares file c) (with_init_layers l.0.tags l.1 inits base) (λ type. name_in file line storage (name_of declarator) type inits l.0)
+    led_after (Declares file c) (with_init_layers l.0.tags l.1 inits base)
     (λ type k x e. declares_trans file c l.0 x (passed file c l.0 one) (name_in_declares file line storage (name_of declarator) type inits l.0 one.stays.safe (λ t. one.stays.depth ∙ flat t) x e)))
 
 pub entries_declare : (names : Trees) (file : Bool) (line : ℕ) (storage : Storage) (base : PlainType) (c : Context) → Safe c.scopes → (file ≡ true → length c.scopes.inner ≡ 0) → Led (Declares file c) (entries file line storage base names c)
 unfolding entries
 entries_declare none file line storage base c s flat = led_ok (Declares file c) c (passed file c c (passes_refl c s))
 entries_declare (Node f.Entry (Node f.Declared (declarator ▹ none) ▹ Node f.MaybeInit inits ▹ none) ▹ rest) file line storage base c s flat =
-    led_after (Declares file c) (entry file line storage base declarator inits c) (λ d. entries file line storage base rest d)
+    led_after (Declares file c) (entry file line storage base declarator inits c)
     (λ d h x e. let one = entry_declares file line storage base declarator inits c s flat d h in
     declares_trans file c d x one (entries_declare rest file line storage base d one.stays.safe (λ t. one.stays.depth ∙ flat t) x e))
 entries_declare (tree ▹ rest) file line storage base c s flat = led_refused (Declares file c) Operands (line_of tree)
@@ -233,7 +233,7 @@ specs_before_passes tree (name ▹ rest) c s = specs_passes tree c c (passes_ref
 pub declaration_declares : (file : Bool) (line : ℕ) (words tree : Tree) (c : Context) → Safe c.scopes → (file ≡ true → length c.scopes.inner ≡ 0) → Led (Declares file c) (declaration file line words tree c)
 unfolding declaration
 declaration_declares file line words (Node f.Names names) c s flat =
-    led_after (Declares file c) (specs_before words names c) (λ base. entries file line (storage_of words) base.1 names base.0)
+    led_after (Declares file c) (specs_before words names c)
     (λ base h x e. let one = specs_before_passes words names c s base h in
     declares_trans file c base.0 x (passed file c base.0 one) (entries_declare names file line (storage_of words) base.1 base.0 one.stays.safe (λ t. one.stays.depth ∙ flat t) x e))
 declaration_declares file line words tree c s flat = led_refused (Declares file c) Operands line

@@ -16,7 +16,7 @@ use Rattle.c_tree.specs.Words as w
 use Rattle.c_tree.specs.Forms as f
 use Rattle.c_tree.specs.Tree.{Tree, Trees, Leaf, At, Node, none, ◌▹◌}
 use Rattle.c_tree.specs.Scopes.{name_of}
-use Rattle.c_decls.specs.declared.refusal.TypeKind.TheVariants.{Assignment, DeclaredTwice, Incomplete, LeftOut, StaticTooLarge}
+use Rattle.c_decls.specs.declared.refusal.TypeKind.TheVariants.{DeclaredTwice, Incomplete, LeftOut, StaticTooLarge}
 use Rattle.c_decls.specs.Named as n
 use Rattle.c_decls.specs.Named.{PlainNamed}
 use Rattle.c_decls.specs.ScopeList.{Table, named_in, innermost, with_name, after_declaration, tag_name}
@@ -24,7 +24,6 @@ use Rattle.c_decls.specs.ScopeList as scopes
 use Rattle.c_decls.specs.Refusals.{Checked, then, unless}
 use Rattle.c_decls.specs.Typed.{is_function, has_no_size}
 use Rattle.c_decls.specs.TypeNames.{Layer, tag_named}
-use Rattle.c_decls.specs.Expressions.{line_of}
 use Rattle.elaboration.specs.Context.{Context, Variable, asked, emit}
 use Rattle.elaboration.specs.Conversions.{Spot, Local, Memory, size_or_zero}
 use Rattle.elaboration.specs.Rules.{with_static}
@@ -36,7 +35,7 @@ use Rattle.elaboration.specs.Declarations.{Storage, Typedef, Outside, storage_of
 use Rattle.core_soundness.specs.Worlds.{world, Holds, StandsAs, InnerFits, FileFits, TablesFit}
 use Rattle.core_soundness.specs.Spoken.{AllSpoken}
 use Rattle.core_soundness.specs.Written.{Written, AllWritten}
-use Rattle.core_soundness.proofs.Grown.{good, bad, ok_same, never}
+use Rattle.core_soundness.proofs.Grown.{good, ok_same, never}
 use Rattle.core_soundness.proofs.Names.{more_refl, all_refl, named_push}
 use Rattle.core_soundness.proofs.TypedNames.{tag_after}
 use Rattle.core_soundness.proofs.Agreeing.{came}
@@ -60,7 +59,7 @@ unfolding AllSpoken
 fill_memory_goes line type (init ▹ rest) (atom.Mem mem) c z l p g h q =
     let x = cleared line type (atom.Mem mem) c in
     let first = cleared_goes line type (atom.Mem mem) c l h in
-    let d = came (initialize init false type 0 (InMemory line mem) x) (λ d. good d.0) z q in
+    let d = came (initialize init false type 0 (InMemory line mem) x) q in
     let one = initialize_fits init false type 0 (InMemory line mem) x d.value p.0 g.names (l, h.1) d.is in
     subst (Goes c) (ok_same d.value.0 z d.last) (goes_trans c x d.value.0 first one.goes)
 fill_memory_goes line type none mem c z l p g h q = subst (Goes c) (ok_same (cleared line type mem c) z q) (cleared_goes line type mem c l h)
@@ -78,7 +77,7 @@ fill_register_goes : (line : ℕ) (type : PlainType) (inits : Trees) (register :
 unfolding AllSpoken
 fill_register_goes line type none register c z l p g h q = subst (Goes c) (ok_same (emit line (Set register (zero_of type)) c) z q) (zero_set line type register c l h)
 fill_register_goes line type (init ▹ rest) register c z l p g h q =
-    let d = came (initialize init false type 0 (InRegister line register) c) (λ d. good d.0) z q in
+    let d = came (initialize init false type 0 (InRegister line register) c) q in
     let one = initialize_fits init false type 0 (InRegister line register) c d.value p.0 g.names (l, h) d.is in
     subst (Goes c) (ok_same d.value.0 z d.last) one.goes
 
@@ -139,13 +138,13 @@ functions_grew answer c index name g = by (nat_lt index (length c.functions))
 pub function_runs : (answer : Option Sort) (line : ℕ) (name : List ℕ) (type : PlainType) (c z : Context) → length c.scopes.inner ≡ 0 → Fine c → declared_function line name type c ≡ Ok z → Runs answer c z
 function_runs answer line name type c z flat g q =
     let index = function_number name c in
-    let d = came (declared_as line name (n.Function type index) c) (λ d. good (with_function index name d)) z q in
+    let d = came (declared_as line name (n.Function type index) c) q in
     let one : Runs answer c d.value = subst (Runs answer c) (declared_at line name (n.Function type index) c d.value d.is) (file_renamed answer name (n.Function type index) c flat tt g) in
     subst (Runs answer c) (ok_same (with_function index name d.value) z d.last) (runs_trans answer c d.value _ one (functions_grew answer d.value index name one.fine))
 
 no_initializer_runs : (answer : Option Sort) (inits : Trees) (c z : Context) → Fine c → no_initializer inits c ≡ Ok z → Runs answer c z
 no_initializer_runs answer none c z g q = subst (Runs answer c) (ok_same c z q) (runs_refl answer c g)
-no_initializer_runs answer (init ▹ rest) c z g q = let d = came (surplus init c) (λ d. bad (record { kind = Assignment; line = line_of init })) z q in never _ _ z d.last
+no_initializer_runs answer (init ▹ rest) c z g q = let d = came (surplus init c) q in never _ _ z d.last
 
 -- one variable more, with its bytes
 more_variables : (answer : Option Sort) (c : Context) (v : Variable) (bytes : ℕ) → Fine c → Runs answer c (record c { static_bytes = bytes; variables = c.variables ++ v ∷ [] })
@@ -177,7 +176,7 @@ variable_runs answer line index name type c z flat small g q = by (nat_lt index 
     by false e q =
         let x : Context = record c { scopes = after_declaration c.scopes name (n.Object type index) } in
         let v : Variable = record { name = name; layout = unwrap_or (layout_in c.tags type) no_layout; start = None } in
-        let s = came (with_static line (size_or_zero x type) x) (λ s. good (record s { variables = s.variables ++ (record { name = name; layout = unwrap_or (layout_in s.tags type) no_layout; start = None }) ∷ [] })) z q in
+        let s = came (with_static line (size_or_zero x type) x) q in
         let bytes : ℕ = c.static_bytes + block_size (size_or_zero c type) in
         let same : record x { static_bytes = bytes } ≡ s.value = passed (nat_lt 67108864 bytes) StaticTooLarge line (record x { static_bytes = bytes }) s.value s.is in
         let y : Context = record c { static_bytes = bytes; variables = c.variables ++ v ∷ [] } in
@@ -215,7 +214,7 @@ unfolding AllWritten
 fill_variable_runs answer line index type none c z p g flat q = subst (Runs answer c) (ok_same c z q) (runs_refl answer c g)
 fill_variable_runs answer line index type (init ▹ rest) c z p g flat q =
     let a = behind_test (is_some (start_of (slice_get c.variables index))) DeclaredTwice line (then (initialize init false type 0 (InStatic no_start) c) (λ d. good (started index d))) z q in
-    let d = came (initialize init false type 0 (InStatic no_start) c) (λ d. good (started index d)) z a in
+    let d = came (initialize init false type 0 (InStatic no_start) c) a in
     let one = initialize_fits init false type 0 (InStatic no_start) c d.value (outside_spoken (world c) c.scopes init flat g.names.file p.0) g.names tt d.is in
     let r = goes_runs answer c d.value.0 g one.goes in
     subst (Runs answer c) (ok_same (started index d.value) z d.last) (runs_trans answer c d.value.0 _ r (started_runs answer index d.value r.fine))
@@ -224,8 +223,8 @@ file_object_runs : (answer : Option Sort) (line : ℕ) (name : List ℕ) (type :
 file_object_runs answer line name type inits c z p g flat q =
     let index = variable_number_of c (named_in name c.scopes.file) in
     let a = behind_test (has_no_size c.tags type) Incomplete line (then (declared_as line name (n.Object type index) c) (λ d. then (with_variable line index name type d) (λ v. fill_variable line index type inits v))) z q in
-    let d = came (declared_as line name (n.Object type index) c) (λ d. then (with_variable line index name type d) (λ v. fill_variable line index type inits v)) z a in
-    let v = came (with_variable line index name type d.value) (λ v. fill_variable line index type inits v) z d.last in
+    let d = came (declared_as line name (n.Object type index) c) a in
+    let v = came (with_variable line index name type d.value) d.last in
     let at : with_variable line index name type (record c { scopes = after_declaration c.scopes name (n.Object type index) }) ≡ Ok v.value = ap (λ (x : Context). with_variable line index name type x) (declared_at line name (n.Object type index) c d.value d.is) ∙ v.is in
     let one = variable_runs answer line index name type c v.value flat (number_small c (named_in name c.scopes.file) (λ x e. g.names.file name x e)) g at in
     runs_trans answer c v.value z one (fill_variable_runs answer line index type inits v.value z p one.fine (one.depth ∙ flat) v.last)
@@ -235,7 +234,7 @@ file_value_runs answer line name type inits c z p g flat q = by (is_function typ
   where
     by : (t : Bool) → cond t (file_function line name type inits c) (file_object line name type inits c) ≡ Ok z → Runs answer c z
     by true q =
-        let d = came (declared_function line name type c) (λ d. no_initializer inits d) z q in
+        let d = came (declared_function line name type c) q in
         let one = function_runs answer line name type c d.value flat g d.is in
         runs_trans answer c d.value z one (no_initializer_runs answer inits d.value z one.fine d.last)
     by false q = file_object_runs answer line name type inits c z p g flat q
@@ -269,8 +268,8 @@ entry_runs : (answer : Option Sort) (file : Bool) (line : ℕ) (storage : Storag
     → ((l : Context × List Layer) (type : PlainType) → layers declarator c ≡ Ok l → with_init_layers l.0.tags l.1 inits base ≡ Ok type → NameSpoken file line (name_of declarator) type inits l.0 z)
     → Fine c → AtPlace file c → entry file line storage base declarator inits c ≡ Ok z → Runs answer c z
 entry_runs answer file line storage base declarator inits c z l p g at q =
-    let x = came (layers declarator c) (λ x. then (with_init_layers x.0.tags x.1 inits base) (λ type. name_in file line storage (name_of declarator) type inits x.0)) z q in
-    let t = came (with_init_layers x.value.0.tags x.value.1 inits base) (λ type. name_in file line storage (name_of declarator) type inits x.value.0) z x.last in
+    let x = came (layers declarator c) q in
+    let t = came (with_init_layers x.value.0.tags x.value.1 inits base) x.last in
     let one = layers_run answer declarator c c (runs_refl answer c g) x.value x.is in
     runs_trans answer c x.value.0 z one (name_in_runs answer file line storage (name_of declarator) t.value inits x.value.0 z l (p x.value t.value x.is t.is) one.fine (place_on file c x.value.0 one.depth at) t.last)
 
@@ -283,7 +282,7 @@ file_entries_run : (names : Trees) (answer : Option Sort) (line : ℕ) (storage 
 unfolding entries Written AllWritten
 file_entries_run none answer line storage base c z l p g at q = subst (Runs answer c) (ok_same c z q) (runs_refl answer c g)
 file_entries_run (Node f.Entry (Node f.Declared (declarator ▹ none) ▹ Node f.MaybeInit inits ▹ none) ▹ rest) answer line storage base c z l p g at q =
-    let d = came (entry true line storage base declarator inits c) (λ d. entries true line storage base rest d) z q in
+    let d = came (entry true line storage base declarator inits c) q in
     let one = entry_runs answer true line storage base declarator inits c d.value l (λ x type e h. p.0.1.1.0.1) g at d.is in
     runs_trans answer c d.value z one (file_entries_run rest answer line storage base d.value z l p.1 one.fine (one.depth ∙ at) d.last)
 file_entries_run (tree ▹ rest) answer line storage base c z l p g at q = never _ _ z q
@@ -292,7 +291,7 @@ local_entries_run : (names : Trees) (answer : Option Sort) (line : ℕ) (storage
 unfolding entries EntriesSpoken
 local_entries_run none answer line storage base c z l p g at q = subst (Runs answer c) (ok_same c z q) (runs_refl answer c g)
 local_entries_run (Node f.Entry (Node f.Declared (declarator ▹ none) ▹ Node f.MaybeInit inits ▹ none) ▹ rest) answer line storage base c z l p g at q =
-    let d = came (entry false line storage base declarator inits c) (λ d. entries false line storage base rest d) z q in
+    let d = came (entry false line storage base declarator inits c) q in
     let s = p d.value d.is in
     let one = entry_runs answer false line storage base declarator inits c d.value l (λ x type e h. name_spoken line (name_of declarator) type inits x.0 d.value (λ name k. s.0 x type name e h k)) g at d.is in
     runs_trans answer c d.value z one (local_entries_run rest answer line storage base d.value z l s.1 one.fine (place_on false c d.value one.depth at) d.last)
@@ -310,7 +309,7 @@ specs_before_runs answer tree (name ▹ rest) c z g q = specs_run answer tree c 
 pub file_declaration_runs : (answer : Option Sort) (line : ℕ) (words tree : Tree) (c z : Context) → 1 ≤ line → Written tree → Fine c → length c.scopes.inner ≡ 0 → declaration true line words tree c ≡ Ok z → Runs answer c z
 unfolding declaration Written
 file_declaration_runs answer line words (Node f.Names names) c z l p g at q =
-    let base = came (specs_before words names c) (λ base. entries true line (storage_of words) base.1 names base.0) z q in
+    let base = came (specs_before words names c) q in
     let one = specs_before_runs answer words names c base.value g base.is in
     runs_trans answer c base.value.0 z one (file_entries_run names answer line (storage_of words) base.value.1 base.value.0 z l p.1 one.fine (one.depth ∙ at) base.last)
 file_declaration_runs answer line words tree c z l p g at q = never _ _ z q
@@ -318,7 +317,7 @@ file_declaration_runs answer line words tree c z l p g at q = never _ _ z q
 pub local_declaration_runs : (answer : Option Sort) (line : ℕ) (words tree : Tree) (c z : Context) → 1 ≤ line → DeclarationSpoken line words tree c → Fine c → AtPlace false c → declaration false line words tree c ≡ Ok z → Runs answer c z
 unfolding declaration
 local_declaration_runs answer line words (Node f.Names names) c z l p g at q =
-    let base = came (specs_before words names c) (λ base. entries false line (storage_of words) base.1 names base.0) z q in
+    let base = came (specs_before words names c) q in
     let one = specs_before_runs answer words names c base.value g base.is in
     runs_trans answer c base.value.0 z one (local_entries_run names answer line (storage_of words) base.value.1 base.value.0 z l (p base.value base.is) one.fine (place_on false c base.value.0 one.depth at) base.last)
 local_declaration_runs answer line words tree c z l p g at q = never _ _ z q

@@ -96,12 +96,12 @@ fill_scalar_near e line type offset (InMemory at mem) c d q =
     let stored = near_on 1 0 1 (omega arith) (place_near at mem offset v.0) last in
     reached_ok (Near (weight e + 3) c) (closed e s, InMemory at mem) (near_on (weight e + 2) 1 (weight e + 3) (omega arith) (converted_near e at type c d q) stored)
 fill_scalar_near e line type offset (InStatic start) c d q =
-    reached_after (Near (weight e + 3) c) (static_scalar line type offset start d.1) (λ filled. Ok (d.0, InStatic filled))
+    reached_after (Near (weight e + 3) c) (static_scalar line type offset start d.1)
     (λ filled s. reached_ok (Near (weight e + 3) c) (d.0, InStatic filled) (near_on 0 (weight e + 1) (weight e + 3) (omega arith) (opened_near e c) (full_near e type c d q)))
 
 scalar_near : (e : Tree) (line : ℕ) (type : PlainType) (offset : ℕ) (target : Target) (c : Context) → Reached (Near (weight e + 3) c) (scalar e line type offset target c)
 scalar_near e line type offset target c =
-    reached_after (Near (weight e + 3) c) (valued e (found e type (opened e c))) (λ d. converts line type d.1.typed (fill_scalar e line type offset (opened e c).code d target))
+    reached_after (Near (weight e + 3) c) (valued e (found e type (opened e c)))
     (λ d q. reached_barred (Near (weight e + 3) c) (unconverted type d.1.typed) line (fill_scalar e line type offset (opened e c).code d target) (fill_scalar_near e line type offset target c d q))
 
 fill_record_near : (k : ℕ) (e : Tree) (line : ℕ) (type : PlainType) (offset : ℕ) (c : Context) (d : Context × Found) (target : Target) → Near k c d.0 → Reached (Near (k + 3) c) (fill_record e line type offset d target)
@@ -119,7 +119,7 @@ whole_near e line type offset target c =
 
 fill_text_near : (e : Tree) (line : ℕ) (bytes : List ℕ) (size offset : ℕ) (target : Target) (c : Context) → Reached (Near 1 c) (fill_text e line bytes size offset target c)
 fill_text_near e line bytes size offset (InMemory at mem) c =
-    reached_after (Near 1 c) (with_literal line bytes (opened e c)) (λ d. copy_text at mem offset (min (length bytes + 1) size) d)
+    reached_after (Near 1 c) (with_literal line bytes (opened e c))
     (λ d q. let place = member_place at mem offset d.0 in
     reached_ok (Near 1 c) (emit at (Copy place.1 (atom.Static d.1) (pos (min (length bytes + 1) size))) place.0, InMemory at mem)
     (near_on 0 1 1 (omega arith) (near_on 0 0 0 (omega arith) (opened_near e c) (literal_near line bytes (opened e c) d q)) (place_near at mem offset d.0)))
@@ -158,15 +158,15 @@ mutual
       near_most (weights inits + 3 * count inits) _ (omega (arith, room))
       (reached_cond (weights inits + 3 * count inits) c (takes_braces type in_scalar) (initialize_parts line inits (is_scalar_type type) (parts_of c (count inits) type offset) target c) (then (all_surplus inits c) (λ d. refused Assignment line))
       (parts_near inits line (is_scalar_type type) (parts_of c (count inits) type offset) target c)
-      (reached_after (Near (weights inits + 3 * count inits) c) (all_surplus inits c) (λ d. refused Assignment line) (λ d s. reached_refused (Near (weights inits + 3 * count inits) c) Assignment line)) z q)
+      (reached_after (Near (weights inits + 3 * count inits) c) (all_surplus inits c) (λ d s. reached_refused (Near (weights inits + 3 * count inits) c) Assignment line)) z q)
   initialize_near tree in_scalar type offset target c z q = reached_refused (Near (weight tree + 3) c) Operands (line_of tree) z q
 
   parts_near : (inits : Trees) (line : ℕ) (in_scalar : Bool) (parts : List (PlainType × ℕ)) (target : Target) (c : Context) → Reached (Near (weights inits + 3 * count inits) c) (initialize_parts line inits in_scalar parts target c)
   parts_near none line in_scalar parts target c z q = reached_ok (Near 0 c) (c, target) (near_refl c) z q
   parts_near (init ▹ rest) line in_scalar [] target c z q =
-      reached_after (Near (weights (init ▹ rest) + 3 * count (init ▹ rest)) c) (all_surplus (init ▹ rest) c) (λ d. refused Assignment line) (λ d q. reached_refused (Near (weights (init ▹ rest) + 3 * count (init ▹ rest)) c) Assignment line) z q
+      reached_after (Near (weights (init ▹ rest) + 3 * count (init ▹ rest)) c) (all_surplus (init ▹ rest) c) (λ d q. reached_refused (Near (weights (init ▹ rest) + 3 * count (init ▹ rest)) c) Assignment line) z q
   parts_near (init ▹ rest) line in_scalar (part ∷ parts) target c z q =
-      let d = came (initialize init in_scalar part.0 part.1 target c) (λ d. initialize_parts line rest in_scalar parts d.1 d.0) z q in
+      let d = came (initialize init in_scalar part.0 part.1 target c) q in
       near_on (weight init + 3) (weights rest + 3 * count rest) _ (omega arith) (initialize_near init in_scalar part.0 part.1 target c d.value d.is) (parts_near rest line in_scalar parts d.value.1 d.value.0 z d.last)
 
 -- locals; what initializes a name stands behind `=`
@@ -178,7 +178,7 @@ starting (init ▹ rest) = weight init + 3
 fill_memory_near : (line : ℕ) (type : PlainType) (inits : Trees) (mem : Atom) (c : Context) → Led (Near (starting inits) c) (fill_memory line type inits mem c)
 fill_memory_near line type (init ▹ rest) (atom.Mem mem) c =
     let x = cleared line type (atom.Mem mem) c in
-    led_after (Near (weight init + 3) c) (initialize init false type 0 (InMemory line mem) x) (λ d. Ok d.0) (λ d q. led_ok (Near (weight init + 3) c) d.0 (initialize_near init false type 0 (InMemory line mem) x d q))
+    led_after (Near (weight init + 3) c) (initialize init false type 0 (InMemory line mem) x) (λ d q. led_ok (Near (weight init + 3) c) d.0 (initialize_near init false type 0 (InMemory line mem) x d q))
 fill_memory_near line type none mem c = led_ok (Near 0 c) (cleared line type mem c) (near_refl c)
 fill_memory_near line type (init ▹ rest) (atom.Reg r) c = led_ok (Near (weight init + 3) c) (cleared line type (atom.Reg r) c) (near_most 0 (weight init + 3) (omega arith) (near_refl c))
 fill_memory_near line type (init ▹ rest) (atom.Int x) c = led_ok (Near (weight init + 3) c) (cleared line type (atom.Int x) c) (near_most 0 (weight init + 3) (omega arith) (near_refl c))
@@ -188,7 +188,7 @@ fill_memory_near line type (init ▹ rest) (atom.Static x) c = led_ok (Near (wei
 fill_register_near : (line : ℕ) (type : PlainType) (inits : Trees) (register : ℕ) (c : Context) → Led (Near (starting inits) c) (fill_register line type inits register c)
 fill_register_near line type none register c = led_ok (Near 0 c) (emit line (Set register (zero_of type)) c) (near_refl c)
 fill_register_near line type (init ▹ rest) register c =
-    led_after (Near (weight init + 3) c) (initialize init false type 0 (InRegister line register) c) (λ d. Ok d.0) (λ d q. led_ok (Near (weight init + 3) c) d.0 (initialize_near init false type 0 (InRegister line register) c d q))
+    led_after (Near (weight init + 3) c) (initialize init false type 0 (InRegister line register) c) (λ d q. led_ok (Near (weight init + 3) c) d.0 (initialize_near init false type 0 (InRegister line register) c d q))
 
 fill_at_near : (line : ℕ) (type : PlainType) (inits : Trees) (spot : Spot) (c : Context) → Led (Near (starting inits) c) (fill_at line type inits spot c)
 fill_at_near line type inits (Local register) c = fill_register_near line type inits register c
@@ -229,12 +229,12 @@ function_near index name c = by (nat_lt index (length c.functions))
 pub declared_function_near : (line : ℕ) (name : List ℕ) (type : PlainType) (c : Context) → Led (Near 0 c) (declared_function line name type c)
 declared_function_near line name type c =
     let index = function_number name c in
-    led_after (Near 0 c) (declared_as line name (n.Function type index) c) (λ d. Ok (with_function index name d))
+    led_after (Near 0 c) (declared_as line name (n.Function type index) c)
     (λ d q. led_ok (Near 0 c) (with_function index name d) (near_on 0 0 0 (omega arith) (declared_near line name (n.Function type index) c d q) (function_near index name d)))
 
 no_initializer_near : (inits : Trees) (c : Context) → Led (Near 0 c) (no_initializer inits c)
 no_initializer_near none c = led_ok (Near 0 c) c (near_refl c)
-no_initializer_near (init ▹ rest) c = led_after (Near 0 c) (surplus init c) (λ d. refused Assignment (line_of init)) (λ d q. led_refused (Near 0 c) Assignment (line_of init))
+no_initializer_near (init ▹ rest) c = led_after (Near 0 c) (surplus init c) (λ d q. led_refused (Near 0 c) Assignment (line_of init))
 
 abbrev HasShort : Variable → Type 0
 HasShort v = IsShort v.name
@@ -249,7 +249,7 @@ variables_near vs c h = record {
 
 new_variable_near : (line : ℕ) (name : List ℕ) (type : PlainType) (c : Context) → IsShort name → Led (Near 0 c) (with_new_variable line name type c)
 new_variable_near line name type c h =
-    led_after (Near 0 c) (with_static line (size_or_zero c type) c) (λ d. Ok (record d { variables = d.variables ++ (record { name = name; layout = unwrap_or (layout_in d.tags type) no_layout; start = None }) ∷ [] }))
+    led_after (Near 0 c) (with_static line (size_or_zero c type) c)
     (λ d q. let v : Variable = record { name = name; layout = unwrap_or (layout_in d.tags type) no_layout; start = None } in
     led_ok (Near 0 c) (record d { variables = d.variables ++ v ∷ [] })
     (near_on 0 0 0 (omega arith) (static_near line (size_or_zero c type) c d q) (variables_near (d.variables ++ v ∷ []) d (λ k. All-push HasShort d.variables v k h))))
@@ -283,20 +283,20 @@ fill_variable_near : (line index : ℕ) (type : PlainType) (inits : Trees) (c : 
 fill_variable_near line index type none c = led_ok (Near 0 c) c (near_refl c)
 fill_variable_near line index type (init ▹ rest) c =
     led_unless (Near (weight init + 3) c) (is_some (start_of (slice_get c.variables index))) DeclaredTwice line (then (initialize init false type 0 (InStatic no_start) c) (λ d. Ok (started index d)))
-    (λ t. led_after (Near (weight init + 3) c) (initialize init false type 0 (InStatic no_start) c) (λ d. Ok (started index d))
+    (λ t. led_after (Near (weight init + 3) c) (initialize init false type 0 (InStatic no_start) c)
     (λ d q. led_ok (Near (weight init + 3) c) (started index d) (near_on (weight init + 3) 0 (weight init + 3) (omega arith) (initialize_near init false type 0 (InStatic no_start) c d q) (started_near index d))))
 
 file_object_near : (line : ℕ) (name : List ℕ) (type : PlainType) (inits : Trees) (c : Context) → IsShort name → Led (Near (1 + starting inits) c) (file_object line name type inits c)
 file_object_near line name type inits c h =
     let index = variable_number_of c (named_in name c.scopes.file) in
     led_unless (Near (1 + starting inits) c) (has_no_size c.tags type) Incomplete line (then (declared_as line name (n.Object type index) c) (λ d. then (with_variable line index name type d) (λ v. fill_variable line index type inits v)))
-    (λ t. led_after (Near (1 + starting inits) c) (declared_as line name (n.Object type index) c) (λ d. then (with_variable line index name type d) (λ v. fill_variable line index type inits v))
-    (λ d q. led_after (Near (1 + starting inits) c) (with_variable line index name type d) (λ v. fill_variable line index type inits v)
+    (λ t. led_after (Near (1 + starting inits) c) (declared_as line name (n.Object type index) c)
+    (λ d q. led_after (Near (1 + starting inits) c) (with_variable line index name type d)
     (λ x s z u. near_on 0 (starting inits) (1 + starting inits) (omega arith) (near_on 0 0 0 (omega arith) (declared_near line name (n.Object type index) c d q) (variable_near line index name type d h x s)) (fill_variable_near line index type inits x z u))))
 
 file_function_near : (line : ℕ) (name : List ℕ) (type : PlainType) (inits : Trees) (c : Context) → Led (Near 0 c) (file_function line name type inits c)
 file_function_near line name type inits c =
-    led_after (Near 0 c) (declared_function line name type c) (λ d. no_initializer inits d)
+    led_after (Near 0 c) (declared_function line name type c)
     (λ d q z s. near_on 0 0 0 (omega arith) (declared_function_near line name type c d q) (no_initializer_near inits d z s))
 
 file_value_near : (line : ℕ) (name : List ℕ) (type : PlainType) (inits : Trees) (c : Context) → IsShort name → Led (Near (1 + starting inits) c) (file_value line name type inits c)
@@ -318,8 +318,8 @@ name_in_near false line storage (Some name) type inits c h = local_name_near lin
 
 entry_near : (file : Bool) (line : ℕ) (storage : Storage) (base : PlainType) (declarator : Tree) (inits : Trees) (c : Context) → Short declarator → Led (Near (weight declarator + starting inits + 1) c) (entry file line storage base declarator inits c)
 entry_near file line storage base declarator inits c h z q =
-    let l = came (layers declarator c) (λ l. then (with_init_layers l.0.tags l.1 inits base) (λ type. name_in file line storage (name_of declarator) type inits l.0)) z q in
-    let t = came (with_init_layers l.value.0.tags l.value.1 inits base) (λ type. name_in file line storage (name_of declarator) type inits l.value.0) z l.last in
+    let l = came (layers declarator c) q in
+    let t = came (with_init_layers l.value.0.tags l.value.1 inits base) l.last in
     near_on (weight declarator) (1 + starting inits) (weight declarator + starting inits + 1) (omega arith) (layers_near declarator c h l.value l.is) (name_in_near file line storage (name_of declarator) t.value inits l.value.0 (name_short declarator h) z t.last)
 
 starts_within : (inits : Trees) → starting inits ≤ weight (Node f.MaybeInit inits)
@@ -331,7 +331,7 @@ entries_near : (names : Trees) (file : Bool) (line : ℕ) (storage : Storage) (b
 unfolding entries shape
 entries_near none file line storage base c h z q = led_ok (Near 0 c) c (near_refl c) z q
 entries_near (Node f.Entry (Node f.Declared (declarator ▹ none) ▹ Node f.MaybeInit inits ▹ none) ▹ rest) file line storage base c h z q =
-    let d = came (entry file line storage base declarator inits c) (λ d. entries file line storage base rest d) z q in
+    let d = came (entry file line storage base declarator inits c) q in
     let room = starts_within inits in
     near_on (weight declarator + starting inits + 1) (weights rest + count rest) _ (omega (arith, room)) (entry_near file line storage base declarator inits c h.0.0.0 d.value d.is) (entries_near rest file line storage base d.value h.1 z d.last)
 entries_near (tree ▹ rest) file line storage base c h z q = led_refused (Near (weights (tree ▹ rest) + count (tree ▹ rest)) c) Operands (line_of tree) z q
@@ -348,7 +348,7 @@ before_near tree (name ▹ rest) c h = specs_near tree c h
 pub declaration_near : (file : Bool) (line : ℕ) (words tree : Tree) (c : Context) → Short words → Short tree → Led (Near (weight words + weight tree + 6) c) (declaration file line words tree c)
 unfolding declaration shape
 declaration_near file line words (Node f.Names names) c h k z q =
-    let base = came (specs_before words names c) (λ base. entries file line (storage_of words) base.1 names base.0) z q in
+    let base = came (specs_before words names c) q in
     let room = commas_said p.Entry (count names) in
     near_on (weight words) (weights names + count names) _ (omega (arith, room)) (before_near words names c h base.value base.is) (entries_near names file line (storage_of words) base.value.1 base.value.0 k z base.last)
 declaration_near file line words tree c h k z q = led_refused (Near (weight words + weight tree + 6) c) Operands line z q

@@ -60,13 +60,13 @@ text_short e known z h = tt
 first_short : (e : Tree) (rest : Trees) (line : ℕ) (params : PlainTypes) (c : Context) (z : Context × List Argument) → arguments line Prints params (e ▹ rest) c ≡ Ok z → IfSome (literal e) IsShort
 unfolding arguments
 first_short e rest line params c z h =
-    let d = came (format_argument (literal e) c (typed e (asked c)) (valued e (found e (first_type params) c))) (λ d. let v = argument_from line params c.code d.0 d.1 in then (arguments line NoFunction (rest_types params) rest v.0) (λ more. good (more.0, v.1 ∷ more.1))) z h in
+    let d = came (format_argument (literal e) c (typed e (asked c)) (valued e (found e (first_type params) c))) h in
     by (literal e) refl d.value d.is
   where
     by : (o : Option (List ℕ)) → literal e ≡ o → (y : Context × Found) → format_argument o c (typed e (asked c)) (valued e (found e (first_type params) c)) ≡ Ok y → IfSome o IsShort
     by None q y k = tt
     by (Some bytes) q y k =
-        let t = came (typed e (asked c)) (λ x. good (c, valued_as x.1 atom.Null)) y k in
+        let t = came (typed e (asked c)) k in
         subst (λ (o : Option (List ℕ)). IfSome o IsShort) q (text_short e (asked c) t.value t.is)
 
 formats_short : (values : Trees) (line : ℕ) (params : PlainTypes) (c : Context) (z : Context × List Argument) → arguments line Prints params values c ≡ Ok z → IsShort (unwrap_or (first_literal values) [])
@@ -80,7 +80,7 @@ called_printf line tags other k h e = cc
 
 printf_callee : (e : Tree) (c : Context) (answer : With Found) (d : Context × Callee) → callee e c answer ≡ Ok d → built_in_at (callee_name e c) ≡ Some bi.Printf → d.1 ≡ Prints
 printf_callee (Node f.Name (At line ▹ Leaf (w.Name name) ▹ none)) c answer d h e =
-    let k = came (called line c.tags (declaration c.scopes name)) (λ function. good (c, function)) d h in
+    let k = came (called line c.tags (declaration c.scopes name)) h in
     subst (λ (x : Context × Callee). x.1 ≡ Prints) (ok_same (c, k.value) d k.last) (called_printf line c.tags (declaration c.scopes name) k.value k.is e)
 printf_callee tree c answer d h e = none_there e
   where
@@ -105,45 +105,45 @@ static_near line size c =
 
 pub literal_near : (line : ℕ) (bytes : List ℕ) (c : Context) → Reached (Near 0 c) (with_literal line bytes c)
 literal_near line bytes c z q =
-    let d = came (with_static line (length bytes + 1) c) (λ (d : Context). good (record d { literals = d.literals ++ bytes ∷ [] }, literal_object (length c.literals))) z q in
+    let d = came (with_static line (length bytes + 1) c) q in
     reached_ok (Near 0 c) (record d.value { literals = d.value.literals ++ bytes ∷ [] }, literal_object (length c.literals)) (static_near line (length bytes + 1) c d.value d.is) z d.last
 
 -- answers
 
 name_near : (line : ℕ) (name : List ℕ) (declared : Option PlainNamed) (c : Context) → Reached (Near 0 c) (name_answer line name declared c)
 name_near line name declared c =
-    reached_after (Near 0 c) (named line declared) (λ e. Ok (c, name_found e (is_inner c name) declared)) (λ e h. reached_ok (Near 0 c) (c, name_found e (is_inner c name) declared) (near_refl c))
+    reached_after (Near 0 c) (named line declared) (λ e h. reached_ok (Near 0 c) (c, name_found e (is_inner c name) declared) (near_refl c))
 
 string_near : (line : ℕ) (bytes : List ℕ) (c : Context) → Reached (Near 0 c) (literal_answer line bytes c)
 string_near line bytes c =
-    reached_after (Near 0 c) (string line bytes) (λ e. then (with_literal line bytes c) (λ d. Ok (literal_found e d)))
-    (λ e h. reached_then (Near 0 c) (Near 0 c) (with_literal line bytes c) (λ d. Ok (literal_found e d)) (literal_near line bytes c) (λ d k. reached_ok (Near 0 c) (literal_found e d) k))
+    reached_after (Near 0 c) (string line bytes)
+    (λ e h. reached_then (Near 0 c) (Near 0 c) (literal_near line bytes c) (λ d k. reached_ok (Near 0 c) (literal_found e d) k))
 
 unevaluated_near : (tree : Tree) (c : Context) → Reached (Near 0 c) (unevaluated c (typed tree (asked c)))
 unevaluated_near tree c =
-    reached_after (Near 0 c) (typed tree (asked c)) (λ d. Ok (told d.0 c, constant_found d.1)) (λ d h. reached_ok (Near 0 c) (told d.0 c, constant_found d.1) (near_refl c))
+    reached_after (Near 0 c) (typed tree (asked c)) (λ d h. reached_ok (Near 0 c) (told d.0 c, constant_found d.1) (near_refl c))
 
 address_near : (line : ℕ) (c : Context) (e : Found) → Reached (Near 0 c) (address_answer line c e)
 address_near line c e =
-    reached_after (Near 0 c) (address line e.typed) (λ type. Ok (c, found_as type (Value (atom_in e)) e.fixed)) (λ type h. reached_ok (Near 0 c) (c, found_as type (Value (atom_in e)) e.fixed) (near_refl c))
+    reached_after (Near 0 c) (address line e.typed) (λ type h. reached_ok (Near 0 c) (c, found_as type (Value (atom_in e)) e.fixed) (near_refl c))
 
 changing_near : (k : ℕ) (tree : Tree) (c : Context) (answer : With Found) → Reached (Near k c) answer → Reached (Near k c) (changing tree answer)
 changing_near k tree c answer g =
-    reached_then (Near k c) (Near k c) answer (λ d. then (held_place (line_of tree) d.0.tags d.1.typed) (λ held. Ok d)) g
-    (λ d h. reached_after (Near k c) (held_place (line_of tree) d.0.tags d.1.typed) (λ held. Ok d) (λ held q. reached_ok (Near k c) d h))
+    reached_then (Near k c) (Near k c) g
+    (λ d h. reached_after (Near k c) (held_place (line_of tree) d.0.tags d.1.typed) (λ held q. reached_ok (Near k c) d h))
 
 callee_near : (k : ℕ) (tree : Tree) (c : Context) (answer : With Found) → Reached (Near k c) answer → Reached (Near (k + 1) c) (callee tree c answer)
 callee_near k (Node f.Name (At line ▹ Leaf (w.Name name) ▹ none)) c answer h =
-    reached_after (Near (k + 1) c) (called line c.tags (declaration c.scopes name)) (λ function. Ok (c, function)) (λ function q. reached_ok (Near (k + 1) c) (c, function) (near_most 0 (k + 1) (omega arith) (near_refl c)))
-callee_near k tree c answer h = reached_then (Near (k + 1) c) (Near (k + 1) c) (valued tree answer) (λ d. Ok (d.0, NoFunction)) (valued_near k tree c answer h) (λ d q. reached_ok (Near (k + 1) c) (d.0, NoFunction) q)
+    reached_after (Near (k + 1) c) (called line c.tags (declaration c.scopes name)) (λ function q. reached_ok (Near (k + 1) c) (c, function) (near_most 0 (k + 1) (omega arith) (near_refl c)))
+callee_near k tree c answer h = reached_then (Near (k + 1) c) (Near (k + 1) c) (valued_near k tree c answer h) (λ d q. reached_ok (Near (k + 1) c) (d.0, NoFunction) q)
 
 format_near : (k : ℕ) (format : Option (List ℕ)) (c : Context) (answer : Checked (names.Context × PlainTyped)) (walked : With Found) → Reached (Near k c) walked → Reached (Near k c) (format_argument format c answer walked)
-format_near k (Some bytes) c answer walked h = reached_after (Near k c) answer (λ d. Ok (c, valued_as d.1 atom.Null)) (λ d q. reached_ok (Near k c) (c, valued_as d.1 atom.Null) (near_most 0 k (omega arith) (near_refl c)))
+format_near k (Some bytes) c answer walked h = reached_after (Near k c) answer (λ d q. reached_ok (Near k c) (c, valued_as d.1 atom.Null) (near_most 0 k (omega arith) (near_refl c)))
 format_near k None c answer walked h = h
 
 called_near : (line : ℕ) (name : Option PlainNamed) (function : Callee) (wanted : PlainType) (trees : Trees) (c : Context) (values : List Argument) → PrintsShort (built_in_at name) (first_literal trees) → Reached (Near 2 c) (call_answer line name function wanted trees c values)
 called_near line name function wanted trees c values g =
-    reached_after (Near 2 c) (call line (first_literal trees) function (types_of values)) (λ e. let d = call_named line name e.type wanted (first_literal trees) values c in Ok (d.0, found_as e d.1 Unknown))
+    reached_after (Near 2 c) (call line (first_literal trees) function (types_of values))
     (λ e h. reached_ok (Near 2 c) (let d = call_named line name e.type wanted (first_literal trees) values c in (d.0, found_as e d.1 Unknown)) (call_near line name e.type wanted (first_literal trees) values c g))
 
 assigned_near : (k : ℕ) (test : Bool) (line : ℕ) (x : Tree) (target : Found) (c : Context) (r : Context × Found) → Near k c r.0 → Reached (Near (k + 2) c) (cond test (record_assigned line (line_of x) target r) (scalar_assigned line c.code x target r))
@@ -160,43 +160,43 @@ mutual
   found_near (Node f.Str (At line ▹ Node f.Strings parts ▹ none)) wish c z q = near_most 0 _ (omega arith) (string_near line (joined parts) c z q)
   found_near (Node f.Paren (At line ▹ e ▹ none)) wish c z q = near_most (weight e) _ (omega arith) (found_near e wish c z q)
   found_near (Node f.Index (At line ▹ e ▹ x ▹ none)) wish c z q =
-      let d = came (valued e (found e Void c)) (λ d. then (valued x (found x Void d.0)) (λ r. indexed line r.0 d.1 r.1)) z q in
-      let r = came (valued x (found x Void d.value.0)) (λ r. indexed line r.0 d.value.1 r.1) z d.last in
+      let d = came (valued e (found e Void c)) q in
+      let r = came (valued x (found x Void d.value.0)) d.last in
       let one = valued_near (weight e) e c (found e Void c) (found_near e Void c) d.value d.is in
       let two = valued_near (weight x) x d.value.0 (found x Void d.value.0) (found_near x Void d.value.0) r.value r.is in
       let three = indexed_near line r.value.0 d.value.1 r.value.1 z r.last in
       near_on (weight e + 1) (weight x + 4) _ (omega arith) one (near_on (weight x + 1) 3 (weight x + 4) (omega arith) two three)
   found_near (Node f.Call (At line ▹ e ▹ Node f.Arguments values ▹ none)) wish c z q =
-      let d = came (callee e c (found e Void c)) (λ d. then (arguments line d.1 (parameters d.1) values d.0) (λ v. call_answer line (callee_name e c) d.1 wish values v.0 v.1)) z q in
-      let v = came (arguments line d.value.1 (parameters d.value.1) values d.value.0) (λ v. call_answer line (callee_name e c) d.value.1 wish values v.0 v.1) z d.last in
+      let d = came (callee e c (found e Void c)) q in
+      let v = came (arguments line d.value.1 (parameters d.value.1) values d.value.0) d.last in
       let one = callee_near (weight e) e c (found e Void c) (found_near e Void c) d.value d.is in
       let two = arguments_near values line d.value.1 (parameters d.value.1) d.value.0 v.value v.is in
       let three = called_near line (callee_name e c) d.value.1 wish values v.value.0 v.value.1 (call_prints e c (found e Void c) values line d.value v.value d.is v.is) z v.last in
       let room = commas_said (Expression assign_level) (count values) in
       near_on (weight e + 1) (weights values + 2 * count values + 2) _ (omega (arith, room)) one (near_on (weights values + 2 * count values) 2 (weights values + 2 * count values + 2) (omega arith) two three)
   found_near (Node f.Dot (At line ▹ e ▹ Leaf (w.Name name) ▹ none)) wish c z q =
-      let d = came (found e Void c) (λ d. dotted line name d.0 d.1) z q in
+      let d = came (found e Void c) q in
       near_on (weight e) 1 _ (omega arith) (found_near e Void c d.value d.is) (dotted_near line name d.value.0 d.value.1 z d.last)
   found_near (Node f.Arrow (At line ▹ e ▹ Leaf (w.Name name) ▹ none)) wish c z q =
-      let d = came (valued e (found e Void c)) (λ d. pointed line name d.0 d.1) z q in
+      let d = came (valued e (found e Void c)) q in
       near_on (weight e + 1) 1 _ (omega arith) (valued_near (weight e) e c (found e Void c) (found_near e Void c) d.value d.is) (pointed_near line name d.value.0 d.value.1 z d.last)
   found_near (Node f.PostInc (At line ▹ e ▹ none)) wish c z q =
-      let d = came (changing e (found e Void c)) (λ d. stepped line a.Add true d) z q in
+      let d = came (changing e (found e Void c)) q in
       near_on (weight e) 5 _ (omega arith) (changing_near (weight e) e c (found e Void c) (found_near e Void c) d.value d.is) (stepped_near line a.Add true d.value z d.last)
   found_near (Node f.PostDec (At line ▹ e ▹ none)) wish c z q =
-      let d = came (changing e (found e Void c)) (λ d. stepped line a.Subtract true d) z q in
+      let d = came (changing e (found e Void c)) q in
       near_on (weight e) 5 _ (omega arith) (changing_near (weight e) e c (found e Void c) (found_near e Void c) d.value d.is) (stepped_near line a.Subtract true d.value z d.last)
   found_near (Node f.PreInc (At line ▹ e ▹ none)) wish c z q =
-      let d = came (changing e (found e Void c)) (λ d. stepped line a.Add false d) z q in
+      let d = came (changing e (found e Void c)) q in
       near_on (weight e) 5 _ (omega arith) (changing_near (weight e) e c (found e Void c) (found_near e Void c) d.value d.is) (stepped_near line a.Add false d.value z d.last)
   found_near (Node f.PreDec (At line ▹ e ▹ none)) wish c z q =
-      let d = came (changing e (found e Void c)) (λ d. stepped line a.Subtract false d) z q in
+      let d = came (changing e (found e Void c)) q in
       near_on (weight e) 5 _ (omega arith) (changing_near (weight e) e c (found e Void c) (found_near e Void c) d.value d.is) (stepped_near line a.Subtract false d.value z d.last)
   found_near (Node (f.Unary u.Address) (At line ▹ e ▹ none)) wish c z q =
-      let d = came (found e Void c) (λ d. address_answer line d.0 d.1) z q in
+      let d = came (found e Void c) q in
       near_on (weight e) 0 _ (omega arith) (found_near e Void c d.value d.is) (address_near line d.value.0 d.value.1 z d.last)
   found_near (Node (f.Unary op) (At line ▹ e ▹ none)) wish c z q =
-      let d = came (valued e (found e Void c)) (λ d. applied line op e d.0 d.1) z q in
+      let d = came (valued e (found e Void c)) q in
       near_on (weight e + 1) 2 _ (omega arith) (valued_near (weight e) e c (found e Void c) (found_near e Void c) d.value d.is) (applied_near line op e d.value.0 d.value.1 z d.last)
   found_near (Node f.SizeofExpr (At line ▹ e ▹ none)) wish c z q = near_most 0 _ (omega arith) (unevaluated_near (Node f.SizeofExpr (At line ▹ e ▹ none)) c z q)
   found_near (Node f.SizeofType (At line ▹ name ▹ none)) wish c z q = near_most 0 _ (omega arith) (unevaluated_near (Node f.SizeofType (At line ▹ name ▹ none)) c z q)
@@ -206,46 +206,46 @@ mutual
       let one = unused_near (weight e) e (told t.value.0 c) (found e t.value.1 (told t.value.0 c)) (found_near e t.value.1 (told t.value.0 c)) d.value (cast_unused t.value.1 e (found e t.value.1 (told t.value.0 c)) d.value d.is) in
       near_most (weight e + 1 + 1) _ (omega arith) (cast_near (weight e + 1) line t.value.1 c d.value.0 d.value.1 one z d.last)
   found_near (Node (f.Binary b.And) (At line ▹ e ▹ x ▹ none)) wish c z q =
-      let d = came (valued e (found e Void c)) (λ d. let begun = and_then line e d in then (valued x (found x Void begun)) (λ r. and_ended line (new_label d.0) x d.1 r)) z q in
+      let d = came (valued e (found e Void c)) q in
       let begun = and_then line e d.value in
-      let r = came (valued x (found x Void begun)) (λ r. and_ended line (new_label d.value.0) x d.value.1 r) z d.last in
+      let r = came (valued x (found x Void begun)) d.last in
       let one = near_on (weight e + 1) 1 (weight e + 2) (omega arith) (valued_near (weight e) e c (found e Void c) (found_near e Void c) d.value d.is) (and_then_near line e d.value) in
       let two = valued_near (weight x) x begun (found x Void begun) (found_near x Void begun) r.value r.is in
       near_on (weight e + 2) (weight x + 3) _ (omega arith) one (near_on (weight x + 1) 2 (weight x + 3) (omega arith) two (and_near line (new_label d.value.0) x d.value.1 r.value z r.last))
   found_near (Node (f.Binary b.Or) (At line ▹ e ▹ x ▹ none)) wish c z q =
-      let d = came (valued e (found e Void c)) (λ d. let begun = or_else line e d in then (valued x (found x Void begun.0)) (λ r. or_ended line (new_label d.0 + 1) x begun.1 d.1 r)) z q in
+      let d = came (valued e (found e Void c)) q in
       let begun = or_else line e d.value in
-      let r = came (valued x (found x Void begun.0)) (λ r. or_ended line (new_label d.value.0 + 1) x begun.1 d.value.1 r) z d.last in
+      let r = came (valued x (found x Void begun.0)) d.last in
       let one = near_on (weight e + 1) 2 (weight e + 3) (omega arith) (valued_near (weight e) e c (found e Void c) (found_near e Void c) d.value d.is) (or_else_near line e d.value) in
       let two = valued_near (weight x) x begun.0 (found x Void begun.0) (found_near x Void begun.0) r.value r.is in
       near_on (weight e + 3) (weight x + 2) _ (omega arith) one (near_on (weight x + 1) 1 (weight x + 2) (omega arith) two (or_near line (new_label d.value.0 + 1) x begun.1 d.value.1 r.value z r.last))
   found_near (Node (f.Binary op) (At line ▹ e ▹ x ▹ none)) wish c z q =
-      let d = came (valued e (found e Void c)) (λ d. let begun = left_operand op c.code x d in then (valued x (found x Void begun.0)) (λ r. between line op begun.0.code r.0 begun.1 r.1)) z q in
+      let d = came (valued e (found e Void c)) q in
       let begun = left_operand op c.code x d.value in
-      let r = came (valued x (found x Void begun.0)) (λ r. between line op begun.0.code r.0 begun.1 r.1) z d.last in
+      let r = came (valued x (found x Void begun.0)) d.last in
       let one = left_near (weight e + 1) op c x d.value (valued_near (weight e) e c (found e Void c) (found_near e Void c) d.value d.is) in
       let two = valued_near (weight x) x begun.0 (found x Void begun.0) (found_near x Void begun.0) r.value r.is in
       near_on (weight e + 1) (weight x + 1 + 3) _ (omega arith) one (between_near (weight x + 1) line op begun.0 r.value.0 begun.1 r.value.1 two z r.last)
   found_near (Node f.Cond (At line ▹ e ▹ x ▹ y ▹ none)) wish c z q =
-      let d = came (valued e (found e Void c)) (λ d. let begun = choose line e d in then (valued x (found x Void begun)) (λ v. let first = choose_first line (new_label d.0) begun.code (type_ahead line d.1 y v) v in then (valued y (found y Void first.0)) (λ r. chosen line (new_label d.0 + 1) first.0.code first.1 d.1 v.1 r))) z q in
+      let d = came (valued e (found e Void c)) q in
       let begun = choose line e d.value in
-      let v = came (valued x (found x Void begun)) (λ v. let first = choose_first line (new_label d.value.0) begun.code (type_ahead line d.value.1 y v) v in then (valued y (found y Void first.0)) (λ r. chosen line (new_label d.value.0 + 1) first.0.code first.1 d.value.1 v.1 r)) z d.last in
+      let v = came (valued x (found x Void begun)) d.last in
       let first = choose_first line (new_label d.value.0) begun.code (type_ahead line d.value.1 y v.value) v.value in
-      let r = came (valued y (found y Void first.0)) (λ r. chosen line (new_label d.value.0 + 1) first.0.code first.1 d.value.1 v.value.1 r) z v.last in
+      let r = came (valued y (found y Void first.0)) v.last in
       let one = near_on (weight e + 1) 1 (weight e + 2) (omega arith) (valued_near (weight e) e c (found e Void c) (found_near e Void c) d.value d.is) (and_then_near line e d.value) in
       let two = first_near (weight x + 1) line (new_label d.value.0) begun (type_ahead line d.value.1 y v.value) v.value (valued_near (weight x) x begun (found x Void begun) (found_near x Void begun) v.value v.is) in
       let three = valued_near (weight y) y first.0 (found y Void first.0) (found_near y Void first.0) r.value r.is in
       let last = chosen_near (weight y + 1) line (new_label d.value.0 + 1) first.0 first.1 d.value.1 v.value.1 r.value three z r.last in
       near_on (weight e + 2) (weight x + weight y + 5) _ (omega arith) one (near_on (weight x + 1 + 2) (weight y + 1 + 1) (weight x + weight y + 5) (omega arith) two last)
   found_near (Node (f.Assign a.Plain) (At line ▹ e ▹ x ▹ none)) wish c z q =
-      let d = came (found e Void c) (λ d. then (found x d.1.typed.type d.0) (λ r. cond (is_record d.1.typed.type) (record_assigned line (line_of x) d.1 r) (scalar_assigned line d.0.code x d.1 r))) z q in
-      let r = came (found x d.value.1.typed.type d.value.0) (λ r. cond (is_record d.value.1.typed.type) (record_assigned line (line_of x) d.value.1 r) (scalar_assigned line d.value.0.code x d.value.1 r)) z d.last in
+      let d = came (found e Void c) q in
+      let r = came (found x d.value.1.typed.type d.value.0) d.last in
       let two = found_near x d.value.1.typed.type d.value.0 r.value r.is in
       near_on (weight e) (weight x + 2) _ (omega arith) (found_near e Void c d.value d.is) (assigned_near (weight x) (is_record d.value.1.typed.type) line x d.value.1 d.value.0 r.value two z r.last)
   found_near (Node (f.Assign op) (At line ▹ e ▹ x ▹ none)) wish c z q =
-      let d = came (changing e (found e Void c)) (λ d. let old = old_value line d in then (valued x (found x Void old.0)) (λ r. changed_by line op false d.1 old.1 r)) z q in
+      let d = came (changing e (found e Void c)) q in
       let old = old_value line d.value in
-      let r = came (valued x (found x Void old.0)) (λ r. changed_by line op false d.value.1 old.1 r) z d.last in
+      let r = came (valued x (found x Void old.0)) d.last in
       let one = near_on (weight e) 1 (weight e + 1) (omega arith) (changing_near (weight e) e c (found e Void c) (found_near e Void c) d.value d.is) (old_near line d.value) in
       let two = valued_near (weight x) x old.0 (found x Void old.0) (found_near x Void old.0) r.value r.is in
       near_on (weight e + 1) (weight x + 5) _ (omega arith) one (near_on (weight x + 1) 4 (weight x + 5) (omega arith) two (changed_near line op false d.value.1 old.1 r.value z r.last))
@@ -260,9 +260,9 @@ mutual
   arguments_near : (trees : Trees) (line : ℕ) (target : Callee) (params : PlainTypes) (c : Context) → Reached (Near (weights trees + 2 * count trees) c) (arguments line target params trees c)
   arguments_near none line target params c z q = reached_ok (Near 0 c) (c, []) (near_refl c) z q
   arguments_near (e ▹ rest) line target params c z q =
-      let d = came (format_argument (is_printf target e) c (typed e (asked c)) (valued e (found e (first_type params) c))) (λ d. let v = argument_from line params c.code d.0 d.1 in then (arguments line NoFunction (rest_types params) rest v.0) (λ more. good (more.0, v.1 ∷ more.1))) z q in
+      let d = came (format_argument (is_printf target e) c (typed e (asked c)) (valued e (found e (first_type params) c))) q in
       let v = argument_from line params c.code d.value.0 d.value.1 in
-      let r = came (arguments line NoFunction (rest_types params) rest v.0) (λ more. good (more.0, v.1 ∷ more.1)) z d.last in
+      let r = came (arguments line NoFunction (rest_types params) rest v.0) d.last in
       let one = format_near (weight e + 1) (is_printf target e) c (typed e (asked c)) (valued e (found e (first_type params) c)) (valued_near (weight e) e c (found e (first_type params) c) (found_near e (first_type params) c)) d.value d.is in
       let two = argument_near (weight e + 1) line params c d.value.0 d.value.1 one in
       let three = arguments_near rest line NoFunction (rest_types params) v.0 r.value r.is in

@@ -61,7 +61,7 @@ with_param_near name type c h = by (is_prototype c.scopes)
 -- specs and declarators
 
 pub with_type_near : (answer : Checked (names.Context × PlainType)) (c : Context) → Reached (Near 0 c) (with_type answer c)
-with_type_near answer c = reached_after (Near 0 c) answer (λ x. Ok (told x.0 c, x.1)) (λ x q. reached_ok (Near 0 c) (told x.0 c, x.1) (near_refl c))
+with_type_near answer c = reached_after (Near 0 c) answer (λ x q. reached_ok (Near 0 c) (told x.0 c, x.1) (near_refl c))
 
 near_step : Steps IsShort (λ deep n c d. Near n c d)
 near_step = record {

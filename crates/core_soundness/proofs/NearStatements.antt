@@ -19,7 +19,6 @@ use Rattle.elaboration.specs.Reallocates.{opened, closed}
 use Rattle.elaboration.specs.Expressions.{found}
 use Rattle.elaboration.specs.Declarators.{constant}
 use Rattle.elaboration.specs.Statements.{Around, below, in_loop, in_switch, in_delay, leaves, leave_to, evaluated, maybe_evaluated, closed_atom, condition, leaves_if_zero, maybe_leaves, apart, returned, return_value, return_of, return_from, has_case, with_case, case_of, cased, defaulted, switch_operand_of, switch_operand, no_cases, switched, looped, for_start, statement, items}
-use Rattle.core_soundness.proofs.Grown.{good}
 use Rattle.core_soundness.proofs.Agreeing.{came}
 use Rattle.core_soundness.proofs.Reached.{Reached, reached_ok, reached_refused, reached_after, reached_unless, Led, led_ok, led_refused, led_after, led_unless, led_barred}
 use Rattle.core_soundness.proofs.ShortNames.{Short, AllShort}
@@ -29,7 +28,7 @@ use Rattle.core_soundness.proofs.NearLayers.{constant_near}
 use Rattle.core_soundness.proofs.NearFills.{opened_near, closed_near, full_near, converted_near, declaration_near}
 
 scoped_near : (k : ℕ) (c : Context) (inside : Context → Checked Context) → Led (Near k c) (inside (entered c)) → Led (Near k c) (scoped c inside)
-scoped_near k c inside g = led_after (Near k c) (inside (entered c)) (λ d. Ok (left d)) (λ d q. led_ok (Near k c) (left d) (g d q))
+scoped_near k c inside g = led_after (Near k c) (inside (entered c)) (λ d q. led_ok (Near k c) (left d) (g d q))
 
 leaves_near : (k line : ℕ) (c : Context) → Near 0 c (leaves line k c)
 leaves_near zero line c = near_refl c
@@ -52,14 +51,14 @@ maybe_evaluated_near (e ▹ rest) c z q = near_most (weight e + 1) _ (omega arit
 
 condition_near : (e : Tree) (c : Context) → Reached (Near (weight e + 2) c) (condition e c)
 condition_near e c =
-    reached_after (Near (weight e + 2) c) (valued e (found e Void (opened e c))) (λ d. unless (not (is_scalar d.1.typed.type)) Operands (line_of e) (Ok (closed_atom e (tested_value e d))))
+    reached_after (Near (weight e + 2) c) (valued e (found e Void (opened e c)))
     (λ d q. let last = near_on 1 0 1 (omega arith) (tested_value_near e d) (closed_near e (tested_value e d).0) in
     reached_unless (Near (weight e + 2) c) (not (is_scalar d.1.typed.type)) Operands (line_of e) (Ok (closed_atom e (tested_value e d)))
     (reached_ok (Near (weight e + 2) c) (closed_atom e (tested_value e d)) (near_on 0 (weight e + 2) (weight e + 2) (omega arith) (opened_near e c) (near_on (weight e + 1) 1 (weight e + 2) (omega arith) (full_near e Void c d q) last))))
 
 if_zero_near : (line label : ℕ) (e : Tree) (c : Context) → Led (Near (weight e + 2) c) (leaves_if_zero line label e c)
 if_zero_near line label e c =
-    led_after (Near (weight e + 2) c) (condition e c) (λ d. Ok (emit line (Zero d.1 label) d.0)) (λ d q. led_ok (Near (weight e + 2) c) (emit line (Zero d.1 label) d.0) (condition_near e c d q))
+    led_after (Near (weight e + 2) c) (condition e c) (λ d q. led_ok (Near (weight e + 2) c) (emit line (Zero d.1 label) d.0) (condition_near e c d q))
 
 maybe_leaves_near : (line label : ℕ) (es : Trees) (c : Context) → Led (Near (weights es + 2) c) (maybe_leaves line label es c)
 maybe_leaves_near line label none c z q = led_ok (Near 2 c) c (near_most 0 2 (omega arith) (near_refl c)) z q
@@ -68,7 +67,7 @@ maybe_leaves_near line label (e ▹ rest) c z q = near_most (weight e + 2) _ (om
 return_of_near : (line delays : ℕ) (e : Tree) (type : PlainType) (c : Context) → Led (Near (weight e + 2) c) (return_of line delays e type c)
 return_of_near line delays e type c =
     let begun = opened e c in
-    led_after (Near (weight e + 2) c) (valued e (found e type begun)) (λ d. unless (is_void type) Assignment line (converts line type d.1.typed (return_value line delays e type begun.code d)))
+    led_after (Near (weight e + 2) c) (valued e (found e type begun))
     (λ d q. let v = convert line begun.code type d.1.typed (atom_in d.1) d.0 in
     led_unless (Near (weight e + 2) c) (is_void type) Assignment line (converts line type d.1.typed (return_value line delays e type begun.code d))
     (λ x. led_barred (Near (weight e + 2) c) (unconverted type d.1.typed) line (return_value line delays e type begun.code d)
@@ -110,7 +109,7 @@ operand_of_near k line e other c d g = reached_refused (Near (k + 1) c) Operands
 
 operand_near : (line : ℕ) (e : Tree) (c : Context) → Reached (Near (weight e + 1 + 1) c) (switch_operand line e c)
 operand_near line e c =
-    reached_after (Near (weight e + 1 + 1) c) (valued e (found e Void (opened e c))) (λ d. switch_operand_of line e (operand d.1.typed.type) d)
+    reached_after (Near (weight e + 1 + 1) c) (valued e (found e Void (opened e c)))
     (λ d q. operand_of_near (weight e + 1) line e (operand d.1.typed.type) c d (near_on 0 (weight e + 1) (weight e + 1) (omega arith) (opened_near e c) (full_near e Void c d q)))
 
 start_near : (line : ℕ) (tree : Tree) (c : Context) → Short tree → Led (Near (weight tree) c) (for_start line tree c)
@@ -130,7 +129,7 @@ mutual
   statement_near (Node f.Delay (At line ▹ Node f.Items parts ▹ none)) a c h z q =
       near_most (weights parts) _ (omega arith)
       (scoped_near (weights parts) c (λ d. then (items parts (in_delay a) (emit line Enter d)) (λ e. Ok (emit line Leave e)))
-      (led_after (Near (weights parts) c) (items parts (in_delay a) (emit line Enter (entered c))) (λ e. Ok (emit line Leave e))
+      (led_after (Near (weights parts) c) (items parts (in_delay a) (emit line Enter (entered c)))
       (λ e k. led_ok (Near (weights parts) c) (emit line Leave e) (items_near parts (in_delay a) (emit line Enter (entered c)) h.1.0 e k))) z q)
   statement_near (Node f.If (At line ▹ e ▹ s ▹ none)) a c h z q =
       let end = new_label c in
@@ -139,8 +138,8 @@ mutual
       near_most (weight e + 2 + weight s) _ (omega arith)
       (scoped_near (weight e + 2 + weight s) c1 (λ d. then (leaves_if_zero line end e d) (λ t. then (scoped t (λ b. statement s (below a) b)) (λ g. Ok (here end g))))
       (λ y k.
-      let t = came (leaves_if_zero line end e d0) (λ t. then (scoped t (λ b. statement s (below a) b)) (λ g. good (here end g))) y k in
-      let g = came (scoped t.value (λ b. statement s (below a) b)) (λ g. good (here end g)) y t.last in
+      let t = came (leaves_if_zero line end e d0) k in
+      let g = came (scoped t.value (λ b. statement s (below a) b)) t.last in
       let inner = scoped_near (weight s) t.value (λ b. statement s (below a) b) (statement_near s (below a) (entered t.value) h.1.1.0) g.value g.is in
       near_on (weight e + 2) (weight s) (weight e + 2 + weight s) (omega arith) (if_zero_near line end e d0 t.value t.is) (led_ok (Near (weight s) t.value) (here end g.value) inner y g.last)) z q)
   statement_near (Node f.IfElse (At line ▹ e ▹ s ▹ other ▹ none)) a c h z q =
@@ -150,10 +149,10 @@ mutual
       near_most (weight e + 2 + (weight s + weight other)) _ (omega arith)
       (scoped_near (weight e + 2 + (weight s + weight other)) c1 (λ d. then (leaves_if_zero line (end + 1) e d) (λ t. then (scoped t (λ b. statement s (below a) b)) (λ g. then (scoped (here (end + 1) (emit line (Jump end) g)) (λ b. statement other (below a) b)) (λ k. Ok (here end k)))))
       (λ y k.
-      let t = came (leaves_if_zero line (end + 1) e d0) (λ t. then (scoped t (λ b. statement s (below a) b)) (λ g. then (scoped (here (end + 1) (emit line (Jump end) g)) (λ b. statement other (below a) b)) (λ k. good (here end k)))) y k in
-      let g = came (scoped t.value (λ b. statement s (below a) b)) (λ g. then (scoped (here (end + 1) (emit line (Jump end) g)) (λ b. statement other (below a) b)) (λ k. good (here end k))) y t.last in
+      let t = came (leaves_if_zero line (end + 1) e d0) k in
+      let g = came (scoped t.value (λ b. statement s (below a) b)) t.last in
       let x = here (end + 1) (emit line (Jump end) g.value) in
-      let u = came (scoped x (λ b. statement other (below a) b)) (λ k. good (here end k)) y g.last in
+      let u = came (scoped x (λ b. statement other (below a) b)) g.last in
       let inner = scoped_near (weight s) t.value (λ b. statement s (below a) b) (statement_near s (below a) (entered t.value) h.1.1.0) g.value g.is in
       let outer = scoped_near (weight other) x (λ b. statement other (below a) b) (statement_near other (below a) (entered x) h.1.1.1.0) u.value u.is in
       near_on (weight e + 2) (weight s + weight other) (weight e + 2 + (weight s + weight other)) (omega arith) (if_zero_near line (end + 1) e d0 t.value t.is)
@@ -166,8 +165,8 @@ mutual
       near_most (weight e + 2 + weight s) _ (omega arith)
       (scoped_near (weight e + 2 + weight s) c1 (λ d. then (leaves_if_zero line (head + 1) e (here head d)) (λ t. then (scoped t (λ b. statement s around b)) (λ g. Ok (looped line head (head + 1) (here (head + 2) g)))))
       (λ y k.
-      let t = came (leaves_if_zero line (head + 1) e (here head d0)) (λ t. then (scoped t (λ b. statement s around b)) (λ g. good (looped line head (head + 1) (here (head + 2) g)))) y k in
-      let g = came (scoped t.value (λ b. statement s around b)) (λ g. good (looped line head (head + 1) (here (head + 2) g))) y t.last in
+      let t = came (leaves_if_zero line (head + 1) e (here head d0)) k in
+      let g = came (scoped t.value (λ b. statement s around b)) t.last in
       let inner = scoped_near (weight s) t.value (λ b. statement s around b) (statement_near s around (entered t.value) h.1.1.0) g.value g.is in
       near_on (weight e + 2) (weight s) (weight e + 2 + weight s) (omega arith) (if_zero_near line (head + 1) e (here head d0) t.value t.is)
       (led_ok (Near (weight s) t.value) (looped line head (head + 1) (here (head + 2) g.value)) inner y g.last)) z q)
@@ -179,8 +178,8 @@ mutual
       near_most (weight s + (weight e + 2)) _ (omega arith)
       (scoped_near (weight s + (weight e + 2)) c1 (λ d. then (scoped (here head d) (λ b. statement s around b)) (λ g. then (leaves_if_zero line (head + 1) e (here (head + 2) g)) (λ t. Ok (looped line head (head + 1) t))))
       (λ y k.
-      let g = came (scoped (here head d0) (λ b. statement s around b)) (λ g. then (leaves_if_zero line (head + 1) e (here (head + 2) g)) (λ t. good (looped line head (head + 1) t))) y k in
-      let t = came (leaves_if_zero line (head + 1) e (here (head + 2) g.value)) (λ t. good (looped line head (head + 1) t)) y g.last in
+      let g = came (scoped (here head d0) (λ b. statement s around b)) k in
+      let t = came (leaves_if_zero line (head + 1) e (here (head + 2) g.value)) g.last in
       let inner = scoped_near (weight s) (here head d0) (λ b. statement s around b) (statement_near s around (entered (here head d0)) h.1.0) g.value g.is in
       near_on (weight s) (weight e + 2) (weight s + (weight e + 2)) (omega arith) inner
       (led_ok (Near (weight e + 2) g.value) (looped line head (head + 1) t.value) (if_zero_near line (head + 1) e (here (head + 2) g.value) t.value t.is) y t.last)) z q)
@@ -194,11 +193,11 @@ mutual
       near_most (weight start + rest) _ (omega arith)
       (scoped_near (weight start + rest) c1 (λ d. then (for_start line start d) (λ x. then (maybe_leaves line (head + 1) test (here head x)) (λ t. then (maybe_evaluated step (apart t)) (λ g. then (scoped (with_pieces t.code.pieces g) (λ b. statement s around b)) (λ k. Ok (looped line head (head + 1) (with_pieces (k.code.pieces ++ (Here (head + 2) ∷ g.code.pieces)) k)))))))
       (λ y k.
-      let x = came (for_start line start d0) (λ x. then (maybe_leaves line (head + 1) test (here head x)) (λ t. then (maybe_evaluated step (apart t)) (λ g. then (scoped (with_pieces t.code.pieces g) (λ b. statement s around b)) (λ k. good (looped line head (head + 1) (with_pieces (k.code.pieces ++ (Here (head + 2) ∷ g.code.pieces)) k)))))) y k in
-      let t = came (maybe_leaves line (head + 1) test (here head x.value)) (λ t. then (maybe_evaluated step (apart t)) (λ g. then (scoped (with_pieces t.code.pieces g) (λ b. statement s around b)) (λ k. good (looped line head (head + 1) (with_pieces (k.code.pieces ++ (Here (head + 2) ∷ g.code.pieces)) k))))) y x.last in
-      let g = came (maybe_evaluated step (apart t.value)) (λ g. then (scoped (with_pieces t.value.code.pieces g) (λ b. statement s around b)) (λ k. good (looped line head (head + 1) (with_pieces (k.code.pieces ++ (Here (head + 2) ∷ g.code.pieces)) k)))) y t.last in
+      let x = came (for_start line start d0) k in
+      let t = came (maybe_leaves line (head + 1) test (here head x.value)) x.last in
+      let g = came (maybe_evaluated step (apart t.value)) t.last in
       let g1 = with_pieces t.value.code.pieces g.value in
-      let u = came (scoped g1 (λ b. statement s around b)) (λ k. good (looped line head (head + 1) (with_pieces (k.code.pieces ++ (Here (head + 2) ∷ g.value.code.pieces)) k))) y g.last in
+      let u = came (scoped g1 (λ b. statement s around b)) g.last in
       let inner = scoped_near (weight s) g1 (λ b. statement s around b) (statement_near s around (entered g1) h.1.1.1.1.0) u.value u.is in
       let last = led_ok (Near (weight s) g1) (looped line head (head + 1) (with_pieces (u.value.code.pieces ++ (Here (head + 2) ∷ g.value.code.pieces)) u.value)) inner y u.last in
       near_on (weight start) rest (weight start + rest) (omega arith) (start_near line start d0 h.1.0 x.value x.is)
@@ -211,9 +210,9 @@ mutual
       near_most (weight e + 1 + 1 + weights parts) _ (omega arith)
       (scoped_near (weight e + 1 + 1 + weights parts) c1 (λ d. then (switch_operand line e d) (λ t. then (scoped (no_cases (apart t.0)) (λ b. items parts (in_switch true end t.1.0 a) b)) (λ g. Ok (switched line end t.1.1 t.0 g))))
       (λ y k.
-      let t = came (switch_operand line e d0) (λ t. then (scoped (no_cases (apart t.0)) (λ b. items parts (in_switch true end t.1.0 a) b)) (λ g. good (switched line end t.1.1 t.0 g))) y k in
+      let t = came (switch_operand line e d0) k in
       let x = no_cases (apart t.value.0) in
-      let g = came (scoped x (λ b. items parts (in_switch true end t.value.1.0 a) b)) (λ g. good (switched line end t.value.1.1 t.value.0 g)) y t.last in
+      let g = came (scoped x (λ b. items parts (in_switch true end t.value.1.0 a) b)) t.last in
       let inner = scoped_near (weights parts) x (λ b. items parts (in_switch true end t.value.1.0 a) b) (items_near parts (in_switch true end t.value.1.0 a) (entered x) h.1.1.0.1.0) g.value g.is in
       near_on (weight e + 1 + 1) (weights parts) (weight e + 1 + 1 + weights parts) (omega arith) (operand_near line e d0 t.value t.is)
       (led_ok (Near (weights parts) x) (switched line end t.value.1.1 t.value.0 g.value) inner y g.last)) z q)
@@ -223,19 +222,19 @@ mutual
       let d0 = entered c1 in
       let k : ℕ = weight (Node f.Switch (At line ▹ e ▹ s ▹ none)) in
       scoped_near k c1 (λ d. then (switch_operand line e d) (λ t. then (statement s (in_switch false end t.1.0 a) (no_cases (apart t.0))) (λ g. refused LeftOut line)))
-      (led_after (Near k c1) (switch_operand line e d0) (λ t. then (statement s (in_switch false end t.1.0 a) (no_cases (apart t.0))) (λ g. refused LeftOut line))
-      (λ t q. led_after (Near k c1) (statement s (in_switch false end t.1.0 a) (no_cases (apart t.0))) (λ g. refused LeftOut line) (λ g u. led_refused (Near k c1) LeftOut line))) z q
+      (led_after (Near k c1) (switch_operand line e d0)
+      (λ t q. led_after (Near k c1) (statement s (in_switch false end t.1.0 a) (no_cases (apart t.0))) (λ g u. led_refused (Near k c1) LeftOut line))) z q
   statement_near (Node f.Case (At line ▹ e ▹ s ▹ none)) a c h z q =
-      let k = came (constant e c) (λ k. let label = new_label k.0 in then (statement s a (here label (with_labels 1 k.0))) (λ d. cased line a a.switched (length c.running.cases) k.1.value label d)) z q in
+      let k = came (constant e c) q in
       let label = new_label k.value.0 in
       let x = here label (with_labels 1 k.value.0) in
-      let d = came (statement s a x) (λ d. cased line a a.switched (length c.running.cases) k.value.1.value label d) z k.last in
+      let d = came (statement s a x) k.last in
       near_on 0 (weight s) _ (omega arith) (constant_near e c k.value k.is)
       (near_on (weight s) 0 (weight s) (omega arith) (statement_near s a x h.1.1.0 d.value d.is) (cased_near line a a.switched (length c.running.cases) k.value.1.value label d.value z d.last))
   statement_near (Node f.Default (At line ▹ s ▹ none)) a c h z q =
       let label = new_label c in
       let x = here label (with_labels 1 c) in
-      let d = came (statement s a x) (λ d. defaulted line a label d) z q in
+      let d = came (statement s a x) q in
       near_on (weight s) 0 _ (omega arith) (statement_near s a x h.1.0 d.value d.is) (defaulted_near line a label d.value z d.last)
   statement_near (Node f.Break (At line ▹ none)) a c h z q = near_most 0 _ (omega arith) (leave_near line a.delays a.breaks c z q)
   statement_near (Node f.Continue (At line ▹ none)) a c h z q = near_most 0 _ (omega arith) (leave_near line a.delays a.continues c z q)
@@ -247,5 +246,5 @@ mutual
   pub items_near : (parts : Trees) (a : Around) (c : Context) → AllShort parts → Led (Near (weights parts) c) (items parts a c)
   items_near none a c h z q = led_ok (Near 0 c) c (near_refl c) z q
   items_near (item ▹ rest) a c h z q =
-      let d = came (statement item a c) (λ d. items rest a d) z q in
+      let d = came (statement item a c) q in
       near_on (weight item) (weights rest) _ (omega arith) (statement_near item a c h.0 d.value d.is) (items_near rest a d.value h.1 z d.last)

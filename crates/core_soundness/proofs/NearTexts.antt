@@ -28,7 +28,7 @@ use Rattle.elaboration.specs.Context.{Context, Variable, Walked, Declared, first
 use Rattle.elaboration.specs.Declarators.{specs, layers}
 use Rattle.elaboration.specs.Declarations.{function_number, declared_function}
 use Rattle.elaboration.specs.Statements.{around_body, items}
-use Rattle.elaboration.specs.Externals.{begun, params_of, is_defined, body_begun, last_answer, piece_length, body_ended, body, defined, named_definition, definition, external, externals, calls_defined, is_main, ended}
+use Rattle.elaboration.specs.Externals.{begun, params_of, is_defined, body_begun, last_answer, piece_length, body_ended, body, defined, named_definition, definition, external, externals, calls_defined, is_main}
 use Rattle.elaboration.specs.Addressed.{addressed_in}
 use Rattle.elaboration.specs.Resolving.{function_of, variable_static, literal_static, temporary, pointer_register, core_of}
 use Rattle.elaboration.specs.Elaboration.{walked, elaborated}
@@ -86,7 +86,7 @@ body_ended_steady k line name type end c s small h =
 body_steady : (k line : ℕ) (name : List ℕ) (type : PlainType) (tree : Tree) (c : Context) → Small k (share c) → k + weight tree ≤ 1610612736 → IsShort name → Short tree → Led Steady (body line name type tree c)
 unfolding shape
 body_steady k line name type (Node f.Body (Node f.Items parts ▹ At end ▹ none)) c s small h g =
-    led_after Steady (items parts around_body c) (λ d. body_ended line name type end d)
+    led_after Steady (items parts around_body c)
     (λ d q. body_ended_steady (k + weights parts) line name type end d (small_on k (weights parts) c d s (items_near parts around_body c g.0 d q)) (omega (arith, small)) h)
 body_steady k line name type tree c s small h g = led_refused Steady Operands line
 
@@ -97,7 +97,7 @@ defined_steady : (k line : ℕ) (name : List ℕ) (type : PlainType) (tree : Tre
 defined_steady k line name type tree c s small h g =
     let index = function_number name c in
     led_unless Steady (not (is_function type)) LeftOut line (then (declared_function line name type c) (λ d. unless (is_defined (slice_get d.functions index)) DeclaredTwice line (body line name type tree (body_begun index type d))))
-    (λ x. led_after Steady (declared_function line name type c) (λ d. unless (is_defined (slice_get d.functions index)) DeclaredTwice line (body line name type tree (body_begun index type d)))
+    (λ x. led_after Steady (declared_function line name type c)
     (λ d q. let y = small_on k 0 c d s (declared_function_near line name type c d q) in
     led_unless Steady (is_defined (slice_get d.functions index)) DeclaredTwice line (body line name type tree (body_begun index type d))
     (λ z. body_steady (k + 0) line name type tree (body_begun index type d) (body_begun_small (k + 0) index type d y) (omega (arith, small)) h g)))
@@ -108,9 +108,9 @@ named_steady k line (Some name) type tree c s small h g = defined_steady k line 
 
 definition_steady : (line : ℕ) (words declarator tree : Tree) (c : Context) → Small 0 (share c) → weight words + weight declarator + weight tree ≤ 1610612736 → Short words → Short declarator → Short tree → Led Steady (definition line words declarator tree c)
 definition_steady line words declarator tree c s small u v g z q =
-    let base = came (specs words c) (λ base. then (layers declarator base.0) (λ l. then (with_layers l.0.tags l.1 base.1) (λ type. named_definition line (name_of declarator) type tree l.0))) z q in
-    let l = came (layers declarator base.value.0) (λ l. then (with_layers l.0.tags l.1 base.value.1) (λ type. named_definition line (name_of declarator) type tree l.0)) z base.last in
-    let t = came (with_layers l.value.0.tags l.value.1 base.value.1) (λ type. named_definition line (name_of declarator) type tree l.value.0) z l.last in
+    let base = came (specs words c) q in
+    let l = came (layers declarator base.value.0) base.last in
+    let t = came (with_layers l.value.0.tags l.value.1 base.value.1) l.last in
     let far = near_on (weight words) (weight declarator) (weight words + weight declarator) (omega arith) (specs_near words c u base.value base.is) (layers_near declarator base.value.0 v l.value l.is) in
     named_steady (0 + (weight words + weight declarator)) line (name_of declarator) t.value tree l.value.0 (small_on 0 (weight words + weight declarator) c l.value.0 s far) (omega (arith, small)) (name_short declarator v) g z t.last
 
@@ -126,7 +126,7 @@ externals_steady : (unit : Trees) (c : Context) → Steady c → weights unit �
 unfolding externals
 externals_steady none c h small g z q = led_ok Steady c h z q
 externals_steady (tree ▹ rest) c h small g z q =
-    let d = came (external tree c) (λ d. externals rest d) z q in
+    let d = came (external tree c) q in
     externals_steady rest d.value (external_steady tree c h (omega (arith, small)) g.0 d.value d.is) (omega (arith, small)) g.1 z d.last
 
 first_steady : Steady first_context
@@ -142,9 +142,9 @@ calls_steady functions (call ∷ calls) c h = by (is_defined (slice_get function
 
 walked_steady : (unit : Trees) (c : Context) → weights unit ≤ 1610612736 → AllShort unit → walked unit ≡ Ok c → Steady c
 walked_steady unit c small g q =
-    led_after Steady (externals unit first_context) ended
+    led_after Steady (externals unit first_context)
     (λ x s. let r = externals_steady unit first_context first_steady small g x s in
-    led_after Steady (calls_defined x.functions x.calls x) (λ d. unless (not (is_main d.functions (named_in (codes "main") d.scopes.file))) NoMain 1 (Ok d))
+    led_after Steady (calls_defined x.functions x.calls x)
     (λ d k. led_unless Steady (not (is_main d.functions (named_in (codes "main") d.scopes.file))) NoMain 1 (Ok d) (λ y. led_ok Steady d (calls_steady x.functions x.calls x r d k))))
     c q
 

@@ -147,19 +147,19 @@ counts_behind ls ms ss ts a b =
 pub not_function : (tags : TagTable) (ls : List Layer) (base type : PlainType) → with_layers tags ls base ≡ Ok type → is_function type ≡ false → functions ls ≡ 0
 not_function tags [] base type e h = refl
 not_function tags (FunctionOf line params ∷ []) base type e h =
-    let inner = came (layered tags (FunctionOf line params) base) (λ inner. good inner) type e in
+    let inner = came (layered tags (FunctionOf line params) base) e in
     let made = passed _ _ line (Function base params) inner.value inner.is in
     let same : Function base params ≡ type = made ∙ ok_same inner.value type inner.last in
     let clash : true ≡ false = ap is_function same ∙ h in
     cc
 not_function tags (FunctionOf line params ∷ next ∷ ls) base type e h =
-    let x = came (then (layered tags (FunctionOf line params) base) (λ type. bad {A = PlainType} (record { kind = LeftOut; line = line }))) (λ inner. with_layers tags (next ∷ ls) inner) type e in
-    let y = came (layered tags (FunctionOf line params) base) (λ type. bad {A = PlainType} (record { kind = LeftOut; line = line })) x.value x.is in
+    let x = came (then (layered tags (FunctionOf line params) base) (λ type. bad {A = PlainType} (record { kind = LeftOut; line = line }))) e in
+    let y = came (layered tags (FunctionOf line params) base) x.is in
     never _ _ x.value y.last
 not_function tags (PointerTo line ∷ ls) base type e h =
-    let x = came (layered tags (PointerTo line) base) (λ inner. with_layers tags ls inner) type e in not_function tags ls x.value type x.last h
+    let x = came (layered tags (PointerTo line) base) e in not_function tags ls x.value type x.last h
 not_function tags (ArrayOf line length ∷ ls) base type e h =
-    let x = came (layered tags (ArrayOf line length) base) (λ inner. with_layers tags ls inner) type e in not_function tags ls x.value type x.last h
+    let x = came (layered tags (ArrayOf line length) base) e in not_function tags ls x.value type x.last h
 
 -- the function that layers make
 pub record MakesFunction (ls : List Layer) (answer : PlainType) (ps : PlainTypes) : Type 0 where
@@ -170,7 +170,7 @@ pub record MakesFunction (ls : List Layer) (answer : PlainType) (ps : PlainTypes
 pub makes_function : (tags : TagTable) (ls : List Layer) (base answer : PlainType) (ps : PlainTypes) → with_layers tags ls base ≡ Ok (Function answer ps) → 1 ≤ functions ls → MakesFunction ls answer ps
 makes_function tags [] base answer ps e h = absurd (omega (arith, h))
 makes_function tags (FunctionOf line params ∷ []) base answer ps e h =
-    let inner = came (layered tags (FunctionOf line params) base) (λ inner. good inner) (Function answer ps) e in
+    let inner = came (layered tags (FunctionOf line params) base) e in
     let made = passed _ _ line (Function base params) inner.value inner.is in
     let test : (is_array base || is_function base || is_record base) ≡ false = kept_test _ _ line _ inner.value inner.is in
     let same : Function base params ≡ Function answer ps = made ∙ ok_same inner.value (Function answer ps) inner.last in
@@ -178,27 +178,27 @@ makes_function tags (FunctionOf line params ∷ []) base answer ps e h =
     let params_same : params ≡ ps = cc in
     record { single = refl; sorts = append-nil (param_sorts params) ∙ ap param_sorts params_same; plain = subst (λ (t : PlainType). (is_array t || is_function t || is_record t) ≡ false) answers test }
 makes_function tags (FunctionOf line params ∷ next ∷ ls) base answer ps e h =
-    let x = came (then (layered tags (FunctionOf line params) base) (λ type. bad {A = PlainType} (record { kind = LeftOut; line = line }))) (λ inner. with_layers tags (next ∷ ls) inner) (Function answer ps) e in
-    let y = came (layered tags (FunctionOf line params) base) (λ type. bad {A = PlainType} (record { kind = LeftOut; line = line })) x.value x.is in
+    let x = came (then (layered tags (FunctionOf line params) base) (λ type. bad {A = PlainType} (record { kind = LeftOut; line = line }))) e in
+    let y = came (layered tags (FunctionOf line params) base) x.is in
     never _ _ x.value y.last
 makes_function tags (PointerTo line ∷ ls) base answer ps e h =
-    let x = came (layered tags (PointerTo line) base) (λ inner. with_layers tags ls inner) (Function answer ps) e in
+    let x = came (layered tags (PointerTo line) base) e in
     let m = makes_function tags ls x.value answer ps x.last h in record { single = m.single; sorts = m.sorts; plain = m.plain }
 makes_function tags (ArrayOf line length ∷ ls) base answer ps e h =
-    let x = came (layered tags (ArrayOf line length) base) (λ inner. with_layers tags ls inner) (Function answer ps) e in
+    let x = came (layered tags (ArrayOf line length) base) e in
     let m = makes_function tags ls x.value answer ps x.last h in record { single = m.single; sorts = m.sorts; plain = m.plain }
 
 -- what adds no register
 
 constant_sorts : (e : Tree) (c : Context) (z : Context × Constant) → constant e c ≡ Ok z → sorts z.0 ≡ sorts c
 constant_sorts e c z q =
-    let x = came (wanted e (typed e (asked c))) (λ x. then (constant_from (line_of e) x.1.type x.1.folded) (λ k. good (told x.0 c, k))) z q in
-    let k = came (constant_from (line_of e) x.value.1.type x.value.1.folded) (λ k. good (told x.value.0 c, k)) z x.last in
+    let x = came (wanted e (typed e (asked c))) q in
+    let k = came (constant_from (line_of e) x.value.1.type x.value.1.folded) x.last in
     ap (λ (y : Context × Constant). sorts y.0) (sym (ok_same (told x.value.0 c, k.value) z k.last))
 
 with_type_sorts : (answer : Checked (names.Context × PlainType)) (c : Context) (z : Context × PlainType) → with_type answer c ≡ Ok z → sorts z.0 ≡ sorts c
 with_type_sorts answer c z q =
-    let x = came answer (λ x. good (told x.0 c, x.1)) z q in ap (λ (y : Context × PlainType). sorts y.0) (sym (ok_same (told x.value.0 c, x.value.1) z x.last))
+    let x = came answer q in ap (λ (y : Context × PlainType). sorts y.0) (sym (ok_same (told x.value.0 c, x.value.1) z x.last))
 
 begun_as_sorts : (sort : RecordSort) (name : List ℕ) (named : Option PlainNamed) (c : Context) → sorts (begun_as sort name named c).0 ≡ sorts c
 begun_as_sorts sort name (Some (n.Tag type)) c = refl
@@ -225,7 +225,7 @@ declared_sorts line name v c z q = ap sorts (sym (passed _ _ line (record c { sc
 
 enumerator_sorts : (line : ℕ) (name : List ℕ) (v : ℤ) (c : Context) (z : Context × ℤ) → enumerator line name v c ≡ Ok z → sorts z.0 ≡ sorts c
 enumerator_sorts line name v c z q =
-    let x = came (declared_as line name (n.Constant i.Int (wrapped I32 v)) c) (λ x. good (x, wrapped I32 v +ℤ pos 1)) z q in
+    let x = came (declared_as line name (n.Constant i.Int (wrapped I32 v)) c) q in
     ap (λ (y : Context × ℤ). sorts y.0) (sym (ok_same (x.value, wrapped I32 v +ℤ pos 1) z x.last)) ∙ declared_sorts line name (n.Constant i.Int (wrapped I32 v)) c x.value x.is
 
 enum_named_sorts : (line : ℕ) (name : Option (List ℕ)) (c : Context) (z : Context × PlainType) → enum_named line name c ≡ Ok z → sorts z.0 ≡ sorts c
@@ -238,7 +238,7 @@ member_sorts line name type list c z q =
     let last : Checked (Context × d.Members) = then (with_member line name type list) (λ more. good (c, more)) in
     let a = behind_test (is_function type) LeftOut line (unless (has_no_size c.tags type) Incomplete line last) z q in
     let b = behind_test (has_no_size c.tags type) Incomplete line last z a in
-    let x = came (with_member line name type list) (λ more. good (c, more)) z b in
+    let x = came (with_member line name type list) b in
     (ap (λ (y : Context × d.Members). sorts y.0) (sym (ok_same (c, x.value) z x.last)), kept_test (is_function type) LeftOut line (unless (has_no_size c.tags type) Incomplete line last) z q)
 
 -- a parameter has a register
@@ -331,18 +331,18 @@ mutual
   tag_sorts : (tree : Tree) (line : ℕ) (c : Context) (z : Context × PlainType) → length c.scopes.inner ≡ 0 → tag_type line tree c ≡ Ok z → sorts z.0 ≡ sorts c
   tag_sorts (Node (f.RecordBody sort) (At at ▹ Node f.MaybeName name ▹ Node f.Members parts ▹ none)) line c z flat q =
       let start = begun sort (maybe_name name) c in
-      let m = came (members parts [] start.0) (λ m. ended at sort start.1 m.0 m.1) z q in
+      let m = came (members parts [] start.0) q in
       ended_sorts at sort start.1 m.value.0 m.value.1 z m.last ∙ members_sorts parts [] start.0 m.value ((begun_levels sort (maybe_name name) c c (levels_refl c)).depth ∙ flat) m.is ∙ begun_sorts sort (maybe_name name) c
   tag_sorts (Node (f.EnumBody trailing) (At at ▹ Node f.MaybeName name ▹ Node f.Enumerators parts ▹ none)) line c z flat q =
-      let e = came (enumerators parts (pos 0) c) (λ e. enum_named at (maybe_name name) e) z q in
+      let e = came (enumerators parts (pos 0) c) q in
       enum_named_sorts at (maybe_name name) e.value z e.last ∙ enumerators_sorts parts (pos 0) c e.value e.is
   tag_sorts tree line c z flat q = with_type_sorts (special_type line tree (asked c)) c z q
 
   members_sorts : (parts : Trees) (list : d.Members) (c : Context) (z : Context × d.Members) → length c.scopes.inner ≡ 0 → members parts list c ≡ Ok z → sorts z.0 ≡ sorts c
   members_sorts none list c z flat q = ap (λ (y : Context × d.Members). sorts y.0) (sym (ok_same (c, list) z q))
   members_sorts (Node f.Member (At line ▹ words ▹ Node f.MemberNames declarators ▹ none) ▹ rest) list c z flat q =
-      let base = came (specs words c) (λ base. then (member_names line base.1 declarators list base.0) (λ m. members rest m.1 m.0)) z q in
-      let m = came (member_names line base.value.1 declarators list base.value.0) (λ m. members rest m.1 m.0) z base.last in
+      let base = came (specs words c) q in
+      let m = came (member_names line base.value.1 declarators list base.value.0) base.last in
       let flat1 = (specs_level words c c (levels_refl c) base.value base.is).depth ∙ flat in
       let flat2 = (member_names_level declarators line base.value.1 list base.value.0 base.value.0 (levels_refl base.value.0) m.value m.is).depth ∙ flat1 in
       members_sorts rest m.value.1 m.value.0 z flat2 m.last ∙ member_names_sorts declarators line base.value.1 list base.value.0 m.value flat1 m.is ∙ specs_sorts words c base.value flat base.is
@@ -351,9 +351,9 @@ mutual
   member_names_sorts : (parts : Trees) (line : ℕ) (base : PlainType) (list : d.Members) (c : Context) (z : Context × d.Members) → length c.scopes.inner ≡ 0 → member_names line base parts list c ≡ Ok z → sorts z.0 ≡ sorts c
   member_names_sorts none line base list c z flat q = ap (λ (y : Context × d.Members). sorts y.0) (sym (ok_same (c, list) z q))
   member_names_sorts (declarator ▹ rest) line base list c z flat q =
-      let l = came (layers declarator c) (λ l. then (with_layers l.0.tags l.1 base) (λ type. then (member line (name_of declarator) type list l.0) (λ m. member_names line base rest m.1 m.0))) z q in
-      let t = came (with_layers l.value.0.tags l.value.1 base) (λ type. then (member line (name_of declarator) type list l.value.0) (λ m. member_names line base rest m.1 m.0)) z l.last in
-      let m = came (member line (name_of declarator) t.value list l.value.0) (λ m. member_names line base rest m.1 m.0) z t.last in
+      let l = came (layers declarator c) q in
+      let t = came (with_layers l.value.0.tags l.value.1 base) l.last in
+      let m = came (member line (name_of declarator) t.value list l.value.0) t.last in
       let s = member_sorts line (name_of declarator) t.value list l.value.0 m.value m.is in
       let flat1 = (layers_level declarator c c (levels_refl c) l.value l.is).depth ∙ flat in
       let flat2 = (member_levels line (name_of declarator) t.value list l.value.0 l.value.0 (levels_refl l.value.0) m.value m.is).depth ∙ flat1 in
@@ -362,22 +362,22 @@ mutual
   enumerators_sorts : (parts : Trees) (next : ℤ) (c z : Context) → enumerators parts next c ≡ Ok z → sorts z ≡ sorts c
   enumerators_sorts none next c z q = ap sorts (sym (ok_same c z q))
   enumerators_sorts (Node f.Enumerator (At line ▹ Leaf (w.Name name) ▹ Node f.MaybeValue none ▹ none) ▹ rest) next c z q =
-      let e = came (enumerator line name next c) (λ e. enumerators rest e.1 e.0) z q in
+      let e = came (enumerator line name next c) q in
       enumerators_sorts rest e.value.1 e.value.0 z e.last ∙ enumerator_sorts line name next c e.value e.is
   enumerators_sorts (Node f.Enumerator (At line ▹ Leaf (w.Name name) ▹ Node f.MaybeValue (v ▹ none) ▹ none) ▹ rest) next c z q =
-      let k = came (constant v c) (λ k. then (enumerator line name k.1.value k.0) (λ e. enumerators rest e.1 e.0)) z q in
-      let e = came (enumerator line name k.value.1.value k.value.0) (λ e. enumerators rest e.1 e.0) z k.last in
+      let k = came (constant v c) q in
+      let e = came (enumerator line name k.value.1.value k.value.0) k.last in
       enumerators_sorts rest e.value.1 e.value.0 z e.last ∙ enumerator_sorts line name k.value.1.value k.value.0 e.value e.is ∙ constant_sorts v c k.value k.is
   enumerators_sorts (tree ▹ rest) next c z q = never _ _ z q
 
   pub layers_added : (tree : Tree) (c : Context) (z : Context × List Layer) → length c.scopes.inner ≡ 0 → layers tree c ≡ Ok z → Layered c z
   layers_added (Node (f.Pointer consts) (At line ▹ declarator ▹ none)) c z flat q =
-      let l = came (layers declarator c) (λ l. good (l.0, PointerTo line ∷ l.1)) z q in
+      let l = came (layers declarator c) q in
       let h = layers_added declarator c l.value flat l.is in
       subst (Layered c) (ok_same (l.value.0, PointerTo line ∷ l.value.1) z l.last) (record { sorts_of = h.sorts_of; adds = h.adds; counts = record { none = λ e. h.counts.none e; one = λ e. h.counts.one e } })
   layers_added (Node f.Direct (base ▹ Node f.Suffixes suffixes ▹ none)) c z flat q =
-      let l = came (layers base c) (λ l. then (suffix_layers suffixes l.0) (λ s. good (s.0, reverse s.1 ++ l.1))) z q in
-      let s = came (suffix_layers suffixes l.value.0) (λ s. good (s.0, reverse s.1 ++ l.value.1)) z l.last in
+      let l = came (layers base c) q in
+      let s = came (suffix_layers suffixes l.value.0) l.last in
       let a = layers_added base c l.value flat l.is in
       let b = suffixes_added suffixes l.value.0 s.value ((layers_level base c c (levels_refl c) l.value l.is).depth ∙ flat) s.is in
       subst (Layered c) (ok_same (s.value.0, reverse s.value.1 ++ l.value.1) z s.last)
@@ -388,8 +388,8 @@ mutual
   suffixes_added : (parts : Trees) (c : Context) (z : Context × List Layer) → length c.scopes.inner ≡ 0 → suffix_layers parts c ≡ Ok z → Layered c z
   suffixes_added none c z flat q = no_layers c z (ok_same (c, []) z q)
   suffixes_added (suffix ▹ rest) c z flat q =
-      let l = came (suffix_layer suffix c) (λ l. then (suffix_layers rest l.0) (λ more. good (more.0, l.1 ∷ more.1))) z q in
-      let m = came (suffix_layers rest l.value.0) (λ more. good (more.0, l.value.1 ∷ more.1)) z l.last in
+      let l = came (suffix_layer suffix c) q in
+      let m = came (suffix_layers rest l.value.0) l.last in
       let a = suffix_added suffix c l.value flat l.is in
       let b = suffixes_added rest l.value.0 m.value ((suffix_levels suffix c c (levels_refl c) l.value l.is).depth ∙ flat) m.is in
       subst (Layered c) (ok_same (m.value.0, l.value.1 ∷ m.value.1) z m.last)
@@ -398,11 +398,11 @@ mutual
   suffix_added : (tree : Tree) (c : Context) (z : Context × Layer) → length c.scopes.inner ≡ 0 → suffix_layer tree c ≡ Ok z → Single c z
   suffix_added (Node f.ArraySuffix (At line ▹ Node f.MaybeLength none ▹ none)) c z flat q = subst (Single c) (ok_same (c, ArrayOf line None) z q) (single_none c (c, ArrayOf line None) refl refl)
   suffix_added (Node f.ArraySuffix (At line ▹ Node f.MaybeLength (e ▹ none) ▹ none)) c z flat q =
-      let x = came (wanted e (typed e (asked c))) (λ x. then (array_length (line_of e) x.1) (λ length. good (told x.0 c, ArrayOf line (Some length)))) z q in
-      let k = came (array_length (line_of e) x.value.1) (λ length. good (told x.value.0 c, ArrayOf line (Some length))) z x.last in
+      let x = came (wanted e (typed e (asked c))) q in
+      let k = came (array_length (line_of e) x.value.1) x.last in
       subst (Single c) (ok_same (told x.value.0 c, ArrayOf line (Some k.value)) z k.last) (single_none c (told x.value.0 c, ArrayOf line (Some k.value)) refl refl)
   suffix_added (Node f.FunctionSuffix (At line ▹ Node f.Params parts ▹ none)) c z flat q =
-      let p = came (params parts (entered c)) (λ p. good (left_params p.0, FunctionOf line p.1)) z q in
+      let p = came (params parts (entered c)) q in
       let a = params_added parts (entered c) p.value (omega (arith, flat)) p.is in
       subst (Single c) (ok_same (left_params p.value.0, FunctionOf line p.value.1) z p.last)
       (record { sorts_of = param_sorts p.value.1; adds = record { added = a.added }; counts = record { none = λ e. absurd (omega (arith, e)); one = λ e. sym (append-nil (param_sorts p.value.1)) } })
@@ -413,11 +413,11 @@ mutual
   params_added : (parts : Trees) (c : Context) (z : Context × PlainTypes) → length c.scopes.inner ≡ 1 → params parts c ≡ Ok z → Adds c z.0 (param_sorts z.1)
   params_added none c z deep q = subst (λ (y : Context × PlainTypes). Adds c y.0 (param_sorts y.1)) (ok_same (c, types.none) z q) (adds_none c c refl)
   params_added (Node f.Param (At line ▹ words ▹ declarator ▹ none) ▹ rest) c z deep q =
-      let base = came (specs words c) (λ base. then (layers declarator base.0) (λ l. then (with_param_layers l.0.tags l.1 base.1) (λ type. then (param line (name_of declarator) (adjusted type) l.0) (λ p. then (params rest p.0) (λ more. good (more.0, first p.1 more.1)))))) z q in
-      let l = came (layers declarator base.value.0) (λ l. then (with_param_layers l.0.tags l.1 base.value.1) (λ type. then (param line (name_of declarator) (adjusted type) l.0) (λ p. then (params rest p.0) (λ more. good (more.0, first p.1 more.1))))) z base.last in
-      let t = came (with_param_layers l.value.0.tags l.value.1 base.value.1) (λ type. then (param line (name_of declarator) (adjusted type) l.value.0) (λ p. then (params rest p.0) (λ more. good (more.0, first p.1 more.1)))) z l.last in
-      let p = came (param line (name_of declarator) (adjusted t.value) l.value.0) (λ p. then (params rest p.0) (λ more. good (more.0, first p.1 more.1))) z t.last in
-      let m = came (params rest p.value.0) (λ more. good (more.0, first p.value.1 more.1)) z p.last in
+      let base = came (specs words c) q in
+      let l = came (layers declarator base.value.0) base.last in
+      let t = came (with_param_layers l.value.0.tags l.value.1 base.value.1) l.last in
+      let p = came (param line (name_of declarator) (adjusted t.value) l.value.0) t.last in
+      let m = came (params rest p.value.0) p.last in
       let inside = specs_beside words c (omega (arith, deep)) c (aside_refl c) base.value base.is in
       let around = layers_beside declarator c (omega (arith, deep)) base.value.0 inside l.value l.is in
       let one = param_added line (name_of declarator) (adjusted t.value) l.value.0 p.value (around.depth ∙ deep) p.is in

@@ -36,7 +36,7 @@ use Rattle.elaboration.specs.Declarators.{specs, layers}
 use Rattle.elaboration.specs.Initializers.{Target, InStatic, initialize, surplus, no_start, with_init_layers}
 use Rattle.elaboration.specs.Declarations.{Storage, Typedef, storage_of, specs_alone, specs_before, function_number, with_function, declared_function, no_initializer, variable_number_of, with_new_variable, with_variable, start_of, start_in, started_variable, started, fill_variable, file_object, file_function, file_value, file_name, name_in, entry, entries, declaration}
 use Rattle.elaboration.specs.Statements.{around_body, items}
-use Rattle.elaboration.specs.Externals.{begun, is_defined, body_begun, last_answer, piece_length, params_of, body_ended, body, defined, named_definition, definition, external, externals, calls_defined, is_main, ended}
+use Rattle.elaboration.specs.Externals.{begun, is_defined, body_begun, last_answer, piece_length, params_of, body_ended, body, defined, named_definition, definition, external, externals, calls_defined, is_main}
 use Rattle.elaboration.specs.Addressed.{addressed_in}
 use Rattle.elaboration.specs.Resolving.{static_by, variable_static, literal_static, core_of}
 use Rattle.elaboration.specs.Elaboration.{walked, elaborated}
@@ -122,7 +122,7 @@ new_pointed : (line index : ℕ) (name : List ℕ) (type : PlainType) (c z : Con
 new_pointed line index name type c z e h q =
     let d : Context = record c { scopes = after_declaration c.scopes name (n.Object type index) } in
     let v : Variable = record { name = name; layout = unwrap_or (layout_in d.tags type) no_layout; start = None } in
-    let x = came (with_static line (size_or_zero d type) d) (λ x. good (record x { variables = x.variables ++ (record { name = name; layout = unwrap_or (layout_in x.tags type) no_layout; start = None }) ∷ [] })) z q in
+    let x = came (with_static line (size_or_zero d type) d) q in
     let k = d.static_bytes + block_size (size_or_zero d type) in
     let s : record d { static_bytes = k } ≡ x.value = passed _ StaticTooLarge line (record d { static_bytes = k }) x.value x.is in
     let same : record d { static_bytes = k; variables = c.variables ++ v ∷ [] } ≡ z =
@@ -184,7 +184,7 @@ fill_pointed : (line index : ℕ) (type : PlainType) (inits : Trees) (c : Contex
 fill_pointed line index type none c h = led_ok Pointed c h
 fill_pointed line index type (init ▹ rest) c h =
     led_unless Pointed (is_some (start_of (slice_get c.variables index))) DeclaredTwice line (then (initialize init false type 0 (InStatic no_start) c) (λ d. Ok (started index d)))
-    (λ t. led_after Pointed (initialize init false type 0 (InStatic no_start) c) (λ d. Ok (started index d))
+    (λ t. led_after Pointed (initialize init false type 0 (InStatic no_start) c)
     (λ d q. let r = initialize_points init false type 0 (InStatic no_start) c h.there tt d q in
     led_ok Pointed (started index d) (start_pointed index d.0 (start_in d.1) (slice_get d.0.variables index) refl (settled_pointed c d.0 r.0 h) (target_start d.0 d.1 r.1))))
 
@@ -192,9 +192,9 @@ object_pointed : (line : ℕ) (name : List ℕ) (type : PlainType) (inits : Tree
 object_pointed line name type inits c h =
     let index = variable_number_of c (named_in name c.scopes.file) in
     led_unless Pointed (has_no_size c.tags type) Incomplete line (then (declared_as line name (n.Object type index) c) (λ d. then (with_variable line index name type d) (λ v. fill_variable line index type inits v)))
-    (λ t. led_after Pointed (declared_as line name (n.Object type index) c) (λ d. then (with_variable line index name type d) (λ v. fill_variable line index type inits v))
+    (λ t. led_after Pointed (declared_as line name (n.Object type index) c)
     (λ d q. let same : record c { scopes = after_declaration c.scopes name (n.Object type index) } ≡ d = passed (is_twice c.scopes name (n.Object type index)) DeclaredTwice line (record c { scopes = after_declaration c.scopes name (n.Object type index) }) d q in
-    led_after Pointed (with_variable line index name type d) (λ v. fill_variable line index type inits v)
+    led_after Pointed (with_variable line index name type d)
     (λ v k. fill_pointed line index type inits v
     (variable_pointed line index name type c v (number_is c name h.there) h (ap (λ (x : Context). with_variable line index name type x) same ∙ k)))))
 
@@ -210,17 +210,17 @@ with_function_settled index name c = by (nat_lt index (length c.functions))
 pub function_settled : (line : ℕ) (name : List ℕ) (type : PlainType) (c : Context) → Led (Settled c) (declared_function line name type c)
 function_settled line name type c =
     let index = function_number name c in
-    led_after (Settled c) (declared_as line name (n.Function type index) c) (λ d. Ok (with_function index name d))
+    led_after (Settled c) (declared_as line name (n.Function type index) c)
     (λ d q. led_ok (Settled c) (with_function index name d) (settled_trans c d _ (declared_levels line name (n.Function type index) c c tt (levels_refl c) d q).settled (with_function_settled index name d)))
 
 no_initializer_pointed : (inits : Trees) (c : Context) → Pointed c → Led Pointed (no_initializer inits c)
 no_initializer_pointed none c h = led_ok Pointed c h
-no_initializer_pointed (init ▹ rest) c h = led_after Pointed (surplus init c) (λ d. refused Assignment (line_of init)) (λ d q. led_refused Pointed Assignment (line_of init))
+no_initializer_pointed (init ▹ rest) c h = led_after Pointed (surplus init c) (λ d q. led_refused Pointed Assignment (line_of init))
 
 value_pointed : (line : ℕ) (name : List ℕ) (type : PlainType) (inits : Trees) (c : Context) → Pointed c → Led Pointed (file_value line name type inits c)
 value_pointed line name type inits c h =
     led_cond Pointed (is_function type) (file_function line name type inits c) (file_object line name type inits c)
-    (led_after Pointed (declared_function line name type c) (λ d. no_initializer inits d) (λ d q. no_initializer_pointed inits d (settled_pointed c d (function_settled line name type c d q) h)))
+    (led_after Pointed (declared_function line name type c) (λ d q. no_initializer_pointed inits d (settled_pointed c d (function_settled line name type c d q) h)))
     (object_pointed line name type inits c h)
 
 file_name_pointed : (line : ℕ) (storage : Storage) (name : List ℕ) (type : PlainType) (inits : Trees) (c : Context) → Pointed c → Led Pointed (file_name line storage name type inits c)
@@ -233,16 +233,16 @@ name_pointed line storage (Some name) type inits c h = file_name_pointed line st
 
 entry_pointed : (line : ℕ) (storage : Storage) (base : PlainType) (declarator : Tree) (inits : Trees) (c : Context) → Pointed c → Led Pointed (entry true line storage base declarator inits c)
 entry_pointed line storage base declarator inits c h =
-    led_after Pointed (layers declarator c) (λ l. then (with_init_layers l.0.tags l.1 inits base) (λ type. name_in true line storage (name_of declarator) type inits l.0))
+    led_after Pointed (layers declarator c)
     (λ l q. let k = settled_pointed c l.0 (layers_level declarator c c (levels_refl c) l q).settled h in
-    led_after Pointed (with_init_layers l.0.tags l.1 inits base) (λ type. name_in true line storage (name_of declarator) type inits l.0)
+    led_after Pointed (with_init_layers l.0.tags l.1 inits base)
     (λ type s. name_pointed line storage (name_of declarator) type inits l.0 k))
 
 entries_pointed : (names : Trees) (line : ℕ) (storage : Storage) (base : PlainType) (c : Context) → Pointed c → Led Pointed (entries true line storage base names c)
 unfolding entries
 entries_pointed none line storage base c h = led_ok Pointed c h
 entries_pointed (Node f.Entry (Node f.Declared (declarator ▹ none) ▹ Node f.MaybeInit inits ▹ none) ▹ rest) line storage base c h =
-    led_after Pointed (entry true line storage base declarator inits c) (λ d. entries true line storage base rest d)
+    led_after Pointed (entry true line storage base declarator inits c)
     (λ d q. entries_pointed rest line storage base d (entry_pointed line storage base declarator inits c h d q))
 entries_pointed (tree ▹ rest) line storage base c h = led_refused Pointed Operands (line_of tree)
 
@@ -258,7 +258,7 @@ before_level tree (name ▹ rest) c = specs_level tree c c (levels_refl c)
 declaration_pointed : (line : ℕ) (words tree : Tree) (c : Context) → Pointed c → Led Pointed (declaration true line words tree c)
 unfolding declaration
 declaration_pointed line words (Node f.Names names) c h =
-    led_after Pointed (specs_before words names c) (λ base. entries true line (storage_of words) base.1 names base.0)
+    led_after Pointed (specs_before words names c)
     (λ base q. entries_pointed names line (storage_of words) base.1 base.0 (settled_pointed c base.0 (before_level words names c base q).settled h))
 declaration_pointed line words tree c h = led_refused Pointed Operands line
 
@@ -274,7 +274,7 @@ body_ends line name type end c d s =
 body_settled : (line : ℕ) (name : List ℕ) (index : ℕ) (type : PlainType) (tree : Tree) (c : Context) → Safe c.scopes → SafeTable c.params → Led (Settled c) (body line name type tree (body_begun index type c))
 body_settled line name index type (Node f.Body (Node f.Items parts ▹ At end ▹ none)) c s p =
     let begin = body_begun index type c in
-    led_after (Settled c) (items parts around_body begin) (λ d. body_ended line name type end d)
+    led_after (Settled c) (items parts around_body begin)
     (λ d q. let walk = items_walk parts around_body begin (record { early = tt; breaks = tt; continues = tt }) (record { file = s.file; inner = (p, tt) }) d q in
     let k = walk.stays.inside (omega arith) in body_ends line name type end c d (record { variables = k.variables; literals = k.literals; objects = k.objects }))
 body_settled line name index type tree c s p = led_refused (Settled c) Operands line
@@ -283,7 +283,7 @@ defined_settled : (line : ℕ) (name : List ℕ) (type : PlainType) (tree : Tree
 defined_settled line name type tree c s p flat =
     let index = function_number name c in
     led_unless (Settled c) (not (is_function type)) LeftOut line (then (declared_function line name type c) (λ d. unless (is_defined (slice_get d.functions index)) DeclaredTwice line (body line name type tree (body_begun index type d))))
-    (λ x. led_after (Settled c) (declared_function line name type c) (λ d. unless (is_defined (slice_get d.functions index)) DeclaredTwice line (body line name type tree (body_begun index type d)))
+    (λ x. led_after (Settled c) (declared_function line name type c)
     (λ d q. let k = (introduced line name type c s flat d q).passes.stays in
     led_unless (Settled c) (is_defined (slice_get d.functions index)) DeclaredTwice line (body line name type tree (body_begun index type d))
     (λ y z e. settled_trans c d z (function_settled line name type c d q) (body_settled line name index type tree d k.safe (k.params p) z e))))
@@ -294,12 +294,12 @@ named_settled line (Some name) type tree c s p flat = defined_settled line name 
 
 pub definition_settled : (line : ℕ) (words declarator tree : Tree) (c : Context) → Safe c.scopes → SafeTable c.params → length c.scopes.inner ≡ 0 → Led (Settled c) (definition line words declarator tree c)
 definition_settled line words declarator tree c s p flat =
-    led_after (Settled c) (specs words c) (λ base. then (layers declarator base.0) (λ l. then (with_layers l.0.tags l.1 base.1) (λ type. named_definition line (name_of declarator) type tree l.0)))
+    led_after (Settled c) (specs words c)
     (λ base h. let one = specs_passes words c c (passes_refl c s) base h in
-    led_after (Settled c) (layers declarator base.0) (λ l. then (with_layers l.0.tags l.1 base.1) (λ type. named_definition line (name_of declarator) type tree l.0))
+    led_after (Settled c) (layers declarator base.0)
     (λ l k. let two = (layers_pass declarator c base.0 one l k).stays in
     let near = (layers_level declarator c base.0 (specs_level words c c (levels_refl c) base h) l k).settled in
-    led_after (Settled c) (with_layers l.0.tags l.1 base.1) (λ type. named_definition line (name_of declarator) type tree l.0)
+    led_after (Settled c) (with_layers l.0.tags l.1 base.1)
     (λ type e z q. settled_trans c l.0 z near (named_settled line (name_of declarator) type tree l.0 two.safe (two.params p) (two.depth ∙ flat) z q))))
 
 -- texts
@@ -315,7 +315,7 @@ externals_pointed : (unit : Trees) (c : Context) → Sane c → Pointed c → Le
 unfolding externals
 externals_pointed none c s h = led_ok Pointed c h
 externals_pointed (tree ▹ rest) c s h =
-    led_after Pointed (external tree c) (λ d. externals rest d) (λ d q. externals_pointed rest d (external_sane tree c s d q) (external_pointed tree c s h d q))
+    led_after Pointed (external tree c) (λ d q. externals_pointed rest d (external_sane tree c s d q) (external_pointed tree c s h d q))
 
 no_objects : (k : ℕ) (list : List BuiltIn) → ObjectsThere [] (numbered_from k list)
 no_objects k [] name type i e = cc
@@ -334,9 +334,9 @@ calls_pointed functions (call ∷ calls) c h = led_cond Pointed (is_defined (sli
 
 pub walked_pointed : (unit : Trees) → Led Pointed (walked unit)
 walked_pointed unit =
-    led_after Pointed (externals unit first_context) ended
+    led_after Pointed (externals unit first_context)
     (λ x s. let r = externals_pointed unit first_context first_sane first_pointed x s in
-    led_after Pointed (calls_defined x.functions x.calls x) (λ d. unless (not (is_main d.functions (named_in (codes "main") d.scopes.file))) NoMain 1 (Ok d))
+    led_after Pointed (calls_defined x.functions x.calls x)
     (λ d k. led_unless Pointed (not (is_main d.functions (named_in (codes "main") d.scopes.file))) NoMain 1 (Ok d) (λ y. led_ok Pointed d (calls_pointed x.functions x.calls x r d k))))
 
 -- statics of the core

@@ -10,7 +10,7 @@ use Rattle.c_tree.specs.Tree.{Tree, Trees, At, Node, none, ◌▹◌, count}
 use Rattle.c_decls.specs.declared.typed.Folded.{Folded}
 use Rattle.c_decls.specs.declared.typed.Folded.TheVariants.{Is}
 use Rattle.c_decls.specs.declared.refusal.TypeKind.TheVariants.{Operands, Assignment, NotConstant}
-use Rattle.c_decls.specs.Refusals.{refused, then, unless}
+use Rattle.c_decls.specs.Refusals.{refused, then}
 use Rattle.c_decls.specs.Typed.{is_null_constant}
 use Rattle.c_decls.specs.PlaceRules.{unconverted, converts}
 use Rattle.c_decls.specs.Expressions.{line_of, string}
@@ -86,7 +86,7 @@ opened_settled e c = by (reallocates c.scopes e)
 
 fill_points : (e : Tree) (line : ℕ) (type : PlainType) (offset : ℕ) (before : Code) (target : Target) (c : Context) (d : Context × Found) → Settled c d.0 → Aimed d → TargetIn c target → Led (Points c) (fill_scalar e line type offset before d target)
 fill_points e line type offset before (InStatic start) c d s k h =
-    led_after (Points c) (static_scalar line type offset start d.1) (λ filled. Ok (d.0, InStatic filled))
+    led_after (Points c) (static_scalar line type offset start d.1)
     (λ filled q. led_ok (Points c) (d.0, InStatic filled) (s, static_points line type offset start d.0 d.1 (start_on c d.0 start s h) k filled q))
 fill_points e line type offset before other c d s k h = absurd h
 
@@ -94,7 +94,7 @@ scalar_points : (e : Tree) (line : ℕ) (type : PlainType) (offset : ℕ) (targe
 scalar_points e line type offset target c n h =
     let begun = opened e c in
     let o = opened_settled e c in
-    led_after (Points c) (valued e (found e type begun)) (λ d. converts line type d.1.typed (fill_scalar e line type offset begun.code d target))
+    led_after (Points c) (valued e (found e type begun))
     (λ d q. led_barred (Points c) (unconverted type d.1.typed) line (fill_scalar e line type offset begun.code d target)
     (fill_points e line type offset begun.code target c d (settled_trans c begun d.0 o (grows_settled begun d.0 (value_grew e type begun d q))) (value_aimed e type begun d (there_on c begun o n) q) h))
 
@@ -132,14 +132,14 @@ mutual
   initialize_points (Node (f.InitList trailing) (At line ▹ Node f.Inits inits ▹ none)) in_scalar type offset target c n h =
       led_cond (Points c) (takes_braces type in_scalar) (initialize_parts line inits (is_scalar_type type) (parts_of c (count inits) type offset) target c) (then (all_surplus inits c) (λ d. refused Assignment line))
       (parts_point inits line (is_scalar_type type) (parts_of c (count inits) type offset) target c n h)
-      (led_after (Points c) (all_surplus inits c) (λ d. refused Assignment line) (λ d q. led_refused (Points c) Assignment line))
+      (led_after (Points c) (all_surplus inits c) (λ d q. led_refused (Points c) Assignment line))
   initialize_points tree in_scalar type offset target c n h = led_refused (Points c) Operands (line_of tree)
 
   parts_point : (inits : Trees) (line : ℕ) (in_scalar : Bool) (parts : List (PlainType × ℕ)) (target : Target) (c : Context) → There c → TargetIn c target → Led (Points c) (initialize_parts line inits in_scalar parts target c)
   parts_point none line in_scalar parts target c n h = led_ok (Points c) (c, target) (settled_refl c, h)
-  parts_point (init ▹ rest) line in_scalar [] target c n h = led_after (Points c) (all_surplus (init ▹ rest) c) (λ d. refused Assignment line) (λ d q. led_refused (Points c) Assignment line)
+  parts_point (init ▹ rest) line in_scalar [] target c n h = led_after (Points c) (all_surplus (init ▹ rest) c) (λ d q. led_refused (Points c) Assignment line)
   parts_point (init ▹ rest) line in_scalar (part ∷ parts) target c n h =
-      led_after (Points c) (initialize init in_scalar part.0 part.1 target c) (λ d. initialize_parts line rest in_scalar parts d.1 d.0)
+      led_after (Points c) (initialize init in_scalar part.0 part.1 target c)
       (λ d q z s.
       let one = initialize_points init in_scalar part.0 part.1 target c n h d q in
       let last = parts_point rest line in_scalar parts d.1 d.0 (there_on c d.0 one.0 n) one.1 z s in

@@ -21,7 +21,6 @@ use Rattle.c_decls.specs.declared.built_in.BuiltIn.{BuiltIn}
 use Rattle.c_decls.specs.declared.built_in.BuiltIn.TheVariants as built
 use Rattle.c_decls.specs.declared.constant.Constant.{Constant}
 use Rattle.c_decls.specs.declared.refusal.TypeKind.TheVariants.{Operands, StaticTooLarge}
-use Rattle.c_decls.specs.Refusals.{then}
 use Rattle.c_decls.specs.Named as n
 use Rattle.c_decls.specs.Named.{PlainNamed}
 use Rattle.c_decls.specs.ScopeList.{found as declaration}
@@ -36,7 +35,7 @@ use Rattle.elaboration.specs.Conversions.{Found, Spot, Value, Empty, Unknown, No
 use Rattle.elaboration.specs.Operations.{working, Branches, combined, fixed_sum, offset_of, operator_of, changed_to}
 use Rattle.elaboration.specs.Calls.{Argument, atoms_of, atom_at, argument_from, lib_name, result_by, with_format, call_built_in, call_of_built_in, call_named, element_layout}
 use Rattle.elaboration.specs.Rules.{set_again, compare_again, constant_found, object_found, built_in_found, name_found, is_inner, with_static, with_literal, literal_found, at_address, with_value, indexed, member_of, dotted, target_of, pointed, negated, before_number, apply, applied, tells_equal, is_pointer_ahead, ahead, left_operand, between, cast_fixed, cast_to, and_then, and_ends, and_ended, or_else, or_ends, or_ended, chosen_by, choose_first, choose_last, choice_spot, choice_found, chosen}
-use Rattle.elaboration.specs.Assignments.{record_assigned, set_to, scalar_assigned, old_value, change_place, changed_answer, changed_by, one_found, stepped}
+use Rattle.elaboration.specs.Assignments.{record_assigned, set_to, scalar_assigned, old_value, changed_answer, changed_by, one_found, stepped}
 use Rattle.elaboration.specs.Expressions.{name_answer, literal_answer}
 use Rattle.core_soundness.specs.Whole.{Whole, NamedWhole}
 use Rattle.core_soundness.proofs.Grown.{good, ok_same, never}
@@ -114,7 +113,7 @@ named_in_range line name c z h g q = by (declaration c.scopes name) refl q
     by : (o : Option PlainNamed) → declaration c.scopes name ≡ o → name_answer line name o c ≡ Ok z → E z
     by None e k = never (E z) _ z k
     by (Some v) e k =
-        let t = came (named line (Some v)) (λ t. good (c, name_found t (is_inner c name) (Some v))) z k in
+        let t = came (named line (Some v)) k in
         subst E (ok_same (c, name_found t.value (is_inner c name) (Some v)) z t.last) (g, name_in c line (is_inner c name) v t.value (found_whole (K c) c.scopes name v h.names e) t.is)
 
 pub constant_in : (c : Context) (k : Constant) (z : Context × Found) → In c → IsNumber k.value → good (c, constant_found (constant k)) ≡ Ok z → E z
@@ -133,13 +132,13 @@ In0 {A} z = In z.0
 
 pub literal_in : (line : ℕ) (bytes : List ℕ) (c : Context) → In c → Led (In0 {A = ℕ}) (with_literal line bytes c)
 literal_in line bytes c g =
-    led_after (In0 {A = ℕ}) (with_static line (length bytes + 1) c) (λ d. Ok (record d { literals = d.literals ++ bytes ∷ [] }, Rattle.elaboration.specs.Context.literal_object (length c.literals)))
+    led_after (In0 {A = ℕ}) (with_static line (length bytes + 1) c)
     (λ d q. led_ok (In0 {A = ℕ}) (record d { literals = d.literals ++ bytes ∷ [] }, Rattle.elaboration.specs.Context.literal_object (length c.literals)) (static_in line (length bytes + 1) c g d q))
 
 pub string_in : (line : ℕ) (bytes : List ℕ) (c : Context) → In c → Led E (literal_answer line bytes c)
 string_in line bytes c g =
-    led_after E (string line bytes) (λ e. then (with_literal line bytes c) (λ d. Ok (literal_found e d)))
-    (λ e q. led_after E (with_literal line bytes c) (λ d. Ok (literal_found e d)) (λ d k. led_ok E (literal_found e d) (literal_in line bytes c g d k, tt)))
+    led_after E (string line bytes)
+    (λ e q. led_after E (with_literal line bytes c) (λ d k. led_ok E (literal_found e d) (literal_in line bytes c g d k, tt)))
 
 -- places
 
@@ -154,19 +153,18 @@ element_steps line c other Neither z h p q e = tt
 
 pub indexed_in : (line : ℕ) (c : Context) (x y : Found) → Solid c → In c → SpotIn x.spot → SpotIn y.spot → Whole (K c) x.typed.type → Whole (K c) y.typed.type → Led E (indexed line c x y)
 indexed_in line c x y h g p q v w =
-    led_after E (element line c.tags x.typed y.typed) (λ t. Ok (at_address t (fixed_sum c b.Add x y) (combined line b.Add c.code x y c)))
-    (λ t k. led_ok E (at_address t (fixed_sum c b.Add x y) (combined line b.Add c.code x y c))
+    led_after E (element line c.tags x.typed y.typed) (λ t k. led_ok E (at_address t (fixed_sum c b.Add x y) (combined line b.Add c.code x y c))
     (combined_in line b.Add c.code x y c g g p q (element_steps line c (operand x.typed.type) (operand y.typed.type) t h (pointed_of c x.typed.type v) (pointed_of c y.typed.type w) k)))
 
 pub dotted_in : (line : ℕ) (name : List ℕ) (c : Context) (e : Found) → Solid c → In c → SpotIn e.spot → Led E (dotted line name c e)
 dotted_in line name c e h g s =
-    led_after E (dot line name c.tags e.typed) (λ t. Ok (member_of line (offset_of c.tags name e.typed.type) t c e))
+    led_after E (dot line name c.tags e.typed)
     (λ t k. led_ok E (member_of line (offset_of c.tags name e.typed.type) t c e) (member_in line (offset_of c.tags name e.typed.type) (atom_in e) c g (spot_atom e.spot s) (offset_number c name e.typed.type h)))
 
 pub pointed_in : (line : ℕ) (name : List ℕ) (c : Context) (e : Found) → Solid c → In c → SpotIn e.spot → Led E (pointed line name c e)
 pointed_in line name c e h g s =
     let type = target_of (operand e.typed.type) in
-    led_after E (arrow line name c.tags e.typed) (λ t. Ok (member_of line (offset_of c.tags name type) t c e))
+    led_after E (arrow line name c.tags e.typed)
     (λ t k. led_ok E (member_of line (offset_of c.tags name type) t c e) (member_in line (offset_of c.tags name type) (atom_in e) c g (spot_atom e.spot s) (offset_number c name type h)))
 
 -- operators before a value
@@ -190,7 +188,7 @@ apply_in line u.Not tree t c e g s = negated_in line tree t c e g s
 apply_in line op tree t c e g s = number_in line op t (operand e.typed.type) c e g s
 
 pub applied_in : (line : ℕ) (op : UnaryOp) (tree : Tree) (c : Context) (e : Found) → In c → SpotIn e.spot → Led E (applied line op tree c e)
-applied_in line op tree c e g s = led_after E (unary line op c.tags e.typed) (λ t. Ok (apply line op tree t c e)) (λ t k. led_ok E (apply line op tree t c e) (apply_in line op tree t c e g s))
+applied_in line op tree c e g s = led_after E (unary line op c.tags e.typed) (λ t k. led_ok E (apply line op tree t c e) (apply_in line op tree t c e g s))
 
 -- operators between values
 
@@ -203,12 +201,12 @@ left_in op before right d p h = by (tells_equal op && is_null_constant d.1.typed
 
 pub between_in : (line : ℕ) (op : BinaryOp) (before : Code) (c : Context) (x y : Found) → IsBetween op → PiecesIn before.pieces → Solid c → In c → SpotIn x.spot → SpotIn y.spot → Whole (K c) x.typed.type → Whole (K c) y.typed.type → Led E (between line op before c x y)
 between_in line op before c x y i f h g p q v w =
-    led_after E (binary line op c.tags x.typed y.typed) (λ t. Ok (with_value t (fixed_sum c op x y) (combined line op before x y c)))
+    led_after E (binary line op c.tags x.typed y.typed)
     (λ t k. led_ok E (with_value t (fixed_sum c op x y) (combined line op before x y c)) (combined_in line op before x y c f g p q (binary_steps op line c x.typed y.typed t i h v w k)))
 
 pub cast_in : (line : ℕ) (type : PlainType) (before : Code) (c : Context) (e : Found) → PiecesIn before.pieces → In c → SpotIn e.spot → Led E (cast_to line type before c e)
 cast_in line type before c e f g s =
-    led_after E (cast line type e.typed) (λ t. Ok (with_value t (cast_fixed e.typed e.fixed) (convert line before type e.typed (atom_in e) c)))
+    led_after E (cast line type e.typed)
     (λ t k. led_ok E (with_value t (cast_fixed e.typed e.fixed) (convert line before type e.typed (atom_in e) c)) (convert_in line before type e.typed (atom_in e) c f g (spot_atom e.spot s)))
 
 set_again_in : (line : ℕ) (t x : Atom) (c : Context) → In c → AtomIn x → In (set_again line t x c)
@@ -234,7 +232,7 @@ and_ends_in line label t h =
 
 pub and_ended_in : (line label : ℕ) (tree : Tree) (x : Found) (d : Context × Found) → E d → Led E (and_ended line label tree x d)
 and_ended_in line label tree x d h =
-    led_after E (binary line b.And d.0.tags x.typed d.1.typed) (λ t. Ok (with_value t Unknown (and_ends line label (tested_value tree d))))
+    led_after E (binary line b.And d.0.tags x.typed d.1.typed)
     (λ t k. led_ok E (with_value t Unknown (and_ends line label (tested_value tree d))) (and_ends_in line label (tested_value tree d) (tested_value_in tree d h)))
 
 pub or_else_in : (line : ℕ) (tree : Tree) (d : Context × Found) → E d → Has (or_else line tree d)
@@ -252,7 +250,7 @@ pub or_ended_in : (line end : ℕ) (tree : Tree) (i : Atom) (x : Found) (d : Con
 or_ended_in line end tree i x d p h =
     let t = tested_value tree d in
     let r = tested_value_in tree d h in
-    led_after E (binary line b.Or d.0.tags x.typed d.1.typed) (λ y. Ok (with_value y Unknown (or_ends line end i t)))
+    led_after E (binary line b.Or d.0.tags x.typed d.1.typed)
     (λ y k. led_ok E (with_value y Unknown (or_ends line end i t)) (in_here end (compare_again line i t.1 t.0) (compare_again_in line i t.1 t.0 r.0 r.1), p))
 
 chosen_by_in : (line : ℕ) (before : Code) (type : PlainType) (e : PlainTyped) (d : Context × Atom) → PiecesIn before.pieces → Has d → Has (chosen_by line before type e d)
@@ -278,7 +276,7 @@ choice_spot_in other x h = h
 
 pub chosen_in : (line end : ℕ) (before : Code) (t : Atom) (test x : Found) (d : Context × Found) → PiecesIn before.pieces → AtomIn t → E d → Led E (chosen line end before t test x d)
 chosen_in line end before t test x d f p h =
-    led_after E (choice line test.typed x.typed d.1.typed) (λ y. let v = choose_last line before y.type t d in Ok (here end v.0, choice_found y v.1))
+    led_after E (choice line test.typed x.typed d.1.typed)
     (λ y k. let v = convert line before y.type d.1.typed (atom_in d.1) d.0 in
     let r = convert_in line before y.type d.1.typed (atom_in d.1) d.0 f h.0 (spot_atom d.1.spot h.1) in
     led_ok E (here end (choose_last line before y.type t d).0, choice_found y t)
@@ -288,17 +286,16 @@ chosen_in line end before t test x d f p h =
 
 pub record_in : (line right : ℕ) (target : Found) (d : Context × Found) → Solid d.0 → Whole (K d.0) target.typed.type → SpotIn target.spot → E d → Led E (record_assigned line right target d)
 record_in line right target d s w p h =
-    led_after E (assigned line right d.0.tags target.typed d.1.typed) (λ t. Ok (emit line (Copy (atom_in target) (atom_in d.1) (pos (size_or_zero d.0 t.type))) d.0, found_as t Empty Unknown))
+    led_after E (assigned line right d.0.tags target.typed d.1.typed)
     (λ t k. led_ok E (emit line (Copy (atom_in target) (atom_in d.1) (pos (size_or_zero d.0 t.type))) d.0, found_as t Empty Unknown) (
-      in_emit line (Copy (atom_in target) (atom_in d.1) (pos (size_or_zero d.0 t.type))) d.0 h.0
-          ((spot_atom target.spot p, (spot_atom d.1.spot h.1, tt)), size_number d.0 t.type s (assigned_whole d.0.tags.completed s.made line right d.0.tags target.typed d.1.typed w t k)),
-      tt,
-    ))
+    in_emit line (Copy (atom_in target) (atom_in d.1) (pos (size_or_zero d.0 t.type))) d.0 h.0
+    ((spot_atom target.spot p, (spot_atom d.1.spot h.1, tt)), size_number d.0 t.type s (assigned_whole d.0.tags.completed s.made line right d.0.tags target.typed d.1.typed w t k)),
+    tt, ))
 
 pub scalar_in : (line : ℕ) (before : Code) (tree : Tree) (target : Found) (d : Context × Found) → PiecesIn before.pieces → SpotIn target.spot → E d → Led E (scalar_assigned line before tree target d)
 scalar_in line before tree target d f p h =
-    led_after E (assigned line (line_of tree) d.0.tags target.typed d.1.typed) (λ t. then (valued_from tree d.0 d.1) (λ v. Ok (set_to line before t target v)))
-    (λ t k. led_after E (valued_from tree d.0 d.1) (λ v. Ok (set_to line before t target v))
+    led_after E (assigned line (line_of tree) d.0.tags target.typed d.1.typed)
+    (λ t k. led_after E (valued_from tree d.0 d.1)
     (λ v q. let r = valued_from_in tree d.0 d.1 v h.0 h.1 q in
     let x = convert line before t.type v.1.typed (atom_in v.1) v.0 in
     let s = convert_in line before t.type v.1.typed (atom_in v.1) v.0 f r.0 (spot_atom v.1.spot r.1) in
@@ -315,7 +312,7 @@ changed_steps line op c type other Neither z o h p e = never _ _ z e
 
 pub changed_by_in : (line : ℕ) (op : AssignOp) (keeps : Bool) (target : Found) (old : Atom) (d : Context × Found) → Solid d.0 → Whole (K d.0) target.typed.type → SpotIn target.spot → AtomIn old → E d → Led E (changed_by line op keeps target old d)
 changed_by_in line op keeps target old d s w p o h =
-    led_after E (changed line op d.0.tags target.typed d.1.typed) (λ t. Ok (changed_answer keeps t old (change_place line (operator_of op) t target old d.1.typed (atom_in d.1) d.0)))
+    led_after E (changed line op d.0.tags target.typed d.1.typed)
     (λ t k. let e = behind_test _ _ line (changed_types line op d.0.tags target.typed.type (operand target.typed.type) (operand d.1.typed.type)) t k in
     let v = changed_to line (operator_of op) t.type old d.1.typed (atom_in d.1) d.0 in
     let r = changed_in line (operator_of op) t.type old d.1.typed (atom_in d.1) d.0 h.0 o (spot_atom d.1.spot h.1) (changed_steps line op d.0 target.typed.type (operand target.typed.type) (operand d.1.typed.type) t refl s (pointed_of d.0 target.typed.type w) e) in

@@ -61,24 +61,24 @@ sized_in line tags type y m w q = by (layout_in tags type) refl q
 expr_size_in : (line : ℕ) (e : Tree) (c : Context) (t : names.Context × PlainTyped) → Solid c → typed (Node f.SizeofExpr (At line ▹ e ▹ none)) (asked c) ≡ Ok t → SpotIn (constant_found t.1).spot
 unfolding typed
 expr_size_in line e c t h q =
-    let d = came (typed e (asked c)) (λ x. then (size line x.0.tags x.1.type) (λ y. good (x.0, y))) t q in
+    let d = came (typed e (asked c)) q in
     let g = typed_good c.tags.completed h.made e (asked c) (fit_of c h) d.value d.is in
-    let y = came (size line d.value.0.tags d.value.1.type) (λ y. good (d.value.0, y)) t d.last in
+    let y = came (size line d.value.0.tags d.value.1.type) d.last in
     subst (λ (x : names.Context × PlainTyped). SpotIn (constant_found x.1).spot) (ok_same (d.value.0, y.value) t y.last)
     (sized_in line d.value.0.tags d.value.1.type y.value (subst (λ (x : List CompletedTag). AreMade nothing x) (sym g.0.completed) h.made) (subst (λ (x : List CompletedTag). Whole (known x) d.value.1.type) (sym g.0.completed) g.1) y.is)
 
 type_size_in : (line : ℕ) (e : Tree) (c : Context) (t : names.Context × PlainTyped) → Solid c → typed (Node f.SizeofType (At line ▹ e ▹ none)) (asked c) ≡ Ok t → SpotIn (constant_found t.1).spot
 unfolding typed
 type_size_in line e c t h q =
-    let d = came (typename e (asked c)) (λ x. then (size line x.0.tags x.1) (λ y. good (x.0, y))) t q in
+    let d = came (typename e (asked c)) q in
     let g = typename_good c.tags.completed h.made e (asked c) (fit_of c h) d.value d.is in
-    let y = came (size line d.value.0.tags d.value.1) (λ y. good (d.value.0, y)) t d.last in
+    let y = came (size line d.value.0.tags d.value.1) d.last in
     subst (λ (x : names.Context × PlainTyped). SpotIn (constant_found x.1).spot) (ok_same (d.value.0, y.value) t y.last)
     (sized_in line d.value.0.tags d.value.1 y.value (subst (λ (x : List CompletedTag). AreMade nothing x) (sym g.0.completed) h.made) (subst (λ (x : List CompletedTag). Whole (known x) d.value.1) (sym g.0.completed) g.1) y.is)
 
 unevaluated_in : (tree : Tree) (c : Context) (z : Context × Found) → In c → ((t : names.Context × PlainTyped) → typed tree (asked c) ≡ Ok t → SpotIn (constant_found t.1).spot) → unevaluated c (typed tree (asked c)) ≡ Ok z → E z
 unevaluated_in tree c z g k q =
-    let t = came (typed tree (asked c)) (λ d. good (told d.0 c, constant_found d.1)) z q in
+    let t = came (typed tree (asked c)) q in
     subst E (ok_same (told t.value.0 c, constant_found t.value.1) z t.last) (g, k t.value t.is)
 
 -- parts
@@ -118,8 +118,8 @@ first_solid line other base type x g h = let r = chosen_solid line base type x g
 
 changing_ok : (tree : Tree) (answer : With Found) (z : Context × Found) → changing tree answer ≡ Ok z → answer ≡ Ok z
 changing_ok tree answer z h =
-    let d = came answer (λ d. then (held_place (line_of tree) d.0.tags d.1.typed) (λ held. good d)) z h in
-    let k = came (held_place (line_of tree) d.value.0.tags d.value.1.typed) (λ held. good d.value) z d.last in
+    let d = came answer h in
+    let k = came (held_place (line_of tree) d.value.0.tags d.value.1.typed) d.last in
     d.is ∙ k.last
 
 -- callees and arguments
@@ -135,13 +135,13 @@ params_whole c h other k = tt
 
 name_called : (line : ℕ) (name : List ℕ) (c : Context) (d : Context × Callee) → Solid c → In c → then (called line c.tags (declaration c.scopes name)) (λ function. good (c, function)) ≡ Ok d → Called c d
 name_called line name c d h g q =
-    let k = came (called line c.tags (declaration c.scopes name)) (λ function. good (c, function)) d q in
+    let k = came (called line c.tags (declaration c.scopes name)) q in
     subst (Called c) (ok_same (c, k.value) d k.last)
     (record { rises = rises_refl c h; code = g; params = params_whole c h k.value (called_whole c.tags.completed h.made line c.tags (declaration c.scopes name) (λ v e. found_whole (K c) c.scopes name v h.names e) k.value k.is) })
 
 other_called : (tree : Tree) (c : Context) (d : Context × Callee) → Solid c → ((x : Context × Found) → found tree Void c ≡ Ok x → E x) → then (valued tree (found tree Void c)) (λ d. good (d.0, NoFunction)) ≡ Ok d → Called c d
 other_called tree c d h k q =
-    let v = came (valued tree (found tree Void c)) (λ d. good (d.0, NoFunction)) d q in
+    let v = came (valued tree (found tree Void c)) q in
     let g = value_gone tree Void c v.value h v.is in
     subst (Called c) (ok_same (v.value.0, NoFunction) d v.last) (record { rises = g.rises; code = (valued_in tree Void c v.value k v.is).0; params = tt })
 
@@ -157,7 +157,7 @@ record Argued (c : Context) (d : Context × Found) : Type 0 where
 format_in : (o : Option (List ℕ)) (e : Tree) (wish : PlainType) (c : Context) (answer : Checked (names.Context × PlainTyped)) (d : Context × Found) → Solid c → In c → ((x : Context × Found) → found e wish c ≡ Ok x → E x) → format_argument o c answer (valued e (found e wish c)) ≡ Ok d → Argued c d
 format_in None e wish c answer d h g k q = let v = value_gone e wish c d h q in record { rises = v.rises; grows = v.grows; fits = valued_in e wish c d k q }
 format_in (Some bytes) e wish c answer d h g k q =
-    let t = came answer (λ x. good (c, valued_as x.1 atom.Null)) d q in
+    let t = came answer q in
     subst (Argued c) (ok_same (c, valued_as t.value.1 atom.Null) d t.last) (record { rises = rises_refl c h; grows = grows_refl c; fits = (g, tt) })
 
 argument_solid : (line : ℕ) (params : PlainTypes) (c : Context) (d : Context × Found) → Grows c d.0 → Solid d.0 → Rises d.0 (argument_from line params c.code d.0 d.1).0
@@ -179,7 +179,7 @@ record Arguments_in (c : Context) (z : Context × List Argument) : Type 0 where
 
 call_answer_in : (line : ℕ) (name : Option PlainNamed) (function : Callee) (wanted : PlainType) (trees : Trees) (c : Context) (values : List Argument) → Solid c → Whole (K c) wanted → In c → AtomsIn (atoms_of values) → Led E (call_answer line name function wanted trees c values)
 call_answer_in line name function wanted trees c values h w g s =
-    led_after E (call line (first_literal trees) function (types_of values)) (λ e. let d = call_named line name e.type wanted (first_literal trees) values c in Ok (d.0, found_as e d.1 Unknown))
+    led_after E (call line (first_literal trees) function (types_of values))
     (λ e q. let d = call_named line name e.type wanted (first_literal trees) values c in led_ok E (d.0, found_as e d.1 Unknown) (call_in line name e.type wanted (first_literal trees) values c h w g s))
 
 mutual
@@ -192,55 +192,55 @@ mutual
   found_in (Node f.Str (At line ▹ Node f.Strings parts ▹ none)) wish c z h v t g q = string_in line (joined parts) c g z q
   found_in (Node f.Paren (At line ▹ e ▹ none)) wish c z h v t g q = found_in e wish c z h v.1.1.0 t g q
   found_in (Node f.Index (At line ▹ e ▹ e2 ▹ none)) wish c z h v t g q =
-      let d = came (valued e (found e Void c)) (λ d. then (valued e2 (found e2 Void d.0)) (λ r. indexed line r.0 d.1 r.1)) z q in
-      let r = came (valued e2 (found e2 Void d.value.0)) (λ r. indexed line r.0 d.value.1 r.1) z d.last in
+      let d = came (valued e (found e Void c)) q in
+      let r = came (valued e2 (found e2 Void d.value.0)) d.last in
       let one = valued_in e Void c d.value (λ x k. found_in e Void c x h v.1.1.0 tt g k) d.is in
       let gd = value_gone e Void c d.value h d.is in
       let two = valued_in e2 Void d.value.0 r.value (λ x k. found_in e2 Void d.value.0 x gd.rises.solid v.1.1.1.0 tt one.0 k) r.is in
       let gr = value_gone e2 Void d.value.0 r.value gd.rises.solid r.is in
       indexed_in line r.value.0 d.value.1 r.value.1 gr.rises.solid two.0 one.1 two.1 (whole_stays d.value.1.typed.type (K d.value.0) (K r.value.0) gr.rises.more gd.whole) gr.whole z r.last
   found_in (Node f.Call (At line ▹ e ▹ Node f.Arguments values ▹ none)) wish c z h v t g q =
-      let d = came (callee e c (found e Void c)) (λ d. then (arguments line d.1 (parameters d.1) values d.0) (λ v. call_answer line (callee_name e c) d.1 wish values v.0 v.1)) z q in
-      let x = came (arguments line d.value.1 (parameters d.value.1) values d.value.0) (λ v. call_answer line (callee_name e c) d.value.1 wish values v.0 v.1) z d.last in
+      let d = came (callee e c (found e Void c)) q in
+      let x = came (arguments line d.value.1 (parameters d.value.1) values d.value.0) d.last in
       let one = callee_in e c d.value h g (λ y k. found_in e Void c y h v.1.1.0 tt g k) d.is in
       let two = arguments_in values line d.value.1 (parameters d.value.1) d.value.0 x.value one.rises.solid v.1.1.1.0.1 one.params one.code x.is in
       let far = rises_trans c d.value.0 x.value.0 one.rises two.rises in
       call_answer_in line (callee_name e c) d.value.1 wish values x.value.0 x.value.1 two.rises.solid (whole_stays wish (K c) (K x.value.0) far.more t) two.code two.atoms z x.last
   found_in (Node f.Dot (At line ▹ e ▹ Leaf (w.Name name) ▹ none)) wish c z h v t g q =
-      let d = came (found e Void c) (λ d. dotted line name d.0 d.1) z q in
+      let d = came (found e Void c) q in
       let one = found_in e Void c d.value h v.1.1.0 tt g d.is in
       dotted_in line name d.value.0 d.value.1 (found_gone e Void c d.value h d.is).rises.solid one.0 one.1 z d.last
   found_in (Node f.Arrow (At line ▹ e ▹ Leaf (w.Name name) ▹ none)) wish c z h v t g q =
-      let d = came (valued e (found e Void c)) (λ d. pointed line name d.0 d.1) z q in
+      let d = came (valued e (found e Void c)) q in
       let one = valued_in e Void c d.value (λ x k. found_in e Void c x h v.1.1.0 tt g k) d.is in
       pointed_in line name d.value.0 d.value.1 (value_gone e Void c d.value h d.is).rises.solid one.0 one.1 z d.last
   found_in (Node f.PostInc (At line ▹ e ▹ none)) wish c z h v t g q =
-      let d = came (changing e (found e Void c)) (λ d. stepped line a.Add true d) z q in
+      let d = came (changing e (found e Void c)) q in
       let is = changing_ok e (found e Void c) d.value d.is in
       let gd = found_gone e Void c d.value h is in
       stepped_in line a.Add true d.value gd.rises.solid gd.whole (found_in e Void c d.value h v.1.1.0 tt g is) z d.last
   found_in (Node f.PostDec (At line ▹ e ▹ none)) wish c z h v t g q =
-      let d = came (changing e (found e Void c)) (λ d. stepped line a.Subtract true d) z q in
+      let d = came (changing e (found e Void c)) q in
       let is = changing_ok e (found e Void c) d.value d.is in
       let gd = found_gone e Void c d.value h is in
       stepped_in line a.Subtract true d.value gd.rises.solid gd.whole (found_in e Void c d.value h v.1.1.0 tt g is) z d.last
   found_in (Node f.PreInc (At line ▹ e ▹ none)) wish c z h v t g q =
-      let d = came (changing e (found e Void c)) (λ d. stepped line a.Add false d) z q in
+      let d = came (changing e (found e Void c)) q in
       let is = changing_ok e (found e Void c) d.value d.is in
       let gd = found_gone e Void c d.value h is in
       stepped_in line a.Add false d.value gd.rises.solid gd.whole (found_in e Void c d.value h v.1.1.0 tt g is) z d.last
   found_in (Node f.PreDec (At line ▹ e ▹ none)) wish c z h v t g q =
-      let d = came (changing e (found e Void c)) (λ d. stepped line a.Subtract false d) z q in
+      let d = came (changing e (found e Void c)) q in
       let is = changing_ok e (found e Void c) d.value d.is in
       let gd = found_gone e Void c d.value h is in
       stepped_in line a.Subtract false d.value gd.rises.solid gd.whole (found_in e Void c d.value h v.1.1.0 tt g is) z d.last
   found_in (Node (f.Unary u.Address) (At line ▹ e ▹ none)) wish c z h v t g q =
-      let d = came (found e Void c) (λ d. address_answer line d.0 d.1) z q in
+      let d = came (found e Void c) q in
       let one = found_in e Void c d.value h v.1.1.0 tt g d.is in
-      let y = came (address line d.value.1.typed) (λ type. good (d.value.0, found_as type (Value (atom_in d.value.1)) d.value.1.fixed)) z d.last in
+      let y = came (address line d.value.1.typed) d.last in
       subst E (ok_same (d.value.0, found_as y.value (Value (atom_in d.value.1)) d.value.1.fixed) z y.last) (one.0, spot_atom d.value.1.spot one.1)
   found_in (Node (f.Unary op) (At line ▹ e ▹ none)) wish c z h v t g q =
-      let d = came (valued e (found e Void c)) (λ d. applied line op e d.0 d.1) z q in
+      let d = came (valued e (found e Void c)) q in
       let one = valued_in e Void c d.value (λ x k. found_in e Void c x h v.1.1.0 tt g k) d.is in
       applied_in line op e d.value.0 d.value.1 one.0 one.1 z d.last
   found_in (Node f.SizeofExpr (At line ▹ e ▹ none)) wish c z h v t g q = unevaluated_in (Node f.SizeofExpr (At line ▹ e ▹ none)) c z g (λ x k. expr_size_in line e c x h k) q
@@ -254,18 +254,18 @@ mutual
       let one = unused_in e y.value.1 begun d.value (λ x s. found_in e y.value.1 begun x hb.solid v.1.1.1.0 (told_whole c y.value.0 h y.value.1 k.0 k.1) g s) (cast_unused y.value.1 e (found e y.value.1 begun) d.value d.is) in
       cast_in line y.value.1 c.code d.value.0 d.value.1 g one.0 one.1 z d.last
   found_in (Node (f.Binary b.And) (At line ▹ e ▹ e2 ▹ none)) wish c z h v t g q =
-      let d = came (valued e (found e Void c)) (λ d. let begun = and_then line e d in then (valued e2 (found e2 Void begun)) (λ r. and_ended line (new_label d.0) e2 d.1 r)) z q in
+      let d = came (valued e (found e Void c)) q in
       let begun = and_then line e d.value in
-      let r = came (valued e2 (found e2 Void begun)) (λ r. and_ended line (new_label d.value.0) e2 d.value.1 r) z d.last in
+      let r = came (valued e2 (found e2 Void begun)) d.last in
       let one = valued_in e Void c d.value (λ x k. found_in e Void c x h v.1.1.0 tt g k) d.is in
       let gd = value_gone e Void c d.value h d.is in
       let hb = then_solid line e d.value gd.rises.solid in
       let two = valued_in e2 Void begun r.value (λ x k. found_in e2 Void begun x hb.solid v.1.1.1.0 tt (and_then_in line e d.value one) k) r.is in
       and_ended_in line (new_label d.value.0) e2 d.value.1 r.value two z r.last
   found_in (Node (f.Binary b.Or) (At line ▹ e ▹ e2 ▹ none)) wish c z h v t g q =
-      let d = came (valued e (found e Void c)) (λ d. let begun = or_else line e d in then (valued e2 (found e2 Void begun.0)) (λ r. or_ended line (new_label d.0 + 1) e2 begun.1 d.1 r)) z q in
+      let d = came (valued e (found e Void c)) q in
       let begun = or_else line e d.value in
-      let r = came (valued e2 (found e2 Void begun.0)) (λ r. or_ended line (new_label d.value.0 + 1) e2 begun.1 d.value.1 r) z d.last in
+      let r = came (valued e2 (found e2 Void begun.0)) d.last in
       let one = valued_in e Void c d.value (λ x k. found_in e Void c x h v.1.1.0 tt g k) d.is in
       let gd = value_gone e Void c d.value h d.is in
       let hb = else_solid line e d.value gd.rises.solid in
@@ -273,9 +273,9 @@ mutual
       let two = valued_in e2 Void begun.0 r.value (λ x k. found_in e2 Void begun.0 x hb.solid v.1.1.1.0 tt first.0 k) r.is in
       or_ended_in line (new_label d.value.0 + 1) e2 begun.1 d.value.1 r.value first.1 two z r.last
   found_in (Node (f.Binary op) (At line ▹ e ▹ e2 ▹ none)) wish c z h v t g q =
-      let d = came (valued e (found e Void c)) (λ d. let begun = left_operand op c.code e2 d in then (valued e2 (found e2 Void begun.0)) (λ r. between line op begun.0.code r.0 begun.1 r.1)) z q in
+      let d = came (valued e (found e Void c)) q in
       let begun = left_operand op c.code e2 d.value in
-      let r = came (valued e2 (found e2 Void begun.0)) (λ r. between line op begun.0.code r.0 begun.1 r.1) z d.last in
+      let r = came (valued e2 (found e2 Void begun.0)) d.last in
       let one = valued_in e Void c d.value (λ x k. found_in e Void c x h v.1.1.0 tt g k) d.is in
       let gd = value_gone e Void c d.value h d.is in
       let hb = left_solid op c.code e2 d.value gd.rises.solid in
@@ -286,12 +286,12 @@ mutual
       between_in line op begun.0.code r.value.0 begun.1 r.value.1 tt first.0 gr.rises.solid two.0 first.1 two.1
       (subst (λ (x : PlainTyped). Whole (K r.value.0) x.type) (sym (left_typed op c.code e2 d.value)) (whole_stays d.value.1.typed.type (K d.value.0) (K r.value.0) far.more gd.whole)) gr.whole z r.last
   found_in (Node f.Cond (At line ▹ e ▹ e2 ▹ e3 ▹ none)) wish c z h v t g q =
-      let d = came (valued e (found e Void c)) (λ d. let begun = choose line e d in then (valued e2 (found e2 Void begun)) (λ x. let first = choose_first line (new_label d.0) begun.code (type_ahead line d.1 e3 x) x in then (valued e3 (found e3 Void first.0)) (λ y. chosen line (new_label d.0 + 1) first.0.code first.1 d.1 x.1 y))) z q in
+      let d = came (valued e (found e Void c)) q in
       let begun = choose line e d.value in
-      let x = came (valued e2 (found e2 Void begun)) (λ x. let first = choose_first line (new_label d.value.0) begun.code (type_ahead line d.value.1 e3 x) x in then (valued e3 (found e3 Void first.0)) (λ y. chosen line (new_label d.value.0 + 1) first.0.code first.1 d.value.1 x.1 y)) z d.last in
+      let x = came (valued e2 (found e2 Void begun)) d.last in
       let type = type_ahead line d.value.1 e3 x.value in
       let first = choose_first line (new_label d.value.0) begun.code type x.value in
-      let y = came (valued e3 (found e3 Void first.0)) (λ y. chosen line (new_label d.value.0 + 1) first.0.code first.1 d.value.1 x.value.1 y) z x.last in
+      let y = came (valued e3 (found e3 Void first.0)) x.last in
       let one = valued_in e Void c d.value (λ s k. found_in e Void c s h v.1.1.0 tt g k) d.is in
       let gd = value_gone e Void c d.value h d.is in
       let hb = then_solid line e d.value gd.rises.solid in
@@ -303,8 +303,8 @@ mutual
       let three = valued_in e3 Void first.0 y.value (λ s k. found_in e3 Void first.0 s hf.solid v.1.1.1.1.0 tt third.0 k) y.is in
       chosen_in line (new_label d.value.0 + 1) first.0.code first.1 d.value.1 x.value.1 y.value third.0 third.1 three z y.last
   found_in (Node (f.Assign a.Plain) (At line ▹ e ▹ e2 ▹ none)) wish c z h v t g q =
-      let d = came (found e Void c) (λ d. then (found e2 d.1.typed.type d.0) (λ r. cond (is_record d.1.typed.type) (record_assigned line (line_of e2) d.1 r) (scalar_assigned line d.0.code e2 d.1 r))) z q in
-      let r = came (found e2 d.value.1.typed.type d.value.0) (λ r. cond (is_record d.value.1.typed.type) (record_assigned line (line_of e2) d.value.1 r) (scalar_assigned line d.value.0.code e2 d.value.1 r)) z d.last in
+      let d = came (found e Void c) q in
+      let r = came (found e2 d.value.1.typed.type d.value.0) d.last in
       let one = found_in e Void c d.value h v.1.1.0 tt g d.is in
       let gd = found_gone e Void c d.value h d.is in
       let two = found_in e2 d.value.1.typed.type d.value.0 r.value gd.rises.solid v.1.1.1.0 gd.whole one.0 r.is in
@@ -313,10 +313,10 @@ mutual
       (record_in line (line_of e2) d.value.1 r.value gr.rises.solid (whole_stays d.value.1.typed.type (K d.value.0) (K r.value.0) gr.rises.more gd.whole) one.1 two)
       (scalar_in line d.value.0.code e2 d.value.1 r.value one.0 one.1 two) z r.last
   found_in (Node (f.Assign op) (At line ▹ e ▹ e2 ▹ none)) wish c z h v t g q =
-      let d = came (changing e (found e Void c)) (λ d. let old = old_value line d in then (valued e2 (found e2 Void old.0)) (λ r. changed_by line op false d.1 old.1 r)) z q in
+      let d = came (changing e (found e Void c)) q in
       let is = changing_ok e (found e Void c) d.value d.is in
       let old = old_value line d.value in
-      let r = came (valued e2 (found e2 Void old.0)) (λ r. changed_by line op false d.value.1 old.1 r) z d.last in
+      let r = came (valued e2 (found e2 Void old.0)) d.last in
       let one = found_in e Void c d.value h v.1.1.0 tt g is in
       let gd = found_gone e Void c d.value h is in
       let ho = old_solid line d.value gd.rises.solid in
@@ -337,9 +337,9 @@ mutual
   arguments_in : (trees : Trees) (line : ℕ) (target : Callee) (params : PlainTypes) (c : Context) (z : Context × List Argument) → Solid c → AllWritten trees → AllWhole (K c) params → In c → arguments line target params trees c ≡ Ok z → Arguments_in c z
   arguments_in none line target params c z h v t g q = subst (Arguments_in c) (ok_same (c, []) z q) (record { rises = rises_refl c h; code = g; atoms = tt })
   arguments_in (e ▹ rest) line target params c z h v t g q =
-      let d = came (format_argument (is_printf target e) c (typed e (asked c)) (valued e (found e (first_type params) c))) (λ d. let x = argument_from line params c.code d.0 d.1 in then (arguments line NoFunction (rest_types params) rest x.0) (λ more. good (more.0, x.1 ∷ more.1))) z q in
+      let d = came (format_argument (is_printf target e) c (typed e (asked c)) (valued e (found e (first_type params) c))) q in
       let x = argument_from line params c.code d.value.0 d.value.1 in
-      let more = came (arguments line NoFunction (rest_types params) rest x.0) (λ more. good (more.0, x.1 ∷ more.1)) z d.last in
+      let more = came (arguments line NoFunction (rest_types params) rest x.0) d.last in
       let one = format_in (is_printf target e) e (first_type params) c (typed e (asked c)) d.value h g (λ y k. found_in e (first_type params) c y h v.0 (first_whole c params t) g k) d.is in
       let hx = argument_solid line params c d.value one.grows one.rises.solid in
       let s = argument_in line params c.code d.value.0 d.value.1 g one.fits.0 one.fits.1 in

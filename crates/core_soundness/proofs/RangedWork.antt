@@ -53,7 +53,7 @@ read_in line type spot c g h = (g, spot_atom spot h)
 
 pub valued_from_in : (tree : Tree) (c : Context) (e : Found) (z : Context × Found) → In c → SpotIn e.spot → valued_from tree c e ≡ Ok z → In z.0 × SpotIn z.1.spot
 valued_from_in tree c e z g h q =
-    let t = came (read (line_of tree) c.tags e.typed) (λ typed. good (read_value typed e (read_spot (code_line tree) e.typed.type e.spot c))) z q in
+    let t = came (read (line_of tree) c.tags e.typed) q in
     subst (λ (x : Context × Found). In x.0 × SpotIn x.1.spot) (ok_same (read_value t.value e (read_spot (code_line tree) e.typed.type e.spot c)) z t.last) (read_in (code_line tree) e.typed.type e.spot c g h)
 
 pub convert_integer_in : (line : ℕ) (ty source : IntType) (a : Atom) (c : Context) → In c → AtomIn a → Has (convert_integer line ty source a c)

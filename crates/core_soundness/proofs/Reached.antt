@@ -16,13 +16,12 @@ module _ {C : Type 0} (R : C → Type 0) where
   pub reached_refused : {A : Type 0} (kind : TypeKind) (line : ℕ) → Reached {A = A} R (refused kind line)
   reached_refused kind line d e = never (R d.0) _ d e
 
-  pub reached_after : {A B : Type 0} (r : Checked A) (f : A → Checked (C × B)) → ((a : A) → r ≡ Ok a → Reached R (f a)) → Reached R (then r f)
-  reached_after (Ok a) f h d e = h a refl d e
-  reached_after (Err x) f h d e = never (R d.0) x d e
+  pub reached_after : {A B : Type 0} (r : Checked A) {f : A → Checked (C × B)} → ((a : A) → r ≡ Ok a → Reached R (f a)) → Reached R (then r f)
+  reached_after (Ok a) h d e = h a refl d e
+  reached_after (Err x) h d e = never (R d.0) x d e
 
-  pub reached_then : {A B : Type 0} (S : C → Type 0) (r : Checked (C × A)) (f : C × A → Checked (C × B)) → Reached S r → ((d : C × A) → S d.0 → Reached R (f d)) → Reached R (then r f)
-  reached_then S (Ok a) f g h d e = h a (g a refl) d e
-  reached_then S (Err x) f g h d e = never (R d.0) x d e
+  pub reached_then : {A B : Type 0} (S : C → Type 0) {r : Checked (C × A)} {f : C × A → Checked (C × B)} → Reached S r → ((d : C × A) → S d.0 → Reached R (f d)) → Reached R (then r f)
+  reached_then S {r} {f} g h = reached_after r {f = f} (λ a e. h a (g a e))
 
   pub reached_unless : {A : Type 0} (test : Bool) (kind : TypeKind) (line : ℕ) (r : Checked (C × A)) → Reached R r → Reached R (unless test kind line r)
   reached_unless true kind line r g d e = never (R d.0) _ d e
@@ -43,9 +42,9 @@ module _ {C : Type 0} (R : C → Type 0) where
   pub led_refused : (kind : TypeKind) (line : ℕ) → Led R (refused kind line)
   led_refused kind line d e = never (R d) _ d e
 
-  pub led_after : {A : Type 0} (r : Checked A) (f : A → Checked C) → ((a : A) → r ≡ Ok a → Led R (f a)) → Led R (then r f)
-  led_after (Ok a) f h d e = h a refl d e
-  led_after (Err x) f h d e = never (R d) x d e
+  pub led_after : {A : Type 0} (r : Checked A) {f : A → Checked C} → ((a : A) → r ≡ Ok a → Led R (f a)) → Led R (then r f)
+  led_after (Ok a) h d e = h a refl d e
+  led_after (Err x) h d e = never (R d) x d e
 
   pub led_unless : (test : Bool) (kind : TypeKind) (line : ℕ) (r : Checked C) → (test ≡ false → Led R r) → Led R (unless test kind line r)
   led_unless true kind line r g d e = never (R d) _ d e

@@ -20,7 +20,7 @@ use Rattle.elaboration.specs.Rules.{name_found, is_inner, object_found, built_in
 use Rattle.elaboration.specs.Expressions.{name_answer}
 use Rattle.core_soundness.specs.Worlds.{World, world, local_sort, type_sort, InnerFits, FileFits, TableFits, TablesFit, NamesFit}
 use Rattle.core_soundness.specs.Spoken.{is_register, NoRegister, TakesAddress, Spoken, AllSpoken}
-use Rattle.core_soundness.proofs.Grown.{good, ok_same}
+use Rattle.core_soundness.proofs.Grown.{ok_same}
 use Rattle.core_soundness.proofs.Names.{More, MoreAll, MoreTags, IsNewTag}
 use Rattle.core_soundness.proofs.Agreeing.{came}
 use Rattle.core_soundness.proofs.Growing.{Grew}
@@ -155,7 +155,7 @@ spot_named other typed inner r e = cc
 
 pub name_local : (line : ℕ) (name : List ℕ) (o : Option PlainNamed) (c : Context) (z : Context × Found) (r : ℕ) → name_answer line name o c ≡ Ok z → z.1.spot ≡ Local r → is_register o ≡ true
 name_local line name o c z r h e =
-    let t = came (named line o) (λ e. good (c, name_found e (is_inner c name) o)) z h in
+    let t = came (named line o) h in
     let same : (c, name_found t.value (is_inner c name) o) ≡ z = ok_same (c, name_found t.value (is_inner c name) o) z t.last in
     spot_named o t.value (is_inner c name) r (ap (λ (x : Context × Found). x.1.spot) same ∙ e)
 

@@ -18,7 +18,7 @@ use Rattle.c_decls.specs.Named as n
 use Rattle.c_decls.specs.Named.{PlainNamed}
 use Rattle.c_decls.specs.Typed.{PlainTyped, operand, is_record, integer}
 use Rattle.c_decls.specs.TypeRules.{binary}
-use Rattle.c_decls.specs.PlaceRules.{held_place, choice, size, size_answer}
+use Rattle.c_decls.specs.PlaceRules.{held_place, choice, size_answer}
 use Rattle.c_decls.specs.Callees.{Callee, Takes, Prints, NoFunction, called}
 use Rattle.c_decls.specs.TypeNames as names
 use Rattle.c_decls.specs.Expressions as types
@@ -59,13 +59,13 @@ size_is line (Some k) known t h = (pos k, ap (λ (x : names.Context × PlainType
 expr_size : (line : ℕ) (e : Tree) (known : names.Context) (t : names.Context × PlainTyped) → typed (Node f.SizeofExpr (At line ▹ e ▹ none)) known ≡ Ok t → IsSize t.1
 unfolding typed
 expr_size line e known t h =
-    let d = came (typed e known) (λ x. then (size line x.0.tags x.1.type) (λ y. good (x.0, y))) t h in
+    let d = came (typed e known) h in
     size_is line (size_in d.value.0.tags d.value.1.type) d.value.0 t d.last
 
 type_size : (line : ℕ) (e : Tree) (known : names.Context) (t : names.Context × PlainTyped) → typed (Node f.SizeofType (At line ▹ e ▹ none)) known ≡ Ok t → IsSize t.1
 unfolding typed
 type_size line e known t h =
-    let d = came (typename e known) (λ x. then (size line x.0.tags x.1) (λ y. good (x.0, y))) t h in
+    let d = came (typename e known) h in
     size_is line (size_in d.value.0.tags d.value.1) d.value.0 t d.last
 
 size_stands : (v : World) (e : PlainTyped) → IsSize e → Stands v (constant_found e)
@@ -74,7 +74,7 @@ size_stands v e h = subst (λ (x : PlainTyped). Stands v (constant_found x)) h.1
 
 unevaluated_lands : (tree : Tree) (c : Context) (z : Context × Found) → ((t : names.Context × PlainTyped) → typed tree (asked c) ≡ Ok t → IsSize t.1) → unevaluated c (typed tree (asked c)) ≡ Ok z → Lands c z
 unevaluated_lands tree c z k h =
-    let t = came (typed tree (asked c)) (λ d. good (told d.0 c, constant_found d.1)) z h in
+    let t = came (typed tree (asked c)) h in
     subst (Lands c) (ok_same (told t.value.0 c, constant_found t.value.1) z t.last)
     (record { goes = goes_told t.value.0 c (typed_after tree (asked c) t.value t.is); stands = size_stands (world (told t.value.0 c)) t.value.1 (k t.value t.is); apart = tt })
 
@@ -88,8 +88,8 @@ ahead_is g c d r same h =
 -- an operand that is read and written
 changing_is : (tree : Tree) (answer : With Found) (z : Context × Found) → changing tree answer ≡ Ok z → answer ≡ Ok z
 changing_is tree answer z h =
-    let d = came answer (λ d. then (held_place (line_of tree) d.0.tags d.1.typed) (λ held. good d)) z h in
-    let k = came (held_place (line_of tree) d.value.0.tags d.value.1.typed) (λ held. good d.value) z d.last in
+    let d = came answer h in
+    let k = came (held_place (line_of tree) d.value.0.tags d.value.1.typed) d.last in
     d.is ∙ k.last
 
 comma_comes : (c : Context) (r z : Context × Found) → Comes c r → good (comma_answer r) ≡ Ok z → Comes c z
@@ -112,13 +112,13 @@ at_file c name type index h e =
 
 name_called : (line : ℕ) (name : List ℕ) (c : Context) (d : Context × Callee) → NamesFit (world c) c.scopes → then (called line c.tags (declaration c.scopes name)) (λ function. good (c, function)) ≡ Ok d → Named c (declaration c.scopes name) d
 name_called line name c d h q =
-    let k = came (called line c.tags (declaration c.scopes name)) (λ function. good (c, function)) d q in
+    let k = came (called line c.tags (declaration c.scopes name)) q in
     subst (Named c (declaration c.scopes name)) (ok_same (c, k.value) d k.last)
     (record { goes = goes_refl c; of = call_of line (world c) c.tags name (declaration c.scopes name) k.value (λ type index e. at_file c name type index h e) k.is })
 
 other_called : (tree : Tree) (c : Context) (answer : With Found) (d : Context × Callee) → ((x : Context × Found) → answer ≡ Ok x → Rests c tree x) → then (valued tree answer) (λ d. good (d.0, NoFunction)) ≡ Ok d → Named c None d
 other_called tree c answer d k q =
-    let v = came (valued tree answer) (λ d. good (d.0, NoFunction)) d q in
+    let v = came (valued tree answer) q in
     let o = valued_operated tree c answer v.value k v.is in
     subst (Named c None) (ok_same (v.value.0, NoFunction) d v.last) (record { goes = o.comes.goes; of = refl })
 
@@ -150,7 +150,7 @@ record OneArgument (c : Context) (target : Callee) (d : Context × Found) : Type
 format_found : (o : Option (List ℕ)) (c : Context) (answer : Checked (names.Context × PlainTyped)) (walked : With Found) (d : Context × Found) → ((x : Context × Found) → walked ≡ Ok x → Comes c x) → format_argument o c answer walked ≡ Ok d → OneArgument c Prints d
 format_found None c answer walked d h q = let k = h d q in record { goes = k.goes; held = λ x. k.value.held }
 format_found (Some bytes) c answer walked d h q =
-    let t = came answer (λ x. good (c, valued_as x.1 atom.Null)) d q in
+    let t = came answer q in
     subst (OneArgument c Prints) (ok_same (c, valued_as t.value.1 atom.Null) d t.last) (record { goes = goes_refl c; held = λ x. absurd (x refl) })
 
 one_argument : (target : Callee) (e : Tree) (c : Context) (answer : Checked (names.Context × PlainTyped)) (walked : With Found) (d : Context × Found) → ((x : Context × Found) → walked ≡ Ok x → Comes c x) → format_argument (is_printf target e) c answer walked ≡ Ok d → OneArgument c target d
@@ -213,8 +213,8 @@ mutual
   found_rests (Node f.Paren (At line ▹ e ▹ none)) wish c z s h q =
       let r = found_rests e wish c z s.1.1.0 h q in record { sits = r.sits; local = r.local; line = r.line }
   found_rests (Node f.Index (At line ▹ e ▹ g ▹ none)) wish c z s h q =
-      let d = came (valued e (found e Void c)) (λ d. then (valued g (found g Void d.0)) (λ r. indexed line r.0 d.1 r.1)) z q in
-      let r = came (valued g (found g Void d.value.0)) (λ r. indexed line r.0 d.value.1 r.1) z d.last in
+      let d = came (valued e (found e Void c)) q in
+      let r = came (valued g (found g Void d.value.0)) d.last in
       let one = valued_operated e c (found e Void c) d.value (λ x k. found_rests e Void c x s.1.1.0 h k) d.is in
       let next = ready_on c d.value.0 g one.comes.goes h s.1.1.1.0 in
       let two = valued_operated g d.value.0 (found g Void d.value.0) r.value (λ x k. found_rests g Void d.value.0 x next.spoken next.names k) r.is in
@@ -222,8 +222,8 @@ mutual
       rests c (Node f.Index (At line ▹ e ▹ g ▹ none)) z line refl s.1.0
       (record { goes = goes_trans c d.value.0 z.0 one.comes.goes (goes_trans d.value.0 r.value.0 z.0 two.comes.goes last.goes); stands = last.stands; apart = last.apart })
   found_rests (Node f.Call (At line ▹ e ▹ Node f.Arguments values ▹ none)) wish c z s h q =
-      let d = came (callee e c (found e Void c)) (λ d. then (arguments line d.1 (parameters d.1) values d.0) (λ v. call_answer line (callee_name e c) d.1 wish values v.0 v.1)) z q in
-      let v = came (arguments line d.value.1 (parameters d.value.1) values d.value.0) (λ v. call_answer line (callee_name e c) d.value.1 wish values v.0 v.1) z d.last in
+      let d = came (callee e c (found e Void c)) q in
+      let v = came (arguments line d.value.1 (parameters d.value.1) values d.value.0) d.last in
       let one = callee_named e c (found e Void c) d.value h (λ x k. found_rests e Void c x s.1.1.0 h k) d.is in
       let names = names_more (world c) (world d.value.0) c.scopes d.value.0.scopes one.goes.grew one.goes.more h in
       let two = arguments_rest values line d.value.1 (parameters d.value.1) d.value.0 v.value s.1.0 (has_params d.value.1) (all_spoken_more c.scopes d.value.0.scopes values one.goes.more s.1.1.1.0.1) names v.is in
@@ -231,41 +231,41 @@ mutual
       rests c (Node f.Call (At line ▹ e ▹ Node f.Arguments values ▹ none)) z line refl s.1.0
       (record { goes = goes_trans c d.value.0 z.0 one.goes (goes_trans d.value.0 v.value.0 z.0 two.goes last.goes); stands = last.stands; apart = last.apart })
   found_rests (Node f.Dot (At line ▹ e ▹ Leaf (w.Name name) ▹ none)) wish c z s h q =
-      let d = came (found e Void c) (λ d. dotted line name d.0 d.1) z q in
+      let d = came (found e Void c) q in
       let one = found_rests e Void c d.value s.1.1.0 h d.is in
       let last = dotted_lands line name d.value.0 d.value.1 z s.1.0 one.sits.stands d.last in
       rests c (Node f.Dot (At line ▹ e ▹ Leaf (w.Name name) ▹ none)) z line refl s.1.0
       (record { goes = goes_trans c d.value.0 z.0 one.sits.goes last.goes; stands = last.stands; apart = last.apart })
   found_rests (Node f.Arrow (At line ▹ e ▹ Leaf (w.Name name) ▹ none)) wish c z s h q =
-      let d = came (valued e (found e Void c)) (λ d. pointed line name d.0 d.1) z q in
+      let d = came (valued e (found e Void c)) q in
       let one = valued_operated e c (found e Void c) d.value (λ x k. found_rests e Void c x s.1.1.0 h k) d.is in
       let last = pointed_lands line name d.value.0 d.value.1 z s.1.0 one.comes.value d.last in
       rests c (Node f.Arrow (At line ▹ e ▹ Leaf (w.Name name) ▹ none)) z line refl s.1.0
       (record { goes = goes_trans c d.value.0 z.0 one.comes.goes last.goes; stands = last.stands; apart = last.apart })
   found_rests (Node f.PostInc (At line ▹ e ▹ none)) wish c z s h q =
-      let d = came (changing e (found e Void c)) (λ d. stepped line a.Add true d) z q in
+      let d = came (changing e (found e Void c)) q in
       let one = found_rests e Void c d.value s.1.1.0 h (changing_is e (found e Void c) d.value d.is) in
       rests c (Node f.PostInc (At line ▹ e ▹ none)) z line refl s.1.0 (landed c d.value z one.sits.goes (stepped_comes line a.Add true d.value z s.1.0 one.sits.stands d.last))
   found_rests (Node f.PostDec (At line ▹ e ▹ none)) wish c z s h q =
-      let d = came (changing e (found e Void c)) (λ d. stepped line a.Subtract true d) z q in
+      let d = came (changing e (found e Void c)) q in
       let one = found_rests e Void c d.value s.1.1.0 h (changing_is e (found e Void c) d.value d.is) in
       rests c (Node f.PostDec (At line ▹ e ▹ none)) z line refl s.1.0 (landed c d.value z one.sits.goes (stepped_comes line a.Subtract true d.value z s.1.0 one.sits.stands d.last))
   found_rests (Node f.PreInc (At line ▹ e ▹ none)) wish c z s h q =
-      let d = came (changing e (found e Void c)) (λ d. stepped line a.Add false d) z q in
+      let d = came (changing e (found e Void c)) q in
       let one = found_rests e Void c d.value s.1.1.0 h (changing_is e (found e Void c) d.value d.is) in
       rests c (Node f.PreInc (At line ▹ e ▹ none)) z line refl s.1.0 (landed c d.value z one.sits.goes (stepped_comes line a.Add false d.value z s.1.0 one.sits.stands d.last))
   found_rests (Node f.PreDec (At line ▹ e ▹ none)) wish c z s h q =
-      let d = came (changing e (found e Void c)) (λ d. stepped line a.Subtract false d) z q in
+      let d = came (changing e (found e Void c)) q in
       let one = found_rests e Void c d.value s.1.1.0 h (changing_is e (found e Void c) d.value d.is) in
       rests c (Node f.PreDec (At line ▹ e ▹ none)) z line refl s.1.0 (landed c d.value z one.sits.goes (stepped_comes line a.Subtract false d.value z s.1.0 one.sits.stands d.last))
   found_rests (Node (f.Unary u.Address) (At line ▹ e ▹ none)) wish c z s h q =
-      let d = came (found e Void c) (λ d. address_answer line d.0 d.1) z q in
+      let d = came (found e Void c) q in
       let one = found_rests e Void c d.value s.1.1.0 h d.is in
       let last = address_lands line d.value.0 d.value.1 z (in_memory_by c e d.value s.0 one) one.sits.stands d.last in
       rests c (Node (f.Unary u.Address) (At line ▹ e ▹ none)) z line refl s.1.0
       (record { goes = goes_trans c d.value.0 z.0 one.sits.goes last.goes; stands = last.stands; apart = last.apart })
   found_rests (Node (f.Unary op) (At line ▹ e ▹ none)) wish c z s h q =
-      let d = came (valued e (found e Void c)) (λ d. applied line op e d.0 d.1) z q in
+      let d = came (valued e (found e Void c)) q in
       let one = valued_operated e c (found e Void c) d.value (λ x k. found_rests e Void c x s.1.1.0 h k) d.is in
       let last = applied_lands line op e d.value.0 d.value.1 z s.1.0 one.line one.comes.value d.last in
       rests c (Node (f.Unary op) (At line ▹ e ▹ none)) z line refl s.1.0
@@ -284,10 +284,10 @@ mutual
       rests c (Node f.Cast (At line ▹ name ▹ e ▹ none)) z line refl s.1.0
       (comes_lands c z (cast_lands line t.value.1 c d.value.0 d.value.1 z s.1.0 (goes_trans c begun d.value.0 g one.comes.goes) one.comes.value d.last))
   found_rests (Node (f.Binary b.And) (At line ▹ e ▹ g ▹ none)) wish c z s h q =
-      let d = came (valued e (found e Void c)) (λ d. let begun = and_then line e d in then (valued g (found g Void begun)) (λ r. and_ended line (new_label d.0) g d.1 r)) z q in
+      let d = came (valued e (found e Void c)) q in
       let begun = and_then line e d.value in
-      let r = came (valued g (found g Void begun)) (λ r. and_ended line (new_label d.value.0) g d.value.1 r) z d.last in
-      let t = came (binary line b.And r.value.0.tags d.value.1.typed r.value.1.typed) (λ typed. good (with_value typed Unknown (and_ends line (new_label d.value.0) (Rattle.elaboration.specs.Conversions.tested_value g r.value)))) z r.last in
+      let r = came (valued g (found g Void begun)) d.last in
+      let t = came (binary line b.And r.value.0.tags d.value.1.typed r.value.1.typed) r.last in
       let scalars = logical_typed line _ d.value.1.typed r.value.1.typed t.value t.is in
       let one = valued_operated e c (found e Void c) d.value (λ x k. found_rests e Void c x s.1.1.0 h k) d.is in
       let gb : Goes c begun = goes_trans c d.value.0 begun one.comes.goes (and_then_goes line e d.value s.1.0 one.line scalars.left one.comes.value) in
@@ -296,10 +296,10 @@ mutual
       rests c (Node (f.Binary b.And) (At line ▹ e ▹ g ▹ none)) z line refl s.1.0
       (comes_lands c z (and_comes line (new_label d.value.0) g d.value.1 c r.value z s.1.0 two.line (goes_trans c begun r.value.0 gb two.comes.goes) two.comes.value r.last))
   found_rests (Node (f.Binary b.Or) (At line ▹ e ▹ g ▹ none)) wish c z s h q =
-      let d = came (valued e (found e Void c)) (λ d. let begun = or_else line e d in then (valued g (found g Void begun.0)) (λ r. or_ended line (new_label d.0 + 1) g begun.1 d.1 r)) z q in
+      let d = came (valued e (found e Void c)) q in
       let begun = or_else line e d.value in
-      let r = came (valued g (found g Void begun.0)) (λ r. or_ended line (new_label d.value.0 + 1) g begun.1 d.value.1 r) z d.last in
-      let t = came (binary line b.Or r.value.0.tags d.value.1.typed r.value.1.typed) (λ typed. good (with_value typed Unknown (or_ends line (new_label d.value.0 + 1) begun.1 (Rattle.elaboration.specs.Conversions.tested_value g r.value)))) z r.last in
+      let r = came (valued g (found g Void begun.0)) d.last in
+      let t = came (binary line b.Or r.value.0.tags d.value.1.typed r.value.1.typed) r.last in
       let scalars = logical_typed line _ d.value.1.typed r.value.1.typed t.value t.is in
       let one = valued_operated e c (found e Void c) d.value (λ x k. found_rests e Void c x s.1.1.0 h k) d.is in
       let first = or_else_gives line e d.value s.1.0 one.line scalars.left one.comes.value in
@@ -309,9 +309,9 @@ mutual
       let last = or_comes line (new_label d.value.0 + 1) g begun.1 d.value.1 begun.0 r.value z s.1.0 two.line two.comes.goes first.holds two.comes.value r.last in
       rests c (Node (f.Binary b.Or) (At line ▹ e ▹ g ▹ none)) z line refl s.1.0 (landed c (begun.0, d.value.1) z gb last)
   found_rests (Node (f.Binary op) (At line ▹ e ▹ g ▹ none)) wish c z s h q =
-      let d = came (valued e (found e Void c)) (λ d. let begun = left_operand op c.code g d in then (valued g (found g Void begun.0)) (λ r. between line op begun.0.code r.0 begun.1 r.1)) z q in
+      let d = came (valued e (found e Void c)) q in
       let begun = left_operand op c.code g d.value in
-      let r = came (valued g (found g Void begun.0)) (λ r. between line op begun.0.code r.0 begun.1 r.1) z d.last in
+      let r = came (valued g (found g Void begun.0)) d.last in
       let one = valued_operated e c (found e Void c) d.value (λ x k. found_rests e Void c x s.1.1.0 h k) d.is in
       let left = left_goes op c g d.value one.comes.goes one.comes.value in
       let next = ready_on c begun.0 g left.goes h s.1.1.1.0 in
@@ -321,13 +321,13 @@ mutual
       (subst (λ (t : PlainTyped). Rattle.core_soundness.proofs.Operating.LeftOf begun.0 op (operand t.type) (operand r.value.1.typed.type) (atom_in begun.1)) (sym left.typed) (left.left r.value.1.typed known)) two.comes.value r.last in
       rests c (Node (f.Binary op) (At line ▹ e ▹ g ▹ none)) z line refl s.1.0 (landed c (begun.0, d.value.1) z left.goes last)
   found_rests (Node f.Cond (At line ▹ e ▹ g ▹ k ▹ none)) wish c z s h q =
-      let d = came (valued e (found e Void c)) (λ d. let begun = choose line e d in then (valued g (found g Void begun)) (λ x. let first = choose_first line (new_label d.0) begun.code (type_ahead line d.1 k x) x in then (valued k (found k Void first.0)) (λ y. chosen line (new_label d.0 + 1) first.0.code first.1 d.1 x.1 y))) z q in
+      let d = came (valued e (found e Void c)) q in
       let begun = choose line e d.value in
-      let x = came (valued g (found g Void begun)) (λ x. let first = choose_first line (new_label d.value.0) begun.code (type_ahead line d.value.1 k x) x in then (valued k (found k Void first.0)) (λ y. chosen line (new_label d.value.0 + 1) first.0.code first.1 d.value.1 x.1 y)) z d.last in
+      let x = came (valued g (found g Void begun)) d.last in
       let type = type_ahead line d.value.1 k x.value in
       let first = choose_first line (new_label d.value.0) begun.code type x.value in
-      let y = came (valued k (found k Void first.0)) (λ y. chosen line (new_label d.value.0 + 1) first.0.code first.1 d.value.1 x.value.1 y) z x.last in
-      let t = came (choice line d.value.1.typed x.value.1.typed y.value.1.typed) (λ typed. good (Rattle.elaboration.specs.Context.here (new_label d.value.0 + 1) (choose_last line first.0.code typed.type first.1 y.value).0, choice_found typed (choose_last line first.0.code typed.type first.1 y.value).1)) z y.last in
+      let y = came (valued k (found k Void first.0)) x.last in
+      let t = came (choice line d.value.1.typed x.value.1.typed y.value.1.typed) y.last in
       let sides = choice_sides line d.value.1.typed x.value.1.typed y.value.1.typed t.value t.is in
       let known = ahead_is k x.value.0 first.0 y.value (quiet_first line (new_label d.value.0) begun.code type x.value) y.is in
       let same : type ≡ t.value.type = ap (λ (o : Option PlainTyped). choice_ahead line d.value.1.typed x.value.1.typed o) known ∙ ap choice_type t.is in
@@ -346,17 +346,17 @@ mutual
       rests c (Node f.Cond (At line ▹ e ▹ g ▹ k ▹ none)) z line refl s.1.0
       (record { goes = goes_trans c first.0 z.0 gf last.goes; stands = last.stands; apart = last.apart })
   found_rests (Node (f.Assign a.Plain) (At line ▹ e ▹ g ▹ none)) wish c z s h q =
-      let d = came (found e Void c) (λ d. then (found g d.1.typed.type d.0) (λ r. cond (is_record d.1.typed.type) (record_assigned line (line_of g) d.1 r) (scalar_assigned line d.0.code g d.1 r))) z q in
-      let r = came (found g d.value.1.typed.type d.value.0) (λ r. cond (is_record d.value.1.typed.type) (record_assigned line (line_of g) d.value.1 r) (scalar_assigned line d.value.0.code g d.value.1 r)) z d.last in
+      let d = came (found e Void c) q in
+      let r = came (found g d.value.1.typed.type d.value.0) d.last in
       let one = found_rests e Void c d.value s.1.1.0 h d.is in
       let next = ready_on c d.value.0 g one.sits.goes h s.1.1.1.0 in
       let two = found_rests g d.value.1.typed.type d.value.0 r.value next.spoken next.names r.is in
       rests c (Node (f.Assign a.Plain) (At line ▹ e ▹ g ▹ none)) z line refl s.1.0
       (assigned_lands (is_record d.value.1.typed.type) line g c d.value r.value z s.1.0 one.sits two r.last refl)
   found_rests (Node (f.Assign op) (At line ▹ e ▹ g ▹ none)) wish c z s h q =
-      let d = came (changing e (found e Void c)) (λ d. let old = old_value line d in then (valued g (found g Void old.0)) (λ r. changed_by line op false d.1 old.1 r)) z q in
+      let d = came (changing e (found e Void c)) q in
       let old = old_value line d.value in
-      let r = came (valued g (found g Void old.0)) (λ r. changed_by line op false d.value.1 old.1 r) z d.last in
+      let r = came (valued g (found g Void old.0)) d.last in
       let rule = changing_rule line op false d.value.1 old.1 r.value z r.last in
       let one = found_rests e Void c d.value s.1.1.0 h (changing_is e (found e Void c) d.value d.is) in
       let o = old_brings line d.value.1.typed d.value.1.spot d.value.0 s.1.0 rule.1.scalar (subst (λ (x : Bool). StandsAs (world d.value.0) x d.value.1.typed.type d.value.1.spot) rule.1.flag one.sits.stands) in
@@ -380,9 +380,9 @@ mutual
   pub arguments_rest : (trees : Trees) (line : ℕ) (target : Callee) (params : PlainTypes) (c : Context) (z : Context × List Argument) → 1 ≤ line → HasParams target params → AllSpoken c.scopes trees → NamesFit (world c) c.scopes → arguments line target params trees c ≡ Ok z → Held_all c target params z
   arguments_rest none line target params c z l p s h q = subst (Held_all c target params) (ok_same (c, []) z q) (no_arguments c target params)
   arguments_rest (e ▹ rest) line target params c z l p s h q =
-      let d = came (format_argument (is_printf target e) c (typed e (asked c)) (valued e (found e (first_type params) c))) (λ d. let v = argument_from line params c.code d.0 d.1 in then (arguments line NoFunction (rest_types params) rest v.0) (λ more. good (more.0, v.1 ∷ more.1))) z q in
+      let d = came (format_argument (is_printf target e) c (typed e (asked c)) (valued e (found e (first_type params) c))) q in
       let v = argument_from line params c.code d.value.0 d.value.1 in
-      let more = came (arguments line NoFunction (rest_types params) rest v.0) (λ more. good (more.0, v.1 ∷ more.1)) z d.last in
+      let more = came (arguments line NoFunction (rest_types params) rest v.0) d.last in
       let one = one_argument target e c (typed e (asked c)) (valued e (found e (first_type params) c)) d.value (λ x k. (valued_operated e c (found e (first_type params) c) x (λ y j. found_rests e (first_type params) c y s.0 h j) k).comes) d.is in
       more_arguments line target params c d.value more.value z l p one
       (λ g. arguments_rest rest line NoFunction (rest_types params) v.0 more.value l tt (all_spoken_more c.scopes v.0.scopes rest g.more s.1) (names_more (world c) (world v.0) c.scopes v.0.scopes g.grew g.more h) more.is)

@@ -126,11 +126,11 @@ fill_scalar_rises e line type offset (InStatic start) c d h w t m q =
     let begun = opened e c in
     let o = opened_rises e c h in
     let v = value_went e type begun d o.solid w (whole_stays type (K c) (K begun) o.more t) q in
-    led_after (R1 c) (static_scalar line type offset start d.1) (λ filled. Ok (d.0, InStatic filled)) (λ filled s. led_ok (R1 c) (d.0, InStatic filled) (rises_trans c begun d.0 o (went_rises begun d v)))
+    led_after (R1 c) (static_scalar line type offset start d.1) (λ filled s. led_ok (R1 c) (d.0, InStatic filled) (rises_trans c begun d.0 o (went_rises begun d v)))
 
 scalar_rises : (e : Tree) (line : ℕ) (type : PlainType) (offset : ℕ) (target : Target) (c : Context) → Solid c → Written e → Whole (K c) type → IsNumber (pos offset) → Led (R1 c) (scalar e line type offset target c)
 scalar_rises e line type offset target c h w t m =
-    led_after (R1 c) (valued e (found e type (opened e c))) (λ d. converts line type d.1.typed (fill_scalar e line type offset (opened e c).code d target))
+    led_after (R1 c) (valued e (found e type (opened e c)))
     (λ d q. led_barred (R1 c) (unconverted type d.1.typed) line (fill_scalar e line type offset (opened e c).code d target) (fill_scalar_rises e line type offset target c d h w t m q))
 
 fill_record_rises : (e : Tree) (line : ℕ) (type : PlainType) (offset : ℕ) (c : Context) (d : Context × Found) (target : Target) → Rises c d.0 → (In c → SpotIn d.1.spot) → Whole (K c) type → IsNumber (pos offset) → Led (R1 c) (fill_record e line type offset d target)
@@ -166,7 +166,7 @@ fill_text_rises : (e : Tree) (line : ℕ) (bytes : List ℕ) (size offset : ℕ)
 fill_text_rises e line bytes size offset (InMemory at mem) c h small m =
     let begun = opened e c in
     let o = opened_rises e c h in
-    led_after (R1 c) (with_literal line bytes begun) (λ d. copy_text at mem offset (min (length bytes + 1) size) d)
+    led_after (R1 c) (with_literal line bytes begun)
     (λ d q. let r = same_rises begun d.0 (same_kept begun d.0 (quiet_literal line bytes begun d q) (grown_literal line bytes begun begun (grows_refl begun) d q).kept) o.solid in
     let k : ℕ = min (length bytes + 1) size in
     let place = member_place at mem offset d.0 in
@@ -205,14 +205,14 @@ mutual
   initialize_rises (Node (f.InitList trailing) (At line ▹ Node f.Inits inits ▹ none)) in_scalar type offset target c h w t v =
       led_cond (R1 c) (takes_braces type in_scalar) (initialize_parts line inits (is_scalar_type type) (parts_of c (count inits) type offset) target c) (then (all_surplus inits c) (λ d. refused Assignment line))
       (parts_rise inits line (is_scalar_type type) (parts_of c (count inits) type offset) target c h w.1.1.0.1 (parts_in c (count inits) type offset h t v))
-      (led_after (R1 c) (all_surplus inits c) (λ d. refused Assignment line) (λ d q. led_refused (R1 c) Assignment line))
+      (led_after (R1 c) (all_surplus inits c) (λ d q. led_refused (R1 c) Assignment line))
   initialize_rises tree in_scalar type offset target c h w t v = led_refused (R1 c) Operands (line_of tree)
 
   parts_rise : (inits : Trees) (line : ℕ) (in_scalar : Bool) (parts : List (PlainType × ℕ)) (target : Target) (c : Context) → Solid c → AllWritten inits → PartsIn (K c) parts → Led (R1 c) (initialize_parts line inits in_scalar parts target c)
   parts_rise none line in_scalar parts target c h w v = led_ok (R1 c) (c, target) (rises_refl c h)
-  parts_rise (init ▹ rest) line in_scalar [] target c h w v = led_after (R1 c) (all_surplus (init ▹ rest) c) (λ d. refused Assignment line) (λ d q. led_refused (R1 c) Assignment line)
+  parts_rise (init ▹ rest) line in_scalar [] target c h w v = led_after (R1 c) (all_surplus (init ▹ rest) c) (λ d q. led_refused (R1 c) Assignment line)
   parts_rise (init ▹ rest) line in_scalar (part ∷ parts) target c h w v =
-      led_after (R1 c) (initialize init in_scalar part.0 part.1 target c) (λ d. initialize_parts line rest in_scalar parts d.1 d.0)
+      led_after (R1 c) (initialize init in_scalar part.0 part.1 target c)
       (λ d q. let r = initialize_rises init in_scalar part.0 part.1 target c h w.0 v.0.0 v.0.1 d q in
       (λ z s. rises_trans c d.0 z.0 r (parts_rise rest line in_scalar parts d.1 d.0 r.solid w.1 (parts_stay parts (K c) (K d.0) r.more v.1) z s)))
 
@@ -226,7 +226,7 @@ unfolding AllWritten
 fill_memory_rises line type (init ▹ rest) (atom.Mem mem) c h w t v m =
     let x = cleared line type (atom.Mem mem) c in
     let a = clears line type (atom.Mem mem) c h t m in
-    led_after (Rises c) (initialize init false type 0 (InMemory line mem) x) (λ d. Ok d.0) (λ d q. led_ok (Rises c) d.0 (rises_trans c x d.0 a (initialize_rises init false type 0 (InMemory line mem) x a.solid w.0 t v d q)))
+    led_after (Rises c) (initialize init false type 0 (InMemory line mem) x) (λ d q. led_ok (Rises c) d.0 (rises_trans c x d.0 a (initialize_rises init false type 0 (InMemory line mem) x a.solid w.0 t v d q)))
 fill_memory_rises line type none mem c h w t v m = led_ok (Rises c) (cleared line type mem c) (clears line type mem c h t m)
 fill_memory_rises line type (init ▹ rest) (atom.Reg r) c h w t v m = led_ok (Rises c) (cleared line type (atom.Reg r) c) (clears line type (atom.Reg r) c h t m)
 fill_memory_rises line type (init ▹ rest) (atom.Int x) c h w t v m = led_ok (Rises c) (cleared line type (atom.Int x) c) (clears line type (atom.Int x) c h t m)
@@ -241,7 +241,7 @@ fill_register_rises : (line : ℕ) (type : PlainType) (inits : Trees) (register 
 unfolding AllWritten
 fill_register_rises line type none register c h w t v = led_ok (Rises c) (emit line (Set register (zero_of type)) c) (record { solid = h; more = extends_refl (K c); kinds = kinds_refl c; code = λ k. in_emit line (Set register (zero_of type)) c k ((zero_in type, tt), tt); cases = λ k. k; walked = λ k. k })
 fill_register_rises line type (init ▹ rest) register c h w t v =
-    led_after (Rises c) (initialize init false type 0 (InRegister line register) c) (λ d. Ok d.0) (λ d q. led_ok (Rises c) d.0 (initialize_rises init false type 0 (InRegister line register) c h w.0 t v d q))
+    led_after (Rises c) (initialize init false type 0 (InRegister line register) c) (λ d q. led_ok (Rises c) d.0 (initialize_rises init false type 0 (InRegister line register) c h w.0 t v d q))
 
 fill_at_rises : (line : ℕ) (type : PlainType) (inits : Trees) (spot : Spot) (c : Context) → Solid c → AllWritten inits → Whole (K c) type → Within (K c) type 0 → SpotIn spot → Led (Rises c) (fill_at line type inits spot c)
 fill_at_rises line type inits (Local register) c h w t v s = fill_register_rises line type inits register c h w t v
@@ -328,12 +328,12 @@ function_rises index name c h = by (nat_lt index (length c.functions))
 pub declared_function_rises : (line : ℕ) (name : List ℕ) (type : PlainType) (c : Context) → Solid c → Whole (K c) type → Led (Rises c) (declared_function line name type c)
 declared_function_rises line name type c h w =
     let index = function_number name c in
-    led_after (Rises c) (declared_as line name (n.Function type index) c) (λ d. Ok (with_function index name d))
+    led_after (Rises c) (declared_as line name (n.Function type index) c)
     (λ d q. let r = declared_rises line name (n.Function type index) c h w (λ ks. tt) d q in led_ok (Rises c) (with_function index name d) (rises_trans c d _ r (function_rises index name d r.solid)))
 
 no_initializer_rises : (inits : Trees) (c : Context) → Solid c → Led (Rises c) (no_initializer inits c)
 no_initializer_rises none c h = led_ok (Rises c) c (rises_refl c h)
-no_initializer_rises (init ▹ rest) c h = led_after (Rises c) (surplus init c) (λ d. refused Assignment (line_of init)) (λ d q. led_refused (Rises c) Assignment (line_of init))
+no_initializer_rises (init ▹ rest) c h = led_after (Rises c) (surplus init c) (λ d q. led_refused (Rises c) Assignment (line_of init))
 
 -- a type that is whole, and has a layout
 record Ready (c : Context) (type : PlainType) (d : Context) : Type 0 where
@@ -347,7 +347,7 @@ ready_on c d type r w s = record { rises = r; whole = whole_stays type (K c) (K 
 new_variable_rises : (line : ℕ) (name : List ℕ) (type : PlainType) (c : Context) → Solid c → Whole (K c) type → is_some (layout_in c.tags type) ≡ true → Led (Rises c) (with_new_variable line name type c)
 new_variable_rises line name type c h w s =
     let size = size_or_zero c type in
-    led_after (Rises c) (with_static line size c) (λ d. Ok (record d { variables = d.variables ++ (record { name = name; layout = unwrap_or (layout_in d.tags type) no_layout; start = None }) ∷ [] }))
+    led_after (Rises c) (with_static line size c)
     (λ d q. let y = led_unless (Ready c type) (nat_lt 67108864 (c.static_bytes + block_size size)) StaticTooLarge line (Ok (record c { static_bytes = c.static_bytes + block_size size }))
     (λ t. led_ok (Ready c type) (record c { static_bytes = c.static_bytes + block_size size }) (record { rises = record { solid = h; more = extends_refl (K c); kinds = kinds_refl c; code = λ k. k; cases = λ k. k; walked = λ k. k }; whole = w; sized = s })) d q in
     led_ok (Rises c) (record d { variables = d.variables ++ (record { name = name; layout = unwrap_or (layout_in d.tags type) no_layout; start = None }) ∷ [] })
@@ -393,17 +393,17 @@ unfolding AllWritten
 fill_variable_rises line index type none c h v w s = led_ok (Rises c) c (rises_refl c h)
 fill_variable_rises line index type (init ▹ rest) c h v w s =
     led_unless (Rises c) (is_some (start_of (slice_get c.variables index))) DeclaredTwice line (then (initialize init false type 0 (InStatic no_start) c) (λ d. Ok (started index d)))
-    (λ t. led_after (Rises c) (initialize init false type 0 (InStatic no_start) c) (λ d. Ok (started index d))
+    (λ t. led_after (Rises c) (initialize init false type 0 (InStatic no_start) c)
     (λ d q. let r = initialize_rises init false type 0 (InStatic no_start) c h v.0 w (starts c type h w s) d q in led_ok (Rises c) (started index d) (rises_trans c d.0 _ r (started_rises index d r.solid))))
 
 file_object_rises : (line : ℕ) (name : List ℕ) (type : PlainType) (inits : Trees) (c : Context) → Solid c → AllWritten inits → Whole (K c) type → Led (Rises c) (file_object line name type inits c)
 file_object_rises line name type inits c h v w =
     let index = variable_number_of c (named_in name c.scopes.file) in
     led_unless (Rises c) (has_no_size c.tags type) Incomplete line (then (declared_as line name (n.Object type index) c) (λ d. then (with_variable line index name type d) (λ v. fill_variable line index type inits v)))
-    (λ t. led_after (Rises c) (declared_as line name (n.Object type index) c) (λ d. then (with_variable line index name type d) (λ v. fill_variable line index type inits v))
+    (λ t. led_after (Rises c) (declared_as line name (n.Object type index) c)
     (λ d q. let r = declared_rises line name (n.Object type index) c h w (λ ks. tt) d q in
     let y = ready_on c d type r w (has_size c.tags type t) in
-    led_after (Rises c) (with_variable line index name type d) (λ v. fill_variable line index type inits v)
+    led_after (Rises c) (with_variable line index name type d)
     (λ x s. let k = variable_rises line index name type d r.solid y.whole y.sized x s in
     let last = ready_on d x type k y.whole y.sized in
     (λ z u. rises_trans c d z r (rises_trans d x z k (fill_variable_rises line index type inits x k.solid v last.whole last.sized z u))))))
@@ -411,7 +411,7 @@ file_object_rises line name type inits c h v w =
 file_value_rises : (line : ℕ) (name : List ℕ) (type : PlainType) (inits : Trees) (c : Context) → Solid c → AllWritten inits → Whole (K c) type → Led (Rises c) (file_value line name type inits c)
 file_value_rises line name type inits c h v w =
     led_cond (Rises c) (is_function type) (file_function line name type inits c) (file_object line name type inits c)
-    (led_after (Rises c) (declared_function line name type c) (λ d. no_initializer inits d) (λ d q. let r = declared_function_rises line name type c h w d q in (λ z s. rises_trans c d z r (no_initializer_rises inits d r.solid z s))))
+    (led_after (Rises c) (declared_function line name type c) (λ d q. let r = declared_function_rises line name type c h w d q in (λ z s. rises_trans c d z r (no_initializer_rises inits d r.solid z s))))
     (file_object_rises line name type inits c h v w)
 
 file_name_rises : (past : Context) (line : ℕ) (storage : Storage) (name : List ℕ) (type : PlainType) (inits : Trees) (c : Context) → Rises past c → AllWritten inits → Whole (K c) type → (Sorts past → SortedType c.tags.made type) → Led (Onward past c) (file_name line storage name type inits c)
@@ -449,17 +449,17 @@ pub init_layers_whole : (tags : TagTable) (ls : List Layer) (inits : Trees) (typ
 init_layers_whole tags [] inits type w h g = led_ok (Whole (known tags.completed)) type h
 init_layers_whole tags (ArrayOf line None ∷ []) inits type w h g = layered_whole tags.completed tags (ArrayOf line (given_length type inits)) type refl h (given_some (known tags.completed) line type inits w)
 init_layers_whole tags (ArrayOf line None ∷ (next ∷ ls)) inits type w h g =
-    led_after (Whole (known tags.completed)) (layered_before tags (ArrayOf line None) (next ∷ ls) type) (λ inner. with_init_layers tags (next ∷ ls) inits inner)
+    led_after (Whole (known tags.completed)) (layered_before tags (ArrayOf line None) (next ∷ ls) type)
     (λ inner q. init_layers_whole tags (next ∷ ls) inits inner w (before_whole tags.completed tags (ArrayOf line None) (next ∷ ls) type refl h g.0 inner q) g.1)
 init_layers_whole tags (layer ∷ ls) inits type w h g =
-    led_after (Whole (known tags.completed)) (layered_before tags layer ls type) (λ inner. with_init_layers tags ls inits inner)
+    led_after (Whole (known tags.completed)) (layered_before tags layer ls type)
     (λ inner q. init_layers_whole tags ls inits inner w (before_whole tags.completed tags layer ls type refl h g.0 inner q) g.1)
 
 pub entry_rises : (past : Context) (file : Bool) (line : ℕ) (storage : Storage) (base : PlainType) (declarator : Tree) (inits : Trees) (c : Context) → Rises past c → Whole (K c) base → (Sorts past → SortedType c.tags.made base) → Written declarator → AllWritten inits → Led (Onward past c) (entry file line storage base declarator inits c)
 entry_rises past file line storage base declarator inits c r b st w v =
-    led_after (Onward past c) (layers declarator c) (λ l. then (with_init_layers l.0.tags l.1 inits base) (λ type. name_in file line storage (name_of declarator) type inits l.0))
+    led_after (Onward past c) (layers declarator c)
     (λ l q. let k = layers_rise declarator c r.solid w l q in
-    led_after (Onward past c) (with_init_layers l.0.tags l.1 inits base) (λ type. name_in file line storage (name_of declarator) type inits l.0)
+    led_after (Onward past c) (with_init_layers l.0.tags l.1 inits base)
     (λ type s. let y = init_layers_whole l.0.tags l.1 inits base v (whole_stays base (K c) (K l.0) k.0.more b) k.1 type s in
     (λ z t. let o = name_in_rises past file line storage (name_of declarator) type inits l.0 (rises_trans past c l.0 r k.0) v y
     (λ ks. init_layers_sorted l.0.tags.made l.0.tags l.1 inits base (type_longer base c.tags.made l.0.tags.made k.0.kinds.made (st ks)) type s) z t in
@@ -469,7 +469,7 @@ entries_rise : (names : Trees) (past : Context) (file : Bool) (line : ℕ) (stor
 unfolding entries Written AllWritten
 entries_rise none past file line storage base c r b st w = led_ok (Rises past) c r
 entries_rise (Node f.Entry (Node f.Declared (declarator ▹ none) ▹ Node f.MaybeInit inits ▹ none) ▹ rest) past file line storage base c r b st w =
-    led_after (Rises past) (entry file line storage base declarator inits c) (λ d. entries file line storage base rest d)
+    led_after (Rises past) (entry file line storage base declarator inits c)
     (λ d q. let o = entry_rises past file line storage base declarator inits c r b st w.0.1.0.1.0 w.0.1.1.0.1 d q in
     entries_rise rest past file line storage base d o.rises (whole_stays base (K c) (K d) o.more b) (λ ks. type_longer base c.tags.made d.tags.made o.made (st ks)) w.1)
 entries_rise (tree ▹ rest) past file line storage base c r b st w = led_refused (Rises past) Operands (line_of tree)
@@ -488,6 +488,6 @@ before_rises tree (name ▹ rest) c h v = specs_rise tree c h v
 pub declaration_rises : (file : Bool) (line : ℕ) (words tree : Tree) (c : Context) → Solid c → Written words → Written tree → Led (Rises c) (declaration file line words tree c)
 unfolding declaration Written
 declaration_rises file line words (Node f.Names names) c h v w =
-    led_after (Rises c) (specs_before words names c) (λ base. entries file line (storage_of words) base.1 names base.0)
+    led_after (Rises c) (specs_before words names c)
     (λ base q. let b = before_rises words names c h v base q in entries_rise names c file line (storage_of words) base.1 base.0 b.0 b.1 b.2 w.1)
 declaration_rises file line words tree c h v w = led_refused (Rises c) Operands line

@@ -185,7 +185,7 @@ param_rises line name type c h w flat =
 -- tags
 
 type_rises : (answer : Checked (names.Context × PlainType)) (c : Context) (h : Solid c) → Led (GoodType c.tags.completed h.made) answer → ((x : names.Context × PlainType) → answer ≡ Ok x → Leads (asked c) x.0) → (Sorts c → Led ST answer) → Led (T c) (with_type answer c)
-type_rises answer c h g l s = led_after (T c) answer (λ x. Ok (told x.0 c, x.1)) (λ x q. let k = g x q in led_ok (T c) (told x.0 c, x.1) (told_rises c x.0 h k.0 (l x q), told_whole c x.0 h x.1 k.0 k.1, λ ks. s ks x q))
+type_rises answer c h g l s = led_after (T c) answer (λ x q. let k = g x q in led_ok (T c) (told x.0 c, x.1) (told_rises c x.0 h k.0 (l x q), told_whole c x.0 h x.1 k.0 k.1, λ ks. s ks x q))
 
 pub with_type_rises : (line : ℕ) (tree : Tree) (c : Context) → Solid c → Led (T c) (with_type (special_type line tree (asked c)) c)
 with_type_rises line tree c h = type_rises (special_type line tree (asked c)) c h (special_good c.tags.completed h.made line tree (asked c) (fit_of c h)) (λ x q. special_leads line tree (asked c) x q) (λ ks. special_sorted line tree (asked c) ks.names)
@@ -195,9 +195,9 @@ asked_type_rises answer c h g l s = type_rises answer c h g l s
 
 pub constant_rises : (e : Tree) (c : Context) → Solid c → Led (R1 c) (constant e c)
 constant_rises e c h =
-    led_after (R1 c) (wanted e (typed e (asked c))) (λ x. then (constant_from (line_of e) x.1.type x.1.folded) (λ k. Ok (told x.0 c, k)))
+    led_after (R1 c) (wanted e (typed e (asked c)))
     (λ x q. let g = wanted_good c.tags.completed h.made e (typed e (asked c)) (typed_good c.tags.completed h.made e (asked c) (fit_of c h)) x q in
-    led_after (R1 c) (constant_from (line_of e) x.1.type x.1.folded) (λ k. Ok (told x.0 c, k)) (λ k z. led_ok (R1 c) (told x.0 c, k) (told_rises c x.0 h g.0 (wanted_leads (asked c) e (typed e (asked c)) (typed_leads e (asked c)) x q))))
+    led_after (R1 c) (constant_from (line_of e) x.1.type x.1.folded) (λ k z. led_ok (R1 c) (told x.0 c, k) (told_rises c x.0 h g.0 (wanted_leads (asked c) e (typed e (asked c)) (typed_leads e (asked c)) x q))))
 
 newly_rises : (sort : RecordSort) (name : List ℕ) (c : Context) → Solid c → Rises c (newly_named sort name c).0
 newly_rises sort name c h = record {
@@ -307,7 +307,7 @@ member_rises past line name type list c h w m st sm =
     let r1 : Checked (Context × d.Members) = unless (has_no_size c.tags type) Incomplete line r2 in
     led_unless (M past c) (is_function type) LeftOut line r1
     (λ t. led_unless (M past c) (has_no_size c.tags type) Incomplete line r2
-    (λ s. led_after (M past c) (with_member line name type list) (λ more. Ok (c, more))
+    (λ s. led_after (M past c) (with_member line name type list)
     (λ more q. led_ok (M past c) (c, more) (rises_refl c h, with_member_rises line name type (K c) list m w (sized c.tags type s) more q, λ ks. with_member_sorted line name type c.tags.made list (sm ks) (st ks) more q))))
 
 -- members in braces are some
@@ -335,33 +335,33 @@ member_is line name type list c m q =
     let r1 : Checked (Context × d.Members) = unless (has_no_size c.tags type) Incomplete line r2 in
     let a = behind_test (is_function type) LeftOut line r1 m q in
     let b = behind_test (has_no_size c.tags type) Incomplete line r2 m a in
-    let k = came (with_member line name type list) (λ more. good (c, more)) m b in
+    let k = came (with_member line name type list) b in
     k.is ∙ ap (λ (x : Context × d.Members). good x.1) (ok_same (c, k.value) m k.last)
 
 names_keep : (parts : Trees) (line : ℕ) (base : PlainType) (list : d.Members) (c : Context) (z : Context × d.Members) → member_names line base parts list c ≡ Ok z → Keeps list z.1
 unfolding member_names
 names_keep none line base list c z q e = ap (λ (x : Context × d.Members). x.1) (ok_same (c, list) z q) ∙ e
 names_keep (declarator ▹ rest) line base list c z q e =
-    let l = came (layers declarator c) (λ l. then (with_layers l.0.tags l.1 base) (λ type. then (member line (name_of declarator) type list l.0) (λ m. member_names line base rest m.1 m.0))) z q in
-    let t = came (with_layers l.value.0.tags l.value.1 base) (λ type. then (member line (name_of declarator) type list l.value.0) (λ m. member_names line base rest m.1 m.0)) z l.last in
-    let m = came (member line (name_of declarator) t.value list l.value.0) (λ m. member_names line base rest m.1 m.0) z t.last in
+    let l = came (layers declarator c) q in
+    let t = came (with_layers l.value.0.tags l.value.1 base) l.last in
+    let m = came (member line (name_of declarator) t.value list l.value.0) t.last in
     with_member_keeps line (name_of declarator) t.value list m.value.1 (member_is line (name_of declarator) t.value list l.value.0 m.value m.is) (names_keep rest line base m.value.1 m.value.0 z m.last e)
 
 names_some : (parts : Trees) (line : ℕ) (base : PlainType) (list : d.Members) (c : Context) (z : Context × d.Members) → HasParts f.MemberNames parts → member_names line base parts list c ≡ Ok z → z.1 ≡ [] → ⊥
 unfolding member_names HasParts
 names_some none line base list c z h q e = h
 names_some (declarator ▹ rest) line base list c z h q e =
-    let l = came (layers declarator c) (λ l. then (with_layers l.0.tags l.1 base) (λ type. then (member line (name_of declarator) type list l.0) (λ m. member_names line base rest m.1 m.0))) z q in
-    let t = came (with_layers l.value.0.tags l.value.1 base) (λ type. then (member line (name_of declarator) type list l.value.0) (λ m. member_names line base rest m.1 m.0)) z l.last in
-    let m = came (member line (name_of declarator) t.value list l.value.0) (λ m. member_names line base rest m.1 m.0) z t.last in
+    let l = came (layers declarator c) q in
+    let t = came (with_layers l.value.0.tags l.value.1 base) l.last in
+    let m = came (member line (name_of declarator) t.value list l.value.0) t.last in
     with_member_some line (name_of declarator) t.value list m.value.1 h (member_is line (name_of declarator) t.value list l.value.0 m.value m.is) (names_keep rest line base m.value.1 m.value.0 z m.last e)
 
 members_keep : (parts : Trees) (list : d.Members) (c : Context) (z : Context × d.Members) → members parts list c ≡ Ok z → Keeps list z.1
 unfolding members
 members_keep none list c z q e = ap (λ (x : Context × d.Members). x.1) (ok_same (c, list) z q) ∙ e
 members_keep (Node f.Member (At line ▹ words ▹ Node f.MemberNames declarators ▹ none) ▹ rest) list c z q e =
-    let base = came (specs words c) (λ base. then (member_names line base.1 declarators list base.0) (λ m. members rest m.1 m.0)) z q in
-    let m = came (member_names line base.value.1 declarators list base.value.0) (λ m. members rest m.1 m.0) z base.last in
+    let base = came (specs words c) q in
+    let m = came (member_names line base.value.1 declarators list base.value.0) base.last in
     names_keep declarators line base.value.1 list base.value.0 m.value m.is (members_keep rest m.value.1 m.value.0 z m.last e)
 members_keep (tree ▹ rest) list c z q e = never _ _ z q
 
@@ -369,8 +369,8 @@ members_some : (parts : Trees) (list : d.Members) (c : Context) (z : Context × 
 unfolding members HasParts Written AllWritten
 members_some none list c z h w q e = h
 members_some (Node f.Member (At line ▹ words ▹ Node f.MemberNames declarators ▹ none) ▹ rest) list c z h w q e =
-    let base = came (specs words c) (λ base. then (member_names line base.1 declarators list base.0) (λ m. members rest m.1 m.0)) z q in
-    let m = came (member_names line base.value.1 declarators list base.value.0) (λ m. members rest m.1 m.0) z base.last in
+    let base = came (specs words c) q in
+    let m = came (member_names line base.value.1 declarators list base.value.0) base.last in
     names_some declarators line base.value.1 list base.value.0 m.value w.0.1.1.1.0.0 m.is (members_keep rest m.value.1 m.value.0 z m.last e)
 members_some (tree ▹ rest) list c z h w q e = never _ _ z q
 
@@ -378,7 +378,7 @@ members_some (tree ▹ rest) list c z h w q e = never _ _ z q
 
 enumerator_rises : (line : ℕ) (name : List ℕ) (value : ℤ) (c : Context) → Solid c → Led (R1 c) (enumerator line name value c)
 enumerator_rises line name value c h =
-    led_after (R1 c) (declared_as line name (n.Constant i.Int (wrapped I32 value)) c) (λ x. Ok (x, wrapped I32 value +ℤ pos 1))
+    led_after (R1 c) (declared_as line name (n.Constant i.Int (wrapped I32 value)) c)
     (λ x q. led_ok (R1 c) (x, wrapped I32 value +ℤ pos 1) (declared_rises line name (n.Constant i.Int (wrapped I32 value)) c h (wrapped_number I32 value) (λ ks. tt) x q))
 
 enum_rises : (line : ℕ) (name : Option (List ℕ)) (c : Context) → Solid c → Led (T c) (enum_named line name c)
@@ -432,20 +432,20 @@ mutual
   tag_rises (Node (f.RecordBody sort) (At at ▹ Node f.MaybeName name ▹ Node f.Members parts ▹ none)) line c h w =
       let start = begun sort (maybe_name name) c in
       let b = begun_rises sort (maybe_name name) c h in
-      led_after (T c) (members parts [] start.0) (λ m. ended at sort start.1 m.0 m.1)
+      led_after (T c) (members parts [] start.0)
       (λ m q. let k = members_rise c parts [] start.0 b.solid w.1.1.1.0.1 tt b.kinds.sorts (λ ks. tt) m q in
       ended_rises at sort start.1 c m.0 m.1 (rises_trans c start.0 m.0 b k.0) k.1 (members_some parts [] start.0 m w.1.1.1.0.0 w.1.1.1.0.1 q) k.2 (λ ks. type_longer start.1 start.0.tags.made m.0.tags.made k.0.kinds.made (begun_sorted sort (maybe_name name) c ks)))
   tag_rises (Node (f.EnumBody trailing) (At at ▹ Node f.MaybeName name ▹ Node f.Enumerators parts ▹ none)) line c h w =
-      led_after (T c) (enumerators parts (pos 0) c) (λ e. enum_named at (maybe_name name) e)
+      led_after (T c) (enumerators parts (pos 0) c)
       (λ e q. let k = enumerators_rise parts (pos 0) c h w.1.1.1.0.1 e q in (λ z s. t_on c e z k (enum_rises at (maybe_name name) e k.solid z s)))
   tag_rises tree line c h w = with_type_rises line tree c h
 
   members_rise : (past : Context) (parts : Trees) (list : d.Members) (c : Context) → Solid c → AllWritten parts → MembersWhole (K c) list → (Sorts past → Sorts c) → (Sorts past → MembersSorted c.tags.made list) → Led (M past c) (members parts list c)
   members_rise past none list c h w m ss sm = led_ok (M past c) (c, list) (rises_refl c h, m, sm)
   members_rise past (Node f.Member (At line ▹ words ▹ Node f.MemberNames declarators ▹ none) ▹ rest) list c h w m ss sm =
-      led_after (M past c) (specs words c) (λ base. then (member_names line base.1 declarators list base.0) (λ x. members rest x.1 x.0))
+      led_after (M past c) (specs words c)
       (λ base q. let b = specs_rise words c h w.0.1.1.0 base q in
-      led_after (M past c) (member_names line base.1 declarators list base.0) (λ x. members rest x.1 x.0)
+      led_after (M past c) (member_names line base.1 declarators list base.0)
       (λ x s. let k = member_names_rise past declarators line base.1 list base.0 b.0.solid w.0.1.1.1.0.1 b.1 (members_stay list (K c) (K base.0) b.0.more m) (λ a. b.0.kinds.sorts (ss a)) (λ a. b.2 (ss a)) (λ a. members_longer list c.tags.made base.0.tags.made b.0.kinds.made (sm a)) x s in
       (λ z t. let y = members_rise past rest x.1 x.0 k.0.solid w.1 k.1 (λ a. k.0.kinds.sorts (b.0.kinds.sorts (ss a))) k.2 z t in (rises_trans c base.0 z.0 b.0 (rises_trans base.0 x.0 z.0 k.0 y.0), y.1, y.2))))
   members_rise past (tree ▹ rest) list c h w m ss sm = led_refused (M past c) Operands (line_of tree)
@@ -453,11 +453,11 @@ mutual
   member_names_rise : (past : Context) (parts : Trees) (line : ℕ) (base : PlainType) (list : d.Members) (c : Context) → Solid c → AllWritten parts → Whole (K c) base → MembersWhole (K c) list → (Sorts past → Sorts c) → (Sorts past → SortedType c.tags.made base) → (Sorts past → MembersSorted c.tags.made list) → Led (M past c) (member_names line base parts list c)
   member_names_rise past none line base list c h w t m ss st sm = led_ok (M past c) (c, list) (rises_refl c h, m, sm)
   member_names_rise past (declarator ▹ rest) line base list c h w t m ss st sm =
-      led_after (M past c) (layers declarator c) (λ l. then (with_layers l.0.tags l.1 base) (λ type. then (member line (name_of declarator) type list l.0) (λ x. member_names line base rest x.1 x.0)))
+      led_after (M past c) (layers declarator c)
       (λ l q. let k = layers_rise declarator c h w.0 l q in
-      led_after (M past c) (with_layers l.0.tags l.1 base) (λ type. then (member line (name_of declarator) type list l.0) (λ x. member_names line base rest x.1 x.0))
+      led_after (M past c) (with_layers l.0.tags l.1 base)
       (λ type s. let y = with_layers_whole l.0.tags.completed l.0.tags l.1 base refl (whole_stays base (K c) (K l.0) k.0.more t) k.1 type s in
-      led_after (M past c) (member line (name_of declarator) type list l.0) (λ x. member_names line base rest x.1 x.0)
+      led_after (M past c) (member line (name_of declarator) type list l.0)
       (λ x v. let u = member_rises past line (name_of declarator) type list l.0 k.0.solid y (members_stay list (K c) (K l.0) k.0.more m)
       (λ a. with_layers_sorted l.0.tags.made l.0.tags l.1 base (type_longer base c.tags.made l.0.tags.made k.0.kinds.made (st a)) type s) (λ a. members_longer list c.tags.made l.0.tags.made k.0.kinds.made (sm a)) x v in
       let more : Rises c x.0 = rises_trans c l.0 x.0 k.0 u.0 in
@@ -466,22 +466,22 @@ mutual
   enumerators_rise : (parts : Trees) (next : ℤ) (c : Context) → Solid c → AllWritten parts → Led (Rises c) (enumerators parts next c)
   enumerators_rise none next c h w = led_ok (Rises c) c (rises_refl c h)
   enumerators_rise (Node f.Enumerator (At line ▹ Leaf (w.Name name) ▹ Node f.MaybeValue none ▹ none) ▹ rest) next c h w =
-      led_after (Rises c) (enumerator line name next c) (λ e. enumerators rest e.1 e.0)
+      led_after (Rises c) (enumerator line name next c)
       (λ e q. let k = enumerator_rises line name next c h e q in (λ z s. rises_trans c e.0 z k (enumerators_rise rest e.1 e.0 k.solid w.1 z s)))
   enumerators_rise (Node f.Enumerator (At line ▹ Leaf (w.Name name) ▹ Node f.MaybeValue (value ▹ none) ▹ none) ▹ rest) next c h w =
-      led_after (Rises c) (constant value c) (λ k. then (enumerator line name k.1.value k.0) (λ e. enumerators rest e.1 e.0))
+      led_after (Rises c) (constant value c)
       (λ k q. let a = constant_rises value c h k q in
-      led_after (Rises c) (enumerator line name k.1.value k.0) (λ e. enumerators rest e.1 e.0)
+      led_after (Rises c) (enumerator line name k.1.value k.0)
       (λ e s. let b = enumerator_rises line name k.1.value k.0 a.solid e s in (λ z t. rises_trans c k.0 z a (rises_trans k.0 e.0 z b (enumerators_rise rest e.1 e.0 b.solid w.1 z t)))))
   enumerators_rise (tree ▹ rest) next c h w = led_refused (Rises c) Operands (line_of tree)
 
   pub layers_rise : (tree : Tree) (c : Context) → Solid c → Written tree → Led (L c) (layers tree c)
   layers_rise (Node (f.Pointer consts) (At line ▹ declarator ▹ none)) c h w =
-      led_after (L c) (layers declarator c) (λ l. Ok (l.0, PointerTo line ∷ l.1)) (λ l q. let k = layers_rise declarator c h w.1.1.0 l q in led_ok (L c) (l.0, PointerTo line ∷ l.1) (k.0, (tt, k.1)))
+      led_after (L c) (layers declarator c) (λ l q. let k = layers_rise declarator c h w.1.1.0 l q in led_ok (L c) (l.0, PointerTo line ∷ l.1) (k.0, (tt, k.1)))
   layers_rise (Node f.Direct (base ▹ Node f.Suffixes suffixes ▹ none)) c h w =
-      led_after (L c) (layers base c) (λ l. then (suffix_layers suffixes l.0) (λ s. Ok (s.0, reverse s.1 ++ l.1)))
+      led_after (L c) (layers base c)
       (λ l q. let k = layers_rise base c h w.1.0 l q in
-      led_after (L c) (suffix_layers suffixes l.0) (λ s. Ok (s.0, reverse s.1 ++ l.1))
+      led_after (L c) (suffix_layers suffixes l.0)
       (λ s t. let m = suffixes_rise suffixes l.0 k.0.solid w.1.1.0.1 s t in
       led_ok (L c) (s.0, reverse s.1 ++ l.1) (rises_trans c l.0 s.0 k.0 m.0, layers_append (K s.0) (reverse s.1) l.1 (layers_reverse (K s.0) s.1 m.1) (layers_stay l.1 (K l.0) (K s.0) m.0.more k.1))))
   layers_rise (Node f.Parens (At line ▹ declarator ▹ none)) c h w = layers_rise declarator c h w.1.1.0
@@ -490,35 +490,35 @@ mutual
   suffixes_rise : (parts : Trees) (c : Context) → Solid c → AllWritten parts → Led (L c) (suffix_layers parts c)
   suffixes_rise none c h w = led_ok (L c) (c, []) (rises_refl c h, tt)
   suffixes_rise (suffix ▹ rest) c h w =
-      led_after (L c) (suffix_layer suffix c) (λ l. then (suffix_layers rest l.0) (λ more. Ok (more.0, l.1 ∷ more.1)))
+      led_after (L c) (suffix_layer suffix c)
       (λ l q. let k = suffix_rises suffix c h w.0 l q in
-      led_after (L c) (suffix_layers rest l.0) (λ more. Ok (more.0, l.1 ∷ more.1))
+      led_after (L c) (suffix_layers rest l.0)
       (λ more s. let m = suffixes_rise rest l.0 k.0.solid w.1 more s in led_ok (L c) (more.0, l.1 ∷ more.1) (rises_trans c l.0 more.0 k.0 m.0, (layer_stays l.1 (K l.0) (K more.0) m.0.more k.1, m.1))))
 
   suffix_rises : (tree : Tree) (c : Context) → Solid c → Written tree → Led (LL c) (suffix_layer tree c)
   suffix_rises (Node f.ArraySuffix (At line ▹ Node f.MaybeLength none ▹ none)) c h w = led_ok (LL c) (c, ArrayOf line None) (rises_refl c h, tt)
   suffix_rises (Node f.ArraySuffix (At line ▹ Node f.MaybeLength (e ▹ none) ▹ none)) c h w =
-      led_after (LL c) (wanted e (typed e (asked c))) (λ x. then (array_length (line_of e) x.1) (λ length. Ok (told x.0 c, ArrayOf line (Some length))))
+      led_after (LL c) (wanted e (typed e (asked c)))
       (λ x q. let g = wanted_good c.tags.completed h.made e (typed e (asked c)) (typed_good c.tags.completed h.made e (asked c) (fit_of c h)) x q in
-      led_after (LL c) (array_length (line_of e) x.1) (λ length. Ok (told x.0 c, ArrayOf line (Some length)))
+      led_after (LL c) (array_length (line_of e) x.1)
       (λ m s. led_ok (LL c) (told x.0 c, ArrayOf line (Some m)) (told_rises c x.0 h g.0 (wanted_leads (asked c) e (typed e (asked c)) (typed_leads e (asked c)) x q), length_some c.tags.completed h.made (line_of e) x.1 m s)))
   suffix_rises (Node f.FunctionSuffix (At line ▹ Node f.Params parts ▹ none)) c h w =
-      led_after (LL c) (params parts (entered c)) (λ x. Ok (left_params x.0, FunctionOf line x.1))
+      led_after (LL c) (params parts (entered c))
       (λ x q. let k = params_rise parts (entered c) (entered_solid c h) w.1.1.0.1 x q in led_ok (LL c) (left_params x.0, FunctionOf line x.1) (left_params_rises c x.0 k.0, k.1))
   suffix_rises tree c h w = led_ok (LL c) (record c { params = [] }, FunctionOf (line_of tree) types.none) (no_params c h, tt)
 
   params_rise : (parts : Trees) (c : Context) → Solid c → AllWritten parts → Led (P c) (params parts c)
   params_rise none c h w = led_ok (P c) (c, types.none) (rises_refl c h, tt)
   params_rise (Node f.Param (At line ▹ words ▹ declarator ▹ none) ▹ rest) c h w =
-      led_after (P c) (specs words c) (λ base. then (layers declarator base.0) (λ l. then (with_param_layers l.0.tags l.1 base.1) (λ type. then (param line (name_of declarator) (adjusted type) l.0) (λ x. then (params rest x.0) (λ more. Ok (more.0, first x.1 more.1))))))
+      led_after (P c) (specs words c)
       (λ base q. let b = specs_rise words c h w.0.1.1.0 base q in
-      led_after (P c) (layers declarator base.0) (λ l. then (with_param_layers l.0.tags l.1 base.1) (λ type. then (param line (name_of declarator) (adjusted type) l.0) (λ x. then (params rest x.0) (λ more. Ok (more.0, first x.1 more.1)))))
+      led_after (P c) (layers declarator base.0)
       (λ l s. let k = layers_rise declarator base.0 b.0.solid w.0.1.1.1.0 l s in
-      led_after (P c) (with_param_layers l.0.tags l.1 base.1) (λ type. then (param line (name_of declarator) (adjusted type) l.0) (λ x. then (params rest x.0) (λ more. Ok (more.0, first x.1 more.1))))
+      led_after (P c) (with_param_layers l.0.tags l.1 base.1)
       (λ type t. let y = with_param_layers_whole l.0.tags.completed l.0.tags l.1 base.1 refl (whole_stays base.1 (K base.0) (K l.0) k.0.more b.1) k.1 type t in
-      led_after (P c) (param line (name_of declarator) (adjusted type) l.0) (λ x. then (params rest x.0) (λ more. Ok (more.0, first x.1 more.1)))
+      led_after (P c) (param line (name_of declarator) (adjusted type) l.0)
       (λ x v. let u = param_rises line (name_of declarator) (adjusted type) l.0 k.0.solid (adjusted_whole l.0.tags.completed type y) (adjusted_flat type) x v in
       let far : Rises c x.0 = rises_trans c base.0 x.0 b.0 (rises_trans base.0 l.0 x.0 k.0 u.0) in
-      led_after (P c) (params rest x.0) (λ more. Ok (more.0, first x.1 more.1))
+      led_after (P c) (params rest x.0)
       (λ more a. let m = params_rise rest x.0 u.0.solid w.1 more a in led_ok (P c) (more.0, first x.1 more.1) (rises_trans c x.0 more.0 far m.0, (whole_stays x.1 (K x.0) (K more.0) m.0.more u.1, m.1)))))))
   params_rise (tree ▹ rest) c h w = led_refused (P c) Operands (line_of tree)

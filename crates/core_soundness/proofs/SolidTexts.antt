@@ -40,7 +40,7 @@ use Rattle.elaboration.specs.Expressions.{found}
 use Rattle.elaboration.specs.Declarators.{specs, layers, constant}
 use Rattle.elaboration.specs.Declarations.{function_number, declared_function}
 use Rattle.elaboration.specs.Statements.{Around, around_body, below, in_loop, in_switch, in_delay, leaves, leave_to, evaluated, maybe_evaluated, closed_atom, condition, leaves_if_zero, maybe_leaves, apart, behind, returned, return_value, return_of, return_from, has_case, with_case, case_of, cased, defaulted, switch_operand_of, switch_operand, no_cases, switched, looped, for_start, statement, items, dispatch, does, cases_of}
-use Rattle.elaboration.specs.Externals.{begun, answer_of, params_of, is_defined, body_begun, last_answer, body_ended, body, defined, named_definition, definition, external, externals, calls_defined, is_main, ended}
+use Rattle.elaboration.specs.Externals.{begun, answer_of, params_of, is_defined, body_begun, last_answer, body_ended, body, defined, named_definition, definition, external, externals, calls_defined, is_main}
 use Rattle.elaboration.specs.Addressed.{addressed_in}
 use Rattle.elaboration.specs.Resolving.{function_of, variable_static, literal_static, core_of}
 use Rattle.elaboration.specs.Elaboration.{walked, elaborated}
@@ -70,7 +70,7 @@ use Rattle.core_soundness.proofs.SolidFills.{declared_function_rises, declaratio
 
 pub scoped_rises : (c : Context) (inside : Context → Checked Context) → Led (Rises (entered c)) (inside (entered c)) → Led (Rises c) (scoped c inside)
 scoped_rises c inside k =
-    led_after (Rises c) (inside (entered c)) (λ d. Ok (left d))
+    led_after (Rises c) (inside (entered c))
     (λ d q. let r = k d q in
     led_ok (Rises c) (left d)
     (record {
@@ -114,7 +114,7 @@ C1 c z = Rises c z.0 × (In c → AtomIn z.1)
 
 condition_rises : (e : Tree) (c : Context) → Solid c → Written e → Led (C1 c) (condition e c)
 condition_rises e c h w =
-    led_after (C1 c) (valued e (found e Void (opened e c))) (λ d. unless (not (is_scalar d.1.typed.type)) Operands (line_of e) (Ok (closed_atom e (tested_value e d))))
+    led_after (C1 c) (valued e (found e Void (opened e c)))
     (λ d q. let r = full_value e Void c d h w tt q in
     let k = tested_solid e d r.rises.solid in
     let z = closed_rises e (tested_value e d).0 k.solid in
@@ -133,7 +133,7 @@ condition_rises e c h w =
 
 if_zero_rises : (line label : ℕ) (e : Tree) (c : Context) → Solid c → Written e → Led (Rises c) (leaves_if_zero line label e c)
 if_zero_rises line label e c h w =
-    led_after (Rises c) (condition e c) (λ d. Ok (emit line (Zero d.1 label) d.0))
+    led_after (Rises c) (condition e c)
     (λ d q. let r = condition_rises e c h w d q in led_ok (Rises c) (emit line (Zero d.1 label) d.0) (record { solid = r.0.solid; more = r.0.more; kinds = r.0.kinds; code = λ g. in_emit line (Zero d.1 label) d.0 (r.0.code g) ((r.1 g, tt), tt); cases = r.0.cases; walked = r.0.walked }))
 
 maybe_leaves_rises : (line label : ℕ) (es : Trees) (c : Context) → Solid c → AllWritten es → Led (Rises c) (maybe_leaves line label es c)
@@ -144,7 +144,7 @@ maybe_leaves_rises line label (e ▹ rest) c h w = if_zero_rises line label e c 
 return_of_rises : (line delays : ℕ) (e : Tree) (type : PlainType) (c : Context) → Solid c → Written e → Whole (K c) type → Led (Rises c) (return_of line delays e type c)
 return_of_rises line delays e type c h w t =
     let begin = opened e c in
-    led_after (Rises c) (valued e (found e type begin)) (λ d. unless (is_void type) Assignment line (converts line type d.1.typed (return_value line delays e type begin.code d)))
+    led_after (Rises c) (valued e (found e type begin))
     (λ d q. let v = scalar_value e line type c d h w t q in
     let x = convert line begin.code type d.1.typed (atom_in d.1) d.0 in
     let k = closed_rises e x.0 v.rises.solid in
@@ -230,7 +230,7 @@ operand_of_rises line e other c d r = led_refused (O1 c) Operands (line_of e)
 
 operand_rises : (line : ℕ) (e : Tree) (c : Context) → Solid c → Written e → Led (O1 c) (switch_operand line e c)
 operand_rises line e c h w =
-    led_after (O1 c) (valued e (found e Void (opened e c))) (λ d. switch_operand_of line e (operand d.1.typed.type) d) (λ d q. operand_of_rises line e (operand d.1.typed.type) c d (full_value e Void c d h w tt q))
+    led_after (O1 c) (valued e (found e Void (opened e c))) (λ d q. operand_of_rises line e (operand d.1.typed.type) c d (full_value e Void c d h w tt q))
 
 start_rises : (line : ℕ) (tree : Tree) (c : Context) → Solid c → Written tree → Led (Rises c) (for_start line tree c)
 unfolding Written AllWritten
@@ -251,7 +251,7 @@ mutual
       let d1 = emit line Enter d0 in
       let h0 = entered_solid c h in
       scoped_rises c (λ d. then (items parts (in_delay a) (emit line Enter d)) (λ e. Ok (emit line Leave e)))
-      (led_after (Rises d0) (items parts (in_delay a) d1) (λ e. Ok (emit line Leave e))
+      (led_after (Rises d0) (items parts (in_delay a) d1)
       (λ e q. let r = rises_trans d0 d1 e (record { solid = h0; more = extends_refl (K d0); kinds = kinds_refl d0; code = λ g. in_emit line Enter d0 g (tt, tt); cases = λ g. g; walked = λ g. g }) (items_rise parts (in_delay a) d1 h0 w.1.1.0.1 e q) in led_ok (Rises d0) (emit line Leave e) (record { solid = r.solid; more = r.more; kinds = r.kinds; code = λ g. in_emit line Leave e (r.code g) (tt, tt); cases = r.cases; walked = r.walked })))
   statement_rises (Node f.If (At line ▹ e ▹ s ▹ none)) a c h w =
       let end = new_label c in
@@ -260,9 +260,9 @@ mutual
       let h0 = entered_solid c1 h in
       on_led c c1 _ (record { solid = h; more = extends_refl (K c); kinds = kinds_refl c; code = λ g. g; cases = λ g. g; walked = λ g. g })
       (scoped_rises c1 (λ d. then (leaves_if_zero line end e d) (λ t. then (scoped t (λ b. statement s (below a) b)) (λ g. Ok (here end g))))
-      (led_after (Rises d0) (leaves_if_zero line end e d0) (λ t. then (scoped t (λ b. statement s (below a) b)) (λ g. Ok (here end g)))
+      (led_after (Rises d0) (leaves_if_zero line end e d0)
       (λ t q. let r = if_zero_rises line end e d0 h0 w.1.1.0 t q in
-      led_after (Rises d0) (scoped t (λ b. statement s (below a) b)) (λ g. Ok (here end g))
+      led_after (Rises d0) (scoped t (λ b. statement s (below a) b))
       (λ g k. let m = rises_trans d0 t g r (scoped_rises t (λ b. statement s (below a) b) (statement_rises s (below a) (entered t) (entered_solid t r.solid) w.1.1.1.0) g k) in
       led_ok (Rises d0) (here end g) (record { solid = m.solid; more = m.more; kinds = m.kinds; code = λ v. in_here end g (m.code v); cases = m.cases; walked = m.walked })))))
   statement_rises (Node f.IfElse (At line ▹ e ▹ s ▹ other ▹ none)) a c h w =
@@ -272,13 +272,13 @@ mutual
       let h0 = entered_solid c1 h in
       on_led c c1 _ (record { solid = h; more = extends_refl (K c); kinds = kinds_refl c; code = λ g. g; cases = λ g. g; walked = λ g. g })
       (scoped_rises c1 (λ d. then (leaves_if_zero line (end + 1) e d) (λ t. then (scoped t (λ b. statement s (below a) b)) (λ g. then (scoped (here (end + 1) (emit line (Jump end) g)) (λ b. statement other (below a) b)) (λ k. Ok (here end k)))))
-      (led_after (Rises d0) (leaves_if_zero line (end + 1) e d0) (λ t. then (scoped t (λ b. statement s (below a) b)) (λ g. then (scoped (here (end + 1) (emit line (Jump end) g)) (λ b. statement other (below a) b)) (λ k. Ok (here end k))))
+      (led_after (Rises d0) (leaves_if_zero line (end + 1) e d0)
       (λ t q. let r = if_zero_rises line (end + 1) e d0 h0 w.1.1.0 t q in
-      led_after (Rises d0) (scoped t (λ b. statement s (below a) b)) (λ g. then (scoped (here (end + 1) (emit line (Jump end) g)) (λ b. statement other (below a) b)) (λ k. Ok (here end k)))
+      led_after (Rises d0) (scoped t (λ b. statement s (below a) b))
       (λ g k. let m = rises_trans d0 t g r (scoped_rises t (λ b. statement s (below a) b) (statement_rises s (below a) (entered t) (entered_solid t r.solid) w.1.1.1.0) g k) in
       let x = here (end + 1) (emit line (Jump end) g) in
       let mx : Rises d0 x = record { solid = m.solid; more = m.more; kinds = m.kinds; code = λ v. in_here (end + 1) (emit line (Jump end) g) (in_emit line (Jump end) g (m.code v) (tt, tt)); cases = m.cases; walked = m.walked } in
-      led_after (Rises d0) (scoped x (λ b. statement other (below a) b)) (λ y. Ok (here end y))
+      led_after (Rises d0) (scoped x (λ b. statement other (below a) b))
       (λ y u. let last = rises_trans d0 x y mx (scoped_rises x (λ b. statement other (below a) b) (statement_rises other (below a) (entered x) (entered_solid x mx.solid) w.1.1.1.1.0) y u) in
       led_ok (Rises d0) (here end y) (record { solid = last.solid; more = last.more; kinds = last.kinds; code = λ v. in_here end y (last.code v); cases = last.cases; walked = last.walked }))))))
   statement_rises (Node f.While (At line ▹ e ▹ s ▹ none)) a c h w =
@@ -289,9 +289,9 @@ mutual
       let d1 = here head d0 in
       on_led c c1 _ (record { solid = h; more = extends_refl (K c); kinds = kinds_refl c; code = λ g. g; cases = λ g. g; walked = λ g. g })
       (scoped_rises c1 (λ d. then (leaves_if_zero line (head + 1) e (here head d)) (λ t. then (scoped t (λ b. statement s (in_loop (head + 1) (head + 2) a) b)) (λ g. Ok (looped line head (head + 1) (here (head + 2) g)))))
-      (led_after (Rises d0) (leaves_if_zero line (head + 1) e d1) (λ t. then (scoped t (λ b. statement s (in_loop (head + 1) (head + 2) a) b)) (λ g. Ok (looped line head (head + 1) (here (head + 2) g))))
+      (led_after (Rises d0) (leaves_if_zero line (head + 1) e d1)
       (λ t q. let r = rises_trans d0 d1 t (record { solid = h0; more = extends_refl (K d0); kinds = kinds_refl d0; code = λ v. in_here head d0 v; cases = λ v. v; walked = λ v. v }) (if_zero_rises line (head + 1) e d1 h0 w.1.1.0 t q) in
-      led_after (Rises d0) (scoped t (λ b. statement s (in_loop (head + 1) (head + 2) a) b)) (λ g. Ok (looped line head (head + 1) (here (head + 2) g)))
+      led_after (Rises d0) (scoped t (λ b. statement s (in_loop (head + 1) (head + 2) a) b))
       (λ g k. let m = rises_trans d0 t g r (scoped_rises t (λ b. statement s (in_loop (head + 1) (head + 2) a) b) (statement_rises s (in_loop (head + 1) (head + 2) a) (entered t) (entered_solid t r.solid) w.1.1.1.0) g k) in
       led_ok (Rises d0) (looped line head (head + 1) (here (head + 2) g)) (record { solid = m.solid; more = m.more; kinds = m.kinds; code = λ v. looped_in line head (head + 1) (here (head + 2) g) (in_here (head + 2) g (m.code v)); cases = m.cases; walked = m.walked })))))
   statement_rises (Node f.Do (At line ▹ s ▹ e ▹ none)) a c h w =
@@ -302,11 +302,11 @@ mutual
       let d1 = here head d0 in
       on_led c c1 _ (record { solid = h; more = extends_refl (K c); kinds = kinds_refl c; code = λ g. g; cases = λ g. g; walked = λ g. g })
       (scoped_rises c1 (λ d. then (scoped (here head d) (λ b. statement s (in_loop (head + 1) (head + 2) a) b)) (λ g. then (leaves_if_zero line (head + 1) e (here (head + 2) g)) (λ t. Ok (looped line head (head + 1) t))))
-      (led_after (Rises d0) (scoped d1 (λ b. statement s (in_loop (head + 1) (head + 2) a) b)) (λ g. then (leaves_if_zero line (head + 1) e (here (head + 2) g)) (λ t. Ok (looped line head (head + 1) t)))
+      (led_after (Rises d0) (scoped d1 (λ b. statement s (in_loop (head + 1) (head + 2) a) b))
       (λ g k. let m = rises_trans d0 d1 g (record { solid = h0; more = extends_refl (K d0); kinds = kinds_refl d0; code = λ v. in_here head d0 v; cases = λ v. v; walked = λ v. v }) (scoped_rises d1 (λ b. statement s (in_loop (head + 1) (head + 2) a) b) (statement_rises s (in_loop (head + 1) (head + 2) a) (entered d1) (entered_solid d1 h0) w.1.1.0) g k) in
       let x = here (head + 2) g in
       let mx : Rises d0 x = record { solid = m.solid; more = m.more; kinds = m.kinds; code = λ v. in_here (head + 2) g (m.code v); cases = m.cases; walked = m.walked } in
-      led_after (Rises d0) (leaves_if_zero line (head + 1) e x) (λ t. Ok (looped line head (head + 1) t))
+      led_after (Rises d0) (leaves_if_zero line (head + 1) e x)
       (λ t q. let r = rises_trans d0 x t mx (if_zero_rises line (head + 1) e x mx.solid w.1.1.1.0 t q) in led_ok (Rises d0) (looped line head (head + 1) t) (record { solid = r.solid; more = r.more; kinds = r.kinds; code = λ v. looped_in line head (head + 1) t (r.code v); cases = r.cases; walked = r.walked })))))
   statement_rises (Node f.For (At line ▹ start ▹ Node f.MaybeExpr test ▹ Node f.MaybeExpr step ▹ s ▹ none)) a c h w =
       let head = new_label c in
@@ -316,20 +316,20 @@ mutual
       let around = in_loop (head + 1) (head + 2) a in
       on_led c c1 _ (record { solid = h; more = extends_refl (K c); kinds = kinds_refl c; code = λ g. g; cases = λ g. g; walked = λ g. g })
       (scoped_rises c1 (λ d. then (for_start line start d) (λ x. then (maybe_leaves line (head + 1) test (here head x)) (λ t. then (maybe_evaluated step (apart t)) (λ g. then (scoped (with_pieces t.code.pieces g) (λ b. statement s around b)) (λ k. Ok (looped line head (head + 1) (with_pieces (k.code.pieces ++ (Here (head + 2) ∷ g.code.pieces)) k)))))))
-      (led_after (Rises d0) (for_start line start d0) (λ x. then (maybe_leaves line (head + 1) test (here head x)) (λ t. then (maybe_evaluated step (apart t)) (λ g. then (scoped (with_pieces t.code.pieces g) (λ b. statement s around b)) (λ k. Ok (looped line head (head + 1) (with_pieces (k.code.pieces ++ (Here (head + 2) ∷ g.code.pieces)) k))))))
+      (led_after (Rises d0) (for_start line start d0)
       (λ x q1. let r1 = start_rises line start d0 h0 w.1.1.0 x q1 in
       let x1 = here head x in
       let s1 : Rises d0 x1 = record { solid = r1.solid; more = r1.more; kinds = r1.kinds; code = λ v. in_here head x (r1.code v); cases = r1.cases; walked = r1.walked } in
-      led_after (Rises d0) (maybe_leaves line (head + 1) test x1) (λ t. then (maybe_evaluated step (apart t)) (λ g. then (scoped (with_pieces t.code.pieces g) (λ b. statement s around b)) (λ k. Ok (looped line head (head + 1) (with_pieces (k.code.pieces ++ (Here (head + 2) ∷ g.code.pieces)) k)))))
+      led_after (Rises d0) (maybe_leaves line (head + 1) test x1)
       (λ t q2. let r2 = rises_trans d0 x1 t s1 (maybe_leaves_rises line (head + 1) test x1 s1.solid w.1.1.1.0.1 t q2) in
       let t1 = apart t in
       let s2 : Rises d0 t1 = record { solid = r2.solid; more = r2.more; kinds = r2.kinds; code = λ v. tt; cases = r2.cases; walked = r2.walked } in
-      led_after (Rises d0) (maybe_evaluated step t1) (λ g. then (scoped (with_pieces t.code.pieces g) (λ b. statement s around b)) (λ k. Ok (looped line head (head + 1) (with_pieces (k.code.pieces ++ (Here (head + 2) ∷ g.code.pieces)) k))))
+      led_after (Rises d0) (maybe_evaluated step t1)
       (λ g q3. let near = maybe_evaluated_rises step t1 s2.solid w.1.1.1.1.0.1 g q3 in
       let r3 = rises_trans d0 t1 g s2 near in
       let g1 = with_pieces t.code.pieces g in
       let s3 : Rises d0 g1 = record { solid = r3.solid; more = r3.more; kinds = r3.kinds; code = λ v. r2.code v; cases = r3.cases; walked = r3.walked } in
-      led_after (Rises d0) (scoped g1 (λ b. statement s around b)) (λ k. Ok (looped line head (head + 1) (with_pieces (k.code.pieces ++ (Here (head + 2) ∷ g.code.pieces)) k)))
+      led_after (Rises d0) (scoped g1 (λ b. statement s around b))
       (λ k q4. let r4 = rises_trans d0 g1 k s3 (scoped_rises g1 (λ b. statement s around b) (statement_rises s around (entered g1) (entered_solid g1 s3.solid) w.1.1.1.1.1.0) k q4) in
       led_ok (Rises d0) (looped line head (head + 1) (with_pieces (k.code.pieces ++ (Here (head + 2) ∷ g.code.pieces)) k)) (record { solid = r4.solid; more = r4.more; kinds = r4.kinds; code = λ v. looped_in line head (head + 1) (with_pieces (k.code.pieces ++ (Here (head + 2) ∷ g.code.pieces)) k) (pieces_joined k.code.pieces (Here (head + 2) ∷ g.code.pieces) (r4.code v) (near.code tt)); cases = r4.cases; walked = r4.walked })))))))
   statement_rises (Node f.Switch (At line ▹ e ▹ Node f.Block (At at ▹ Node f.Items parts ▹ none) ▹ none)) a c h w =
@@ -339,11 +339,11 @@ mutual
       let h0 = entered_solid c1 h in
       on_led c c1 _ (record { solid = h; more = extends_refl (K c); kinds = kinds_refl c; code = λ g. g; cases = λ g. g; walked = λ g. g })
       (scoped_rises c1 (λ d. then (switch_operand line e d) (λ t. then (scoped (no_cases (apart t.0)) (λ b. items parts (in_switch true end t.1.0 a) b)) (λ g. Ok (switched line end t.1.1 t.0 g))))
-      (led_after (Rises d0) (switch_operand line e d0) (λ t. then (scoped (no_cases (apart t.0)) (λ b. items parts (in_switch true end t.1.0 a) b)) (λ g. Ok (switched line end t.1.1 t.0 g)))
+      (led_after (Rises d0) (switch_operand line e d0)
       (λ t q. let r = operand_rises line e d0 h0 w.1.1.0 t q in
       let x = no_cases (apart t.0) in
       let rx : Rises d0 x = record { solid = r.0.solid; more = r.0.more; kinds = r.0.kinds; code = λ v. tt; cases = λ v. tt; walked = λ v. r.0.walked v } in
-      led_after (Rises d0) (scoped x (λ b. items parts (in_switch true end t.1.0 a) b)) (λ g. Ok (switched line end t.1.1 t.0 g))
+      led_after (Rises d0) (scoped x (λ b. items parts (in_switch true end t.1.0 a) b))
       (λ g k. let near = scoped_rises x (λ b. items parts (in_switch true end t.1.0 a) b) (items_rise parts (in_switch true end t.1.0 a) (entered x) (entered_solid x rx.solid) w.1.1.1.0.1.1.0.1) g k in
       let m = rises_trans d0 x g rx near in
       led_ok (Rises d0) (switched line end t.1.1 t.0 g)
@@ -361,21 +361,21 @@ mutual
       let d0 = entered c1 in
       on_led c c1 _ (record { solid = h; more = extends_refl (K c); kinds = kinds_refl c; code = λ g. g; cases = λ g. g; walked = λ g. g })
       (scoped_rises c1 (λ d. then (switch_operand line e d) (λ t. then (statement s (in_switch false end t.1.0 a) (no_cases (apart t.0))) (λ g. refused LeftOut line)))
-      (led_after (Rises d0) (switch_operand line e d0) (λ t. then (statement s (in_switch false end t.1.0 a) (no_cases (apart t.0))) (λ g. refused LeftOut line))
-      (λ t q. led_after (Rises d0) (statement s (in_switch false end t.1.0 a) (no_cases (apart t.0))) (λ g. refused LeftOut line) (λ g k. led_refused (Rises d0) LeftOut line))))
+      (led_after (Rises d0) (switch_operand line e d0)
+      (λ t q. led_after (Rises d0) (statement s (in_switch false end t.1.0 a) (no_cases (apart t.0))) (λ g k. led_refused (Rises d0) LeftOut line))))
   statement_rises (Node f.Case (At line ▹ e ▹ s ▹ none)) a c h w =
-      led_after (Rises c) (constant e c) (λ k. let label = new_label k.0 in then (statement s a (here label (with_labels 1 k.0))) (λ d. cased line a a.switched (length c.running.cases) k.1.value label d))
+      led_after (Rises c) (constant e c)
       (λ k q. let r = constant_rises e c h k q in
       let label = new_label k.0 in
       let x = here label (with_labels 1 k.0) in
       let rx : Rises c x = record { solid = r.solid; more = r.more; kinds = r.kinds; code = λ v. in_here label (with_labels 1 k.0) (r.code v); cases = r.cases; walked = r.walked } in
-      led_after (Rises c) (statement s a x) (λ d. cased line a a.switched (length c.running.cases) k.1.value label d)
+      led_after (Rises c) (statement s a x)
       (λ d u. let m = rises_trans c x d rx (statement_rises s a x rx.solid w.1.1.1.0 d u) in on_led c d _ m (cased_rises line a a.switched (length c.running.cases) k.1.value label d m.solid)))
   statement_rises (Node f.Default (At line ▹ s ▹ none)) a c h w =
       let label = new_label c in
       let x = here label (with_labels 1 c) in
       let rx : Rises c x = record { solid = h; more = extends_refl (K c); kinds = kinds_refl c; code = λ v. in_here label (with_labels 1 c) v; cases = λ v. v; walked = λ v. v } in
-      led_after (Rises c) (statement s a x) (λ d. defaulted line a label d)
+      led_after (Rises c) (statement s a x)
       (λ d u. let m = rises_trans c x d rx (statement_rises s a x rx.solid w.1.1.0 d u) in on_led c d _ m (defaulted_rises line a label d m.solid))
   statement_rises (Node f.Break (At line ▹ none)) a c h w = leave_rises line a.delays a.breaks c h
   statement_rises (Node f.Continue (At line ▹ none)) a c h w = leave_rises line a.delays a.continues c h
@@ -386,7 +386,7 @@ mutual
   pub items_rise : (parts : Trees) (a : Around) (c : Context) → Solid c → AllWritten parts → Led (Rises c) (items parts a c)
   items_rise none a c h w = led_ok (Rises c) c (rises_refl c h)
   items_rise (item ▹ rest) a c h w =
-      led_after (Rises c) (statement item a c) (λ d. items rest a d) (λ d q. let r = statement_rises item a c h w.0 d q in on_led c d _ r (items_rise rest a d r.solid w.1))
+      led_after (Rises c) (statement item a c) (λ d q. let r = statement_rises item a c h w.0 d q in on_led c d _ r (items_rise rest a d r.solid w.1))
 
 -- functions
 
@@ -446,14 +446,14 @@ body_ended_rises line name type end c h g =
 body_rises : (line : ℕ) (name : List ℕ) (type : PlainType) (tree : Tree) (c : Context) → Solid c → In c → Written tree → Led (Rises c) (body line name type tree c)
 unfolding Written AllWritten
 body_rises line name type (Node f.Body (Node f.Items parts ▹ At end ▹ none)) c h g w =
-    led_after (Rises c) (items parts around_body c) (λ d. body_ended line name type end d) (λ d q. let r = items_rise parts around_body c h w.1.0.1 d q in on_led c d _ r (body_ended_rises line name type end d r.solid (r.code g)))
+    led_after (Rises c) (items parts around_body c) (λ d q. let r = items_rise parts around_body c h w.1.0.1 d q in on_led c d _ r (body_ended_rises line name type end d r.solid (r.code g)))
 body_rises line name type tree c h g w = led_refused (Rises c) Operands line
 
 defined_rises : (line : ℕ) (name : List ℕ) (type : PlainType) (tree : Tree) (c : Context) → Solid c → In c → Whole (K c) type → Written tree → Led (Rises c) (defined line name type tree c)
 defined_rises line name type tree c h g v w =
     let index = function_number name c in
     led_unless (Rises c) (not (is_function type)) LeftOut line (then (declared_function line name type c) (λ d. unless (is_defined (slice_get d.functions index)) DeclaredTwice line (body line name type tree (body_begun index type d))))
-    (λ x. led_after (Rises c) (declared_function line name type c) (λ d. unless (is_defined (slice_get d.functions index)) DeclaredTwice line (body line name type tree (body_begun index type d)))
+    (λ x. led_after (Rises c) (declared_function line name type c)
     (λ d q. let r = declared_function_rises line name type c h v d q in
     let y = body_begun index type d in
     let ry = rises_trans c d y r (body_begun_rises index type d r.solid (whole_stays type (K c) (K d) r.more v)) in
@@ -465,11 +465,11 @@ named_rises line (Some name) type tree c h g v w = defined_rises line name type 
 
 definition_rises : (line : ℕ) (words declarator tree : Tree) (c : Context) → Solid c → In c → Written words → Written declarator → Written tree → Led (Rises c) (definition line words declarator tree c)
 definition_rises line words declarator tree c h g u v w =
-    led_after (Rises c) (specs words c) (λ base. then (layers declarator base.0) (λ l. then (with_layers l.0.tags l.1 base.1) (λ type. named_definition line (name_of declarator) type tree l.0)))
+    led_after (Rises c) (specs words c)
     (λ base q. let b = specs_rise words c h u base q in
-    led_after (Rises c) (layers declarator base.0) (λ l. then (with_layers l.0.tags l.1 base.1) (λ type. named_definition line (name_of declarator) type tree l.0))
+    led_after (Rises c) (layers declarator base.0)
     (λ l k. let m = layers_rise declarator base.0 b.0.solid v l k in
-    led_after (Rises c) (with_layers l.0.tags l.1 base.1) (λ type. named_definition line (name_of declarator) type tree l.0)
+    led_after (Rises c) (with_layers l.0.tags l.1 base.1)
     (λ type s. let y = with_layers_whole l.0.tags.completed l.0.tags l.1 base.1 refl (whole_stays base.1 (K base.0) (K l.0) m.0.more b.1) m.1 type s in
     on_led c l.0 _ (rises_trans c base.0 l.0 b.0 m.0) (named_rises line (name_of declarator) type tree l.0 m.0.solid (m.0.code (b.0.code g)) y w))))
 
@@ -487,7 +487,7 @@ externals_rise : (unit : Trees) (c : Context) → Solid c → AreWritten unit �
 unfolding externals
 externals_rise none c h w = led_ok (Rises c) c (rises_refl c h)
 externals_rise (tree ▹ rest) c h w =
-    led_after (Rises c) (external tree c) (λ d. externals rest d) (λ d q. let r = external_rises tree c h w.0.0 d q in on_led c d _ r (externals_rise rest d r.solid w.1))
+    led_after (Rises c) (external tree c) (λ d q. let r = external_rises tree c h w.0.0 d q in on_led c d _ r (externals_rise rest d r.solid w.1))
 
 -- texts
 
@@ -516,9 +516,9 @@ calls_same functions (call ∷ calls) c h = by (is_defined (slice_get functions 
 
 walked_ends : (unit : Trees) (c : Context) → AreWritten unit → walked unit ≡ Ok c → Ends c
 walked_ends unit c w q =
-    led_after Ends (externals unit first_context) ended
+    led_after Ends (externals unit first_context)
     (λ x s. let r = externals_rise unit first_context first_solid w x s in
-    led_after Ends (calls_defined x.functions x.calls x) (λ d. unless (not (is_main d.functions (named_in (codes "main") d.scopes.file))) NoMain 1 (Ok d))
+    led_after Ends (calls_defined x.functions x.calls x)
     (λ d k. led_unless Ends (not (is_main d.functions (named_in (codes "main") d.scopes.file))) NoMain 1 (Ok d) (λ y. led_ok Ends d (calls_same x.functions x.calls x (r.solid, r.walked tt) d k))))
     c q
 

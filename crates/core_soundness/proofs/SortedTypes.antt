@@ -9,7 +9,6 @@ use Rattle.c_tree.specs.Words as w
 use Rattle.c_tree.specs.Forms as f
 use Rattle.c_tree.specs.Tree.{Tree, Trees, Leaf, At, Node, none, ◌▹◌}
 use Rattle.c_decls.specs.declared.refusal.TypeKind.TheVariants.{LeftOut, Incomplete, TypeTooLarge}
-use Rattle.c_decls.specs.Refusals.{refused}
 use Rattle.c_decls.specs.Named as n
 use Rattle.c_decls.specs.Named.{PlainNamed}
 use Rattle.c_decls.specs.ScopeList.{found, tag_name}
@@ -74,7 +73,7 @@ module _ (made : List TagInfo) where
   layered_sorted tags (FunctionOf line params) type h = led_unless (SortedType made) _ LeftOut line _ (λ t. led_ok (SortedType made) (Function type params) tt)
 
   before_sorted : (tags : TagTable) (layer : Layer) (layers : List Layer) (type : PlainType) → SortedType made type → Led (SortedType made) (layered_before tags layer layers type)
-  before_sorted tags (FunctionOf line params) (next ∷ layers) type h = led_after (SortedType made) (layered tags (FunctionOf line params) type) (λ t. refused LeftOut line) (λ t q. led_refused (SortedType made) LeftOut line)
+  before_sorted tags (FunctionOf line params) (next ∷ layers) type h = led_after (SortedType made) (layered tags (FunctionOf line params) type) (λ t q. led_refused (SortedType made) LeftOut line)
   before_sorted tags (FunctionOf line params) [] type h = layered_sorted tags (FunctionOf line params) type h
   before_sorted tags (PointerTo line) layers type h = layered_sorted tags (PointerTo line) type h
   before_sorted tags (ArrayOf line length) layers type h = layered_sorted tags (ArrayOf line length) type h
@@ -82,12 +81,12 @@ module _ (made : List TagInfo) where
   pub with_layers_sorted : (tags : TagTable) (layers : List Layer) (type : PlainType) → SortedType made type → Led (SortedType made) (with_layers tags layers type)
   with_layers_sorted tags [] type h = led_ok (SortedType made) type h
   with_layers_sorted tags (layer ∷ layers) type h =
-      led_after (SortedType made) (layered_before tags layer layers type) (λ inner. with_layers tags layers inner) (λ inner q. with_layers_sorted tags layers inner (before_sorted tags layer layers type h inner q))
+      led_after (SortedType made) (layered_before tags layer layers type) (λ inner q. with_layers_sorted tags layers inner (before_sorted tags layer layers type h inner q))
 
   pub init_layers_sorted : (tags : TagTable) (ls : List Layer) (inits : Trees) (type : PlainType) → SortedType made type → Led (SortedType made) (with_init_layers tags ls inits type)
   init_layers_sorted tags [] inits type h = led_ok (SortedType made) type h
   init_layers_sorted tags (ArrayOf line None ∷ []) inits type h = layered_sorted tags (ArrayOf line (given_length type inits)) type h
   init_layers_sorted tags (ArrayOf line None ∷ (next ∷ ls)) inits type h =
-      led_after (SortedType made) (layered_before tags (ArrayOf line None) (next ∷ ls) type) (λ inner. with_init_layers tags (next ∷ ls) inits inner) (λ inner q. init_layers_sorted tags (next ∷ ls) inits inner (before_sorted tags (ArrayOf line None) (next ∷ ls) type h inner q))
+      led_after (SortedType made) (layered_before tags (ArrayOf line None) (next ∷ ls) type) (λ inner q. init_layers_sorted tags (next ∷ ls) inits inner (before_sorted tags (ArrayOf line None) (next ∷ ls) type h inner q))
   init_layers_sorted tags (layer ∷ ls) inits type h =
-      led_after (SortedType made) (layered_before tags layer ls type) (λ inner. with_init_layers tags ls inits inner) (λ inner q. init_layers_sorted tags ls inits inner (before_sorted tags layer ls type h inner q))
+      led_after (SortedType made) (layered_before tags layer ls type) (λ inner q. init_layers_sorted tags ls inits inner (before_sorted tags layer ls type h inner q))

@@ -144,7 +144,7 @@ reads line at tags false e spot c typed l same h k =
 
 pub valued_from_comes : (tree : Tree) (c : Context) (e : Found) (z : Context × Found) → 1 ≤ code_line tree → Stands (world c) e → valued_from tree c e ≡ Ok z → Comes c z
 valued_from_comes tree c e z l h q =
-    let t = came (read (line_of tree) c.tags e.typed) (λ typed. good (read_value typed e (read_spot (code_line tree) e.typed.type e.spot c))) z q in
+    let t = came (read (line_of tree) c.tags e.typed) q in
     let r = reads (code_line tree) (line_of tree) c.tags e.typed.is_place e.typed e.spot c t.value l refl h t.is in
     subst (Comes c) (ok_same (read_value t.value e (read_spot (code_line tree) e.typed.type e.spot c)) z t.last) (record { goes = r.0.goes; value = record { spot = refl; value = r.1; held = r.0.held } })
 

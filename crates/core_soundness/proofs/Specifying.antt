@@ -85,7 +85,7 @@ with_param_levels name type c deep = let r = by (is_prototype c.scopes) in recor
 
 pub with_type_levels : (answer : Checked (names.Context × PlainType)) (b c : Context) → Reached (After (asked c)) answer → Levels b c → Reached (Levels b) (with_type answer c)
 with_type_levels answer b c g p =
-    reached_after (Levels b) answer (λ x. Ok (told x.0 c, x.1)) (λ x h. reached_ok (Levels b) (told x.0 c, x.1) (levels_trans b c _ p (told_levels x.0 c (g x h))))
+    reached_after (Levels b) answer (λ x h. reached_ok (Levels b) (told x.0 c, x.1) (levels_trans b c _ p (told_levels x.0 c (g x h))))
 
 -- a list of parameters in a scope of its own
 left_levels : (c x : Context) → Levels (entered c) x → Levels c (left_params x)

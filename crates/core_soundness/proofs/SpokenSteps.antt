@@ -1,5 +1,5 @@
 -- Behind an expression that elaboration has gone through, `&` stood before no name that stands for a register.
-use Rattle.std.proofs.Common.{◌≡◌, ◌||◌, ℕ, Bool, true, false, not, List, [], ◌∷◌, Option, Some, None, Ok, refl, sym, ap, ◌∙◌, subst}
+use Rattle.std.proofs.Common.{◌≡◌, ◌||◌, ℕ, Bool, true, false, List, [], ◌∷◌, Option, Some, None, Ok, refl, sym, ap, ◌∙◌, subst}
 use Rattle.std.proofs.lemmas.Bool.{eq-eqb}
 use Rattle.c_types.specs.declared.types.IntType.{IntType}
 use Rattle.c_types.specs.Types.{PlainType, Void}
@@ -11,24 +11,16 @@ use Rattle.c_tree.specs.Places.{Place}
 use Rattle.c_tree.specs.Tree.{Tree, Trees, Leaf, At, Node, none, ◌▹◌, count}
 use Rattle.c_tree.specs.Grammar.{shape}
 use Rattle.c_tree.specs.Scopes.{is_scope, places}
-use Rattle.c_decls.specs.declared.refusal.TypeKind.TheVariants.{Assignment, Operands}
 use Rattle.c_decls.specs.ScopeList.{ScopeList, found}
-use Rattle.c_decls.specs.Refusals.{unless}
-use Rattle.c_decls.specs.Typed.{operand, is_scalar, is_void}
-use Rattle.c_decls.specs.PlaceRules.{converts}
-use Rattle.c_decls.specs.Expressions.{line_of}
 use Rattle.elaboration.specs.Context.{Context}
 use Rattle.elaboration.specs.Conversions as conversions
 use Rattle.elaboration.specs.Conversions.{valued, valued_from, tested_value, unused}
 use Rattle.elaboration.specs.Reallocates.{opened, closed}
 use Rattle.elaboration.specs.Addressed.{Taken, Known, number_of, plain_name, with_number, with_address, left, left_part, taken, all_taken}
 use Rattle.elaboration.specs.Expressions as expressions
-use Rattle.elaboration.specs.Statements.{evaluated, maybe_evaluated, closed_atom, condition, leaves_if_zero, maybe_leaves, return_value, return_of, return_from, switch_operand_of, switch_operand}
-use Rattle.core_tree.specs.declared.statements.StmKind.TheVariants.{Zero}
-use Rattle.elaboration.specs.Context.{emit}
+use Rattle.elaboration.specs.Statements.{evaluated, maybe_evaluated, condition, leaves_if_zero, maybe_leaves, return_of, return_from, switch_operand}
 use Rattle.core_soundness.specs.Spoken.{is_register, NoRegister, TakesAddress, Spoken, AllSpoken}
 use Rattle.core_soundness.specs.Written.{Written, AllWritten}
-use Rattle.core_soundness.proofs.Grown.{good}
 use Rattle.core_soundness.proofs.Agreeing.{came}
 use Rattle.core_soundness.proofs.Adding.{Has, Inside, left_adds, part_adds, all_taken_adds}
 use Rattle.core_soundness.proofs.Formed.{Shaped, Formed, AllFormed}
@@ -110,21 +102,21 @@ evaluated_calm e c z g q =
 
 pub condition_calm : (e : Tree) (c : Context) (z : Context × Atom) → Formed e → condition e c ≡ Ok z → Calm e
 condition_calm e c z g q =
-    let d = came (valued e (expressions.found e Void (opened e c))) (λ d. unless (not (is_scalar d.1.typed.type)) Operands (line_of e) (good (closed_atom e (tested_value e d)))) z q in
+    let d = came (valued e (expressions.found e Void (opened e c))) q in
     valued_calm e Void (opened e c) d.value g d.is
 
 pub leaves_calm : (line label : ℕ) (e : Tree) (c z : Context) → Formed e → leaves_if_zero line label e c ≡ Ok z → Calm e
 leaves_calm line label e c z g q =
-    let d = came (condition e c) (λ d. good (emit line (Zero d.1 label) d.0)) z q in condition_calm e c d.value g d.is
+    let d = came (condition e c) q in condition_calm e c d.value g d.is
 
 pub operand_calm : (line : ℕ) (e : Tree) (c : Context) (z : Context × (IntType × Atom)) → Formed e → switch_operand line e c ≡ Ok z → Calm e
 operand_calm line e c z g q =
-    let d = came (valued e (expressions.found e Void (opened e c))) (λ d. switch_operand_of line e (operand d.1.typed.type) d) z q in
+    let d = came (valued e (expressions.found e Void (opened e c))) q in
     valued_calm e Void (opened e c) d.value g d.is
 
 pub returned_calm : (line delays : ℕ) (e : Tree) (type : PlainType) (c z : Context) → Formed e → return_of line delays e type c ≡ Ok z → Calm e
 returned_calm line delays e type c z g q =
-    let d = came (valued e (expressions.found e type (opened e c))) (λ d. unless (is_void type) Assignment line (converts line type d.1.typed (return_value line delays e type (opened e c).code d))) z q in
+    let d = came (valued e (expressions.found e type (opened e c))) q in
     valued_calm e type (opened e c) d.value g d.is
 
 pub evaluated_spoken : (e : Tree) (t : Taken) (c z : Context) → Follows t c → Inside (taken e t).addressed c.running.addressed → Written e → Formed e → evaluated e c ≡ Ok z → Spoken c.scopes e

@@ -56,7 +56,7 @@ stays_out c d x y s = record {
 -- a statement in a scope of its own
 scoped_walks : (a : Around) (c : Context) (inside : Context → Checked Context) → Safe c.scopes → (Safe (entered c).scopes → Led (Walks a (entered c)) (inside (entered c))) → Led (Walks a c) (scoped c inside)
 scoped_walks a c inside s h =
-    led_after (Walks a c) (inside (entered c)) (λ d. Ok (left d)) (λ d e. led_ok (Walks a c) (left d) (walks_scoped a c d (h (entered_safe c.scopes s) d e)))
+    led_after (Walks a c) (inside (entered c)) (λ d e. led_ok (Walks a c) (left d) (walks_scoped a c d (h (entered_safe c.scopes s) d e)))
 
 -- where the labels of a switch are those before
 walks_same : (a : Around) (c d : Context) → Part (ways a) a.delays c.code d.code [] → ((l : ℕ) → HasLabel l d.running → HasLabel l c.running) → Stays c d → Walks a c d
@@ -380,17 +380,17 @@ mutual
       (λ s2 d e. block_walks a (entered c) d (items_walk parts (below a) (entered c) (fits_below (entered c).code.labels a fit) s2 d e))
   statement_walks (Node f.Delay (At line ▹ Node f.Items parts ▹ none)) a c fit s =
       scoped_walks a c (λ d. then (items parts (in_delay a) (emit line Enter d)) (λ e. Ok (emit line Leave e))) s
-      (λ s2. led_after (Walks a (entered c)) (items parts (in_delay a) (emit line Enter (entered c))) (λ e. Ok (emit line Leave e))
+      (λ s2. led_after (Walks a (entered c)) (items parts (in_delay a) (emit line Enter (entered c)))
       (λ e h. led_ok (Walks a (entered c)) (emit line Leave e) (delay_walks a line (entered c) e
       (items_walk parts (in_delay a) (emit line Enter (entered c)) (fits_delay c.code.labels a fit) s2 e h))))
   statement_walks (Node f.If (At line ▹ e ▹ x ▹ none)) a c fit s =
       let end = new_label c in
       let d = entered (with_labels 1 c) in
-      led_after (Walks a c) (then (leaves_if_zero line end e d) (λ t. then (scoped t (λ b. statement x (below a) b)) (λ g. Ok (here end g)))) (λ z. Ok (left z))
+      led_after (Walks a c) (then (leaves_if_zero line end e d) (λ t. then (scoped t (λ b. statement x (below a) b)) (λ g. Ok (here end g))))
       (λ z q. led_ok (Walks a c) (left z)
-      (led_after (λ (y : Context). Walks a c (left y)) (leaves_if_zero line end e d) (λ t. then (scoped t (λ b. statement x (below a) b)) (λ g. Ok (here end g)))
+      (led_after (λ (y : Context). Walks a c (left y)) (leaves_if_zero line end e d)
       (λ t h. let test = leaves_tests line end e d (omega arith) (entered_safe c.scopes s) t h in
-      led_after (λ (y : Context). Walks a c (left y)) (scoped t (λ b. statement x (below a) b)) (λ g. Ok (here end g))
+      led_after (λ (y : Context). Walks a c (left y)) (scoped t (λ b. statement x (below a) b))
       (λ g k. led_ok (λ (y : Context). Walks a c (left y)) (here end g) (if_walks a c t g fit test
       (scoped_walks (below a) t (λ b. statement x (below a) b) test.stays.safe
       (λ s2. statement_walks x (below a) (entered t) (fits_below t.code.labels a (fits_more c.code.labels t.code.labels a (omega (arith, (test.part 0).more)) fit)) s2) g k)))) z q))
@@ -398,15 +398,15 @@ mutual
       let end = new_label c in
       let d = entered (with_labels 2 c) in
       let Goal : Context → Type 0 = λ (v : Context). Walks a c (left v) in
-      led_after (Walks a c) (then (leaves_if_zero line (end + 1) e d) (λ t. then (scoped t (λ b. statement x (below a) b)) (λ g. then (scoped (here (end + 1) (emit line (Jump end) g)) (λ b. statement y (below a) b)) (λ h. Ok (here end h))))) (λ z. Ok (left z))
+      led_after (Walks a c) (then (leaves_if_zero line (end + 1) e d) (λ t. then (scoped t (λ b. statement x (below a) b)) (λ g. then (scoped (here (end + 1) (emit line (Jump end) g)) (λ b. statement y (below a) b)) (λ h. Ok (here end h)))))
       (λ z q. led_ok (Walks a c) (left z)
-      (led_after Goal (leaves_if_zero line (end + 1) e d) (λ t. then (scoped t (λ b. statement x (below a) b)) (λ g. then (scoped (here (end + 1) (emit line (Jump end) g)) (λ b. statement y (below a) b)) (λ h. Ok (here end h))))
+      (led_after Goal (leaves_if_zero line (end + 1) e d)
       (λ t h. let test = leaves_tests line (end + 1) e d (omega arith) (entered_safe c.scopes s) t h in
       let fit_t = fits_below t.code.labels a (fits_more c.code.labels t.code.labels a (omega (arith, (test.part 0).more)) fit) in
-      led_after Goal (scoped t (λ b. statement x (below a) b)) (λ g. then (scoped (here (end + 1) (emit line (Jump end) g)) (λ b. statement y (below a) b)) (λ v. Ok (here end v)))
+      led_after Goal (scoped t (λ b. statement x (below a) b))
       (λ g k. let w = scoped_walks (below a) t (λ b. statement x (below a) b) test.stays.safe (λ s2. statement_walks x (below a) (entered t) fit_t s2) g k in
       let begun = here (end + 1) (emit line (Jump end) g) in
-      led_after Goal (scoped begun (λ b. statement y (below a) b)) (λ v. Ok (here end v))
+      led_after Goal (scoped begun (λ b. statement y (below a) b))
       (λ v r. led_ok Goal (here end v) (else_walks a line c t g v fit test w
       (scoped_walks (below a) begun (λ b. statement y (below a) b) w.stays.safe
       (λ s2. statement_walks y (below a) (entered begun) (fits_more t.code.labels g.code.labels (below a) w.part.more fit_t) s2) v r))))) z q))
@@ -415,11 +415,11 @@ mutual
       let d = entered (with_labels 3 c) in
       let Goal : Context → Type 0 = λ (v : Context). Walks a c (left v) in
       let inner = in_loop (head + 1) (head + 2) a in
-      led_after (Walks a c) (then (leaves_if_zero line (head + 1) e (here head d)) (λ t. then (scoped t (λ b. statement x inner b)) (λ g. Ok (looped line head (head + 1) (here (head + 2) g))))) (λ z. Ok (left z))
+      led_after (Walks a c) (then (leaves_if_zero line (head + 1) e (here head d)) (λ t. then (scoped t (λ b. statement x inner b)) (λ g. Ok (looped line head (head + 1) (here (head + 2) g)))))
       (λ z q. led_ok (Walks a c) (left z)
-      (led_after Goal (leaves_if_zero line (head + 1) e (here head d)) (λ t. then (scoped t (λ b. statement x inner b)) (λ g. Ok (looped line head (head + 1) (here (head + 2) g))))
+      (led_after Goal (leaves_if_zero line (head + 1) e (here head d))
       (λ t h. let test = leaves_tests line (head + 1) e (here head d) (omega arith) (entered_safe c.scopes s) t h in
-      led_after Goal (scoped t (λ b. statement x inner b)) (λ g. Ok (looped line head (head + 1) (here (head + 2) g)))
+      led_after Goal (scoped t (λ b. statement x inner b))
       (λ g k. led_ok Goal (looped line head (head + 1) (here (head + 2) g)) (while_walks a line c t g fit s test
       (scoped_walks inner t (λ b. statement x inner b) test.stays.safe
       (λ s2. statement_walks x inner (entered t) (fits_loop t.code.labels (head + 1) (head + 2) a (omega (arith, (test.part 0).more)) (omega (arith, (test.part 0).more))) s2) g k)))) z q))
@@ -428,27 +428,27 @@ mutual
       let d = entered (with_labels 3 c) in
       let Goal : Context → Type 0 = λ (v : Context). Walks a c (left v) in
       let inner = in_loop (head + 1) (head + 2) a in
-      led_after (Walks a c) (then (scoped (here head d) (λ b. statement x inner b)) (λ g. then (leaves_if_zero line (head + 1) e (here (head + 2) g)) (λ t. Ok (looped line head (head + 1) t)))) (λ z. Ok (left z))
+      led_after (Walks a c) (then (scoped (here head d) (λ b. statement x inner b)) (λ g. then (leaves_if_zero line (head + 1) e (here (head + 2) g)) (λ t. Ok (looped line head (head + 1) t))))
       (λ z q. led_ok (Walks a c) (left z)
-      (led_after Goal (scoped (here head d) (λ b. statement x inner b)) (λ g. then (leaves_if_zero line (head + 1) e (here (head + 2) g)) (λ t. Ok (looped line head (head + 1) t)))
+      (led_after Goal (scoped (here head d) (λ b. statement x inner b))
       (λ g h. let w = scoped_walks inner (here head d) (λ b. statement x inner b) (entered_safe c.scopes s)
       (λ s2. statement_walks x inner (entered (here head d)) (fits_loop (c.code.labels + 3) (head + 1) (head + 2) a (omega arith) (omega arith)) s2) g h in
-      led_after Goal (leaves_if_zero line (head + 1) e (here (head + 2) g)) (λ t. Ok (looped line head (head + 1) t))
+      led_after Goal (leaves_if_zero line (head + 1) e (here (head + 2) g))
       (λ t k. led_ok Goal (looped line head (head + 1) t) (do_walks a line c g t fit w (leaves_tests line (head + 1) e (here (head + 2) g) (omega (arith, w.part.more)) w.stays.safe t k)))) z q))
   statement_walks (Node f.For (At line ▹ start ▹ Node f.MaybeExpr test ▹ Node f.MaybeExpr step ▹ x ▹ none)) a c fit s =
       let head = new_label c in
       let d = entered (with_labels 3 c) in
       let Goal : Context → Type 0 = λ (v : Context). Walks a c (left v) in
       let inner = in_loop (head + 1) (head + 2) a in
-      led_after (Walks a c) (then (for_start line start d) (λ y. then (maybe_leaves line (head + 1) test (here head y)) (λ t. then (maybe_evaluated step (apart t)) (λ g. then (scoped (with_pieces t.code.pieces g) (λ b. statement x inner b)) (λ h. Ok (looped line head (head + 1) (with_pieces (h.code.pieces ++ (Here (head + 2) ∷ g.code.pieces)) h))))))) (λ z. Ok (left z))
+      led_after (Walks a c) (then (for_start line start d) (λ y. then (maybe_leaves line (head + 1) test (here head y)) (λ t. then (maybe_evaluated step (apart t)) (λ g. then (scoped (with_pieces t.code.pieces g) (λ b. statement x inner b)) (λ h. Ok (looped line head (head + 1) (with_pieces (h.code.pieces ++ (Here (head + 2) ∷ g.code.pieces)) h)))))))
       (λ z q. led_ok (Walks a c) (left z)
-      (led_after Goal (for_start line start d) (λ y. then (maybe_leaves line (head + 1) test (here head y)) (λ t. then (maybe_evaluated step (apart t)) (λ g. then (scoped (with_pieces t.code.pieces g) (λ b. statement x inner b)) (λ h. Ok (looped line head (head + 1) (with_pieces (h.code.pieces ++ (Here (head + 2) ∷ g.code.pieces)) h))))))
+      (led_after Goal (for_start line start d)
       (λ y h0. let p = for_start_passes line start d (entered_safe c.scopes s) y h0 in
-      led_after Goal (maybe_leaves line (head + 1) test (here head y)) (λ t. then (maybe_evaluated step (apart t)) (λ g. then (scoped (with_pieces t.code.pieces g) (λ b. statement x inner b)) (λ h. Ok (looped line head (head + 1) (with_pieces (h.code.pieces ++ (Here (head + 2) ∷ g.code.pieces)) h)))))
+      led_after Goal (maybe_leaves line (head + 1) test (here head y))
       (λ t h1. let u = maybe_tests line (head + 1) test (here head y) (omega (arith, p.more)) p.stays.safe t h1 in
-      led_after Goal (maybe_evaluated step (apart t)) (λ g. then (scoped (with_pieces t.code.pieces g) (λ b. statement x inner b)) (λ h. Ok (looped line head (head + 1) (with_pieces (h.code.pieces ++ (Here (head + 2) ∷ g.code.pieces)) h))))
+      led_after Goal (maybe_evaluated step (apart t))
       (λ g h2. let r = maybe_evaluated_passes step (apart t) u.stays.safe g h2 in
-      led_after Goal (scoped (with_pieces t.code.pieces g) (λ b. statement x inner b)) (λ h. Ok (looped line head (head + 1) (with_pieces (h.code.pieces ++ (Here (head + 2) ∷ g.code.pieces)) h)))
+      led_after Goal (scoped (with_pieces t.code.pieces g) (λ b. statement x inner b))
       (λ h h3. led_ok Goal (looped line head (head + 1) (with_pieces (h.code.pieces ++ (Here (head + 2) ∷ g.code.pieces)) h)) (for_walks a line c y t g h fit p u r
       (scoped_walks inner (with_pieces t.code.pieces g) (λ b. statement x inner b) r.stays.safe
       (λ s2. statement_walks x inner (entered (with_pieces t.code.pieces g)) (fits_loop g.code.labels (head + 1) (head + 2) a (omega (arith, p.more, (u.part 0).more, r.more)) (omega (arith, p.more, (u.part 0).more, r.more))) s2) h h3)))))) z q))
@@ -456,30 +456,30 @@ mutual
       let end = new_label c in
       let d = entered (with_labels 1 c) in
       let Goal : Context → Type 0 = λ (v : Context). Walks a c (left v) in
-      led_after (Walks a c) (then (switch_operand line e d) (λ t. then (scoped (no_cases (apart t.0)) (λ b. items parts (in_switch true end t.1.0 a) b)) (λ g. Ok (switched line end t.1.1 t.0 g)))) (λ z. Ok (left z))
+      led_after (Walks a c) (then (switch_operand line e d) (λ t. then (scoped (no_cases (apart t.0)) (λ b. items parts (in_switch true end t.1.0 a) b)) (λ g. Ok (switched line end t.1.1 t.0 g))))
       (λ z q. led_ok (Walks a c) (left z)
-      (led_after Goal (switch_operand line e d) (λ t. then (scoped (no_cases (apart t.0)) (λ b. items parts (in_switch true end t.1.0 a) b)) (λ g. Ok (switched line end t.1.1 t.0 g)))
+      (led_after Goal (switch_operand line e d)
       (λ t h. let p = switch_operand_passes line e d (entered_safe c.scopes s) t h in
       let inner = in_switch true end t.1.0 a in
-      led_after Goal (scoped (no_cases (apart t.0)) (λ b. items parts inner b)) (λ g. Ok (switched line end t.1.1 t.0 g))
+      led_after Goal (scoped (no_cases (apart t.0)) (λ b. items parts inner b))
       (λ g k. led_ok Goal (switched line end t.1.1 t.0 g) (switch_walks a line t.1.0 t.1.1 c t.0 g fit p
       (scoped_walks inner (no_cases (apart t.0)) (λ b. items parts inner b) p.stays.safe
       (λ s2. items_walk parts inner (entered (no_cases (apart t.0))) (fits_switch t.0.code.labels end true t.1.0 a (omega (arith, p.more)) (fits_more c.code.labels t.0.code.labels a (omega (arith, p.more)) fit)) s2) g k)))) z q))
   statement_walks (Node f.Switch (At line ▹ e ▹ x ▹ none)) a c fit s =
       let end = new_label c in
       let d = entered (with_labels 1 c) in
-      led_after (Walks a c) (then (switch_operand line e d) (λ t. then (statement x (in_switch false end t.1.0 a) (no_cases (apart t.0))) (λ g. refused LeftOut line))) (λ z. Ok (left z))
-      (λ z q. led_ok (Walks a c) (left z) (led_after (λ (v : Context). Walks a c (left z)) (switch_operand line e d) (λ t. then (statement x (in_switch false end t.1.0 a) (no_cases (apart t.0))) (λ g. refused LeftOut line))
-      (λ t h. led_after (λ (v : Context). Walks a c (left z)) (statement x (in_switch false end t.1.0 a) (no_cases (apart t.0))) (λ g. refused LeftOut line) (λ g k. led_refused (λ (v : Context). Walks a c (left z)) LeftOut line)) z q))
+      led_after (Walks a c) (then (switch_operand line e d) (λ t. then (statement x (in_switch false end t.1.0 a) (no_cases (apart t.0))) (λ g. refused LeftOut line)))
+      (λ z q. led_ok (Walks a c) (left z) (led_after (λ (v : Context). Walks a c (left z)) (switch_operand line e d)
+      (λ t h. led_after (λ (v : Context). Walks a c (left z)) (statement x (in_switch false end t.1.0 a) (no_cases (apart t.0))) (λ g k. led_refused (λ (v : Context). Walks a c (left z)) LeftOut line)) z q))
   statement_walks (Node f.Case (At line ▹ e ▹ x ▹ none)) a c fit s =
-      led_after (Walks a c) (constant e c) (λ k. let label = new_label k.0 in then (statement x a (here label (with_labels 1 k.0))) (λ d. cased line a a.switched (length c.running.cases) k.1.value label d))
+      led_after (Walks a c) (constant e c)
       (λ k h. let p = constant_passes e c c (passes_refl c s) k h in
       let begun = here (new_label k.0) (with_labels 1 k.0) in
-      led_after (Walks a c) (statement x a begun) (λ d. cased line a a.switched (length c.running.cases) k.1.value (new_label k.0) d)
+      led_after (Walks a c) (statement x a begun)
       (λ d q. cased_walks line a a.switched (length c.running.cases) k.1.value c k.0 d fit p (statement_walks x a begun (fits_more c.code.labels (k.0.code.labels + 1) a (omega (arith, p.more)) fit) p.stays.safe d q)))
   statement_walks (Node f.Default (At line ▹ x ▹ none)) a c fit s =
       let begun = here (new_label c) (with_labels 1 c) in
-      led_after (Walks a c) (statement x a begun) (λ d. defaulted line a (new_label c) d)
+      led_after (Walks a c) (statement x a begun)
       (λ d q. defaulted_walks line a c d fit s (statement_walks x a begun (fits_more c.code.labels (c.code.labels + 1) a (omega arith) fit) s d q))
   statement_walks (Node f.Break (At line ▹ none)) a c fit s = leave_to_walks line a a.breaks c s (λ x is. break_facts a.breaks a.continues a.delays c.code.labels fit.early fit.breaks x is)
   statement_walks (Node f.Continue (At line ▹ none)) a c fit s = leave_to_walks line a a.continues c s (λ x is. continue_facts a.breaks a.continues a.delays c.code.labels fit.early fit.continues x is)
@@ -491,6 +491,6 @@ mutual
   pub items_walk : (parts : Trees) (a : Around) (c : Context) → Fits c.code.labels a → Safe c.scopes → Led (Walks a c) (items parts a c)
   items_walk none a c fit s = led_ok (Walks a c) c (walks_passes a c c (passes_refl c s))
   items_walk (item ▹ rest) a c fit s =
-      led_after (Walks a c) (statement item a c) (λ d. items rest a d)
+      led_after (Walks a c) (statement item a c)
       (λ d h e q. let one = statement_walks item a c fit s d h in
       walks_trans a c d e fit one (items_walk rest a d (fits_more c.code.labels d.code.labels a one.part.more fit) one.stays.safe e q))

@@ -66,7 +66,7 @@ record Tested (c : Context) (z : Context × Atom) : Type 0 where
 
 condition_runs : (e : Tree) (c : Context) (z : Context × Atom) → Spoken c.scopes e → NamesFit (world c) c.scopes → condition e c ≡ Ok z → Tested c z
 condition_runs e c z p h q =
-    let d = came (valued e (found e Void (opened e c))) (λ d. unless (not (is_scalar d.1.typed.type)) Operands (line_of e) (good (closed_atom e (tested_value e d)))) z q in
+    let d = came (valued e (found e Void (opened e c))) q in
     let v = evaluates e Void c d.value p h d.is in
     let t = tested_value e d.value in
     let g = tested_value_gives e d.value v.line (not_false (is_scalar d.value.1.typed.type) (kept_test (not (is_scalar d.value.1.typed.type)) Operands (line_of e) (good (closed_atom e t)) z d.last)) v.comes.value in
@@ -76,7 +76,7 @@ condition_runs e c z p h q =
 
 leaves_runs : (line label : ℕ) (e : Tree) (c z : Context) → 1 ≤ line → Spoken c.scopes e → NamesFit (world c) c.scopes → leaves_if_zero line label e c ≡ Ok z → Goes c z
 leaves_runs line label e c z l p h q =
-    let d = came (condition e c) (λ d. good (emit line (Zero d.1 label) d.0)) z q in
+    let d = came (condition e c) q in
     let t = condition_runs e c d.value p h d.is in
     subst (Goes c) (ok_same (emit line (Zero d.value.1 label) d.value.0) z d.last) (goes_trans c d.value.0 _ t.goes (goes_emit line (Zero d.value.1 label) d.value.0 l t.holds))
 
@@ -136,7 +136,7 @@ never_neither type e u o = by (operand type) o u
 return_of_runs : (answer : Option Sort) (line delays : ℕ) (e : Tree) (type : PlainType) (c z : Context) → 1 ≤ line → Spoken c.scopes e → Fine c → result_sort type ≡ answer → return_of line delays e type c ≡ Ok z → Runs answer c z
 return_of_runs answer line delays e type c z l p g s q =
     let begun = opened e c in
-    let d = came (valued e (found e type begun)) (λ d. unless (is_void type) Assignment line (converts line type d.1.typed (return_value line delays e type begun.code d))) z q in
+    let d = came (valued e (found e type begun)) q in
     let k = unbarred (unconverted type d.value.1.typed) line (return_value line delays e type begun.code d.value) z (behind_test (is_void type) Assignment line (converts line type d.value.1.typed (return_value line delays e type begun.code d.value)) z d.last) in
     let v = evaluates e type c d.value p g.names d.is in
     let x = convert line begun.code type d.value.1.typed (atom_in d.value.1) d.value.0 in
@@ -178,7 +178,7 @@ operand_of_runs line e other c d z l v h q = never _ _ z q
 
 operand_runs : (line : ℕ) (e : Tree) (c : Context) (z : Context × (IntType × Atom)) → 1 ≤ line → Spoken c.scopes e → NamesFit (world c) c.scopes → switch_operand line e c ≡ Ok z → Operand_at c z
 operand_runs line e c z l p h q =
-    let d = came (valued e (found e Void (opened e c))) (λ d. switch_operand_of line e (operand d.1.typed.type) d) z q in
+    let d = came (valued e (found e Void (opened e c))) q in
     let v = evaluates e Void c d.value p h d.is in
     operand_of_runs line e (operand d.value.1.typed.type) c d.value z l v v.comes.value.held d.last
 
@@ -318,7 +318,7 @@ module _ (answer : Option Sort) (numbers : List ℕ) where
   -- a scope of its own
   scoped_on : (t u : Taken) (c : Context) (inner : Context → Checked Context) (z : Context) → Stands_in answer numbers t c → ((d : Context) → inner (entered c) ≡ Ok d → Ran_on answer numbers (entered c) u d) → scoped c inner ≡ Ok z → Ran_on answer numbers c (left_scope t u) z
   scoped_on t u c inner z s k q =
-      let d = came (inner (entered c)) (λ d. good (left d)) z q in
+      let d = came (inner (entered c)) q in
       let r = k d.value d.is in
       ran_to (left_scope t u) c (left d.value) z d.last
       (ran t (left_scope t u) c (left d.value) s (step_left t u c d.value s.step r.stands.step r.runs.addressed r.runs.fine.names.file r.runs.outside) (runs_left answer c d.value (omega (arith, s.deep)) r.runs))
@@ -380,7 +380,7 @@ module _ (answer : Option Sort) (numbers : List ℕ) where
         let u : Taken = behind_items parts w in
         ran_as (left_scope w u) (taken (Node f.Delay (At line ▹ Node f.Items parts ▹ none)) w) c z (delay_taken w line parts)
         (scoped_on w u c (λ d. then (items parts (in_delay a) (emit line Enter d)) (λ e. good (emit line Leave e))) z s
-        (λ d k. let x = came (items parts (in_delay a) (emit line Enter (entered c))) (λ e. good (emit line Leave e)) d k in
+        (λ d k. let x = came (items parts (in_delay a) (emit line Enter (entered c))) k in
         let s2 = stand_in w c s in
         let g = goes_emit line Enter (entered c) o.0 tt in
         let r = items_run parts w (in_delay a) (emit line Enter (entered c)) x.value o.1 (stand_go w w (entered c) (emit line Enter (entered c)) s2 s2.step g) x.is in
@@ -395,8 +395,8 @@ module _ (answer : Option Sort) (numbers : List ℕ) where
         ran_as (left_scope w u) (taken (Node f.If (At line ▹ e ▹ x ▹ none)) w) c z (if_taken w line e x)
         (ran_behind (left_scope w u) c b z (goes_runs answer c b s.fine (goes_labels 1 c))
         (scoped_on w u b (λ d. then (leaves_if_zero line end e d) (λ t. then (scoped t (λ y. statement x (below a) y)) (λ g. good (here end g)))) z sb
-        (λ d k. let t = came (leaves_if_zero line end e (entered b)) (λ t. then (scoped t (λ y. statement x (below a) y)) (λ g. good (here end g))) d k in
-        let g = came (scoped t.value (λ y. statement x (below a) y)) (λ g. good (here end g)) d t.last in
+        (λ d k. let t = came (leaves_if_zero line end e (entered b)) k in
+        let g = came (scoped t.value (λ y. statement x (below a) y)) t.last in
         let s2 = stand_in w b sb in
         let tg = leaves_on line end e w (entered b) t.value o.0 o.1 s2 t.is in
         let r = scoped_on (taken e w) (taken x (taken e w)) t.value (λ y. statement x (below a) y) g.value tg.stands (λ v j. statement_runs x (taken e w) (below a) (entered t.value) v o.2 (stand_in (taken e w) t.value tg.stands) j) g.is in
@@ -412,10 +412,10 @@ module _ (answer : Option Sort) (numbers : List ℕ) where
         ran_as (left_scope w v) (taken (Node f.IfElse (At line ▹ e ▹ x ▹ other ▹ none)) w) c z (else_taken w line e x other u refl)
         (ran_behind (left_scope w v) c b z (goes_runs answer c b s.fine (goes_labels 2 c))
         (scoped_on w v b (λ d. then (leaves_if_zero line (end + 1) e d) (λ t. then (scoped t (λ y. statement x (below a) y)) (λ g. then (scoped (here (end + 1) (emit line (Jump end) g)) (λ y. statement other (below a) y)) (λ h. good (here end h))))) z sb
-        (λ d k. let t = came (leaves_if_zero line (end + 1) e (entered b)) (λ t. then (scoped t (λ y. statement x (below a) y)) (λ g. then (scoped (here (end + 1) (emit line (Jump end) g)) (λ y. statement other (below a) y)) (λ h. good (here end h)))) d k in
-        let g = came (scoped t.value (λ y. statement x (below a) y)) (λ g. then (scoped (here (end + 1) (emit line (Jump end) g)) (λ y. statement other (below a) y)) (λ h. good (here end h))) d t.last in
+        (λ d k. let t = came (leaves_if_zero line (end + 1) e (entered b)) k in
+        let g = came (scoped t.value (λ y. statement x (below a) y)) t.last in
         let mid = here (end + 1) (emit line (Jump end) g.value) in
-        let h = came (scoped mid (λ y. statement other (below a) y)) (λ h. good (here end h)) d g.last in
+        let h = came (scoped mid (λ y. statement other (below a) y)) g.last in
         let s2 = stand_in w b sb in
         let tg = leaves_on line (end + 1) e w (entered b) t.value o.0 o.1 s2 t.is in
         let r = scoped_on (taken e w) (taken x (taken e w)) t.value (λ y. statement x (below a) y) g.value tg.stands (λ v j. statement_runs x (taken e w) (below a) (entered t.value) v o.2 (stand_in (taken e w) t.value tg.stands) j) g.is in
@@ -434,8 +434,8 @@ module _ (answer : Option Sort) (numbers : List ℕ) where
         ran_as (left_scope w u) (taken (Node f.While (At line ▹ e ▹ x ▹ none)) w) c z (while_taken w line e x)
         (ran_behind (left_scope w u) c b z (goes_runs answer c b s.fine (goes_labels 3 c))
         (scoped_on w u b (λ d. then (leaves_if_zero line (head + 1) e (here head d)) (λ t. then (scoped t (λ y. statement x (in_loop (head + 1) (head + 2) a) y)) (λ g. good (looped line head (head + 1) (here (head + 2) g))))) z sb
-        (λ d k. let t = came (leaves_if_zero line (head + 1) e (here head (entered b))) (λ t. then (scoped t (λ y. statement x (in_loop (head + 1) (head + 2) a) y)) (λ g. good (looped line head (head + 1) (here (head + 2) g)))) d k in
-        let g = came (scoped t.value (λ y. statement x (in_loop (head + 1) (head + 2) a) y)) (λ g. good (looped line head (head + 1) (here (head + 2) g))) d t.last in
+        (λ d k. let t = came (leaves_if_zero line (head + 1) e (here head (entered b))) k in
+        let g = came (scoped t.value (λ y. statement x (in_loop (head + 1) (head + 2) a) y)) t.last in
         let s2 = stand_in w b sb in
         let hg = goes_here head (entered b) in
         let s3 = stand_go w w (entered b) (here head (entered b)) s2 s2.step hg in
@@ -455,8 +455,8 @@ module _ (answer : Option Sort) (numbers : List ℕ) where
         ran_as (left_scope w (taken e u)) (taken (Node f.Do (At line ▹ x ▹ e ▹ none)) w) c z (do_taken w line x e)
         (ran_behind (left_scope w (taken e u)) c b z (goes_runs answer c b s.fine (goes_labels 3 c))
         (scoped_on w (taken e u) b (λ d. then (scoped (here head d) (λ y. statement x (in_loop (head + 1) (head + 2) a) y)) (λ g. then (leaves_if_zero line (head + 1) e (here (head + 2) g)) (λ t. good (looped line head (head + 1) t)))) z sb
-        (λ d k. let g = came (scoped (here head (entered b)) (λ y. statement x (in_loop (head + 1) (head + 2) a) y)) (λ g. then (leaves_if_zero line (head + 1) e (here (head + 2) g)) (λ t. good (looped line head (head + 1) t))) d k in
-        let t = came (leaves_if_zero line (head + 1) e (here (head + 2) g.value)) (λ t. good (looped line head (head + 1) t)) d g.last in
+        (λ d k. let g = came (scoped (here head (entered b)) (λ y. statement x (in_loop (head + 1) (head + 2) a) y)) k in
+        let t = came (leaves_if_zero line (head + 1) e (here (head + 2) g.value)) g.last in
         let s2 = stand_in w b sb in
         let hg = goes_here head (entered b) in
         let s3 = stand_go w w (entered b) (here head (entered b)) s2 s2.step hg in
@@ -480,10 +480,10 @@ module _ (answer : Option Sort) (numbers : List ℕ) where
         ran_as (left_scope w u) (taken (Node f.For (At line ▹ start ▹ Node f.MaybeExpr test ▹ Node f.MaybeExpr step ▹ x ▹ none)) w) c z (for_taken w line start x test step w3 refl)
         (ran_behind (left_scope w u) c b z (goes_runs answer c b s.fine (goes_labels 3 c))
         (scoped_on w u b (λ d. then (for_start line start d) (λ y. then (maybe_leaves line (head + 1) test (here head y)) (λ t. then (maybe_evaluated step (apart t)) (λ g. then (scoped (with_pieces t.code.pieces g) (λ v. statement x (in_loop (head + 1) (head + 2) a) v)) (λ h. good (looped line head (head + 1) (with_pieces (h.code.pieces ++ (Here (head + 2) ∷ g.code.pieces)) h))))))) z sb
-        (λ d k. let y = came (for_start line start (entered b)) (λ y. then (maybe_leaves line (head + 1) test (here head y)) (λ t. then (maybe_evaluated step (apart t)) (λ g. then (scoped (with_pieces t.code.pieces g) (λ v. statement x (in_loop (head + 1) (head + 2) a) v)) (λ h. good (looped line head (head + 1) (with_pieces (h.code.pieces ++ (Here (head + 2) ∷ g.code.pieces)) h)))))) d k in
-        let t = came (maybe_leaves line (head + 1) test (here head y.value)) (λ t. then (maybe_evaluated step (apart t)) (λ g. then (scoped (with_pieces t.code.pieces g) (λ v. statement x (in_loop (head + 1) (head + 2) a) v)) (λ h. good (looped line head (head + 1) (with_pieces (h.code.pieces ++ (Here (head + 2) ∷ g.code.pieces)) h))))) d y.last in
-        let g = came (maybe_evaluated step (apart t.value)) (λ g. then (scoped (with_pieces t.value.code.pieces g) (λ v. statement x (in_loop (head + 1) (head + 2) a) v)) (λ h. good (looped line head (head + 1) (with_pieces (h.code.pieces ++ (Here (head + 2) ∷ g.code.pieces)) h)))) d t.last in
-        let h = came (scoped (with_pieces t.value.code.pieces g.value) (λ v. statement x (in_loop (head + 1) (head + 2) a) v)) (λ h. good (looped line head (head + 1) (with_pieces (h.code.pieces ++ (Here (head + 2) ∷ g.value.code.pieces)) h))) d g.last in
+        (λ d k. let y = came (for_start line start (entered b)) k in
+        let t = came (maybe_leaves line (head + 1) test (here head y.value)) y.last in
+        let g = came (maybe_evaluated step (apart t.value)) t.last in
+        let h = came (scoped (with_pieces t.value.code.pieces g.value) (λ v. statement x (in_loop (head + 1) (head + 2) a) v)) g.last in
         let s2 = stand_in w b sb in
         let r1 = for_start_on line start w (entered b) y.value o.0 o.1 s2 y.is in
         let r2 = on_runs answer (entered b) y.value (here head y.value) r1.runs (goes_here head y.value) in
@@ -511,8 +511,8 @@ module _ (answer : Option Sort) (numbers : List ℕ) where
         ran_as (left_scope w v) (taken (Node f.Switch (At line ▹ e ▹ Node f.Block (At at ▹ Node f.Items parts ▹ none) ▹ none)) w) c z (switch_taken w line at e parts)
         (ran_behind (left_scope w v) c b z (goes_runs answer c b s.fine (goes_labels 1 c))
         (scoped_on w v b (λ d. then (switch_operand line e d) (λ t. then (scoped (no_cases (apart t.0)) (λ y. items parts (in_switch true end t.1.0 a) y)) (λ g. good (switched line end t.1.1 t.0 g)))) z sb
-        (λ d k. let t = came (switch_operand line e (entered b)) (λ t. then (scoped (no_cases (apart t.0)) (λ y. items parts (in_switch true end t.1.0 a) y)) (λ g. good (switched line end t.1.1 t.0 g))) d k in
-        let g = came (scoped (no_cases (apart t.value.0)) (λ y. items parts (in_switch true end t.value.1.0 a) y)) (λ g. good (switched line end t.value.1.1 t.value.0 g)) d t.last in
+        (λ d k. let t = came (switch_operand line e (entered b)) k in
+        let g = came (scoped (no_cases (apart t.value.0)) (λ y. items parts (in_switch true end t.value.1.0 a) y)) t.last in
         let s2 = stand_in w b sb in
         let k2 = operand_on line e w (entered b) t.value o.0 o.1 s2 t.is in
         let st = k2.stands in
@@ -524,17 +524,17 @@ module _ (answer : Option Sort) (numbers : List ℕ) where
     statement_runs (Node f.Switch (At line ▹ e ▹ x ▹ none)) w a c z p s q =
         let end = new_label c in
         let b = with_labels 1 c in
-        let v = came (then (switch_operand line e (entered b)) (λ t. then (statement x (in_switch false end t.1.0 a) (no_cases (apart t.0))) (λ g. bad (record { kind = LeftOut; line = line })))) (λ d. good (left d)) z q in
-        let t = came (switch_operand line e (entered b)) (λ t. then (statement x (in_switch false end t.1.0 a) (no_cases (apart t.0))) (λ g. bad (record { kind = LeftOut; line = line }))) v.value v.is in
-        let g = came (statement x (in_switch false end t.value.1.0 a) (no_cases (apart t.value.0))) (λ g. bad (record { kind = LeftOut; line = line })) v.value t.last in
+        let v = came (then (switch_operand line e (entered b)) (λ t. then (statement x (in_switch false end t.1.0 a) (no_cases (apart t.0))) (λ g. bad (record { kind = LeftOut; line = line })))) q in
+        let t = came (switch_operand line e (entered b)) v.is in
+        let g = came (statement x (in_switch false end t.value.1.0 a) (no_cases (apart t.value.0))) {next = λ g. bad (record { kind = LeftOut; line = line })} t.last in
         never _ _ v.value g.last
     statement_runs (Node f.Case (At line ▹ e ▹ x ▹ none)) w a c z p s q =
         let o = case_good numbers w line e x p in
         let u : Taken = taken x (taken e w) in
-        let k = came (constant e c) (λ k. let label = new_label k.0 in then (statement x a (here label (with_labels 1 k.0))) (λ d. cased line a a.switched (length c.running.cases) k.1.value label d)) z q in
+        let k = came (constant e c) q in
         let label = new_label k.value.0 in
         let b = here label (with_labels 1 k.value.0) in
-        let d = came (statement x a b) (λ d. cased line a a.switched (length c.running.cases) k.value.1.value label d) z k.last in
+        let d = came (statement x a b) k.last in
         let r1 = constant_runs answer e c c (runs_refl answer c s.fine) k.value k.is in
         let r2 = on_runs answer c k.value.0 b r1 (goes_trans k.value.0 (with_labels 1 k.value.0) b (goes_labels 1 k.value.0) (goes_here label (with_labels 1 k.value.0))) in
         let r3 = statement_runs x (taken e w) a b d.value o.1 (stand_on w (taken e w) c b s (constant_in_step e w c k.value o.0.formed s.step k.is) r2) d.is in
@@ -545,7 +545,7 @@ module _ (answer : Option Sort) (numbers : List ℕ) where
         let label = new_label c in
         let b = here label (with_labels 1 c) in
         let u : Taken = taken x w in
-        let d = came (statement x a b) (λ d. defaulted line a label d) z q in
+        let d = came (statement x a b) q in
         let g = goes_trans c (with_labels 1 c) b (goes_labels 1 c) (goes_here label (with_labels 1 c)) in
         let r = statement_runs x w a b d.value (default_good numbers w line x p) (stand_go w w c b s s.step g) d.is in
         ran_as (as_before w u) (taken (Node f.Default (At line ▹ x ▹ none)) w) c z (default_taken w line x)
@@ -571,6 +571,6 @@ module _ (answer : Option Sort) (numbers : List ℕ) where
     items_run none w a c z p s q = ran_as w (behind_items none w) c z (none_taken w) (ran_to w c c z q (record { runs = runs_refl answer c s.fine; stands = s }))
     items_run (item ▹ rest) w a c z p s q =
         let o = items_good numbers w item rest p in
-        let d = came (statement item a c) (λ d. items rest a d) z q in
+        let d = came (statement item a c) q in
         let r = statement_runs item w a c d.value o.0 s d.is in
         ran_as (behind_items rest (taken item w)) (behind_items (item ▹ rest) w) c z (items_taken w item rest) (ran_behind (behind_items rest (taken item w)) c d.value z r.runs (items_run rest (taken item w) a d.value z o.1 r.stands d.last))

@@ -10,11 +10,10 @@ use Rattle.c_tree.specs.Grammar.{shape}
 use Rattle.c_tree.specs.Scopes.{is_scope}
 use Rattle.c_decls.specs.declared.constant.Constant.{Constant}
 use Rattle.c_decls.specs.declared.refusal.TypeKind.TheVariants.{Assignment}
-use Rattle.c_decls.specs.Refusals.{then, unless}
 use Rattle.c_decls.specs.Typed.{is_void}
 use Rattle.c_decls.specs.PlaceRules.{converts, unconverted}
-use Rattle.c_decls.specs.Expressions.{line_of, typed, wanted, constant_from}
-use Rattle.elaboration.specs.Context.{Context, asked, told, emit}
+use Rattle.c_decls.specs.Expressions.{typed, wanted}
+use Rattle.elaboration.specs.Context.{Context, asked, emit}
 use Rattle.elaboration.specs.Conversions.{atom_in, valued, convert}
 use Rattle.elaboration.specs.Reallocates.{opened, closed}
 use Rattle.elaboration.specs.Addressed.{Taken, left, taken, all_taken}
@@ -50,7 +49,7 @@ operand_in_step line e t c z g h q = calm_step e t c z.0 (operand_calm line e c 
 
 pub constant_calm : (e : Tree) (c : Context) (z : Context × Constant) → Formed e → constant e c ≡ Ok z → Calm e
 constant_calm e c z g q =
-    let x = came (wanted e (typed e (asked c))) (λ x. then (constant_from (line_of e) x.1.type x.1.folded) (λ k. good (told x.0 c, k))) z q in
+    let x = came (wanted e (typed e (asked c))) q in
     shows_first (Calm e) (typed e (asked c)) _ (typed_calm e (asked c) g) x.value x.is
 
 pub constant_in_step : (e : Tree) (t : Taken) (c : Context) (z : Context × Constant) → Formed e → InStep t c → constant e c ≡ Ok z → InStep (taken e t) z.0
@@ -82,7 +81,7 @@ returned_keeps line delays a c = keeps_trans c (leaves line delays c) _ (delays_
 pub return_of_keeps : (line delays : ℕ) (e : Tree) (type : PlainType) (c z : Context) → return_of line delays e type c ≡ Ok z → Keeps c z
 return_of_keeps line delays e type c z q =
     let begun = opened e c in
-    let d = came (valued e (expressions.found e type begun)) (λ d. unless (is_void type) Assignment line (converts line type d.1.typed (return_value line delays e type begun.code d))) z q in
+    let d = came (valued e (expressions.found e type begun)) q in
     let k = unbarred (unconverted type d.value.1.typed) line (return_value line delays e type begun.code d.value) z (behind_test (is_void type) Assignment line (converts line type d.value.1.typed (return_value line delays e type begun.code d.value)) z d.last) in
     let v = convert line begun.code type d.value.1.typed (atom_in d.value.1) d.value.0 in
     let grown : Grows begun d.value.0 = grown_valued e begun (expressions.found e type begun) (found_grows e type begun begun (grows_refl begun)) d.value d.is in

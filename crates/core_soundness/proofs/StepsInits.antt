@@ -74,13 +74,13 @@ fill_scalar_went e line type offset b d (InMemory at mem) x q =
           (keeps_trans v.0 place.0 _ (place_keeps at mem offset v.0) (keeps_trans place.0 wrote _ (write_keeps at type (Memory place.1) v.1 place.0) (closed_keeps e wrote))),
     )
 fill_scalar_went e line type offset b d (InStatic start) x q =
-    reached_after (Went e b) (static_scalar line type offset start d.1) (λ filled. Ok (d.0, InStatic filled))
+    reached_after (Went e b) (static_scalar line type offset start d.1)
     (λ filled h. reached_ok (Went e b) (d.0, InStatic filled) (x, full_keeps e type b d q))
 
 scalar_went : (e : Tree) (line : ℕ) (type : PlainType) (offset : ℕ) (t : Target) (b : Context) → Formed e → Reached (Went e b) (scalar e line type offset t b)
 scalar_went e line type offset t b g =
     let begun = opened e b in
-    reached_after (Went e b) (valued e (found e type begun)) (λ d. converts line type d.1.typed (fill_scalar e line type offset begun.code d t))
+    reached_after (Went e b) (valued e (found e type begun))
     (λ d h. reached_barred (Went e b) (unconverted type d.1.typed) line (fill_scalar e line type offset begun.code d t)
     (fill_scalar_went e line type offset b d t (valued_calm e type begun d g h) h))
 
@@ -107,7 +107,7 @@ text_is_calm e bytes g h = cc
 fill_text_went : (e : Tree) (line : ℕ) (bytes : List ℕ) (size offset : ℕ) (t : Target) (b : Context) → Calm e → Reached (Went e b) (fill_text e line bytes size offset t b)
 fill_text_went e line bytes size offset (InMemory at mem) b x =
     let begun = opened e b in
-    reached_after (Went e b) (with_literal line bytes begun) (λ d. copy_text at mem offset (min (length bytes + 1) size) d)
+    reached_after (Went e b) (with_literal line bytes begun)
     (λ d h. let place = member_place at mem offset d.0 in
     let k : ℕ = min (length bytes + 1) size in
     reached_ok (Went e b) (emit at (Copy place.1 (atom.Static d.1) (pos k)) place.0, InMemory at mem) (
@@ -151,16 +151,16 @@ mutual
   initialize_went (Node (f.InitList trailing) (At line ▹ Node f.Inits inits ▹ none)) in_scalar type offset t b g d q =
       elim (takes_braces type in_scalar) as (λ k. cond k (initialize_parts line inits (is_scalar_type type) (parts_of b (count inits) type offset) t b) (then (all_surplus inits b) (λ y. refused Assignment line)) ≡ good d → Went (Node (f.InitList trailing) (At line ▹ Node f.Inits inits ▹ none)) b d.0) [
         | true ↦ λ r. let x = parts_went inits line (is_scalar_type type) (parts_of b (count inits) type offset) t b g.1.1.0.1 d r in (list_calm trailing line inits x.0, x.1)
-        | false ↦ reached_after (Went (Node (f.InitList trailing) (At line ▹ Node f.Inits inits ▹ none)) b) (all_surplus inits b) (λ y. refused Assignment line) (λ y h. reached_refused (Went (Node (f.InitList trailing) (At line ▹ Node f.Inits inits ▹ none)) b) Assignment line) d
+        | false ↦ reached_after (Went (Node (f.InitList trailing) (At line ▹ Node f.Inits inits ▹ none)) b) (all_surplus inits b) (λ y h. reached_refused (Went (Node (f.InitList trailing) (At line ▹ Node f.Inits inits ▹ none)) b) Assignment line) d
       ] q
   initialize_went tree in_scalar type offset t b g d q = never (Went tree b d.0) _ d q
 
   parts_went : (inits : Trees) (line : ℕ) (in_scalar : Bool) (parts : List (PlainType × ℕ)) (t : Target) (b : Context) → AllFormed inits → Reached (λ d. AllStill inits × Keeps b d) (initialize_parts line inits in_scalar parts t b)
   parts_went none line in_scalar parts t b g = reached_ok (λ d. AllStill none × Keeps b d) (b, t) (tt, keeps_refl b)
   parts_went (init ▹ rest) line in_scalar [] t b g =
-      reached_after (λ d. AllStill (init ▹ rest) × Keeps b d) (all_surplus (init ▹ rest) b) (λ d. refused Assignment line) (λ d h. reached_refused (λ d. AllStill (init ▹ rest) × Keeps b d) Assignment line)
+      reached_after (λ d. AllStill (init ▹ rest) × Keeps b d) (all_surplus (init ▹ rest) b) (λ d h. reached_refused (λ d. AllStill (init ▹ rest) × Keeps b d) Assignment line)
   parts_went (init ▹ rest) line in_scalar (part ∷ parts) t b g =
-      reached_after (λ d. AllStill (init ▹ rest) × Keeps b d) (initialize init in_scalar part.0 part.1 t b) (λ d. initialize_parts line rest in_scalar parts d.1 d.0)
+      reached_after (λ d. AllStill (init ▹ rest) × Keeps b d) (initialize init in_scalar part.0 part.1 t b)
       (λ d h z e. let one = initialize_went init in_scalar part.0 part.1 t b g.0 d h in
       let more = parts_went rest line in_scalar parts d.1 d.0 g.1 z e in
       ((one.0.still, more.0), keeps_trans b d.0 z.0 one.1 more.1))
@@ -192,7 +192,7 @@ unfolding Formed AllFormed Shaped
 memory_went line type none mem c z g q = (none_calm, subst (Keeps c) (ok_same (cleared line type (atom.Mem mem) c) z q) (emit_keeps line (Clear (atom.Mem mem) (pos (size_or_zero c type))) c))
 memory_went line type (init ▹ none) mem c z g q =
     let x = cleared line type (atom.Mem mem) c in
-    let d = came (initialize init false type 0 (InMemory line mem) x) (λ d. good d.0) z q in
+    let d = came (initialize init false type 0 (InMemory line mem) x) q in
     let one = initialize_went init false type 0 (InMemory line mem) x g.1.0 d.value d.is in
     (maybe_calm init one.0, subst (Keeps c) (ok_same d.value.0 z d.last) (keeps_trans c x d.value.0 (emit_keeps line (Clear (atom.Mem mem) (pos (size_or_zero c type))) c) one.1))
 memory_went line type (init ▹ more ▹ rest) mem c z g q = absurd g.0
@@ -201,7 +201,7 @@ register_went : (line : ℕ) (type : PlainType) (inits : Trees) (register : ℕ)
 unfolding Formed AllFormed Shaped
 register_went line type none register c z g q = (none_calm, subst (Keeps c) (ok_same (emit line (Set register (zero_of type)) c) z q) (emit_keeps line (Set register (zero_of type)) c))
 register_went line type (init ▹ none) register c z g q =
-    let d = came (initialize init false type 0 (InRegister line register) c) (λ d. good d.0) z q in
+    let d = came (initialize init false type 0 (InRegister line register) c) q in
     let one = initialize_went init false type 0 (InRegister line register) c g.1.0 d.value d.is in
     (maybe_calm init one.0, subst (Keeps c) (ok_same d.value.0 z d.last) one.1)
 register_went line type (init ▹ more ▹ rest) register c z g q = absurd g.0

@@ -92,12 +92,12 @@ enum_named_keeps line (Some name) c z q =
 
 pub with_type_keeps : (answer : Checked (names.Context × PlainType)) (c : Context) (z : Context × PlainType) → ((x : names.Context × PlainType) → answer ≡ Ok x → More c.scopes x.0.scopes) → with_type answer c ≡ Ok z → Keeps c z.0
 with_type_keeps answer c z m q =
-    let x = came answer (λ x. good (told x.0 c, x.1)) z q in
+    let x = came answer q in
     subst (λ (y : Context × PlainType). Keeps c y.0) (ok_same (told x.value.0 c, x.value.1) z x.last) (told_keeps x.value.0 c (m x.value x.is))
 
 special_stepped : (line : ℕ) (tree : Tree) (t : Taken) (c : Context) (z : Context × PlainType) → Follows t c → with_type (special_type line tree (asked c)) c ≡ Ok z → Stepped t c (taken tree t) z.0
 special_stepped line tree t c z h q =
-    let x = came (special_type line tree (asked c)) (λ x. good (told x.0 c, x.1)) z q in
+    let x = came (special_type line tree (asked c)) q in
     keeps_stepped t (taken tree t) c z.0 (still_names tree t (special_still line tree (asked c) x.value x.is))
     (with_type_keeps (special_type line tree (asked c)) c z (λ y e. special_after line tree (asked c) y e) q) h
 
@@ -115,12 +115,12 @@ member_same line name type list c z q =
     let last : Checked (Context × d.Members) = then (with_member line name type list) (λ more. good (c, more)) in
     let a = behind_test (is_function type) LeftOut line (unless (has_no_size c.tags type) Incomplete line last) z q in
     let b = behind_test (has_no_size c.tags type) Incomplete line last z a in
-    let x = came (with_member line name type list) (λ more. good (c, more)) z b in
+    let x = came (with_member line name type list) b in
     ap (λ (y : Context × d.Members). y.0) (ok_same (c, x.value) z x.last)
 
 enumerator_stepped : (line : ℕ) (name : List ℕ) (v : ℤ) (t : Taken) (c : Context) (z : Context × ℤ) → Follows t c → enumerator line name v c ≡ Ok z → Stepped t c (with_one name None t) z.0
 enumerator_stepped line name v t c z h q =
-    let x = came (declared_as line name (n.Constant i.Int (wrapped I32 v)) c) (λ x. good (x, wrapped I32 v +ℤ pos 1)) z q in
+    let x = came (declared_as line name (n.Constant i.Int (wrapped I32 v)) c) q in
     subst (λ (y : Context × ℤ). Stepped t c (with_one name None t) y.0) (ok_same (x.value, wrapped I32 v +ℤ pos 1) z x.last)
     (plain_stepped line name (n.Constant i.Int (wrapped I32 v)) t c x.value refl h x.is)
 
@@ -161,7 +161,7 @@ mutual
   tag_stepped : (tree : Tree) (line : ℕ) (t : Taken) (c : Context) (z : Context × PlainType) → Formed tree → Follows t c → tag_type line tree c ≡ Ok z → Stepped t c (taken tree t) z.0
   tag_stepped (Node (f.RecordBody sort) (At at ▹ Node f.MaybeName name ▹ Node f.Members parts ▹ none)) line t c z g h q =
       let start = begun sort (maybe_name name) c in
-      let m = came (members parts [] start.0) (λ m. ended at sort start.1 m.0 m.1) z q in
+      let m = came (members parts [] start.0) q in
       let t1 = taken (Node f.MaybeName name) t in
       let a = named_stepped name t c start.0 g.1.1.0.0 (begun_keeps sort (maybe_name name) c) h in
       let b = members_stepped parts [] t1 start.0 m.value g.1.1.1.0.1 a.follows m.is in
@@ -169,7 +169,7 @@ mutual
       stepped_names t (each parts t1) (taken (Node (f.RecordBody sort) (At at ▹ Node f.MaybeName name ▹ Node f.Members parts ▹ none)) t) c z.0 (record_taken t sort at name parts)
       (stepped_trans t t1 (each parts t1) c start.0 z.0 a (stepped_trans t1 (each parts t1) (each parts t1) start.0 m.value.0 z.0 b e))
   tag_stepped (Node (f.EnumBody trailing) (At at ▹ Node f.MaybeName name ▹ Node f.Enumerators parts ▹ none)) line t c z g h q =
-      let e = came (enumerators parts (pos 0) c) (λ e. enum_named at (maybe_name name) e) z q in
+      let e = came (enumerators parts (pos 0) c) q in
       let t1 = taken (Node f.MaybeName name) t in
       let a = named_stepped name t c c g.1.1.0.0 (keeps_refl c) h in
       let b = enumerators_stepped parts (pos 0) t1 c e.value g.1.1.1.0.1 a.follows e.is in
@@ -181,8 +181,8 @@ mutual
   members_stepped : (parts : Trees) (list : d.Members) (t : Taken) (c : Context) (z : Context × d.Members) → AllFormed parts → Follows t c → members parts list c ≡ Ok z → Stepped t c (each parts t) z.0
   members_stepped none list t c z g h q = subst (λ (y : Context × d.Members). Stepped t c t y.0) (ok_same (c, list) z q) (stepped_refl t c h)
   members_stepped (Node f.Member (At line ▹ words ▹ Node f.MemberNames declarators ▹ none) ▹ rest) list t c z g h q =
-      let base = came (specs words c) (λ base. then (member_names line base.1 declarators list base.0) (λ m. members rest m.1 m.0)) z q in
-      let m = came (member_names line base.value.1 declarators list base.value.0) (λ m. members rest m.1 m.0) z base.last in
+      let base = came (specs words c) q in
+      let m = came (member_names line base.value.1 declarators list base.value.0) base.last in
       let t1 = taken words t in
       let t2 = each declarators t1 in
       let t3 = taken (Node f.Member (At line ▹ words ▹ Node f.MemberNames declarators ▹ none)) t in
@@ -195,9 +195,9 @@ mutual
   member_names_stepped : (parts : Trees) (line : ℕ) (base : PlainType) (list : d.Members) (t : Taken) (c : Context) (z : Context × d.Members) → AreLayers parts → AllFormed parts → Follows t c → member_names line base parts list c ≡ Ok z → Stepped t c (each parts t) z.0
   member_names_stepped none line base list t c z o g h q = subst (λ (y : Context × d.Members). Stepped t c t y.0) (ok_same (c, list) z q) (stepped_refl t c h)
   member_names_stepped (declarator ▹ rest) line base list t c z o g h q =
-      let l = came (layers declarator c) (λ l. then (with_layers l.0.tags l.1 base) (λ type. then (member line (name_of declarator) type list l.0) (λ m. member_names line base rest m.1 m.0))) z q in
-      let y = came (with_layers l.value.0.tags l.value.1 base) (λ type. then (member line (name_of declarator) type list l.value.0) (λ m. member_names line base rest m.1 m.0)) z l.last in
-      let m = came (member line (name_of declarator) y.value list l.value.0) (λ m. member_names line base rest m.1 m.0) z y.last in
+      let l = came (layers declarator c) q in
+      let y = came (with_layers l.value.0.tags l.value.1 base) l.last in
+      let m = came (member line (name_of declarator) y.value list l.value.0) y.last in
       let t1 = taken declarator t in
       let a = layers_stepped declarator t c l.value g.0 o.0 h l.is in
       let one = subst (Stepped t c t1) (member_same line (name_of declarator) y.value list l.value.0 m.value m.is) a in
@@ -206,13 +206,13 @@ mutual
   enumerators_stepped : (parts : Trees) (next : ℤ) (t : Taken) (c z : Context) → AllFormed parts → Follows t c → enumerators parts next c ≡ Ok z → Stepped t c (each parts t) z
   enumerators_stepped none next t c z g h q = subst (Stepped t c t) (ok_same c z q) (stepped_refl t c h)
   enumerators_stepped (Node f.Enumerator (At line ▹ Leaf (w.Name name) ▹ Node f.MaybeValue none ▹ none) ▹ rest) next t c z g h q =
-      let e = came (enumerator line name next c) (λ e. enumerators rest e.1 e.0) z q in
+      let e = came (enumerator line name next c) q in
       let t1 = taken (Node f.Enumerator (At line ▹ Leaf (w.Name name) ▹ Node f.MaybeValue none ▹ none)) t in
       let one = stepped_names t (with_one name None t) t1 c e.value.0 (enumerator_taken t line name) (enumerator_stepped line name next t c e.value h e.is) in
       stepped_trans t t1 (each rest t1) c e.value.0 z one (enumerators_stepped rest e.value.1 t1 e.value.0 z g.1 one.follows e.last)
   enumerators_stepped (Node f.Enumerator (At line ▹ Leaf (w.Name name) ▹ Node f.MaybeValue (v ▹ none) ▹ none) ▹ rest) next t c z g h q =
-      let k = came (constant v c) (λ k. then (enumerator line name k.1.value k.0) (λ e. enumerators rest e.1 e.0)) z q in
-      let e = came (enumerator line name k.value.1.value k.value.0) (λ e. enumerators rest e.1 e.0) z k.last in
+      let k = came (constant v c) q in
+      let e = came (enumerator line name k.value.1.value k.value.0) k.last in
       let t1 = taken v t in
       let t2 = taken (Node f.Enumerator (At line ▹ Leaf (w.Name name) ▹ Node f.MaybeValue (v ▹ none) ▹ none)) t in
       let a = calm_stepped v t c k.value.0 (constant_calm v c k.value g.0.1.1.1.0.1.0 k.is) (constant_keeps v c k.value k.is) h in
@@ -223,13 +223,13 @@ mutual
 
   pub layers_stepped : (tree : Tree) (t : Taken) (c : Context) (z : Context × List Layer) → Formed tree → IsLayer tree → Follows t c → layers tree c ≡ Ok z → Stepped t c (taken tree t) z.0
   layers_stepped (Node (f.Pointer consts) (At line ▹ declarator ▹ none)) t c z g o h q =
-      let l = came (layers declarator c) (λ l. good (l.0, PointerTo line ∷ l.1)) z q in
+      let l = came (layers declarator c) q in
       let a = layers_stepped declarator t c l.value g.1.1.0 g.0 h l.is in
       subst (λ (y : Context × List Layer). Stepped t c (taken (Node (f.Pointer consts) (At line ▹ declarator ▹ none)) t) y.0) (ok_same (l.value.0, PointerTo line ∷ l.value.1) z l.last)
       (stepped_names t (taken declarator t) (taken (Node (f.Pointer consts) (At line ▹ declarator ▹ none)) t) c l.value.0 (pointer_taken t consts line declarator) a)
   layers_stepped (Node f.Direct (base ▹ Node f.Suffixes suffixes ▹ none)) t c z g o h q =
-      let l = came (layers base c) (λ l. then (suffix_layers suffixes l.0) (λ s. good (s.0, reverse s.1 ++ l.1))) z q in
-      let s = came (suffix_layers suffixes l.value.0) (λ s. good (s.0, reverse s.1 ++ l.value.1)) z l.last in
+      let l = came (layers base c) q in
+      let s = came (suffix_layers suffixes l.value.0) l.last in
       let t1 = taken base t in
       let a = layers_stepped base t c l.value g.1.0 g.0.0 h l.is in
       let b = suffixes_stepped suffixes t1 l.value.0 s.value g.0.1 g.1.1.0.1 a.follows s.is in
@@ -245,8 +245,8 @@ mutual
   suffixes_stepped : (parts : Trees) (t : Taken) (c : Context) (z : Context × List Layer) → AreSuffixes parts → AllFormed parts → Follows t c → suffix_layers parts c ≡ Ok z → Stepped t c (each parts t) z.0
   suffixes_stepped none t c z o g h q = subst (λ (y : Context × List Layer). Stepped t c t y.0) (ok_same (c, []) z q) (stepped_refl t c h)
   suffixes_stepped (suffix ▹ rest) t c z o g h q =
-      let l = came (suffix_layer suffix c) (λ l. then (suffix_layers rest l.0) (λ more. good (more.0, l.1 ∷ more.1))) z q in
-      let m = came (suffix_layers rest l.value.0) (λ more. good (more.0, l.value.1 ∷ more.1)) z l.last in
+      let l = came (suffix_layer suffix c) q in
+      let m = came (suffix_layers rest l.value.0) l.last in
       let t1 = taken suffix t in
       let a = suffix_stepped suffix t c l.value o.0 g.0 h l.is in
       let b = suffixes_stepped rest t1 l.value.0 m.value o.1 g.1 a.follows m.is in
@@ -257,14 +257,14 @@ mutual
       subst (λ (y : Context × Layer). Stepped t c (taken (Node f.ArraySuffix (At line ▹ Node f.MaybeLength none ▹ none)) t) y.0) (ok_same (c, ArrayOf line None) z q)
       (stepped_names t t (taken (Node f.ArraySuffix (At line ▹ Node f.MaybeLength none ▹ none)) t) c c (open_array_taken t line) (stepped_refl t c h))
   suffix_stepped (Node f.ArraySuffix (At line ▹ Node f.MaybeLength (e ▹ none) ▹ none)) t c z o g h q =
-      let x = came (wanted e (typed e (asked c))) (λ x. then (array_length (line_of e) x.1) (λ length. good (told x.0 c, ArrayOf line (Some length)))) z q in
-      let k = came (array_length (line_of e) x.value.1) (λ length. good (told x.value.0 c, ArrayOf line (Some length))) z x.last in
+      let x = came (wanted e (typed e (asked c))) q in
+      let k = came (array_length (line_of e) x.value.1) x.last in
       let calm = shows_first (Calm e) (typed e (asked c)) _ (typed_calm e (asked c) g.1.1.0.1.0) x.value x.is in
       let keep = told_keeps x.value.0 c (wanted_after (asked c) e (typed e (asked c)) (typed_after e (asked c)) x.value x.is) in
       subst (λ (y : Context × Layer). Stepped t c (taken (Node f.ArraySuffix (At line ▹ Node f.MaybeLength (e ▹ none) ▹ none)) t) y.0) (ok_same (told x.value.0 c, ArrayOf line (Some k.value)) z k.last)
       (stepped_names t (taken e t) (taken (Node f.ArraySuffix (At line ▹ Node f.MaybeLength (e ▹ none) ▹ none)) t) c (told x.value.0 c) (array_taken t line e) (calm_stepped e t c (told x.value.0 c) calm keep h))
   suffix_stepped (Node f.FunctionSuffix (At line ▹ Node f.Params parts ▹ none)) t c z o g h q =
-      let p = came (params parts (entered c)) (λ p. good (left_params p.0, FunctionOf line p.1)) z q in
+      let p = came (params parts (entered c)) q in
       let a = params_stepped parts t (entered c) p.value g.1.1.0.1 tt h p.is in
       let b = left_stepped t (each parts t) c p.value.0 h a in
       subst (λ (y : Context × Layer). Stepped t c (taken (Node f.FunctionSuffix (At line ▹ Node f.Params parts ▹ none)) t) y.0) (ok_same (left_params p.value.0, FunctionOf line p.value.1) z p.last)
@@ -279,11 +279,11 @@ mutual
   pub params_stepped : (parts : Trees) (t : Taken) (c : Context) (z : Context × PlainTypes) → AllFormed parts → HasScope c.scopes.inner → Follows t c → params parts c ≡ Ok z → Stepped t c (each parts t) z.0
   params_stepped none t c z g deep h q = subst (λ (y : Context × PlainTypes). Stepped t c t y.0) (ok_same (c, types.none) z q) (stepped_refl t c h)
   params_stepped (Node f.Param (At line ▹ words ▹ declarator ▹ none) ▹ rest) t c z g deep h q =
-      let base = came (specs words c) (λ base. then (layers declarator base.0) (λ l. then (with_param_layers l.0.tags l.1 base.1) (λ type. then (param line (name_of declarator) (adjusted type) l.0) (λ p. then (params rest p.0) (λ more. good (more.0, first p.1 more.1)))))) z q in
-      let l = came (layers declarator base.value.0) (λ l. then (with_param_layers l.0.tags l.1 base.value.1) (λ type. then (param line (name_of declarator) (adjusted type) l.0) (λ p. then (params rest p.0) (λ more. good (more.0, first p.1 more.1))))) z base.last in
-      let y = came (with_param_layers l.value.0.tags l.value.1 base.value.1) (λ type. then (param line (name_of declarator) (adjusted type) l.value.0) (λ p. then (params rest p.0) (λ more. good (more.0, first p.1 more.1)))) z l.last in
-      let p = came (param line (name_of declarator) (adjusted y.value) l.value.0) (λ p. then (params rest p.0) (λ more. good (more.0, first p.1 more.1))) z y.last in
-      let m = came (params rest p.value.0) (λ more. good (more.0, first p.value.1 more.1)) z p.last in
+      let base = came (specs words c) q in
+      let l = came (layers declarator base.value.0) base.last in
+      let y = came (with_param_layers l.value.0.tags l.value.1 base.value.1) l.last in
+      let p = came (param line (name_of declarator) (adjusted y.value) l.value.0) y.last in
+      let m = came (params rest p.value.0) p.last in
       let t1 = taken words t in
       let t2 = taken declarator t1 in
       let t3 = taken (Node f.Param (At line ▹ words ▹ declarator ▹ none)) t in

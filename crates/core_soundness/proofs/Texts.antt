@@ -14,7 +14,7 @@ use Rattle.c_decls.specs.declared.built_in.BuiltIn.{BuiltIn}
 use Rattle.c_decls.specs.BuiltIns.{built_ins, numbered_from, first_scopes, name_of as name_of_built_in}
 use Rattle.c_decls.specs.Named as n
 use Rattle.c_decls.specs.ScopeList.{named_in}
-use Rattle.c_decls.specs.Refusals.{Checked, refused, then, unless}
+use Rattle.c_decls.specs.Refusals.{Checked, refused}
 use Rattle.c_decls.specs.Typed.{is_function}
 use Rattle.c_decls.specs.TypeNames.{with_layers}
 use Rattle.c_decls.specs.Expressions.{line_of}
@@ -206,7 +206,7 @@ body_sane : (line : ℕ) (name : List ℕ) (type given : PlainType) (tree : Tree
 body_sane line name type given (Node f.Body (Node f.Items parts ▹ At end ▹ t.none)) index b c start p s there undefined =
     let begin = body_begun index type c in
     let ok = inner_begun name index type given c s there undefined in
-    led_after Sane (items parts around_body begin) (λ d. body_ended line name type end d)
+    led_after Sane (items parts around_body begin)
     (λ d h. let w = items_walk parts around_body begin (record { early = tt; breaks = tt; continues = tt }) ok.safe d h in
     ended_sane line name index type end d (inner_stays name index begin d ok w.stays) (begun_code b c d index type start p w))
 body_sane line name type given tree index b c start p s there undefined = led_refused Sane Operands line
@@ -215,7 +215,7 @@ defined_sane : (line : ℕ) (name : List ℕ) (type : PlainType) (tree : Tree) (
 defined_sane line name type tree b c start p s =
     let index = function_number name c in
     led_unless Sane (not (is_function type)) LeftOut line _ (λ e1.
-    led_after Sane (declared_function line name type c) (λ d. unless (is_defined (slice_get d.functions index)) DeclaredTwice line (body line name type tree (body_begun index type d)))
+    led_after Sane (declared_function line name type c)
     (λ d h. let q = introduced line name type c s.safe s.flat d h in
     led_unless Sane (is_defined (slice_get d.functions index)) DeclaredTwice line (body line name type tree (body_begun index type d))
     (λ e2. body_sane line name type q.type tree index b d start (passes_trans b c d p q.passes) (sane_stays c d s q.passes.stays) q.there e2)))
@@ -226,11 +226,11 @@ named_sane line (Some name) type tree b c start p s = defined_sane line name typ
 
 definition_sane : (line : ℕ) (words declarator tree : Tree) (b : Context) → b.code ≡ no_code → Sane b → Led Sane (definition line words declarator tree b)
 definition_sane line words declarator tree b start s =
-    led_after Sane (specs words b) (λ base. then (layers declarator base.0) (λ l. then (with_layers l.0.tags l.1 base.1) (λ type. named_definition line (name_of declarator) type tree l.0)))
+    led_after Sane (specs words b)
     (λ base h. let p = specs_passes words b b (passes_refl b s.safe) base h in
-    led_after Sane (layers declarator base.0) (λ l. then (with_layers l.0.tags l.1 base.1) (λ type. named_definition line (name_of declarator) type tree l.0))
+    led_after Sane (layers declarator base.0)
     (λ l k. let q = layers_pass declarator b base.0 p l k in
-    led_after Sane (with_layers l.0.tags l.1 base.1) (λ type. named_definition line (name_of declarator) type tree l.0)
+    led_after Sane (with_layers l.0.tags l.1 base.1)
     (λ type e. named_sane line (name_of declarator) type tree b l.0 start q (sane_stays b l.0 s q.stays))))
 
 pub external_sane : (tree : Tree) (c : Context) → Sane c → Led Sane (external tree c)
@@ -245,8 +245,7 @@ external_sane tree c s = led_refused Sane Operands (line_of tree)
 externals_sane : (unit : Trees) (c : Context) → Sane c → Led Sane (externals unit c)
 unfolding externals
 externals_sane t.none c s = led_ok Sane c s
-externals_sane (tree ▹ rest) c s =
-    led_after Sane (external tree c) (λ d. externals rest d) (λ d h. externals_sane rest d (external_sane tree c s d h))
+externals_sane (tree ▹ rest) c s = led_after Sane (external tree c) (λ d h. externals_sane rest d (external_sane tree c s d h))
 
 -- the end of a text
 
@@ -269,7 +268,7 @@ not_false false e = absurd (true≢false e)
 
 ended_text : (c : Context) → Sane c → Led Finished (ended c)
 ended_text c s =
-    led_after Finished (calls_defined c.functions c.calls c) (λ d. unless (not (is_main d.functions (named_in (codes "main") d.scopes.file))) NoMain 1 (Ok d))
+    led_after Finished (calls_defined c.functions c.calls c)
     (λ d h. led_unless Finished (not (is_main d.functions (named_in (codes "main") d.scopes.file))) NoMain 1 (Ok d)
     (λ e. led_ok Finished d (record { sane = calls_sane c.functions c.calls c s d h; main = not_false (is_main d.functions (named_in (codes "main") d.scopes.file)) e })))
 
@@ -314,7 +313,7 @@ first_sane = record {
     nothing_walked k w e = cc
 
 pub walked_finished : (unit : Trees) → Led Finished (walked unit)
-walked_finished unit = led_after Finished (externals unit first_context) ended (λ c h. ended_text c (externals_sane unit first_context first_sane c h))
+walked_finished unit = led_after Finished (externals unit first_context) (λ c h. ended_text c (externals_sane unit first_context first_sane c h))
 
 pub walked_sane : (unit : Trees) → Led Sane (walked unit)
 walked_sane unit c h = (walked_finished unit c h).sane

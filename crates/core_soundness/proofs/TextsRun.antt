@@ -137,7 +137,7 @@ list_suffix : (answer : Option Sort) (tree : Tree) (c : Context) (z : Context ×
 unfolding suffix_layer
 list_suffix answer (Node f.ArraySuffix parts) c z i g flat q = absurd i
 list_suffix answer (Node f.FunctionSuffix (At line ▹ Node f.Params parts ▹ t.none)) c z i g flat q =
-    let p = came (params parts (entered c)) (λ p. good (left_params p.0, FunctionOf line p.1)) z q in
+    let p = came (params parts (entered c)) q in
     let r = params_run answer parts (entered c) (entered c) (omega (arith, flat)) (runs_refl answer (entered c) (entered_fine c g)) p.value p.is in
     subst (λ (y : Context × Layer). HasList (y.0, y.1 ∷ [])) (ok_same (left_params p.value.0, FunctionOf line p.value.1) z p.last)
     (record { some = omega arith; params = first_fits (world p.value.0) p.value.0.scopes.inner r.fine.names.inner })
@@ -149,15 +149,15 @@ suffixes_list : (parts : Trees) (answer : Option Sort) (c : Context) (z : Contex
 unfolding suffix_layers
 suffixes_list t.none answer c z i g flat q = absurd i
 suffixes_list (suffix ▹ rest) answer c z (inl i) g flat q =
-    let l = came (suffix_layer suffix c) (λ l. then (suffix_layers rest l.0) (λ more. good (more.0, l.1 ∷ more.1))) z q in
-    let m = came (suffix_layers rest l.value.0) (λ more. good (more.0, l.value.1 ∷ more.1)) z l.last in
+    let l = came (suffix_layer suffix c) q in
+    let m = came (suffix_layers rest l.value.0) l.last in
     let one = list_suffix answer suffix c l.value i g flat l.is in
     let r1 = suffix_runs answer suffix c c (runs_refl answer c g) l.value l.is in
     let r2 = suffixes_run answer rest l.value.0 l.value.0 (runs_refl answer l.value.0 r1.fine) m.value m.is in
     subst HasList (ok_same (m.value.0, l.value.1 ∷ m.value.1) z m.last) (record { some = omega (arith, one.some, functions_one l.value.1 m.value.1); params = r2.params (r1.depth ∙ flat) one.params })
 suffixes_list (suffix ▹ rest) answer c z (inr i) g flat q =
-    let l = came (suffix_layer suffix c) (λ l. then (suffix_layers rest l.0) (λ more. good (more.0, l.1 ∷ more.1))) z q in
-    let m = came (suffix_layers rest l.value.0) (λ more. good (more.0, l.value.1 ∷ more.1)) z l.last in
+    let l = came (suffix_layer suffix c) q in
+    let m = came (suffix_layers rest l.value.0) l.last in
     let r1 = suffix_runs answer suffix c c (runs_refl answer c g) l.value l.is in
     let one = suffixes_list rest answer l.value.0 m.value i r1.fine (r1.depth ∙ flat) m.is in
     subst HasList (ok_same (m.value.0, l.value.1 ∷ m.value.1) z m.last) (record { some = omega (arith, one.some, functions_one l.value.1 m.value.1); params = one.params })
@@ -168,19 +168,19 @@ joined_some ms ls h = omega (arith, h, functions_joined (reverse ms) ls, functio
 layers_list : (tree : Tree) (answer : Option Sort) (c : Context) (z : Context × List Layer) → HasParameters tree → Fine c → length c.scopes.inner ≡ 0 → layers tree c ≡ Ok z → HasList z
 unfolding layers HasParameters
 layers_list (Node (f.Pointer consts) (At line ▹ declarator ▹ t.none)) answer c z h g flat q =
-    let l = came (layers declarator c) (λ l. good (l.0, Rattle.c_decls.specs.TypeNames.PointerTo line ∷ l.1)) z q in
+    let l = came (layers declarator c) q in
     let one = layers_list declarator answer c l.value h g flat l.is in
     subst HasList (ok_same (l.value.0, Rattle.c_decls.specs.TypeNames.PointerTo line ∷ l.value.1) z l.last) (record { some = one.some; params = one.params })
 layers_list (Node f.Direct (base ▹ Node f.Suffixes suffixes ▹ t.none)) answer c z (inl h) g flat q =
-    let l = came (layers base c) (λ l. then (suffix_layers suffixes l.0) (λ s. good (s.0, reverse s.1 ++ l.1))) z q in
-    let s = came (suffix_layers suffixes l.value.0) (λ s. good (s.0, reverse s.1 ++ l.value.1)) z l.last in
+    let l = came (layers base c) q in
+    let s = came (suffix_layers suffixes l.value.0) l.last in
     let one = layers_list base answer c l.value h g flat l.is in
     let r1 = layers_run answer base c c (runs_refl answer c g) l.value l.is in
     let r2 = suffixes_run answer suffixes l.value.0 l.value.0 (runs_refl answer l.value.0 r1.fine) s.value s.is in
     subst HasList (ok_same (s.value.0, reverse s.value.1 ++ l.value.1) z s.last) (record { some = joined_some s.value.1 l.value.1 (omega (arith, one.some)); params = r2.params (r1.depth ∙ flat) one.params })
 layers_list (Node f.Direct (base ▹ Node f.Suffixes suffixes ▹ t.none)) answer c z (inr h) g flat q =
-    let l = came (layers base c) (λ l. then (suffix_layers suffixes l.0) (λ s. good (s.0, reverse s.1 ++ l.1))) z q in
-    let s = came (suffix_layers suffixes l.value.0) (λ s. good (s.0, reverse s.1 ++ l.value.1)) z l.last in
+    let l = came (layers base c) q in
+    let s = came (suffix_layers suffixes l.value.0) l.last in
     let r1 = layers_run answer base c c (runs_refl answer c g) l.value l.is in
     let one = suffixes_list suffixes answer l.value.0 s.value h r1.fine (r1.depth ∙ flat) s.is in
     subst HasList (ok_same (s.value.0, reverse s.value.1 ++ l.value.1) z s.last) (record { some = joined_some s.value.1 l.value.1 (omega (arith, one.some)); params = one.params })
@@ -211,7 +211,7 @@ flat_typed line name type c file None d e q =
     (function_kept (nat_lt (length c.functions) (length c.functions)) name name type (length c.functions) x (pushed_name name (n.Function type (length c.functions)) file e))
 flat_typed line name type c file (Some (n.Function t j)) d e q =
     let x : Context = record c { scopes = record { file = file; inner = [] } } in
-    let y = came (unless (not (true && same t type)) DeclaredTwice line (good x)) (λ y. good (with_function j name y)) d q in
+    let y = came (unless (not (true && same t type)) DeclaredTwice line (good x)) q in
     let alike : t ≡ type = same_equal t type (not_false (same t type) (kept_test (not (true && same t type)) DeclaredTwice line (good x) y.value y.is)) in
     let there : named_in name file ≡ Some (n.Function type j) = subst (λ (k : PlainType). named_in name file ≡ Some (n.Function k j)) alike e in
     let same_x : x ≡ y.value = passed (not (true && same t type)) DeclaredTwice line x y.value y.is in
@@ -275,12 +275,12 @@ defined_between line name answer ps (Node f.Body (Node f.Items parts ▹ At end 
     let start : Taken = params_taken given nothing_taken in
     let o = body_good numbers start end parts p in
     let index = function_number name l in
-    let d = came (declared_function line name (Function answer ps) l) (λ d. unless (is_defined (slice_get d.functions index)) DeclaredTwice line (body line name (Function answer ps) (Node f.Body (Node f.Items parts ▹ At end ▹ t.none)) (body_begun index (Function answer ps) d))) z q in
+    let d = came (declared_function line name (Function answer ps) l) q in
     let a2 = behind_test (is_defined (slice_get d.value.functions index)) DeclaredTwice line (body line name (Function answer ps) (Node f.Body (Node f.Items parts ▹ At end ▹ t.none)) (body_begun index (Function answer ps) d.value)) z d.last in
     let rd = function_runs (result_sort answer) line name (Function answer ps) l d.value flat r.fine d.is in
     let there = function_typed line name (Function answer ps) l d.value flat d.is in
     let begin = body_begun index (Function answer ps) d.value in
-    let e = came (items parts around_body begin) (λ e. body_ended line name (Function answer ps) end e) z a2 in
+    let e = came (items parts around_body begin) a2 in
     let all = runs_trans (result_sort answer) b l d.value r rd in
     let st : Stands_in (result_sort answer) numbers start begin = record { fine = record { names = record { file = all.fine.names.file; inner = (rd.params flat params, tt) }; lined = all.fine.lined }; inside = 0; deep = refl; sorted = refl; step = body_step given line index name (Function answer ps) l d.value begins all.fine.names.file d.is; same = all.addressed ∙ addressed } in
     let re = (items_run (result_sort answer) numbers parts start around_body begin e.value o.1 st e.is).runs in
@@ -290,7 +290,7 @@ defined_between line name answer ps (Node f.Body (Node f.Items parts ▹ At end 
     re.fine (re.fits (all.fits fits)) re.answer plain (re.grew.file name (Function answer ps) index there) (prefix.1 ∙ ap (λ (ss : List Sort). ss ++ prefix.0) regs) e.last
 defined_between line name answer ps tree given numbers c b l z h s same addressed p begins r fits flat params plain regs q =
     let index = function_number name l in
-    let d = came (declared_function line name (Function answer ps) l) (λ d. unless (is_defined (slice_get d.functions index)) DeclaredTwice line (body line name (Function answer ps) tree (body_begun index (Function answer ps) d))) z q in
+    let d = came (declared_function line name (Function answer ps) l) q in
     never _ _ z (behind_test (is_defined (slice_get d.value.functions index)) DeclaredTwice line (body line name (Function answer ps) tree (body_begun index (Function answer ps) d.value)) z d.last)
 
 -- a definition by what its name and its type are
@@ -310,9 +310,9 @@ definition_between line words declarator tree c z one p form_words form_name for
     let numbers : List ℕ = addressed_in declarator tree in
     let b = begun line numbers c in
     let g = begun_fine line numbers c one h in
-    let base = came (specs words b) (λ base. then (layers declarator base.0) (λ l. then (with_layers l.0.tags l.1 base.1) (λ type. named_definition line (name_of declarator) type tree l.0))) z q in
-    let l = came (layers declarator base.value.0) (λ l. then (with_layers l.0.tags l.1 base.value.1) (λ type. named_definition line (name_of declarator) type tree l.0)) z base.last in
-    let type = came (with_layers l.value.0.tags l.value.1 base.value.1) (λ type. named_definition line (name_of declarator) type tree l.value.0) z l.last in
+    let base = came (specs words b) q in
+    let l = came (layers declarator base.value.0) base.last in
+    let type = came (with_layers l.value.0.tags l.value.1 base.value.1) l.last in
     let first : (answer : Option Sort) → Runs answer b base.value.0 = λ answer. specs_run answer words b b (runs_refl answer b g) base.value base.is in
     let added = layers_added declarator base.value.0 l.value ((first None).depth ∙ h.flat) l.is in
     named_between line (name_of declarator) type.value base.value.1 tree (params_of declarator) numbers c b l.value z h (record { variables = omega arith; literals = omega arith; calls = λ k x e. e; file = λ name t j e. e }) refl refl
@@ -332,7 +332,7 @@ pub externals_between : (unit : Trees) (c z : Context) → AreWritten unit → A
 unfolding externals
 externals_between t.none c z p i h q = subst Between (ok_same c z q) h
 externals_between (tree ▹ rest) c z p i h q =
-    let d = came (external tree c) (λ d. externals rest d) z q in
+    let d = came (external tree c) q in
     externals_between rest d.value z p.1 i.1 (external_between tree c d.value p.0.0 i.0.0 i.0.1 p.0.1 h d.is) d.last
 
 some_is : (x y : PlainNamed) → Some x ≡ Some y → x ≡ y

@@ -12,7 +12,7 @@ use Rattle.c_tree.specs.Forms as f
 use Rattle.c_tree.specs.Tree.{Tree, Trees, Leaf, At, Node, none, ◌▹◌}
 use Rattle.c_tree.specs.Scopes.{name_of}
 use Rattle.c_decls.specs.declared.refusal.TypeKind.TheVariants.{Operands, DeclaredTwice, LeftOut, Incomplete}
-use Rattle.c_decls.specs.Refusals.{Checked, then, unless}
+use Rattle.c_decls.specs.Refusals.{Checked}
 use Rattle.c_decls.specs.Named as n
 use Rattle.c_decls.specs.Named.{PlainNamed}
 use Rattle.c_decls.specs.ScopeList as scopes
@@ -53,7 +53,7 @@ leads_trans_on b c answer g h d e = leads_trans b c d.0 g (h d e)
 
 module _ (b : Context) where
   answered_leads : (c : Context) (x : Checked PlainTyped) → Leads b c → Reached (Leads b) (answered c x)
-  answered_leads c x g = reached_after (Leads b) x (λ e. Ok (c, e)) (λ e h. reached_ok (Leads b) (c, e) g)
+  answered_leads c x g = reached_after (Leads b) x (λ e h. reached_ok (Leads b) (c, e) g)
 
   pub unused_leads : (tree : Tree) (x : Found) → Reached (Leads b) x → Reached (Leads b) (unused tree x)
   unused_leads tree x g =
@@ -66,24 +66,22 @@ module _ (b : Context) where
   cast_leads type tree x g d q = unused_leads tree x g d (type_cast_unused type tree x d q)
 
   changing_leads : (tree : Tree) (x : Found) → Reached (Leads b) x → Reached (Leads b) (changing tree x)
-  changing_leads tree x g =
-      reached_then (Leads b) (Leads b) x (λ e. answered e.0 (held_place (line_of tree) e.0.tags e.1)) g (λ d h. answered_leads d.0 (held_place (line_of tree) d.0.tags d.1) h)
+  changing_leads tree x g = reached_then (Leads b) (Leads b) g (λ d h. answered_leads d.0 (held_place (line_of tree) d.0.tags d.1) h)
 
   one_leads : (x : Found) (rule : TagTable → PlainTyped → Checked PlainTyped) → Reached (Leads b) x → Reached (Leads b) (one x rule)
-  one_leads x rule g = reached_then (Leads b) (Leads b) x (λ e. answered e.0 (rule e.0.tags e.1)) g (λ d h. answered_leads d.0 (rule d.0.tags d.1) h)
+  one_leads x rule g = reached_then (Leads b) (Leads b) g (λ d h. answered_leads d.0 (rule d.0.tags d.1) h)
 
   two_leads : (x : Found) (y : Context → Found) (rule : TagTable → PlainTyped → PlainTyped → Checked PlainTyped) → Reached (Leads b) x
       → ((c : Context) → Leads b c → Reached (Leads b) (y c)) → Reached (Leads b) (two x y rule)
   two_leads x y rule g h =
-      reached_then (Leads b) (Leads b) x (λ d. then (y d.0) (λ e. answered e.0 (rule e.0.tags d.1 e.1))) g
-      (λ d k. reached_then (Leads b) (Leads b) (y d.0) (λ e. answered e.0 (rule e.0.tags d.1 e.1)) (h d.0 k) (λ e q. answered_leads e.0 (rule e.0.tags d.1 e.1) q))
+      reached_then (Leads b) (Leads b) g (λ d k. reached_then (Leads b) (Leads b) (h d.0 k) (λ e q. answered_leads e.0 (rule e.0.tags d.1 e.1) q))
 
   callee_leads : (e : Tree) (c : Context) (answer : Found) → Leads b c → Reached (Leads b) answer → Reached (Leads b) (callee e c answer)
   callee_leads (Node f.Name (At line ▹ Leaf (w.Name name) ▹ none)) c answer g h =
-      reached_after (Leads b) (called line c.tags (found c.scopes name)) (λ function. Ok (c, function)) (λ function k. reached_ok (Leads b) (c, function) g)
+      reached_after (Leads b) (called line c.tags (found c.scopes name)) (λ function k. reached_ok (Leads b) (c, function) g)
   callee_leads e c answer g h =
-      reached_then (Leads b) (Leads b) answer (λ d. then (no_function (line_of e) d.0.tags (Ok d.1)) (λ function. Ok (d.0, function))) h
-      (λ d k. reached_after (Leads b) (no_function (line_of e) d.0.tags (Ok d.1)) (λ function. Ok (d.0, function)) (λ function q. reached_ok (Leads b) (d.0, function) k))
+      reached_then (Leads b) (Leads b) h
+      (λ d k. reached_after (Leads b) (no_function (line_of e) d.0.tags (Ok d.1)) (λ function q. reached_ok (Leads b) (d.0, function) k))
 
 -- tags and the names of types
 
@@ -203,9 +201,7 @@ mutual
       two_leads c (wanted e (typed e c)) (λ d. wanted g (typed g d)) (element line) (wanted_leads c e (typed e c) (typed_leads e c))
       (λ d h. wanted_leads c g (typed g d) (leads_trans_on c d (typed g d) h (typed_leads g d)))
   typed_leads (Node f.Call (At line ▹ e ▹ Node f.Arguments arguments ▹ none)) c =
-      reached_then (Leads c) (Leads c) (callee e c (typed e c)) (λ k. then (values arguments k.0) (λ v. answered v.0 (call line (first_literal arguments) k.1 v.1)))
-      (callee_leads c e c (typed e c) (leads_refl c) (typed_leads e c))
-      (λ k h. reached_then (Leads c) (Leads c) (values arguments k.0) (λ v. answered v.0 (call line (first_literal arguments) k.1 v.1))
+      reached_then (Leads c) (Leads c) (callee_leads c e c (typed e c) (leads_refl c) (typed_leads e c)) (λ k h. reached_then (Leads c) (Leads c)
       (leads_trans_on c k.0 (values arguments k.0) h (values_leads arguments k.0)) (λ v q. answered_leads c v.0 (call line (first_literal arguments) k.1 v.1) q))
   typed_leads (Node f.Dot (At line ▹ e ▹ Leaf (w.Name name) ▹ none)) c = one_leads c (typed e c) (dot line name) (typed_leads e c)
   typed_leads (Node f.Arrow (At line ▹ e ▹ Leaf (w.Name name) ▹ none)) c = one_leads c (wanted e (typed e c)) (arrow line name) (wanted_leads c e (typed e c) (typed_leads e c))
@@ -217,7 +213,7 @@ mutual
   typed_leads (Node (f.Unary op) (At line ▹ e ▹ none)) c = one_leads c (wanted e (typed e c)) (unary line op) (wanted_leads c e (typed e c) (typed_leads e c))
   typed_leads (Node f.SizeofExpr (At line ▹ e ▹ none)) c = one_leads c (typed e c) (λ tags d. size line tags d.type) (typed_leads e c)
   typed_leads (Node f.SizeofType (At line ▹ name ▹ none)) c =
-      reached_then (Leads c) (Leads c) (typename name c) (λ t. answered t.0 (size line t.0.tags t.1)) (typename_leads name c) (λ t h. answered_leads c t.0 (size line t.0.tags t.1) h)
+      reached_then (Leads c) (Leads c) (typename_leads name c) (λ t h. answered_leads c t.0 (size line t.0.tags t.1) h)
   typed_leads (Node f.Cast (At line ▹ name ▹ e ▹ none)) c =
       reached_then (Leads c) (Leads c) (typename name c) (λ t. one (cast_operand t.1 e (typed e t.0)) (λ tags d. cast line t.1 d)) (typename_leads name c)
       (λ t h. one_leads c (cast_operand t.1 e (typed e t.0)) (λ tags d. cast line t.1 d) (cast_leads c t.1 e (typed e t.0) (leads_trans_on c t.0 (typed e t.0) h (typed_leads e t.0))))
@@ -225,7 +221,7 @@ mutual
       two_leads c (wanted e (typed e c)) (λ d. wanted g (typed g d)) (binary line op) (wanted_leads c e (typed e c) (typed_leads e c))
       (λ d h. wanted_leads c g (typed g d) (leads_trans_on c d (typed g d) h (typed_leads g d)))
   typed_leads (Node f.Cond (At line ▹ e ▹ g ▹ k ▹ none)) c =
-      reached_then (Leads c) (Leads c) (wanted e (typed e c)) (λ test. two (wanted g (typed g test.0)) (λ d. wanted k (typed k d)) (λ tags x y. choice line test.1 x y)) (wanted_leads c e (typed e c) (typed_leads e c))
+      reached_then (Leads c) (Leads c) (wanted_leads c e (typed e c) (typed_leads e c))
       (λ test h. two_leads c (wanted g (typed g test.0)) (λ d. wanted k (typed k d)) (λ tags x y. choice line test.1 x y) (wanted_leads c g (typed g test.0) (leads_trans_on c test.0 (typed g test.0) h (typed_leads g test.0)))
       (λ d q. wanted_leads c k (typed k d) (leads_trans_on c d (typed k d) q (typed_leads k d))))
   typed_leads (Node (f.Assign a.Plain) (At line ▹ e ▹ g ▹ none)) c =
@@ -241,24 +237,24 @@ mutual
   values_leads : (arguments : Trees) (c : Context) → Reached (Leads c) (values arguments c)
   values_leads none c = reached_ok (Leads c) (c, []) (leads_refl c)
   values_leads (e ▹ rest) c =
-      reached_then (Leads c) (Leads c) (wanted e (typed e c)) (λ d. then (values rest d.0) (λ more. Ok (more.0, d.1 ∷ more.1))) (wanted_leads c e (typed e c) (typed_leads e c))
-      (λ d h. reached_then (Leads c) (Leads c) (values rest d.0) (λ more. Ok (more.0, d.1 ∷ more.1)) (leads_trans_on c d.0 (values rest d.0) h (values_leads rest d.0))
+      reached_then (Leads c) (Leads c) (wanted_leads c e (typed e c) (typed_leads e c))
+      (λ d h. reached_then (Leads c) (Leads c) (leads_trans_on c d.0 (values rest d.0) h (values_leads rest d.0))
       (λ more q. reached_ok (Leads c) (more.0, d.1 ∷ more.1) q))
 
   pub typename_leads : (name : Tree) (c : Context) → Reached (Leads c) (typename name c)
   typename_leads (Node f.Typename (At line ▹ Node f.Specs (At at ▹ words) ▹ declarator ▹ none)) c =
-      reached_then (Leads c) (Leads c) (specs_type at words words c) (λ base. then (layers declarator base.0) (λ l. then (with_layers l.0.tags l.1 base.1) (λ type. unless (is_function type) LeftOut line (Ok (l.0, type))))) (specs_leads at words words c)
-      (λ base h. reached_then (Leads c) (Leads c) (layers declarator base.0) (λ l. then (with_layers l.0.tags l.1 base.1) (λ type. unless (is_function type) LeftOut line (Ok (l.0, type)))) (leads_trans_on c base.0 (layers declarator base.0) h (layers_leads declarator base.0))
-      (λ l q. reached_after (Leads c) (with_layers l.0.tags l.1 base.1) (λ type. unless (is_function type) LeftOut line (Ok (l.0, type)))
+      reached_then (Leads c) (Leads c) (specs_leads at words words c)
+      (λ base h. reached_then (Leads c) (Leads c) (leads_trans_on c base.0 (layers declarator base.0) h (layers_leads declarator base.0))
+      (λ l q. reached_after (Leads c) (with_layers l.0.tags l.1 base.1)
       (λ type z. reached_unless (Leads c) (is_function type) LeftOut line (Ok (l.0, type)) (reached_ok (Leads c) (l.0, type) q))))
   typename_leads tree c = reached_refused (Leads c) Operands (line_of tree)
 
   layers_leads : (tree : Tree) (c : Context) → Reached (Leads c) (layers tree c)
   layers_leads (Node (f.Pointer consts) (At line ▹ declarator ▹ none)) c =
-      reached_then (Leads c) (Leads c) (layers declarator c) (λ l. Ok (l.0, PointerTo line ∷ l.1)) (layers_leads declarator c) (λ l h. reached_ok (Leads c) (l.0, PointerTo line ∷ l.1) h)
+      reached_then (Leads c) (Leads c) (layers_leads declarator c) (λ l h. reached_ok (Leads c) (l.0, PointerTo line ∷ l.1) h)
   layers_leads (Node f.Direct (base ▹ Node f.Suffixes suffixes ▹ none)) c =
-      reached_then (Leads c) (Leads c) (layers base c) (λ l. then (suffix_layers suffixes l.0) (λ s. Ok (s.0, reverse s.1 ++ l.1))) (layers_leads base c)
-      (λ l h. reached_then (Leads c) (Leads c) (suffix_layers suffixes l.0) (λ s. Ok (s.0, reverse s.1 ++ l.1)) (leads_trans_on c l.0 (suffix_layers suffixes l.0) h (suffixes_leads suffixes l.0))
+      reached_then (Leads c) (Leads c) (layers_leads base c)
+      (λ l h. reached_then (Leads c) (Leads c) (leads_trans_on c l.0 (suffix_layers suffixes l.0) h (suffixes_leads suffixes l.0))
       (λ s q. reached_ok (Leads c) (s.0, reverse s.1 ++ l.1) q))
   layers_leads (Node f.Parens (At line ▹ declarator ▹ none)) c = layers_leads declarator c
   layers_leads tree c = reached_ok (Leads c) (c, []) (leads_refl c)
@@ -266,32 +262,31 @@ mutual
   suffixes_leads : (suffixes : Trees) (c : Context) → Reached (Leads c) (suffix_layers suffixes c)
   suffixes_leads none c = reached_ok (Leads c) (c, []) (leads_refl c)
   suffixes_leads (suffix ▹ rest) c =
-      reached_then (Leads c) (Leads c) (suffix_layer suffix c) (λ l. then (suffix_layers rest l.0) (λ more. Ok (more.0, l.1 ∷ more.1))) (suffix_leads suffix c)
-      (λ l h. reached_then (Leads c) (Leads c) (suffix_layers rest l.0) (λ more. Ok (more.0, l.1 ∷ more.1)) (leads_trans_on c l.0 (suffix_layers rest l.0) h (suffixes_leads rest l.0))
+      reached_then (Leads c) (Leads c) (suffix_leads suffix c)
+      (λ l h. reached_then (Leads c) (Leads c) (leads_trans_on c l.0 (suffix_layers rest l.0) h (suffixes_leads rest l.0))
       (λ more q. reached_ok (Leads c) (more.0, l.1 ∷ more.1) q))
 
   suffix_leads : (suffix : Tree) (c : Context) → Reached (Leads c) (suffix_layer suffix c)
   suffix_leads (Node f.ArraySuffix (At line ▹ Node f.MaybeLength none ▹ none)) c = reached_ok (Leads c) (c, ArrayOf line None) (leads_refl c)
   suffix_leads (Node f.ArraySuffix (At line ▹ Node f.MaybeLength (e ▹ none) ▹ none)) c =
-      reached_then (Leads c) (Leads c) (wanted e (typed e c)) (λ d. then (array_length (line_of e) d.1) (λ length. Ok (d.0, ArrayOf line (Some length)))) (wanted_leads c e (typed e c) (typed_leads e c))
-      (λ d h. reached_after (Leads c) (array_length (line_of e) d.1) (λ length. Ok (d.0, ArrayOf line (Some length))) (λ length q. reached_ok (Leads c) (d.0, ArrayOf line (Some length)) h))
+      reached_then (Leads c) (Leads c) (wanted_leads c e (typed e c) (typed_leads e c))
+      (λ d h. reached_after (Leads c) (array_length (line_of e) d.1) (λ length q. reached_ok (Leads c) (d.0, ArrayOf line (Some length)) h))
   suffix_leads (Node f.FunctionSuffix (At line ▹ Node f.Params params ▹ none)) c =
-      reached_then (Leads c) (Inside (in_new_scope c)) (param_types params (in_new_scope c)) (λ p. Ok (out_of_scope p.0, FunctionOf line p.1)) (params_inside params (in_new_scope c) tt)
+      reached_then (Leads c) (Inside (in_new_scope c)) (params_inside params (in_new_scope c) tt)
       (λ p h. reached_ok (Leads c) (out_of_scope p.0, FunctionOf line p.1) (record { more = h.outside; made = h.made; sorts = λ k. left_sorted p.0.tags.made p.0.scopes (h.sorts (entered_sorted c.tags.made c.scopes k)) }))
   suffix_leads tree c = reached_ok (Leads c) (c, FunctionOf (line_of tree) ct.none) (leads_refl c)
 
   params_inside : (params : Trees) (c : Context) → HasScope c.scopes.inner → Reached (Inside c) (param_types params c)
   params_inside none c h = reached_ok (Inside c) (c, ct.none) (inside_refl c h)
   params_inside (param ▹ rest) c h =
-      reached_then (Inside c) (Inside c) (param_type param c) (λ p. then (param_types rest p.0) (λ more. Ok (more.0, first p.1 more.1))) (param_type_inside param c h)
-      (λ p q. reached_then (Inside c) (Inside p.0) (param_types rest p.0) (λ more. Ok (more.0, first p.1 more.1)) (params_inside rest p.0 q.some)
+      reached_then (Inside c) (Inside c) (param_type_inside param c h) (λ p q. reached_then (Inside c) (Inside p.0) (params_inside rest p.0 q.some)
       (λ more z. reached_ok (Inside c) (more.0, first p.1 more.1) (inside_trans c p.0 more.0 q z)))
 
   param_type_inside : (param : Tree) (c : Context) → HasScope c.scopes.inner → Reached (Inside c) (param_type param c)
   param_type_inside (Node f.Param (At line ▹ Node f.Specs (At at ▹ words) ▹ declarator ▹ none)) c h =
-      reached_then (Inside c) (Leads c) (specs_type at words words c) (λ base. then (layers declarator base.0) (λ l. then (with_param_layers l.0.tags l.1 base.1) (λ type. declared_param line l.0 (name_of declarator) (adjusted type)))) (specs_leads at words words c)
-      (λ base g. reached_then (Inside c) (Leads base.0) (layers declarator base.0) (λ l. then (with_param_layers l.0.tags l.1 base.1) (λ type. declared_param line l.0 (name_of declarator) (adjusted type))) (layers_leads declarator base.0)
-      (λ l q. reached_after (Inside c) (with_param_layers l.0.tags l.1 base.1) (λ type. declared_param line l.0 (name_of declarator) (adjusted type))
+      reached_then (Inside c) (Leads c) (specs_leads at words words c)
+      (λ base g. reached_then (Inside c) (Leads base.0) (layers_leads declarator base.0)
+      (λ l q. reached_after (Inside c) (with_param_layers l.0.tags l.1 base.1)
       (λ type z d e. let i = inside_leads c base.0 l.0 (inside_leads c c base.0 (inside_refl c h) g) q in
       inside_trans c l.0 d.0 i (declared_inside line l.0 (name_of declarator) (adjusted type) i.some d e))))
   param_type_inside tree c h = reached_refused (Inside c) Operands (line_of tree)

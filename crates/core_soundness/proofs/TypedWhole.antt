@@ -28,7 +28,7 @@ use Rattle.c_decls.specs.declared.constant.Constant.{Constant}
 use Rattle.c_decls.specs.declared.refusal.TypeKind.TheVariants.{Undeclared, Operands, NotLvalue, ArgumentCount, Assignment, DeclaredTwice, Incomplete, NoMember, PointerAndInteger, NotConstant, TypeTooLarge, Format, LeftOut}
 use Rattle.c_decls.specs.declared.typed.Folded.{Folded}
 use Rattle.c_decls.specs.declared.typed.Folded.TheVariants.{Is}
-use Rattle.c_decls.specs.Refusals.{Checked, refused, then, unless}
+use Rattle.c_decls.specs.Refusals.{Checked, unless}
 use Rattle.c_decls.specs.Named as n
 use Rattle.c_decls.specs.Named.{PlainNamed}
 use Rattle.c_decls.specs.ScopeList as scopes
@@ -132,7 +132,7 @@ module _ (ts : List CompletedTag) where
 
   pub before_whole : (tags : TagTable) (layer : Layer) (layers : List Layer) (type : PlainType) → tags.completed ≡ ts → Whole (known ts) type → LayerWhole (known ts) layer → Led (Whole (known ts)) (layered_before tags layer layers type)
   before_whole tags (FunctionOf line params) (next ∷ layers) type c h g =
-      led_after (Whole (known ts)) (layered tags (FunctionOf line params) type) (λ t. refused LeftOut line) (λ t q. led_refused (Whole (known ts)) LeftOut line)
+      led_after (Whole (known ts)) (layered tags (FunctionOf line params) type) (λ t q. led_refused (Whole (known ts)) LeftOut line)
   before_whole tags (FunctionOf line params) [] type c h g = layered_whole tags (FunctionOf line params) type c h g
   before_whole tags (names.PointerTo line) layers type c h g = layered_whole tags (names.PointerTo line) type c h g
   before_whole tags (ArrayOf line length) layers type c h g = layered_whole tags (ArrayOf line length) type c h g
@@ -140,17 +140,17 @@ module _ (ts : List CompletedTag) where
   pub with_layers_whole : (tags : TagTable) (layers : List Layer) (type : PlainType) → tags.completed ≡ ts → Whole (known ts) type → LayersWhole (known ts) layers → Led (Whole (known ts)) (with_layers tags layers type)
   with_layers_whole tags [] type c h g = led_ok (Whole (known ts)) type h
   with_layers_whole tags (layer ∷ layers) type c h g =
-      led_after (Whole (known ts)) (layered_before tags layer layers type) (λ inner. with_layers tags layers inner)
+      led_after (Whole (known ts)) (layered_before tags layer layers type)
       (λ inner q. with_layers_whole tags layers inner c (before_whole tags layer layers type c h g.0 inner q) g.1)
 
   pub with_param_layers_whole : (tags : TagTable) (layers : List Layer) (type : PlainType) → tags.completed ≡ ts → Whole (known ts) type → LayersWhole (known ts) layers → Led (Whole (known ts)) (with_param_layers tags layers type)
   with_param_layers_whole tags [] type c h g = led_ok (Whole (known ts)) type h
   with_param_layers_whole tags (ArrayOf line None ∷ []) type c h g = layered_whole tags (ArrayOf line (Some 1)) type c h (omega arith)
   with_param_layers_whole tags (ArrayOf line None ∷ (next ∷ layers)) type c h g =
-      led_after (Whole (known ts)) (layered_before tags (ArrayOf line None) (next ∷ layers) type) (λ inner. with_param_layers tags (next ∷ layers) inner)
+      led_after (Whole (known ts)) (layered_before tags (ArrayOf line None) (next ∷ layers) type)
       (λ inner q. with_param_layers_whole tags (next ∷ layers) inner c (before_whole tags (ArrayOf line None) (next ∷ layers) type c h g.0 inner q) g.1)
   with_param_layers_whole tags (layer ∷ layers) type c h g =
-      led_after (Whole (known ts)) (layered_before tags layer layers type) (λ inner. with_param_layers tags layers inner)
+      led_after (Whole (known ts)) (layered_before tags layer layers type)
       (λ inner q. with_param_layers_whole tags layers inner c (before_whole tags layer layers type c h g.0 inner q) g.1)
 
   pub adjusted_whole : (type : PlainType) → Whole (known ts) type → Whole (known ts) (adjusted type)
@@ -467,7 +467,7 @@ module _ (ts : List CompletedTag) (made : AreMade nothing ts) where
   GoodParams d = Fit d.0 × AllWhole (known ts) d.1
 
   answered_good : (c : Context) (x : Checked PlainTyped) → Fit c → Led W x → Led Good (answered c x)
-  answered_good c x g h = led_after Good x (λ e. Ok (c, e)) (λ e q. led_ok Good (c, e) (g, h e q))
+  answered_good c x g h = led_after Good x (λ e q. led_ok Good (c, e) (g, h e q))
 
   pub unused_good : (tree : Tree) (x : Found) → Led Good x → Led Good (unused tree x)
   unused_good tree x h = led_after Good x (λ e. answered e.0 (read (line_of tree) e.0.tags e.1)) (λ d q. let k = h d q in answered_good d.0 _ k.0 (read_whole (line_of tree) d.0.tags d.1 k.1))
@@ -479,25 +479,25 @@ module _ (ts : List CompletedTag) (made : AreMade nothing ts) where
   cast_good type tree x h d q = unused_good tree x h d (type_cast_unused type tree x d q)
 
   changing_good : (tree : Tree) (x : Found) → Led Good x → Led Good (changing tree x)
-  changing_good tree x h = led_after Good x (λ e. answered e.0 (held_place (line_of tree) e.0.tags e.1)) (λ d q. let k = h d q in answered_good d.0 _ k.0 (held_place_whole (line_of tree) d.0.tags d.1 k.1))
+  changing_good tree x h = led_after Good x (λ d q. let k = h d q in answered_good d.0 _ k.0 (held_place_whole (line_of tree) d.0.tags d.1 k.1))
 
   one_good : (x : Found) (rule : TagTable → PlainTyped → Checked PlainTyped) → Led Good x → ((c : Context) (e : PlainTyped) → Fit c → W e → Led W (rule c.tags e)) → Led Good (one x rule)
-  one_good x rule h k = led_after Good x (λ e. answered e.0 (rule e.0.tags e.1)) (λ d q. let g = h d q in answered_good d.0 _ g.0 (k d.0 d.1 g.0 g.1))
+  one_good x rule h k = led_after Good x (λ d q. let g = h d q in answered_good d.0 _ g.0 (k d.0 d.1 g.0 g.1))
 
   two_good : (x : Found) (y : Context → Found) (rule : TagTable → PlainTyped → PlainTyped → Checked PlainTyped) → Led Good x → ((c : Context) → Fit c → Led Good (y c)) → ((c : Context) (d e : PlainTyped) → Fit c → W d → W e → Led W (rule c.tags d e)) → Led Good (two x y rule)
   two_good x y rule h g k =
-      led_after Good x (λ d. then (y d.0) (λ e. answered e.0 (rule e.0.tags d.1 e.1)))
-      (λ d q. let one = h d q in led_after Good (y d.0) (λ e. answered e.0 (rule e.0.tags d.1 e.1)) (λ e z. let other = g d.0 one.0 e z in answered_good e.0 _ other.0 (k e.0 d.1 e.1 other.0 one.1 other.1)))
+      led_after Good x
+      (λ d q. let one = h d q in led_after Good (y d.0) (λ e z. let other = g d.0 one.0 e z in answered_good e.0 _ other.0 (k e.0 d.1 e.1 other.0 one.1 other.1)))
 
   found_by : (c : Context) (name : List ℕ) → Fit c → NamedBy (found c.scopes name)
   found_by c name g v e = found_whole (known ts) c.scopes name v g.names e
 
   callee_good : (e : Tree) (c : Context) (answer : Found) → Fit c → Led Good answer → Led GoodCallee (callee e c answer)
   callee_good (Node f.Name (At line ▹ Leaf (w.Name name) ▹ none)) c answer g h =
-      led_after GoodCallee (called line c.tags (found c.scopes name)) (λ function. Ok (c, function)) (λ function q. led_ok GoodCallee (c, function) (g, called_whole line c.tags (found c.scopes name) (found_by c name g) function q))
+      led_after GoodCallee (called line c.tags (found c.scopes name)) (λ function q. led_ok GoodCallee (c, function) (g, called_whole line c.tags (found c.scopes name) (found_by c name g) function q))
   callee_good e c answer g h =
-      led_after GoodCallee answer (λ d. then (no_function (line_of e) d.0.tags (Ok d.1)) (λ function. Ok (d.0, function)))
-      (λ d q. led_after GoodCallee (no_function (line_of e) d.0.tags (Ok d.1)) (λ function. Ok (d.0, function)) (λ function z. led_ok GoodCallee (d.0, function) ((h d q).0, no_function_whole (line_of e) d.0.tags (Ok d.1) function z)))
+      led_after GoodCallee answer
+      (λ d q. led_after GoodCallee (no_function (line_of e) d.0.tags (Ok d.1)) (λ function z. led_ok GoodCallee (d.0, function) ((h d q).0, no_function_whole (line_of e) d.0.tags (Ok d.1) function z)))
 
   -- tags and the names of types
 
@@ -588,9 +588,9 @@ module _ (ts : List CompletedTag) (made : AreMade nothing ts) where
         two_good (wanted e (typed e c)) (λ d. wanted h (typed h d)) (element line) (wanted_good e (typed e c) (typed_good e c g)) (λ d k. wanted_good h (typed h d) (typed_good h d k))
         (λ d x y k p q. element_whole line d.tags (operand x.type) (operand y.type) (operand_whole x.type p) (operand_whole y.type q))
     typed_good (Node f.Call (At line ▹ e ▹ Node f.Arguments arguments ▹ none)) c g =
-        led_after Good (callee e c (typed e c)) (λ k. then (values arguments k.0) (λ v. answered v.0 (call line (first_literal arguments) k.1 v.1)))
+        led_after Good (callee e c (typed e c))
         (λ k q. let one = callee_good e c (typed e c) g (typed_good e c g) k q in
-        led_after Good (values arguments k.0) (λ v. answered v.0 (call line (first_literal arguments) k.1 v.1))
+        led_after Good (values arguments k.0)
         (λ v z. answered_good v.0 (call line (first_literal arguments) k.1 v.1) (values_good arguments k.0 one.0 v z) (call_whole line (first_literal arguments) k.1 v.1 one.1)))
     typed_good (Node f.Dot (At line ▹ e ▹ Leaf (w.Name name) ▹ none)) c g = one_good (typed e c) (dot line name) (typed_good e c g) (λ d x k p. dot_whole line name d.tags x k.completed)
     typed_good (Node f.Arrow (At line ▹ e ▹ Leaf (w.Name name) ▹ none)) c g = one_good (wanted e (typed e c)) (arrow line name) (wanted_good e (typed e c) (typed_good e c g)) (λ d x k p. arrow_whole line name d.tags (operand x.type) k.completed)
@@ -602,7 +602,7 @@ module _ (ts : List CompletedTag) (made : AreMade nothing ts) where
     typed_good (Node (f.Unary op) (At line ▹ e ▹ none)) c g = one_good (wanted e (typed e c)) (unary line op) (wanted_good e (typed e c) (typed_good e c g)) (λ d x k p. unary_whole line op x (operand x.type) (operand_whole x.type p))
     typed_good (Node f.SizeofExpr (At line ▹ e ▹ none)) c g = one_good (typed e c) (λ tags d. size line tags d.type) (typed_good e c g) (λ d x k p. size_whole line (size_in d.tags x.type))
     typed_good (Node f.SizeofType (At line ▹ name ▹ none)) c g =
-        led_after Good (typename name c) (λ t. answered t.0 (size line t.0.tags t.1)) (λ t q. answered_good t.0 (size line t.0.tags t.1) (typename_good name c g t q).0 (size_whole line (size_in t.0.tags t.1)))
+        led_after Good (typename name c) (λ t q. answered_good t.0 (size line t.0.tags t.1) (typename_good name c g t q).0 (size_whole line (size_in t.0.tags t.1)))
     typed_good (Node f.Cast (At line ▹ name ▹ e ▹ none)) c g =
         led_after Good (typename name c) (λ t. one (cast_operand t.1 e (typed e t.0)) (λ tags d. cast line t.1 d))
         (λ t q. let k = typename_good name c g t q in one_good (cast_operand t.1 e (typed e t.0)) (λ tags d. cast line t.1 d) (cast_good t.1 e (typed e t.0) (typed_good e t.0 k.0)) (λ d x z p. cast_whole line t.1 x k.1))
@@ -610,7 +610,7 @@ module _ (ts : List CompletedTag) (made : AreMade nothing ts) where
         two_good (wanted e (typed e c)) (λ d. wanted h (typed h d)) (binary line op) (wanted_good e (typed e c) (typed_good e c g)) (λ d k. wanted_good h (typed h d) (typed_good h d k))
         (λ d x y k p q. binary_whole line op d.tags x y p q)
     typed_good (Node f.Cond (At line ▹ e ▹ h ▹ m ▹ none)) c g =
-        led_after Good (wanted e (typed e c)) (λ test. two (wanted h (typed h test.0)) (λ d. wanted m (typed m d)) (λ tags x y. choice line test.1 x y))
+        led_after Good (wanted e (typed e c))
         (λ test q. let k = wanted_good e (typed e c) (typed_good e c g) test q in
         two_good (wanted h (typed h test.0)) (λ d. wanted m (typed m d)) (λ tags x y. choice line test.1 x y) (wanted_good h (typed h test.0) (typed_good h test.0 k.0)) (λ d z. wanted_good m (typed m d) (typed_good m d z))
         (λ d x y z p s. choice_whole line test.1 x y p s))
@@ -627,27 +627,26 @@ module _ (ts : List CompletedTag) (made : AreMade nothing ts) where
     values_good : (arguments : Trees) (c : Context) → Fit c → Led GoodValues (values arguments c)
     values_good none c g = led_ok GoodValues (c, []) g
     values_good (e ▹ rest) c g =
-        led_after GoodValues (wanted e (typed e c)) (λ d. then (values rest d.0) (λ more. Ok (more.0, d.1 ∷ more.1)))
-        (λ d q. led_after GoodValues (values rest d.0) (λ more. Ok (more.0, d.1 ∷ more.1))
+        led_after GoodValues (wanted e (typed e c)) (λ d q. led_after GoodValues (values rest d.0)
         (λ more z. led_ok GoodValues (more.0, d.1 ∷ more.1) (values_good rest d.0 (wanted_good e (typed e c) (typed_good e c g) d q).0 more z)))
 
     pub typename_good : (name : Tree) (c : Context) → Fit c → Led GoodType (typename name c)
     typename_good (Node f.Typename (At line ▹ Node f.Specs (At at ▹ words) ▹ declarator ▹ none)) c g =
-        led_after GoodType (specs_type at words words c) (λ base. then (layers declarator base.0) (λ l. then (with_layers l.0.tags l.1 base.1) (λ type. unless (is_function type) LeftOut line (Ok (l.0, type)))))
+        led_after GoodType (specs_type at words words c)
         (λ base q. let k = specs_good at words words c g base q in
-        led_after GoodType (layers declarator base.0) (λ l. then (with_layers l.0.tags l.1 base.1) (λ type. unless (is_function type) LeftOut line (Ok (l.0, type))))
+        led_after GoodType (layers declarator base.0)
         (λ l z. let m = layers_good declarator base.0 k.0 l z in
-        led_after GoodType (with_layers l.0.tags l.1 base.1) (λ type. unless (is_function type) LeftOut line (Ok (l.0, type)))
+        led_after GoodType (with_layers l.0.tags l.1 base.1)
         (λ type s. led_unless GoodType (is_function type) LeftOut line (Ok (l.0, type)) (λ t. led_ok GoodType (l.0, type) (m.0, with_layers_whole ts l.0.tags l.1 base.1 m.0.completed k.1 m.1 type s)))))
     typename_good tree c g = led_refused GoodType Operands (line_of tree)
 
     layers_good : (tree : Tree) (c : Context) → Fit c → Led GoodLayers (layers tree c)
     layers_good (Node (f.Pointer consts) (At line ▹ declarator ▹ none)) c g =
-        led_after GoodLayers (layers declarator c) (λ l. Ok (l.0, names.PointerTo line ∷ l.1)) (λ l q. let k = layers_good declarator c g l q in led_ok GoodLayers (l.0, names.PointerTo line ∷ l.1) (k.0, (tt, k.1)))
+        led_after GoodLayers (layers declarator c) (λ l q. let k = layers_good declarator c g l q in led_ok GoodLayers (l.0, names.PointerTo line ∷ l.1) (k.0, (tt, k.1)))
     layers_good (Node f.Direct (base ▹ Node f.Suffixes suffixes ▹ none)) c g =
-        led_after GoodLayers (layers base c) (λ l. then (suffix_layers suffixes l.0) (λ s. Ok (s.0, reverse s.1 ++ l.1)))
+        led_after GoodLayers (layers base c)
         (λ l q. let k = layers_good base c g l q in
-        led_after GoodLayers (suffix_layers suffixes l.0) (λ s. Ok (s.0, reverse s.1 ++ l.1))
+        led_after GoodLayers (suffix_layers suffixes l.0)
         (λ s z. let m = suffixes_good suffixes l.0 k.0 s z in led_ok GoodLayers (s.0, reverse s.1 ++ l.1) (m.0, layers_append (known ts) (reverse s.1) l.1 (layers_reverse (known ts) s.1 m.1) k.1)))
     layers_good (Node f.Parens (At line ▹ declarator ▹ none)) c g = layers_good declarator c g
     layers_good tree c g = led_ok GoodLayers (c, []) (g, tt)
@@ -655,34 +654,33 @@ module _ (ts : List CompletedTag) (made : AreMade nothing ts) where
     suffixes_good : (suffixes : Trees) (c : Context) → Fit c → Led GoodLayers (suffix_layers suffixes c)
     suffixes_good none c g = led_ok GoodLayers (c, []) (g, tt)
     suffixes_good (suffix ▹ rest) c g =
-        led_after GoodLayers (suffix_layer suffix c) (λ l. then (suffix_layers rest l.0) (λ more. Ok (more.0, l.1 ∷ more.1)))
+        led_after GoodLayers (suffix_layer suffix c)
         (λ l q. let k = suffix_good suffix c g l q in
-        led_after GoodLayers (suffix_layers rest l.0) (λ more. Ok (more.0, l.1 ∷ more.1)) (λ more z. let m = suffixes_good rest l.0 k.0 more z in led_ok GoodLayers (more.0, l.1 ∷ more.1) (m.0, (k.1, m.1))))
+        led_after GoodLayers (suffix_layers rest l.0) (λ more z. let m = suffixes_good rest l.0 k.0 more z in led_ok GoodLayers (more.0, l.1 ∷ more.1) (m.0, (k.1, m.1))))
 
     suffix_good : (suffix : Tree) (c : Context) → Fit c → Led GoodLayer (suffix_layer suffix c)
     suffix_good (Node f.ArraySuffix (At line ▹ Node f.MaybeLength none ▹ none)) c g = led_ok GoodLayer (c, ArrayOf line None) (g, tt)
     suffix_good (Node f.ArraySuffix (At line ▹ Node f.MaybeLength (e ▹ none) ▹ none)) c g =
-        led_after GoodLayer (wanted e (typed e c)) (λ d. then (array_length (line_of e) d.1) (λ length. Ok (d.0, ArrayOf line (Some length))))
-        (λ d q. led_after GoodLayer (array_length (line_of e) d.1) (λ length. Ok (d.0, ArrayOf line (Some length)))
+        led_after GoodLayer (wanted e (typed e c)) (λ d q. led_after GoodLayer (array_length (line_of e) d.1)
         (λ m z. led_ok GoodLayer (d.0, ArrayOf line (Some m)) ((wanted_good e (typed e c) (typed_good e c g) d q).0, length_some (line_of e) d.1 m z)))
     suffix_good (Node f.FunctionSuffix (At line ▹ Node f.Params params ▹ none)) c g =
-        led_after GoodLayer (param_types params (in_new_scope c)) (λ p. Ok (out_of_scope p.0, FunctionOf line p.1))
+        led_after GoodLayer (param_types params (in_new_scope c))
         (λ p q. let k = params_good params (in_new_scope c) (new_scope c g) p q in led_ok GoodLayer (out_of_scope p.0, FunctionOf line p.1) (old_scope p.0 k.0, k.1))
     suffix_good tree c g = led_ok GoodLayer (c, FunctionOf (line_of tree) ct.none) (g, tt)
 
     params_good : (params : Trees) (c : Context) → Fit c → Led GoodParams (param_types params c)
     params_good none c g = led_ok GoodParams (c, ct.none) (g, tt)
     params_good (param ▹ rest) c g =
-        led_after GoodParams (param_type param c) (λ p. then (param_types rest p.0) (λ more. Ok (more.0, first p.1 more.1)))
+        led_after GoodParams (param_type param c)
         (λ p q. let k = param_type_good param c g p q in
-        led_after GoodParams (param_types rest p.0) (λ more. Ok (more.0, first p.1 more.1)) (λ more z. let m = params_good rest p.0 k.0 more z in led_ok GoodParams (more.0, first p.1 more.1) (m.0, (k.1, m.1))))
+        led_after GoodParams (param_types rest p.0) (λ more z. let m = params_good rest p.0 k.0 more z in led_ok GoodParams (more.0, first p.1 more.1) (m.0, (k.1, m.1))))
 
     param_type_good : (param : Tree) (c : Context) → Fit c → Led GoodType (param_type param c)
     param_type_good (Node f.Param (At line ▹ Node f.Specs (At at ▹ words) ▹ declarator ▹ none)) c g =
-        led_after GoodType (specs_type at words words c) (λ base. then (layers declarator base.0) (λ l. then (with_param_layers l.0.tags l.1 base.1) (λ type. declared_param line l.0 (name_of declarator) (adjusted type))))
+        led_after GoodType (specs_type at words words c)
         (λ base q. let k = specs_good at words words c g base q in
-        led_after GoodType (layers declarator base.0) (λ l. then (with_param_layers l.0.tags l.1 base.1) (λ type. declared_param line l.0 (name_of declarator) (adjusted type)))
+        led_after GoodType (layers declarator base.0)
         (λ l z. let m = layers_good declarator base.0 k.0 l z in
-        led_after GoodType (with_param_layers l.0.tags l.1 base.1) (λ type. declared_param line l.0 (name_of declarator) (adjusted type))
+        led_after GoodType (with_param_layers l.0.tags l.1 base.1)
         (λ type s. declared_good line l.0 (name_of declarator) (adjusted type) m.0 (adjusted_whole ts type (with_param_layers_whole ts l.0.tags l.1 base.1 m.0.completed k.1 m.1 type s)))))
     param_type_good tree c g = led_refused GoodType Operands (line_of tree)

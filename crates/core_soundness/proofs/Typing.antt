@@ -17,10 +17,9 @@ use Rattle.c_tree.specs.Tree.{Trees}
 use Rattle.c_decls.specs.Named as n
 use Rattle.c_decls.specs.ScopeList.{named_in}
 use Rattle.c_decls.specs.declared.refusal.TypeKind.TheVariants.{Undeclared, NoMain}
-use Rattle.c_decls.specs.Refusals.{unless}
 use Rattle.c_decls.specs.PlaceRules.{length_of}
 use Rattle.elaboration.specs.Context.{Piece, Does, Here, Context, Declared, Walked, first_context}
-use Rattle.elaboration.specs.Externals.{externals, ended, is_defined, is_main, calls_defined}
+use Rattle.elaboration.specs.Externals.{externals, is_defined, is_main, calls_defined}
 use Rattle.elaboration.specs.Resolving.{atoms_by, numbered, body_of, temporary, pointer_register, numbers_of, function_of, core_of, definition_of, function_by}
 use Rattle.elaboration.specs.Elaboration.{walked, elaborated}
 use Rattle.core_soundness.specs.Worlds.{walked_world, IsCall, result_sort, param_sorts, PiecesFit}
@@ -66,8 +65,8 @@ pub record Ended (c : Context) : Type 0 where
 
 pub text_ended : (unit : Trees) (c : Context) → AreWritten unit → AreFormed unit → walked unit ≡ Ok c → Ended c
 text_ended unit c p i h =
-    let x = came (externals unit first_context) ended c h in
-    let d = came (calls_defined x.value.functions x.value.calls x.value) (λ d. unless (not (is_main d.functions (named_in (codes "main") d.scopes.file))) NoMain 1 (good d)) c x.last in
+    let x = came (externals unit first_context) h in
+    let d = came (calls_defined x.value.functions x.value.calls x.value) x.last in
     let same : x.value ≡ c = calls_same x.value.functions x.value.calls x.value d.value d.is ∙ passed (not (is_main d.value.functions (named_in (codes "main") d.value.scopes.file))) NoMain 1 d.value c d.last in
     record {
       between = subst Between same (externals_between unit first_context x.value p i first_between x.is);

@@ -7,10 +7,9 @@ use Rattle.core_tree.specs.declared.statements.StmKind.{StmKind}
 use Rattle.core_tree.specs.declared.statements.StmKind.TheVariants.{Zero, Leave, Return}
 use Rattle.c_tree.specs.Tree.{Tree, Trees, none, ◌▹◌}
 use Rattle.c_decls.specs.declared.refusal.TypeKind.TheVariants.{Operands, Assignment}
-use Rattle.c_decls.specs.Refusals.{unless}
 use Rattle.c_decls.specs.IntegerTypes.{promoted}
 use Rattle.c_decls.specs.Typed.{Operand, Number, operand, is_void, is_scalar}
-use Rattle.c_decls.specs.PlaceRules.{converts, unconverted}
+use Rattle.c_decls.specs.PlaceRules.{unconverted}
 use Rattle.c_decls.specs.Expressions.{line_of}
 use Rattle.elaboration.specs.Context.{Piece, Does, Code, Context, Running, entered, left, emit}
 use Rattle.elaboration.specs.Conversions.{Found, atom_in, valued, convert, convert_integer, code_line, tested_value, unused}
@@ -169,7 +168,7 @@ maybe_evaluated_passes (e ▹ rest) c s = evaluated_passes e c s
 condition_passes : (e : Tree) (c : Context) → Safe c.scopes → Reached (Passes c) (condition e c)
 condition_passes e c s =
     let begun = opened e c in
-    reached_after (Passes c) (valued e (found e Void begun)) (λ d. unless (not (is_scalar d.1.typed.type)) Operands (line_of e) (Ok (closed_atom e (tested_value e d))))
+    reached_after (Passes c) (valued e (found e Void begun))
     (λ d h. reached_unless (Passes c) (not (is_scalar d.1.typed.type)) Operands (line_of e) (Ok (closed_atom e (tested_value e d)))
     (reached_ok (Passes c) (closed_atom e (tested_value e d)) (grows_passes c _ s (grows_closed e c (tested_value e d).0 s
     (grows_trans begun d.0 _ (grown_valued e begun (found e Void begun) (found_grows e Void begun begun (grows_refl begun)) d h) (grows_tested_value e d))))))
@@ -200,7 +199,7 @@ tests_zero line l a c d le p = record {
 
 pub leaves_tests : (line l : ℕ) (e : Tree) (c : Context) → l < c.code.labels → Safe c.scopes → Led (Tests l c) (leaves_if_zero line l e c)
 leaves_tests line l e c le s =
-    led_after (Tests l c) (condition e c) (λ d. Ok (emit line (Zero d.1 l) d.0))
+    led_after (Tests l c) (condition e c)
     (λ d h. led_ok (Tests l c) (emit line (Zero d.1 l) d.0) (tests_zero line l d.1 c d.0 le (condition_passes e c s d h)))
 
 pub maybe_tests : (line l : ℕ) (e : Trees) (c : Context) → l < c.code.labels → Safe c.scopes → Led (Tests l c) (maybe_leaves line l e c)
@@ -243,7 +242,7 @@ return_walks a line r c d fit p = walks_trans a c d _ fit (walks_passes a c d p)
 return_of_walks : (line : ℕ) (a : Around) (e : Tree) (type : PlainType) (c : Context) → Fits c.code.labels a → Safe c.scopes → Led (Walks a c) (return_of line a.delays e type c)
 return_of_walks line a e type c fit s =
     let begun = opened e c in
-    led_after (Walks a c) (valued e (found e type begun)) (λ d. unless (is_void type) Assignment line (converts line type d.1.typed (return_value line a.delays e type begun.code d)))
+    led_after (Walks a c) (valued e (found e type begun))
     (λ d h. led_unless (Walks a c) (is_void type) Assignment line _ (λ q.
     led_barred (Walks a c) (unconverted type d.1.typed) line (return_value line a.delays e type begun.code d)
     (let v = convert line begun.code type d.1.typed (atom_in d.1) d.0 in
@@ -266,7 +265,7 @@ operand_passes line e other c d s g = reached_refused (Passes c) Operands (line_
 pub switch_operand_passes : (line : ℕ) (e : Tree) (c : Context) → Safe c.scopes → Reached (Passes c) (switch_operand line e c)
 switch_operand_passes line e c s =
     let begun = opened e c in
-    reached_after (Passes c) (valued e (found e Void begun)) (λ d. switch_operand_of line e (operand d.1.typed.type) d)
+    reached_after (Passes c) (valued e (found e Void begun))
     (λ d h. operand_passes line e (operand d.1.typed.type) c d s (grown_valued e begun (found e Void begun) (found_grows e Void begun begun (grows_refl begun)) d h))
 
 -- the cases among them

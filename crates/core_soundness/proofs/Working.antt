@@ -1,5 +1,5 @@
 -- What conversions and operators do to what is known.
-use Rattle.std.proofs.Common.{◌≡◌, ℕ, pos, Ok, refl}
+use Rattle.std.proofs.Common.{◌≡◌, ℕ, pos, refl}
 use Rattle.c_types.specs.declared.types.IntType.{IntType}
 use Rattle.c_types.specs.Types.{PlainType, Int, Pointer, kind_of}
 use Rattle.core_tree.specs.declared.statements.Atom.{Atom}
@@ -32,7 +32,7 @@ grows_read line type spot c = grows_refl c
 
 pub grown_valued_from : (tree : Tree) (b c : Context) (e : Found) → Grows b c → Grown b (valued_from tree c e)
 grown_valued_from tree b c e g =
-    grown_after b (read (line_of tree) c.tags e.typed) (λ typed. Ok (read_value typed e (read_spot (code_line tree) e.typed.type e.spot c)))
+    grown_after b (read (line_of tree) c.tags e.typed)
     (λ typed h. grown_ok b (read_value typed e (read_spot (code_line tree) e.typed.type e.spot c)) (grows_trans b c _ g (grows_read (code_line tree) e.typed.type e.spot c)))
 
 pub grown_unused : (tree : Tree) (b : Context) (answer : With Found) → Grown b answer → Grown b (unused tree answer)
