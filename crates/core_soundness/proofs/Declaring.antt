@@ -72,8 +72,8 @@ after_passes name named c e no_function s =
 
 pub declared_passes : (line : ℕ) (name : List ℕ) (named : PlainNamed) (b c : Context) → frees (Some named) ≡ false → IsNoFunction named → Passes b c → Led (Passes b) (declared_as line name named c)
 declared_passes line name named b c e no_function p =
-    led_unless (Passes b) (is_twice c.scopes name named) DeclaredTwice line (Ok (record c { scopes = after_declaration c.scopes name named }))
-    (λ q. led_ok (Passes b) (record c { scopes = after_declaration c.scopes name named }) (passes_trans b c _ p (after_passes name named c e no_function p.stays.safe)))
+    led_unless (Passes b) (is_twice c.scopes name named) DeclaredTwice line
+    (λ q. led_ok (Passes b) (passes_trans b c _ p (after_passes name named c e no_function p.stays.safe)))
 
 named_passes : (name : Option (List ℕ)) (named : PlainNamed) (c : Context) → frees (Some named) ≡ false → IsNoFunction named → Safe c.scopes → Passes c (with_named name named c)
 named_passes None named c e no_function s = passes_refl c s
@@ -133,7 +133,7 @@ with_local_passes name type c s = counted_passes c _ (local_in_passes (next_is_m
 
 pub with_type_passes : (answer : Checked (names.Context × PlainType)) (b c : Context) → Reached (After (asked c)) answer → Passes b c → Reached (Passes b) (with_type answer c)
 with_type_passes answer b c g p =
-    reached_after (Passes b) answer (λ x h. reached_ok (Passes b) (told x.0 c, x.1) (passes_trans b c _ p (told_passes x.0 c (g x h) p.stays.safe)))
+    reached_after (Passes b) answer (λ x h. reached_ok (Passes b) (passes_trans b c _ p (told_passes x.0 c (g x h) p.stays.safe)))
 
 pub tail_depth : (inner : List Table) (k : ℕ) → length inner ≡ suc k → length (scopes.tail inner) ≡ k
 tail_depth [] k e = absurd (omega arith)

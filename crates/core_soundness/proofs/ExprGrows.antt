@@ -33,44 +33,42 @@ use Rattle.core_soundness.proofs.Ruling.{grown_indexed, grown_dotted, grown_poin
 use Rattle.core_soundness.proofs.Unused.{cast_unused}
 
 grown_name : (line : ℕ) (name : List ℕ) (declared : Option PlainNamed) (b c : Context) → Grows b c → Grown b (name_answer line name declared c)
-grown_name line name declared b c g = grown_after b (named line declared) (λ e h. grown_ok b (c, name_found e (is_inner c name) declared) g)
+grown_name line name declared b c g = grown_after b (named line declared) (λ e h. grown_ok b g)
 
 grown_string : (line : ℕ) (bytes : List ℕ) (b c : Context) → Grows b c → Grown b (literal_answer line bytes c)
-grown_string line bytes b c g =
-    grown_after b (string line bytes) (λ e h. grown_then b (grown_literal line bytes b c g) (λ d k. grown_ok b (literal_found e d) k))
+grown_string line bytes b c g = grown_after b (string line bytes) (λ e h. grown_then b (grown_literal line bytes b c g) (λ d k. grown_ok b k))
 
 grown_unevaluated : (tree : Tree) (b c : Context) → Grows b c → Grown b (unevaluated c (typed tree (asked c)))
 grown_unevaluated tree b c g =
-    grown_after b (typed tree (asked c))
-    (λ d h. grown_ok b (told d.0 c, constant_found d.1) (grows_trans b c _ g (grows_told d.0 c (typed_after tree (asked c) d h))))
+    grown_after b (typed tree (asked c)) (λ d h. grown_ok b (grows_trans b c _ g (grows_told d.0 c (typed_after tree (asked c) d h))))
 
 grown_address : (line : ℕ) (b c : Context) (e : Found) → Grows b c → Grown b (address_answer line c e)
-grown_address line b c e g = grown_after b (address line e.typed) (λ type h. grown_ok b (c, found_as type (Value (atom_in e)) e.fixed) g)
+grown_address line b c e g = grown_after b (address line e.typed) (λ type h. grown_ok b g)
 
 grown_changing : (tree : Tree) (b : Context) (answer : With Found) → Grown b answer → Grown b (changing tree answer)
-grown_changing tree b answer g = grown_then b g (λ d h. grown_after b (held_place (line_of tree) d.0.tags d.1.typed) (λ held k. grown_ok b d h))
+grown_changing tree b answer g = grown_then b g (λ d h. grown_after b (held_place (line_of tree) d.0.tags d.1.typed) (λ held k. grown_ok b h))
 
 grown_callee : (tree : Tree) (b c : Context) (answer : With Found) → Grows b c → Grown b answer → Grown b (callee tree c answer)
 grown_callee (Node f.Name (At line ▹ Leaf (w.Name name) ▹ none)) b c answer g h =
-    grown_after b (called line c.tags (declaration c.scopes name)) (λ function k. grown_ok b (c, function) g)
-grown_callee tree b c answer g h = grown_then b (grown_valued tree b answer h) (λ d k. grown_ok b (d.0, NoFunction) k)
+    grown_after b (called line c.tags (declaration c.scopes name)) (λ function k. grown_ok b g)
+grown_callee tree b c answer g h = grown_then b (grown_valued tree b answer h) (λ d k. grown_ok b k)
 
 grown_format : (format : Option (List ℕ)) (b c : Context) (answer : Checked (names.Context × PlainTyped)) (walked : With Found) → Grows b c → Grown b walked → Grown b (format_argument format c answer walked)
-grown_format (Some bytes) b c answer walked g h = grown_after b answer (λ d k. grown_ok b (c, valued_as d.1 atom.Null) g)
+grown_format (Some bytes) b c answer walked g h = grown_after b answer (λ d k. grown_ok b g)
 grown_format None b c answer walked g h = h
 
 grown_call : (line : ℕ) (name : Option PlainNamed) (function : Callee) (wanted : PlainType) (trees : Trees) (b c : Context) (values : List Argument) → Grows b c → Grown b (call_answer line name function wanted trees c values)
 grown_call line name function wanted trees b c values g =
     grown_after b (call line (first_literal trees) function (types_of values))
-    (λ e h. grown_ok b (let d = call_named line name e.type wanted (first_literal trees) values c in (d.0, found_as e d.1 Unknown)) (grows_trans b c _ g (grows_call line name e.type wanted (first_literal trees) values c)))
+    (λ e h. grown_ok b (grows_trans b c _ g (grows_call line name e.type wanted (first_literal trees) values c)))
 
 mutual
   unfolding found arguments
 
   pub found_grows : (tree : Tree) (wanted : PlainType) (c0 c : Context) → Grows c0 c → Grown c0 (found tree wanted c)
   found_grows (Node f.Name (At line ▹ Leaf (w.Name name) ▹ none)) wanted c0 c g = grown_name line name (declaration c.scopes name) c0 c g
-  found_grows (Node f.Int (At line ▹ Leaf (w.Int bytes) ▹ none)) wanted c0 c g = grown_ok c0 (c, constant_found (constant (int_constant bytes))) g
-  found_grows (Node f.Char (At line ▹ Leaf (w.Char bytes) ▹ none)) wanted c0 c g = grown_ok c0 (c, constant_found (constant (char_constant bytes))) g
+  found_grows (Node f.Int (At line ▹ Leaf (w.Int bytes) ▹ none)) wanted c0 c g = grown_ok c0 g
+  found_grows (Node f.Char (At line ▹ Leaf (w.Char bytes) ▹ none)) wanted c0 c g = grown_ok c0 g
   found_grows (Node f.Str (At line ▹ Node f.Strings parts ▹ none)) wanted c0 c g = grown_string line (joined parts) c0 c g
   found_grows (Node f.Paren (At line ▹ e ▹ none)) wanted c0 c g = found_grows e wanted c0 c g
   found_grows (Node f.Index (At line ▹ e ▹ x ▹ none)) wanted c0 c g =
@@ -146,10 +144,10 @@ mutual
   found_grows tree wanted c0 c g = grown_refused c0 Operands (line_of tree)
 
   pub arguments_grow : (trees : Trees) (line : ℕ) (target : Callee) (params : PlainTypes) (c0 c : Context) → Grows c0 c → Grown c0 (arguments line target params trees c)
-  arguments_grow none line target params c0 c g = grown_ok c0 (c, []) g
+  arguments_grow none line target params c0 c g = grown_ok c0 g
   arguments_grow (e ▹ rest) line target params c0 c g =
       grown_after c0 (format_argument (is_printf target e) c (typed e (asked c)) (valued e (found e (first_type params) c)))
       (λ d h. let v = argument_from line params c.code d.0 d.1 in
       let walked : Grows c d.0 = grown_format (is_printf target e) c c (typed e (asked c)) (valued e (found e (first_type params) c)) (grows_refl c) (grown_valued e c (found e (first_type params) c) (found_grows e (first_type params) c c (grows_refl c))) d h in
       grown_then c0 (arguments_grow rest line NoFunction (rest_types params) c0 v.0 (grows_trans c0 c v.0 g (grows_argument line params c d.0 d.1 walked)))
-      (λ more k. grown_ok c0 (more.0, v.1 ∷ more.1) k))
+      (λ more k. grown_ok c0 k))

@@ -78,20 +78,20 @@ module _ (ts : List CompletedTag) (room : ℕ) (slots : List ℕ) where
 
   integer_filled : (line : ℕ) (ty : IntType) (offset low : ℕ) (start : Start) (folded : Folded) → low ≤ offset → Seat room slots offset (number_layout (width_of ty)) → Filled slots low start → Led (Filled slots (offset + width_of ty)) (static_integer line ty offset start folded)
   integer_filled line ty offset low start (Is v) e seat h =
-      led_ok (Filled slots (offset + width_of ty)) (with_bytes start offset (bytes_of (width_of ty) (low_bits (8 * width_of ty) v)))
+      led_ok (Filled slots (offset + width_of ty))
       (filled_bytes room slots low offset (number_layout (width_of ty)) start (bytes_of (width_of ty) (low_bits (8 * width_of ty) v)) h e seat (λ s k. k) (omega (arith, bytes_of_length (width_of ty) (low_bits (8 * width_of ty) v))))
-  integer_filled line ty offset low start other e seat h = led_refused (Filled slots (offset + width_of ty)) NotConstant line
+  integer_filled line ty offset low start other e seat h = led_refused (Filled slots (offset + width_of ty))
 
   address_filled : (line offset low : ℕ) (start : Start) (fixed : Fixed) → low ≤ offset → Has slots offset → Filled slots low start → Led (Filled slots (offset + 4)) (static_address line offset start fixed)
-  address_filled line offset low start Unknown e there h = led_refused (Filled slots (offset + 4)) NotConstant line
-  address_filled line offset low start Nowhere e there h = led_ok (Filled slots (offset + 4)) start (filled_more slots low (offset + 4) start (omega (arith, e)) h)
-  address_filled line offset low start (Inside g at) e there h = led_ok (Filled slots (offset + 4)) (with_pointer start offset g (Rattle.std.specs.Prelude.unsigned_abs at)) (filled_pointer slots low offset g (Rattle.std.specs.Prelude.unsigned_abs at) start h e there)
+  address_filled line offset low start Unknown e there h = led_refused (Filled slots (offset + 4))
+  address_filled line offset low start Nowhere e there h = led_ok (Filled slots (offset + 4)) (filled_more slots low (offset + 4) start (omega (arith, e)) h)
+  address_filled line offset low start (Inside g at) e there h = led_ok (Filled slots (offset + 4)) (filled_pointer slots low offset g (Rattle.std.specs.Prelude.unsigned_abs at) start h e there)
 
   pointer_filled : (line offset low : ℕ) (start : Start) (e : Found) → low ≤ offset → Seat room slots offset pointer_layout → Filled slots low start → Led (Filled slots (offset + 4)) (static_pointer line offset start e)
   pointer_filled line offset low start e k seat h =
       let there : Has slots offset = subst (Has slots) (end offset) (seat.up 0 (Rattle.std.proofs.Common.inl refl)) in
       led_cond (Filled slots (offset + 4)) (is_null_constant e.typed) (Ok start) (static_address line offset start e.fixed)
-      (led_ok (Filled slots (offset + 4)) start (filled_more slots low (offset + 4) start (omega (arith, k)) h))
+      (led_ok (Filled slots (offset + 4)) (filled_more slots low (offset + 4) start (omega (arith, k)) h))
       (address_filled line offset low start e.fixed k there h)
     where
       end : (k : ℕ) → k + 0 ≡ k
@@ -119,7 +119,7 @@ module _ (ts : List CompletedTag) (room : ℕ) (slots : List ℕ) where
   fill_filled : (e : Tree) (line : ℕ) (type : PlainType) (offset low : ℕ) (l : Layout) (before : Code) (target : Target) (c : Context) (d : Context × Found) → NoAggregate type → layout_of (known ts) type ≡ Some l → low ≤ offset → Seat room slots offset l → Kept c d.0 → TargetFilled slots low target → Led (Fills slots (offset + l.size) c) (fill_scalar e line type offset before d target)
   fill_filled e line type offset low l before (InStatic start) c d a q k seat s h =
       led_after (Fills slots (offset + l.size) c) (static_scalar line type offset start d.1)
-      (λ filled r. led_ok (Fills slots (offset + l.size) c) (d.0, InStatic filled) (s, scalar_filled_at line type offset low l start d.1 a q k seat h filled r))
+      (λ filled r. led_ok (Fills slots (offset + l.size) c) (s, scalar_filled_at line type offset low l start d.1 a q k seat h filled r))
   fill_filled e line type offset low l before other c d a q k seat s h = absurd h
 
   scalar_fills : (e : Tree) (line : ℕ) (type : PlainType) (offset low : ℕ) (l : Layout) (target : Target) (c : Context) → NoAggregate type → Solid c → layout_of (known ts) type ≡ Some l → low ≤ offset → Seat room slots offset l → TargetFilled slots low target → Led (Fills slots (offset + l.size) c) (scalar e line type offset target c)
@@ -127,12 +127,12 @@ module _ (ts : List CompletedTag) (room : ℕ) (slots : List ℕ) where
       let begun = opened e c in
       let o = opened_kept e c solid in
       led_after (Fills slots (offset + l.size) c) (valued e (found e type begun))
-      (λ d r. led_barred (Fills slots (offset + l.size) c) (unconverted type d.1.typed) line (fill_scalar e line type offset begun.code d target)
+      (λ d r. led_barred (Fills slots (offset + l.size) c) (unconverted type d.1.typed) line
       (fill_filled e line type offset low l begun.code target c d a q k seat (kept_trans c begun d.0 o (value_kept e type begun d o.solid r)) h))
 
   record_fills : (e : Tree) (line : ℕ) (type : PlainType) (offset low high : ℕ) (c : Context) (d : Context × Found) (target : Target) → TargetFilled slots low target → Led (Fills slots high c) (fill_record e line type offset d target)
   record_fills e line type offset low high c d (InMemory at mem) h = absurd h
-  record_fills e line type offset low high c d other h = led_refused (Fills slots high c) NotConstant line
+  record_fills e line type offset low high c d other h = led_refused (Fills slots high c)
 
   whole_fills : (e : Tree) (line : ℕ) (type : PlainType) (offset low high : ℕ) (target : Target) (c : Context) → TargetFilled slots low target → Led (Fills slots high c) (whole e line type offset target c)
   whole_fills e line type offset low high target c h =
@@ -162,9 +162,9 @@ module _ (ts : List CompletedTag) (room : ℕ) (slots : List ℕ) where
 
   text_fills : (e : Tree) (line : ℕ) (bytes : List ℕ) (size offset low : ℕ) (target : Target) (c : Context) → Solid c → low ≤ offset → Seat room slots offset (array_layout size (number_layout 1)) → TargetFilled slots low target → Led (Fills slots (offset + size * 1) c) (fill_text e line bytes size offset target c)
   text_fills e line bytes size offset low (InMemory at mem) c solid k seat h = absurd h
-  text_fills e line bytes size offset low (InRegister at register) c solid k seat h = led_refused (Fills slots (offset + size * 1) c) Assignment line
+  text_fills e line bytes size offset low (InRegister at register) c solid k seat h = led_refused (Fills slots (offset + size * 1) c)
   text_fills e line bytes size offset low (InStatic start) c solid k seat h =
-      led_ok (Fills slots (offset + size * 1) c) (c, InStatic (with_bytes start offset (take size bytes)))
+      led_ok (Fills slots (offset + size * 1) c)
       (kept_refl c solid, filled_bytes room slots low offset (array_layout size (number_layout 1)) start (take size bytes) h k seat (λ s r. let x = has_row 1 [] 0 size s r in x.there) (omega (arith, length-take size bytes)))
 
   by_text_fills : (e : Tree) (line : ℕ) (element : PlainType) (size offset low : ℕ) (o : Option (List ℕ)) (l : Layout) (target : Target) (c : Context) → Solid c → layout_of (known ts) (Array element size) ≡ Some l → low ≤ offset → Seat room slots offset l → TargetFilled slots low target → Led (Fills slots (offset + l.size) c) (by_text e line element size offset o target c)
@@ -203,13 +203,13 @@ module _ (ts : List CompletedTag) (all : AllProper ts) (room : ℕ) (slots : Lis
     initialize_fills (Node (f.InitList trailing) (At line ▹ Node f.Inits inits ▹ none)) in_scalar type offset low l target c solid same p q k seat h =
         led_cond (Fills slots (offset + l.size) c) (takes_braces type in_scalar) (initialize_parts line inits (is_scalar_type type) (parts_of c (count inits) type offset) target c) (then (all_surplus inits c) (λ d. refused Assignment line))
         (parts_fill inits line (is_scalar_type type) (parts_of c (count inits) type offset) low offset (offset + l.size) target c solid same k (seated_parts ts room slots c (count inits) type offset l solid same all p q seat) h)
-        (led_after (Fills slots (offset + l.size) c) (all_surplus inits c) (λ d r. led_refused (Fills slots (offset + l.size) c) Assignment line))
-    initialize_fills tree in_scalar type offset low l target c solid same p q k seat h = led_refused (Fills slots (offset + l.size) c) Operands (line_of tree)
+        (led_after (Fills slots (offset + l.size) c) (all_surplus inits c) (λ d r. led_refused (Fills slots (offset + l.size) c)))
+    initialize_fills tree in_scalar type offset low l target c solid same p q k seat h = led_refused (Fills slots (offset + l.size) c)
 
     parts_fill : (inits : Trees) (line : ℕ) (in_scalar : Bool) (parts : List (PlainType × ℕ)) (low base high : ℕ) (target : Target) (c : Context) → Solid c → c.tags.completed ≡ ts → low ≤ base → PartsSeated ts room slots base high parts → TargetFilled slots low target → Led (Fills slots high c) (initialize_parts line inits in_scalar parts target c)
     parts_fill none line in_scalar parts low base high target c solid same k seats h =
-        let far = parts_end ts room slots base high parts seats in led_ok (Fills slots high c) (c, target) (kept_refl c solid, target_more slots low high target (omega (arith, k, far)) h)
-    parts_fill (init ▹ rest) line in_scalar [] low base high target c solid same k seats h = led_after (Fills slots high c) (all_surplus (init ▹ rest) c) (λ d q. led_refused (Fills slots high c) Assignment line)
+        let far = parts_end ts room slots base high parts seats in led_ok (Fills slots high c) (kept_refl c solid, target_more slots low high target (omega (arith, k, far)) h)
+    parts_fill (init ▹ rest) line in_scalar [] low base high target c solid same k seats h = led_after (Fills slots high c) (all_surplus (init ▹ rest) c) (λ d q. led_refused (Fills slots high c))
     parts_fill (init ▹ rest) line in_scalar (part ∷ parts) low base high target c solid same k seats h =
         led_after (Fills slots high c) (initialize init in_scalar part.0 part.1 target c)
         (λ d q z s.

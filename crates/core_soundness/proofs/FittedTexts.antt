@@ -150,17 +150,17 @@ start_fitted index c start v e h p =
     (record { objects = objects_set (K c) c.variables _ c.scopes.file (set_stay c.variables index v start e) h.objects; starts = starts_set c.variables index v start h.starts p })
 
 fill_fitted : (line index : ℕ) (type : PlainType) (inits : Trees) (c : Context) (v : Variable) → Solid c → Sorts c → SortedType c.tags.made type → Fitted c → slice_get c.variables index ≡ Some v → layout_of (K c) type ≡ Some v.layout → Led Fitted (fill_variable line index type inits c)
-fill_fitted line index type none c v solid ks st h at laid = led_ok Fitted c h
+fill_fitted line index type none c v solid ks st h at laid = led_ok Fitted h
 fill_fitted line index type (init ▹ rest) c v solid ks st h at laid =
     let ts = c.tags.completed in
     let l = v.layout in
-    led_unless Fitted (is_some (start_of (slice_get c.variables index))) DeclaredTwice line (then (initialize init false type 0 (InStatic no_start) c) (λ d. Ok (started index d)))
+    led_unless Fitted (is_some (start_of (slice_get c.variables index))) DeclaredTwice line
     (λ t. led_after Fitted (initialize init false type 0 (InStatic no_start) c)
     (λ d q. let points = initialize_points init false type 0 (InStatic no_start) c (there_of c h) tt d q in
     let fills = initialize_fills ts (all_proper c.tags.made ts ks.bodies) l.size l.slots init false type 0 0 l (InStatic no_start) c solid refl (proper_type c.tags.made ts type ks.bodies st) laid (omega arith) (seat_whole l) (nothing_filled l.slots 0) d q in
     let near = fitted_on c d.0 points.0 (same_known c d.0 fills.0.completed) h in
     let here : slice_get d.0.variables index ≡ Some v = subst (λ (vs : List Variable). slice_get vs index ≡ Some v) (sym points.0.variables) at in
-    led_ok Fitted (started index d) (start_fitted index d.0 (start_in d.1) v here near (filled_more l.slots (0 + l.size) l.size (start_in d.1) (omega arith) (target_filled l.slots (0 + l.size) d.1 fills.1)))))
+    led_ok Fitted (start_fitted index d.0 (start_in d.1) v here near (filled_more l.slots (0 + l.size) l.size (start_in d.1) (omega arith) (target_filled l.slots (0 + l.size) d.1 fills.1)))))
 
 -- an object that is declared, with its variable
 
@@ -278,7 +278,7 @@ placed line name type c d x flat s h =
 object_fitted : (line : ℕ) (name : List ℕ) (type : PlainType) (inits : Trees) (c : Context) → length c.scopes.inner ≡ 0 → Solid c → Whole (K c) type → Sorts c → SortedType c.tags.made type → Fitted c → Led Fitted (file_object line name type inits c)
 object_fitted line name type inits c flat h w ks st fit =
     let index = variable_number_of c (named_in name c.scopes.file) in
-    led_unless Fitted (has_no_size c.tags type) Incomplete line (then (declared_as line name (n.Object type index) c) (λ d. then (with_variable line index name type d) (λ v. fill_variable line index type inits v)))
+    led_unless Fitted (has_no_size c.tags type) Incomplete line
     (λ t. let sized = has_size c.tags type t in
     led_after Fitted (declared_as line name (n.Object type index) c)
     (λ d q. let r = declared_rises line name (n.Object type index) c h w (λ x. tt) d q in
@@ -290,8 +290,8 @@ object_fitted line name type inits c flat h w ks st fit =
 -- functions and other names
 
 no_initializer_fitted : (inits : Trees) (c : Context) → Fitted c → Led Fitted (no_initializer inits c)
-no_initializer_fitted none c h = led_ok Fitted c h
-no_initializer_fitted (init ▹ rest) c h = led_after Fitted (surplus init c) (λ d q. led_refused Fitted Assignment (line_of init))
+no_initializer_fitted none c h = led_ok Fitted h
+no_initializer_fitted (init ▹ rest) c h = led_after Fitted (surplus init c) (λ d q. led_refused Fitted)
 
 value_fitted : (line : ℕ) (name : List ℕ) (type : PlainType) (inits : Trees) (c : Context) → length c.scopes.inner ≡ 0 → Solid c → Whole (K c) type → Sorts c → SortedType c.tags.made type → Fitted c → Led Fitted (file_value line name type inits c)
 value_fitted line name type inits c flat h w ks st fit =
@@ -305,7 +305,7 @@ file_name_fitted line Typedef name type inits c flat h w ks st fit = λ d q. fit
 file_name_fitted line other name type inits c flat h w ks st fit = value_fitted line name type inits c flat h w ks st fit
 
 name_fitted : (line : ℕ) (storage : Storage) (name : Option (List ℕ)) (type : PlainType) (inits : Trees) (c : Context) → length c.scopes.inner ≡ 0 → Solid c → Whole (K c) type → Sorts c → SortedType c.tags.made type → Fitted c → Led Fitted (name_in true line storage name type inits c)
-name_fitted line storage None type inits c flat h w ks st fit = led_ok Fitted c fit
+name_fitted line storage None type inits c flat h w ks st fit = led_ok Fitted fit
 name_fitted line storage (Some name) type inits c flat h w ks st fit = file_name_fitted line storage name type inits c flat h w ks st fit
 
 -- declarations at file scope
@@ -331,7 +331,7 @@ entry_fitted line storage base declarator inits c k b st w v =
 
 entries_fitted : (names : Trees) (line : ℕ) (storage : Storage) (base : PlainType) (c : Context) → Steady c → Whole (K c) base → SortedType c.tags.made base → AllWritten names → Led Fitted (entries true line storage base names c)
 unfolding entries Written AllWritten
-entries_fitted none line storage base c k b st w = led_ok Fitted c k.fitted
+entries_fitted none line storage base c k b st w = led_ok Fitted k.fitted
 entries_fitted (Node f.Entry (Node f.Declared (declarator ▹ none) ▹ Node f.MaybeInit inits ▹ none) ▹ rest) line storage base c k b st w =
     led_after Fitted (entry true line storage base declarator inits c)
     (λ d q. let o = entry_rises c true line storage base declarator inits c (rises_refl c k.solid) b (λ x. st) w.0.1.0.1.0 w.0.1.1.0.1 d q in
@@ -339,7 +339,7 @@ entries_fitted (Node f.Entry (Node f.Declared (declarator ▹ none) ▹ Node f.M
     entries_fitted rest line storage base d
     (record { safe = y.safe; flat = y.depth ∙ k.flat; solid = o.rises.solid; sorts = o.rises.kinds.sorts k.sorts; fitted = entry_fitted line storage base declarator inits c k b st w.0.1.0.1.0 w.0.1.1.0.1 d q })
     (whole_stays base (K c) (K d) o.more b) (type_longer base c.tags.made d.tags.made o.made st) w.1)
-entries_fitted (tree ▹ rest) line storage base c k b st w = led_refused Fitted Operands (line_of tree)
+entries_fitted (tree ▹ rest) line storage base c k b st w = led_refused Fitted
 
 declaration_fitted : (line : ℕ) (words tree : Tree) (c : Context) → Steady c → Written words → Written tree → Led Fitted (declaration true line words tree c)
 unfolding declaration Written
@@ -351,7 +351,7 @@ declaration_fitted line words (Node f.Names names) c k v w =
     entries_fitted names line (storage_of words) base.1 base.0
     (record { safe = y.safe; flat = m.depth ∙ k.flat; solid = b.0.solid; sorts = b.0.kinds.sorts k.sorts; fitted = fitted_on c base.0 m.settled b.0.more k.fitted })
     b.1 (b.2 k.sorts) w.1)
-declaration_fitted line words tree c k v w = led_refused Fitted Operands line
+declaration_fitted line words tree c k v w = led_refused Fitted
 
 -- texts
 
@@ -365,11 +365,11 @@ external_fitted (Node f.Function (At line ▹ words ▹ Node f.Declared (declara
     fitted_on b z (definition_settled line words declarator tree b s.safe s.params s.flat z q) (external_rises (Node f.Function (At line ▹ words ▹ Node f.Declared (declarator ▹ none) ▹ tree ▹ none)) c h w z q).more (begun_fitted line (addressed_in declarator tree) c fit)
 external_fitted (Node f.Declaration (At line ▹ words ▹ names ▹ none)) c s h ks w fit z q =
     declaration_fitted line words names (begun line [] c) (record { safe = s.safe; flat = s.flat; solid = (begun_rises line [] c h).solid; sorts = ks; fitted = begun_fitted line [] c fit }) w.1.1.0 w.1.1.1.0 z q
-external_fitted tree c s h ks w fit z q = led_refused Fitted Operands (line_of tree) z q
+external_fitted tree c s h ks w fit z q = led_refused Fitted z q
 
 externals_fitted : (unit : Trees) (c : Context) → Sane c → Solid c → Sorts c → AreWritten unit → Fitted c → Led Fitted (externals unit c)
 unfolding externals
-externals_fitted none c s h ks w fit = led_ok Fitted c fit
+externals_fitted none c s h ks w fit = led_ok Fitted fit
 externals_fitted (tree ▹ rest) c s h ks w fit =
     led_after Fitted (external tree c)
     (λ d q. let r = external_rises tree c h w.0.0 d q in
@@ -401,15 +401,15 @@ first_sorts : Sorts first_context
 first_sorts = record { names = record { file = numbered_sorted 0 built_ins; inner = tt }; list = none_sorted []; bodies = tt }
 
 calls_fitted : (functions : List Declared) (calls : List (ℕ × ℕ)) (c : Context) → Fitted c → Led Fitted (calls_defined functions calls c)
-calls_fitted functions [] c h = led_ok Fitted c h
-calls_fitted functions (call ∷ calls) c h = led_cond Fitted (is_defined (slice_get functions call.0)) (calls_defined functions calls c) (refused Undeclared call.1) (calls_fitted functions calls c h) (led_refused Fitted Undeclared call.1)
+calls_fitted functions [] c h = led_ok Fitted h
+calls_fitted functions (call ∷ calls) c h = led_cond Fitted (is_defined (slice_get functions call.0)) (calls_defined functions calls c) (refused Undeclared call.1) (calls_fitted functions calls c h) (led_refused Fitted)
 
 walked_fitted : (unit : Trees) → AreWritten unit → Led Fitted (walked unit)
 walked_fitted unit w =
     led_after Fitted (externals unit first_context)
     (λ x s. let r = externals_fitted unit first_context first_sane first_solid first_sorts w first_fitted x s in
     led_after Fitted (calls_defined x.functions x.calls x)
-    (λ d k. led_unless Fitted (not (is_main d.functions (named_in (codes "main") d.scopes.file))) NoMain 1 (Ok d) (λ y. led_ok Fitted d (calls_fitted x.functions x.calls x r d k))))
+    (λ d k. led_unless Fitted (not (is_main d.functions (named_in (codes "main") d.scopes.file))) NoMain 1 (λ y. led_ok Fitted (calls_fitted x.functions x.calls x r d k))))
 
 -- the statics of a core
 

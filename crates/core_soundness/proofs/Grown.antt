@@ -20,11 +20,11 @@ never G r x e = cc
 abbrev pub Grown : {A : Type 0} → Context → With A → Type 0
 Grown {A} b r = (d : Context × A) → r ≡ Ok d → Grows b d.0
 
-pub grown_ok : {A : Type 0} (b : Context) (x : Context × A) → Grows b x.0 → Grown b (Ok x)
-grown_ok b x g d e = subst (λ y. Grows b y.0) (ok_same x d e) g
+pub grown_ok : {A : Type 0} (b : Context) {x : Context × A} → Grows b x.0 → Grown b (Ok x)
+grown_ok b {x} g d e = subst (λ y. Grows b y.0) (ok_same x d e) g
 
-pub grown_refused : {A : Type 0} (b : Context) (kind : TypeKind) (line : ℕ) → Grown {A = A} b (refused kind line)
-grown_refused b kind line d e = never (Grows b d.0) _ d e
+pub grown_refused : {A : Type 0} (b : Context) {kind : TypeKind} {line : ℕ} → Grown {A = A} b (refused kind line)
+grown_refused b d e = never (Grows b d.0) _ d e
 
 -- what is checked first; and what comes next
 pub grown_after : {A B : Type 0} (b : Context) (r : Checked A) {f : A → With B} → ((a : A) → r ≡ Ok a → Grown b (f a)) → Grown b (then r f)

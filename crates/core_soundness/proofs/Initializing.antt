@@ -69,7 +69,7 @@ fill_scalar_fills : (e : Tree) (line : ℕ) (type : PlainType) (offset : ℕ) (b
 fill_scalar_fills e line type offset b d (InRegister at register) s g =
     let begun = opened e b in
     let v = convert at begun.code type d.1.typed (atom_in d.1) d.0 in
-    led_ok (Fills (InRegister at register) b) (closed e (write at type (Local register) v.1 v.0), InRegister at register)
+    led_ok (Fills (InRegister at register) b)
     (local_fills (InRegister at register) b (closed e (write at type (Local register) v.1 v.0)) s
     (grows_closed e b (write at type (Local register) v.1 v.0) s
     (grows_trans begun v.0 _ (grows_convert at begun type d.1.typed (atom_in d.1) d.0 g) (grows_write at type (Local register) v.1 v.0))))
@@ -77,31 +77,31 @@ fill_scalar_fills e line type offset b d (InMemory at mem) s g =
     let begun = opened e b in
     let v = convert at begun.code type d.1.typed (atom_in d.1) d.0 in
     let place = member_place at mem offset v.0 in
-    led_ok (Fills (InMemory at mem) b) (closed e (store_at at type v.1 place), InMemory at mem)
+    led_ok (Fills (InMemory at mem) b)
     (local_fills (InMemory at mem) b (closed e (store_at at type v.1 place)) s
     (grows_closed e b (store_at at type v.1 place) s
     (grows_trans begun v.0 _ (grows_convert at begun type d.1.typed (atom_in d.1) d.0 g)
     (grows_trans v.0 place.0 _ (grows_place at mem offset v.0) (grows_write at type (Memory place.1) v.1 place.0)))))
 fill_scalar_fills e line type offset b d (InStatic start) s g =
     led_after (Fills (InStatic start) b) (static_scalar line type offset start d.1)
-    (λ filled h. led_ok (Fills (InStatic start) b) (d.0, InStatic filled) (static_fills start filled b d.0 (opened_stays e b d.0 s g)))
+    (λ filled h. led_ok (Fills (InStatic start) b) (static_fills start filled b d.0 (opened_stays e b d.0 s g)))
 
 scalar_fills : (e : Tree) (line : ℕ) (type : PlainType) (offset : ℕ) (t : Target) (b : Context) → Safe b.scopes → Led (Fills t b) (scalar e line type offset t b)
 scalar_fills e line type offset t b s =
     let begun = opened e b in
     led_after (Fills t b) (valued e (found e type begun))
-    (λ d h. led_barred (Fills t b) (unconverted type d.1.typed) line (fill_scalar e line type offset begun.code d t)
+    (λ d h. led_barred (Fills t b) (unconverted type d.1.typed) line
     (fill_scalar_fills e line type offset b d t s (grown_valued e begun (found e type begun) (found_grows e type begun begun (grows_refl begun)) d h)))
 
 fill_record_fills : (e : Tree) (line : ℕ) (type : PlainType) (offset : ℕ) (b : Context) (d : Context × Found) (t : Target) → Safe b.scopes → Grows (opened e b) d.0
     → Led (Fills t b) (fill_record e line type offset d t)
 fill_record_fills e line type offset b d (InMemory at mem) s g =
     let place = member_place at mem offset d.0 in
-    led_ok (Fills (InMemory at mem) b) (closed e (copy_to at type (atom_in d.1) place), InMemory at mem)
+    led_ok (Fills (InMemory at mem) b)
     (local_fills (InMemory at mem) b (closed e (copy_to at type (atom_in d.1) place)) s
     (grows_closed e b (copy_to at type (atom_in d.1) place) s
     (grows_trans (opened e b) d.0 _ g (grows_trans d.0 place.0 _ (grows_place at mem offset d.0) (grows_copy at type (atom_in d.1) place)))))
-fill_record_fills e line type offset b d t s g = led_refused (Fills t b) NotConstant line
+fill_record_fills e line type offset b d t s g = led_refused (Fills t b)
 
 whole_fills : (e : Tree) (line : ℕ) (type : PlainType) (offset : ℕ) (t : Target) (b : Context) → Safe b.scopes → Led (Fills t b) (whole e line type offset t b)
 whole_fills e line type offset t b s =
@@ -126,14 +126,14 @@ fill_text_fills e line bytes size offset (InMemory at mem) b is s =
     led_after (Fills (InMemory at mem) b) (with_literal line bytes begun)
     (λ d h. let place = member_place at mem offset d.0 in
     let k : ℕ = min (length bytes + 1) size in
-    led_ok (Fills (InMemory at mem) b) (emit at (Copy place.1 (atom.Static d.1) (pos k)) place.0, InMemory at mem)
+    led_ok (Fills (InMemory at mem) b)
     (local_fills (InMemory at mem) b (emit at (Copy place.1 (atom.Static d.1) (pos k)) place.0) s
     (not_opened e b _ (reallocates b.scopes e) refl (text_opens_none e b.scopes bytes is)
     (grows_trans begun d.0 _ (grown_literal line bytes begun begun (grows_refl begun) d h)
     (grows_trans d.0 place.0 _ (grows_place at mem offset d.0) (grows_emit at (Copy place.1 (atom.Static d.1) (pos k)) place.0 tt))))))
 fill_text_fills e line bytes size offset (InStatic start) b is s =
-    led_ok (Fills (InStatic start) b) (b, InStatic (with_bytes start offset (take size bytes))) (static_fills start _ b b (passes_refl b s).stays)
-fill_text_fills e line bytes size offset (InRegister at register) b is s = led_refused (Fills (InRegister at register) b) Assignment line
+    led_ok (Fills (InStatic start) b) (static_fills start _ b b (passes_refl b s).stays)
+fill_text_fills e line bytes size offset (InRegister at register) b is s = led_refused (Fills (InRegister at register) b)
 
 by_text_fills : (e : Tree) (line : ℕ) (element : PlainType) (size offset : ℕ) (found_text : Option (List ℕ)) (t : Target) (b : Context) → text e ≡ found_text → Safe b.scopes
     → Led (Fills t b) (by_text e line element size offset found_text t b)
@@ -158,13 +158,12 @@ mutual
   initialize_fills (Node (f.InitList trailing) (At line ▹ Node f.Inits inits ▹ none)) in_scalar type offset t b s =
       elim (takes_braces type in_scalar) as (λ k. Led (Fills t b) (cond k (initialize_parts line inits (is_scalar_type type) (parts_of b (count inits) type offset) t b) (then (all_surplus inits b) (λ d. refused Assignment line)))) [
       | true ↦ parts_fill inits line (is_scalar_type type) (parts_of b (count inits) type offset) t b s
-      | false ↦ led_after (Fills t b) (all_surplus inits b) (λ d h. led_refused (Fills t b) Assignment line) ]
-  initialize_fills tree in_scalar type offset t b s = led_refused (Fills t b) Operands (line_of tree)
+      | false ↦ led_after (Fills t b) (all_surplus inits b) (λ d h. led_refused (Fills t b)) ]
+  initialize_fills tree in_scalar type offset t b s = led_refused (Fills t b)
 
   parts_fill : (inits : Trees) (line : ℕ) (in_scalar : Bool) (parts : List (PlainType × ℕ)) (t : Target) (b : Context) → Safe b.scopes → Led (Fills t b) (initialize_parts line inits in_scalar parts t b)
-  parts_fill none line in_scalar parts t b s = led_ok (Fills t b) (b, t) (fills_refl t b s)
-  parts_fill (init ▹ rest) line in_scalar [] t b s =
-      led_after (Fills t b) (all_surplus (init ▹ rest) b) (λ d h. led_refused (Fills t b) Assignment line)
+  parts_fill none line in_scalar parts t b s = led_ok (Fills t b) (fills_refl t b s)
+  parts_fill (init ▹ rest) line in_scalar [] t b s = led_after (Fills t b) (all_surplus (init ▹ rest) b) (λ d h. led_refused (Fills t b))
   parts_fill (init ▹ rest) line in_scalar (part ∷ parts) t b s =
       led_after (Fills t b) (initialize init in_scalar part.0 part.1 t b)
       (λ d h z e. let one : Fills t b d = initialize_fills init in_scalar part.0 part.1 t b s d h in

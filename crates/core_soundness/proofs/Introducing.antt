@@ -84,11 +84,11 @@ module _ (line : ℕ) (name : List ℕ) (type : PlainType) (c : Context) (file :
   introduced_by None e =
       led_after (Introduced name (number None) flat) (unless false DeclaredTwice line (Ok (scopes_for None)))
       (λ d h. subst (λ (x : Context). Led (Introduced name (number None) flat) (Ok (with_function (number None) name x))) (ok_same (scopes_for None) d h)
-      (led_ok (Introduced name (number None) flat) (with_function (number None) name (scopes_for None)) (first_one e (nat_lt (length c.functions) (length c.functions)) refl)))
+      (led_ok (Introduced name (number None) flat) (first_one e (nat_lt (length c.functions) (length c.functions)) refl)))
   introduced_by (Some (n.Function t j)) e =
       led_after (Introduced name j flat) (unless (is_twice_in true (n.Function type j) (Some (n.Function t j))) DeclaredTwice line (Ok (scopes_for (Some (n.Function t j)))))
       (λ d h. subst (λ (x : Context). Led (Introduced name j flat) (Ok (with_function j name x))) (unless_ok (is_twice_in true (n.Function type j) (Some (n.Function t j))) DeclaredTwice line flat d h)
-      (led_ok (Introduced name j flat) (with_function j name flat) (again t j e (nat_lt j (length c.functions)) refl)))
+      (led_ok (Introduced name j flat) (again t j e (nat_lt j (length c.functions)) refl)))
   introduced_by (Some other) e = refused_first (Introduced name (number (Some other)) flat) line (Ok (scopes_for (Some other))) (λ d. Ok (with_function (number (Some other)) name d))
 
   introduced_flat : Led (Introduced name (function_number name flat) flat) (declared_function line name type flat)

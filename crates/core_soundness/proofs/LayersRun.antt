@@ -233,8 +233,7 @@ module _ (answer : Option Sort) where
 
   pub declared_runs : (line : ℕ) (name : List ℕ) (v : PlainNamed) (b c : Context) → IsNoFunction v → InnerFits (world c) v → FileFits (world c) v → Runs answer b c → Led (Runs answer b) (declared_as line name v c)
   declared_runs line name v b c i h q p =
-      led_unless (Runs answer b) (is_twice c.scopes name v) DeclaredTwice line (Ok (record c { scopes = after_declaration c.scopes name v }))
-      (λ e. led_ok (Runs answer b) (record c { scopes = after_declaration c.scopes name v }) (after_runs name v b c i h q p))
+      led_unless (Runs answer b) (is_twice c.scopes name v) DeclaredTwice line (λ e. led_ok (Runs answer b) (after_runs name v b c i h q p))
 
   -- parameter lists
 
@@ -308,8 +307,7 @@ module _ (answer : Option Sort) where
   constant_runs e b c p z q = runs_trans answer b c z.0 p (constant_keeps Any Kept runs_step false e c z q tt p.fine)
 
   pub with_type_runs : (given : Checked (names.Context × PlainType)) (b c : Context) → Reached (After (asked c)) given → Runs answer b c → Reached (Runs answer b) (with_type given c)
-  with_type_runs given b c g p =
-      reached_after (Runs answer b) given (λ x h. reached_ok (Runs answer b) (told x.0 c, x.1) (told_runs x.0 b c (g x h) p))
+  with_type_runs given b c g p = reached_after (Runs answer b) given (λ x h. reached_ok (Runs answer b) (told_runs x.0 b c (g x h) p))
 
   pub specs_run : (tree : Tree) (b c : Context) → Runs answer b c → Reached (Runs answer b) (specs tree c)
   specs_run tree b c p z q = runs_trans answer b c z.0 p (specs_keep Any Kept runs_step false tree c (any_names tree) z q tt p.fine)

@@ -49,19 +49,19 @@ fill_memory_passes line type (init ▹ rest) (atom.Mem mem) c s =
     let d = cleared line type (atom.Mem mem) c in
     let first = cleared_passes line type (atom.Mem mem) c s in
     led_after (Passes c) (initialize init false type 0 (InMemory line mem) d)
-    (λ x h. led_ok (Passes c) x.0 (passes_trans c d x.0 first ((initialize_fills init false type 0 (InMemory line mem) d s x h).passes tt)))
-fill_memory_passes line type inits mem c s = led_ok (Passes c) (cleared line type mem c) (cleared_passes line type mem c s)
+    (λ x h. led_ok (Passes c) (passes_trans c d x.0 first ((initialize_fills init false type 0 (InMemory line mem) d s x h).passes tt)))
+fill_memory_passes line type inits mem c s = led_ok (Passes c) (cleared_passes line type mem c s)
 
 fill_register_passes : (line : ℕ) (type : PlainType) (inits : Trees) (register : ℕ) (c : Context) → Safe c.scopes → Led (Passes c) (fill_register line type inits register c)
-fill_register_passes line type none register c s = led_ok (Passes c) (emit line (Set register (zero_of type)) c) (grows_passes c _ s (grows_emit line (Set register (zero_of type)) c tt))
+fill_register_passes line type none register c s = led_ok (Passes c) (grows_passes c _ s (grows_emit line (Set register (zero_of type)) c tt))
 fill_register_passes line type (init ▹ rest) register c s =
     led_after (Passes c) (initialize init false type 0 (InRegister line register) c)
-    (λ x h. led_ok (Passes c) x.0 ((initialize_fills init false type 0 (InRegister line register) c s x h).passes tt))
+    (λ x h. led_ok (Passes c) ((initialize_fills init false type 0 (InRegister line register) c s x h).passes tt))
 
 fill_at_passes : (line : ℕ) (type : PlainType) (inits : Trees) (spot : Spot) (c : Context) → Safe c.scopes → Led (Passes c) (fill_at line type inits spot c)
 fill_at_passes line type inits (Local register) c s = fill_register_passes line type inits register c s
 fill_at_passes line type inits (Memory mem) c s = fill_memory_passes line type inits mem c s
-fill_at_passes line type inits other c s = led_ok (Passes c) c (passes_refl c s)
+fill_at_passes line type inits other c s = led_ok (Passes c) (passes_refl c s)
 
 led_on : (b c : Context) (r : Checked Context) → Passes b c → Led (Passes c) r → Led (Passes b) r
 led_on b c r p h d e = passes_trans b c d p (h d e)
@@ -70,21 +70,21 @@ local_object_passes : (line : ℕ) (name : List ℕ) (type : PlainType) (inits :
 local_object_passes line name type inits b c p =
     let x = with_local name type c in
     let q : Passes c x.0 = with_local_passes name type c p.stays.safe in
-    led_unless (Passes b) (is_function type) LeftOut line _ (λ e1.
-    led_unless (Passes b) (has_no_size c.tags type) Incomplete line _ (λ e2.
-    led_unless (Passes b) (is_twice c.scopes name (n.Object type 0)) DeclaredTwice line _ (λ e3.
+    led_unless (Passes b) (is_function type) LeftOut line (λ e1.
+    led_unless (Passes b) (has_no_size c.tags type) Incomplete line (λ e2.
+    led_unless (Passes b) (is_twice c.scopes name (n.Object type 0)) DeclaredTwice line (λ e3.
     led_on b x.0 _ (passes_trans b c x.0 p q) (fill_at_passes line type inits x.1 x.0 q.stays.safe))))
 
 local_name_passes : (line : ℕ) (storage : Storage) (name : List ℕ) (type : PlainType) (inits : Trees) (b c : Context) → Passes b c → Led (Passes b) (local_name line storage name type inits c)
 local_name_passes line Typedef name type inits b c p = declared_passes line name (n.Typedef type) b c refl tt p
-local_name_passes line Outside name type inits b c p = led_refused (Passes b) LeftOut line
+local_name_passes line Outside name type inits b c p = led_refused (Passes b)
 local_name_passes line Plain name type inits b c p = local_object_passes line name type inits b c p
 
 -- file scope
 
 no_initializer_stays : (inits : Trees) (c : Context) → Safe c.scopes → Led (Stays c) (no_initializer inits c)
-no_initializer_stays none c s = led_ok (Stays c) c (passes_refl c s).stays
-no_initializer_stays (init ▹ rest) c s = led_after (Stays c) (surplus init c) (λ d h. led_refused (Stays c) Assignment (line_of init))
+no_initializer_stays none c s = led_ok (Stays c) (passes_refl c s).stays
+no_initializer_stays (init ▹ rest) c s = led_after (Stays c) (surplus init c) (λ d h. led_refused (Stays c))
 
 -- the layout of a variable is that of its type
 same_size : (layout : Option Layout) → (unwrap_or layout no_layout).size ≡ unwrap_or (option_map (λ (l : Layout). l.size) layout) 0
@@ -121,7 +121,7 @@ variable_stays : (line index : ℕ) (name : List ℕ) (type : PlainType) (c : Co
 variable_stays line index name type c s flat = by (nat_lt index (length c.variables))
   where
     by : (t : Bool) → Led (Stays c) (cond t (Ok c) (with_new_variable line name type c))
-    by true = led_ok (Stays c) c (passes_refl c s).stays
+    by true = led_ok (Stays c) (passes_refl c s).stays
     by false = new_variable_stays line name type c s flat
 
 set_bytes : (variables : List Variable) (index : ℕ) (v : Variable) (start : Option Start) → slice_get variables index ≡ Some v → variable_bytes (slice_set variables index (record v { start = start })) ≡ variable_bytes variables
@@ -154,17 +154,17 @@ started_stays index d s flat = record {
 }
 
 fill_variable_stays : (line index : ℕ) (type : PlainType) (inits : Trees) (c : Context) → Safe c.scopes → length c.scopes.inner ≡ 0 → Led (Stays c) (fill_variable line index type inits c)
-fill_variable_stays line index type none c s flat = led_ok (Stays c) c (passes_refl c s).stays
+fill_variable_stays line index type none c s flat = led_ok (Stays c) (passes_refl c s).stays
 fill_variable_stays line index type (init ▹ rest) c s flat =
-    led_unless (Stays c) (is_some (start_of (slice_get c.variables index))) DeclaredTwice line _ (λ q.
+    led_unless (Stays c) (is_some (start_of (slice_get c.variables index))) DeclaredTwice line (λ q.
     led_after (Stays c) (initialize init false type 0 (InStatic no_start) c)
     (λ d h. let one = (initialize_fills init false type 0 (InStatic no_start) c s d h).stays in
-    led_ok (Stays c) (started index d) (stays_trans c d.0 _ one (started_stays index d one.safe (one.depth ∙ flat)))))
+    led_ok (Stays c) (stays_trans c d.0 _ one (started_stays index d one.safe (one.depth ∙ flat)))))
 
 file_object_stays : (line : ℕ) (name : List ℕ) (type : PlainType) (inits : Trees) (c : Context) → Safe c.scopes → length c.scopes.inner ≡ 0 → Led (Stays c) (file_object line name type inits c)
 file_object_stays line name type inits c s flat =
     let index = variable_number_of c (named_in name c.scopes.file) in
-    led_unless (Stays c) (has_no_size c.tags type) Incomplete line _ (λ q.
+    led_unless (Stays c) (has_no_size c.tags type) Incomplete line (λ q.
     led_after (Stays c) (declared_as line name (n.Object type index) c)
     (λ d h. let one = (declared_passes line name (n.Object type index) c c refl tt (passes_refl c s) d h).stays in
     led_after (Stays c) (with_variable line index name type d)
@@ -199,8 +199,8 @@ declares_trans : (file : Bool) (a b c : Context) → Declares file a b → Decla
 declares_trans file a b c x y = record { stays = stays_trans a b c x.stays y.stays; passes = λ e. passes_trans a b c (x.passes e) (y.passes e) }
 
 name_in_declares : (file : Bool) (line : ℕ) (storage : Storage) (name : Option (List ℕ)) (type : PlainType) (inits : Trees) (c : Context) → Safe c.scopes → (file ≡ true → length c.scopes.inner ≡ 0) → Led (Declares file c) (name_in file line storage name type inits c)
-name_in_declares true line storage None type inits c s flat = led_ok (Declares true c) c (passed true c c (passes_refl c s))
-name_in_declares false line storage None type inits c s flat = led_ok (Declares false c) c (passed false c c (passes_refl c s))
+name_in_declares true line storage None type inits c s flat = led_ok (Declares true c) (passed true c c (passes_refl c s))
+name_in_declares false line storage None type inits c s flat = led_ok (Declares false c) (passed false c c (passes_refl c s))
 name_in_declares true line storage (Some name) type inits c s flat =
     λ d h. record { stays = file_name_stays line storage name type inits c s (flat refl) d h; passes = λ e. absurd (true≢false e) }
 name_in_declares false line storage (Some name) type inits c s flat = λ d h. passed false c d (local_name_passes line storage name type inits c c (passes_refl c s) d h)
@@ -214,12 +214,12 @@ entry_declares file line storage base declarator inits c s flat =
 
 pub entries_declare : (names : Trees) (file : Bool) (line : ℕ) (storage : Storage) (base : PlainType) (c : Context) → Safe c.scopes → (file ≡ true → length c.scopes.inner ≡ 0) → Led (Declares file c) (entries file line storage base names c)
 unfolding entries
-entries_declare none file line storage base c s flat = led_ok (Declares file c) c (passed file c c (passes_refl c s))
+entries_declare none file line storage base c s flat = led_ok (Declares file c) (passed file c c (passes_refl c s))
 entries_declare (Node f.Entry (Node f.Declared (declarator ▹ none) ▹ Node f.MaybeInit inits ▹ none) ▹ rest) file line storage base c s flat =
     led_after (Declares file c) (entry file line storage base declarator inits c)
     (λ d h x e. let one = entry_declares file line storage base declarator inits c s flat d h in
     declares_trans file c d x one (entries_declare rest file line storage base d one.stays.safe (λ t. one.stays.depth ∙ flat t) x e))
-entries_declare (tree ▹ rest) file line storage base c s flat = led_refused (Declares file c) Operands (line_of tree)
+entries_declare (tree ▹ rest) file line storage base c s flat = led_refused (Declares file c)
 
 specs_alone_passes : (tree : Tree) (c : Context) → Safe c.scopes → Reached (Passes c) (specs_alone tree c)
 specs_alone_passes (Node f.Specs (At line ▹ Node (f.RecordTag sort) (At at ▹ Leaf (w.Name name) ▹ none) ▹ none)) c s =
@@ -236,4 +236,4 @@ declaration_declares file line words (Node f.Names names) c s flat =
     led_after (Declares file c) (specs_before words names c)
     (λ base h x e. let one = specs_before_passes words names c s base h in
     declares_trans file c base.0 x (passed file c base.0 one) (entries_declare names file line (storage_of words) base.1 base.0 one.stays.safe (λ t. one.stays.depth ∙ flat t) x e))
-declaration_declares file line words tree c s flat = led_refused (Declares file c) Operands line
+declaration_declares file line words tree c s flat = led_refused (Declares file c)

@@ -87,29 +87,29 @@ fill_scalar_near e line type offset (InRegister at register) c d q =
     let v = convert at (opened e c).code type d.1.typed (atom_in d.1) d.0 in
     let s = write at type (Local register) v.1 v.0 in
     let last = near_on 0 0 0 (omega arith) (write_near at type (Local register) v.1 v.0) (closed_near e s) in
-    reached_ok (Near (weight e + 3) c) (closed e s, InRegister at register) (near_on (weight e + 2) 0 (weight e + 3) (omega arith) (converted_near e at type c d q) last)
+    reached_ok (Near (weight e + 3) c) (near_on (weight e + 2) 0 (weight e + 3) (omega arith) (converted_near e at type c d q) last)
 fill_scalar_near e line type offset (InMemory at mem) c d q =
     let v = convert at (opened e c).code type d.1.typed (atom_in d.1) d.0 in
     let place = member_place at mem offset v.0 in
     let s = store_at at type v.1 place in
     let last = near_on 0 0 0 (omega arith) (write_near at type (Memory place.1) v.1 place.0) (closed_near e s) in
     let stored = near_on 1 0 1 (omega arith) (place_near at mem offset v.0) last in
-    reached_ok (Near (weight e + 3) c) (closed e s, InMemory at mem) (near_on (weight e + 2) 1 (weight e + 3) (omega arith) (converted_near e at type c d q) stored)
+    reached_ok (Near (weight e + 3) c) (near_on (weight e + 2) 1 (weight e + 3) (omega arith) (converted_near e at type c d q) stored)
 fill_scalar_near e line type offset (InStatic start) c d q =
     reached_after (Near (weight e + 3) c) (static_scalar line type offset start d.1)
-    (λ filled s. reached_ok (Near (weight e + 3) c) (d.0, InStatic filled) (near_on 0 (weight e + 1) (weight e + 3) (omega arith) (opened_near e c) (full_near e type c d q)))
+    (λ filled s. reached_ok (Near (weight e + 3) c) (near_on 0 (weight e + 1) (weight e + 3) (omega arith) (opened_near e c) (full_near e type c d q)))
 
 scalar_near : (e : Tree) (line : ℕ) (type : PlainType) (offset : ℕ) (target : Target) (c : Context) → Reached (Near (weight e + 3) c) (scalar e line type offset target c)
 scalar_near e line type offset target c =
     reached_after (Near (weight e + 3) c) (valued e (found e type (opened e c)))
-    (λ d q. reached_barred (Near (weight e + 3) c) (unconverted type d.1.typed) line (fill_scalar e line type offset (opened e c).code d target) (fill_scalar_near e line type offset target c d q))
+    (λ d q. reached_barred (Near (weight e + 3) c) (unconverted type d.1.typed) line (fill_scalar_near e line type offset target c d q))
 
 fill_record_near : (k : ℕ) (e : Tree) (line : ℕ) (type : PlainType) (offset : ℕ) (c : Context) (d : Context × Found) (target : Target) → Near k c d.0 → Reached (Near (k + 3) c) (fill_record e line type offset d target)
 fill_record_near k e line type offset c d (InMemory at mem) g =
     let place = member_place at mem offset d.0 in
     let s = copy_to at type (atom_in d.1) place in
-    reached_ok (Near (k + 3) c) (closed e s, InMemory at mem) (near_on k 1 (k + 3) (omega arith) g (near_on 1 0 1 (omega arith) (place_near at mem offset d.0) (closed_near e s)))
-fill_record_near k e line type offset c d other g = reached_refused (Near (k + 3) c) NotConstant line
+    reached_ok (Near (k + 3) c) (near_on k 1 (k + 3) (omega arith) g (near_on 1 0 1 (omega arith) (place_near at mem offset d.0) (closed_near e s)))
+fill_record_near k e line type offset c d other g = reached_refused (Near (k + 3) c)
 
 whole_near : (e : Tree) (line : ℕ) (type : PlainType) (offset : ℕ) (target : Target) (c : Context) → Reached (Near (weight e + 3) c) (whole e line type offset target c)
 whole_near e line type offset target c =
@@ -121,10 +121,10 @@ fill_text_near : (e : Tree) (line : ℕ) (bytes : List ℕ) (size offset : ℕ) 
 fill_text_near e line bytes size offset (InMemory at mem) c =
     reached_after (Near 1 c) (with_literal line bytes (opened e c))
     (λ d q. let place = member_place at mem offset d.0 in
-    reached_ok (Near 1 c) (emit at (Copy place.1 (atom.Static d.1) (pos (min (length bytes + 1) size))) place.0, InMemory at mem)
+    reached_ok (Near 1 c)
     (near_on 0 1 1 (omega arith) (near_on 0 0 0 (omega arith) (opened_near e c) (literal_near line bytes (opened e c) d q)) (place_near at mem offset d.0)))
-fill_text_near e line bytes size offset (InStatic start) c = reached_ok (Near 1 c) (c, InStatic (with_bytes start offset (take size bytes))) (near_most 0 1 (omega arith) (near_refl c))
-fill_text_near e line bytes size offset (InRegister at register) c = reached_refused (Near 1 c) Assignment line
+fill_text_near e line bytes size offset (InStatic start) c = reached_ok (Near 1 c) (near_most 0 1 (omega arith) (near_refl c))
+fill_text_near e line bytes size offset (InRegister at register) c = reached_refused (Near 1 c)
 
 by_text_near : (e : Tree) (line : ℕ) (element : PlainType) (size offset : ℕ) (o : Option (List ℕ)) (target : Target) (c : Context) → Reached (Near (weight e + 3) c) (by_text e line element size offset o target c)
 by_text_near e line element size offset None target c = whole_near e line (Array element size) offset target c
@@ -158,13 +158,13 @@ mutual
       near_most (weights inits + 3 * count inits) _ (omega (arith, room))
       (reached_cond (weights inits + 3 * count inits) c (takes_braces type in_scalar) (initialize_parts line inits (is_scalar_type type) (parts_of c (count inits) type offset) target c) (then (all_surplus inits c) (λ d. refused Assignment line))
       (parts_near inits line (is_scalar_type type) (parts_of c (count inits) type offset) target c)
-      (reached_after (Near (weights inits + 3 * count inits) c) (all_surplus inits c) (λ d s. reached_refused (Near (weights inits + 3 * count inits) c) Assignment line)) z q)
-  initialize_near tree in_scalar type offset target c z q = reached_refused (Near (weight tree + 3) c) Operands (line_of tree) z q
+      (reached_after (Near (weights inits + 3 * count inits) c) (all_surplus inits c) (λ d s. reached_refused (Near (weights inits + 3 * count inits) c))) z q)
+  initialize_near tree in_scalar type offset target c z q = reached_refused (Near (weight tree + 3) c) z q
 
   parts_near : (inits : Trees) (line : ℕ) (in_scalar : Bool) (parts : List (PlainType × ℕ)) (target : Target) (c : Context) → Reached (Near (weights inits + 3 * count inits) c) (initialize_parts line inits in_scalar parts target c)
-  parts_near none line in_scalar parts target c z q = reached_ok (Near 0 c) (c, target) (near_refl c) z q
+  parts_near none line in_scalar parts target c z q = reached_ok (Near 0 c) (near_refl c) z q
   parts_near (init ▹ rest) line in_scalar [] target c z q =
-      reached_after (Near (weights (init ▹ rest) + 3 * count (init ▹ rest)) c) (all_surplus (init ▹ rest) c) (λ d q. reached_refused (Near (weights (init ▹ rest) + 3 * count (init ▹ rest)) c) Assignment line) z q
+      reached_after (Near (weights (init ▹ rest) + 3 * count (init ▹ rest)) c) (all_surplus (init ▹ rest) c) (λ d q. reached_refused (Near (weights (init ▹ rest) + 3 * count (init ▹ rest)) c)) z q
   parts_near (init ▹ rest) line in_scalar (part ∷ parts) target c z q =
       let d = came (initialize init in_scalar part.0 part.1 target c) q in
       near_on (weight init + 3) (weights rest + 3 * count rest) _ (omega arith) (initialize_near init in_scalar part.0 part.1 target c d.value d.is) (parts_near rest line in_scalar parts d.value.1 d.value.0 z d.last)
@@ -178,22 +178,22 @@ starting (init ▹ rest) = weight init + 3
 fill_memory_near : (line : ℕ) (type : PlainType) (inits : Trees) (mem : Atom) (c : Context) → Led (Near (starting inits) c) (fill_memory line type inits mem c)
 fill_memory_near line type (init ▹ rest) (atom.Mem mem) c =
     let x = cleared line type (atom.Mem mem) c in
-    led_after (Near (weight init + 3) c) (initialize init false type 0 (InMemory line mem) x) (λ d q. led_ok (Near (weight init + 3) c) d.0 (initialize_near init false type 0 (InMemory line mem) x d q))
-fill_memory_near line type none mem c = led_ok (Near 0 c) (cleared line type mem c) (near_refl c)
-fill_memory_near line type (init ▹ rest) (atom.Reg r) c = led_ok (Near (weight init + 3) c) (cleared line type (atom.Reg r) c) (near_most 0 (weight init + 3) (omega arith) (near_refl c))
-fill_memory_near line type (init ▹ rest) (atom.Int x) c = led_ok (Near (weight init + 3) c) (cleared line type (atom.Int x) c) (near_most 0 (weight init + 3) (omega arith) (near_refl c))
-fill_memory_near line type (init ▹ rest) atom.Null c = led_ok (Near (weight init + 3) c) (cleared line type atom.Null c) (near_most 0 (weight init + 3) (omega arith) (near_refl c))
-fill_memory_near line type (init ▹ rest) (atom.Static x) c = led_ok (Near (weight init + 3) c) (cleared line type (atom.Static x) c) (near_most 0 (weight init + 3) (omega arith) (near_refl c))
+    led_after (Near (weight init + 3) c) (initialize init false type 0 (InMemory line mem) x) (λ d q. led_ok (Near (weight init + 3) c) (initialize_near init false type 0 (InMemory line mem) x d q))
+fill_memory_near line type none mem c = led_ok (Near 0 c) (near_refl c)
+fill_memory_near line type (init ▹ rest) (atom.Reg r) c = led_ok (Near (weight init + 3) c) (near_most 0 (weight init + 3) (omega arith) (near_refl c))
+fill_memory_near line type (init ▹ rest) (atom.Int x) c = led_ok (Near (weight init + 3) c) (near_most 0 (weight init + 3) (omega arith) (near_refl c))
+fill_memory_near line type (init ▹ rest) atom.Null c = led_ok (Near (weight init + 3) c) (near_most 0 (weight init + 3) (omega arith) (near_refl c))
+fill_memory_near line type (init ▹ rest) (atom.Static x) c = led_ok (Near (weight init + 3) c) (near_most 0 (weight init + 3) (omega arith) (near_refl c))
 
 fill_register_near : (line : ℕ) (type : PlainType) (inits : Trees) (register : ℕ) (c : Context) → Led (Near (starting inits) c) (fill_register line type inits register c)
-fill_register_near line type none register c = led_ok (Near 0 c) (emit line (Set register (zero_of type)) c) (near_refl c)
+fill_register_near line type none register c = led_ok (Near 0 c) (near_refl c)
 fill_register_near line type (init ▹ rest) register c =
-    led_after (Near (weight init + 3) c) (initialize init false type 0 (InRegister line register) c) (λ d q. led_ok (Near (weight init + 3) c) d.0 (initialize_near init false type 0 (InRegister line register) c d q))
+    led_after (Near (weight init + 3) c) (initialize init false type 0 (InRegister line register) c) (λ d q. led_ok (Near (weight init + 3) c) (initialize_near init false type 0 (InRegister line register) c d q))
 
 fill_at_near : (line : ℕ) (type : PlainType) (inits : Trees) (spot : Spot) (c : Context) → Led (Near (starting inits) c) (fill_at line type inits spot c)
 fill_at_near line type inits (Local register) c = fill_register_near line type inits register c
 fill_at_near line type inits (Memory mem) c = fill_memory_near line type inits mem c
-fill_at_near line type inits other c = led_ok (Near (starting inits) c) c (near_most 0 (starting inits) (omega arith) (near_refl c))
+fill_at_near line type inits other c = led_ok (Near (starting inits) c) (near_most 0 (starting inits) (omega arith) (near_refl c))
 
 with_local_near : (name : List ℕ) (type : PlainType) (c : Context) → IsShort name → Near 1 c (with_local name type c).0
 with_local_near name type c h = by (next_is_memory type c)
@@ -207,14 +207,14 @@ local_object_near line name type inits c h =
     let x = with_local name type c in
     let r2 : Checked Context = unless (is_twice c.scopes name (n.Object type 0)) DeclaredTwice line (fill_local line type inits x) in
     let r1 : Checked Context = unless (has_no_size c.tags type) Incomplete line r2 in
-    led_unless (Near (1 + starting inits) c) (is_function type) LeftOut line r1
-    (λ a. led_unless (Near (1 + starting inits) c) (has_no_size c.tags type) Incomplete line r2
-    (λ b. led_unless (Near (1 + starting inits) c) (is_twice c.scopes name (n.Object type 0)) DeclaredTwice line (fill_local line type inits x)
+    led_unless (Near (1 + starting inits) c) (is_function type) LeftOut line
+    (λ a. led_unless (Near (1 + starting inits) c) (has_no_size c.tags type) Incomplete line
+    (λ b. led_unless (Near (1 + starting inits) c) (is_twice c.scopes name (n.Object type 0)) DeclaredTwice line
     (λ t z q. near_on 1 (starting inits) (1 + starting inits) (omega arith) (with_local_near name type c h) (fill_at_near line type inits x.1 x.0 z q))))
 
 local_name_near : (line : ℕ) (storage : Storage) (name : List ℕ) (type : PlainType) (inits : Trees) (c : Context) → IsShort name → Led (Near (1 + starting inits) c) (local_name line storage name type inits c)
 local_name_near line Typedef name type inits c h z q = near_most 0 (1 + starting inits) (omega arith) (declared_near line name (n.Typedef type) c z q)
-local_name_near line Outside name type inits c h z q = led_refused (Near (1 + starting inits) c) LeftOut line z q
+local_name_near line Outside name type inits c h z q = led_refused (Near (1 + starting inits) c) z q
 local_name_near line storages.Plain name type inits c h z q = local_object_near line name type inits c h z q
 
 -- file scope
@@ -230,11 +230,11 @@ pub declared_function_near : (line : ℕ) (name : List ℕ) (type : PlainType) (
 declared_function_near line name type c =
     let index = function_number name c in
     led_after (Near 0 c) (declared_as line name (n.Function type index) c)
-    (λ d q. led_ok (Near 0 c) (with_function index name d) (near_on 0 0 0 (omega arith) (declared_near line name (n.Function type index) c d q) (function_near index name d)))
+    (λ d q. led_ok (Near 0 c) (near_on 0 0 0 (omega arith) (declared_near line name (n.Function type index) c d q) (function_near index name d)))
 
 no_initializer_near : (inits : Trees) (c : Context) → Led (Near 0 c) (no_initializer inits c)
-no_initializer_near none c = led_ok (Near 0 c) c (near_refl c)
-no_initializer_near (init ▹ rest) c = led_after (Near 0 c) (surplus init c) (λ d q. led_refused (Near 0 c) Assignment (line_of init))
+no_initializer_near none c = led_ok (Near 0 c) (near_refl c)
+no_initializer_near (init ▹ rest) c = led_after (Near 0 c) (surplus init c) (λ d q. led_refused (Near 0 c))
 
 abbrev HasShort : Variable → Type 0
 HasShort v = IsShort v.name
@@ -251,14 +251,14 @@ new_variable_near : (line : ℕ) (name : List ℕ) (type : PlainType) (c : Conte
 new_variable_near line name type c h =
     led_after (Near 0 c) (with_static line (size_or_zero c type) c)
     (λ d q. let v : Variable = record { name = name; layout = unwrap_or (layout_in d.tags type) no_layout; start = None } in
-    led_ok (Near 0 c) (record d { variables = d.variables ++ v ∷ [] })
+    led_ok (Near 0 c)
     (near_on 0 0 0 (omega arith) (static_near line (size_or_zero c type) c d q) (variables_near (d.variables ++ v ∷ []) d (λ k. All-push HasShort d.variables v k h))))
 
 variable_near : (line index : ℕ) (name : List ℕ) (type : PlainType) (c : Context) → IsShort name → Led (Near 0 c) (with_variable line index name type c)
 variable_near line index name type c h = by (nat_lt index (length c.variables))
   where
     by : (t : Bool) → Led (Near 0 c) (cond t (Ok c) (with_new_variable line name type c))
-    by true = led_ok (Near 0 c) c (near_refl c)
+    by true = led_ok (Near 0 c) (near_refl c)
     by false = new_variable_near line name type c h
 
 get_short : (vs : List Variable) (i : ℕ) (v : Variable) → slice_get vs i ≡ Some v → All HasShort vs → HasShort v
@@ -280,16 +280,16 @@ started_near index d =
     variables_near (started_variable index (start_in d.1) (slice_get d.0.variables index) d.0.variables) d.0 (λ k. started_short index (start_in d.1) (slice_get d.0.variables index) d.0.variables refl k)
 
 fill_variable_near : (line index : ℕ) (type : PlainType) (inits : Trees) (c : Context) → Led (Near (starting inits) c) (fill_variable line index type inits c)
-fill_variable_near line index type none c = led_ok (Near 0 c) c (near_refl c)
+fill_variable_near line index type none c = led_ok (Near 0 c) (near_refl c)
 fill_variable_near line index type (init ▹ rest) c =
-    led_unless (Near (weight init + 3) c) (is_some (start_of (slice_get c.variables index))) DeclaredTwice line (then (initialize init false type 0 (InStatic no_start) c) (λ d. Ok (started index d)))
+    led_unless (Near (weight init + 3) c) (is_some (start_of (slice_get c.variables index))) DeclaredTwice line
     (λ t. led_after (Near (weight init + 3) c) (initialize init false type 0 (InStatic no_start) c)
-    (λ d q. led_ok (Near (weight init + 3) c) (started index d) (near_on (weight init + 3) 0 (weight init + 3) (omega arith) (initialize_near init false type 0 (InStatic no_start) c d q) (started_near index d))))
+    (λ d q. led_ok (Near (weight init + 3) c) (near_on (weight init + 3) 0 (weight init + 3) (omega arith) (initialize_near init false type 0 (InStatic no_start) c d q) (started_near index d))))
 
 file_object_near : (line : ℕ) (name : List ℕ) (type : PlainType) (inits : Trees) (c : Context) → IsShort name → Led (Near (1 + starting inits) c) (file_object line name type inits c)
 file_object_near line name type inits c h =
     let index = variable_number_of c (named_in name c.scopes.file) in
-    led_unless (Near (1 + starting inits) c) (has_no_size c.tags type) Incomplete line (then (declared_as line name (n.Object type index) c) (λ d. then (with_variable line index name type d) (λ v. fill_variable line index type inits v)))
+    led_unless (Near (1 + starting inits) c) (has_no_size c.tags type) Incomplete line
     (λ t. led_after (Near (1 + starting inits) c) (declared_as line name (n.Object type index) c)
     (λ d q. led_after (Near (1 + starting inits) c) (with_variable line index name type d)
     (λ x s z u. near_on 0 (starting inits) (1 + starting inits) (omega arith) (near_on 0 0 0 (omega arith) (declared_near line name (n.Object type index) c d q) (variable_near line index name type d h x s)) (fill_variable_near line index type inits x z u))))
@@ -311,8 +311,8 @@ file_name_near line Typedef name type inits c h z q = near_most 0 (1 + starting 
 file_name_near line other name type inits c h z q = file_value_near line name type inits c h z q
 
 name_in_near : (file : Bool) (line : ℕ) (storage : Storage) (name : Option (List ℕ)) (type : PlainType) (inits : Trees) (c : Context) → IfSome name IsShort → Led (Near (1 + starting inits) c) (name_in file line storage name type inits c)
-name_in_near true line storage None type inits c h = led_ok (Near (1 + starting inits) c) c (near_most 0 (1 + starting inits) (omega arith) (near_refl c))
-name_in_near false line storage None type inits c h = led_ok (Near (1 + starting inits) c) c (near_most 0 (1 + starting inits) (omega arith) (near_refl c))
+name_in_near true line storage None type inits c h = led_ok (Near (1 + starting inits) c) (near_most 0 (1 + starting inits) (omega arith) (near_refl c))
+name_in_near false line storage None type inits c h = led_ok (Near (1 + starting inits) c) (near_most 0 (1 + starting inits) (omega arith) (near_refl c))
 name_in_near true line storage (Some name) type inits c h = file_name_near line storage name type inits c h
 name_in_near false line storage (Some name) type inits c h = local_name_near line storage name type inits c h
 
@@ -329,12 +329,12 @@ starts_within (init ▹ rest) = omega arith
 
 entries_near : (names : Trees) (file : Bool) (line : ℕ) (storage : Storage) (base : PlainType) (c : Context) → AllShort names → Led (Near (weights names + count names) c) (entries file line storage base names c)
 unfolding entries shape
-entries_near none file line storage base c h z q = led_ok (Near 0 c) c (near_refl c) z q
+entries_near none file line storage base c h z q = led_ok (Near 0 c) (near_refl c) z q
 entries_near (Node f.Entry (Node f.Declared (declarator ▹ none) ▹ Node f.MaybeInit inits ▹ none) ▹ rest) file line storage base c h z q =
     let d = came (entry file line storage base declarator inits c) q in
     let room = starts_within inits in
     near_on (weight declarator + starting inits + 1) (weights rest + count rest) _ (omega (arith, room)) (entry_near file line storage base declarator inits c h.0.0.0 d.value d.is) (entries_near rest file line storage base d.value h.1 z d.last)
-entries_near (tree ▹ rest) file line storage base c h z q = led_refused (Near (weights (tree ▹ rest) + count (tree ▹ rest)) c) Operands (line_of tree) z q
+entries_near (tree ▹ rest) file line storage base c h z q = led_refused (Near (weights (tree ▹ rest) + count (tree ▹ rest)) c) z q
 
 alone_near : (tree : Tree) (c : Context) → Short tree → Reached (Near (weight tree) c) (specs_alone tree c)
 alone_near (Node f.Specs (At line ▹ Node (f.RecordTag sort) (At at ▹ Leaf (w.Name name) ▹ none) ▹ none)) c h z q =
@@ -351,4 +351,4 @@ declaration_near file line words (Node f.Names names) c h k z q =
     let base = came (specs_before words names c) q in
     let room = commas_said p.Entry (count names) in
     near_on (weight words) (weights names + count names) _ (omega (arith, room)) (before_near words names c h base.value base.is) (entries_near names file line (storage_of words) base.value.1 base.value.0 k z base.last)
-declaration_near file line words tree c h k z q = led_refused (Near (weight words + weight tree + 6) c) Operands line z q
+declaration_near file line words tree c h k z q = led_refused (Near (weight words + weight tree + 6) c) z q

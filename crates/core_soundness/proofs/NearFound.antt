@@ -101,50 +101,47 @@ call_prints e c answer values line d v h k =
 pub static_near : (line size : ℕ) (c : Context) → Led (Near 0 c) (with_static line size c)
 static_near line size c =
     let d : Context = record c { static_bytes = c.static_bytes + block_size size } in
-    led_unless (Near 0 c) (nat_lt 67108864 (c.static_bytes + block_size size)) StaticTooLarge line (Ok d) (λ x. led_ok (Near 0 c) d (near_refl c))
+    led_unless (Near 0 c) (nat_lt 67108864 (c.static_bytes + block_size size)) StaticTooLarge line (λ x. led_ok (Near 0 c) (near_refl c))
 
 pub literal_near : (line : ℕ) (bytes : List ℕ) (c : Context) → Reached (Near 0 c) (with_literal line bytes c)
 literal_near line bytes c z q =
     let d = came (with_static line (length bytes + 1) c) q in
-    reached_ok (Near 0 c) (record d.value { literals = d.value.literals ++ bytes ∷ [] }, literal_object (length c.literals)) (static_near line (length bytes + 1) c d.value d.is) z d.last
+    reached_ok (Near 0 c) (static_near line (length bytes + 1) c d.value d.is) z d.last
 
 -- answers
 
 name_near : (line : ℕ) (name : List ℕ) (declared : Option PlainNamed) (c : Context) → Reached (Near 0 c) (name_answer line name declared c)
-name_near line name declared c =
-    reached_after (Near 0 c) (named line declared) (λ e h. reached_ok (Near 0 c) (c, name_found e (is_inner c name) declared) (near_refl c))
+name_near line name declared c = reached_after (Near 0 c) (named line declared) (λ e h. reached_ok (Near 0 c) (near_refl c))
 
 string_near : (line : ℕ) (bytes : List ℕ) (c : Context) → Reached (Near 0 c) (literal_answer line bytes c)
 string_near line bytes c =
     reached_after (Near 0 c) (string line bytes)
-    (λ e h. reached_then (Near 0 c) (Near 0 c) (literal_near line bytes c) (λ d k. reached_ok (Near 0 c) (literal_found e d) k))
+    (λ e h. reached_then (Near 0 c) (Near 0 c) (literal_near line bytes c) (λ d k. reached_ok (Near 0 c) k))
 
 unevaluated_near : (tree : Tree) (c : Context) → Reached (Near 0 c) (unevaluated c (typed tree (asked c)))
-unevaluated_near tree c =
-    reached_after (Near 0 c) (typed tree (asked c)) (λ d h. reached_ok (Near 0 c) (told d.0 c, constant_found d.1) (near_refl c))
+unevaluated_near tree c = reached_after (Near 0 c) (typed tree (asked c)) (λ d h. reached_ok (Near 0 c) (near_refl c))
 
 address_near : (line : ℕ) (c : Context) (e : Found) → Reached (Near 0 c) (address_answer line c e)
-address_near line c e =
-    reached_after (Near 0 c) (address line e.typed) (λ type h. reached_ok (Near 0 c) (c, found_as type (Value (atom_in e)) e.fixed) (near_refl c))
+address_near line c e = reached_after (Near 0 c) (address line e.typed) (λ type h. reached_ok (Near 0 c) (near_refl c))
 
 changing_near : (k : ℕ) (tree : Tree) (c : Context) (answer : With Found) → Reached (Near k c) answer → Reached (Near k c) (changing tree answer)
 changing_near k tree c answer g =
     reached_then (Near k c) (Near k c) g
-    (λ d h. reached_after (Near k c) (held_place (line_of tree) d.0.tags d.1.typed) (λ held q. reached_ok (Near k c) d h))
+    (λ d h. reached_after (Near k c) (held_place (line_of tree) d.0.tags d.1.typed) (λ held q. reached_ok (Near k c) h))
 
 callee_near : (k : ℕ) (tree : Tree) (c : Context) (answer : With Found) → Reached (Near k c) answer → Reached (Near (k + 1) c) (callee tree c answer)
 callee_near k (Node f.Name (At line ▹ Leaf (w.Name name) ▹ none)) c answer h =
-    reached_after (Near (k + 1) c) (called line c.tags (declaration c.scopes name)) (λ function q. reached_ok (Near (k + 1) c) (c, function) (near_most 0 (k + 1) (omega arith) (near_refl c)))
-callee_near k tree c answer h = reached_then (Near (k + 1) c) (Near (k + 1) c) (valued_near k tree c answer h) (λ d q. reached_ok (Near (k + 1) c) (d.0, NoFunction) q)
+    reached_after (Near (k + 1) c) (called line c.tags (declaration c.scopes name)) (λ function q. reached_ok (Near (k + 1) c) (near_most 0 (k + 1) (omega arith) (near_refl c)))
+callee_near k tree c answer h = reached_then (Near (k + 1) c) (Near (k + 1) c) (valued_near k tree c answer h) (λ d q. reached_ok (Near (k + 1) c) q)
 
 format_near : (k : ℕ) (format : Option (List ℕ)) (c : Context) (answer : Checked (names.Context × PlainTyped)) (walked : With Found) → Reached (Near k c) walked → Reached (Near k c) (format_argument format c answer walked)
-format_near k (Some bytes) c answer walked h = reached_after (Near k c) answer (λ d q. reached_ok (Near k c) (c, valued_as d.1 atom.Null) (near_most 0 k (omega arith) (near_refl c)))
+format_near k (Some bytes) c answer walked h = reached_after (Near k c) answer (λ d q. reached_ok (Near k c) (near_most 0 k (omega arith) (near_refl c)))
 format_near k None c answer walked h = h
 
 called_near : (line : ℕ) (name : Option PlainNamed) (function : Callee) (wanted : PlainType) (trees : Trees) (c : Context) (values : List Argument) → PrintsShort (built_in_at name) (first_literal trees) → Reached (Near 2 c) (call_answer line name function wanted trees c values)
 called_near line name function wanted trees c values g =
     reached_after (Near 2 c) (call line (first_literal trees) function (types_of values))
-    (λ e h. reached_ok (Near 2 c) (let d = call_named line name e.type wanted (first_literal trees) values c in (d.0, found_as e d.1 Unknown)) (call_near line name e.type wanted (first_literal trees) values c g))
+    (λ e h. reached_ok (Near 2 c) (call_near line name e.type wanted (first_literal trees) values c g))
 
 assigned_near : (k : ℕ) (test : Bool) (line : ℕ) (x : Tree) (target : Found) (c : Context) (r : Context × Found) → Near k c r.0 → Reached (Near (k + 2) c) (cond test (record_assigned line (line_of x) target r) (scalar_assigned line c.code x target r))
 assigned_near k true line x target c r g z q = near_on k 0 (k + 2) (omega arith) g (record_near line (line_of x) target r z q)
@@ -155,8 +152,8 @@ mutual
 
   pub found_near : (tree : Tree) (wish : PlainType) (c : Context) → Reached (Near (weight tree) c) (found tree wish c)
   found_near (Node f.Name (At line ▹ Leaf (w.Name name) ▹ none)) wish c z q = near_most 0 _ (omega arith) (name_near line name (declaration c.scopes name) c z q)
-  found_near (Node f.Int (At line ▹ Leaf (w.Int bytes) ▹ none)) wish c z q = near_most 0 _ (omega arith) (reached_ok (Near 0 c) (c, constant_found (constant (int_constant bytes))) (near_refl c) z q)
-  found_near (Node f.Char (At line ▹ Leaf (w.Char bytes) ▹ none)) wish c z q = near_most 0 _ (omega arith) (reached_ok (Near 0 c) (c, constant_found (constant (char_constant bytes))) (near_refl c) z q)
+  found_near (Node f.Int (At line ▹ Leaf (w.Int bytes) ▹ none)) wish c z q = near_most 0 _ (omega arith) (reached_ok (Near 0 c) (near_refl c) z q)
+  found_near (Node f.Char (At line ▹ Leaf (w.Char bytes) ▹ none)) wish c z q = near_most 0 _ (omega arith) (reached_ok (Near 0 c) (near_refl c) z q)
   found_near (Node f.Str (At line ▹ Node f.Strings parts ▹ none)) wish c z q = near_most 0 _ (omega arith) (string_near line (joined parts) c z q)
   found_near (Node f.Paren (At line ▹ e ▹ none)) wish c z q = near_most (weight e) _ (omega arith) (found_near e wish c z q)
   found_near (Node f.Index (At line ▹ e ▹ x ▹ none)) wish c z q =
@@ -258,7 +255,7 @@ mutual
   found_near tree wish c z q = reached_refused (Near (weight tree) c) Operands (line_of tree) z q
 
   arguments_near : (trees : Trees) (line : ℕ) (target : Callee) (params : PlainTypes) (c : Context) → Reached (Near (weights trees + 2 * count trees) c) (arguments line target params trees c)
-  arguments_near none line target params c z q = reached_ok (Near 0 c) (c, []) (near_refl c) z q
+  arguments_near none line target params c z q = reached_ok (Near 0 c) (near_refl c) z q
   arguments_near (e ▹ rest) line target params c z q =
       let d = came (format_argument (is_printf target e) c (typed e (asked c)) (valued e (found e (first_type params) c))) q in
       let v = argument_from line params c.code d.value.0 d.value.1 in
@@ -266,4 +263,4 @@ mutual
       let one = format_near (weight e + 1) (is_printf target e) c (typed e (asked c)) (valued e (found e (first_type params) c)) (valued_near (weight e) e c (found e (first_type params) c) (found_near e (first_type params) c)) d.value d.is in
       let two = argument_near (weight e + 1) line params c d.value.0 d.value.1 one in
       let three = arguments_near rest line NoFunction (rest_types params) v.0 r.value r.is in
-      near_on (weight e + 1 + 1) (weights rest + 2 * count rest) _ (omega arith) two (reached_ok (Near (weights rest + 2 * count rest) v.0) (r.value.0, v.1 ∷ r.value.1) three z r.last)
+      near_on (weight e + 1 + 1) (weights rest + 2 * count rest) _ (omega arith) two (reached_ok (Near (weights rest + 2 * count rest) v.0) three z r.last)

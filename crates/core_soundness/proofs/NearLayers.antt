@@ -27,7 +27,7 @@ use Rattle.core_soundness.proofs.LayersWalk.{Steps, constant_keeps, specs_keep, 
 pub declared_near : (line : ℕ) (name : List ℕ) (v : PlainNamed) (c : Context) → Led (Near 0 c) (declared_as line name v c)
 declared_near line name v c =
     let z : Context = record c { scopes = after_declaration c.scopes name v } in
-    led_unless (Near 0 c) (is_twice c.scopes name v) DeclaredTwice line (Ok z) (λ t. led_ok (Near 0 c) z (near_refl c))
+    led_unless (Near 0 c) (is_twice c.scopes name v) DeclaredTwice line (λ t. led_ok (Near 0 c) (near_refl c))
 
 pub named_near : (name : Option (List ℕ)) (v : PlainNamed) (c : Context) → Near 0 c (with_named name v c)
 named_near None v c = near_refl c
@@ -61,7 +61,7 @@ with_param_near name type c h = by (is_prototype c.scopes)
 -- specs and declarators
 
 pub with_type_near : (answer : Checked (names.Context × PlainType)) (c : Context) → Reached (Near 0 c) (with_type answer c)
-with_type_near answer c = reached_after (Near 0 c) answer (λ x q. reached_ok (Near 0 c) (told x.0 c, x.1) (near_refl c))
+with_type_near answer c = reached_after (Near 0 c) answer (λ x q. reached_ok (Near 0 c) (near_refl c))
 
 near_step : Steps IsShort (λ deep n c d. Near n c d)
 near_step = record {

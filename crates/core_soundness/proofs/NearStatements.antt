@@ -28,15 +28,15 @@ use Rattle.core_soundness.proofs.NearLayers.{constant_near}
 use Rattle.core_soundness.proofs.NearFills.{opened_near, closed_near, full_near, converted_near, declaration_near}
 
 scoped_near : (k : ℕ) (c : Context) (inside : Context → Checked Context) → Led (Near k c) (inside (entered c)) → Led (Near k c) (scoped c inside)
-scoped_near k c inside g = led_after (Near k c) (inside (entered c)) (λ d q. led_ok (Near k c) (left d) (g d q))
+scoped_near k c inside g = led_after (Near k c) (inside (entered c)) (λ d q. led_ok (Near k c) (g d q))
 
 leaves_near : (k line : ℕ) (c : Context) → Near 0 c (leaves line k c)
 leaves_near zero line c = near_refl c
 leaves_near (suc k) line c = leaves_near k line (emit line Leave c)
 
 leave_near : (line delays : ℕ) (o : Option (ℕ × ℕ)) (c : Context) → Led (Near 0 c) (leave_to line delays o c)
-leave_near line delays None c = led_refused (Near 0 c) StrayBreak line
-leave_near line delays (Some exit) c = led_ok (Near 0 c) (emit line (Jump exit.0) (leaves line (delays - exit.1) c)) (leaves_near (delays - exit.1) line c)
+leave_near line delays None c = led_refused (Near 0 c)
+leave_near line delays (Some exit) c = led_ok (Near 0 c) (leaves_near (delays - exit.1) line c)
 
 -- expressions
 
@@ -46,22 +46,21 @@ evaluated_near e c =
     (λ d q. led_ok (Near (weight e + 1) c) (closed e d.0) (near_on 0 (weight e + 1) (weight e + 1) (omega arith) (opened_near e c) (near_on (weight e + 1) 0 (weight e + 1) (omega arith) (unused_near (weight e) e (opened e c) (found e Void (opened e c)) (found_near e Void (opened e c)) d q) (closed_near e d.0))))
 
 maybe_evaluated_near : (es : Trees) (c : Context) → Led (Near (weights es + 1) c) (maybe_evaluated es c)
-maybe_evaluated_near none c z q = led_ok (Near 1 c) c (near_most 0 1 (omega arith) (near_refl c)) z q
+maybe_evaluated_near none c z q = led_ok (Near 1 c) (near_most 0 1 (omega arith) (near_refl c)) z q
 maybe_evaluated_near (e ▹ rest) c z q = near_most (weight e + 1) _ (omega arith) (evaluated_near e c z q)
 
 condition_near : (e : Tree) (c : Context) → Reached (Near (weight e + 2) c) (condition e c)
 condition_near e c =
     reached_after (Near (weight e + 2) c) (valued e (found e Void (opened e c)))
     (λ d q. let last = near_on 1 0 1 (omega arith) (tested_value_near e d) (closed_near e (tested_value e d).0) in
-    reached_unless (Near (weight e + 2) c) (not (is_scalar d.1.typed.type)) Operands (line_of e) (Ok (closed_atom e (tested_value e d)))
-    (reached_ok (Near (weight e + 2) c) (closed_atom e (tested_value e d)) (near_on 0 (weight e + 2) (weight e + 2) (omega arith) (opened_near e c) (near_on (weight e + 1) 1 (weight e + 2) (omega arith) (full_near e Void c d q) last))))
+    reached_unless (Near (weight e + 2) c) (not (is_scalar d.1.typed.type)) Operands (line_of e)
+    (reached_ok (Near (weight e + 2) c) (near_on 0 (weight e + 2) (weight e + 2) (omega arith) (opened_near e c) (near_on (weight e + 1) 1 (weight e + 2) (omega arith) (full_near e Void c d q) last))))
 
 if_zero_near : (line label : ℕ) (e : Tree) (c : Context) → Led (Near (weight e + 2) c) (leaves_if_zero line label e c)
-if_zero_near line label e c =
-    led_after (Near (weight e + 2) c) (condition e c) (λ d q. led_ok (Near (weight e + 2) c) (emit line (Zero d.1 label) d.0) (condition_near e c d q))
+if_zero_near line label e c = led_after (Near (weight e + 2) c) (condition e c) (λ d q. led_ok (Near (weight e + 2) c) (condition_near e c d q))
 
 maybe_leaves_near : (line label : ℕ) (es : Trees) (c : Context) → Led (Near (weights es + 2) c) (maybe_leaves line label es c)
-maybe_leaves_near line label none c z q = led_ok (Near 2 c) c (near_most 0 2 (omega arith) (near_refl c)) z q
+maybe_leaves_near line label none c z q = led_ok (Near 2 c) (near_most 0 2 (omega arith) (near_refl c)) z q
 maybe_leaves_near line label (e ▹ rest) c z q = near_most (weight e + 2) _ (omega arith) (if_zero_near line label e c z q)
 
 return_of_near : (line delays : ℕ) (e : Tree) (type : PlainType) (c : Context) → Led (Near (weight e + 2) c) (return_of line delays e type c)
@@ -69,15 +68,15 @@ return_of_near line delays e type c =
     let begun = opened e c in
     led_after (Near (weight e + 2) c) (valued e (found e type begun))
     (λ d q. let v = convert line begun.code type d.1.typed (atom_in d.1) d.0 in
-    led_unless (Near (weight e + 2) c) (is_void type) Assignment line (converts line type d.1.typed (return_value line delays e type begun.code d))
-    (λ x. led_barred (Near (weight e + 2) c) (unconverted type d.1.typed) line (return_value line delays e type begun.code d)
-    (led_ok (Near (weight e + 2) c) (returned line delays (Some v.1) (closed e v.0))
+    led_unless (Near (weight e + 2) c) (is_void type) Assignment line
+    (λ x. led_barred (Near (weight e + 2) c) (unconverted type d.1.typed) line
+    (led_ok (Near (weight e + 2) c)
     (near_on (weight e + 2) 0 (weight e + 2) (omega arith) (converted_near e line type c d q) (near_on 0 0 0 (omega arith) (closed_near e v.0) (leaves_near delays line (closed e v.0)))))))
 
 return_near : (line delays : ℕ) (es : Trees) (c : Context) → Led (Near (weights es + 2) c) (return_from line delays es c)
 return_near line delays none c z q =
-    led_unless (Near 2 c) (not (is_void c.running.answer)) Assignment line (Ok (returned line delays None c))
-    (λ x. led_ok (Near 2 c) (returned line delays None c) (near_most 0 2 (omega arith) (leaves_near delays line c))) z q
+    led_unless (Near 2 c) (not (is_void c.running.answer)) Assignment line
+    (λ x. led_ok (Near 2 c) (near_most 0 2 (omega arith) (leaves_near delays line c))) z q
 return_near line delays (e ▹ rest) c z q = near_most (weight e + 2) _ (omega arith) (return_of_near line delays e c.running.answer c z q)
 
 -- switches
@@ -85,11 +84,11 @@ return_near line delays (e ▹ rest) c z q = near_most (weight e + 2) _ (omega a
 case_near : (line : ℕ) (a : Around) (ty : IntType) (place : ℕ) (v : ℤ) (label : ℕ) (c : Context) → Led (Near 0 c) (case_of line a ty place v label c)
 case_near line a ty place v label c =
     let value = wrapped (kind_of ty) v in
-    led_unless (Near 0 c) (not a.labelled) LeftOut line (unless (has_case value c) CaseTwice line (Ok (with_case place value label c)))
-    (λ x. led_unless (Near 0 c) (has_case value c) CaseTwice line (Ok (with_case place value label c)) (λ y. led_ok (Near 0 c) (with_case place value label c) (near_refl c)))
+    led_unless (Near 0 c) (not a.labelled) LeftOut line
+    (λ x. led_unless (Near 0 c) (has_case value c) CaseTwice line (λ y. led_ok (Near 0 c) (near_refl c)))
 
 cased_near : (line : ℕ) (a : Around) (o : Option IntType) (place : ℕ) (v : ℤ) (label : ℕ) (c : Context) → Led (Near 0 c) (cased line a o place v label c)
-cased_near line a None place v label c = led_refused (Near 0 c) StrayBreak line
+cased_near line a None place v label c = led_refused (Near 0 c)
 cased_near line a (Some ty) place v label c = case_near line a ty place v label c
 
 defaulted_near : (line : ℕ) (a : Around) (label : ℕ) (c : Context) → Led (Near 0 c) (defaulted line a label c)
@@ -97,15 +96,15 @@ defaulted_near line a label c =
     let d : Context = record c { running = record c.running { otherwise = Some label } } in
     let r2 : Checked Context = unless (is_some c.running.otherwise) CaseTwice line (Ok d) in
     let r1 : Checked Context = unless (not a.labelled) LeftOut line r2 in
-    led_unless (Near 0 c) (not (is_some a.switched)) StrayBreak line r1
-    (λ x. led_unless (Near 0 c) (not a.labelled) LeftOut line r2
-    (λ y. led_unless (Near 0 c) (is_some c.running.otherwise) CaseTwice line (Ok d) (λ z. led_ok (Near 0 c) d (near_refl c))))
+    led_unless (Near 0 c) (not (is_some a.switched)) StrayBreak line
+    (λ x. led_unless (Near 0 c) (not a.labelled) LeftOut line
+    (λ y. led_unless (Near 0 c) (is_some c.running.otherwise) CaseTwice line (λ z. led_ok (Near 0 c) (near_refl c))))
 
 operand_of_near : (k line : ℕ) (e : Tree) (o : Operand) (c : Context) (d : Context × Found) → Near k c d.0 → Reached (Near (k + 1) c) (switch_operand_of line e o d)
 operand_of_near k line e (Number ty) c d g =
     let v = convert_integer line (promoted ty) ty (atom_in d.1) d.0 in
-    reached_ok (Near (k + 1) c) (closed e v.0, (promoted ty, v.1)) (near_on k 1 (k + 1) (omega arith) g (near_on 1 0 1 (omega arith) (integer_near line (promoted ty) ty (atom_in d.1) d.0) (closed_near e v.0)))
-operand_of_near k line e other c d g = reached_refused (Near (k + 1) c) Operands (line_of e)
+    reached_ok (Near (k + 1) c) (near_on k 1 (k + 1) (omega arith) g (near_on 1 0 1 (omega arith) (integer_near line (promoted ty) ty (atom_in d.1) d.0) (closed_near e v.0)))
+operand_of_near k line e other c d g = reached_refused (Near (k + 1) c)
 
 operand_near : (line : ℕ) (e : Tree) (c : Context) → Reached (Near (weight e + 1 + 1) c) (switch_operand line e c)
 operand_near line e c =
@@ -116,13 +115,13 @@ start_near : (line : ℕ) (tree : Tree) (c : Context) → Short tree → Led (Ne
 unfolding shape
 start_near line (Node f.ForNames (words ▹ names ▹ none)) c h z q = near_most (weight words + weight names + 6) _ (omega arith) (declaration_near false line words names c h.0 h.1.0 z q)
 start_near line (Node f.ForStart (Node f.MaybeExpr e ▹ none)) c h z q = near_most (weights e + 1) _ (omega arith) (maybe_evaluated_near e c z q)
-start_near line tree c h z q = led_refused (Near (weight tree) c) Operands line z q
+start_near line tree c h z q = led_refused (Near (weight tree) c) z q
 
 mutual
   unfolding statement items shape
 
   statement_near : (tree : Tree) (a : Around) (c : Context) → Short tree → Led (Near (weight tree) c) (statement tree a c)
-  statement_near (Node f.Empty parts) a c h z q = led_ok (Near (weight (Node f.Empty parts)) c) c (near_most 0 _ (omega arith) (near_refl c)) z q
+  statement_near (Node f.Empty parts) a c h z q = led_ok (Near (weight (Node f.Empty parts)) c) (near_most 0 _ (omega arith) (near_refl c)) z q
   statement_near (Node f.Expr (At line ▹ e ▹ none)) a c h z q = near_most (weight e + 1) _ (omega arith) (evaluated_near e c z q)
   statement_near (Node f.Block (At line ▹ Node f.Items parts ▹ none)) a c h z q =
       near_most (weights parts) _ (omega arith) (scoped_near (weights parts) c (λ d. items parts (below a) d) (items_near parts (below a) (entered c) h.1.0) z q)
@@ -130,7 +129,7 @@ mutual
       near_most (weights parts) _ (omega arith)
       (scoped_near (weights parts) c (λ d. then (items parts (in_delay a) (emit line Enter d)) (λ e. Ok (emit line Leave e)))
       (led_after (Near (weights parts) c) (items parts (in_delay a) (emit line Enter (entered c)))
-      (λ e k. led_ok (Near (weights parts) c) (emit line Leave e) (items_near parts (in_delay a) (emit line Enter (entered c)) h.1.0 e k))) z q)
+      (λ e k. led_ok (Near (weights parts) c) (items_near parts (in_delay a) (emit line Enter (entered c)) h.1.0 e k))) z q)
   statement_near (Node f.If (At line ▹ e ▹ s ▹ none)) a c h z q =
       let end = new_label c in
       let c1 = with_labels 1 c in
@@ -141,7 +140,7 @@ mutual
       let t = came (leaves_if_zero line end e d0) k in
       let g = came (scoped t.value (λ b. statement s (below a) b)) t.last in
       let inner = scoped_near (weight s) t.value (λ b. statement s (below a) b) (statement_near s (below a) (entered t.value) h.1.1.0) g.value g.is in
-      near_on (weight e + 2) (weight s) (weight e + 2 + weight s) (omega arith) (if_zero_near line end e d0 t.value t.is) (led_ok (Near (weight s) t.value) (here end g.value) inner y g.last)) z q)
+      near_on (weight e + 2) (weight s) (weight e + 2 + weight s) (omega arith) (if_zero_near line end e d0 t.value t.is) (led_ok (Near (weight s) t.value) inner y g.last)) z q)
   statement_near (Node f.IfElse (At line ▹ e ▹ s ▹ other ▹ none)) a c h z q =
       let end = new_label c in
       let c1 = with_labels 2 c in
@@ -156,7 +155,7 @@ mutual
       let inner = scoped_near (weight s) t.value (λ b. statement s (below a) b) (statement_near s (below a) (entered t.value) h.1.1.0) g.value g.is in
       let outer = scoped_near (weight other) x (λ b. statement other (below a) b) (statement_near other (below a) (entered x) h.1.1.1.0) u.value u.is in
       near_on (weight e + 2) (weight s + weight other) (weight e + 2 + (weight s + weight other)) (omega arith) (if_zero_near line (end + 1) e d0 t.value t.is)
-      (near_on (weight s) (weight other) (weight s + weight other) (omega arith) inner (led_ok (Near (weight other) x) (here end u.value) outer y u.last))) z q)
+      (near_on (weight s) (weight other) (weight s + weight other) (omega arith) inner (led_ok (Near (weight other) x) outer y u.last))) z q)
   statement_near (Node f.While (At line ▹ e ▹ s ▹ none)) a c h z q =
       let head = new_label c in
       let c1 = with_labels 3 c in
@@ -169,7 +168,7 @@ mutual
       let g = came (scoped t.value (λ b. statement s around b)) t.last in
       let inner = scoped_near (weight s) t.value (λ b. statement s around b) (statement_near s around (entered t.value) h.1.1.0) g.value g.is in
       near_on (weight e + 2) (weight s) (weight e + 2 + weight s) (omega arith) (if_zero_near line (head + 1) e (here head d0) t.value t.is)
-      (led_ok (Near (weight s) t.value) (looped line head (head + 1) (here (head + 2) g.value)) inner y g.last)) z q)
+      (led_ok (Near (weight s) t.value) inner y g.last)) z q)
   statement_near (Node f.Do (At line ▹ s ▹ e ▹ none)) a c h z q =
       let head = new_label c in
       let c1 = with_labels 3 c in
@@ -182,7 +181,7 @@ mutual
       let t = came (leaves_if_zero line (head + 1) e (here (head + 2) g.value)) g.last in
       let inner = scoped_near (weight s) (here head d0) (λ b. statement s around b) (statement_near s around (entered (here head d0)) h.1.0) g.value g.is in
       near_on (weight s) (weight e + 2) (weight s + (weight e + 2)) (omega arith) inner
-      (led_ok (Near (weight e + 2) g.value) (looped line head (head + 1) t.value) (if_zero_near line (head + 1) e (here (head + 2) g.value) t.value t.is) y t.last)) z q)
+      (led_ok (Near (weight e + 2) g.value) (if_zero_near line (head + 1) e (here (head + 2) g.value) t.value t.is) y t.last)) z q)
   statement_near (Node f.For (At line ▹ start ▹ Node f.MaybeExpr test ▹ Node f.MaybeExpr step ▹ s ▹ none)) a c h z q =
       let head = new_label c in
       let c1 = with_labels 3 c in
@@ -199,7 +198,7 @@ mutual
       let g1 = with_pieces t.value.code.pieces g.value in
       let u = came (scoped g1 (λ b. statement s around b)) g.last in
       let inner = scoped_near (weight s) g1 (λ b. statement s around b) (statement_near s around (entered g1) h.1.1.1.1.0) u.value u.is in
-      let last = led_ok (Near (weight s) g1) (looped line head (head + 1) (with_pieces (u.value.code.pieces ++ (Here (head + 2) ∷ g.value.code.pieces)) u.value)) inner y u.last in
+      let last = led_ok (Near (weight s) g1) inner y u.last in
       near_on (weight start) rest (weight start + rest) (omega arith) (start_near line start d0 h.1.0 x.value x.is)
       (near_on (weights test + 2) behind rest (omega arith) (maybe_leaves_near line (head + 1) test (here head x.value) t.value t.is)
       (near_on (weights step + 1) (weight s) behind (omega arith) (maybe_evaluated_near step (apart t.value) g.value g.is) last))) z q)
@@ -215,7 +214,7 @@ mutual
       let g = came (scoped x (λ b. items parts (in_switch true end t.value.1.0 a) b)) t.last in
       let inner = scoped_near (weights parts) x (λ b. items parts (in_switch true end t.value.1.0 a) b) (items_near parts (in_switch true end t.value.1.0 a) (entered x) h.1.1.0.1.0) g.value g.is in
       near_on (weight e + 1 + 1) (weights parts) (weight e + 1 + 1 + weights parts) (omega arith) (operand_near line e d0 t.value t.is)
-      (led_ok (Near (weights parts) x) (switched line end t.value.1.1 t.value.0 g.value) inner y g.last)) z q)
+      (led_ok (Near (weights parts) x) inner y g.last)) z q)
   statement_near (Node f.Switch (At line ▹ e ▹ s ▹ none)) a c h z q =
       let end = new_label c in
       let c1 = with_labels 1 c in
@@ -223,7 +222,7 @@ mutual
       let k : ℕ = weight (Node f.Switch (At line ▹ e ▹ s ▹ none)) in
       scoped_near k c1 (λ d. then (switch_operand line e d) (λ t. then (statement s (in_switch false end t.1.0 a) (no_cases (apart t.0))) (λ g. refused LeftOut line)))
       (led_after (Near k c1) (switch_operand line e d0)
-      (λ t q. led_after (Near k c1) (statement s (in_switch false end t.1.0 a) (no_cases (apart t.0))) (λ g u. led_refused (Near k c1) LeftOut line))) z q
+      (λ t q. led_after (Near k c1) (statement s (in_switch false end t.1.0 a) (no_cases (apart t.0))) (λ g u. led_refused (Near k c1) {kind = LeftOut} {line = line}))) z q
   statement_near (Node f.Case (At line ▹ e ▹ s ▹ none)) a c h z q =
       let k = came (constant e c) q in
       let label = new_label k.value.0 in
@@ -241,10 +240,10 @@ mutual
   statement_near (Node f.Return (At line ▹ Node f.MaybeExpr e ▹ none)) a c h z q = near_most (weights e + 2) _ (omega arith) (return_near line a.delays e c z q)
   statement_near (Node f.Local (At line ▹ words ▹ names ▹ none)) a c h z q =
       near_most (weight words + weight names + 6) _ (omega arith) (declaration_near false line words names c h.1.0 h.1.1.0 z q)
-  statement_near tree a c h z q = led_refused (Near (weight tree) c) Operands (line_of tree) z q
+  statement_near tree a c h z q = led_refused (Near (weight tree) c) z q
 
   pub items_near : (parts : Trees) (a : Around) (c : Context) → AllShort parts → Led (Near (weights parts) c) (items parts a c)
-  items_near none a c h z q = led_ok (Near 0 c) c (near_refl c) z q
+  items_near none a c h z q = led_ok (Near 0 c) (near_refl c) z q
   items_near (item ▹ rest) a c h z q =
       let d = came (statement item a c) q in
       near_on (weight item) (weights rest) _ (omega arith) (statement_near item a c h.0 d.value d.is) (items_near rest a d.value h.1 z d.last)

@@ -77,8 +77,8 @@ body_ended_steady k line name type end c s small h =
     let total = d.length + sum_by piece_length d.code.pieces in
     let w : Walked = record { name = name; params = params_of type; running = d.running; code = d.code } in
     let z : Context = record d { scopes = record { file = d.scopes.file; inner = [] }; length = total; walked = d.walked ++ w ∷ [] } in
-    led_unless Steady (nat_lt 268435456 total) ProgramTooLong line (Ok z)
-    (λ x. led_ok Steady z (record {
+    led_unless Steady (nat_lt 268435456 total) ProgramTooLong line
+    (λ x. led_ok Steady (record {
       variables = s.clear.variables;
       walked = All-push Sized c.walked w s.clear.walked (record { name = h; named = s.clear.named; made = omega (arith, s.made, small); temporaries = omega (arith, s.temporaries, small) });
     }))
@@ -88,7 +88,7 @@ unfolding shape
 body_steady k line name type (Node f.Body (Node f.Items parts ▹ At end ▹ none)) c s small h g =
     led_after Steady (items parts around_body c)
     (λ d q. body_ended_steady (k + weights parts) line name type end d (small_on k (weights parts) c d s (items_near parts around_body c g.0 d q)) (omega (arith, small)) h)
-body_steady k line name type tree c s small h g = led_refused Steady Operands line
+body_steady k line name type tree c s small h g = led_refused Steady
 
 body_begun_small : (k index : ℕ) (type : PlainType) (c : Context) → Small k (share c) → Small k (share (body_begun index type c))
 body_begun_small k index type c s = s
@@ -96,14 +96,14 @@ body_begun_small k index type c s = s
 defined_steady : (k line : ℕ) (name : List ℕ) (type : PlainType) (tree : Tree) (c : Context) → Small k (share c) → k + weight tree ≤ 1610612736 → IsShort name → Short tree → Led Steady (defined line name type tree c)
 defined_steady k line name type tree c s small h g =
     let index = function_number name c in
-    led_unless Steady (not (is_function type)) LeftOut line (then (declared_function line name type c) (λ d. unless (is_defined (slice_get d.functions index)) DeclaredTwice line (body line name type tree (body_begun index type d))))
+    led_unless Steady (not (is_function type)) LeftOut line
     (λ x. led_after Steady (declared_function line name type c)
     (λ d q. let y = small_on k 0 c d s (declared_function_near line name type c d q) in
-    led_unless Steady (is_defined (slice_get d.functions index)) DeclaredTwice line (body line name type tree (body_begun index type d))
+    led_unless Steady (is_defined (slice_get d.functions index)) DeclaredTwice line
     (λ z. body_steady (k + 0) line name type tree (body_begun index type d) (body_begun_small (k + 0) index type d y) (omega (arith, small)) h g)))
 
 named_steady : (k line : ℕ) (name : Option (List ℕ)) (type : PlainType) (tree : Tree) (c : Context) → Small k (share c) → k + weight tree ≤ 1610612736 → IfSome name IsShort → Short tree → Led Steady (named_definition line name type tree c)
-named_steady k line None type tree c s small h g = led_refused Steady Operands line
+named_steady k line None type tree c s small h g = led_refused Steady
 named_steady k line (Some name) type tree c s small h g = defined_steady k line name type tree c s small h g
 
 definition_steady : (line : ℕ) (words declarator tree : Tree) (c : Context) → Small 0 (share c) → weight words + weight declarator + weight tree ≤ 1610612736 → Short words → Short declarator → Short tree → Led Steady (definition line words declarator tree c)
@@ -120,11 +120,11 @@ external_steady (Node f.Function (At line ▹ words ▹ Node f.Declared (declara
     definition_steady line words declarator tree (begun line (addressed_in declarator tree) c) (begun_small line (addressed_in declarator tree) c h) (omega (arith, small)) g.1.0 g.1.1.0.0 g.1.1.1.0 z q
 external_steady (Node f.Declaration (At line ▹ words ▹ names ▹ none)) c h small g z q =
     let k = (declaration_near true line words names (begun line [] c) g.1.0 g.1.1.0 z q).clear (begun_small line [] c h).clear in record { variables = k.variables; walked = k.walked }
-external_steady tree c h small g z q = led_refused Steady Operands (line_of tree) z q
+external_steady tree c h small g z q = led_refused Steady z q
 
 externals_steady : (unit : Trees) (c : Context) → Steady c → weights unit ≤ 1610612736 → AllShort unit → Led Steady (externals unit c)
 unfolding externals
-externals_steady none c h small g z q = led_ok Steady c h z q
+externals_steady none c h small g z q = led_ok Steady h z q
 externals_steady (tree ▹ rest) c h small g z q =
     let d = came (external tree c) q in
     externals_steady rest d.value (external_steady tree c h (omega (arith, small)) g.0 d.value d.is) (omega (arith, small)) g.1 z d.last
@@ -133,19 +133,19 @@ first_steady : Steady first_context
 first_steady = record { variables = All-nil (λ (v : Variable). IsShort v.name); walked = All-nil Sized }
 
 calls_steady : (functions : List Declared) (calls : List (ℕ × ℕ)) (c : Context) → Steady c → Led Steady (calls_defined functions calls c)
-calls_steady functions [] c h = led_ok Steady c h
+calls_steady functions [] c h = led_ok Steady h
 calls_steady functions (call ∷ calls) c h = by (is_defined (slice_get functions call.0)) (calls_steady functions calls c h)
   where
     by : (x : Bool) → Led Steady (calls_defined functions calls c) → Led Steady (cond x (calls_defined functions calls c) (refused Undeclared call.1))
     by true k = k
-    by false k = led_refused Steady Undeclared call.1
+    by false k = led_refused Steady
 
 walked_steady : (unit : Trees) (c : Context) → weights unit ≤ 1610612736 → AllShort unit → walked unit ≡ Ok c → Steady c
 walked_steady unit c small g q =
     led_after Steady (externals unit first_context)
     (λ x s. let r = externals_steady unit first_context first_steady small g x s in
     led_after Steady (calls_defined x.functions x.calls x)
-    (λ d k. led_unless Steady (not (is_main d.functions (named_in (codes "main") d.scopes.file))) NoMain 1 (Ok d) (λ y. led_ok Steady d (calls_steady x.functions x.calls x r d k))))
+    (λ d k. led_unless Steady (not (is_main d.functions (named_in (codes "main") d.scopes.file))) NoMain 1 (λ y. led_ok Steady (calls_steady x.functions x.calls x r d k))))
     c q
 
 -- the core

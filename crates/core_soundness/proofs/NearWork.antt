@@ -50,7 +50,7 @@ read_near line type spot c = near_most 0 1 (omega arith) (near_refl c)
 pub valued_from_near : (tree : Tree) (c : Context) (e : Found) → Reached (Near 1 c) (valued_from tree c e)
 valued_from_near tree c e =
     reached_after (Near 1 c) (read (line_of tree) c.tags e.typed)
-    (λ typed h. reached_ok (Near 1 c) (read_value typed e (read_spot (code_line tree) e.typed.type e.spot c)) (read_near (code_line tree) e.typed.type e.spot c))
+    (λ typed h. reached_ok (Near 1 c) (read_near (code_line tree) e.typed.type e.spot c))
 
 pub unused_near : (n : ℕ) (tree : Tree) (b : Context) (answer : With Found) → Reached (Near n b) answer → Reached (Near (n + 1) b) (unused tree answer)
 unused_near n tree b answer g =
@@ -179,17 +179,16 @@ compare_again_near line other a c = near_refl c
 pub indexed_near : (line : ℕ) (c : Context) (x y : Found) → Reached (Near 3 c) (indexed line c x y)
 indexed_near line c x y =
     reached_after (Near 3 c) (element line c.tags x.typed y.typed)
-    (λ typed h. reached_ok (Near 3 c) (at_address typed (fixed_sum c b.Add x y) (combined line b.Add c.code x y c)) (combined_near 0 line b.Add c x y c (near_refl c)))
+    (λ typed h. reached_ok (Near 3 c) (combined_near 0 line b.Add c x y c (near_refl c)))
 
 pub dotted_near : (line : ℕ) (name : List ℕ) (c : Context) (e : Found) → Reached (Near 1 c) (dotted line name c e)
 dotted_near line name c e =
     reached_after (Near 1 c) (dot line name c.tags e.typed)
-    (λ typed h. reached_ok (Near 1 c) (member_of line (offset_of c.tags name e.typed.type) typed c e) (member_near line (offset_of c.tags name e.typed.type) (atom_in e) c))
+    (λ typed h. reached_ok (Near 1 c) (member_near line (offset_of c.tags name e.typed.type) (atom_in e) c))
 
 pub pointed_near : (line : ℕ) (name : List ℕ) (c : Context) (e : Found) → Reached (Near 1 c) (pointed line name c e)
 pointed_near line name c e =
-    reached_after (Near 1 c) (arrow line name c.tags e.typed)
-    (λ typed h. reached_ok (Near 1 c) (member_of line (offset_of c.tags name (target_of (operand e.typed.type))) typed c e)
+    reached_after (Near 1 c) (arrow line name c.tags e.typed) (λ typed h. reached_ok (Near 1 c)
     (member_near line (offset_of c.tags name (target_of (operand e.typed.type))) (atom_in e) c))
 
 -- operators
@@ -207,8 +206,7 @@ apply_near line op tree typed c e = before_number_near line op typed (operand e.
 
 pub applied_near : (line : ℕ) (op : UnaryOp) (tree : Tree) (c : Context) (e : Found) → Reached (Near 2 c) (applied line op tree c e)
 applied_near line op tree c e =
-    reached_after (Near 2 c) (unary line op c.tags e.typed)
-    (λ typed h. reached_ok (Near 2 c) (apply line op tree typed c e) (apply_near line op tree typed c e))
+    reached_after (Near 2 c) (unary line op c.tags e.typed) (λ typed h. reached_ok (Near 2 c) (apply_near line op tree typed c e))
 
 pub left_near : (n : ℕ) (op : BinaryOp) (b : Context) (right : Tree) (d : Context × Found) → Near n b d.0 → Near n b (left_operand op b.code right d).0
 left_near n op b right d g =
@@ -218,12 +216,12 @@ left_near n op b right d g =
 pub between_near : (n line : ℕ) (op : BinaryOp) (b c : Context) (x y : Found) → Near n b c → Reached (Near (n + 3) b) (between line op b.code c x y)
 between_near n line op b c x y g =
     reached_after (Near (n + 3) b) (binary line op c.tags x.typed y.typed)
-    (λ typed h. reached_ok (Near (n + 3) b) (with_value typed (fixed_sum c op x y) (combined line op b.code x y c)) (combined_near n line op b x y c g))
+    (λ typed h. reached_ok (Near (n + 3) b) (combined_near n line op b x y c g))
 
 pub cast_near : (n line : ℕ) (type : PlainType) (b c : Context) (e : Found) → Near n b c → Reached (Near (n + 1) b) (cast_to line type b.code c e)
 cast_near n line type b c e g =
     reached_after (Near (n + 1) b) (cast line type e.typed)
-    (λ typed h. reached_ok (Near (n + 1) b) (with_value typed (cast_fixed e.typed e.fixed) (convert line b.code type e.typed (atom_in e) c)) (convert_near n line b type e.typed (atom_in e) c g))
+    (λ typed h. reached_ok (Near (n + 1) b) (convert_near n line b type e.typed (atom_in e) c g))
 
 -- one way or another
 
@@ -235,8 +233,7 @@ and_ends_near line label right r =
 
 pub and_near : (line label : ℕ) (right : Tree) (x : Found) (r : Context × Found) → Reached (Near 2 r.0) (and_ended line label right x r)
 and_near line label right x r =
-    reached_after (Near 2 r.0) (binary line b.And r.0.tags x.typed r.1.typed)
-    (λ typed k. reached_ok (Near 2 r.0) (with_value typed Unknown (and_ends line label (tested_value right r))) (and_ends_near line label right r))
+    reached_after (Near 2 r.0) (binary line b.And r.0.tags x.typed r.1.typed) (λ typed k. reached_ok (Near 2 r.0) (and_ends_near line label right r))
 
 pub and_then_near : (line : ℕ) (tree : Tree) (d : Context × Found) → Near 1 d.0 (and_then line tree d)
 and_then_near line tree d = tested_value_near tree d
@@ -251,7 +248,7 @@ pub or_near : (line end : ℕ) (right : Tree) (i : Atom) (x : Found) (r : Contex
 or_near line end right i x r =
     let v = tested_value right r in
     reached_after (Near 1 r.0) (binary line b.Or r.0.tags x.typed r.1.typed)
-    (λ typed k. reached_ok (Near 1 r.0) (with_value typed Unknown (or_ends line end i (tested_value right r))) (near_on 1 0 1 (omega arith) (tested_value_near right r) (compare_again_near line i v.1 v.0)))
+    (λ typed k. reached_ok (Near 1 r.0) (near_on 1 0 1 (omega arith) (tested_value_near right r) (compare_again_near line i v.1 v.0)))
 
 chosen_by_near : (n line : ℕ) (b : Context) (type : PlainType) (e : PlainTyped) (d : Context × Atom) → Near n b d.0 → Near (n + 2) b (chosen_by line b.code type e d).0
 chosen_by_near n line b (Int ty) e d g =
@@ -273,14 +270,13 @@ choose_last_near n line b type t d g =
 pub chosen_near : (n line end : ℕ) (b : Context) (t : Atom) (test x : Found) (d : Context × Found) → Near n b d.0 → Reached (Near (n + 1) b) (chosen line end b.code t test x d)
 chosen_near n line end b t test x d g =
     reached_after (Near (n + 1) b) (choice line test.typed x.typed d.1.typed)
-    (λ typed e. reached_ok (Near (n + 1) b) (let v = choose_last line b.code typed.type t d in (here end v.0, choice_found typed v.1)) (choose_last_near n line b typed.type t d g))
+    (λ typed e. reached_ok (Near (n + 1) b) (choose_last_near n line b typed.type t d g))
 
 -- assignments
 
 pub record_near : (line right : ℕ) (target : Found) (d : Context × Found) → Reached (Near 0 d.0) (record_assigned line right target d)
 record_near line right target d =
-    reached_after (Near 0 d.0) (assigned line right d.0.tags target.typed d.1.typed)
-    (λ typed h. reached_ok (Near 0 d.0) (emit line (Copy (atom_in target) (atom_in d.1) (pos (size_or_zero d.0 typed.type))) d.0, found_as typed Empty Unknown) (near_refl d.0))
+    reached_after (Near 0 d.0) (assigned line right d.0.tags target.typed d.1.typed) (λ typed h. reached_ok (Near 0 d.0) (near_refl d.0))
 
 set_to_near : (n line : ℕ) (b : Context) (typed : PlainTyped) (target : Found) (d : Context × Found) → Near n b d.0 → Near (n + 1) b (set_to line b.code typed target d).0
 set_to_near n line b typed target d g =
@@ -291,7 +287,7 @@ pub scalar_assigned_near : (n line : ℕ) (tree : Tree) (target : Found) (b : Co
 scalar_assigned_near n line tree target b d g =
     reached_after (Near (n + 2) b) (assigned line (types.line_of tree) d.0.tags target.typed d.1.typed)
     (λ typed h. reached_then (Near (n + 2) b) (Near 1 d.0) (valued_from_near tree d.0 d.1)
-    (λ v k. reached_ok (Near (n + 2) b) (set_to line b.code typed target v) (near_most (n + 1 + 1) (n + 2) (omega arith) (set_to_near (n + 1) line b typed target v (near_on n 1 (n + 1) (omega arith) g k)))))
+    (λ v k. reached_ok (Near (n + 2) b) (near_most (n + 1 + 1) (n + 2) (omega arith) (set_to_near (n + 1) line b typed target v (near_on n 1 (n + 1) (omega arith) g k)))))
 
 pub old_near : (line : ℕ) (d : Context × Found) → Near 1 d.0 (old_value line d).0
 old_near line d = read_near line d.1.typed.type d.1.spot d.0
@@ -307,8 +303,7 @@ answer_near n false typed old v b g = g
 
 pub changed_near : (line : ℕ) (op : AssignOp) (keeps_old : Bool) (target : Found) (old : Atom) (d : Context × Found) → Reached (Near 4 d.0) (changed_by line op keeps_old target old d)
 changed_near line op keeps_old target old d =
-    reached_after (Near 4 d.0) (changed line op d.0.tags target.typed d.1.typed)
-    (λ typed h. reached_ok (Near 4 d.0) (changed_answer keeps_old typed old (change_place line (operator_of op) typed target old d.1.typed (atom_in d.1) d.0))
+    reached_after (Near 4 d.0) (changed line op d.0.tags target.typed d.1.typed) (λ typed h. reached_ok (Near 4 d.0)
     (answer_near 4 keeps_old typed old (change_place line (operator_of op) typed target old d.1.typed (atom_in d.1) d.0) d.0 (change_place_near line (operator_of op) typed target old d.1.typed (atom_in d.1) d.0)))
 
 pub stepped_near : (line : ℕ) (op : AssignOp) (keeps_old : Bool) (d : Context × Found) → Reached (Near 5 d.0) (stepped line op keeps_old d)

@@ -181,17 +181,17 @@ target_start c (InStatic start) h = h
 target_start c other h = absurd h
 
 fill_pointed : (line index : ℕ) (type : PlainType) (inits : Trees) (c : Context) → Pointed c → Led Pointed (fill_variable line index type inits c)
-fill_pointed line index type none c h = led_ok Pointed c h
+fill_pointed line index type none c h = led_ok Pointed h
 fill_pointed line index type (init ▹ rest) c h =
-    led_unless Pointed (is_some (start_of (slice_get c.variables index))) DeclaredTwice line (then (initialize init false type 0 (InStatic no_start) c) (λ d. Ok (started index d)))
+    led_unless Pointed (is_some (start_of (slice_get c.variables index))) DeclaredTwice line
     (λ t. led_after Pointed (initialize init false type 0 (InStatic no_start) c)
     (λ d q. let r = initialize_points init false type 0 (InStatic no_start) c h.there tt d q in
-    led_ok Pointed (started index d) (start_pointed index d.0 (start_in d.1) (slice_get d.0.variables index) refl (settled_pointed c d.0 r.0 h) (target_start d.0 d.1 r.1))))
+    led_ok Pointed (start_pointed index d.0 (start_in d.1) (slice_get d.0.variables index) refl (settled_pointed c d.0 r.0 h) (target_start d.0 d.1 r.1))))
 
 object_pointed : (line : ℕ) (name : List ℕ) (type : PlainType) (inits : Trees) (c : Context) → Pointed c → Led Pointed (file_object line name type inits c)
 object_pointed line name type inits c h =
     let index = variable_number_of c (named_in name c.scopes.file) in
-    led_unless Pointed (has_no_size c.tags type) Incomplete line (then (declared_as line name (n.Object type index) c) (λ d. then (with_variable line index name type d) (λ v. fill_variable line index type inits v)))
+    led_unless Pointed (has_no_size c.tags type) Incomplete line
     (λ t. led_after Pointed (declared_as line name (n.Object type index) c)
     (λ d q. let same : record c { scopes = after_declaration c.scopes name (n.Object type index) } ≡ d = passed (is_twice c.scopes name (n.Object type index)) DeclaredTwice line (record c { scopes = after_declaration c.scopes name (n.Object type index) }) d q in
     led_after Pointed (with_variable line index name type d)
@@ -211,11 +211,11 @@ pub function_settled : (line : ℕ) (name : List ℕ) (type : PlainType) (c : Co
 function_settled line name type c =
     let index = function_number name c in
     led_after (Settled c) (declared_as line name (n.Function type index) c)
-    (λ d q. led_ok (Settled c) (with_function index name d) (settled_trans c d _ (declared_levels line name (n.Function type index) c c tt (levels_refl c) d q).settled (with_function_settled index name d)))
+    (λ d q. led_ok (Settled c) (settled_trans c d _ (declared_levels line name (n.Function type index) c c tt (levels_refl c) d q).settled (with_function_settled index name d)))
 
 no_initializer_pointed : (inits : Trees) (c : Context) → Pointed c → Led Pointed (no_initializer inits c)
-no_initializer_pointed none c h = led_ok Pointed c h
-no_initializer_pointed (init ▹ rest) c h = led_after Pointed (surplus init c) (λ d q. led_refused Pointed Assignment (line_of init))
+no_initializer_pointed none c h = led_ok Pointed h
+no_initializer_pointed (init ▹ rest) c h = led_after Pointed (surplus init c) (λ d q. led_refused Pointed)
 
 value_pointed : (line : ℕ) (name : List ℕ) (type : PlainType) (inits : Trees) (c : Context) → Pointed c → Led Pointed (file_value line name type inits c)
 value_pointed line name type inits c h =
@@ -228,7 +228,7 @@ file_name_pointed line Typedef name type inits c h = λ d q. settled_pointed c d
 file_name_pointed line other name type inits c h = value_pointed line name type inits c h
 
 name_pointed : (line : ℕ) (storage : Storage) (name : Option (List ℕ)) (type : PlainType) (inits : Trees) (c : Context) → Pointed c → Led Pointed (name_in true line storage name type inits c)
-name_pointed line storage None type inits c h = led_ok Pointed c h
+name_pointed line storage None type inits c h = led_ok Pointed h
 name_pointed line storage (Some name) type inits c h = file_name_pointed line storage name type inits c h
 
 entry_pointed : (line : ℕ) (storage : Storage) (base : PlainType) (declarator : Tree) (inits : Trees) (c : Context) → Pointed c → Led Pointed (entry true line storage base declarator inits c)
@@ -240,11 +240,11 @@ entry_pointed line storage base declarator inits c h =
 
 entries_pointed : (names : Trees) (line : ℕ) (storage : Storage) (base : PlainType) (c : Context) → Pointed c → Led Pointed (entries true line storage base names c)
 unfolding entries
-entries_pointed none line storage base c h = led_ok Pointed c h
+entries_pointed none line storage base c h = led_ok Pointed h
 entries_pointed (Node f.Entry (Node f.Declared (declarator ▹ none) ▹ Node f.MaybeInit inits ▹ none) ▹ rest) line storage base c h =
     led_after Pointed (entry true line storage base declarator inits c)
     (λ d q. entries_pointed rest line storage base d (entry_pointed line storage base declarator inits c h d q))
-entries_pointed (tree ▹ rest) line storage base c h = led_refused Pointed Operands (line_of tree)
+entries_pointed (tree ▹ rest) line storage base c h = led_refused Pointed
 
 alone_level : (tree : Tree) (c : Context) → Reached (Levels c) (specs_alone tree c)
 alone_level (Node f.Specs (At line ▹ Node (f.RecordTag sort) (At at ▹ Leaf (w.Name name) ▹ none) ▹ none)) c =
@@ -260,7 +260,7 @@ unfolding declaration
 declaration_pointed line words (Node f.Names names) c h =
     led_after Pointed (specs_before words names c)
     (λ base q. entries_pointed names line (storage_of words) base.1 base.0 (settled_pointed c base.0 (before_level words names c base q).settled h))
-declaration_pointed line words tree c h = led_refused Pointed Operands line
+declaration_pointed line words tree c h = led_refused Pointed
 
 -- definitions of functions
 
@@ -269,7 +269,7 @@ body_ends line name type end c d s =
     let e = emit end (Return (last_answer d.running.answer)) d in
     let total : ℕ = e.length + sum_by piece_length e.code.pieces in
     let z : Context = record e { scopes = record { file = e.scopes.file; inner = [] }; length = total; walked = e.walked ++ (record { name = name; params = params_of type; running = e.running; code = e.code }) ∷ [] } in
-    led_unless (Settled c) (nat_lt 268435456 total) ProgramTooLong line (Ok z) (λ x. led_ok (Settled c) z (record { variables = s.variables; literals = s.literals; objects = s.objects }))
+    led_unless (Settled c) (nat_lt 268435456 total) ProgramTooLong line (λ x. led_ok (Settled c) (record { variables = s.variables; literals = s.literals; objects = s.objects }))
 
 body_settled : (line : ℕ) (name : List ℕ) (index : ℕ) (type : PlainType) (tree : Tree) (c : Context) → Safe c.scopes → SafeTable c.params → Led (Settled c) (body line name type tree (body_begun index type c))
 body_settled line name index type (Node f.Body (Node f.Items parts ▹ At end ▹ none)) c s p =
@@ -277,19 +277,19 @@ body_settled line name index type (Node f.Body (Node f.Items parts ▹ At end �
     led_after (Settled c) (items parts around_body begin)
     (λ d q. let walk = items_walk parts around_body begin (record { early = tt; breaks = tt; continues = tt }) (record { file = s.file; inner = (p, tt) }) d q in
     let k = walk.stays.inside (omega arith) in body_ends line name type end c d (record { variables = k.variables; literals = k.literals; objects = k.objects }))
-body_settled line name index type tree c s p = led_refused (Settled c) Operands line
+body_settled line name index type tree c s p = led_refused (Settled c)
 
 defined_settled : (line : ℕ) (name : List ℕ) (type : PlainType) (tree : Tree) (c : Context) → Safe c.scopes → SafeTable c.params → length c.scopes.inner ≡ 0 → Led (Settled c) (defined line name type tree c)
 defined_settled line name type tree c s p flat =
     let index = function_number name c in
-    led_unless (Settled c) (not (is_function type)) LeftOut line (then (declared_function line name type c) (λ d. unless (is_defined (slice_get d.functions index)) DeclaredTwice line (body line name type tree (body_begun index type d))))
+    led_unless (Settled c) (not (is_function type)) LeftOut line
     (λ x. led_after (Settled c) (declared_function line name type c)
     (λ d q. let k = (introduced line name type c s flat d q).passes.stays in
-    led_unless (Settled c) (is_defined (slice_get d.functions index)) DeclaredTwice line (body line name type tree (body_begun index type d))
+    led_unless (Settled c) (is_defined (slice_get d.functions index)) DeclaredTwice line
     (λ y z e. settled_trans c d z (function_settled line name type c d q) (body_settled line name index type tree d k.safe (k.params p) z e))))
 
 named_settled : (line : ℕ) (name : Option (List ℕ)) (type : PlainType) (tree : Tree) (c : Context) → Safe c.scopes → SafeTable c.params → length c.scopes.inner ≡ 0 → Led (Settled c) (named_definition line name type tree c)
-named_settled line None type tree c s p flat = led_refused (Settled c) Operands line
+named_settled line None type tree c s p flat = led_refused (Settled c)
 named_settled line (Some name) type tree c s p flat = defined_settled line name type tree c s p flat
 
 pub definition_settled : (line : ℕ) (words declarator tree : Tree) (c : Context) → Safe c.scopes → SafeTable c.params → length c.scopes.inner ≡ 0 → Led (Settled c) (definition line words declarator tree c)
@@ -309,11 +309,11 @@ unfolding external
 external_pointed (Node f.Function (At line ▹ words ▹ Node f.Declared (declarator ▹ none) ▹ tree ▹ none)) c s h z q =
     let b = begun line (addressed_in declarator tree) c in settled_pointed b z (definition_settled line words declarator tree b s.safe s.params s.flat z q) (record { there = h.there; starts = h.starts })
 external_pointed (Node f.Declaration (At line ▹ words ▹ names ▹ none)) c s h z q = declaration_pointed line words names (begun line [] c) (record { there = h.there; starts = h.starts }) z q
-external_pointed tree c s h z q = led_refused Pointed Operands (line_of tree) z q
+external_pointed tree c s h z q = led_refused Pointed z q
 
 externals_pointed : (unit : Trees) (c : Context) → Sane c → Pointed c → Led Pointed (externals unit c)
 unfolding externals
-externals_pointed none c s h = led_ok Pointed c h
+externals_pointed none c s h = led_ok Pointed h
 externals_pointed (tree ▹ rest) c s h =
     led_after Pointed (external tree c) (λ d q. externals_pointed rest d (external_sane tree c s d q) (external_pointed tree c s h d q))
 
@@ -329,15 +329,15 @@ first_pointed : Pointed first_context
 first_pointed = record { there = no_objects 0 built_ins; starts = λ i v s e q. cc }
 
 calls_pointed : (functions : List Declared) (calls : List (ℕ × ℕ)) (c : Context) → Pointed c → Led Pointed (calls_defined functions calls c)
-calls_pointed functions [] c h = led_ok Pointed c h
-calls_pointed functions (call ∷ calls) c h = led_cond Pointed (is_defined (slice_get functions call.0)) (calls_defined functions calls c) (refused Undeclared call.1) (calls_pointed functions calls c h) (led_refused Pointed Undeclared call.1)
+calls_pointed functions [] c h = led_ok Pointed h
+calls_pointed functions (call ∷ calls) c h = led_cond Pointed (is_defined (slice_get functions call.0)) (calls_defined functions calls c) (refused Undeclared call.1) (calls_pointed functions calls c h) (led_refused Pointed)
 
 pub walked_pointed : (unit : Trees) → Led Pointed (walked unit)
 walked_pointed unit =
     led_after Pointed (externals unit first_context)
     (λ x s. let r = externals_pointed unit first_context first_sane first_pointed x s in
     led_after Pointed (calls_defined x.functions x.calls x)
-    (λ d k. led_unless Pointed (not (is_main d.functions (named_in (codes "main") d.scopes.file))) NoMain 1 (Ok d) (λ y. led_ok Pointed d (calls_pointed x.functions x.calls x r d k))))
+    (λ d k. led_unless Pointed (not (is_main d.functions (named_in (codes "main") d.scopes.file))) NoMain 1 (λ y. led_ok Pointed (calls_pointed x.functions x.calls x r d k))))
 
 -- statics of the core
 

@@ -60,18 +60,18 @@ Points c z = Settled c z.0 × TargetIn z.0 z.1
 -- scalars
 
 address_points : (line offset : ℕ) (start : Start) (c : Context) (fixed : Fixed) → StartIn c start → FixedAt c fixed → Led (StartIn c) (static_address line offset start fixed)
-address_points line offset start c Unknown h k = led_refused (StartIn c) NotConstant line
-address_points line offset start c Nowhere h k = led_ok (StartIn c) start h
+address_points line offset start c Unknown h k = led_refused (StartIn c)
+address_points line offset start c Nowhere h k = led_ok (StartIn c) h
 address_points line offset start c (Inside g at) h k =
-    led_ok (StartIn c) (record start { pointers = start.pointers ++ (offset, g, unsigned_abs at) ∷ [] })
+    led_ok (StartIn c)
     (pointers_push c.variables c.literals start.pointers (offset, g, unsigned_abs at) h (subst (λ (x : ℤ). Aims c.variables c.literals g (unsigned_abs x)) (sym k.1) k.2))
 
 pointer_points : (line offset : ℕ) (start : Start) (c : Context) (e : Found) → StartIn c start → FixedAt c e.fixed → Led (StartIn c) (static_pointer line offset start e)
-pointer_points line offset start c e h k = led_cond (StartIn c) (is_null_constant e.typed) (Ok start) (static_address line offset start e.fixed) (led_ok (StartIn c) start h) (address_points line offset start c e.fixed h k)
+pointer_points line offset start c e h k = led_cond (StartIn c) (is_null_constant e.typed) (Ok start) (static_address line offset start e.fixed) (led_ok (StartIn c) h) (address_points line offset start c e.fixed h k)
 
 integer_points : (line : ℕ) (ty : IntType) (offset : ℕ) (start : Start) (c : Context) (folded : Folded) → StartIn c start → Led (StartIn c) (static_integer line ty offset start folded)
-integer_points line ty offset start c (Is v) h = led_ok (StartIn c) _ h
-integer_points line ty offset start c other h = led_refused (StartIn c) NotConstant line
+integer_points line ty offset start c (Is v) h = led_ok (StartIn c) h
+integer_points line ty offset start c other h = led_refused (StartIn c)
 
 static_points : (line : ℕ) (type : PlainType) (offset : ℕ) (start : Start) (c : Context) (e : Found) → StartIn c start → FixedAt c e.fixed → Led (StartIn c) (static_scalar line type offset start e)
 static_points line (types.Int ty) offset start c e h k = integer_points line ty offset start c e.typed.folded h
@@ -87,7 +87,7 @@ opened_settled e c = by (reallocates c.scopes e)
 fill_points : (e : Tree) (line : ℕ) (type : PlainType) (offset : ℕ) (before : Code) (target : Target) (c : Context) (d : Context × Found) → Settled c d.0 → Aimed d → TargetIn c target → Led (Points c) (fill_scalar e line type offset before d target)
 fill_points e line type offset before (InStatic start) c d s k h =
     led_after (Points c) (static_scalar line type offset start d.1)
-    (λ filled q. led_ok (Points c) (d.0, InStatic filled) (s, static_points line type offset start d.0 d.1 (start_on c d.0 start s h) k filled q))
+    (λ filled q. led_ok (Points c) (s, static_points line type offset start d.0 d.1 (start_on c d.0 start s h) k filled q))
 fill_points e line type offset before other c d s k h = absurd h
 
 scalar_points : (e : Tree) (line : ℕ) (type : PlainType) (offset : ℕ) (target : Target) (c : Context) → There c → TargetIn c target → Led (Points c) (scalar e line type offset target c)
@@ -95,12 +95,12 @@ scalar_points e line type offset target c n h =
     let begun = opened e c in
     let o = opened_settled e c in
     led_after (Points c) (valued e (found e type begun))
-    (λ d q. led_barred (Points c) (unconverted type d.1.typed) line (fill_scalar e line type offset begun.code d target)
+    (λ d q. led_barred (Points c) (unconverted type d.1.typed) line
     (fill_points e line type offset begun.code target c d (settled_trans c begun d.0 o (grows_settled begun d.0 (value_grew e type begun d q))) (value_aimed e type begun d (there_on c begun o n) q) h))
 
 record_points : (e : Tree) (line : ℕ) (type : PlainType) (offset : ℕ) (c : Context) (d : Context × Found) (target : Target) → TargetIn c target → Led (Points c) (fill_record e line type offset d target)
 record_points e line type offset c d (InMemory at mem) h = absurd h
-record_points e line type offset c d other h = led_refused (Points c) NotConstant line
+record_points e line type offset c d other h = led_refused (Points c)
 
 whole_points : (e : Tree) (line : ℕ) (type : PlainType) (offset : ℕ) (target : Target) (c : Context) → TargetIn c target → Led (Points c) (whole e line type offset target c)
 whole_points e line type offset target c h =
@@ -109,8 +109,8 @@ whole_points e line type offset target c h =
 
 text_points : (e : Tree) (line : ℕ) (bytes : List ℕ) (size offset : ℕ) (target : Target) (c : Context) → TargetIn c target → Led (Points c) (fill_text e line bytes size offset target c)
 text_points e line bytes size offset (InMemory at mem) c h = absurd h
-text_points e line bytes size offset (InStatic start) c h = led_ok (Points c) (c, InStatic (with_bytes start offset (take size bytes))) (settled_refl c, h)
-text_points e line bytes size offset (InRegister at register) c h = led_refused (Points c) Assignment line
+text_points e line bytes size offset (InStatic start) c h = led_ok (Points c) (settled_refl c, h)
+text_points e line bytes size offset (InRegister at register) c h = led_refused (Points c)
 
 by_text_points : (e : Tree) (line : ℕ) (element : PlainType) (size offset : ℕ) (o : Option (List ℕ)) (target : Target) (c : Context) → TargetIn c target → Led (Points c) (by_text e line element size offset o target c)
 by_text_points e line element size offset None target c h = whole_points e line (Array element size) offset target c h
@@ -132,12 +132,12 @@ mutual
   initialize_points (Node (f.InitList trailing) (At line ▹ Node f.Inits inits ▹ none)) in_scalar type offset target c n h =
       led_cond (Points c) (takes_braces type in_scalar) (initialize_parts line inits (is_scalar_type type) (parts_of c (count inits) type offset) target c) (then (all_surplus inits c) (λ d. refused Assignment line))
       (parts_point inits line (is_scalar_type type) (parts_of c (count inits) type offset) target c n h)
-      (led_after (Points c) (all_surplus inits c) (λ d q. led_refused (Points c) Assignment line))
-  initialize_points tree in_scalar type offset target c n h = led_refused (Points c) Operands (line_of tree)
+      (led_after (Points c) (all_surplus inits c) (λ d q. led_refused (Points c)))
+  initialize_points tree in_scalar type offset target c n h = led_refused (Points c)
 
   parts_point : (inits : Trees) (line : ℕ) (in_scalar : Bool) (parts : List (PlainType × ℕ)) (target : Target) (c : Context) → There c → TargetIn c target → Led (Points c) (initialize_parts line inits in_scalar parts target c)
-  parts_point none line in_scalar parts target c n h = led_ok (Points c) (c, target) (settled_refl c, h)
-  parts_point (init ▹ rest) line in_scalar [] target c n h = led_after (Points c) (all_surplus (init ▹ rest) c) (λ d q. led_refused (Points c) Assignment line)
+  parts_point none line in_scalar parts target c n h = led_ok (Points c) (settled_refl c, h)
+  parts_point (init ▹ rest) line in_scalar [] target c n h = led_after (Points c) (all_surplus (init ▹ rest) c) (λ d q. led_refused (Points c))
   parts_point (init ▹ rest) line in_scalar (part ∷ parts) target c n h =
       led_after (Points c) (initialize init in_scalar part.0 part.1 target c)
       (λ d q z s.

@@ -125,20 +125,18 @@ held_number v h = (omega (arith, ints, h), omega (arith, ints, h))
 -- literals
 
 static_in : (line k : ℕ) (c : Context) → In c → Led In (with_static line k c)
-static_in line k c g = led_unless In _ StaticTooLarge line (Ok (record c { static_bytes = c.static_bytes + block_size k })) (λ t. led_ok In (record c { static_bytes = c.static_bytes + block_size k }) g)
+static_in line k c g = led_unless In _ StaticTooLarge line (λ t. led_ok In g)
 
 abbrev In0 : {A : Type 0} → Context × A → Type 0
 In0 {A} z = In z.0
 
 pub literal_in : (line : ℕ) (bytes : List ℕ) (c : Context) → In c → Led (In0 {A = ℕ}) (with_literal line bytes c)
 literal_in line bytes c g =
-    led_after (In0 {A = ℕ}) (with_static line (length bytes + 1) c)
-    (λ d q. led_ok (In0 {A = ℕ}) (record d { literals = d.literals ++ bytes ∷ [] }, Rattle.elaboration.specs.Context.literal_object (length c.literals)) (static_in line (length bytes + 1) c g d q))
+    led_after (In0 {A = ℕ}) (with_static line (length bytes + 1) c) (λ d q. led_ok (In0 {A = ℕ}) (static_in line (length bytes + 1) c g d q))
 
 pub string_in : (line : ℕ) (bytes : List ℕ) (c : Context) → In c → Led E (literal_answer line bytes c)
 string_in line bytes c g =
-    led_after E (string line bytes)
-    (λ e q. led_after E (with_literal line bytes c) (λ d k. led_ok E (literal_found e d) (literal_in line bytes c g d k, tt)))
+    led_after E (string line bytes) (λ e q. led_after E (with_literal line bytes c) (λ d k. led_ok E (literal_in line bytes c g d k, tt)))
 
 -- places
 
@@ -153,19 +151,19 @@ element_steps line c other Neither z h p q e = tt
 
 pub indexed_in : (line : ℕ) (c : Context) (x y : Found) → Solid c → In c → SpotIn x.spot → SpotIn y.spot → Whole (K c) x.typed.type → Whole (K c) y.typed.type → Led E (indexed line c x y)
 indexed_in line c x y h g p q v w =
-    led_after E (element line c.tags x.typed y.typed) (λ t k. led_ok E (at_address t (fixed_sum c b.Add x y) (combined line b.Add c.code x y c))
+    led_after E (element line c.tags x.typed y.typed) (λ t k. led_ok E
     (combined_in line b.Add c.code x y c g g p q (element_steps line c (operand x.typed.type) (operand y.typed.type) t h (pointed_of c x.typed.type v) (pointed_of c y.typed.type w) k)))
 
 pub dotted_in : (line : ℕ) (name : List ℕ) (c : Context) (e : Found) → Solid c → In c → SpotIn e.spot → Led E (dotted line name c e)
 dotted_in line name c e h g s =
     led_after E (dot line name c.tags e.typed)
-    (λ t k. led_ok E (member_of line (offset_of c.tags name e.typed.type) t c e) (member_in line (offset_of c.tags name e.typed.type) (atom_in e) c g (spot_atom e.spot s) (offset_number c name e.typed.type h)))
+    (λ t k. led_ok E (member_in line (offset_of c.tags name e.typed.type) (atom_in e) c g (spot_atom e.spot s) (offset_number c name e.typed.type h)))
 
 pub pointed_in : (line : ℕ) (name : List ℕ) (c : Context) (e : Found) → Solid c → In c → SpotIn e.spot → Led E (pointed line name c e)
 pointed_in line name c e h g s =
     let type = target_of (operand e.typed.type) in
     led_after E (arrow line name c.tags e.typed)
-    (λ t k. led_ok E (member_of line (offset_of c.tags name type) t c e) (member_in line (offset_of c.tags name type) (atom_in e) c g (spot_atom e.spot s) (offset_number c name type h)))
+    (λ t k. led_ok E (member_in line (offset_of c.tags name type) (atom_in e) c g (spot_atom e.spot s) (offset_number c name type h)))
 
 -- operators before a value
 
@@ -188,7 +186,7 @@ apply_in line u.Not tree t c e g s = negated_in line tree t c e g s
 apply_in line op tree t c e g s = number_in line op t (operand e.typed.type) c e g s
 
 pub applied_in : (line : ℕ) (op : UnaryOp) (tree : Tree) (c : Context) (e : Found) → In c → SpotIn e.spot → Led E (applied line op tree c e)
-applied_in line op tree c e g s = led_after E (unary line op c.tags e.typed) (λ t k. led_ok E (apply line op tree t c e) (apply_in line op tree t c e g s))
+applied_in line op tree c e g s = led_after E (unary line op c.tags e.typed) (λ t k. led_ok E (apply_in line op tree t c e g s))
 
 -- operators between values
 
@@ -202,12 +200,11 @@ left_in op before right d p h = by (tells_equal op && is_null_constant d.1.typed
 pub between_in : (line : ℕ) (op : BinaryOp) (before : Code) (c : Context) (x y : Found) → IsBetween op → PiecesIn before.pieces → Solid c → In c → SpotIn x.spot → SpotIn y.spot → Whole (K c) x.typed.type → Whole (K c) y.typed.type → Led E (between line op before c x y)
 between_in line op before c x y i f h g p q v w =
     led_after E (binary line op c.tags x.typed y.typed)
-    (λ t k. led_ok E (with_value t (fixed_sum c op x y) (combined line op before x y c)) (combined_in line op before x y c f g p q (binary_steps op line c x.typed y.typed t i h v w k)))
+    (λ t k. led_ok E (combined_in line op before x y c f g p q (binary_steps op line c x.typed y.typed t i h v w k)))
 
 pub cast_in : (line : ℕ) (type : PlainType) (before : Code) (c : Context) (e : Found) → PiecesIn before.pieces → In c → SpotIn e.spot → Led E (cast_to line type before c e)
 cast_in line type before c e f g s =
-    led_after E (cast line type e.typed)
-    (λ t k. led_ok E (with_value t (cast_fixed e.typed e.fixed) (convert line before type e.typed (atom_in e) c)) (convert_in line before type e.typed (atom_in e) c f g (spot_atom e.spot s)))
+    led_after E (cast line type e.typed) (λ t k. led_ok E (convert_in line before type e.typed (atom_in e) c f g (spot_atom e.spot s)))
 
 set_again_in : (line : ℕ) (t x : Atom) (c : Context) → In c → AtomIn x → In (set_again line t x c)
 set_again_in line (atom.Reg r) x c g h = in_emit line (Set r x) c g ((h, tt), tt)
@@ -233,7 +230,7 @@ and_ends_in line label t h =
 pub and_ended_in : (line label : ℕ) (tree : Tree) (x : Found) (d : Context × Found) → E d → Led E (and_ended line label tree x d)
 and_ended_in line label tree x d h =
     led_after E (binary line b.And d.0.tags x.typed d.1.typed)
-    (λ t k. led_ok E (with_value t Unknown (and_ends line label (tested_value tree d))) (and_ends_in line label (tested_value tree d) (tested_value_in tree d h)))
+    (λ t k. led_ok E (and_ends_in line label (tested_value tree d) (tested_value_in tree d h)))
 
 pub or_else_in : (line : ℕ) (tree : Tree) (d : Context × Found) → E d → Has (or_else line tree d)
 or_else_in line tree d h =
@@ -251,7 +248,7 @@ or_ended_in line end tree i x d p h =
     let t = tested_value tree d in
     let r = tested_value_in tree d h in
     led_after E (binary line b.Or d.0.tags x.typed d.1.typed)
-    (λ y k. led_ok E (with_value y Unknown (or_ends line end i t)) (in_here end (compare_again line i t.1 t.0) (compare_again_in line i t.1 t.0 r.0 r.1), p))
+    (λ y k. led_ok E (in_here end (compare_again line i t.1 t.0) (compare_again_in line i t.1 t.0 r.0 r.1), p))
 
 chosen_by_in : (line : ℕ) (before : Code) (type : PlainType) (e : PlainTyped) (d : Context × Atom) → PiecesIn before.pieces → Has d → Has (chosen_by line before type e d)
 chosen_by_in line before (Int ty) e d f h =
@@ -279,15 +276,14 @@ chosen_in line end before t test x d f p h =
     led_after E (choice line test.typed x.typed d.1.typed)
     (λ y k. let v = convert line before y.type d.1.typed (atom_in d.1) d.0 in
     let r = convert_in line before y.type d.1.typed (atom_in d.1) d.0 f h.0 (spot_atom d.1.spot h.1) in
-    led_ok E (here end (choose_last line before y.type t d).0, choice_found y t)
+    led_ok E
     (in_here end (set_again line t v.1 v.0) (set_again_in line t v.1 v.0 r.0 r.1), choice_spot_in y.type t p))
 
 -- assignments
 
 pub record_in : (line right : ℕ) (target : Found) (d : Context × Found) → Solid d.0 → Whole (K d.0) target.typed.type → SpotIn target.spot → E d → Led E (record_assigned line right target d)
 record_in line right target d s w p h =
-    led_after E (assigned line right d.0.tags target.typed d.1.typed)
-    (λ t k. led_ok E (emit line (Copy (atom_in target) (atom_in d.1) (pos (size_or_zero d.0 t.type))) d.0, found_as t Empty Unknown) (
+    led_after E (assigned line right d.0.tags target.typed d.1.typed) (λ t k. led_ok E (
     in_emit line (Copy (atom_in target) (atom_in d.1) (pos (size_or_zero d.0 t.type))) d.0 h.0
     ((spot_atom target.spot p, (spot_atom d.1.spot h.1, tt)), size_number d.0 t.type s (assigned_whole d.0.tags.completed s.made line right d.0.tags target.typed d.1.typed w t k)),
     tt, ))
@@ -299,7 +295,7 @@ scalar_in line before tree target d f p h =
     (λ v q. let r = valued_from_in tree d.0 d.1 v h.0 h.1 q in
     let x = convert line before t.type v.1.typed (atom_in v.1) v.0 in
     let s = convert_in line before t.type v.1.typed (atom_in v.1) v.0 f r.0 (spot_atom v.1.spot r.1) in
-    led_ok E (set_to line before t target v) (write_in line t.type target.spot x.1 x.0 s.0 p s.1, s.1)))
+    led_ok E (write_in line t.type target.spot x.1 x.0 s.0 p s.1, s.1)))
 
 changed_steps : (line : ℕ) (op : AssignOp) (c : Context) (type : PlainType) (s t : Operand) (z : PlainTyped) → operand type ≡ s → Solid c → Pointed c s → changed_types line op c.tags type s t ≡ Ok z → Steps Branches (operand z.type) t c
 changed_steps line op c type (Number ty) (Number source) z o h p e = subst (λ (x : PlainTyped). Steps Branches (operand x.type) (Number source) c) (ok_same _ z e) (subst (λ (x : Operand). Steps Branches x (Number source) c) (sym o) tt)
@@ -318,7 +314,7 @@ changed_by_in line op keeps target old d s w p o h =
     let r = changed_in line (operator_of op) t.type old d.1.typed (atom_in d.1) d.0 h.0 o (spot_atom d.1.spot h.1) (changed_steps line op d.0 target.typed.type (operand target.typed.type) (operand d.1.typed.type) t refl s (pointed_of d.0 target.typed.type w) e) in
     let x = write line t.type target.spot v.1 v.0 in
     let gx = write_in line t.type target.spot v.1 v.0 r.0 p r.1 in
-    led_ok E (changed_answer keeps t old (x, v.1)) (answer keeps t old (x, v.1) gx o r.1))
+    led_ok E (answer keeps t old (x, v.1) gx o r.1))
   where
     answer : (keeps : Bool) (t : PlainTyped) (old : Atom) (v : Context × Atom) → In v.0 → AtomIn old → AtomIn v.1 → E (changed_answer keeps t old v)
     answer true t old v g o r = (g, o)

@@ -180,7 +180,7 @@ record Arguments_in (c : Context) (z : Context × List Argument) : Type 0 where
 call_answer_in : (line : ℕ) (name : Option PlainNamed) (function : Callee) (wanted : PlainType) (trees : Trees) (c : Context) (values : List Argument) → Solid c → Whole (K c) wanted → In c → AtomsIn (atoms_of values) → Led E (call_answer line name function wanted trees c values)
 call_answer_in line name function wanted trees c values h w g s =
     led_after E (call line (first_literal trees) function (types_of values))
-    (λ e q. let d = call_named line name e.type wanted (first_literal trees) values c in led_ok E (d.0, found_as e d.1 Unknown) (call_in line name e.type wanted (first_literal trees) values c h w g s))
+    (λ e q. let d = call_named line name e.type wanted (first_literal trees) values c in led_ok E (call_in line name e.type wanted (first_literal trees) values c h w g s))
 
 mutual
   unfolding found arguments Written AllWritten

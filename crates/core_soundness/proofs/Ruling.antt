@@ -38,17 +38,16 @@ grows_compare_again line other a c = grows_refl c
 pub grown_indexed : (line : ℕ) (b c : Context) (x y : Found) → Grows b c → Grown b (indexed line c x y)
 grown_indexed line b c x y g =
     grown_after b (element line c.tags x.typed y.typed)
-    (λ typed h. grown_ok b (at_address typed (fixed_sum c bin.Add x y) (combined line bin.Add c.code x y c)) (grows_trans b c _ g (grows_combined line bin.Add c x y c (grows_refl c))))
+    (λ typed h. grown_ok b (grows_trans b c _ g (grows_combined line bin.Add c x y c (grows_refl c))))
 
 pub grown_dotted : (line : ℕ) (name : List ℕ) (b c : Context) (e : Found) → Grows b c → Grown b (dotted line name c e)
 grown_dotted line name b c e g =
     grown_after b (dot line name c.tags e.typed)
-    (λ typed h. grown_ok b (member_of line (offset_of c.tags name e.typed.type) typed c e) (grows_trans b c _ g (grows_member line (offset_of c.tags name e.typed.type) (atom_in e) c)))
+    (λ typed h. grown_ok b (grows_trans b c _ g (grows_member line (offset_of c.tags name e.typed.type) (atom_in e) c)))
 
 pub grown_pointed : (line : ℕ) (name : List ℕ) (b c : Context) (e : Found) → Grows b c → Grown b (pointed line name c e)
 grown_pointed line name b c e g =
-    grown_after b (arrow line name c.tags e.typed)
-    (λ typed h. grown_ok b (member_of line (offset_of c.tags name (target_of (operand e.typed.type))) typed c e)
+    grown_after b (arrow line name c.tags e.typed) (λ typed h. grown_ok b
     (grows_trans b c _ g (grows_member line (offset_of c.tags name (target_of (operand e.typed.type))) (atom_in e) c)))
 
 -- operators
@@ -69,8 +68,7 @@ grows_apply line op tree typed c e = grows_before_number line op typed (operand 
 
 pub grown_applied : (line : ℕ) (op : UnaryOp) (tree : Tree) (b c : Context) (e : Found) → Grows b c → Grown b (applied line op tree c e)
 grown_applied line op tree b c e g =
-    grown_after b (unary line op c.tags e.typed)
-    (λ typed h. grown_ok b (apply line op tree typed c e) (grows_trans b c _ g (grows_apply line op tree typed c e)))
+    grown_after b (unary line op c.tags e.typed) (λ typed h. grown_ok b (grows_trans b c _ g (grows_apply line op tree typed c e)))
 
 pub grows_left : (op : BinaryOp) (b : Context) (right : Tree) (d : Context × Found) → Grows b d.0 → Grows b (left_operand op b.code right d).0
 grows_left op b right d g =
@@ -78,14 +76,10 @@ grows_left op b right d g =
     (forget b.code d.0, found_as d.1.typed (Value atom.Null) Nowhere) d (grows_forgotten b d.0 g) g
 
 pub grown_between : (line : ℕ) (op : BinaryOp) (b c : Context) (x y : Found) → Grows b c → Grown b (between line op b.code c x y)
-grown_between line op b c x y g =
-    grown_after b (binary line op c.tags x.typed y.typed)
-    (λ typed h. grown_ok b (with_value typed (fixed_sum c op x y) (combined line op b.code x y c)) (grows_combined line op b x y c g))
+grown_between line op b c x y g = grown_after b (binary line op c.tags x.typed y.typed) (λ typed h. grown_ok b (grows_combined line op b x y c g))
 
 pub grown_cast : (line : ℕ) (type : PlainType) (b c : Context) (e : Found) → Grows b c → Grown b (cast_to line type b.code c e)
-grown_cast line type b c e g =
-    grown_after b (cast line type e.typed)
-    (λ typed h. grown_ok b (with_value typed (cast_fixed e.typed e.fixed) (convert line b.code type e.typed (atom_in e) c)) (grows_convert line b type e.typed (atom_in e) c g))
+grown_cast line type b c e g = grown_after b (cast line type e.typed) (λ typed h. grown_ok b (grows_convert line b type e.typed (atom_in e) c g))
 
 -- one way or another
 
@@ -112,7 +106,7 @@ grows_and_ends line tree right d r g =
 pub grown_and : (line : ℕ) (tree right : Tree) (x : Found) (b : Context) (d r : Context × Found) → Grows b d.0 → Grows (and_then line tree d) r.0 → Grown b (and_ended line (new_label d.0) right x r)
 grown_and line tree right x b d r h g =
     grown_after b (binary line bin.And r.0.tags x.typed r.1.typed)
-    (λ typed k. grown_ok b (with_value typed Unknown (and_ends line (new_label d.0) (tested_value right r))) (grows_trans b d.0 _ h (grows_and_ends line tree right d r g)))
+    (λ typed k. grown_ok b (grows_trans b d.0 _ h (grows_and_ends line tree right d r g)))
 
 grows_or_ends : (line : ℕ) (tree right : Tree) (i : Atom) (d r : Context × Found) → Grows (or_else line tree d).0 r.0 → Grows d.0 (or_ends line (new_label d.0 + 1) i (tested_value right r)).0
 grows_or_ends line tree right i d r g =
@@ -128,7 +122,7 @@ grows_or_ends line tree right i d r g =
 pub grown_or : (line : ℕ) (tree right : Tree) (i : Atom) (x : Found) (b : Context) (d r : Context × Found) → Grows b d.0 → Grows (or_else line tree d).0 r.0 → Grown b (or_ended line (new_label d.0 + 1) right i x r)
 grown_or line tree right i x b d r h g =
     grown_after b (binary line bin.Or r.0.tags x.typed r.1.typed)
-    (λ typed k. grown_ok b (with_value typed Unknown (or_ends line (new_label d.0 + 1) i (tested_value right r))) (grows_trans b d.0 _ h (grows_or_ends line tree right i d r g)))
+    (λ typed k. grown_ok b (grows_trans b d.0 _ h (grows_or_ends line tree right i d r g)))
 
 grows_chosen_by : (line : ℕ) (b : Context) (type : PlainType) (e : PlainTyped) (d : Context × Atom) → Grows b d.0 → Grows b (chosen_by line b.code type e d).0
 grows_chosen_by line b (Int ty) e d g =
@@ -164,14 +158,13 @@ pub grown_choice : (line : ℕ) (tree : Tree) (type : PlainType) (test : Found) 
 grown_choice line tree type test b d x y k g h =
     let first = choose_first line (new_label d.0) (and_then line tree d).code type x in
     grown_after b (choice line test.typed x.1.typed y.1.typed)
-    (λ typed e. grown_ok b (let v = choose_last line first.0.code typed.type first.1 y in (here (new_label d.0 + 1) v.0, choice_found typed v.1)) (grows_trans b d.0 _ k (grows_choice line tree type typed.type d x y g h)))
+    (λ typed e. grown_ok b (grows_trans b d.0 _ k (grows_choice line tree type typed.type d x y g h)))
 
 -- assignments
 
 pub grown_record_assigned : (line right : ℕ) (target : Found) (b : Context) (d : Context × Found) → Grows b d.0 → Grown b (record_assigned line right target d)
 grown_record_assigned line right target b d g =
-    grown_after b (assigned line right d.0.tags target.typed d.1.typed)
-    (λ typed h. grown_ok b (emit line (Copy (atom_in target) (atom_in d.1) (pos (size_or_zero d.0 typed.type))) d.0, found_as typed Empty Unknown)
+    grown_after b (assigned line right d.0.tags target.typed d.1.typed) (λ typed h. grown_ok b
     (grows_trans b d.0 _ g (grows_emit line (Copy (atom_in target) (atom_in d.1) (pos (size_or_zero d.0 typed.type))) d.0 tt)))
 
 grows_set_to : (line : ℕ) (b : Context) (typed : PlainTyped) (target : Found) (d : Context × Found) → Grows b d.0 → Grows b (set_to line b.code typed target d).0
@@ -182,7 +175,7 @@ grows_set_to line b typed target d g =
 pub grown_scalar_assigned : (line : ℕ) (tree : Tree) (target : Found) (b : Context) (d : Context × Found) → Grows b d.0 → Grown b (scalar_assigned line b.code tree target d)
 grown_scalar_assigned line tree target b d g =
     grown_after b (assigned line (types.line_of tree) d.0.tags target.typed d.1.typed) (λ typed h. grown_then b (grown_valued_from tree b d.0 d.1 g)
-    (λ v k. grown_ok b (set_to line b.code typed target v) (grows_set_to line b typed target v k)))
+    (λ v k. grown_ok b (grows_set_to line b typed target v k)))
 
 pub grows_old : (line : ℕ) (d : Context × Found) → Grows d.0 (old_value line d).0
 grows_old line d = grows_read line d.1.typed.type d.1.spot d.0
@@ -198,8 +191,7 @@ grows_answer false typed old v b g = g
 
 pub grown_changed : (line : ℕ) (op : AssignOp) (keeps_old : Bool) (target : Found) (old : Atom) (b : Context) (d : Context × Found) → Grows b d.0 → Grown b (changed_by line op keeps_old target old d)
 grown_changed line op keeps_old target old b d g =
-    grown_after b (changed line op d.0.tags target.typed d.1.typed)
-    (λ typed h. grown_ok b (changed_answer keeps_old typed old (change_place line (operator_of op) typed target old d.1.typed (atom_in d.1) d.0))
+    grown_after b (changed line op d.0.tags target.typed d.1.typed) (λ typed h. grown_ok b
     (grows_answer keeps_old typed old (change_place line (operator_of op) typed target old d.1.typed (atom_in d.1) d.0) b (grows_trans b d.0 _ g (grows_change_place line (operator_of op) typed target old d.1.typed (atom_in d.1) d.0))))
 
 pub grown_stepped : (line : ℕ) (op : AssignOp) (keeps_old : Bool) (b : Context) (d : Context × Found) → Grows b d.0 → Grown b (stepped line op keeps_old d)

@@ -97,7 +97,7 @@ fill_scalar_rises e line type offset (InRegister at register) c d h w t m q =
     let s = write at type (Local register) x.1 x.0 in
     let b = base.write_rises at type (Local register) x.1 x.0 v.rises.solid in
     let z = closed_rises e s b.solid in
-    led_ok (R1 c) (closed e s, InRegister at register)
+    led_ok (R1 c)
     (record {
       solid = z.solid;
       more = λ tag l y. z.more tag l (b.more tag l (v.rises.more tag l y));
@@ -113,7 +113,7 @@ fill_scalar_rises e line type offset (InMemory at mem) c d h w t m q =
     let s = store_at at type x.1 place in
     let b = base.write_rises at type (Memory place.1) x.1 place.0 v.rises.solid in
     let z = closed_rises e s b.solid in
-    led_ok (R1 c) (closed e s, InMemory at mem)
+    led_ok (R1 c)
     (record {
       solid = z.solid;
       more = λ tag l y. z.more tag l (b.more tag l (v.rises.more tag l y));
@@ -126,19 +126,19 @@ fill_scalar_rises e line type offset (InStatic start) c d h w t m q =
     let begun = opened e c in
     let o = opened_rises e c h in
     let v = value_went e type begun d o.solid w (whole_stays type (K c) (K begun) o.more t) q in
-    led_after (R1 c) (static_scalar line type offset start d.1) (λ filled s. led_ok (R1 c) (d.0, InStatic filled) (rises_trans c begun d.0 o (went_rises begun d v)))
+    led_after (R1 c) (static_scalar line type offset start d.1) (λ filled s. led_ok (R1 c) (rises_trans c begun d.0 o (went_rises begun d v)))
 
 scalar_rises : (e : Tree) (line : ℕ) (type : PlainType) (offset : ℕ) (target : Target) (c : Context) → Solid c → Written e → Whole (K c) type → IsNumber (pos offset) → Led (R1 c) (scalar e line type offset target c)
 scalar_rises e line type offset target c h w t m =
     led_after (R1 c) (valued e (found e type (opened e c)))
-    (λ d q. led_barred (R1 c) (unconverted type d.1.typed) line (fill_scalar e line type offset (opened e c).code d target) (fill_scalar_rises e line type offset target c d h w t m q))
+    (λ d q. led_barred (R1 c) (unconverted type d.1.typed) line (fill_scalar_rises e line type offset target c d h w t m q))
 
 fill_record_rises : (e : Tree) (line : ℕ) (type : PlainType) (offset : ℕ) (c : Context) (d : Context × Found) (target : Target) → Rises c d.0 → (In c → SpotIn d.1.spot) → Whole (K c) type → IsNumber (pos offset) → Led (R1 c) (fill_record e line type offset d target)
 fill_record_rises e line type offset c d (InMemory at mem) r f t m =
     let place = member_place at mem offset d.0 in
     let s = copy_to at type (atom_in d.1) place in
     let z = closed_rises e s r.solid in
-    led_ok (R1 c) (closed e s, InMemory at mem)
+    led_ok (R1 c)
     (record {
       solid = z.solid;
       more = λ tag l y. z.more tag l (r.more tag l y);
@@ -149,7 +149,7 @@ fill_record_rises e line type offset c d (InMemory at mem) r f t m =
       cases = λ k. z.cases (r.cases k);
       walked = λ k. z.walked (r.walked k);
     })
-fill_record_rises e line type offset c d other r f t m = led_refused (R1 c) NotConstant line
+fill_record_rises e line type offset c d other r f t m = led_refused (R1 c)
 
 whole_rises : (e : Tree) (line : ℕ) (type : PlainType) (offset : ℕ) (target : Target) (c : Context) → Solid c → Written e → Whole (K c) type → IsNumber (pos offset) → Led (R1 c) (whole e line type offset target c)
 whole_rises e line type offset target c h w t m =
@@ -171,7 +171,7 @@ fill_text_rises e line bytes size offset (InMemory at mem) c h small m =
     let k : ℕ = min (length bytes + 1) size in
     let place = member_place at mem offset d.0 in
     let s = emit at (Copy place.1 (atom.Static d.1) (pos k)) place.0 in
-    led_ok (R1 c) (s, InMemory at mem)
+    led_ok (R1 c)
     (record {
       solid = r.solid;
       more = λ tag l y. r.more tag l (o.more tag l y);
@@ -182,8 +182,8 @@ fill_text_rises e line bytes size offset (InMemory at mem) c h small m =
       cases = λ g. same_cases begun d.0 (grown_literal line bytes begun begun (grows_refl begun) d q) (o.cases g);
       walked = λ g. same_walked begun d.0 (grown_literal line bytes begun begun (grows_refl begun) d q) (o.walked g);
     }))
-fill_text_rises e line bytes size offset (InStatic start) c h small m = led_ok (R1 c) (c, InStatic (with_bytes start offset (take size bytes))) (rises_refl c h)
-fill_text_rises e line bytes size offset (InRegister at register) c h small m = led_refused (R1 c) Assignment line
+fill_text_rises e line bytes size offset (InStatic start) c h small m = led_ok (R1 c) (rises_refl c h)
+fill_text_rises e line bytes size offset (InRegister at register) c h small m = led_refused (R1 c)
 
 by_text_rises : (e : Tree) (line : ℕ) (element : PlainType) (size offset : ℕ) (o : Option (List ℕ)) (target : Target) (c : Context) → Solid c → Written e → Whole (K c) (Array element size) → IsNumber (pos offset) → Led (R1 c) (by_text e line element size offset o target c)
 by_text_rises e line element size offset None target c h w t m = whole_rises e line (Array element size) offset target c h w t m
@@ -205,12 +205,12 @@ mutual
   initialize_rises (Node (f.InitList trailing) (At line ▹ Node f.Inits inits ▹ none)) in_scalar type offset target c h w t v =
       led_cond (R1 c) (takes_braces type in_scalar) (initialize_parts line inits (is_scalar_type type) (parts_of c (count inits) type offset) target c) (then (all_surplus inits c) (λ d. refused Assignment line))
       (parts_rise inits line (is_scalar_type type) (parts_of c (count inits) type offset) target c h w.1.1.0.1 (parts_in c (count inits) type offset h t v))
-      (led_after (R1 c) (all_surplus inits c) (λ d q. led_refused (R1 c) Assignment line))
-  initialize_rises tree in_scalar type offset target c h w t v = led_refused (R1 c) Operands (line_of tree)
+      (led_after (R1 c) (all_surplus inits c) (λ d q. led_refused (R1 c)))
+  initialize_rises tree in_scalar type offset target c h w t v = led_refused (R1 c)
 
   parts_rise : (inits : Trees) (line : ℕ) (in_scalar : Bool) (parts : List (PlainType × ℕ)) (target : Target) (c : Context) → Solid c → AllWritten inits → PartsIn (K c) parts → Led (R1 c) (initialize_parts line inits in_scalar parts target c)
-  parts_rise none line in_scalar parts target c h w v = led_ok (R1 c) (c, target) (rises_refl c h)
-  parts_rise (init ▹ rest) line in_scalar [] target c h w v = led_after (R1 c) (all_surplus (init ▹ rest) c) (λ d q. led_refused (R1 c) Assignment line)
+  parts_rise none line in_scalar parts target c h w v = led_ok (R1 c) (rises_refl c h)
+  parts_rise (init ▹ rest) line in_scalar [] target c h w v = led_after (R1 c) (all_surplus (init ▹ rest) c) (λ d q. led_refused (R1 c))
   parts_rise (init ▹ rest) line in_scalar (part ∷ parts) target c h w v =
       led_after (R1 c) (initialize init in_scalar part.0 part.1 target c)
       (λ d q. let r = initialize_rises init in_scalar part.0 part.1 target c h w.0 v.0.0 v.0.1 d q in
@@ -226,12 +226,12 @@ unfolding AllWritten
 fill_memory_rises line type (init ▹ rest) (atom.Mem mem) c h w t v m =
     let x = cleared line type (atom.Mem mem) c in
     let a = clears line type (atom.Mem mem) c h t m in
-    led_after (Rises c) (initialize init false type 0 (InMemory line mem) x) (λ d q. led_ok (Rises c) d.0 (rises_trans c x d.0 a (initialize_rises init false type 0 (InMemory line mem) x a.solid w.0 t v d q)))
-fill_memory_rises line type none mem c h w t v m = led_ok (Rises c) (cleared line type mem c) (clears line type mem c h t m)
-fill_memory_rises line type (init ▹ rest) (atom.Reg r) c h w t v m = led_ok (Rises c) (cleared line type (atom.Reg r) c) (clears line type (atom.Reg r) c h t m)
-fill_memory_rises line type (init ▹ rest) (atom.Int x) c h w t v m = led_ok (Rises c) (cleared line type (atom.Int x) c) (clears line type (atom.Int x) c h t m)
-fill_memory_rises line type (init ▹ rest) atom.Null c h w t v m = led_ok (Rises c) (cleared line type atom.Null c) (clears line type atom.Null c h t m)
-fill_memory_rises line type (init ▹ rest) (atom.Static x) c h w t v m = led_ok (Rises c) (cleared line type (atom.Static x) c) (clears line type (atom.Static x) c h t m)
+    led_after (Rises c) (initialize init false type 0 (InMemory line mem) x) (λ d q. led_ok (Rises c) (rises_trans c x d.0 a (initialize_rises init false type 0 (InMemory line mem) x a.solid w.0 t v d q)))
+fill_memory_rises line type none mem c h w t v m = led_ok (Rises c) (clears line type mem c h t m)
+fill_memory_rises line type (init ▹ rest) (atom.Reg r) c h w t v m = led_ok (Rises c) (clears line type (atom.Reg r) c h t m)
+fill_memory_rises line type (init ▹ rest) (atom.Int x) c h w t v m = led_ok (Rises c) (clears line type (atom.Int x) c h t m)
+fill_memory_rises line type (init ▹ rest) atom.Null c h w t v m = led_ok (Rises c) (clears line type atom.Null c h t m)
+fill_memory_rises line type (init ▹ rest) (atom.Static x) c h w t v m = led_ok (Rises c) (clears line type (atom.Static x) c h t m)
 
 zero_in : (type : PlainType) → AtomIn (zero_of type)
 zero_in (types.Pointer target) = tt
@@ -239,14 +239,14 @@ zero_in other = zero_number
 
 fill_register_rises : (line : ℕ) (type : PlainType) (inits : Trees) (register : ℕ) (c : Context) → Solid c → AllWritten inits → Whole (K c) type → Within (K c) type 0 → Led (Rises c) (fill_register line type inits register c)
 unfolding AllWritten
-fill_register_rises line type none register c h w t v = led_ok (Rises c) (emit line (Set register (zero_of type)) c) (record { solid = h; more = extends_refl (K c); kinds = kinds_refl c; code = λ k. in_emit line (Set register (zero_of type)) c k ((zero_in type, tt), tt); cases = λ k. k; walked = λ k. k })
+fill_register_rises line type none register c h w t v = led_ok (Rises c) (record { solid = h; more = extends_refl (K c); kinds = kinds_refl c; code = λ k. in_emit line (Set register (zero_of type)) c k ((zero_in type, tt), tt); cases = λ k. k; walked = λ k. k })
 fill_register_rises line type (init ▹ rest) register c h w t v =
-    led_after (Rises c) (initialize init false type 0 (InRegister line register) c) (λ d q. led_ok (Rises c) d.0 (initialize_rises init false type 0 (InRegister line register) c h w.0 t v d q))
+    led_after (Rises c) (initialize init false type 0 (InRegister line register) c) (λ d q. led_ok (Rises c) (initialize_rises init false type 0 (InRegister line register) c h w.0 t v d q))
 
 fill_at_rises : (line : ℕ) (type : PlainType) (inits : Trees) (spot : Spot) (c : Context) → Solid c → AllWritten inits → Whole (K c) type → Within (K c) type 0 → SpotIn spot → Led (Rises c) (fill_at line type inits spot c)
 fill_at_rises line type inits (Local register) c h w t v s = fill_register_rises line type inits register c h w t v
 fill_at_rises line type inits (Memory mem) c h w t v s = fill_memory_rises line type inits mem c h w t v s
-fill_at_rises line type inits other c h w t v s = led_ok (Rises c) c (rises_refl c h)
+fill_at_rises line type inits other c h w t v s = led_ok (Rises c) (rises_refl c h)
 
 with_local_rises : (name : List ℕ) (type : PlainType) (c : Context) → Solid c → Whole (K c) type → is_some (layout_in c.tags type) ≡ true → Rises c (with_local name type c).0
 with_local_rises name type c h w s = by (next_is_memory type c)
@@ -282,9 +282,9 @@ local_object_rises line name type inits c h v w =
     let x = with_local name type c in
     let r2 : Checked Context = unless (is_twice c.scopes name (n.Object type 0)) DeclaredTwice line (fill_local line type inits x) in
     let r1 : Checked Context = unless (has_no_size c.tags type) Incomplete line r2 in
-    led_unless (Rises c) (is_function type) LeftOut line r1
-    (λ a. led_unless (Rises c) (has_no_size c.tags type) Incomplete line r2
-    (λ b. led_unless (Rises c) (is_twice c.scopes name (n.Object type 0)) DeclaredTwice line (fill_local line type inits x)
+    led_unless (Rises c) (is_function type) LeftOut line
+    (λ a. led_unless (Rises c) (has_no_size c.tags type) Incomplete line
+    (λ b. led_unless (Rises c) (is_twice c.scopes name (n.Object type 0)) DeclaredTwice line
     (λ t. let r = with_local_rises name type c h w (has_size c.tags type b) in
     let y = starts c type h w (has_size c.tags type b) in
     (λ z q. rises_trans c x.0 z r (fill_at_rises line type inits x.1 x.0 r.solid v (whole_stays type (K c) (K x.0) r.more w) (within_stays (K c) (K x.0) type 0 r.more y) (local_spot name type c) z q)))))
@@ -313,7 +313,7 @@ typedef_onward past c r line name type w s d q =
 
 local_name_rises : (past : Context) (line : ℕ) (storage : Storage) (name : List ℕ) (type : PlainType) (inits : Trees) (c : Context) → Rises past c → AllWritten inits → Whole (K c) type → (Sorts past → SortedType c.tags.made type) → Led (Onward past c) (local_name line storage name type inits c)
 local_name_rises past line Typedef name type inits c r v w s = typedef_onward past c r line name type w s
-local_name_rises past line Outside name type inits c r v w s = led_refused (Onward past c) LeftOut line
+local_name_rises past line Outside name type inits c r v w s = led_refused (Onward past c)
 local_name_rises past line storages.Plain name type inits c r v w s = onward_led past c (local_name line storages.Plain name type inits c) r (local_object_rises line name type inits c r.solid v w)
 
 -- file scope
@@ -329,11 +329,11 @@ pub declared_function_rises : (line : ℕ) (name : List ℕ) (type : PlainType) 
 declared_function_rises line name type c h w =
     let index = function_number name c in
     led_after (Rises c) (declared_as line name (n.Function type index) c)
-    (λ d q. let r = declared_rises line name (n.Function type index) c h w (λ ks. tt) d q in led_ok (Rises c) (with_function index name d) (rises_trans c d _ r (function_rises index name d r.solid)))
+    (λ d q. let r = declared_rises line name (n.Function type index) c h w (λ ks. tt) d q in led_ok (Rises c) (rises_trans c d _ r (function_rises index name d r.solid)))
 
 no_initializer_rises : (inits : Trees) (c : Context) → Solid c → Led (Rises c) (no_initializer inits c)
-no_initializer_rises none c h = led_ok (Rises c) c (rises_refl c h)
-no_initializer_rises (init ▹ rest) c h = led_after (Rises c) (surplus init c) (λ d q. led_refused (Rises c) Assignment (line_of init))
+no_initializer_rises none c h = led_ok (Rises c) (rises_refl c h)
+no_initializer_rises (init ▹ rest) c h = led_after (Rises c) (surplus init c) (λ d q. led_refused (Rises c))
 
 -- a type that is whole, and has a layout
 record Ready (c : Context) (type : PlainType) (d : Context) : Type 0 where
@@ -348,9 +348,9 @@ new_variable_rises : (line : ℕ) (name : List ℕ) (type : PlainType) (c : Cont
 new_variable_rises line name type c h w s =
     let size = size_or_zero c type in
     led_after (Rises c) (with_static line size c)
-    (λ d q. let y = led_unless (Ready c type) (nat_lt 67108864 (c.static_bytes + block_size size)) StaticTooLarge line (Ok (record c { static_bytes = c.static_bytes + block_size size }))
-    (λ t. led_ok (Ready c type) (record c { static_bytes = c.static_bytes + block_size size }) (record { rises = record { solid = h; more = extends_refl (K c); kinds = kinds_refl c; code = λ k. k; cases = λ k. k; walked = λ k. k }; whole = w; sized = s })) d q in
-    led_ok (Rises c) (record d { variables = d.variables ++ (record { name = name; layout = unwrap_or (layout_in d.tags type) no_layout; start = None }) ∷ [] })
+    (λ d q. let y = led_unless (Ready c type) (nat_lt 67108864 (c.static_bytes + block_size size)) StaticTooLarge line
+    (λ t. led_ok (Ready c type) (record { rises = record { solid = h; more = extends_refl (K c); kinds = kinds_refl c; code = λ k. k; cases = λ k. k; walked = λ k. k }; whole = w; sized = s })) d q in
+    led_ok (Rises c)
     (record {
       solid = record { made = y.rises.solid.made; names = y.rises.solid.names; list = y.rises.solid.list; memory = y.rises.solid.memory; result = y.rises.solid.result; statics = variables_push d.variables _ y.rises.solid.statics (laid d type y.rises.solid y.whole y.sized); functions = y.rises.solid.functions };
       more = y.rises.more;
@@ -362,7 +362,7 @@ new_variable_rises line name type c h w s =
 
 pub variable_rises : (line index : ℕ) (name : List ℕ) (type : PlainType) (c : Context) → Solid c → Whole (K c) type → is_some (layout_in c.tags type) ≡ true → Led (Rises c) (with_variable line index name type c)
 variable_rises line index name type c h w s =
-    led_cond (Rises c) (nat_lt index (length c.variables)) (Ok c) (with_new_variable line name type c) (led_ok (Rises c) c (rises_refl c h)) (new_variable_rises line name type c h w s)
+    led_cond (Rises c) (nat_lt index (length c.variables)) (Ok c) (with_new_variable line name type c) (led_ok (Rises c) (rises_refl c h)) (new_variable_rises line name type c h w s)
 
 get_laid : (vs : List Variable) (i : ℕ) (v : Variable) → slice_get vs i ≡ Some v → VariablesLaid vs → IsLayoutOfType v.layout
 get_laid [] i v e h = cc
@@ -390,16 +390,16 @@ started_rises index d h = record {
 
 fill_variable_rises : (line index : ℕ) (type : PlainType) (inits : Trees) (c : Context) → Solid c → AllWritten inits → Whole (K c) type → is_some (layout_in c.tags type) ≡ true → Led (Rises c) (fill_variable line index type inits c)
 unfolding AllWritten
-fill_variable_rises line index type none c h v w s = led_ok (Rises c) c (rises_refl c h)
+fill_variable_rises line index type none c h v w s = led_ok (Rises c) (rises_refl c h)
 fill_variable_rises line index type (init ▹ rest) c h v w s =
-    led_unless (Rises c) (is_some (start_of (slice_get c.variables index))) DeclaredTwice line (then (initialize init false type 0 (InStatic no_start) c) (λ d. Ok (started index d)))
+    led_unless (Rises c) (is_some (start_of (slice_get c.variables index))) DeclaredTwice line
     (λ t. led_after (Rises c) (initialize init false type 0 (InStatic no_start) c)
-    (λ d q. let r = initialize_rises init false type 0 (InStatic no_start) c h v.0 w (starts c type h w s) d q in led_ok (Rises c) (started index d) (rises_trans c d.0 _ r (started_rises index d r.solid))))
+    (λ d q. let r = initialize_rises init false type 0 (InStatic no_start) c h v.0 w (starts c type h w s) d q in led_ok (Rises c) (rises_trans c d.0 _ r (started_rises index d r.solid))))
 
 file_object_rises : (line : ℕ) (name : List ℕ) (type : PlainType) (inits : Trees) (c : Context) → Solid c → AllWritten inits → Whole (K c) type → Led (Rises c) (file_object line name type inits c)
 file_object_rises line name type inits c h v w =
     let index = variable_number_of c (named_in name c.scopes.file) in
-    led_unless (Rises c) (has_no_size c.tags type) Incomplete line (then (declared_as line name (n.Object type index) c) (λ d. then (with_variable line index name type d) (λ v. fill_variable line index type inits v)))
+    led_unless (Rises c) (has_no_size c.tags type) Incomplete line
     (λ t. led_after (Rises c) (declared_as line name (n.Object type index) c)
     (λ d q. let r = declared_rises line name (n.Object type index) c h w (λ ks. tt) d q in
     let y = ready_on c d type r w (has_size c.tags type t) in
@@ -419,8 +419,8 @@ file_name_rises past line Typedef name type inits c r v w s = typedef_onward pas
 file_name_rises past line other name type inits c r v w s = onward_led past c (file_value line name type inits c) r (file_value_rises line name type inits c r.solid v w)
 
 pub name_in_rises : (past : Context) (file : Bool) (line : ℕ) (storage : Storage) (name : Option (List ℕ)) (type : PlainType) (inits : Trees) (c : Context) → Rises past c → AllWritten inits → Whole (K c) type → (Sorts past → SortedType c.tags.made type) → Led (Onward past c) (name_in file line storage name type inits c)
-name_in_rises past true line storage None type inits c r v w s = onward_led past c (Ok c) r (led_ok (Rises c) c (rises_refl c r.solid))
-name_in_rises past false line storage None type inits c r v w s = onward_led past c (Ok c) r (led_ok (Rises c) c (rises_refl c r.solid))
+name_in_rises past true line storage None type inits c r v w s = onward_led past c (Ok c) r (led_ok (Rises c) (rises_refl c r.solid))
+name_in_rises past false line storage None type inits c r v w s = onward_led past c (Ok c) r (led_ok (Rises c) (rises_refl c r.solid))
 name_in_rises past true line storage (Some name) type inits c r v w s = file_name_rises past line storage name type inits c r v w s
 name_in_rises past false line storage (Some name) type inits c r v w s = local_name_rises past line storage name type inits c r v w s
 
@@ -467,12 +467,12 @@ entry_rises past file line storage base declarator inits c r b st w v =
 
 entries_rise : (names : Trees) (past : Context) (file : Bool) (line : ℕ) (storage : Storage) (base : PlainType) (c : Context) → Rises past c → Whole (K c) base → (Sorts past → SortedType c.tags.made base) → AllWritten names → Led (Rises past) (entries file line storage base names c)
 unfolding entries Written AllWritten
-entries_rise none past file line storage base c r b st w = led_ok (Rises past) c r
+entries_rise none past file line storage base c r b st w = led_ok (Rises past) r
 entries_rise (Node f.Entry (Node f.Declared (declarator ▹ none) ▹ Node f.MaybeInit inits ▹ none) ▹ rest) past file line storage base c r b st w =
     led_after (Rises past) (entry file line storage base declarator inits c)
     (λ d q. let o = entry_rises past file line storage base declarator inits c r b st w.0.1.0.1.0 w.0.1.1.0.1 d q in
     entries_rise rest past file line storage base d o.rises (whole_stays base (K c) (K d) o.more b) (λ ks. type_longer base c.tags.made d.tags.made o.made (st ks)) w.1)
-entries_rise (tree ▹ rest) past file line storage base c r b st w = led_refused (Rises past) Operands (line_of tree)
+entries_rise (tree ▹ rest) past file line storage base c r b st w = led_refused (Rises past)
 
 alone_rises : (tree : Tree) (c : Context) → Solid c → Written tree → Led (T c) (specs_alone tree c)
 alone_rises (Node f.Specs (At line ▹ Node (f.RecordTag sort) (At at ▹ Leaf (w.Name name) ▹ none) ▹ none)) c h v =
@@ -490,4 +490,4 @@ unfolding declaration Written
 declaration_rises file line words (Node f.Names names) c h v w =
     led_after (Rises c) (specs_before words names c)
     (λ base q. let b = before_rises words names c h v base q in entries_rise names c file line (storage_of words) base.1 base.0 b.0 b.1 b.2 w.1)
-declaration_rises file line words tree c h v w = led_refused (Rises c) Operands line
+declaration_rises file line words tree c h v w = led_refused (Rises c)

@@ -85,8 +85,8 @@ named_rises c name v h w s = record {
 
 pub declared_rises : (line : ℕ) (name : List ℕ) (v : PlainNamed) (c : Context) → Solid c → NamedWhole (K c) v → (Sorts c → SortedName c.tags.made v) → Led (Rises c) (declared_as line name v c)
 declared_rises line name v c h w s =
-    led_unless (Rises c) (is_twice c.scopes name v) DeclaredTwice line (Ok (record c { scopes = after_declaration c.scopes name v }))
-    (λ t. led_ok (Rises c) (record c { scopes = after_declaration c.scopes name v }) (by (is_some (named_in name (innermost c.scopes)))))
+    led_unless (Rises c) (is_twice c.scopes name v) DeclaredTwice line
+    (λ t. led_ok (Rises c) (by (is_some (named_in name (innermost c.scopes)))))
   where
     by : (t : Bool) → Rises c (record c { scopes = cond t c.scopes (with_name c.scopes name v) })
     by true = record { solid = h; more = extends_refl (K c); kinds = kinds_refl c; code = λ k. k; cases = λ k. k; walked = λ k. k }
@@ -95,8 +95,8 @@ declared_rises line name v c h w s =
 -- the name of a type, whose tags are of their sorts where they are so at an earlier point
 pub typedef_rises : (past c : Context) → Rises past c → (line : ℕ) (name : List ℕ) (type : PlainType) → Whole (K c) type → (Sorts past → SortedType c.tags.made type) → Led (Rises past) (declared_as line name (n.Typedef type) c)
 typedef_rises past c r line name type w s =
-    led_unless (Rises past) (is_twice c.scopes name (n.Typedef type)) DeclaredTwice line (Ok (record c { scopes = after_declaration c.scopes name (n.Typedef type) }))
-    (λ t. led_ok (Rises past) (record c { scopes = after_declaration c.scopes name (n.Typedef type) }) (by (is_some (named_in name (innermost c.scopes)))))
+    led_unless (Rises past) (is_twice c.scopes name (n.Typedef type)) DeclaredTwice line
+    (λ t. led_ok (Rises past) (by (is_some (named_in name (innermost c.scopes)))))
   where
     by : (t : Bool) → Rises past (record c { scopes = cond t c.scopes (with_name c.scopes name (n.Typedef type)) })
     by true = record { solid = r.solid; more = r.more; kinds = r.kinds; code = r.code; cases = r.cases; walked = r.walked }
@@ -177,15 +177,15 @@ param_rises : (line : ℕ) (name : Option (List ℕ)) (type : PlainType) (c : Co
 param_rises line name type c h w flat =
     let r2 : Checked (Context × PlainType) = unless (is_declared name c) DeclaredTwice line (Ok (with_param name type c, type)) in
     let r1 : Checked (Context × PlainType) = unless (is_record type || is_function type) LeftOut line r2 in
-    led_unless (T c) (is_void type) Incomplete line r1
-    (λ a. led_unless (T c) (is_record type || is_function type) LeftOut line r2
-    (λ b. led_unless (T c) (is_declared name c) DeclaredTwice line (Ok (with_param name type c, type))
-    (λ t. let q = param_made name type c h w (param_sized (K c) type a b flat) in led_ok (T c) (with_param name type c, type) (q, whole_stays type (K c) _ q.more w, λ ks. param_sorted type (with_param name type c).tags.made b flat))))
+    led_unless (T c) (is_void type) Incomplete line
+    (λ a. led_unless (T c) (is_record type || is_function type) LeftOut line
+    (λ b. led_unless (T c) (is_declared name c) DeclaredTwice line
+    (λ t. let q = param_made name type c h w (param_sized (K c) type a b flat) in led_ok (T c) (q, whole_stays type (K c) _ q.more w, λ ks. param_sorted type (with_param name type c).tags.made b flat))))
 
 -- tags
 
 type_rises : (answer : Checked (names.Context × PlainType)) (c : Context) (h : Solid c) → Led (GoodType c.tags.completed h.made) answer → ((x : names.Context × PlainType) → answer ≡ Ok x → Leads (asked c) x.0) → (Sorts c → Led ST answer) → Led (T c) (with_type answer c)
-type_rises answer c h g l s = led_after (T c) answer (λ x q. let k = g x q in led_ok (T c) (told x.0 c, x.1) (told_rises c x.0 h k.0 (l x q), told_whole c x.0 h x.1 k.0 k.1, λ ks. s ks x q))
+type_rises answer c h g l s = led_after (T c) answer (λ x q. let k = g x q in led_ok (T c) (told_rises c x.0 h k.0 (l x q), told_whole c x.0 h x.1 k.0 k.1, λ ks. s ks x q))
 
 pub with_type_rises : (line : ℕ) (tree : Tree) (c : Context) → Solid c → Led (T c) (with_type (special_type line tree (asked c)) c)
 with_type_rises line tree c h = type_rises (special_type line tree (asked c)) c h (special_good c.tags.completed h.made line tree (asked c) (fit_of c h)) (λ x q. special_leads line tree (asked c) x q) (λ ks. special_sorted line tree (asked c) ks.names)
@@ -197,7 +197,7 @@ pub constant_rises : (e : Tree) (c : Context) → Solid c → Led (R1 c) (consta
 constant_rises e c h =
     led_after (R1 c) (wanted e (typed e (asked c)))
     (λ x q. let g = wanted_good c.tags.completed h.made e (typed e (asked c)) (typed_good c.tags.completed h.made e (asked c) (fit_of c h)) x q in
-    led_after (R1 c) (constant_from (line_of e) x.1.type x.1.folded) (λ k z. led_ok (R1 c) (told x.0 c, k) (told_rises c x.0 h g.0 (wanted_leads (asked c) e (typed e (asked c)) (typed_leads e (asked c)) x q))))
+    led_after (R1 c) (constant_from (line_of e) x.1.type x.1.folded) (λ k z. led_ok (R1 c) (told_rises c x.0 h g.0 (wanted_leads (asked c) e (typed e (asked c)) (typed_leads e (asked c)) x q))))
 
 newly_rises : (sort : RecordSort) (name : List ℕ) (c : Context) → Solid c → Rises c (newly_named sort name c).0
 newly_rises sort name c h = record {
@@ -236,18 +236,18 @@ not_known (Some l) e = cc
 
 complete_rises : (line number : ℕ) (type : PlainType) (b c : Context) (list : d.Members) → Rises b c → MembersWhole (K c) list → (list ≡ [] → ⊥) → ((k : Known) → Whole k type) → (Sorts b → MembersSorted c.tags.made list) → (Sorts b → SortedType c.tags.made type) → (Sorts b → (i : TagInfo) × (slice_get c.tags.made number ≡ Some i)) → Led (T b) (complete line number type c list)
 complete_rises line number type b c list r m some w sm st at =
-    led_unless (T b) (is_some (K c number)) DeclaredTwice line (completed_by line c type (completion c.tags number list)) (λ t. by t (refusal (K c) new) refl)
+    led_unless (T b) (is_some (K c number)) DeclaredTwice line (λ t. by t (refusal (K c) new) refl)
   where
     new : CompletedTag
     new = record { tag = number; is_union = option_map_or (λ (x : TagInfo). x.is_union) (slice_get c.tags.made number) false; members = list }
 
     by : is_some (K c number) ≡ false → (o : Option TagError) → refusal (K c) new ≡ o → Led (T b) (completed_by line c type (tables.completed_by c.tags new o))
-    by t (Some error) e = led_refused (T b) _ line
+    by t (Some error) e = led_refused (T b)
     by t None e =
         let x = push_extends c.tags.completed new in
         let h = r.solid in
         let made = made_push c.tags.completed new h.made (record { once = not_known (K c number) t; some = some; members = members_all (K c) list m; kept = e }) m in
-        led_ok (T b) (record c { tags = tables.with_completed c.tags new }, type) (
+        led_ok (T b) (
           record {
             solid = record {
               made = made;
@@ -271,7 +271,7 @@ complete_rises line number type b c list r m some w sm st at =
 ended_rises : (line : ℕ) (sort : RecordSort) (type : PlainType) (b c : Context) (list : d.Members) → Rises b c → MembersWhole (K c) list → (list ≡ [] → ⊥) → (Sorts b → MembersSorted c.tags.made list) → (Sorts b → SortedType c.tags.made type) → Led (T b) (ended line sort type c list)
 ended_rises line r.Struct (Struct number) b c list g m some sm st = complete_rises line number (Struct number) b c list g m some (λ k. tt) sm st (λ ks. let x = st ks in (x.0, x.1))
 ended_rises line r.Union (Union number) b c list g m some sm st = complete_rises line number (Union number) b c list g m some (λ k. tt) sm st (λ ks. let x = st ks in (x.0, x.1))
-ended_rises line sort type b c list g m some sm st = led_refused (T b) DeclaredTwice line
+ended_rises line sort type b c list g m some sm st = led_refused (T b)
 
 -- members
 
@@ -290,25 +290,25 @@ pub has_size : (tags : TagTable) (type : PlainType) → has_no_size tags type �
 has_size tags type e = sized tags type e
 
 with_member_rises : (line : ℕ) (name : Option (List ℕ)) (type : PlainType) (k : Known) (list : d.Members) → MembersWhole k list → Whole k type → is_some (layout_of k type) ≡ true → Led (MembersWhole k) (with_member line name type list)
-with_member_rises line None type k list m w s = led_ok (MembersWhole k) list m
-with_member_rises line (Some name) type k list m w s = led_unless (MembersWhole k) (d.has_member name list) DeclaredTwice line _ (λ t. led_ok (MembersWhole k) (list ++ (name, type) ∷ []) (members_push k list (name, type) m w s))
+with_member_rises line None type k list m w s = led_ok (MembersWhole k) m
+with_member_rises line (Some name) type k list m w s = led_unless (MembersWhole k) (d.has_member name list) DeclaredTwice line (λ t. led_ok (MembersWhole k) (members_push k list (name, type) m w s))
 
 members_sorted_push : (made : List TagInfo) (ms : d.Members) (m : List ℕ × PlainType) → MembersSorted made ms → SortedType made m.1 → MembersSorted made (ms ++ m ∷ [])
 members_sorted_push made [] m h s = (s, tt)
 members_sorted_push made (x ∷ ms) m h s = (h.0, members_sorted_push made ms m h.1 s)
 
 with_member_sorted : (line : ℕ) (name : Option (List ℕ)) (type : PlainType) (made : List TagInfo) (list : d.Members) → MembersSorted made list → SortedType made type → Led (MembersSorted made) (with_member line name type list)
-with_member_sorted line None type made list m s = led_ok (MembersSorted made) list m
-with_member_sorted line (Some name) type made list m s = led_unless (MembersSorted made) (d.has_member name list) DeclaredTwice line _ (λ t. led_ok (MembersSorted made) (list ++ (name, type) ∷ []) (members_sorted_push made list (name, type) m s))
+with_member_sorted line None type made list m s = led_ok (MembersSorted made) m
+with_member_sorted line (Some name) type made list m s = led_unless (MembersSorted made) (d.has_member name list) DeclaredTwice line (λ t. led_ok (MembersSorted made) (members_sorted_push made list (name, type) m s))
 
 member_rises : (past : Context) (line : ℕ) (name : Option (List ℕ)) (type : PlainType) (list : d.Members) (c : Context) → Solid c → Whole (K c) type → MembersWhole (K c) list → (Sorts past → SortedType c.tags.made type) → (Sorts past → MembersSorted c.tags.made list) → Led (M past c) (member line name type list c)
 member_rises past line name type list c h w m st sm =
     let r2 : Checked (Context × d.Members) = then (with_member line name type list) (λ more. Ok (c, more)) in
     let r1 : Checked (Context × d.Members) = unless (has_no_size c.tags type) Incomplete line r2 in
-    led_unless (M past c) (is_function type) LeftOut line r1
-    (λ t. led_unless (M past c) (has_no_size c.tags type) Incomplete line r2
+    led_unless (M past c) (is_function type) LeftOut line
+    (λ t. led_unless (M past c) (has_no_size c.tags type) Incomplete line
     (λ s. led_after (M past c) (with_member line name type list)
-    (λ more q. led_ok (M past c) (c, more) (rises_refl c h, with_member_rises line name type (K c) list m w (sized c.tags type s) more q, λ ks. with_member_sorted line name type c.tags.made list (sm ks) (st ks) more q))))
+    (λ more q. led_ok (M past c) (rises_refl c h, with_member_rises line name type (K c) list m w (sized c.tags type s) more q, λ ks. with_member_sorted line name type c.tags.made list (sm ks) (st ks) more q))))
 
 -- members in braces are some
 
@@ -379,13 +379,13 @@ members_some (tree ▹ rest) list c z h w q e = never _ _ z q
 enumerator_rises : (line : ℕ) (name : List ℕ) (value : ℤ) (c : Context) → Solid c → Led (R1 c) (enumerator line name value c)
 enumerator_rises line name value c h =
     led_after (R1 c) (declared_as line name (n.Constant i.Int (wrapped I32 value)) c)
-    (λ x q. led_ok (R1 c) (x, wrapped I32 value +ℤ pos 1) (declared_rises line name (n.Constant i.Int (wrapped I32 value)) c h (wrapped_number I32 value) (λ ks. tt) x q))
+    (λ x q. led_ok (R1 c) (declared_rises line name (n.Constant i.Int (wrapped I32 value)) c h (wrapped_number I32 value) (λ ks. tt) x q))
 
 enum_rises : (line : ℕ) (name : Option (List ℕ)) (c : Context) → Solid c → Led (T c) (enum_named line name c)
-enum_rises line None c h = led_ok (T c) (c, Int i.Int) (rises_refl c h, tt, λ ks. tt)
+enum_rises line None c h = led_ok (T c) (rises_refl c h, tt, λ ks. tt)
 enum_rises line (Some name) c h =
-    led_unless (T c) (is_some (named_in (tag_name name) (innermost c.scopes))) DeclaredTwice line (Ok (record c { scopes = with_name c.scopes (tag_name name) (n.Tag (Int i.Int)) }, Int i.Int))
-    (λ t. led_ok (T c) (record c { scopes = with_name c.scopes (tag_name name) (n.Tag (Int i.Int)) }, Int i.Int) (named_rises c (tag_name name) (n.Tag (Int i.Int)) h tt (λ ks. tt), tt, λ ks. tt))
+    led_unless (T c) (is_some (named_in (tag_name name) (innermost c.scopes))) DeclaredTwice line
+    (λ t. led_ok (T c) (named_rises c (tag_name name) (n.Tag (Int i.Int)) h tt (λ ks. tt), tt, λ ks. tt))
 
 -- scopes of parameters
 
@@ -420,10 +420,10 @@ mutual
 
   pub specs_rise : (tree : Tree) (c : Context) → Solid c → Written tree → Led (T c) (specs tree c)
   specs_rise (Node f.Specs (At line ▹ words)) c h w = words_rise words line words c h w.1.1
-  specs_rise tree c h w = led_refused (T c) Operands (line_of tree)
+  specs_rise tree c h w = led_refused (T c)
 
   words_rise : (rest : Trees) (line : ℕ) (words : Trees) (c : Context) → Solid c → AllWritten rest → Led (T c) (words_type line words rest c)
-  words_rise none line words c h w = led_ok (T c) (c, word_type words) (rises_refl c h, word_whole c.tags.completed h.made words, λ ks. word_sorted c.tags.made words)
+  words_rise none line words c h w = led_ok (T c) (rises_refl c h, word_whole c.tags.completed h.made words, λ ks. word_sorted c.tags.made words)
   words_rise (Leaf word ▹ rest) line words c h w = words_rise rest line words c h w.1
   words_rise (At at ▹ rest) line words c h w = words_rise rest line words c h w.1
   words_rise (Node form parts ▹ rest) line words c h w = tag_rises (Node form parts) line c h w.0
@@ -441,17 +441,17 @@ mutual
   tag_rises tree line c h w = with_type_rises line tree c h
 
   members_rise : (past : Context) (parts : Trees) (list : d.Members) (c : Context) → Solid c → AllWritten parts → MembersWhole (K c) list → (Sorts past → Sorts c) → (Sorts past → MembersSorted c.tags.made list) → Led (M past c) (members parts list c)
-  members_rise past none list c h w m ss sm = led_ok (M past c) (c, list) (rises_refl c h, m, sm)
+  members_rise past none list c h w m ss sm = led_ok (M past c) (rises_refl c h, m, sm)
   members_rise past (Node f.Member (At line ▹ words ▹ Node f.MemberNames declarators ▹ none) ▹ rest) list c h w m ss sm =
       led_after (M past c) (specs words c)
       (λ base q. let b = specs_rise words c h w.0.1.1.0 base q in
       led_after (M past c) (member_names line base.1 declarators list base.0)
       (λ x s. let k = member_names_rise past declarators line base.1 list base.0 b.0.solid w.0.1.1.1.0.1 b.1 (members_stay list (K c) (K base.0) b.0.more m) (λ a. b.0.kinds.sorts (ss a)) (λ a. b.2 (ss a)) (λ a. members_longer list c.tags.made base.0.tags.made b.0.kinds.made (sm a)) x s in
       (λ z t. let y = members_rise past rest x.1 x.0 k.0.solid w.1 k.1 (λ a. k.0.kinds.sorts (b.0.kinds.sorts (ss a))) k.2 z t in (rises_trans c base.0 z.0 b.0 (rises_trans base.0 x.0 z.0 k.0 y.0), y.1, y.2))))
-  members_rise past (tree ▹ rest) list c h w m ss sm = led_refused (M past c) Operands (line_of tree)
+  members_rise past (tree ▹ rest) list c h w m ss sm = led_refused (M past c)
 
   member_names_rise : (past : Context) (parts : Trees) (line : ℕ) (base : PlainType) (list : d.Members) (c : Context) → Solid c → AllWritten parts → Whole (K c) base → MembersWhole (K c) list → (Sorts past → Sorts c) → (Sorts past → SortedType c.tags.made base) → (Sorts past → MembersSorted c.tags.made list) → Led (M past c) (member_names line base parts list c)
-  member_names_rise past none line base list c h w t m ss st sm = led_ok (M past c) (c, list) (rises_refl c h, m, sm)
+  member_names_rise past none line base list c h w t m ss st sm = led_ok (M past c) (rises_refl c h, m, sm)
   member_names_rise past (declarator ▹ rest) line base list c h w t m ss st sm =
       led_after (M past c) (layers declarator c)
       (λ l q. let k = layers_rise declarator c h w.0 l q in
@@ -464,7 +464,7 @@ mutual
       (λ z a. let last = member_names_rise past rest line base x.1 x.0 u.0.solid w.1 (whole_stays base (K c) (K x.0) more.more t) u.1 (λ p. more.kinds.sorts (ss p)) (λ p. type_longer base c.tags.made x.0.tags.made more.kinds.made (st p)) u.2 z a in (rises_trans c x.0 z.0 more last.0, last.1, last.2)))))
 
   enumerators_rise : (parts : Trees) (next : ℤ) (c : Context) → Solid c → AllWritten parts → Led (Rises c) (enumerators parts next c)
-  enumerators_rise none next c h w = led_ok (Rises c) c (rises_refl c h)
+  enumerators_rise none next c h w = led_ok (Rises c) (rises_refl c h)
   enumerators_rise (Node f.Enumerator (At line ▹ Leaf (w.Name name) ▹ Node f.MaybeValue none ▹ none) ▹ rest) next c h w =
       led_after (Rises c) (enumerator line name next c)
       (λ e q. let k = enumerator_rises line name next c h e q in (λ z s. rises_trans c e.0 z k (enumerators_rise rest e.1 e.0 k.solid w.1 z s)))
@@ -473,42 +473,42 @@ mutual
       (λ k q. let a = constant_rises value c h k q in
       led_after (Rises c) (enumerator line name k.1.value k.0)
       (λ e s. let b = enumerator_rises line name k.1.value k.0 a.solid e s in (λ z t. rises_trans c k.0 z a (rises_trans k.0 e.0 z b (enumerators_rise rest e.1 e.0 b.solid w.1 z t)))))
-  enumerators_rise (tree ▹ rest) next c h w = led_refused (Rises c) Operands (line_of tree)
+  enumerators_rise (tree ▹ rest) next c h w = led_refused (Rises c)
 
   pub layers_rise : (tree : Tree) (c : Context) → Solid c → Written tree → Led (L c) (layers tree c)
   layers_rise (Node (f.Pointer consts) (At line ▹ declarator ▹ none)) c h w =
-      led_after (L c) (layers declarator c) (λ l q. let k = layers_rise declarator c h w.1.1.0 l q in led_ok (L c) (l.0, PointerTo line ∷ l.1) (k.0, (tt, k.1)))
+      led_after (L c) (layers declarator c) (λ l q. let k = layers_rise declarator c h w.1.1.0 l q in led_ok (L c) (k.0, (tt, k.1)))
   layers_rise (Node f.Direct (base ▹ Node f.Suffixes suffixes ▹ none)) c h w =
       led_after (L c) (layers base c)
       (λ l q. let k = layers_rise base c h w.1.0 l q in
       led_after (L c) (suffix_layers suffixes l.0)
       (λ s t. let m = suffixes_rise suffixes l.0 k.0.solid w.1.1.0.1 s t in
-      led_ok (L c) (s.0, reverse s.1 ++ l.1) (rises_trans c l.0 s.0 k.0 m.0, layers_append (K s.0) (reverse s.1) l.1 (layers_reverse (K s.0) s.1 m.1) (layers_stay l.1 (K l.0) (K s.0) m.0.more k.1))))
+      led_ok (L c) (rises_trans c l.0 s.0 k.0 m.0, layers_append (K s.0) (reverse s.1) l.1 (layers_reverse (K s.0) s.1 m.1) (layers_stay l.1 (K l.0) (K s.0) m.0.more k.1))))
   layers_rise (Node f.Parens (At line ▹ declarator ▹ none)) c h w = layers_rise declarator c h w.1.1.0
-  layers_rise tree c h w = led_ok (L c) (c, []) (rises_refl c h, tt)
+  layers_rise tree c h w = led_ok (L c) (rises_refl c h, tt)
 
   suffixes_rise : (parts : Trees) (c : Context) → Solid c → AllWritten parts → Led (L c) (suffix_layers parts c)
-  suffixes_rise none c h w = led_ok (L c) (c, []) (rises_refl c h, tt)
+  suffixes_rise none c h w = led_ok (L c) (rises_refl c h, tt)
   suffixes_rise (suffix ▹ rest) c h w =
       led_after (L c) (suffix_layer suffix c)
       (λ l q. let k = suffix_rises suffix c h w.0 l q in
       led_after (L c) (suffix_layers rest l.0)
-      (λ more s. let m = suffixes_rise rest l.0 k.0.solid w.1 more s in led_ok (L c) (more.0, l.1 ∷ more.1) (rises_trans c l.0 more.0 k.0 m.0, (layer_stays l.1 (K l.0) (K more.0) m.0.more k.1, m.1))))
+      (λ more s. let m = suffixes_rise rest l.0 k.0.solid w.1 more s in led_ok (L c) (rises_trans c l.0 more.0 k.0 m.0, (layer_stays l.1 (K l.0) (K more.0) m.0.more k.1, m.1))))
 
   suffix_rises : (tree : Tree) (c : Context) → Solid c → Written tree → Led (LL c) (suffix_layer tree c)
-  suffix_rises (Node f.ArraySuffix (At line ▹ Node f.MaybeLength none ▹ none)) c h w = led_ok (LL c) (c, ArrayOf line None) (rises_refl c h, tt)
+  suffix_rises (Node f.ArraySuffix (At line ▹ Node f.MaybeLength none ▹ none)) c h w = led_ok (LL c) (rises_refl c h, tt)
   suffix_rises (Node f.ArraySuffix (At line ▹ Node f.MaybeLength (e ▹ none) ▹ none)) c h w =
       led_after (LL c) (wanted e (typed e (asked c)))
       (λ x q. let g = wanted_good c.tags.completed h.made e (typed e (asked c)) (typed_good c.tags.completed h.made e (asked c) (fit_of c h)) x q in
       led_after (LL c) (array_length (line_of e) x.1)
-      (λ m s. led_ok (LL c) (told x.0 c, ArrayOf line (Some m)) (told_rises c x.0 h g.0 (wanted_leads (asked c) e (typed e (asked c)) (typed_leads e (asked c)) x q), length_some c.tags.completed h.made (line_of e) x.1 m s)))
+      (λ m s. led_ok (LL c) (told_rises c x.0 h g.0 (wanted_leads (asked c) e (typed e (asked c)) (typed_leads e (asked c)) x q), length_some c.tags.completed h.made (line_of e) x.1 m s)))
   suffix_rises (Node f.FunctionSuffix (At line ▹ Node f.Params parts ▹ none)) c h w =
       led_after (LL c) (params parts (entered c))
-      (λ x q. let k = params_rise parts (entered c) (entered_solid c h) w.1.1.0.1 x q in led_ok (LL c) (left_params x.0, FunctionOf line x.1) (left_params_rises c x.0 k.0, k.1))
-  suffix_rises tree c h w = led_ok (LL c) (record c { params = [] }, FunctionOf (line_of tree) types.none) (no_params c h, tt)
+      (λ x q. let k = params_rise parts (entered c) (entered_solid c h) w.1.1.0.1 x q in led_ok (LL c) (left_params_rises c x.0 k.0, k.1))
+  suffix_rises tree c h w = led_ok (LL c) (no_params c h, tt)
 
   params_rise : (parts : Trees) (c : Context) → Solid c → AllWritten parts → Led (P c) (params parts c)
-  params_rise none c h w = led_ok (P c) (c, types.none) (rises_refl c h, tt)
+  params_rise none c h w = led_ok (P c) (rises_refl c h, tt)
   params_rise (Node f.Param (At line ▹ words ▹ declarator ▹ none) ▹ rest) c h w =
       led_after (P c) (specs words c)
       (λ base q. let b = specs_rise words c h w.0.1.1.0 base q in
@@ -520,5 +520,5 @@ mutual
       (λ x v. let u = param_rises line (name_of declarator) (adjusted type) l.0 k.0.solid (adjusted_whole l.0.tags.completed type y) (adjusted_flat type) x v in
       let far : Rises c x.0 = rises_trans c base.0 x.0 b.0 (rises_trans base.0 l.0 x.0 k.0 u.0) in
       led_after (P c) (params rest x.0)
-      (λ more a. let m = params_rise rest x.0 u.0.solid w.1 more a in led_ok (P c) (more.0, first x.1 more.1) (rises_trans c x.0 more.0 far m.0, (whole_stays x.1 (K x.0) (K more.0) m.0.more u.1, m.1)))))))
-  params_rise (tree ▹ rest) c h w = led_refused (P c) Operands (line_of tree)
+      (λ more a. let m = params_rise rest x.0 u.0.solid w.1 more a in led_ok (P c) (rises_trans c x.0 more.0 far m.0, (whole_stays x.1 (K x.0) (K more.0) m.0.more u.1, m.1)))))))
+  params_rise (tree ▹ rest) c h w = led_refused (P c)

@@ -72,7 +72,7 @@ pub scoped_rises : (c : Context) (inside : Context → Checked Context) → Led 
 scoped_rises c inside k =
     led_after (Rises c) (inside (entered c))
     (λ d q. let r = k d q in
-    led_ok (Rises c) (left d)
+    led_ok (Rises c)
     (record {
       solid = record { made = r.solid.made; names = left_whole (K d) d.scopes r.solid.names; list = r.solid.list; memory = r.solid.memory; result = r.solid.result; statics = r.solid.statics; functions = r.solid.functions };
       more = r.more;
@@ -91,10 +91,10 @@ leaves_rise (suc k) line c h =
     let d = emit line Leave c in rises_trans c d _ (record { solid = h; more = extends_refl (K c); kinds = kinds_refl c; code = λ g. in_emit line Leave c g (tt, tt); cases = λ g. g; walked = λ g. g }) (leaves_rise k line d h)
 
 leave_rises : (line delays : ℕ) (o : Option (ℕ × ℕ)) (c : Context) → Solid c → Led (Rises c) (leave_to line delays o c)
-leave_rises line delays None c h = led_refused (Rises c) StrayBreak line
+leave_rises line delays None c h = led_refused (Rises c)
 leave_rises line delays (Some exit) c h =
     let d = leaves line (delays - exit.1) c in
-    let r = leaves_rise (delays - exit.1) line c h in led_ok (Rises c) (emit line (Jump exit.0) d) (record { solid = r.solid; more = r.more; kinds = r.kinds; code = λ g. in_emit line (Jump exit.0) d (r.code g) (tt, tt); cases = r.cases; walked = r.walked })
+    let r = leaves_rise (delays - exit.1) line c h in led_ok (Rises c) (record { solid = r.solid; more = r.more; kinds = r.kinds; code = λ g. in_emit line (Jump exit.0) d (r.code g) (tt, tt); cases = r.cases; walked = r.walked })
 
 -- expressions
 
@@ -105,7 +105,7 @@ evaluated_rises e c h w =
 
 maybe_evaluated_rises : (es : Trees) (c : Context) → Solid c → AllWritten es → Led (Rises c) (maybe_evaluated es c)
 unfolding AllWritten
-maybe_evaluated_rises none c h w = led_ok (Rises c) c (rises_refl c h)
+maybe_evaluated_rises none c h w = led_ok (Rises c) (rises_refl c h)
 maybe_evaluated_rises (e ▹ rest) c h w = evaluated_rises e c h w.0
 
 -- with an operand in range
@@ -118,8 +118,8 @@ condition_rises e c h w =
     (λ d q. let r = full_value e Void c d h w tt q in
     let k = tested_solid e d r.rises.solid in
     let z = closed_rises e (tested_value e d).0 k.solid in
-    led_unless (C1 c) (not (is_scalar d.1.typed.type)) Operands (line_of e) (Ok (closed_atom e (tested_value e d)))
-    (λ x. led_ok (C1 c) (closed_atom e (tested_value e d)) (
+    led_unless (C1 c) (not (is_scalar d.1.typed.type)) Operands (line_of e)
+    (λ x. led_ok (C1 c) (
       record {
         solid = z.solid;
         more = λ tag l y. z.more tag l (k.more tag l (r.rises.more tag l y));
@@ -134,11 +134,11 @@ condition_rises e c h w =
 if_zero_rises : (line label : ℕ) (e : Tree) (c : Context) → Solid c → Written e → Led (Rises c) (leaves_if_zero line label e c)
 if_zero_rises line label e c h w =
     led_after (Rises c) (condition e c)
-    (λ d q. let r = condition_rises e c h w d q in led_ok (Rises c) (emit line (Zero d.1 label) d.0) (record { solid = r.0.solid; more = r.0.more; kinds = r.0.kinds; code = λ g. in_emit line (Zero d.1 label) d.0 (r.0.code g) ((r.1 g, tt), tt); cases = r.0.cases; walked = r.0.walked }))
+    (λ d q. let r = condition_rises e c h w d q in led_ok (Rises c) (record { solid = r.0.solid; more = r.0.more; kinds = r.0.kinds; code = λ g. in_emit line (Zero d.1 label) d.0 (r.0.code g) ((r.1 g, tt), tt); cases = r.0.cases; walked = r.0.walked }))
 
 maybe_leaves_rises : (line label : ℕ) (es : Trees) (c : Context) → Solid c → AllWritten es → Led (Rises c) (maybe_leaves line label es c)
 unfolding AllWritten
-maybe_leaves_rises line label none c h w = led_ok (Rises c) c (rises_refl c h)
+maybe_leaves_rises line label none c h w = led_ok (Rises c) (rises_refl c h)
 maybe_leaves_rises line label (e ▹ rest) c h w = if_zero_rises line label e c h w.0
 
 return_of_rises : (line delays : ℕ) (e : Tree) (type : PlainType) (c : Context) → Solid c → Written e → Whole (K c) type → Led (Rises c) (return_of line delays e type c)
@@ -150,9 +150,9 @@ return_of_rises line delays e type c h w t =
     let k = closed_rises e x.0 v.rises.solid in
     let f = leaves line delays (closed e x.0) in
     let z = leaves_rise delays line (closed e x.0) k.solid in
-    led_unless (Rises c) (is_void type) Assignment line (converts line type d.1.typed (return_value line delays e type begin.code d))
-    (λ b. led_barred (Rises c) (unconverted type d.1.typed) line (return_value line delays e type begin.code d)
-    (led_ok (Rises c) (returned line delays (Some x.1) (closed e x.0))
+    led_unless (Rises c) (is_void type) Assignment line
+    (λ b. led_barred (Rises c) (unconverted type d.1.typed) line
+    (led_ok (Rises c)
     (record {
       solid = z.solid;
       more = λ tag l y. z.more tag l (k.more tag l (v.rises.more tag l y));
@@ -166,8 +166,8 @@ return_rises : (line delays : ℕ) (es : Trees) (c : Context) → Solid c → Al
 unfolding AllWritten
 return_rises line delays none c h w =
     let r = leaves_rise delays line c h in
-    led_unless (Rises c) (not (is_void c.running.answer)) Assignment line (Ok (returned line delays None c))
-    (λ x. led_ok (Rises c) (returned line delays None c) (record { solid = r.solid; more = r.more; kinds = r.kinds; code = λ g. in_emit line (Return None) (leaves line delays c) (r.code g) (tt, tt); cases = r.cases; walked = r.walked }))
+    led_unless (Rises c) (not (is_void c.running.answer)) Assignment line
+    (λ x. led_ok (Rises c) (record { solid = r.solid; more = r.more; kinds = r.kinds; code = λ g. in_emit line (Return None) (leaves line delays c) (r.code g) (tt, tt); cases = r.cases; walked = r.walked }))
 return_rises line delays (e ▹ rest) c h w = return_of_rises line delays e c.running.answer c h w.0 h.result
 
 -- switches
@@ -190,11 +190,11 @@ looped_in line head end c g = in_here end (emit line (Loop head) c) (in_emit lin
 case_rises : (line : ℕ) (a : Around) (ty : IntType) (place : ℕ) (v : ℤ) (label : ℕ) (c : Context) → Solid c → Led (Rises c) (case_of line a ty place v label c)
 case_rises line a ty place v label c h =
     let value = Rattle.hs_base.specs.Numbers.wrapped (types.kind_of ty) v in
-    led_unless (Rises c) (not a.labelled) LeftOut line (unless (has_case value c) CaseTwice line (Ok (with_case place value label c)))
-    (λ x. led_unless (Rises c) (has_case value c) CaseTwice line (Ok (with_case place value label c)) (λ y. led_ok (Rises c) (with_case place value label c) (record { solid = h; more = extends_refl (K c); kinds = kinds_refl c; code = λ g. g; cases = λ g. cases_put place value label c.running.cases (wrapped_number (types.kind_of ty) v) g; walked = λ g. g })))
+    led_unless (Rises c) (not a.labelled) LeftOut line
+    (λ x. led_unless (Rises c) (has_case value c) CaseTwice line (λ y. led_ok (Rises c) (record { solid = h; more = extends_refl (K c); kinds = kinds_refl c; code = λ g. g; cases = λ g. cases_put place value label c.running.cases (wrapped_number (types.kind_of ty) v) g; walked = λ g. g })))
 
 cased_rises : (line : ℕ) (a : Around) (o : Option IntType) (place : ℕ) (v : ℤ) (label : ℕ) (c : Context) → Solid c → Led (Rises c) (cased line a o place v label c)
-cased_rises line a None place v label c h = led_refused (Rises c) StrayBreak line
+cased_rises line a None place v label c h = led_refused (Rises c)
 cased_rises line a (Some ty) place v label c h = case_rises line a ty place v label c h
 
 defaulted_rises : (line : ℕ) (a : Around) (label : ℕ) (c : Context) → Solid c → Led (Rises c) (defaulted line a label c)
@@ -202,9 +202,9 @@ defaulted_rises line a label c h =
     let d : Context = record c { running = record c.running { otherwise = Some label } } in
     let r2 : Checked Context = unless (is_some c.running.otherwise) CaseTwice line (Ok d) in
     let r1 : Checked Context = unless (not a.labelled) LeftOut line r2 in
-    led_unless (Rises c) (not (is_some a.switched)) StrayBreak line r1
-    (λ x. led_unless (Rises c) (not a.labelled) LeftOut line r2
-    (λ y. led_unless (Rises c) (is_some c.running.otherwise) CaseTwice line (Ok d) (λ z. led_ok (Rises c) d (record { solid = h; more = extends_refl (K c); kinds = kinds_refl c; code = λ g. g; cases = λ g. g; walked = λ g. g }))))
+    led_unless (Rises c) (not (is_some a.switched)) StrayBreak line
+    (λ x. led_unless (Rises c) (not a.labelled) LeftOut line
+    (λ y. led_unless (Rises c) (is_some c.running.otherwise) CaseTwice line (λ z. led_ok (Rises c) (record { solid = h; more = extends_refl (K c); kinds = kinds_refl c; code = λ g. g; cases = λ g. g; walked = λ g. g }))))
 
 abbrev O1 : Context → Context × (IntType × Atom) → Type 0
 O1 c z = Rises c z.0 × (In c → AtomIn z.1.1)
@@ -215,7 +215,7 @@ operand_of_rises line e (Number ty) c d r =
     let grown = grows_convert_integer line (promoted ty) ty (atom_in d.1) d.0 in
     let a = same_rises d.0 x.0 (same_kept d.0 x.0 (quiet_convert_integer line (promoted ty) ty (atom_in d.1) d.0) grown.kept) r.rises.solid in
     let z = closed_rises e x.0 a.solid in
-    led_ok (O1 c) (closed e x.0, (promoted ty, x.1)) (
+    led_ok (O1 c) (
       record {
         solid = z.solid;
         more = λ tag l y. z.more tag l (a.more tag l (r.rises.more tag l y));
@@ -226,7 +226,7 @@ operand_of_rises line e (Number ty) c d r =
       },
       λ g. let f = r.fits g in (convert_integer_in line (promoted ty) ty (atom_in d.1) d.0 f.0 (spot_atom d.1.spot f.1)).1,
     )
-operand_of_rises line e other c d r = led_refused (O1 c) Operands (line_of e)
+operand_of_rises line e other c d r = led_refused (O1 c)
 
 operand_rises : (line : ℕ) (e : Tree) (c : Context) → Solid c → Written e → Led (O1 c) (switch_operand line e c)
 operand_rises line e c h w =
@@ -236,13 +236,13 @@ start_rises : (line : ℕ) (tree : Tree) (c : Context) → Solid c → Written t
 unfolding Written AllWritten
 start_rises line (Node f.ForNames (words ▹ names ▹ none)) c h w = declaration_rises false line words names c h w.1.0 w.1.1.0
 start_rises line (Node f.ForStart (Node f.MaybeExpr e ▹ none)) c h w = maybe_evaluated_rises e c h w.1.0.1
-start_rises line tree c h w = led_refused (Rises c) Operands line
+start_rises line tree c h w = led_refused (Rises c)
 
 mutual
   unfolding statement items Written AllWritten
 
   pub statement_rises : (tree : Tree) (a : Around) (c : Context) → Solid c → Written tree → Led (Rises c) (statement tree a c)
-  statement_rises (Node f.Empty parts) a c h w = led_ok (Rises c) c (rises_refl c h)
+  statement_rises (Node f.Empty parts) a c h w = led_ok (Rises c) (rises_refl c h)
   statement_rises (Node f.Expr (At line ▹ e ▹ none)) a c h w = evaluated_rises e c h w.1.1.0
   statement_rises (Node f.Block (At line ▹ Node f.Items parts ▹ none)) a c h w =
       scoped_rises c (λ d. items parts (below a) d) (items_rise parts (below a) (entered c) (entered_solid c h) w.1.1.0.1)
@@ -252,7 +252,7 @@ mutual
       let h0 = entered_solid c h in
       scoped_rises c (λ d. then (items parts (in_delay a) (emit line Enter d)) (λ e. Ok (emit line Leave e)))
       (led_after (Rises d0) (items parts (in_delay a) d1)
-      (λ e q. let r = rises_trans d0 d1 e (record { solid = h0; more = extends_refl (K d0); kinds = kinds_refl d0; code = λ g. in_emit line Enter d0 g (tt, tt); cases = λ g. g; walked = λ g. g }) (items_rise parts (in_delay a) d1 h0 w.1.1.0.1 e q) in led_ok (Rises d0) (emit line Leave e) (record { solid = r.solid; more = r.more; kinds = r.kinds; code = λ g. in_emit line Leave e (r.code g) (tt, tt); cases = r.cases; walked = r.walked })))
+      (λ e q. let r = rises_trans d0 d1 e (record { solid = h0; more = extends_refl (K d0); kinds = kinds_refl d0; code = λ g. in_emit line Enter d0 g (tt, tt); cases = λ g. g; walked = λ g. g }) (items_rise parts (in_delay a) d1 h0 w.1.1.0.1 e q) in led_ok (Rises d0) (record { solid = r.solid; more = r.more; kinds = r.kinds; code = λ g. in_emit line Leave e (r.code g) (tt, tt); cases = r.cases; walked = r.walked })))
   statement_rises (Node f.If (At line ▹ e ▹ s ▹ none)) a c h w =
       let end = new_label c in
       let c1 = with_labels 1 c in
@@ -264,7 +264,7 @@ mutual
       (λ t q. let r = if_zero_rises line end e d0 h0 w.1.1.0 t q in
       led_after (Rises d0) (scoped t (λ b. statement s (below a) b))
       (λ g k. let m = rises_trans d0 t g r (scoped_rises t (λ b. statement s (below a) b) (statement_rises s (below a) (entered t) (entered_solid t r.solid) w.1.1.1.0) g k) in
-      led_ok (Rises d0) (here end g) (record { solid = m.solid; more = m.more; kinds = m.kinds; code = λ v. in_here end g (m.code v); cases = m.cases; walked = m.walked })))))
+      led_ok (Rises d0) (record { solid = m.solid; more = m.more; kinds = m.kinds; code = λ v. in_here end g (m.code v); cases = m.cases; walked = m.walked })))))
   statement_rises (Node f.IfElse (At line ▹ e ▹ s ▹ other ▹ none)) a c h w =
       let end = new_label c in
       let c1 = with_labels 2 c in
@@ -280,7 +280,7 @@ mutual
       let mx : Rises d0 x = record { solid = m.solid; more = m.more; kinds = m.kinds; code = λ v. in_here (end + 1) (emit line (Jump end) g) (in_emit line (Jump end) g (m.code v) (tt, tt)); cases = m.cases; walked = m.walked } in
       led_after (Rises d0) (scoped x (λ b. statement other (below a) b))
       (λ y u. let last = rises_trans d0 x y mx (scoped_rises x (λ b. statement other (below a) b) (statement_rises other (below a) (entered x) (entered_solid x mx.solid) w.1.1.1.1.0) y u) in
-      led_ok (Rises d0) (here end y) (record { solid = last.solid; more = last.more; kinds = last.kinds; code = λ v. in_here end y (last.code v); cases = last.cases; walked = last.walked }))))))
+      led_ok (Rises d0) (record { solid = last.solid; more = last.more; kinds = last.kinds; code = λ v. in_here end y (last.code v); cases = last.cases; walked = last.walked }))))))
   statement_rises (Node f.While (At line ▹ e ▹ s ▹ none)) a c h w =
       let head = new_label c in
       let c1 = with_labels 3 c in
@@ -293,7 +293,7 @@ mutual
       (λ t q. let r = rises_trans d0 d1 t (record { solid = h0; more = extends_refl (K d0); kinds = kinds_refl d0; code = λ v. in_here head d0 v; cases = λ v. v; walked = λ v. v }) (if_zero_rises line (head + 1) e d1 h0 w.1.1.0 t q) in
       led_after (Rises d0) (scoped t (λ b. statement s (in_loop (head + 1) (head + 2) a) b))
       (λ g k. let m = rises_trans d0 t g r (scoped_rises t (λ b. statement s (in_loop (head + 1) (head + 2) a) b) (statement_rises s (in_loop (head + 1) (head + 2) a) (entered t) (entered_solid t r.solid) w.1.1.1.0) g k) in
-      led_ok (Rises d0) (looped line head (head + 1) (here (head + 2) g)) (record { solid = m.solid; more = m.more; kinds = m.kinds; code = λ v. looped_in line head (head + 1) (here (head + 2) g) (in_here (head + 2) g (m.code v)); cases = m.cases; walked = m.walked })))))
+      led_ok (Rises d0) (record { solid = m.solid; more = m.more; kinds = m.kinds; code = λ v. looped_in line head (head + 1) (here (head + 2) g) (in_here (head + 2) g (m.code v)); cases = m.cases; walked = m.walked })))))
   statement_rises (Node f.Do (At line ▹ s ▹ e ▹ none)) a c h w =
       let head = new_label c in
       let c1 = with_labels 3 c in
@@ -307,7 +307,7 @@ mutual
       let x = here (head + 2) g in
       let mx : Rises d0 x = record { solid = m.solid; more = m.more; kinds = m.kinds; code = λ v. in_here (head + 2) g (m.code v); cases = m.cases; walked = m.walked } in
       led_after (Rises d0) (leaves_if_zero line (head + 1) e x)
-      (λ t q. let r = rises_trans d0 x t mx (if_zero_rises line (head + 1) e x mx.solid w.1.1.1.0 t q) in led_ok (Rises d0) (looped line head (head + 1) t) (record { solid = r.solid; more = r.more; kinds = r.kinds; code = λ v. looped_in line head (head + 1) t (r.code v); cases = r.cases; walked = r.walked })))))
+      (λ t q. let r = rises_trans d0 x t mx (if_zero_rises line (head + 1) e x mx.solid w.1.1.1.0 t q) in led_ok (Rises d0) (record { solid = r.solid; more = r.more; kinds = r.kinds; code = λ v. looped_in line head (head + 1) t (r.code v); cases = r.cases; walked = r.walked })))))
   statement_rises (Node f.For (At line ▹ start ▹ Node f.MaybeExpr test ▹ Node f.MaybeExpr step ▹ s ▹ none)) a c h w =
       let head = new_label c in
       let c1 = with_labels 3 c in
@@ -331,7 +331,7 @@ mutual
       let s3 : Rises d0 g1 = record { solid = r3.solid; more = r3.more; kinds = r3.kinds; code = λ v. r2.code v; cases = r3.cases; walked = r3.walked } in
       led_after (Rises d0) (scoped g1 (λ b. statement s around b))
       (λ k q4. let r4 = rises_trans d0 g1 k s3 (scoped_rises g1 (λ b. statement s around b) (statement_rises s around (entered g1) (entered_solid g1 s3.solid) w.1.1.1.1.1.0) k q4) in
-      led_ok (Rises d0) (looped line head (head + 1) (with_pieces (k.code.pieces ++ (Here (head + 2) ∷ g.code.pieces)) k)) (record { solid = r4.solid; more = r4.more; kinds = r4.kinds; code = λ v. looped_in line head (head + 1) (with_pieces (k.code.pieces ++ (Here (head + 2) ∷ g.code.pieces)) k) (pieces_joined k.code.pieces (Here (head + 2) ∷ g.code.pieces) (r4.code v) (near.code tt)); cases = r4.cases; walked = r4.walked })))))))
+      led_ok (Rises d0) (record { solid = r4.solid; more = r4.more; kinds = r4.kinds; code = λ v. looped_in line head (head + 1) (with_pieces (k.code.pieces ++ (Here (head + 2) ∷ g.code.pieces)) k) (pieces_joined k.code.pieces (Here (head + 2) ∷ g.code.pieces) (r4.code v) (near.code tt)); cases = r4.cases; walked = r4.walked })))))))
   statement_rises (Node f.Switch (At line ▹ e ▹ Node f.Block (At at ▹ Node f.Items parts ▹ none) ▹ none)) a c h w =
       let end = new_label c in
       let c1 = with_labels 1 c in
@@ -346,7 +346,7 @@ mutual
       led_after (Rises d0) (scoped x (λ b. items parts (in_switch true end t.1.0 a) b))
       (λ g k. let near = scoped_rises x (λ b. items parts (in_switch true end t.1.0 a) b) (items_rise parts (in_switch true end t.1.0 a) (entered x) (entered_solid x rx.solid) w.1.1.1.0.1.1.0.1) g k in
       let m = rises_trans d0 x g rx near in
-      led_ok (Rises d0) (switched line end t.1.1 t.0 g)
+      led_ok (Rises d0)
       (record {
         solid = m.solid;
         more = m.more;
@@ -362,7 +362,7 @@ mutual
       on_led c c1 _ (record { solid = h; more = extends_refl (K c); kinds = kinds_refl c; code = λ g. g; cases = λ g. g; walked = λ g. g })
       (scoped_rises c1 (λ d. then (switch_operand line e d) (λ t. then (statement s (in_switch false end t.1.0 a) (no_cases (apart t.0))) (λ g. refused LeftOut line)))
       (led_after (Rises d0) (switch_operand line e d0)
-      (λ t q. led_after (Rises d0) (statement s (in_switch false end t.1.0 a) (no_cases (apart t.0))) (λ g k. led_refused (Rises d0) LeftOut line))))
+      (λ t q. led_after (Rises d0) (statement s (in_switch false end t.1.0 a) (no_cases (apart t.0))) (λ g k. led_refused (Rises d0) {kind = LeftOut} {line = line}))))
   statement_rises (Node f.Case (At line ▹ e ▹ s ▹ none)) a c h w =
       led_after (Rises c) (constant e c)
       (λ k q. let r = constant_rises e c h k q in
@@ -381,10 +381,10 @@ mutual
   statement_rises (Node f.Continue (At line ▹ none)) a c h w = leave_rises line a.delays a.continues c h
   statement_rises (Node f.Return (At line ▹ Node f.MaybeExpr e ▹ none)) a c h w = return_rises line a.delays e c h w.1.1.0.1
   statement_rises (Node f.Local (At line ▹ words ▹ names ▹ none)) a c h w = declaration_rises false line words names c h w.1.1.0 w.1.1.1.0
-  statement_rises tree a c h w = led_refused (Rises c) Operands (line_of tree)
+  statement_rises tree a c h w = led_refused (Rises c)
 
   pub items_rise : (parts : Trees) (a : Around) (c : Context) → Solid c → AllWritten parts → Led (Rises c) (items parts a c)
-  items_rise none a c h w = led_ok (Rises c) c (rises_refl c h)
+  items_rise none a c h w = led_ok (Rises c) (rises_refl c h)
   items_rise (item ▹ rest) a c h w =
       led_after (Rises c) (statement item a c) (λ d q. let r = statement_rises item a c h w.0 d q in on_led c d _ r (items_rise rest a d r.solid w.1))
 
@@ -433,8 +433,8 @@ body_ended_rises line name type end c h g =
       length = total;
       walked = d.walked ++ (record { name = name; params = params_of type; running = d.running; code = d.code }) ∷ [];
     } in
-    led_unless (Rises c) (nat_lt 268435456 total) ProgramTooLong line (Ok z)
-    (λ x. led_ok (Rises c) z (record {
+    led_unless (Rises c) (nat_lt 268435456 total) ProgramTooLong line
+    (λ x. led_ok (Rises c) (record {
       solid = record { made = h.made; names = record { file = h.names.file; inner = tt }; list = h.list; memory = h.memory; result = h.result; statics = h.statics; functions = walked_push c.walked _ h.functions h.memory };
       more = extends_refl (K c);
       kinds = record { made = λ i u e. e; sorts = λ ks. record { names = record { file = ks.names.file; inner = tt }; list = ks.list; bodies = ks.bodies } };
@@ -447,20 +447,20 @@ body_rises : (line : ℕ) (name : List ℕ) (type : PlainType) (tree : Tree) (c 
 unfolding Written AllWritten
 body_rises line name type (Node f.Body (Node f.Items parts ▹ At end ▹ none)) c h g w =
     led_after (Rises c) (items parts around_body c) (λ d q. let r = items_rise parts around_body c h w.1.0.1 d q in on_led c d _ r (body_ended_rises line name type end d r.solid (r.code g)))
-body_rises line name type tree c h g w = led_refused (Rises c) Operands line
+body_rises line name type tree c h g w = led_refused (Rises c)
 
 defined_rises : (line : ℕ) (name : List ℕ) (type : PlainType) (tree : Tree) (c : Context) → Solid c → In c → Whole (K c) type → Written tree → Led (Rises c) (defined line name type tree c)
 defined_rises line name type tree c h g v w =
     let index = function_number name c in
-    led_unless (Rises c) (not (is_function type)) LeftOut line (then (declared_function line name type c) (λ d. unless (is_defined (slice_get d.functions index)) DeclaredTwice line (body line name type tree (body_begun index type d))))
+    led_unless (Rises c) (not (is_function type)) LeftOut line
     (λ x. led_after (Rises c) (declared_function line name type c)
     (λ d q. let r = declared_function_rises line name type c h v d q in
     let y = body_begun index type d in
     let ry = rises_trans c d y r (body_begun_rises index type d r.solid (whole_stays type (K c) (K d) r.more v)) in
-    led_unless (Rises c) (is_defined (slice_get d.functions index)) DeclaredTwice line (body line name type tree y) (λ z. on_led c y _ ry (body_rises line name type tree y ry.solid (ry.code g) w))))
+    led_unless (Rises c) (is_defined (slice_get d.functions index)) DeclaredTwice line (λ z. on_led c y _ ry (body_rises line name type tree y ry.solid (ry.code g) w))))
 
 named_rises : (line : ℕ) (name : Option (List ℕ)) (type : PlainType) (tree : Tree) (c : Context) → Solid c → In c → Whole (K c) type → Written tree → Led (Rises c) (named_definition line name type tree c)
-named_rises line None type tree c h g v w = led_refused (Rises c) Operands line
+named_rises line None type tree c h g v w = led_refused (Rises c)
 named_rises line (Some name) type tree c h g v w = defined_rises line name type tree c h g v w
 
 definition_rises : (line : ℕ) (words declarator tree : Tree) (c : Context) → Solid c → In c → Written words → Written declarator → Written tree → Led (Rises c) (definition line words declarator tree c)
@@ -481,11 +481,11 @@ external_rises (Node f.Function (At line ▹ words ▹ Node f.Declared (declarat
 external_rises (Node f.Declaration (At line ▹ words ▹ names ▹ none)) c h w =
     let b = begun_rises line [] c h in
     on_led c (begun line [] c) _ b (declaration_rises true line words names (begun line [] c) b.solid w.1.1.0 w.1.1.1.0)
-external_rises tree c h w = led_refused (Rises c) Operands (line_of tree)
+external_rises tree c h w = led_refused (Rises c)
 
 externals_rise : (unit : Trees) (c : Context) → Solid c → AreWritten unit → Led (Rises c) (externals unit c)
 unfolding externals
-externals_rise none c h w = led_ok (Rises c) c (rises_refl c h)
+externals_rise none c h w = led_ok (Rises c) (rises_refl c h)
 externals_rise (tree ▹ rest) c h w =
     led_after (Rises c) (external tree c) (λ d q. let r = external_rises tree c h w.0.0 d q in on_led c d _ r (externals_rise rest d r.solid w.1))
 
@@ -507,19 +507,19 @@ abbrev Ends : Context → Type 0
 Ends c = Solid c × WalkedIn c.walked
 
 calls_same : (functions : List Declared) (calls : List (ℕ × ℕ)) (c : Context) → Ends c → Led Ends (calls_defined functions calls c)
-calls_same functions [] c h = led_ok Ends c h
+calls_same functions [] c h = led_ok Ends h
 calls_same functions (call ∷ calls) c h = by (is_defined (slice_get functions call.0)) (calls_same functions calls c h)
   where
     by : (x : Bool) → Led Ends (calls_defined functions calls c) → Led Ends (cond x (calls_defined functions calls c) (refused Undeclared call.1))
     by true k = k
-    by false k = led_refused Ends Undeclared call.1
+    by false k = led_refused Ends
 
 walked_ends : (unit : Trees) (c : Context) → AreWritten unit → walked unit ≡ Ok c → Ends c
 walked_ends unit c w q =
     led_after Ends (externals unit first_context)
     (λ x s. let r = externals_rise unit first_context first_solid w x s in
     led_after Ends (calls_defined x.functions x.calls x)
-    (λ d k. led_unless Ends (not (is_main d.functions (named_in (codes "main") d.scopes.file))) NoMain 1 (Ok d) (λ y. led_ok Ends d (calls_same x.functions x.calls x (r.solid, r.walked tt) d k))))
+    (λ d k. led_unless Ends (not (is_main d.functions (named_in (codes "main") d.scopes.file))) NoMain 1 (λ y. led_ok Ends (calls_same x.functions x.calls x (r.solid, r.walked tt) d k))))
     c q
 
 pub walked_solid : (unit : Trees) (c : Context) → AreWritten unit → walked unit ≡ Ok c → Solid c

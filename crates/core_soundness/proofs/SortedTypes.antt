@@ -33,53 +33,53 @@ abbrev pub ST : Context × PlainType → Type 0
 ST d = SortedType d.0.tags.made d.1
 
 same_sorted : (line : ℕ) (sort : RecordSort) (c : Context) (type : PlainType) → SortedType c.tags.made type → Led ST (same_sort line sort c type)
-same_sorted line r.Struct c (Struct tag) h = led_ok ST (c, Struct tag) h
-same_sorted line r.Union c (Union tag) h = led_ok ST (c, Union tag) h
-same_sorted line sort c type h = led_refused ST _ line
+same_sorted line r.Struct c (Struct tag) h = led_ok ST h
+same_sorted line r.Union c (Union tag) h = led_ok ST h
+same_sorted line sort c type h = led_refused ST
 
 pub tag_sorted : (line : ℕ) (sort : RecordSort) (name : List ℕ) (c : Context) (named : Option PlainNamed) → ((type : PlainType) → named ≡ Some (n.Tag type) → SortedType c.tags.made type) → Led ST (tag_named line sort name c named)
-tag_sorted line sort name c None h = led_ok ST (with_new_tag sort name c) (new_sorted sort c.tags.made name)
+tag_sorted line sort name c None h = led_ok ST (new_sorted sort c.tags.made name)
 tag_sorted line sort name c (Some (n.Tag type)) h = same_sorted line sort c type (h type refl)
-tag_sorted line sort name c (Some other) h = led_refused ST _ line
+tag_sorted line sort name c (Some other) h = led_refused ST
 
 enum_sorted : (line : ℕ) (c : Context) (named : Option PlainNamed) → Led ST (enum_named line c named)
-enum_sorted line c (Some (n.Tag (Int ty))) = led_ok ST (c, Int ty) tt
-enum_sorted line c (Some (n.Tag type)) = led_refused ST _ line
-enum_sorted line c named = led_refused ST _ line
+enum_sorted line c (Some (n.Tag (Int ty))) = led_ok ST tt
+enum_sorted line c (Some (n.Tag type)) = led_refused ST
+enum_sorted line c named = led_refused ST
 
 type_sorted : (line : ℕ) (c : Context) (named : Option PlainNamed) → ((type : PlainType) → named ≡ Some (n.Typedef type) → SortedType c.tags.made type) → Led ST (type_named line c named)
-type_sorted line c (Some (n.Typedef type)) h = led_ok ST (c, type) (h type refl)
-type_sorted line c (Some (n.BuiltIn zero)) h = led_ok ST _ tt
-type_sorted line c named h = led_refused ST _ line
+type_sorted line c (Some (n.Typedef type)) h = led_ok ST (h type refl)
+type_sorted line c (Some (n.BuiltIn zero)) h = led_ok ST tt
+type_sorted line c named h = led_refused ST
 
 pub special_sorted : (line : ℕ) (tree : Tree) (c : Context) → SortedScopes c.tags.made c.scopes → Led ST (special_type line tree c)
 special_sorted line (Node f.TypedefName (Leaf (w.Name name) ▹ none)) c h = type_sorted line c (found c.scopes name) (λ type e. found_sorted c.tags.made c.scopes name (n.Typedef type) h e)
 special_sorted line (Node (f.RecordTag sort) (At at ▹ Leaf (w.Name name) ▹ none)) c h = tag_sorted at sort name c (found c.scopes (tag_name name)) (λ type e. found_sorted c.tags.made c.scopes (tag_name name) (n.Tag type) h e)
 special_sorted line (Node f.EnumTag (At at ▹ Leaf (w.Name name) ▹ none)) c h = enum_sorted at c (found c.scopes (tag_name name))
-special_sorted line (Node other (At at ▹ parts)) c h = led_refused ST LeftOut at
-special_sorted line tree c h = led_refused ST LeftOut line
+special_sorted line (Node other (At at ▹ parts)) c h = led_refused ST
+special_sorted line tree c h = led_refused ST
 
 -- layers
 
 module _ (made : List TagInfo) where
   array_sorted : (line : ℕ) (element : PlainType) (size length : Option ℕ) → SortedType made element → Led (SortedType made) (array_of line element size length)
-  array_sorted line element None length h = led_refused (SortedType made) Incomplete line
-  array_sorted line element (Some size) None h = led_refused (SortedType made) Incomplete line
-  array_sorted line element (Some size) (Some m) h = led_unless (SortedType made) (nat_lt 268435456 (m * size)) TypeTooLarge line (Ok (Array element m)) (λ t. led_ok (SortedType made) (Array element m) h)
+  array_sorted line element None length h = led_refused (SortedType made)
+  array_sorted line element (Some size) None h = led_refused (SortedType made)
+  array_sorted line element (Some size) (Some m) h = led_unless (SortedType made) (nat_lt 268435456 (m * size)) TypeTooLarge line (λ t. led_ok (SortedType made) h)
 
   layered_sorted : (tags : TagTable) (layer : Layer) (type : PlainType) → SortedType made type → Led (SortedType made) (layered tags layer type)
-  layered_sorted tags (PointerTo line) type h = led_unless (SortedType made) (is_function type) LeftOut line _ (λ t. led_ok (SortedType made) (Pointer type) tt)
-  layered_sorted tags (ArrayOf line length) type h = led_unless (SortedType made) (is_function type) LeftOut line _ (λ t. array_sorted line type (size_in tags type) length h)
-  layered_sorted tags (FunctionOf line params) type h = led_unless (SortedType made) _ LeftOut line _ (λ t. led_ok (SortedType made) (Function type params) tt)
+  layered_sorted tags (PointerTo line) type h = led_unless (SortedType made) (is_function type) LeftOut line (λ t. led_ok (SortedType made) tt)
+  layered_sorted tags (ArrayOf line length) type h = led_unless (SortedType made) (is_function type) LeftOut line (λ t. array_sorted line type (size_in tags type) length h)
+  layered_sorted tags (FunctionOf line params) type h = led_unless (SortedType made) _ LeftOut line (λ t. led_ok (SortedType made) tt)
 
   before_sorted : (tags : TagTable) (layer : Layer) (layers : List Layer) (type : PlainType) → SortedType made type → Led (SortedType made) (layered_before tags layer layers type)
-  before_sorted tags (FunctionOf line params) (next ∷ layers) type h = led_after (SortedType made) (layered tags (FunctionOf line params) type) (λ t q. led_refused (SortedType made) LeftOut line)
+  before_sorted tags (FunctionOf line params) (next ∷ layers) type h = led_after (SortedType made) (layered tags (FunctionOf line params) type) (λ t q. led_refused (SortedType made))
   before_sorted tags (FunctionOf line params) [] type h = layered_sorted tags (FunctionOf line params) type h
   before_sorted tags (PointerTo line) layers type h = layered_sorted tags (PointerTo line) type h
   before_sorted tags (ArrayOf line length) layers type h = layered_sorted tags (ArrayOf line length) type h
 
   pub with_layers_sorted : (tags : TagTable) (layers : List Layer) (type : PlainType) → SortedType made type → Led (SortedType made) (with_layers tags layers type)
-  with_layers_sorted tags [] type h = led_ok (SortedType made) type h
+  with_layers_sorted tags [] type h = led_ok (SortedType made) h
   with_layers_sorted tags (layer ∷ layers) type h =
       led_after (SortedType made) (layered_before tags layer layers type) (λ inner q. with_layers_sorted tags layers inner (before_sorted tags layer layers type h inner q))
 

@@ -52,8 +52,8 @@ told_levels told_of c m = grows_levels c (told told_of c) (grows_told told_of c 
 
 pub declared_levels : (line : ℕ) (name : List ℕ) (named : PlainNamed) (b c : Context) → IsNoObject named → Levels b c → Led (Levels b) (declared_as line name named c)
 declared_levels line name named b c h p =
-    led_unless (Levels b) (is_twice c.scopes name named) DeclaredTwice line (Ok (record c { scopes = after_declaration c.scopes name named }))
-    (λ q. led_ok (Levels b) (record c { scopes = after_declaration c.scopes name named }) (levels_trans b c _ p (beside_levels c _ refl refl (declared_objects c.scopes name named (with_name_objects c.scopes name named h)) (after_depth c.scopes name named))))
+    led_unless (Levels b) (is_twice c.scopes name named) DeclaredTwice line
+    (λ q. led_ok (Levels b) (levels_trans b c _ p (beside_levels c _ refl refl (declared_objects c.scopes name named (with_name_objects c.scopes name named h)) (after_depth c.scopes name named))))
 
 named_levels : (name : Option (List ℕ)) (named : PlainNamed) (c : Context) → 1 ≤ length c.scopes.inner → Levels c (with_named name named c)
 named_levels None named c deep = levels_refl c
@@ -84,8 +84,7 @@ with_param_levels name type c deep = let r = by (is_prototype c.scopes) in recor
 -- constants, specs and declarators
 
 pub with_type_levels : (answer : Checked (names.Context × PlainType)) (b c : Context) → Reached (After (asked c)) answer → Levels b c → Reached (Levels b) (with_type answer c)
-with_type_levels answer b c g p =
-    reached_after (Levels b) answer (λ x h. reached_ok (Levels b) (told x.0 c, x.1) (levels_trans b c _ p (told_levels x.0 c (g x h))))
+with_type_levels answer b c g p = reached_after (Levels b) answer (λ x h. reached_ok (Levels b) (levels_trans b c _ p (told_levels x.0 c (g x h))))
 
 -- a list of parameters in a scope of its own
 left_levels : (c x : Context) → Levels (entered c) x → Levels c (left_params x)

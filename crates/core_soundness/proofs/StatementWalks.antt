@@ -56,7 +56,7 @@ stays_out c d x y s = record {
 -- a statement in a scope of its own
 scoped_walks : (a : Around) (c : Context) (inside : Context → Checked Context) → Safe c.scopes → (Safe (entered c).scopes → Led (Walks a (entered c)) (inside (entered c))) → Led (Walks a c) (scoped c inside)
 scoped_walks a c inside s h =
-    led_after (Walks a c) (inside (entered c)) (λ d e. led_ok (Walks a c) (left d) (walks_scoped a c d (h (entered_safe c.scopes s) d e)))
+    led_after (Walks a c) (inside (entered c)) (λ d e. led_ok (Walks a c) (walks_scoped a c d (h (entered_safe c.scopes s) d e)))
 
 -- where the labels of a switch are those before
 walks_same : (a : Around) (c d : Context) → Part (ways a) a.delays c.code d.code [] → ((l : ℕ) → HasLabel l d.running → HasLabel l c.running) → Stays c d → Walks a c d
@@ -298,12 +298,12 @@ labelled_true false e = absurd (true≢false e)
 
 cased_walks : (line : ℕ) (a : Around) (ty : Option IntType) (place : ℕ) (v : ℤ) (c k d : Context) → Fits c.code.labels a → Passes c k → Walks a (here k.code.labels (with_labels 1 k)) d
     → Led (Walks a c) (cased line a ty place v k.code.labels d)
-cased_walks line a None place v c k d fit p w = led_refused (Walks a c) StrayBreak line
+cased_walks line a None place v c k d fit p w = led_refused (Walks a c)
 cased_walks line a (Some ty) place v c k d fit p w =
     let value = wrapped (kind_of ty) v in
-    led_unless (Walks a c) (not a.labelled) LeftOut line (unless (has_case value d) CaseTwice line (Ok (with_case place value k.code.labels d))) (λ e.
-    led_unless (Walks a c) (has_case value d) CaseTwice line (Ok (with_case place value k.code.labels d)) (λ e2.
-    led_ok (Walks a c) (with_case place value k.code.labels d)
+    led_unless (Walks a c) (not a.labelled) LeftOut line (λ e.
+    led_unless (Walks a c) (has_case value d) CaseTwice line (λ e2.
+    led_ok (Walks a c)
     (labelled_walks a c k d (with_case place value k.code.labels d) fit (labelled_true a.labelled e) p w refl
     (λ l. ⊎_elim (λ (h : IsCase l (take place d.running.cases ++ ((value, k.code.labels) ∷ drop place d.running.cases))). ⊎_elim (λ (q : l ≡ k.code.labels). inl q) (λ (q : IsCase l d.running.cases). inr (inl q)) (case_among l place k.code.labels value d.running.cases h))
     (λ (h : d.running.otherwise ≡ Some l). inr (inr h)))
@@ -315,10 +315,10 @@ some_is one other e = cc
 defaulted_walks : (line : ℕ) (a : Around) (c d : Context) → Fits c.code.labels a → Safe c.scopes → Walks a (here c.code.labels (with_labels 1 c)) d → Led (Walks a c) (defaulted line a c.code.labels d)
 defaulted_walks line a c d fit s w =
     let last : Context = record d { running = record d.running { otherwise = Some c.code.labels } } in
-    led_unless (Walks a c) (not (is_some a.switched)) StrayBreak line (unless (not a.labelled) LeftOut line (unless (is_some d.running.otherwise) CaseTwice line (Ok last))) (λ e1.
-    led_unless (Walks a c) (not a.labelled) LeftOut line (unless (is_some d.running.otherwise) CaseTwice line (Ok last)) (λ e2.
-    led_unless (Walks a c) (is_some d.running.otherwise) CaseTwice line (Ok last) (λ e3.
-    led_ok (Walks a c) last
+    led_unless (Walks a c) (not (is_some a.switched)) StrayBreak line (λ e1.
+    led_unless (Walks a c) (not a.labelled) LeftOut line (λ e2.
+    led_unless (Walks a c) (is_some d.running.otherwise) CaseTwice line (λ e3.
+    led_ok (Walks a c)
     (labelled_walks a c c d last fit (labelled_true a.labelled e2) (passes_refl c s) w refl
     (λ l. ⊎_elim (λ (h : IsCase l d.running.cases). inr (inl h)) (λ (h : Some c.code.labels ≡ Some l). inl (some_is c.code.labels l h)))
     (stays_beside d _ w.stays.safe refl refl refl refl refl (λ k. k) refl (tied_refl d.functions d.scopes.file d.walked) (λ h name type i e. e))))))
@@ -332,11 +332,11 @@ record Leave_to (ws : List Way) (n l : ℕ) (exit : ℕ × ℕ) : Type 0 where
   stands : (m : Marks) (end : ℕ) → Leads m end ws → Stands m end (way_on exit.0 exit.1)
 
 leave_to_walks : (line : ℕ) (a : Around) (exit : Option (ℕ × ℕ)) (c : Context) → Safe c.scopes → ((x : ℕ × ℕ) → exit ≡ Some x → Leave_to (ways a) a.delays c.code.labels x) → Led (Walks a c) (leave_to line a.delays exit c)
-leave_to_walks line a None c s h = led_refused (Walks a c) StrayBreak line
+leave_to_walks line a None c s h = led_refused (Walks a c)
 leave_to_walks line a (Some exit) c s h =
     let facts = h exit refl in
     let outside = facts.outside in
-    led_ok (Walks a c) (emit line (Jump exit.0) (leaves line (a.delays - exit.1) c))
+    led_ok (Walks a c)
     (out_walks a line (a.delays - exit.1) exit.1 (Jump exit.0) c s (omega arith) facts.is facts.early
     (λ m p lead. let st = facts.stands m (p + (a.delays - exit.1) + 1) lead in (st.depth, omega (arith, st.ahead refl))))
 
@@ -364,7 +364,7 @@ continue_facts (Some x) y n l early out e is =
 for_start_passes : (line : ℕ) (tree : Tree) (c : Context) → Safe c.scopes → Led (Passes c) (for_start line tree c)
 for_start_passes line (Node f.ForNames (words ▹ names ▹ none)) c s = λ d e. (declaration_declares false line words names c s (λ t. absurd (true≢false (sym t))) d e).passes refl
 for_start_passes line (Node f.ForStart (Node f.MaybeExpr e ▹ none)) c s = maybe_evaluated_passes e c s
-for_start_passes line tree c s = led_refused (Passes c) Operands line
+for_start_passes line tree c s = led_refused (Passes c)
 
 walked_passes : (a : Around) (c : Context) (r : Checked Context) → Led (Passes c) r → Led (Walks a c) r
 walked_passes a c r h d e = walks_passes a c d (h d e)
@@ -373,7 +373,7 @@ mutual
   unfolding statement items
 
   pub statement_walks : (tree : Tree) (a : Around) (c : Context) → Fits c.code.labels a → Safe c.scopes → Led (Walks a c) (statement tree a c)
-  statement_walks (Node f.Empty parts) a c fit s = led_ok (Walks a c) c (walks_passes a c c (passes_refl c s))
+  statement_walks (Node f.Empty parts) a c fit s = led_ok (Walks a c) (walks_passes a c c (passes_refl c s))
   statement_walks (Node f.Expr (At line ▹ e ▹ none)) a c fit s = walked_passes a c (evaluated e c) (evaluated_passes e c s)
   statement_walks (Node f.Block (At line ▹ Node f.Items parts ▹ none)) a c fit s =
       scoped_walks a c (λ d. items parts (below a) d) s
@@ -381,17 +381,17 @@ mutual
   statement_walks (Node f.Delay (At line ▹ Node f.Items parts ▹ none)) a c fit s =
       scoped_walks a c (λ d. then (items parts (in_delay a) (emit line Enter d)) (λ e. Ok (emit line Leave e))) s
       (λ s2. led_after (Walks a (entered c)) (items parts (in_delay a) (emit line Enter (entered c)))
-      (λ e h. led_ok (Walks a (entered c)) (emit line Leave e) (delay_walks a line (entered c) e
+      (λ e h. led_ok (Walks a (entered c)) (delay_walks a line (entered c) e
       (items_walk parts (in_delay a) (emit line Enter (entered c)) (fits_delay c.code.labels a fit) s2 e h))))
   statement_walks (Node f.If (At line ▹ e ▹ x ▹ none)) a c fit s =
       let end = new_label c in
       let d = entered (with_labels 1 c) in
       led_after (Walks a c) (then (leaves_if_zero line end e d) (λ t. then (scoped t (λ b. statement x (below a) b)) (λ g. Ok (here end g))))
-      (λ z q. led_ok (Walks a c) (left z)
+      (λ z q. led_ok (Walks a c)
       (led_after (λ (y : Context). Walks a c (left y)) (leaves_if_zero line end e d)
       (λ t h. let test = leaves_tests line end e d (omega arith) (entered_safe c.scopes s) t h in
       led_after (λ (y : Context). Walks a c (left y)) (scoped t (λ b. statement x (below a) b))
-      (λ g k. led_ok (λ (y : Context). Walks a c (left y)) (here end g) (if_walks a c t g fit test
+      (λ g k. led_ok (λ (y : Context). Walks a c (left y)) (if_walks a c t g fit test
       (scoped_walks (below a) t (λ b. statement x (below a) b) test.stays.safe
       (λ s2. statement_walks x (below a) (entered t) (fits_below t.code.labels a (fits_more c.code.labels t.code.labels a (omega (arith, (test.part 0).more)) fit)) s2) g k)))) z q))
   statement_walks (Node f.IfElse (At line ▹ e ▹ x ▹ y ▹ none)) a c fit s =
@@ -399,7 +399,7 @@ mutual
       let d = entered (with_labels 2 c) in
       let Goal : Context → Type 0 = λ (v : Context). Walks a c (left v) in
       led_after (Walks a c) (then (leaves_if_zero line (end + 1) e d) (λ t. then (scoped t (λ b. statement x (below a) b)) (λ g. then (scoped (here (end + 1) (emit line (Jump end) g)) (λ b. statement y (below a) b)) (λ h. Ok (here end h)))))
-      (λ z q. led_ok (Walks a c) (left z)
+      (λ z q. led_ok (Walks a c)
       (led_after Goal (leaves_if_zero line (end + 1) e d)
       (λ t h. let test = leaves_tests line (end + 1) e d (omega arith) (entered_safe c.scopes s) t h in
       let fit_t = fits_below t.code.labels a (fits_more c.code.labels t.code.labels a (omega (arith, (test.part 0).more)) fit) in
@@ -407,7 +407,7 @@ mutual
       (λ g k. let w = scoped_walks (below a) t (λ b. statement x (below a) b) test.stays.safe (λ s2. statement_walks x (below a) (entered t) fit_t s2) g k in
       let begun = here (end + 1) (emit line (Jump end) g) in
       led_after Goal (scoped begun (λ b. statement y (below a) b))
-      (λ v r. led_ok Goal (here end v) (else_walks a line c t g v fit test w
+      (λ v r. led_ok Goal (else_walks a line c t g v fit test w
       (scoped_walks (below a) begun (λ b. statement y (below a) b) w.stays.safe
       (λ s2. statement_walks y (below a) (entered begun) (fits_more t.code.labels g.code.labels (below a) w.part.more fit_t) s2) v r))))) z q))
   statement_walks (Node f.While (At line ▹ e ▹ x ▹ none)) a c fit s =
@@ -416,11 +416,11 @@ mutual
       let Goal : Context → Type 0 = λ (v : Context). Walks a c (left v) in
       let inner = in_loop (head + 1) (head + 2) a in
       led_after (Walks a c) (then (leaves_if_zero line (head + 1) e (here head d)) (λ t. then (scoped t (λ b. statement x inner b)) (λ g. Ok (looped line head (head + 1) (here (head + 2) g)))))
-      (λ z q. led_ok (Walks a c) (left z)
+      (λ z q. led_ok (Walks a c)
       (led_after Goal (leaves_if_zero line (head + 1) e (here head d))
       (λ t h. let test = leaves_tests line (head + 1) e (here head d) (omega arith) (entered_safe c.scopes s) t h in
       led_after Goal (scoped t (λ b. statement x inner b))
-      (λ g k. led_ok Goal (looped line head (head + 1) (here (head + 2) g)) (while_walks a line c t g fit s test
+      (λ g k. led_ok Goal (while_walks a line c t g fit s test
       (scoped_walks inner t (λ b. statement x inner b) test.stays.safe
       (λ s2. statement_walks x inner (entered t) (fits_loop t.code.labels (head + 1) (head + 2) a (omega (arith, (test.part 0).more)) (omega (arith, (test.part 0).more))) s2) g k)))) z q))
   statement_walks (Node f.Do (At line ▹ x ▹ e ▹ none)) a c fit s =
@@ -429,19 +429,19 @@ mutual
       let Goal : Context → Type 0 = λ (v : Context). Walks a c (left v) in
       let inner = in_loop (head + 1) (head + 2) a in
       led_after (Walks a c) (then (scoped (here head d) (λ b. statement x inner b)) (λ g. then (leaves_if_zero line (head + 1) e (here (head + 2) g)) (λ t. Ok (looped line head (head + 1) t))))
-      (λ z q. led_ok (Walks a c) (left z)
+      (λ z q. led_ok (Walks a c)
       (led_after Goal (scoped (here head d) (λ b. statement x inner b))
       (λ g h. let w = scoped_walks inner (here head d) (λ b. statement x inner b) (entered_safe c.scopes s)
       (λ s2. statement_walks x inner (entered (here head d)) (fits_loop (c.code.labels + 3) (head + 1) (head + 2) a (omega arith) (omega arith)) s2) g h in
       led_after Goal (leaves_if_zero line (head + 1) e (here (head + 2) g))
-      (λ t k. led_ok Goal (looped line head (head + 1) t) (do_walks a line c g t fit w (leaves_tests line (head + 1) e (here (head + 2) g) (omega (arith, w.part.more)) w.stays.safe t k)))) z q))
+      (λ t k. led_ok Goal (do_walks a line c g t fit w (leaves_tests line (head + 1) e (here (head + 2) g) (omega (arith, w.part.more)) w.stays.safe t k)))) z q))
   statement_walks (Node f.For (At line ▹ start ▹ Node f.MaybeExpr test ▹ Node f.MaybeExpr step ▹ x ▹ none)) a c fit s =
       let head = new_label c in
       let d = entered (with_labels 3 c) in
       let Goal : Context → Type 0 = λ (v : Context). Walks a c (left v) in
       let inner = in_loop (head + 1) (head + 2) a in
       led_after (Walks a c) (then (for_start line start d) (λ y. then (maybe_leaves line (head + 1) test (here head y)) (λ t. then (maybe_evaluated step (apart t)) (λ g. then (scoped (with_pieces t.code.pieces g) (λ b. statement x inner b)) (λ h. Ok (looped line head (head + 1) (with_pieces (h.code.pieces ++ (Here (head + 2) ∷ g.code.pieces)) h)))))))
-      (λ z q. led_ok (Walks a c) (left z)
+      (λ z q. led_ok (Walks a c)
       (led_after Goal (for_start line start d)
       (λ y h0. let p = for_start_passes line start d (entered_safe c.scopes s) y h0 in
       led_after Goal (maybe_leaves line (head + 1) test (here head y))
@@ -449,7 +449,7 @@ mutual
       led_after Goal (maybe_evaluated step (apart t))
       (λ g h2. let r = maybe_evaluated_passes step (apart t) u.stays.safe g h2 in
       led_after Goal (scoped (with_pieces t.code.pieces g) (λ b. statement x inner b))
-      (λ h h3. led_ok Goal (looped line head (head + 1) (with_pieces (h.code.pieces ++ (Here (head + 2) ∷ g.code.pieces)) h)) (for_walks a line c y t g h fit p u r
+      (λ h h3. led_ok Goal (for_walks a line c y t g h fit p u r
       (scoped_walks inner (with_pieces t.code.pieces g) (λ b. statement x inner b) r.stays.safe
       (λ s2. statement_walks x inner (entered (with_pieces t.code.pieces g)) (fits_loop g.code.labels (head + 1) (head + 2) a (omega (arith, p.more, (u.part 0).more, r.more)) (omega (arith, p.more, (u.part 0).more, r.more))) s2) h h3)))))) z q))
   statement_walks (Node f.Switch (At line ▹ e ▹ Node f.Block (At at ▹ Node f.Items parts ▹ none) ▹ none)) a c fit s =
@@ -457,20 +457,20 @@ mutual
       let d = entered (with_labels 1 c) in
       let Goal : Context → Type 0 = λ (v : Context). Walks a c (left v) in
       led_after (Walks a c) (then (switch_operand line e d) (λ t. then (scoped (no_cases (apart t.0)) (λ b. items parts (in_switch true end t.1.0 a) b)) (λ g. Ok (switched line end t.1.1 t.0 g))))
-      (λ z q. led_ok (Walks a c) (left z)
+      (λ z q. led_ok (Walks a c)
       (led_after Goal (switch_operand line e d)
       (λ t h. let p = switch_operand_passes line e d (entered_safe c.scopes s) t h in
       let inner = in_switch true end t.1.0 a in
       led_after Goal (scoped (no_cases (apart t.0)) (λ b. items parts inner b))
-      (λ g k. led_ok Goal (switched line end t.1.1 t.0 g) (switch_walks a line t.1.0 t.1.1 c t.0 g fit p
+      (λ g k. led_ok Goal (switch_walks a line t.1.0 t.1.1 c t.0 g fit p
       (scoped_walks inner (no_cases (apart t.0)) (λ b. items parts inner b) p.stays.safe
       (λ s2. items_walk parts inner (entered (no_cases (apart t.0))) (fits_switch t.0.code.labels end true t.1.0 a (omega (arith, p.more)) (fits_more c.code.labels t.0.code.labels a (omega (arith, p.more)) fit)) s2) g k)))) z q))
   statement_walks (Node f.Switch (At line ▹ e ▹ x ▹ none)) a c fit s =
       let end = new_label c in
       let d = entered (with_labels 1 c) in
       led_after (Walks a c) (then (switch_operand line e d) (λ t. then (statement x (in_switch false end t.1.0 a) (no_cases (apart t.0))) (λ g. refused LeftOut line)))
-      (λ z q. led_ok (Walks a c) (left z) (led_after (λ (v : Context). Walks a c (left z)) (switch_operand line e d)
-      (λ t h. led_after (λ (v : Context). Walks a c (left z)) (statement x (in_switch false end t.1.0 a) (no_cases (apart t.0))) (λ g k. led_refused (λ (v : Context). Walks a c (left z)) LeftOut line)) z q))
+      (λ z q. led_ok (Walks a c) (led_after (λ (v : Context). Walks a c (left z)) (switch_operand line e d)
+      (λ t h. led_after (λ (v : Context). Walks a c (left z)) (statement x (in_switch false end t.1.0 a) (no_cases (apart t.0))) (λ g k. led_refused (λ (v : Context). Walks a c (left z)) {kind = LeftOut} {line = line})) z q))
   statement_walks (Node f.Case (At line ▹ e ▹ x ▹ none)) a c fit s =
       led_after (Walks a c) (constant e c)
       (λ k h. let p = constant_passes e c c (passes_refl c s) k h in
@@ -486,10 +486,10 @@ mutual
   statement_walks (Node f.Return (At line ▹ Node f.MaybeExpr e ▹ none)) a c fit s = return_from_walks line a e c fit s
   statement_walks (Node f.Local (At line ▹ words ▹ names ▹ none)) a c fit s =
       walked_passes a c (declaration false line words names c) (λ d e. (declaration_declares false line words names c s (λ t. absurd (true≢false (sym t))) d e).passes refl)
-  statement_walks tree a c fit s = led_refused (Walks a c) Operands (line_of tree)
+  statement_walks tree a c fit s = led_refused (Walks a c)
 
   pub items_walk : (parts : Trees) (a : Around) (c : Context) → Fits c.code.labels a → Safe c.scopes → Led (Walks a c) (items parts a c)
-  items_walk none a c fit s = led_ok (Walks a c) c (walks_passes a c c (passes_refl c s))
+  items_walk none a c fit s = led_ok (Walks a c) (walks_passes a c c (passes_refl c s))
   items_walk (item ▹ rest) a c fit s =
       led_after (Walks a c) (statement item a c)
       (λ d h e q. let one = statement_walks item a c fit s d h in

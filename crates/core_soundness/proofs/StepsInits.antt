@@ -62,35 +62,34 @@ fill_scalar_went : (e : Tree) (line : ℕ) (type : PlainType) (offset : ℕ) (b 
 fill_scalar_went e line type offset b d (InRegister at register) x q =
     let v = convert at (opened e b).code type d.1.typed (atom_in d.1) d.0 in
     let wrote = write at type (Local register) v.1 v.0 in
-    reached_ok (Went e b) (closed e wrote, InRegister at register)
+    reached_ok (Went e b)
     (x, keeps_trans b v.0 _ (converted_keeps at e type b d q) (keeps_trans v.0 wrote _ (write_keeps at type (Local register) v.1 v.0) (closed_keeps e wrote)))
 fill_scalar_went e line type offset b d (InMemory at mem) x q =
     let v = convert at (opened e b).code type d.1.typed (atom_in d.1) d.0 in
     let place = member_place at mem offset v.0 in
     let wrote = store_at at type v.1 place in
-    reached_ok (Went e b) (closed e wrote, InMemory at mem) (
+    reached_ok (Went e b) (
       x,
       keeps_trans b v.0 _ (converted_keeps at e type b d q)
           (keeps_trans v.0 place.0 _ (place_keeps at mem offset v.0) (keeps_trans place.0 wrote _ (write_keeps at type (Memory place.1) v.1 place.0) (closed_keeps e wrote))),
     )
 fill_scalar_went e line type offset b d (InStatic start) x q =
-    reached_after (Went e b) (static_scalar line type offset start d.1)
-    (λ filled h. reached_ok (Went e b) (d.0, InStatic filled) (x, full_keeps e type b d q))
+    reached_after (Went e b) (static_scalar line type offset start d.1) (λ filled h. reached_ok (Went e b) (x, full_keeps e type b d q))
 
 scalar_went : (e : Tree) (line : ℕ) (type : PlainType) (offset : ℕ) (t : Target) (b : Context) → Formed e → Reached (Went e b) (scalar e line type offset t b)
 scalar_went e line type offset t b g =
     let begun = opened e b in
     reached_after (Went e b) (valued e (found e type begun))
-    (λ d h. reached_barred (Went e b) (unconverted type d.1.typed) line (fill_scalar e line type offset begun.code d t)
+    (λ d h. reached_barred (Went e b) (unconverted type d.1.typed) line
     (fill_scalar_went e line type offset b d t (valued_calm e type begun d g h) h))
 
 fill_record_went : (e : Tree) (line : ℕ) (type : PlainType) (offset : ℕ) (b : Context) (d : Context × Found) (t : Target) → Went e b d.0 → Reached (Went e b) (fill_record e line type offset d t)
 fill_record_went e line type offset b d (InMemory at mem) x =
     let place = member_place at mem offset d.0 in
     let copied = copy_to at type (atom_in d.1) place in
-    reached_ok (Went e b) (closed e copied, InMemory at mem)
+    reached_ok (Went e b)
     (x.0, keeps_trans b d.0 _ x.1 (keeps_trans d.0 place.0 _ (place_keeps at mem offset d.0) (keeps_trans place.0 copied _ (emit_keeps at (Copy place.1 (atom_in d.1) (pos (size_or_zero place.0 type))) place.0) (closed_keeps e copied))))
-fill_record_went e line type offset b d t x = reached_refused (Went e b) NotConstant line
+fill_record_went e line type offset b d t x = reached_refused (Went e b)
 
 whole_went : (e : Tree) (line : ℕ) (type : PlainType) (offset : ℕ) (t : Target) (b : Context) → Formed e → Reached (Went e b) (whole e line type offset t b)
 whole_went e line type offset t b g =
@@ -110,14 +109,14 @@ fill_text_went e line bytes size offset (InMemory at mem) b x =
     reached_after (Went e b) (with_literal line bytes begun)
     (λ d h. let place = member_place at mem offset d.0 in
     let k : ℕ = min (length bytes + 1) size in
-    reached_ok (Went e b) (emit at (Copy place.1 (atom.Static d.1) (pos k)) place.0, InMemory at mem) (
+    reached_ok (Went e b) (
       x,
       keeps_trans b begun _ (opened_keeps e b)
           (keeps_trans begun d.0 _ (grows_keeps begun d.0 (grown_literal line bytes begun begun (grows_refl begun) d h))
           (keeps_trans d.0 place.0 _ (place_keeps at mem offset d.0) (emit_keeps at (Copy place.1 (atom.Static d.1) (pos k)) place.0))),
     ))
-fill_text_went e line bytes size offset (InStatic start) b x = reached_ok (Went e b) (b, InStatic (with_bytes start offset (take size bytes))) (x, keeps_refl b)
-fill_text_went e line bytes size offset (InRegister at register) b x = reached_refused (Went e b) Assignment line
+fill_text_went e line bytes size offset (InStatic start) b x = reached_ok (Went e b) (x, keeps_refl b)
+fill_text_went e line bytes size offset (InRegister at register) b x = reached_refused (Went e b)
 
 by_text_went : (e : Tree) (line : ℕ) (element : PlainType) (size offset : ℕ) (found_text : Option (List ℕ)) (t : Target) (b : Context) → text e ≡ found_text → Formed e
     → Reached (Went e b) (by_text e line element size offset found_text t b)
@@ -151,14 +150,14 @@ mutual
   initialize_went (Node (f.InitList trailing) (At line ▹ Node f.Inits inits ▹ none)) in_scalar type offset t b g d q =
       elim (takes_braces type in_scalar) as (λ k. cond k (initialize_parts line inits (is_scalar_type type) (parts_of b (count inits) type offset) t b) (then (all_surplus inits b) (λ y. refused Assignment line)) ≡ good d → Went (Node (f.InitList trailing) (At line ▹ Node f.Inits inits ▹ none)) b d.0) [
         | true ↦ λ r. let x = parts_went inits line (is_scalar_type type) (parts_of b (count inits) type offset) t b g.1.1.0.1 d r in (list_calm trailing line inits x.0, x.1)
-        | false ↦ reached_after (Went (Node (f.InitList trailing) (At line ▹ Node f.Inits inits ▹ none)) b) (all_surplus inits b) (λ y h. reached_refused (Went (Node (f.InitList trailing) (At line ▹ Node f.Inits inits ▹ none)) b) Assignment line) d
+        | false ↦ reached_after (Went (Node (f.InitList trailing) (At line ▹ Node f.Inits inits ▹ none)) b) (all_surplus inits b) (λ y h. reached_refused (Went (Node (f.InitList trailing) (At line ▹ Node f.Inits inits ▹ none)) b)) d
       ] q
   initialize_went tree in_scalar type offset t b g d q = never (Went tree b d.0) _ d q
 
   parts_went : (inits : Trees) (line : ℕ) (in_scalar : Bool) (parts : List (PlainType × ℕ)) (t : Target) (b : Context) → AllFormed inits → Reached (λ d. AllStill inits × Keeps b d) (initialize_parts line inits in_scalar parts t b)
-  parts_went none line in_scalar parts t b g = reached_ok (λ d. AllStill none × Keeps b d) (b, t) (tt, keeps_refl b)
+  parts_went none line in_scalar parts t b g = reached_ok (λ d. AllStill none × Keeps b d) (tt, keeps_refl b)
   parts_went (init ▹ rest) line in_scalar [] t b g =
-      reached_after (λ d. AllStill (init ▹ rest) × Keeps b d) (all_surplus (init ▹ rest) b) (λ d h. reached_refused (λ d. AllStill (init ▹ rest) × Keeps b d) Assignment line)
+      reached_after (λ d. AllStill (init ▹ rest) × Keeps b d) (all_surplus (init ▹ rest) b) (λ d h. reached_refused (λ d. AllStill (init ▹ rest) × Keeps b d))
   parts_went (init ▹ rest) line in_scalar (part ∷ parts) t b g =
       reached_after (λ d. AllStill (init ▹ rest) × Keeps b d) (initialize init in_scalar part.0 part.1 t b)
       (λ d h z e. let one = initialize_went init in_scalar part.0 part.1 t b g.0 d h in

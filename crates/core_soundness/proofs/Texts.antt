@@ -182,8 +182,7 @@ ended_sane line name index type end d s p =
     let total : ℕ = e.length + sum_by piece_length e.code.pieces in
     let w : Walked = record { name = name; params = params_of type; running = e.running; code = e.code } in
     led_unless Sane (nat_lt 268435456 total) ProgramTooLong line
-    (Ok (record e { scopes = record { file = e.scopes.file; inner = [] }; length = total; walked = e.walked ++ w ∷ [] }))
-    (λ small. led_ok Sane (record e { scopes = record { file = e.scopes.file; inner = [] }; length = total; walked = e.walked ++ w ∷ [] })
+    (λ small. led_ok Sane
     (record {
       safe = record { file = s.safe.file; inner = tt };
       flat = refl;
@@ -209,19 +208,19 @@ body_sane line name type given (Node f.Body (Node f.Items parts ▹ At end ▹ t
     led_after Sane (items parts around_body begin)
     (λ d h. let w = items_walk parts around_body begin (record { early = tt; breaks = tt; continues = tt }) ok.safe d h in
     ended_sane line name index type end d (inner_stays name index begin d ok w.stays) (begun_code b c d index type start p w))
-body_sane line name type given tree index b c start p s there undefined = led_refused Sane Operands line
+body_sane line name type given tree index b c start p s there undefined = led_refused Sane
 
 defined_sane : (line : ℕ) (name : List ℕ) (type : PlainType) (tree : Tree) (b c : Context) → b.code ≡ no_code → Passes b c → Sane c → Led Sane (defined line name type tree c)
 defined_sane line name type tree b c start p s =
     let index = function_number name c in
-    led_unless Sane (not (is_function type)) LeftOut line _ (λ e1.
+    led_unless Sane (not (is_function type)) LeftOut line (λ e1.
     led_after Sane (declared_function line name type c)
     (λ d h. let q = introduced line name type c s.safe s.flat d h in
-    led_unless Sane (is_defined (slice_get d.functions index)) DeclaredTwice line (body line name type tree (body_begun index type d))
+    led_unless Sane (is_defined (slice_get d.functions index)) DeclaredTwice line
     (λ e2. body_sane line name type q.type tree index b d start (passes_trans b c d p q.passes) (sane_stays c d s q.passes.stays) q.there e2)))
 
 named_sane : (line : ℕ) (name : Option (List ℕ)) (type : PlainType) (tree : Tree) (b c : Context) → b.code ≡ no_code → Passes b c → Sane c → Led Sane (named_definition line name type tree c)
-named_sane line None type tree b c start p s = led_refused Sane Operands line
+named_sane line None type tree b c start p s = led_refused Sane
 named_sane line (Some name) type tree b c start p s = defined_sane line name type tree b c start p s
 
 definition_sane : (line : ℕ) (words declarator tree : Tree) (b : Context) → b.code ≡ no_code → Sane b → Led Sane (definition line words declarator tree b)
@@ -240,21 +239,21 @@ external_sane (Node f.Function (At line ▹ words ▹ Node f.Declared (declarato
 external_sane (Node f.Declaration (At line ▹ words ▹ names ▹ t.none)) c s =
     let b = begun line [] c in
     λ d e. sane_stays b d (sane_begun line [] c s) (declaration_declares true line words names b s.safe (λ q. s.flat) d e).stays
-external_sane tree c s = led_refused Sane Operands (line_of tree)
+external_sane tree c s = led_refused Sane
 
 externals_sane : (unit : Trees) (c : Context) → Sane c → Led Sane (externals unit c)
 unfolding externals
-externals_sane t.none c s = led_ok Sane c s
+externals_sane t.none c s = led_ok Sane s
 externals_sane (tree ▹ rest) c s = led_after Sane (external tree c) (λ d h. externals_sane rest d (external_sane tree c s d h))
 
 -- the end of a text
 
 called : (k : Bool) (rest : Checked Context) (line : ℕ) → Led Sane rest → Led Sane (cond k rest (refused Undeclared line))
 called true rest line h = h
-called false rest line h = led_refused Sane Undeclared line
+called false rest line h = led_refused Sane
 
 calls_sane : (functions : List Declared) (calls : List (ℕ × ℕ)) (c : Context) → Sane c → Led Sane (calls_defined functions calls c)
-calls_sane functions [] c s = led_ok Sane c s
+calls_sane functions [] c s = led_ok Sane s
 calls_sane functions (call ∷ calls) c s = called (is_defined (slice_get functions call.0)) (calls_defined functions calls c) call.1 (calls_sane functions calls c s)
 
 -- a whole text, which has a function named `main`
@@ -269,8 +268,8 @@ not_false false e = absurd (true≢false e)
 ended_text : (c : Context) → Sane c → Led Finished (ended c)
 ended_text c s =
     led_after Finished (calls_defined c.functions c.calls c)
-    (λ d h. led_unless Finished (not (is_main d.functions (named_in (codes "main") d.scopes.file))) NoMain 1 (Ok d)
-    (λ e. led_ok Finished d (record { sane = calls_sane c.functions c.calls c s d h; main = not_false (is_main d.functions (named_in (codes "main") d.scopes.file)) e })))
+    (λ d h. led_unless Finished (not (is_main d.functions (named_in (codes "main") d.scopes.file))) NoMain 1
+    (λ e. led_ok Finished (record { sane = calls_sane c.functions c.calls c s d h; main = not_false (is_main d.functions (named_in (codes "main") d.scopes.file)) e })))
 
 first_safe_file : SafeTable first_scopes.file
 first_safe_file x = refl

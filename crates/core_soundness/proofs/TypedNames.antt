@@ -53,7 +53,7 @@ leads_trans_on b c answer g h d e = leads_trans b c d.0 g (h d e)
 
 module _ (b : Context) where
   answered_leads : (c : Context) (x : Checked PlainTyped) → Leads b c → Reached (Leads b) (answered c x)
-  answered_leads c x g = reached_after (Leads b) x (λ e h. reached_ok (Leads b) (c, e) g)
+  answered_leads c x g = reached_after (Leads b) x (λ e h. reached_ok (Leads b) g)
 
   pub unused_leads : (tree : Tree) (x : Found) → Reached (Leads b) x → Reached (Leads b) (unused tree x)
   unused_leads tree x g =
@@ -78,17 +78,17 @@ module _ (b : Context) where
 
   callee_leads : (e : Tree) (c : Context) (answer : Found) → Leads b c → Reached (Leads b) answer → Reached (Leads b) (callee e c answer)
   callee_leads (Node f.Name (At line ▹ Leaf (w.Name name) ▹ none)) c answer g h =
-      reached_after (Leads b) (called line c.tags (found c.scopes name)) (λ function k. reached_ok (Leads b) (c, function) g)
+      reached_after (Leads b) (called line c.tags (found c.scopes name)) (λ function k. reached_ok (Leads b) g)
   callee_leads e c answer g h =
       reached_then (Leads b) (Leads b) h
-      (λ d k. reached_after (Leads b) (no_function (line_of e) d.0.tags (Ok d.1)) (λ function q. reached_ok (Leads b) (d.0, function) k))
+      (λ d k. reached_after (Leads b) (no_function (line_of e) d.0.tags (Ok d.1)) (λ function q. reached_ok (Leads b) k))
 
 -- tags and the names of types
 
 sort_leads : (line : ℕ) (sort : RecordSort) (c : Context) (type : PlainType) → Reached (Leads c) (same_sort line sort c type)
-sort_leads line r.Struct c (ct.Struct tag) = reached_ok (Leads c) (c, ct.Struct tag) (leads_refl c)
-sort_leads line r.Union c (ct.Union tag) = reached_ok (Leads c) (c, ct.Union tag) (leads_refl c)
-sort_leads line sort c type = reached_refused (Leads c) DeclaredTwice line
+sort_leads line r.Struct c (ct.Struct tag) = reached_ok (Leads c) (leads_refl c)
+sort_leads line r.Union c (ct.Union tag) = reached_ok (Leads c) (leads_refl c)
+sort_leads line sort c type = reached_refused (Leads c)
 
 pub new_tag_leads : (sort : RecordSort) (name : List ℕ) (c : Context) → Leads c (with_new_tag sort name c).0
 new_tag_leads sort name c = record {
@@ -98,9 +98,9 @@ new_tag_leads sort name c = record {
 }
 
 pub tag_leads : (line : ℕ) (sort : RecordSort) (name : List ℕ) (c : Context) (named : Option PlainNamed) → Reached (Leads c) (tag_named line sort name c named)
-tag_leads line sort name c None = reached_ok (Leads c) (with_new_tag sort name c) (new_tag_leads sort name c)
+tag_leads line sort name c None = reached_ok (Leads c) (new_tag_leads sort name c)
 tag_leads line sort name c (Some (n.Tag type)) = sort_leads line sort c type
-tag_leads line sort name c (Some other) = reached_refused (Leads c) DeclaredTwice line
+tag_leads line sort name c (Some other) = reached_refused (Leads c)
 
 enum_leads : (line : ℕ) (c : Context) (named : Option PlainNamed) → Reached (Leads c) (enum_named line c named)
 enum_leads line c (Some (n.Tag (ct.Int ty))) d e = subst (λ (x : Context × PlainType). Leads c x.0) (ok_same _ d e) (leads_refl c)
@@ -116,11 +116,11 @@ pub special_leads : (line : ℕ) (tree : Tree) (c : Context) → Reached (Leads 
 special_leads line (Node f.TypedefName (Leaf (w.Name name) ▹ none)) c = type_leads line c (found c.scopes name)
 special_leads line (Node (f.RecordTag sort) (At at ▹ Leaf (w.Name name) ▹ none)) c = tag_leads at sort name c (found c.scopes (tag_name name))
 special_leads line (Node f.EnumTag (At at ▹ Leaf (w.Name name) ▹ none)) c = enum_leads at c (found c.scopes (tag_name name))
-special_leads line (Node other (At at ▹ parts)) c = reached_refused (Leads c) LeftOut at
-special_leads line tree c = reached_refused (Leads c) LeftOut line
+special_leads line (Node other (At at ▹ parts)) c = reached_refused (Leads c)
+special_leads line tree c = reached_refused (Leads c)
 
 specs_leads : (line : ℕ) (all words : Trees) (c : Context) → Reached (Leads c) (specs_type line all words c)
-specs_leads line all none c = reached_ok (Leads c) (c, word_type all) (leads_refl c)
+specs_leads line all none c = reached_ok (Leads c) (leads_refl c)
 specs_leads line all (Node form parts ▹ rest) c = special_leads line (Node form parts) c
 specs_leads line all (Leaf word ▹ rest) c = specs_leads line all rest c
 specs_leads line all (At at ▹ rest) c = specs_leads line all rest c
@@ -174,10 +174,10 @@ named_left file [] name v h = absurd h
 named_left file (s ∷ ss) name v h = more_refl (record { file = file; inner = ss })
 
 param_inside : (line : ℕ) (c : Context) (name : Option (List ℕ)) (type : PlainType) → HasScope c.scopes.inner → Reached (Inside c) (with_param line c name type)
-param_inside line c None type h = reached_ok (Inside c) (c, type) (inside_refl c h)
+param_inside line c None type h = reached_ok (Inside c) (inside_refl c h)
 param_inside line c (Some name) type h =
     let d : Context = record { scopes = with_name c.scopes name (n.Register type 0); tags = c.tags } in
-    reached_unless (Inside c) _ DeclaredTwice line (Ok (d, type)) (reached_ok (Inside c) (d, type) (record {
+    reached_unless (Inside c) _ DeclaredTwice line (reached_ok (Inside c) (record {
       some = named_some c.scopes.file c.scopes.inner name (n.Register type 0) h;
       outside = named_left c.scopes.file c.scopes.inner name (n.Register type 0) h;
       made = λ i x e. e;
@@ -186,15 +186,15 @@ param_inside line c (Some name) type h =
 
 declared_inside : (line : ℕ) (c : Context) (name : Option (List ℕ)) (type : PlainType) → HasScope c.scopes.inner → Reached (Inside c) (declared_param line c name type)
 declared_inside line c name type h =
-    reached_unless (Inside c) (is_void type) Incomplete line _ (reached_unless (Inside c) _ LeftOut line _ (param_inside line c name type h))
+    reached_unless (Inside c) (is_void type) Incomplete line (reached_unless (Inside c) _ LeftOut line (param_inside line c name type h))
 
 mutual
   unfolding typed values typename layers suffix_layers suffix_layer param_types param_type
 
   pub typed_leads : (tree : Tree) (c : Context) → Reached (Leads c) (typed tree c)
   typed_leads (Node f.Name (At line ▹ Leaf (w.Name name) ▹ none)) c = answered_leads c c _ (leads_refl c)
-  typed_leads (Node f.Int (At line ▹ Leaf (w.Int bytes) ▹ none)) c = reached_ok (Leads c) (c, constant (int_constant bytes)) (leads_refl c)
-  typed_leads (Node f.Char (At line ▹ Leaf (w.Char bytes) ▹ none)) c = reached_ok (Leads c) (c, constant (char_constant bytes)) (leads_refl c)
+  typed_leads (Node f.Int (At line ▹ Leaf (w.Int bytes) ▹ none)) c = reached_ok (Leads c) (leads_refl c)
+  typed_leads (Node f.Char (At line ▹ Leaf (w.Char bytes) ▹ none)) c = reached_ok (Leads c) (leads_refl c)
   typed_leads (Node f.Str (At line ▹ Node f.Strings parts ▹ none)) c = answered_leads c c (string line (joined parts)) (leads_refl c)
   typed_leads (Node f.Paren (At line ▹ e ▹ none)) c = typed_leads e c
   typed_leads (Node f.Index (At line ▹ e ▹ g ▹ none)) c =
@@ -235,52 +235,51 @@ mutual
   typed_leads tree c = reached_refused (Leads c) Operands (line_of tree)
 
   values_leads : (arguments : Trees) (c : Context) → Reached (Leads c) (values arguments c)
-  values_leads none c = reached_ok (Leads c) (c, []) (leads_refl c)
+  values_leads none c = reached_ok (Leads c) (leads_refl c)
   values_leads (e ▹ rest) c =
       reached_then (Leads c) (Leads c) (wanted_leads c e (typed e c) (typed_leads e c))
-      (λ d h. reached_then (Leads c) (Leads c) (leads_trans_on c d.0 (values rest d.0) h (values_leads rest d.0))
-      (λ more q. reached_ok (Leads c) (more.0, d.1 ∷ more.1) q))
+      (λ d h. reached_then (Leads c) (Leads c) (leads_trans_on c d.0 (values rest d.0) h (values_leads rest d.0)) (λ more q. reached_ok (Leads c) q))
 
   pub typename_leads : (name : Tree) (c : Context) → Reached (Leads c) (typename name c)
   typename_leads (Node f.Typename (At line ▹ Node f.Specs (At at ▹ words) ▹ declarator ▹ none)) c =
       reached_then (Leads c) (Leads c) (specs_leads at words words c)
       (λ base h. reached_then (Leads c) (Leads c) (leads_trans_on c base.0 (layers declarator base.0) h (layers_leads declarator base.0))
       (λ l q. reached_after (Leads c) (with_layers l.0.tags l.1 base.1)
-      (λ type z. reached_unless (Leads c) (is_function type) LeftOut line (Ok (l.0, type)) (reached_ok (Leads c) (l.0, type) q))))
-  typename_leads tree c = reached_refused (Leads c) Operands (line_of tree)
+      (λ type z. reached_unless (Leads c) (is_function type) LeftOut line (reached_ok (Leads c) q))))
+  typename_leads tree c = reached_refused (Leads c)
 
   layers_leads : (tree : Tree) (c : Context) → Reached (Leads c) (layers tree c)
   layers_leads (Node (f.Pointer consts) (At line ▹ declarator ▹ none)) c =
-      reached_then (Leads c) (Leads c) (layers_leads declarator c) (λ l h. reached_ok (Leads c) (l.0, PointerTo line ∷ l.1) h)
+      reached_then (Leads c) (Leads c) (layers_leads declarator c) (λ l h. reached_ok (Leads c) h)
   layers_leads (Node f.Direct (base ▹ Node f.Suffixes suffixes ▹ none)) c =
       reached_then (Leads c) (Leads c) (layers_leads base c)
       (λ l h. reached_then (Leads c) (Leads c) (leads_trans_on c l.0 (suffix_layers suffixes l.0) h (suffixes_leads suffixes l.0))
-      (λ s q. reached_ok (Leads c) (s.0, reverse s.1 ++ l.1) q))
+      (λ s q. reached_ok (Leads c) q))
   layers_leads (Node f.Parens (At line ▹ declarator ▹ none)) c = layers_leads declarator c
-  layers_leads tree c = reached_ok (Leads c) (c, []) (leads_refl c)
+  layers_leads tree c = reached_ok (Leads c) (leads_refl c)
 
   suffixes_leads : (suffixes : Trees) (c : Context) → Reached (Leads c) (suffix_layers suffixes c)
-  suffixes_leads none c = reached_ok (Leads c) (c, []) (leads_refl c)
+  suffixes_leads none c = reached_ok (Leads c) (leads_refl c)
   suffixes_leads (suffix ▹ rest) c =
       reached_then (Leads c) (Leads c) (suffix_leads suffix c)
       (λ l h. reached_then (Leads c) (Leads c) (leads_trans_on c l.0 (suffix_layers rest l.0) h (suffixes_leads rest l.0))
-      (λ more q. reached_ok (Leads c) (more.0, l.1 ∷ more.1) q))
+      (λ more q. reached_ok (Leads c) q))
 
   suffix_leads : (suffix : Tree) (c : Context) → Reached (Leads c) (suffix_layer suffix c)
-  suffix_leads (Node f.ArraySuffix (At line ▹ Node f.MaybeLength none ▹ none)) c = reached_ok (Leads c) (c, ArrayOf line None) (leads_refl c)
+  suffix_leads (Node f.ArraySuffix (At line ▹ Node f.MaybeLength none ▹ none)) c = reached_ok (Leads c) (leads_refl c)
   suffix_leads (Node f.ArraySuffix (At line ▹ Node f.MaybeLength (e ▹ none) ▹ none)) c =
       reached_then (Leads c) (Leads c) (wanted_leads c e (typed e c) (typed_leads e c))
-      (λ d h. reached_after (Leads c) (array_length (line_of e) d.1) (λ length q. reached_ok (Leads c) (d.0, ArrayOf line (Some length)) h))
+      (λ d h. reached_after (Leads c) (array_length (line_of e) d.1) (λ length q. reached_ok (Leads c) h))
   suffix_leads (Node f.FunctionSuffix (At line ▹ Node f.Params params ▹ none)) c =
       reached_then (Leads c) (Inside (in_new_scope c)) (params_inside params (in_new_scope c) tt)
-      (λ p h. reached_ok (Leads c) (out_of_scope p.0, FunctionOf line p.1) (record { more = h.outside; made = h.made; sorts = λ k. left_sorted p.0.tags.made p.0.scopes (h.sorts (entered_sorted c.tags.made c.scopes k)) }))
-  suffix_leads tree c = reached_ok (Leads c) (c, FunctionOf (line_of tree) ct.none) (leads_refl c)
+      (λ p h. reached_ok (Leads c) (record { more = h.outside; made = h.made; sorts = λ k. left_sorted p.0.tags.made p.0.scopes (h.sorts (entered_sorted c.tags.made c.scopes k)) }))
+  suffix_leads tree c = reached_ok (Leads c) (leads_refl c)
 
   params_inside : (params : Trees) (c : Context) → HasScope c.scopes.inner → Reached (Inside c) (param_types params c)
-  params_inside none c h = reached_ok (Inside c) (c, ct.none) (inside_refl c h)
+  params_inside none c h = reached_ok (Inside c) (inside_refl c h)
   params_inside (param ▹ rest) c h =
       reached_then (Inside c) (Inside c) (param_type_inside param c h) (λ p q. reached_then (Inside c) (Inside p.0) (params_inside rest p.0 q.some)
-      (λ more z. reached_ok (Inside c) (more.0, first p.1 more.1) (inside_trans c p.0 more.0 q z)))
+      (λ more z. reached_ok (Inside c) (inside_trans c p.0 more.0 q z)))
 
   param_type_inside : (param : Tree) (c : Context) → HasScope c.scopes.inner → Reached (Inside c) (param_type param c)
   param_type_inside (Node f.Param (At line ▹ Node f.Specs (At at ▹ words) ▹ declarator ▹ none)) c h =
@@ -289,7 +288,7 @@ mutual
       (λ l q. reached_after (Inside c) (with_param_layers l.0.tags l.1 base.1)
       (λ type z d e. let i = inside_leads c base.0 l.0 (inside_leads c c base.0 (inside_refl c h) g) q in
       inside_trans c l.0 d.0 i (declared_inside line l.0 (name_of declarator) (adjusted type) i.some d e))))
-  param_type_inside tree c h = reached_refused (Inside c) Operands (line_of tree)
+  param_type_inside tree c h = reached_refused (Inside c)
 
 -- the names alone
 

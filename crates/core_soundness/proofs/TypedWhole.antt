@@ -119,32 +119,32 @@ layers_reverse k (x ∷ xs) h = subst (LayersWhole k) (sym (reverse-append (x �
 
 module _ (ts : List CompletedTag) where
   row_of : (line : ℕ) (tags : TagTable) (element : PlainType) (o : Option Layout) (length : Option ℕ) → tags.completed ≡ ts → layout_in tags element ≡ o → Whole (known ts) element → LayerWhole (known ts) (ArrayOf line length) → Led (Whole (known ts)) (array_of line element (option_map (λ (l : Layout). l.size) o) length)
-  row_of line tags element None length c q h g = led_refused (Whole (known ts)) Incomplete line
-  row_of line tags element (Some l) None c q h g = led_refused (Whole (known ts)) Incomplete line
+  row_of line tags element None length c q h g = led_refused (Whole (known ts))
+  row_of line tags element (Some l) None c q h g = led_refused (Whole (known ts))
   row_of line tags element (Some l) (Some m) c q h g =
-      led_unless (Whole (known ts)) (nat_lt 268435456 (m * l.size)) TypeTooLarge line _
-      (λ t. led_ok (Whole (known ts)) (Array element m) (h, (l, ap (λ (x : List CompletedTag). layout_of (known x) element) (sym c) ∙ q, ltb-false 268435456 (m * l.size) t, g)))
+      led_unless (Whole (known ts)) (nat_lt 268435456 (m * l.size)) TypeTooLarge line
+      (λ t. led_ok (Whole (known ts)) (h, (l, ap (λ (x : List CompletedTag). layout_of (known x) element) (sym c) ∙ q, ltb-false 268435456 (m * l.size) t, g)))
 
   pub layered_whole : (tags : TagTable) (layer : Layer) (type : PlainType) → tags.completed ≡ ts → Whole (known ts) type → LayerWhole (known ts) layer → Led (Whole (known ts)) (layered tags layer type)
-  layered_whole tags (names.PointerTo line) type c h g = led_unless (Whole (known ts)) (is_function type) LeftOut line _ (λ t. led_ok (Whole (known ts)) (Pointer type) h)
-  layered_whole tags (ArrayOf line length) type c h g = led_unless (Whole (known ts)) (is_function type) LeftOut line _ (λ t. row_of line tags type (layout_in tags type) length c refl h g)
-  layered_whole tags (FunctionOf line params) type c h g = led_unless (Whole (known ts)) _ LeftOut line _ (λ t. led_ok (Whole (known ts)) (Function type params) (h, g))
+  layered_whole tags (names.PointerTo line) type c h g = led_unless (Whole (known ts)) (is_function type) LeftOut line (λ t. led_ok (Whole (known ts)) h)
+  layered_whole tags (ArrayOf line length) type c h g = led_unless (Whole (known ts)) (is_function type) LeftOut line (λ t. row_of line tags type (layout_in tags type) length c refl h g)
+  layered_whole tags (FunctionOf line params) type c h g = led_unless (Whole (known ts)) _ LeftOut line (λ t. led_ok (Whole (known ts)) (h, g))
 
   pub before_whole : (tags : TagTable) (layer : Layer) (layers : List Layer) (type : PlainType) → tags.completed ≡ ts → Whole (known ts) type → LayerWhole (known ts) layer → Led (Whole (known ts)) (layered_before tags layer layers type)
   before_whole tags (FunctionOf line params) (next ∷ layers) type c h g =
-      led_after (Whole (known ts)) (layered tags (FunctionOf line params) type) (λ t q. led_refused (Whole (known ts)) LeftOut line)
+      led_after (Whole (known ts)) (layered tags (FunctionOf line params) type) (λ t q. led_refused (Whole (known ts)))
   before_whole tags (FunctionOf line params) [] type c h g = layered_whole tags (FunctionOf line params) type c h g
   before_whole tags (names.PointerTo line) layers type c h g = layered_whole tags (names.PointerTo line) type c h g
   before_whole tags (ArrayOf line length) layers type c h g = layered_whole tags (ArrayOf line length) type c h g
 
   pub with_layers_whole : (tags : TagTable) (layers : List Layer) (type : PlainType) → tags.completed ≡ ts → Whole (known ts) type → LayersWhole (known ts) layers → Led (Whole (known ts)) (with_layers tags layers type)
-  with_layers_whole tags [] type c h g = led_ok (Whole (known ts)) type h
+  with_layers_whole tags [] type c h g = led_ok (Whole (known ts)) h
   with_layers_whole tags (layer ∷ layers) type c h g =
       led_after (Whole (known ts)) (layered_before tags layer layers type)
       (λ inner q. with_layers_whole tags layers inner c (before_whole tags layer layers type c h g.0 inner q) g.1)
 
   pub with_param_layers_whole : (tags : TagTable) (layers : List Layer) (type : PlainType) → tags.completed ≡ ts → Whole (known ts) type → LayersWhole (known ts) layers → Led (Whole (known ts)) (with_param_layers tags layers type)
-  with_param_layers_whole tags [] type c h g = led_ok (Whole (known ts)) type h
+  with_param_layers_whole tags [] type c h g = led_ok (Whole (known ts)) h
   with_param_layers_whole tags (ArrayOf line None ∷ []) type c h g = layered_whole tags (ArrayOf line (Some 1)) type c h (omega arith)
   with_param_layers_whole tags (ArrayOf line None ∷ (next ∷ layers)) type c h g =
       led_after (Whole (known ts)) (layered_before tags (ArrayOf line None) (next ∷ layers) type)
@@ -173,64 +173,64 @@ module _ (ts : List CompletedTag) (made : AreMade nothing ts) where
   operand_whole other h = tt
 
   held_whole : (line : ℕ) (tags : TagTable) (type : PlainType) → Whole (known ts) type → Led W (held line tags type)
-  held_whole line tags Void h = led_refused W Incomplete line
-  held_whole line tags (Int ty) h = led_ok W _ tt
-  held_whole line tags (Pointer target) h = led_ok W _ h
-  held_whole line tags (Array element m) h = led_ok W _ h.0
-  held_whole line tags (Struct tag) h = led_cond W (has_no_size tags (Struct tag)) _ _ (led_refused W Incomplete line) (led_refused W Operands line)
-  held_whole line tags (Union tag) h = led_cond W (has_no_size tags (Union tag)) _ _ (led_refused W Incomplete line) (led_refused W Operands line)
-  held_whole line tags (Function answer params) h = led_refused W Operands line
+  held_whole line tags Void h = led_refused W
+  held_whole line tags (Int ty) h = led_ok W tt
+  held_whole line tags (Pointer target) h = led_ok W h
+  held_whole line tags (Array element m) h = led_ok W h.0
+  held_whole line tags (Struct tag) h = led_cond W (has_no_size tags (Struct tag)) _ _ (led_refused W) (led_refused W)
+  held_whole line tags (Union tag) h = led_cond W (has_no_size tags (Union tag)) _ _ (led_refused W) (led_refused W)
+  held_whole line tags (Function answer params) h = led_refused W
 
   pub read_whole : (line : ℕ) (tags : TagTable) (e : PlainTyped) → W e → Led W (read line tags e)
-  read_whole line tags e h = led_cond W e.is_place _ _ (held_whole line tags e.type h) (led_ok W e h)
+  read_whole line tags e h = led_cond W e.is_place _ _ (held_whole line tags e.type h) (led_ok W h)
 
   held_place_whole : (line : ℕ) (tags : TagTable) (e : PlainTyped) → W e → Led W (held_place line tags e)
   held_place_whole line tags e h = led_after W (wanted_value line tags e) (λ x. Ok e) (λ x q. led_ok W e h)
 
   value_of_whole : (line : ℕ) (name : BuiltIn) (o : Option Constant) → Led W (built_in_value line name o)
-  value_of_whole line built.Null o = led_ok W _ tt
-  value_of_whole line built.SizeT o = led_refused W Operands line
-  value_of_whole line name (Some c) = led_ok W _ tt
-  value_of_whole line name None = led_refused W LeftOut line
+  value_of_whole line built.Null o = led_ok W tt
+  value_of_whole line built.SizeT o = led_refused W
+  value_of_whole line name (Some c) = led_ok W tt
+  value_of_whole line name None = led_refused W
 
   built_in_whole : (line : ℕ) (o : Option BuiltIn) → Led W (built_in_named line o)
-  built_in_whole line None = led_refused W Undeclared line
+  built_in_whole line None = led_refused W
   built_in_whole line (Some name) = value_of_whole line name (constant_of name)
 
   abbrev NamedBy : Option PlainNamed → Type 0
   NamedBy o = (v : PlainNamed) → o ≡ Some v → NamedWhole (known ts) v
 
   named_whole : (line : ℕ) (o : Option PlainNamed) → NamedBy o → Led W (named line o)
-  named_whole line None h = led_refused W Undeclared line
-  named_whole line (Some (n.Object type i)) h = led_ok W _ (h (n.Object type i) refl)
-  named_whole line (Some (n.Register type i)) h = led_ok W _ (h (n.Register type i) refl)
-  named_whole line (Some (n.Function type i)) h = led_refused W LeftOut line
-  named_whole line (Some (n.Constant type x)) h = led_ok W _ tt
+  named_whole line None h = led_refused W
+  named_whole line (Some (n.Object type i)) h = led_ok W (h (n.Object type i) refl)
+  named_whole line (Some (n.Register type i)) h = led_ok W (h (n.Register type i) refl)
+  named_whole line (Some (n.Function type i)) h = led_refused W
+  named_whole line (Some (n.Constant type x)) h = led_ok W tt
   named_whole line (Some (n.BuiltIn i)) h = built_in_whole line (slice_get built_ins i)
-  named_whole line other h = led_refused W Operands line
+  named_whole line other h = led_refused W
 
   string_whole : (line : ℕ) (bytes : List ℕ) → Led W (string line bytes)
   string_whole line bytes =
-      led_unless W (nat_lt 268435456 (length bytes + 1)) TypeTooLarge line _
-      (λ t. let small = ltb-false 268435456 (length bytes + 1) t in led_ok W _ (tt, (number_layout 1, refl, omega (arith, small), omega arith)))
+      led_unless W (nat_lt 268435456 (length bytes + 1)) TypeTooLarge line
+      (λ t. let small = ltb-false 268435456 (length bytes + 1) t in led_ok W (tt, (number_layout 1, refl, omega (arith, small), omega arith)))
 
   moving_whole : (line : ℕ) (tags : TagTable) (target : PlainType) (e : PlainTyped) → W e → Led W (moving line tags target e)
-  moving_whole line tags target e h = led_barred W (immovable tags target) line (Ok e) (led_ok W e h)
+  moving_whole line tags target e h = led_barred W (immovable tags target) line (led_ok W h)
 
   beside_whole : (line : ℕ) (e : PlainTyped) (x : Checked PlainTyped) → Led W x → Led W (beside_pointer line e x)
-  beside_whole line e x h = led_cond W (is_null_constant e) x _ h (led_refused W PointerAndInteger line)
+  beside_whole line e x h = led_cond W (is_null_constant e) x _ h (led_refused W)
 
   element_whole : (line : ℕ) (tags : TagTable) (s t : Operand) → WO s → WO t → Led W (element_types line tags s t)
   element_whole line tags (PointerTo target) (Number ty) h k = moving_whole line tags target (place target) h
   element_whole line tags (Number ty) (PointerTo target) h k = moving_whole line tags target (place target) k
-  element_whole line tags s t h k = led_refused W Operands line
+  element_whole line tags s t h k = led_refused W
 
   answer_whole : (line : ℕ) (o : Option PlainType) → ((type : PlainType) → o ≡ Some type → Whole (known ts) type) → Led W (member_answer line o)
-  answer_whole line None h = led_refused W NoMember line
-  answer_whole line (Some type) h = led_ok W _ (h type refl)
+  answer_whole line None h = led_refused W
+  answer_whole line (Some type) h = led_ok W (h type refl)
 
   among_whole : (line : ℕ) (name : List ℕ) (o : Option (List PlainMember)) → ((members : List PlainMember) (m : PlainMember) → o ≡ Some members → find (λ (m : PlainMember). bytes_eq name m.name) members ≡ Some m → Whole (known ts) m.type) → Led W (member_among line name o)
-  among_whole line name None h = led_refused W Incomplete line
+  among_whole line name None h = led_refused W
   among_whole line name (Some members) h = answer_whole line _ (by (find (λ (m : PlainMember). bytes_eq name m.name) members) refl)
     where
       by : (o : Option PlainMember) → find (λ (m : PlainMember). bytes_eq name m.name) members ≡ o → (type : PlainType) → option_map (λ (m : PlainMember). m.type) o ≡ Some type → Whole (known ts) type
@@ -246,63 +246,63 @@ module _ (ts : List CompletedTag) (made : AreMade nothing ts) where
   member_of_whole : (line : ℕ) (name : List ℕ) (tags : TagTable) (type : PlainType) → tags.completed ≡ ts → Led W (member_of line name tags type)
   member_of_whole line name tags (Struct tag) c = tag_member_whole line name tags tag c
   member_of_whole line name tags (Union tag) c = tag_member_whole line name tags tag c
-  member_of_whole line name tags type c = led_refused W Operands line
+  member_of_whole line name tags type c = led_refused W
 
   dot_whole : (line : ℕ) (name : List ℕ) (tags : TagTable) (e : PlainTyped) → tags.completed ≡ ts → Led W (dot line name tags e)
-  dot_whole line name tags e c = led_unless W (not e.is_place) Operands line _ (λ t. member_of_whole line name tags e.type c)
+  dot_whole line name tags e c = led_unless W (not e.is_place) Operands line (λ t. member_of_whole line name tags e.type c)
 
   arrow_whole : (line : ℕ) (name : List ℕ) (tags : TagTable) (o : Operand) → tags.completed ≡ ts → Led W (arrow_of line name tags o)
   arrow_whole line name tags (PointerTo target) c = member_of_whole line name tags target c
-  arrow_whole line name tags o c = led_refused W Operands line
+  arrow_whole line name tags o c = led_refused W
 
   pointer_unary_whole : (line : ℕ) (op : UnaryOp) (target : PlainType) → Whole (known ts) target → Led W (unary_on_pointer line op target)
-  pointer_unary_whole line u.Not target h = led_ok W _ tt
-  pointer_unary_whole line u.Deref target h = led_ok W _ h
-  pointer_unary_whole line op target h = led_refused W Operands line
+  pointer_unary_whole line u.Not target h = led_ok W tt
+  pointer_unary_whole line u.Deref target h = led_ok W h
+  pointer_unary_whole line op target h = led_refused W
 
   unary_whole : (line : ℕ) (op : UnaryOp) (e : PlainTyped) (o : Operand) → WO o → Led W (unary_of line op e o)
-  unary_whole line u.Deref e (Number ty) h = led_refused W Operands line
+  unary_whole line u.Deref e (Number ty) h = led_refused W
   unary_whole line u.Deref e (PointerTo target) h = pointer_unary_whole line u.Deref target h
-  unary_whole line u.Deref e Neither h = led_refused W Operands line
-  unary_whole line op e (Number ty) h = led_ok W _ tt
+  unary_whole line u.Deref e Neither h = led_refused W
+  unary_whole line op e (Number ty) h = led_ok W tt
   unary_whole line op e (PointerTo target) h = pointer_unary_whole line op target h
-  unary_whole line op e Neither h = led_refused W Operands line
+  unary_whole line op e Neither h = led_refused W
 
   address_whole : (line : ℕ) (e : PlainTyped) → W e → Led W (address line e)
-  address_whole line e h = led_cond W e.is_place _ _ (led_ok W _ h) (led_refused W NotLvalue line)
+  address_whole line e h = led_cond W e.is_place _ _ (led_ok W h) (led_refused W)
 
   sum_whole : (line : ℕ) (tags : TagTable) (x y : PlainTyped) (s t : Operand) → W x → W y → Led W (sum_types line tags x y s t)
-  sum_whole line tags x y (Number s) (Number t) h k = led_ok W _ tt
+  sum_whole line tags x y (Number s) (Number t) h k = led_ok W tt
   sum_whole line tags x y (PointerTo target) (Number t) h k = moving_whole line tags target (value x.type) h
   sum_whole line tags x y (Number s) (PointerTo target) h k = moving_whole line tags target (value y.type) k
-  sum_whole line tags x y s t h k = led_refused W Operands line
+  sum_whole line tags x y s t h k = led_refused W
 
   difference_whole : (line : ℕ) (tags : TagTable) (x y : PlainTyped) (s t : Operand) → W x → W y → Led W (difference_types line tags x y s t)
-  difference_whole line tags x y (Number s) (Number t) h k = led_ok W _ tt
+  difference_whole line tags x y (Number s) (Number t) h k = led_ok W tt
   difference_whole line tags x y (PointerTo target) (Number t) h k = moving_whole line tags target (value x.type) h
-  difference_whole line tags x y (PointerTo target) (PointerTo other) h k = led_unless W _ Operands line _ (λ t. moving_whole line tags target int tt)
-  difference_whole line tags x y s t h k = led_refused W Operands line
+  difference_whole line tags x y (PointerTo target) (PointerTo other) h k = led_unless W _ Operands line (λ t. moving_whole line tags target int tt)
+  difference_whole line tags x y s t h k = led_refused W
 
   order_whole : (op : BinaryOp) (line : ℕ) (x y : PlainTyped) (s t : Operand) → Led W (order_types op line x y s t)
-  order_whole op line x y (Number s) (Number t) = led_ok W _ tt
-  order_whole op line x y (PointerTo target) (PointerTo other) = led_unless W _ Operands line _ (λ t. led_ok W int tt)
-  order_whole op line x y (PointerTo target) (Number t) = beside_whole line y _ (led_refused W Operands line)
-  order_whole op line x y (Number s) (PointerTo other) = beside_whole line x _ (led_refused W Operands line)
-  order_whole op line x y s t = led_refused W Operands line
+  order_whole op line x y (Number s) (Number t) = led_ok W tt
+  order_whole op line x y (PointerTo target) (PointerTo other) = led_unless W _ Operands line (λ t. led_ok W tt)
+  order_whole op line x y (PointerTo target) (Number t) = beside_whole line y _ (led_refused W)
+  order_whole op line x y (Number s) (PointerTo other) = beside_whole line x _ (led_refused W)
+  order_whole op line x y s t = led_refused W
 
   equal_whole : (op : BinaryOp) (line : ℕ) (x y : PlainTyped) (s t : Operand) → Led W (equal_types op line x y s t)
-  equal_whole op line x y (Number s) (Number t) = led_ok W _ tt
-  equal_whole op line x y (PointerTo target) (PointerTo other) = led_unless W _ Operands line _ (λ t. led_ok W int tt)
-  equal_whole op line x y (PointerTo target) (Number t) = beside_whole line y _ (led_ok W int tt)
-  equal_whole op line x y (Number s) (PointerTo other) = beside_whole line x _ (led_ok W int tt)
-  equal_whole op line x y s t = led_refused W Operands line
+  equal_whole op line x y (Number s) (Number t) = led_ok W tt
+  equal_whole op line x y (PointerTo target) (PointerTo other) = led_unless W _ Operands line (λ t. led_ok W tt)
+  equal_whole op line x y (PointerTo target) (Number t) = beside_whole line y _ (led_ok W tt)
+  equal_whole op line x y (Number s) (PointerTo other) = beside_whole line x _ (led_ok W tt)
+  equal_whole op line x y s t = led_refused W
 
   integer_whole : (op : BinaryOp) (line : ℕ) (x y : PlainTyped) (s t : Operand) → Led W (integer_types op line x y s t)
-  integer_whole op line x y (Number s) (Number t) = led_ok W _ tt
-  integer_whole op line x y s t = led_refused W Operands line
+  integer_whole op line x y (Number s) (Number t) = led_ok W tt
+  integer_whole op line x y s t = led_refused W
 
   logical_whole : (line : ℕ) (folded : Folded) (x y : PlainTyped) → Led W (logical line folded x y)
-  logical_whole line folded x y = led_unless W _ Operands line _ (λ t. led_ok W _ tt)
+  logical_whole line folded x y = led_unless W _ Operands line (λ t. led_ok W tt)
 
   pub binary_whole : (line : ℕ) (op : BinaryOp) (tags : TagTable) (x y : PlainTyped) → W x → W y → Led W (binary line op tags x y)
   binary_whole line b.Or tags x y h k = logical_whole line _ x y
@@ -318,32 +318,32 @@ module _ (ts : List CompletedTag) (made : AreMade nothing ts) where
   binary_whole line op tags x y h k = integer_whole op line x y (operand x.type) (operand y.type)
 
   size_whole : (line : ℕ) (o : Option ℕ) → Led W (size_answer line o)
-  size_whole line None = led_refused W Incomplete line
-  size_whole line (Some m) = led_ok W _ tt
+  size_whole line None = led_refused W
+  size_whole line (Some m) = led_ok W tt
 
   cast_types_whole : (line : ℕ) (type : PlainType) (e : PlainTyped) (s t : Operand) → Whole (known ts) type → Led W (cast_types line type e s t)
-  cast_types_whole line type e (Number ty) (Number source) h = led_ok W _ tt
-  cast_types_whole line type e (Number ty) (PointerTo source) h = led_refused W PointerAndInteger line
-  cast_types_whole line type e (PointerTo target) (PointerTo source) h = led_ok W _ h
-  cast_types_whole line type e (PointerTo target) (Number source) h = beside_whole line e _ (led_ok W _ h)
-  cast_types_whole line type e s t h = led_refused W Operands line
+  cast_types_whole line type e (Number ty) (Number source) h = led_ok W tt
+  cast_types_whole line type e (Number ty) (PointerTo source) h = led_refused W
+  cast_types_whole line type e (PointerTo target) (PointerTo source) h = led_ok W h
+  cast_types_whole line type e (PointerTo target) (Number source) h = beside_whole line e _ (led_ok W h)
+  cast_types_whole line type e s t h = led_refused W
 
   cast_whole : (line : ℕ) (type : PlainType) (e : PlainTyped) → Whole (known ts) type → Led W (cast line type e)
-  cast_whole line type e h = led_cond W (is_void type) _ _ (led_ok W _ h) (cast_types_whole line type e (operand type) (operand e.type) h)
+  cast_whole line type e h = led_cond W (is_void type) _ _ (led_ok W h) (cast_types_whole line type e (operand type) (operand e.type) h)
 
   chosen_whole : (line : ℕ) (x y : PlainTyped) (s t : PlainType) → W x → W y → Led W (chosen_pointer line x y s t)
   chosen_whole line x y s t h k =
-      led_cond W _ _ _ (led_ok W _ h) (led_cond W x.is_null _ _ (led_ok W _ k) (led_cond W (is_void s) _ _ (led_ok W _ h) (led_cond W (is_void t) _ _ (led_ok W _ k) (led_refused W Operands line))))
+      led_cond W _ _ _ (led_ok W h) (led_cond W x.is_null _ _ (led_ok W k) (led_cond W (is_void s) _ _ (led_ok W h) (led_cond W (is_void t) _ _ (led_ok W k) (led_refused W))))
 
   choice_types_whole : (line : ℕ) (test : Folded) (x y : PlainTyped) (s t : Operand) → W x → W y → Led W (choice_types line test x y s t)
-  choice_types_whole line test x y (Number s) (Number t) h k = led_ok W _ tt
+  choice_types_whole line test x y (Number s) (Number t) h k = led_ok W tt
   choice_types_whole line test x y (PointerTo s) (PointerTo t) h k = chosen_whole line x y s t h k
-  choice_types_whole line test x y (PointerTo s) (Number t) h k = beside_whole line y _ (led_ok W _ h)
-  choice_types_whole line test x y (Number s) (PointerTo t) h k = beside_whole line x _ (led_ok W _ k)
-  choice_types_whole line test x y s t h k = led_cond W _ _ _ (led_ok W _ h) (led_refused W Operands line)
+  choice_types_whole line test x y (PointerTo s) (Number t) h k = beside_whole line y _ (led_ok W h)
+  choice_types_whole line test x y (Number s) (PointerTo t) h k = beside_whole line x _ (led_ok W k)
+  choice_types_whole line test x y s t h k = led_cond W _ _ _ (led_ok W h) (led_refused W)
 
   pub choice_whole : (line : ℕ) (test x y : PlainTyped) → W x → W y → Led W (choice line test x y)
-  choice_whole line test x y h k = led_unless W _ Operands line _ (λ t. choice_types_whole line test.folded x y (operand x.type) (operand y.type) h k)
+  choice_whole line test x y h k = led_unless W _ Operands line (λ t. choice_types_whole line test.folded x y (operand x.type) (operand y.type) h k)
 
   record_whole : (line : ℕ) (tags : TagTable) (target e : PlainTyped) → W target → Led W (record_assigned line tags target e)
   record_whole line tags target e h =
@@ -359,8 +359,8 @@ module _ (ts : List CompletedTag) (made : AreMade nothing ts) where
   scalar_whole line target e h =
       let r3 : Checked PlainTyped = converts line target.type e (Ok (value target.type)) in
       let r2 : Checked PlainTyped = unless (is_void target.type) Incomplete line r3 in
-      led_unless W (not (is_written target)) NotLvalue line r2
-      (λ t1. led_unless W (is_void target.type) Incomplete line r3 (λ t2. led_barred W (unconverted target.type e) line (Ok (value target.type)) (led_ok W (value target.type) h)))
+      led_unless W (not (is_written target)) NotLvalue line
+      (λ t1. led_unless W (is_void target.type) Incomplete line (λ t2. led_barred W (unconverted target.type e) line (led_ok W h)))
 
   pub assigned_whole : (line right : ℕ) (tags : TagTable) (target e : PlainTyped) → W target → Led W (assigned line right tags target e)
   assigned_whole line right tags target e h =
@@ -368,12 +368,12 @@ module _ (ts : List CompletedTag) (made : AreMade nothing ts) where
       (led_after W (wanted_value right tags e) (scalar_assigned line target) (λ x q. scalar_whole line target x h))
 
   changed_types_whole : (line : ℕ) (op : AssignOp) (tags : TagTable) (type : PlainType) (s t : Operand) → Whole (known ts) type → Led W (changed_types line op tags type s t)
-  changed_types_whole line op tags type (Number ty) (Number source) h = led_ok W _ h
-  changed_types_whole line op tags type (PointerTo target) (Number source) h = led_unless W _ Operands line _ (λ t. moving_whole line tags target (value type) h)
-  changed_types_whole line op tags type s t h = led_refused W Operands line
+  changed_types_whole line op tags type (Number ty) (Number source) h = led_ok W h
+  changed_types_whole line op tags type (PointerTo target) (Number source) h = led_unless W _ Operands line (λ t. moving_whole line tags target (value type) h)
+  changed_types_whole line op tags type s t h = led_refused W
 
   pub changed_whole : (line : ℕ) (op : AssignOp) (tags : TagTable) (target e : PlainTyped) → W target → Led W (changed line op tags target e)
-  changed_whole line op tags target e h = led_unless W _ NotLvalue line _ (λ t. changed_types_whole line op tags target.type (operand target.type) (operand e.type) h)
+  changed_whole line op tags target e h = led_unless W _ NotLvalue line (λ t. changed_types_whole line op tags target.type (operand target.type) (operand e.type) h)
 
   -- callees
 
@@ -385,17 +385,17 @@ module _ (ts : List CompletedTag) (made : AreMade nothing ts) where
   converting_whole : (line : ℕ) (params : PlainTypes) (arguments : List PlainTyped) (x : Checked PlainTyped) → Led W x → Led W (all_convert line params arguments x)
   converting_whole line ct.none arguments x h = h
   converting_whole line (first type rest) [] x h = h
-  converting_whole line (first type rest) (e ∷ arguments) x h = led_barred W (unconverted type e) line _ (converting_whole line rest arguments x h)
+  converting_whole line (first type rest) (e ∷ arguments) x h = led_barred W (unconverted type e) line (converting_whole line rest arguments x h)
 
   printing_whole : (line : ℕ) (o : Option (List ℕ)) (arguments : List PlainTyped) → Led W (prints line o arguments)
-  printing_whole line None arguments = led_refused W Format line
-  printing_whole line (Some bytes) [] = led_refused W Format line
-  printing_whole line (Some bytes) (format ∷ rest) = led_unless W _ Format line _ (λ t. led_ok W _ tt)
+  printing_whole line None arguments = led_refused W
+  printing_whole line (Some bytes) [] = led_refused W
+  printing_whole line (Some bytes) (format ∷ rest) = led_unless W _ Format line (λ t. led_ok W tt)
 
   call_whole : (line : ℕ) (o : Option (List ℕ)) (function : Callee) (arguments : List PlainTyped) → CW function → Led W (call line o function arguments)
-  call_whole line o (Takes answer params) arguments h = led_unless W _ ArgumentCount line _ (λ t. converting_whole line params arguments _ (led_ok W _ h.0))
+  call_whole line o (Takes answer params) arguments h = led_unless W _ ArgumentCount line (λ t. converting_whole line params arguments _ (led_ok W h.0))
   call_whole line o Prints arguments h = printing_whole line o arguments
-  call_whole line o NoFunction arguments h = led_refused W Operands line
+  call_whole line o NoFunction arguments h = led_refused W
 
   no_function_whole : (line : ℕ) (tags : TagTable) (x : Checked PlainTyped) → Led CW (no_function line tags x)
   no_function_whole line tags x = led_after CW x (λ e. then (wanted_value line tags e) (λ y. Ok NoFunction)) (λ e q. led_after CW (wanted_value line tags e) (λ y. Ok NoFunction) (λ y z. led_ok CW NoFunction tt))
@@ -427,10 +427,10 @@ module _ (ts : List CompletedTag) (made : AreMade nothing ts) where
 
   built_in_called_whole : (line : ℕ) (tags : TagTable) (o : Option BuiltIn) (function : Callee) → CW function → Led CW (built_in_called line tags o function)
   built_in_called_whole line tags o NoFunction h = no_function_whole line tags (built_in_named line o)
-  built_in_called_whole line tags o other h = led_ok CW _ h
+  built_in_called_whole line tags o other h = led_ok CW h
 
   pub called_whole : (line : ℕ) (tags : TagTable) (o : Option PlainNamed) → NamedBy o → Led CW (called line tags o)
-  called_whole line tags (Some (n.Function type i)) h = led_ok CW _ (function_whole type (h (n.Function type i) refl))
+  called_whole line tags (Some (n.Function type i)) h = led_ok CW (function_whole type (h (n.Function type i) refl))
   called_whole line tags (Some (n.BuiltIn i)) h = built_in_called_whole line tags (slice_get built_ins i) (callee_at (slice_get built_ins i)) (at_whole (slice_get built_ins i))
   called_whole line tags (Some (n.Object type i)) h = no_function_whole line tags (named line (Some (n.Object type i)))
   called_whole line tags (Some (n.Register type i)) h = no_function_whole line tags (named line (Some (n.Register type i)))
@@ -467,7 +467,7 @@ module _ (ts : List CompletedTag) (made : AreMade nothing ts) where
   GoodParams d = Fit d.0 × AllWhole (known ts) d.1
 
   answered_good : (c : Context) (x : Checked PlainTyped) → Fit c → Led W x → Led Good (answered c x)
-  answered_good c x g h = led_after Good x (λ e q. led_ok Good (c, e) (g, h e q))
+  answered_good c x g h = led_after Good x (λ e q. led_ok Good (g, h e q))
 
   pub unused_good : (tree : Tree) (x : Found) → Led Good x → Led Good (unused tree x)
   unused_good tree x h = led_after Good x (λ e. answered e.0 (read (line_of tree) e.0.tags e.1)) (λ d q. let k = h d q in answered_good d.0 _ k.0 (read_whole (line_of tree) d.0.tags d.1 k.1))
@@ -494,17 +494,17 @@ module _ (ts : List CompletedTag) (made : AreMade nothing ts) where
 
   callee_good : (e : Tree) (c : Context) (answer : Found) → Fit c → Led Good answer → Led GoodCallee (callee e c answer)
   callee_good (Node f.Name (At line ▹ Leaf (w.Name name) ▹ none)) c answer g h =
-      led_after GoodCallee (called line c.tags (found c.scopes name)) (λ function q. led_ok GoodCallee (c, function) (g, called_whole line c.tags (found c.scopes name) (found_by c name g) function q))
+      led_after GoodCallee (called line c.tags (found c.scopes name)) (λ function q. led_ok GoodCallee (g, called_whole line c.tags (found c.scopes name) (found_by c name g) function q))
   callee_good e c answer g h =
       led_after GoodCallee answer
-      (λ d q. led_after GoodCallee (no_function (line_of e) d.0.tags (Ok d.1)) (λ function z. led_ok GoodCallee (d.0, function) ((h d q).0, no_function_whole (line_of e) d.0.tags (Ok d.1) function z)))
+      (λ d q. led_after GoodCallee (no_function (line_of e) d.0.tags (Ok d.1)) (λ function z. led_ok GoodCallee ((h d q).0, no_function_whole (line_of e) d.0.tags (Ok d.1) function z)))
 
   -- tags and the names of types
 
   sort_good : (line : ℕ) (sort : RecordSort) (c : Context) (type : PlainType) → Fit c → Led GoodType (same_sort line sort c type)
-  sort_good line r.Struct c (Struct tag) g = led_ok GoodType _ (g, tt)
-  sort_good line r.Union c (Union tag) g = led_ok GoodType _ (g, tt)
-  sort_good line sort c type g = led_refused GoodType DeclaredTwice line
+  sort_good line r.Struct c (Struct tag) g = led_ok GoodType (g, tt)
+  sort_good line r.Union c (Union tag) g = led_ok GoodType (g, tt)
+  sort_good line sort c type g = led_refused GoodType
 
   pub record_type_whole : (sort : RecordSort) (m : ℕ) → Whole (known ts) (record_type sort m)
   record_type_whole r.Struct m = tt
@@ -515,26 +515,26 @@ module _ (ts : List CompletedTag) (made : AreMade nothing ts) where
       (record { completed = g.completed; names = with_name_whole (known ts) c.scopes (tag_name name) (n.Tag (record_type sort (length c.tags.made))) tt g.names }, record_type_whole sort (length c.tags.made))
 
   pub tag_good : (line : ℕ) (sort : RecordSort) (name : List ℕ) (c : Context) (o : Option PlainNamed) → Fit c → Led GoodType (tag_named line sort name c o)
-  tag_good line sort name c None g = led_ok GoodType _ (new_tag_good sort name c g)
+  tag_good line sort name c None g = led_ok GoodType (new_tag_good sort name c g)
   tag_good line sort name c (Some (n.Tag type)) g = sort_good line sort c type g
-  tag_good line sort name c (Some other) g = led_refused GoodType DeclaredTwice line
+  tag_good line sort name c (Some other) g = led_refused GoodType
 
   enum_good : (line : ℕ) (c : Context) (o : Option PlainNamed) → Fit c → Led GoodType (enum_named line c o)
-  enum_good line c (Some (n.Tag (Int ty))) g = led_ok GoodType _ (g, tt)
-  enum_good line c (Some (n.Tag type)) g = led_refused GoodType DeclaredTwice line
-  enum_good line c o g = led_refused GoodType Undeclared line
+  enum_good line c (Some (n.Tag (Int ty))) g = led_ok GoodType (g, tt)
+  enum_good line c (Some (n.Tag type)) g = led_refused GoodType
+  enum_good line c o g = led_refused GoodType
 
   type_good : (line : ℕ) (c : Context) (o : Option PlainNamed) → Fit c → NamedBy o → Led GoodType (type_named line c o)
-  type_good line c (Some (n.Typedef type)) g h = led_ok GoodType _ (g, h (n.Typedef type) refl)
-  type_good line c (Some (n.BuiltIn zero)) g h = led_ok GoodType _ (g, tt)
-  type_good line c o g h = led_refused GoodType Undeclared line
+  type_good line c (Some (n.Typedef type)) g h = led_ok GoodType (g, h (n.Typedef type) refl)
+  type_good line c (Some (n.BuiltIn zero)) g h = led_ok GoodType (g, tt)
+  type_good line c o g h = led_refused GoodType
 
   pub special_good : (line : ℕ) (tree : Tree) (c : Context) → Fit c → Led GoodType (special_type line tree c)
   special_good line (Node f.TypedefName (Leaf (w.Name name) ▹ none)) c g = type_good line c (found c.scopes name) g (found_by c name g)
   special_good line (Node (f.RecordTag sort) (At at ▹ Leaf (w.Name name) ▹ none)) c g = tag_good at sort name c (found c.scopes (tag_name name)) g
   special_good line (Node f.EnumTag (At at ▹ Leaf (w.Name name) ▹ none)) c g = enum_good at c (found c.scopes (tag_name name)) g
-  special_good line (Node other (At at ▹ parts)) c g = led_refused GoodType LeftOut at
-  special_good line tree c g = led_refused GoodType LeftOut line
+  special_good line (Node other (At at ▹ parts)) c g = led_refused GoodType
+  special_good line tree c g = led_refused GoodType
 
   pub word_whole : (words : Trees) → Whole (known ts) (word_type words)
   word_whole words = by (names.has names.is_void_word words) _
@@ -544,7 +544,7 @@ module _ (ts : List CompletedTag) (made : AreMade nothing ts) where
       by false ty = tt
 
   specs_good : (line : ℕ) (all words : Trees) (c : Context) → Fit c → Led GoodType (specs_type line all words c)
-  specs_good line all none c g = led_ok GoodType _ (g, word_whole all)
+  specs_good line all none c g = led_ok GoodType (g, word_whole all)
   specs_good line all (Node form parts ▹ rest) c g = special_good line (Node form parts) c g
   specs_good line all (Leaf word ▹ rest) c g = specs_good line all rest c g
   specs_good line all (At at ▹ rest) c g = specs_good line all rest c g
@@ -553,21 +553,21 @@ module _ (ts : List CompletedTag) (made : AreMade nothing ts) where
   Some_long m = 1 ≤ m
 
   length_from_some : (line : ℕ) (type : PlainType) (folded : Folded) → Led Some_long (length_from line type folded)
-  length_from_some line (Int ty) (Is (pos (suc m))) = led_ok Some_long (suc m) (omega arith)
-  length_from_some line type folded = led_refused Some_long NotConstant line
+  length_from_some line (Int ty) (Is (pos (suc m))) = led_ok Some_long (omega arith)
+  length_from_some line type folded = led_refused Some_long
 
   pub length_some : (line : ℕ) (e : PlainTyped) → Led Some_long (array_length line e)
   length_some line e = length_from_some line e.type e.folded
 
   param_good : (line : ℕ) (c : Context) (name : Option (List ℕ)) (type : PlainType) → Fit c → Whole (known ts) type → Led GoodType (with_param line c name type)
-  param_good line c None type g h = led_ok GoodType _ (g, h)
+  param_good line c None type g h = led_ok GoodType (g, h)
   param_good line c (Some name) type g h =
-      led_unless GoodType _ DeclaredTwice line _ (λ t. led_ok GoodType _ (record { completed = g.completed; names = with_name_whole (known ts) c.scopes name (n.Register type 0) h g.names }, h))
+      led_unless GoodType _ DeclaredTwice line (λ t. led_ok GoodType (record { completed = g.completed; names = with_name_whole (known ts) c.scopes name (n.Register type 0) h g.names }, h))
 
   declared_good : (line : ℕ) (c : Context) (name : Option (List ℕ)) (type : PlainType) → Fit c → Whole (known ts) type → Led GoodType (declared_param line c name type)
   declared_good line c name type g h =
-      led_unless GoodType (is_void type) Incomplete line (unless (is_record type || is_function type) LeftOut line (with_param line c name type))
-      (λ t. led_unless GoodType (is_record type || is_function type) LeftOut line (with_param line c name type) (λ s. param_good line c name type g h))
+      led_unless GoodType (is_void type) Incomplete line
+      (λ t. led_unless GoodType (is_record type || is_function type) LeftOut line (λ s. param_good line c name type g h))
 
   new_scope : (c : Context) → Fit c → Fit (in_new_scope c)
   new_scope c g = record { completed = g.completed; names = entered_whole (known ts) c.scopes g.names }
@@ -580,8 +580,8 @@ module _ (ts : List CompletedTag) (made : AreMade nothing ts) where
 
     pub typed_good : (tree : Tree) (c : Context) → Fit c → Led Good (typed tree c)
     typed_good (Node f.Name (At line ▹ Leaf (w.Name name) ▹ none)) c g = answered_good c (named line (found c.scopes name)) g (named_whole line (found c.scopes name) (found_by c name g))
-    typed_good (Node f.Int (At line ▹ Leaf (w.Int bytes) ▹ none)) c g = led_ok Good (c, constant (int_constant bytes)) (g, tt)
-    typed_good (Node f.Char (At line ▹ Leaf (w.Char bytes) ▹ none)) c g = led_ok Good (c, constant (char_constant bytes)) (g, tt)
+    typed_good (Node f.Int (At line ▹ Leaf (w.Int bytes) ▹ none)) c g = led_ok Good (g, tt)
+    typed_good (Node f.Char (At line ▹ Leaf (w.Char bytes) ▹ none)) c g = led_ok Good (g, tt)
     typed_good (Node f.Str (At line ▹ Node f.Strings parts ▹ none)) c g = answered_good c (string line (joined parts)) g (string_whole line (joined parts))
     typed_good (Node f.Paren (At line ▹ e ▹ none)) c g = typed_good e c g
     typed_good (Node f.Index (At line ▹ e ▹ h ▹ none)) c g =
@@ -625,10 +625,10 @@ module _ (ts : List CompletedTag) (made : AreMade nothing ts) where
     typed_good tree c g = led_refused Good Operands (line_of tree)
 
     values_good : (arguments : Trees) (c : Context) → Fit c → Led GoodValues (values arguments c)
-    values_good none c g = led_ok GoodValues (c, []) g
+    values_good none c g = led_ok GoodValues g
     values_good (e ▹ rest) c g =
         led_after GoodValues (wanted e (typed e c)) (λ d q. led_after GoodValues (values rest d.0)
-        (λ more z. led_ok GoodValues (more.0, d.1 ∷ more.1) (values_good rest d.0 (wanted_good e (typed e c) (typed_good e c g) d q).0 more z)))
+        (λ more z. led_ok GoodValues (values_good rest d.0 (wanted_good e (typed e c) (typed_good e c g) d q).0 more z)))
 
     pub typename_good : (name : Tree) (c : Context) → Fit c → Led GoodType (typename name c)
     typename_good (Node f.Typename (At line ▹ Node f.Specs (At at ▹ words) ▹ declarator ▹ none)) c g =
@@ -637,43 +637,43 @@ module _ (ts : List CompletedTag) (made : AreMade nothing ts) where
         led_after GoodType (layers declarator base.0)
         (λ l z. let m = layers_good declarator base.0 k.0 l z in
         led_after GoodType (with_layers l.0.tags l.1 base.1)
-        (λ type s. led_unless GoodType (is_function type) LeftOut line (Ok (l.0, type)) (λ t. led_ok GoodType (l.0, type) (m.0, with_layers_whole ts l.0.tags l.1 base.1 m.0.completed k.1 m.1 type s)))))
-    typename_good tree c g = led_refused GoodType Operands (line_of tree)
+        (λ type s. led_unless GoodType (is_function type) LeftOut line (λ t. led_ok GoodType (m.0, with_layers_whole ts l.0.tags l.1 base.1 m.0.completed k.1 m.1 type s)))))
+    typename_good tree c g = led_refused GoodType
 
     layers_good : (tree : Tree) (c : Context) → Fit c → Led GoodLayers (layers tree c)
     layers_good (Node (f.Pointer consts) (At line ▹ declarator ▹ none)) c g =
-        led_after GoodLayers (layers declarator c) (λ l q. let k = layers_good declarator c g l q in led_ok GoodLayers (l.0, names.PointerTo line ∷ l.1) (k.0, (tt, k.1)))
+        led_after GoodLayers (layers declarator c) (λ l q. let k = layers_good declarator c g l q in led_ok GoodLayers (k.0, (tt, k.1)))
     layers_good (Node f.Direct (base ▹ Node f.Suffixes suffixes ▹ none)) c g =
         led_after GoodLayers (layers base c)
         (λ l q. let k = layers_good base c g l q in
         led_after GoodLayers (suffix_layers suffixes l.0)
-        (λ s z. let m = suffixes_good suffixes l.0 k.0 s z in led_ok GoodLayers (s.0, reverse s.1 ++ l.1) (m.0, layers_append (known ts) (reverse s.1) l.1 (layers_reverse (known ts) s.1 m.1) k.1)))
+        (λ s z. let m = suffixes_good suffixes l.0 k.0 s z in led_ok GoodLayers (m.0, layers_append (known ts) (reverse s.1) l.1 (layers_reverse (known ts) s.1 m.1) k.1)))
     layers_good (Node f.Parens (At line ▹ declarator ▹ none)) c g = layers_good declarator c g
-    layers_good tree c g = led_ok GoodLayers (c, []) (g, tt)
+    layers_good tree c g = led_ok GoodLayers (g, tt)
 
     suffixes_good : (suffixes : Trees) (c : Context) → Fit c → Led GoodLayers (suffix_layers suffixes c)
-    suffixes_good none c g = led_ok GoodLayers (c, []) (g, tt)
+    suffixes_good none c g = led_ok GoodLayers (g, tt)
     suffixes_good (suffix ▹ rest) c g =
         led_after GoodLayers (suffix_layer suffix c)
         (λ l q. let k = suffix_good suffix c g l q in
-        led_after GoodLayers (suffix_layers rest l.0) (λ more z. let m = suffixes_good rest l.0 k.0 more z in led_ok GoodLayers (more.0, l.1 ∷ more.1) (m.0, (k.1, m.1))))
+        led_after GoodLayers (suffix_layers rest l.0) (λ more z. let m = suffixes_good rest l.0 k.0 more z in led_ok GoodLayers (m.0, (k.1, m.1))))
 
     suffix_good : (suffix : Tree) (c : Context) → Fit c → Led GoodLayer (suffix_layer suffix c)
-    suffix_good (Node f.ArraySuffix (At line ▹ Node f.MaybeLength none ▹ none)) c g = led_ok GoodLayer (c, ArrayOf line None) (g, tt)
+    suffix_good (Node f.ArraySuffix (At line ▹ Node f.MaybeLength none ▹ none)) c g = led_ok GoodLayer (g, tt)
     suffix_good (Node f.ArraySuffix (At line ▹ Node f.MaybeLength (e ▹ none) ▹ none)) c g =
         led_after GoodLayer (wanted e (typed e c)) (λ d q. led_after GoodLayer (array_length (line_of e) d.1)
-        (λ m z. led_ok GoodLayer (d.0, ArrayOf line (Some m)) ((wanted_good e (typed e c) (typed_good e c g) d q).0, length_some (line_of e) d.1 m z)))
+        (λ m z. led_ok GoodLayer ((wanted_good e (typed e c) (typed_good e c g) d q).0, length_some (line_of e) d.1 m z)))
     suffix_good (Node f.FunctionSuffix (At line ▹ Node f.Params params ▹ none)) c g =
         led_after GoodLayer (param_types params (in_new_scope c))
-        (λ p q. let k = params_good params (in_new_scope c) (new_scope c g) p q in led_ok GoodLayer (out_of_scope p.0, FunctionOf line p.1) (old_scope p.0 k.0, k.1))
-    suffix_good tree c g = led_ok GoodLayer (c, FunctionOf (line_of tree) ct.none) (g, tt)
+        (λ p q. let k = params_good params (in_new_scope c) (new_scope c g) p q in led_ok GoodLayer (old_scope p.0 k.0, k.1))
+    suffix_good tree c g = led_ok GoodLayer (g, tt)
 
     params_good : (params : Trees) (c : Context) → Fit c → Led GoodParams (param_types params c)
-    params_good none c g = led_ok GoodParams (c, ct.none) (g, tt)
+    params_good none c g = led_ok GoodParams (g, tt)
     params_good (param ▹ rest) c g =
         led_after GoodParams (param_type param c)
         (λ p q. let k = param_type_good param c g p q in
-        led_after GoodParams (param_types rest p.0) (λ more z. let m = params_good rest p.0 k.0 more z in led_ok GoodParams (more.0, first p.1 more.1) (m.0, (k.1, m.1))))
+        led_after GoodParams (param_types rest p.0) (λ more z. let m = params_good rest p.0 k.0 more z in led_ok GoodParams (m.0, (k.1, m.1))))
 
     param_type_good : (param : Tree) (c : Context) → Fit c → Led GoodType (param_type param c)
     param_type_good (Node f.Param (At line ▹ Node f.Specs (At at ▹ words) ▹ declarator ▹ none)) c g =
@@ -683,4 +683,4 @@ module _ (ts : List CompletedTag) (made : AreMade nothing ts) where
         (λ l z. let m = layers_good declarator base.0 k.0 l z in
         led_after GoodType (with_param_layers l.0.tags l.1 base.1)
         (λ type s. declared_good line l.0 (name_of declarator) (adjusted type) m.0 (adjusted_whole ts type (with_param_layers_whole ts l.0.tags l.1 base.1 m.0.completed k.1 m.1 type s)))))
-    param_type_good tree c g = led_refused GoodType Operands (line_of tree)
+    param_type_good tree c g = led_refused GoodType

@@ -162,15 +162,15 @@ evaluated_passes e c s =
     (λ d h. led_ok (Passes c) (closed e d.0) (grows_passes c (closed e d.0) s (grows_closed e c d.0 s (grown_unused e begun (found e Void begun) (found_grows e Void begun begun (grows_refl begun)) d h))))
 
 pub maybe_evaluated_passes : (e : Trees) (c : Context) → Safe c.scopes → Led (Passes c) (maybe_evaluated e c)
-maybe_evaluated_passes none c s = led_ok (Passes c) c (passes_refl c s)
+maybe_evaluated_passes none c s = led_ok (Passes c) (passes_refl c s)
 maybe_evaluated_passes (e ▹ rest) c s = evaluated_passes e c s
 
 condition_passes : (e : Tree) (c : Context) → Safe c.scopes → Reached (Passes c) (condition e c)
 condition_passes e c s =
     let begun = opened e c in
     reached_after (Passes c) (valued e (found e Void begun))
-    (λ d h. reached_unless (Passes c) (not (is_scalar d.1.typed.type)) Operands (line_of e) (Ok (closed_atom e (tested_value e d)))
-    (reached_ok (Passes c) (closed_atom e (tested_value e d)) (grows_passes c _ s (grows_closed e c (tested_value e d).0 s
+    (λ d h. reached_unless (Passes c) (not (is_scalar d.1.typed.type)) Operands (line_of e)
+    (reached_ok (Passes c) (grows_passes c _ s (grows_closed e c (tested_value e d).0 s
     (grows_trans begun d.0 _ (grown_valued e begun (found e Void begun) (found_grows e Void begun begun (grows_refl begun)) d h) (grows_tested_value e d))))))
 
 -- a test, which leaves to a label
@@ -199,11 +199,10 @@ tests_zero line l a c d le p = record {
 
 pub leaves_tests : (line l : ℕ) (e : Tree) (c : Context) → l < c.code.labels → Safe c.scopes → Led (Tests l c) (leaves_if_zero line l e c)
 leaves_tests line l e c le s =
-    led_after (Tests l c) (condition e c)
-    (λ d h. led_ok (Tests l c) (emit line (Zero d.1 l) d.0) (tests_zero line l d.1 c d.0 le (condition_passes e c s d h)))
+    led_after (Tests l c) (condition e c) (λ d h. led_ok (Tests l c) (tests_zero line l d.1 c d.0 le (condition_passes e c s d h)))
 
 pub maybe_tests : (line l : ℕ) (e : Trees) (c : Context) → l < c.code.labels → Safe c.scopes → Led (Tests l c) (maybe_leaves line l e c)
-maybe_tests line l none c le s = led_ok (Tests l c) c (tests_passes l c c (passes_refl c s))
+maybe_tests line l none c le s = led_ok (Tests l c) (tests_passes l c c (passes_refl c s))
 maybe_tests line l (e ▹ rest) c le s = leaves_tests line l e c le s
 
 -- leaving
@@ -243,15 +242,15 @@ return_of_walks : (line : ℕ) (a : Around) (e : Tree) (type : PlainType) (c : C
 return_of_walks line a e type c fit s =
     let begun = opened e c in
     led_after (Walks a c) (valued e (found e type begun))
-    (λ d h. led_unless (Walks a c) (is_void type) Assignment line _ (λ q.
-    led_barred (Walks a c) (unconverted type d.1.typed) line (return_value line a.delays e type begun.code d)
+    (λ d h. led_unless (Walks a c) (is_void type) Assignment line (λ q.
+    led_barred (Walks a c) (unconverted type d.1.typed) line
     (let v = convert line begun.code type d.1.typed (atom_in d.1) d.0 in
     let g : Grows begun v.0 = grows_convert line begun type d.1.typed (atom_in d.1) d.0 (grown_valued e begun (found e type begun) (found_grows e type begun begun (grows_refl begun)) d h) in
-    led_ok (Walks a c) (returned line a.delays (Some v.1) (closed e v.0)) (return_walks a line (Some v.1) c (closed e v.0) fit (grows_passes c (closed e v.0) s (grows_closed e c v.0 s g))))))
+    led_ok (Walks a c) (return_walks a line (Some v.1) c (closed e v.0) fit (grows_passes c (closed e v.0) s (grows_closed e c v.0 s g))))))
 
 pub return_from_walks : (line : ℕ) (a : Around) (e : Trees) (c : Context) → Fits c.code.labels a → Safe c.scopes → Led (Walks a c) (return_from line a.delays e c)
 return_from_walks line a none c fit s =
-    led_unless (Walks a c) (not (is_void c.running.answer)) Assignment line _ (λ q. led_ok (Walks a c) (returned line a.delays None c) (returned_walks a line None c s))
+    led_unless (Walks a c) (not (is_void c.running.answer)) Assignment line (λ q. led_ok (Walks a c) (returned_walks a line None c s))
 return_from_walks line a (e ▹ rest) c fit s = return_of_walks line a e c.running.answer c fit s
 
 -- switches
@@ -259,8 +258,8 @@ return_from_walks line a (e ▹ rest) c fit s = return_of_walks line a e c.runni
 operand_passes : (line : ℕ) (e : Tree) (o : Operand) (c : Context) (d : Context × Found) → Safe c.scopes → Grows (opened e c) d.0 → Reached (Passes c) (switch_operand_of line e o d)
 operand_passes line e (Number ty) c d s g =
     let v = convert_integer line (promoted ty) ty (atom_in d.1) d.0 in
-    reached_ok (Passes c) (closed e v.0, (promoted ty, v.1)) (grows_passes c (closed e v.0) s (grows_closed e c v.0 s (grows_trans (opened e c) d.0 v.0 g (grows_convert_integer line (promoted ty) ty (atom_in d.1) d.0))))
-operand_passes line e other c d s g = reached_refused (Passes c) Operands (line_of e)
+    reached_ok (Passes c) (grows_passes c (closed e v.0) s (grows_closed e c v.0 s (grows_trans (opened e c) d.0 v.0 g (grows_convert_integer line (promoted ty) ty (atom_in d.1) d.0))))
+operand_passes line e other c d s g = reached_refused (Passes c)
 
 pub switch_operand_passes : (line : ℕ) (e : Tree) (c : Context) → Safe c.scopes → Reached (Passes c) (switch_operand line e c)
 switch_operand_passes line e c s =

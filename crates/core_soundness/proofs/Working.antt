@@ -33,7 +33,7 @@ grows_read line type spot c = grows_refl c
 pub grown_valued_from : (tree : Tree) (b c : Context) (e : Found) → Grows b c → Grown b (valued_from tree c e)
 grown_valued_from tree b c e g =
     grown_after b (read (line_of tree) c.tags e.typed)
-    (λ typed h. grown_ok b (read_value typed e (read_spot (code_line tree) e.typed.type e.spot c)) (grows_trans b c _ g (grows_read (code_line tree) e.typed.type e.spot c)))
+    (λ typed h. grown_ok b (grows_trans b c _ g (grows_read (code_line tree) e.typed.type e.spot c)))
 
 pub grown_unused : (tree : Tree) (b : Context) (answer : With Found) → Grown b answer → Grown b (unused tree answer)
 grown_unused tree b answer g = grown_then b answer (λ d. valued_from tree d.0 d.1) g (λ d h. grown_valued_from tree b d.0 d.1 h)
