@@ -1,5 +1,5 @@
 -- What specs, declarators and the names of locals do to what is known.
-use Rattle.std.proofs.Common.{◌≡◌, ℕ, suc, Bool, true, false, cond, is_some, List, [], ◌∷◌, length, unwrap_or, Option, Some, None, Ok, ◌≤◌, refl, arith}
+use Rattle.std.proofs.Common.{◌≡◌, ℕ, suc, Bool, true, false, cond, is_some, List, [], ◌∷◌, length, unwrap_or, Option, Some, None, ◌≤◌, refl, arith}
 use Rattle.c_types.specs.declared.types.IntType.TheVariants as i
 use Rattle.c_types.specs.Types.{PlainType, Int}
 use Rattle.c_types.specs.TagTable.{TagTable}

@@ -1,23 +1,21 @@
 -- What elaborating an expression does to what is known.
-use Rattle.std.proofs.Common.{ℕ, true, false, List, [], ◌∷◌, Option, Some, None}
+use Rattle.std.proofs.Common.{ℕ, true, false, List, Option, Some, None}
 use Rattle.c_types.specs.Types.{PlainType, PlainTypes, Void}
-use Rattle.core_tree.specs.declared.statements.Atom.TheVariants as atom
 use Rattle.c_tree.specs.declared.operator.UnaryOp.TheVariants as u
 use Rattle.c_tree.specs.declared.operator.BinaryOp.TheVariants as b
 use Rattle.c_tree.specs.declared.operator.AssignOp.TheVariants as a
 use Rattle.c_tree.specs.Words as w
 use Rattle.c_tree.specs.Forms as f
 use Rattle.c_tree.specs.Tree.{Tree, Trees, Leaf, At, Node, none, ◌▹◌}
-use Rattle.c_decls.specs.declared.refusal.TypeKind.TheVariants.{Operands}
 use Rattle.c_decls.specs.Refusals.{Checked}
 use Rattle.c_decls.specs.ScopeList.{found as declaration}
 use Rattle.c_decls.specs.Named.{PlainNamed}
-use Rattle.c_decls.specs.Typed.{PlainTyped, is_record, constant}
+use Rattle.c_decls.specs.Typed.{PlainTyped, is_record}
 use Rattle.c_decls.specs.TypeRules.{address}
 use Rattle.c_decls.specs.PlaceRules.{held_place}
 use Rattle.c_decls.specs.Callees.{Callee, NoFunction, named, called, call}
 use Rattle.c_decls.specs.TypeNames as names
-use Rattle.c_decls.specs.Expressions.{line_of, int_constant, char_constant, joined, string, first_literal, typed, typename}
+use Rattle.c_decls.specs.Expressions.{line_of, joined, string, first_literal, typed, typename}
 use Rattle.elaboration.specs.Context.{Context, With, asked, told, new_label}
 use Rattle.elaboration.specs.Conversions.{Found, Value, Unknown, found_as, valued_as, atom_in, valued, unused}
 use Rattle.elaboration.specs.Calls.{Argument, types_of, first_type, rest_types, argument_from, call_named}

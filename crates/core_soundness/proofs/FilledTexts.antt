@@ -14,7 +14,7 @@ use Rattle.c_tree.specs.Forms as f
 use Rattle.c_tree.specs.Tree.{Tree, Trees, At, Node, none, ◌▹◌, count}
 use Rattle.c_decls.specs.declared.typed.Folded.{Folded}
 use Rattle.c_decls.specs.declared.typed.Folded.TheVariants.{Is}
-use Rattle.c_decls.specs.declared.refusal.TypeKind.TheVariants.{Operands, Assignment, NotConstant}
+use Rattle.c_decls.specs.declared.refusal.TypeKind.TheVariants.{Assignment}
 use Rattle.c_decls.specs.Refusals.{refused, then}
 use Rattle.c_decls.specs.Typed.{is_null_constant}
 use Rattle.c_decls.specs.PlaceRules.{unconverted, converts}

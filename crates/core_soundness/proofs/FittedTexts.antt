@@ -16,15 +16,14 @@ use Rattle.c_tree.specs.Forms as f
 use Rattle.c_tree.specs.Tree.{Tree, Trees, At, Node, none, ◌▹◌}
 use Rattle.c_tree.specs.Scopes.{name_of}
 use Rattle.c_decls.specs.declared.built_in.BuiltIn.{BuiltIn}
-use Rattle.c_decls.specs.declared.refusal.TypeKind.TheVariants.{Operands, Assignment, DeclaredTwice, Incomplete, StaticTooLarge, Undeclared, NoMain}
+use Rattle.c_decls.specs.declared.refusal.TypeKind.TheVariants.{DeclaredTwice, Incomplete, StaticTooLarge, Undeclared, NoMain}
 use Rattle.c_decls.specs.Named as n
 use Rattle.c_decls.specs.Named.{PlainNamed}
 use Rattle.c_decls.specs.ScopeList.{Table, named_in}
 use Rattle.c_decls.specs.BuiltIns as names
 use Rattle.c_decls.specs.BuiltIns.{built_ins, numbered_from}
-use Rattle.c_decls.specs.Refusals.{refused, then, unless}
+use Rattle.c_decls.specs.Refusals.{refused, unless}
 use Rattle.c_decls.specs.Typed.{is_function, has_no_size, same}
-use Rattle.c_decls.specs.Expressions.{line_of}
 use Rattle.c_decls.proofs.SameTypes.{same_equal}
 use Rattle.elaboration.specs.Context.{Context, Variable, Declared, first_context}
 use Rattle.elaboration.specs.Conversions.{size_or_zero}
@@ -32,7 +31,7 @@ use Rattle.elaboration.specs.Rules.{with_static}
 use Rattle.elaboration.specs.Locals.{is_twice_in, declared_as}
 use Rattle.elaboration.specs.Declarators.{layers}
 use Rattle.elaboration.specs.Initializers.{Target, InStatic, initialize, surplus, no_start, with_init_layers}
-use Rattle.elaboration.specs.Declarations.{Storage, Typedef, storage_of, specs_before, declared_function, no_initializer, variable_number_of, with_new_variable, with_variable, start_of, start_in, started_variable, started, fill_variable, file_object, file_function, file_value, file_name, name_in, entry, entries, declaration}
+use Rattle.elaboration.specs.Declarations.{Storage, Typedef, storage_of, specs_before, declared_function, no_initializer, variable_number_of, with_new_variable, with_variable, start_of, start_in, started_variable, fill_variable, file_object, file_function, file_value, file_name, name_in, entry, entries, declaration}
 use Rattle.elaboration.specs.Externals.{begun, is_defined, external, externals, calls_defined, is_main}
 use Rattle.elaboration.specs.Addressed.{addressed_in}
 use Rattle.elaboration.specs.Resolving.{core_of}

@@ -1,5 +1,5 @@
 -- What initializers do to what is known.
-use Rattle.std.proofs.Common.{◌≡◌, ◌+◌, ℕ, pos, Bool, true, false, not, cond, length, min, take, List, [], ◌∷◌, Option, Some, None, refl, ◌∙◌, subst}
+use Rattle.std.proofs.Common.{◌≡◌, ◌+◌, ℕ, pos, Bool, true, false, not, cond, length, min, List, [], ◌∷◌, Option, Some, None, refl, ◌∙◌, subst}
 use Rattle.c_types.specs.Types.{PlainType, Array, Struct, Union}
 use Rattle.core_tree.specs.declared.program.Start.{Start}
 use Rattle.core_tree.specs.declared.statements.Atom.{Atom}
@@ -7,7 +7,7 @@ use Rattle.core_tree.specs.declared.statements.Atom.TheVariants as atom
 use Rattle.core_tree.specs.declared.statements.StmKind.TheVariants.{Off, Copy, Enter}
 use Rattle.c_tree.specs.Forms as f
 use Rattle.c_tree.specs.Tree.{Tree, Trees, At, Node, none, ◌▹◌, count}
-use Rattle.c_decls.specs.declared.refusal.TypeKind.TheVariants.{Assignment, NotConstant, Operands}
+use Rattle.c_decls.specs.declared.refusal.TypeKind.TheVariants.{Assignment}
 use Rattle.c_decls.specs.ScopeList.{ScopeList}
 use Rattle.c_decls.specs.Refusals.{refused, then, unless}
 use Rattle.c_decls.specs.PlaceRules.{converts, unconverted}
@@ -157,8 +157,9 @@ mutual
   initialize_fills (Node f.InitExpr (At line ▹ e ▹ none)) in_scalar type offset t b s = by_expression_fills e (line_of e) type offset t b s
   initialize_fills (Node (f.InitList trailing) (At line ▹ Node f.Inits inits ▹ none)) in_scalar type offset t b s =
       elim (takes_braces type in_scalar) as (λ k. Led (Fills t b) (cond k (initialize_parts line inits (is_scalar_type type) (parts_of b (count inits) type offset) t b) (then (all_surplus inits b) (λ d. refused Assignment line)))) [
-      | true ↦ parts_fill inits line (is_scalar_type type) (parts_of b (count inits) type offset) t b s
-      | false ↦ led_after (Fills t b) (all_surplus inits b) (λ d h. led_refused (Fills t b)) ]
+        | true ↦ parts_fill inits line (is_scalar_type type) (parts_of b (count inits) type offset) t b s
+        | false ↦ led_after (Fills t b) (all_surplus inits b) (λ d h. led_refused (Fills t b))
+      ]
   initialize_fills tree in_scalar type offset t b s = led_refused (Fills t b)
 
   parts_fill : (inits : Trees) (line : ℕ) (in_scalar : Bool) (parts : List (PlainType × ℕ)) (t : Target) (b : Context) → Safe b.scopes → Led (Fills t b) (initialize_parts line inits in_scalar parts t b)

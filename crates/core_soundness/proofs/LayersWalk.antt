@@ -1,12 +1,11 @@
 -- One walk over specs, tags with braces and declarators: what each of their steps keeps, they keep (C99 6.7.2, 6.7.5).
-use Rattle.std.proofs.Common.{◌≡◌, ◌+◌, ◌*◌, ◌≤◌, ℕ, ℤ, pos, ◌+ℤ◌, Bool, true, ◌||◌, is_some, reverse, List, [], ◌∷◌, ◌++◌, Option, Some, None, Result, Ok, Err, arith}
+use Rattle.std.proofs.Common.{◌≡◌, ◌+◌, ◌*◌, ◌≤◌, ℕ, ℤ, pos, Bool, true, ◌||◌, is_some, List, [], Option, Some, None, Result, Ok, Err, arith}
 use Rattle.std.specs.Prelude.{IfSome}
 use Rattle.hs_base.specs.declared.ends.IntKind.TheVariants.{I32}
 use Rattle.hs_base.specs.Numbers.{wrapped}
 use Rattle.c_types.specs.declared.types.IntType.TheVariants as i
 use Rattle.c_types.specs.declared.tags.TagError.{TagError}
-use Rattle.c_types.specs.Types as types
-use Rattle.c_types.specs.Types.{PlainType, PlainTypes, Int, Struct, Union, first}
+use Rattle.c_types.specs.Types.{PlainType, PlainTypes, Int, Struct, Union}
 use Rattle.c_types.specs.TagTable.{TagTable, completion}
 use Rattle.c_tree.specs.declared.operator.RecordSort.{RecordSort}
 use Rattle.c_tree.specs.declared.operator.RecordSort.TheVariants as r
@@ -16,14 +15,14 @@ use Rattle.c_tree.specs.Places as p
 use Rattle.c_tree.specs.Grammar.{shape}
 use Rattle.c_tree.specs.Tree.{Tree, Trees, Leaf, At, Node, none, ◌▹◌, count}
 use Rattle.c_tree.specs.Scopes.{name_of}
-use Rattle.c_decls.specs.declared.refusal.TypeKind.TheVariants.{Operands, DeclaredTwice, Incomplete, LeftOut}
+use Rattle.c_decls.specs.declared.refusal.TypeKind.TheVariants.{DeclaredTwice, Incomplete, LeftOut}
 use Rattle.c_decls.specs.Named as n
 use Rattle.c_decls.specs.Named.{PlainNamed}
 use Rattle.c_decls.specs.ScopeList.{named_in, innermost, with_name, tag_name, after_declaration}
 use Rattle.c_decls.specs.Refusals.{Checked}
 use Rattle.c_decls.specs.Typed.{is_void, is_record, is_function, has_no_size}
 use Rattle.c_decls.specs.TypeNames as names
-use Rattle.c_decls.specs.TypeNames.{PointerTo, ArrayOf, FunctionOf, word_type, special_type, array_length, with_new_tag, with_layers, with_param_layers, adjusted}
+use Rattle.c_decls.specs.TypeNames.{special_type, array_length, with_new_tag, with_layers, with_param_layers, adjusted}
 use Rattle.c_decls.specs.Expressions.{line_of, typed, wanted, constant_from}
 use Rattle.elaboration.specs.Context.{Context, asked, told, entered}
 use Rattle.elaboration.specs.Locals.{is_twice, declared_as, with_param}

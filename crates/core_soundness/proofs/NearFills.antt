@@ -1,5 +1,5 @@
 -- What initializers and declarations make.
-use Rattle.std.proofs.Common.{◌≡◌, ◌≤◌, ◌+◌, ◌*◌, not, ℕ, zero, suc, pos, Bool, true, false, cond, is_some, nat_lt, min, take, length, All, List, [], ◌∷◌, ◌++◌, slice_get, slice_set, Option, Some, None, unwrap_or, Ok, refl, subst, arith}
+use Rattle.std.proofs.Common.{◌≡◌, ◌≤◌, ◌+◌, ◌*◌, not, ℕ, zero, suc, pos, Bool, true, false, cond, is_some, nat_lt, length, All, List, [], ◌∷◌, ◌++◌, slice_get, slice_set, Option, Some, None, unwrap_or, Ok, refl, subst, arith}
 use Rattle.std.specs.Prelude.{IfSome}
 use Rattle.std.proofs.lemmas.List.Elements.{All-push, All-head, All-tail, All-cons}
 use Rattle.c_types.specs.Types.{PlainType, Array, Struct, Union}
@@ -8,7 +8,7 @@ use Rattle.c_types.specs.TagTable.{layout_in}
 use Rattle.core_tree.specs.declared.program.Start.{Start}
 use Rattle.core_tree.specs.declared.statements.Atom.{Atom}
 use Rattle.core_tree.specs.declared.statements.Atom.TheVariants as atom
-use Rattle.core_tree.specs.declared.statements.StmKind.TheVariants.{Set, Off, Enter, Leave, Copy}
+use Rattle.core_tree.specs.declared.statements.StmKind.TheVariants.{Off, Enter, Leave}
 use Rattle.core_tree.specs.Sound.{IsShort}
 use Rattle.c_tree.specs.Words as w
 use Rattle.c_tree.specs.Forms as f
@@ -17,7 +17,7 @@ use Rattle.c_tree.specs.Places.{Place}
 use Rattle.c_tree.specs.Grammar.{some_commas, shape}
 use Rattle.c_tree.specs.Tree.{Tree, Trees, Leaf, At, Node, none, ◌▹◌, count}
 use Rattle.c_tree.specs.Scopes.{name_of}
-use Rattle.c_decls.specs.declared.refusal.TypeKind.TheVariants.{Operands, Assignment, NotConstant, DeclaredTwice, Incomplete, LeftOut}
+use Rattle.c_decls.specs.declared.refusal.TypeKind.TheVariants.{Assignment, DeclaredTwice, Incomplete, LeftOut}
 use Rattle.c_decls.specs.Named as n
 use Rattle.c_decls.specs.ScopeList.{named_in, innermost, tag_name}
 use Rattle.c_decls.specs.Refusals.{Checked, refused, then, unless}
@@ -34,7 +34,7 @@ use Rattle.elaboration.specs.Locals.{is_twice, declared_as, next_is_memory, with
 use Rattle.elaboration.specs.Declarators.{layers}
 use Rattle.elaboration.specs.Initializers.{Target, InRegister, InMemory, InStatic, static_scalar, member_place, store_at, fill_scalar, scalar, copy_to, fill_record, is_same_place, whole, copy_text, fill_text, is_character, text, by_text, by_expression, parts_of, takes_braces, is_scalar_type, surplus, all_surplus, initialize, initialize_parts, with_bytes, no_start, with_init_layers, not_whole}
 use Rattle.elaboration.specs.Declarations as storages
-use Rattle.elaboration.specs.Declarations.{Storage, Typedef, Outside, storage_of, specs_alone, specs_before, zero_of, cleared, fill_memory, fill_register, fill_at, fill_local, local_object, local_name, function_number, with_function, declared_function, no_initializer, variable_number_of, with_new_variable, with_variable, start_of, start_in, started_variable, started, fill_variable, file_object, file_function, file_value, file_name, name_in, entry, entries, declaration}
+use Rattle.elaboration.specs.Declarations.{Storage, Typedef, Outside, storage_of, specs_alone, specs_before, cleared, fill_memory, fill_register, fill_at, fill_local, local_object, local_name, function_number, with_function, declared_function, no_initializer, variable_number_of, with_new_variable, with_variable, start_of, start_in, started_variable, started, fill_variable, file_object, file_function, file_value, file_name, name_in, entry, entries, declaration}
 use Rattle.core_soundness.proofs.Agreeing.{came}
 use Rattle.core_soundness.proofs.Reached.{Reached, reached_ok, reached_refused, reached_after, reached_unless, reached_barred, Led, led_ok, led_refused, led_after, led_unless}
 use Rattle.core_soundness.proofs.ShortNames.{Short, AllShort, name_short}

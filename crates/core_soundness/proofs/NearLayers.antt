@@ -1,5 +1,5 @@
 -- What specs, tags, declarators and parameters make.
-use Rattle.std.proofs.Common.{ℕ, Bool, true, false, cond, length, List, [], Option, Some, None, unwrap_or, Ok, arith}
+use Rattle.std.proofs.Common.{ℕ, Bool, true, false, cond, length, List, [], Option, Some, None, unwrap_or, arith}
 use Rattle.std.specs.Prelude.{IfSome}
 use Rattle.c_types.specs.Types.{PlainType}
 use Rattle.core_tree.specs.declared.statements.Atom.TheVariants as atom
@@ -11,7 +11,7 @@ use Rattle.c_decls.specs.Named.{PlainNamed}
 use Rattle.c_decls.specs.ScopeList.{after_declaration}
 use Rattle.c_decls.specs.Refusals.{Checked}
 use Rattle.c_decls.specs.TypeNames as names
-use Rattle.elaboration.specs.Context.{Context, told, local_register}
+use Rattle.elaboration.specs.Context.{Context, local_register}
 use Rattle.elaboration.specs.Conversions.{Memory}
 use Rattle.elaboration.specs.Locals.{is_twice, declared_as, next_is_memory, with_register, with_memory, with_named, memory_param, register_param, function_param, prototype_param, is_prototype, with_param}
 use Rattle.elaboration.specs.Declarators.{constant, with_type, specs, layers}

@@ -3,7 +3,7 @@ use Rattle.std.proofs.Common.{◌+◌, ◌-◌, not, ℕ, zero, suc, ℤ, true, 
 use Rattle.hs_base.specs.Numbers.{wrapped}
 use Rattle.c_types.specs.declared.types.IntType.{IntType}
 use Rattle.c_types.specs.Types.{kind_of, PlainType, Void}
-use Rattle.core_tree.specs.declared.statements.StmKind.TheVariants.{Enter, Leave, Jump, Zero}
+use Rattle.core_tree.specs.declared.statements.StmKind.TheVariants.{Enter, Leave, Jump}
 use Rattle.c_tree.specs.Forms as f
 use Rattle.c_tree.specs.Grammar.{shape}
 use Rattle.c_tree.specs.Tree.{Tree, Trees, At, Node, none, ◌▹◌}
@@ -11,14 +11,14 @@ use Rattle.c_decls.specs.declared.refusal.TypeKind.TheVariants.{Operands, Assign
 use Rattle.c_decls.specs.Refusals.{Checked, refused, then, unless}
 use Rattle.c_decls.specs.IntegerTypes.{promoted}
 use Rattle.c_decls.specs.Typed.{Operand, Number, operand, is_void, is_scalar}
-use Rattle.c_decls.specs.PlaceRules.{unconverted, converts}
+use Rattle.c_decls.specs.PlaceRules.{unconverted}
 use Rattle.c_decls.specs.Expressions.{line_of}
 use Rattle.elaboration.specs.Context.{Here, Context, scoped, entered, left, emit, here, new_label, with_labels, with_pieces}
 use Rattle.elaboration.specs.Conversions.{Found, atom_in, valued, convert, convert_integer, tested_value, unused}
 use Rattle.elaboration.specs.Reallocates.{opened, closed}
 use Rattle.elaboration.specs.Expressions.{found}
 use Rattle.elaboration.specs.Declarators.{constant}
-use Rattle.elaboration.specs.Statements.{Around, below, in_loop, in_switch, in_delay, leaves, leave_to, evaluated, maybe_evaluated, closed_atom, condition, leaves_if_zero, maybe_leaves, apart, returned, return_value, return_of, return_from, has_case, with_case, case_of, cased, defaulted, switch_operand_of, switch_operand, no_cases, switched, looped, for_start, statement, items}
+use Rattle.elaboration.specs.Statements.{Around, below, in_loop, in_switch, in_delay, leaves, leave_to, evaluated, maybe_evaluated, condition, leaves_if_zero, maybe_leaves, apart, return_of, return_from, has_case, case_of, cased, defaulted, switch_operand_of, switch_operand, no_cases, switched, looped, for_start, statement, items}
 use Rattle.core_soundness.proofs.Agreeing.{came}
 use Rattle.core_soundness.proofs.Reached.{Reached, reached_ok, reached_refused, reached_after, reached_unless, Led, led_ok, led_refused, led_after, led_unless, led_barred}
 use Rattle.core_soundness.proofs.ShortNames.{Short, AllShort}

@@ -18,12 +18,11 @@ use Rattle.c_tree.specs.Grammar.{shape}
 use Rattle.c_tree.specs.Tree.{Tree, Trees, At, Node, none, ◌▹◌}
 use Rattle.c_tree.specs.Scopes.{name_of}
 use Rattle.c_tree.specs.HasTree.{HasTree}
-use Rattle.c_decls.specs.declared.refusal.TypeKind.TheVariants.{Operands, LeftOut, DeclaredTwice, ProgramTooLong, Undeclared, NoMain}
+use Rattle.c_decls.specs.declared.refusal.TypeKind.TheVariants.{LeftOut, DeclaredTwice, ProgramTooLong, Undeclared, NoMain}
 use Rattle.c_decls.specs.ScopeList.{named_in}
-use Rattle.c_decls.specs.Refusals.{refused, then, unless}
+use Rattle.c_decls.specs.Refusals.{refused}
 use Rattle.c_decls.specs.Typed.{is_function}
 use Rattle.c_decls.specs.TypeNames.{with_layers}
-use Rattle.c_decls.specs.Expressions.{line_of}
 use Rattle.elaboration.specs.Context.{Context, Variable, Walked, Declared, first_context, emit}
 use Rattle.elaboration.specs.Declarators.{specs, layers}
 use Rattle.elaboration.specs.Declarations.{function_number, declared_function}

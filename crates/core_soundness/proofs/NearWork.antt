@@ -7,7 +7,7 @@ use Rattle.core_tree.specs.declared.statements.Atom.TheVariants as atom
 use Rattle.core_tree.specs.declared.statements.UnOp.TheVariants as un
 use Rattle.core_tree.specs.declared.statements.CmpOp.TheVariants as cmp
 use Rattle.core_tree.specs.declared.statements.StmKind.{StmKind}
-use Rattle.core_tree.specs.declared.statements.StmKind.TheVariants.{Set, Conv, Copy, Zero, Load, Loadp, Test, Un, Bin, Cmp, Add, Sub, Off, Diff, Pcmp, Call, Malloc, Calloc, Realloc, Lib, Printf}
+use Rattle.core_tree.specs.declared.statements.StmKind.TheVariants.{Set, Conv, Zero, Load, Loadp, Test, Un, Bin, Cmp, Add, Sub, Off, Diff, Pcmp, Call, Malloc, Calloc, Realloc, Lib, Printf}
 use Rattle.core_tree.specs.Sound.{IsShort}
 use Rattle.c_tree.specs.declared.operator.BinaryOp.{BinaryOp}
 use Rattle.c_tree.specs.declared.operator.BinaryOp.TheVariants as b

@@ -1,5 +1,5 @@
 -- Parts that stand inside a scope: their parameter lists are those of prototypes, of which nothing is made (C99 6.2.1).
-use Rattle.std.proofs.Common.{◌≡◌, ℕ, ◌+◌, Bool, true, false, cond, is_some, nat_lt, List, [], ◌∷◌, length, Option, Some, None, Ok, ◌≤◌, refl, ap, ◌∙◌, arith}
+use Rattle.std.proofs.Common.{◌≡◌, ℕ, ◌+◌, Bool, true, false, cond, is_some, nat_lt, List, [], ◌∷◌, length, Option, Some, None, ◌≤◌, refl, ap, ◌∙◌, arith}
 use Rattle.std.proofs.lemmas.Bool.{ltb-false}
 use Rattle.c_types.specs.declared.types.IntType.TheVariants as i
 use Rattle.c_types.specs.Types.{PlainType, Int}

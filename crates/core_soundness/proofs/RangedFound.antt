@@ -2,7 +2,6 @@
 use Rattle.std.proofs.Common.{◌≡◌, ◌<◌, ◌+◌, ◌&&◌, ◌^◌, not, ℕ, pos, zero, suc, Bool, true, false, cond, length, drop, List, [], ◌∷◌, ◌++◌, slice_get, Option, Some, None, unwrap_or, Ok, refl, sym, subst, arith}
 use Rattle.std.specs.Prelude.{slice_index_or}
 use Rattle.std.proofs.lemmas.Int.{ints}
-use Rattle.hs_base.specs.Place.{block_size}
 use Rattle.c_types.specs.Types as ct
 use Rattle.c_types.specs.Types.{PlainType, PlainTypes, Void, Int, Pointer}
 use Rattle.core_tree.specs.declared.statements.Atom.{Atom}
@@ -31,11 +30,11 @@ use Rattle.c_decls.specs.PlaceRules.{element, element_types, dot, arrow, cast, c
 use Rattle.c_decls.specs.Callees.{named, built_in_named, built_in_value}
 use Rattle.c_decls.specs.Expressions.{line_of, string, typed}
 use Rattle.elaboration.specs.Context.{Code, Context, emit, here, new_label, with_labels, integer_by}
-use Rattle.elaboration.specs.Conversions.{Found, Spot, Value, Empty, Unknown, Nowhere, found_as, atom_in, valued_from, convert, forget, tested_value, code_line, write, size_or_zero}
-use Rattle.elaboration.specs.Operations.{working, Branches, combined, fixed_sum, offset_of, operator_of, changed_to}
+use Rattle.elaboration.specs.Conversions.{Found, Spot, Value, Nowhere, found_as, atom_in, valued_from, convert, forget, tested_value, code_line, write, size_or_zero}
+use Rattle.elaboration.specs.Operations.{working, Branches, offset_of, operator_of, changed_to}
 use Rattle.elaboration.specs.Calls.{Argument, atoms_of, atom_at, argument_from, lib_name, result_by, with_format, call_built_in, call_of_built_in, call_named, element_layout}
-use Rattle.elaboration.specs.Rules.{set_again, compare_again, constant_found, object_found, built_in_found, name_found, is_inner, with_static, with_literal, literal_found, at_address, with_value, indexed, member_of, dotted, target_of, pointed, negated, before_number, apply, applied, tells_equal, is_pointer_ahead, ahead, left_operand, between, cast_fixed, cast_to, and_then, and_ends, and_ended, or_else, or_ends, or_ended, chosen_by, choose_first, choose_last, choice_spot, choice_found, chosen}
-use Rattle.elaboration.specs.Assignments.{record_assigned, set_to, scalar_assigned, old_value, changed_answer, changed_by, one_found, stepped}
+use Rattle.elaboration.specs.Rules.{set_again, compare_again, constant_found, object_found, built_in_found, name_found, is_inner, with_static, with_literal, indexed, dotted, target_of, pointed, negated, before_number, apply, applied, tells_equal, is_pointer_ahead, ahead, left_operand, between, cast_to, and_then, and_ends, and_ended, or_else, or_ended, chosen_by, choose_first, choice_spot, chosen}
+use Rattle.elaboration.specs.Assignments.{record_assigned, scalar_assigned, old_value, changed_answer, changed_by, one_found, stepped}
 use Rattle.elaboration.specs.Expressions.{name_answer, literal_answer}
 use Rattle.core_soundness.specs.Whole.{Whole, NamedWhole}
 use Rattle.core_soundness.proofs.Grown.{good, ok_same, never}
@@ -284,9 +283,10 @@ chosen_in line end before t test x d f p h =
 pub record_in : (line right : ℕ) (target : Found) (d : Context × Found) → Solid d.0 → Whole (K d.0) target.typed.type → SpotIn target.spot → E d → Led E (record_assigned line right target d)
 record_in line right target d s w p h =
     led_after E (assigned line right d.0.tags target.typed d.1.typed) (λ t k. led_ok E (
-    in_emit line (Copy (atom_in target) (atom_in d.1) (pos (size_or_zero d.0 t.type))) d.0 h.0
-    ((spot_atom target.spot p, (spot_atom d.1.spot h.1, tt)), size_number d.0 t.type s (assigned_whole d.0.tags.completed s.made line right d.0.tags target.typed d.1.typed w t k)),
-    tt, ))
+      in_emit line (Copy (atom_in target) (atom_in d.1) (pos (size_or_zero d.0 t.type))) d.0 h.0
+          ((spot_atom target.spot p, (spot_atom d.1.spot h.1, tt)), size_number d.0 t.type s (assigned_whole d.0.tags.completed s.made line right d.0.tags target.typed d.1.typed w t k)),
+      tt,
+    ))
 
 pub scalar_in : (line : ℕ) (before : Code) (tree : Tree) (target : Found) (d : Context × Found) → PiecesIn before.pieces → SpotIn target.spot → E d → Led E (scalar_assigned line before tree target d)
 scalar_in line before tree target d f p h =

@@ -16,9 +16,9 @@ use Rattle.c_decls.specs.TypeRules.{unary, binary}
 use Rattle.c_decls.specs.PlaceRules.{cast, choice, dot, arrow, element, assigned, changed}
 use Rattle.c_decls.specs.Expressions as types
 use Rattle.elaboration.specs.Context.{Context, emit, here, new_label, with_labels, integer_by}
-use Rattle.elaboration.specs.Conversions.{Found, Value, Empty, Unknown, Nowhere, found_as, atom_in, convert, forget, tested_value, code_line, size_or_zero}
-use Rattle.elaboration.specs.Operations.{combined, fixed_sum, offset_of, operator_of, changed_to}
-use Rattle.elaboration.specs.Rules.{set_again, compare_again, at_address, with_value, indexed, member_of, dotted, target_of, pointed, before_number, apply, applied, tells_equal, is_pointer_ahead, ahead, left_operand, between, cast_fixed, cast_to, and_then, and_ends, and_ended, or_else, or_ends, or_ended, chosen_by, choose_first, choose_last, choice_found, chosen}
+use Rattle.elaboration.specs.Conversions.{Found, Value, Nowhere, found_as, atom_in, convert, forget, tested_value, code_line, size_or_zero}
+use Rattle.elaboration.specs.Operations.{offset_of, operator_of, changed_to}
+use Rattle.elaboration.specs.Rules.{set_again, compare_again, indexed, dotted, target_of, pointed, before_number, apply, applied, tells_equal, is_pointer_ahead, ahead, left_operand, between, cast_to, and_then, and_ends, and_ended, or_else, or_ends, or_ended, chosen_by, choose_first, choose_last, chosen}
 use Rattle.elaboration.specs.Assignments.{record_assigned, set_to, scalar_assigned, old_value, change_place, changed_answer, changed_by, one_found, stepped}
 use Rattle.core_soundness.proofs.Growth.{Grows, grows_refl, grows_trans, grows_emit, grows_integer, grows_pointer, grows_forgotten}
 use Rattle.core_soundness.proofs.Grown.{Grown, grown_ok, grown_after, grown_then, grows_cond}

@@ -1,5 +1,5 @@
 -- Declarators, specs and tags have whole types (C99 6.7).
-use Rattle.std.proofs.Common.{◌≡◌, ℕ, ℤ, pos, ◌+ℤ◌, Bool, true, false, ◌||◌, cond, is_some, is_none, All, List, [], ◌∷◌, ◌++◌, length, reverse, slice_get, unwrap_or, option_map, Option, Some, None, Ok, refl, ap, ◌∙◌, arith}
+use Rattle.std.proofs.Common.{◌≡◌, ℕ, ℤ, pos, Bool, true, false, ◌||◌, cond, is_some, is_none, All, List, [], ◌∷◌, ◌++◌, length, reverse, slice_get, unwrap_or, option_map, Option, Some, None, Ok, refl, ap, ◌∙◌, arith}
 use Rattle.std.specs.Option.{option_map_or}
 use Rattle.std.proofs.lemmas.List.Elements.{All-cons}
 use Rattle.hs_base.specs.declared.ends.IntKind.TheVariants.{I32}
@@ -8,11 +8,10 @@ use Rattle.c_types.specs.declared.layouts.Layout.{Layout}
 use Rattle.c_types.specs.declared.types.IntType.TheVariants as i
 use Rattle.c_types.specs.declared.tags.TagInfo.{TagInfo}
 use Rattle.c_types.specs.declared.tags.TagError.{TagError}
-use Rattle.c_types.specs.Types as types
-use Rattle.c_types.specs.Types.{PlainType, PlainTypes, Void, Int, Pointer, Array, Struct, Union, Function, first}
+use Rattle.c_types.specs.Types.{PlainType, PlainTypes, Void, Int, Pointer, Array, Struct, Union, Function}
 use Rattle.c_types.specs.Layouts.{Known, layout_of}
 use Rattle.c_types.specs.TagTable as tables
-use Rattle.c_types.specs.TagTable.{TagTable, CompletedTag, completion, refusal, layout_in}
+use Rattle.c_types.specs.TagTable.{TagTable, CompletedTag, refusal, layout_in}
 use Rattle.core_tree.specs.LayoutsOfTypes.{HasLayout}
 use Rattle.core_tree.specs.declared.statements.Atom.TheVariants as atom
 use Rattle.c_tree.specs.declared.operator.RecordSort.{RecordSort}
@@ -21,16 +20,16 @@ use Rattle.c_tree.specs.Words as w
 use Rattle.c_tree.specs.Forms as f
 use Rattle.c_tree.specs.Tree.{Tree, Trees, Leaf, At, Node, none, ◌▹◌}
 use Rattle.c_tree.specs.Scopes.{name_of}
-use Rattle.c_decls.specs.declared.refusal.TypeKind.TheVariants.{Operands, DeclaredTwice, Incomplete, LeftOut}
+use Rattle.c_decls.specs.declared.refusal.TypeKind.TheVariants.{DeclaredTwice, Incomplete, LeftOut}
 use Rattle.c_decls.specs.Named as n
 use Rattle.c_decls.specs.Named.{PlainNamed}
-use Rattle.c_decls.specs.ScopeList.{Table, named_in, innermost, first_or, with_name, tag_name, after_declaration}
+use Rattle.c_decls.specs.ScopeList.{Table, named_in, innermost, first_or, with_name, tag_name}
 use Rattle.c_decls.specs.Refusals.{Checked, then, unless}
 use Rattle.c_decls.specs.Typed.{is_void, is_record, is_array, is_function, has_no_size}
 use Rattle.c_decls.specs.TypeNames as names
-use Rattle.c_decls.specs.TypeNames.{Layer, PointerTo, ArrayOf, FunctionOf, word_type, record_type, is_union, special_type, array_length, with_layers, with_param_layers, adjusted}
+use Rattle.c_decls.specs.TypeNames.{Layer, record_type, is_union, special_type, array_length, with_layers, with_param_layers, adjusted}
 use Rattle.c_decls.specs.Expressions.{line_of, typed, wanted, constant_from}
-use Rattle.elaboration.specs.Context.{Context, asked, told, entered, local_register}
+use Rattle.elaboration.specs.Context.{Context, asked, entered, local_register}
 use Rattle.elaboration.specs.Conversions.{Memory}
 use Rattle.elaboration.specs.Locals.{is_twice, declared_as, next_is_memory, with_register, with_memory, counted, with_named, memory_param, register_param, function_param, prototype_param, is_prototype, with_param}
 use Rattle.elaboration.specs.Declarators as d

@@ -1,19 +1,19 @@
 -- Specs and layers give types whose tags are of their sorts (C99 6.7.2, 6.7.5).
-use Rattle.std.proofs.Common.{◌≡◌, ◌*◌, ℕ, zero, Bool, true, false, cond, nat_lt, List, [], ◌∷◌, Option, Some, None, Ok, refl}
+use Rattle.std.proofs.Common.{◌≡◌, ◌*◌, ℕ, zero, Bool, true, false, cond, nat_lt, List, [], ◌∷◌, Option, Some, None, refl}
 use Rattle.c_types.specs.declared.tags.TagInfo.{TagInfo}
-use Rattle.c_types.specs.Types.{PlainType, Void, Int, Pointer, Array, Struct, Union, Function}
+use Rattle.c_types.specs.Types.{PlainType, Void, Int, Struct, Union}
 use Rattle.c_types.specs.TagTable.{TagTable, size_in}
 use Rattle.c_tree.specs.declared.operator.RecordSort.{RecordSort}
 use Rattle.c_tree.specs.declared.operator.RecordSort.TheVariants as r
 use Rattle.c_tree.specs.Words as w
 use Rattle.c_tree.specs.Forms as f
 use Rattle.c_tree.specs.Tree.{Tree, Trees, Leaf, At, Node, none, ◌▹◌}
-use Rattle.c_decls.specs.declared.refusal.TypeKind.TheVariants.{LeftOut, Incomplete, TypeTooLarge}
+use Rattle.c_decls.specs.declared.refusal.TypeKind.TheVariants.{LeftOut, TypeTooLarge}
 use Rattle.c_decls.specs.Named as n
 use Rattle.c_decls.specs.Named.{PlainNamed}
 use Rattle.c_decls.specs.ScopeList.{found, tag_name}
 use Rattle.c_decls.specs.Typed.{is_function}
-use Rattle.c_decls.specs.TypeNames.{Context, Layer, PointerTo, ArrayOf, FunctionOf, has, is_void_word, word_type, with_new_tag, same_sort, tag_named, enum_named, type_named, special_type, array_of, layered, layered_before, with_layers}
+use Rattle.c_decls.specs.TypeNames.{Context, Layer, PointerTo, ArrayOf, FunctionOf, has, is_void_word, word_type, same_sort, tag_named, enum_named, type_named, special_type, array_of, layered, layered_before, with_layers}
 use Rattle.elaboration.specs.Initializers.{given_length, with_init_layers}
 use Rattle.core_soundness.proofs.Reached.{Led, led_ok, led_refused, led_after, led_unless}
 use Rattle.core_soundness.proofs.TagSorts.{SortedType, SortedScopes, found_sorted, new_sorted}

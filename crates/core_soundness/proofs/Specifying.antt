@@ -1,5 +1,5 @@
 -- Specs and declarators make no objects at file scope, and leave what was made there.
-use Rattle.std.proofs.Common.{◌≡◌, ℕ, Bool, true, false, cond, List, [], length, slice_get, unwrap_or, Option, Some, None, Ok, ◌≤◌, refl, sym, ◌∙◌, subst, arith}
+use Rattle.std.proofs.Common.{◌≡◌, ℕ, Bool, true, false, cond, List, [], length, slice_get, unwrap_or, Option, Some, None, ◌≤◌, refl, sym, ◌∙◌, subst, arith}
 use Rattle.c_types.specs.declared.types.IntType.TheVariants as i
 use Rattle.c_types.specs.Types.{PlainType, Int}
 use Rattle.core_tree.specs.declared.statements.Atom.TheVariants as atom
@@ -9,7 +9,7 @@ use Rattle.c_tree.specs.Tree.{Tree, Trees}
 use Rattle.c_decls.specs.declared.refusal.TypeKind.TheVariants.{DeclaredTwice}
 use Rattle.c_decls.specs.Named as n
 use Rattle.c_decls.specs.Named.{PlainNamed}
-use Rattle.c_decls.specs.ScopeList.{tag_name, after_declaration}
+use Rattle.c_decls.specs.ScopeList.{tag_name}
 use Rattle.c_decls.specs.Refusals.{Checked}
 use Rattle.c_decls.specs.TypeNames as names
 use Rattle.elaboration.specs.Context.{Context, asked, told, entered, local_register}

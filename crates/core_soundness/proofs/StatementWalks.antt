@@ -8,13 +8,12 @@ use Rattle.core_tree.specs.declared.statements.Atom.{Atom}
 use Rattle.core_tree.specs.declared.statements.StmKind.TheVariants.{Jump, Loop, Enter, Leave}
 use Rattle.c_tree.specs.Forms as f
 use Rattle.c_tree.specs.Tree.{Tree, Trees, At, Node, none, ◌▹◌}
-use Rattle.c_decls.specs.declared.refusal.TypeKind.TheVariants.{Operands, StrayBreak, CaseTwice, LeftOut}
-use Rattle.c_decls.specs.Refusals.{Checked, refused, then, unless}
-use Rattle.c_decls.specs.Expressions.{line_of}
+use Rattle.c_decls.specs.declared.refusal.TypeKind.TheVariants.{StrayBreak, CaseTwice, LeftOut}
+use Rattle.c_decls.specs.Refusals.{Checked, refused, then}
 use Rattle.elaboration.specs.Context.{Piece, Does, Here, Code, Context, entered, left, scoped, emit, here, new_label, with_labels, with_pieces}
 use Rattle.elaboration.specs.Declarators.{constant}
 use Rattle.elaboration.specs.Declarations.{declaration}
-use Rattle.elaboration.specs.Statements.{Around, below, in_loop, in_switch, in_delay, leaves, leave_to, evaluated, maybe_evaluated, leaves_if_zero, maybe_leaves, apart, has_case, with_case, cased, defaulted, dispatch, default_or, switch_operand, no_cases, switched, looped, for_start, statement, items}
+use Rattle.elaboration.specs.Statements.{Around, below, in_loop, in_switch, in_delay, leave_to, evaluated, maybe_evaluated, leaves_if_zero, maybe_leaves, apart, has_case, with_case, cased, defaulted, dispatch, default_or, switch_operand, no_cases, switched, looped, for_start, statement, items}
 use Rattle.core_soundness.proofs.Flow.{Marks}
 use Rattle.core_soundness.proofs.Fragments.{Way, way_on, IsWay, Stands, Leads, AreEarlier, earlier_less, Fragment, anywhere, in_scope, jump_leaves, with_ways, stm_at}
 use Rattle.core_soundness.proofs.Names.{Safe, left_safe, entered_safe}

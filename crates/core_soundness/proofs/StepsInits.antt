@@ -1,5 +1,5 @@
 -- Initializers declare nothing, and go in step (C99 6.7.8).
-use Rattle.std.proofs.Common.{◌≡◌, ◌+◌, ℕ, pos, Bool, true, false, not, cond, length, min, take, List, [], ◌∷◌, Option, Some, None, Ok, refl, subst}
+use Rattle.std.proofs.Common.{◌≡◌, ◌+◌, ℕ, pos, Bool, true, false, not, cond, length, min, List, [], ◌∷◌, Option, Some, None, Ok, refl, subst}
 use Rattle.c_types.specs.Types.{PlainType, Array, Struct, Union}
 use Rattle.core_tree.specs.declared.statements.Atom.{Atom}
 use Rattle.core_tree.specs.declared.statements.Atom.TheVariants as atom
@@ -14,7 +14,7 @@ use Rattle.c_decls.specs.PlaceRules.{converts, unconverted}
 use Rattle.c_decls.specs.Expressions.{line_of, string}
 use Rattle.elaboration.specs.Context.{Context, emit}
 use Rattle.elaboration.specs.Conversions.{Found, Spot, Local, Memory, atom_in, valued, convert, write, size_or_zero}
-use Rattle.elaboration.specs.Reallocates.{opened, closed}
+use Rattle.elaboration.specs.Reallocates.{opened}
 use Rattle.elaboration.specs.Rules.{with_literal}
 use Rattle.elaboration.specs.Expressions.{found}
 use Rattle.elaboration.specs.Addressed.{Taken, taken}

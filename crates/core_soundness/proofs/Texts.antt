@@ -1,5 +1,5 @@
 -- What the external declarations of a text do to what is known.
-use Rattle.std.proofs.Common.{◌≡◌, ◌⊎◌, ◌≤◌, ◌+◌, ℕ, Bool, true, false, not, cond, is_some, length, List, [], ◌∷◌, ◌++◌, sum_by, Option, Some, None, slice_get, slice_set, bytes_eq, Ok, codes, refl, sym, ap, ◌∙◌, subst, arith, ⊎_elim, ltb-false, true≢false}
+use Rattle.std.proofs.Common.{◌≡◌, ◌⊎◌, ◌≤◌, ◌+◌, ℕ, Bool, true, false, not, cond, is_some, length, List, [], ◌∷◌, ◌++◌, sum_by, Option, Some, None, slice_get, slice_set, bytes_eq, codes, refl, sym, ap, ◌∙◌, subst, arith, ⊎_elim, ltb-false, true≢false}
 use Rattle.std.specs.Prelude.{nat_lt}
 use Rattle.std.proofs.lemmas.List.Sums.{sum_by-append}
 use Rattle.c_types.specs.Types.{PlainType}
@@ -9,7 +9,7 @@ use Rattle.c_tree.specs.Forms as f
 use Rattle.c_tree.specs.Tree as t
 use Rattle.c_tree.specs.Tree.{Tree, Trees, At, Node, ◌▹◌}
 use Rattle.c_tree.specs.Scopes.{name_of}
-use Rattle.c_decls.specs.declared.refusal.TypeKind.TheVariants.{Undeclared, DeclaredTwice, Operands, NoMain, LeftOut, ProgramTooLong}
+use Rattle.c_decls.specs.declared.refusal.TypeKind.TheVariants.{Undeclared, DeclaredTwice, NoMain, LeftOut, ProgramTooLong}
 use Rattle.c_decls.specs.declared.built_in.BuiltIn.{BuiltIn}
 use Rattle.c_decls.specs.BuiltIns.{built_ins, numbered_from, first_scopes, name_of as name_of_built_in}
 use Rattle.c_decls.specs.Named as n
@@ -17,7 +17,6 @@ use Rattle.c_decls.specs.ScopeList.{named_in}
 use Rattle.c_decls.specs.Refusals.{Checked, refused}
 use Rattle.c_decls.specs.Typed.{is_function}
 use Rattle.c_decls.specs.TypeNames.{with_layers}
-use Rattle.c_decls.specs.Expressions.{line_of}
 use Rattle.elaboration.specs.Context.{Piece, Does, Code, no_code, Declared, Walked, Context, first_context, emit}
 use Rattle.elaboration.specs.Addressed.{addressed_in}
 use Rattle.elaboration.specs.Declarators.{specs, layers}

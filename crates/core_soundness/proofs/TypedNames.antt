@@ -1,7 +1,7 @@
 -- The types of expressions declare tags alone.
-use Rattle.std.proofs.Common.{ℕ, zero, length, List, [], ◌∷◌, ◌++◌, reverse, Option, Some, None, Ok, subst}
+use Rattle.std.proofs.Common.{ℕ, zero, length, List, [], ◌∷◌, Option, Some, None, Ok, subst}
 use Rattle.c_types.specs.Types as ct
-use Rattle.c_types.specs.Types.{PlainType, first}
+use Rattle.c_types.specs.Types.{PlainType}
 use Rattle.c_types.specs.TagTable.{TagTable}
 use Rattle.c_tree.specs.declared.operator.RecordSort.{RecordSort}
 use Rattle.c_tree.specs.declared.operator.RecordSort.TheVariants as r
@@ -11,7 +11,7 @@ use Rattle.c_tree.specs.Words as w
 use Rattle.c_tree.specs.Forms as f
 use Rattle.c_tree.specs.Tree.{Tree, Trees, Leaf, At, Node, none, ◌▹◌}
 use Rattle.c_tree.specs.Scopes.{name_of}
-use Rattle.c_decls.specs.declared.refusal.TypeKind.TheVariants.{Operands, DeclaredTwice, LeftOut, Incomplete}
+use Rattle.c_decls.specs.declared.refusal.TypeKind.TheVariants.{DeclaredTwice, LeftOut, Incomplete}
 use Rattle.c_decls.specs.Refusals.{Checked}
 use Rattle.c_decls.specs.Named as n
 use Rattle.c_decls.specs.Named.{PlainNamed}

@@ -25,7 +25,7 @@ use Rattle.c_tree.specs.Scopes.{name_of}
 use Rattle.c_decls.specs.declared.built_in.BuiltIn.{BuiltIn}
 use Rattle.c_decls.specs.declared.built_in.BuiltIn.TheVariants as built
 use Rattle.c_decls.specs.declared.constant.Constant.{Constant}
-use Rattle.c_decls.specs.declared.refusal.TypeKind.TheVariants.{Undeclared, Operands, NotLvalue, ArgumentCount, Assignment, DeclaredTwice, Incomplete, NoMember, PointerAndInteger, NotConstant, TypeTooLarge, Format, LeftOut}
+use Rattle.c_decls.specs.declared.refusal.TypeKind.TheVariants.{Operands, NotLvalue, ArgumentCount, Assignment, DeclaredTwice, Incomplete, TypeTooLarge, Format, LeftOut}
 use Rattle.c_decls.specs.declared.typed.Folded.{Folded}
 use Rattle.c_decls.specs.declared.typed.Folded.TheVariants.{Is}
 use Rattle.c_decls.specs.Refusals.{Checked, unless}

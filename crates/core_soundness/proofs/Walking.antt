@@ -1,5 +1,5 @@
 -- What statements do to what is known: their code, and the labels of a switch among them.
-use Rattle.std.proofs.Common.{◌≡◌, ◌⊎◌, ◌≤◌, ◌<◌, ◌+◌, ℕ, zero, suc, ℤ, Bool, false, not, List, [], ◌∷◌, ◌++◌, length, take, drop, Option, Some, None, Ok, refl, sym, ap, ap₂, ◌∙◌, subst, arith, inl, inr, ⊎_elim, append_assoc, append-nil}
+use Rattle.std.proofs.Common.{◌≡◌, ◌⊎◌, ◌≤◌, ◌<◌, ◌+◌, ℕ, zero, suc, ℤ, Bool, false, not, List, [], ◌∷◌, ◌++◌, length, take, drop, Option, Some, None, refl, sym, ap, ap₂, ◌∙◌, subst, arith, inl, inr, ⊎_elim, append_assoc, append-nil}
 use Rattle.c_types.specs.declared.types.IntType.{IntType}
 use Rattle.c_types.specs.Types.{PlainType, Void}
 use Rattle.core_tree.specs.declared.statements.Atom.{Atom}
@@ -15,7 +15,7 @@ use Rattle.elaboration.specs.Context.{Piece, Does, Code, Context, Running, enter
 use Rattle.elaboration.specs.Conversions.{Found, atom_in, valued, convert, convert_integer, code_line, tested_value, unused}
 use Rattle.elaboration.specs.Reallocates.{opened, closed}
 use Rattle.elaboration.specs.Expressions.{found}
-use Rattle.elaboration.specs.Statements.{Around, below, in_loop, in_switch, in_delay, leaves, evaluated, maybe_evaluated, closed_atom, condition, leaves_if_zero, maybe_leaves, returned, return_value, return_of, return_from, switch_operand_of, switch_operand}
+use Rattle.elaboration.specs.Statements.{Around, below, in_loop, in_switch, in_delay, leaves, evaluated, maybe_evaluated, condition, leaves_if_zero, maybe_leaves, returned, return_of, return_from, switch_operand_of, switch_operand}
 use Rattle.core_soundness.proofs.Flow.{Marks, Target, Goes}
 use Rattle.core_soundness.proofs.Fragments.{Way, way_on, IsWay, Leads, AreEarlier, earlier_less, anywhere, joined, zero_leaves, stm_at}
 use Rattle.core_soundness.proofs.Names.{Safe, left_safe}
