@@ -82,11 +82,6 @@ after_aside name v c deep = by (is_some (named_in name (innermost c.scopes)))
     by true = aside_refl c
     by false = name_aside name v c deep
 
-declared_aside : (line : ℕ) (name : List ℕ) (v : PlainNamed) (b : Context) → 1 ≤ length b.scopes.inner → (c : Context) → Aside b c → Led (Aside b) (declared_as line name v c)
-declared_aside line name v b deep c p =
-    led_unless (Aside b) (is_twice c.scopes name v) DeclaredTwice line
-    (λ q. led_ok (Aside b) (aside_trans b c _ p (after_aside name v c (omega (arith, deep, p.depth)))))
-
 -- constants, specs and declarators
 
 same_aside : (c : Context) (tags : TagTable) (params : Table) → Aside c (record c { tags = tags; params = params })
