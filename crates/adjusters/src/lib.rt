@@ -101,6 +101,3 @@ fn is_in(slots: &[u32], offset: u32) -> bool
 {
     slots.binary_search(&offset).is_ok()
 }
-
-#[cfg(test)]
-mod tests;

@@ -17,6 +17,3 @@ mod words;
 pub use ends::report;
 pub use leaks::leak_line;
 pub use lines::{complain, complain_at, complain_labelled};
-
-#[cfg(test)]
-mod tests;

@@ -17,9 +17,6 @@ ghost use Rattle.elaboration.specs.Elaboration.{tags_of};
 ghost use Rattle.core_tree.specs.Sound.{IsSound};
 ghost use Rattle.c_elab.specs.Core.{IsOfTokens, core_in};
 
-#[cfg(test)]
-mod tests;
-
 use c_decls::TypeError;
 use c_tree::Unit;
 use c_types::Tags;

@@ -35,8 +35,3 @@ mod text_name;
 
 pub use answer::{Opened, Place, Pre, PreError, PreKind};
 pub use preprocessor::pre;
-
-#[cfg(test)]
-mod macro_tests;
-#[cfg(test)]
-mod tests;

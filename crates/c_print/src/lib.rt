@@ -22,6 +22,3 @@ pub use format::read_format;
 pub use laws::{numeral_of_its_number, one_format, pieces_of_format};
 pub use piece::{FormatError, Piece};
 pub use print::{put_number, put_repeated};
-
-#[cfg(test)]
-mod tests;

@@ -30,6 +30,3 @@ pub use sizes::{align_of, size_of};
 pub use slots::layout;
 pub use tags::{TagError, TagInfo, Tags};
 pub use types::{CType, IntType, Signature, TagId, same_type};
-
-#[cfg(test)]
-mod tests;

@@ -17,6 +17,3 @@ mod whole;
 pub use file::{CodeError, CodeFile};
 pub use verifier::verify;
 pub use whole::{read_code, write_code};
-
-#[cfg(test)]
-mod tests;

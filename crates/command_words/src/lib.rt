@@ -9,8 +9,6 @@
 mod command;
 mod error;
 mod set;
-#[cfg(test)]
-mod tests;
 mod values;
 
 pub use command::{Command, Task, read};

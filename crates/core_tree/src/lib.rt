@@ -22,6 +22,3 @@ pub use laws::{layouts_of_types, live_by_paths};
 pub use listing::list;
 pub use program::{Core, Func, Mem, Reg, Start, Static};
 pub use statements::{Atom, BinOp, CmpOp, LibName, Stm, StmKind, UnOp};
-
-#[cfg(test)]
-mod tests;

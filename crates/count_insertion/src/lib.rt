@@ -13,6 +13,3 @@ mod pinning;
 pub use counted_meaning::Pin;
 pub use laws::listed_pins_are_exact;
 pub use pinning::{Counted, insert, live_tables};
-
-#[cfg(test)]
-mod tests;

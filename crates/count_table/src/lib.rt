@@ -21,7 +21,8 @@ ghost use Rattle.std.specs.Prelude.{◌≡◌, ◌+◌, ◌-◌, ◌<◌, ◌≤
 ghost use Rattle.count_table.specs.Table.{with_count, lows_of, excess_of};
 
 use excess::Excess;
-use hs_base::{CountRight, NoMemory, Steps};
+use byte_memory::{CountRight, Steps};
+use hs_base::NoMemory;
 use std::alloc::Global;
 use std::marker::Model;
 use std::sync::ledger::Ledger;
@@ -122,6 +123,3 @@ impl Counts {
         self.excess.as_slice()
     }
 }
-
-#[cfg(test)]
-mod tests;

@@ -5,7 +5,7 @@ use Rattle.std.proofs.lemmas.Bool.{cases_lt, cases_order, cond-true, cond-false,
 use Rattle.std.proofs.lemmas.List.{get_or_append_left, get_or_past, get_or_push, length_push}
 use Rattle.std.proofs.lemmas.List.Elements.{All-from_get_or, All-push}
 use Rattle.std.proofs.lemmas.List.Quantifiers.{all_pairs_push}
-use Rattle.hs_base.specs.Bytes.{part}
+use Rattle.byte_memory.specs.Bytes.{part}
 use Rattle.hs_base.specs.Place.{Block, block_size}
 use Rattle.heap_blocks.specs.declared.headers.Header.{Header}
 use Rattle.heap_blocks.specs.Bytes.{ChangesOnly}

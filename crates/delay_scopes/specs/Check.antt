@@ -4,7 +4,7 @@ use Rattle.std.specs.Prelude.{◌≡◌, ◌+◌, ◌-◌, ◌*◌, ◌/◌, ◌
 use Rattle.std.specs.List.{sum_by, range_with_len}
 use Rattle.hs_base.specs.declared.ends.BadFree.{BadFree}
 use Rattle.hs_base.specs.declared.ends.Reason.TheVariants.{Held}
-use Rattle.hs_base.specs.Bytes.{part}
+use Rattle.byte_memory.specs.Bytes.{part}
 use Rattle.hs_base.specs.Freeing.{first_held}
 use Rattle.hs_base.specs.Place.{Block, block_size, without_block}
 use Rattle.heap_blocks.specs.Held.{HeapModel, Holds, HasBounds, HasHeaders, HaveOwnBirths}

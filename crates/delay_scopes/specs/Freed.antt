@@ -3,7 +3,7 @@ use Rattle.std.specs.Prelude.{◌≡◌, ◌≢◌, ◌+◌, ◌-◌, ◌<◌, �
 use Rattle.hs_base.specs.declared.ends.BadFree.{BadFree}
 use Rattle.hs_base.specs.declared.ends.Reason.{Reason}
 use Rattle.hs_base.specs.declared.ends.Reason.TheVariants.{Again, Held, NotStart}
-use Rattle.hs_base.specs.Bytes.{part}
+use Rattle.byte_memory.specs.Bytes.{part}
 use Rattle.hs_base.specs.Place.{Block}
 use Rattle.heap_blocks.specs.declared.headers.Header.{Header}
 use Rattle.heap_blocks.specs.Heads.{header_at}

@@ -1,7 +1,7 @@
 -- The pointers inside objects, and the counts without them.
 use Rattle.std.specs.Prelude.{◌≡◌, ◌+◌, ◌/◌, ◌&&◌, ℕ, not, nat_eq, List, [], map, length, slice_index, slice_index_or, count_by}
 use Rattle.std.specs.List.{flat_map}
-use Rattle.hs_base.specs.Bytes.{word}
+use Rattle.byte_memory.specs.Bytes.{word}
 use Rattle.adjusters.specs.ObjectSlots.{Element, object_slots}
 use Rattle.count_table.specs.Table.{Table}
 use Rattle.delay_scopes.specs.Queue.{header_of}

@@ -2,7 +2,7 @@
 
 ghost use Rattle.std.specs.Prelude.{◌≡◌, ◌+◌, ◌*◌, ◌≤◌, ◌∷◌, [], ℕ, List, length, not, nat_eq, slice_index};
 ghost use Rattle.std.specs.List.{sum_by};
-ghost use Rattle.hs_base.specs.Bytes.{word};
+ghost use Rattle.byte_memory.specs.Bytes.{word};
 ghost use Rattle.hs_base.specs.Freeing.{first_held};
 ghost use Rattle.delay_scopes.specs.Pointers.{LowersBy, into_granule, slots_of, words_in, words_inside};
 ghost use Rattle.delay_scopes.specs.Check.{granules_of, checked};
@@ -12,7 +12,8 @@ use crate::scopes::Scopes;
 use adjusters::Adjuster;
 use count_table::Counts;
 use heap_blocks::{HEADER_SIZE, Header};
-use hs_base::{FlatBytes, Items, Steps};
+use byte_memory::{FlatBytes, Steps};
+use hs_base::Items;
 use std::sync::ledger::Ledger;
 
 /// Takes the pointers in the slots of an object off the counts of the granules that they lead into. At most two steps, and

@@ -2,7 +2,7 @@
 
 ghost use Rattle.std.specs.Prelude.{◌≡◌, ◌+◌, ◌≤◌, ◌⊎◌, ◌∷◌, ◌++◌, [], ℕ, List, All, Contains, fold, length, slice_index};
 ghost use Rattle.std.specs.List.{sum_by};
-ghost use Rattle.hs_base.specs.Bytes.{part};
+ghost use Rattle.byte_memory.specs.Bytes.{part};
 ghost use Rattle.hs_base.specs.Place.{Block, without_block};
 ghost use Rattle.heap_blocks.specs.Bytes.{ChangesOnly};
 ghost use Rattle.heap_blocks.specs.Heads.{header_at};

@@ -24,6 +24,3 @@ mod scopes;
 
 pub use checking::{is_held, take_off_object};
 pub use scopes::Scopes;
-
-#[cfg(test)]
-mod tests;

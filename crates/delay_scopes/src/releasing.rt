@@ -7,7 +7,7 @@ ghost use Rattle.delay_scopes.specs.Walks.{MayRelease};
 
 use crate::scopes::Scopes;
 use heap_blocks::{HEADER_SIZE, Header, Heap};
-use hs_base::{FlatBytes, Steps};
+use byte_memory::{FlatBytes, Steps};
 use std::sync::ledger::Ledger;
 
 impl Scopes {

@@ -13,7 +13,8 @@ ghost use Rattle.delay_scopes.specs.Check.{IsReady, IsReadyForSome, IsReleased, 
 use adjusters::Adjuster;
 use count_table::Counts;
 use heap_blocks::{HEADER_SIZE, Header, Heap, STATE_QUEUED};
-use hs_base::{BadFree, FlatBytes, Items, Line, Reason, Steps};
+use byte_memory::{FlatBytes, Steps};
+use hs_base::{BadFree, Items, Line, Reason};
 use std::marker::Model;
 use std::sync::ledger::Ledger;
 

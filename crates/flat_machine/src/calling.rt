@@ -19,7 +19,8 @@ use crate::state::State;
 use crate::words::{address_in, integer_in};
 use flat_code::{Code, Entry, Instr, Op};
 use flat_objects::Word;
-use hs_base::{End, IntKind, Line, Steps};
+use byte_memory::Steps;
+use hs_base::{End, IntKind, Line};
 use std::sync::ledger::Ledger;
 
 /// A number converted to an int, and from there to a byte.

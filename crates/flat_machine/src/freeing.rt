@@ -21,7 +21,8 @@ ghost use Rattle.flat_machine.specs.Leading.{Alone, Checks};
 
 use crate::state::State;
 use flat_code::{Instr, Op};
-use hs_base::{BadFree, End, Holder, Line, Steps};
+use byte_memory::Steps;
+use hs_base::{BadFree, End, Holder, Line};
 use std::sync::ledger::Ledger;
 
 impl State {

@@ -22,7 +22,8 @@ use crate::making::size_in;
 use crate::state::State;
 use flat_code::Instr;
 use flat_objects::Word;
-use hs_base::{BadFree, End, Line, Steps};
+use byte_memory::Steps;
+use hs_base::{BadFree, End, Line};
 use std::sync::ledger::Ledger;
 
 impl State {

@@ -22,7 +22,8 @@ use crate::calls::Calls;
 use crate::state::State;
 use crate::words::address_in;
 use flat_objects::{FlatObjects, Holding};
-use hs_base::{Holder, Pointer, Steps};
+use byte_memory::Steps;
+use hs_base::{Holder, Pointer};
 use std::sync::ledger::Ledger;
 
 /// The memory local of a birth: the number of its function and its own, if it is one of these calls.

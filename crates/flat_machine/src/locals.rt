@@ -8,7 +8,7 @@ ghost use Rattle.flat_machine.specs.Standing.{Stands};
 
 use crate::state::State;
 use flat_code::{Code, Entry};
-use hs_base::Steps;
+use byte_memory::Steps;
 use std::sync::ledger::Ledger;
 
 /// The size of a layout.

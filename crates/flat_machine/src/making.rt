@@ -16,7 +16,8 @@ ghost use Rattle.flat_machine.specs.Leading.{Alone};
 use crate::state::State;
 use flat_code::{Instr, Op};
 use flat_objects::Word;
-use hs_base::{Line, Steps};
+use byte_memory::Steps;
+use hs_base::Line;
 use std::sync::ledger::Ledger;
 
 /// A number converted to `size_t`.

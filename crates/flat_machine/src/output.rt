@@ -16,7 +16,8 @@ use crate::calling::byte_in;
 use crate::state::State;
 use core_tree::LibName;
 use flat_objects::Word;
-use hs_base::{End, Line, Sink, Source, Steps, TrapKind, put_all};
+use byte_memory::Steps;
+use hs_base::{End, Line, Sink, Source, TrapKind, put_all};
 use std::sync::ledger::Ledger;
 
 impl State {

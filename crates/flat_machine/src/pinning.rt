@@ -10,7 +10,8 @@ ghost use Rattle.flat_machine.specs.Pinning.{DoesCount, IsCountable, IsCounted, 
 use crate::calls::Calls;
 use crate::words::address_in;
 use flat_objects::FlatObjects;
-use hs_base::{Items, Pointer, Steps};
+use byte_memory::Steps;
+use hs_base::{Items, Pointer};
 use std::sync::ledger::Ledger;
 
 /// The registers that count at an instruction, and none where it has no site.

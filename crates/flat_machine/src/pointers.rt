@@ -14,7 +14,8 @@ ghost use Rattle.flat_machine.specs.Leading.{Alone};
 use crate::state::State;
 use flat_code::{Instr, Op};
 use flat_objects::Word;
-use hs_base::{End, Line, Steps};
+use byte_memory::Steps;
+use hs_base::{End, Line};
 use std::sync::ledger::Ledger;
 
 impl State {

@@ -23,7 +23,8 @@ use crate::put_error::PutError;
 use crate::state::State;
 use c_print::{Piece, put_number, put_repeated};
 use flat_objects::Word;
-use hs_base::{End, Failed, IntKind, Line, Sink, Steps, put_all};
+use byte_memory::Steps;
+use hs_base::{End, Failed, IntKind, Line, Sink, put_all};
 use std::sync::ledger::Ledger;
 
 /// How a string stands in its width.

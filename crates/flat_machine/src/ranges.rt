@@ -25,7 +25,8 @@ use crate::state::State;
 use core_tree::LibName;
 use flat_code::Op;
 use flat_objects::Word;
-use hs_base::{End, Line, Sink, Source, Steps};
+use byte_memory::Steps;
+use hs_base::{End, Line, Sink, Source};
 use std::sync::ledger::Ledger;
 
 /// A number of bytes; there are none below 0.

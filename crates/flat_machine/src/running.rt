@@ -16,7 +16,8 @@ use crate::state::State;
 use crate::steps::one_step;
 use code_soundness::{run_begins_well, step_leaves_less, step_stays_good};
 use flat_code::Code;
-use hs_base::{End, Sink, Source, Steps};
+use byte_memory::Steps;
+use hs_base::{End, Sink, Source};
 use std::sync::ledger::{Blank, Ledger};
 
 /// Makes instructions until the run ends: groups of them in one where that can be, and else one by one.

@@ -13,7 +13,8 @@ ghost use Rattle.flat_machine.specs.Loading.{HasPlaced, HasRoom, HasStarted, blo
 use c_types::Layout;
 use flat_code::{Code, StaticInit};
 use flat_objects::FlatObjects;
-use hs_base::{Limits, NoMemory, Steps};
+use byte_memory::Steps;
+use hs_base::{Limits, NoMemory};
 use std::alloc::Global;
 use std::marker::Brand;
 use std::sync::ledger::{Blank, Ledger};

@@ -28,7 +28,8 @@ use c_print::Piece;
 use code_soundness::running_pins_are_fresh;
 use flat_code::{Code, Instr, Op};
 use flat_objects::Word;
-use hs_base::{End, Items, Line, Sink, Source, Steps};
+use byte_memory::Steps;
+use hs_base::{End, Items, Line, Sink, Source};
 use std::sync::ledger::Ledger;
 
 /// The pieces at a place, and none where there are none.

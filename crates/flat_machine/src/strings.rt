@@ -19,7 +19,8 @@ use crate::put_error::PutError;
 use crate::state::State;
 use core_tree::LibName;
 use flat_objects::Word;
-use hs_base::{End, Failed, Line, Sink, Steps, put_all};
+use byte_memory::Steps;
+use hs_base::{End, Failed, Line, Sink, put_all};
 use std::sync::ledger::Ledger;
 
 /// How many bytes of a string are written at once.

@@ -4,9 +4,9 @@ use Rattle.std.specs.Prelude.{slice_index, slice_index_or}
 use Rattle.std.proofs.lemmas.List.{get_or_default}
 use Rattle.hs_base.specs.declared.values.Pointer.TheVariants as pointer
 use Rattle.hs_base.specs.Access.{little_endian}
-use Rattle.hs_base.specs.Bytes.{part, word}
+use Rattle.byte_memory.specs.Bytes.{part, word}
 use Rattle.hs_base.specs.Object.{Object, Standing}
-use Rattle.hs_base.proofs.Words.{word_1}
+use Rattle.byte_memory.proofs.Words.{word_1}
 use Rattle.adjusters.specs.ObjectSlots.{Element}
 use Rattle.heap_blocks.specs.Heads.{header_at}
 use Rattle.flat_objects.specs.Memory.{Memory, heap_of, range_of}

@@ -5,7 +5,7 @@ use Rattle.std.proofs.lemmas.Bool.{cases_Bool, cond-true, cond-false}
 use Rattle.hs_base.specs.declared.ends.BadFree.{BadFree}
 use Rattle.hs_base.specs.declared.ends.Reason.{Reason}
 use Rattle.hs_base.specs.declared.ends.Reason.TheVariants.{Held}
-use Rattle.hs_base.specs.Bytes.{part}
+use Rattle.byte_memory.specs.Bytes.{part}
 use Rattle.hs_base.specs.Freeing.{check_numbers, first_held, freed_at, line_of_free, objects_of, pointers_inside, queued}
 use Rattle.hs_base.specs.Object as object
 use Rattle.hs_base.specs.Object.{Object, Standing, is_queued, object_at}

@@ -4,9 +4,9 @@ use Rattle.std.specs.Prelude.{slice_index}
 use Rattle.hs_base.specs.declared.values.Pointer.{Pointer}
 use Rattle.hs_base.specs.declared.values.Pointer.TheVariants as pointer
 use Rattle.hs_base.specs.Access.{Place, Refusal, and_then, access_integer, touches_slot}
-use Rattle.hs_base.specs.Bytes.{word}
+use Rattle.byte_memory.specs.Bytes.{word}
 use Rattle.hs_base.specs.Object.{Object, object_at}
-use Rattle.hs_base.proofs.Words.{word_1}
+use Rattle.byte_memory.proofs.Words.{word_1}
 use Rattle.adjusters.specs.ObjectSlots.{Element, object_slots}
 use Rattle.object_meaning.specs.Strings.{behind, byte_behind, room_at}
 use Rattle.flat_objects.specs.declared.finding.Found.{Found}

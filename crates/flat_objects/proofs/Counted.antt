@@ -11,7 +11,7 @@ use Rattle.std.proofs.Math.ListN.{length-set}
 use Rattle.hs_base.specs.declared.values.Pointer.{Pointer}
 use Rattle.hs_base.specs.declared.values.Pointer.TheVariants as pointer
 use Rattle.hs_base.specs.Access.{with_object}
-use Rattle.hs_base.specs.Bytes.{word, put_word}
+use Rattle.byte_memory.specs.Bytes.{word, put_word}
 use Rattle.hs_base.specs.Object.{Object, is_dead, no_object, object_at}
 use Rattle.count_table.specs.Table.{Table, with_count}
 use Rattle.delay_scopes.specs.Queue.{ScopesModel}

@@ -9,7 +9,7 @@ use Rattle.hs_base.specs.declared.values.Pointer.TheVariants as pointer
 use Rattle.hs_base.specs.declared.values.Value.{Value}
 use Rattle.hs_base.specs.Access as access
 use Rattle.hs_base.specs.Access.{Place, Refusal, ReadsDead, and_then, access_integer, access_pointer, integer_at, little_endian, touches_slot, slots_below}
-use Rattle.hs_base.specs.Bytes.{word, part}
+use Rattle.byte_memory.specs.Bytes.{word, part}
 use Rattle.hs_base.specs.Numbers.{width, wrapped}
 use Rattle.hs_base.specs.Object.{Object, object_at}
 use Rattle.object_meaning.specs.Values.{number, address, is_stale}

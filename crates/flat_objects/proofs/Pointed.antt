@@ -7,7 +7,7 @@ use Rattle.std.proofs.lemmas.List.Elements.{All-head, All-tail}
 use Rattle.std.proofs.Math.ListN.{length-set}
 use Rattle.hs_base.specs.declared.values.Pointer.TheVariants as pointer
 use Rattle.hs_base.specs.Access.{with_object, with_pointer, slots_below}
-use Rattle.hs_base.specs.Bytes.{word, put_word}
+use Rattle.byte_memory.specs.Bytes.{word, put_word}
 use Rattle.hs_base.specs.Object.{Object, Standing, is_dead, no_object, object_at}
 use Rattle.object_meaning.specs.Making.{first_pointer}
 use Rattle.flat_objects.specs.Memory.{Memory, IsMemory}

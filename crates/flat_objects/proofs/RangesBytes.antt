@@ -3,7 +3,7 @@ use Rattle.std.proofs.Common.{◌≡◌, ◌<◌, ◌≤◌, ◌+◌, ◌-◌, �
 use Rattle.std.proofs.lemmas.Bool.{cases_lt}
 use Rattle.std.proofs.lemmas.Slice.{drop-append-drop}
 use Rattle.hs_base.specs.Access.{overlaid}
-use Rattle.hs_base.specs.Bytes.{part}
+use Rattle.byte_memory.specs.Bytes.{part}
 use Rattle.heap_blocks.specs.Bytes.{ChangesOnly}
 use Rattle.typed_copies.proofs.Overlaid.{at_before, at_behind, at_inside, overlaid_len, part_before}
 

@@ -5,7 +5,7 @@ use Rattle.hs_base.specs.declared.values.Pointer.{Pointer}
 use Rattle.hs_base.specs.declared.values.Pointer.TheVariants as pointer
 use Rattle.hs_base.specs.Access as access
 use Rattle.hs_base.specs.Access.{filled, overlaid, slots_below, slots_within, touches_slot, with_object}
-use Rattle.hs_base.specs.Bytes.{part, word}
+use Rattle.byte_memory.specs.Bytes.{part, word}
 use Rattle.hs_base.specs.Object.{Object, object_at}
 use Rattle.count_table.specs.Table.{Table}
 use Rattle.heap_blocks.specs.Bytes.{ChangesOnly}

@@ -7,7 +7,7 @@ use Rattle.std.proofs.lemmas.List.{get_or_default}
 use Rattle.hs_base.specs.declared.ends.Holder.{Holder}
 use Rattle.hs_base.specs.declared.values.Pointer.{Pointer}
 use Rattle.hs_base.specs.declared.values.Pointer.TheVariants as pointer
-use Rattle.hs_base.specs.Bytes.{word}
+use Rattle.byte_memory.specs.Bytes.{word}
 use Rattle.hs_base.specs.Freeing.{is_pointer_to}
 use Rattle.hs_base.specs.Object as object
 use Rattle.hs_base.specs.Object.{Object, Standing, is_dead, is_queued, no_object, object_at}

@@ -8,10 +8,11 @@ use Rattle.hs_base.specs.declared.ends.IntKind.{IntKind}
 use Rattle.hs_base.specs.declared.values.Pointer.{Pointer}
 use Rattle.hs_base.specs.declared.values.Pointer.TheVariants as pointer
 use Rattle.hs_base.specs.Access.{Place, Refusal, and_then, access_integer, access_pointer, with_integer, with_pointer, with_object, touches_slot, slots_below, little_endian, bytes_of, overlaid}
-use Rattle.hs_base.specs.Bytes.{word, put_word}
+use Rattle.byte_memory.specs.Bytes.{word, put_word}
 use Rattle.hs_base.specs.Numbers.{width, low_bits}
 use Rattle.hs_base.specs.Object.{Object, object_at}
-use Rattle.hs_base.proofs.Words.{word_1, word_same, word_before, word_past, part_before, part_past, part_inside, length-put_word, length-bytes_of}
+use Rattle.hs_base.proofs.NumberBytes.{length-bytes_of}
+use Rattle.byte_memory.proofs.Words.{word_1, word_same, word_before, word_past, part_before, part_past, part_inside, length-put_word}
 use Rattle.heap_blocks.specs.Bytes.{ChangesOnly}
 use Rattle.object_meaning.specs.Memory.{stored, stored_pointer}
 use Rattle.flat_objects.specs.Memory.{Memory, IsMemory}

@@ -4,7 +4,7 @@ use Rattle.std.specs.List.{enumerate_from}
 use Rattle.hs_base.specs.declared.values.Pointer.{Pointer}
 use Rattle.hs_base.specs.declared.values.Pointer.TheVariants.{Null}
 use Rattle.hs_base.specs.Access.{touches_slot}
-use Rattle.hs_base.specs.Bytes.{word}
+use Rattle.byte_memory.specs.Bytes.{word}
 use Rattle.hs_base.specs.Object as object
 use Rattle.hs_base.specs.Object.{Object, Sort, Standing, Live, Queued, Dead, is_dead, object_at}
 use Rattle.hs_base.specs.Place.{Block, block_size}

@@ -15,7 +15,8 @@ ghost use Rattle.flat_objects.specs.Counting.{IsStorable, StaysTracked};
 use crate::finding::Found;
 use crate::forms::touches_slot;
 use crate::memory::FlatObjects;
-use hs_base::{IntKind, Pointer, Steps, TrapKind};
+use byte_memory::Steps;
+use hs_base::{IntKind, Pointer, TrapKind};
 use std::sync::ledger::Ledger;
 
 /// The low bits of a number, as many as a kind has.

@@ -12,7 +12,8 @@ ghost use Rattle.flat_objects.specs.Moving.{IsFar, MovesTo};
 
 use crate::memory::FlatObjects;
 use core_tree::CmpOp;
-use hs_base::{IntKind, Pointer, Steps, TrapKind};
+use byte_memory::Steps;
+use hs_base::{IntKind, Pointer, TrapKind};
 use std::sync::ledger::Ledger;
 
 /// The address of a place in an object of a size, where it is from its start to one past its end.

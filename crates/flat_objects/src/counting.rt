@@ -1,7 +1,7 @@
 //! The pointers that count: those inside objects, and those that the caller pins.
 
 ghost use Rattle.std.specs.Prelude.{◌≡◌, ◌+◌, ◌/◌, ◌<◌, ◌≤◌, ◌∷◌, ◌++◌, ℕ, List, length, slice_index, sum};
-ghost use Rattle.hs_base.specs.Bytes.{put_word, word};
+ghost use Rattle.byte_memory.specs.Bytes.{put_word, word};
 ghost use Rattle.hs_base.specs.Object.{Object};
 ghost use Rattle.flat_objects.specs.Memory.{SameFrame};
 ghost use Rattle.flat_objects.specs.Keeping.{Keeps};
@@ -9,7 +9,8 @@ ghost use Rattle.flat_objects.specs.Counting.{Frees, IsPinnable, IsUnpinnable, M
 
 use crate::memory::FlatObjects;
 use count_table::Counts;
-use hs_base::{Pointer, Steps};
+use byte_memory::Steps;
+use hs_base::Pointer;
 use std::sync::ledger::Ledger;
 
 /// One more for the granule of an address. Null is in none.

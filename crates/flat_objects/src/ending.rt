@@ -19,7 +19,8 @@ use crate::memory::FlatObjects;
 use adjusters::Adjuster;
 use count_table::Counts;
 use delay_scopes::{is_held, take_off_object};
-use hs_base::{FlatBytes, Items, Pointer, Steps};
+use byte_memory::{FlatBytes, Steps};
+use hs_base::{Items, Pointer};
 use std::sync::ledger::Ledger;
 
 /// Takes the pointers in the slots of the objects at these addresses off the counts.
@@ -116,6 +117,3 @@ impl FlatObjects {
         None
     }
 }
-
-#[cfg(test)]
-mod tests;

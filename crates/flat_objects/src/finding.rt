@@ -10,7 +10,8 @@ ghost use Rattle.flat_objects.specs.Reaching.{IsFound};
 
 use crate::memory::FlatObjects;
 use heap_blocks::{HEADER_SIZE, Header};
-use hs_base::{Pointer, Steps};
+use byte_memory::Steps;
+use hs_base::Pointer;
 use std::sync::ledger::Ledger;
 
 /// An offset in an object: the address of the object's first byte, the offset, the object's size in bytes, and the number

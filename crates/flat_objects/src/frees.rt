@@ -11,7 +11,8 @@ ghost use Rattle.flat_objects.specs.Freeing.{AnswersCheck, AnswersFree, IsFreeab
 
 use crate::memory::FlatObjects;
 use delay_scopes::laws::other_bytes_stay;
-use hs_base::{BadFree, Line, Steps};
+use byte_memory::Steps;
+use hs_base::{BadFree, Line};
 use std::sync::ledger::Ledger;
 
 impl FlatObjects {

@@ -10,7 +10,8 @@ ghost use Rattle.flat_objects.specs.Searching.{IsFirstSlot, IsHoldingAt, IsKeptS
 
 use crate::memory::FlatObjects;
 use heap_blocks::{HEADER_SIZE, Header, STATE_QUEUED};
-use hs_base::{Line, Steps};
+use byte_memory::Steps;
+use hs_base::Line;
 use std::sync::ledger::Ledger;
 
 /// What an object is, by the range of addresses in which it stands (C99 6.2.4 has a storage duration for each).

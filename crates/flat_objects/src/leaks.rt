@@ -9,7 +9,8 @@ ghost use Rattle.flat_objects.specs.Leaks.{IsHeaderAt, KeepsSome, leak_after, le
 
 use crate::memory::FlatObjects;
 use heap_blocks::{HEADER_SIZE, Header};
-use hs_base::{Leak, Line, Steps};
+use byte_memory::Steps;
+use hs_base::{Leak, Line};
 use std::sync::ledger::Ledger;
 
 /// The least line above another that was met, with the line of what was met next.

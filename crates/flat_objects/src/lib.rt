@@ -45,6 +45,3 @@ mod words;
 pub use holders::{Holding, Storage};
 pub use memory::FlatObjects;
 pub use words::Word;
-
-#[cfg(test)]
-mod tests;

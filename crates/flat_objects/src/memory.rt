@@ -4,7 +4,8 @@ use adjusters::Adjuster;
 use count_table::Counts;
 use delay_scopes::Scopes;
 use heap_blocks::Heap;
-use hs_base::{FlatBytes, Items};
+use byte_memory::FlatBytes;
+use hs_base::Items;
 use std::marker::Model;
 
 /// One memory of bytes with three ranges side by side: the statics, the memory locals and the heap. Each object that is not

@@ -13,7 +13,8 @@ ghost use Rattle.flat_objects.specs.Adding.{IsAdded, with_place};
 ghost use Rattle.flat_objects.specs.Counting.{Frees, Tracks};
 
 use crate::memory::FlatObjects;
-use hs_base::{Line, Steps};
+use byte_memory::Steps;
+use hs_base::Line;
 use std::sync::ledger::Ledger;
 
 impl FlatObjects {

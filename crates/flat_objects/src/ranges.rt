@@ -13,7 +13,8 @@ ghost use Rattle.flat_objects.specs.Counting.{IsStorable, StaysTracked};
 ghost use Rattle.flat_objects.specs.Ranges.{IsGrowable, IsRangeAt, IsSettable, TriesRange, grown, shared_size};
 
 use crate::memory::FlatObjects;
-use hs_base::{Pointer, Steps, TrapKind};
+use byte_memory::Steps;
+use hs_base::{Pointer, TrapKind};
 use std::sync::ledger::Ledger;
 use typed_copies::Ranged;
 

@@ -21,7 +21,8 @@ use c_types::Layout;
 use count_table::Counts;
 use delay_scopes::Scopes;
 use heap_blocks::Heap;
-use hs_base::{FlatBytes, Items, NoMemory, Pointer, Steps};
+use byte_memory::{FlatBytes, Steps};
+use hs_base::{Items, NoMemory, Pointer};
 use std::alloc::Global;
 use std::sync::ledger::Ledger;
 

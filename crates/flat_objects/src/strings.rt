@@ -12,7 +12,8 @@ ghost use Rattle.flat_objects.specs.Texts.{KeepsText, IsKeptText, IsStringByte, 
 use crate::finding::Found;
 use crate::forms::touches_slot;
 use crate::memory::FlatObjects;
-use hs_base::{Pointer, Steps, TrapKind};
+use byte_memory::Steps;
+use hs_base::{Pointer, TrapKind};
 use std::sync::ledger::Ledger;
 
 /// One byte more than the object of a string has: no string in it is longer.

@@ -9,7 +9,8 @@ ghost use Rattle.flat_objects.specs.Tries.{AnswersTry, IsHeapStart};
 
 use crate::memory::FlatObjects;
 use heap_blocks::{HEADER_SIZE, Header, STATE_QUEUED};
-use hs_base::{Pointer, Reason, Steps};
+use byte_memory::Steps;
+use hs_base::{Pointer, Reason};
 use std::sync::ledger::Ledger;
 
 impl FlatObjects {

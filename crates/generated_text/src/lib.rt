@@ -13,6 +13,3 @@ mod text;
 
 pub use summary::{Summary, put_summary};
 pub use text::generate;
-
-#[cfg(test)]
-mod tests;

@@ -4,7 +4,7 @@ use Rattle.std.specs.Prelude.{All, slice_get}
 use Rattle.std.proofs.lemmas.Bool.{cases_lt}
 use Rattle.std.proofs.lemmas.List.Elements.{All-push}
 use Rattle.std.proofs.lemmas.List.Quantifiers.{all_pairs_push}
-use Rattle.hs_base.specs.Bytes.{word}
+use Rattle.byte_memory.specs.Bytes.{word}
 use Rattle.hs_base.specs.Place.{Block, block_size}
 use Rattle.heap_blocks.specs.declared.headers.Header.{Header}
 use Rattle.heap_blocks.specs.declared.marks.Mark.{Mark}

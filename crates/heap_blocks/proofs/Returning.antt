@@ -4,7 +4,7 @@ use Rattle.std.specs.Prelude.{All, Contains, filter, nat_eq}
 use Rattle.std.proofs.lemmas.Bool.{cases_lt, cases_order, not-true, not-false, eqb-true, eqb-false}
 use Rattle.std.proofs.lemmas.List.Elements.{All-filter, All-from_get_or, All-contains, filter_passes}
 use Rattle.std.proofs.lemmas.List.Kept.{AllPairs-filter}
-use Rattle.hs_base.specs.Bytes.{word}
+use Rattle.byte_memory.specs.Bytes.{word}
 use Rattle.hs_base.specs.Place.{Block, block_size, without_block}
 use Rattle.heap_blocks.specs.declared.marks.Mark.{Mark}
 use Rattle.heap_blocks.specs.declared.marks.Mark.TheVariants.{Free}

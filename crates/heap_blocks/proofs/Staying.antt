@@ -3,7 +3,7 @@ use Rattle.std.proofs.Common.{subst, sym, ◌≡◌, ◌≤◌, ◌+◌, ◌⊎�
 use Rattle.std.specs.Prelude.{Contains}
 use Rattle.std.proofs.lemmas.Bool.{cases_order}
 use Rattle.std.proofs.lemmas.List.Elements.{All-from_get_or}
-use Rattle.hs_base.specs.Bytes.{word}
+use Rattle.byte_memory.specs.Bytes.{word}
 use Rattle.hs_base.specs.Place.{Block, block_size}
 use Rattle.heap_blocks.specs.declared.headers.Header.{Header}
 use Rattle.heap_blocks.specs.Heads.{header_at}

@@ -1,6 +1,6 @@
 -- What a change of bytes leaves.
 use Rattle.std.specs.Prelude.{◌≡◌, ℕ, ◌+◌, ◌≤◌, List, length}
-use Rattle.hs_base.specs.Bytes.{part}
+use Rattle.byte_memory.specs.Bytes.{part}
 
 -- as many bytes as before, and those outside n bytes from an address are the same
 pub record ChangesOnly (before after : List ℕ) (addr n : ℕ) : Type 0 where

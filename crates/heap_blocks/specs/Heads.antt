@@ -1,6 +1,6 @@
 -- What the header of a block is in bytes.
 use Rattle.std.specs.Prelude.{ℕ, ◌+◌, List}
-use Rattle.hs_base.specs.Bytes.{word}
+use Rattle.byte_memory.specs.Bytes.{word}
 use Rattle.heap_blocks.specs.declared.headers.Header.{Header}
 
 -- the header of the block at an address

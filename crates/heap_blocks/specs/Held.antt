@@ -1,7 +1,7 @@
 -- Which blocks a heap holds.
 use Rattle.std.specs.Prelude.{◌≡◌, ◌≢◌, ℕ, ◌+◌, ◌-◌, ◌*◌, ◌/◌, ◌%◌, ◌^◌, ◌<◌, ◌≤◌, ◌⊎◌, Bool, true, false, cond, ◌&&◌, nat_lt, nat_le, List, [], ◌∷◌, ◌++◌, length, All, AllPairs, Contains, find, Option, Some, option_map, map, slice_get, replicate}
 use Rattle.hs_base.specs.Place.{Block, block_size, first_fit, rounded_up}
-use Rattle.hs_base.specs.Bytes.{word, part}
+use Rattle.byte_memory.specs.Bytes.{word, part}
 use Rattle.heap_blocks.specs.declared.headers.Header.{Header}
 use Rattle.heap_blocks.specs.declared.marks.Mark.{Mark}
 use Rattle.heap_blocks.specs.declared.marks.Mark.TheVariants.{Free, Of}

@@ -1,7 +1,7 @@
 //! The heap: which of its bytes are held.
 
 ghost use Rattle.std.specs.Prelude.{◌≡◌, ℕ, ◌+◌, ◌*◌, ◌/◌, ◌%◌, ◌^◌, ◌<◌, ◌≤◌, List, [], length, replicate, Contains, IfOk, IfSome, IfNone, MatchOption, option_map};
-ghost use Rattle.hs_base.specs.Bytes.{part};
+ghost use Rattle.byte_memory.specs.Bytes.{part};
 ghost use Rattle.hs_base.specs.Place.{Block, block_size, rounded_up, with_block, without_block};
 ghost use Rattle.heap_blocks.specs.Bytes.{ChangesOnly};
 ghost use Rattle.heap_blocks.specs.Heads.{new_header};
@@ -11,7 +11,8 @@ ghost use Rattle.heap_blocks.specs.Held.{Holds, HasAddress, HasBounds, HasHeader
 use crate::headers::{HEADER_SIZE, Header};
 use crate::marks::{Mark, fill_marks};
 use hole_tree::Holes;
-use hs_base::{FlatBytes, Items, Line, NoMemory, Steps};
+use byte_memory::{FlatBytes, Steps};
+use hs_base::{Items, Line, NoMemory};
 use std::alloc::Global;
 use std::marker::Model;
 use std::sync::ledger::Ledger;

@@ -1,11 +1,12 @@
 //! The header of a block.
 
 ghost use Rattle.std.specs.Prelude.{◌≡◌, ◌+◌, ◌^◌, ◌<◌, ◌≤◌, length};
-ghost use Rattle.hs_base.specs.Bytes.{word};
+ghost use Rattle.byte_memory.specs.Bytes.{word};
 ghost use Rattle.heap_blocks.specs.Bytes.{ChangesOnly};
 ghost use Rattle.heap_blocks.specs.Heads.{header_at, new_header};
 
-use hs_base::{FlatBytes, Line, Steps};
+use byte_memory::{FlatBytes, Steps};
+use hs_base::Line;
 use std::sync::ledger::Ledger;
 
 /// How many bytes a header has.

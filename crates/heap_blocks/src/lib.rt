@@ -1,6 +1,6 @@
 //! Blocks of the heap in byte memory: where they are placed, their headers, and how they are given back.
 //!
-//! A [`Heap`] is a range of addresses of a memory of bytes ([`hs_base::FlatBytes`]). [`Heap::place`] places a block by
+//! A [`Heap`] is a range of addresses of a memory of bytes ([`byte_memory::FlatBytes`]). [`Heap::place`] places a block by
 //! first fit, at the lowest multiple of 16 from the heap's start where it is free: a header of 32 bytes, the object, all
 //! of whose bytes are 0, and at least one byte more. [`Heap::release`] gives a block back, and [`Heap::owner`] answers
 //! the object whose block holds an address, by one mark: each 16 bytes of the heap have a mark that names the start of
@@ -24,8 +24,3 @@ mod marks;
 
 pub use blocks::Heap;
 pub use headers::{HEADER_SIZE, Header, STATE_LIVE, STATE_QUEUED};
-
-#[cfg(test)]
-mod fit_tests;
-#[cfg(test)]
-mod tests;

@@ -16,6 +16,3 @@ mod node;
 mod tree;
 
 pub use holes::Holes;
-
-#[cfg(test)]
-mod tests;

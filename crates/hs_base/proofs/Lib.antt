@@ -1,5 +1,5 @@
 pub mod Running
 pub mod Wrapping
 pub mod Quotients
-pub mod Words
+pub mod NumberBytes
 pub mod Placing

@@ -12,4 +12,3 @@ pub mod Cost
 pub mod Cut
 pub mod Runs
 pub mod PutAll
-pub mod Bytes

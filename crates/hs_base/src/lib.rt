@@ -8,15 +8,12 @@
 //!   [`put_all`] writes a whole slice to a sink.
 //! - [`End`] says how a run ends, with [`TrapKind`], [`BadFree`], [`Holder`] and the rest of its parts.
 //! - [`IntKind`] is a kind of integer, with its range and its arithmetic.
-//! - [`FlatBytes`] is memory as a list of bytes, each read and write of which is one step of a counter, [`Steps`]. Only
-//!   who has a [`CountRight`] begins a count.
 //!
 //! `specs/` has the definitions that several crates speak of: objects, states, access, freeing, placement, cost,
 //! events, ends, and how a finished trace is cut by the size of the stack.
 #![tactic(auto)]
 
 mod ends;
-mod flat_bytes;
 mod items;
 mod memory;
 mod numbers;
@@ -24,20 +21,14 @@ mod output;
 mod outside;
 mod plan;
 mod real;
-mod steps;
 mod sure;
 mod values;
 
 pub use ends::{BadFree, End, Holder, IntKind, Leak, Limits, Line, Reason, TrapKind};
-pub use flat_bytes::FlatBytes;
 pub use items::{Items, NoMemory};
 pub use memory::{MemSink, MemSource, MemTexts};
 pub use output::put_all;
 pub use outside::{Failed, Sink, Source, Texts};
 pub use real::{FileTexts, StdSink, StdSource};
-pub use steps::{CountRight, Steps};
 pub use sure::{SureSink, SureSource, SureTexts};
 pub use values::{Pointer, Value};
-
-#[cfg(test)]
-mod tests;

@@ -8,6 +8,7 @@ use crate::IntKind;
 
 impl IntKind {
     /// The width in bytes (C99 5.2.4.2.1).
+    #[inline(always)]
     pub fn bytes(self) -> u32
         ensures { result ≡ width self }
     {
@@ -20,6 +21,7 @@ impl IntKind {
     }
 
     /// The width in bits.
+    #[inline(always)]
     pub fn bits(self) -> u32
         ensures value { result ≡ width_in_bits self }
         ensures bound { result ≤ 64 }
@@ -28,6 +30,7 @@ impl IntKind {
     }
 
     /// Whether the kind has negative numbers.
+    #[inline(always)]
     pub fn is_signed(self) -> bool
         ensures { result ≡ is_signed self }
     {
@@ -38,6 +41,7 @@ impl IntKind {
     }
 
     /// The least number of the kind.
+    #[inline(always)]
     pub fn least(self) -> i128
         ensures { result ≡ least self }
     {
@@ -51,6 +55,7 @@ impl IntKind {
     }
 
     /// The greatest number of the kind.
+    #[inline(always)]
     pub fn greatest(self) -> i128
         ensures { result ≡ greatest self }
     {
@@ -67,6 +72,7 @@ impl IntKind {
     }
 
     /// The number converted to the kind: its low bits, read as the kind reads them (C99 6.3.1.3).
+    #[inline(always)]
     pub fn wrap(self, n: i128) -> i128
         ensures value { result ≡ wrapped self n }
         ensures in_range { IsInRange self result }
@@ -82,6 +88,7 @@ impl IntKind {
     }
 
     /// Whether the kind has this number, so that a conversion to the kind keeps it.
+    #[inline(always)]
     pub fn holds(self, n: i128) -> bool
         ensures { IsTrue result ↔ (wrapped self n ≡ n) }
     {
@@ -89,6 +96,7 @@ impl IntKind {
     }
 
     /// The number with its sign changed (C99 6.5.3.3). The least number of a signed kind stays as it is.
+    #[inline(always)]
     pub fn negate(self, a: i128) -> i128
         ensures value { result ≡ negation_of self a }
         ensures in_range { IsInRange self result }
@@ -97,6 +105,7 @@ impl IntKind {
     }
 
     /// The number with each bit changed (C99 6.5.3.3).
+    #[inline(always)]
     pub fn complement(self, a: i128) -> i128
         ensures value { result ≡ complement_of self a }
         ensures in_range { IsInRange self result }
@@ -105,6 +114,7 @@ impl IntKind {
     }
 
     /// The sum (C99 6.5.6).
+    #[inline(always)]
     pub fn add(self, a: i128, b: i128) -> i128
         ensures value { result ≡ sum_of self a b }
         ensures in_range { IsInRange self result }
@@ -113,6 +123,7 @@ impl IntKind {
     }
 
     /// The difference (C99 6.5.6).
+    #[inline(always)]
     pub fn sub(self, a: i128, b: i128) -> i128
         ensures value { result ≡ difference_of self a b }
         ensures in_range { IsInRange self result }
@@ -121,6 +132,7 @@ impl IntKind {
     }
 
     /// The product (C99 6.5.5).
+    #[inline(always)]
     pub fn mul(self, a: i128, b: i128) -> i128
         ensures value { result ≡ product_of self a b }
         ensures in_range { IsInRange self result }
@@ -130,6 +142,7 @@ impl IntKind {
 
     /// The quotient, rounded toward zero (C99 6.5.5), or `None` where the divisor converts to 0. The least number
     /// divided by -1 gives itself.
+    #[inline(always)]
     pub fn divide(self, a: i128, b: i128) -> Option<i128>
         ensures value { result ≡ quotient_of self a b }
         ensures in_range { IfSome result (IsInRange self) }
@@ -143,6 +156,7 @@ impl IntKind {
     }
 
     /// The remainder, which has the sign of the dividend (C99 6.5.5), or `None` where the divisor converts to 0.
+    #[inline(always)]
     pub fn remainder(self, a: i128, b: i128) -> Option<i128>
         ensures value { result ≡ remainder_of self a b }
 
@@ -160,6 +174,7 @@ impl IntKind {
     }
 
     /// The bits that both numbers have (C99 6.5.10).
+    #[inline(always)]
     pub fn and(self, a: i128, b: i128) -> i128
         ensures value { result ≡ and_of self a b }
         ensures in_range { IsInRange self result }
@@ -168,6 +183,7 @@ impl IntKind {
     }
 
     /// The bits that one number has alone (C99 6.5.11).
+    #[inline(always)]
     pub fn xor(self, a: i128, b: i128) -> i128
         ensures value { result ≡ xor_of self a b }
         ensures in_range { IsInRange self result }
@@ -176,6 +192,7 @@ impl IntKind {
     }
 
     /// The bits that one number or both have (C99 6.5.12).
+    #[inline(always)]
     pub fn or(self, a: i128, b: i128) -> i128
         ensures value { result ≡ or_of self a b }
         ensures in_range { IsInRange self result }
@@ -184,6 +201,7 @@ impl IntKind {
     }
 
     /// The number times two to the count (C99 6.5.7), or `None` where the count is below 0 or not below the width.
+    #[inline(always)]
     pub fn shift_left(self, a: i128, count: i128) -> Option<i128>
         ensures value { result ≡ left_shift_of self a count }
         ensures in_range { IfSome result (IsInRange self) }
@@ -196,6 +214,7 @@ impl IntKind {
 
     /// The number divided by two to the count and rounded down (C99 6.5.7 leaves open how a negative number is
     /// shifted: its sign bit comes in), or `None` where the count is below 0 or not below the width.
+    #[inline(always)]
     pub fn shift_right(self, a: i128, count: i128) -> Option<i128>
         ensures value { result ≡ right_shift_of self a count }
         ensures in_range { IfSome result (IsInRange self) }
@@ -207,6 +226,7 @@ impl IntKind {
     }
 
     /// By how many places a count shifts, or `None` where it is below 0 or not below the width.
+    #[inline(always)]
     fn places(self, count: i128) -> Option<u32>
         ensures value { result ≡ places_of self count }
         ensures bound { IfSome result (λ n. n < 64) }
@@ -227,6 +247,3 @@ fn lowest_bits(n: i128, count: u32) -> u64
 {
     (n.cast_unsigned() & ((1 << count) - 1)) as u64
 }
-
-#[cfg(test)]
-mod tests;

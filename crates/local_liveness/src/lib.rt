@@ -13,6 +13,3 @@ mod sweeps;
 mod table;
 
 pub use table::{LiveTable, live_at};
-
-#[cfg(test)]
-mod tests;

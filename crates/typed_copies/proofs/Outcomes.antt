@@ -5,7 +5,7 @@ use Rattle.std.proofs.lemmas.Bool.{and_left, and_right, cases_lt, cond-false, lt
 use Rattle.std.proofs.lemmas.List.{get_or-replicate, length-replicate}
 use Rattle.std.proofs.lemmas.List.Elements.{All-drop, All-take}
 use Rattle.hs_base.specs.Access.{overlaid, slots_below, slots_within}
-use Rattle.hs_base.specs.Bytes.{part, word}
+use Rattle.byte_memory.specs.Bytes.{part, word}
 use Rattle.count_table.specs.Table.{Table}
 use Rattle.typed_copies.specs.declared.Ranged.{Ranged}
 use Rattle.typed_copies.specs.declared.slots.Within.{Within}

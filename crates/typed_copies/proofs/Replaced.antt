@@ -8,7 +8,7 @@ use Rattle.std.proofs.lemmas.List.Filters.{length-filter_both}
 use Rattle.std.proofs.lemmas.List.Folds.{sum_by-replicate}
 use Rattle.std.proofs.lemmas.List.Sums.{length-filter, sum_by-append, sum_by-take-drop, sum_by-take-le}
 use Rattle.hs_base.specs.Access.{overlaid}
-use Rattle.hs_base.specs.Bytes.{word}
+use Rattle.byte_memory.specs.Bytes.{word}
 use Rattle.count_table.specs.Table.{Table}
 use Rattle.typed_copies.specs.declared.slots.Within.{Within}
 use Rattle.typed_copies.specs.Slots.{AreWithin}

@@ -2,7 +2,7 @@
 use Rattle.std.proofs.Common.{◌≡◌, ◌<◌, ◌≤◌, ◌+◌, ℕ, List, length, length-take, length-drop, get_or, get_or-take, get_or-drop, drop, ◌∙◌, arith}
 use Rattle.std.proofs.lemmas.List.{get_or-map, length-map}
 use Rattle.c_types.specs.Layouts.{AreSlots}
-use Rattle.hs_base.specs.Bytes.{word}
+use Rattle.byte_memory.specs.Bytes.{word}
 use Rattle.adjusters.specs.ObjectSlots.{Element, object_slots}
 use Rattle.typed_copies.specs.declared.slots.Within.{Within}
 use Rattle.typed_copies.specs.Pointers.{words_at, words_in}

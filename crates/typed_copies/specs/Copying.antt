@@ -4,7 +4,7 @@ use Rattle.hs_base.specs.declared.ends.TrapKind.{TrapKind}
 use Rattle.hs_base.specs.declared.values.Pointer.{Pointer}
 use Rattle.hs_base.specs.declared.values.Pointer.TheVariants as pointer
 use Rattle.hs_base.specs.Access.{Refusal, Trapped, overlaid, slots_below, slots_within, touches_slot}
-use Rattle.hs_base.specs.Bytes.{part}
+use Rattle.byte_memory.specs.Bytes.{part}
 use Rattle.hs_base.specs.Object.{Object, is_dead, object_at}
 use Rattle.adjusters.specs.ObjectSlots.{Element, object_slots}
 use Rattle.count_table.specs.Table.{Table}

@@ -1,6 +1,6 @@
 -- The pointers in the slots of objects, and how counts follow them.
 use Rattle.std.specs.Prelude.{◌≡◌, ◌+◌, ◌*◌, ◌/◌, ◌<◌, ◌≤◌, ◌&&◌, ℕ, not, nat_eq, List, map, length, sum, count_by, take, drop, All, slice_index}
-use Rattle.hs_base.specs.Bytes.{word}
+use Rattle.byte_memory.specs.Bytes.{word}
 use Rattle.count_table.specs.Table.{Table}
 use Rattle.typed_copies.specs.declared.slots.Within.{Within}
 

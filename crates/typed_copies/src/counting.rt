@@ -9,7 +9,7 @@ use crate::Ranged;
 use crate::slots::Within;
 use adjusters::Adjuster;
 use count_table::Counts;
-use hs_base::{FlatBytes, Steps};
+use byte_memory::{FlatBytes, Steps};
 use std::sync::ledger::Ledger;
 
 /// Takes a pointer off the counts by its address; 0 is null, which does not count. At most one step.

@@ -19,7 +19,7 @@ ghost use Rattle.c_types.specs.Layouts.{AreSlots};
 ghost use Rattle.hs_base.specs.declared.values.Pointer as values;
 ghost use Rattle.hs_base.specs.Access as access;
 ghost use Rattle.hs_base.specs.Access.{overlaid};
-ghost use Rattle.hs_base.specs.Bytes.{part};
+ghost use Rattle.byte_memory.specs.Bytes.{part};
 ghost use Rattle.hs_base.specs.Object.{Object};
 ghost use Rattle.adjusters.specs.ObjectSlots.{Element, object_slots};
 ghost use Rattle.typed_copies.specs.Slots.{AreWithin};
@@ -35,7 +35,8 @@ use crate::moving::{fill, move_bytes};
 use crate::slots::{Within, corresponding, settable};
 use adjusters::Adjuster;
 use count_table::Counts;
-use hs_base::{FlatBytes, Items, Steps, TrapKind};
+use byte_memory::{FlatBytes, Steps};
+use hs_base::{Items, TrapKind};
 use std::sync::ledger::Ledger;
 
 /// An offset in an object.
@@ -260,6 +261,3 @@ pub fn grow<L: Ledger>(
         steps,
     )
 }
-
-#[cfg(test)]
-mod tests;

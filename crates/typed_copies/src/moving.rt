@@ -2,9 +2,9 @@
 
 ghost use Rattle.std.specs.Prelude.{◌≡◌, ◌+◌, ◌*◌, ◌^◌, ◌<◌, ◌≤◌, length, replicate, slice_index, slice_set};
 ghost use Rattle.hs_base.specs.Access.{overlaid};
-ghost use Rattle.hs_base.specs.Bytes.{part};
+ghost use Rattle.byte_memory.specs.Bytes.{part};
 
-use hs_base::{FlatBytes, Steps};
+use byte_memory::{FlatBytes, Steps};
 use std::sync::ledger::Ledger;
 
 /// Copies one byte. Two steps.

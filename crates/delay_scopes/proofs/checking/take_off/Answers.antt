@@ -1,5 +1,5 @@
 use Rattle.std.proofs.Common.{[], ◌∷◌, ◌/◌, ℕ, ◌∙◌, sym, subst}
-use Rattle.hs_base.specs.Bytes.{word}
+use Rattle.byte_memory.specs.Bytes.{word}
 use Rattle.delay_scopes.specs.Pointers.{LowersBy}
 use Rattle.delay_scopes.proofs.Lowering.{counted_in_range, covers_own, lowers_null, lowers_one}
 use Rattle.delay_scopes.proofs.checking.take_off.Goals as goal

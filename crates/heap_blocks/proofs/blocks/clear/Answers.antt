@@ -1,5 +1,5 @@
 use Rattle.std.proofs.Common.{◌≡◌, ◌+◌, ◌*◌, ◌≤◌, ℕ, List, length, replicate, sym, subst, arith}
-use Rattle.hs_base.specs.Bytes.{part, put_word}
+use Rattle.byte_memory.specs.Bytes.{part, put_word}
 use Rattle.heap_blocks.specs.Bytes.{ChangesOnly}
 use Rattle.heap_blocks.proofs.Pieces.{changes_joined, changes_nothing, changes_written, part_none, zeros_more}
 use Rattle.heap_blocks.proofs.blocks.clear.Goals as goal

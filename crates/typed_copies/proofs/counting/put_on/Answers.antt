@@ -1,5 +1,5 @@
 use Rattle.std.proofs.Common.{◌≡◌, ◌+◌, ◌<◌, ◌/◌, ◌∙◌, ℕ, length, get_or, sym, ap, subst, arith}
-use Rattle.hs_base.specs.Bytes.{word}
+use Rattle.byte_memory.specs.Bytes.{word}
 use Rattle.adjusters.specs.ObjectSlots.{object_slots}
 use Rattle.typed_copies.specs.Pointers.{words_in}
 use Rattle.typed_copies.proofs.Ascending.{few_slots}

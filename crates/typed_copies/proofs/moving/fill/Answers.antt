@@ -1,5 +1,5 @@
 use Rattle.std.proofs.Common.{◌+◌, ◌∙◌, ap, arith}
-use Rattle.hs_base.specs.Bytes.{put_word}
+use Rattle.byte_memory.specs.Bytes.{put_word}
 use Rattle.typed_copies.proofs.Overlaid.{set_byte_more}
 use Rattle.typed_copies.proofs.moving.fill.Goals as goal
 

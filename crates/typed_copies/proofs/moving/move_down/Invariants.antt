@@ -1,6 +1,6 @@
 use Rattle.std.proofs.Common.{◌≡◌, ◌+◌, ◌*◌}
 use Rattle.hs_base.specs.Access.{overlaid}
-use Rattle.hs_base.specs.Bytes.{part}
+use Rattle.byte_memory.specs.Bytes.{part}
 use Rattle.typed_copies.proofs.moving.move_down.Given as goal
 
 abbrev pub invariant-loop-k : goal.invariant-loop-k

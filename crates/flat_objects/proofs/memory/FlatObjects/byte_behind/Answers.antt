@@ -1,5 +1,5 @@
 use Rattle.std.proofs.Common.{◌≡◌, ◌∙◌, ◌+◌, List, Option, get_or, length, ap, sym, subst, arith}
-use Rattle.hs_base.specs.Bytes.{word}
+use Rattle.byte_memory.specs.Bytes.{word}
 use Rattle.flat_objects.specs.declared.finding.Found.{Found}
 use Rattle.adjusters.specs.ObjectSlots.{Element}
 use Rattle.flat_objects.specs.Memory.{Memory, IsMemory}

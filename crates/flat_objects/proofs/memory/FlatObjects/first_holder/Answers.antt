@@ -1,5 +1,5 @@
 use Rattle.std.proofs.Common.{◌≡◌, ◌+◌, ◌-◌, ◌*◌, ◌∙◌, length, ap, sym, subst, arith}
-use Rattle.hs_base.specs.Bytes.{word}
+use Rattle.byte_memory.specs.Bytes.{word}
 use Rattle.hs_base.specs.Object.{object_at}
 use Rattle.flat_objects.specs.Memory.{Memory, IsMemory, end_of}
 use Rattle.flat_objects.proofs.Owners.{own_inside}

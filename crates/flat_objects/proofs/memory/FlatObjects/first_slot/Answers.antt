@@ -1,5 +1,5 @@
 use Rattle.std.proofs.Common.{◌≡◌, ◌<◌, ◌+◌, ◌∙◌, inl, inr, List, get_or, length, ap, subst, arith}
-use Rattle.hs_base.specs.Bytes.{word}
+use Rattle.byte_memory.specs.Bytes.{word}
 use Rattle.adjusters.specs.ObjectSlots.{Element, object_slots}
 use Rattle.flat_objects.specs.Memory.{Memory, IsMemory}
 use Rattle.flat_objects.proofs.Owners.{own_inside}

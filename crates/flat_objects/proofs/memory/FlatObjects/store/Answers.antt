@@ -3,7 +3,7 @@ use Rattle.std.proofs.lemmas.Int.{to_z-of_z}
 use mir.Syntax.{w128}
 use mir.Val.{SFits}
 use Rattle.hs_base.specs.Access.{access_integer}
-use Rattle.hs_base.specs.Bytes.{put_word}
+use Rattle.byte_memory.specs.Bytes.{put_word}
 use Rattle.hs_base.specs.Numbers.{width, low_bits}
 use Rattle.hs_base.specs.Object.{Object}
 use Rattle.flat_objects.specs.Memory.{Memory}

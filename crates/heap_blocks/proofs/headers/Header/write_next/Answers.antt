@@ -1,5 +1,5 @@
 use Rattle.std.proofs.Common.{◌+◌, ◌∙◌, ap, arith}
-use Rattle.hs_base.specs.Bytes.{put_word}
+use Rattle.byte_memory.specs.Bytes.{put_word}
 use Rattle.heap_blocks.proofs.Heading.{next_written}
 use Rattle.heap_blocks.proofs.headers.Header.write_next.Goals as goal
 

@@ -1,5 +1,0 @@
-use Rattle.flat_objects.proofs.ending.tests.a_local_whose_address_is_answered_escapes.Given as goal
-
--- the ledger of this test
-abbrev pub ghosts-ends : goal.ghosts-ends
-ghosts-ends g a = record { name = a.blank.name; parts = a.blank.parts }
