@@ -44,6 +44,7 @@ pub fn bytes_in(n: i128) -> u128
 }
 
 /// The result of an operation on one integer (C99 6.5.3.3).
+#[inline(always)]
 pub fn on_one(op: UnOp, kind: IntKind, a: i128) -> i128
     ensures { result ≡ on_one op kind a }
 {
@@ -90,6 +91,7 @@ pub fn truth(holds: bool) -> Value
 }
 
 /// Says whether a comparison of two integers holds (C99 6.5.8, 6.5.9).
+#[inline(always)]
 pub fn compared(op: CmpOp, a: i128, b: i128) -> bool
     ensures { result ≡ compared op a b }
 {
