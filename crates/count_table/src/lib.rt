@@ -21,7 +21,7 @@ ghost use Rattle.std.specs.Prelude.{◌≡◌, ◌+◌, ◌-◌, ◌<◌, ◌≤
 ghost use Rattle.count_table.specs.Table.{with_count, lows_of, excess_of};
 
 use excess::Excess;
-use byte_memory::{CountRight, Steps};
+use byte_memory::Steps;
 use hs_base::NoMemory;
 use std::alloc::Global;
 use std::marker::Model;
@@ -108,16 +108,15 @@ impl Counts {
         total + self.excess.total(first, end)
     }
 
-    /// For each granule, the lesser of its count and 255. It takes no step, so only who has the right to begin a count looks at
-    /// all counts at once.
-    pub fn lows(&self, _right: &CountRight) -> &[u8]
+    /// For each granule, the lesser of its count and 255. It is no step.
+    pub fn lows(&self) -> &[u8]
         ensures { result.now ≡ lows_of self.now.counts }
     {
         &self.lows
     }
 
-    /// The granules whose count is above 255, ascending, each with its count less 255. It takes no step either.
-    pub fn excess(&self, _right: &CountRight) -> &[(u32, u32)]
+    /// The granules whose count is above 255, ascending, each with its count less 255. It is no step.
+    pub fn excess(&self) -> &[(u32, u32)]
         ensures { result.now ≡ excess_of self.now.counts }
     {
         self.excess.as_slice()
