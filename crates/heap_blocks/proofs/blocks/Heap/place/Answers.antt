@@ -1,11 +1,10 @@
-use Rattle.std.proofs.Common.{◌≡◌, ◌+◌, ◌*◌, ◌/◌, ◌∙◌, ℕ, List, Option, Some, sym, ap, subst, arith}
+use Rattle.std.proofs.Common.{◌≡◌, ◌+◌, ◌*◌, ◌/◌, ℕ, Option, Some, sym, ap, subst, arith}
 use Rattle.std.specs.Prelude.{option_map}
 use Rattle.hs_base.specs.Place.{block_size, with_block}
 use Rattle.heap_blocks.specs.declared.headers.Header.{Header}
-use Rattle.heap_blocks.specs.declared.marks.Mark.{Mark}
 use Rattle.heap_blocks.specs.declared.marks.Mark.TheVariants.{Of}
-use Rattle.heap_blocks.specs.Runs.{IsFirstRun, Filled}
-use Rattle.heap_blocks.specs.Held.{HeapModel, Holds, HasHeaders, IsHeap, IsHeapWithHoles, address_of, fit_of}
+use Rattle.heap_blocks.specs.Runs.{IsFirstRun}
+use Rattle.heap_blocks.specs.Held.{HeapModel, Holds, HasHeaders, IsHeap, address_of, fit_of}
 use Rattle.heap_blocks.proofs.Holing.{hole_from_run, same_filled}
 use Rattle.heap_blocks.proofs.Holding.{marked_heap}
 use Rattle.heap_blocks.proofs.Objects.{new_object}

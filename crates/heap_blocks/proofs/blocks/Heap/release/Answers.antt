@@ -1,11 +1,8 @@
-use Rattle.std.proofs.Common.{◌≡◌, ◌+◌, ◌-◌, ◌/◌, ℕ, List, refl, sym, ap, subst}
+use Rattle.std.proofs.Common.{◌≡◌, ◌+◌, ◌-◌, ◌/◌, ℕ, refl, sym, ap, subst}
 use Rattle.hs_base.specs.Place.{without_block}
-use Rattle.heap_blocks.specs.declared.marks.Mark.{Mark}
 use Rattle.heap_blocks.specs.declared.marks.Mark.TheVariants.{Free}
-use Rattle.heap_blocks.specs.Runs.{Filled}
-use Rattle.heap_blocks.specs.Held.{HeapModel, HasHeaders, Holds, IsHeapWithHoles, IsObject}
+use Rattle.heap_blocks.specs.Held.{HeapModel, HasHeaders, IsObject}
 use Rattle.heap_blocks.proofs.Holing.{object_taken, same_filled}
-use Rattle.heap_blocks.proofs.Holding.{marked_heap}
 use Rattle.heap_blocks.proofs.Owning.{shape_freed}
 use Rattle.heap_blocks.proofs.Returning.{released, headers_released}
 use Rattle.heap_blocks.proofs.blocks.Heap.release.Goals as goal
