@@ -28,7 +28,7 @@ use Rattle.object_meaning.specs.Arithmetic.{moved_by}
 use Rattle.object_meaning.specs.Heap.{make}
 use Rattle.object_meaning.specs.Builtins.{call_lib}
 use Rattle.object_meaning.specs.Meaning.{format_in, values_of, returned, print_format}
-use Rattle.object_meaning.proofs.Lively.{needed}
+use Rattle.object_meaning.specs.Dangling.{needed}
 use Rattle.object_meaning.proofs.Frames.{Holds}
 use Rattle.counted_meaning.specs.Pinning.{Pins, pins_of, pinned}
 use Rattle.counted_meaning.specs.CountedState as counted

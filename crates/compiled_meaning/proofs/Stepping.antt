@@ -25,7 +25,7 @@ use Rattle.object_meaning.specs.Going as going
 use Rattle.object_meaning.specs.Going.{at_point}
 use Rattle.object_meaning.specs.Holding.{statement_in, statement_at}
 use Rattle.object_meaning.specs.Meaning as meaning
-use Rattle.object_meaning.proofs.Lively.{needed}
+use Rattle.object_meaning.specs.Dangling.{needed}
 use Rattle.object_meaning.proofs.Frames.{Holds, Good}
 use Rattle.object_meaning.proofs.Standing.{Stays}
 use Rattle.object_meaning.proofs.Operands.{operands_fresh}

@@ -31,7 +31,7 @@ use Rattle.object_meaning.specs.Printing.{print}
 use Rattle.object_meaning.specs.Builtins.{byte_in, get_byte, put_line, filled, call_lib}
 use Rattle.object_meaning.specs.Meaning as object
 use Rattle.object_meaning.specs.Meaning.{is_null, values_of, format_in}
-use Rattle.object_meaning.proofs.Lively.{needed}
+use Rattle.object_meaning.specs.Dangling.{needed}
 use Rattle.object_meaning.proofs.Frames.{Holds, Good}
 use Rattle.object_meaning.proofs.Operands.{operands_fresh}
 use Rattle.object_meaning.proofs.Acting.{found}

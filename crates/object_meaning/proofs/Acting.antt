@@ -28,7 +28,8 @@ use Rattle.object_meaning.specs.Meaning.{values_of, returned, format_in, act, un
 use Rattle.object_meaning.proofs.Alive.{HoldsFresh, Grows, fresh_grows, append_grows}
 use Rattle.object_meaning.proofs.Touching.{Done, Changed, loaded_done, loaded_pointer_done, stored_done, stored_pointer_done, copied_done, set_done, values_fresh}
 use Rattle.object_meaning.proofs.Giving.{on_two_done, moved_done, difference_done, compared_done, truth_is_fresh}
-use Rattle.object_meaning.proofs.Lively.{needed, needed_live}
+use Rattle.object_meaning.proofs.Lively.{needed_live}
+use Rattle.object_meaning.specs.Dangling.{needed}
 use Rattle.object_meaning.proofs.Frames.{WaitsAt, Waits, Holds, Good, kept_grows, waits_grow}
 use Rattle.object_meaning.proofs.Operands.{operands_fresh}
 use Rattle.object_meaning.proofs.Entering.{enters}

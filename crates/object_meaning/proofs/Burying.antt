@@ -14,7 +14,8 @@ use Rattle.object_meaning.specs.Values.{pointer_in}
 use Rattle.object_meaning.specs.Holding.{is_among, inside_objects, in_waiting, in_all_waiting, in_running, holders}
 use Rattle.object_meaning.specs.Scoping.{is_held, bury}
 use Rattle.object_meaning.proofs.Alive.{Alive, IsFresh, AreFresh, Sane}
-use Rattle.object_meaning.proofs.Frames.{register, IsKept, WaitsAt, Waits, Holds}
+use Rattle.object_meaning.proofs.Frames.{IsKept, WaitsAt, Waits, Holds}
+use Rattle.object_meaning.specs.Dangling.{register}
 use Rattle.object_meaning.proofs.Unheld.{NoHolder, NoHolders, none_append, none_reverse, unheld_object, unheld_running, unheld_waiting, none_first}
 
 -- the objects of some births die, and the others stay as they are

@@ -19,8 +19,9 @@ use Rattle.object_meaning.specs.Values.{number, address, first_value, pointer_in
 use Rattle.object_meaning.specs.Making.{local_object, local_objects}
 use Rattle.object_meaning.specs.Calls.{locals_of, registers_of, new_frame}
 use Rattle.object_meaning.proofs.Alive.{AreFresh, HoldsFresh, Sane, fresh_grows, append_grows, append_sane, nulls_fresh}
-use Rattle.object_meaning.proofs.Lively.{needed}
-use Rattle.object_meaning.proofs.Frames.{register, IsKept, Waits, Holds, kept_grows}
+use Rattle.object_meaning.specs.Dangling.{needed}
+use Rattle.object_meaning.proofs.Frames.{IsKept, Waits, Holds, kept_grows}
+use Rattle.object_meaning.specs.Dangling.{register}
 
 module _ {A : Type 0} (P : Object → Type 0) (make : A → Object) (made : (x : A) → P (make x)) where
   pub at_map : (xs : List A) (k : ℕ) → P no_object → P (get_or (map make xs) k no_object)

@@ -16,13 +16,11 @@ use Rattle.core_tree.specs.Statements.{written, writes, edges}
 use Rattle.core_tree.specs.Lives.{is_live}
 use Rattle.core_tree.specs.Sound.{IsFunction, Opens, goes, scopes_after}
 use Rattle.object_meaning.specs.Values.{number}
+use Rattle.object_meaning.specs.Dangling.{needed, register}
 use Rattle.object_meaning.specs.Going.{at_point, put}
 use Rattle.object_meaning.specs.Holding.{takes_answer}
 use Rattle.object_meaning.proofs.Alive.{Alive, HoldsFresh, Grows, Sane, fresh_grows}
-use Rattle.object_meaning.proofs.Lively.{needed, live_back, needed_live, edge_at}
-
-abbrev pub register : Frame → ℕ → Value
-register frame r = get_or frame.regs r (number (pos 0))
+use Rattle.object_meaning.proofs.Lively.{live_back, needed_live, edge_at}
 
 -- an object is alive, and not on the heap
 abbrev pub IsKept : List Object → ℕ → Type 0

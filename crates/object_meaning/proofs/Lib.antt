@@ -14,3 +14,4 @@ pub mod Standing
 pub mod Acting
 pub mod Beginning
 pub mod Stands
+mod Kept

@@ -1,16 +1,13 @@
 -- A register that is needed at a point is live after each point that leads there.
-use Rattle.std.proofs.Common.{◌≡◌, ℕ, zero, suc, Bool, true, false, ◌||◌, ◌&&◌, not, List, [], ◌∷◌, Option, Some, sym, ap, ◌∙◌, subst, arith, ⊎_elim}
+use Rattle.std.proofs.Common.{◌≡◌, ℕ, zero, suc, true, false, ◌||◌, ◌&&◌, not, List, [], ◌∷◌, Option, Some, sym, ap, ◌∙◌, subst, arith, ⊎_elim}
 use Rattle.std.specs.Prelude.{slice_get, Contains, All}
 use Rattle.std.specs.Option.{option_map_or}
 use Rattle.std.proofs.lemmas.Bool.{or_cases, or_right, and_parts, and_from, not-true, not_from_false}
 use Rattle.core_tree.specs.declared.statements.Stm.{Stm}
 use Rattle.core_tree.specs.Statements.{reads, writes, reads_at, writes_at, edges, edges_at}
 use Rattle.core_tree.specs.Lives.{IsLive, is_live}
+use Rattle.object_meaning.specs.Dangling.{needed}
 use Rattle.core_tree.proofs.Paths.{live_by_paths}
-
--- the statement at a point reads a register, or the register is live after it and not written
-abbrev pub needed : List Stm → ℕ → ℕ → Bool
-needed body point r = reads_at body point r || (not (writes_at body point r) && is_live body point r)
 
 all_cons : (P : ℕ → Type 0) (x : ℕ) (xs : List ℕ) → P x → All P xs → All P (x ∷ xs)
 all_cons P x xs h i zero d lt = h

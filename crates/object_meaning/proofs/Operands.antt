@@ -19,8 +19,10 @@ use Rattle.core_tree.specs.Statements.{operands, is_register}
 use Rattle.core_tree.specs.Sorts.{Sort, Integer, Pointer, atom_sort, lib_takes, TakesCall, TakesFormat, IsTyped}
 use Rattle.object_meaning.specs.Values.{value_of, holds_stale}
 use Rattle.object_meaning.proofs.Alive.{HoldsFresh}
-use Rattle.object_meaning.proofs.Lively.{needed, needed_read}
-use Rattle.object_meaning.proofs.Frames.{register, Holds}
+use Rattle.object_meaning.proofs.Lively.{needed_read}
+use Rattle.object_meaning.specs.Dangling.{needed}
+use Rattle.object_meaning.proofs.Frames.{Holds}
+use Rattle.object_meaning.specs.Dangling.{register}
 
 module _ (core : Core) (func : Func) where
   -- what an operand names is there

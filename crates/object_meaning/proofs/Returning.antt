@@ -20,8 +20,10 @@ use Rattle.object_meaning.specs.Going.{with_register}
 use Rattle.object_meaning.specs.Holding.{is_among, statement_at, answer_register, takes_answer, inside_objects, in_waiting, in_all_waiting}
 use Rattle.object_meaning.specs.Calls.{locals_of, running_locals, escapes, resumed}
 use Rattle.object_meaning.proofs.Alive.{HoldsFresh, Sane}
-use Rattle.object_meaning.proofs.Lively.{needed, live_back, edge_at}
-use Rattle.object_meaning.proofs.Frames.{register, IsKept, WaitsAt, Waits, Holds, Good, set_register}
+use Rattle.object_meaning.proofs.Lively.{live_back, edge_at}
+use Rattle.object_meaning.specs.Dangling.{needed}
+use Rattle.object_meaning.proofs.Frames.{IsKept, WaitsAt, Waits, Holds, Good, set_register}
+use Rattle.object_meaning.specs.Dangling.{register}
 use Rattle.object_meaning.proofs.Unheld.{NoHolder, none_append, none_reverse, none_first, answer_is}
 use Rattle.object_meaning.proofs.Burying.{Loses, spared_fresh, spared_slots, spared_waits}
 

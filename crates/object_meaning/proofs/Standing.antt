@@ -37,7 +37,7 @@ use Rattle.object_meaning.specs.Meaning.{branch}
 use Rattle.object_meaning.proofs.Alive.{Alive, IsFresh, AreFresh, HoldsFresh, Grows, Sane, grows_same, grows_both, append_grows, append_sane, nulls_fresh, queue_grows, queue_sane}
 use Rattle.object_meaning.proofs.Touching.{Done, then_done, Changed, copied_done, set_done}
 use Rattle.object_meaning.proofs.Giving.{Any, string_done, order_done, Lives, printed_lives}
-use Rattle.object_meaning.proofs.Lively.{needed}
+use Rattle.object_meaning.specs.Dangling.{needed}
 use Rattle.object_meaning.proofs.Frames.{Holds, Good, holds_with, ready_put, moves}
 use Rattle.object_meaning.proofs.Burying.{buried_holds}
 

@@ -14,7 +14,7 @@ use Rattle.object_meaning.proofs.Beginning.{begins}
 
 module _ (core : Core) (sound : IsSound core) (heap : ℕ) where
   -- a run so far is good, or has ended for another reason than want of life
-  abbrev Going : Option Ending → State → Type 0
+  abbrev pub Going : Option Ending → State → Type 0
   Going None s = Good core s
   Going (Some e) s = e ≢ Dangling
 
@@ -27,13 +27,13 @@ module _ (core : Core) (sound : IsSound core) (heap : ℕ) where
   going_moved r None i h =
       going_next r.trace (step core heap r.trace r.state) (step_stays_at core sound heap r.trace r.state h)
 
-  going_after : (r : Run) → Going r.ended r.state → (k : ℕ) → Going (runs.after (step core heap) r k).ended (runs.after (step core heap) r k).state
+  pub going_after : (r : Run) → Going r.ended r.state → (k : ℕ) → Going (runs.after (step core heap) r k).ended (runs.after (step core heap) r k).state
   unfolding runs.after
   going_after r h zero = h
   going_after r h (suc k) =
       going_moved (runs.after (step core heap) r k) (runs.after (step core heap) r k).ended refl (going_after r h k)
 
-  going_first : (input : List ℕ) (n : ℕ) → Going (begun core input n).ended (begun core input n).state
+  pub going_first : (input : List ℕ) (n : ℕ) → Going (begun core input n).ended (begun core input n).state
   going_first input n = going_next [] (first_call core input n) (begins core sound input n)
 
   not_dangling : (s : State) (o : Option Ending) (e : Ending) → o ≡ Some e → Going o s → e ≢ Dangling

@@ -21,7 +21,7 @@ use Rattle.core_tree.specs.Statements.{written}
 use Rattle.object_meaning.specs.Values.{number, pointer_in}
 use Rattle.object_meaning.specs.Holding.{is_among, inside_one, counted_inside, inside_objects, statement_in, statement_at, answer_register, takes_answer, is_live_in, is_live_at, in_registers, in_running, in_waiting, is_some_held}
 use Rattle.object_meaning.proofs.Alive.{Alive, is_within}
-use Rattle.object_meaning.proofs.Frames.{register}
+use Rattle.object_meaning.specs.Dangling.{register}
 
 abbrev pub NoHolder : List Holder → Type 0
 NoHolder holders = is_some_held holders ≡ false

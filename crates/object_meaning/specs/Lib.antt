@@ -11,4 +11,5 @@ pub mod Printing
 pub mod Builtins
 pub mod Calls
 pub mod Meaning
+pub mod Dangling
 pub mod Laws

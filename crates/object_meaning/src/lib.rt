@@ -6,8 +6,11 @@
 //! and printf. Whether an object may be freed is decided by its holders (`specs/Holding.antt`): all pointers are read anew
 //! at each check. There are no addresses, no counts, and no limit of stack; of the heap it knows which sizes have a place, by
 //! first fit over its own trace (`has_place` of `hs_base`).
+//!
+//! `specs/Laws.antt` has what holds of every run: it ends, never at a dead object, and no state on the way has a pointer to
+//! one that counts or is still read (`specs/Dangling.antt`).
 #![tactic(auto)]
 
 mod laws;
 
-pub use laws::run_ends;
+pub use laws::{nothing_dangles, run_ends};
