@@ -15,3 +15,4 @@ pub mod Acting
 pub mod Beginning
 pub mod Stands
 mod Kept
+mod Plain

@@ -1,6 +1,6 @@
 //! What holds of every run.
 
-ghost use Rattle.object_meaning.specs.Laws.{NothingEverDangles, RunsEnd};
+ghost use Rattle.object_meaning.specs.Laws.{NothingEverDangles, PlainRunsEndPlainly, RunsEnd};
 
 /// The meaning of a sound core has ended, for every input, number of steps and size of the heap, and it did not end by
 /// reading a pointer to an object that is dead. So no run touches what was freed: a free that would leave such a pointer
@@ -15,4 +15,10 @@ pub fn run_ends()
 /// that waits for a call.
 pub fn nothing_dangles()
     ensures { NothingEverDangles }
+{}
+
+/// A sound core without a free, a reallocation and a local in memory exits, traps or comes to the end of its steps: it has
+/// no bad free and no escaping local, for every input, number of steps and size of the heap.
+pub fn plain_runs_end_plainly()
+    ensures { PlainRunsEndPlainly }
 {}

@@ -13,4 +13,4 @@
 
 mod laws;
 
-pub use laws::{nothing_dangles, run_ends};
+pub use laws::{nothing_dangles, plain_runs_end_plainly, run_ends};
