@@ -227,22 +227,3 @@ pub fn heapsafe<T: Texts, I: Source, O: Sink, E: Sink>(
         Err(WordsError::NoMemory) => refuse(err, Refusal::NoMemory),
     }
 }
-
-#[cfg(test)]
-mod fault_tests;
-#[cfg(test)]
-mod free_tests;
-#[cfg(test)]
-mod generated_tests;
-#[cfg(test)]
-mod leak_tests;
-#[cfg(test)]
-mod memory_tests;
-#[cfg(test)]
-mod program_tests;
-#[cfg(test)]
-mod tests;
-#[cfg(test)]
-mod tree_tests;
-#[cfg(test)]
-mod type_tests;
