@@ -1,12 +1,12 @@
-//! Tests of the crates that read a text, by their public calls: tokens, the tree and its spelling, the parser, scopes and
-//! constants. They stand apart from those crates, since a crate with tests is proved twice.
+//! Tests of what no command shows: the tokens of preprocessed texts, the listing of each statement, and the generated text.
+//! They stand apart from the crates that they try, since a crate with tests is proved twice.
 #![tactic(auto)]
 
 #[cfg(test)]
-mod lexer;
+mod listing;
 #[cfg(test)]
-mod parser;
+mod preprocessed;
 #[cfg(test)]
-mod scopes;
+mod replaced;
 #[cfg(test)]
-mod tree;
+mod text_of_self;

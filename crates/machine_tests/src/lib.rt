@@ -1,8 +1,8 @@
-//! Tests of the machine by its public calls, with codes that are made by hand. They stand apart from it, since a crate with
-//! tests is proved twice.
+//! Tests of what no command shows: the outside in memory and the real one, and code files. They stand apart from the crates that
+//! they try, since a crate with tests is proved twice.
 #![tactic(auto)]
 
 #[cfg(test)]
-mod digit;
+mod code_files;
 #[cfg(test)]
-mod frees;
+mod outside;
