@@ -259,8 +259,8 @@ CallOf v other function = function ≡ NoFunction
 
 no_function_is : (line : ℕ) (tags : TagTable) (answer : Checked PlainTyped) (function : Callee) → no_function line tags answer ≡ Ok function → function ≡ NoFunction
 no_function_is line tags answer function h =
-    let e = came answer (λ e. then (wanted_value line tags e) (λ held. good NoFunction)) function h in
-    let k = came (wanted_value line tags e.value) (λ held. good NoFunction) function e.last in
+    let e = came answer h in
+    let k = came (wanted_value line tags e.value) e.last in
     sym (ok_same NoFunction function k.last)
 
 built_in_of : (line : ℕ) (tags : TagTable) (o : Option BuiltIn) (k : Callee) (function : Callee) → built_in_called line tags o k ≡ Ok function → (function ≡ k) ⊎ (function ≡ NoFunction)

@@ -1,5 +1,5 @@
 -- What elaborating an expression does to what is known.
-use Rattle.std.proofs.Common.{ℕ, true, false, List, Option, Some, None}
+use Rattle.std.proofs.Common.{ℕ, true, false, List, Option, Some, None, ◌+◌, [], ◌∷◌}
 use Rattle.c_types.specs.Types.{PlainType, PlainTypes, Void}
 use Rattle.c_tree.specs.declared.operator.UnaryOp.TheVariants as u
 use Rattle.c_tree.specs.declared.operator.BinaryOp.TheVariants as b
@@ -17,11 +17,11 @@ use Rattle.c_decls.specs.Callees.{Callee, NoFunction, named, called, call}
 use Rattle.c_decls.specs.TypeNames as names
 use Rattle.c_decls.specs.Expressions.{line_of, joined, string, first_literal, typed, typename}
 use Rattle.elaboration.specs.Context.{Context, With, asked, told, new_label}
-use Rattle.elaboration.specs.Conversions.{Found, Value, Unknown, found_as, valued_as, atom_in, valued, unused}
-use Rattle.elaboration.specs.Calls.{Argument, types_of, first_type, rest_types, argument_from, call_named}
-use Rattle.elaboration.specs.Rules.{constant_found, name_found, is_inner, with_literal, literal_found, indexed, dotted, pointed, applied, left_operand, between, cast_to, and_then, and_ended, or_else, or_ended, choose, type_ahead, choose_first, chosen}
-use Rattle.elaboration.specs.Assignments.{record_assigned, scalar_assigned, old_value, changed_by, stepped}
-use Rattle.elaboration.specs.Expressions.{name_answer, literal_answer, unevaluated, address_answer, changing, comma_answer, callee_name, callee, parameters, format_argument, is_printf, call_answer, found, arguments, cast_operand}
+use Rattle.elaboration.specs.Conversions.{Found, valued}
+use Rattle.elaboration.specs.Calls.{Argument, types_of, first_type, rest_types, argument_from}
+use Rattle.elaboration.specs.Rules.{left_operand, and_then, or_else, choose, type_ahead, choose_first}
+use Rattle.elaboration.specs.Assignments.{record_assigned, scalar_assigned, old_value}
+use Rattle.elaboration.specs.Expressions.{name_answer, literal_answer, unevaluated, address_answer, changing, callee_name, callee, parameters, format_argument, is_printf, call_answer, found, arguments}
 use Rattle.core_soundness.proofs.Growth.{Grows, grows_refl, grows_trans, grows_told}
 use Rattle.core_soundness.proofs.Grown.{Grown, grown_ok, grown_refused, grown_after, grown_then, grown_cond}
 use Rattle.core_soundness.proofs.TypedNames.{typed_after, typename_after}
@@ -95,10 +95,10 @@ mutual
   found_grows (Node f.SizeofExpr (At line ▹ e ▹ none)) wanted c0 c g = grown_unevaluated (Node f.SizeofExpr (At line ▹ e ▹ none)) c0 c g
   found_grows (Node f.SizeofType (At line ▹ name ▹ none)) wanted c0 c g = grown_unevaluated (Node f.SizeofType (At line ▹ name ▹ none)) c0 c g
   found_grows (Node f.Cast (At line ▹ name ▹ e ▹ none)) wanted c0 c g =
-      grown_after c0 (typename name (asked c)) (λ t. then (cast_operand t.1 e (found e t.1 (told t.0 c))) (λ d. cast_to line t.1 c.code d.0 d.1))
+      grown_after c0 (typename name (asked c))
       (λ t h d q.
       let start : Grows c (told t.0 c) = grows_told t.0 c (typename_after name (asked c) t h) in
-      grows_trans c0 c d.0 g (grown_then c (cast_operand t.1 e (found e t.1 (told t.0 c))) (λ x. cast_to line t.1 c.code x.0 x.1) (λ x k. grown_unused e c (found e t.1 (told t.0 c)) (found_grows e t.1 c (told t.0 c) start) x (cast_unused t.1 e (found e t.1 (told t.0 c)) x k)) (λ x k. grown_cast line t.1 c x.0 x.1 k) d q))
+      grows_trans c0 c d.0 g (grown_then c (λ x k. grown_unused e c (found e t.1 (told t.0 c)) (found_grows e t.1 c (told t.0 c) start) x (cast_unused t.1 e (found e t.1 (told t.0 c)) x k)) (λ x k. grown_cast line t.1 c x.0 x.1 k) d q))
   found_grows (Node (f.Binary b.And) (At line ▹ e ▹ x ▹ none)) wanted c0 c g =
       grown_then c0 (grown_valued e c0 (found e Void c) (found_grows e Void c0 c g))
       (λ d h. let begun = and_then line e d in
@@ -136,10 +136,9 @@ mutual
       grown_then c0 (grown_valued x c0 (found x Void old.0) (found_grows x Void c0 old.0 (grows_trans c0 d.0 old.0 h (grows_old line d))))
       (λ r k. grown_changed line op false d.1 old.1 c0 r k))
   found_grows (Node f.Comma (At line ▹ e ▹ x ▹ none)) wanted c0 c g =
-      grown_then c0 (unused e (found e Void c)) (λ d. then (unused x (found x Void d.0)) (λ r. Ok (comma_answer r))) (grown_unused e c0 (found e Void c) (found_grows e Void c0 c g))
-      (λ d h. grown_then c0 (unused x (found x Void d.0)) (λ r. Ok (comma_answer r)) (grown_unused x c0 (found x Void d.0) (found_grows x Void c0 d.0 h))
-      (λ r k. grown_ok c0 (comma_answer r) k))
-  found_grows tree wanted c0 c g = grown_refused c0 Operands (line_of tree)
+      grown_then c0 (grown_unused e c0 (found e Void c) (found_grows e Void c0 c g))
+      (λ d h. grown_then c0 (grown_unused x c0 (found x Void d.0) (found_grows x Void c0 d.0 h)) (λ r k. grown_ok c0 k))
+  found_grows tree wanted c0 c g = grown_refused c0
 
   pub arguments_grow : (trees : Trees) (line : ℕ) (target : Callee) (params : PlainTypes) (c0 c : Context) → Grows c0 c → Grown c0 (arguments line target params trees c)
   arguments_grow none line target params c0 c g = grown_ok c0 g

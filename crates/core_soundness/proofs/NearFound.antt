@@ -1,5 +1,5 @@
 -- What expressions make: at most six for each word.
-use Rattle.std.proofs.Common.{◌≡◌, ◌+◌, ◌*◌, ℕ, Bool, true, false, cond, nat_lt, length, List, [], Option, Some, None, unwrap_or, Ok, refl, sym, subst, arith, ltb-false}
+use Rattle.std.proofs.Common.{◌≡◌, ◌+◌, ◌*◌, ℕ, Bool, true, false, cond, nat_lt, length, List, [], Option, Some, None, unwrap_or, Ok, refl, sym, subst, arith, ltb-false, ◌≤◌, ◌∷◌, ◌++◌}
 use Rattle.std.specs.Prelude.{IfSome}
 use Rattle.hs_base.specs.Place.{block_size}
 use Rattle.c_types.specs.declared.types.IntType.TheVariants as i
@@ -26,20 +26,21 @@ use Rattle.c_decls.specs.TypeRules.{address}
 use Rattle.c_decls.specs.PlaceRules.{held_place}
 use Rattle.c_decls.specs.Callees.{Callee, Prints, NoFunction, named, called, call, built_in_called, callee_at}
 use Rattle.c_decls.specs.TypeNames as names
-use Rattle.c_decls.specs.Expressions.{line_of, int_constant, char_constant, joined, string, literal, first_literal, typed, typename}
-use Rattle.elaboration.specs.Context.{Context, With, asked, told, new_label, literal_object}
-use Rattle.elaboration.specs.Conversions.{Found, Value, Unknown, found_as, valued_as, atom_in, valued, unused}
-use Rattle.elaboration.specs.Calls.{Argument, types_of, first_type, rest_types, argument_from, built_in_at, call_named}
-use Rattle.elaboration.specs.Rules.{constant_found, name_found, is_inner, with_static, with_literal, literal_found, indexed, dotted, pointed, applied, left_operand, between, cast_to, and_then, and_ended, or_else, or_ended, choose, type_ahead, choose_first, chosen}
-use Rattle.elaboration.specs.Assignments.{record_assigned, scalar_assigned, old_value, changed_by, stepped}
-use Rattle.elaboration.specs.Expressions.{name_answer, literal_answer, unevaluated, address_answer, changing, comma_answer, callee_name, callee, parameters, format_argument, is_printf, call_answer, found, arguments, cast_operand}
+use Rattle.c_decls.specs.Expressions.{line_of, joined, string, literal, first_literal, typed, typename}
+use Rattle.elaboration.specs.Context.{Context, With, asked, told, new_label}
+use Rattle.elaboration.specs.Conversions.{Found, valued, unused}
+use Rattle.elaboration.specs.Calls.{Argument, types_of, first_type, rest_types, argument_from, built_in_at}
+use Rattle.elaboration.specs.Rules.{with_static, with_literal, left_operand, and_then, or_else, choose, type_ahead, choose_first}
+use Rattle.elaboration.specs.Assignments.{record_assigned, scalar_assigned, old_value}
+use Rattle.elaboration.specs.Expressions.{name_answer, literal_answer, unevaluated, address_answer, changing, callee_name, callee, parameters, format_argument, is_printf, call_answer, found, arguments, cast_operand}
 use Rattle.core_soundness.proofs.Grown.{good, ok_same, never}
 use Rattle.core_soundness.proofs.Agreeing.{came}
 use Rattle.core_soundness.proofs.Reached.{Reached, reached_ok, reached_refused, reached_after, reached_then, Led, led_ok, led_unless}
 use Rattle.core_soundness.proofs.ShortNames.{some_short}
-use Rattle.core_soundness.proofs.Near.{weight, weights, said, Near, near_refl, near_on, near_most}
+use Rattle.core_soundness.proofs.Near.{weight, weights, Near, near_refl, near_on, near_most}
 use Rattle.core_soundness.proofs.NearWork.{valued_near, indexed_near, dotted_near, pointed_near, applied_near, left_near, between_near, cast_near, and_near, and_then_near, or_else_near, or_near, first_near, chosen_near, record_near, scalar_assigned_near, old_near, changed_near, stepped_near, argument_near, PrintsShort, call_near, unused_near}
 use Rattle.core_soundness.proofs.Unused.{cast_unused}
+use Rattle.core_soundness.proofs.Weights.{commas_said}
 
 -- formats are no longer than objects
 
@@ -197,8 +198,8 @@ mutual
   found_near (Node f.SizeofExpr (At line ▹ e ▹ none)) wish c z q = near_most 0 _ (omega arith) (unevaluated_near (Node f.SizeofExpr (At line ▹ e ▹ none)) c z q)
   found_near (Node f.SizeofType (At line ▹ name ▹ none)) wish c z q = near_most 0 _ (omega arith) (unevaluated_near (Node f.SizeofType (At line ▹ name ▹ none)) c z q)
   found_near (Node f.Cast (At line ▹ name ▹ e ▹ none)) wish c z q =
-      let t = came (typename name (asked c)) (λ t. then (cast_operand t.1 e (found e t.1 (told t.0 c))) (λ d. cast_to line t.1 c.code d.0 d.1)) z q in
-      let d = came (cast_operand t.value.1 e (found e t.value.1 (told t.value.0 c))) (λ d. cast_to line t.value.1 c.code d.0 d.1) z t.last in
+      let t = came (typename name (asked c)) q in
+      let d = came (cast_operand t.value.1 e (found e t.value.1 (told t.value.0 c))) t.last in
       let one = unused_near (weight e) e (told t.value.0 c) (found e t.value.1 (told t.value.0 c)) (found_near e t.value.1 (told t.value.0 c)) d.value (cast_unused t.value.1 e (found e t.value.1 (told t.value.0 c)) d.value d.is) in
       near_most (weight e + 1 + 1) _ (omega arith) (cast_near (weight e + 1) line t.value.1 c d.value.0 d.value.1 one z d.last)
   found_near (Node (f.Binary b.And) (At line ▹ e ▹ x ▹ none)) wish c z q =
@@ -246,12 +247,12 @@ mutual
       let two = valued_near (weight x) x old.0 (found x Void old.0) (found_near x Void old.0) r.value r.is in
       near_on (weight e + 1) (weight x + 5) _ (omega arith) one (near_on (weight x + 1) 4 (weight x + 5) (omega arith) two (changed_near line op false d.value.1 old.1 r.value z r.last))
   found_near (Node f.Comma (At line ▹ e ▹ x ▹ none)) wish c z q =
-      let d = came (unused e (found e Void c)) (λ d. then (unused x (found x Void d.0)) (λ r. good (comma_answer r))) z q in
-      let r = came (unused x (found x Void d.value.0)) (λ r. good (comma_answer r)) z d.last in
+      let d = came (unused e (found e Void c)) q in
+      let r = came (unused x (found x Void d.value.0)) d.last in
       let one = unused_near (weight e) e c (found e Void c) (found_near e Void c) d.value d.is in
       let two = unused_near (weight x) x d.value.0 (found x Void d.value.0) (found_near x Void d.value.0) r.value r.is in
-      near_on (weight e + 1) (weight x + 1) _ (omega arith) one (reached_ok (Near (weight x + 1) d.value.0) (comma_answer r.value) two z r.last)
-  found_near tree wish c z q = reached_refused (Near (weight tree) c) Operands (line_of tree) z q
+      near_on (weight e + 1) (weight x + 1) _ (omega arith) one (reached_ok (Near (weight x + 1) d.value.0) two z r.last)
+  found_near tree wish c z q = reached_refused (Near (weight tree) c) z q
 
   arguments_near : (trees : Trees) (line : ℕ) (target : Callee) (params : PlainTypes) (c : Context) → Reached (Near (weights trees + 2 * count trees) c) (arguments line target params trees c)
   arguments_near none line target params c z q = reached_ok (Near 0 c) (near_refl c) z q

@@ -25,10 +25,10 @@ use Rattle.c_decls.specs.Expressions.{line_of}
 use Rattle.c_decls.specs.Typed.{PlainTyped, Operand, Number, PointerTo, operand, read, is_null_constant}
 use Rattle.c_decls.specs.TypeRules.{result_type, unary, binary}
 use Rattle.c_decls.specs.PlaceRules.{cast, choice, dot, arrow, element, assigned, changed}
-use Rattle.elaboration.specs.Context.{Context, With, emit, here, new_label, with_labels, integer_by}
-use Rattle.elaboration.specs.Conversions.{Found, Spot, Local, Memory, Value, Empty, Unknown, Nowhere, found_as, read_spot, read_value, code_line, valued_from, valued, atom_in, holds_all, convert_integer, convert_to, convert, forget, tested, tested_value, write, size_or_zero, unused}
-use Rattle.elaboration.specs.Operations.{working, Working, Calculates, Shifts, Compares, Branches, convert_both, work, on_integers, before_integer, move_pointer, between_pointers, pointer_beside, beside_integer, combine, combined, change, changed_to, member_address, fixed_sum, offset_of, operator_of}
-use Rattle.elaboration.specs.Rules.{set_again, compare_again, at_address, with_value, indexed, member_of, dotted, target_of, pointed, before_number, apply, applied, tells_equal, is_pointer_ahead, ahead, left_operand, between, cast_fixed, cast_to, and_then, and_ends, and_ended, or_else, or_ends, or_ended, chosen_by, choose_first, choose_last, choice_found, chosen}
+use Rattle.elaboration.specs.Context.{Context, With, emit, new_label, with_labels, integer_by}
+use Rattle.elaboration.specs.Conversions.{Found, Spot, Local, Memory, Value, Nowhere, found_as, read_spot, code_line, valued_from, valued, atom_in, holds_all, convert_integer, convert_to, convert, forget, tested, tested_value, write, size_or_zero, unused}
+use Rattle.elaboration.specs.Operations.{working, Working, Calculates, Shifts, Compares, Branches, convert_both, work, on_integers, before_integer, move_pointer, between_pointers, pointer_beside, beside_integer, combine, combined, change, changed_to, member_address, offset_of, operator_of}
+use Rattle.elaboration.specs.Rules.{set_again, compare_again, indexed, dotted, target_of, pointed, before_number, apply, applied, tells_equal, is_pointer_ahead, ahead, left_operand, between, cast_to, and_then, and_ends, and_ended, or_else, or_ended, chosen_by, choose_first, choose_last, chosen}
 use Rattle.elaboration.specs.Assignments.{record_assigned, set_to, scalar_assigned, old_value, change_place, changed_answer, changed_by, one_found, stepped}
 use Rattle.elaboration.specs.Calls.{Argument, argument_from, atom_at, atoms_of, element_layout, built_in_at, lib_name, result_by, printing, with_format, call_built_in, call_of_built_in, call_named}
 use Rattle.core_soundness.proofs.Reached.{Reached, reached_ok, reached_after, reached_then}
@@ -54,7 +54,7 @@ valued_from_near tree c e =
 
 pub unused_near : (n : ℕ) (tree : Tree) (b : Context) (answer : With Found) → Reached (Near n b) answer → Reached (Near (n + 1) b) (unused tree answer)
 unused_near n tree b answer g =
-    reached_then (Near (n + 1) b) (Near n b) answer (λ d. valued_from tree d.0 d.1) g (λ d h z q. near_on n 1 (n + 1) (omega arith) h (valued_from_near tree d.0 d.1 z q))
+    reached_then (Near (n + 1) b) (Near n b) g (λ d h z q. near_on n 1 (n + 1) (omega arith) h (valued_from_near tree d.0 d.1 z q))
 
 pub valued_near : (n : ℕ) (tree : Tree) (b : Context) (answer : With Found) → Reached (Near n b) answer → Reached (Near (n + 1) b) (valued tree answer)
 valued_near n tree b answer g d q = unused_near n tree b answer g d (valued_unused tree answer d q)

@@ -150,7 +150,7 @@ valued_from_comes tree c e z l h q =
 
 pub unused_comes : (tree : Tree) (c : Context) (answer : With Found) (z : Context × Found) → 1 ≤ code_line tree → ((d : Context × Found) → answer ≡ Ok d → Sits c d) → unused tree answer ≡ Ok z → Comes c z
 unused_comes tree c answer z l h q =
-    let d = came answer (λ d. valued_from tree d.0 d.1) z q in
+    let d = came answer q in
     let one = h d.value d.is in
     let two = valued_from_comes tree d.value.0 d.value.1 z l one.stands d.last in
     record { goes = goes_trans c d.value.0 z.0 one.goes two.goes; value = two.value }

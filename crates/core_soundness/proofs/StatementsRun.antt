@@ -51,7 +51,7 @@ use Rattle.core_soundness.proofs.DeclaredSteps.{declaration_spoken, declaration_
 
 evaluated_runs : (e : Tree) (c z : Context) → Spoken c.scopes e → NamesFit (world c) c.scopes → evaluated e c ≡ Ok z → Goes c z
 evaluated_runs e c z p h q =
-    let d = came (unused e (found e Void (opened e c))) (λ d. good (closed e d.0)) z q in
+    let d = came (unused e (found e Void (opened e c))) q in
     let v = evaluates_unused e Void c d.value p h d.is in
     subst (Goes c) (ok_same (closed e d.value.0) z d.last) (goes_trans c d.value.0 _ (evaluated_goes c e d.value v) (closed_goes e d.value.0 v.line))
 

@@ -1,5 +1,5 @@
 -- Initializers declare nothing, and go in step (C99 6.7.8).
-use Rattle.std.proofs.Common.{◌≡◌, ◌+◌, ℕ, pos, Bool, true, false, not, cond, length, min, List, [], ◌∷◌, Option, Some, None, Ok, refl, subst}
+use Rattle.std.proofs.Common.{◌≡◌, ◌+◌, ℕ, pos, Bool, true, false, not, cond, length, min, List, [], ◌∷◌, Option, Some, None, Ok, refl, subst, ◌∙◌}
 use Rattle.c_types.specs.Types.{PlainType, Array, Struct, Union}
 use Rattle.core_tree.specs.declared.statements.Atom.{Atom}
 use Rattle.core_tree.specs.declared.statements.Atom.TheVariants as atom
@@ -8,9 +8,9 @@ use Rattle.c_tree.specs.Forms as f
 use Rattle.c_tree.specs.Places as p
 use Rattle.c_tree.specs.Tree.{Tree, Trees, At, Node, none, ◌▹◌, count}
 use Rattle.c_tree.specs.Grammar.{shape}
-use Rattle.c_decls.specs.declared.refusal.TypeKind.TheVariants.{Assignment, NotConstant}
-use Rattle.c_decls.specs.Refusals.{refused, then, unless}
-use Rattle.c_decls.specs.PlaceRules.{converts, unconverted}
+use Rattle.c_decls.specs.declared.refusal.TypeKind.TheVariants.{Assignment}
+use Rattle.c_decls.specs.Refusals.{refused, then}
+use Rattle.c_decls.specs.PlaceRules.{unconverted}
 use Rattle.c_decls.specs.Expressions.{line_of, string}
 use Rattle.elaboration.specs.Context.{Context, emit}
 use Rattle.elaboration.specs.Conversions.{Found, Spot, Local, Memory, atom_in, valued, convert, write, size_or_zero}
@@ -18,7 +18,7 @@ use Rattle.elaboration.specs.Reallocates.{opened}
 use Rattle.elaboration.specs.Rules.{with_literal}
 use Rattle.elaboration.specs.Expressions.{found}
 use Rattle.elaboration.specs.Addressed.{Taken, taken}
-use Rattle.elaboration.specs.Initializers.{Target, InRegister, InMemory, InStatic, with_bytes, static_scalar, member_place, store_at, fill_scalar, scalar, copy_to, fill_record, is_same_place, whole, copy_text, fill_text, is_character, text, by_text, by_expression, parts_of, takes_braces, is_scalar_type, all_surplus, initialize, initialize_parts, not_whole}
+use Rattle.elaboration.specs.Initializers.{Target, InRegister, InMemory, InStatic, static_scalar, member_place, store_at, fill_scalar, scalar, copy_to, fill_record, is_same_place, whole, fill_text, is_character, text, by_text, by_expression, parts_of, takes_braces, is_scalar_type, all_surplus, initialize, initialize_parts, not_whole}
 use Rattle.elaboration.specs.Locals.{next_is_memory, local_in, with_local}
 use Rattle.elaboration.specs.Declarations.{zero_of, cleared, fill_memory, fill_register, fill_at, fill_local}
 use Rattle.core_soundness.specs.Spoken.{Spoken, AllSpoken}
@@ -94,8 +94,8 @@ fill_record_went e line type offset b d t x = reached_refused (Went e b)
 whole_went : (e : Tree) (line : ℕ) (type : PlainType) (offset : ℕ) (t : Target) (b : Context) → Formed e → Reached (Went e b) (whole e line type offset t b)
 whole_went e line type offset t b g =
     let begun = opened e b in
-    reached_after (Went e b) (found e type begun) (λ d. unless (not (is_same_place type d.1.typed)) (not_whole d.1.typed) line (fill_record e line type offset d t))
-    (λ d h. reached_unless (Went e b) (not (is_same_place type d.1.typed)) (not_whole d.1.typed) line (fill_record e line type offset d t)
+    reached_after (Went e b) (found e type begun)
+    (λ d h. reached_unless (Went e b) (not (is_same_place type d.1.typed)) (not_whole d.1.typed) line
     (fill_record_went e line type offset b d t (found_calm e type begun d g h, keeps_trans b begun d.0 (opened_keeps e b) (found_keeps e type begun d h))))
 
 text_is_calm : (e : Tree) (bytes : List ℕ) → Formed e → text e ≡ Some bytes → Calm e

@@ -158,8 +158,8 @@ grows_tested_value tree d = grows_tested (code_line tree) d.1.typed.type (atom_i
 pub evaluated_passes : (e : Tree) (c : Context) → Safe c.scopes → Led (Passes c) (evaluated e c)
 evaluated_passes e c s =
     let begun = opened e c in
-    led_after (Passes c) (unused e (found e Void begun)) (λ d. Ok (closed e d.0))
-    (λ d h. led_ok (Passes c) (closed e d.0) (grows_passes c (closed e d.0) s (grows_closed e c d.0 s (grown_unused e begun (found e Void begun) (found_grows e Void begun begun (grows_refl begun)) d h))))
+    led_after (Passes c) (unused e (found e Void begun))
+    (λ d h. led_ok (Passes c) (grows_passes c (closed e d.0) s (grows_closed e c d.0 s (grown_unused e begun (found e Void begun) (found_grows e Void begun begun (grows_refl begun)) d h))))
 
 pub maybe_evaluated_passes : (e : Trees) (c : Context) → Safe c.scopes → Led (Passes c) (maybe_evaluated e c)
 maybe_evaluated_passes none c s = led_ok (Passes c) (passes_refl c s)

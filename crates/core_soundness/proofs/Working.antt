@@ -16,7 +16,7 @@ use Rattle.c_decls.specs.Expressions.{line_of}
 use Rattle.c_decls.specs.Typed.{PlainTyped, Operand, Number, PointerTo, operand, read}
 use Rattle.c_decls.specs.TypeRules.{result_type}
 use Rattle.elaboration.specs.Context.{Context, With}
-use Rattle.elaboration.specs.Conversions.{Found, Spot, Local, Memory, read_spot, read_value, code_line, valued_from, valued, atom_in, holds_all, convert_integer, convert_to, convert, tested, write, size_or_zero, unused}
+use Rattle.elaboration.specs.Conversions.{Found, Spot, Local, Memory, read_spot, code_line, valued_from, valued, atom_in, holds_all, convert_integer, convert_to, convert, tested, write, size_or_zero, unused}
 use Rattle.elaboration.specs.Operations.{working, Working, Calculates, Shifts, Compares, Branches, convert_both, work, on_integers, before_integer, move_pointer, between_pointers, pointer_beside, beside_integer, combine, combined, change, changed_to, member_address}
 use Rattle.core_soundness.proofs.Growth.{Grows, grows_refl, grows_trans, grows_emit, grows_integer, grows_pointer, grows_forgotten}
 use Rattle.core_soundness.proofs.Grown.{Grown, grown_ok, grown_after, grown_then, grows_cond}
@@ -36,7 +36,7 @@ grown_valued_from tree b c e g =
     (λ typed h. grown_ok b (grows_trans b c _ g (grows_read (code_line tree) e.typed.type e.spot c)))
 
 pub grown_unused : (tree : Tree) (b : Context) (answer : With Found) → Grown b answer → Grown b (unused tree answer)
-grown_unused tree b answer g = grown_then b answer (λ d. valued_from tree d.0 d.1) g (λ d h. grown_valued_from tree b d.0 d.1 h)
+grown_unused tree b answer g = grown_then b g (λ d h. grown_valued_from tree b d.0 d.1 h)
 
 pub grown_valued : (tree : Tree) (b : Context) (answer : With Found) → Grown b answer → Grown b (valued tree answer)
 grown_valued tree b answer g d q = grown_unused tree b answer g d (valued_unused tree answer d q)
