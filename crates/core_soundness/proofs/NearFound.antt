@@ -37,7 +37,8 @@ use Rattle.core_soundness.proofs.Grown.{good, ok_same, never}
 use Rattle.core_soundness.proofs.Agreeing.{came}
 use Rattle.core_soundness.proofs.Reached.{Reached, reached_ok, reached_refused, reached_after, reached_then, Led, led_ok, led_unless}
 use Rattle.core_soundness.proofs.ShortNames.{some_short}
-use Rattle.core_soundness.proofs.Near.{weight, weights, Near, near_refl, near_on, near_most}
+use Rattle.core_soundness.proofs.Weights.{weight, weights}
+use Rattle.core_soundness.proofs.Near.{Near, near_refl, near_on, near_most}
 use Rattle.core_soundness.proofs.NearWork.{valued_near, indexed_near, dotted_near, pointed_near, applied_near, left_near, between_near, cast_near, and_near, and_then_near, or_else_near, or_near, first_near, chosen_near, record_near, scalar_assigned_near, old_near, changed_near, stepped_near, argument_near, PrintsShort, call_near, unused_near}
 use Rattle.core_soundness.proofs.Unused.{cast_unused}
 use Rattle.core_soundness.proofs.Weights.{commas_said}

@@ -22,8 +22,10 @@ use Rattle.elaboration.specs.Statements.{Around, below, in_loop, in_switch, in_d
 use Rattle.core_soundness.proofs.Agreeing.{came}
 use Rattle.core_soundness.proofs.Reached.{Reached, reached_ok, reached_refused, reached_after, reached_unless, Led, led_ok, led_refused, led_after, led_unless, led_barred}
 use Rattle.core_soundness.proofs.ShortNames.{Short, AllShort}
-use Rattle.core_soundness.proofs.Near.{weight, weights, Near, near_refl, near_on, near_most}
+use Rattle.core_soundness.proofs.Weights.{weight, weights}
+use Rattle.core_soundness.proofs.Near.{Near, near_refl, near_on, near_most}
 use Rattle.core_soundness.proofs.NearWork.{integer_near, tested_value_near, unused_near}
+use Rattle.core_soundness.proofs.NearFound.{found_near}
 use Rattle.core_soundness.proofs.NearLayers.{constant_near}
 use Rattle.core_soundness.proofs.NearFills.{opened_near, closed_near, full_near, converted_near, declaration_near}
 
