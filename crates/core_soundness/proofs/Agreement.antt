@@ -27,7 +27,7 @@ use Rattle.elaboration.specs.Context.{Code, Context, With, asked, told, new_labe
 use Rattle.elaboration.specs.Conversions.{Found, Unknown, found_as, valued_as, valued, unused}
 use Rattle.elaboration.specs.Calls.{Argument, types_of, first_type, rest_types, argument_from, call_named}
 use Rattle.elaboration.specs.Rules.{constant_found, left_operand, and_then, or_else, choose, type_ahead, choose_first}
-use Rattle.elaboration.specs.Assignments.{record_assigned, scalar_assigned, old_value, stepped}
+use Rattle.elaboration.specs.Assignments.{record_assigned, scalar_assigned, old_value}
 use Rattle.elaboration.specs.Expressions.{changing, comma_answer, callee_name, callee, parameters, format_argument, is_printf, call_answer, found, arguments, cast_operand}
 use Rattle.core_soundness.proofs.Grown.{good, bad, ok_same, never}
 use Rattle.core_soundness.proofs.Quiet.{quiet_read, quiet_tested_value, quiet_argument, quiet_call}

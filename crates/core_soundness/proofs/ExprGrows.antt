@@ -1,5 +1,5 @@
 -- What elaborating an expression does to what is known.
-use Rattle.std.proofs.Common.{ℕ, true, false, List, Option, Some, None, ◌+◌, [], ◌∷◌}
+use Rattle.std.proofs.Common.{ℕ, true, false, List, Option, Some, None}
 use Rattle.c_types.specs.Types.{PlainType, PlainTypes, Void}
 use Rattle.c_tree.specs.declared.operator.UnaryOp.TheVariants as u
 use Rattle.c_tree.specs.declared.operator.BinaryOp.TheVariants as b

@@ -172,7 +172,7 @@ module _ (ts : List CompletedTag) (room : ℕ) (slots : List ℕ) where
   by_text_fills e line element size offset low (Some bytes) l target c solid q k seat h = by (is_character element) refl
     where
       by : (t : Bool) → is_character element ≡ t → Led (Fills slots (offset + l.size) c) (cond t (then (string line bytes) (λ literal. fill_text e line bytes size offset target c)) (whole e line (Array element size) offset target c))
-      by true is z s =
+      by true is = λ z s.
           let r = some_array (layout_of (known ts) element) size l q in
           let same : array_layout size (number_layout 1) ≡ l = ap (array_layout size) (character_width element r.0 is r.1) ∙ r.2 in
           subst (λ (x : Layout). Led (Fills slots (offset + x.size) c) (fill_text e line bytes size offset target c)) same

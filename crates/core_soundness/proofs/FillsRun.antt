@@ -31,7 +31,7 @@ use Rattle.core_soundness.proofs.Assigning.{converting_of, same_record}
 use Rattle.core_soundness.proofs.Readying.{names_more, all_spoken_more}
 use Rattle.core_soundness.proofs.Running.{opened_rests, closed_goes, Evaluates, evaluates, evaluated_goes, opened_goes}
 use Rattle.core_soundness.proofs.Unused.{behind_string}
-use Rattle.c_decls.specs.Expressions.{string}
+use Rattle.c_decls.specs.Expressions.{line_of, string}
 
 -- what is initialized fits
 abbrev pub TargetFits : World → PlainType → Target → Type 0

@@ -141,7 +141,7 @@ by_text_fills e line element size offset None t b is s = whole_fills e line (Arr
 by_text_fills e line element size offset (Some bytes) t b is s = by (is_character element)
   where
     by : (k : Bool) → Led (Fills t b) (cond k (then (string line bytes) (λ literal. fill_text e line bytes size offset t b)) (whole e line (Array element size) offset t b))
-    by true z q = fill_text_fills e line bytes size offset t b is s z (behind_string line bytes (fill_text e line bytes size offset t b) z q)
+    by true = λ z q. fill_text_fills e line bytes size offset t b is s z (behind_string line bytes (fill_text e line bytes size offset t b) z q)
     by false = whole_fills e line (Array element size) offset t b s
 
 by_expression_fills : (e : Tree) (line : ℕ) (type : PlainType) (offset : ℕ) (t : Target) (b : Context) → Safe b.scopes → Led (Fills t b) (by_expression e line type offset t b)

@@ -1,15 +1,14 @@
 -- What expressions leave as it was: as many parameters and locals are declared, and the same of them are taken the address of.
-use Rattle.std.proofs.Common.{◌≡◌, ℕ, zero, suc, Bool, true, false, not, cond, length, List, [], ◌∷◌, Option, Some, None, Ok, ⊎_elim, arith, refl, sym, ap, ◌∙◌, subst, ◌++◌}
+use Rattle.std.proofs.Common.{◌≡◌, ℕ, zero, suc, Bool, true, false, not, cond, length, List, [], ◌∷◌, Option, Some, None, Ok, ⊎_elim, arith, refl, sym, ap, ◌∙◌, subst}
 use Rattle.std.specs.Option.{option_or}
 use Rattle.c_types.specs.Types.{PlainType, Void}
 use Rattle.core_tree.specs.declared.statements.Atom.{Atom}
 use Rattle.core_tree.specs.declared.statements.StmKind.{StmKind}
 use Rattle.core_tree.specs.declared.statements.StmKind.TheVariants.{Zero, Enter, Leave}
-use Rattle.c_tree.specs.Tree.{Tree, ◌▹◌}
+use Rattle.c_tree.specs.Tree.{Tree}
 use Rattle.c_types.specs.declared.types.IntType.{IntType}
 use Rattle.c_decls.specs.declared.constant.Constant.{Constant}
 use Rattle.c_decls.specs.declared.refusal.TypeKind.TheVariants.{Operands}
-use Rattle.c_decls.specs.Named as n
 use Rattle.c_decls.specs.Named.{PlainNamed}
 use Rattle.c_decls.specs.ScopeList as scopes
 use Rattle.c_decls.specs.ScopeList.{ScopeList, Table, named_in, found_from, found}
@@ -37,7 +36,6 @@ use Rattle.elaboration.specs.Addressed.{Taken, Known, number_of}
 use Rattle.core_soundness.proofs.InStep.{among, drops, Keeps, Same, Fewer, HasScope, Numbered, Follows, InStep, Stepped}
 use Rattle.core_soundness.proofs.Still.{SameNames}
 use Rattle.core_soundness.proofs.Unused.{valued_unused}
-use Rattle.c_tree.specs.Forms as f
 
 pub keeps_refl : (c : Context) → Keeps c c
 keeps_refl c = record { more = more_refl c.scopes; declared = refl; addressed = refl }

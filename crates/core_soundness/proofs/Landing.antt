@@ -35,7 +35,7 @@ use Rattle.c_decls.specs.Expressions.{string}
 use Rattle.elaboration.specs.Context.{Context, literal_object, local_register}
 use Rattle.elaboration.specs.Conversions.{Found, Spot, Local, Memory, Value, Fixed, Unknown, Nowhere, found_as, atom_in, code_line, convert, forget, tested_value}
 use Rattle.elaboration.specs.Operations.{working, move_pointer, combine, combined, fixed_sum, moved_by, offset_of}
-use Rattle.elaboration.specs.Rules.{constant_found, object_found, built_in_found, name_found, is_inner, with_static, with_literal, literal_found, at_address, with_value, indexed, member_of, dotted, target_of, pointed, negated, before_number, apply, applied, tells_equal, is_pointer_ahead, is_pointer_operand, ahead, left_operand, between, cast_fixed, cast_to}
+use Rattle.elaboration.specs.Rules.{constant_found, object_found, built_in_found, name_found, is_inner, with_static, with_literal, literal_found, at_address, with_value, indexed, dotted, target_of, pointed, negated, before_number, apply, applied, tells_equal, is_pointer_ahead, is_pointer_operand, ahead, left_operand, between, cast_fixed, cast_to}
 use Rattle.elaboration.specs.Expressions.{name_answer, literal_answer, address_answer}
 use Rattle.core_soundness.specs.Worlds.{World, world, Holds, HeldAs, Held, StandsAs, Stands, IsObject, is_variable, is_literal, is_local, InnerFits, FileFits, TablesFit, NamesFit, local_sort, type_sort}
 use Rattle.core_soundness.proofs.Grown.{good, ok_same, never}

@@ -1,5 +1,5 @@
 -- What expressions make: at most six for each word.
-use Rattle.std.proofs.Common.{◌≡◌, ◌+◌, ◌*◌, ℕ, Bool, true, false, cond, nat_lt, length, List, [], Option, Some, None, unwrap_or, Ok, refl, sym, subst, arith, ltb-false, ◌≤◌, ◌∷◌, ◌++◌}
+use Rattle.std.proofs.Common.{◌≡◌, ◌+◌, ◌*◌, ℕ, Bool, true, false, cond, nat_lt, length, List, [], Option, Some, None, unwrap_or, Ok, refl, sym, subst, arith, ltb-false}
 use Rattle.std.specs.Prelude.{IfSome}
 use Rattle.hs_base.specs.Place.{block_size}
 use Rattle.c_types.specs.declared.types.IntType.TheVariants as i

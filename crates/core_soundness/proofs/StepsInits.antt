@@ -1,5 +1,5 @@
 -- Initializers declare nothing, and go in step (C99 6.7.8).
-use Rattle.std.proofs.Common.{◌≡◌, ◌+◌, ℕ, pos, Bool, true, false, not, cond, length, min, List, [], ◌∷◌, Option, Some, None, Ok, refl, subst, ◌∙◌}
+use Rattle.std.proofs.Common.{◌≡◌, ◌+◌, ℕ, pos, Bool, true, false, not, cond, length, min, List, [], ◌∷◌, Option, Some, None, Ok, refl, subst}
 use Rattle.c_types.specs.Types.{PlainType, Array, Struct, Union}
 use Rattle.core_tree.specs.declared.statements.Atom.{Atom}
 use Rattle.core_tree.specs.declared.statements.Atom.TheVariants as atom
@@ -124,7 +124,7 @@ by_text_went e line element size offset None t b is g = whole_went e line (Array
 by_text_went e line element size offset (Some bytes) t b is g = by (is_character element)
   where
     by : (k : Bool) → Reached (Went e b) (cond k (then (string line bytes) (λ literal. fill_text e line bytes size offset t b)) (whole e line (Array element size) offset t b))
-    by true z q = fill_text_went e line bytes size offset t b (text_is_calm e bytes g is) z (behind_string line bytes (fill_text e line bytes size offset t b) z q)
+    by true = λ z q. fill_text_went e line bytes size offset t b (text_is_calm e bytes g is) z (behind_string line bytes (fill_text e line bytes size offset t b) z q)
     by false = whole_went e line (Array element size) offset t b g
 
 by_expression_went : (e : Tree) (line : ℕ) (type : PlainType) (offset : ℕ) (t : Target) (b : Context) → Formed e → Reached (Went e b) (by_expression e line type offset t b)

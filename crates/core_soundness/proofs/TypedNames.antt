@@ -1,5 +1,5 @@
 -- The types of expressions declare tags alone.
-use Rattle.std.proofs.Common.{ℕ, zero, length, List, [], ◌∷◌, Option, Some, None, Ok, subst, ◌++◌}
+use Rattle.std.proofs.Common.{ℕ, zero, length, List, [], ◌∷◌, Option, Some, None, Ok, subst}
 use Rattle.c_types.specs.Types as ct
 use Rattle.c_types.specs.Types.{PlainType}
 use Rattle.c_types.specs.TagTable.{TagTable}
