@@ -25,9 +25,7 @@ use Rattle.elaboration.specs.Assignments.{record_assigned, scalar_assigned, old_
 use Rattle.elaboration.specs.Expressions.{unevaluated, changing, comma_answer, callee, callee_name, parameters, call_answer, found, arguments, cast_operand}
 use Rattle.core_soundness.proofs.Growth.{Grows, grows_refl, grows_trans, grows_told}
 use Rattle.core_soundness.proofs.Grown.{ok_same, never}
-use Rattle.core_soundness.proofs.Working.{grown_unused}
-use Rattle.core_soundness.proofs.Ruling.{grows_left}
-use Rattle.core_soundness.proofs.ExprGrows.{found_grows}
+use Rattle.core_soundness.proofs.Working.{grows_left, found_grows, grown_unused}
 use Rattle.core_soundness.proofs.TypedNames.{typename_after}
 use Rattle.core_soundness.proofs.Agreeing.{came}
 use Rattle.core_soundness.proofs.Settled.{grows_settled}

@@ -21,9 +21,8 @@ use Rattle.elaboration.specs.Initializers.{Target, InRegister, InMemory, InStati
 use Rattle.core_soundness.proofs.Names.{Safe}
 use Rattle.core_soundness.proofs.Growth.{Grows, grows_refl, grows_trans, grows_emit, grows_pointer, grows_code}
 use Rattle.core_soundness.proofs.Reached.{Led, led_ok, led_refused, led_after, led_unless, led_barred}
-use Rattle.core_soundness.proofs.Working.{grown_valued, grows_convert, grows_write}
+use Rattle.core_soundness.proofs.Working.{found_grows, grown_valued, grows_convert, grows_write}
 use Rattle.core_soundness.proofs.Calling.{grown_literal}
-use Rattle.core_soundness.proofs.ExprGrows.{found_grows}
 use Rattle.core_soundness.proofs.Passing.{Stays, Passes, stays_trans, passes_trans, grows_stays, grows_passes, grows_closed, opened_stays}
 use Rattle.core_soundness.proofs.Declaring.{passes_refl}
 use Rattle.core_soundness.proofs.Unused.{behind_string}

@@ -29,8 +29,7 @@ use Rattle.core_soundness.proofs.Grown.{ok_same, never}
 use Rattle.core_soundness.proofs.Growth.{Grows, grows_refl}
 use Rattle.core_soundness.proofs.Agreeing.{came}
 use Rattle.core_soundness.proofs.Operating.{passed}
-use Rattle.core_soundness.proofs.Working.{grown_unused, grows_convert_integer, grows_tested}
-use Rattle.core_soundness.proofs.ExprGrows.{found_grows}
+use Rattle.core_soundness.proofs.Working.{found_grows, grown_unused, grows_convert_integer, grows_tested}
 use Rattle.core_soundness.proofs.TypedNames.{typed_after, wanted_after}
 use Rattle.elaboration.specs.Addressed.{Taken, Known, number_of}
 use Rattle.core_soundness.proofs.InStep.{among, drops, Keeps, Same, Fewer, HasScope, Numbered, Follows, InStep, Stepped}

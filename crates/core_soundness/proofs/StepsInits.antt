@@ -27,9 +27,8 @@ use Rattle.core_soundness.proofs.Grown.{good, ok_same, never}
 use Rattle.core_soundness.proofs.Growth.{Grows, grows_refl, grows_pointer}
 use Rattle.core_soundness.proofs.Reached.{Reached, reached_ok, reached_refused, reached_after, reached_unless, reached_barred}
 use Rattle.core_soundness.proofs.Agreeing.{came}
-use Rattle.core_soundness.proofs.Working.{grown_valued, grows_convert, grows_write}
+use Rattle.core_soundness.proofs.Working.{found_grows, grown_valued, grows_convert, grows_write}
 use Rattle.core_soundness.proofs.Calling.{grown_literal}
-use Rattle.core_soundness.proofs.ExprGrows.{found_grows}
 use Rattle.core_soundness.proofs.Adding.{Inside}
 use Rattle.core_soundness.proofs.Formed.{Shaped, Formed, AllFormed}
 use Rattle.core_soundness.proofs.InStep.{Keeps, Follows}

@@ -21,8 +21,7 @@ use Rattle.core_soundness.proofs.Fragments.{Way, way_on, IsWay, Leads, AreEarlie
 use Rattle.core_soundness.proofs.Names.{Safe, left_safe}
 use Rattle.core_soundness.proofs.Growth.{Grows, grows_refl, grows_trans}
 use Rattle.core_soundness.proofs.Reached.{Reached, reached_ok, reached_refused, reached_after, reached_unless, Led, led_ok, led_after, led_unless, led_barred}
-use Rattle.core_soundness.proofs.Working.{grown_valued, grows_convert, grows_convert_integer, grows_tested, grown_unused}
-use Rattle.core_soundness.proofs.ExprGrows.{found_grows}
+use Rattle.core_soundness.proofs.Working.{found_grows, grown_valued, grows_convert, grows_convert_integer, grows_tested, grown_unused}
 use Rattle.core_soundness.proofs.Owners.{tied_refl}
 use Rattle.core_soundness.proofs.Passing.{Stays, Passes, stays_trans, grows_passes, grows_closed, stays_beside}
 use Rattle.core_soundness.proofs.Declaring.{passes_refl, tail_depth}
