@@ -1,27 +1,20 @@
 -- What changes beside the code of an expression: formats, calls and literals.
-use Rattle.std.proofs.Common.{◌≡◌, ◌≤◌, ◌+◌, ℕ, Bool, true, false, List, [], ◌∷◌, ◌++◌, length, drop, Option, Some, None, unwrap_or, refl, sym, ap, ◌∙◌, subst, arith, append_assoc, append-nil, ltb-false}
+use Rattle.std.proofs.Common.{◌≡◌, ◌≤◌, ◌+◌, ℕ, Bool, true, false, List, [], ◌∷◌, ◌++◌, length, refl, sym, ap, ◌∙◌, subst, arith, append_assoc, append-nil, ltb-false}
 use Rattle.std.proofs.lemmas.List.Sums.{sum_by-append}
 use Rattle.std.specs.Prelude.{nat_lt}
 use Rattle.hs_base.specs.Place.{block_size}
-use Rattle.c_types.specs.Types.{PlainType, PlainTypes, Int, Pointer, none, first}
 use Rattle.core_tree.specs.declared.statements.Atom.{Atom}
-use Rattle.core_tree.specs.declared.statements.StmKind.{StmKind}
-use Rattle.core_tree.specs.declared.statements.StmKind.TheVariants.{Call, Malloc, Calloc, Realloc, Free, Lib, Printf, Enter, Leave}
+use Rattle.core_tree.specs.declared.statements.StmKind.TheVariants.{Free, Enter, Leave}
 use Rattle.c_decls.specs.declared.refusal.TypeKind.TheVariants.{StaticTooLarge}
 use Rattle.c_decls.specs.Refusals.{then, unless}
-use Rattle.c_decls.specs.declared.built_in.BuiltIn.{BuiltIn}
-use Rattle.c_decls.specs.declared.built_in.BuiltIn.TheVariants as b
-use Rattle.c_decls.specs.Named as n
-use Rattle.c_decls.specs.Named.{PlainNamed}
 use Rattle.elaboration.specs.Context.{Does, Context, emit, literal_object}
-use Rattle.elaboration.specs.Conversions.{Found, atom_in}
-use Rattle.elaboration.specs.Calls.{Argument, argument_from, atom_at, atoms_of, element_layout, built_in_at, lib_name, result_by, printing, with_format, call_built_in, call_of_built_in, call_named}
+use Rattle.elaboration.specs.Calls.{with_format}
 use Rattle.elaboration.specs.Rules.{with_literal}
 use Rattle.core_soundness.proofs.Flow.{agree_refl}
-use Rattle.core_soundness.proofs.Fragments.{nothing, IsPlain}
+use Rattle.core_soundness.proofs.Fragments.{nothing}
 use Rattle.core_soundness.proofs.Names.{more_refl}
 use Rattle.core_soundness.proofs.Owners.{get_left}
-use Rattle.core_soundness.proofs.Growth.{Grows, Counted, literal_bytes, grows_refl, grows_trans, grows_emit, grows_integer, grows_pointer}
+use Rattle.core_soundness.proofs.Growth.{Grows, Counted, literal_bytes, grows_trans}
 use Rattle.core_soundness.proofs.Grown.{Grown, good, ok_same, never}
 
 -- what changes beside the code

@@ -153,7 +153,7 @@ module _ (R : ℕ → Context → Context → Type 0) (steps : Writes R) where
       both 2 1 3 (omega arith) (both_keeps line ty s x ty t y c) (steps.integer line (λ r. Cmp op r d.1 d.2) d.0 (λ r. tt))
   work_keeps line Branches s x t y c = steps.stop 3 c
 
-  before_keeps : (line : ℕ) (op : UnaryOp) (ty : IntType) (x : Atom) (c : Context) → R 2 c (before_integer line op ty x c).0
+  pub before_keeps : (line : ℕ) (op : UnaryOp) (ty : IntType) (x : Atom) (c : Context) → R 2 c (before_integer line op ty x c).0
   unfolding before_integer
   before_keeps line u.Minus ty x c =
       let d = convert_integer line (promoted ty) ty x c in
@@ -191,7 +191,7 @@ module _ (R : ℕ → Context → Context → Type 0) (steps : Writes R) where
   pub combined_keeps : (n line : ℕ) (op : BinaryOp) (b : Context) (x y : Found) (c : Context) → R n b c → R (n + 3) b (combined line op b.code x y c).0
   combined_keeps n line op b x y c g = combine_keeps n line op b (operand x.typed.type) (operand y.typed.type) (atom_in x) (atom_in y) c g
 
-  change_keeps : (line : ℕ) (op : BinaryOp) (s t : Operand) (old y : Atom) (c : Context) → R 4 c (change line op s t old y c).0
+  pub change_keeps : (line : ℕ) (op : BinaryOp) (s t : Operand) (old y : Atom) (c : Context) → R 4 c (change line op s t old y c).0
   change_keeps line op (Number s) (Number t) old y c =
       let d = on_integers line op s old t y c in
       both 3 1 4 (omega arith) (work_keeps line (working op) s old t y c) (convert_integer_keeps line s (result_type op s t) d.1 d.0)
@@ -205,7 +205,7 @@ module _ (R : ℕ → Context → Context → Type 0) (steps : Writes R) where
   set_again_keeps line (atom.Reg r) a c = steps.emits line (Set r a) c tt
   set_again_keeps line other a c = steps.stop 0 c
 
-  compare_again_keeps : (line : ℕ) (t a : Atom) (c : Context) → R 0 c (compare_again line t a c)
+  pub compare_again_keeps : (line : ℕ) (t a : Atom) (c : Context) → R 0 c (compare_again line t a c)
   compare_again_keeps line (atom.Reg r) a c = steps.emits line (Cmp cmp.Ne r a (atom.Int (pos 0))) c tt
   compare_again_keeps line other a c = steps.stop 0 c
 
@@ -300,7 +300,7 @@ module _ (R : ℕ → Context → Context → Type 0) (steps : Writes R) where
   or_keeps n line tree right i x d r g =
       reached_after (R (n + 3) d.0) (binary line b.Or r.0.tags x.typed r.1.typed) (λ typed k. reached_ok (R (n + 3) d.0) (or_ends_keeps n line tree right i d r g))
 
-  chosen_by_keeps : (n line : ℕ) (b : Context) (type : PlainType) (e : PlainTyped) (d : Context × Atom) → R n b d.0 → R (n + 2) b (chosen_by line b.code type e d).0
+  pub chosen_by_keeps : (n line : ℕ) (b : Context) (type : PlainType) (e : PlainTyped) (d : Context × Atom) → R n b d.0 → R (n + 2) b (chosen_by line b.code type e d).0
   chosen_by_keeps n line b (Int ty) e d g =
       let v = convert line b.code (Int ty) e d.1 d.0 in
       both (n + 1) 1 (n + 2) (omega arith) (convert_keeps n line b (Int ty) e d.1 d.0 g) (steps.integer line (λ r. Set r v.1) v.0 (λ r. tt))
@@ -309,7 +309,7 @@ module _ (R : ℕ → Context → Context → Type 0) (steps : Writes R) where
       both (n + 1) 1 (n + 2) (omega arith) (convert_keeps n line b (Pointer target) e d.1 d.0 g) (steps.pointer line (λ r. Set r v.1) v.0 (λ r. tt))
   chosen_by_keeps n line b type e d g = within n (n + 2) (omega arith) g
 
-  choose_last_keeps : (n line : ℕ) (b : Context) (type : PlainType) (t : Atom) (d : Context × Found) → R n b d.0 → R (n + 1) b (choose_last line b.code type t d).0
+  pub choose_last_keeps : (n line : ℕ) (b : Context) (type : PlainType) (t : Atom) (d : Context × Found) → R n b d.0 → R (n + 1) b (choose_last line b.code type t d).0
   choose_last_keeps n line b type t d g =
       let v = convert line b.code type d.1.typed (atom_in d.1) d.0 in
       both (n + 1) 0 (n + 1) (omega arith) (convert_keeps n line b type d.1.typed (atom_in d.1) d.0 g) (set_again_keeps line t v.1 v.0)

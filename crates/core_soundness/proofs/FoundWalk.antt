@@ -1,7 +1,6 @@
 -- One walk over expressions: what each of its steps keeps, it keeps (C99 6.5).
 use Rattle.std.proofs.Common.{◌≤◌, ◌≡◌, ◌+◌, ◌*◌, ℕ, Bool, true, false, cond, nat_lt, length, List, [], Option, Some, None, unwrap_or, Ok, refl, sym, subst, arith, ltb-false}
 use Rattle.std.specs.Prelude.{IfSome}
-use Rattle.hs_base.specs.Place.{block_size}
 use Rattle.c_types.specs.declared.types.IntType.TheVariants as i
 use Rattle.c_types.specs.Types.{PlainType, PlainTypes, Void, Int, Array}
 use Rattle.c_types.specs.TagTable.{TagTable}
@@ -16,7 +15,7 @@ use Rattle.c_tree.specs.Grammar.{assign_level, shape}
 use Rattle.c_tree.specs.Tree.{Tree, Trees, Leaf, At, Node, none, ◌▹◌, count}
 use Rattle.c_decls.specs.declared.built_in.BuiltIn.{BuiltIn}
 use Rattle.c_decls.specs.declared.built_in.BuiltIn.TheVariants as bi
-use Rattle.c_decls.specs.declared.refusal.TypeKind.TheVariants.{StaticTooLarge, TypeTooLarge}
+use Rattle.c_decls.specs.declared.refusal.TypeKind.TheVariants.{TypeTooLarge}
 use Rattle.c_decls.specs.Named as n
 use Rattle.c_decls.specs.Named.{PlainNamed}
 use Rattle.c_decls.specs.Refusals.{Checked, then, unless}
@@ -30,12 +29,12 @@ use Rattle.c_decls.specs.Expressions.{line_of, joined, string, literal, first_li
 use Rattle.elaboration.specs.Context.{Context, With, asked, told, new_label}
 use Rattle.elaboration.specs.Conversions.{Found, valued, unused}
 use Rattle.elaboration.specs.Calls.{Argument, types_of, first_type, rest_types, argument_from, built_in_at}
-use Rattle.elaboration.specs.Rules.{with_static, with_literal, left_operand, and_then, or_else, choose, type_ahead, choose_first}
+use Rattle.elaboration.specs.Rules.{with_literal, left_operand, and_then, or_else, choose, type_ahead, choose_first}
 use Rattle.elaboration.specs.Assignments.{record_assigned, scalar_assigned, old_value}
 use Rattle.elaboration.specs.Expressions.{name_answer, literal_answer, unevaluated, address_answer, changing, callee_name, callee, parameters, format_argument, is_printf, call_answer, found, arguments, cast_operand}
 use Rattle.core_soundness.proofs.Grown.{good, ok_same, never}
 use Rattle.core_soundness.proofs.Agreeing.{came}
-use Rattle.core_soundness.proofs.Reached.{Reached, reached_ok, reached_refused, reached_after, reached_then, Led, led_ok, led_unless}
+use Rattle.core_soundness.proofs.Reached.{Reached, reached_ok, reached_refused, reached_after, reached_then}
 use Rattle.core_soundness.proofs.ShortNames.{some_short}
 use Rattle.core_soundness.proofs.Weights.{weight, weights}
 use Rattle.core_soundness.proofs.Names.{More}

@@ -1,5 +1,5 @@
 -- What expressions make: at most six for each word.
-use Rattle.std.proofs.Common.{◌+◌, ℕ, nat_lt, length, List, ltb-false}
+use Rattle.std.proofs.Common.{◌+◌, ℕ, nat_lt, length, List}
 use Rattle.hs_base.specs.Place.{block_size}
 use Rattle.c_types.specs.Types.{PlainType}
 use Rattle.c_tree.specs.Tree.{Tree}

@@ -1,5 +1,5 @@
 -- What conversions, operators and calls make.
-use Rattle.std.proofs.Common.{◌+◌, ℕ, List, arith}
+use Rattle.std.proofs.Common.{◌+◌, ℕ, arith}
 use Rattle.c_types.specs.declared.types.IntType.{IntType}
 use Rattle.c_types.specs.Types.{PlainType}
 use Rattle.core_tree.specs.declared.statements.Atom.{Atom}

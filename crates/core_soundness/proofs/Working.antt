@@ -1,5 +1,5 @@
 -- What elaborating an expression does to what is known.
-use Rattle.std.proofs.Common.{ℕ, List}
+use Rattle.std.proofs.Common.{ℕ}
 use Rattle.c_types.specs.declared.types.IntType.{IntType}
 use Rattle.c_types.specs.Types.{PlainType}
 use Rattle.core_tree.specs.declared.statements.Atom.{Atom}
