@@ -197,8 +197,7 @@ apply_of : (line : ℕ) (op : UnaryOp) (tree : Tree) (t : PlainTyped) (c : Conte
 apply_of line u.Deref tree t c e o is h = refl
 apply_of line u.Not tree t c e o is h = refl
 apply_of line op tree t c e (Number ty) is h = ap (λ (x : Operand). (before_number line op t x c e).1.typed) is
-apply_of line op tree t c e Neither is h = never _ _ t h
-apply_of line other tree t c e (PointerTo target) is h = never _ _ t h
+apply_of line other tree t c e rest is h = never _ _ t h
 
 pub applied_rule : (line : ℕ) (op : UnaryOp) (tree : Tree) (c : Context) (e : Found) (z : Context × Found) → applied line op tree c e ≡ Ok z → Ruled (unary line op c.tags e.typed) (asked c) z
 applied_rule line op tree c e z h =
@@ -291,8 +290,7 @@ changed_rule line op keeps_old target old d z h =
 -- `--` is refused where `++` is
 steps_alike : (line : ℕ) (tags : TagTable) (type : PlainType) (o : Operand) → changed_types line a.Subtract tags type o (Number i.Int) ≡ changed_types line a.Add tags type o (Number i.Int)
 steps_alike line tags type (Number ty) = refl
-steps_alike line tags type (PointerTo target) = refl
-steps_alike line tags type Neither = refl
+steps_alike line tags type other = refl
 
 pub stepped_alike : (line : ℕ) (tags : TagTable) (t : PlainTyped) → changed line a.Subtract tags t int ≡ changed line a.Add tags t int
 stepped_alike line tags t = ap (λ (x : Checked PlainTyped). unless (not (is_written t)) NotLvalue line x) (steps_alike line tags t.type (operand t.type))

@@ -88,7 +88,6 @@ SameTypes NoFunction xs ys = xs ≡ ys
 
 same_all : (function : Callee) (xs : List PlainTyped) → SameTypes function xs xs
 same_all Prints [] = tt
-same_all Prints (x ∷ xs) = refl
 same_all other xs = refl
 
 same_rest : (function : Callee) (x : PlainTyped) (xs ys : List PlainTyped) → xs ≡ ys → SameTypes function (x ∷ xs) (x ∷ ys)

@@ -146,7 +146,6 @@ times_in c down size other fixed h = tt
 sum_of_in : (c : Context) (down : Bool) (s t : Operand) (x y : Found) → FixedAt c x.fixed → FixedAt c y.fixed → FixedAt c (fixed_sum_of c down s t x y)
 sum_of_in c down (PointerTo target) (Number t) x y h k = times_in c down (size_or_zero c target) y.typed.folded x.fixed h
 sum_of_in c down (Number s) (PointerTo target) x y h k = times_in c down (size_or_zero c target) x.typed.folded y.fixed k
-sum_of_in c down Neither t x y h k = tt
 sum_of_in c down others other x y h k = tt
 
 pub sum_in : (c : Context) (op : BinaryOp) (x y : Found) → FixedAt c x.fixed → FixedAt c y.fixed → FixedAt c (fixed_sum c op x y)

@@ -82,17 +82,7 @@ record_again (types.Struct tag) (types.Array element length) r e = cc
 record_again (types.Struct tag) (types.Union other) r e = cc
 record_again (types.Struct tag) (types.Function answer params) r e = cc
 record_again (types.Union tag) (types.Union other) r e = refl
-record_again (types.Union tag) (types.Int ty) r e = cc
-record_again (types.Union tag) (types.Pointer target) r e = cc
-record_again (types.Union tag) types.Void r e = cc
-record_again (types.Union tag) (types.Array element length) r e = cc
-record_again (types.Union tag) (types.Struct other) r e = cc
-record_again (types.Union tag) (types.Function answer params) r e = cc
-record_again types.Void t r e = cc
-record_again (types.Int ty) t r e = cc
-record_again (types.Pointer target) t r e = cc
-record_again (types.Array element length) t r e = cc
-record_again (types.Function answer params) t r e = cc
+record_again other t r e = cc
 
 -- a struct or a union that is no assignment is a place
 record_place : (type : PlainType) (e : PlainTyped) → is_record type ≡ true → same type e.type ≡ true → has_no_value e ≡ false → e.is_place ≡ true

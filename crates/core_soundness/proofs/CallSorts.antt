@@ -114,10 +114,7 @@ result_stands line types.Void kind c l h = record { goes = goes_emit line (kind 
   where
     grew_here : (c : Context) → Grew (world c) (world c)
     grew_here c = (goes_refl c).grew
-result_stands line (types.Array element length) kind c l h = record { goes = goes_emit line (kind None) c l (h (world c) None (goes_refl c).grew tt); stands = refl; apart = tt }
-result_stands line (types.Struct tag) kind c l h = record { goes = goes_emit line (kind None) c l (h (world c) None (goes_refl c).grew tt); stands = refl; apart = tt }
-result_stands line (types.Union tag) kind c l h = record { goes = goes_emit line (kind None) c l (h (world c) None (goes_refl c).grew tt); stands = refl; apart = tt }
-result_stands line (types.Function answer params) kind c l h = record { goes = goes_emit line (kind None) c l (h (world c) None (goes_refl c).grew tt); stands = refl; apart = tt }
+result_stands line other kind c l h = record { goes = goes_emit line (kind None) c l (h (world c) None (goes_refl c).grew tt); stands = refl; apart = tt }
 
 -- a function that is declared
 pub function_answered : (line : ℕ) (name : List ℕ) (answer : PlainType) (params : PlainTypes) (index : ℕ) (vs : List Argument) (c : Context) → 1 ≤ line → named_in name c.scopes.file ≡ Some (n.Function (types.Function answer params) index) → HoldAll (world c) (param_sorts params) (atoms_of vs)

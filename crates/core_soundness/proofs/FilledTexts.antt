@@ -143,22 +143,7 @@ module _ (ts : List CompletedTag) (room : ℕ) (slots : List ℕ) where
 
   character_width : (element : PlainType) (m : Layout) → is_character element ≡ true → layout_of (known ts) element ≡ Some m → number_layout 1 ≡ m
   character_width (Int i.Char) m e q = cc
-  character_width (Int i.SChar) m e q = cc
-  character_width (Int i.UChar) m e q = cc
-  character_width (Int i.Short) m e q = cc
-  character_width (Int i.UShort) m e q = cc
-  character_width (Int i.Int) m e q = cc
-  character_width (Int i.UInt) m e q = cc
-  character_width (Int i.Long) m e q = cc
-  character_width (Int i.ULong) m e q = cc
-  character_width (Int i.LongLong) m e q = cc
-  character_width (Int i.ULongLong) m e q = cc
-  character_width Void m e q = cc
-  character_width (Pointer target) m e q = cc
-  character_width (Array element n) m e q = cc
-  character_width (Struct tag) m e q = cc
-  character_width (Union tag) m e q = cc
-  character_width (Function answer params) m e q = cc
+  character_width other m e q = cc
 
   text_fills : (e : Tree) (line : ℕ) (bytes : List ℕ) (size offset low : ℕ) (target : Target) (c : Context) → Solid c → low ≤ offset → Seat room slots offset (array_layout size (number_layout 1)) → TargetFilled slots low target → Led (Fills slots (offset + size * 1) c) (fill_text e line bytes size offset target c)
   text_fills e line bytes size offset low (InMemory at mem) c solid k seat h = absurd h

@@ -180,10 +180,7 @@ fill_memory_near line type (init ▹ rest) (atom.Mem mem) c =
     let x = cleared line type (atom.Mem mem) c in
     led_after (Near (weight init + 3) c) (initialize init false type 0 (InMemory line mem) x) (λ d q. led_ok (Near (weight init + 3) c) (initialize_near init false type 0 (InMemory line mem) x d q))
 fill_memory_near line type none mem c = led_ok (Near 0 c) (near_refl c)
-fill_memory_near line type (init ▹ rest) (atom.Reg r) c = led_ok (Near (weight init + 3) c) (near_most 0 (weight init + 3) (omega arith) (near_refl c))
-fill_memory_near line type (init ▹ rest) (atom.Int x) c = led_ok (Near (weight init + 3) c) (near_most 0 (weight init + 3) (omega arith) (near_refl c))
-fill_memory_near line type (init ▹ rest) atom.Null c = led_ok (Near (weight init + 3) c) (near_most 0 (weight init + 3) (omega arith) (near_refl c))
-fill_memory_near line type (init ▹ rest) (atom.Static x) c = led_ok (Near (weight init + 3) c) (near_most 0 (weight init + 3) (omega arith) (near_refl c))
+fill_memory_near line type (init ▹ rest) other c = led_ok (Near (weight init + 3) c) (near_most 0 (weight init + 3) (omega arith) (near_refl c))
 
 fill_register_near : (line : ℕ) (type : PlainType) (inits : Trees) (register : ℕ) (c : Context) → Led (Near (starting inits) c) (fill_register line type inits register c)
 fill_register_near line type none register c = led_ok (Near 0 c) (near_refl c)

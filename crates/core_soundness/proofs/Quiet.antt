@@ -86,7 +86,6 @@ quiet_choose_last line before type t d = choose_last_keeps Still quiet_writes 0 
 
 quiet_result : (line : ℕ) (type : PlainType) (kind : Option ℕ → StmKind) (c : Context) → Quiet c (result_by line type kind c).0
 quiet_result line (Int ty) kind c = refl
-quiet_result line (Pointer target) kind c = refl
 quiet_result line type kind c = refl
 
 quiet_built_in : (line : ℕ) (name : BuiltIn) (answer wanted : PlainType) (format : Option (List ℕ)) (arguments : List Argument) (c : Context) → Quiet c (call_built_in line name answer wanted format arguments c).0

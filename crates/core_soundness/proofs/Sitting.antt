@@ -140,8 +140,7 @@ HasParams NoFunction params = Unit {0}
 
 no_arguments : (c : Context) (target : Callee) (params : PlainTypes) → Held_all c target params (c, [])
 no_arguments c Prints params = record { goes = goes_refl c; held = tt }
-no_arguments c (Takes answer takes) params = record { goes = goes_refl c; held = tt }
-no_arguments c NoFunction params = record { goes = goes_refl c; held = tt }
+no_arguments c other params = record { goes = goes_refl c; held = tt }
 
 record OneArgument (c : Context) (target : Callee) (d : Context × Found) : Type 0 where
   goes : Goes c d.0

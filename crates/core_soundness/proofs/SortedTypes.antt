@@ -44,7 +44,6 @@ tag_sorted line sort name c (Some other) h = led_refused ST
 
 enum_sorted : (line : ℕ) (c : Context) (named : Option PlainNamed) → Led ST (enum_named line c named)
 enum_sorted line c (Some (n.Tag (Int ty))) = led_ok ST tt
-enum_sorted line c (Some (n.Tag type)) = led_refused ST
 enum_sorted line c named = led_refused ST
 
 type_sorted : (line : ℕ) (c : Context) (named : Option PlainNamed) → ((type : PlainType) → named ≡ Some (n.Typedef type) → SortedType c.tags.made type) → Led ST (type_named line c named)

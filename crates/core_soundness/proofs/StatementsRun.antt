@@ -130,8 +130,7 @@ never_neither type e u o = by (operand type) o u
   where
     by : (s : Operand) → s ≡ Neither → Rattle.c_decls.specs.PlaceRules.unconverted_types e s (operand e.type) ≡ None → ⊥
     by (Number ty) k u = cc
-    by (PointerTo target) k u = cc
-    by Neither k u = cc
+    by other k u = cc
 
 return_of_runs : (answer : Option Sort) (line delays : ℕ) (e : Tree) (type : PlainType) (c z : Context) → 1 ≤ line → Spoken c.scopes e → Fine c → result_sort type ≡ answer → return_of line delays e type c ≡ Ok z → Runs answer c z
 return_of_runs answer line delays e type c z l p g s q =

@@ -104,7 +104,6 @@ tag_leads line sort name c (Some other) = reached_refused (Leads c)
 
 enum_leads : (line : ℕ) (c : Context) (named : Option PlainNamed) → Reached (Leads c) (enum_named line c named)
 enum_leads line c (Some (n.Tag (ct.Int ty))) d e = subst (λ (x : Context × PlainType). Leads c x.0) (ok_same _ d e) (leads_refl c)
-enum_leads line c (Some (n.Tag type)) d e = never (Leads c d.0) _ d e
 enum_leads line c named d e = never (Leads c d.0) _ d e
 
 type_leads : (line : ℕ) (c : Context) (named : Option PlainNamed) → Reached (Leads c) (type_named line c named)

@@ -521,7 +521,6 @@ module _ (ts : List CompletedTag) (made : AreMade nothing ts) where
 
   enum_good : (line : ℕ) (c : Context) (o : Option PlainNamed) → Fit c → Led GoodType (enum_named line c o)
   enum_good line c (Some (n.Tag (Int ty))) g = led_ok GoodType (g, tt)
-  enum_good line c (Some (n.Tag type)) g = led_refused GoodType
   enum_good line c o g = led_refused GoodType
 
   type_good : (line : ℕ) (c : Context) (o : Option PlainNamed) → Fit c → NamedBy o → Led GoodType (type_named line c o)
