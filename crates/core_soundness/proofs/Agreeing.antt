@@ -23,7 +23,7 @@ use Rattle.c_decls.specs.PlaceRules.{held_place, element, dot, arrow, cast, choi
 use Rattle.c_decls.specs.Callees.{named}
 use Rattle.c_decls.specs.TypeNames as names
 use Rattle.c_decls.specs.Expressions as types
-use Rattle.c_decls.specs.Expressions.{line_of, answered, wanted, one, two, string, typed}
+use Rattle.c_decls.specs.Expressions.{line_of, answered, wanted, one, two, string, typed, values}
 use Rattle.elaboration.specs.Context.{Code, Context, With, asked, told, emit, here}
 use Rattle.elaboration.specs.Conversions.{Found, Value, Empty, Unknown, found_as, atom_in, read_spot, read_value, code_line, valued_from, valued, convert, forget, Nowhere, tested_value, size_or_zero, unused, wanted_from}
 use Rattle.elaboration.specs.Operations.{combined, fixed_sum, offset_of, operator_of, changed_to}
@@ -101,13 +101,13 @@ wanted_from_rule tree c e z h = by (has_no_value e.typed) h
 
 pub valued_agrees : (tree : Tree) (answer : With Found) (x : types.Found) (z : Context × Found) → ((d : Context × Found) → answer ≡ Ok d → Agreed x d) → valued tree answer ≡ Ok z → Agreed (wanted tree x) z
 valued_agrees tree answer x z h e =
-    let d = came answer (λ d. wanted_from tree d.0 d.1) z e in
+    let d = came answer e in
     let rule = wanted_from_rule tree d.value.0 d.value.1 z d.last in
     finish (wanted tree x) (asked d.value.0) z (wanted_is tree x (asked d.value.0) d.value.1.typed z.1.typed (h d.value d.is) rule.typed) rule.same
 
 pub unused_agrees : (tree : Tree) (answer : With Found) (x : types.Found) (z : Context × Found) → ((d : Context × Found) → answer ≡ Ok d → Agreed x d) → unused tree answer ≡ Ok z → Agreed (types.unused tree x) z
 unused_agrees tree answer x z h e =
-    let d = came answer (λ d. valued_from tree d.0 d.1) z e in
+    let d = came answer e in
     let rule = valued_from_rule tree d.value.0 d.value.1 z d.last in
     finish (types.unused tree x) (asked d.value.0) z (unused_is tree x (asked d.value.0) d.value.1.typed z.1.typed (h d.value d.is) rule.typed) rule.same
 
@@ -197,8 +197,7 @@ apply_of : (line : ℕ) (op : UnaryOp) (tree : Tree) (t : PlainTyped) (c : Conte
 apply_of line u.Deref tree t c e o is h = refl
 apply_of line u.Not tree t c e o is h = refl
 apply_of line op tree t c e (Number ty) is h = ap (λ (x : Operand). (before_number line op t x c e).1.typed) is
-apply_of line op tree t c e Neither is h = never _ _ t h
-apply_of line other tree t c e (PointerTo target) is h = never _ _ t h
+apply_of line other tree t c e rest is h = never _ _ t h
 
 pub applied_rule : (line : ℕ) (op : UnaryOp) (tree : Tree) (c : Context) (e : Found) (z : Context × Found) → applied line op tree c e ≡ Ok z → Ruled (unary line op c.tags e.typed) (asked c) z
 applied_rule line op tree c e z h =
@@ -291,8 +290,7 @@ changed_rule line op keeps_old target old d z h =
 -- `--` is refused where `++` is
 steps_alike : (line : ℕ) (tags : TagTable) (type : PlainType) (o : Operand) → changed_types line a.Subtract tags type o (Number i.Int) ≡ changed_types line a.Add tags type o (Number i.Int)
 steps_alike line tags type (Number ty) = refl
-steps_alike line tags type (PointerTo target) = refl
-steps_alike line tags type Neither = refl
+steps_alike line tags type other = refl
 
 pub stepped_alike : (line : ℕ) (tags : TagTable) (t : PlainTyped) → changed line a.Subtract tags t int ≡ changed line a.Add tags t int
 stepped_alike line tags t = ap (λ (x : Checked PlainTyped). unless (not (is_written t)) NotLvalue line x) (steps_alike line tags t.type (operand t.type))

@@ -22,13 +22,13 @@ use Rattle.c_decls.specs.PlaceRules as rules
 use Rattle.c_decls.specs.Callees.{Callee, Takes, Prints, NoFunction, called, call, no_function}
 use Rattle.c_decls.specs.TypeNames as names
 use Rattle.c_decls.specs.Expressions as types
-use Rattle.c_decls.specs.Expressions.{line_of, answered, wanted, one, two, calling, int_constant, char_constant, joined, literal, first_literal, typed, values, typename}
+use Rattle.c_decls.specs.Expressions.{line_of, answered, wanted, one, two, calling, int_constant, char_constant, joined, literal, first_literal, typed, values, typename, string}
 use Rattle.elaboration.specs.Context.{Code, Context, With, asked, told, new_label}
-use Rattle.elaboration.specs.Conversions.{Found, Unknown, found_as, valued_as, valued, unused, wanted_from}
+use Rattle.elaboration.specs.Conversions.{Found, Unknown, found_as, valued_as, valued, unused}
 use Rattle.elaboration.specs.Calls.{Argument, types_of, first_type, rest_types, argument_from, call_named}
-use Rattle.elaboration.specs.Rules.{constant_found, indexed, dotted, pointed, applied, left_operand, between, cast_to, and_then, and_ended, or_else, or_ended, choose, type_ahead, choose_first, chosen}
-use Rattle.elaboration.specs.Assignments.{record_assigned, scalar_assigned, old_value, changed_by, stepped}
-use Rattle.elaboration.specs.Expressions.{address_answer, changing, comma_answer, callee_name, callee, parameters, format_argument, is_printf, call_answer, found, arguments, cast_operand}
+use Rattle.elaboration.specs.Rules.{constant_found, left_operand, and_then, or_else, choose, type_ahead, choose_first}
+use Rattle.elaboration.specs.Assignments.{record_assigned, scalar_assigned, old_value}
+use Rattle.elaboration.specs.Expressions.{changing, comma_answer, callee_name, callee, parameters, format_argument, is_printf, call_answer, found, arguments, cast_operand}
 use Rattle.core_soundness.proofs.Grown.{good, bad, ok_same, never}
 use Rattle.core_soundness.proofs.Quiet.{quiet_read, quiet_tested_value, quiet_argument, quiet_call}
 use Rattle.core_soundness.proofs.Agreeing.{came, Ruled, ruled, Agreed, finish, answered_is, wanted_is, one_is, two_is, wanted_from_rule, valued_agrees, changing_agrees, name_agrees, ok_agrees, string_agrees, unevaluated_agrees, indexed_rule, dotted_rule, pointed_rule, address_rule, applied_rule, left_typed, quiet_left, between_rule, cast_rule, and_rule, or_rule, choice_rule, quiet_first, record_rule, scalar_rule, changed_rule, stepped_alike, stepped_rule, unused_agrees, cast_agrees}
@@ -45,8 +45,8 @@ name_callee (Err x) c z h = never (CalleeAgrees (bad x) z) x z h
 other_callee : (tree : Tree) (answer : With Found) (x : types.Found) (z : Context × Callee) → ((d : Context × Found) → answer ≡ Ok d → Agreed x d) → then (valued tree answer) (λ d. good (d.0, NoFunction)) ≡ Ok z
     → CalleeAgrees (then x (λ d. then (no_function (line_of tree) d.0.tags (Ok d.1)) (λ function. good (d.0, function)))) z
 other_callee tree answer x z h e =
-    let v = came (valued tree answer) (λ d. good (d.0, NoFunction)) z e in
-    let d = came answer (λ d. wanted_from tree d.0 d.1) v.value v.is in
+    let v = came (valued tree answer) e in
+    let d = came answer v.is in
     let rule = wanted_from_rule tree d.value.0 d.value.1 v.value d.last in
     let same : (v.value.0, NoFunction) ≡ z = ok_same (v.value.0, NoFunction) z v.last in
     ap (λ (y : types.Found). then y (λ d. then (no_function (line_of tree) d.0.tags (Ok d.1)) (λ function. good (d.0, function)))) (h d.value d.is)
@@ -88,7 +88,6 @@ SameTypes NoFunction xs ys = xs ≡ ys
 
 same_all : (function : Callee) (xs : List PlainTyped) → SameTypes function xs xs
 same_all Prints [] = tt
-same_all Prints (x ∷ xs) = refl
 same_all other xs = refl
 
 same_rest : (function : Callee) (x : PlainTyped) (xs ys : List PlainTyped) → xs ≡ ys → SameTypes function (x ∷ xs) (x ∷ ys)
@@ -224,8 +223,8 @@ mutual
   found_agrees (Node f.SizeofExpr (At line ▹ e ▹ none)) wish c z h = unevaluated_agrees (typed (Node f.SizeofExpr (At line ▹ e ▹ none)) (asked c)) c z h
   found_agrees (Node f.SizeofType (At line ▹ name ▹ none)) wish c z h = unevaluated_agrees (typed (Node f.SizeofType (At line ▹ name ▹ none)) (asked c)) c z h
   found_agrees (Node f.Cast (At line ▹ name ▹ e ▹ none)) wish c z h =
-      let t = came (typename name (asked c)) (λ t. then (cast_operand t.1 e (found e t.1 (told t.0 c))) (λ d. cast_to line t.1 c.code d.0 d.1)) z h in
-      let d = came (cast_operand t.value.1 e (found e t.value.1 (told t.value.0 c))) (λ d. cast_to line t.value.1 c.code d.0 d.1) z t.last in
+      let t = came (typename name (asked c)) h in
+      let d = came (cast_operand t.value.1 e (found e t.value.1 (told t.value.0 c))) t.last in
       ap (λ (x : Checked (names.Context × PlainType)). then x (λ t. one (types.cast_operand t.1 e (typed e t.0)) (λ tags x. cast line t.1 x))) t.is
       ∙ one_agrees (types.cast_operand t.value.1 e (typed e t.value.0)) (λ tags x. cast line t.value.1 x) d.value z
       (cast_agrees t.value.1 e (found e t.value.1 (told t.value.0 c)) (typed e t.value.0) d.value (λ x k. found_agrees e t.value.1 (told t.value.0 c) x k) d.is) (cast_rule line t.value.1 c.code d.value.0 d.value.1 z d.last)
@@ -286,8 +285,8 @@ mutual
       (subst (λ (m : names.Context). Agreed (wanted g (typed g m)) r.value) quiet (valued_agrees g (found g Void old.0) (typed g (asked old.0)) r.value (λ x k. found_agrees g Void old.0 x k) r.is))
       (changed_rule line op false d.value.1 old.1 r.value z r.last)
   found_agrees (Node f.Comma (At line ▹ e ▹ g ▹ none)) wish c z h =
-      let d = came (unused e (found e Void c)) (λ d. then (unused g (found g Void d.0)) (λ r. good (comma_answer r))) z h in
-      let r = came (unused g (found g Void d.value.0)) (λ r. good (comma_answer r)) z d.last in
+      let d = came (unused e (found e Void c)) h in
+      let r = came (unused g (found g Void d.value.0)) d.last in
       let same : comma_answer r.value ≡ z = ok_same (comma_answer r.value) z r.last in
       subst (Agreed (two (types.unused e (typed e (asked c))) (λ k. types.unused g (typed g k)) (λ tags x y. good (behind_comma y)))) same
       (two_agrees (types.unused e (typed e (asked c))) (λ k. types.unused g (typed g k)) (λ tags x y. good (behind_comma y)) d.value r.value (comma_answer r.value)

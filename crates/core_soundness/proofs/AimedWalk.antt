@@ -17,18 +17,15 @@ use Rattle.c_decls.specs.PlaceRules.{choice, assigned, changed}
 use Rattle.c_decls.specs.Callees.{Callee, call}
 use Rattle.c_decls.specs.TypeNames as names
 use Rattle.c_decls.specs.Expressions.{line_of, int_constant, char_constant, joined, first_literal, typed, typename}
-use Rattle.elaboration.specs.Context.{Code, Context, asked, told, emit, here, new_label}
-use Rattle.elaboration.specs.Conversions.{Found, Empty, Unknown, found_as, atom_in, valued_from, valued, tested_value, size_or_zero, unused}
-use Rattle.elaboration.specs.Operations.{operator_of}
-use Rattle.elaboration.specs.Calls.{Argument, types_of, call_named}
-use Rattle.elaboration.specs.Rules.{constant_found, indexed, dotted, pointed, applied, left_operand, between, cast_to, with_value, and_then, and_ends, and_ended, or_else, or_ends, or_ended, choose, type_ahead, choose_first, choose_last, choice_found, chosen}
-use Rattle.elaboration.specs.Assignments.{record_assigned, set_to, scalar_assigned, old_value, change_place, changed_answer, changed_by, one_found, stepped}
-use Rattle.elaboration.specs.Expressions.{unevaluated, address_answer, changing, comma_answer, callee, callee_name, parameters, call_answer, found, arguments, cast_operand}
+use Rattle.elaboration.specs.Context.{Code, Context, asked, told, new_label}
+use Rattle.elaboration.specs.Conversions.{Found, atom_in, valued_from, valued, unused}
+use Rattle.elaboration.specs.Calls.{Argument, types_of}
+use Rattle.elaboration.specs.Rules.{constant_found, left_operand, and_then, and_ended, or_else, or_ended, choose, type_ahead, choose_first, chosen}
+use Rattle.elaboration.specs.Assignments.{record_assigned, scalar_assigned, old_value, changed_answer, changed_by, one_found, stepped}
+use Rattle.elaboration.specs.Expressions.{unevaluated, changing, comma_answer, callee, callee_name, parameters, call_answer, found, arguments, cast_operand}
 use Rattle.core_soundness.proofs.Growth.{Grows, grows_refl, grows_trans, grows_told}
-use Rattle.core_soundness.proofs.Grown.{good, ok_same, never}
-use Rattle.core_soundness.proofs.Working.{grown_valued, grown_unused}
-use Rattle.core_soundness.proofs.Ruling.{grows_left}
-use Rattle.core_soundness.proofs.ExprGrows.{found_grows}
+use Rattle.core_soundness.proofs.Grown.{ok_same, never}
+use Rattle.core_soundness.proofs.Working.{grows_left, found_grows, grown_unused}
 use Rattle.core_soundness.proofs.TypedNames.{typename_after}
 use Rattle.core_soundness.proofs.Agreeing.{came}
 use Rattle.core_soundness.proofs.Settled.{grows_settled}
@@ -123,9 +120,9 @@ found_aimed (Node (f.Unary op) (At line ▹ e ▹ none)) wish c z h q =
 found_aimed (Node f.SizeofExpr (At line ▹ e ▹ none)) wish c z h q = unevaluated_aimed c (typed (Node f.SizeofExpr (At line ▹ e ▹ none)) (asked c)) z q
 found_aimed (Node f.SizeofType (At line ▹ name ▹ none)) wish c z h q = unevaluated_aimed c (typed (Node f.SizeofType (At line ▹ name ▹ none)) (asked c)) z q
 found_aimed (Node f.Cast (At line ▹ name ▹ e ▹ none)) wish c z h q =
-    let y = came (typename name (asked c)) (λ y. then (cast_operand y.1 e (found e y.1 (told y.0 c))) (λ d. cast_to line y.1 c.code d.0 d.1)) z q in
+    let y = came (typename name (asked c)) q in
     let begun = told y.value.0 c in
-    let d = came (cast_operand y.value.1 e (found e y.value.1 begun)) (λ d. cast_to line y.value.1 c.code d.0 d.1) z y.last in
+    let d = came (cast_operand y.value.1 e (found e y.value.1 begun)) y.last in
     let operand = cast_unused y.value.1 e (found e y.value.1 begun) d.value d.is in
     let g : Grows c begun = grows_told y.value.0 c (typename_after name (asked c) y.value y.is) in
     let near = there_on c begun (grows_settled c begun g) h in
@@ -166,8 +163,8 @@ found_aimed (Node (f.Assign op) (At line ▹ e ▹ e2 ▹ none)) wish c z h q =
     let r = came (valued e2 (found e2 Void old.0)) d.last in
     changed_aimed line op false d.value.1 old.1 r.value z r.last
 found_aimed (Node f.Comma (At line ▹ e ▹ e2 ▹ none)) wish c z h q =
-    let d = came (unused e (found e Void c)) (λ d. then (unused e2 (found e2 Void d.0)) (λ r. good (comma_answer r))) z q in
-    let r = came (unused e2 (found e2 Void d.value.0)) (λ r. good (comma_answer r)) z d.last in
+    let d = came (unused e (found e Void c)) q in
+    let r = came (unused e2 (found e2 Void d.value.0)) d.last in
     subst Aimed (ok_same (comma_answer r.value) z r.last) tt
 found_aimed tree wish c z h q = never (Aimed z) _ z q
 

@@ -27,7 +27,7 @@ use Rattle.c_decls.specs.TypeRules.{unary, binary, address}
 use Rattle.c_decls.specs.PlaceRules.{element, dot, arrow, cast}
 use Rattle.c_decls.specs.Expressions.{line_of, string}
 use Rattle.elaboration.specs.Context.{Code, Context, Variable, With, file_variable, literal_object}
-use Rattle.elaboration.specs.Conversions.{Found, Value, Fixed, Unknown, Nowhere, Inside, found_as, atom_in, code_line, read_spot, read_fixed, read_value, valued_from, valued, convert, forget, size_or_zero, unused}
+use Rattle.elaboration.specs.Conversions.{Found, Value, Fixed, Unknown, Nowhere, Inside, found_as, atom_in, code_line, read_spot, read_fixed, valued_from, valued, convert, forget, size_or_zero, unused}
 use Rattle.elaboration.specs.Operations.{variable_size, literal_size, static_size, moved_by, moved_times, fixed_sum_of, fixed_sum, combined, offset_of, member_address}
 use Rattle.elaboration.specs.Rules.{object_found, built_in_found, name_found, is_inner, with_static, with_literal, literal_found, indexed, dotted, target_of, pointed, before_number, apply, applied, tells_equal, is_pointer_ahead, ahead, left_operand, between, cast_to}
 use Rattle.elaboration.specs.Expressions.{name_answer, literal_answer, address_answer}
@@ -146,7 +146,6 @@ times_in c down size other fixed h = tt
 sum_of_in : (c : Context) (down : Bool) (s t : Operand) (x y : Found) → FixedAt c x.fixed → FixedAt c y.fixed → FixedAt c (fixed_sum_of c down s t x y)
 sum_of_in c down (PointerTo target) (Number t) x y h k = times_in c down (size_or_zero c target) y.typed.folded x.fixed h
 sum_of_in c down (Number s) (PointerTo target) x y h k = times_in c down (size_or_zero c target) x.typed.folded y.fixed k
-sum_of_in c down Neither t x y h k = tt
 sum_of_in c down others other x y h k = tt
 
 pub sum_in : (c : Context) (op : BinaryOp) (x y : Found) → FixedAt c x.fixed → FixedAt c y.fixed → FixedAt c (fixed_sum c op x y)
@@ -221,7 +220,7 @@ valued_from_aimed tree c e z h q =
     subst Aimed (ok_same _ z t.last) (either_in d.variables d.literals e.typed.is_place (read_fixed e.typed.type e.fixed) e.fixed (read_in d.variables d.literals e.typed.type e.fixed k) k)
 
 pub unused_aimed : (tree : Tree) (answer : With Found) (z : Context × Found) → ((d : Context × Found) → answer ≡ Ok d → Aimed d) → unused tree answer ≡ Ok z → Aimed z
-unused_aimed tree answer z h q = let d = came answer (λ d. valued_from tree d.0 d.1) z q in valued_from_aimed tree d.value.0 d.value.1 z (h d.value d.is) d.last
+unused_aimed tree answer z h q = let d = came answer q in valued_from_aimed tree d.value.0 d.value.1 z (h d.value d.is) d.last
 
 pub valued_aimed : (tree : Tree) (answer : With Found) (z : Context × Found) → ((d : Context × Found) → answer ≡ Ok d → Aimed d) → valued tree answer ≡ Ok z → Aimed z
 valued_aimed tree answer z h q = unused_aimed tree answer z h (valued_unused tree answer z q)

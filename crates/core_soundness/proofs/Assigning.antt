@@ -82,17 +82,7 @@ record_again (types.Struct tag) (types.Array element length) r e = cc
 record_again (types.Struct tag) (types.Union other) r e = cc
 record_again (types.Struct tag) (types.Function answer params) r e = cc
 record_again (types.Union tag) (types.Union other) r e = refl
-record_again (types.Union tag) (types.Int ty) r e = cc
-record_again (types.Union tag) (types.Pointer target) r e = cc
-record_again (types.Union tag) types.Void r e = cc
-record_again (types.Union tag) (types.Array element length) r e = cc
-record_again (types.Union tag) (types.Struct other) r e = cc
-record_again (types.Union tag) (types.Function answer params) r e = cc
-record_again types.Void t r e = cc
-record_again (types.Int ty) t r e = cc
-record_again (types.Pointer target) t r e = cc
-record_again (types.Array element length) t r e = cc
-record_again (types.Function answer params) t r e = cc
+record_again other t r e = cc
 
 -- a struct or a union that is no assignment is a place
 record_place : (type : PlainType) (e : PlainTyped) → is_record type ≡ true → same type e.type ≡ true → has_no_value e ≡ false → e.is_place ≡ true
@@ -105,7 +95,7 @@ record_place type e r s h = by (is_record e.type) e.is_place (record_again type 
 
 pub record_lands : (line right : ℕ) (target : Found) (d z : Context × Found) → 1 ≤ line → is_record target.typed.type ≡ true → Stands (world d.0) target → Stands (world d.0) d.1 → record_assigned line right target d ≡ Ok z → Lands d.0 z
 record_lands line right target d z l r h k q =
-    let t = came (assigned line right d.0.tags target.typed d.1.typed) (λ typed. good (emit line (Copy (atom_in target) (atom_in d.1) (pos (size_or_zero d.0 typed.type))) d.0, found_as typed Empty Unknown)) z q in
+    let t = came (assigned line right d.0.tags target.typed d.1.typed) q in
     let r3 : Checked PlainTyped = good (value target.typed.type) in
     let r2 : Checked PlainTyped = unless (not (same target.typed.type d.1.typed.type)) Assignment line r3 in
     let r1 : Checked PlainTyped = unless (has_no_size d.0.tags target.typed.type) Incomplete line r2 in
@@ -142,10 +132,10 @@ written_scalar line target e typed h =
 -- b is in front of the right side
 pub scalar_lands : (line : ℕ) (b : Context) (tree : Tree) (target : Found) (d z : Context × Found) → 1 ≤ line → 1 ≤ code_line tree → is_record target.typed.type ≡ false → Stands (world b) target → Goes b d.0 → Stands (world d.0) d.1 → scalar_assigned line b.code tree target d ≡ Ok z → Comes b z
 scalar_lands line b tree target d z l l2 r h g k q =
-    let t = came (assigned line (line_of tree) d.0.tags target.typed d.1.typed) (λ typed. then (valued_from tree d.0 d.1) (λ v. good (set_to line b.code typed target v))) z q in
-    let v = came (valued_from tree d.0 d.1) (λ v. good (set_to line b.code t.value target v)) z t.last in
+    let t = came (assigned line (line_of tree) d.0.tags target.typed d.1.typed) q in
+    let v = came (valued_from tree d.0 d.1) t.last in
     let a : then (wanted_value (line_of tree) d.0.tags d.1.typed) (places.scalar_assigned line target.typed) ≡ Ok t.value = cond_false (is_record target.typed.type) _ _ t.value r t.is in
-    let e = came (wanted_value (line_of tree) d.0.tags d.1.typed) (places.scalar_assigned line target.typed) t.value a in
+    let e = came (wanted_value (line_of tree) d.0.tags d.1.typed) a in
     let read_is = behind_test (has_no_value d.1.typed) Operands (line_of tree) (read (line_of tree) d.0.tags d.1.typed) e.value e.is in
     let rule = valued_from_rule tree d.0 d.1 v.value v.is in
     let same_typed : e.value ≡ v.value.1.typed = ok_same e.value v.value.1.typed (sym read_is ∙ rule.typed) in

@@ -114,10 +114,7 @@ result_stands line types.Void kind c l h = record { goes = goes_emit line (kind 
   where
     grew_here : (c : Context) → Grew (world c) (world c)
     grew_here c = (goes_refl c).grew
-result_stands line (types.Array element length) kind c l h = record { goes = goes_emit line (kind None) c l (h (world c) None (goes_refl c).grew tt); stands = refl; apart = tt }
-result_stands line (types.Struct tag) kind c l h = record { goes = goes_emit line (kind None) c l (h (world c) None (goes_refl c).grew tt); stands = refl; apart = tt }
-result_stands line (types.Union tag) kind c l h = record { goes = goes_emit line (kind None) c l (h (world c) None (goes_refl c).grew tt); stands = refl; apart = tt }
-result_stands line (types.Function answer params) kind c l h = record { goes = goes_emit line (kind None) c l (h (world c) None (goes_refl c).grew tt); stands = refl; apart = tt }
+result_stands line other kind c l h = record { goes = goes_emit line (kind None) c l (h (world c) None (goes_refl c).grew tt); stands = refl; apart = tt }
 
 -- a function that is declared
 pub function_answered : (line : ℕ) (name : List ℕ) (answer : PlainType) (params : PlainTypes) (index : ℕ) (vs : List Argument) (c : Context) → 1 ≤ line → named_in name c.scopes.file ≡ Some (n.Function (types.Function answer params) index) → HoldAll (world c) (param_sorts params) (atoms_of vs)
@@ -259,8 +256,8 @@ CallOf v other function = function ≡ NoFunction
 
 no_function_is : (line : ℕ) (tags : TagTable) (answer : Checked PlainTyped) (function : Callee) → no_function line tags answer ≡ Ok function → function ≡ NoFunction
 no_function_is line tags answer function h =
-    let e = came answer (λ e. then (wanted_value line tags e) (λ held. good NoFunction)) function h in
-    let k = came (wanted_value line tags e.value) (λ held. good NoFunction) function e.last in
+    let e = came answer h in
+    let k = came (wanted_value line tags e.value) e.last in
     sym (ok_same NoFunction function k.last)
 
 built_in_of : (line : ℕ) (tags : TagTable) (o : Option BuiltIn) (k : Callee) (function : Callee) → built_in_called line tags o k ≡ Ok function → (function ≡ k) ⊎ (function ≡ NoFunction)

@@ -14,7 +14,6 @@ use Rattle.c_tree.specs.Tree.{Tree, Trees, Leaf, At, Node, none, ◌▹◌}
 use Rattle.c_tree.specs.Grammar.{shape, assign_level}
 use Rattle.c_tree.specs.Scopes.{places}
 use Rattle.c_decls.specs.declared.refusal.TypeKind.TheVariants.{LeftOut}
-use Rattle.c_decls.specs.ScopeList.{found}
 use Rattle.c_decls.specs.Refusals.{Checked, then}
 use Rattle.c_decls.specs.Typed.{PlainTyped, is_function}
 use Rattle.c_decls.specs.PlaceRules.{element, choice, assigned, changed, behind_comma, size, cast}
@@ -22,7 +21,7 @@ use Rattle.c_decls.specs.PlaceRules as rules
 use Rattle.c_decls.specs.TypeRules.{address, unary, binary}
 use Rattle.c_decls.specs.Callees.{call, no_function}
 use Rattle.c_decls.specs.TypeNames.{Context, Layer, PointerTo, ArrayOf, FunctionOf, special_type, specs_type, array_length, with_layers}
-use Rattle.c_decls.specs.Expressions.{Found, line_of, answered, wanted, changing, one, two, callee, calling, first_literal, typed, values, typename, layers, suffix_layers, suffix_layer, param_types, in_new_scope, out_of_scope, unused, cast_operand}
+use Rattle.c_decls.specs.Expressions.{Found, line_of, answered, wanted, changing, one, two, callee, first_literal, typed, values, typename, layers, suffix_layers, suffix_layer, param_types, in_new_scope, out_of_scope, unused, cast_operand}
 use Rattle.elaboration.specs.Context.{asked}
 use Rattle.elaboration.specs.Context as elaboration
 use Rattle.elaboration.specs.Conversions as conversions

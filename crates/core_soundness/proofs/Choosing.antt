@@ -235,12 +235,7 @@ choice_stands w typed a p h = by typed.type p h
 
 choice_apart : (type : PlainType) (a : Atom) → Apart (choice_spot type a)
 choice_apart types.Void a = tt
-choice_apart (types.Int ty) a = tt
-choice_apart (types.Pointer target) a = tt
-choice_apart (types.Array element length) a = tt
-choice_apart (types.Struct tag) a = tt
-choice_apart (types.Union tag) a = tt
-choice_apart (types.Function answer params) a = tt
+choice_apart other a = tt
 
 -- behind the last side: b is behind the first one, whose temporary is t
 pub chosen_lands : (line end : ℕ) (b : Context) (t : Atom) (test x : Found) (typed : PlainTyped) (d z : Context × Found) → 1 ≤ line → choice line test.typed x.typed d.1.typed ≡ Ok typed → (operand typed.type ≡ Neither → t ≡ atom.Null) → HeldAs (world b) (operand typed.type) t

@@ -15,7 +15,7 @@ use Rattle.c_decls.specs.TypeNames as names
 use Rattle.elaboration.specs.Context.{Context, Running, asked, told, entered, local_register}
 use Rattle.elaboration.specs.Conversions.{Memory}
 use Rattle.elaboration.specs.Locals.{is_twice, declared_as, next_is_memory, with_register, with_memory, counted, with_named, memory_param, register_param, function_param, prototype_param, is_prototype, with_param, local_in, with_local}
-use Rattle.elaboration.specs.Declarators.{constant, with_type, left_params, specs, layers, params}
+use Rattle.elaboration.specs.Declarators.{constant, with_type, left_params, specs, layers}
 use Rattle.core_soundness.proofs.Names.{Safe, first_safe, More, frees, with_name_safe, entered_safe, left_safe}
 use Rattle.core_soundness.proofs.Growth.{grows_told, grows_refl}
 use Rattle.core_soundness.proofs.Owners.{FileKeeps, IsNoFunction, tied_refl, tied_file, keeps_refl, with_name_keeps, with_name_depth}

@@ -1,5 +1,5 @@
 -- Initializers of statics fill places one behind another: bytes outside the slots, and pointers in them (C99 6.7.8).
-use Rattle.std.proofs.Common.{◌≡◌, ◌≤◌, ◌+◌, ◌*◌, not, ℕ, Bool, true, false, cond, take, List, [], ◌∷◌, Option, Some, None, Ok, refl, sym, ap, ◌∙◌, subst, arith, length-take}
+use Rattle.std.proofs.Common.{◌≡◌, ◌≤◌, ◌+◌, ◌*◌, not, ℕ, Bool, true, false, cond, take, List, [], ◌∷◌, Option, Some, None, Ok, refl, sym, ap, ◌∙◌, subst, arith, length-take, ◌<◌, ◌++◌}
 use Rattle.hs_base.specs.Numbers.{low_bits}
 use Rattle.c_types.specs.declared.layouts.Layout.{Layout}
 use Rattle.c_types.specs.declared.types.IntType.{IntType}
@@ -17,13 +17,13 @@ use Rattle.c_decls.specs.declared.typed.Folded.TheVariants.{Is}
 use Rattle.c_decls.specs.declared.refusal.TypeKind.TheVariants.{Assignment}
 use Rattle.c_decls.specs.Refusals.{refused, then}
 use Rattle.c_decls.specs.Typed.{is_null_constant}
-use Rattle.c_decls.specs.PlaceRules.{unconverted, converts}
+use Rattle.c_decls.specs.PlaceRules.{unconverted}
 use Rattle.c_decls.specs.Expressions.{line_of, typed, string}
 use Rattle.elaboration.specs.Context.{Code, Context, asked, emit, anew}
 use Rattle.elaboration.specs.Conversions.{Found, Fixed, Unknown, Nowhere, Inside, code_line, valued}
 use Rattle.elaboration.specs.Reallocates.{reallocates, opened}
 use Rattle.elaboration.specs.Expressions.{found}
-use Rattle.elaboration.specs.Initializers.{Target, InRegister, InMemory, InStatic, bytes_of, static_integer, static_address, static_pointer, static_scalar, with_bytes, with_pointer, fill_scalar, scalar, fill_record, is_same_place, whole, fill_text, is_character, text, by_text, by_expression, parts_of, takes_braces, is_scalar_type, all_surplus, initialize, initialize_parts, not_whole}
+use Rattle.elaboration.specs.Initializers.{Target, InRegister, InMemory, InStatic, bytes_of, static_integer, static_address, static_pointer, static_scalar, fill_scalar, scalar, fill_record, is_same_place, whole, fill_text, is_character, text, by_text, by_expression, parts_of, takes_braces, is_scalar_type, all_surplus, initialize, initialize_parts, not_whole}
 use Rattle.core_soundness.proofs.Agreeing.{valued_agrees}
 use Rattle.core_soundness.proofs.Agreement.{found_agrees}
 use Rattle.core_soundness.proofs.Reached.{Led, led_ok, led_refused, led_after, led_unless, led_barred}
@@ -136,29 +136,14 @@ module _ (ts : List CompletedTag) (room : ℕ) (slots : List ℕ) where
 
   whole_fills : (e : Tree) (line : ℕ) (type : PlainType) (offset low high : ℕ) (target : Target) (c : Context) → TargetFilled slots low target → Led (Fills slots high c) (whole e line type offset target c)
   whole_fills e line type offset low high target c h =
-      led_after (Fills slots high c) (found e type (opened e c)) (λ d. unless (not (is_same_place type d.1.typed)) (not_whole d.1.typed) line (fill_record e line type offset d target))
-      (λ d q. led_unless (Fills slots high c) (not (is_same_place type d.1.typed)) (not_whole d.1.typed) line (fill_record e line type offset d target) (λ x. record_fills e line type offset low high c d target h))
+      led_after (Fills slots high c) (found e type (opened e c))
+      (λ d q. led_unless (Fills slots high c) (not (is_same_place type d.1.typed)) (not_whole d.1.typed) line (λ x. record_fills e line type offset low high c d target h))
 
   -- texts
 
   character_width : (element : PlainType) (m : Layout) → is_character element ≡ true → layout_of (known ts) element ≡ Some m → number_layout 1 ≡ m
   character_width (Int i.Char) m e q = cc
-  character_width (Int i.SChar) m e q = cc
-  character_width (Int i.UChar) m e q = cc
-  character_width (Int i.Short) m e q = cc
-  character_width (Int i.UShort) m e q = cc
-  character_width (Int i.Int) m e q = cc
-  character_width (Int i.UInt) m e q = cc
-  character_width (Int i.Long) m e q = cc
-  character_width (Int i.ULong) m e q = cc
-  character_width (Int i.LongLong) m e q = cc
-  character_width (Int i.ULongLong) m e q = cc
-  character_width Void m e q = cc
-  character_width (Pointer target) m e q = cc
-  character_width (Array element n) m e q = cc
-  character_width (Struct tag) m e q = cc
-  character_width (Union tag) m e q = cc
-  character_width (Function answer params) m e q = cc
+  character_width other m e q = cc
 
   text_fills : (e : Tree) (line : ℕ) (bytes : List ℕ) (size offset low : ℕ) (target : Target) (c : Context) → Solid c → low ≤ offset → Seat room slots offset (array_layout size (number_layout 1)) → TargetFilled slots low target → Led (Fills slots (offset + size * 1) c) (fill_text e line bytes size offset target c)
   text_fills e line bytes size offset low (InMemory at mem) c solid k seat h = absurd h
@@ -172,7 +157,7 @@ module _ (ts : List CompletedTag) (room : ℕ) (slots : List ℕ) where
   by_text_fills e line element size offset low (Some bytes) l target c solid q k seat h = by (is_character element) refl
     where
       by : (t : Bool) → is_character element ≡ t → Led (Fills slots (offset + l.size) c) (cond t (then (string line bytes) (λ literal. fill_text e line bytes size offset target c)) (whole e line (Array element size) offset target c))
-      by true is z s =
+      by true is = λ z s.
           let r = some_array (layout_of (known ts) element) size l q in
           let same : array_layout size (number_layout 1) ≡ l = ap (array_layout size) (character_width element r.0 is r.1) ∙ r.2 in
           subst (λ (x : Layout). Led (Fills slots (offset + x.size) c) (fill_text e line bytes size offset target c)) same

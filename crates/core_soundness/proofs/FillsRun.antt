@@ -17,7 +17,7 @@ use Rattle.elaboration.specs.Conversions.{Found, Local, Memory, atom_in, code_li
 use Rattle.elaboration.specs.Reallocates.{opened, closed}
 use Rattle.elaboration.specs.Rules.{with_literal}
 use Rattle.elaboration.specs.Expressions.{found}
-use Rattle.elaboration.specs.Initializers.{Target, InRegister, InMemory, InStatic, static_scalar, member_place, store_at, fill_scalar, scalar, copy_to, fill_record, is_same_place, whole, copy_text, fill_text, is_character, text, by_text, by_expression, parts_of, takes_braces, is_scalar_type, all_surplus, initialize, initialize_parts, with_bytes, not_whole}
+use Rattle.elaboration.specs.Initializers.{Target, InRegister, InMemory, InStatic, static_scalar, member_place, store_at, fill_scalar, scalar, copy_to, fill_record, is_same_place, whole, fill_text, is_character, text, by_text, by_expression, parts_of, takes_braces, is_scalar_type, all_surplus, initialize, initialize_parts, with_bytes}
 use Rattle.core_soundness.specs.Worlds.{World, world, Holds, StandsAs, Stands, NamesFit}
 use Rattle.core_soundness.specs.Spoken.{Spoken, AllSpoken}
 use Rattle.core_soundness.proofs.Grown.{good, bad, ok_same, never}
@@ -31,7 +31,7 @@ use Rattle.core_soundness.proofs.Assigning.{converting_of, same_record}
 use Rattle.core_soundness.proofs.Readying.{names_more, all_spoken_more}
 use Rattle.core_soundness.proofs.Running.{opened_rests, closed_goes, Evaluates, evaluates, evaluated_goes, opened_goes}
 use Rattle.core_soundness.proofs.Unused.{behind_string}
-use Rattle.c_decls.specs.Expressions.{string}
+use Rattle.c_decls.specs.Expressions.{line_of, string}
 
 -- what is initialized fits
 abbrev pub TargetFits : World → PlainType → Target → Type 0
@@ -128,7 +128,7 @@ fill_record_fits e line type offset c d other z g l held h q = never _ _ z q
 
 whole_fits : (e : Tree) (line : ℕ) (type : PlainType) (offset : ℕ) (t : Target) (c : Context) (z : Context × Target) → Spoken c.scopes e → NamesFit (world c) c.scopes → TargetFits (world c) type t → whole e line type offset t c ≡ Ok z → Fills c t z
 whole_fits e line type offset t c z s n h q =
-    let d = came (found e type (opened e c)) (λ d. unless (not (is_same_place type d.1.typed)) (not_whole d.1.typed) line (fill_record e line type offset d t)) z q in
+    let d = came (found e type (opened e c)) q in
     let o = opened_rests e type c d.value s n d.is in
     fill_record_fits e line type offset c d.value t z (goes_trans c (opened e c) d.value.0 o.goes o.rests.sits.goes) o.rests.line
     (record_held (world d.value.0) type d.value.1 (not_false _ (kept_test _ _ line _ z d.last)) o.rests.sits.stands) h (behind_test _ _ line _ z d.last)

@@ -5,7 +5,7 @@ use Rattle.std.proofs.lemmas.Bool.{ltb-true, ltb-false, eqb-true}
 use Rattle.hs_base.specs.Place.{block_size}
 use Rattle.c_types.specs.declared.layouts.Layout.{Layout}
 use Rattle.c_types.specs.declared.tags.TagInfo.{TagInfo}
-use Rattle.c_types.specs.Types.{PlainType, Array, Struct, Function}
+use Rattle.c_types.specs.Types.{PlainType, Array, Struct}
 use Rattle.c_types.specs.Layouts.{Known, layout_of, no_layout}
 use Rattle.c_types.specs.TagTable.{CompletedTag, TagTable, known, layout_in}
 use Rattle.c_types.proofs.MemberLemmas.{Extends, layout_stays}

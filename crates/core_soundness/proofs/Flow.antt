@@ -132,9 +132,6 @@ goes_agree l m other (Jump t) p n k same below h = (same.depths t below ∙ h.0,
 goes_agree l m other (Zero a t) p n k same below h = (same.depths t below ∙ h.0, omega (arith, same.points t below, h.1), h.2)
 goes_agree l m other (Case a v t) p n k same below h = (same.depths t below ∙ h.0, omega (arith, same.points t below, h.1), h.2)
 goes_agree l m other (Loop t) p n k same below h = same.depths t below ∙ h
-goes_agree l m other Enter p n k same below h = h
-goes_agree l m other Leave p n k same below h = h
-goes_agree l m other (Return a) p n k same below h = h
 goes_agree l m other kind p n k same below h = h
 
 pub flows_agree : (l : ℕ) (m other : Marks) (a : List Piece) (p n k : ℕ) → Agree l m other → Targets (λ t. t < l) a → Places (λ t. t < l) a → Flows m a p n k → Flows other a p n k

@@ -159,19 +159,16 @@ members_formed (tree ▹ rest) scope a = (layer_formed tree scope (declarator_la
 word_no_length : (word : Word) → home (Leaf word) ≡ p.MaybeLength → ⊥
 unfolding keyword_home
 word_no_length (w.Key k.Void) e = cc
-word_no_length (w.Key keyword) e = cc
 word_no_length word e = cc
 
 word_no_params : (word : Word) → home (Leaf word) ≡ p.Params → ⊥
 unfolding keyword_home
 word_no_params (w.Key k.Void) e = cc
-word_no_params (w.Key keyword) e = cc
 word_no_params word e = cc
 
 word_no_suffix : (word : Word) → home (Leaf word) ≡ p.Suffix → ⊥
 unfolding keyword_home
 word_no_suffix (w.Key k.Void) e = cc
-word_no_suffix (w.Key keyword) e = cc
 word_no_suffix word e = cc
 
 length_form : (form : Form) → form_home form ≡ p.MaybeLength → form ≡ f.MaybeLength
@@ -244,13 +241,11 @@ init_form form e = cc
 word_no_init : (word : Word) → home (Leaf word) ≡ p.MaybeInit → ⊥
 unfolding keyword_home
 word_no_init (w.Key k.Void) e = cc
-word_no_init (w.Key keyword) e = cc
 word_no_init word e = cc
 
 word_no_entry : (word : Word) → home (Leaf word) ≡ p.Entry → ⊥
 unfolding keyword_home
 word_no_entry (w.Key k.Void) e = cc
-word_no_entry (w.Key keyword) e = cc
 word_no_entry word e = cc
 
 entry_parts : (parts : Trees) (scope : Scope) → AllAllowed parts (p.Declared ∷ p.MaybeInit ∷ []) scope → (declared : Tree) × (inits : Trees) × (parts ≡ (declared ▹ Node f.MaybeInit inits ▹ none))

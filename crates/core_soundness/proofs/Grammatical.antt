@@ -76,7 +76,6 @@ has_parts f.Members (tree ▹ rest) scope a = tt
 has_parts f.MemberNames none scope a = a
 has_parts f.MemberNames (tree ▹ rest) scope a = a.0.1
 has_parts f.Inits none scope a = a
-has_parts f.Inits (tree ▹ rest) scope a = tt
 has_parts form parts scope a = tt
 
 mutual

@@ -9,21 +9,20 @@ use Rattle.c_tree.specs.Forms as f
 use Rattle.c_tree.specs.Tree.{Tree, Trees, At, Node, none, ◌▹◌, count}
 use Rattle.c_decls.specs.declared.refusal.TypeKind.TheVariants.{Assignment}
 use Rattle.c_decls.specs.ScopeList.{ScopeList}
-use Rattle.c_decls.specs.Refusals.{refused, then, unless}
-use Rattle.c_decls.specs.PlaceRules.{converts, unconverted}
+use Rattle.c_decls.specs.Refusals.{refused, then}
+use Rattle.c_decls.specs.PlaceRules.{unconverted}
 use Rattle.c_decls.specs.Expressions.{line_of, string}
 use Rattle.elaboration.specs.Context.{Context, emit, anew}
 use Rattle.elaboration.specs.Conversions.{Found, Local, Memory, code_line, atom_in, valued, convert, write, size_or_zero}
 use Rattle.elaboration.specs.Reallocates.{reallocates, opened, closed}
 use Rattle.elaboration.specs.Rules.{with_literal}
 use Rattle.elaboration.specs.Expressions.{found}
-use Rattle.elaboration.specs.Initializers.{Target, InRegister, InMemory, InStatic, with_bytes, static_scalar, member_place, store_at, fill_scalar, scalar, copy_to, fill_record, is_same_place, whole, copy_text, fill_text, is_character, text, by_text, by_expression, parts_of, takes_braces, is_scalar_type, all_surplus, initialize, initialize_parts, not_whole}
+use Rattle.elaboration.specs.Initializers.{Target, InRegister, InMemory, InStatic, static_scalar, member_place, store_at, fill_scalar, scalar, copy_to, fill_record, is_same_place, whole, fill_text, is_character, text, by_text, by_expression, parts_of, takes_braces, is_scalar_type, all_surplus, initialize, initialize_parts, not_whole}
 use Rattle.core_soundness.proofs.Names.{Safe}
 use Rattle.core_soundness.proofs.Growth.{Grows, grows_refl, grows_trans, grows_emit, grows_pointer, grows_code}
 use Rattle.core_soundness.proofs.Reached.{Led, led_ok, led_refused, led_after, led_unless, led_barred}
-use Rattle.core_soundness.proofs.Working.{grown_valued, grows_convert, grows_write}
+use Rattle.core_soundness.proofs.Working.{found_grows, grown_valued, grows_convert, grows_write}
 use Rattle.core_soundness.proofs.Calling.{grown_literal}
-use Rattle.core_soundness.proofs.ExprGrows.{found_grows}
 use Rattle.core_soundness.proofs.Passing.{Stays, Passes, stays_trans, passes_trans, grows_stays, grows_passes, grows_closed, opened_stays}
 use Rattle.core_soundness.proofs.Declaring.{passes_refl}
 use Rattle.core_soundness.proofs.Unused.{behind_string}
@@ -106,8 +105,8 @@ fill_record_fills e line type offset b d t s g = led_refused (Fills t b)
 whole_fills : (e : Tree) (line : ℕ) (type : PlainType) (offset : ℕ) (t : Target) (b : Context) → Safe b.scopes → Led (Fills t b) (whole e line type offset t b)
 whole_fills e line type offset t b s =
     let begun = opened e b in
-    led_after (Fills t b) (found e type begun) (λ d. unless (not (is_same_place type d.1.typed)) (not_whole d.1.typed) line (fill_record e line type offset d t))
-    (λ d h. led_unless (Fills t b) (not (is_same_place type d.1.typed)) (not_whole d.1.typed) line (fill_record e line type offset d t)
+    led_after (Fills t b) (found e type begun)
+    (λ d h. led_unless (Fills t b) (not (is_same_place type d.1.typed)) (not_whole d.1.typed) line
     (λ q. fill_record_fills e line type offset b d t s (found_grows e type begun begun (grows_refl begun) d h)))
 
 -- a string literal opens no scope
@@ -141,7 +140,7 @@ by_text_fills e line element size offset None t b is s = whole_fills e line (Arr
 by_text_fills e line element size offset (Some bytes) t b is s = by (is_character element)
   where
     by : (k : Bool) → Led (Fills t b) (cond k (then (string line bytes) (λ literal. fill_text e line bytes size offset t b)) (whole e line (Array element size) offset t b))
-    by true z q = fill_text_fills e line bytes size offset t b is s z (behind_string line bytes (fill_text e line bytes size offset t b) z q)
+    by true = λ z q. fill_text_fills e line bytes size offset t b is s z (behind_string line bytes (fill_text e line bytes size offset t b) z q)
     by false = whole_fills e line (Array element size) offset t b s
 
 by_expression_fills : (e : Tree) (line : ℕ) (type : PlainType) (offset : ℕ) (t : Target) (b : Context) → Safe b.scopes → Led (Fills t b) (by_expression e line type offset t b)

@@ -9,7 +9,6 @@ use Rattle.c_tree.specs.Tree.{Tree}
 use Rattle.c_types.specs.declared.types.IntType.{IntType}
 use Rattle.c_decls.specs.declared.constant.Constant.{Constant}
 use Rattle.c_decls.specs.declared.refusal.TypeKind.TheVariants.{Operands}
-use Rattle.c_decls.specs.Named as n
 use Rattle.c_decls.specs.Named.{PlainNamed}
 use Rattle.c_decls.specs.ScopeList as scopes
 use Rattle.c_decls.specs.ScopeList.{ScopeList, Table, named_in, found_from, found}
@@ -17,8 +16,8 @@ use Rattle.c_decls.specs.IntegerTypes.{promoted}
 use Rattle.c_decls.specs.Typed.{Operand, Number, operand, is_scalar}
 use Rattle.c_decls.specs.Expressions.{line_of, typed, wanted, constant_from}
 use Rattle.c_decls.specs.TypeNames as names
-use Rattle.elaboration.specs.Context.{Context, With, asked, told, emit, anew}
-use Rattle.elaboration.specs.Conversions.{Found, Local, Memory, atom_in, code_line, valued, convert, convert_integer, write, size_or_zero, tested_value, unused}
+use Rattle.elaboration.specs.Context.{Context, asked, told, emit, anew}
+use Rattle.elaboration.specs.Conversions.{Found, atom_in, code_line, valued, convert_integer, tested_value, unused}
 use Rattle.elaboration.specs.Reallocates.{reallocates, opened, closed}
 use Rattle.elaboration.specs.Expressions as expressions
 use Rattle.elaboration.specs.Declarators.{constant}
@@ -29,9 +28,8 @@ use Rattle.core_soundness.proofs.Owners.{more_depth}
 use Rattle.core_soundness.proofs.Grown.{ok_same, never}
 use Rattle.core_soundness.proofs.Growth.{Grows, grows_refl}
 use Rattle.core_soundness.proofs.Agreeing.{came}
-use Rattle.core_soundness.proofs.Operating.{passed, behind_test}
-use Rattle.core_soundness.proofs.Working.{grown_unused, grows_convert, grows_write, grows_convert_integer, grows_tested}
-use Rattle.core_soundness.proofs.ExprGrows.{found_grows}
+use Rattle.core_soundness.proofs.Operating.{passed}
+use Rattle.core_soundness.proofs.Working.{found_grows, grown_unused, grows_convert_integer, grows_tested}
 use Rattle.core_soundness.proofs.TypedNames.{typed_after, wanted_after}
 use Rattle.elaboration.specs.Addressed.{Taken, Known, number_of}
 use Rattle.core_soundness.proofs.InStep.{among, drops, Keeps, Same, Fewer, HasScope, Numbered, Follows, InStep, Stepped}
@@ -84,7 +82,7 @@ full_keeps e wish c d q = keeps_trans c (opened e c) d.0 (opened_keeps e c) (val
 
 pub evaluated_keeps : (e : Tree) (c z : Context) → evaluated e c ≡ Ok z → Keeps c z
 evaluated_keeps e c z q =
-    let d = came (unused e (expressions.found e Void (opened e c))) (λ d. good (closed e d.0)) z q in
+    let d = came (unused e (expressions.found e Void (opened e c))) q in
     let k = keeps_trans c (opened e c) d.value.0 (opened_keeps e c) (unused_keeps e Void (opened e c) d.value d.is) in
     subst (Keeps c) (ok_same (closed e d.value.0) z d.last) (keeps_trans c d.value.0 _ k (closed_keeps e d.value.0))
 

@@ -35,7 +35,7 @@ use Rattle.c_decls.specs.Expressions.{string}
 use Rattle.elaboration.specs.Context.{Context, literal_object, local_register}
 use Rattle.elaboration.specs.Conversions.{Found, Spot, Local, Memory, Value, Fixed, Unknown, Nowhere, found_as, atom_in, code_line, convert, forget, tested_value}
 use Rattle.elaboration.specs.Operations.{working, move_pointer, combine, combined, fixed_sum, moved_by, offset_of}
-use Rattle.elaboration.specs.Rules.{constant_found, object_found, built_in_found, name_found, is_inner, with_static, with_literal, literal_found, at_address, with_value, indexed, member_of, dotted, target_of, pointed, negated, before_number, apply, applied, tells_equal, is_pointer_ahead, is_pointer_operand, ahead, left_operand, between, cast_fixed, cast_to}
+use Rattle.elaboration.specs.Rules.{constant_found, object_found, built_in_found, name_found, is_inner, with_static, with_literal, literal_found, at_address, with_value, indexed, dotted, target_of, pointed, negated, before_number, apply, applied, tells_equal, is_pointer_ahead, is_pointer_operand, ahead, left_operand, between, cast_fixed, cast_to}
 use Rattle.elaboration.specs.Expressions.{name_answer, literal_answer, address_answer}
 use Rattle.core_soundness.specs.Worlds.{World, world, Holds, HeldAs, Held, StandsAs, Stands, IsObject, is_variable, is_literal, is_local, InnerFits, FileFits, TablesFit, NamesFit, local_sort, type_sort}
 use Rattle.core_soundness.proofs.Grown.{good, ok_same, never}
@@ -170,7 +170,6 @@ element_moves : (line : ℕ) (c : Context) (s t : Operand) (typed : PlainTyped) 
 unfolding IsPlaced
 element_moves line c (PointerTo target) (Number ty) typed p q l e h k = ((target, moved_is line c.tags target (place target) typed e), added_first line c target ty p q (move_gives line bin.Add target p q c l h k))
 element_moves line c (Number ty) (PointerTo target) typed p q l e h k = ((target, moved_is line c.tags target (place target) typed e), added_last line c target ty p q (move_gives line bin.Add target q p c l k h))
-element_moves line c Neither t typed p q l e h k = never _ _ typed e
 element_moves line c others other typed p q l e h k = never _ _ typed e
 
 pub indexed_lands : (line : ℕ) (c : Context) (x y : Found) (z : Context × Found) → 1 ≤ line → HasValue (world c) x → HasValue (world c) y → indexed line c x y ≡ Ok z → Lands c z
@@ -291,8 +290,7 @@ plain_number : (line : ℕ) (op : UnaryOp) (e typed : PlainTyped) (o : Operand) 
 plain_number line u.Deref e typed o p h = absurd p
 plain_number line u.Not e typed o p h = absurd p
 plain_number line op e typed (Number ty) p h = ((ty, refl), on_integer op ty e.folded typed h)
-plain_number line op e typed (PointerTo target) p h = never _ _ typed h
-plain_number line op e typed Neither p h = never _ _ typed h
+plain_number line op e typed other p h = never _ _ typed h
 
 not_result : (x typed : PlainTyped) → x.is_place ≡ false → x.type ≡ types.Int i.Int → x ≡ typed → (typed.is_place ≡ false) × (typed.type ≡ types.Int i.Int)
 not_result x typed p t e = (ap (λ (y : PlainTyped). y.is_place) (sym e) ∙ p, ap (λ (y : PlainTyped). y.type) (sym e) ∙ t)
@@ -364,9 +362,7 @@ cast_converts : (line : ℕ) (type : PlainType) (e typed : PlainTyped) (s t : Op
 cast_converts line type e typed (Number ty) (Number source) o h = subst (λ (x : PlainTyped). (x.is_place ≡ false) × (operand x.type ≡ operand type) × Unit {0}) (ok_same _ typed h) (refl, sym o, tt)
 cast_converts line type e typed (PointerTo target) (PointerTo source) o h = subst (λ (x : PlainTyped). (x.is_place ≡ false) × (operand x.type ≡ operand type) × Unit {0}) (ok_same _ typed h) (refl, refl, tt)
 cast_converts line type e typed (PointerTo target) (Number source) o h = subst (λ (x : PlainTyped). (x.is_place ≡ false) × (operand x.type ≡ operand type) × Unit {0}) (ok_same (null_pointer type target) typed (beside_is line e _ typed h)) (refl, refl, tt)
-cast_converts line type e typed (PointerTo target) Neither o h = never _ _ typed h
-cast_converts line type e typed Neither t o h = never _ _ typed h
-cast_converts line type e typed (Number ty) other o h = never _ _ typed h
+cast_converts line type e typed rest other o h = never _ _ typed h
 
 cast_typed : (line : ℕ) (type : PlainType) (e typed : PlainTyped) → cast line type e ≡ Ok typed → (typed.is_place ≡ false) × (operand typed.type ≡ operand type) × Converting (operand type) (operand e.type)
 cast_typed line types.Void e typed h = subst (λ (x : PlainTyped). (x.is_place ≡ false) × (operand x.type ≡ Neither) × Unit {0}) (ok_same (value types.Void) typed h) (refl, refl, tt)

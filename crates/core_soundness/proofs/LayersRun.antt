@@ -1,12 +1,10 @@
 -- What declarators, specs and tags do to what fits (C99 6.7).
 use Rattle.std.proofs.Common.{◌≡◌, ◌<◌, not, option_map, ap, sym, ◌≤◌, ◌∙◌, subst, ⊎_elim, length-append, ℕ, zero, suc, Bool, true, false, ◌||◌, cond, is_some, List, [], ◌∷◌, ◌++◌, length, slice_get, unwrap_or, Option, Some, None, Ok, refl, arith}
 use Rattle.c_types.specs.declared.types.IntType.TheVariants as i
-use Rattle.c_types.specs.Types.{PlainType, PlainTypes, Int, Pointer, Function}
+use Rattle.c_types.specs.Types.{PlainType, PlainTypes, Int, Pointer}
 use Rattle.c_types.specs.Layouts.{no_layout}
 use Rattle.c_types.specs.TagTable.{TagTable, layout_in}
 use Rattle.core_tree.specs.declared.statements.Atom.TheVariants as atom
-use Rattle.c_tree.specs.declared.operator.RecordSort.TheVariants as r
-use Rattle.c_tree.specs.Forms as f
 use Rattle.c_tree.specs.Tree.{Tree, Trees}
 use Rattle.c_decls.specs.declared.refusal.TypeKind.TheVariants.{DeclaredTwice}
 use Rattle.c_decls.specs.Named as n
@@ -19,7 +17,6 @@ use Rattle.c_decls.specs.TypeNames as names
 use Rattle.elaboration.specs.Context.{Context, Running, Code, Variable, asked, told, entered, local_register}
 use Rattle.elaboration.specs.Conversions.{Spot, Memory}
 use Rattle.elaboration.specs.Locals.{is_pointer, is_twice, declared_as, next_is_memory, with_register, with_memory, counted, with_named, memory_param, register_param, function_param, prototype_param, with_param, local_in, with_local}
-use Rattle.elaboration.specs.Declarators as d
 use Rattle.elaboration.specs.Declarators.{constant, with_type, left_params, specs, layers, suffix_layers, suffix_layer, params}
 use Rattle.core_soundness.proofs.Names.{More, MoreAll, more_refl, all_refl}
 use Rattle.core_soundness.proofs.Owners.{IsNoFunction, with_name_keeps, with_name_depth, tag_kept}

@@ -17,13 +17,7 @@ file_none w g name h e = by (named_in name g) (λ v q. h name v q) e
   where
     by : (o : Option PlainNamed) → ((v : PlainNamed) → o ≡ Some v → FileFits w v) → is_register o ≡ true → ⊥
     by (Some (n.Register type i)) fits e = fits (n.Register type i) refl
-    by (Some (n.Object type i)) fits e = cc
-    by (Some (n.Function type i)) fits e = cc
-    by (Some (n.Typedef type)) fits e = cc
-    by (Some (n.Constant type i)) fits e = cc
-    by (Some (n.BuiltIn i)) fits e = cc
-    by (Some (n.Tag type)) fits e = cc
-    by None fits e = cc
+    by other fits e = cc
 
 register_back : (w : World) (f g : Table) (ss ts : List Table) (name : List ℕ) → TableFits (FileFits w) g → MoreAll ss ts → is_register (found_from g name ts) ≡ true → is_register (found_from f name ss) ≡ true
 register_back w f g [] [] name h m e = absurd (file_none w g name h e)

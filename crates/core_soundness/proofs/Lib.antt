@@ -7,15 +7,15 @@ mod Settled
 mod Forks
 mod Grown
 mod Unused
+mod CodeWalk
+mod FoundWalk
 mod Working
 mod Calling
-mod Ruling
 mod Reached
 mod TagSorts
 mod TypedNames
 mod SortedTypes
 mod TagKinds
-mod ExprGrows
 mod Passing
 mod ShortNames
 mod Weights

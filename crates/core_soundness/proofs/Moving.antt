@@ -24,9 +24,9 @@ use Rattle.core_soundness.proofs.Working.{grows_write}
 use Rattle.core_soundness.proofs.Ranges.{In, in_emit}
 use Rattle.core_soundness.proofs.RangedWork.{SpotIn, write_in}
 use Rattle.core_soundness.proofs.RangedFound.{E}
-use Rattle.core_soundness.proofs.RangedWalk.{valued_in, found_in, unused_in}
+use Rattle.core_soundness.proofs.RangedWalk.{found_in, unused_in}
 use Rattle.core_soundness.proofs.Solid as base
-use Rattle.core_soundness.proofs.Solid.{K, Gone, found_gone, value_gone, unused_gone}
+use Rattle.core_soundness.proofs.Solid.{K, Gone, found_gone, unused_gone}
 use Rattle.core_soundness.proofs.Unused.{valued_unused}
 
 -- the values of the running switch, and the code of the functions that were walked

@@ -23,7 +23,7 @@ use Rattle.c_decls.specs.ScopeList.{named_in, innermost, tag_name}
 use Rattle.c_decls.specs.Refusals.{Checked, refused, then, unless}
 use Rattle.c_decls.specs.Typed.{is_function, has_no_size}
 use Rattle.c_decls.specs.TypeNames.{tag_named}
-use Rattle.c_decls.specs.PlaceRules.{unconverted, converts}
+use Rattle.c_decls.specs.PlaceRules.{unconverted}
 use Rattle.c_decls.specs.Expressions.{line_of, string}
 use Rattle.elaboration.specs.Context.{Context, With, Variable, asked, emit, anew}
 use Rattle.elaboration.specs.Conversions.{Found, Spot, Local, Memory, code_line, atom_in, valued, convert, write, size_or_zero}
@@ -32,7 +32,7 @@ use Rattle.elaboration.specs.Rules.{with_static, with_literal}
 use Rattle.elaboration.specs.Expressions.{found}
 use Rattle.elaboration.specs.Locals.{is_twice, declared_as, next_is_memory, with_memory, with_register, local_in, with_local}
 use Rattle.elaboration.specs.Declarators.{layers}
-use Rattle.elaboration.specs.Initializers.{Target, InRegister, InMemory, InStatic, static_scalar, member_place, store_at, fill_scalar, scalar, copy_to, fill_record, is_same_place, whole, copy_text, fill_text, is_character, text, by_text, by_expression, parts_of, takes_braces, is_scalar_type, surplus, all_surplus, initialize, initialize_parts, with_bytes, no_start, with_init_layers, not_whole}
+use Rattle.elaboration.specs.Initializers.{Target, InRegister, InMemory, InStatic, static_scalar, member_place, store_at, fill_scalar, scalar, copy_to, fill_record, is_same_place, whole, fill_text, is_character, text, by_text, by_expression, parts_of, takes_braces, is_scalar_type, surplus, all_surplus, initialize, initialize_parts, no_start, with_init_layers, not_whole}
 use Rattle.elaboration.specs.Declarations as storages
 use Rattle.elaboration.specs.Declarations.{Storage, Typedef, Outside, storage_of, specs_alone, specs_before, cleared, fill_memory, fill_register, fill_at, fill_local, local_object, local_name, function_number, with_function, declared_function, no_initializer, variable_number_of, with_new_variable, with_variable, start_of, start_in, started_variable, started, fill_variable, file_object, file_function, file_value, file_name, name_in, entry, entries, declaration}
 use Rattle.core_soundness.proofs.Agreeing.{came}
@@ -113,8 +113,8 @@ fill_record_near k e line type offset c d other g = reached_refused (Near (k + 3
 
 whole_near : (e : Tree) (line : ℕ) (type : PlainType) (offset : ℕ) (target : Target) (c : Context) → Reached (Near (weight e + 3) c) (whole e line type offset target c)
 whole_near e line type offset target c =
-    reached_after (Near (weight e + 3) c) (found e type (opened e c)) (λ d. unless (not (is_same_place type d.1.typed)) (not_whole d.1.typed) line (fill_record e line type offset d target))
-    (λ d q. reached_unless (Near (weight e + 3) c) (not (is_same_place type d.1.typed)) (not_whole d.1.typed) line (fill_record e line type offset d target)
+    reached_after (Near (weight e + 3) c) (found e type (opened e c))
+    (λ d q. reached_unless (Near (weight e + 3) c) (not (is_same_place type d.1.typed)) (not_whole d.1.typed) line
     (fill_record_near (weight e) e line type offset c d target (near_on 0 (weight e) (weight e) (omega arith) (opened_near e c) (found_near e type (opened e c) d q))))
 
 fill_text_near : (e : Tree) (line : ℕ) (bytes : List ℕ) (size offset : ℕ) (target : Target) (c : Context) → Reached (Near 1 c) (fill_text e line bytes size offset target c)
@@ -180,10 +180,7 @@ fill_memory_near line type (init ▹ rest) (atom.Mem mem) c =
     let x = cleared line type (atom.Mem mem) c in
     led_after (Near (weight init + 3) c) (initialize init false type 0 (InMemory line mem) x) (λ d q. led_ok (Near (weight init + 3) c) (initialize_near init false type 0 (InMemory line mem) x d q))
 fill_memory_near line type none mem c = led_ok (Near 0 c) (near_refl c)
-fill_memory_near line type (init ▹ rest) (atom.Reg r) c = led_ok (Near (weight init + 3) c) (near_most 0 (weight init + 3) (omega arith) (near_refl c))
-fill_memory_near line type (init ▹ rest) (atom.Int x) c = led_ok (Near (weight init + 3) c) (near_most 0 (weight init + 3) (omega arith) (near_refl c))
-fill_memory_near line type (init ▹ rest) atom.Null c = led_ok (Near (weight init + 3) c) (near_most 0 (weight init + 3) (omega arith) (near_refl c))
-fill_memory_near line type (init ▹ rest) (atom.Static x) c = led_ok (Near (weight init + 3) c) (near_most 0 (weight init + 3) (omega arith) (near_refl c))
+fill_memory_near line type (init ▹ rest) other c = led_ok (Near (weight init + 3) c) (near_most 0 (weight init + 3) (omega arith) (near_refl c))
 
 fill_register_near : (line : ℕ) (type : PlainType) (inits : Trees) (register : ℕ) (c : Context) → Led (Near (starting inits) c) (fill_register line type inits register c)
 fill_register_near line type none register c = led_ok (Near 0 c) (near_refl c)

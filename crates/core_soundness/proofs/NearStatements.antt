@@ -13,7 +13,7 @@ use Rattle.c_decls.specs.IntegerTypes.{promoted}
 use Rattle.c_decls.specs.Typed.{Operand, Number, operand, is_void, is_scalar}
 use Rattle.c_decls.specs.PlaceRules.{unconverted}
 use Rattle.c_decls.specs.Expressions.{line_of}
-use Rattle.elaboration.specs.Context.{Here, Context, scoped, entered, left, emit, here, new_label, with_labels, with_pieces}
+use Rattle.elaboration.specs.Context.{Here, Context, scoped, entered, emit, here, new_label, with_labels, with_pieces}
 use Rattle.elaboration.specs.Conversions.{Found, atom_in, valued, convert, convert_integer, tested_value, unused}
 use Rattle.elaboration.specs.Reallocates.{opened, closed}
 use Rattle.elaboration.specs.Expressions.{found}
@@ -22,8 +22,10 @@ use Rattle.elaboration.specs.Statements.{Around, below, in_loop, in_switch, in_d
 use Rattle.core_soundness.proofs.Agreeing.{came}
 use Rattle.core_soundness.proofs.Reached.{Reached, reached_ok, reached_refused, reached_after, reached_unless, Led, led_ok, led_refused, led_after, led_unless, led_barred}
 use Rattle.core_soundness.proofs.ShortNames.{Short, AllShort}
-use Rattle.core_soundness.proofs.Near.{weight, weights, Near, near_refl, near_on, near_most}
+use Rattle.core_soundness.proofs.Weights.{weight, weights}
+use Rattle.core_soundness.proofs.Near.{Near, near_refl, near_on, near_most}
 use Rattle.core_soundness.proofs.NearWork.{integer_near, tested_value_near, unused_near}
+use Rattle.core_soundness.proofs.NearFound.{found_near}
 use Rattle.core_soundness.proofs.NearLayers.{constant_near}
 use Rattle.core_soundness.proofs.NearFills.{opened_near, closed_near, full_near, converted_near, declaration_near}
 
@@ -42,8 +44,8 @@ leave_near line delays (Some exit) c = led_ok (Near 0 c) (leaves_near (delays - 
 
 evaluated_near : (e : Tree) (c : Context) → Led (Near (weight e + 1) c) (evaluated e c)
 evaluated_near e c =
-    led_after (Near (weight e + 1) c) (unused e (found e Void (opened e c))) (λ d. Ok (closed e d.0))
-    (λ d q. led_ok (Near (weight e + 1) c) (closed e d.0) (near_on 0 (weight e + 1) (weight e + 1) (omega arith) (opened_near e c) (near_on (weight e + 1) 0 (weight e + 1) (omega arith) (unused_near (weight e) e (opened e c) (found e Void (opened e c)) (found_near e Void (opened e c)) d q) (closed_near e d.0))))
+    led_after (Near (weight e + 1) c) (unused e (found e Void (opened e c)))
+    (λ d q. led_ok (Near (weight e + 1) c) (near_on 0 (weight e + 1) (weight e + 1) (omega arith) (opened_near e c) (near_on (weight e + 1) 0 (weight e + 1) (omega arith) (unused_near (weight e) e (opened e c) (found e Void (opened e c)) (found_near e Void (opened e c)) d q) (closed_near e d.0))))
 
 maybe_evaluated_near : (es : Trees) (c : Context) → Led (Near (weights es + 1) c) (maybe_evaluated es c)
 maybe_evaluated_near none c z q = led_ok (Near 1 c) (near_most 0 1 (omega arith) (near_refl c)) z q

@@ -165,9 +165,7 @@ module _ (line : ℕ) (l : 1 ≤ line) (b c : Context) (g : Goes b c) where
   sum_makes tags x y typed (Number s) (Number t) p q o m e h k = number_made (result_type bin.Add s t) typed _ _ refl refl (ok_same _ typed e) (numbers bin.Add s t p q h k)
   sum_makes tags x y typed (PointerTo target) (Number t) p q o m e h k = makes_pointer b x.type target typed _ o (moved_is line tags target (value x.type) typed e) (moves_first bin.Add target p q h k)
   sum_makes tags x y typed (Number s) (PointerTo target) p q o m e h k = makes_pointer b y.type target typed _ m (moved_is line tags target (value y.type) typed e) (moves_last bin.Add target p q h k)
-  sum_makes tags x y typed (Number s) Neither p q o m e h k = never _ _ typed e
-  sum_makes tags x y typed Neither t p q o m e h k = never _ _ typed e
-  sum_makes tags x y typed (PointerTo target) other p q o m e h k = never _ _ typed e
+  sum_makes tags x y typed rest other p q o m e h k = never _ _ typed e
 
   pub difference_makes : (tags : TagTable) (x y typed : PlainTyped) (s t : Operand) (p q : Atom) → operand x.type ≡ s → operand y.type ≡ t → difference_types line tags x y s t ≡ Ok typed → HeldAs (world b) s p → HeldAs (world c) t q → Makes b typed (combine line bin.Subtract b.code s t p q c)
   unfolding working
@@ -175,21 +173,17 @@ module _ (line : ℕ) (l : 1 ≤ line) (b c : Context) (g : Goes b c) where
   difference_makes tags x y typed (PointerTo target) (Number t) p q o m e h k = makes_pointer b x.type target typed _ o (moved_is line tags target (value x.type) typed e) (moves_first bin.Subtract target p q h k)
   difference_makes tags x y typed (PointerTo target) (PointerTo other) p q o m e h k =
       number_made _ typed int _ refl refl (moved_is line tags target int typed (behind_test _ _ line _ typed e)) (pointers (working bin.Subtract) target p q h k)
-  difference_makes tags x y typed (PointerTo target) Neither p q o m e h k = never _ _ typed e
-  difference_makes tags x y typed Neither t p q o m e h k = never _ _ typed e
-  difference_makes tags x y typed (Number s) other p q o m e h k = never _ _ typed e
+  difference_makes tags x y typed rest other p q o m e h k = never _ _ typed e
 
   pub order_makes : (op : BinaryOp) (x y typed : PlainTyped) (s t : Operand) (p q : Atom) → order_types op line x y s t ≡ Ok typed → HeldAs (world b) s p → HeldAs (world c) t q → Makes b typed (combine line op b.code s t p q c)
   order_makes op x y typed (Number s) (Number t) p q e h k = number_made (result_type op s t) typed _ _ refl refl (ok_same _ typed e) (numbers op s t p q h k)
   order_makes op x y typed (PointerTo target) (PointerTo other) p q e h k = number_made _ typed int _ refl refl (passed _ _ line int typed e) (pointers (working op) target p q h k)
   order_makes op x y typed (PointerTo target) (Number t) p q e h k = never _ _ typed (beside_is line y _ typed e)
   order_makes op x y typed (Number s) (PointerTo other) p q e h k = never _ _ typed (beside_is line x _ typed e)
-  order_makes op x y typed Neither t p q e h k = never _ _ typed e
-  order_makes op x y typed other Neither p q e h k = never _ _ typed e
+  order_makes op x y typed other rest p q e h k = never _ _ typed e
 
   pub integer_makes : (op : BinaryOp) (x y typed : PlainTyped) (s t : Operand) (p q : Atom) → integer_types op line x y s t ≡ Ok typed → HeldAs (world b) s p → HeldAs (world c) t q → Makes b typed (combine line op b.code s t p q c)
   integer_makes op x y typed (Number s) (Number t) p q e h k = number_made (result_type op s t) typed _ _ refl refl (ok_same _ typed e) (numbers op s t p q h k)
-  integer_makes op x y typed (Number s) other p q e h k = never _ _ typed e
   integer_makes op x y typed other t p q e h k = never _ _ typed e
 
   -- comparisons of pointers with null pointer constants
@@ -218,8 +212,7 @@ module _ (line : ℕ) (l : 1 ≤ line) (b c : Context) (g : Goes b c) where
   equal_makes op test x y typed (PointerTo target) (PointerTo other) p q w e h k = number_made _ typed int _ refl refl (passed _ _ line int typed e) (pointers (working op) target p q (left_pointer target (PointerTo other) p h) k)
   equal_makes op test x y typed (PointerTo target) (Number t) p q w e h k = number_made _ typed int _ refl refl (ok_same int typed (beside_is line y (good int) typed e)) (first_compared op (working op) test target p q w (left_pointer target (Number t) p h))
   equal_makes op test x y typed (Number s) (PointerTo other) p q w e h k = number_made _ typed int _ refl refl (ok_same int typed (beside_is line x (good int) typed e)) (last_compared op (working op) test other p q w k)
-  equal_makes op test x y typed Neither t p q w e h k = never _ _ typed e
-  equal_makes op test x y typed other Neither p q w e h k = never _ _ typed e
+  equal_makes op test x y typed other rest p q w e h k = never _ _ typed e
 
   left_held : (op : BinaryOp) (s t : Operand) (p : Atom) → tells_equal op ≡ false → LeftOf b op s t p → HeldAs (world b) s p
   left_held op s t p n (inl h) = h
@@ -259,8 +252,7 @@ change_brings line op (Number s) (Number t) old y c l h k =
     (goes_trans c d.0 _ one.goes two.goes, two.holds)
 change_brings line op (PointerTo target) (Number t) old y c l h k = let g = move_gives line op target old y c l h k in (g.goes, g.holds)
 change_brings line op Neither t old y c l h k = (goes_refl c, tt)
-change_brings line op others (PointerTo other) old y c l h k = (goes_refl c, h)
-change_brings line op other Neither old y c l h k = (goes_refl c, h)
+change_brings line op other rest old y c l h k = (goes_refl c, h)
 
 pub changed_brings : (line : ℕ) (op : BinaryOp) (type : PlainType) (old : Atom) (e : PlainTyped) (y : Atom) (c : Context) → 1 ≤ line → Held (world c) type old → Held (world c) e.type y → Brings c type (changed_to line op type old e y c)
 changed_brings line op type old e y c l h k = let r = change_brings line op (operand type) (operand e.type) old y c l h k in record { goes = r.0; held = r.1 }

@@ -19,12 +19,7 @@ file_register w file [] name e h = by (named_in name file) (λ v q. h name v q)
     by : (o : Option PlainNamed) → ((v : PlainNamed) → o ≡ Some v → FileFits w v) → is_register o ≡ false
     by (Some (n.Object type i)) fits = refl
     by (Some (n.Register type i)) fits = absurd (fits (n.Register type i) refl)
-    by (Some (n.Function type i)) fits = refl
-    by (Some (n.Typedef type)) fits = refl
-    by (Some (n.Constant type i)) fits = refl
-    by (Some (n.BuiltIn i)) fits = refl
-    by (Some (n.Tag type)) fits = refl
-    by None fits = refl
+    by other fits = refl
 
 no_register : (w : World) (s : ScopeList) (o : Option (List ℕ)) → length s.inner ≡ 0 → TableFits (FileFits w) s.file → NoRegister s o
 no_register w s None e h = tt

@@ -80,8 +80,7 @@ sorts_none (ArrayOf line length ∷ ls) e = sorts_none ls e
 
 pub functions_one : (x : Layer) (ls : List Layer) → functions (x ∷ ls) ≡ functions (x ∷ []) + functions ls
 functions_one (FunctionOf line params) ls = omega arith
-functions_one (PointerTo line) ls = omega arith
-functions_one (ArrayOf line length) ls = omega arith
+functions_one other ls = omega arith
 
 sorts_one : (x : Layer) (ls : List Layer) → function_sorts (x ∷ ls) ≡ function_sorts (x ∷ []) ++ function_sorts ls
 sorts_one (FunctionOf line params) ls = ap (λ (s : List Sort). s ++ function_sorts ls) (sym (append-nil (param_sorts params)))

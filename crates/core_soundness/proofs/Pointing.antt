@@ -12,14 +12,14 @@ use Rattle.c_decls.specs.declared.typed.Folded.TheVariants.{Is}
 use Rattle.c_decls.specs.declared.refusal.TypeKind.TheVariants.{Assignment}
 use Rattle.c_decls.specs.Refusals.{refused, then}
 use Rattle.c_decls.specs.Typed.{is_null_constant}
-use Rattle.c_decls.specs.PlaceRules.{unconverted, converts}
+use Rattle.c_decls.specs.PlaceRules.{unconverted}
 use Rattle.c_decls.specs.Expressions.{line_of, string}
 use Rattle.elaboration.specs.Context.{Code, Context, Variable, emit, anew}
 use Rattle.core_tree.specs.declared.statements.StmKind.TheVariants.{Enter}
 use Rattle.elaboration.specs.Conversions.{Found, Fixed, Unknown, Nowhere, Inside, code_line, valued}
 use Rattle.elaboration.specs.Reallocates.{reallocates, opened}
 use Rattle.elaboration.specs.Expressions.{found}
-use Rattle.elaboration.specs.Initializers.{Target, InRegister, InMemory, InStatic, static_integer, static_address, static_pointer, static_scalar, with_bytes, fill_scalar, scalar, fill_record, is_same_place, whole, fill_text, is_character, text, by_text, by_expression, parts_of, takes_braces, is_scalar_type, all_surplus, initialize, initialize_parts, not_whole}
+use Rattle.elaboration.specs.Initializers.{Target, InRegister, InMemory, InStatic, static_integer, static_address, static_pointer, static_scalar, fill_scalar, scalar, fill_record, is_same_place, whole, fill_text, is_character, text, by_text, by_expression, parts_of, takes_braces, is_scalar_type, all_surplus, initialize, initialize_parts, not_whole}
 use Rattle.core_soundness.proofs.Growth.{Longer}
 use Rattle.core_soundness.proofs.Reached.{Led, led_ok, led_refused, led_after, led_unless, led_barred}
 use Rattle.core_soundness.proofs.TypedWhole.{led_cond}
@@ -104,8 +104,8 @@ record_points e line type offset c d other h = led_refused (Points c)
 
 whole_points : (e : Tree) (line : ℕ) (type : PlainType) (offset : ℕ) (target : Target) (c : Context) → TargetIn c target → Led (Points c) (whole e line type offset target c)
 whole_points e line type offset target c h =
-    led_after (Points c) (found e type (opened e c)) (λ d. unless (not (is_same_place type d.1.typed)) (not_whole d.1.typed) line (fill_record e line type offset d target))
-    (λ d q. led_unless (Points c) (not (is_same_place type d.1.typed)) (not_whole d.1.typed) line (fill_record e line type offset d target) (λ x. record_points e line type offset c d target h))
+    led_after (Points c) (found e type (opened e c))
+    (λ d q. led_unless (Points c) (not (is_same_place type d.1.typed)) (not_whole d.1.typed) line (λ x. record_points e line type offset c d target h))
 
 text_points : (e : Tree) (line : ℕ) (bytes : List ℕ) (size offset : ℕ) (target : Target) (c : Context) → TargetIn c target → Led (Points c) (fill_text e line bytes size offset target c)
 text_points e line bytes size offset (InMemory at mem) c h = absurd h

@@ -5,21 +5,19 @@ use Rattle.c_types.specs.declared.types.IntType.TheVariants as i
 use Rattle.c_types.specs.Types.{PlainType, Int}
 use Rattle.c_types.specs.TagTable.{TagTable}
 use Rattle.c_tree.specs.Tree.{Tree, Trees}
-use Rattle.c_decls.specs.declared.refusal.TypeKind.TheVariants.{DeclaredTwice}
 use Rattle.c_decls.specs.Named as n
 use Rattle.c_decls.specs.Named.{PlainNamed}
 use Rattle.c_decls.specs.ScopeList as scopes
 use Rattle.c_decls.specs.ScopeList.{ScopeList, Table, named_in, innermost, with_name, tag_name, after_declaration}
 use Rattle.c_decls.specs.TypeNames as names
 use Rattle.elaboration.specs.Context.{Context, Running, told, entered}
-use Rattle.elaboration.specs.Locals.{is_twice, declared_as, counted, with_named, prototype_param, function_param, is_prototype, with_param}
-use Rattle.elaboration.specs.Declarators as d
+use Rattle.elaboration.specs.Locals.{counted, with_named, prototype_param, function_param, is_prototype, with_param}
 use Rattle.elaboration.specs.Declarators.{left_params, specs, layers, params}
 use Rattle.core_soundness.proofs.Names.{More, MoreTags, MoreAll, tags_refl, tags_trans, all_refl, all_trans}
 use Rattle.core_soundness.proofs.Owners.{more_depth, with_name_depth}
 use Rattle.core_soundness.proofs.ShortNames.{Any, any_names, all_any}
 use Rattle.core_soundness.proofs.LayersWalk.{Steps, specs_keep, layers_keep, params_keep}
-use Rattle.core_soundness.proofs.Reached.{Reached, Led, led_ok, led_unless}
+use Rattle.core_soundness.proofs.Reached.{Reached}
 use Rattle.core_soundness.proofs.Declaring.{tail_depth}
 use Rattle.core_soundness.proofs.Running.{tail_more}
 

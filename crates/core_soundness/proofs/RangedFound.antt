@@ -144,9 +144,7 @@ unfolding working
 element_steps line c (PointerTo target) (Number ty) z h p q e = moving_step line c target (place target) z h p e
 element_steps line c (Number ty) (PointerTo target) z h p q e = moving_step line c target (place target) z h q e
 element_steps line c (PointerTo target) (PointerTo other) z h p q e = never _ _ z e
-element_steps line c (Number s) (Number t) z h p q e = tt
-element_steps line c Neither t z h p q e = tt
-element_steps line c other Neither z h p q e = tt
+element_steps line c other rest z h p q e = tt
 
 pub indexed_in : (line : ℕ) (c : Context) (x y : Found) → Solid c → In c → SpotIn x.spot → SpotIn y.spot → Whole (K c) x.typed.type → Whole (K c) y.typed.type → Led E (indexed line c x y)
 indexed_in line c x y h g p q v w =
@@ -302,9 +300,7 @@ changed_steps line op c type (Number ty) (Number source) z o h p e = subst (λ (
 changed_steps line op c type (PointerTo target) (Number source) z o h p e =
     let m = behind_test (not (moves op)) Operands line (moving line c.tags target (value type)) z e in
     subst (λ (x : PlainTyped). Steps Branches (operand x.type) (Number source) c) (moved_is line c.tags target (value type) z m) (subst (λ (x : Operand). Steps Branches x (Number source) c) (sym o) (moving_step line c target (value type) z h p m))
-changed_steps line op c type Neither t z o h p e = never _ _ z e
-changed_steps line op c type other (PointerTo source) z o h p e = never _ _ z e
-changed_steps line op c type other Neither z o h p e = never _ _ z e
+changed_steps line op c type other rest z o h p e = never _ _ z e
 
 pub changed_by_in : (line : ℕ) (op : AssignOp) (keeps : Bool) (target : Found) (old : Atom) (d : Context × Found) → Solid d.0 → Whole (K d.0) target.typed.type → SpotIn target.spot → AtomIn old → E d → Led E (changed_by line op keeps target old d)
 changed_by_in line op keeps target old d s w p o h =

@@ -24,11 +24,11 @@ use Rattle.c_decls.specs.Callees.{Callee, Takes, NoFunction, called, call}
 use Rattle.c_decls.specs.TypeNames as names
 use Rattle.c_decls.specs.Expressions.{line_of, int_constant, char_constant, joined, first_literal, typed, typename}
 use Rattle.elaboration.specs.Context.{Code, Context, With, asked, told, new_label}
-use Rattle.elaboration.specs.Conversions.{Found, Value, Unknown, Nowhere, found_as, valued_as, atom_in, valued_from, valued, forget, tested_value, code_line, unused}
+use Rattle.elaboration.specs.Conversions.{Found, Value, Nowhere, found_as, valued_as, atom_in, valued, forget, tested_value, code_line, unused}
 use Rattle.elaboration.specs.Calls.{Argument, atoms_of, types_of, first_type, rest_types, argument_from, call_named}
-use Rattle.elaboration.specs.Rules.{constant_found, indexed, dotted, pointed, applied, tells_equal, is_pointer_ahead, ahead, left_operand, between, cast_to, and_then, and_ended, or_else, or_ended, choose, type_ahead, chosen_by, choose_first, chosen}
-use Rattle.elaboration.specs.Assignments.{record_assigned, scalar_assigned, old_value, changed_by, stepped}
-use Rattle.elaboration.specs.Expressions.{unevaluated, address_answer, changing, comma_answer, callee, callee_name, parameters, format_argument, is_printf, call_answer, found, arguments, cast_operand}
+use Rattle.elaboration.specs.Rules.{constant_found, tells_equal, is_pointer_ahead, ahead, left_operand, and_then, or_else, choose, type_ahead, chosen_by, choose_first}
+use Rattle.elaboration.specs.Assignments.{record_assigned, scalar_assigned, old_value}
+use Rattle.elaboration.specs.Expressions.{unevaluated, changing, comma_answer, callee, callee_name, parameters, format_argument, is_printf, call_answer, found, arguments, cast_operand}
 use Rattle.core_soundness.specs.Whole.{Whole, AllWhole, AreMade}
 use Rattle.core_soundness.specs.Written.{Written, AllWritten}
 use Rattle.core_soundness.proofs.Grown.{good, ok_same, never}
@@ -85,7 +85,7 @@ unevaluated_in tree c z g k q =
 
 pub unused_in : (e : Tree) (wish : PlainType) (c : Context) (z : Context × Found) → ((x : Context × Found) → found e wish c ≡ Ok x → E x) → unused e (found e wish c) ≡ Ok z → E z
 unused_in e wish c z k q =
-    let d = came (found e wish c) (λ d. valued_from e d.0 d.1) z q in
+    let d = came (found e wish c) q in
     let r = k d.value d.is in
     valued_from_in e d.value.0 d.value.1 z r.0 r.1 d.last
 
@@ -246,9 +246,9 @@ mutual
   found_in (Node f.SizeofExpr (At line ▹ e ▹ none)) wish c z h v t g q = unevaluated_in (Node f.SizeofExpr (At line ▹ e ▹ none)) c z g (λ x k. expr_size_in line e c x h k) q
   found_in (Node f.SizeofType (At line ▹ name ▹ none)) wish c z h v t g q = unevaluated_in (Node f.SizeofType (At line ▹ name ▹ none)) c z g (λ x k. type_size_in line name c x h k) q
   found_in (Node f.Cast (At line ▹ name ▹ e ▹ none)) wish c z h v t g q =
-      let y = came (typename name (asked c)) (λ y. then (cast_operand y.1 e (found e y.1 (told y.0 c))) (λ d. cast_to line y.1 c.code d.0 d.1)) z q in
+      let y = came (typename name (asked c)) q in
       let begun = told y.value.0 c in
-      let d = came (cast_operand y.value.1 e (found e y.value.1 begun)) (λ d. cast_to line y.value.1 c.code d.0 d.1) z y.last in
+      let d = came (cast_operand y.value.1 e (found e y.value.1 begun)) y.last in
       let k = typename_good c.tags.completed h.made name (asked c) (fit_of c h) y.value y.is in
       let hb = told_rises c y.value.0 h k.0 (typename_leads name (asked c) y.value y.is) in
       let one = unused_in e y.value.1 begun d.value (λ x s. found_in e y.value.1 begun x hb.solid v.1.1.1.0 (told_whole c y.value.0 h y.value.1 k.0 k.1) g s) (cast_unused y.value.1 e (found e y.value.1 begun) d.value d.is) in
@@ -326,8 +326,8 @@ mutual
       let far = rises_trans d.value.0 old.0 r.value.0 ho gr.rises in
       changed_by_in line op false d.value.1 old.1 r.value gr.rises.solid (whole_stays d.value.1.typed.type (K d.value.0) (K r.value.0) far.more gd.whole) one.1 mid.1 two z r.last
   found_in (Node f.Comma (At line ▹ e ▹ e2 ▹ none)) wish c z h v t g q =
-      let d = came (unused e (found e Void c)) (λ d. then (unused e2 (found e2 Void d.0)) (λ r. good (comma_answer r))) z q in
-      let r = came (unused e2 (found e2 Void d.value.0)) (λ r. good (comma_answer r)) z d.last in
+      let d = came (unused e (found e Void c)) q in
+      let r = came (unused e2 (found e2 Void d.value.0)) d.last in
       let one = unused_in e Void c d.value (λ x k. found_in e Void c x h v.1.1.0 tt g k) d.is in
       let gd = unused_gone e Void c d.value h d.is in
       let two = unused_in e2 Void d.value.0 r.value (λ x k. found_in e2 Void d.value.0 x gd.rises.solid v.1.1.1.0 tt one.0 k) r.is in

@@ -160,8 +160,7 @@ combine_in line op before (Number s) (Number t) x y c f g h k q = work_in line (
 combine_in line op before (PointerTo target) (Number t) x y c f g h k q = first_in line op (working op) before target x y c f g h k q
 combine_in line op before (Number s) (PointerTo target) x y c f g h k q = last_in line op (working op) target x y c g h k q
 combine_in line op before (PointerTo target) (PointerTo other) x y c f g h k q = between_in line (working op) target x y c g h k q
-combine_in line op before Neither t x y c f g h k q = (g, h)
-combine_in line op before other Neither x y c f g h k q = (g, h)
+combine_in line op before other rest x y c f g h k q = (g, h)
 
 pub combined_in : (line : ℕ) (op : BinaryOp) (before : Code) (x y : Found) (c : Context) → PiecesIn before.pieces → In c → SpotIn x.spot → SpotIn y.spot → Steps (working op) (operand x.typed.type) (operand y.typed.type) c → Has (combined line op before x y c)
 combined_in line op before x y c f g h k q = combine_in line op before (operand x.typed.type) (operand y.typed.type) (atom_in x) (atom_in y) c f g (spot_atom x.spot h) (spot_atom y.spot k) q
@@ -199,23 +198,18 @@ sum_steps : (how : Working) (line : ℕ) (c : Context) (x y z : PlainTyped) (s t
 sum_steps how line c x y z (PointerTo target) (Number t) h p q e = needs_all how _ (moving_step line c target (value x.type) z h p e)
 sum_steps how line c x y z (Number s) (PointerTo target) h p q e = needs_all how _ (moving_step line c target (value y.type) z h q e)
 sum_steps how line c x y z (PointerTo target) (PointerTo other) h p q e = never _ _ z e
-sum_steps how line c x y z (Number s) (Number t) h p q e = tt
-sum_steps how line c x y z Neither t h p q e = tt
-sum_steps how line c x y z other Neither h p q e = tt
+sum_steps how line c x y z other rest h p q e = tt
 
 difference_steps : (how : Working) (line : ℕ) (c : Context) (x y z : PlainTyped) (s t : Operand) → Solid c → Pointed c s → Pointed c t → difference_types line c.tags x y s t ≡ Ok z → Steps how s t c
 difference_steps how line c x y z (PointerTo target) (Number t) h p q e = needs_all how _ (moving_step line c target (value x.type) z h p e)
 difference_steps how line c x y z (PointerTo target) (PointerTo other) h p q e = needs_all how _ (moving_step line c target int z h p (behind_test _ _ line _ z e))
 difference_steps how line c x y z (Number s) (PointerTo target) h p q e = never _ _ z e
-difference_steps how line c x y z (Number s) (Number t) h p q e = tt
-difference_steps how line c x y z Neither t h p q e = tt
-difference_steps how line c x y z other Neither h p q e = tt
+difference_steps how line c x y z other rest h p q e = tt
 
 integer_steps : (how : Working) (op : BinaryOp) (line : ℕ) (c : Context) (x y z : PlainTyped) (s t : Operand) → integer_types op line x y s t ≡ Ok z → Steps how s t c
 integer_steps how op line c x y z (Number s) (PointerTo other) e = never _ _ z e
 integer_steps how op line c x y z (PointerTo target) t e = never _ _ z e
-integer_steps how op line c x y z Neither t e = tt
-integer_steps how op line c x y z (Number s) other e = tt
+integer_steps how op line c x y z rest other e = tt
 
 -- `&&` and `||` are not among these
 abbrev pub IsBetween : BinaryOp → Type 0
@@ -243,7 +237,6 @@ change_in line op (Number s) (Number t) old y c g h k q =
     let r = work_in line (working op) s old t y c g h k in
     convert_integer_in line s (result_type op s t) d.1 d.0 r.0 r.1
 change_in line op (PointerTo target) (Number t) old y c g h k q = move_in line op target old y c g h k q
-change_in line op Neither t old y c g h k q = (g, h)
 change_in line op others other old y c g h k q = (g, h)
 
 pub changed_in : (line : ℕ) (op : BinaryOp) (type : PlainType) (old : Atom) (e : PlainTyped) (y : Atom) (c : Context) → In c → AtomIn old → AtomIn y → Steps Branches (operand type) (operand e.type) c → Has (changed_to line op type old e y c)

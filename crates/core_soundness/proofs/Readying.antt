@@ -15,7 +15,7 @@ use Rattle.c_decls.specs.Callees.{named}
 use Rattle.c_decls.specs.Typed.{PlainTyped}
 use Rattle.elaboration.specs.Addressed.{plain_name}
 use Rattle.elaboration.specs.Context.{Context, With}
-use Rattle.elaboration.specs.Conversions.{Found, Spot, Local, code_line, valued_from, valued, unused}
+use Rattle.elaboration.specs.Conversions.{Found, Spot, Local, code_line, valued, unused}
 use Rattle.elaboration.specs.Rules.{name_found, is_inner, object_found, built_in_found}
 use Rattle.elaboration.specs.Expressions.{name_answer}
 use Rattle.core_soundness.specs.Worlds.{World, world, local_sort, type_sort, InnerFits, FileFits, TableFits, TablesFit, NamesFit}
@@ -167,7 +167,7 @@ pub record Operated (c : Context) (tree : Tree) (z : Context × Found) : Type 0 
 
 pub unused_operated : (tree : Tree) (c : Context) (answer : With Found) (z : Context × Found) → ((d : Context × Found) → answer ≡ Ok d → Rests c tree d) → unused tree answer ≡ Ok z → Operated c tree z
 unused_operated tree c answer z h q =
-    let d = came answer (λ d. valued_from tree d.0 d.1) z q in
+    let d = came answer q in
     let l = (h d.value d.is).line in
     record { comes = unused_comes tree c answer z l (λ x k. (h x k).sits) q; line = l }
 

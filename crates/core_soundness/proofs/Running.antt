@@ -8,7 +8,7 @@ use Rattle.c_decls.specs.Named.{PlainNamed}
 use Rattle.c_decls.specs.ScopeList.{ScopeList, Table, entered as scope_entered}
 use Rattle.c_decls.specs.ScopeList as scopes
 use Rattle.elaboration.specs.Context.{Context, emit, anew, entered, left}
-use Rattle.elaboration.specs.Conversions.{Found, code_line, valued_from, valued, unused}
+use Rattle.elaboration.specs.Conversions.{Found, code_line, valued, unused}
 use Rattle.elaboration.specs.Reallocates.{reallocates, opened, closed}
 use Rattle.elaboration.specs.Expressions.{found}
 use Rattle.core_soundness.specs.Worlds.{World, world, InnerFits, TableFits, TablesFit, NamesFit}
@@ -145,7 +145,7 @@ pub record Evaluates (c : Context) (e : Tree) (z : Context × Found) : Type 0 wh
 
 pub evaluates_unused : (e : Tree) (type : PlainType) (c : Context) (z : Context × Found) → Spoken c.scopes e → NamesFit (world c) c.scopes → unused e (found e type (opened e c)) ≡ Ok z → Evaluates c e z
 evaluates_unused e type c z s h q =
-    let d = came (found e type (opened e c)) (λ d. valued_from e d.0 d.1) z q in
+    let d = came (found e type (opened e c)) q in
     let o = opened_rests e type c d.value s h d.is in
     record { begun = o.goes; comes = unused_comes e (opened e c) (found e type (opened e c)) z o.rests.line (λ x k. (opened_rests e type c x s h k).rests.sits) q; line = o.rests.line }
 

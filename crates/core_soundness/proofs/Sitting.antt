@@ -25,11 +25,11 @@ use Rattle.c_decls.specs.Expressions as types
 use Rattle.c_decls.specs.Expressions.{line_of, int_constant, char_constant, joined, literal, typed, typename}
 use Rattle.elaboration.specs.Addressed.{plain_name}
 use Rattle.elaboration.specs.Context.{Context, With, asked, told, new_label}
-use Rattle.elaboration.specs.Conversions.{Found, Value, Unknown, found_as, valued_as, atom_in, code_line, valued_from, valued, unused}
+use Rattle.elaboration.specs.Conversions.{Found, valued_as, atom_in, valued, unused}
 use Rattle.elaboration.specs.Calls.{Argument, first_type, rest_types, argument_from}
-use Rattle.elaboration.specs.Rules.{constant_found, indexed, dotted, pointed, applied, ahead, ahead_of, typed_value, left_operand, between, cast_to, with_value, and_then, and_ends, and_ended, or_else, or_ends, or_ended, choose, choice_ahead, choice_type, type_ahead, choose_first, chosen, choose_last, choice_found}
-use Rattle.elaboration.specs.Assignments.{record_assigned, scalar_assigned, old_value, changed_by, stepped}
-use Rattle.elaboration.specs.Expressions.{unevaluated, address_answer, changing, comma_answer, callee_name, callee, parameters, format_argument, is_printf, call_answer, found, arguments, cast_operand}
+use Rattle.elaboration.specs.Rules.{constant_found, ahead, ahead_of, typed_value, left_operand, and_then, or_else, choose, choice_ahead, choice_type, type_ahead, choose_first}
+use Rattle.elaboration.specs.Assignments.{record_assigned, scalar_assigned, old_value}
+use Rattle.elaboration.specs.Expressions.{unevaluated, changing, comma_answer, callee_name, callee, parameters, format_argument, is_printf, found, arguments, cast_operand}
 use Rattle.core_soundness.specs.Worlds.{World, world, HeldAs, Held, StandsAs, Stands, NamesFit}
 use Rattle.core_soundness.specs.Spoken.{NoRegister, TakesAddress, Spoken, AllSpoken}
 use Rattle.core_soundness.proofs.Grown.{good, ok_same, never}
@@ -140,8 +140,7 @@ HasParams NoFunction params = Unit {0}
 
 no_arguments : (c : Context) (target : Callee) (params : PlainTypes) → Held_all c target params (c, [])
 no_arguments c Prints params = record { goes = goes_refl c; held = tt }
-no_arguments c (Takes answer takes) params = record { goes = goes_refl c; held = tt }
-no_arguments c NoFunction params = record { goes = goes_refl c; held = tt }
+no_arguments c other params = record { goes = goes_refl c; held = tt }
 
 record OneArgument (c : Context) (target : Callee) (d : Context × Found) : Type 0 where
   goes : Goes c d.0
@@ -275,9 +274,9 @@ mutual
   found_rests (Node f.SizeofType (At line ▹ name ▹ none)) wish c z s h q =
       rests c (Node f.SizeofType (At line ▹ name ▹ none)) z line refl s.1.0 (unevaluated_lands (Node f.SizeofType (At line ▹ name ▹ none)) c z (λ t k. type_size line name (asked c) t k) q)
   found_rests (Node f.Cast (At line ▹ name ▹ e ▹ none)) wish c z s h q =
-      let t = came (typename name (asked c)) (λ t. then (cast_operand t.1 e (found e t.1 (told t.0 c))) (λ d. cast_to line t.1 c.code d.0 d.1)) z q in
+      let t = came (typename name (asked c)) q in
       let begun = told t.value.0 c in
-      let d = came (cast_operand t.value.1 e (found e t.value.1 begun)) (λ d. cast_to line t.value.1 c.code d.0 d.1) z t.last in
+      let d = came (cast_operand t.value.1 e (found e t.value.1 begun)) t.last in
       let g : Goes c begun = goes_told t.value.0 c (typename_after name (asked c) t.value t.is) in
       let next = ready_on c begun e g h s.1.1.1.0 in
       let one = unused_operated e begun (found e t.value.1 begun) d.value (λ x k. found_rests e t.value.1 begun x next.spoken next.names k) (cast_unused t.value.1 e (found e t.value.1 begun) d.value d.is) in
@@ -369,8 +368,8 @@ mutual
       (held_grew (world old.0) (world r.value.0) d.value.1.typed.type old.1 two.comes.goes.grew o.held) two.comes.value.held r.last in
       rests c (Node (f.Assign op) (At line ▹ e ▹ g ▹ none)) z line refl s.1.0 (landed c r.value z gr last)
   found_rests (Node f.Comma (At line ▹ e ▹ g ▹ none)) wish c z s h q =
-      let d = came (unused e (found e Void c)) (λ d. then (unused g (found g Void d.0)) (λ r. good (comma_answer r))) z q in
-      let r = came (unused g (found g Void d.value.0)) (λ r. good (comma_answer r)) z d.last in
+      let d = came (unused e (found e Void c)) q in
+      let r = came (unused g (found g Void d.value.0)) d.last in
       let one = unused_operated e c (found e Void c) d.value (λ x k. found_rests e Void c x s.1.1.0 h k) d.is in
       let next = ready_on c d.value.0 g one.comes.goes h s.1.1.1.0 in
       let two = unused_operated g d.value.0 (found g Void d.value.0) r.value (λ x k. found_rests g Void d.value.0 x next.spoken next.names k) r.is in

@@ -26,8 +26,7 @@ use Rattle.core_tree.specs.declared.statements.Atom.{Atom}
 use Rattle.core_soundness.specs.Whole.{Whole, AreMade, TableWhole, NamesWhole}
 use Rattle.core_soundness.specs.Solid.{MemsLaid, VariablesLaid, WalkedLaid, Solid}
 use Rattle.core_soundness.proofs.Growth.{Grows, Kept, grows_refl}
-use Rattle.core_soundness.proofs.Working.{grown_unused, grows_convert, grows_write}
-use Rattle.core_soundness.proofs.ExprGrows.{found_grows}
+use Rattle.core_soundness.proofs.Working.{found_grows, grown_unused, grows_convert, grows_write}
 use Rattle.core_soundness.proofs.Quiet.{quiet_convert, quiet_write}
 use Rattle.core_soundness.proofs.Agreeing.{unused_agrees}
 use Rattle.core_soundness.proofs.Agreement.{found_agrees}

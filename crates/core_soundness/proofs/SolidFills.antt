@@ -22,7 +22,7 @@ use Rattle.c_decls.specs.ScopeList.{named_in, innermost, tag_name, after_declara
 use Rattle.c_decls.specs.Refusals.{Checked, refused, then, unless}
 use Rattle.c_decls.specs.Typed.{is_function, has_no_size}
 use Rattle.c_decls.specs.TypeNames.{Layer, ArrayOf, layered_before, tag_named}
-use Rattle.c_decls.specs.PlaceRules.{unconverted, converts}
+use Rattle.c_decls.specs.PlaceRules.{unconverted}
 use Rattle.c_decls.specs.Expressions.{line_of, string}
 use Rattle.elaboration.specs.Context.{Context, Variable, asked, emit}
 use Rattle.elaboration.specs.Conversions.{Found, Spot, Local, Memory, atom_in, valued, convert, write, size_or_zero}
@@ -31,12 +31,12 @@ use Rattle.elaboration.specs.Rules.{with_static, with_literal}
 use Rattle.elaboration.specs.Expressions.{found}
 use Rattle.elaboration.specs.Locals.{is_twice, declared_as, next_is_memory, with_memory, with_register, local_in, counted_local, with_local}
 use Rattle.elaboration.specs.Declarators.{layers}
-use Rattle.elaboration.specs.Initializers.{Target, InRegister, InMemory, InStatic, static_scalar, member_place, store_at, fill_scalar, scalar, copy_to, fill_record, is_same_place, whole, copy_text, fill_text, is_character, text, by_text, by_expression, parts_of, takes_braces, is_scalar_type, surplus, all_surplus, initialize, initialize_parts, with_bytes, no_start, text_length, given_length, with_init_layers, not_whole}
+use Rattle.elaboration.specs.Initializers.{Target, InRegister, InMemory, InStatic, static_scalar, member_place, store_at, fill_scalar, scalar, copy_to, fill_record, is_same_place, whole, fill_text, is_character, text, by_text, by_expression, parts_of, takes_braces, is_scalar_type, surplus, all_surplus, initialize, initialize_parts, no_start, text_length, given_length, with_init_layers, not_whole}
 use Rattle.elaboration.specs.Declarations as storages
 use Rattle.elaboration.specs.Declarations.{Storage, Typedef, Outside, storage_of, specs_alone, specs_before, zero_of, cleared, fill_memory, fill_register, fill_at, fill_local, local_object, local_name, function_number, with_function, declared_function, no_initializer, variable_number_of, with_new_variable, with_variable, start_of, start_in, started_variable, started, fill_variable, file_object, file_function, file_value, file_name, name_in, entry, entries, declaration}
 use Rattle.core_soundness.specs.Whole.{Whole}
 use Rattle.core_soundness.specs.Written.{HasParts, Written, AllWritten}
-use Rattle.core_soundness.proofs.Growth.{grows_refl}
+use Rattle.core_soundness.proofs.Growth.{grows_refl, Longer}
 use Rattle.core_soundness.proofs.Calling.{grown_literal}
 use Rattle.core_soundness.proofs.Quiet.{quiet_literal}
 use Rattle.core_soundness.proofs.Reached.{Led, led_ok, led_refused, led_after, led_unless, led_barred}
@@ -52,7 +52,6 @@ use Rattle.core_soundness.proofs.Solid as base
 use Rattle.core_soundness.specs.Solid.{VariablesLaid, Solid}
 use Rattle.core_soundness.proofs.Solid.{variables_push, K, same_kept, same_rises, converted_rises, laid, fit_of}
 use Rattle.c_types.proofs.MemberLemmas.{Extends}
-use Rattle.core_soundness.proofs.Growth.{Longer}
 use Rattle.core_soundness.proofs.Operating.{passed}
 use Rattle.core_soundness.proofs.TypedNames.{tag_leads}
 use Rattle.core_soundness.proofs.TagSorts.{SortedType, type_longer, innermost_sorted}
@@ -153,10 +152,10 @@ fill_record_rises e line type offset c d other r f t m = led_refused (R1 c)
 
 whole_rises : (e : Tree) (line : ℕ) (type : PlainType) (offset : ℕ) (target : Target) (c : Context) → Solid c → Written e → Whole (K c) type → IsNumber (pos offset) → Led (R1 c) (whole e line type offset target c)
 whole_rises e line type offset target c h w t m =
-    led_after (R1 c) (found e type (opened e c)) (λ d. unless (not (is_same_place type d.1.typed)) (not_whole d.1.typed) line (fill_record e line type offset d target))
+    led_after (R1 c) (found e type (opened e c))
     (λ d q. let o = opened_rises e c h in
     let g = found_went e type (opened e c) d o.solid w (whole_stays type (K c) (K (opened e c)) o.more t) q in
-    led_unless (R1 c) (not (is_same_place type d.1.typed)) (not_whole d.1.typed) line (fill_record e line type offset d target)
+    led_unless (R1 c) (not (is_same_place type d.1.typed)) (not_whole d.1.typed) line
     (λ x. fill_record_rises e line type offset c d target (rises_trans c (opened e c) d.0 o (went_rises (opened e c) d g)) (λ k. (g.fits (o.code k)).1) t m))
 
 least : (a b bound : ℕ) → b ≤ bound → min a b ≤ bound
@@ -446,7 +445,7 @@ given_some k line element (Node (f.InitList trailing) (At at ▹ Node f.Inits in
 given_some k line element inits w = tt
 
 pub init_layers_whole : (tags : TagTable) (ls : List Layer) (inits : Trees) (type : PlainType) → AllWritten inits → Whole (known tags.completed) type → LayersWhole (known tags.completed) ls → Led (Whole (known tags.completed)) (with_init_layers tags ls inits type)
-init_layers_whole tags [] inits type w h g = led_ok (Whole (known tags.completed)) type h
+init_layers_whole tags [] inits type w h g = led_ok (Whole (known tags.completed)) h
 init_layers_whole tags (ArrayOf line None ∷ []) inits type w h g = layered_whole tags.completed tags (ArrayOf line (given_length type inits)) type refl h (given_some (known tags.completed) line type inits w)
 init_layers_whole tags (ArrayOf line None ∷ (next ∷ ls)) inits type w h g =
     led_after (Whole (known tags.completed)) (layered_before tags (ArrayOf line None) (next ∷ ls) type)

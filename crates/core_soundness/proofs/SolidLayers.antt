@@ -158,12 +158,7 @@ param_sized k other a b e = cc
 
 adjusted_flat : (type : PlainType) → is_array (adjusted type) ≡ false
 adjusted_flat Void = refl
-adjusted_flat (Int ty) = refl
-adjusted_flat (Pointer target) = refl
-adjusted_flat (Array element m) = refl
-adjusted_flat (Struct tag) = refl
-adjusted_flat (Union tag) = refl
-adjusted_flat (Function answer ps) = refl
+adjusted_flat other = refl
 
 -- a parameter is no struct, union or array
 param_sorted : (type : PlainType) (made : List TagInfo) → is_record type || is_function type ≡ false → is_array type ≡ false → SortedType made type

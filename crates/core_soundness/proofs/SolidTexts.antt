@@ -33,7 +33,7 @@ use Rattle.c_decls.specs.Typed.{Operand, Number, operand, is_void, is_scalar, is
 use Rattle.c_decls.specs.TypeNames.{with_layers}
 use Rattle.c_decls.specs.PlaceRules.{unconverted}
 use Rattle.c_decls.specs.Expressions.{line_of}
-use Rattle.elaboration.specs.Context.{Here, Context, Variable, Walked, scoped, entered, left, emit, here, new_label, with_labels, with_pieces, first_context, Declared}
+use Rattle.elaboration.specs.Context.{Here, Context, Variable, Walked, scoped, entered, emit, here, new_label, with_labels, with_pieces, first_context, Declared}
 use Rattle.elaboration.specs.Conversions.{Found, atom_in, valued, convert, convert_integer, tested_value, code_line, unused}
 use Rattle.elaboration.specs.Reallocates.{opened, closed}
 use Rattle.elaboration.specs.Expressions.{found}
@@ -100,8 +100,8 @@ leave_rises line delays (Some exit) c h =
 
 evaluated_rises : (e : Tree) (c : Context) → Solid c → Written e → Led (Rises c) (evaluated e c)
 evaluated_rises e c h w =
-    led_after (Rises c) (unused e (found e Void (opened e c))) (λ d. Ok (closed e d.0))
-    (λ d q. let r = full_unused e Void c d h w tt q in led_ok (Rises c) (closed e d.0) (rises_trans c d.0 _ r.rises (closed_rises e d.0 r.rises.solid)))
+    led_after (Rises c) (unused e (found e Void (opened e c)))
+    (λ d q. let r = full_unused e Void c d h w tt q in led_ok (Rises c) (rises_trans c d.0 _ r.rises (closed_rises e d.0 r.rises.solid)))
 
 maybe_evaluated_rises : (es : Trees) (c : Context) → Solid c → AllWritten es → Led (Rises c) (maybe_evaluated es c)
 unfolding AllWritten

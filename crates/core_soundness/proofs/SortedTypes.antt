@@ -44,7 +44,6 @@ tag_sorted line sort name c (Some other) h = led_refused ST
 
 enum_sorted : (line : ℕ) (c : Context) (named : Option PlainNamed) → Led ST (enum_named line c named)
 enum_sorted line c (Some (n.Tag (Int ty))) = led_ok ST tt
-enum_sorted line c (Some (n.Tag type)) = led_refused ST
 enum_sorted line c named = led_refused ST
 
 type_sorted : (line : ℕ) (c : Context) (named : Option PlainNamed) → ((type : PlainType) → named ≡ Some (n.Typedef type) → SortedType c.tags.made type) → Led ST (type_named line c named)
@@ -84,7 +83,7 @@ module _ (made : List TagInfo) where
       led_after (SortedType made) (layered_before tags layer layers type) (λ inner q. with_layers_sorted tags layers inner (before_sorted tags layer layers type h inner q))
 
   pub init_layers_sorted : (tags : TagTable) (ls : List Layer) (inits : Trees) (type : PlainType) → SortedType made type → Led (SortedType made) (with_init_layers tags ls inits type)
-  init_layers_sorted tags [] inits type h = led_ok (SortedType made) type h
+  init_layers_sorted tags [] inits type h = led_ok (SortedType made) h
   init_layers_sorted tags (ArrayOf line None ∷ []) inits type h = layered_sorted tags (ArrayOf line (given_length type inits)) type h
   init_layers_sorted tags (ArrayOf line None ∷ (next ∷ ls)) inits type h =
       led_after (SortedType made) (layered_before tags (ArrayOf line None) (next ∷ ls) type) (λ inner q. init_layers_sorted tags (next ∷ ls) inits inner (before_sorted tags (ArrayOf line None) (next ∷ ls) type h inner q))

@@ -108,29 +108,18 @@ reads_place line at tags (types.Array element length) (Memory a) c typed l h e =
 reads_place line at tags (types.Struct tag) spot c typed l h e = no_record _ (has_no_size tags (types.Struct tag)) _ _ typed e
 reads_place line at tags (types.Union tag) spot c typed l h e = no_record _ (has_no_size tags (types.Union tag)) _ _ typed e
 reads_place line at tags (types.Function answer params) spot c typed l h e = never _ _ typed e
-reads_place line at tags other (Value a) c typed l h e = absurd h
-reads_place line at tags other Empty c typed l h e = absurd h
+reads_place line at tags other rest c typed l h e = absurd h
 
 -- a value is read as it is
 value_read : (line : ℕ) (type : PlainType) (a : Atom) (c : Context) → read_spot line type (Value a) c ≡ (c, a)
 unfolding read_spot
 value_read line types.Void a c = refl
-value_read line (types.Int ty) a c = refl
-value_read line (types.Pointer target) a c = refl
-value_read line (types.Array element length) a c = refl
-value_read line (types.Struct tag) a c = refl
-value_read line (types.Union tag) a c = refl
-value_read line (types.Function answer params) a c = refl
+value_read line other a c = refl
 
 empty_read : (line : ℕ) (type : PlainType) (c : Context) → read_spot line type Empty c ≡ (c, atom.Null)
 unfolding read_spot
 empty_read line types.Void c = refl
-empty_read line (types.Int ty) c = refl
-empty_read line (types.Pointer target) c = refl
-empty_read line (types.Array element length) c = refl
-empty_read line (types.Struct tag) c = refl
-empty_read line (types.Union tag) c = refl
-empty_read line (types.Function answer params) c = refl
+empty_read line other c = refl
 
 reads_value : (line : ℕ) (type : PlainType) (spot : Spot) (c : Context) → StandsAs (world c) false type spot → Brings c type (read_spot line type spot c)
 reads_value line type (Value a) c h = subst (Brings c type) (sym (value_read line type a c)) (record { goes = goes_refl c; held = h })
@@ -150,7 +139,7 @@ valued_from_comes tree c e z l h q =
 
 pub unused_comes : (tree : Tree) (c : Context) (answer : With Found) (z : Context × Found) → 1 ≤ code_line tree → ((d : Context × Found) → answer ≡ Ok d → Sits c d) → unused tree answer ≡ Ok z → Comes c z
 unused_comes tree c answer z l h q =
-    let d = came answer (λ d. valued_from tree d.0 d.1) z q in
+    let d = came answer q in
     let one = h d.value d.is in
     let two = valued_from_comes tree d.value.0 d.value.1 z l one.stands d.last in
     record { goes = goes_trans c d.value.0 z.0 one.goes two.goes; value = two.value }
@@ -163,10 +152,7 @@ old_brings line e spot c l s h = by e.type s h
     by types.Void s h = cc
     by (types.Int ty) s h = (reads_place line 0 c.tags (types.Int ty) spot c _ l h refl).0
     by (types.Pointer target) s h = (reads_place line 0 c.tags (types.Pointer target) spot c _ l h refl).0
-    by (types.Array element length) s h = cc
-    by (types.Struct tag) s h = cc
-    by (types.Union tag) s h = cc
-    by (types.Function answer params) s h = cc
+    by other s h = cc
 
 -- conversions
 

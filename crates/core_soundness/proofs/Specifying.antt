@@ -4,7 +4,6 @@ use Rattle.c_types.specs.declared.types.IntType.TheVariants as i
 use Rattle.c_types.specs.Types.{PlainType, Int}
 use Rattle.core_tree.specs.declared.statements.Atom.TheVariants as atom
 use Rattle.c_tree.specs.declared.operator.RecordSort.{RecordSort}
-use Rattle.c_tree.specs.declared.operator.RecordSort.TheVariants as r
 use Rattle.c_tree.specs.Tree.{Tree, Trees}
 use Rattle.c_decls.specs.declared.refusal.TypeKind.TheVariants.{DeclaredTwice}
 use Rattle.c_decls.specs.Named as n

@@ -14,8 +14,8 @@ use Rattle.c_tree.specs.Scopes.{is_scope, places}
 use Rattle.c_decls.specs.ScopeList.{ScopeList, found}
 use Rattle.elaboration.specs.Context.{Context}
 use Rattle.elaboration.specs.Conversions as conversions
-use Rattle.elaboration.specs.Conversions.{valued, valued_from, tested_value, unused}
-use Rattle.elaboration.specs.Reallocates.{opened, closed}
+use Rattle.elaboration.specs.Conversions.{valued, unused}
+use Rattle.elaboration.specs.Reallocates.{opened}
 use Rattle.elaboration.specs.Addressed.{Taken, Known, number_of, plain_name, with_number, with_address, left, left_part, taken, all_taken}
 use Rattle.elaboration.specs.Expressions as expressions
 use Rattle.elaboration.specs.Statements.{evaluated, maybe_evaluated, condition, leaves_if_zero, maybe_leaves, return_of, return_from, switch_operand}
@@ -91,14 +91,14 @@ calm_spoken e t c h i w x = still_spoken e c.scopes t c.running.addressed h.1 i 
 
 pub unused_calm : (e : Tree) (wish : PlainType) (c : Context) (d : Context × conversions.Found) → Formed e → unused e (expressions.found e wish c) ≡ Ok d → Calm e
 unused_calm e wish c d g q =
-    let x = came (expressions.found e wish c) (λ x. valued_from e x.0 x.1) d q in found_calm e wish c x.value g x.is
+    let x = came (expressions.found e wish c) q in found_calm e wish c x.value g x.is
 
 pub valued_calm : (e : Tree) (wish : PlainType) (c : Context) (d : Context × conversions.Found) → Formed e → valued e (expressions.found e wish c) ≡ Ok d → Calm e
 valued_calm e wish c d g q = unused_calm e wish c d g (valued_unused e (expressions.found e wish c) d q)
 
 pub evaluated_calm : (e : Tree) (c z : Context) → Formed e → evaluated e c ≡ Ok z → Calm e
 evaluated_calm e c z g q =
-    let d = came (unused e (expressions.found e Void (opened e c))) (λ d. good (closed e d.0)) z q in unused_calm e Void (opened e c) d.value g d.is
+    let d = came (unused e (expressions.found e Void (opened e c))) q in unused_calm e Void (opened e c) d.value g d.is
 
 pub condition_calm : (e : Tree) (c : Context) (z : Context × Atom) → Formed e → condition e c ≡ Ok z → Calm e
 condition_calm e c z g q =

@@ -51,7 +51,7 @@ use Rattle.core_soundness.proofs.DeclaredSteps.{declaration_spoken, declaration_
 
 evaluated_runs : (e : Tree) (c z : Context) → Spoken c.scopes e → NamesFit (world c) c.scopes → evaluated e c ≡ Ok z → Goes c z
 evaluated_runs e c z p h q =
-    let d = came (unused e (found e Void (opened e c))) (λ d. good (closed e d.0)) z q in
+    let d = came (unused e (found e Void (opened e c))) q in
     let v = evaluates_unused e Void c d.value p h d.is in
     subst (Goes c) (ok_same (closed e d.value.0) z d.last) (goes_trans c d.value.0 _ (evaluated_goes c e d.value v) (closed_goes e d.value.0 v.line))
 
@@ -130,8 +130,7 @@ never_neither type e u o = by (operand type) o u
   where
     by : (s : Operand) → s ≡ Neither → Rattle.c_decls.specs.PlaceRules.unconverted_types e s (operand e.type) ≡ None → ⊥
     by (Number ty) k u = cc
-    by (PointerTo target) k u = cc
-    by Neither k u = cc
+    by other k u = cc
 
 return_of_runs : (answer : Option Sort) (line delays : ℕ) (e : Tree) (type : PlainType) (c z : Context) → 1 ≤ line → Spoken c.scopes e → Fine c → result_sort type ≡ answer → return_of line delays e type c ≡ Ok z → Runs answer c z
 return_of_runs answer line delays e type c z l p g s q =

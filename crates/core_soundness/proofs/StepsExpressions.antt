@@ -24,8 +24,7 @@ use Rattle.core_soundness.proofs.Grown.{good, ok_same}
 use Rattle.core_soundness.proofs.Growth.{Grows, grows_refl}
 use Rattle.core_soundness.proofs.Agreeing.{came}
 use Rattle.core_soundness.proofs.Operating.{behind_test, unbarred}
-use Rattle.core_soundness.proofs.Working.{grown_valued, grows_convert}
-use Rattle.core_soundness.proofs.ExprGrows.{found_grows}
+use Rattle.core_soundness.proofs.Working.{found_grows, grown_valued, grows_convert}
 use Rattle.core_soundness.proofs.Formed.{Shaped, Formed, AllFormed}
 use Rattle.core_soundness.proofs.InStep.{Keeps, InStep}
 use Rattle.core_soundness.proofs.Still.{Calm, calm_same}

@@ -8,9 +8,9 @@ use Rattle.c_tree.specs.Forms as f
 use Rattle.c_tree.specs.Places as p
 use Rattle.c_tree.specs.Tree.{Tree, Trees, At, Node, none, ◌▹◌, count}
 use Rattle.c_tree.specs.Grammar.{shape}
-use Rattle.c_decls.specs.declared.refusal.TypeKind.TheVariants.{Assignment, NotConstant}
-use Rattle.c_decls.specs.Refusals.{refused, then, unless}
-use Rattle.c_decls.specs.PlaceRules.{converts, unconverted}
+use Rattle.c_decls.specs.declared.refusal.TypeKind.TheVariants.{Assignment}
+use Rattle.c_decls.specs.Refusals.{refused, then}
+use Rattle.c_decls.specs.PlaceRules.{unconverted}
 use Rattle.c_decls.specs.Expressions.{line_of, string}
 use Rattle.elaboration.specs.Context.{Context, emit}
 use Rattle.elaboration.specs.Conversions.{Found, Spot, Local, Memory, atom_in, valued, convert, write, size_or_zero}
@@ -18,7 +18,7 @@ use Rattle.elaboration.specs.Reallocates.{opened}
 use Rattle.elaboration.specs.Rules.{with_literal}
 use Rattle.elaboration.specs.Expressions.{found}
 use Rattle.elaboration.specs.Addressed.{Taken, taken}
-use Rattle.elaboration.specs.Initializers.{Target, InRegister, InMemory, InStatic, with_bytes, static_scalar, member_place, store_at, fill_scalar, scalar, copy_to, fill_record, is_same_place, whole, copy_text, fill_text, is_character, text, by_text, by_expression, parts_of, takes_braces, is_scalar_type, all_surplus, initialize, initialize_parts, not_whole}
+use Rattle.elaboration.specs.Initializers.{Target, InRegister, InMemory, InStatic, static_scalar, member_place, store_at, fill_scalar, scalar, copy_to, fill_record, is_same_place, whole, fill_text, is_character, text, by_text, by_expression, parts_of, takes_braces, is_scalar_type, all_surplus, initialize, initialize_parts, not_whole}
 use Rattle.elaboration.specs.Locals.{next_is_memory, local_in, with_local}
 use Rattle.elaboration.specs.Declarations.{zero_of, cleared, fill_memory, fill_register, fill_at, fill_local}
 use Rattle.core_soundness.specs.Spoken.{Spoken, AllSpoken}
@@ -27,9 +27,8 @@ use Rattle.core_soundness.proofs.Grown.{good, ok_same, never}
 use Rattle.core_soundness.proofs.Growth.{Grows, grows_refl, grows_pointer}
 use Rattle.core_soundness.proofs.Reached.{Reached, reached_ok, reached_refused, reached_after, reached_unless, reached_barred}
 use Rattle.core_soundness.proofs.Agreeing.{came}
-use Rattle.core_soundness.proofs.Working.{grown_valued, grows_convert, grows_write}
+use Rattle.core_soundness.proofs.Working.{found_grows, grown_valued, grows_convert, grows_write}
 use Rattle.core_soundness.proofs.Calling.{grown_literal}
-use Rattle.core_soundness.proofs.ExprGrows.{found_grows}
 use Rattle.core_soundness.proofs.Adding.{Inside}
 use Rattle.core_soundness.proofs.Formed.{Shaped, Formed, AllFormed}
 use Rattle.core_soundness.proofs.InStep.{Keeps, Follows}
@@ -94,8 +93,8 @@ fill_record_went e line type offset b d t x = reached_refused (Went e b)
 whole_went : (e : Tree) (line : ℕ) (type : PlainType) (offset : ℕ) (t : Target) (b : Context) → Formed e → Reached (Went e b) (whole e line type offset t b)
 whole_went e line type offset t b g =
     let begun = opened e b in
-    reached_after (Went e b) (found e type begun) (λ d. unless (not (is_same_place type d.1.typed)) (not_whole d.1.typed) line (fill_record e line type offset d t))
-    (λ d h. reached_unless (Went e b) (not (is_same_place type d.1.typed)) (not_whole d.1.typed) line (fill_record e line type offset d t)
+    reached_after (Went e b) (found e type begun)
+    (λ d h. reached_unless (Went e b) (not (is_same_place type d.1.typed)) (not_whole d.1.typed) line
     (fill_record_went e line type offset b d t (found_calm e type begun d g h, keeps_trans b begun d.0 (opened_keeps e b) (found_keeps e type begun d h))))
 
 text_is_calm : (e : Tree) (bytes : List ℕ) → Formed e → text e ≡ Some bytes → Calm e
@@ -124,7 +123,7 @@ by_text_went e line element size offset None t b is g = whole_went e line (Array
 by_text_went e line element size offset (Some bytes) t b is g = by (is_character element)
   where
     by : (k : Bool) → Reached (Went e b) (cond k (then (string line bytes) (λ literal. fill_text e line bytes size offset t b)) (whole e line (Array element size) offset t b))
-    by true z q = fill_text_went e line bytes size offset t b (text_is_calm e bytes g is) z (behind_string line bytes (fill_text e line bytes size offset t b) z q)
+    by true = λ z q. fill_text_went e line bytes size offset t b (text_is_calm e bytes g is) z (behind_string line bytes (fill_text e line bytes size offset t b) z q)
     by false = whole_went e line (Array element size) offset t b g
 
 by_expression_went : (e : Tree) (line : ℕ) (type : PlainType) (offset : ℕ) (t : Target) (b : Context) → Formed e → Reached (Went e b) (by_expression e line type offset t b)

@@ -16,13 +16,13 @@ use Rattle.c_decls.specs.Refusals.{Checked}
 use Rattle.c_decls.specs.Named as n
 use Rattle.c_decls.specs.Named.{PlainNamed}
 use Rattle.c_decls.specs.ScopeList as scopes
-use Rattle.c_decls.specs.ScopeList.{ScopeList, Table, found, with_name, tag_name, named_in, innermost}
-use Rattle.c_decls.specs.Typed.{PlainTyped, read, constant, is_function, is_void, wanted_value}
+use Rattle.c_decls.specs.ScopeList.{ScopeList, Table, found, with_name, tag_name}
+use Rattle.c_decls.specs.Typed.{PlainTyped, read, is_function, is_void, wanted_value}
 use Rattle.c_decls.specs.PlaceRules.{held_place, element, dot, arrow, stepped, size, cast, choice, assigned, changed, behind_comma}
 use Rattle.c_decls.specs.TypeRules.{address, unary, binary}
 use Rattle.c_decls.specs.Callees.{named, called, call, no_function}
-use Rattle.c_decls.specs.TypeNames.{Context, PointerTo, ArrayOf, FunctionOf, word_type, record_type, same_sort, tag_named, enum_named, type_named, special_type, specs_type, array_length, with_layers, with_param_layers, adjusted, with_param, declared_param, with_new_tag}
-use Rattle.c_decls.specs.Expressions.{line_of, Found, answered, wanted, changing, one, two, int_constant, char_constant, joined, string, first_literal, callee, in_new_scope, out_of_scope, typed, values, typename, layers, suffix_layers, suffix_layer, param_types, param_type, unused, cast_operand}
+use Rattle.c_decls.specs.TypeNames.{Context, record_type, same_sort, tag_named, enum_named, type_named, special_type, specs_type, array_length, with_layers, with_param_layers, adjusted, with_param, declared_param, with_new_tag}
+use Rattle.c_decls.specs.Expressions.{line_of, Found, answered, wanted, changing, one, two, joined, string, first_literal, callee, in_new_scope, typed, values, typename, layers, suffix_layers, suffix_layer, param_types, param_type, unused, cast_operand}
 use Rattle.core_soundness.proofs.Names.{More, MoreAll, more_refl, more_trans, with_tag_more}
 use Rattle.core_soundness.proofs.Growth.{Longer}
 use Rattle.core_soundness.proofs.Grown.{ok_same, never}
@@ -57,7 +57,7 @@ module _ (b : Context) where
 
   pub unused_leads : (tree : Tree) (x : Found) → Reached (Leads b) x → Reached (Leads b) (unused tree x)
   unused_leads tree x g =
-      reached_then (Leads b) (Leads b) x (λ e. answered e.0 (read (line_of tree) e.0.tags e.1)) g (λ d h. answered_leads d.0 (read (line_of tree) d.0.tags d.1) h)
+      reached_then (Leads b) (Leads b) g (λ d h. answered_leads d.0 (read (line_of tree) d.0.tags d.1) h)
 
   pub wanted_leads : (tree : Tree) (x : Found) → Reached (Leads b) x → Reached (Leads b) (wanted tree x)
   wanted_leads tree x g d q = unused_leads tree x g d (wanted_unused tree x d q)
@@ -104,7 +104,6 @@ tag_leads line sort name c (Some other) = reached_refused (Leads c)
 
 enum_leads : (line : ℕ) (c : Context) (named : Option PlainNamed) → Reached (Leads c) (enum_named line c named)
 enum_leads line c (Some (n.Tag (ct.Int ty))) d e = subst (λ (x : Context × PlainType). Leads c x.0) (ok_same _ d e) (leads_refl c)
-enum_leads line c (Some (n.Tag type)) d e = never (Leads c d.0) _ d e
 enum_leads line c named d e = never (Leads c d.0) _ d e
 
 type_leads : (line : ℕ) (c : Context) (named : Option PlainNamed) → Reached (Leads c) (type_named line c named)
@@ -215,7 +214,7 @@ mutual
   typed_leads (Node f.SizeofType (At line ▹ name ▹ none)) c =
       reached_then (Leads c) (Leads c) (typename_leads name c) (λ t h. answered_leads c t.0 (size line t.0.tags t.1) h)
   typed_leads (Node f.Cast (At line ▹ name ▹ e ▹ none)) c =
-      reached_then (Leads c) (Leads c) (typename name c) (λ t. one (cast_operand t.1 e (typed e t.0)) (λ tags d. cast line t.1 d)) (typename_leads name c)
+      reached_then (Leads c) (Leads c) (typename_leads name c)
       (λ t h. one_leads c (cast_operand t.1 e (typed e t.0)) (λ tags d. cast line t.1 d) (cast_leads c t.1 e (typed e t.0) (leads_trans_on c t.0 (typed e t.0) h (typed_leads e t.0))))
   typed_leads (Node (f.Binary op) (At line ▹ e ▹ g ▹ none)) c =
       two_leads c (wanted e (typed e c)) (λ d. wanted g (typed g d)) (binary line op) (wanted_leads c e (typed e c) (typed_leads e c))
@@ -232,7 +231,7 @@ mutual
   typed_leads (Node f.Comma (At line ▹ e ▹ g ▹ none)) c =
       two_leads c (unused e (typed e c)) (λ d. unused g (typed g d)) (λ tags x y. Ok (behind_comma y)) (unused_leads c e (typed e c) (typed_leads e c))
       (λ d h. unused_leads c g (typed g d) (leads_trans_on c d (typed g d) h (typed_leads g d)))
-  typed_leads tree c = reached_refused (Leads c) Operands (line_of tree)
+  typed_leads tree c = reached_refused (Leads c)
 
   values_leads : (arguments : Trees) (c : Context) → Reached (Leads c) (values arguments c)
   values_leads none c = reached_ok (Leads c) (leads_refl c)
@@ -306,5 +305,5 @@ special_after line tree c d e = (special_leads line tree c d e).more
 
 pub wanted_after : (b : Context) (tree : Tree) (x : Found) → Reached (After b) x → Reached (After b) (wanted tree x)
 wanted_after b tree x g =
-    reached_then (After b) (After b) x (λ e. answered e.0 (wanted_value (line_of tree) e.0.tags e.1)) g
-    (λ d h. reached_after (After b) (wanted_value (line_of tree) d.0.tags d.1) (λ e. Ok (d.0, e)) (λ e k. reached_ok (After b) (d.0, e) h))
+    reached_then (After b) (After b) g
+    (λ d h. reached_after (After b) (wanted_value (line_of tree) d.0.tags d.1) (λ e k. reached_ok (After b) h))

@@ -34,13 +34,13 @@ use Rattle.c_decls.specs.Named.{PlainNamed}
 use Rattle.c_decls.specs.ScopeList as scopes
 use Rattle.c_decls.specs.ScopeList.{ScopeList, Table, found, found_from, with_name, tag_name, named_in}
 use Rattle.c_decls.specs.BuiltIns.{built_ins, constant_of}
-use Rattle.c_decls.specs.Typed.{PlainTyped, Operand, Number, PointerTo, Neither, operand, place, value, int, constant, held, read, same, is_void, is_function, is_record, is_null_constant, has_no_size, has_no_value, wanted_value}
+use Rattle.c_decls.specs.Typed.{PlainTyped, Operand, Number, PointerTo, Neither, operand, place, value, int, held, read, same, is_void, is_function, is_record, is_null_constant, has_no_size, has_no_value, wanted_value}
 use Rattle.c_decls.specs.TypeRules.{immovable, moving, beside_pointer, sum_types, difference_types, order_types, equal_types, integer_types, logical, binary, unary_of, unary_on_pointer, unary, address}
 use Rattle.c_decls.specs.PlaceRules.{cast_types, cast, chosen_pointer, choice_types, choice, size_answer, size, element_types, element, member_answer, member_among, member_of, dot, arrow_of, arrow, record_assigned, scalar_assigned, assigned, changed_types, changed, stepped, held_place, behind_comma, all_convert, converts, unconverted, is_written}
 use Rattle.c_decls.specs.Callees.{Callee, Takes, Prints, NoFunction, built_in_callee, built_in_value, built_in_named, named, no_function, function_callee, built_in_called, callee_at, called, prints, call}
 use Rattle.c_decls.specs.TypeNames as names
-use Rattle.c_decls.specs.TypeNames.{Context, Layer, ArrayOf, FunctionOf, word_type, record_type, is_union, with_new_tag, same_sort, tag_named, enum_named, type_named, special_type, specs_type, length_from, array_length, array_of, layered, layered_before, with_layers, with_param_layers, adjusted, with_param, declared_param}
-use Rattle.c_decls.specs.Expressions.{line_of, Found, answered, wanted, changing, one, two, int_constant, char_constant, joined, string, first_literal, callee, in_new_scope, out_of_scope, typed, values, typename, layers, suffix_layers, suffix_layer, param_types, param_type, unused, cast_operand}
+use Rattle.c_decls.specs.TypeNames.{Context, Layer, ArrayOf, FunctionOf, word_type, record_type, with_new_tag, same_sort, tag_named, enum_named, type_named, special_type, specs_type, length_from, array_length, array_of, layered, layered_before, with_layers, with_param_layers, adjusted, with_param, declared_param}
+use Rattle.c_decls.specs.Expressions.{line_of, Found, answered, wanted, changing, one, two, joined, string, first_literal, callee, in_new_scope, out_of_scope, typed, values, typename, layers, suffix_layers, suffix_layer, param_types, param_type, unused, cast_operand}
 use Rattle.core_soundness.specs.Whole.{Whole, AllWhole, AreMade, NamedWhole, TableWhole, TablesWhole, NamesWhole}
 use Rattle.core_soundness.proofs.Names.{named_push}
 use Rattle.core_soundness.proofs.Reached.{Led, led_ok, led_refused, led_after, led_unless, led_barred}
@@ -185,7 +185,7 @@ module _ (ts : List CompletedTag) (made : AreMade nothing ts) where
   read_whole line tags e h = led_cond W e.is_place _ _ (held_whole line tags e.type h) (led_ok W h)
 
   held_place_whole : (line : ℕ) (tags : TagTable) (e : PlainTyped) → W e → Led W (held_place line tags e)
-  held_place_whole line tags e h = led_after W (wanted_value line tags e) (λ x. Ok e) (λ x q. led_ok W e h)
+  held_place_whole line tags e h = led_after W (wanted_value line tags e) (λ x q. led_ok W h)
 
   value_of_whole : (line : ℕ) (name : BuiltIn) (o : Option Constant) → Led W (built_in_value line name o)
   value_of_whole line built.Null o = led_ok W tt
@@ -350,10 +350,10 @@ module _ (ts : List CompletedTag) (made : AreMade nothing ts) where
       let r4 : Checked PlainTyped = unless (not (same target.type e.type)) Assignment line (Ok (value target.type)) in
       let r3 : Checked PlainTyped = unless (has_no_size tags target.type) Incomplete line r4 in
       let r2 : Checked PlainTyped = unless (not target.is_place) NotLvalue line r3 in
-      led_unless W (has_no_value e) Operands line r2
-      (λ t1. led_unless W (not target.is_place) NotLvalue line r3
-      (λ t2. led_unless W (has_no_size tags target.type) Incomplete line r4
-      (λ t3. led_unless W (not (same target.type e.type)) Assignment line (Ok (value target.type)) (λ t4. led_ok W (value target.type) h))))
+      led_unless W (has_no_value e) Operands line
+      (λ t1. led_unless W (not target.is_place) NotLvalue line
+      (λ t2. led_unless W (has_no_size tags target.type) Incomplete line
+      (λ t3. led_unless W (not (same target.type e.type)) Assignment line (λ t4. led_ok W h))))
 
   scalar_whole : (line : ℕ) (target e : PlainTyped) → W target → Led W (scalar_assigned line target e)
   scalar_whole line target e h =
@@ -365,7 +365,7 @@ module _ (ts : List CompletedTag) (made : AreMade nothing ts) where
   pub assigned_whole : (line right : ℕ) (tags : TagTable) (target e : PlainTyped) → W target → Led W (assigned line right tags target e)
   assigned_whole line right tags target e h =
       led_cond W (is_record target.type) _ _ (record_whole line tags target e h)
-      (led_after W (wanted_value right tags e) (scalar_assigned line target) (λ x q. scalar_whole line target x h))
+      (led_after W (wanted_value right tags e) (λ x q. scalar_whole line target x h))
 
   changed_types_whole : (line : ℕ) (op : AssignOp) (tags : TagTable) (type : PlainType) (s t : Operand) → Whole (known ts) type → Led W (changed_types line op tags type s t)
   changed_types_whole line op tags type (Number ty) (Number source) h = led_ok W h
@@ -398,7 +398,7 @@ module _ (ts : List CompletedTag) (made : AreMade nothing ts) where
   call_whole line o NoFunction arguments h = led_refused W
 
   no_function_whole : (line : ℕ) (tags : TagTable) (x : Checked PlainTyped) → Led CW (no_function line tags x)
-  no_function_whole line tags x = led_after CW x (λ e. then (wanted_value line tags e) (λ y. Ok NoFunction)) (λ e q. led_after CW (wanted_value line tags e) (λ y. Ok NoFunction) (λ y z. led_ok CW NoFunction tt))
+  no_function_whole line tags x = led_after CW x (λ e q. led_after CW (wanted_value line tags e) (λ y z. led_ok CW tt))
 
   function_whole : (type : PlainType) → Whole (known ts) type → CW (function_callee type)
   function_whole (Function answer params) h = h
@@ -470,7 +470,7 @@ module _ (ts : List CompletedTag) (made : AreMade nothing ts) where
   answered_good c x g h = led_after Good x (λ e q. led_ok Good (g, h e q))
 
   pub unused_good : (tree : Tree) (x : Found) → Led Good x → Led Good (unused tree x)
-  unused_good tree x h = led_after Good x (λ e. answered e.0 (read (line_of tree) e.0.tags e.1)) (λ d q. let k = h d q in answered_good d.0 _ k.0 (read_whole (line_of tree) d.0.tags d.1 k.1))
+  unused_good tree x h = led_after Good x (λ d q. let k = h d q in answered_good d.0 _ k.0 (read_whole (line_of tree) d.0.tags d.1 k.1))
 
   pub wanted_good : (tree : Tree) (x : Found) → Led Good x → Led Good (wanted tree x)
   wanted_good tree x h d q = unused_good tree x h d (wanted_unused tree x d q)
@@ -521,7 +521,6 @@ module _ (ts : List CompletedTag) (made : AreMade nothing ts) where
 
   enum_good : (line : ℕ) (c : Context) (o : Option PlainNamed) → Fit c → Led GoodType (enum_named line c o)
   enum_good line c (Some (n.Tag (Int ty))) g = led_ok GoodType (g, tt)
-  enum_good line c (Some (n.Tag type)) g = led_refused GoodType
   enum_good line c o g = led_refused GoodType
 
   type_good : (line : ℕ) (c : Context) (o : Option PlainNamed) → Fit c → NamedBy o → Led GoodType (type_named line c o)
@@ -604,7 +603,7 @@ module _ (ts : List CompletedTag) (made : AreMade nothing ts) where
     typed_good (Node f.SizeofType (At line ▹ name ▹ none)) c g =
         led_after Good (typename name c) (λ t q. answered_good t.0 (size line t.0.tags t.1) (typename_good name c g t q).0 (size_whole line (size_in t.0.tags t.1)))
     typed_good (Node f.Cast (At line ▹ name ▹ e ▹ none)) c g =
-        led_after Good (typename name c) (λ t. one (cast_operand t.1 e (typed e t.0)) (λ tags d. cast line t.1 d))
+        led_after Good (typename name c)
         (λ t q. let k = typename_good name c g t q in one_good (cast_operand t.1 e (typed e t.0)) (λ tags d. cast line t.1 d) (cast_good t.1 e (typed e t.0) (typed_good e t.0 k.0)) (λ d x z p. cast_whole line t.1 x k.1))
     typed_good (Node (f.Binary op) (At line ▹ e ▹ h ▹ none)) c g =
         two_good (wanted e (typed e c)) (λ d. wanted h (typed h d)) (binary line op) (wanted_good e (typed e c) (typed_good e c g)) (λ d k. wanted_good h (typed h d) (typed_good h d k))
@@ -621,8 +620,8 @@ module _ (ts : List CompletedTag) (made : AreMade nothing ts) where
         (λ d x y k p q. changed_whole line op d.tags x y p)
     typed_good (Node f.Comma (At line ▹ e ▹ h ▹ none)) c g =
         two_good (unused e (typed e c)) (λ d. unused h (typed h d)) (λ tags x y. Ok (behind_comma y)) (unused_good e (typed e c) (typed_good e c g)) (λ d k. unused_good h (typed h d) (typed_good h d k))
-        (λ d x y k p q. led_ok W (behind_comma y) q)
-    typed_good tree c g = led_refused Good Operands (line_of tree)
+        (λ d x y k p q. led_ok W q)
+    typed_good tree c g = led_refused Good
 
     values_good : (arguments : Trees) (c : Context) → Fit c → Led GoodValues (values arguments c)
     values_good none c g = led_ok GoodValues g

@@ -21,8 +21,7 @@ use Rattle.core_soundness.proofs.Fragments.{Way, way_on, IsWay, Leads, AreEarlie
 use Rattle.core_soundness.proofs.Names.{Safe, left_safe}
 use Rattle.core_soundness.proofs.Growth.{Grows, grows_refl, grows_trans}
 use Rattle.core_soundness.proofs.Reached.{Reached, reached_ok, reached_refused, reached_after, reached_unless, Led, led_ok, led_after, led_unless, led_barred}
-use Rattle.core_soundness.proofs.Working.{grown_valued, grows_convert, grows_convert_integer, grows_tested, grown_unused}
-use Rattle.core_soundness.proofs.ExprGrows.{found_grows}
+use Rattle.core_soundness.proofs.Working.{found_grows, grown_valued, grows_convert, grows_convert_integer, grows_tested, grown_unused}
 use Rattle.core_soundness.proofs.Owners.{tied_refl}
 use Rattle.core_soundness.proofs.Passing.{Stays, Passes, stays_trans, grows_passes, grows_closed, stays_beside}
 use Rattle.core_soundness.proofs.Declaring.{passes_refl, tail_depth}
@@ -158,8 +157,8 @@ grows_tested_value tree d = grows_tested (code_line tree) d.1.typed.type (atom_i
 pub evaluated_passes : (e : Tree) (c : Context) → Safe c.scopes → Led (Passes c) (evaluated e c)
 evaluated_passes e c s =
     let begun = opened e c in
-    led_after (Passes c) (unused e (found e Void begun)) (λ d. Ok (closed e d.0))
-    (λ d h. led_ok (Passes c) (closed e d.0) (grows_passes c (closed e d.0) s (grows_closed e c d.0 s (grown_unused e begun (found e Void begun) (found_grows e Void begun begun (grows_refl begun)) d h))))
+    led_after (Passes c) (unused e (found e Void begun))
+    (λ d h. led_ok (Passes c) (grows_passes c (closed e d.0) s (grows_closed e c d.0 s (grown_unused e begun (found e Void begun) (found_grows e Void begun begun (grows_refl begun)) d h))))
 
 pub maybe_evaluated_passes : (e : Trees) (c : Context) → Safe c.scopes → Led (Passes c) (maybe_evaluated e c)
 maybe_evaluated_passes none c s = led_ok (Passes c) (passes_refl c s)

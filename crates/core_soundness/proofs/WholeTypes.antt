@@ -105,16 +105,7 @@ AllSized k = (tag : ℕ) (l : Layout) → k tag ≡ Some l → 1 ≤ l.size
 
 width_some : (int : IntType) → 1 ≤ width_of int
 width_some i.Char = omega arith
-width_some i.SChar = omega arith
-width_some i.UChar = omega arith
-width_some i.Short = omega arith
-width_some i.UShort = omega arith
-width_some i.Int = omega arith
-width_some i.UInt = omega arith
-width_some i.Long = omega arith
-width_some i.ULong = omega arith
-width_some i.LongLong = omega arith
-width_some i.ULongLong = omega arith
+width_some other = omega arith
 
 product_some : (n m : ℕ) → 1 ≤ n → 1 ≤ m → 1 ≤ n * m
 product_some zero m h k = absurd (omega (arith, h))

@@ -1,8 +1,6 @@
 -- A function of the core by its parts.
-use Rattle.std.proofs.Common.{◌≡◌, ℕ, List, ◌++◌, length, replicate, map, ap, sym, ◌∙◌}
+use Rattle.std.proofs.Common.{◌≡◌, ℕ, List, ◌++◌, length, replicate, ap, sym, ◌∙◌}
 use Rattle.core_tree.specs.declared.program.Func.{Func}
-use Rattle.core_tree.specs.declared.program.Mem.{Mem}
-use Rattle.core_tree.specs.declared.program.Reg.{Reg}
 use Rattle.core_tree.specs.declared.statements.Stm.{Stm}
 use Rattle.elaboration.specs.Context.{Piece, Declared, Walked, Context}
 use Rattle.elaboration.specs.Resolving.{register_by, static_by, function_by, point_in, body_of, numbers_of, temporary, pointer_register, function_of}

@@ -1,7 +1,7 @@
 -- The code of an expression stands behind the code before it.
-use Rattle.std.proofs.Common.{◌≡◌, ℕ, Bool, true, false, List, [], ◌∷◌, Option, Some, None, Result, Ok, Err}
-use Rattle.std.specs.Prelude.{cond, ◌&&◌, ◌+◌, length, nat_lt}
-use Rattle.c_types.specs.Types.{PlainType, PlainTypes, Void, none as no_types, first}
+use Rattle.std.proofs.Common.{ℕ, Bool, true, false, List, Option, Some, None}
+use Rattle.std.specs.Prelude.{cond, ◌+◌, length, nat_lt}
+use Rattle.c_types.specs.Types.{PlainType, PlainTypes, Void}
 use Rattle.core_tree.specs.declared.statements.Atom.{Atom}
 use Rattle.c_tree.specs.declared.operator.UnaryOp.{UnaryOp}
 use Rattle.c_tree.specs.declared.operator.UnaryOp.TheVariants as u
@@ -11,14 +11,13 @@ use Rattle.c_tree.specs.declared.operator.AssignOp.{AssignOp}
 use Rattle.c_tree.specs.declared.operator.AssignOp.TheVariants as a
 use Rattle.c_tree.specs.declared.tree.ExprKind.{ExprKind, Row_of-Expr, end_of-Expr, more_of-Expr}
 use Rattle.c_tree.specs.declared.tree.ExprKind.TheVariants as e
-use Rattle.c_tree.specs.Tree.{Tree, Trees, Leaf, At, Node, none, ◌▹◌}
+use Rattle.c_tree.specs.Tree.{Tree, At, Node, none, ◌▹◌}
 use Rattle.c_tree.specs.View.{expr_tree, expr_trees, spec_trees, declarator_tree, literal_leaves}
 use Rattle.c_tree.specs.Forms as f
 use Rattle.hs_base.specs.Place.{block_size}
 use Rattle.c_decls.specs.declared.refusal.TypeKind.TheVariants.{StaticTooLarge}
-use Rattle.c_decls.specs.Named.{PlainNamed}
-use Rattle.c_decls.specs.Refusals.{Checked, then}
-use Rattle.c_decls.specs.Typed.{PlainTyped, Operand, Number, PointerTo, Neither, operand, is_record, is_void}
+use Rattle.c_decls.specs.Refusals.{Checked}
+use Rattle.c_decls.specs.Typed.{PlainTyped, Operand, Number, operand, is_record, is_void}
 use Rattle.c_decls.specs.Callees.{Callee, call, called, named, NoFunction}
 use Rattle.c_decls.specs.ScopeList.{found as declaration}
 use Rattle.c_decls.specs.TypeRules.{unary, address, binary}
@@ -26,12 +25,12 @@ use Rattle.c_decls.specs.PlaceRules.{cast, choice, dot, arrow, element, assigned
 use Rattle.c_decls.specs.TypeNames as names
 use Rattle.c_decls.specs.Expressions.{line_of, first_literal, joined, string, typed, typename}
 use Rattle.elaboration.specs.Context.{Piece, Code, Context, With, asked, told, new_label}
-use Rattle.elaboration.specs.Conversions.{Found, valued, valued_from, atom_in, tested, convert_to, convert, code_line, unused}
-use Rattle.elaboration.specs.Calls.{Argument, types_of, rest_types, first_type, argument_from}
-use Rattle.elaboration.specs.Operations.{operator_of, working, change}
+use Rattle.elaboration.specs.Conversions.{Found, valued, valued_from, atom_in, tested, convert, code_line, unused}
+use Rattle.elaboration.specs.Calls.{types_of, rest_types, first_type, argument_from}
+use Rattle.elaboration.specs.Operations.{operator_of, change}
 use Rattle.elaboration.specs.Rules.{with_literal, indexed, dotted, pointed, applied, apply, before_number, left_operand, between, cast_to, and_then, and_ended, or_else, or_ended, choose, choose_first, chosen, type_ahead}
 use Rattle.elaboration.specs.Assignments.{record_assigned, scalar_assigned, old_value, change_place, changed_by, changed_answer, one_found, stepped}
-use Rattle.elaboration.specs.Expressions.{name_answer, literal_answer, unevaluated, address_answer, changing, callee, parameters, format_argument, is_printf, call_answer, callee_name, found, arguments, cast_operand}
+use Rattle.elaboration.specs.Expressions.{unevaluated, changing, callee, parameters, format_argument, is_printf, callee_name, found, arguments, cast_operand}
 use Rattle.elab_rules.specs.Behind.{Behind, From}
 use Rattle.elab_rules.proofs.Growth.{one, Grown, then_grown, rule_grown, unless_grown, cond_from, read_from, convert_from, tested_from, write_from, before_from, combine_from, change_from, set_from, compare_from, chosen_from, call_from, argument_grown, valued_from_grown, valued_grown, unused_grown}
 

@@ -1,10 +1,9 @@
 -- Code grows: what a step of the walk adds stands behind what was there.
-use Rattle.std.proofs.Common.{◌≡◌, ℕ, ◌+◌, Bool, true, false, List, [], ◌∷◌, ◌++◌, Option, Some, None, Result, Ok, Err, refl, sym, ap, ◌∙◌, append_assoc, append-nil, length}
+use Rattle.std.proofs.Common.{◌≡◌, ℕ, Bool, true, false, List, [], ◌∷◌, ◌++◌, Option, Some, None, Ok, Err, sym, ap, ◌∙◌, append_assoc, append-nil, length}
 use Rattle.std.specs.Prelude.{cond, take}
 use Rattle.std.proofs.Math.Seq.{take-append_seam}
-use Rattle.hs_base.specs.declared.ends.IntKind.{IntKind}
 use Rattle.c_types.specs.declared.types.IntType.{IntType}
-use Rattle.c_types.specs.Types.{PlainType, PlainTypes, Void, Int, Pointer, Array, Struct, Union, Function, none, first, kind_of}
+use Rattle.c_types.specs.Types.{PlainType, PlainTypes, Int, Pointer, none, first, kind_of}
 use Rattle.core_tree.specs.declared.statements.Atom.{Atom}
 use Rattle.core_tree.specs.declared.statements.Atom.TheVariants as atom
 use Rattle.core_tree.specs.declared.statements.StmKind.{StmKind}
@@ -19,13 +18,13 @@ use Rattle.c_decls.specs.declared.refusal.TypeKind.{TypeKind}
 use Rattle.c_decls.specs.declared.refusal.TypeKind.TheVariants.{Operands}
 use Rattle.c_decls.specs.Named as n
 use Rattle.c_decls.specs.Named.{PlainNamed}
-use Rattle.c_decls.specs.Refusals.{Checked, refused, then, unless}
-use Rattle.c_decls.specs.Typed.{PlainTyped, Operand, Number, PointerTo, Neither, operand, read, has_no_value}
+use Rattle.c_decls.specs.Refusals.{Checked, then, unless}
+use Rattle.c_decls.specs.Typed.{PlainTyped, Operand, Number, PointerTo, operand, read, has_no_value}
 use Rattle.c_decls.specs.Expressions.{line_of}
 use Rattle.elab_base.specs.Marks.{mark_of, cut}
 use Rattle.elab_rules.specs.Behind.{Behind, From}
-use Rattle.elaboration.specs.Context.{Piece, Does, Here, Code, Context, With}
-use Rattle.elaboration.specs.Conversions.{Found, Spot, Local, Memory, Value, Empty, read_spot, valued_from, valued, convert_integer, convert_to, convert, tested, write, holds_all, unused, wanted_from}
+use Rattle.elaboration.specs.Context.{Piece, Code, Context, With}
+use Rattle.elaboration.specs.Conversions.{Found, Spot, Local, Memory, read_spot, valued_from, valued, convert_integer, convert_to, tested, write, holds_all, unused, wanted_from}
 use Rattle.elaboration.specs.Operations.{Working, Calculates, Shifts, Compares, Branches, work, before_integer, move_pointer, between_pointers, pointer_beside, beside_integer, combine, change, working}
 use Rattle.elaboration.specs.Calls.{Argument, result_by, call_built_in, call_of_built_in, call_named, argument_from, built_in_at}
 use Rattle.elaboration.specs.Rules.{set_again, compare_again, chosen_by}

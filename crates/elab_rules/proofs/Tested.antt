@@ -1,6 +1,6 @@
 -- A test takes no label.
 use Rattle.std.proofs.Common.{◌≡◌, ℕ, refl}
-use Rattle.c_types.specs.Types.{PlainType, Void, Int, Pointer, Array, Struct, Union, Function}
+use Rattle.c_types.specs.Types.{PlainType, Pointer}
 use Rattle.core_tree.specs.declared.statements.Atom.{Atom}
 use Rattle.elaboration.specs.Context.{Context}
 use Rattle.elaboration.specs.Conversions.{tested}

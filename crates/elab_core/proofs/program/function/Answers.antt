@@ -1,7 +1,7 @@
-use Rattle.std.proofs.Common.{◌≡◌, ℕ, List, ◌++◌, length, replicate, map, ap, sym, ◌∙◌, arith, append_assoc}
+use Rattle.std.proofs.Common.{◌≡◌, List, ◌++◌, length, replicate, map, ap, sym, ◌∙◌, arith, append_assoc}
 use Rattle.std.proofs.lemmas.Grind.{common_steps}
 use Rattle.core_tree.specs.declared.program.Reg.{Reg}
-use Rattle.elaboration.specs.Context.{Piece, Running, Code, Walked}
+use Rattle.elaboration.specs.Context.{Running, Code, Walked}
 use Rattle.elaboration.specs.Resolving.{temporary, pointer_register}
 use Rattle.elab_base.specs.PlainPieces.{plain_piece}
 use Rattle.elab_core.specs.NumbersBy.{IsPlaced}
