@@ -1,19 +1,21 @@
--- Every token that comes out is one, and so is every token of a macro.
-use Rattle.std.proofs.Common.{ℕ, zero, suc, ◌+◌, ◌-◌, ◌≤◌, ◌==◌, Bool, true, false, cond, nat_lt, ◌&&◌, not, bytes_eq, List, [], ◌∷◌, ◌++◌, length, map, take, drop, Option, Some, None, unwrap_or, Result, Ok, Err, All}
+-- Every token that comes out of a run is one, and there are no more than the work allows.
+use Rattle.std.proofs.Common.{◌≡◌, refl, arith, length-append, length-drop, ℕ, zero, suc, ◌+◌, ◌-◌, ◌≤◌, ◌==◌, Bool, true, false, cond, nat_lt, ◌&&◌, not, bytes_eq, List, [], ◌∷◌, ◌++◌, length, map, take, drop, Option, Some, None, unwrap_or, Result, Ok, Err, All}
 use Rattle.std.specs.Prelude.{slice_get}
-use Rattle.std.proofs.lemmas.List.Elements.{All-nil, All-cons, All-head, All-tail, All-append, All-push, All-map, All-weaker, All-take, All-drop}
+use Rattle.std.specs.List.{sum_by}
+use Rattle.std.proofs.lemmas.Bool.{ltb-false}
+use Rattle.std.proofs.lemmas.List.Elements.{All-nil, All-cons, All-head, All-tail, All-append, All-push, All-map, All-weaker, All-drop}
 use Rattle.c_lexer.specs.declared.token.Token.{Token}
 use Rattle.c_pre.specs.Formed.{IsFormed, IsFormedMacro}
 use Rattle.c_pre.specs.Directives.{is_name, is_sign, is_among}
 use Rattle.c_pre.specs.Macros.{found}
-use Rattle.c_pre.specs.Expansion.{fresh, put_on, macro_for, both, place_of, part_by, substituted, parameters_of, split_from, is_open, fits, most_work, Next, Goes, Ends, Stops, put_in, first_of, behind_first, begun, called, kept, at_macro, at_token, ended, argument_done, rest_done, step_by, step, goes_on, scanned, enough, scan_of, expanded}
+use Rattle.c_pre.specs.Expansion.{Arguments, Scanning, most_work, enough, fresh, put_on, macro_for, place_of, part_by, replaced, substituted, parameters_of, split_from, is_open, fits, kept, goes_on, arguments_scanned, object_hides, function_hides, applied, called, at_macro, at_token, scanned, expanded}
+use Rattle.c_pre.specs.After.{and_then}
+use Rattle.c_pre.proofs.Left.{Conserves, split_conserves, whole}
 use Rattle.c_pre.specs.declared.macros.Macro.{Macro}
 use Rattle.c_pre.specs.declared.marked.Marked.{Marked}
-use Rattle.c_pre.specs.declared.calls.Call.{Call}
 use Rattle.c_pre.specs.declared.calls.Split.{Split}
-use Rattle.c_pre.specs.declared.scan.Scan.{Scan}
 use Rattle.c_pre.specs.declared.scan.Expanded.{Expanded}
-use Rattle.c_pre.specs.declared.answer.PreKind.TheVariants.{Arguments, Work}
+use Rattle.c_pre.specs.declared.answer.PreKind.TheVariants.{Work}
 use Rattle.c_pre.specs.declared.answer.Refusal.{Refusal}
 use Rattle.c_pre.specs.declared.answer.Refusal.TheVariants.{Bad}
 
@@ -57,34 +59,6 @@ found_formed name [] h = tt
 found_formed name (m ∷ macros) h =
     pick_macro (bytes_eq m.name name) (Some m) (found name macros) (All-head N m macros h) (found_formed name macros (All-tail N m macros h))
 
--- the tokens of a call
-record FormedCall (call : Call) : Type 0 where
-  line : 1 ≤ call.line
-  expanded : All (All M) call.expanded
-  left : All (All M) call.left
-  done : All M call.done
-  rest : All M call.rest
-
-record FormedScan (s : Scan) : Type 0 where
-  done : All M s.done
-  rest : All M s.rest
-  calls : All FormedCall s.calls
-
-abbrev FormedNext : Next → Type 0
-FormedNext (Goes s) = FormedScan s
-FormedNext (Ends tokens work) = All M tokens
-FormedNext (Stops e) = Unit {0}
-
-put_in_by : (b : Bool) (line : ℕ) (tokens : List Marked) (s : Scan) → All M tokens → FormedScan s → FormedNext (cond b (Stops (Bad Work line)) (Goes (record s { rest = tokens ++ s.rest; work = s.work + 1 + length tokens })))
-put_in_by true line tokens s t h = tt
-put_in_by false line tokens s t h = record { done = h.done; rest = All-append M tokens s.rest t h.rest; calls = h.calls }
-
-put_in_formed : (line : ℕ) (tokens : List Marked) (s : Scan) → All M tokens → FormedScan s → FormedNext (put_in line tokens s)
-put_in_formed line tokens s t h = put_in_by (nat_lt most_work (s.work + 1 + length tokens)) line tokens s t h
-
-kept_formed : (t : Marked) (s : Scan) → M t → FormedScan s → FormedNext (kept t s)
-kept_formed t s m h = record { done = All-push M s.done t h.done m; rest = h.rest; calls = h.calls }
-
 abbrev OnSplit : Option Split → Type 0
 OnSplit None = Unit {0}
 OnSplit (Some split) = All (All M) split.args × All M split.rest
@@ -107,98 +81,111 @@ split_formed depth args current (t ∷ rest) a c h =
     (split_formed 0 (args ++ current ∷ []) [] rest next (All-nil M) more)
     (split_formed depth args (current ++ t ∷ []) rest a longer more)
 
-first_formed : (args : List (List Marked)) → All (All M) args → All M (first_of args)
-first_formed [] h = All-nil M
-first_formed (arg ∷ args) h = All-head (All M) arg args h
+-- a scan of some tokens, behind so much work, gives tokens, and no more than it was given and work put in
+abbrev pub OnScan : ℕ → List Marked → Result Expanded Refusal → Type 0
+OnScan work tokens (Ok e) =
+    All M e.tokens × (length e.tokens + work ≤ length tokens + e.work) × (work ≤ e.work) × (work ≤ most_work → e.work ≤ most_work)
+OnScan work tokens (Err e) = Unit {0}
 
-behind_formed : (args : List (List Marked)) → All (All M) args → All (All M) (behind_first args)
-behind_formed [] h = All-nil (All M)
-behind_formed (arg ∷ args) h = All-tail (All M) arg args h
+abbrev OnArguments : ℕ → Result Arguments Refusal → Type 0
+OnArguments work (Ok args) = All (All M) args.expanded × (work ≤ args.work) × (work ≤ most_work → args.work ≤ most_work)
+OnArguments work (Err e) = Unit {0}
 
-begun_by : (b : Bool) (t : Marked) (names : List (List ℕ)) (split : Split) (s : Scan) → M t → All (All M) split.args × All M split.rest → FormedScan s → FormedNext (cond b (Goes (begun t names split s)) (Stops (Bad Arguments t.token.line)))
-begun_by false t names split s m p h = tt
-begun_by true t names split s m p h = record {
-  done = All-nil M;
-  rest = first_formed split.args p.0;
-  calls = All-push FormedCall s.calls _ h.calls (record { line = m.0.1; expanded = All-nil (All M); left = behind_formed split.args p.0; done = h.done; rest = p.1 });
-}
+abbrev with_first : Expanded → Arguments → Result Arguments Refusal
+with_first e es = Ok (record { expanded = e.tokens ∷ es.expanded; work = es.work })
 
-called_formed : (t : Marked) (parameters : List (List ℕ)) (o : Option Split) (s : Scan) → M t → OnSplit o → FormedScan s → FormedNext (called t parameters o s)
-called_formed t parameters None s m p h = tt
-called_formed t parameters (Some split) s m p h =
-    begun_by (fits parameters split.args) t (both t.hidden split.hidden ++ t.token.bytes ∷ []) split s m p h
+kept_scan : (t : Marked) (work : ℕ) (rest : List Marked) (r : Result Expanded Refusal) → M t → OnScan work rest r → OnScan work (t ∷ rest) (kept t r)
+kept_scan t work rest (Ok e) m h = (All-cons M t e.tokens m h.0, omega (arith, h.1), h.2, h.3)
+kept_scan t work rest (Err e) m h = tt
 
-open_by : (b : Bool) (t : Marked) (parameters : List (List ℕ)) (s : Scan) → M t → FormedScan s → FormedNext (cond b (called t parameters (split_from 0 [] [] (drop 1 s.rest)) s) (kept t s))
-open_by true t parameters s m h =
-    called_formed t parameters (split_from 0 [] [] (drop 1 s.rest)) s m (split_formed 0 [] [] (drop 1 s.rest) (All-nil (All M)) (All-nil M) (All-drop M 1 s.rest h.rest)) h
-open_by false t parameters s m h = kept_formed t s m h
+pick_scan : (b : Bool) (work : ℕ) (tokens : List Marked) (x y : Result Expanded Refusal) → OnScan work tokens x → OnScan work tokens y → OnScan work tokens (cond b x y)
+pick_scan true work tokens x y hx hy = hx
+pick_scan false work tokens x y hx hy = hy
 
-at_macro_formed : (t : Marked) (it : Macro) (o : Option (List (List ℕ))) (s : Scan) → M t → N it → FormedScan s → FormedNext (at_macro t it o s)
-at_macro_formed t it None s m n h =
-    put_in_formed t.token.line _ s (substituted_formed t.token.line _ (parameters_of it.parameters) [] it.replacement m.0.1 (All-nil (All M)) n) h
-at_macro_formed t it (Some parameters) s m n h = open_by (is_open s.rest) t parameters s m h
+module _ (f : Scanning) (scans : (work : ℕ) (tokens : List Marked) → All M tokens → OnScan work tokens (f work tokens)) where
+  put_more : (before after : ℕ) (tokens rest all : List Marked) (r : Result Expanded Refusal) → before ≤ after → after + 1 + length tokens ≤ most_work → length rest ≤ length all → OnScan (after + 1 + length tokens) (tokens ++ rest) r → OnScan before all r
+  put_more before after tokens rest all (Err e) low most short h = tt
+  put_more before after tokens rest all (Ok e) low most short h = (
+    h.0,
+    omega (arith, h.1, low, short, length-append tokens rest),
+    omega (arith, h.2, low),
+    λ k. h.3 most,
+  )
 
-at_token_formed : (t : Marked) (o : Option Macro) (s : Scan) → M t → OnMacro o → FormedScan s → FormedNext (at_token t o s)
-at_token_formed t None s m n h = kept_formed t s m h
-at_token_formed t (Some it) s m n h = at_macro_formed t it it.parameters s m n h
+  put_by : (b : Bool) (line before after : ℕ) (tokens rest all : List Marked) → nat_lt most_work (after + 1 + length tokens) ≡ b → before ≤ after → length rest ≤ length all → All M tokens → All M rest → OnScan before all (cond b (Err (Bad Work line)) (f (after + 1 + length tokens) (tokens ++ rest)))
+  put_by true line before after tokens rest all is low short t h = tt
+  put_by false line before after tokens rest all is low short t h =
+      put_more before after tokens rest all (f (after + 1 + length tokens) (tokens ++ rest)) low (ltb-false most_work (after + 1 + length tokens) is) short
+      (scans (after + 1 + length tokens) (tokens ++ rest) (All-append M tokens rest t h))
 
-ended_formed : (call : Call) (o : Option Macro) (s : Scan) → FormedCall call → OnMacro o → All FormedCall s.calls → FormedNext (ended call o s)
-ended_formed call None s c n h = tt
-ended_formed call (Some it) s c n h =
-    put_in_formed call.line _ (record s { done = call.done; rest = call.rest }) (substituted_formed call.line call.hidden (parameters_of it.parameters) call.expanded it.replacement c.line c.expanded n) (record { done = c.done; rest = c.rest; calls = h })
+  put_scan : (line before after : ℕ) (tokens rest all : List Marked) → before ≤ after → length rest ≤ length all → All M tokens → All M rest → OnScan before all (goes_on f line after tokens rest)
+  put_scan line before after tokens rest all low short t h =
+      put_by (nat_lt most_work (after + 1 + length tokens)) line before after tokens rest all refl low short t h
 
-argument_done_formed : (macros : List Macro) (call : Call) (args : List (List Marked)) (s : Scan) → All N macros → FormedCall call → All (All M) args → All FormedCall s.calls → FormedNext (argument_done macros call args s)
-argument_done_formed macros call [] s n c a h = ended_formed call (found call.name macros) s c (found_formed call.name macros n) h
-argument_done_formed macros call (arg ∷ args) s n c a h = record {
-  done = All-nil M;
-  rest = All-head (All M) arg args a;
-  calls = All-push FormedCall s.calls _ h (record { line = c.line; expanded = c.expanded; left = All-tail (All M) arg args a; done = c.done; rest = c.rest });
-}
+  arguments_by : (work : ℕ) (arg : List Marked) (args : List (List Marked)) (r : Result Expanded Refusal) → OnScan work arg r → ((w : ℕ) → OnArguments w (arguments_scanned f w args)) → OnArguments work (and_then r (λ e. and_then (arguments_scanned f e.work args) (with_first e)))
+  arguments_by work arg args (Err e) h rest = tt
+  arguments_by work arg args (Ok e) h rest = behind work e (arguments_scanned f e.work args) h.0 h.2 h.3 (rest e.work)
+    where
+      behind : (work : ℕ) (e : Expanded) (q : Result Arguments Refusal) → All M e.tokens → work ≤ e.work → (work ≤ most_work → e.work ≤ most_work) → OnArguments e.work q → OnArguments work (and_then q (with_first e))
+      behind work e (Err r) m low most h = tt
+      behind work e (Ok es) m low most h = (All-cons (All M) e.tokens es.expanded m h.0, omega (arith, low, h.1), λ k. h.2 (most k))
 
--- an item of a list
-abbrev OnCall : Option Call → Type 0
-OnCall None = Unit {0}
-OnCall (Some call) = FormedCall call
+  arguments_scan : (work : ℕ) (args : List (List Marked)) → All (All M) args → OnArguments work (arguments_scanned f work args)
+  arguments_scan work [] h = (All-nil (All M), omega arith, λ k. k)
+  arguments_scan work (arg ∷ args) h =
+      arguments_by work arg args (f work arg) (scans work arg (All-head (All M) arg args h)) (λ w. arguments_scan w args (All-tail (All M) arg args h))
 
-get_formed : (calls : List Call) (i : ℕ) → All FormedCall calls → OnCall (slice_get calls i)
-get_formed [] i h = tt
-get_formed (c ∷ calls) zero h = All-head FormedCall c calls h
-get_formed (c ∷ calls) (suc i) h = get_formed calls i (All-tail FormedCall c calls h)
+  applied_by : (t : Marked) (m : Macro) (split : Split) (work : ℕ) (all : List Marked) (r : Result Arguments Refusal) → M t → N m → OnArguments work r → length split.rest ≤ length all → All M split.rest → OnScan work all (and_then r (λ args. goes_on f t.token.line args.work (replaced t.token.line (function_hides t split) args.expanded m) split.rest))
+  applied_by t m split work all (Err e) mt nm a short h = tt
+  applied_by t m split work all (Ok args) mt nm a short h =
+      put_scan t.token.line work args.work _ split.rest all a.1 short
+      (substituted_formed t.token.line (function_hides t split) (parameters_of m.parameters) args.expanded m.replacement mt.0.1 a.0 nm) h
 
-rest_done_formed : (macros : List Macro) (o : Option Call) (s : Scan) → All N macros → OnCall o → FormedScan s → FormedNext (rest_done macros o s)
-rest_done_formed macros None s n c h = h.done
-rest_done_formed macros (Some call) s n c h =
-    argument_done_formed macros (record call { expanded = call.expanded ++ s.done ∷ [] }) call.left (record s { calls = take (length s.calls - 1) s.calls }) n
-    (record { line = c.line; expanded = All-push (All M) call.expanded s.done c.expanded h.done; left = c.left; done = c.done; rest = c.rest })
-    c.left (All-take FormedCall (length s.calls - 1) s.calls h.calls)
+  called_scan : (t : Marked) (m : Macro) (parameters : List (List ℕ)) (o : Option Split) (work n : ℕ) (all : List Marked) → M t → N m → OnSplit o → Conserves n o → n ≤ length all → OnScan work all (called f work t m parameters o)
+  called_scan t m parameters None work n all mt nm p c short = tt
+  called_scan t m parameters (Some split) work n all mt nm p c short =
+      pick_scan (fits parameters split.args) work all _ _
+      (applied_by t m split work all (arguments_scanned f work split.args) mt nm (arguments_scan work split.args p.0) (omega (arith, c, short)) p.1)
+      tt
 
-by_rest : (macros : List Macro) (rest : List Marked) (s : Scan) → All N macros → All M rest → FormedScan s → FormedNext (step_by macros rest s)
-by_rest macros [] s n r h = rest_done_formed macros (slice_get s.calls (length s.calls - 1)) s n (get_formed s.calls (length s.calls - 1) h.calls) h
-by_rest macros (t ∷ rest) s n r h =
-    at_token_formed t (macro_for macros t) (record s { rest = rest }) (All-head M t rest r)
-    (pick_macro (is_name t.token && not (is_among t.hidden t.token.bytes)) (found t.token.bytes macros) None (found_formed t.token.bytes macros n) tt)
-    (record { done = h.done; rest = All-tail M t rest r; calls = h.calls })
+  at_macro_scan : (t : Marked) (m : Macro) (o : Option (List (List ℕ))) (work : ℕ) (rest : List Marked) → M t → N m → All M rest → OnScan work (t ∷ rest) (at_macro f work t rest m o)
+  at_macro_scan t m None work rest mt nm h =
+      put_scan t.token.line work work _ rest (t ∷ rest) (omega arith) (omega arith)
+      (substituted_formed t.token.line (object_hides t) (parameters_of m.parameters) [] m.replacement mt.0.1 (All-nil (All M)) nm) h
+  at_macro_scan t m (Some parameters) work rest mt nm h =
+      pick_scan (is_open rest) work (t ∷ rest) _ _
+      (called_scan t m parameters (split_from 0 [] [] (drop 1 rest)) work (whole [] [] (drop 1 rest)) (t ∷ rest) mt nm
+      (split_formed 0 [] [] (drop 1 rest) (All-nil (All M)) (All-nil M) (All-drop M 1 rest h))
+      (split_conserves 0 [] [] (drop 1 rest)) (omega (arith, length-drop 1 rest)))
+      (kept_scan t work rest (f work rest) mt (scans work rest h))
 
-step_formed : (macros : List Macro) (s : Scan) → All N macros → FormedScan s → FormedNext (step macros s)
-unfolding step
-step_formed macros s n h = by_rest macros s.rest s n h.rest h
+  at_token_scan : (t : Marked) (o : Option Macro) (work : ℕ) (rest : List Marked) → M t → OnMacro o → All M rest → OnScan work (t ∷ rest) (at_token f work t rest o)
+  at_token_scan t None work rest mt nm h = kept_scan t work rest (f work rest) mt (scans work rest h)
+  at_token_scan t (Some m) work rest mt nm h = at_macro_scan t m m.parameters work rest mt nm h
+
+scanned_scan : (macros : List Macro) (n work : ℕ) (tokens : List Marked) → All N macros → All M tokens → OnScan work tokens (scanned macros n work tokens)
+unfolding scanned
+scanned_scan macros zero work [] m h = (All-nil M, omega arith, omega arith, λ k. k)
+scanned_scan macros zero work (t ∷ rest) m h = tt
+scanned_scan macros (suc n) work [] m h = (All-nil M, omega arith, omega arith, λ k. k)
+scanned_scan macros (suc n) work (t ∷ rest) m h =
+    at_token_scan (scanned macros n) (λ w ts k. scanned_scan macros n w ts m k) t (macro_for macros t) work rest (All-head M t rest h)
+    (pick_macro (is_name t.token && not (is_among t.hidden t.token.bytes)) (found t.token.bytes macros) None (found_formed t.token.bytes macros m) tt)
+    (All-tail M t rest h)
+
+pub expanded_scan : (macros : List Macro) (tokens : List Token) (work : ℕ) → All N macros → All IsFormed tokens → OnScan work (map fresh tokens) (expanded macros tokens work)
+unfolding expanded
+expanded_scan macros tokens work n l =
+    scanned_scan macros (enough (map fresh tokens) work) work (map fresh tokens) n (All-map M fresh tokens l)
 
 abbrev pub OnExpanded : Result Expanded Refusal → Type 0
 OnExpanded (Ok e) = All M e.tokens
 OnExpanded (Err e) = Unit {0}
 
-on_next : (scan : Scan → Result Expanded Refusal) (next : Next) → ((s : Scan) → FormedScan s → OnExpanded (scan s)) → FormedNext next → OnExpanded (goes_on scan next)
-on_next scan (Goes s) k h = k s h
-on_next scan (Ends tokens work) k h = h
-on_next scan (Stops e) k h = tt
-
-scanned_formed : (macros : List Macro) (n : ℕ) (s : Scan) → All N macros → FormedScan s → OnExpanded (scanned macros n s)
-unfolding scanned
-scanned_formed macros zero s m h = tt
-scanned_formed macros (suc n) s m h = on_next (scanned macros n) (step macros s) (λ t k. scanned_formed macros n t m k) (step_formed macros s m h)
+formed_of : (work : ℕ) (tokens : List Marked) (r : Result Expanded Refusal) → OnScan work tokens r → OnExpanded r
+formed_of work tokens (Ok e) h = h.0
+formed_of work tokens (Err e) h = tt
 
 pub expanded_formed : (macros : List Macro) (tokens : List Token) (work : ℕ) → All N macros → All IsFormed tokens → OnExpanded (expanded macros tokens work)
-unfolding expanded
 expanded_formed macros tokens work n l =
-    scanned_formed macros (enough (map fresh tokens) work) (scan_of (map fresh tokens) work) n
-    (record { done = All-nil M; rest = All-map M fresh tokens l; calls = All-nil FormedCall })
+    formed_of work (map fresh tokens) (expanded macros tokens work) (expanded_scan macros tokens work n l)

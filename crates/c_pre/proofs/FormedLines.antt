@@ -12,7 +12,7 @@ use Rattle.c_lexer.specs.declared.token.LexKind.TheVariants.{BadByte}
 use Rattle.c_lexer.proofs.Cuts.{text_cut}
 use Rattle.c_lexer.proofs.Loop.{lexed_of}
 use Rattle.c_pre.specs.Formed.{IsFormed, IsFormedMacro, Formed}
-use Rattle.c_pre.specs.After.{at_line}
+use Rattle.c_pre.specs.After.{and_then, at_line}
 use Rattle.c_pre.specs.Comments.{begins_with}
 use Rattle.c_pre.specs.Lines.{behind_spaces, behind_hash, directive_rest, first_word}
 use Rattle.c_pre.specs.Texts.{most_bytes}
@@ -22,7 +22,7 @@ use Rattle.c_pre.specs.Groups.{is_live, first_line, turned, closed, skipped}
 use Rattle.c_pre.specs.Directives.{is_name, is_sign, is_among, names_from, signature_of, with_signature, function_behind, macro_behind, takes_arguments, define_of, include_of, only_name, named_by, alone, directive_by, directive_of}
 use Rattle.c_pre.specs.Macros.{found, same_macro, defined_by, defined, without}
 use Rattle.c_pre.specs.Expansion.{expanded}
-use Rattle.c_pre.specs.Reading.{and_then, lexed, rest_lexed, moved, plain, with_expanded, with_run, run_ended, behind_line, at_header, Step, step, with_groups, with_macros, obeyed, of_form, of_tokens, directive_on, directed_from, directed, passed, line_by, line_read, balanced, text_ended}
+use Rattle.c_pre.specs.Reading.{lexed, rest_lexed, moved, plain, with_expanded, with_run, run_ended, behind_line, at_header, Step, step, with_groups, with_macros, obeyed, of_form, of_tokens, directive_on, directed_from, directed, passed, line_by, line_read, balanced, text_ended}
 use Rattle.c_pre.specs.declared.groups.Group.{Group}
 use Rattle.c_pre.specs.declared.macros.Macro.{Macro}
 use Rattle.c_pre.specs.declared.scan.Expanded.{Expanded}

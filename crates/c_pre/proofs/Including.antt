@@ -1,7 +1,8 @@
 -- What is left of a text, one line further.
 use Rattle.std.proofs.Common.{◌≡◌, ℕ, zero, suc, ◌+◌, ◌-◌, ◌<◌, ◌≤◌, List, [], ◌∷◌, length, take, drop, Option, Some, Result, Ok, Err, refl, sym, ap, ◌∙◌}
 use Rattle.c_pre.specs.Lines.{line_length, lines_of}
-use Rattle.c_pre.specs.Reading.{and_then, first_of, Step, line_read, text_ended}
+use Rattle.c_pre.specs.After.{and_then}
+use Rattle.c_pre.specs.Reading.{first_of, Step, line_read, text_ended}
 use Rattle.c_pre.specs.Texts.{Including, place, refused, placed, with_text, included, next_line, lines_read, entered, source_read, text_read, below}
 use Rattle.c_pre.specs.declared.answer.PreKind.TheVariants.{Depth}
 use Rattle.c_pre.specs.declared.answer.PreError.{PreError}

@@ -7,7 +7,8 @@ use Rattle.std.proofs.lemmas.List.Sums.{sum_by_push, sum_by-append}
 use Rattle.c_lexer.specs.declared.token.Token.{Token}
 use Rattle.c_pre.specs.Directives.{is_sign}
 use Rattle.c_pre.specs.Macros.{found}
-use Rattle.c_pre.specs.Expansion.{most_work, fresh, macro_for, both, split_from, is_open, fits, Next, Goes, Ends, Stops, put_in, first_of, behind_first, begun, called, kept, at_macro, at_token, ended, argument_done, rest_done, step_by, step, goes_on, scanned, enough, scan_of, expanded}
+use Rattle.c_pre.specs.Expansion.{most_work, enough, fresh, macro_for, both, split_from, is_open, fits}
+use Rattle.c_pre.specs.Steps.{Next, Goes, Ends, Stops, put_in, first_of, behind_first, begun, called, kept, at_macro, at_token, ended, argument_done, rest_done, step_by, step, goes_on, scanned, scan_of, expanded_by_steps}
 use Rattle.c_pre.specs.declared.macros.Macro.{Macro}
 use Rattle.c_pre.specs.declared.marked.Marked.{Marked}
 use Rattle.c_pre.specs.declared.calls.Call.{Call}
@@ -45,7 +46,7 @@ put_in_falls : (line : ℕ) (tokens : List Marked) (s : Scan) (n : ℕ) → left
 put_in_falls line tokens s n low = put_in_by (nat_lt most_work (s.work + 1 + length tokens)) line tokens s n refl low
 
 -- a call has its tokens, without its last sign and one sign for each argument but the first
-abbrev Conserves : ℕ → Option Split → Type 0
+abbrev pub Conserves : ℕ → Option Split → Type 0
 Conserves n None = Unit {0}
 Conserves n (Some split) = sum_by length split.args + length split.rest + length split.args ≡ n
 
@@ -60,10 +61,10 @@ pick false false false true n v w x y z hv hw hx hy hz = hy
 pick false false false false n v w x y z hv hw hx hy hz = hz
 
 -- what the parts of a call have so far
-abbrev whole : List (List Marked) → List Marked → List Marked → ℕ
+abbrev pub whole : List (List Marked) → List Marked → List Marked → ℕ
 whole args current ts = sum_by length args + length current + length ts + length args
 
-split_conserves : (depth : ℕ) (args : List (List Marked)) (current ts : List Marked) → Conserves (whole args current ts) (split_from depth args current ts)
+pub split_conserves : (depth : ℕ) (args : List (List Marked)) (current ts : List Marked) → Conserves (whole args current ts) (split_from depth args current ts)
 split_conserves depth args current [] = tt
 split_conserves depth args current (t ∷ rest) =
     let longer : whole args (current ++ t ∷ []) rest ≡ whole args current (t ∷ rest) = omega (arith, length-append current (t ∷ [])) in
@@ -171,7 +172,7 @@ refused macros s new whole (Lex kind line) h is = stops_by macros s whole (Lex k
 refused macros s new whole NoMemory h is = tt
 
 -- before the first step
-pub starts : (macros : List Macro) (tokens : List Token) (work : ℕ) (s : Scan) → s ≡ scan_of (map fresh tokens) work → ComesTo macros s (expanded macros tokens work)
-unfolding expanded
+pub starts : (macros : List Macro) (tokens : List Token) (work : ℕ) (s : Scan) → s ≡ scan_of (map fresh tokens) work → ComesTo macros s (expanded_by_steps macros tokens work)
+unfolding expanded_by_steps
 starts macros tokens work s is =
-    subst (λ t. ComesTo macros t (expanded macros tokens work)) (sym is) (enough (map fresh tokens) work, omega arith, refl)
+    subst (λ t. ComesTo macros t (expanded_by_steps macros tokens work)) (sym is) (enough (map fresh tokens) work, omega arith, refl)

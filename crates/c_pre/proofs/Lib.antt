@@ -9,3 +9,4 @@ pub mod Places
 pub mod Left
 pub mod Formed
 pub mod FormedLines
+pub mod Replacing

@@ -4,7 +4,7 @@ use Rattle.std.specs.Prelude.{◌≡◌, ◌≤◌, ⊤, ℕ, ◌+◌, Bool, tru
 use Rattle.c_lexer.specs.declared.token.Token.{Token}
 use Rattle.c_lexer.specs.declared.token.LexError.{LexError}
 use Rattle.c_lexer.specs.declared.token.LexError.TheVariants as lex
-use Rattle.c_pre.specs.Expansion.{Next, Goes, Ends, Stops}
+use Rattle.c_pre.specs.Steps.{Next, Goes, Ends, Stops}
 use Rattle.c_pre.specs.Reading.{Step}
 use Rattle.c_pre.specs.declared.answer.PreError.{PreError}
 use Rattle.c_pre.specs.declared.answer.PreError.TheVariants as error

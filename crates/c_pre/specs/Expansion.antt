@@ -1,9 +1,11 @@
--- The replacement of macros in a run of text lines (C99 6.10.3), one step after another. Each token has the names of the
--- macros that are hidden from it. The arguments of a call are expanded alone before its macro is replaced: the call waits,
--- with what was done before it and the tokens behind it, while the tokens of an argument are scanned.
-use Rattle.std.specs.Prelude.{ℕ, zero, suc, ◌+◌, ◌-◌, ◌*◌, ◌==◌, Bool, false, not, ◌&&◌, bytes_eq, nat_lt, if◌then◌else◌, List, [], ◌∷◌, ◌++◌, length, map, take, drop, slice_get, Option, Some, None, unwrap_or, Result, Ok, Err}
+-- The replacement of macros in a run of text lines (C99 6.10.3 and 6.10.3.4). Each token has the names of the macros that are
+-- hidden from it. The run is scanned from left to right. A name of a macro that is not hidden from it is replaced: one of a
+-- function-like macro only where a `(` is the next token, and then by way of its arguments, each of which is expanded alone and
+-- once. The scan goes on at the first token of what stands in its place.
+use Rattle.std.specs.Prelude.{ℕ, zero, suc, ◌+◌, ◌-◌, ◌*◌, ◌==◌, Bool, false, not, ◌&&◌, bytes_eq, nat_lt, if◌then◌else◌, List, [], ◌∷◌, ◌++◌, length, map, drop, slice_get, Option, Some, None, unwrap_or, Result, Ok, Err}
 use Rattle.std.specs.List.{filter}
 use Rattle.c_lexer.specs.declared.token.Token.{Token}
+use Rattle.c_pre.specs.After.{and_then}
 use Rattle.c_pre.specs.Directives.{is_name, is_sign, is_among}
 use Rattle.c_pre.specs.Macros.{found}
 use Rattle.c_pre.specs.declared.macros.Macro.{Macro}
@@ -11,10 +13,8 @@ use Rattle.c_pre.specs.declared.answer.PreKind.TheVariants as kind
 use Rattle.c_pre.specs.declared.answer.Refusal.{Refusal}
 use Rattle.c_pre.specs.declared.answer.Refusal.TheVariants.{Bad, NoMemory}
 use Rattle.c_pre.specs.declared.marked.Marked.{Marked}
-use Rattle.c_pre.specs.declared.calls.Call.{Call}
 use Rattle.c_pre.specs.declared.calls.Split.{Split}
 use Rattle.c_pre.specs.declared.scan.Expanded.{Expanded}
-use Rattle.c_pre.specs.declared.scan.Scan.{Scan}
 
 -- the most work of all texts: one for each replacement, and one for each token that it puts in
 abbrev pub most_work : ℕ
@@ -95,115 +95,75 @@ abbrev pub fits : List (List ℕ) → List (List Marked) → Bool
 fits [] args = is_blank args
 fits (name ∷ names) args = length (name ∷ names) == length args
 
--- a step goes on, or all tokens are done, or one is refused
-pub data Next : Type 0 where
-  Goes : (after : Scan) → Next
-  Ends : (tokens : List Marked) (work : ℕ) → Next
-  Stops : (refusal : Refusal) → Next
+-- a scan of some tokens, behind so much work
+abbrev pub Scanning : Type 0
+Scanning = ℕ → List Marked → Result Expanded Refusal
 
--- the tokens of a replacement are put in before those that are left, if the work allows it
-abbrev pub put_in : ℕ → List Marked → Scan → Next
-put_in line tokens s =
-    if nat_lt most_work (s.work + 1 + length tokens) then Stops (Bad kind.Work line) else
-    Goes (record s { rest = tokens ++ s.rest; work = s.work + 1 + length tokens })
+-- a token that is not replaced stands before those that the scan behind it gives
+abbrev pub kept : Marked → Result Expanded Refusal → Result Expanded Refusal
+kept t (Ok e) = Ok (record { tokens = t ∷ e.tokens; work = e.work })
+kept t (Err e) = Err e
 
--- the first of some arguments, and those behind it
-abbrev pub first_of : List (List Marked) → List Marked
-first_of [] = []
-first_of (arg ∷ args) = arg
+-- the scan goes on at the first token of a replacement, if the work allows it
+abbrev pub goes_on : Scanning → ℕ → ℕ → List Marked → List Marked → Result Expanded Refusal
+goes_on scan line work replacement rest =
+    if nat_lt most_work (work + 1 + length replacement) then Err (Bad kind.Work line) else
+    scan (work + 1 + length replacement) (replacement ++ rest)
 
-abbrev pub behind_first : List (List Marked) → List (List Marked)
-behind_first [] = []
-behind_first (arg ∷ args) = args
+-- arguments that are expanded, and the work behind them
+pub record Arguments : Type 0 where
+  pub expanded : List (List Marked)
+  pub work : ℕ
 
--- a call begins: the first of its arguments is scanned, and it waits
-abbrev pub begun : Marked → List (List ℕ) → Split → Scan → Scan
-begun t names split s = record s {
-  done = [];
-  rest = first_of split.args;
-  calls = s.calls ++ record {
-    name = t.token.bytes;
-    line = t.token.line;
-    hidden = names;
-    expanded = [];
-    left = behind_first split.args;
-    done = s.done;
-    rest = split.rest;
-  } ∷ [];
-}
+-- each argument is expanded alone, once, in order
+abbrev pub arguments_scanned : Scanning → ℕ → List (List Marked) → Result Arguments Refusal
+arguments_scanned scan work [] = Ok (record { expanded = []; work = work })
+arguments_scanned scan work (arg ∷ args) =
+    and_then (scan work arg) (λ e.
+    and_then (arguments_scanned scan e.work args) (λ es.
+    Ok (record { expanded = e.tokens ∷ es.expanded; work = es.work })))
+
+-- the names that are hidden from what stands in place of an object-like macro: those hidden from its name, and its name
+abbrev pub object_hides : Marked → List (List ℕ)
+object_hides t = t.hidden ++ t.token.bytes ∷ []
+
+-- and of a function-like one: those hidden both from its name and from its `)`, and its name
+abbrev pub function_hides : Marked → Split → List (List ℕ)
+function_hides t split = both t.hidden split.hidden ++ t.token.bytes ∷ []
+
+-- a call of a function-like macro with these arguments
+abbrev pub applied : Scanning → ℕ → Marked → Macro → Split → Result Expanded Refusal
+applied scan work t m split =
+    and_then (arguments_scanned scan work split.args) (λ args.
+    goes_on scan t.token.line args.work (replaced t.token.line (function_hides t split) args.expanded m) split.rest)
 
 -- at a call of a function-like macro, by what stands behind its `(`
-abbrev pub called : Marked → List (List ℕ) → Option Split → Scan → Next
-called t parameters None s = Stops (Bad kind.Arguments t.token.line)
-called t parameters (Some split) s =
-    if fits parameters split.args then
-    Goes (begun t (both t.hidden split.hidden ++ t.token.bytes ∷ []) split s)
-    else Stops (Bad kind.Arguments t.token.line)
+abbrev pub called : Scanning → ℕ → Marked → Macro → List (List ℕ) → Option Split → Result Expanded Refusal
+called scan work t m parameters None = Err (Bad kind.Arguments t.token.line)
+called scan work t m parameters (Some split) =
+    if fits parameters split.args then applied scan work t m split else Err (Bad kind.Arguments t.token.line)
 
--- a token is done
-abbrev pub kept : Marked → Scan → Next
-kept t s = Goes (record s { done = s.done ++ t ∷ [] })
+-- at a name of a macro with these parameters: a function-like one is replaced only before a `(`
+abbrev pub at_macro : Scanning → ℕ → Marked → List Marked → Macro → Option (List (List ℕ)) → Result Expanded Refusal
+at_macro scan work t rest m None = goes_on scan t.token.line work (replaced t.token.line (object_hides t) [] m) rest
+at_macro scan work t rest m (Some parameters) =
+    if is_open rest then called scan work t m parameters (split_from 0 [] [] (drop 1 rest)) else kept t (scan work rest)
 
--- at a name of a macro: a function-like one is replaced only before a `(`
-abbrev pub at_macro : Marked → Macro → Option (List (List ℕ)) → Scan → Next
-at_macro t m None s = put_in t.token.line (replaced t.token.line (t.hidden ++ t.token.bytes ∷ []) [] m) s
-at_macro t m (Some parameters) s =
-    if is_open s.rest then called t parameters (split_from 0 [] [] (drop 1 s.rest)) s else kept t s
+-- at a token, by its macro, and those behind it
+abbrev pub at_token : Scanning → ℕ → Marked → List Marked → Option Macro → Result Expanded Refusal
+at_token scan work t rest None = kept t (scan work rest)
+at_token scan work t rest (Some m) = at_macro scan work t rest m m.parameters
 
--- at a token, by its macro
-abbrev pub at_token : Marked → Option Macro → Scan → Next
-at_token t None s = kept t s
-at_token t (Some m) s = at_macro t m m.parameters s
+-- what a scan comes to. It looks at no more than so many tokens in turn, and at `enough` of them it has come to its end.
+unfoldable pub scanned : List Macro → ℕ → Scanning
+scanned macros looks work [] = Ok (record { tokens = []; work = work })
+scanned macros zero work (t ∷ rest) = Err NoMemory
+scanned macros (suc looks) work (t ∷ rest) = at_token (scanned macros looks) work t rest (macro_for macros t)
 
--- behind the last argument of a call: its macro is replaced, and the scan goes on at the replacement's first token; the
--- case without a macro never comes
-abbrev pub ended : Call → Option Macro → Scan → Next
-ended call None s = Stops NoMemory
-ended call (Some m) s =
-    put_in call.line (replaced call.line call.hidden call.expanded m) (record s { done = call.done; rest = call.rest })
-
--- behind an argument of a call: the next is scanned, or the call ends
-abbrev pub argument_done : List Macro → Call → List (List Marked) → Scan → Next
-argument_done macros call [] s = ended call (found call.name macros) s
-argument_done macros call (arg ∷ args) s =
-    Goes (record s { done = []; rest = arg; calls = s.calls ++ record call { left = args } ∷ [] })
-
--- behind the tokens that are left: an argument of the innermost call is done, or all is
-abbrev pub rest_done : List Macro → Option Call → Scan → Next
-rest_done macros None s = Ends s.done s.work
-rest_done macros (Some call) s =
-    argument_done macros (record call { expanded = call.expanded ++ s.done ∷ [] }) call.left
-    (record s { calls = take (length s.calls - 1) s.calls })
-
--- one step, by the tokens that are left
-abbrev pub step_by : List Macro → List Marked → Scan → Next
-step_by macros [] s = rest_done macros (slice_get s.calls (length s.calls - 1)) s
-step_by macros (t ∷ rest) s = at_token t (macro_for macros t) (record s { rest = rest })
-
--- one step
-unfoldable pub step : List Macro → Scan → Next
-step macros s = step_by macros s.rest s
-
--- what a step comes to, by what a scan comes to
-abbrev pub goes_on : (Scan → Result Expanded Refusal) → Next → Result Expanded Refusal
-goes_on scan (Goes s) = scan s
-goes_on scan (Ends tokens work) = Ok (record { tokens = tokens; work = work })
-goes_on scan (Stops e) = Err e
-
--- what a scan comes to in at most so many steps
-unfoldable pub scanned : List Macro → ℕ → Scan → Result Expanded Refusal
-scanned macros zero s = Err NoMemory
-scanned macros (suc n) s = goes_on (scanned macros n) (step macros s)
-
--- no scan of so many tokens makes as many steps: a replacement takes work, and a call takes its name and two signs
+-- no scan of so many tokens looks at as many in turn: a replacement takes work, and a call takes its name and two signs
 abbrev pub enough : List Marked → ℕ → ℕ
 enough tokens work = 3 * (most_work + 1 - work) + 3 * length tokens + 1
 
--- a scan of some tokens
-abbrev pub scan_of : List Marked → ℕ → Scan
-scan_of tokens work = record { done = []; rest = tokens; calls = []; work = work }
-
 -- the tokens of a run with its macros replaced, behind so much work
 unfoldable pub expanded : List Macro → List Token → ℕ → Result Expanded Refusal
-expanded macros tokens work =
-    scanned macros (enough (map fresh tokens) work) (scan_of (map fresh tokens) work)
+expanded macros tokens work = scanned macros (enough (map fresh tokens) work) work (map fresh tokens)

@@ -10,5 +10,6 @@ pub mod Groups
 pub mod Lines
 pub mod Macros
 pub mod Reading
+pub mod Steps
 pub mod Texts
 pub mod Words

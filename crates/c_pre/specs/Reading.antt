@@ -7,7 +7,7 @@ use Rattle.c_lexer.specs.declared.token.Token.{Token}
 use Rattle.c_lexer.specs.declared.token.LexKind.TheVariants.{BadByte}
 use Rattle.c_lexer.specs.declared.token.LexError.{LexError}
 use Rattle.c_lexer.specs.declared.token.LexError.TheVariants as lex
-use Rattle.c_pre.specs.After.{at_line}
+use Rattle.c_pre.specs.After.{and_then, at_line}
 use Rattle.c_pre.specs.Comments.{begins_with}
 use Rattle.c_pre.specs.Lines.{behind_spaces, first_word, directive_rest}
 use Rattle.c_pre.specs.Expansion.{expanded}
@@ -25,11 +25,6 @@ use Rattle.c_pre.specs.declared.answer.Refusal.{Refusal}
 use Rattle.c_pre.specs.declared.answer.Refusal.TheVariants.{Bad, Lex, NoMemory}
 use Rattle.c_pre.specs.declared.progress.Progress.{Progress}
 use Rattle.c_pre.specs.declared.here.Here.{Here}
-
--- what follows an answer
-abbrev pub and_then : {S T E : Type 0} → Result S E → (S → Result T E) → Result T E
-and_then (Ok s) next = next s
-and_then (Err e) next = Err e
 
 -- the tokens of a text that stands alone, or its first bad place (C99 6.4)
 unfoldable pub lexed : List ℕ → Result (List Token) LexError

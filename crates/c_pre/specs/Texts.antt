@@ -3,7 +3,8 @@ use Rattle.std.specs.Prelude.{ℕ, zero, suc, ◌+◌, ◌==◌, count_by, nat_l
 use Rattle.c_lexer.specs.declared.token.LexKind.TheVariants.{OpenComment}
 use Rattle.c_pre.specs.Comments.{blanked, open_comment}
 use Rattle.c_pre.specs.Lines.{lines_of}
-use Rattle.c_pre.specs.Reading.{and_then, first_of, line_read, text_ended}
+use Rattle.c_pre.specs.After.{and_then}
+use Rattle.c_pre.specs.Reading.{first_of, line_read, text_ended}
 use Rattle.c_pre.specs.declared.comments.Mode.TheVariants.{Code}
 use Rattle.c_pre.specs.declared.answer.Place.{Place}
 use Rattle.c_pre.specs.declared.answer.Pre.{Pre}

@@ -1,7 +1,8 @@
 //! The replacement of macros in a run of text lines (C99 6.10.3).
 
 ghost use Rattle.std.specs.Prelude.{◌≡◌, [], ◌∷◌, ◌++◌, drop};
-ghost use Rattle.c_pre.specs.Expansion.{put_in, replaced, both, kept, begun, Goes, called, split_from, at_macro, ended, argument_done, step, expanded};
+ghost use Rattle.c_pre.specs.Expansion.{replaced, both, split_from, expanded};
+ghost use Rattle.c_pre.specs.Steps.{put_in, kept, begun, Goes, called, at_macro, ended, argument_done, step, expanded_by_steps};
 ghost use Rattle.c_pre.specs.Macros.{found};
 ghost use Rattle.c_pre.specs.Answering.{StepsTo, Answers};
 
@@ -179,7 +180,7 @@ impl Scan {
     }
 
     /// Makes one step, and says whether there may be more.
-    #[tactic(auto, unfolding(crate::specs::Expansion::step))]
+    #[tactic(auto, unfolding(crate::specs::Steps::step))]
     fn step(&mut self, alloc: Global, macros: &Macros) -> Result<bool, Refusal>
         ensures { StepsTo (step macros.now self.old) self.new result }
     {
@@ -205,7 +206,6 @@ pub(crate) struct Expanded {
 }
 
 /// Replaces the macros of a run, behind so much work.
-#[tactic(auto, unfolding(crate::specs::Expansion::expanded))]
 pub(crate) fn expand(
     alloc: Global,
     macros: &Macros,

@@ -1,5 +1,6 @@
 -- What is said of an answer, and what a fault of the outside leads to.
-use Rattle.std.specs.Prelude.{◌≡◌, ◌≢◌, ◌⊎◌, ◌<◌, ◌≤◌, ◌+◌, ℕ, List, ◌++◌, Option, Some, codes}
+use Rattle.std.specs.Prelude.{◌≡◌, ◌≢◌, ◌⊎◌, ◌<◌, ◌≤◌, ◌+◌, ℕ, nat_lt, cond, List, ◌++◌, Option, Some, None, codes}
+use Rattle.command_words.specs.Commands.{Command, OnFile}
 use Rattle.hs_base.specs.Object.{Object}
 use Rattle.hs_base.specs.declared.ends.Leak.{Leak}
 use Rattle.heapsafe.specs.Leaks.{AreLeaks, leak_lines}
@@ -145,14 +146,22 @@ Faults t t' i i' o o' e e' result =
     ⊎ ((t < t') × (i' ≡ i) × (o' ≡ o) × (e' ≡ e) × (result ≡ 121))
     ⊎ ((t' ≡ t) × (i < i') × (o' ≡ o) × (e' ≡ e) × (result ≡ 132))
 
--- the lines that are said of a failure of the outside, and of want of memory
-abbrev pub IsFaultLine : List ℕ → Type 0
-IsFaultLine bytes =
-    (bytes ≡ input_fault.err) ⊎ (bytes ≡ output_fault.err) ⊎ (bytes ≡ no_memory.err) ⊎ ((file : List ℕ) × (bytes ≡ (text_fault file).err))
+-- the file of the words, where its text failed
+abbrev pub unread_file : Option Command → ℕ → ℕ → Option (List ℕ)
+unread_file (Some (OnFile file task)) t t' = cond (nat_lt t t') (Some file) None
+unread_file asked t t' = None
 
--- a write failed: the input lost a front of what this answer reads, the output took a front of what it writes, and the error
--- stream a front of what it says, or of the line of a failure
-pub record Breaks (a : Shown) (left : List ℕ) (left' o o' e e' : Option (List ℕ)) : Type 0 where
+-- the line that is said where a write failed: that of the file whose text failed; else that of the input or of the output,
+-- where it failed; or, where neither did, that of the answer or of want of memory
+abbrev pub IsSaid : Option (List ℕ) → Shown → ℕ → ℕ → ℕ → ℕ → List ℕ → Type 0
+IsSaid (Some file) a i i' o o' line = line ≡ (text_fault file).err
+IsSaid None a i i' o o' line =
+    ((i < i') × (line ≡ input_fault.err)) ⊎ ((o < o') × (line ≡ output_fault.err))
+    ⊎ ((i' ≡ i) × (o' ≡ o) × ((line ≡ a.err) ⊎ (line ≡ no_memory.err)))
+
+-- a write failed: the input lost a front of what this answer reads, the output took a front of what it writes, the error stream
+-- a front of one line that may be said, and nothing more was written to a stream that failed
+pub record Breaks (unread : Option (List ℕ)) (a : Shown) (left : List ℕ) (left' o o' e e' : Option (List ℕ)) (i i' f f' g g' : ℕ) : Type 0 where
   pub lost : List ℕ
   pub kept : List ℕ
   pub more : List ℕ
@@ -161,8 +170,10 @@ pub record Breaks (a : Shown) (left : List ℕ) (left' o o' e e' : Option (List 
   pub is_read : lost ++ more ≡ a.read
   pub out_took : TakesFront o o' a.out
   pub line : List ℕ
-  pub is_said : (line ≡ a.err) ⊎ IsFaultLine line
+  pub is_said : IsSaid unread a i i' f f' line
   pub err_took : TakesFront e e' line
+  pub out_stops : f' ≤ f + 1
+  pub err_stops : g' ≤ g + 1
 
 -- an answer that is more than the line of want of memory
 abbrev pub SaysMore : Shown → Type 0

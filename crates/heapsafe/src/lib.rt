@@ -16,7 +16,7 @@ ghost use Rattle.heapsafe.specs.Answer.{Answers, AnswersTokens, AnswersFile, Ask
 ghost use Rattle.heapsafe.specs.Reading.{most_bytes};
 ghost use Rattle.heapsafe.specs.Shown.{Shown, input_fault, output_fault, text_fault};
 ghost use Rattle.heapsafe.specs.Program.{input_of, steady};
-ghost use Rattle.heapsafe.specs.Saying.{Breaks, Faults, Gives, HasCause, Refuses, Says, SaysMore, Wants, WriteFails, shown_of, unread};
+ghost use Rattle.heapsafe.specs.Saying.{Breaks, Faults, Gives, HasCause, Refuses, Says, SaysMore, Wants, WriteFails, shown_of, unread, unread_file};
 
 mod generated;
 mod leaks;
@@ -73,7 +73,7 @@ fn with_tree<I: Source, O: Sink, E: Sink>(
     ensures input_fault { I.faults input.old < I.faults input.new → Says (E.taken err.old) (E.taken err.new) (E.faults err.old) (E.faults err.new) input_fault.err 132 result }
     ensures output_fault { O.faults out.old < O.faults out.new → Says (E.taken err.old) (E.taken err.new) (E.faults err.old) (E.faults err.new) output_fault.err 133 result }
     ensures stays { RunsNone (task_shown task) → input.new ≡ input.old }
-    ensures broken { (left : List ℕ) → I.left input.old ≡ Some left → WriteFails (O.faults out.old) (O.faults out.new) (E.faults err.old) (E.faults err.new) → (a : Shown) → Does file.now text.now (unit_view unit.now) (steady left) (task_shown task) a → SaysMore a → Breaks a left (I.left input.new) (O.taken out.old) (O.taken out.new) (E.taken err.old) (E.taken err.new) }
+    ensures broken { (left : List ℕ) → I.left input.old ≡ Some left → WriteFails (O.faults out.old) (O.faults out.new) (E.faults err.old) (E.faults err.new) → (a : Shown) → Does file.now text.now (unit_view unit.now) (steady left) (task_shown task) a → SaysMore a → Breaks None a left (I.left input.new) (O.taken out.old) (O.taken out.new) (E.taken err.old) (E.taken err.new) (I.faults input.old) (I.faults input.new) (O.faults out.old) (O.faults out.new) (E.faults err.old) (E.faults err.new) }
     ensures memory { Wants (MeansNone (task_shown task) → (input.new ≡ input.old) × (out.new ≡ out.old)) (RunsNone (task_shown task) → ⊥) (E.taken err.old) (E.taken err.new) result }
     ensures cause { HasCause ((I.faults input.old < I.faults input.new) ⊎ WriteFails (O.faults out.old) (O.faults out.new) (E.faults err.old) (E.faults err.new)) (RunsNone (task_shown task) → ⊥) (E.taken err.old) (E.taken err.new) result }
     ensures refused { Refuses ((input.new ≡ input.old) × (out.new ≡ out.old)) (RunsNone (task_shown task) → ⊥) (E.taken err.old) (E.taken err.new) result }
@@ -126,7 +126,7 @@ fn with_tokens<I: Source, O: Sink, E: Sink>(
     ensures input_fault { I.faults input.old < I.faults input.new → Says (E.taken err.old) (E.taken err.new) (E.faults err.old) (E.faults err.new) input_fault.err 132 result }
     ensures output_fault { O.faults out.old < O.faults out.new → Says (E.taken err.old) (E.taken err.new) (E.faults err.old) (E.faults err.new) output_fault.err 133 result }
     ensures stays { RunsNone (task_shown task) → input.new ≡ input.old }
-    ensures broken { (left : List ℕ) → I.left input.old ≡ Some left → WriteFails (O.faults out.old) (O.faults out.new) (E.faults err.old) (E.faults err.new) → (a : Shown) → AnswersTokens file.now text.now tokens.now (steady left) (task_shown task) a → SaysMore a → Breaks a left (I.left input.new) (O.taken out.old) (O.taken out.new) (E.taken err.old) (E.taken err.new) }
+    ensures broken { (left : List ℕ) → I.left input.old ≡ Some left → WriteFails (O.faults out.old) (O.faults out.new) (E.faults err.old) (E.faults err.new) → (a : Shown) → AnswersTokens file.now text.now tokens.now (steady left) (task_shown task) a → SaysMore a → Breaks None a left (I.left input.new) (O.taken out.old) (O.taken out.new) (E.taken err.old) (E.taken err.new) (I.faults input.old) (I.faults input.new) (O.faults out.old) (O.faults out.new) (E.faults err.old) (E.faults err.new) }
     ensures memory { Wants (MeansNone (task_shown task) → (input.new ≡ input.old) × (out.new ≡ out.old)) (RunsNone (task_shown task) → ⊥) (E.taken err.old) (E.taken err.new) result }
     ensures cause { HasCause ((I.faults input.old < I.faults input.new) ⊎ WriteFails (O.faults out.old) (O.faults out.new) (E.faults err.old) (E.faults err.new)) (RunsNone (task_shown task) → ⊥) (E.taken err.old) (E.taken err.new) result }
     ensures refused { Refuses ((input.new ≡ input.old) × (out.new ≡ out.old)) (RunsNone (task_shown task) → ⊥) (E.taken err.old) (E.taken err.new) result }
@@ -158,7 +158,7 @@ fn with_file<T: Texts, I: Source, O: Sink, E: Sink>(
     ensures output_fault { O.faults out.old < O.faults out.new → Says (E.taken err.old) (E.taken err.new) (E.faults err.old) (E.faults err.new) output_fault.err 133 result }
     ensures stays { RunsNone (task_shown task) → input.new ≡ input.old }
     ensures text_fault { T.faults texts.old < T.faults texts.new → (input.new ≡ input.old) × (out.new ≡ out.old) × Says (E.taken err.old) (E.taken err.new) (E.faults err.old) (E.faults err.new) (text_fault file.now).err 121 result }
-    ensures broken { (told : List ℕ → List ℕ) (left : List ℕ) → T.texts texts.old ≡ Some told → I.left input.old ≡ Some left → WriteFails (O.faults out.old) (O.faults out.new) (E.faults err.old) (E.faults err.new) → (a : Shown) → AnswersFile file.now (told file.now) (steady left) (task_shown task) a → SaysMore a → Breaks a left (I.left input.new) (O.taken out.old) (O.taken out.new) (E.taken err.old) (E.taken err.new) }
+    ensures broken { (told : List ℕ → List ℕ) (left : List ℕ) → T.texts texts.old ≡ Some told → I.left input.old ≡ Some left → WriteFails (O.faults out.old) (O.faults out.new) (E.faults err.old) (E.faults err.new) → (a : Shown) → AnswersFile file.now (told file.now) (steady left) (task_shown task) a → SaysMore a → Breaks (unread_file (Some (OnFile file.now (task_shown task))) (T.faults texts.old) (T.faults texts.new)) a left (I.left input.new) (O.taken out.old) (O.taken out.new) (E.taken err.old) (E.taken err.new) (I.faults input.old) (I.faults input.new) (O.faults out.old) (O.faults out.new) (E.faults err.old) (E.faults err.new) }
     ensures memory { Wants (MeansNone (task_shown task) → (input.new ≡ input.old) × (out.new ≡ out.old)) (RunsNone (task_shown task) → ⊥) (E.taken err.old) (E.taken err.new) result }
     ensures cause { HasCause ((T.faults texts.old < T.faults texts.new) ⊎ (I.faults input.old < I.faults input.new) ⊎ WriteFails (O.faults out.old) (O.faults out.new) (E.faults err.old) (E.faults err.new)) (RunsNone (task_shown task) → ⊥) (E.taken err.old) (E.taken err.new) result }
     ensures refused { Refuses ((input.new ≡ input.old) × (out.new ≡ out.old)) (RunsNone (task_shown task) → ⊥) (E.taken err.old) (E.taken err.new) result }
@@ -186,8 +186,10 @@ fn with_file<T: Texts, I: Source, O: Sink, E: Sink>(
 /// the active calls would pass the stack.
 ///
 /// Where texts and input are told and neither texts nor streams failed, what is read and answered, and what each stream took that
-/// tells of it, is by `Answers`, or nothing but the line of want of memory. Where a write to a stream failed, the input lost, and
-/// each stream took, a front of what the answer reads and writes, or the error stream a front of the line of a failure.
+/// tells of it, is by `Answers`, or nothing but the line of want of memory. Where a write to a stream failed, the input lost a
+/// front of what the answer reads, the output took a front of what it writes, and nothing more was written to a stream that
+/// failed. The error stream then took a front of one line: of the file of the words where its text failed, of the input or the
+/// output where that failed, and else the answer's own, or the one for want of memory.
 ///
 /// The rest holds whatever is told. The status of a failure of the texts, the input or a stream comes only where that failed, and
 /// where it failed its line is said, unless the error stream fails. The status of want of memory comes with its line, and input
@@ -215,7 +217,7 @@ pub fn heapsafe<T: Texts, I: Source, O: Sink, E: Sink>(
     ensures no_file { AsksNoFile (command_of (map (λ w. w.now) words.now)) → (texts.new ≡ texts.old) × (input.new ≡ input.old) }
     ensures stays { AsksNone (command_of (map (λ w. w.now) words.now)) → input.new ≡ input.old }
     ensures text_fault { (file : List ℕ) (task : AskedTask) → command_of (map (λ w. w.now) words.now) ≡ Some (OnFile file task) → T.faults texts.old < T.faults texts.new → (input.new ≡ input.old) × (out.new ≡ out.old) × Says (E.taken err.old) (E.taken err.new) (E.faults err.old) (E.faults err.new) (text_fault file).err 121 result }
-    ensures broken { (told : List ℕ → List ℕ) (left : List ℕ) → T.texts texts.old ≡ Some told → I.left input.old ≡ Some left → WriteFails (O.faults out.old) (O.faults out.new) (E.faults err.old) (E.faults err.new) → (a : Shown) → Answers (map (λ w. w.now) words.now) told (steady left) a → SaysMore a → Breaks a left (I.left input.new) (O.taken out.old) (O.taken out.new) (E.taken err.old) (E.taken err.new) }
+    ensures broken { (told : List ℕ → List ℕ) (left : List ℕ) → T.texts texts.old ≡ Some told → I.left input.old ≡ Some left → WriteFails (O.faults out.old) (O.faults out.new) (E.faults err.old) (E.faults err.new) → (a : Shown) → Answers (map (λ w. w.now) words.now) told (steady left) a → SaysMore a → Breaks (unread_file (command_of (map (λ w. w.now) words.now)) (T.faults texts.old) (T.faults texts.new)) a left (I.left input.new) (O.taken out.old) (O.taken out.new) (E.taken err.old) (E.taken err.new) (I.faults input.old) (I.faults input.new) (O.faults out.old) (O.faults out.new) (E.faults err.old) (E.faults err.new) }
     ensures memory { Wants (AsksNoMeaning (command_of (map (λ w. w.now) words.now)) → (input.new ≡ input.old) × (out.new ≡ out.old)) (AsksNone (command_of (map (λ w. w.now) words.now)) → ⊥) (E.taken err.old) (E.taken err.new) result }
     ensures cause { HasCause ((T.faults texts.old < T.faults texts.new) ⊎ (I.faults input.old < I.faults input.new) ⊎ WriteFails (O.faults out.old) (O.faults out.new) (E.faults err.old) (E.faults err.new)) (AsksNone (command_of (map (λ w. w.now) words.now)) → ⊥) (E.taken err.old) (E.taken err.new) result }
     ensures refused { Refuses ((input.new ≡ input.old) × (out.new ≡ out.old)) (AsksNone (command_of (map (λ w. w.now) words.now)) → ⊥) (E.taken err.old) (E.taken err.new) result }

@@ -6,7 +6,7 @@ use Rattle.heapsafe.specs.Shown.{usage, no_memory, text_fault}
 use Rattle.heapsafe.specs.Program.{input_of, steady}
 use Rattle.heapsafe.specs.Answer.{Answers, AnswersGenerated, AnswersCommand, AsksNoMeaning, AsksNone}
 use Rattle.heapsafe.proofs.Told.{gives_said, gives_as, gives_left, one_file, usage_is}
-use Rattle.heapsafe.proofs.Broken.{broken_left, broken_said, wanting_line}
+use Rattle.heapsafe.proofs.Broken.{broken_asked, broken_left, broken_own, broken_read}
 use Rattle.std.specs.Prelude.{Option}
 use Rattle.heapsafe.specs.Saying.{Says}
 use Rattle.heapsafe.proofs.Statuses.{unwanted, wanted, wants_more, cause_more, caused, no_fault_120, no_fault_134, refused_more}
@@ -58,23 +58,27 @@ pub returns-in-Ok-OnFile-clause-broken : goal.returns-in-Ok-OnFile-clause-broken
 returns-in-Ok-OnFile-clause-broken g c = λ told left k l fails a is more.
     let words : List (List ℕ) = map (λ (w : Bor (List ℕ)). w.now) c.args.words.now in
     let read = subst (λ (command : Command). IsRead (command_of words) (Ok command)) c.in-Ok-OnFile.field-0-is c.in-Ok-OnFile.ensures.read in
-    c.with_file.ensures.broken told left k l fails a (subst (λ (command : Option Asked). AnswersCommand command told (steady left) a) read is) more
+    broken_asked _ _ a left _ _ _ _ _ _ _ _ _ _ _ _ _ read
+    (c.with_file.ensures.broken told left k l fails a (subst (λ (command : Option Asked). AnswersCommand command told (steady left) a) read is) more)
 
 pub returns-in-Ok-Generated-clause-broken : goal.returns-in-Ok-Generated-clause-broken
 returns-in-Ok-Generated-clause-broken g c = λ told left k l fails a is more.
     let words : List (List ℕ) = map (λ (w : Bor (List ℕ)). w.now) c.args.words.now in
     let read = subst (λ (command : Command). IsRead (command_of words) (Ok command)) c.in-Ok-Generated.field-0-is c.in-Ok-Generated.ensures.read in
-    broken_left a left _ _ _ _ _ l (c.run_generated.ensures.broken left fails a (subst (λ (command : Option Asked). AnswersCommand command told (steady left) a) read is))
+    broken_read (command_of words) a left _ _ _ _ _ _ _ _ _ _ _ _ _ refl
+    (broken_left a left _ _ _ _ _ _ _ _ _ _ _ l (c.run_generated.ensures.broken left _ fails a (subst (λ (command : Option Asked). AnswersCommand command told (steady left) a) read is)))
 
 pub returns-in-Err-Usage-clause-broken : goal.returns-in-Err-Usage-clause-broken
 returns-in-Err-Usage-clause-broken g c = λ told left k l fails a is more.
     let words : List (List ℕ) = map (λ (w : Bor (List ℕ)). w.now) c.args.words.now in
     let read = subst (λ (e : WordsError). IsRead (command_of words) (Err e)) c.in-Err-Usage.field-0-is c.in-Err-Usage.ensures.read in
-    broken_said usage a left _ _ _ _ _ _ _ _ (inl (subst (λ (command : Option Asked). AnswersCommand command told (steady left) a) read is)) l refl c.refuse.ensures.says
+    broken_read (command_of words) a left _ _ _ _ _ _ _ _ _ _ _ _ _ refl
+    (broken_own usage a left _ _ _ _ _ _ _ _ _ _ _ _ (inl (subst (λ (command : Option Asked). AnswersCommand command told (steady left) a) read is)) l refl refl refl c.refuse.ensures.says)
 
 pub returns-in-Err-NoMemory-clause-broken : goal.returns-in-Err-NoMemory-clause-broken
 returns-in-Err-NoMemory-clause-broken g c = λ told left k l fails a is more.
-    broken_said no_memory a left _ _ _ _ _ _ _ _ (inr wanting_line) l refl c.refuse-in-Err-NoMemory.ensures.says
+    broken_read (command_of (map (λ (w : Bor (List ℕ)). w.now) c.args.words.now)) a left _ _ _ _ _ _ _ _ _ _ _ _ _ refl
+    (broken_own no_memory a left _ _ _ _ _ _ _ _ _ _ _ _ (inr refl) l refl refl refl c.refuse-in-Err-NoMemory.ensures.says)
 
 pub returns-in-Ok-OnFile-clause-memory : goal.returns-in-Ok-OnFile-clause-memory
 returns-in-Ok-OnFile-clause-memory g c =

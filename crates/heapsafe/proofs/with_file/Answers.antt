@@ -1,14 +1,14 @@
 use Rattle.std.proofs.Common.{ℕ, ◌≡◌, ◌≤◌, List, sym, subst, refl, inl, inr}
-use Rattle.std.specs.Prelude.{Ok, length}
+use Rattle.std.specs.Prelude.{Ok, Some, length}
 use Rattle.c_lexer.specs.declared.token.Token.{Token}
 use Rattle.c_lexer.specs.Tokens.{IsOnlyAnswer, HasTokens}
 use Rattle.heapsafe.specs.Reading.{most_bytes}
 use Rattle.heapsafe.specs.Program.{input_of, steady}
 use Rattle.heapsafe.specs.Answer.{AnswersFile}
-use Rattle.command_words.specs.Commands.{task_shown}
+use Rattle.command_words.specs.Commands.{OnFile, task_shown}
 use Rattle.heapsafe.specs.Saying.{shown_of, unread, untokened}
 use Rattle.heapsafe.proofs.Told.{gives_said, says_as, unread_is, unread_silent, untokened_file, untokened_silent, gives_file, faults_as}
-use Rattle.heapsafe.proofs.Broken.{broken_said, lexed_file, unread_line_of, untokened_line}
+use Rattle.heapsafe.proofs.Broken.{broken_own, broken_read, broken_said, lexed_file, unread_said, untokened_line}
 use Rattle.heapsafe.proofs.Statuses.{unread_wants, untokened_wants, wanted, cause_more, caused, unread_cause, untokened_no_fault}
 use Rattle.heapsafe.proofs.with_file.Goals as goal
 
@@ -44,22 +44,24 @@ returns-clause-exact g c = λ told left k l same_texts same_out same_err.
 pub returns-in-Err-clause-broken : goal.returns-in-Err-clause-broken
 returns-in-Err-clause-broken g c = λ told left k l fails a is more.
     let says = says_as (shown_of c.reading_refusal.result) (unread c.in-Err.error c.args.file.now) c.reading_refusal.ensures _ _ _ _ _ c.refuse.ensures.says in
-    broken_said (unread c.in-Err.error c.args.file.now) a left _ _ _ _ _ _ _ _
-    (unread_line_of c.in-Err.error c.args.file.now (told c.args.file.now) (steady left) (task_shown c.args.task) a (c.in-Err.ensures.bytes told k) is)
-    l refl says
+    broken_said _ (unread c.in-Err.error c.args.file.now) a left _ _ _ _ _ _ _ _ _ _ _ _
+    (unread_said c.in-Err.error c.args.file.now (told c.args.file.now) (steady left) (task_shown c.args.task) a _ _ _ _ (c.in-Err.ensures.bytes told k) c.in-Err.ensures.cause is)
+    l refl refl says
 
 pub returns-in-Ok-lex-clause-broken : goal.returns-in-Ok-lex-clause-broken
 returns-in-Ok-lex-clause-broken g c = λ told left k l fails a is more.
     let read = subst (λ (t : List ℕ). (t ≡ told c.args.file.now) × (length (told c.args.file.now) ≤ most_bytes)) (sym c.as_slice-text.ensures) (c.in-Ok.ensures.bytes told k) in
     let has = subst (λ (ts : List Token). HasTokens c.as_slice-text.result.now ts) (sym c.as_slice.ensures) c.in-Ok-lex.ensures.tokens in
-    c.with_tokens.ensures.broken left l fails a (lexed_file c.args.file.now (told c.args.file.now) c.as_slice-text.result.now c.as_slice.result.now (steady left) (task_shown c.args.task) a read has is) more
+    broken_read (Some (OnFile c.args.file.now (task_shown c.args.task))) a left _ _ _ _ _ _ _ _ _ _ _ _ _ c.in-Ok.ensures.cause
+    (c.with_tokens.ensures.broken left l fails a (lexed_file c.args.file.now (told c.args.file.now) c.as_slice-text.result.now c.as_slice.result.now (steady left) (task_shown c.args.task) a read has is) more)
 
 pub returns-clause-broken : goal.returns-clause-broken
 returns-clause-broken g c = λ told left k l fails a is more.
     let read = subst (λ (t : List ℕ). (t ≡ told c.args.file.now) × (length (told c.args.file.now) ≤ most_bytes)) (sym c.as_slice-text.ensures) (c.in-Ok.ensures.bytes told k) in
-    broken_said (untokened c.in-Err-lex.error c.args.file.now c.as_slice-text.result.now) a left _ _ _ _ _ _ _ _
+    broken_read (Some (OnFile c.args.file.now (task_shown c.args.task))) a left _ _ _ _ _ _ _ _ _ _ _ _ _ c.in-Ok.ensures.cause
+    (broken_own (untokened c.in-Err-lex.error c.args.file.now c.as_slice-text.result.now) a left _ _ _ _ _ _ _ _ _ _ _ _
     (untokened_line c.in-Err-lex.error c.args.file.now (told c.args.file.now) c.as_slice-text.result.now (steady left) (task_shown c.args.task) a read c.in-Err-lex.ensures.refused is)
-    l refl c.refuse_text.ensures.says
+    l refl refl refl c.refuse_text.ensures.says)
 
 pub returns-in-Err-clause-memory : goal.returns-in-Err-clause-memory
 returns-in-Err-clause-memory g c =

@@ -6,7 +6,7 @@ use Rattle.heapsafe.specs.Saying.{unparsed}
 use Rattle.heapsafe.proofs.Told.{gives_said}
 use Rattle.heapsafe.proofs.Trees.{gives_tree, unparsed_is, unparsed_silent}
 use Rattle.std.proofs.Common.{refl, inr, inl}
-use Rattle.heapsafe.proofs.Broken.{broken_said, unparsed_line}
+use Rattle.heapsafe.proofs.Broken.{broken_own, unparsed_line}
 use Rattle.heapsafe.proofs.Statuses.{unparsed_wants, wanted, caused, unparsed_no_fault}
 use Rattle.heapsafe.proofs.with_tokens.Goals as goal
 
@@ -28,9 +28,9 @@ returns-in-Ok-clause-broken g c = λ left k fails a is more.
 
 pub returns-in-Err-clause-broken : goal.returns-in-Err-clause-broken
 returns-in-Err-clause-broken g c = λ left k fails a is more.
-    broken_said (unparsed c.in-Err.error c.args.file.now c.args.text.now) a left _ _ _ _ _ _ _ _
+    broken_own (unparsed c.in-Err.error c.args.file.now c.args.text.now) a left _ _ _ _ _ _ _ _ _ _ _ _
     (unparsed_line c.in-Err.error c.args.file.now c.args.text.now c.args.tokens.now (steady left) (task_shown c.args.task) a c.in-Err.ensures.refused is)
-    k refl c.refuse_tokens.ensures.says
+    k refl refl refl c.refuse_tokens.ensures.says
 
 pub returns-in-Err-clause-memory : goal.returns-in-Err-clause-memory
 returns-in-Err-clause-memory g c =

@@ -62,19 +62,19 @@ returns-in-Mean-clause-broken g c = λ left k fails a is more.
 
 pub returns-in-Print-clause-broken : goal.returns-in-Print-clause-broken
 returns-in-Print-clause-broken g c = λ left k fails a is more.
-    broken_left a left _ _ _ _ _ k (c.print.ensures.broken left fails a (subst (λ (t : Task). Does c.args.file.now c.args.text.now (unit_view c.args.unit.now) (steady left) (task_shown t) a) c.in-Print.is is))
+    broken_left a left _ _ _ _ _ _ _ _ _ _ _ k (c.print.ensures.broken left _ fails a (subst (λ (t : Task). Does c.args.file.now c.args.text.now (unit_view c.args.unit.now) (steady left) (task_shown t) a) c.in-Print.is is))
 
 pub returns-in-Layout-clause-broken : goal.returns-in-Layout-clause-broken
 returns-in-Layout-clause-broken g c = λ left k fails a is more.
-    broken_left a left _ _ _ _ _ k (c.layouts.ensures.broken left fails a (subst (λ (t : Task). Does c.args.file.now c.args.text.now (unit_view c.args.unit.now) (steady left) (task_shown t) a) c.in-Layout.is is))
+    broken_left a left _ _ _ _ _ _ _ _ _ _ _ k (c.layouts.ensures.broken left _ fails a (subst (λ (t : Task). Does c.args.file.now c.args.text.now (unit_view c.args.unit.now) (steady left) (task_shown t) a) c.in-Layout.is is))
 
 pub returns-in-List-clause-broken : goal.returns-in-List-clause-broken
 returns-in-List-clause-broken g c = λ left k fails a is more.
-    broken_left a left _ _ _ _ _ k (c.core_list.ensures.broken left fails a (subst (λ (t : Task). Does c.args.file.now c.args.text.now (unit_view c.args.unit.now) (steady left) (task_shown t) a) c.in-List.is is))
+    broken_left a left _ _ _ _ _ _ _ _ _ _ _ k (c.core_list.ensures.broken left _ fails a (subst (λ (t : Task). Does c.args.file.now c.args.text.now (unit_view c.args.unit.now) (steady left) (task_shown t) a) c.in-List.is is))
 
 pub returns-in-Live-clause-broken : goal.returns-in-Live-clause-broken
 returns-in-Live-clause-broken g c = λ left k fails a is more.
-    broken_left a left _ _ _ _ _ k (c.core_live.ensures.broken left fails a (subst (λ (t : Task). Does c.args.file.now c.args.text.now (unit_view c.args.unit.now) (steady left) (task_shown t) a) c.in-Live.is is))
+    broken_left a left _ _ _ _ _ _ _ _ _ _ _ k (c.core_live.ensures.broken left _ fails a (subst (λ (t : Task). Does c.args.file.now c.args.text.now (unit_view c.args.unit.now) (steady left) (task_shown t) a) c.in-Live.is is))
 
 pub returns-in-Run-clause-memory : goal.returns-in-Run-clause-memory
 returns-in-Run-clause-memory g c =

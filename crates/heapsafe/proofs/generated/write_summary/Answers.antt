@@ -19,12 +19,12 @@ returns-in-Ok-clause-exact g c = λ left same_out same_err. record {
 }
 
 pub returns-in-Ok-clause-broken : goal.returns-in-Ok-clause-broken
-returns-in-Ok-clause-broken g c = λ left fails a is.
+returns-in-Ok-clause-broken g c = λ left i fails a is.
     absurd (⊎_elim (λ h. omega (arith, h, c.in-Ok.ensures.cause)) (λ h. omega (arith, h)) fails)
 
 pub returns-in-Err-clause-broken : goal.returns-in-Err-clause-broken
-returns-in-Err-clause-broken g c = λ left fails a is.
-    broken_text (summary_line c.args.summary) a left _ _ _ _ _ _ _ is c.in-Err.ensures.bytes c.refuse.ensures.says
+returns-in-Err-clause-broken g c = λ left i fails a is.
+    broken_text (summary_line c.args.summary) a left _ _ _ _ _ _ _ _ _ _ is c.in-Err.ensures.cause c.in-Err.ensures.bytes c.refuse.ensures.says
 
 pub returns-in-Ok-clause-memory : goal.returns-in-Ok-clause-memory
 returns-in-Ok-clause-memory g c = λ is. absurd (omega (arith, is))

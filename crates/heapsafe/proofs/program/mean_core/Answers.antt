@@ -37,12 +37,12 @@ returns-in-Err-clause-faults g c = λ t.
 pub returns-in-Ok-clause-broken : goal.returns-in-Ok-clause-broken
 returns-in-Ok-clause-broken g c = λ left k fails a is more.
     let told = c.in-Ok.ensures.told left k in
-    broken_mean c.args.file.now c.args.text.now c.args.core.now left told.put _ _ _ _ _ _ _ _ told.took c.args.steps c.args.heap a c.in-Ok.end more is told.is c.finish.ensures.says
+    broken_mean c.args.file.now c.args.text.now c.args.core.now left told.put _ _ _ _ _ _ _ _ _ _ _ _ told.took c.args.steps c.args.heap a c.in-Ok.end more is c.in-Ok.ensures.faults told.is c.finish.ensures.says
 
 pub returns-in-Err-clause-broken : goal.returns-in-Err-clause-broken
 returns-in-Err-clause-broken g c = λ left k fails a is more.
     let told = c.in-Err.ensures.told left k in
-    broken_unfinished c.args.file.now c.args.text.now c.args.core.now left told.put _ _ _ _ _ _ _ _ told.took c.args.steps c.args.heap a more is told.is c.refuse.ensures.says
+    broken_unfinished c.args.file.now c.args.text.now c.args.core.now left told.put _ _ _ _ _ _ _ _ _ _ _ _ told.took c.args.steps c.args.heap a more is c.in-Err.ensures.faults told.is c.refuse.ensures.says
 
 pub returns-in-Ok-clause-memory : goal.returns-in-Ok-clause-memory
 returns-in-Ok-clause-memory g c = λ is.

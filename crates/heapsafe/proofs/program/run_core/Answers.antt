@@ -6,7 +6,7 @@ use Rattle.heapsafe.specs.Shown.{no_memory}
 use Rattle.heapsafe.specs.Program.{AnswersWay, input_of}
 use Rattle.heapsafe.proofs.Told.{gives_said, said_faults}
 use Rattle.heapsafe.proofs.Ended.{counts_said, gives_run, input_said, output_said, program_faults}
-use Rattle.heapsafe.proofs.Broken.{broken_run, broken_said, wanting_line}
+use Rattle.heapsafe.proofs.Broken.{broken_own, broken_run}
 use Rattle.heapsafe.proofs.Statuses.{wanted, caused, end_cause, no_fault_134, own_end, end_refused}
 use Rattle.heapsafe.proofs.program.run_core.Goals as goal
 
@@ -50,7 +50,7 @@ pub returns-in-Ok-clause-broken : goal.returns-in-Ok-clause-broken
 returns-in-Ok-clause-broken g c = λ left k fails a is more.
     let kept = c.in-Ok.machine.kept in
     let told = c.in-Ok.ensures.told left k in
-    broken_run c.args.file.now c.args.text.now c.args.core.now left told.put _ _ _ _ _ _ _ _ told.took c.args.limits c.args.steps c.args.leaks a c.in-Ok.end is told.is
+    broken_run c.args.file.now c.args.text.now c.args.core.now left told.put _ _ _ _ _ _ _ _ _ _ _ _ told.took c.args.limits c.args.steps c.args.leaks a c.in-Ok.end is c.in-Ok.ensures.faults told.is
     (record {
       none = c.finish_run.ensures.says;
       some = λ code asked exits.
@@ -61,7 +61,7 @@ returns-in-Ok-clause-broken g c = λ left k fails a is more.
 
 pub returns-in-Err-clause-broken : goal.returns-in-Err-clause-broken
 returns-in-Err-clause-broken g c = λ left k fails a is more.
-    broken_said no_memory a left _ _ _ _ _ _ _ _ (inr wanting_line) (ap g.I.Source.left c.in-Err.ensures.input_stays ∙ k) (ap g.O.Sink.taken c.in-Err.ensures.out_stays) c.refuse.ensures.says
+    broken_own no_memory a left _ _ _ _ _ _ _ _ _ _ _ _ (inr refl) (ap g.I.Source.left c.in-Err.ensures.input_stays ∙ k) (ap g.O.Sink.taken c.in-Err.ensures.out_stays) (ap g.I.Source.faults c.in-Err.ensures.input_stays) (ap g.O.Sink.faults c.in-Err.ensures.out_stays) c.refuse.ensures.says
 
 pub returns-in-Ok-clause-memory : goal.returns-in-Ok-clause-memory
 returns-in-Ok-clause-memory g c = λ is.

@@ -8,7 +8,7 @@ use Rattle.heapsafe.proofs.Typed.{gives_typed, untyped_program, untyped_silent}
 use Rattle.std.proofs.Common.{refl, subst, inr, inl}
 use Rattle.c_decls.specs.Refusals.{Checked}
 use Rattle.core_tree.specs.declared.program.Core.{Core}
-use Rattle.heapsafe.proofs.Broken.{broken_said, untyped_line}
+use Rattle.heapsafe.proofs.Broken.{broken_own, untyped_line}
 use Rattle.heapsafe.proofs.Statuses.{untyped_wants, wanted, caused, untyped_no_fault}
 use Rattle.heapsafe.proofs.program.run_program.Goals as goal
 
@@ -30,9 +30,9 @@ returns-in-Ok-clause-broken g c = λ left k fails a is more.
 
 pub returns-in-Err-clause-broken : goal.returns-in-Err-clause-broken
 returns-in-Err-clause-broken g c = λ left k fails a is more.
-    broken_said (untyped c.in-Err.error c.args.file.now c.args.text.now) a left _ _ _ _ _ _ _ _
+    broken_own (untyped c.in-Err.error c.args.file.now c.args.text.now) a left _ _ _ _ _ _ _ _ _ _ _ _
     (untyped_line c.in-Err.error c.args.file.now c.args.text.now (core_in (unit_view c.args.unit.now)) (steady left) c.args.way a c.in-Err.ensures.core is)
-    k refl c.refuse_types.ensures.says
+    k refl refl refl c.refuse_types.ensures.says
 
 pub returns-in-Err-clause-memory : goal.returns-in-Err-clause-memory
 returns-in-Err-clause-memory g c =

@@ -5,7 +5,7 @@ use Rattle.heapsafe.specs.Shown.{Shown, core_shown}
 use Rattle.heapsafe.specs.Saying.{untyped}
 use Rattle.heapsafe.proofs.Told.{gives_said, gives_same}
 use Rattle.heapsafe.proofs.Typed.{untyped_core, untyped_silent}
-use Rattle.heapsafe.proofs.Broken.{broken_said, said_either}
+use Rattle.heapsafe.proofs.Broken.{broken_own, said_either}
 use Rattle.heapsafe.proofs.Statuses.{untyped_wants, wanted, caused, untyped_no_fault}
 use Rattle.heapsafe.proofs.written.core_list.Goals as goal
 
@@ -20,14 +20,14 @@ returns-in-Err-clause-exact g c = λ left same_out same_err.
     (untyped_silent c.in-Err.error c.args.file.now c.args.text.now) refl refl same_err c.refuse_types.ensures.says
 
 pub returns-in-Ok-clause-broken : goal.returns-in-Ok-clause-broken
-returns-in-Ok-clause-broken g c = λ left fails a is.
-    c.write_core.ensures.broken left fails a (is ∙ ap (core_shown c.args.file.now c.args.text.now) c.in-Ok.ensures.core)
+returns-in-Ok-clause-broken g c = λ left i fails a is.
+    c.write_core.ensures.broken left i fails a (is ∙ ap (core_shown c.args.file.now c.args.text.now) c.in-Ok.ensures.core)
 
 pub returns-in-Err-clause-broken : goal.returns-in-Err-clause-broken
-returns-in-Err-clause-broken g c = λ left fails a is.
-    broken_said (untyped c.in-Err.error c.args.file.now c.args.text.now) a left _ _ _ _ _ _ _ _
+returns-in-Err-clause-broken g c = λ left i fails a is.
+    broken_own (untyped c.in-Err.error c.args.file.now c.args.text.now) a left _ _ _ _ _ _ _ _ _ _ _ _
     (said_either (untyped c.in-Err.error c.args.file.now c.args.text.now) a _ is (untyped_core c.in-Err.error c.args.file.now c.args.text.now (core_in (unit_view c.args.unit.now)) c.in-Err.ensures.core))
-    refl refl c.refuse_types.ensures.says
+    refl refl refl refl c.refuse_types.ensures.says
 
 pub returns-in-Err-clause-memory : goal.returns-in-Err-clause-memory
 returns-in-Err-clause-memory g c =
