@@ -1,7 +1,7 @@
 -- The type of an expression that is elaborated is the one that its types alone give it.
-use Rattle.std.proofs.Common.{◌≡◌, ◌&&◌, ℕ, pos, Bool, true, false, not, cond, List, Option, Some, Ok, Err, refl, sym, ap, ◌∙◌, subst}
+use Rattle.std.proofs.Common.{◌≡◌, ◌&&◌, ℕ, pos, Bool, true, false, not, cond, List, Option, Some, Ok, Err, refl, sym, ap, ◌∙◌, subst, ◌+◌, [], ◌∷◌, length, None}
 use Rattle.c_types.specs.declared.types.IntType.TheVariants as i
-use Rattle.c_types.specs.Types.{PlainType}
+use Rattle.c_types.specs.Types.{PlainType, PlainTypes, Void, Int, Pointer, Array}
 use Rattle.c_types.specs.TagTable.{TagTable}
 use Rattle.core_tree.specs.declared.statements.Atom.{Atom}
 use Rattle.core_tree.specs.declared.statements.Atom.TheVariants as atom
@@ -12,26 +12,32 @@ use Rattle.c_tree.specs.declared.operator.BinaryOp.{BinaryOp}
 use Rattle.c_tree.specs.declared.operator.BinaryOp.TheVariants as b
 use Rattle.c_tree.specs.declared.operator.AssignOp.{AssignOp}
 use Rattle.c_tree.specs.declared.operator.AssignOp.TheVariants as a
-use Rattle.c_tree.specs.Tree.{Tree}
-use Rattle.c_decls.specs.declared.refusal.TypeKind.TheVariants.{NotLvalue, Operands}
+use Rattle.c_tree.specs.Tree.{Tree, Trees, Leaf, At, Node, none, ◌▹◌}
+use Rattle.c_decls.specs.declared.refusal.TypeKind.TheVariants.{NotLvalue, Operands, TypeTooLarge}
 use Rattle.c_decls.specs.Refusals.{Checked, then, unless}
 use Rattle.c_decls.specs.Named as n
 use Rattle.c_decls.specs.Named.{PlainNamed}
-use Rattle.c_decls.specs.Typed.{PlainTyped, Operand, Number, PointerTo, Neither, operand, read, is_null_constant, int, is_void, has_no_value, wanted_value}
+use Rattle.c_decls.specs.Typed.{PlainTyped, Operand, Number, PointerTo, Neither, operand, read, is_null_constant, int, is_void, has_no_value, wanted_value, place, value, is_record, constant}
 use Rattle.c_decls.specs.TypeRules.{address, unary, unary_of, binary}
-use Rattle.c_decls.specs.PlaceRules.{held_place, element, dot, arrow, cast, choice, assigned, changed, changed_types, is_written}
-use Rattle.c_decls.specs.Callees.{named}
+use Rattle.c_decls.specs.PlaceRules.{held_place, element, dot, arrow, cast, choice, assigned, changed, changed_types, is_written, behind_comma}
+use Rattle.c_decls.specs.Callees.{named, Callee, Takes, Prints, NoFunction, called, call, no_function}
 use Rattle.c_decls.specs.TypeNames as names
 use Rattle.c_decls.specs.Expressions as types
-use Rattle.c_decls.specs.Expressions.{line_of, answered, wanted, one, two, string, typed, values}
-use Rattle.elaboration.specs.Context.{Code, Context, With, asked, told, emit, here}
-use Rattle.elaboration.specs.Conversions.{Found, Value, Empty, Unknown, found_as, atom_in, read_spot, read_value, code_line, valued_from, valued, convert, forget, Nowhere, tested_value, size_or_zero, unused, wanted_from}
+use Rattle.c_decls.specs.Expressions.{line_of, answered, wanted, one, two, string, typed, values, calling, int_constant, char_constant, joined, literal, first_literal, typename}
+use Rattle.elaboration.specs.Context.{Code, Context, With, asked, told, emit, here, new_label}
+use Rattle.elaboration.specs.Conversions.{Found, Value, Empty, Unknown, found_as, atom_in, read_spot, read_value, code_line, valued_from, valued, convert, forget, Nowhere, tested_value, size_or_zero, unused, wanted_from, valued_as}
 use Rattle.elaboration.specs.Operations.{combined, fixed_sum, offset_of, operator_of, changed_to}
-use Rattle.elaboration.specs.Rules.{constant_found, object_found, built_in_found, name_found, is_inner, with_literal, literal_found, at_address, with_value, indexed, member_of, dotted, target_of, pointed, apply, applied, before_number, left_operand, tells_equal, is_pointer_ahead, ahead, between, cast_fixed, cast_to, and_ends, and_ended, or_ends, or_ended, choose_first, choose_last, choice_found, chosen}
+use Rattle.elaboration.specs.Rules.{constant_found, object_found, built_in_found, name_found, is_inner, with_literal, literal_found, at_address, with_value, indexed, member_of, dotted, target_of, pointed, apply, applied, before_number, left_operand, tells_equal, is_pointer_ahead, ahead, between, cast_fixed, cast_to, and_ends, and_ended, or_ends, or_ended, choose_first, choose_last, choice_found, chosen, and_then, or_else, choose, type_ahead}
 use Rattle.elaboration.specs.Assignments.{record_assigned, set_to, scalar_assigned, old_value, change_place, changed_answer, changed_by, one_found, stepped}
-use Rattle.elaboration.specs.Expressions.{name_answer, literal_answer, unevaluated, address_answer, changing, cast_operand}
+use Rattle.elaboration.specs.Expressions.{name_answer, literal_answer, unevaluated, address_answer, changing, cast_operand, comma_answer, callee_name, callee, parameters, format_argument, is_printf, call_answer, found, arguments}
 use Rattle.core_soundness.proofs.Grown.{good, bad, ok_same, never}
-use Rattle.core_soundness.proofs.Quiet.{Quiet, quiet_read, quiet_convert, quiet_tested_value, quiet_write, quiet_before, quiet_combined, quiet_changed, quiet_literal, quiet_compare_again, quiet_chosen_by, quiet_choose_last}
+use Rattle.core_soundness.proofs.Quiet.{Quiet, quiet_read, quiet_convert, quiet_tested_value, quiet_write, quiet_before, quiet_combined, quiet_changed, quiet_literal, quiet_compare_again, quiet_chosen_by, quiet_choose_last, quiet_argument, quiet_call}
+use Rattle.c_types.specs.Types as ct
+use Rattle.c_tree.specs.Words as w
+use Rattle.c_tree.specs.Forms as f
+use Rattle.c_decls.specs.ScopeList.{found as declaration}
+use Rattle.c_decls.specs.PlaceRules as rules
+use Rattle.elaboration.specs.Calls.{Argument, types_of, first_type, rest_types, argument_from, call_named}
 
 -- what came before an answer
 pub record Came {A B : Type 0} (r : Checked A) (next : A → Checked B) (y : B) : Type 0 where
@@ -304,3 +310,287 @@ stepped_rule line op keeps_old d z h =
       typed = ap (λ (m : names.Context). changed line op m.tags d.1.typed int) (sym same) ∙ rule.typed;
       same = rule.same ∙ same;
     }
+
+-- the type of an expression that is elaborated is the one that its types alone give it: calls, and all forms
+
+-- what is called
+
+abbrev CalleeAgrees : Checked (names.Context × Callee) → Context × Callee → Type 0
+CalleeAgrees x z = x ≡ Ok (asked z.0, z.1)
+
+name_callee : (r : Checked Callee) (c : Context) (z : Context × Callee) → then r (λ function. good (c, function)) ≡ Ok z → CalleeAgrees (then r (λ function. good (asked c, function))) z
+name_callee (Ok function) c z h = subst (CalleeAgrees (good (asked c, function))) (ok_same (c, function) z h) refl
+name_callee (Err x) c z h = never (CalleeAgrees (bad x) z) x z h
+
+other_callee : (tree : Tree) (answer : With Found) (x : types.Found) (z : Context × Callee) → ((d : Context × Found) → answer ≡ Ok d → Agreed x d) → then (valued tree answer) (λ d. good (d.0, NoFunction)) ≡ Ok z
+    → CalleeAgrees (then x (λ d. then (no_function (line_of tree) d.0.tags (Ok d.1)) (λ function. good (d.0, function)))) z
+other_callee tree answer x z h e =
+    let v = came (valued tree answer) e in
+    let d = came answer v.is in
+    let rule = wanted_from_rule tree d.value.0 d.value.1 v.value d.last in
+    let same : (v.value.0, NoFunction) ≡ z = ok_same (v.value.0, NoFunction) z v.last in
+    ap (λ (y : types.Found). then y (λ d. then (no_function (line_of tree) d.0.tags (Ok d.1)) (λ function. good (d.0, function)))) (h d.value d.is)
+    ∙ ap (λ (y : Checked PlainTyped). then (then y (λ held. good NoFunction)) (λ function. good (asked d.value.0, function))) rule.typed
+    ∙ ap (λ (m : names.Context). good (m, NoFunction)) (sym rule.same)
+    ∙ ap (λ (y : Context × Callee). good (asked y.0, y.1)) same
+
+callee_agrees : (tree : Tree) (c : Context) (answer : With Found) (x : types.Found) (z : Context × Callee) → ((d : Context × Found) → answer ≡ Ok d → Agreed x d) → callee tree c answer ≡ Ok z → CalleeAgrees (types.callee tree (asked c) x) z
+callee_agrees (Node f.Name (At line ▹ Leaf (w.Name name) ▹ none)) c answer x z h e = name_callee (called line c.tags (declaration c.scopes name)) c z e
+callee_agrees tree c answer x z h e = other_callee tree answer x z h e
+
+-- formats: string literals stand for themselves
+
+string_text : (test : Bool) (line k : ℕ) (known : names.Context) (t : names.Context × PlainTyped) → then (unless test TypeTooLarge line (good (place (Array (Int i.Char) k)))) (λ e. good (known, e)) ≡ Ok t
+    → t ≡ (known, place (Array (Int i.Char) k))
+string_text true line k known t h = never (t ≡ (known, place (Array (Int i.Char) k))) _ t h
+string_text false line k known t h = sym (ok_same (known, place (Array (Int i.Char) k)) t h)
+
+abbrev TextOf : Option (List ℕ) → names.Context → names.Context × PlainTyped → Type 0
+TextOf None known t = Unit {0}
+TextOf (Some bytes) known t = (k : ℕ) × (t ≡ (known, place (Array (Int i.Char) k)))
+
+text_of : (e : Tree) (known : names.Context) (t : names.Context × PlainTyped) → typed e known ≡ Ok t → TextOf (literal e) known t
+unfolding typed
+text_of (Node f.Str (At line ▹ Node f.Strings parts ▹ none)) known t h = (length (joined parts) + 1, string_text _ line (length (joined parts) + 1) known t h)
+text_of (Node f.Paren (At line ▹ e ▹ none)) known t h = text_of e known t h
+text_of e known t h = tt
+
+-- arguments
+
+-- the types of arguments agree, but for that of a format
+abbrev SameTypes : Callee → List PlainTyped → List PlainTyped → Type 0
+SameTypes Prints [] [] = Unit {0}
+SameTypes Prints [] (y ∷ ys) = ⊥
+SameTypes Prints (x ∷ xs) [] = ⊥
+SameTypes Prints (x ∷ xs) (y ∷ ys) = xs ≡ ys
+SameTypes (Takes answer params) xs ys = xs ≡ ys
+SameTypes NoFunction xs ys = xs ≡ ys
+
+same_all : (function : Callee) (xs : List PlainTyped) → SameTypes function xs xs
+same_all Prints [] = tt
+same_all other xs = refl
+
+same_rest : (function : Callee) (x : PlainTyped) (xs ys : List PlainTyped) → xs ≡ ys → SameTypes function (x ∷ xs) (x ∷ ys)
+same_rest Prints x xs ys e = e
+same_rest other x xs ys e = ap (λ (l : List PlainTyped). x ∷ l) e
+
+call_same : (line : ℕ) (format : Option (List ℕ)) (function : Callee) (xs ys : List PlainTyped) → SameTypes function xs ys → call line format function xs ≡ call line format function ys
+call_same line format (Takes answer params) xs ys h = ap (λ (l : List PlainTyped). call line format (Takes answer params) l) h
+call_same line format NoFunction xs ys h = refl
+call_same line None Prints xs ys h = refl
+call_same line (Some bytes) Prints [] [] h = refl
+call_same line (Some bytes) Prints [] (y ∷ ys) h = absurd h
+call_same line (Some bytes) Prints (x ∷ xs) [] h = absurd h
+call_same line (Some bytes) Prints (x ∷ xs) (y ∷ ys) h = ap (λ (l : List PlainTyped). call line (Some bytes) Prints (x ∷ l)) h
+
+argument_typed : (line : ℕ) (params : PlainTypes) (before : Code) (c : Context) (e : Found) → (argument_from line params before c e).1.0 ≡ e.typed
+argument_typed line ct.none before c e = refl
+argument_typed line (ct.first type rest) before c e = refl
+
+-- an argument with its type as a value
+record Argued (function : Callee) (x : types.Found) (c : Context) (d : Context × Found) : Type 0 where
+  type : PlainTyped
+  is : x ≡ Ok (asked d.0, type)
+  same : (xs ys : List PlainTyped) → xs ≡ ys → SameTypes function (d.1.typed ∷ xs) (type ∷ ys)
+
+argued_value : (function : Callee) (x : types.Found) (c : Context) (d : Context × Found) → Agreed x d → Argued function x c d
+argued_value function x c d h = record { type = d.1.typed; is = h; same = λ xs ys e. same_rest function d.1.typed xs ys e }
+
+format_argued : (format : Option (List ℕ)) (e : Tree) (c : Context) (walked : With Found) (d : Context × Found) → format ≡ literal e → ((z : Context × Found) → walked ≡ Ok z → Agreed (wanted e (typed e (asked c))) z)
+    → format_argument format c (typed e (asked c)) walked ≡ Ok d → Argued Prints (wanted e (typed e (asked c))) c d
+format_argued None e c walked d is h k = argued_value Prints (wanted e (typed e (asked c))) c d (h d k)
+format_argued (Some bytes) e c walked d is h k =
+    let t = came (typed e (asked c)) k in
+    let text : TextOf (Some bytes) (asked c) t.value = subst (λ (o : Option (List ℕ)). TextOf o (asked c) t.value) (sym is) (text_of e (asked c) t.value t.is) in
+    let same : (c, valued_as t.value.1 atom.Null) ≡ d = ok_same (c, valued_as t.value.1 atom.Null) d t.last in
+    subst (Argued Prints (wanted e (typed e (asked c))) c) same
+    (record {
+      type = value (Pointer (Int i.Char));
+      is = wanted_is e (typed e (asked c)) (asked c) (place (Array (Int i.Char) text.0)) (value (Pointer (Int i.Char))) (t.is ∙ ap (λ (x : names.Context × PlainTyped). good x) text.1) refl;
+      same = λ xs ys q. q;
+    })
+
+argued : (function : Callee) (e : Tree) (c : Context) (walked : With Found) (d : Context × Found) → ((z : Context × Found) → walked ≡ Ok z → Agreed (wanted e (typed e (asked c))) z)
+    → format_argument (is_printf function e) c (typed e (asked c)) walked ≡ Ok d → Argued function (wanted e (typed e (asked c))) c d
+argued Prints e c walked d h k = format_argued (literal e) e c walked d refl h k
+argued (Takes answer params) e c walked d h k = argued_value (Takes answer params) (wanted e (typed e (asked c))) c d (h d k)
+argued NoFunction e c walked d h k = argued_value NoFunction (wanted e (typed e (asked c))) c d (h d k)
+
+record ArgumentsAgree (function : Callee) (x : Checked (names.Context × List PlainTyped)) (z : Context × List Argument) : Type 0 where
+  types : List PlainTyped
+  is : x ≡ Ok (asked z.0, types)
+  same : SameTypes function (types_of z.1) types
+
+call_rule : (line : ℕ) (name : Option PlainNamed) (function : Callee) (wish : PlainType) (trees : Trees) (c : Context) (vs : List Argument) (z : Context × Found) → call_answer line name function wish trees c vs ≡ Ok z
+    → Ruled (call line (first_literal trees) function (types_of vs)) (asked c) z
+call_rule line name function wish trees c vs z h =
+    ruled (call line (first_literal trees) function (types_of vs)) (λ e. let d = call_named line name e.type wish (first_literal trees) vs c in (d.0, found_as e d.1 Unknown)) (asked c) z (λ t. refl)
+    (λ t. quiet_call line name t.type wish (first_literal trees) vs c) h
+
+calling_is : (line : ℕ) (trees : Trees) (x : Checked (names.Context × Callee)) (y : names.Context → Checked (names.Context × List PlainTyped)) (known later : names.Context) (function : Callee) (ts : List PlainTyped) (t : PlainTyped)
+    → x ≡ Ok (known, function) → y known ≡ Ok (later, ts) → call line (first_literal trees) function ts ≡ Ok t → calling line trees x y ≡ Ok (later, t)
+calling_is line trees x y known later function ts t e h k =
+    ap (λ (p : Checked (names.Context × Callee)). calling line trees p y) e
+    ∙ ap (λ (p : Checked (names.Context × List PlainTyped)). then p (λ v. answered v.0 (call line (first_literal trees) function v.1))) h
+    ∙ answered_is later (call line (first_literal trees) function ts) t k
+
+-- one operand and its rule, and two
+
+one_agrees : (x : types.Found) (rule : TagTable → PlainTyped → Checked PlainTyped) (d z : Context × Found) → Agreed x d → Ruled (rule (asked d.0).tags d.1.typed) (asked d.0) z → Agreed (one x rule) z
+one_agrees x rule d z e r = finish (one x rule) (asked d.0) z (one_is x rule (asked d.0) d.1.typed z.1.typed e r.typed) r.same
+
+two_agrees : (x : types.Found) (y : names.Context → types.Found) (rule : TagTable → PlainTyped → PlainTyped → Checked PlainTyped) (d r z : Context × Found) → Agreed x d → Agreed (y (asked d.0)) r → Ruled (rule (asked r.0).tags d.1.typed r.1.typed) (asked r.0) z → Agreed (two x y rule) z
+two_agrees x y rule d r z e h k = finish (two x y rule) (asked r.0) z (two_is x y rule (asked d.0) (asked r.0) d.1.typed r.1.typed z.1.typed e h k.typed) k.same
+
+assigned_rule : (test : Bool) (line : ℕ) (before : Code) (g : Tree) (target : Found) (r z : Context × Found) → cond test (record_assigned line (line_of g) target r) (scalar_assigned line before g target r) ≡ Ok z
+    → Ruled (assigned line (line_of g) r.0.tags target.typed r.1.typed) (asked r.0) z
+assigned_rule true line before g target r z h = record_rule line (line_of g) target r z h
+assigned_rule false line before g target r z h = scalar_rule line before g target r z h
+
+mutual
+  unfolding found arguments typed values
+
+  pub found_agrees : (tree : Tree) (wish : PlainType) (c : Context) (z : Context × Found) → found tree wish c ≡ Ok z → Agreed (typed tree (asked c)) z
+  found_agrees (Node f.Name (At line ▹ Leaf (w.Name name) ▹ none)) wish c z h = name_agrees line name (declaration c.scopes name) c z h
+  found_agrees (Node f.Int (At line ▹ Leaf (w.Int bytes) ▹ none)) wish c z h = ok_agrees c (constant_found (constant (int_constant bytes))) z h
+  found_agrees (Node f.Char (At line ▹ Leaf (w.Char bytes) ▹ none)) wish c z h = ok_agrees c (constant_found (constant (char_constant bytes))) z h
+  found_agrees (Node f.Str (At line ▹ Node f.Strings parts ▹ none)) wish c z h = string_agrees line (joined parts) c z h
+  found_agrees (Node f.Paren (At line ▹ e ▹ none)) wish c z h = found_agrees e wish c z h
+  found_agrees (Node f.Index (At line ▹ e ▹ g ▹ none)) wish c z h =
+      let d = came (valued e (found e Void c)) h in
+      let r = came (valued g (found g Void d.value.0)) d.last in
+      two_agrees (wanted e (typed e (asked c))) (λ k. wanted g (typed g k)) (element line) d.value r.value z
+      (valued_agrees e (found e Void c) (typed e (asked c)) d.value (λ x k. found_agrees e Void c x k) d.is)
+      (valued_agrees g (found g Void d.value.0) (typed g (asked d.value.0)) r.value (λ x k. found_agrees g Void d.value.0 x k) r.is)
+      (indexed_rule line r.value.0 d.value.1 r.value.1 z r.last)
+  found_agrees (Node f.Call (At line ▹ e ▹ Node f.Arguments trees ▹ none)) wish c z h =
+      let d = came (callee e c (found e Void c)) h in
+      let v = came (arguments line d.value.1 (parameters d.value.1) trees d.value.0) d.last in
+      let called_one = callee_agrees e c (found e Void c) (typed e (asked c)) d.value (λ x k. found_agrees e Void c x k) d.is in
+      let args = arguments_agree trees line d.value.1 (parameters d.value.1) d.value.0 v.value v.is in
+      let rule = call_rule line (callee_name e c) d.value.1 wish trees v.value.0 v.value.1 z v.last in
+      finish (calling line trees (types.callee e (asked c) (typed e (asked c))) (λ k. values trees k)) (asked v.value.0) z
+      (calling_is line trees (types.callee e (asked c) (typed e (asked c))) (λ k. values trees k) (asked d.value.0) (asked v.value.0) d.value.1 args.types z.1.typed called_one args.is
+      (sym (call_same line (first_literal trees) d.value.1 (types_of v.value.1) args.types args.same) ∙ rule.typed)) rule.same
+  found_agrees (Node f.Dot (At line ▹ e ▹ Leaf (w.Name name) ▹ none)) wish c z h =
+      let d = came (found e Void c) h in
+      one_agrees (typed e (asked c)) (dot line name) d.value z (found_agrees e Void c d.value d.is) (dotted_rule line name d.value.0 d.value.1 z d.last)
+  found_agrees (Node f.Arrow (At line ▹ e ▹ Leaf (w.Name name) ▹ none)) wish c z h =
+      let d = came (valued e (found e Void c)) h in
+      one_agrees (wanted e (typed e (asked c))) (arrow line name) d.value z (valued_agrees e (found e Void c) (typed e (asked c)) d.value (λ x k. found_agrees e Void c x k) d.is) (pointed_rule line name d.value.0 d.value.1 z d.last)
+  found_agrees (Node f.PostInc (At line ▹ e ▹ none)) wish c z h =
+      let d = came (changing e (found e Void c)) h in
+      one_agrees (types.changing e (typed e (asked c))) (rules.stepped line) d.value z (changing_agrees e (found e Void c) (typed e (asked c)) d.value (λ x k. found_agrees e Void c x k) d.is) (stepped_rule line a.Add true d.value z d.last)
+  found_agrees (Node f.PostDec (At line ▹ e ▹ none)) wish c z h =
+      let d = came (changing e (found e Void c)) h in
+      let rule = stepped_rule line a.Subtract true d.value z d.last in
+      one_agrees (types.changing e (typed e (asked c))) (rules.stepped line) d.value z (changing_agrees e (found e Void c) (typed e (asked c)) d.value (λ x k. found_agrees e Void c x k) d.is)
+      (record { typed = sym (stepped_alike line d.value.0.tags d.value.1.typed) ∙ rule.typed; same = rule.same })
+  found_agrees (Node f.PreInc (At line ▹ e ▹ none)) wish c z h =
+      let d = came (changing e (found e Void c)) h in
+      one_agrees (types.changing e (typed e (asked c))) (rules.stepped line) d.value z (changing_agrees e (found e Void c) (typed e (asked c)) d.value (λ x k. found_agrees e Void c x k) d.is) (stepped_rule line a.Add false d.value z d.last)
+  found_agrees (Node f.PreDec (At line ▹ e ▹ none)) wish c z h =
+      let d = came (changing e (found e Void c)) h in
+      let rule = stepped_rule line a.Subtract false d.value z d.last in
+      one_agrees (types.changing e (typed e (asked c))) (rules.stepped line) d.value z (changing_agrees e (found e Void c) (typed e (asked c)) d.value (λ x k. found_agrees e Void c x k) d.is)
+      (record { typed = sym (stepped_alike line d.value.0.tags d.value.1.typed) ∙ rule.typed; same = rule.same })
+  found_agrees (Node (f.Unary u.Address) (At line ▹ e ▹ none)) wish c z h =
+      let d = came (found e Void c) h in
+      one_agrees (typed e (asked c)) (λ tags x. address line x) d.value z (found_agrees e Void c d.value d.is) (address_rule line d.value.0 d.value.1 z d.last)
+  found_agrees (Node (f.Unary op) (At line ▹ e ▹ none)) wish c z h =
+      let d = came (valued e (found e Void c)) h in
+      one_agrees (wanted e (typed e (asked c))) (unary line op) d.value z (valued_agrees e (found e Void c) (typed e (asked c)) d.value (λ x k. found_agrees e Void c x k) d.is) (applied_rule line op e d.value.0 d.value.1 z d.last)
+  found_agrees (Node f.SizeofExpr (At line ▹ e ▹ none)) wish c z h = unevaluated_agrees (typed (Node f.SizeofExpr (At line ▹ e ▹ none)) (asked c)) c z h
+  found_agrees (Node f.SizeofType (At line ▹ name ▹ none)) wish c z h = unevaluated_agrees (typed (Node f.SizeofType (At line ▹ name ▹ none)) (asked c)) c z h
+  found_agrees (Node f.Cast (At line ▹ name ▹ e ▹ none)) wish c z h =
+      let t = came (typename name (asked c)) h in
+      let d = came (cast_operand t.value.1 e (found e t.value.1 (told t.value.0 c))) t.last in
+      ap (λ (x : Checked (names.Context × PlainType)). then x (λ t. one (types.cast_operand t.1 e (typed e t.0)) (λ tags x. cast line t.1 x))) t.is
+      ∙ one_agrees (types.cast_operand t.value.1 e (typed e t.value.0)) (λ tags x. cast line t.value.1 x) d.value z
+      (cast_agrees t.value.1 e (found e t.value.1 (told t.value.0 c)) (typed e t.value.0) d.value (λ x k. found_agrees e t.value.1 (told t.value.0 c) x k) d.is) (cast_rule line t.value.1 c.code d.value.0 d.value.1 z d.last)
+  found_agrees (Node (f.Binary b.And) (At line ▹ e ▹ g ▹ none)) wish c z h =
+      let d = came (valued e (found e Void c)) h in
+      let begun = and_then line e d.value in
+      let r = came (valued g (found g Void begun)) d.last in
+      let quiet : asked begun ≡ asked d.value.0 = quiet_tested_value e d.value in
+      two_agrees (wanted e (typed e (asked c))) (λ k. wanted g (typed g k)) (binary line b.And) d.value r.value z
+      (valued_agrees e (found e Void c) (typed e (asked c)) d.value (λ x k. found_agrees e Void c x k) d.is)
+      (subst (λ (m : names.Context). Agreed (wanted g (typed g m)) r.value) quiet (valued_agrees g (found g Void begun) (typed g (asked begun)) r.value (λ x k. found_agrees g Void begun x k) r.is))
+      (and_rule line (new_label d.value.0) g d.value.1 r.value z r.last)
+  found_agrees (Node (f.Binary b.Or) (At line ▹ e ▹ g ▹ none)) wish c z h =
+      let d = came (valued e (found e Void c)) h in
+      let begun = or_else line e d.value in
+      let r = came (valued g (found g Void begun.0)) d.last in
+      let quiet : asked begun.0 ≡ asked d.value.0 = quiet_tested_value e d.value in
+      two_agrees (wanted e (typed e (asked c))) (λ k. wanted g (typed g k)) (binary line b.Or) d.value r.value z
+      (valued_agrees e (found e Void c) (typed e (asked c)) d.value (λ x k. found_agrees e Void c x k) d.is)
+      (subst (λ (m : names.Context). Agreed (wanted g (typed g m)) r.value) quiet (valued_agrees g (found g Void begun.0) (typed g (asked begun.0)) r.value (λ x k. found_agrees g Void begun.0 x k) r.is))
+      (or_rule line (new_label d.value.0 + 1) g begun.1 d.value.1 r.value z r.last)
+  found_agrees (Node (f.Binary op) (At line ▹ e ▹ g ▹ none)) wish c z h =
+      let d = came (valued e (found e Void c)) h in
+      let begun = left_operand op c.code g d.value in
+      let r = came (valued g (found g Void begun.0)) d.last in
+      let quiet : asked begun.0 ≡ asked d.value.0 = quiet_left op c.code g d.value in
+      let rule = between_rule line op begun.0.code r.value.0 begun.1 r.value.1 z r.last in
+      two_agrees (wanted e (typed e (asked c))) (λ k. wanted g (typed g k)) (binary line op) d.value r.value z
+      (valued_agrees e (found e Void c) (typed e (asked c)) d.value (λ x k. found_agrees e Void c x k) d.is)
+      (subst (λ (m : names.Context). Agreed (wanted g (typed g m)) r.value) quiet (valued_agrees g (found g Void begun.0) (typed g (asked begun.0)) r.value (λ x k. found_agrees g Void begun.0 x k) r.is))
+      (record { typed = ap (λ (t : PlainTyped). binary line op r.value.0.tags t r.value.1.typed) (sym (left_typed op c.code g d.value)) ∙ rule.typed; same = rule.same })
+  found_agrees (Node f.Cond (At line ▹ e ▹ g ▹ k ▹ none)) wish c z h =
+      let d = came (valued e (found e Void c)) h in
+      let begun = choose line e d.value in
+      let x = came (valued g (found g Void begun)) d.last in
+      let first = choose_first line (new_label d.value.0) begun.code (type_ahead line d.value.1 k x.value) x.value in
+      let y = came (valued k (found k Void first.0)) x.last in
+      let quiet : asked begun ≡ asked d.value.0 = quiet_tested_value e d.value in
+      let quiet2 : asked first.0 ≡ asked x.value.0 = quiet_first line (new_label d.value.0) begun.code (type_ahead line d.value.1 k x.value) x.value in
+      ap (λ (p : types.Found). then p (λ test. two (wanted g (typed g test.0)) (λ m. wanted k (typed k m)) (λ tags v q. choice line test.1 v q)))
+      (valued_agrees e (found e Void c) (typed e (asked c)) d.value (λ v q. found_agrees e Void c v q) d.is)
+      ∙ two_agrees (wanted g (typed g (asked d.value.0))) (λ m. wanted k (typed k m)) (λ tags v q. choice line d.value.1.typed v q) x.value y.value z
+      (subst (λ (m : names.Context). Agreed (wanted g (typed g m)) x.value) quiet (valued_agrees g (found g Void begun) (typed g (asked begun)) x.value (λ v q. found_agrees g Void begun v q) x.is))
+      (subst (λ (m : names.Context). Agreed (wanted k (typed k m)) y.value) quiet2 (valued_agrees k (found k Void first.0) (typed k (asked first.0)) y.value (λ v q. found_agrees k Void first.0 v q) y.is))
+      (choice_rule line (new_label d.value.0 + 1) first.0.code first.1 d.value.1 x.value.1 y.value z y.last)
+  found_agrees (Node (f.Assign a.Plain) (At line ▹ e ▹ g ▹ none)) wish c z h =
+      let d = came (found e Void c) h in
+      let r = came (found g d.value.1.typed.type d.value.0) d.last in
+      two_agrees (typed e (asked c)) (λ k. typed g k) (assigned line (line_of g)) d.value r.value z (found_agrees e Void c d.value d.is) (found_agrees g d.value.1.typed.type d.value.0 r.value r.is)
+      (assigned_rule (is_record d.value.1.typed.type) line d.value.0.code g d.value.1 r.value z r.last)
+  found_agrees (Node (f.Assign op) (At line ▹ e ▹ g ▹ none)) wish c z h =
+      let d = came (changing e (found e Void c)) h in
+      let old = old_value line d.value in
+      let r = came (valued g (found g Void old.0)) d.last in
+      let quiet : asked old.0 ≡ asked d.value.0 = quiet_read line d.value.1.typed.type d.value.1.spot d.value.0 in
+      two_agrees (types.changing e (typed e (asked c))) (λ k. wanted g (typed g k)) (changed line op) d.value r.value z
+      (changing_agrees e (found e Void c) (typed e (asked c)) d.value (λ x k. found_agrees e Void c x k) d.is)
+      (subst (λ (m : names.Context). Agreed (wanted g (typed g m)) r.value) quiet (valued_agrees g (found g Void old.0) (typed g (asked old.0)) r.value (λ x k. found_agrees g Void old.0 x k) r.is))
+      (changed_rule line op false d.value.1 old.1 r.value z r.last)
+  found_agrees (Node f.Comma (At line ▹ e ▹ g ▹ none)) wish c z h =
+      let d = came (unused e (found e Void c)) h in
+      let r = came (unused g (found g Void d.value.0)) d.last in
+      let same : comma_answer r.value ≡ z = ok_same (comma_answer r.value) z r.last in
+      subst (Agreed (two (types.unused e (typed e (asked c))) (λ k. types.unused g (typed g k)) (λ tags x y. good (behind_comma y)))) same
+      (two_agrees (types.unused e (typed e (asked c))) (λ k. types.unused g (typed g k)) (λ tags x y. good (behind_comma y)) d.value r.value (comma_answer r.value)
+      (unused_agrees e (found e Void c) (typed e (asked c)) d.value (λ x k. found_agrees e Void c x k) d.is)
+      (unused_agrees g (found g Void d.value.0) (typed g (asked d.value.0)) r.value (λ x k. found_agrees g Void d.value.0 x k) r.is)
+      (record { typed = refl; same = refl }))
+  found_agrees tree wish c z h = never (Agreed (typed tree (asked c)) z) _ z h
+
+  arguments_agree : (trees : Trees) (line : ℕ) (function : Callee) (params : PlainTypes) (c : Context) (z : Context × List Argument) → arguments line function params trees c ≡ Ok z → ArgumentsAgree function (values trees (asked c)) z
+  arguments_agree none line function params c z h =
+      subst (ArgumentsAgree function (good (asked c, []))) (ok_same (c, []) z h) (record { types = []; is = refl; same = same_all function [] })
+  arguments_agree (e ▹ rest) line function params c z h =
+      let d = came (format_argument (is_printf function e) c (typed e (asked c)) (valued e (found e (first_type params) c))) h in
+      let v = argument_from line params c.code d.value.0 d.value.1 in
+      let more = came (arguments line NoFunction (rest_types params) rest v.0) d.last in
+      let one_argument = argued function e c (valued e (found e (first_type params) c)) d.value (λ x k. valued_agrees e (found e (first_type params) c) (typed e (asked c)) x (λ y q. found_agrees e (first_type params) c y q) k) d.is in
+      let others = arguments_agree rest line NoFunction (rest_types params) v.0 more.value more.is in
+      let quiet : asked v.0 ≡ asked d.value.0 = quiet_argument line params c.code d.value.0 d.value.1 in
+      let same : (more.value.0, v.1 ∷ more.value.1) ≡ z = ok_same (more.value.0, v.1 ∷ more.value.1) z more.last in
+      subst (ArgumentsAgree function (values (e ▹ rest) (asked c))) same
+      (record {
+        types = one_argument.type ∷ others.types;
+        is = ap (λ (x : types.Found). then x (λ d. then (values rest d.0) (λ more. good (more.0, d.1 ∷ more.1)))) one_argument.is
+            ∙ ap (λ (m : names.Context). then (values rest m) (λ more. good (more.0, one_argument.type ∷ more.1))) (sym quiet)
+            ∙ ap (λ (x : Checked (names.Context × List PlainTyped)). then x (λ more. good (more.0, one_argument.type ∷ more.1))) others.is;
+        same = subst (λ (t : PlainTyped). SameTypes function (t ∷ types_of more.value.1) (one_argument.type ∷ others.types)) (sym (argument_typed line params c.code d.value.0 d.value.1)) (one_argument.same (types_of more.value.1) others.types others.same);
+      })

@@ -27,8 +27,7 @@ use Rattle.elaboration.specs.Context as elaboration
 use Rattle.elaboration.specs.Conversions as conversions
 use Rattle.elaboration.specs.Expressions as expressions
 use Rattle.core_soundness.proofs.Grown.{good, ok_same, never}
-use Rattle.core_soundness.proofs.Agreeing.{came}
-use Rattle.core_soundness.proofs.Agreement.{found_agrees}
+use Rattle.core_soundness.proofs.Agreeing.{came, found_agrees}
 use Rattle.core_soundness.proofs.Operating.{kept_test}
 use Rattle.core_soundness.proofs.Parameters.{functions, functions_joined, functions_one, functions_reversed, not_function}
 use Rattle.core_soundness.proofs.Formed.{NoNodes, OneNode, IsLayer, Shaped, Formed, AllFormed}

@@ -24,8 +24,7 @@ use Rattle.elaboration.specs.Conversions.{Found, Fixed, Unknown, Nowhere, Inside
 use Rattle.elaboration.specs.Reallocates.{reallocates, opened}
 use Rattle.elaboration.specs.Expressions.{found}
 use Rattle.elaboration.specs.Initializers.{Target, InRegister, InMemory, InStatic, bytes_of, static_integer, static_address, static_pointer, static_scalar, fill_scalar, scalar, fill_record, is_same_place, whole, fill_text, is_character, text, by_text, by_expression, parts_of, takes_braces, is_scalar_type, all_surplus, initialize, initialize_parts, not_whole}
-use Rattle.core_soundness.proofs.Agreeing.{valued_agrees}
-use Rattle.core_soundness.proofs.Agreement.{found_agrees}
+use Rattle.core_soundness.proofs.Agreeing.{valued_agrees, found_agrees}
 use Rattle.core_soundness.proofs.Reached.{Led, led_ok, led_refused, led_after, led_unless, led_barred}
 use Rattle.core_soundness.proofs.TypedWhole.{led_cond, typed_good, wanted_good}
 use Rattle.core_soundness.specs.Solid.{Solid}

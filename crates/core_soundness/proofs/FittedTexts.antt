@@ -56,8 +56,7 @@ use Rattle.core_soundness.proofs.Moving.{rises_refl}
 use Rattle.core_soundness.proofs.SolidLayers.{has_size, declared_rises, typedef_rises, layers_rise}
 use Rattle.core_soundness.proofs.SolidFills.{declared_function_rises, variable_rises, init_layers_whole, entry_rises, before_rises}
 use Rattle.core_soundness.proofs.SolidTexts.{external_rises, begun_rises, first_solid, core_layouts}
-use Rattle.core_soundness.proofs.TagSorts.{SortedType, SortedName, SortedTable, type_longer, none_sorted}
-use Rattle.core_soundness.proofs.SortedTypes.{init_layers_sorted}
+use Rattle.core_soundness.proofs.TagSorts.{SortedType, SortedName, SortedTable, type_longer, none_sorted, init_layers_sorted}
 use Rattle.core_soundness.proofs.TagKinds.{MembersSorted, BodySorted, BodiesSorted, Sorts}
 use Rattle.core_soundness.proofs.Settled.{Settled}
 use Rattle.core_soundness.proofs.Specifying.{levels_refl, declared_levels, layers_level}

@@ -14,7 +14,6 @@ mod Calling
 mod Reached
 mod TagSorts
 mod TypedNames
-mod SortedTypes
 mod TagKinds
 mod Passing
 mod ShortNames
@@ -32,11 +31,8 @@ mod Texts
 mod Cores
 mod Quiet
 mod Agreeing
-mod Agreement
 mod Owners
 mod Introducing
-mod Mains
-mod Calls
 mod Growing
 mod Going
 mod Sorting
@@ -65,9 +61,7 @@ mod TypedWhole
 mod Solid
 mod Ranges
 mod Ranged
-mod RangedWork
 mod RangedFound
-mod RangedWalk
 mod Moving
 mod Within
 mod SolidLayers
@@ -77,15 +71,12 @@ mod Numbered
 mod Functions
 mod Near
 mod NearWork
-mod NearFound
 mod NearLayers
 mod NearFills
-mod NearStatements
 mod Weighed
 mod NearTexts
 mod TextTokens
 mod Aiming
-mod AimedWalk
 mod Seats
 mod Filling
 mod Seating
@@ -94,7 +85,6 @@ mod Pointing
 mod PointedTexts
 mod Statics
 mod FittedTexts
-mod SoundCores
 mod Adding
 mod Formed
 mod InStep
@@ -110,7 +100,6 @@ mod Still
 mod Calm
 mod Keeping
 mod SpokenSteps
-mod StepsExpressions
 mod StepsInits
 mod StepsNames
 mod Each

@@ -22,9 +22,8 @@ use Rattle.core_soundness.specs.Solid.{Solid}
 use Rattle.core_soundness.proofs.Growth.{Grows}
 use Rattle.core_soundness.proofs.Working.{grows_write}
 use Rattle.core_soundness.proofs.Ranges.{In, in_emit}
-use Rattle.core_soundness.proofs.RangedWork.{SpotIn, write_in}
-use Rattle.core_soundness.proofs.RangedFound.{E}
-use Rattle.core_soundness.proofs.RangedWalk.{found_in, unused_in}
+use Rattle.core_soundness.proofs.Ranged.{SpotIn, write_in}
+use Rattle.core_soundness.proofs.RangedFound.{E, found_in, unused_in}
 use Rattle.core_soundness.proofs.Solid as base
 use Rattle.core_soundness.proofs.Solid.{K, Gone, found_gone, unused_gone}
 use Rattle.core_soundness.proofs.Unused.{valued_unused}

@@ -39,8 +39,7 @@ use Rattle.core_soundness.proofs.ShortNames.{Short, AllShort, name_short}
 use Rattle.core_soundness.proofs.Near.{share, Share, Tidy, made_in, temporaries, Sized, Clear, Near, near_on}
 use Rattle.core_soundness.proofs.Weights.{weight, weights}
 use Rattle.core_soundness.proofs.NearLayers.{specs_near, layers_near}
-use Rattle.core_soundness.proofs.NearFills.{declared_function_near, declaration_near}
-use Rattle.core_soundness.proofs.NearStatements.{items_near}
+use Rattle.core_soundness.proofs.NearFills.{declared_function_near, declaration_near, items_near}
 use Rattle.core_soundness.proofs.Weighed.{unit_weighed, unit_short}
 
 -- what holds between external declarations

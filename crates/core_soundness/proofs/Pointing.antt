@@ -24,8 +24,7 @@ use Rattle.core_soundness.proofs.Growth.{Longer}
 use Rattle.core_soundness.proofs.Reached.{Led, led_ok, led_refused, led_after, led_unless, led_barred}
 use Rattle.core_soundness.proofs.TypedWhole.{led_cond}
 use Rattle.core_soundness.proofs.Settled.{Settled, settled_refl, settled_trans, grows_settled}
-use Rattle.core_soundness.proofs.Aiming.{Aims, FixedAt, VariablesStay, same_variables, aims_stay, There, there_on, Aimed}
-use Rattle.core_soundness.proofs.AimedWalk.{value_grew, value_aimed}
+use Rattle.core_soundness.proofs.Aiming.{Aims, FixedAt, VariablesStay, same_variables, aims_stay, There, there_on, Aimed, value_grew, value_aimed}
 use Rattle.core_soundness.proofs.Unused.{behind_string}
 
 -- each pointer is one to a static that is there

@@ -34,8 +34,7 @@ use Rattle.core_soundness.specs.Worlds.{World, world, HeldAs, Held, StandsAs, St
 use Rattle.core_soundness.specs.Spoken.{NoRegister, TakesAddress, Spoken, AllSpoken}
 use Rattle.core_soundness.proofs.Grown.{good, ok_same, never}
 use Rattle.core_soundness.proofs.TypedNames.{typed_after, typename_after}
-use Rattle.core_soundness.proofs.Agreeing.{came, quiet_left, quiet_first, valued_agrees}
-use Rattle.core_soundness.proofs.Agreement.{found_agrees}
+use Rattle.core_soundness.proofs.Agreeing.{came, quiet_left, quiet_first, valued_agrees, found_agrees}
 use Rattle.core_soundness.proofs.Growing.{Grew}
 use Rattle.core_soundness.proofs.Going.{Goes, goes_refl, goes_trans, goes_told}
 use Rattle.core_soundness.proofs.Sorting.{Sits, Lands, Comes, comes_lands, value_grew, stands_grew, held_grew, old_brings, Converting}

@@ -28,8 +28,7 @@ use Rattle.core_soundness.specs.Solid.{MemsLaid, VariablesLaid, WalkedLaid, Soli
 use Rattle.core_soundness.proofs.Growth.{Grows, Kept, grows_refl}
 use Rattle.core_soundness.proofs.Working.{found_grows, grown_unused, grows_convert, grows_write}
 use Rattle.core_soundness.proofs.Quiet.{quiet_convert, quiet_write}
-use Rattle.core_soundness.proofs.Agreeing.{unused_agrees}
-use Rattle.core_soundness.proofs.Agreement.{found_agrees}
+use Rattle.core_soundness.proofs.Agreeing.{unused_agrees, found_agrees}
 use Rattle.core_soundness.proofs.WholeTypes.{nothing, all_stay, extends_refl, is_layout}
 use Rattle.core_soundness.proofs.TypedNames.{Leads, typed_leads, unused_leads}
 use Rattle.core_soundness.proofs.TagKinds.{Kinds, kinds_refl, leads_kinds, same_kinds}

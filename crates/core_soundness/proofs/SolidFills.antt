@@ -44,8 +44,7 @@ use Rattle.core_soundness.proofs.WholeTypes.{whole_stays, extends_refl, some_sta
 use Rattle.core_soundness.proofs.TypedWhole.{LayersWhole, LayerWhole, led_cond, layered_whole, before_whole, tag_good}
 use Rattle.core_soundness.specs.Ranges.{AtomIn}
 use Rattle.core_soundness.proofs.Ranges.{In, in_emit, in_pointer, zero_number, small_number}
-use Rattle.core_soundness.proofs.Ranged.{size_number}
-use Rattle.core_soundness.proofs.RangedWork.{SpotIn, spot_atom, convert_in, write_in}
+use Rattle.core_soundness.proofs.Ranged.{size_number, SpotIn, spot_atom, convert_in, write_in}
 use Rattle.core_soundness.proofs.RangedFound.{literal_in}
 use Rattle.core_soundness.proofs.Within.{Within, PartsIn, within_stays, parts_stay, within_number, parts_in, starts_within, row_short}
 use Rattle.core_soundness.proofs.Solid as base
@@ -54,8 +53,7 @@ use Rattle.core_soundness.proofs.Solid.{variables_push, K, same_kept, same_rises
 use Rattle.c_types.proofs.MemberLemmas.{Extends}
 use Rattle.core_soundness.proofs.Operating.{passed}
 use Rattle.core_soundness.proofs.TypedNames.{tag_leads}
-use Rattle.core_soundness.proofs.TagSorts.{SortedType, type_longer, innermost_sorted}
-use Rattle.core_soundness.proofs.SortedTypes.{tag_sorted, init_layers_sorted}
+use Rattle.core_soundness.proofs.TagSorts.{SortedType, type_longer, innermost_sorted, tag_sorted, init_layers_sorted}
 use Rattle.core_soundness.proofs.TagKinds.{Sorts, kinds_refl}
 use Rattle.core_soundness.proofs.Working.{grows_convert, grows_write}
 use Rattle.core_soundness.proofs.Moving.{same_cases, same_walked, Rises, rises_refl, rises_trans, opened_rises, closed_rises, went_rises, found_went, value_went}

@@ -41,9 +41,8 @@ use Rattle.core_soundness.proofs.Agreeing.{came}
 use Rattle.core_soundness.proofs.Operating.{behind_test}
 use Rattle.core_soundness.proofs.Reached.{Led, led_ok, led_refused, led_after, led_unless}
 use Rattle.core_soundness.proofs.WholeTypes.{whole_stays, members_stay, table_stays, names_stay, push_extends, extends_refl, made_push, whole_fits}
-use Rattle.core_soundness.proofs.TagSorts.{SortedType, SortedName, type_longer, table_longer, scopes_longer, with_name_sorted, entered_sorted, left_sorted, none_sorted, first_sorted, innermost_sorted, push_longer, new_sorted}
+use Rattle.core_soundness.proofs.TagSorts.{SortedType, SortedName, type_longer, table_longer, scopes_longer, with_name_sorted, entered_sorted, left_sorted, none_sorted, first_sorted, innermost_sorted, push_longer, new_sorted, ST, word_sorted, special_sorted, with_layers_sorted}
 use Rattle.core_soundness.proofs.TypedNames.{Leads, typed_leads, wanted_leads, special_leads, new_tag_leads}
-use Rattle.core_soundness.proofs.SortedTypes.{ST, word_sorted, special_sorted, with_layers_sorted}
 use Rattle.core_soundness.proofs.TagKinds.{MembersSorted, members_longer, bodies_longer, bodies_push, Sorts, kinds_refl, leads_kinds}
 use Rattle.core_soundness.proofs.TypedWhole.{GoodType, LayersWhole, LayerWhole, layers_append, layers_reverse, with_name_whole, entered_whole, left_whole, with_layers_whole, with_param_layers_whole, adjusted_whole, special_good, word_whole, length_some, typed_good, wanted_good}
 use Rattle.core_soundness.specs.Solid.{Solid}

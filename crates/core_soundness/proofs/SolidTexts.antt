@@ -59,9 +59,8 @@ use Rattle.core_soundness.specs.Solid.{MemsLaid, VariablesLaid, WalkedLaid, Soli
 use Rattle.core_soundness.proofs.Solid.{walked_push, K, same_kept, same_rises, wrapped_number}
 use Rattle.core_soundness.specs.Ranges.{AtomIn, AtomsIn, PiecesIn}
 use Rattle.core_soundness.proofs.Ranges.{In, in_emit, in_here, pieces_joined, zero_number}
-use Rattle.core_soundness.proofs.RangedWork.{spot_atom, convert_integer_in}
-use Rattle.core_soundness.proofs.RangedFound.{tested_value_in}
-use Rattle.core_soundness.proofs.RangedWalk.{tested_solid}
+use Rattle.core_soundness.proofs.Ranged.{spot_atom, convert_integer_in}
+use Rattle.core_soundness.proofs.RangedFound.{tested_value_in, tested_solid}
 use Rattle.core_soundness.proofs.Moving.{CasesIn, WalkedIn, same_cases, same_walked, Rises, rises_refl, rises_trans, closed_rises, Full, full_value, full_unused}
 use Rattle.core_soundness.proofs.SolidLayers.{constant_rises, entered_solid, specs_rise, layers_rise}
 use Rattle.core_soundness.proofs.SolidFills.{declared_function_rises, declaration_rises, scalar_value}

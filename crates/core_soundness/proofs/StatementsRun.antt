@@ -40,11 +40,10 @@ use Rattle.core_soundness.proofs.LayersRun.{constant_runs}
 use Rattle.core_soundness.proofs.LocalsRun.{local_declaration_runs}
 use Rattle.core_soundness.proofs.Adding.{Has, Inside}
 use Rattle.core_soundness.proofs.InStep.{InStep, Keeps}
-use Rattle.core_soundness.proofs.Keeping.{keeps_step}
+use Rattle.core_soundness.proofs.Keeping.{keeps_step, evaluated_in_step, leaves_in_step, operand_in_step, maybe_evaluated_in_step, maybe_leaves_in_step, constant_in_step, return_from_in_step}
 use Rattle.core_soundness.proofs.Leaving.{step_left}
 use Rattle.core_soundness.proofs.Good.{Good, ItemsGood, behind_items, as_before, expr_taken, block_taken, delay_taken, if_taken, else_taken, while_taken, do_taken, for_taken, switch_taken, case_taken, default_taken, break_taken, continue_taken, return_taken, start_taken, names_taken, items_taken, none_taken, empty_taken, line_good, expr_good, block_good, delay_good, if_good, else_good, while_good, do_good, for_good, switch_good, case_good, default_good, return_good, start_good, names_good, items_good}
 use Rattle.core_soundness.proofs.SpokenSteps.{evaluated_spoken, leaves_spoken, operand_spoken, maybe_evaluated_spoken, maybe_leaves_spoken, return_from_spoken}
-use Rattle.core_soundness.proofs.StepsExpressions.{evaluated_in_step, leaves_in_step, operand_in_step, maybe_evaluated_in_step, maybe_leaves_in_step, constant_in_step, return_from_in_step}
 use Rattle.core_soundness.proofs.DeclaredSteps.{declaration_spoken, declaration_in_step}
 
 -- expressions

@@ -40,8 +40,7 @@ use Rattle.core_soundness.proofs.Formed.{NoNodes, OneNode, IsLayer, AreLayers, I
 use Rattle.core_soundness.proofs.InStep.{among, HasScope, Keeps, Follows, Stepped, each}
 use Rattle.core_soundness.proofs.Still.{SameNames, Calm, still_names, all_still_names, left_names, no_nodes_still}
 use Rattle.core_soundness.proofs.Calm.{shows_first, typed_calm, special_still}
-use Rattle.core_soundness.proofs.Keeping.{keeps_refl, told_keeps, constant_keeps, keeps_stepped, stepped_refl, stepped_trans, stepped_names, stepped_scope}
-use Rattle.core_soundness.proofs.StepsExpressions.{constant_calm}
+use Rattle.core_soundness.proofs.Keeping.{keeps_refl, told_keeps, constant_keeps, keeps_stepped, stepped_refl, stepped_trans, stepped_names, stepped_scope, constant_calm}
 use Rattle.core_soundness.proofs.StepsNames.{with_one, IsNew, plain_stepped, param_stepped}
 use Rattle.core_soundness.proofs.Each.{no_nodes_each, specs_taken, pointer_taken, direct_taken, parens_taken, array_taken, open_array_taken, function_taken, member_taken, enumerator_taken, valued_enumerator_taken, record_taken, enum_taken, specs_unnamed, param_taken}
 

@@ -1,5 +1,5 @@
 -- Layers whose array next to the name takes its length from an initializer.
-use Rattle.std.proofs.Common.{◌≡◌, ◌<◌, ◌≤◌, ◌*◌, ℕ, Bool, true, false, cond, nat_lt, length, get_or, arith, List, [], ◌∷◌, ◌++◌, Option, Some, None, Ok, Err, map, reverse, refl, ap, sym, ◌∙◌}
+use Rattle.std.proofs.Common.{◌≡◌, ◌==◌, ◌+◌, eqb-true, ◌<◌, ◌≤◌, ◌*◌, ℕ, Bool, true, false, cond, nat_lt, length, get_or, arith, List, [], ◌∷◌, ◌++◌, Option, Some, None, Ok, Err, map, reverse, refl, ap, sym, ◌∙◌}
 use Rattle.std.specs.Prelude.{slice_set}
 use Rattle.std.proofs.lemmas.List.{reverse-append}
 use Rattle.c_types.specs.Types.{PlainType, PlainTypes, Void, Pointer, Array}
@@ -55,6 +55,13 @@ given_plain : (element : PlainType) (inits : Trees) → is_character element ≡
 given_plain element (Node f.InitExpr (At line ▹ e ▹ none) ▹ none) h = ap Some (text_plain element (text e) h)
 given_plain element inits h = refl
 
+not_one : (k : ℕ) → 2 ≤ k → (k == 1) ≡ false
+not_one k h = by (k == 1) refl
+  where
+    by : (b : Bool) → (k == 1) ≡ b → b ≡ false
+    by true e = absurd (omega (arith, h, eqb-true k 1 e))
+    by false e = refl
+
 no_end : (xs : List Layer) (last : Layer) → xs ++ last ∷ [] ≡ [] → ⊥
 no_end [] last e = cc
 no_end (x ∷ xs) last e = cc
@@ -105,6 +112,7 @@ module _ (tags : TagTable) (inits : Trees) where
   given_last (z ∷ zs) last type =
       given_behind_some (reverse (map plain_layer (z ∷ zs))) last type
       (λ e. no_end (reverse (map plain_layer zs)) (plain_layer z) (sym (reverse-append (plain_layer z ∷ []) (map plain_layer zs)) ∙ e))
+      ∙ ap (λ (b : Bool). with_layers tags (reverse (map plain_layer (z ∷ zs)) ++ with_given (given_length (cond b type Void) inits) last ∷ []) type) (sym (not_one (1 + length (z ∷ zs)) (omega arith)))
 
   -- the layers of the code, of which the first stands next to the name
   pub given_first : (x y : CodeLayer) (xs : List CodeLayer) (type : PlainType) → plain_layer y ≡ with_given (given_behind (1 + length xs) type inits) (plain_layer x) →
@@ -119,7 +127,9 @@ module _ (tags : TagTable) (inits : Trees) where
       with_init_layers tags (plain_layers layers) inits type ≡ with_layers tags (plain_layers (slice_set layers 0 y)) type
   given_set [] x y type some is h = absurd (omega (arith, some))
   given_set (z ∷ zs) x y type some is h =
-      given_first z y zs type (h ∙ ap (λ (l : CodeLayer). with_given (given_behind (1 + length zs) type inits) (plain_layer l)) is)
+      let count : length (z ∷ zs) ≡ 1 + length zs = omega arith in
+      given_first z y zs type
+      (h ∙ ap (λ (n : ℕ). with_given (given_behind n type inits) (plain_layer x)) count ∙ ap (λ (l : CodeLayer). with_given (given_behind (1 + length zs) type inits) (plain_layer l)) is)
 
   pub no_layers : (layers : List CodeLayer) (type : PlainType) → length layers ≤ 0 →
       with_init_layers tags (plain_layers layers) inits type ≡ with_layers tags (plain_layers layers) type

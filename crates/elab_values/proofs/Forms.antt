@@ -1,5 +1,5 @@
 -- The forms of several steps, from the step that comes next.
-use Rattle.std.proofs.Common.{◌≡◌, ℕ, ◌+◌, Bool, true, false, Option, Ok, Err, Result, refl, sym, ap, subst, ◌∙◌}
+use Rattle.std.proofs.Common.{◌≡◌, ℕ, ◌+◌, Bool, true, false, Ok, Err, Result, sym, ap, subst, ◌∙◌}
 use Rattle.c_types.specs.Types.{PlainType, Void}
 use Rattle.core_tree.specs.declared.statements.Atom.{Atom}
 use Rattle.c_tree.specs.declared.operator.BinaryOp.{BinaryOp}

@@ -1,5 +1,5 @@
 -- The steps of the walk: trees of forms, and code that is cut back to where it stood.
-use Rattle.std.proofs.Common.{◌≡◌, ℕ, List, Option, Some, None, Ok, Err, Box, Vec, Global, refl, sym, ap, subst, ◌∙◌}
+use Rattle.std.proofs.Common.{◌≡◌, ℕ, List, None, Ok, Box, Vec, Global, refl, sym, ap, subst, ◌∙◌}
 use Rattle.c_types.specs.Types.{PlainType, Void}
 use Rattle.c_tree.specs.declared.operator.UnaryOp.{UnaryOp}
 use Rattle.c_tree.specs.declared.operator.UnaryOp.TheVariants as u
@@ -12,13 +12,12 @@ use Rattle.c_tree.specs.declared.tree.ExprKind.{ExprKind}
 use Rattle.c_tree.specs.declared.tree.ExprKind.TheVariants as x
 use Rattle.c_tree.specs.declared.tree.TypeName.{TypeName}
 use Rattle.c_tree.specs.Forms as f
-use Rattle.c_tree.specs.Tree.{Tree, Trees, At, Node, none, ◌▹◌}
+use Rattle.c_tree.specs.Tree.{Tree, At, Node, none, ◌▹◌}
 use Rattle.c_tree.specs.View.{expr_tree}
 use Rattle.c_tree.specs.StatementView.{trees, expr_view, typename_view}
 use Rattle.c_tree.proofs.Views.{call_tree, cast_tree}
-use Rattle.c_decls.specs.Named.{PlainNamed}
 use Rattle.c_decls.specs.Refusals.{then}
-use Rattle.c_decls.specs.Callees.{Callee, NoFunction}
+use Rattle.c_decls.specs.Callees.{NoFunction}
 use Rattle.elab_base.specs.declared.code.Mark.{Mark}
 use Rattle.elab_base.specs.Marks.{mark_of, cut}
 use Rattle.elab_rules.specs.Behind.{Behind, From}

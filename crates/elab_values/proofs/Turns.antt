@@ -1,5 +1,5 @@
 -- Arguments in turn: what is done so far stands before what is left.
-use Rattle.std.proofs.Common.{◌≡◌, ℕ, zero, suc, List, [], ◌∷◌, ◌++◌, map, length, drop, get_or, ◌<◌, ◌≤◌, ◌+◌, Ok, Err, Option, Some, None, refl, sym, ap, subst, ◌∙◌, append_assoc, add-one}
+use Rattle.std.proofs.Common.{◌≡◌, ℕ, zero, suc, List, [], ◌∷◌, ◌++◌, map, length, drop, get_or, ◌<◌, ◌≤◌, ◌+◌, Ok, Err, Option, Some, None, refl, sym, ap, ◌∙◌, append_assoc, add-one}
 use Rattle.std.specs.Prelude.{slice_get}
 use Rattle.std.proofs.lemmas.List.{append-nil, drop_all, map-append}
 use Rattle.std.proofs.Math.Seq.{drop-cons}
@@ -11,7 +11,7 @@ use Rattle.c_tree.specs.StatementView.{trees, expr_view}
 use Rattle.c_decls.specs.declared.refusal.TypeError.{TypeError}
 use Rattle.c_decls.specs.declared.refusal.TypeError.TheVariants as e
 use Rattle.core_tree.specs.declared.statements.Atom.TheVariants as atom
-use Rattle.c_decls.specs.Refusals.{Checked, Refusal, Meets, refused, then}
+use Rattle.c_decls.specs.Refusals.{Checked, Refusal, Meets, then}
 use Rattle.c_decls.specs.Typed.{PlainTyped}
 use Rattle.c_decls.specs.TypeNames as names
 use Rattle.c_decls.specs.Callees.{Callee, Takes, Prints, NoFunction}

@@ -1,4 +1,4 @@
-use Rattle.core_soundness.proofs.SoundCores as cores
+use Rattle.core_soundness.proofs.Functions as cores
 use Rattle.core_soundness.proofs.laws.cores_are_sound.Goals as goal
 
 pub returns : goal.returns

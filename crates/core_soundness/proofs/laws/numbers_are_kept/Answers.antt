@@ -1,4 +1,4 @@
-use Rattle.core_soundness.proofs.RangedWalk as ranged
+use Rattle.core_soundness.proofs.RangedFound as ranged
 use Rattle.core_soundness.proofs.laws.numbers_are_kept.Goals as goal
 
 pub returns : goal.returns

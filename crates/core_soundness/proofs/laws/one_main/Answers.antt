@@ -1,4 +1,4 @@
-use Rattle.core_soundness.proofs.Mains as mains
+use Rattle.core_soundness.proofs.Cores as mains
 use Rattle.core_soundness.proofs.laws.one_main.Goals as goal
 
 pub returns : goal.returns

@@ -1,4 +1,4 @@
-use Rattle.core_soundness.proofs.Agreement as agreement
+use Rattle.core_soundness.proofs.Agreeing as agreement
 use Rattle.core_soundness.proofs.laws.types_agree.Goals as goal
 
 pub returns : goal.returns

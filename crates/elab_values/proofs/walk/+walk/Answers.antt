@@ -4,9 +4,9 @@ use Rattle.std.proofs.lemmas.Result.{err_from_is_err_and}
 use Rattle.c_types.specs.Types.{PlainType, Void, plain}
 use Rattle.core_tree.specs.declared.statements.Atom.{Atom}
 use Rattle.c_tree.specs.Tree.{Tree}
-use Rattle.c_tree.specs.StatementView.{trees, expr_view, typename_view}
-use Rattle.c_decls.specs.Refusals.{Checked, then}
-use Rattle.c_decls.specs.Typed.{plain_typed, operand}
+use Rattle.c_tree.specs.StatementView.{expr_view, typename_view}
+use Rattle.c_decls.specs.Refusals.{then}
+use Rattle.c_decls.specs.Typed.{operand}
 use Rattle.c_decls.specs.Callees.{Callee, NoFunction}
 use Rattle.c_typing.specs.declared.callees.Callee.{Callee as CodeCallee}
 use Rattle.c_typing.specs.Callee.{plain_callee}
@@ -17,13 +17,13 @@ use Rattle.elab_operators.specs.declared.calls.Argument.{Argument as CodeArgumen
 use Rattle.elab_operators.specs.PlainArguments.{plain_argument}
 use Rattle.elab_values.specs.Arguments.{target_at, types_from, argument}
 use Rattle.elab_values.proofs.Steps.{found_behind, index_is, comma_is, cast_is, cond_is, unary_node, binary_node, assign_node, unary_is, binary_is, change_is, callee_other}
-use Rattle.elab_values.proofs.Forms.{refused_next, meets_by, binary_second, binary_third, and_second, or_second, choose_third, choose_last, cast_last, assign_scalar, taken_last}
+use Rattle.elab_values.proofs.Forms.{refused_next, meets_by, binary_second, binary_third, and_second, or_second, choose_third, choose_last, cast_second, cast_last, assign_scalar, taken_last}
 use Rattle.elab_values.proofs.Turns.{turned, turn_refused, turned_all, taken_is, loose_is, unknown_is, printed_is, behind_format_is}
 use Rattle.elaboration.specs.Context.{Context, With, new_label}
 use Rattle.elaboration.specs.Calls.{Argument}
 use Rattle.elaboration.specs.Conversions.{Found, convert_to}
-use Rattle.elaboration.specs.Rules.{between, and_ended, or_ended, choose_first, chosen}
-use Rattle.elaboration.specs.Expressions.{found, value_of, parameters}
+use Rattle.elaboration.specs.Rules.{between, cast_to, and_ended, or_ended, choose_first, chosen}
+use Rattle.elaboration.specs.Expressions.{found, value_of, parameters, cast_operand}
 use Rattle.elab_values.proofs.walk.+walk.Goals as goal
 
 -- what code answers, as the definition has it
@@ -186,6 +186,17 @@ cast-returns t c =
     c.args.state.now c.typename.new.state c.cast_operand.new.state (plain c.in_ok-ty.ty) (plain_found c.in_ok-x.x)
     c.mark-before.ensures c.in_ok-ty.ensures c.in_ok-x.ensures)
     c.cast_to.ensures
+
+pub cast-returns-in_err-x : goal.cast-returns-in_err-x
+cast-returns-in_err-x t c =
+    let p = err_from_is_err_and c.from_residual-in_err-x.result c.from_residual-in_err-x.ensures.1 in
+    let type = plain c.in_ok-ty.ty in
+    let e = expr_view c.args.e.now in
+    rw (p.1, p.2)
+    (meets_by (as_found c.args.state.now) (Err c.in_err-x.field-0.0) _ _
+    (cast_second c.args.line (typename_view c.args.ty.now) e c.args.state.now c.typename.new.state type c.in_ok-ty.ensures)
+    (refused_next (as_found c.cast_operand.new.state) (as_found c.args.state.now) c.in_err-x.field-0.0 (cast_operand type e (found e type c.typename.new.state))
+    (λ (d : Context × Found). cast_to c.args.line type c.args.state.now.code d.0 d.1) c.in_err-x.ensures))
 
 pub assign-returns-else-is_record : goal.assign-returns-else-is_record
 assign-returns-else-is_record t c =

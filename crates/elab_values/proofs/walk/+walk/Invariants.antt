@@ -1,4 +1,4 @@
-use Rattle.std.proofs.Common.{◌≡◌, ℕ, ◌+◌, ◌*◌, max, map, drop}
+use Rattle.std.proofs.Common.{◌≡◌, ◌+◌, ◌*◌, max, map}
 use Rattle.c_tree.specs.declared.tree.Expr.{size-Expr}
 use Rattle.c_tree.specs.StatementView.{trees, expr_view}
 use Rattle.c_typing.specs.Callee.{plain_callee}
