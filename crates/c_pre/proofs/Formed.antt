@@ -177,15 +177,3 @@ pub expanded_scan : (macros : List Macro) (tokens : List Token) (work : ℕ) →
 unfolding expanded
 expanded_scan macros tokens work n l =
     scanned_scan macros (enough (map fresh tokens) work) work (map fresh tokens) n (All-map M fresh tokens l)
-
-abbrev pub OnExpanded : Result Expanded Refusal → Type 0
-OnExpanded (Ok e) = All M e.tokens
-OnExpanded (Err e) = Unit {0}
-
-formed_of : (work : ℕ) (tokens : List Marked) (r : Result Expanded Refusal) → OnScan work tokens r → OnExpanded r
-formed_of work tokens (Ok e) h = h.0
-formed_of work tokens (Err e) h = tt
-
-pub expanded_formed : (macros : List Macro) (tokens : List Token) (work : ℕ) → All N macros → All IsFormed tokens → OnExpanded (expanded macros tokens work)
-expanded_formed macros tokens work n l =
-    formed_of work (map fresh tokens) (expanded macros tokens work) (expanded_scan macros tokens work n l)

@@ -1,5 +1,6 @@
 -- Every line leaves formed tokens and macros.
-use Rattle.std.proofs.Common.{◌≡◌, ℕ, ◌+◌, ◌-◌, ◌≤◌, Bool, true, false, cond, ◌||◌, not, bytes_eq, List, [], ◌∷◌, ◌++◌, map, length, ◌==◌, Option, Some, None, option_map, Result, Ok, Err, All, refl, subst, arith, codes, length-drop}
+use Rattle.std.proofs.Common.{◌≡◌, ℕ, ◌+◌, ◌-◌, ◌≤◌, Bool, true, false, cond, ◌||◌, not, bytes_eq, List, [], ◌∷◌, ◌++◌, map, length, ◌==◌, Option, Some, None, option_map, Result, Ok, Err, All, refl, sym, subst, arith, codes, length-append, length-drop, ◌&&◌}
+use Rattle.std.proofs.lemmas.List.{length-map}
 use Rattle.std.specs.Prelude.{is_some}
 use Rattle.std.proofs.lemmas.List.Elements.{All-nil, All-cons, All-head, All-tail, All-append, All-push, All-map, All-weaker}
 use Rattle.c_lexer.specs.Gaps.{include_end}
@@ -17,14 +18,15 @@ use Rattle.c_pre.specs.Comments.{begins_with}
 use Rattle.c_pre.specs.Lines.{behind_spaces, behind_hash, directive_rest, first_word}
 use Rattle.c_pre.specs.Texts.{most_bytes}
 use Rattle.c_lexer.specs.Bytes.{is_space}
-use Rattle.std.specs.List.{prefix_len}
+use Rattle.std.specs.List.{list_all, prefix_len}
 use Rattle.c_pre.specs.Groups.{is_live, first_line, turned, closed, skipped}
-use Rattle.c_pre.specs.Directives.{is_name, is_sign, is_among, names_from, signature_of, with_signature, function_behind, macro_behind, takes_arguments, define_of, include_of, only_name, named_by, alone, directive_by, directive_of}
+use Rattle.c_pre.specs.Directives.{is_name, is_sign, is_among, is_path_byte, path_of, included_name, is_string_kind, names_from, signature_of, with_signature, function_behind, macro_behind, takes_arguments, define_of, include_of, only_name, named_by, alone, directive_by, directive_of}
 use Rattle.c_pre.specs.Macros.{found, same_macro, defined_by, defined, without}
-use Rattle.c_pre.specs.Expansion.{expanded}
+use Rattle.c_pre.specs.Expansion.{expanded, fresh, most_work}
 use Rattle.c_pre.specs.Reading.{lexed, rest_lexed, moved, plain, with_expanded, with_run, run_ended, behind_line, at_header, Step, step, with_groups, with_macros, obeyed, of_form, of_tokens, directive_on, directed_from, directed, passed, line_by, line_read, balanced, text_ended}
 use Rattle.c_pre.specs.declared.groups.Group.{Group}
 use Rattle.c_pre.specs.declared.macros.Macro.{Macro}
+use Rattle.c_pre.specs.declared.marked.Marked.{Marked}
 use Rattle.c_pre.specs.declared.scan.Expanded.{Expanded}
 use Rattle.c_pre.specs.declared.directive.Signature.{Signature}
 use Rattle.c_pre.specs.declared.directive.Naming.{Naming}
@@ -37,58 +39,93 @@ use Rattle.c_pre.specs.declared.answer.Refusal.{Refusal}
 use Rattle.c_pre.specs.declared.answer.Refusal.TheVariants.{Bad, Lex, NoMemory}
 use Rattle.c_pre.specs.declared.here.Here.{Here}
 use Rattle.c_pre.specs.declared.progress.Progress.{Progress}
-use Rattle.c_pre.proofs.Lexed.{short_cut}
-use Rattle.c_pre.proofs.Formed.{OnMacro, OnExpanded, expanded_formed}
+use Rattle.c_pre.proofs.Lexed.{few_cut, short_cut}
+use Rattle.c_pre.proofs.Formed.{OnMacro, OnScan, expanded_scan}
 
-abbrev OnTokens : Result (List Token) LexError → Type 0
-OnTokens (Ok tokens) = All IsFormed tokens
-OnTokens (Err e) = Unit {0}
+abbrev OnTokens : ℕ → Result (List Token) LexError → Type 0
+OnTokens most (Ok tokens) = All IsFormed tokens × (length tokens ≤ most)
+OnTokens most (Err e) = Unit {0}
 
 both_hold : (text : List ℕ) (tokens : List Token) → length text ≤ most_bytes → All IsLexed tokens → All (λ (t : Token). length t.bytes ≤ length text) tokens → All IsFormed tokens
 both_hold text tokens low lexed short = λ k d within. (lexed k d within, omega (arith, low, short k d within))
 
-lexed_formed : (text : List ℕ) → length text ≤ most_bytes → OnTokens (lexed text)
+lexed_formed : (text : List ℕ) → length text ≤ most_bytes → OnTokens (length text) (lexed text)
 unfolding lexed
 lexed_formed text low = by (lexed text) refl where
-  by : (r : Result (List Token) LexError) → lexed text ≡ r → OnTokens r
-  by (Ok tokens) e =
-      both_hold text tokens low (lexed_of first_place text (pieces_from first_place 0 text) tokens (omega arith) (text_cut text) e)
-      (short_cut (length text) first_place text (pieces_from first_place 0 text) tokens (text_cut text) (omega arith) e)
+  by : (r : Result (List Token) LexError) → lexed text ≡ r → OnTokens (length text) r
+  by (Ok tokens) e = (
+    both_hold text tokens low (lexed_of first_place text (pieces_from first_place 0 text) tokens (omega arith) (text_cut text) e)
+        (short_cut (length text) first_place text (pieces_from first_place 0 text) tokens (text_cut text) (omega arith) e),
+    few_cut first_place text (pieces_from first_place 0 text) tokens (text_cut text) e,
+  )
   by (Err f) e = tt
 
-rest_by : (b : Bool) (rest : List ℕ) → length rest ≤ most_bytes → OnTokens (cond b (Err (lex.Bad BadByte 1)) (lexed rest))
+rest_by : (b : Bool) (rest : List ℕ) → length rest ≤ most_bytes → OnTokens (length rest) (cond b (Err (lex.Bad BadByte 1)) (lexed rest))
 rest_by true rest low = tt
 rest_by false rest low = lexed_formed rest low
 
-abbrev OnProgress : Result Progress Refusal → Type 0
-OnProgress (Ok p) = Formed p
-OnProgress (Err e) = Unit {0}
+-- behind so much work, no more tokens than this, but for those that work put in
+abbrev OnProgress : ℕ → ℕ → Result Progress Refusal → Type 0
+OnProgress n w (Ok p) = Formed p × (length p.tokens + w ≤ n + p.work) × (w ≤ most_work → p.work ≤ most_work)
+OnProgress n w (Err e) = Unit {0}
 
-with_expanded_formed : (base : ℕ) (p : Progress) (r : Result Expanded Refusal) → Formed p → OnExpanded r → OnProgress (with_expanded base p r)
-with_expanded_formed base p (Ok e) f h = record { tokens = All-append IsFormed p.tokens (map plain e.tokens) f.tokens (All-map IsFormed plain e.tokens h); macros = f.macros }
-with_expanded_formed base p (Err (Bad kind line)) f h = tt
-with_expanded_formed base p (Err (Lex kind line)) f h = tt
-with_expanded_formed base p (Err NoMemory) f h = tt
+with_expanded_formed : (base : ℕ) (p : Progress) (tokens : List Marked) (r : Result Expanded Refusal) → Formed p → OnScan p.work tokens r → OnProgress (length p.tokens + length tokens) p.work (with_expanded base p r)
+with_expanded_formed base p tokens (Ok e) f h = (
+  record { tokens = All-append IsFormed p.tokens (map plain e.tokens) f.tokens (All-map IsFormed plain e.tokens h.0); macros = f.macros },
+  omega (arith, h.1, length-append p.tokens (map plain e.tokens), length-map e.tokens plain),
+  h.3,
+)
+with_expanded_formed base p tokens (Err (Bad kind line)) f h = tt
+with_expanded_formed base p tokens (Err (Lex kind line)) f h = tt
+with_expanded_formed base p tokens (Err NoMemory) f h = tt
 
 moved_formed : (lines : ℕ) (token : Token) → IsFormed token → IsFormed (moved lines token)
 moved_formed lines token h = ((h.0.0, omega (arith, h.0.1)), h.1)
 
-with_run_formed : (here : Here) (p : Progress) (r : Result (List Token) LexError) → OnTokens r → Formed p → OnProgress (with_run here p r)
-with_run_formed here p (Ok tokens) t f =
-    let lines = here.base + (here.run_line - 1) in
-    with_expanded_formed here.base p (expanded p.macros (map (moved lines) tokens) p.work) f
-    (expanded_formed p.macros (map (moved lines) tokens) p.work f.macros (All-map IsFormed (moved lines) tokens (All-weaker IsFormed (λ token. IsFormed (moved lines token)) (moved_formed lines) tokens t)))
-with_run_formed here p (Err (lex.Bad kind line)) t f = tt
-with_run_formed here p (Err lex.NoMemory) t f = tt
+more_progress : (n m w : ℕ) (r : Result Progress Refusal) → n ≤ m → OnProgress n w r → OnProgress m w r
+more_progress n m w (Ok p) low h = (h.0, omega (arith, h.1, low), h.2)
+more_progress n m w (Err e) low h = tt
 
-run_ended_formed : (here : Here) (p : Progress) → length here.run ≤ most_bytes → Formed p → OnProgress (run_ended here p)
+with_run_formed : (here : Here) (p : Progress) (most : ℕ) (r : Result (List Token) LexError) → OnTokens most r → Formed p → OnProgress (length p.tokens + most) p.work (with_run here p r)
+with_run_formed here p most (Ok tokens) t f =
+    let lines = here.base + (here.run_line - 1) in
+    let toks = map (moved lines) tokens in
+    more_progress (length p.tokens + length (map fresh toks)) (length p.tokens + most) p.work (with_expanded here.base p (expanded p.macros toks p.work)) (omega (arith, t.1, length-map toks fresh, length-map tokens (moved lines)))
+    (with_expanded_formed here.base p (map fresh toks) (expanded p.macros toks p.work) f
+    (expanded_scan p.macros toks p.work f.macros (All-map IsFormed (moved lines) tokens (All-weaker IsFormed (λ token. IsFormed (moved lines token)) (moved_formed lines) tokens t.0))))
+with_run_formed here p most (Err (lex.Bad kind line)) t f = tt
+with_run_formed here p most (Err lex.NoMemory) t f = tt
+
+run_ended_formed : (here : Here) (p : Progress) → length here.run ≤ most_bytes → Formed p → OnProgress (length p.tokens + length here.run) p.work (run_ended here p)
 unfolding run_ended
-run_ended_formed here p low f = with_run_formed here p (lexed here.run) (lexed_formed here.run low) f
+run_ended_formed here p low f = with_run_formed here p (length here.run) (lexed here.run) (lexed_formed here.run low) f
+
+-- an included text has a name that it may have
+abbrev pub OnName : Option (List ℕ) → Type 0
+OnName None = Unit {0}
+OnName (Some name) = list_all is_path_byte name ≡ true
+
+path_by : (a b : Bool) (bytes : List ℕ) → (b ≡ list_all is_path_byte bytes) → OnName (cond (a && b) (Some bytes) None)
+path_by true true bytes is = sym is
+path_by true false bytes is = tt
+path_by false b bytes is = tt
+
+path_named : (bytes : List ℕ) → OnName (path_of bytes)
+path_named bytes = path_by (not (length bytes == 0)) (list_all is_path_byte bytes) bytes refl
+
+string_by : (b : Bool) (o : Option (List ℕ)) → OnName o → OnName (cond b o None)
+string_by true o h = h
+string_by false o h = tt
+
+include_named : (args : List Token) → OnName (include_of args)
+include_named [] = tt
+include_named (token ∷ []) = string_by (is_string_kind token.kind) (included_name token.bytes) (path_named _)
+include_named (token ∷ other ∷ tokens) = tt
 
 abbrev OnDirective : Directive → Type 0
 OnDirective (Define m) = IsFormedMacro m
 OnDirective Empty = Unit {0}
-OnDirective (Include name) = Unit {0}
+OnDirective (Include name) = list_all is_path_byte name ≡ true
 OnDirective (Undefine name) = Unit {0}
 OnDirective (GroupOf name wanted) = Unit {0}
 OnDirective Else = Unit {0}
@@ -146,9 +183,9 @@ define_formed rest (name ∷ behind) h =
     pick (is_name name) (option_map Define (macro_behind (takes_arguments rest) name.bytes behind)) None
     (define_on (macro_behind (takes_arguments rest) name.bytes behind) (macro_formed (takes_arguments rest) name.bytes behind (All-tail IsFormed name behind h))) tt
 
-include_on : (o : Option (List ℕ)) → OnOption (option_map Include o)
-include_on None = tt
-include_on (Some name) = tt
+include_on : (o : Option (List ℕ)) → OnName o → OnOption (option_map Include o)
+include_on None h = tt
+include_on (Some name) h = h
 
 naming_on : (n : Naming) (name : List ℕ) → OnDirective (named_by n name)
 naming_on naming.Undefine name = tt
@@ -166,7 +203,7 @@ directive_by_formed : (word rest : List ℕ) (args : List Token) → All IsForme
 unfolding directive_by
 directive_by_formed word rest args h =
     pick (bytes_eq word (codes "define")) _ _ (define_formed rest args h)
-    (pick (bytes_eq word (codes "include")) _ _ (include_on (include_of args))
+    (pick (bytes_eq word (codes "include")) _ _ (include_on (include_of args) (include_named args))
     (pick (bytes_eq word (codes "undef")) _ _ (named_on naming.Undefine (only_name args))
     (pick (bytes_eq word (codes "ifdef")) _ _ (named_on (naming.Group true) (only_name args))
     (pick (bytes_eq word (codes "ifndef")) _ _ (named_on (naming.Group false) (only_name args))
@@ -185,21 +222,26 @@ form_formed : (line : ℕ) (o : Option Directive) → OnOption o → OnResult (o
 form_formed line None h = tt
 form_formed line (Some d) h = h
 
-tokens_formed : (line : ℕ) (rest : List ℕ) (r : Result (List Token) LexError) → OnTokens r → OnResult (of_tokens line rest r)
-tokens_formed line rest (Ok tokens) h = form_formed line (directive_of rest tokens) (directive_formed rest tokens h)
-tokens_formed line rest (Err (lex.Bad kind at)) h = tt
-tokens_formed line rest (Err lex.NoMemory) h = tt
+tokens_formed : (line most : ℕ) (rest : List ℕ) (r : Result (List Token) LexError) → OnTokens most r → OnResult (of_tokens line rest r)
+tokens_formed line most rest (Ok tokens) h = form_formed line (directive_of rest tokens) (directive_formed rest tokens h.0)
+tokens_formed line most rest (Err (lex.Bad kind at)) h = tt
+tokens_formed line most rest (Err lex.NoMemory) h = tt
 
 directive_on_formed : (line : ℕ) (rest : List ℕ) → length rest ≤ most_bytes → OnResult (directive_on line rest)
-directive_on_formed line rest low = tokens_formed line rest (rest_lexed rest) (rest_by (begins_with 35 (behind_spaces rest)) rest low)
+directive_on_formed line rest low = tokens_formed line (length rest) rest (rest_lexed rest) (rest_by (begins_with 35 (behind_spaces rest)) rest low)
 
-abbrev OnStep : Result Step Refusal → Type 0
-OnStep (Ok s) = Formed s.progress
-OnStep (Err e) = Unit {0}
+-- the tokens so far and those of the run are no more than this
+abbrev pub Holds : ℕ → ℕ → Here → Progress → Type 0
+Holds n w here p =
+    Formed p × (length p.tokens + length here.run + w ≤ n + p.work) × (w ≤ most_work → p.work ≤ most_work)
 
-groups_formed : (here : Here) (p : Progress) (r : Result (List Group) Refusal) → Formed p → OnStep (with_groups here p r)
-groups_formed here p (Ok groups) f = f
-groups_formed here p (Err e) f = tt
+abbrev OnStep : ℕ → ℕ → Result Step Refusal → Type 0
+OnStep n w (Ok s) = Holds n w s.here s.progress × OnName s.include
+OnStep n w (Err e) = Unit {0}
+
+groups_formed : (n w : ℕ) (here : Here) (p : Progress) (r : Result (List Group) Refusal) → Holds n w here p → OnStep n w (with_groups here p r)
+groups_formed n w here p (Ok groups) f = (f, tt)
+groups_formed n w here p (Err e) f = tt
 
 abbrev OnMacros : Result (List Macro) PreKind → Type 0
 OnMacros (Ok macros) = All IsFormedMacro macros
@@ -213,9 +255,9 @@ defined_formed : (o : Option Macro) (m : Macro) (macros : List Macro) → IsForm
 defined_formed None m macros n h = All-push IsFormedMacro macros m h n
 defined_formed (Some before) m macros n h = redefined (same_macro before m) macros h
 
-macros_formed : (line : ℕ) (here : Here) (p : Progress) (r : Result (List Macro) PreKind) → Formed p → OnMacros r → OnStep (with_macros here p (at_line line r))
-macros_formed line here p (Ok macros) f h = record { tokens = f.tokens; macros = h }
-macros_formed line here p (Err e) f h = tt
+macros_formed : (n w line : ℕ) (here : Here) (p : Progress) (r : Result (List Macro) PreKind) → Holds n w here p → OnMacros r → OnStep n w (with_macros here p (at_line line r))
+macros_formed n w line here p (Ok macros) f h = ((record { tokens = f.0.tokens; macros = h }, f.1, f.2), tt)
+macros_formed n w line here p (Err e) f h = tt
 
 without_by : (b : Bool) (x y : List Macro) → All IsFormedMacro x → All IsFormedMacro y → All IsFormedMacro (cond b x y)
 without_by true x y hx hy = hx
@@ -227,39 +269,46 @@ without_formed name (m ∷ macros) h =
     let more = All-tail IsFormedMacro m macros h in
     without_by (bytes_eq m.name name) macros (m ∷ without name macros) more (All-cons IsFormedMacro m (without name macros) (All-head IsFormedMacro m macros h) (without_formed name macros more))
 
-obeyed_formed : (d : Directive) (here : Here) (p : Progress) → OnDirective d → Formed p → OnStep (obeyed d here p)
+obeyed_formed : (n w : ℕ) (d : Directive) (here : Here) (p : Progress) → OnDirective d → Holds n w here p → OnStep n w (obeyed d here p)
 unfolding obeyed
-obeyed_formed Empty here p h f = f
-obeyed_formed (Include name) here p h f = f
-obeyed_formed (Define m) here p h f = macros_formed here.line here p (defined m p.macros) f (defined_formed (found m.name p.macros) m p.macros h f.macros)
-obeyed_formed (Undefine name) here p h f = record { tokens = f.tokens; macros = without_formed name p.macros f.macros }
-obeyed_formed (GroupOf name wanted) here p h f = f
-obeyed_formed Else here p h f = groups_formed here p (at_line here.line (turned here.groups)) f
-obeyed_formed EndIf here p h f = groups_formed here p (at_line here.line (closed here.groups)) f
+obeyed_formed n w Empty here p h f = (f, tt)
+obeyed_formed n w (Include name) here p h f = (f, h)
+obeyed_formed n w (Define m) here p h f = macros_formed n w here.line here p (defined m p.macros) f (defined_formed (found m.name p.macros) m p.macros h f.0.macros)
+obeyed_formed n w (Undefine name) here p h f = ((record { tokens = f.0.tokens; macros = without_formed name p.macros f.0.macros }, f.1, f.2), tt)
+obeyed_formed n w (GroupOf name wanted) here p h f = (f, tt)
+obeyed_formed n w Else here p h f = groups_formed n w here p (at_line here.line (turned here.groups)) f
+obeyed_formed n w EndIf here p h f = groups_formed n w here p (at_line here.line (closed here.groups)) f
 
-then_obeyed : (r : Result Directive Refusal) (here : Here) (p : Progress) → OnResult r → Formed p → OnStep (and_then r (λ d. obeyed d here p))
-then_obeyed (Ok d) here p h f = obeyed_formed d here p h f
-then_obeyed (Err e) here p h f = tt
+then_obeyed : (n w : ℕ) (r : Result Directive Refusal) (here : Here) (p : Progress) → OnResult r → Holds n w here p → OnStep n w (and_then r (λ d. obeyed d here p))
+then_obeyed n w (Ok d) here p h f = obeyed_formed n w d here p h f
+then_obeyed n w (Err e) here p h f = tt
 
-from_formed : (b : Bool) (line rest : List ℕ) (here : Here) (p : Progress) → length rest ≤ most_bytes → Formed p → OnStep (cond b (Ok (step (at_header line here) p)) (and_then (directive_on here.line rest) (λ d. obeyed d (behind_line here) p)))
-from_formed true line rest here p low f = f
-from_formed false line rest here p low f = then_obeyed (directive_on here.line rest) (behind_line here) p (directive_on_formed here.line rest low) f
+from_formed : (n w : ℕ) (b : Bool) (line rest : List ℕ) (here : Here) (p : Progress) → length rest ≤ most_bytes → OnProgress n w (Ok p) → OnStep (n + length line) w (cond b (Ok (step (at_header line here) p)) (and_then (directive_on here.line rest) (λ d. obeyed d (behind_line here) p)))
+from_formed n w true line rest here p low f = ((f.0, omega (arith, f.1), f.2), tt)
+from_formed n w false line rest here p low f =
+    then_obeyed (n + length line) w (directive_on here.line rest) (behind_line here) p (directive_on_formed here.line rest low) (f.0, omega (arith, f.1), f.2)
 
-then_directed : (r : Result Progress Refusal) (line rest : List ℕ) (here : Here) → length rest ≤ most_bytes → OnProgress r → OnStep (and_then r (λ q. directed_from line rest here q))
-then_directed (Ok q) line rest here low f = from_formed (is_some (include_end rest)) line rest here q low f
-then_directed (Err e) line rest here low f = tt
+then_directed : (n w : ℕ) (r : Result Progress Refusal) (line rest : List ℕ) (here : Here) → length rest ≤ most_bytes → OnProgress n w r → OnStep (n + length line) w (and_then r (λ q. directed_from line rest here q))
+then_directed n w (Ok q) line rest here low f = from_formed n w (is_some (include_end rest)) line rest here q low f
+then_directed n w (Err e) line rest here low f = tt
 
-directed_formed : (line rest : List ℕ) (here : Here) (p : Progress) → length here.run ≤ most_bytes → length rest ≤ most_bytes → Formed p → OnStep (directed line rest here p)
+directed_formed : (line rest : List ℕ) (here : Here) (p : Progress) → length here.run ≤ most_bytes → length rest ≤ most_bytes → Formed p → OnStep (length p.tokens + length here.run + length line) p.work (directed line rest here p)
 unfolding directed
-directed_formed line rest here p run low f = then_directed (run_ended here p) line rest here low (run_ended_formed here p run f)
+directed_formed line rest here p run low f =
+    then_directed (length p.tokens + length here.run) p.work (run_ended here p) line rest here low (run_ended_formed here p run f)
 
-passed_formed : (rest : List ℕ) (here : Here) (p : Progress) → Formed p → OnStep (passed rest here p)
+passed_formed : (line rest : List ℕ) (here : Here) (p : Progress) → Formed p → OnStep (length p.tokens + length here.run + length line) p.work (passed rest here p)
 unfolding passed
-passed_formed rest here p f = groups_formed (behind_line here) p (at_line here.line (skipped (first_word rest) here.line here.groups)) f
+passed_formed line rest here p f =
+    groups_formed (length p.tokens + length here.run + length line) p.work (behind_line here) p (at_line here.line (skipped (first_word rest) here.line here.groups)) (f, omega arith, λ k. k)
 
-pick_step : (b : Bool) (x y : Result Step Refusal) → OnStep x → OnStep y → OnStep (cond b x y)
-pick_step true x y hx hy = hx
-pick_step false x y hx hy = hy
+pick_step : (n w : ℕ) (b : Bool) (x y : Result Step Refusal) → OnStep n w x → OnStep n w y → OnStep n w (cond b x y)
+pick_step n w true x y hx hy = hx
+pick_step n w false x y hx hy = hy
+
+text_holds : (b : Bool) (line : List ℕ) (here : Here) (p : Progress) → Formed p → Holds (length p.tokens + length here.run + length line) p.work (cond b (record here { run = here.run ++ line }) here) p
+text_holds true line here p f = (f, omega (arith, length-append here.run line), λ k. k)
+text_holds false line here p f = (f, omega arith, λ k. k)
 
 -- what stands behind the `#` of a line is short
 abbrev OnRest : Option (List ℕ) → Type 0
@@ -274,26 +323,28 @@ hash_short : (text : List ℕ) → length text ≤ most_bytes → OnRest (behind
 hash_short [] low = tt
 hash_short (b ∷ w) low = hash_by (b == 35) w (omega (arith, low))
 
-line_by_formed : (o : Option (List ℕ)) (line : List ℕ) (here : Here) (p : Progress) → length here.run ≤ most_bytes → OnRest o → Formed p → OnStep (line_by o line here p)
-line_by_formed None line here p run low f = f
+line_by_formed : (o : Option (List ℕ)) (line : List ℕ) (here : Here) (p : Progress) → length here.run ≤ most_bytes → OnRest o → Formed p → OnStep (length p.tokens + length here.run + length line) p.work (line_by o line here p)
+line_by_formed None line here p run low f = (text_holds (is_live here.groups) line here p f, tt)
 line_by_formed (Some rest) line here p run low f =
-    pick_step (is_live here.groups) (directed line rest here p) (passed rest here p) (directed_formed line rest here p run low f) (passed_formed rest here p f)
+    pick_step (length p.tokens + length here.run + length line) p.work (is_live here.groups) (directed line rest here p) (passed rest here p) (directed_formed line rest here p run low f) (passed_formed line rest here p f)
 
-pub line_formed : (line : List ℕ) (here : Here) (p : Progress) (s : Step) → length here.run ≤ most_bytes → length line ≤ most_bytes → Formed p → line_read line here p ≡ Ok s → Formed s.progress
+pub line_formed : (line : List ℕ) (here : Here) (p : Progress) (s : Step) → length here.run ≤ most_bytes → length line ≤ most_bytes → Formed p → line_read line here p ≡ Ok s → Holds (length p.tokens + length here.run + length line) p.work s.here s.progress × OnName s.include
 unfolding line_read
 line_formed line here p s run low f e =
     let rest = hash_short (behind_spaces line) (omega (arith, low, length-drop (prefix_len is_space line) line)) in
-    let h : OnStep (Ok s) = subst OnStep e (line_by_formed (directive_rest line) line here p run rest f) in
+    let h : OnStep (length p.tokens + length here.run + length line) p.work (Ok s) = subst (OnStep (length p.tokens + length here.run + length line) p.work) e (line_by_formed (directive_rest line) line here p run rest f) in
     h
 
-balanced_formed : (o : Option ℕ) (p : Progress) → Formed p → OnProgress (balanced o p)
-balanced_formed None p f = f
-balanced_formed (Some line) p f = tt
+balanced_formed : (n w : ℕ) (o : Option ℕ) (p : Progress) → OnProgress n w (Ok p) → OnProgress n w (balanced o p)
+balanced_formed n w None p f = f
+balanced_formed n w (Some line) p f = tt
 
-then_balanced : (r : Result Progress Refusal) (here : Here) → OnProgress r → OnProgress (and_then r (λ q. balanced (first_line here.groups) q))
-then_balanced (Ok q) here f = balanced_formed (first_line here.groups) q f
-then_balanced (Err e) here f = tt
+then_balanced : (n w : ℕ) (r : Result Progress Refusal) (here : Here) → OnProgress n w r → OnProgress n w (and_then r (λ q. balanced (first_line here.groups) q))
+then_balanced n w (Ok q) here f = balanced_formed n w (first_line here.groups) q f
+then_balanced n w (Err e) here f = tt
 
-pub text_formed : (here : Here) (p q : Progress) → length here.run ≤ most_bytes → Formed p → text_ended here p ≡ Ok q → Formed q
+pub text_formed : (here : Here) (p q : Progress) → length here.run ≤ most_bytes → Formed p → text_ended here p ≡ Ok q → Formed q × (length q.tokens + p.work ≤ length p.tokens + length here.run + q.work) × (p.work ≤ most_work → q.work ≤ most_work)
 unfolding text_ended
-text_formed here p q run f e = let h : OnProgress (Ok q) = subst OnProgress e (then_balanced (run_ended here p) here (run_ended_formed here p run f)) in h
+text_formed here p q run f e =
+    let h : OnProgress (length p.tokens + length here.run) p.work (Ok q) = subst (OnProgress (length p.tokens + length here.run) p.work) e (then_balanced (length p.tokens + length here.run) p.work (run_ended here p) here (run_ended_formed here p run f)) in
+    h

@@ -78,3 +78,29 @@ short_pieces most place text (piece ∷ pieces) cut low =
 
 pub short_cut : (most : ℕ) (place : Place) (text : List ℕ) (pieces : List Piece) (tokens : List Token) → IsCut place text pieces → length text ≤ most → answer_of place text pieces ≡ Ok tokens → All (λ (t : Token). length t.bytes ≤ most) tokens
 short_cut most place text pieces tokens cut low e = let h : Short most (Ok tokens) = subst (Short most) e (short_pieces most place text pieces cut low) in h
+
+-- an answer has no more tokens
+abbrev Few : ℕ → Result (List Token) LexError → Type 0
+Few most (Ok tokens) = length tokens ≤ most
+Few most (Err e) = Unit {0}
+
+few_with : (most : ℕ) (kind : PieceKind) (line : ℕ) (bytes : List ℕ) (rest : Result (List Token) LexError) → Few most rest → Few (most + 1) (answer_with kind line bytes rest)
+few_with most Gap line bytes (Ok tokens) h = omega (arith, h)
+few_with most Gap line bytes (Err e) h = tt
+few_with most (TokenPiece kind) line bytes (Ok tokens) h = omega (arith, h)
+few_with most (TokenPiece kind) line bytes (Err e) h = tt
+few_with most (Refused kind) line bytes rest h = tt
+
+fewer : (n m : ℕ) (r : Result (List Token) LexError) → n ≤ m → Few n r → Few m r
+fewer n m (Ok tokens) low h = omega (arith, low, h)
+fewer n m (Err e) low h = tt
+
+few_pieces : (place : Place) (text : List ℕ) (pieces : List Piece) → IsCut place text pieces → Few (length text) (answer_of place text pieces)
+few_pieces place text [] cut = omega arith
+few_pieces place text (piece ∷ pieces) cut =
+    fewer (length (drop piece.len text) + 1) (length text) _ (omega (arith, length-drop piece.len text, cut.0.some, cut.0.within))
+    (few_with (length (drop piece.len text)) piece.kind place.line (take piece.len text) (answer_of (behind place (take piece.len text)) (drop piece.len text) pieces)
+    (few_pieces (behind place (take piece.len text)) (drop piece.len text) pieces cut.1))
+
+pub few_cut : (place : Place) (text : List ℕ) (pieces : List Piece) (tokens : List Token) → IsCut place text pieces → answer_of place text pieces ≡ Ok tokens → length tokens ≤ length text
+few_cut place text pieces tokens cut e = let h : Few (length text) (Ok tokens) = subst (Few (length text)) e (few_pieces place text pieces cut) in h

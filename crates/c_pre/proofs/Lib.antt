@@ -10,3 +10,4 @@ pub mod Left
 pub mod Formed
 pub mod FormedLines
 pub mod Replacing
+pub mod Named

@@ -1,9 +1,11 @@
 -- What functions answer and leave, against what a definition expects. Want of memory may come in place of it, and of it
 -- nothing is said.
-use Rattle.std.specs.Prelude.{◌≡◌, ◌≤◌, ⊤, ℕ, ◌+◌, Bool, true, false, All, List, Option, Result, Ok, Err}
+use Rattle.std.specs.Prelude.{◌≡◌, ◌⊎◌, ◌≤◌, ⊤, ℕ, ◌+◌, Bool, true, false, All, List, Option, Result, Ok, Err}
+use Rattle.std.specs.List.{list_all}
 use Rattle.c_lexer.specs.declared.token.Token.{Token}
 use Rattle.c_lexer.specs.declared.token.LexError.{LexError}
 use Rattle.c_lexer.specs.declared.token.LexError.TheVariants as lex
+use Rattle.c_pre.specs.Directives.{is_path_byte}
 use Rattle.c_pre.specs.Steps.{Next, Goes, Ends, Stops}
 use Rattle.c_pre.specs.Reading.{Step}
 use Rattle.c_pre.specs.declared.answer.PreError.{PreError}
@@ -85,3 +87,13 @@ CountsFault before after (Err (error.Lex kind at)) = after ≡ before
 CountsFault before after (Err (error.TooLong name)) = after ≡ before
 CountsFault before after (Err (error.Fault name)) = after ≡ before + 1
 CountsFault before after (Err error.NoMemory) = after ≡ before
+
+-- a text that cannot be read has this name
+abbrev pub FailsAt : List ℕ → PreError → Type 0
+FailsAt name (error.Fault failed) = failed ≡ name
+FailsAt name e = ⊤
+
+-- a text that cannot be read has this name, or one that an include can give
+abbrev pub FailsBelow : List ℕ → PreError → Type 0
+FailsBelow name (error.Fault failed) = (failed ≡ name) ⊎ (list_all is_path_byte failed ≡ true)
+FailsBelow name e = ⊤

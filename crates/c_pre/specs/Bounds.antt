@@ -1,5 +1,6 @@
 -- Numbers of lines and bytes that functions keep.
 use Rattle.std.specs.Prelude.{◌≡◌, ◌≤◌, ℕ, ◌+◌, ◌*◌, length}
+use Rattle.c_pre.specs.Expansion.{most_work}
 use Rattle.c_pre.specs.Texts.{most_bytes}
 use Rattle.c_pre.specs.declared.here.Here.{Here}
 use Rattle.c_pre.specs.declared.preprocessor.Source.{Source}
@@ -39,9 +40,19 @@ pub record Opens (old new : Progress) (s : Source) : Type 0 where
   pub base : s.base ≡ old.lines
   pub tokens : new.tokens ≡ old.tokens
   pub macros : new.macros ≡ old.macros
+  pub work : new.work ≡ old.work
 
 -- the numbers of bytes and lines behind a text and all that it includes: an include stands on a line of its own
 pub record Grows (old new : Progress) : Type 0 where
   pub most : new.used ≤ most_bytes
   pub used : old.used ≤ new.used
   pub lines : new.lines + 2 * old.used ≤ old.lines + 1 + 2 * new.used
+
+-- a text and all that it includes give no more tokens than they have bytes, but for those that work puts in
+pub record Adds (old new : Progress) : Type 0 where
+  pub few : length new.tokens + old.used + old.work ≤ length old.tokens + new.used + new.work
+  pub work : old.work ≤ most_work → new.work ≤ most_work
+
+-- the most tokens that a text and all that it includes can give
+abbrev pub most_tokens : ℕ
+most_tokens = 5048576

@@ -1,11 +1,11 @@
 //! Texts, and the texts that they include.
 
-ghost use Rattle.std.specs.Prelude.{◌≡◌, ℕ, ◌+◌, ◌*◌, ◌<◌, ◌≤◌, ◌^◌, List, Some, length, take, All, IfOk, OnOk};
+ghost use Rattle.std.specs.Prelude.{◌≡◌, ℕ, ◌+◌, ◌*◌, ◌<◌, ◌≤◌, ◌^◌, List, Some, length, take, All, IfOk, IfErr, OnOk};
 ghost use Rattle.c_pre.specs.Formed.{IsFormed, Formed};
 ghost use Rattle.c_pre.specs.Lines.{line_length};
 ghost use Rattle.c_pre.specs.Texts.{most_bytes, line_count, refused, with_text, opened, entered, text_read, below, preprocessed};
-ghost use Rattle.c_pre.specs.Answering.{Gives, Enters, Comes, CountsFault};
-ghost use Rattle.c_pre.specs.Bounds.{Opens, Grows};
+ghost use Rattle.c_pre.specs.Answering.{Gives, Enters, Comes, CountsFault, FailsAt, FailsBelow};
+ghost use Rattle.c_pre.specs.Bounds.{Adds, Opens, Grows, most_tokens};
 
 use crate::answer::{Opened, Place, Pre, PreError, PreKind, Refusal};
 use crate::comments::{blanked, open_comment};
@@ -85,6 +85,7 @@ fn open_source(
     requires { length text ≤ most_bytes }
     ensures opened { Gives (opened name text base) result }
     ensures steady { (faults : ℕ) → CountsFault faults faults result }
+    ensures named { (failed : List ℕ) → IfErr result (FailsAt failed) }
     ensures len { IfOk result (λ s. (length s.plain ≡ length text) × (s.base ≡ base)) }
 {
     let comment = open_comment(text.as_slice());
@@ -136,6 +137,7 @@ impl Progress {
         requires lines { self.old.lines ≤ 2 * self.old.used }
         ensures told { (told : List ℕ → List ℕ) → T.texts texts.old ≡ Some told → Enters (entered name (told name) self.old) (with_text name (told name) self.old) self.new result }
         ensures opens { IfOk result (Opens self.old self.new) }
+        ensures named { IfErr result (FailsAt name) }
         ensures keeps { T.texts texts.new ≡ T.texts texts.old }
         ensures cause { CountsFault (T.faults texts.old) (T.faults texts.new) result }
     {
@@ -172,6 +174,8 @@ impl Progress {
         ensures told { (told : List ℕ → List ℕ) → T.texts texts.old ≡ Some told → Comes (text_read (below told left) name (told name) self.old) self.new result }
         ensures grows { OnOk result (Grows self.old self.new) }
         ensures formed { Formed self.old → OnOk result (Formed self.new) }
+        ensures adds { Formed self.old → OnOk result (Adds self.old self.new) }
+        ensures named { Formed self.old → IfErr result (FailsBelow name) }
         ensures keeps { T.texts texts.new ≡ T.texts texts.old }
         ensures cause { CountsFault (T.faults texts.old) (T.faults texts.new) result }
     {
@@ -209,13 +213,15 @@ impl Progress {
 /// # Errors
 ///
 /// [`PreError::Bad`] and [`PreError::Lex`] at the first line that is refused, [`PreError::Fault`] exactly where the texts
-/// failed, [`PreError::TooLong`] exactly where one byte too many was read, and [`PreError::NoMemory`] only for want of
+/// failed, at the file or a text that an include names, [`PreError::TooLong`] exactly where one byte too many was read, and [`PreError::NoMemory`] only for want of
 /// memory.
 pub fn pre<T: Texts>(alloc: Global, texts: &mut T, file: &str, used: u32) -> Result<Pre, PreError>
     requires count { T.faults texts.old + 1 < 2 ^ 64 }
     requires used { used ≤ most_bytes }
     ensures told { (told : List ℕ → List ℕ) → T.texts texts.old ≡ Some told → Gives (preprocessed told file.now used) result }
     ensures forms { IfOk result (λ pre. All IsFormed pre.tokens) }
+    ensures few { IfOk result (λ pre. length pre.tokens ≤ most_tokens) }
+    ensures named { IfErr result (FailsBelow file.now) }
     ensures keeps { T.texts texts.new ≡ T.texts texts.old }
     ensures cause { CountsFault (T.faults texts.old) (T.faults texts.new) result }
 {

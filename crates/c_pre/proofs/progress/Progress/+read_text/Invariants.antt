@@ -1,4 +1,5 @@
 use Rattle.std.proofs.Common.{◌≡◌, ℕ, ◌+◌, ◌-◌, ◌*◌, ◌≤◌, List, Some, length, drop}
+use Rattle.c_pre.specs.Expansion.{most_work}
 use Rattle.c_pre.specs.Formed.{Formed}
 use Rattle.c_pre.specs.Lines.{lines_of}
 use Rattle.c_pre.specs.Texts.{most_bytes, below, lines_read, source_read}
@@ -13,6 +14,8 @@ invariant-lines g l = record {
   keeps : g.T.Texts.texts l.texts ≡ g.T.Texts.texts l.fn.texts;
   count : g.T.Texts.faults l.texts ≡ g.T.Texts.faults l.fn.texts;
   formed : Formed l.fn.self → Formed l.self;
+  few : Formed l.fn.self → length l.self.tokens + length l.here.run + (length l.source.plain - l.at) + l.fn.self.used + l.fn.self.work ≤ length l.fn.self.tokens + l.self.used + l.self.work;
+  work : Formed l.fn.self → l.fn.self.work ≤ most_work → l.self.work ≤ most_work;
   within : l.at ≤ length l.source.plain;
   base : l.here.base ≡ l.source.base;
   line : l.here.line ≤ l.at + 1;
