@@ -1,3 +1,4 @@
+pub mod Acting
 pub mod Words
 pub mod Kept
 pub mod Stacked

@@ -11,11 +11,13 @@ use crate::call::Call;
 use crate::going::go;
 use crate::operation::Operation;
 use crate::words::{behind, push_all, push_first_words};
+use byte_memory::Steps;
 use flat_code::Code;
-use flat_objects::Word;
+use flat_objects::{FlatObjects, Word};
 use hs_base::NoMemory;
 use std::alloc::Global;
 use std::marker::Model;
+use std::sync::ledger::Ledger;
 
 /// A call among those that wait, and the running one behind them.
 fn call_in(waiting: &[Call], running: Call, k: usize) -> Call
@@ -302,17 +304,19 @@ impl Calls {
     }
 
     /// Does operations in the running call until one is left to be made by itself, and answers the steps that are left.
-    pub(crate) fn go(
+    pub(crate) fn go<L: Ledger>(
         &mut self,
         code: &Code,
         operations: &[Operation],
         statics: &[u32],
+        objects: &mut FlatObjects,
         left: u64,
+        steps: &mut Steps<L>,
     ) -> u64
         requires formed { IsWellFormed code.now }
         requires gathered { AreGathered code.now operations.now }
-        requires runs { Runs code.now statics.now self.old.running.locals self.old.running.words self.old.running.point left }
-        ensures { (kept : Kept) → kept.calls ≡ self.old → RunsAt code.now statics.now self.old.running.locals self.old.running.words self.old.running.point left kept → Advances code.now kept (record kept { calls = self.new; steps = result }) }
+        requires runs { Runs code.now statics.now self.old.running.locals self.old.running.words objects.old self.old.running.point left }
+        ensures { (kept : Kept) → kept.calls ≡ self.old → RunsAt code.now statics.now self.old.running.locals self.old.running.words objects.old self.old.running.point left kept → Advances code.now kept (record kept { memory = objects.new; calls = self.new; steps = result }) }
     {
         let (point, left) = go(
             code,
@@ -320,8 +324,10 @@ impl Calls {
             &mut self.words[self.running.base..],
             statics,
             &self.locals[self.running.from..],
+            objects,
             self.running.point,
             left,
+            steps,
         );
         self.running.point = point;
         left

@@ -14,6 +14,7 @@
 //! memory of the host, and none searches but one that makes an object, for its place in the heap.
 #![tactic(auto)]
 
+mod accesses;
 mod arithmetic;
 mod call;
 mod calling;

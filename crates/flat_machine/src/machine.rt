@@ -13,6 +13,7 @@ ghost use Rattle.flat_objects.specs.Leaks.{KeepsSome, leak_after};
 use crate::loaded::Loaded;
 use crate::running::whole_run;
 use crate::state::State;
+use byte_memory::CountRight;
 use flat_code::Code;
 use hs_base::{End, Leak, Line, Sink, Source};
 use std::marker::{Brand, Model};
@@ -27,6 +28,8 @@ pub struct Machine {
     ended: Option<End>,
     /// The steps that the run was allowed.
     budget: u64,
+    /// The right to count what a call does.
+    right: CountRight,
 }
 
 impl Model for Machine {
@@ -39,7 +42,7 @@ impl Model for Machine {
 
 impl Machine {
     /// A machine before its run.
-    pub(crate) fn new(state: State, loaded: Loaded, stack: u32) -> Machine
+    pub(crate) fn new(state: State, loaded: Loaded, stack: u32, right: CountRight) -> Machine
         ensures { result ≡ record { kept = state; loaded = loaded; stack = stack; ended = None; budget = 0 } }
     {
         Machine {
@@ -48,6 +51,7 @@ impl Machine {
             stack,
             ended: None,
             budget: 0,
+            right,
         }
     }
 
@@ -94,6 +98,7 @@ impl Machine {
             self.stack,
             input,
             out,
+            &self.right,
             Blank::new(1),
         );
         self.ended = Some(end);
@@ -114,6 +119,7 @@ impl Machine {
         requires { KeepsSome self.now.kept.memory }
         ensures { (places : ℕ → ℕ) (objects : List Object) → Keeps self.now.kept.memory places objects → result ≡ leak_after after objects }
     {
-        self.state.leak::<Brand>(after, Blank::new(1))
+        self.state
+            .leak::<Brand>(after, &self.right, Blank::new(1))
     }
 }

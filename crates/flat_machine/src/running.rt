@@ -16,7 +16,7 @@ use crate::state::State;
 use crate::steps::one_step;
 use code_soundness::{run_begins_well, step_leaves_less, step_stays_good};
 use flat_code::Code;
-use byte_memory::Steps;
+use byte_memory::{CountRight, Steps};
 use hs_base::{End, Sink, Source};
 use std::sync::ledger::{Blank, Ledger};
 
@@ -42,7 +42,7 @@ pub(crate) fn end_of_run<I: Source, O: Sink, L: Ledger>(
     step_stays_good();
     step_leaves_less();
     'instructions: loop {
-        state.go(code, loaded.operations.as_slice());
+        state.go(code, loaded.operations.as_slice(), steps);
         match one_step(state, code, loaded, input, out, steps) {
             Ok(()) => {}
             Err(end) => return end,
@@ -102,6 +102,7 @@ pub(crate) fn whole_run<I: Source, O: Sink, L: Ledger>(
     stack: u32,
     input: &mut I,
     out: &mut O,
+    right: &CountRight,
     blank: Blank,
 ) -> End
     requires name { blank.name ≡ L.name }
@@ -119,7 +120,7 @@ pub(crate) fn whole_run<I: Source, O: Sink, L: Ledger>(
     ensures left { (left : List ℕ) (n : ℕ) (limits : Limits) (taken : List ℕ) → n ≡ state.old.steps → limits.stack ≡ stack → limits.heap ≡ state.old.memory.heap.len → I.left input.old ≡ Some left → O.taken out.old ≡ Some taken → LeavesImage code.now left n limits result state.new }
     ensures faults { RunCounts result (I.faults input.old) (I.faults input.new) (O.faults out.old) (O.faults out.new) }
 {
-    let mut steps = Steps::<L>::new(blank);
+    let mut steps = Steps::<L>::new(blank, right);
     match begin(state, code, loaded, stack, &mut steps) {
         Ok(()) => end_of_run(state, code, loaded, input, out, &mut steps),
         Err(end) => end,

@@ -13,7 +13,7 @@ ghost use Rattle.flat_machine.specs.Loading.{HasPlaced, HasRoom, HasStarted, blo
 use c_types::Layout;
 use flat_code::{Code, StaticInit};
 use flat_objects::FlatObjects;
-use byte_memory::Steps;
+use byte_memory::{CountRight, Steps};
 use hs_base::{Limits, NoMemory};
 use std::alloc::Global;
 use std::marker::Brand;
@@ -157,7 +157,8 @@ fn memory_with<L: Ledger>(
     ensures forms { IfOk result (λ made. made.0.forms ≡ map element_of code.now.layouts) }
     ensures pins { IfOk result (λ made. pin_room made.0 ≡ pins) }
 {
-    let mut steps = Steps::<L>::new(blank);
+    let right = CountRight::new(alloc);
+    let mut steps = Steps::<L>::new(blank, &right);
     let locals = (limits.stack + 15) / 16 * 16;
     let mut objects = FlatObjects::new(
         alloc,
