@@ -23,7 +23,7 @@ use c_types::Tags;
 use core_soundness::cores_are_sound;
 use core_tree::Core;
 use elab_core::core_of;
-use elab_externals::walked;
+use elab_statements::walked;
 use std::alloc::Global;
 
 /// The core of a text (C99 6.5 to 6.9). It is sound, as the runners of cores want it.

@@ -11,7 +11,7 @@ use Rattle.c_decls.specs.Refusals.{Checked, Refusal, then}
 use Rattle.elaboration.specs.Context.{Context}
 use Rattle.elaboration.specs.Declarators.{specs}
 use Rattle.elaboration.specs.Declarations.{Storage, specs_alone, specs_before, entry, entries}
-use Rattle.elab_inits.specs.GivenLengths.{held}
+use Rattle.elab_declarations.specs.GivenLengths.{held}
 
 abbrev Name : Type 0
 Name = Declarator × Option Init

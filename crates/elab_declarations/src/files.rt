@@ -4,17 +4,19 @@ ghost use Rattle.std.specs.Prelude.{◌≡◌, option_copied};
 ghost use Rattle.c_types.specs.Types.{plain};
 ghost use Rattle.c_decls.specs.Refusals.{Meets};
 ghost use Rattle.elaboration.specs.Declarations as rules;
-ghost use Rattle.elab_inits.specs.GivenLengths.{held};
-ghost use Rattle.elab_inits.specs.PlainTarget.{plain_target};
+ghost use Rattle.elab_declarations.specs.GivenLengths.{held};
+ghost use Rattle.elab_declarations.specs.PlainTarget.{plain_target};
 ghost use Rattle.elab_declarations.specs.PlainStorage.{plain_storage};
 
+use crate::braces::initialize;
+use crate::targets::Target;
+use crate::unwanted::surplus;
 use crate::words::Storage;
 use c_decls::{Named, TypeError, TypeKind, has_no_size, init_line, is_function, refused};
 use c_tree::Init;
 use c_types::CType;
 use core_tree::Start;
 use elab_base::{Elaborator, no_start, trimmed};
-use elab_inits::{Target, initialize, surplus};
 use hs_base::Line;
 use std::alloc::Global;
 

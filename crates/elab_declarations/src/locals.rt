@@ -5,16 +5,17 @@ ghost use Rattle.c_types.specs.Types.{plain};
 ghost use Rattle.c_decls.specs.Refusals.{Meets};
 ghost use Rattle.elab_base.specs.PlainFound.{plain_spot};
 ghost use Rattle.elaboration.specs.Declarations as rules;
-ghost use Rattle.elab_inits.specs.GivenLengths.{held};
+ghost use Rattle.elab_declarations.specs.GivenLengths.{held};
 ghost use Rattle.elab_declarations.specs.PlainStorage.{plain_storage};
 
+use crate::braces::initialize;
+use crate::targets::Target;
 use crate::words::Storage;
 use c_decls::{Named, TypeError, TypeKind, has_no_size, is_function, refused};
 use c_tree::Init;
 use c_types::CType;
 use core_tree::{Atom, StmKind};
 use elab_base::{Elaborator, Spot};
-use elab_inits::{Target, initialize};
 use hs_base::{Line, NoMemory};
 
 /// What a register local without an initializer holds: zero or null.

@@ -6,10 +6,11 @@ ghost use Rattle.c_tree.specs.View.{declarator_tree};
 ghost use Rattle.c_tree.specs.StatementView.{trees, entry_view, names_view, specs_view};
 ghost use Rattle.c_decls.specs.Refusals.{Meets};
 ghost use Rattle.elaboration.specs.Declarations as rules;
-ghost use Rattle.elab_inits.specs.GivenLengths.{held};
+ghost use Rattle.elab_declarations.specs.GivenLengths.{held};
 ghost use Rattle.elab_declarations.specs.PlainStorage.{plain_storage};
 
 use crate::files::file_name;
+use crate::lengths::with_init_layers;
 use crate::locals::local_name;
 use crate::words::{Storage, specs_before, storage_of};
 use c_decls::TypeError;
@@ -17,7 +18,6 @@ use c_tree::{Declarator, Init, Specs};
 use c_types::CType;
 use c_typing::declared_name;
 use elab_base::Elaborator;
-use elab_inits::with_init_layers;
 use elab_types::layers;
 use hs_base::Line;
 

@@ -1,2 +1,4 @@
 pub mod Behind
 pub mod Negated
+pub mod PlainWorking
+pub mod PlainArguments

@@ -15,12 +15,13 @@ ghost use Rattle.elaboration.specs.Conversions.{Unknown, found_as, atom_of};
 ghost use Rattle.elaboration.specs.Assignments.{record_assigned, set_to, scalar_assigned, old_value, change_place, changed_by, stepped};
 
 use crate::copies::copied;
+use crate::pointers::changed_to;
+use crate::working::operator_of;
 use c_decls::{TypeError, Typed, line_of};
 use c_tree::{AssignOp, BinaryOp, Expr};
 use c_typing::{assigned, changed, held_place};
 use core_tree::{Atom, StmKind};
 use elab_base::{Elaborator, Fixed, Found, Mark, Spot};
-use elab_operators::{changed_to, operator_of};
 use hs_base::{Line, NoMemory};
 
 /// `=` to a struct or a union (C99 6.5.16.1).

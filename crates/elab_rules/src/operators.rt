@@ -11,13 +11,15 @@ ghost use Rattle.elab_rules.specs.Negated.{negated};
 ghost use Rattle.elaboration.specs.Rules.{applied, between, cast_to, cast_fixed};
 
 use crate::branches::tested_atom;
+use crate::fixed::fixed_sum;
+use crate::integers::before_integer;
+use crate::pointers::combined;
 use c_decls::{Operand, TypeError, binary, operand_of, unary};
 use c_tree::{BinaryOp, Expr, UnaryOp};
 use c_types::CType;
 use c_typing::cast;
 use core_tree::{Atom, CmpOp, StmKind};
 use elab_base::{Elaborator, Fixed, Found, Mark, Spot};
-use elab_operators::{before_integer, combined, fixed_sum};
 use hs_base::{Line, NoMemory};
 
 /// `!`: whether a value is 0 or null (C99 6.5.3.3).

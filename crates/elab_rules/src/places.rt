@@ -8,11 +8,12 @@ ghost use Rattle.elab_base.specs.PlainFound.{plain_found};
 ghost use Rattle.elaboration.specs.Operations.{offset_of};
 ghost use Rattle.elaboration.specs.Rules.{member_of, target_of, indexed, dotted, pointed};
 
+use crate::fixed::{fixed_sum, moved_by};
+use crate::pointers::{combined, member_address, offset_of};
 use c_decls::{Operand, TypeError, Typed, operand_of};
 use c_tree::BinaryOp;
 use c_typing::{arrow, dot, element};
 use elab_base::{Elaborator, Fixed, Found, Spot};
-use elab_operators::{combined, fixed_sum, member_address, moved_by, offset_of};
 use hs_base::{Line, NoMemory};
 
 /// `e[f]`: the place at the sum of a pointer and an integer.

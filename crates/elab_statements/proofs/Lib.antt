@@ -4,3 +4,6 @@ pub mod InTurn
 pub mod Returns
 pub mod Switching
 pub mod StatementKinds
+pub mod Ends
+pub mod WholeTexts
+pub mod MainTypes

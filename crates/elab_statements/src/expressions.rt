@@ -17,8 +17,7 @@ use c_typing::unconverted;
 use core_tree::{Atom, StmKind};
 use elab_base::{Elaborator, Found, Mark};
 use elab_rules::tested_value;
-use elab_trees::{closed, opened};
-use elab_values::{unused_of, value_of};
+use elab_values::{closed, opened, unused_of, value_of};
 use hs_base::Line;
 
 /// An expression as a statement: its value is not used (C99 6.8.3).

@@ -14,8 +14,7 @@ use c_tree::Expr;
 use c_types::{CType, IntType};
 use core_tree::{Atom, Stm, StmKind};
 use elab_base::{Cases, Elaborator, Piece, Pieces};
-use elab_trees::{closed, opened};
-use elab_values::value_of;
+use elab_values::{closed, opened, value_of};
 use hs_base::{Line, NoMemory};
 use std::alloc::Global;
 

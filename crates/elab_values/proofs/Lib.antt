@@ -1,3 +1,4 @@
 pub mod Turns
 pub mod Steps
 pub mod Forms
+pub mod ReallocParts

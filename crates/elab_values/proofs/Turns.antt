@@ -15,8 +15,8 @@ use Rattle.c_decls.specs.Refusals.{Checked, Refusal, Meets, then}
 use Rattle.c_decls.specs.Typed.{PlainTyped}
 use Rattle.c_decls.specs.TypeNames as names
 use Rattle.c_decls.specs.Callees.{Callee, Takes, Prints, NoFunction}
-use Rattle.elab_operators.specs.declared.calls.Argument.{Argument as CodeArgument}
-use Rattle.elab_operators.specs.PlainArguments.{plain_argument}
+use Rattle.elab_rules.specs.declared.calls.Argument.{Argument as CodeArgument}
+use Rattle.elab_rules.specs.PlainArguments.{plain_argument}
 use Rattle.elab_values.specs.Arguments.{target_at, types_from, argument, loose_argument, printed_argument, taken_argument, typed_if, format_of, as_it_is, behind}
 use Rattle.c_decls.specs.Expressions.{typed, literal}
 use Rattle.elaboration.specs.Context.{Context, With, asked}

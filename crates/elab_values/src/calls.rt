@@ -10,7 +10,7 @@ ghost use Rattle.c_decls.specs.Typed.{plain_typed};
 ghost use Rattle.c_decls.specs.TypeNames.{Context as Names};
 ghost use Rattle.c_typing.specs.Callee.{plain_callee};
 ghost use Rattle.elab_base.specs.PlainFound.{plain_found};
-ghost use Rattle.elab_operators.specs.PlainArguments.{plain_argument, called_of};
+ghost use Rattle.elab_rules.specs.PlainArguments.{plain_argument, called_of};
 ghost use Rattle.elab_values.specs.Arguments.{format_of};
 ghost use Rattle.elaboration.specs.Calls.{types_of, atoms_of};
 ghost use Rattle.elaboration.specs.Expressions.{callee_name, call_answer};
@@ -21,7 +21,7 @@ use c_types::CType;
 use c_typing::{Callee, first_literal, joined, string};
 use core_tree::Atom;
 use elab_base::{Elaborator, Fixed, Found};
-use elab_operators::{Argument, Called, call_named};
+use elab_rules::{Argument, Called, call_named};
 use hs_base::{Line, NoMemory};
 use std::alloc::Global;
 

@@ -13,7 +13,7 @@ ghost use Rattle.c_tree.specs.StatementView.{trees, expr_view, typename_view};
 ghost use Rattle.c_decls.specs.Refusals.{Meets, then};
 ghost use Rattle.c_typing.specs.Callee.{plain_callee};
 ghost use Rattle.elab_base.specs.PlainFound.{plain_found};
-ghost use Rattle.elab_operators.specs.PlainArguments.{plain_argument};
+ghost use Rattle.elab_rules.specs.PlainArguments.{plain_argument};
 ghost use Rattle.elab_values.specs.Arguments.{target_at, types_from, argument, loose_argument, printed_argument, taken_argument};
 ghost use Rattle.elab_values.specs.Forms.{before_value, between_values, changed_place};
 ghost use Rattle.elaboration.specs.Assignments.{stepped};
@@ -30,11 +30,10 @@ use c_types::{CType, Signature};
 use c_typing::{Callee, behind_comma, called};
 use core_tree::Atom;
 use elab_base::{Elaborator, Fixed, Found};
-use elab_operators::Argument;
 use elab_rules::{
-    address_of, and_ended, and_then, applied, between, cast_to, changed_by, changing, choose_first,
-    chosen, dotted, indexed, next_label, old_value, or_else, or_ended, pointed, record_assigned,
-    scalar_assigned, stepped,
+    Argument, address_of, and_ended, and_then, applied, between, cast_to, changed_by, changing,
+    choose_first, chosen, dotted, indexed, next_label, old_value, or_else, or_ended, pointed,
+    record_assigned, scalar_assigned, stepped,
 };
 use hs_base::Line;
 

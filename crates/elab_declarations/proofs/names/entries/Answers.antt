@@ -4,8 +4,8 @@ use Rattle.c_types.specs.Types.{plain}
 use Rattle.c_tree.specs.View.{declarator_tree}
 use Rattle.c_tree.specs.StatementView.{trees, entry_view}
 use Rattle.elaboration.specs.Declarations.{entry, entries}
-use Rattle.elab_inits.specs.GivenLengths.{held}
-use Rattle.elab_inits.proofs.InTurn.{fails_too}
+use Rattle.elab_declarations.specs.GivenLengths.{held}
+use Rattle.elab_declarations.proofs.InTurn.{fails_too}
 use Rattle.elab_declarations.specs.PlainStorage.{plain_storage}
 use Rattle.elab_declarations.proofs.Entries.{entry_next, entry_fails, entries_end}
 use Rattle.elab_declarations.proofs.names.entries.Goals as goal

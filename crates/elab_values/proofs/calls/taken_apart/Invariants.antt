@@ -1,6 +1,6 @@
 use Rattle.std.proofs.Common.{◌≡◌, map}
 use Rattle.c_decls.specs.Typed.{plain_typed}
-use Rattle.elab_operators.specs.PlainArguments.{plain_argument}
+use Rattle.elab_rules.specs.PlainArguments.{plain_argument}
 use Rattle.elaboration.specs.Calls.{types_of, atoms_of}
 use Rattle.elab_values.proofs.calls.taken_apart.Given as goal
 

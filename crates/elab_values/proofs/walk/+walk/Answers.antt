@@ -13,8 +13,8 @@ use Rattle.c_typing.specs.Callee.{plain_callee}
 use Rattle.elab_base.specs.declared.found.Found.{Found as CodeFound}
 use Rattle.elab_base.specs.Marks.{cut}
 use Rattle.elab_base.specs.PlainFound.{plain_found}
-use Rattle.elab_operators.specs.declared.calls.Argument.{Argument as CodeArgument}
-use Rattle.elab_operators.specs.PlainArguments.{plain_argument}
+use Rattle.elab_rules.specs.declared.calls.Argument.{Argument as CodeArgument}
+use Rattle.elab_rules.specs.PlainArguments.{plain_argument}
 use Rattle.elab_values.specs.Arguments.{target_at, types_from, argument}
 use Rattle.elab_values.proofs.Steps.{found_behind, index_is, comma_is, cast_is, cond_is, unary_node, binary_node, assign_node, unary_is, binary_is, change_is, callee_other}
 use Rattle.elab_values.proofs.Forms.{refused_next, meets_by, binary_second, binary_third, and_second, or_second, choose_third, choose_last, cast_second, cast_last, assign_scalar, taken_last}

@@ -2,7 +2,7 @@ use Rattle.std.proofs.Common.{◌≡◌, ◌+◌, ◌*◌, max, map}
 use Rattle.c_tree.specs.declared.tree.Expr.{size-Expr}
 use Rattle.c_tree.specs.StatementView.{trees, expr_view}
 use Rattle.c_typing.specs.Callee.{plain_callee}
-use Rattle.elab_operators.specs.PlainArguments.{plain_argument}
+use Rattle.elab_rules.specs.PlainArguments.{plain_argument}
 use Rattle.elab_values.specs.Arguments.{behind}
 use Rattle.elab_values.proofs.Turns.{left}
 use Rattle.elaboration.specs.Expressions.{arguments, parameters}

@@ -1,4 +1,0 @@
-pub mod PlainTarget
-pub mod PlainParts
-pub mod Braces
-pub mod GivenLengths

@@ -1,2 +1,0 @@
-pub mod PlainWorking
-pub mod PlainArguments
