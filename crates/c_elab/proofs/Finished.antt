@@ -1,5 +1,5 @@
 -- What a core and its tags have of a finished walk: nothing of the function that ran last; and that the core is sound.
-use Rattle.std.proofs.Common.{◌≡◌, ◌≤◌, ℕ, List, All, length, Ok, Err, ap, ◌∙◌}
+use Rattle.std.proofs.Common.{◌≡◌, ◌≤◌, ℕ, List, All, length, Ok, Err, ap}
 use Rattle.c_types.specs.TagTable.{TagTable}
 use Rattle.c_lexer.specs.declared.token.Token.{Token}
 use Rattle.c_lexer.specs.Tokens.{IsLexed}
@@ -15,7 +15,7 @@ use Rattle.elaboration.specs.Context.{Context}
 use Rattle.elaboration.specs.Resolving.{core_of}
 use Rattle.elaboration.specs.Elaboration.{elaborated, walked}
 use Rattle.elab_base.specs.Idle.{idle, idled}
-use Rattle.c_elab.specs.Core.{IsOfTokens, core_in}
+use Rattle.c_elab.specs.Core.{IsOfTokens}
 
 abbrev core_behind : Checked Context → Checked Core
 core_behind answer = then {A = Core × TagTable} (then answer (λ c. Ok (core_of c, c.tags))) (λ both. Ok both.0)

@@ -25,7 +25,7 @@ use Rattle.c_decls.specs.Typed.{is_function, has_no_size, Operand, Number, opera
 use Rattle.c_decls.specs.TypeNames.{tag_named}
 use Rattle.c_decls.specs.PlaceRules.{unconverted}
 use Rattle.c_decls.specs.Expressions.{line_of, string}
-use Rattle.elaboration.specs.Context.{Context, With, Variable, asked, emit, anew, Here, scoped, entered, here, new_label, with_labels, with_pieces}
+use Rattle.elaboration.specs.Context.{Context, With, Variable, asked, emit, anew, left, scoped, entered, here, new_label, with_labels, with_pieces}
 use Rattle.elaboration.specs.Conversions.{Found, Spot, Local, Memory, code_line, atom_in, valued, convert, write, size_or_zero, convert_integer, tested_value, unused}
 use Rattle.elaboration.specs.Reallocates.{reallocates, opened, closed}
 use Rattle.elaboration.specs.Rules.{with_static, with_literal}
@@ -355,8 +355,18 @@ declaration_near file line words tree c h k z q = led_refused (Near (weight word
 
 -- what statements make
 
-scoped_near : (k : ℕ) (c : Context) (inside : Context → Checked Context) → Led (Near k c) (inside (entered c)) → Led (Near k c) (scoped c inside)
-scoped_near k c inside g = led_after (Near k c) (inside (entered c)) (λ d q. led_ok (Near k c) (g d q))
+led_most : (m k : ℕ) (c : Context) {x : Checked Context} → m ≤ k → Led (Near m c) x → Led (Near k c) x
+led_most m k c e g d q = near_most m k e (g d q)
+
+scoped_near : (k : ℕ) (c : Context) {x : Checked Context} → Led (Near k c) x → Led (Near k c) (then x (λ d. Ok (left d)))
+scoped_near k c {x} g = led_after (Near k c) x (λ d q. led_ok (Near k c) (g d q))
+
+-- one part behind another, and behind one that has an answer
+then_near : (m n k : ℕ) (c : Context) {x : Checked Context} {next : Context → Checked Context} → m + n ≤ k → Led (Near m c) x → ((d : Context) → Led (Near n d) (next d)) → Led (Near k c) (then x next)
+then_near m n k c {x} e h g = led_after (Near k c) x (λ d q z p. near_on m n k e (h d q) (g d z p))
+
+answer_near : {A : Type 0} (m n k : ℕ) (c : Context) {x : Checked (Context × A)} {next : Context × A → Checked Context} → m + n ≤ k → Reached (Near m c) x → ((d : Context × A) → Led (Near n d.0) (next d)) → Led (Near k c) (then x next)
+answer_near m n k c {x} e h g = led_after (Near k c) x (λ d q z p. near_on m n k e (h d q) (g d z p))
 
 leaves_near : (k line : ℕ) (c : Context) → Near 0 c (leaves line k c)
 leaves_near zero line c = near_refl c
@@ -449,129 +459,78 @@ mutual
   unfolding statement items shape
 
   statement_near : (tree : Tree) (a : Around) (c : Context) → Short tree → Led (Near (weight tree) c) (statement tree a c)
-  statement_near (Node f.Empty parts) a c h z q = led_ok (Near (weight (Node f.Empty parts)) c) (near_most 0 _ (omega arith) (near_refl c)) z q
-  statement_near (Node f.Expr (At line ▹ e ▹ none)) a c h z q = near_most (weight e + 1) _ (omega arith) (evaluated_near e c z q)
-  statement_near (Node f.Block (At line ▹ Node f.Items parts ▹ none)) a c h z q =
-      near_most (weights parts) _ (omega arith) (scoped_near (weights parts) c (λ d. items parts (below a) d) (items_near parts (below a) (entered c) h.1.0) z q)
-  statement_near (Node f.Delay (At line ▹ Node f.Items parts ▹ none)) a c h z q =
-      near_most (weights parts) _ (omega arith)
-      (scoped_near (weights parts) c (λ d. then (items parts (in_delay a) (emit line Enter d)) (λ e. Ok (emit line Leave e)))
-      (led_after (Near (weights parts) c) (items parts (in_delay a) (emit line Enter (entered c)))
-      (λ e k. led_ok (Near (weights parts) c) (items_near parts (in_delay a) (emit line Enter (entered c)) h.1.0 e k))) z q)
-  statement_near (Node f.If (At line ▹ e ▹ s ▹ none)) a c h z q =
+  statement_near (Node f.Empty parts) a c h = led_ok (Near (weight (Node f.Empty parts)) c) (near_most 0 _ (omega arith) (near_refl c))
+  statement_near (Node f.Expr (At line ▹ e ▹ none)) a c h = led_most (weight e + 1) _ c (omega arith) (evaluated_near e c)
+  statement_near (Node f.Block (At line ▹ Node f.Items parts ▹ none)) a c h =
+      led_most (weights parts) _ c (omega arith) (scoped_near (weights parts) c (items_near parts (below a) (entered c) h.1.0))
+  statement_near (Node f.Delay (At line ▹ Node f.Items parts ▹ none)) a c h =
+      led_most (weights parts) _ c (omega arith)
+      (scoped_near (weights parts) c (then_near (weights parts) 0 (weights parts) c (omega arith) (items_near parts (in_delay a) (emit line Enter (entered c)) h.1.0)
+      (λ d. led_ok (Near 0 d) (near_refl d))))
+  statement_near (Node f.If (At line ▹ e ▹ s ▹ none)) a c h =
+      let k : ℕ = weight e + 2 + weight s in
+      led_most k _ c (omega arith)
+      (scoped_near k c (then_near (weight e + 2) (weight s) k c (omega arith) (if_zero_near line (new_label c) e (entered (with_labels 1 c)))
+      (λ t. then_near (weight s) 0 (weight s) t (omega arith) (scoped_near (weight s) t (statement_near s (below a) (entered t) h.1.1.0)) (λ d. led_ok (Near 0 d) (near_refl d)))))
+  statement_near (Node f.IfElse (At line ▹ e ▹ s ▹ other ▹ none)) a c h =
       let end = new_label c in
-      let c1 = with_labels 1 c in
-      let d0 = entered c1 in
-      near_most (weight e + 2 + weight s) _ (omega arith)
-      (scoped_near (weight e + 2 + weight s) c1 (λ d. then (leaves_if_zero line end e d) (λ t. then (scoped t (λ b. statement s (below a) b)) (λ g. Ok (here end g))))
-      (λ y k.
-      let t = came (leaves_if_zero line end e d0) k in
-      let g = came (scoped t.value (λ b. statement s (below a) b)) t.last in
-      let inner = scoped_near (weight s) t.value (λ b. statement s (below a) b) (statement_near s (below a) (entered t.value) h.1.1.0) g.value g.is in
-      near_on (weight e + 2) (weight s) (weight e + 2 + weight s) (omega arith) (if_zero_near line end e d0 t.value t.is) (led_ok (Near (weight s) t.value) inner y g.last)) z q)
-  statement_near (Node f.IfElse (At line ▹ e ▹ s ▹ other ▹ none)) a c h z q =
-      let end = new_label c in
-      let c1 = with_labels 2 c in
-      let d0 = entered c1 in
-      near_most (weight e + 2 + (weight s + weight other)) _ (omega arith)
-      (scoped_near (weight e + 2 + (weight s + weight other)) c1 (λ d. then (leaves_if_zero line (end + 1) e d) (λ t. then (scoped t (λ b. statement s (below a) b)) (λ g. then (scoped (here (end + 1) (emit line (Jump end) g)) (λ b. statement other (below a) b)) (λ k. Ok (here end k)))))
-      (λ y k.
-      let t = came (leaves_if_zero line (end + 1) e d0) k in
-      let g = came (scoped t.value (λ b. statement s (below a) b)) t.last in
-      let x = here (end + 1) (emit line (Jump end) g.value) in
-      let u = came (scoped x (λ b. statement other (below a) b)) g.last in
-      let inner = scoped_near (weight s) t.value (λ b. statement s (below a) b) (statement_near s (below a) (entered t.value) h.1.1.0) g.value g.is in
-      let outer = scoped_near (weight other) x (λ b. statement other (below a) b) (statement_near other (below a) (entered x) h.1.1.1.0) u.value u.is in
-      near_on (weight e + 2) (weight s + weight other) (weight e + 2 + (weight s + weight other)) (omega arith) (if_zero_near line (end + 1) e d0 t.value t.is)
-      (near_on (weight s) (weight other) (weight s + weight other) (omega arith) inner (led_ok (Near (weight other) x) outer y u.last))) z q)
-  statement_near (Node f.While (At line ▹ e ▹ s ▹ none)) a c h z q =
+      let two : ℕ = weight s + weight other in
+      let k : ℕ = weight e + 2 + two in
+      led_most k _ c (omega arith)
+      (scoped_near k c (then_near (weight e + 2) two k c (omega arith) (if_zero_near line (end + 1) e (entered (with_labels 2 c)))
+      (λ t. then_near (weight s) (weight other) two t (omega arith) (scoped_near (weight s) t (statement_near s (below a) (entered t) h.1.1.0))
+      (λ g. let x = here (end + 1) (emit line (Jump end) g) in
+      then_near (weight other) 0 (weight other) g (omega arith) (scoped_near (weight other) x (statement_near other (below a) (entered x) h.1.1.1.0)) (λ d. led_ok (Near 0 d) (near_refl d))))))
+  statement_near (Node f.While (At line ▹ e ▹ s ▹ none)) a c h =
       let head = new_label c in
-      let c1 = with_labels 3 c in
-      let d0 = entered c1 in
-      let around = in_loop (head + 1) (head + 2) a in
-      near_most (weight e + 2 + weight s) _ (omega arith)
-      (scoped_near (weight e + 2 + weight s) c1 (λ d. then (leaves_if_zero line (head + 1) e (here head d)) (λ t. then (scoped t (λ b. statement s around b)) (λ g. Ok (looped line head (head + 1) (here (head + 2) g)))))
-      (λ y k.
-      let t = came (leaves_if_zero line (head + 1) e (here head d0)) k in
-      let g = came (scoped t.value (λ b. statement s around b)) t.last in
-      let inner = scoped_near (weight s) t.value (λ b. statement s around b) (statement_near s around (entered t.value) h.1.1.0) g.value g.is in
-      near_on (weight e + 2) (weight s) (weight e + 2 + weight s) (omega arith) (if_zero_near line (head + 1) e (here head d0) t.value t.is)
-      (led_ok (Near (weight s) t.value) inner y g.last)) z q)
-  statement_near (Node f.Do (At line ▹ s ▹ e ▹ none)) a c h z q =
+      let k : ℕ = weight e + 2 + weight s in
+      led_most k _ c (omega arith)
+      (scoped_near k c (then_near (weight e + 2) (weight s) k c (omega arith) (if_zero_near line (head + 1) e (here head (entered (with_labels 3 c))))
+      (λ t. then_near (weight s) 0 (weight s) t (omega arith) (scoped_near (weight s) t (statement_near s (in_loop (head + 1) (head + 2) a) (entered t) h.1.1.0))
+      (λ d. led_ok (Near 0 d) (near_refl d)))))
+  statement_near (Node f.Do (At line ▹ s ▹ e ▹ none)) a c h =
       let head = new_label c in
-      let c1 = with_labels 3 c in
-      let d0 = entered c1 in
-      let around = in_loop (head + 1) (head + 2) a in
-      near_most (weight s + (weight e + 2)) _ (omega arith)
-      (scoped_near (weight s + (weight e + 2)) c1 (λ d. then (scoped (here head d) (λ b. statement s around b)) (λ g. then (leaves_if_zero line (head + 1) e (here (head + 2) g)) (λ t. Ok (looped line head (head + 1) t))))
-      (λ y k.
-      let g = came (scoped (here head d0) (λ b. statement s around b)) k in
-      let t = came (leaves_if_zero line (head + 1) e (here (head + 2) g.value)) g.last in
-      let inner = scoped_near (weight s) (here head d0) (λ b. statement s around b) (statement_near s around (entered (here head d0)) h.1.0) g.value g.is in
-      near_on (weight s) (weight e + 2) (weight s + (weight e + 2)) (omega arith) inner
-      (led_ok (Near (weight e + 2) g.value) (if_zero_near line (head + 1) e (here (head + 2) g.value) t.value t.is) y t.last)) z q)
-  statement_near (Node f.For (At line ▹ start ▹ Node f.MaybeExpr test ▹ Node f.MaybeExpr step ▹ s ▹ none)) a c h z q =
+      let x = here head (entered (with_labels 3 c)) in
+      let k : ℕ = weight s + (weight e + 2) in
+      led_most k _ c (omega arith)
+      (scoped_near k c (then_near (weight s) (weight e + 2) k c (omega arith) (scoped_near (weight s) x (statement_near s (in_loop (head + 1) (head + 2) a) (entered x) h.1.0))
+      (λ g. then_near (weight e + 2) 0 (weight e + 2) g (omega arith) (if_zero_near line (head + 1) e (here (head + 2) g)) (λ d. led_ok (Near 0 d) (near_refl d)))))
+  statement_near (Node f.For (At line ▹ start ▹ Node f.MaybeExpr test ▹ Node f.MaybeExpr step ▹ s ▹ none)) a c h =
       let head = new_label c in
-      let c1 = with_labels 3 c in
-      let d0 = entered c1 in
-      let around = in_loop (head + 1) (head + 2) a in
       let behind : ℕ = weights step + 1 + weight s in
       let rest : ℕ = weights test + 2 + behind in
-      near_most (weight start + rest) _ (omega arith)
-      (scoped_near (weight start + rest) c1 (λ d. then (for_start line start d) (λ x. then (maybe_leaves line (head + 1) test (here head x)) (λ t. then (maybe_evaluated step (apart t)) (λ g. then (scoped (with_pieces t.code.pieces g) (λ b. statement s around b)) (λ k. Ok (looped line head (head + 1) (with_pieces (k.code.pieces ++ (Here (head + 2) ∷ g.code.pieces)) k)))))))
-      (λ y k.
-      let x = came (for_start line start d0) k in
-      let t = came (maybe_leaves line (head + 1) test (here head x.value)) x.last in
-      let g = came (maybe_evaluated step (apart t.value)) t.last in
-      let g1 = with_pieces t.value.code.pieces g.value in
-      let u = came (scoped g1 (λ b. statement s around b)) g.last in
-      let inner = scoped_near (weight s) g1 (λ b. statement s around b) (statement_near s around (entered g1) h.1.1.1.1.0) u.value u.is in
-      let last = led_ok (Near (weight s) g1) inner y u.last in
-      near_on (weight start) rest (weight start + rest) (omega arith) (start_near line start d0 h.1.0 x.value x.is)
-      (near_on (weights test + 2) behind rest (omega arith) (maybe_leaves_near line (head + 1) test (here head x.value) t.value t.is)
-      (near_on (weights step + 1) (weight s) behind (omega arith) (maybe_evaluated_near step (apart t.value) g.value g.is) last))) z q)
-  statement_near (Node f.Switch (At line ▹ e ▹ Node f.Block (At at ▹ Node f.Items parts ▹ none) ▹ none)) a c h z q =
-      let end = new_label c in
-      let c1 = with_labels 1 c in
-      let d0 = entered c1 in
-      near_most (weight e + 1 + 1 + weights parts) _ (omega arith)
-      (scoped_near (weight e + 1 + 1 + weights parts) c1 (λ d. then (switch_operand line e d) (λ t. then (scoped (no_cases (apart t.0)) (λ b. items parts (in_switch true end t.1.0 a) b)) (λ g. Ok (switched line end t.1.1 t.0 g))))
-      (λ y k.
-      let t = came (switch_operand line e d0) k in
-      let x = no_cases (apart t.value.0) in
-      let g = came (scoped x (λ b. items parts (in_switch true end t.value.1.0 a) b)) t.last in
-      let inner = scoped_near (weights parts) x (λ b. items parts (in_switch true end t.value.1.0 a) b) (items_near parts (in_switch true end t.value.1.0 a) (entered x) h.1.1.0.1.0) g.value g.is in
-      near_on (weight e + 1 + 1) (weights parts) (weight e + 1 + 1 + weights parts) (omega arith) (operand_near line e d0 t.value t.is)
-      (led_ok (Near (weights parts) x) inner y g.last)) z q)
-  statement_near (Node f.Switch (At line ▹ e ▹ s ▹ none)) a c h z q =
-      let end = new_label c in
-      let c1 = with_labels 1 c in
-      let d0 = entered c1 in
+      let k : ℕ = weight start + rest in
+      led_most k _ c (omega arith)
+      (scoped_near k c (then_near (weight start) rest k c (omega arith) (start_near line start (entered (with_labels 3 c)) h.1.0)
+      (λ x. then_near (weights test + 2) behind rest x (omega arith) (maybe_leaves_near line (head + 1) test (here head x))
+      (λ t. then_near (weights step + 1) (weight s) behind t (omega arith) (maybe_evaluated_near step (apart t))
+      (λ g. let y = with_pieces t.code.pieces g in
+      then_near (weight s) 0 (weight s) g (omega arith) (scoped_near (weight s) y (statement_near s (in_loop (head + 1) (head + 2) a) (entered y) h.1.1.1.1.0))
+      (λ d. led_ok (Near 0 d) (near_refl d)))))))
+  statement_near (Node f.Switch (At line ▹ e ▹ Node f.Block (At at ▹ Node f.Items parts ▹ none) ▹ none)) a c h =
+      let k : ℕ = weight e + 1 + 1 + weights parts in
+      led_most k _ c (omega arith)
+      (scoped_near k c (answer_near (weight e + 1 + 1) (weights parts) k c (omega arith) (operand_near line e (entered (with_labels 1 c)))
+      (λ t. let x = no_cases (apart t.0) in
+      then_near (weights parts) 0 (weights parts) t.0 (omega arith) (scoped_near (weights parts) x (items_near parts (in_switch true (new_label c) t.1.0 a) (entered x) h.1.1.0.1.0))
+      (λ d. led_ok (Near 0 d) (near_refl d)))))
+  statement_near (Node f.Switch (At line ▹ e ▹ s ▹ none)) a c h =
       let k : ℕ = weight (Node f.Switch (At line ▹ e ▹ s ▹ none)) in
-      scoped_near k c1 (λ d. then (switch_operand line e d) (λ t. then (statement s (in_switch false end t.1.0 a) (no_cases (apart t.0))) (λ g. refused LeftOut line)))
-      (led_after (Near k c1) (switch_operand line e d0)
-      (λ t q. led_after (Near k c1) (statement s (in_switch false end t.1.0 a) (no_cases (apart t.0))) (λ g u. led_refused (Near k c1) {kind = LeftOut} {line = line}))) z q
-  statement_near (Node f.Case (At line ▹ e ▹ s ▹ none)) a c h z q =
-      let k = came (constant e c) q in
-      let label = new_label k.value.0 in
-      let x = here label (with_labels 1 k.value.0) in
-      let d = came (statement s a x) k.last in
-      near_on 0 (weight s) _ (omega arith) (constant_near e c k.value k.is)
-      (near_on (weight s) 0 (weight s) (omega arith) (statement_near s a x h.1.1.0 d.value d.is) (cased_near line a a.switched (length c.running.cases) k.value.1.value label d.value z d.last))
-  statement_near (Node f.Default (At line ▹ s ▹ none)) a c h z q =
-      let label = new_label c in
-      let x = here label (with_labels 1 c) in
-      let d = came (statement s a x) q in
-      near_on (weight s) 0 _ (omega arith) (statement_near s a x h.1.0 d.value d.is) (defaulted_near line a label d.value z d.last)
-  statement_near (Node f.Break (At line ▹ none)) a c h z q = near_most 0 _ (omega arith) (leave_near line a.delays a.breaks c z q)
-  statement_near (Node f.Continue (At line ▹ none)) a c h z q = near_most 0 _ (omega arith) (leave_near line a.delays a.continues c z q)
-  statement_near (Node f.Return (At line ▹ Node f.MaybeExpr e ▹ none)) a c h z q = near_most (weights e + 2) _ (omega arith) (return_near line a.delays e c z q)
-  statement_near (Node f.Local (At line ▹ words ▹ names ▹ none)) a c h z q =
-      near_most (weight words + weight names + 6) _ (omega arith) (declaration_near false line words names c h.1.0 h.1.1.0 z q)
-  statement_near tree a c h z q = led_refused (Near (weight tree) c) z q
+      scoped_near k c (led_after (Near k c) (switch_operand line e (entered (with_labels 1 c)))
+      (λ t q. led_after (Near k c) (statement s (in_switch false (new_label c) t.1.0 a) (no_cases (apart t.0))) (λ g u. led_refused (Near k c) {kind = LeftOut} {line = line})))
+  statement_near (Node f.Case (At line ▹ e ▹ s ▹ none)) a c h =
+      answer_near 0 (weight s) _ c (omega arith) (constant_near e c)
+      (λ k. then_near (weight s) 0 (weight s) k.0 (omega arith) (statement_near s a (here (new_label k.0) (with_labels 1 k.0)) h.1.1.0)
+      (λ d. cased_near line a a.switched (length c.running.cases) k.1.value (new_label k.0) d))
+  statement_near (Node f.Default (At line ▹ s ▹ none)) a c h =
+      then_near (weight s) 0 _ c (omega arith) (statement_near s a (here (new_label c) (with_labels 1 c)) h.1.0) (λ d. defaulted_near line a (new_label c) d)
+  statement_near (Node f.Break (At line ▹ none)) a c h = led_most 0 _ c (omega arith) (leave_near line a.delays a.breaks c)
+  statement_near (Node f.Continue (At line ▹ none)) a c h = led_most 0 _ c (omega arith) (leave_near line a.delays a.continues c)
+  statement_near (Node f.Return (At line ▹ Node f.MaybeExpr e ▹ none)) a c h = led_most (weights e + 2) _ c (omega arith) (return_near line a.delays e c)
+  statement_near (Node f.Local (At line ▹ words ▹ names ▹ none)) a c h =
+      led_most (weight words + weight names + 6) _ c (omega arith) (declaration_near false line words names c h.1.0 h.1.1.0)
+  statement_near tree a c h = led_refused (Near (weight tree) c)
 
   pub items_near : (parts : Trees) (a : Around) (c : Context) → AllShort parts → Led (Near (weights parts) c) (items parts a c)
-  items_near none a c h z q = led_ok (Near 0 c) (near_refl c) z q
-  items_near (item ▹ rest) a c h z q =
-      let d = came (statement item a c) q in
-      near_on (weight item) (weights rest) _ (omega arith) (statement_near item a c h.0 d.value d.is) (items_near rest a d.value h.1 z d.last)
+  items_near none a c h = led_ok (Near 0 c) (near_refl c)
+  items_near (item ▹ rest) a c h = then_near (weight item) (weights rest) _ c (omega arith) (statement_near item a c h.0) (λ d. items_near rest a d h.1)

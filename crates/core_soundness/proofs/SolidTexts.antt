@@ -14,6 +14,7 @@ use Rattle.core_tree.specs.declared.program.Func.{Func}
 use Rattle.core_tree.specs.declared.program.Mem.{Mem}
 use Rattle.core_tree.specs.declared.program.Static.{Static}
 use Rattle.core_tree.specs.declared.statements.Atom.{Atom}
+use Rattle.core_tree.specs.declared.statements.StmKind.{StmKind}
 use Rattle.core_tree.specs.declared.statements.StmKind.TheVariants.{Enter, Leave, Return, Jump, Zero, Loop, Case}
 use Rattle.core_tree.specs.Statements.{given}
 use Rattle.core_tree.specs.LayoutsOfTypes.{IsLayoutOfType}
@@ -33,7 +34,7 @@ use Rattle.c_decls.specs.Typed.{Operand, Number, operand, is_void, is_scalar, is
 use Rattle.c_decls.specs.TypeNames.{with_layers}
 use Rattle.c_decls.specs.PlaceRules.{unconverted}
 use Rattle.c_decls.specs.Expressions.{line_of}
-use Rattle.elaboration.specs.Context.{Here, Context, Variable, Walked, scoped, entered, emit, here, new_label, with_labels, with_pieces, first_context, Declared}
+use Rattle.elaboration.specs.Context.{Here, Code, left, Context, Variable, Walked, scoped, entered, emit, here, new_label, with_labels, with_pieces, first_context, Declared}
 use Rattle.elaboration.specs.Conversions.{Found, atom_in, valued, convert, convert_integer, tested_value, code_line, unused}
 use Rattle.elaboration.specs.Reallocates.{opened, closed}
 use Rattle.elaboration.specs.Expressions.{found}
@@ -57,7 +58,7 @@ use Rattle.core_soundness.proofs.TagKinds.{kinds_refl}
 use Rattle.core_soundness.proofs.TypedWhole.{left_whole, with_layers_whole}
 use Rattle.core_soundness.specs.Solid.{MemsLaid, VariablesLaid, WalkedLaid, Solid}
 use Rattle.core_soundness.proofs.Solid.{walked_push, K, same_kept, same_rises, wrapped_number}
-use Rattle.core_soundness.specs.Ranges.{AtomIn, AtomsIn, PiecesIn}
+use Rattle.core_soundness.specs.Ranges.{KindIn, AtomIn, AtomsIn, PiecesIn}
 use Rattle.core_soundness.proofs.Ranges.{In, in_emit, in_here, pieces_joined, zero_number}
 use Rattle.core_soundness.proofs.Ranged.{spot_atom, convert_integer_in}
 use Rattle.core_soundness.proofs.RangedFound.{tested_value_in, tested_solid}
@@ -65,11 +66,11 @@ use Rattle.core_soundness.proofs.Moving.{CasesIn, WalkedIn, same_cases, same_wal
 use Rattle.core_soundness.proofs.SolidLayers.{constant_rises, entered_solid, specs_rise, layers_rise}
 use Rattle.core_soundness.proofs.SolidFills.{declared_function_rises, declaration_rises, scalar_value}
 
--- scopes
+-- scopes, and parts one behind another
 
-pub scoped_rises : (c : Context) (inside : Context → Checked Context) → Led (Rises (entered c)) (inside (entered c)) → Led (Rises c) (scoped c inside)
-scoped_rises c inside k =
-    led_after (Rises c) (inside (entered c))
+pub scoped_rises : (c : Context) {x : Checked Context} → Led (Rises (entered c)) x → Led (Rises c) (then x (λ d. Ok (left d)))
+scoped_rises c {x} k =
+    led_after (Rises c) x
     (λ d q. let r = k d q in
     led_ok (Rises c)
     (record {
@@ -84,16 +85,34 @@ scoped_rises c inside k =
 on_led : (a b : Context) (x : Checked Context) → Rises a b → Led (Rises b) x → Led (Rises a) x
 on_led a b x r k z q = rises_trans a b z r (k z q)
 
+then_rises : (c : Context) {x : Checked Context} {next : Context → Checked Context} → Led (Rises c) x → ((d : Context) → Rises c d → Led (Rises d) (next d)) → Led (Rises c) (then x next)
+then_rises c {x} h k = led_after (Rises c) x (λ d q. on_led c d _ (h d q) (k d (h d q)))
+
+-- other code
+coded : (c : Context) (code : Code) → Solid c → (In c → In (record c { code = code })) → Rises c (record c { code = code })
+coded c code h k = record { solid = h; more = extends_refl (K c); kinds = kinds_refl c; code = k; cases = λ g. g; walked = λ g. g }
+
+labels_rise : (n : ℕ) (c : Context) → Solid c → Rises c (with_labels n c)
+labels_rise n c h = coded c (with_labels n c).code h (λ g. g)
+
+here_rises : (label : ℕ) (c : Context) → Solid c → Rises c (here label c)
+here_rises label c h = coded c (here label c).code h (λ g. in_here label c g)
+
+emit_rises : (line : ℕ) (kind : StmKind) (c : Context) → Solid c → KindIn kind → Rises c (emit line kind c)
+emit_rises line kind c h k = coded c (emit line kind c).code h (λ g. in_emit line kind c g k)
+
+looped_rises : (line head end : ℕ) (c : Context) → Solid c → Rises c (looped line head end c)
+looped_rises line head end c h = coded c (looped line head end c).code h (λ g. in_here end (emit line (Loop head) c) (in_emit line (Loop head) c g (tt, tt)))
+
 leaves_rise : (k line : ℕ) (c : Context) → Solid c → Rises c (leaves line k c)
 leaves_rise zero line c h = rises_refl c h
-leaves_rise (suc k) line c h =
-    let d = emit line Leave c in rises_trans c d _ (record { solid = h; more = extends_refl (K c); kinds = kinds_refl c; code = λ g. in_emit line Leave c g (tt, tt); cases = λ g. g; walked = λ g. g }) (leaves_rise k line d h)
+leaves_rise (suc k) line c h = rises_trans c (emit line Leave c) _ (emit_rises line Leave c h (tt, tt)) (leaves_rise k line (emit line Leave c) h)
 
 leave_rises : (line delays : ℕ) (o : Option (ℕ × ℕ)) (c : Context) → Solid c → Led (Rises c) (leave_to line delays o c)
 leave_rises line delays None c h = led_refused (Rises c)
 leave_rises line delays (Some exit) c h =
     let d = leaves line (delays - exit.1) c in
-    let r = leaves_rise (delays - exit.1) line c h in led_ok (Rises c) (record { solid = r.solid; more = r.more; kinds = r.kinds; code = λ g. in_emit line (Jump exit.0) d (r.code g) (tt, tt); cases = r.cases; walked = r.walked })
+    let r = leaves_rise (delays - exit.1) line c h in led_ok (Rises c) (rises_trans c d _ r (emit_rises line (Jump exit.0) d r.solid (tt, tt)))
 
 -- expressions
 
@@ -183,9 +202,6 @@ cases_code line a (x ∷ xs) h g = (((h, tt), g.0), cases_code line a xs h g.1)
 dispatch_in : (line : ℕ) (a : Atom) (end : ℕ) (c : Context) → AtomIn a → CasesIn c.running.cases → PiecesIn (dispatch line a end c)
 dispatch_in line a end c h g = pieces_joined (map (λ (x : ℤ × ℕ). does line (Case a x.0 x.1)) c.running.cases) _ (cases_code line a c.running.cases h g) ((tt, tt), tt)
 
-looped_in : (line head end : ℕ) (c : Context) → In c → In (looped line head end c)
-looped_in line head end c g = in_here end (emit line (Loop head) c) (in_emit line (Loop head) c g (tt, tt))
-
 case_rises : (line : ℕ) (a : Around) (ty : IntType) (place : ℕ) (v : ℤ) (label : ℕ) (c : Context) → Solid c → Led (Rises c) (case_of line a ty place v label c)
 case_rises line a ty place v label c h =
     let value = Rattle.hs_base.specs.Numbers.wrapped (types.kind_of ty) v in
@@ -243,107 +259,72 @@ mutual
   pub statement_rises : (tree : Tree) (a : Around) (c : Context) → Solid c → Written tree → Led (Rises c) (statement tree a c)
   statement_rises (Node f.Empty parts) a c h w = led_ok (Rises c) (rises_refl c h)
   statement_rises (Node f.Expr (At line ▹ e ▹ none)) a c h w = evaluated_rises e c h w.1.1.0
-  statement_rises (Node f.Block (At line ▹ Node f.Items parts ▹ none)) a c h w =
-      scoped_rises c (λ d. items parts (below a) d) (items_rise parts (below a) (entered c) (entered_solid c h) w.1.1.0.1)
+  statement_rises (Node f.Block (At line ▹ Node f.Items parts ▹ none)) a c h w = scoped_rises c (items_rise parts (below a) (entered c) (entered_solid c h) w.1.1.0.1)
   statement_rises (Node f.Delay (At line ▹ Node f.Items parts ▹ none)) a c h w =
-      let d0 = entered c in
-      let d1 = emit line Enter d0 in
+      let d = emit line Enter (entered c) in
       let h0 = entered_solid c h in
-      scoped_rises c (λ d. then (items parts (in_delay a) (emit line Enter d)) (λ e. Ok (emit line Leave e)))
-      (led_after (Rises d0) (items parts (in_delay a) d1)
-      (λ e q. let r = rises_trans d0 d1 e (record { solid = h0; more = extends_refl (K d0); kinds = kinds_refl d0; code = λ g. in_emit line Enter d0 g (tt, tt); cases = λ g. g; walked = λ g. g }) (items_rise parts (in_delay a) d1 h0 w.1.1.0.1 e q) in led_ok (Rises d0) (record { solid = r.solid; more = r.more; kinds = r.kinds; code = λ g. in_emit line Leave e (r.code g) (tt, tt); cases = r.cases; walked = r.walked })))
+      scoped_rises c (on_led (entered c) d _ (emit_rises line Enter (entered c) h0 (tt, tt))
+      (then_rises d (items_rise parts (in_delay a) d h0 w.1.1.0.1) (λ e r. led_ok (Rises e) (emit_rises line Leave e r.solid (tt, tt)))))
   statement_rises (Node f.If (At line ▹ e ▹ s ▹ none)) a c h w =
       let end = new_label c in
-      let c1 = with_labels 1 c in
-      let d0 = entered c1 in
-      let h0 = entered_solid c1 h in
-      on_led c c1 _ (record { solid = h; more = extends_refl (K c); kinds = kinds_refl c; code = λ g. g; cases = λ g. g; walked = λ g. g })
-      (scoped_rises c1 (λ d. then (leaves_if_zero line end e d) (λ t. then (scoped t (λ b. statement s (below a) b)) (λ g. Ok (here end g))))
-      (led_after (Rises d0) (leaves_if_zero line end e d0)
-      (λ t q. let r = if_zero_rises line end e d0 h0 w.1.1.0 t q in
-      led_after (Rises d0) (scoped t (λ b. statement s (below a) b))
-      (λ g k. let m = rises_trans d0 t g r (scoped_rises t (λ b. statement s (below a) b) (statement_rises s (below a) (entered t) (entered_solid t r.solid) w.1.1.1.0) g k) in
-      led_ok (Rises d0) (record { solid = m.solid; more = m.more; kinds = m.kinds; code = λ v. in_here end g (m.code v); cases = m.cases; walked = m.walked })))))
+      let d = entered (with_labels 1 c) in
+      on_led c (with_labels 1 c) _ (labels_rise 1 c h)
+      (scoped_rises (with_labels 1 c) (then_rises d (if_zero_rises line end e d (entered_solid (with_labels 1 c) h) w.1.1.0)
+      (λ t r. then_rises t (scoped_rises t (statement_rises s (below a) (entered t) (entered_solid t r.solid) w.1.1.1.0))
+      (λ g m. led_ok (Rises g) (here_rises end g m.solid)))))
   statement_rises (Node f.IfElse (At line ▹ e ▹ s ▹ other ▹ none)) a c h w =
       let end = new_label c in
-      let c1 = with_labels 2 c in
-      let d0 = entered c1 in
-      let h0 = entered_solid c1 h in
-      on_led c c1 _ (record { solid = h; more = extends_refl (K c); kinds = kinds_refl c; code = λ g. g; cases = λ g. g; walked = λ g. g })
-      (scoped_rises c1 (λ d. then (leaves_if_zero line (end + 1) e d) (λ t. then (scoped t (λ b. statement s (below a) b)) (λ g. then (scoped (here (end + 1) (emit line (Jump end) g)) (λ b. statement other (below a) b)) (λ k. Ok (here end k)))))
-      (led_after (Rises d0) (leaves_if_zero line (end + 1) e d0)
-      (λ t q. let r = if_zero_rises line (end + 1) e d0 h0 w.1.1.0 t q in
-      led_after (Rises d0) (scoped t (λ b. statement s (below a) b))
-      (λ g k. let m = rises_trans d0 t g r (scoped_rises t (λ b. statement s (below a) b) (statement_rises s (below a) (entered t) (entered_solid t r.solid) w.1.1.1.0) g k) in
-      let x = here (end + 1) (emit line (Jump end) g) in
-      let mx : Rises d0 x = record { solid = m.solid; more = m.more; kinds = m.kinds; code = λ v. in_here (end + 1) (emit line (Jump end) g) (in_emit line (Jump end) g (m.code v) (tt, tt)); cases = m.cases; walked = m.walked } in
-      led_after (Rises d0) (scoped x (λ b. statement other (below a) b))
-      (λ y u. let last = rises_trans d0 x y mx (scoped_rises x (λ b. statement other (below a) b) (statement_rises other (below a) (entered x) (entered_solid x mx.solid) w.1.1.1.1.0) y u) in
-      led_ok (Rises d0) (record { solid = last.solid; more = last.more; kinds = last.kinds; code = λ v. in_here end y (last.code v); cases = last.cases; walked = last.walked }))))))
+      let d = entered (with_labels 2 c) in
+      on_led c (with_labels 2 c) _ (labels_rise 2 c h)
+      (scoped_rises (with_labels 2 c) (then_rises d (if_zero_rises line (end + 1) e d (entered_solid (with_labels 2 c) h) w.1.1.0)
+      (λ t r. then_rises t (scoped_rises t (statement_rises s (below a) (entered t) (entered_solid t r.solid) w.1.1.1.0))
+      (λ g m. let x = here (end + 1) (emit line (Jump end) g) in
+      on_led g x _ (rises_trans g (emit line (Jump end) g) x (emit_rises line (Jump end) g m.solid (tt, tt)) (here_rises (end + 1) (emit line (Jump end) g) m.solid))
+      (then_rises x (scoped_rises x (statement_rises other (below a) (entered x) (entered_solid x m.solid) w.1.1.1.1.0))
+      (λ y n. led_ok (Rises y) (here_rises end y n.solid)))))))
   statement_rises (Node f.While (At line ▹ e ▹ s ▹ none)) a c h w =
       let head = new_label c in
-      let c1 = with_labels 3 c in
-      let d0 = entered c1 in
-      let h0 = entered_solid c1 h in
-      let d1 = here head d0 in
-      on_led c c1 _ (record { solid = h; more = extends_refl (K c); kinds = kinds_refl c; code = λ g. g; cases = λ g. g; walked = λ g. g })
-      (scoped_rises c1 (λ d. then (leaves_if_zero line (head + 1) e (here head d)) (λ t. then (scoped t (λ b. statement s (in_loop (head + 1) (head + 2) a) b)) (λ g. Ok (looped line head (head + 1) (here (head + 2) g)))))
-      (led_after (Rises d0) (leaves_if_zero line (head + 1) e d1)
-      (λ t q. let r = rises_trans d0 d1 t (record { solid = h0; more = extends_refl (K d0); kinds = kinds_refl d0; code = λ v. in_here head d0 v; cases = λ v. v; walked = λ v. v }) (if_zero_rises line (head + 1) e d1 h0 w.1.1.0 t q) in
-      led_after (Rises d0) (scoped t (λ b. statement s (in_loop (head + 1) (head + 2) a) b))
-      (λ g k. let m = rises_trans d0 t g r (scoped_rises t (λ b. statement s (in_loop (head + 1) (head + 2) a) b) (statement_rises s (in_loop (head + 1) (head + 2) a) (entered t) (entered_solid t r.solid) w.1.1.1.0) g k) in
-      led_ok (Rises d0) (record { solid = m.solid; more = m.more; kinds = m.kinds; code = λ v. looped_in line head (head + 1) (here (head + 2) g) (in_here (head + 2) g (m.code v)); cases = m.cases; walked = m.walked })))))
+      let d = entered (with_labels 3 c) in
+      let h0 = entered_solid (with_labels 3 c) h in
+      on_led c (with_labels 3 c) _ (labels_rise 3 c h)
+      (scoped_rises (with_labels 3 c) (on_led d (here head d) _ (here_rises head d h0) (then_rises (here head d) (if_zero_rises line (head + 1) e (here head d) h0 w.1.1.0)
+      (λ t r. then_rises t (scoped_rises t (statement_rises s (in_loop (head + 1) (head + 2) a) (entered t) (entered_solid t r.solid) w.1.1.1.0))
+      (λ g m. let x = here (head + 2) g in led_ok (Rises g) (rises_trans g x _ (here_rises (head + 2) g m.solid) (looped_rises line head (head + 1) x m.solid)))))))
   statement_rises (Node f.Do (At line ▹ s ▹ e ▹ none)) a c h w =
       let head = new_label c in
-      let c1 = with_labels 3 c in
-      let d0 = entered c1 in
-      let h0 = entered_solid c1 h in
-      let d1 = here head d0 in
-      on_led c c1 _ (record { solid = h; more = extends_refl (K c); kinds = kinds_refl c; code = λ g. g; cases = λ g. g; walked = λ g. g })
-      (scoped_rises c1 (λ d. then (scoped (here head d) (λ b. statement s (in_loop (head + 1) (head + 2) a) b)) (λ g. then (leaves_if_zero line (head + 1) e (here (head + 2) g)) (λ t. Ok (looped line head (head + 1) t))))
-      (led_after (Rises d0) (scoped d1 (λ b. statement s (in_loop (head + 1) (head + 2) a) b))
-      (λ g k. let m = rises_trans d0 d1 g (record { solid = h0; more = extends_refl (K d0); kinds = kinds_refl d0; code = λ v. in_here head d0 v; cases = λ v. v; walked = λ v. v }) (scoped_rises d1 (λ b. statement s (in_loop (head + 1) (head + 2) a) b) (statement_rises s (in_loop (head + 1) (head + 2) a) (entered d1) (entered_solid d1 h0) w.1.1.0) g k) in
-      let x = here (head + 2) g in
-      let mx : Rises d0 x = record { solid = m.solid; more = m.more; kinds = m.kinds; code = λ v. in_here (head + 2) g (m.code v); cases = m.cases; walked = m.walked } in
-      led_after (Rises d0) (leaves_if_zero line (head + 1) e x)
-      (λ t q. let r = rises_trans d0 x t mx (if_zero_rises line (head + 1) e x mx.solid w.1.1.1.0 t q) in led_ok (Rises d0) (record { solid = r.solid; more = r.more; kinds = r.kinds; code = λ v. looped_in line head (head + 1) t (r.code v); cases = r.cases; walked = r.walked })))))
+      let d = here head (entered (with_labels 3 c)) in
+      let h0 = entered_solid (with_labels 3 c) h in
+      on_led c (with_labels 3 c) _ (labels_rise 3 c h)
+      (scoped_rises (with_labels 3 c) (on_led (entered (with_labels 3 c)) d _ (here_rises head (entered (with_labels 3 c)) h0)
+      (then_rises d (scoped_rises d (statement_rises s (in_loop (head + 1) (head + 2) a) (entered d) (entered_solid d h0) w.1.1.0))
+      (λ g m. let x = here (head + 2) g in
+      on_led g x _ (here_rises (head + 2) g m.solid)
+      (then_rises x (if_zero_rises line (head + 1) e x m.solid w.1.1.1.0) (λ t r. led_ok (Rises t) (looped_rises line head (head + 1) t r.solid)))))))
   statement_rises (Node f.For (At line ▹ start ▹ Node f.MaybeExpr test ▹ Node f.MaybeExpr step ▹ s ▹ none)) a c h w =
       let head = new_label c in
-      let c1 = with_labels 3 c in
-      let d0 = entered c1 in
-      let h0 = entered_solid c1 h in
-      let around = in_loop (head + 1) (head + 2) a in
-      on_led c c1 _ (record { solid = h; more = extends_refl (K c); kinds = kinds_refl c; code = λ g. g; cases = λ g. g; walked = λ g. g })
-      (scoped_rises c1 (λ d. then (for_start line start d) (λ x. then (maybe_leaves line (head + 1) test (here head x)) (λ t. then (maybe_evaluated step (apart t)) (λ g. then (scoped (with_pieces t.code.pieces g) (λ b. statement s around b)) (λ k. Ok (looped line head (head + 1) (with_pieces (k.code.pieces ++ (Here (head + 2) ∷ g.code.pieces)) k)))))))
-      (led_after (Rises d0) (for_start line start d0)
-      (λ x q1. let r1 = start_rises line start d0 h0 w.1.1.0 x q1 in
-      let x1 = here head x in
-      let s1 : Rises d0 x1 = record { solid = r1.solid; more = r1.more; kinds = r1.kinds; code = λ v. in_here head x (r1.code v); cases = r1.cases; walked = r1.walked } in
-      led_after (Rises d0) (maybe_leaves line (head + 1) test x1)
-      (λ t q2. let r2 = rises_trans d0 x1 t s1 (maybe_leaves_rises line (head + 1) test x1 s1.solid w.1.1.1.0.1 t q2) in
-      let t1 = apart t in
-      let s2 : Rises d0 t1 = record { solid = r2.solid; more = r2.more; kinds = r2.kinds; code = λ v. tt; cases = r2.cases; walked = r2.walked } in
-      led_after (Rises d0) (maybe_evaluated step t1)
-      (λ g q3. let near = maybe_evaluated_rises step t1 s2.solid w.1.1.1.1.0.1 g q3 in
-      let r3 = rises_trans d0 t1 g s2 near in
-      let g1 = with_pieces t.code.pieces g in
-      let s3 : Rises d0 g1 = record { solid = r3.solid; more = r3.more; kinds = r3.kinds; code = λ v. r2.code v; cases = r3.cases; walked = r3.walked } in
-      led_after (Rises d0) (scoped g1 (λ b. statement s around b))
-      (λ k q4. let r4 = rises_trans d0 g1 k s3 (scoped_rises g1 (λ b. statement s around b) (statement_rises s around (entered g1) (entered_solid g1 s3.solid) w.1.1.1.1.1.0) k q4) in
-      led_ok (Rises d0) (record { solid = r4.solid; more = r4.more; kinds = r4.kinds; code = λ v. looped_in line head (head + 1) (with_pieces (k.code.pieces ++ (Here (head + 2) ∷ g.code.pieces)) k) (pieces_joined k.code.pieces (Here (head + 2) ∷ g.code.pieces) (r4.code v) (near.code tt)); cases = r4.cases; walked = r4.walked })))))))
+      let d = entered (with_labels 3 c) in
+      on_led c (with_labels 3 c) _ (labels_rise 3 c h)
+      (scoped_rises (with_labels 3 c) (then_rises d (start_rises line start d (entered_solid (with_labels 3 c) h) w.1.1.0)
+      (λ x r. on_led x (here head x) _ (here_rises head x r.solid)
+      (then_rises (here head x) (maybe_leaves_rises line (head + 1) test (here head x) r.solid w.1.1.1.0.1)
+      (λ t p. led_after (Rises t) (maybe_evaluated step (apart t))
+      (λ g q. let near = maybe_evaluated_rises step (apart t) p.solid w.1.1.1.1.0.1 g q in
+      let y = with_pieces t.code.pieces g in
+      on_led t y _ (record { solid = near.solid; more = near.more; kinds = near.kinds; code = λ v. v; cases = near.cases; walked = near.walked })
+      (then_rises y (scoped_rises y (statement_rises s (in_loop (head + 1) (head + 2) a) (entered y) (entered_solid y near.solid) w.1.1.1.1.1.0))
+      (λ k m. let z = with_pieces (k.code.pieces ++ (Here (head + 2) ∷ g.code.pieces)) k in
+      led_ok (Rises k)
+      (rises_trans k z _ (coded k z.code m.solid (λ v. pieces_joined k.code.pieces (Here (head + 2) ∷ g.code.pieces) v (near.code tt))) (looped_rises line head (head + 1) z m.solid))))))))))
   statement_rises (Node f.Switch (At line ▹ e ▹ Node f.Block (At at ▹ Node f.Items parts ▹ none) ▹ none)) a c h w =
       let end = new_label c in
-      let c1 = with_labels 1 c in
-      let d0 = entered c1 in
-      let h0 = entered_solid c1 h in
-      on_led c c1 _ (record { solid = h; more = extends_refl (K c); kinds = kinds_refl c; code = λ g. g; cases = λ g. g; walked = λ g. g })
-      (scoped_rises c1 (λ d. then (switch_operand line e d) (λ t. then (scoped (no_cases (apart t.0)) (λ b. items parts (in_switch true end t.1.0 a) b)) (λ g. Ok (switched line end t.1.1 t.0 g))))
-      (led_after (Rises d0) (switch_operand line e d0)
-      (λ t q. let r = operand_rises line e d0 h0 w.1.1.0 t q in
+      let d0 = entered (with_labels 1 c) in
+      on_led c (with_labels 1 c) _ (labels_rise 1 c h)
+      (scoped_rises (with_labels 1 c) (led_after (Rises d0) (switch_operand line e d0)
+      (λ t q. let r = operand_rises line e d0 (entered_solid (with_labels 1 c) h) w.1.1.0 t q in
       let x = no_cases (apart t.0) in
       let rx : Rises d0 x = record { solid = r.0.solid; more = r.0.more; kinds = r.0.kinds; code = λ v. tt; cases = λ v. tt; walked = λ v. r.0.walked v } in
       led_after (Rises d0) (scoped x (λ b. items parts (in_switch true end t.1.0 a) b))
-      (λ g k. let near = scoped_rises x (λ b. items parts (in_switch true end t.1.0 a) b) (items_rise parts (in_switch true end t.1.0 a) (entered x) (entered_solid x rx.solid) w.1.1.1.0.1.1.0.1) g k in
+      (λ g k. let near = scoped_rises x (items_rise parts (in_switch true end t.1.0 a) (entered x) (entered_solid x rx.solid) w.1.1.1.0.1.1.0.1) g k in
       let m = rises_trans d0 x g rx near in
       led_ok (Rises d0)
       (record {
@@ -355,27 +336,22 @@ mutual
         walked = m.walked;
       })))))
   statement_rises (Node f.Switch (At line ▹ e ▹ s ▹ none)) a c h w =
-      let end = new_label c in
-      let c1 = with_labels 1 c in
-      let d0 = entered c1 in
-      on_led c c1 _ (record { solid = h; more = extends_refl (K c); kinds = kinds_refl c; code = λ g. g; cases = λ g. g; walked = λ g. g })
-      (scoped_rises c1 (λ d. then (switch_operand line e d) (λ t. then (statement s (in_switch false end t.1.0 a) (no_cases (apart t.0))) (λ g. refused LeftOut line)))
-      (led_after (Rises d0) (switch_operand line e d0)
-      (λ t q. led_after (Rises d0) (statement s (in_switch false end t.1.0 a) (no_cases (apart t.0))) (λ g k. led_refused (Rises d0) {kind = LeftOut} {line = line}))))
+      let d0 = entered (with_labels 1 c) in
+      on_led c (with_labels 1 c) _ (labels_rise 1 c h)
+      (scoped_rises (with_labels 1 c) (led_after (Rises d0) (switch_operand line e d0)
+      (λ t q. led_after (Rises d0) (statement s (in_switch false (new_label c) t.1.0 a) (no_cases (apart t.0))) (λ g k. led_refused (Rises d0) {kind = LeftOut} {line = line}))))
   statement_rises (Node f.Case (At line ▹ e ▹ s ▹ none)) a c h w =
       led_after (Rises c) (constant e c)
       (λ k q. let r = constant_rises e c h k q in
       let label = new_label k.0 in
       let x = here label (with_labels 1 k.0) in
-      let rx : Rises c x = record { solid = r.solid; more = r.more; kinds = r.kinds; code = λ v. in_here label (with_labels 1 k.0) (r.code v); cases = r.cases; walked = r.walked } in
-      led_after (Rises c) (statement s a x)
-      (λ d u. let m = rises_trans c x d rx (statement_rises s a x rx.solid w.1.1.1.0 d u) in on_led c d _ m (cased_rises line a a.switched (length c.running.cases) k.1.value label d m.solid)))
+      on_led c x _ (rises_trans c k.0 x r (coded k.0 x.code r.solid (λ v. in_here label (with_labels 1 k.0) v)))
+      (then_rises x (statement_rises s a x r.solid w.1.1.1.0) (λ d m. cased_rises line a a.switched (length c.running.cases) k.1.value label d m.solid)))
   statement_rises (Node f.Default (At line ▹ s ▹ none)) a c h w =
       let label = new_label c in
       let x = here label (with_labels 1 c) in
-      let rx : Rises c x = record { solid = h; more = extends_refl (K c); kinds = kinds_refl c; code = λ v. in_here label (with_labels 1 c) v; cases = λ v. v; walked = λ v. v } in
-      led_after (Rises c) (statement s a x)
-      (λ d u. let m = rises_trans c x d rx (statement_rises s a x rx.solid w.1.1.0 d u) in on_led c d _ m (defaulted_rises line a label d m.solid))
+      on_led c x _ (coded c x.code h (λ v. in_here label (with_labels 1 c) v))
+      (then_rises x (statement_rises s a x h w.1.1.0) (λ d m. defaulted_rises line a label d m.solid))
   statement_rises (Node f.Break (At line ▹ none)) a c h w = leave_rises line a.delays a.breaks c h
   statement_rises (Node f.Continue (At line ▹ none)) a c h w = leave_rises line a.delays a.continues c h
   statement_rises (Node f.Return (At line ▹ Node f.MaybeExpr e ▹ none)) a c h w = return_rises line a.delays e c h w.1.1.0.1
@@ -384,8 +360,7 @@ mutual
 
   pub items_rise : (parts : Trees) (a : Around) (c : Context) → Solid c → AllWritten parts → Led (Rises c) (items parts a c)
   items_rise none a c h w = led_ok (Rises c) (rises_refl c h)
-  items_rise (item ▹ rest) a c h w =
-      led_after (Rises c) (statement item a c) (λ d q. let r = statement_rises item a c h w.0 d q in on_led c d _ r (items_rise rest a d r.solid w.1))
+  items_rise (item ▹ rest) a c h w = then_rises c (statement_rises item a c h w.0) (λ d r. items_rise rest a d r.solid w.1)
 
 -- functions
 

@@ -1,7 +1,6 @@
 -- Names that come again inside functions.
 use Rattle.std.proofs.Common.{◌≡◌, ℕ, Bool, true, false, List, [], ◌∷◌, Option, Some, None, refl}
 use Rattle.std.specs.Prelude.{is_some}
-use Rattle.c_types.specs.Types.{PlainType}
 use Rattle.c_decls.specs.Named.{PlainNamed}
 use Rattle.c_decls.specs.ScopeList.{Table, ScopeList, named_in, innermost, first_or, found_from}
 use Rattle.elaboration.specs.Locals.{is_twice, is_twice_in, is_file}

@@ -1,5 +1,5 @@
 -- Initializers by their kinds.
-use Rattle.std.proofs.Common.{◌≡◌, ℕ, Bool, List, Option, Some, Ok, Vec, Global, length, refl, ap, ◌∙◌}
+use Rattle.std.proofs.Common.{◌≡◌, ℕ, Bool, Some, Ok, Vec, Global, length, ap, ◌∙◌}
 use Rattle.c_types.specs.Types.{PlainType, Void}
 use Rattle.c_tree.specs.declared.tree.Expr.{Expr}
 use Rattle.c_tree.specs.declared.statement.Init.{Init}
@@ -13,7 +13,7 @@ use Rattle.c_decls.specs.Refusals.{then}
 use Rattle.elaboration.specs.Context.{Context}
 use Rattle.elaboration.specs.Reallocates.{opened}
 use Rattle.elaboration.specs.Expressions.{found}
-use Rattle.elaboration.specs.Initializers.{Target, surplus, all_surplus, initialize, initialize_parts, by_expression, given_length, text, text_length}
+use Rattle.elaboration.specs.Initializers.{Target, surplus, all_surplus, initialize, by_expression, given_length, text, text_length}
 use Rattle.elab_declarations.specs.Braces.{in_braces}
 use Rattle.elab_declarations.proofs.InTurn.{count_trees}
 

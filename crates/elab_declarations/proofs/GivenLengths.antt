@@ -2,10 +2,10 @@
 use Rattle.std.proofs.Common.{◌≡◌, ◌==◌, ◌+◌, eqb-true, ◌<◌, ◌≤◌, ◌*◌, ℕ, Bool, true, false, cond, nat_lt, length, get_or, arith, List, [], ◌∷◌, ◌++◌, Option, Some, None, Ok, Err, map, reverse, refl, ap, sym, ◌∙◌}
 use Rattle.std.specs.Prelude.{slice_set}
 use Rattle.std.proofs.lemmas.List.{reverse-append}
-use Rattle.c_types.specs.Types.{PlainType, PlainTypes, Void, Pointer, Array}
+use Rattle.c_types.specs.Types.{PlainType, Void, Pointer, Array}
 use Rattle.c_types.specs.TagTable.{TagTable, size_in}
 use Rattle.c_tree.specs.Forms as f
-use Rattle.c_tree.specs.Tree.{Trees, At, Node, none, ◌▹◌, count}
+use Rattle.c_tree.specs.Tree.{Trees, At, Node, none, ◌▹◌}
 use Rattle.c_decls.specs.declared.refusal.TypeKind.{TypeKind}
 use Rattle.c_decls.specs.declared.refusal.TypeKind.TheVariants.{TypeTooLarge, LeftOut}
 use Rattle.c_decls.specs.Typed.{is_function}

@@ -1,5 +1,5 @@
 -- A return with a value, in its steps.
-use Rattle.std.proofs.Common.{◌≡◌, ℕ, Bool, true, false, Option, Some, None, Result, Ok, Err, subst, ap, sym, ◌∙◌}
+use Rattle.std.proofs.Common.{◌≡◌, ℕ, Bool, false, Option, None, Result, Ok, subst, ap, sym, ◌∙◌}
 use Rattle.c_types.specs.Types.{PlainType}
 use Rattle.c_tree.specs.declared.tree.ExprKind.{ExprKind}
 use Rattle.c_tree.specs.Tree.{Tree}

@@ -1,10 +1,10 @@
 -- The two forms of a switch.
-use Rattle.std.proofs.Common.{◌≡◌, ℕ, Bool, true, false, Vec, Global, ap, sym, ◌∙◌, refl}
+use Rattle.std.proofs.Common.{◌≡◌, ℕ, false, Vec, Global, ap, ◌∙◌, refl}
 use Rattle.c_tree.specs.declared.statement.Stmt.{Stmt}
 use Rattle.c_tree.specs.declared.statement.StmtKind.{StmtKind, None', Some'}
 use Rattle.c_tree.specs.declared.statement.StmtKind.TheVariants as s
 use Rattle.c_tree.specs.Forms as f
-use Rattle.c_tree.specs.Tree.{Tree, Trees, At, Node, none, ◌▹◌}
+use Rattle.c_tree.specs.Tree.{Tree, At, Node, none, ◌▹◌}
 use Rattle.c_tree.specs.StatementView.{trees, stmt_tree, stmt_view, if_tree}
 use Rattle.c_tree.proofs.StatementViews.{block_tree}
 use Rattle.elaboration.specs.Context.{Context}

@@ -1,5 +1,5 @@
 -- The two forms of a switch, and its dispatch on cases in hand.
-use Rattle.std.specs.Prelude.{ℕ, ◌+◌, ℤ, Bool, true, false, map, List, [], ◌∷◌, ◌++◌, Option, Some, None, Ok}
+use Rattle.std.specs.Prelude.{ℕ, ℤ, Bool, true, false, map, List, [], ◌∷◌, ◌++◌, Option, Ok}
 use Rattle.core_tree.specs.declared.statements.Atom.{Atom}
 use Rattle.core_tree.specs.declared.statements.StmKind.TheVariants.{Jump, Case}
 use Rattle.c_tree.specs.declared.statement.StmtKind.{StmtKind}

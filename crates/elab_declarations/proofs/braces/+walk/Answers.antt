@@ -1,10 +1,10 @@
-use Rattle.std.proofs.Common.{◌≡◌, ◌<◌, ◌+◌, ◌-◌, ◌∙◌, ap, sym, length, drop, take, map, List, Ok, false, arith}
+use Rattle.std.proofs.Common.{◌≡◌, ◌<◌, ◌+◌, ◌-◌, ◌∙◌, ap, sym, length, drop, take, map, List, false, arith}
 use Rattle.std.proofs.lemmas.Result.{err_from_is_err_and}
 use Rattle.std.proofs.lemmas.Grind.{common_steps}
 use Rattle.c_types.specs.Types.{plain}
 use Rattle.c_tree.specs.declared.statement.Init.{Init}
 use Rattle.c_tree.specs.StatementView.{trees, init_view}
-use Rattle.elaboration.specs.Initializers.{Filled, all_surplus, elements, initialize, initialize_parts}
+use Rattle.elaboration.specs.Initializers.{all_surplus, elements, initialize, initialize_parts}
 use Rattle.elab_declarations.specs.declared.targets.Target.{Target}
 use Rattle.elab_declarations.specs.Braces.{in_braces}
 use Rattle.elab_declarations.specs.PlainParts.{plain_part}

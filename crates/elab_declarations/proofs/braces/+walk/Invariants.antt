@@ -1,4 +1,4 @@
-use Rattle.std.proofs.Common.{◌≡◌, ◌-◌, Bool, false, map, drop, length}
+use Rattle.std.proofs.Common.{◌≡◌, ◌-◌, false, map, drop, length}
 use Rattle.c_types.specs.Types.{plain}
 use Rattle.c_tree.specs.StatementView.{trees, init_view}
 use Rattle.elaboration.specs.Initializers.{elements, initialize_parts}
