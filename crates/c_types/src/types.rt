@@ -1,7 +1,7 @@
 //! C types, and their names as plain data.
 
 ghost use Rattle.std.specs.Prelude.{IfOk, IsTrue, ◌↔◌, ◌≡◌, ◌+◌, ◌<◌, ◌^◌};
-ghost use Rattle.c_types.specs.Types.{kind_of, width_of, plain, plain_signature, plain_list, Pointer};
+ghost use Rattle.c_types.specs.Types.{kind_of, width_of, plain, plain_signature, plain_list, Pointer, Array};
 
 use hs_base::{IntKind, NoMemory};
 use std::alloc::Global;
@@ -82,6 +82,36 @@ impl CType {
         ensures { IfOk result (λ it. plain it ≡ Pointer (plain target)) }
     {
         Ok(CType::Pointer(Box::leak(Box::new(alloc, target)?)))
+    }
+
+    /// An array of a type.
+    pub fn array_of(alloc: Global, element: CType, length: u32) -> Result<CType, NoMemory>
+        ensures { IfOk result (λ it. plain it ≡ Array (plain element) length) }
+    {
+        Ok(CType::Array(Box::leak(Box::new(alloc, element)?), length))
+    }
+
+    /// A function with a result and parameters.
+    pub fn function_of(alloc: Global, signature: Signature) -> Result<CType, NoMemory>
+        ensures { IfOk result (λ it. plain it ≡ plain_signature signature) }
+    {
+        Ok(CType::Function(Box::leak(Box::new(alloc, signature)?)))
+    }
+}
+
+impl Signature {
+    /// A copy.
+    pub fn try_clone(&self, alloc: Global) -> Result<Signature, NoMemory>
+        ensures { IfOk result (λ copy. plain_signature copy ≡ plain_signature self.now) }
+    {
+        let mut params = Vec::new(alloc);
+        for param in &self.params {
+            params.push(*param)?;
+        }
+        Ok(Signature {
+            result: self.result,
+            params,
+        })
     }
 }
 

@@ -1,4 +1,4 @@
-use Rattle.std.proofs.Common.{◌≡◌, add-one, IsTrue, ◌∙◌, sym, ap}
+use Rattle.std.proofs.Common.{arith, ◌≡◌, add-one, IsTrue, ◌∙◌, sym, ap}
 use Rattle.c_types.specs.Types.{Function, plain, plain_list, plain_signature}
 use Rattle.c_types.proofs.Same.{never, length-plain_list, plain-function, plain_list-at, result_below, plain_list-take}
 use Rattle.c_types.specs.declared.types.CType.{size-CType}
@@ -19,8 +19,7 @@ same_type-loop-a-preserved t c =
     let lists : plain_list c.in-Function.signature.now.params.items ≡ plain_list c.in-Function-b.other.now.params.items =
     sym (ap plain_list c.deref.ensures.value) ∙ c.same_types.ensures.0 same ∙ ap plain_list c.deref-in-Function-b.ensures.value in
     let first = ap plain c.in-Function.is ∙ plain-function c.in-Function.signature in
-    let other = ap plain c.in-Function-b.is ∙ plain-function c.in-Function-b.other in
-    (
+    let other = ap plain c.in-Function-b.is ∙ plain-function c.in-Function-b.other in (
       (
         λ e. c.loop-a.invariant.0.0 (first ∙ (λ i. Function (e i) (lists i)) ∙ sym other),
         λ e. let both : plain_signature c.in-Function.signature.now ≡ plain_signature c.in-Function-b.other.now = sym first ∙ c.loop-a.invariant.0.1 e ∙ other in cc,
