@@ -8,12 +8,12 @@ use Rattle.c_types.specs.declared.bodies.Body.{Body}
 use Rattle.c_types.specs.declared.types.CType.{CType}
 use Rattle.c_types.specs.declared.types.CType.TheVariants as c
 use Rattle.c_types.specs.Types.{PlainType, Void, Int, Pointer, Array, Struct, Union, Function, plain}
-use Rattle.c_types.specs.Layouts.{Known, moved, layout_of, array_layout}
+use Rattle.c_types.specs.Layouts.{moved, layout_of, array_layout}
 use Rattle.c_types.specs.TagTable.{TagTable, CompletedTag, known, layout_or, tag_layout}
 use Rattle.c_types.specs.Bodies.{IsSized, IsBodyOf, completed_tag}
 use Rattle.c_types.specs.Slots.{first_known}
 use Rattle.c_types.specs.Listing.{EndsInTime, slots_at, type_work, members_work, tag_work}
-use Rattle.c_types.proofs.ListLemmas.{array_case, array_fits, array_is, array_list, body_is, body_some, element_room, element_sized, first_sound, slots_fit, some_of, tag_known}
+use Rattle.c_types.proofs.ListLemmas.{array_fits, array_is, array_list, body_is, body_some, element_room, element_sized, first_sound, slots_fit, some_of, tag_known}
 
 -- deeper structs come to no fewer parts
 type_work_le : (v w : ℕ → ℕ) → ((tag : ℕ) → v tag ≤ w tag) → (type : PlainType) → type_work v type ≤ type_work w type

@@ -10,7 +10,7 @@ use Rattle.c_types.specs.declared.bodies.Body.{Body}
 use Rattle.c_types.specs.declared.bodies.Member.{Member}
 use Rattle.c_types.specs.Types.{plain}
 use Rattle.c_types.specs.Layouts.{Known, Placed, IsSound, moved, place, placed, none_placed, offset_after, has_slot, member_slots}
-use Rattle.c_types.specs.TagTable.{TagTable, CompletedTag, known, layout_or, member_layout, tag_layout, IsSizedIn}
+use Rattle.c_types.specs.TagTable.{TagTable, known, layout_or, member_layout, tag_layout, IsSizedIn}
 use Rattle.c_types.specs.Bodies.{IsSized, IsPlaced, KeepsRule, completed_tag}
 use Rattle.c_types.specs.Slots.{first_known, IsLargest}
 use Rattle.c_types.proofs.Filtered.{contains, filtered, same_bool, passes_all, passes_at, any_at, or_holds}

@@ -1,12 +1,11 @@
 -- Parts whose slots are left to list.
-use Rattle.std.proofs.Common.{◌≡◌, ◌==◌, IsSomeAnd, slice_get, ◌⊎◌, inl, inr, Bool, true, false, ◌≤◌, ◌<◌, ◌+◌, ◌-◌, ◌*◌, ◌^◌, ℕ, zero, suc, List, [], ◌∷◌, ◌++◌, Option, Some, None, take, take_all, drop, get_or, length, map, refl, ap, sym, subst, ◌∙◌, arith, append_assoc}
+use Rattle.std.proofs.Common.{◌≡◌, ◌==◌, IsSomeAnd, slice_get, ◌⊎◌, inl, inr, Bool, true, false, ◌≤◌, ◌<◌, ◌+◌, ◌-◌, ℕ, zero, suc, List, [], ◌∷◌, ◌++◌, Option, Some, take, take_all, drop, get_or, length, refl, ap, sym, subst, ◌∙◌, arith, append_assoc}
 use borrow.Author.Tests.{eqb-true}
 use Rattle.std.specs.List.{flat_map, AllByRecursion}
 use Rattle.c_types.specs.declared.layouts.Layout.{Layout}
 use Rattle.c_types.specs.declared.bodies.Member.{Member}
 use Rattle.c_types.specs.declared.bodies.Body.{Body}
 use Rattle.c_types.specs.declared.listing.Left.{Left}
-use Rattle.c_types.specs.declared.listing.Left.TheVariants as left
 use Rattle.c_types.specs.declared.listing.Listing.{Listing}
 use Rattle.c_types.specs.Types.{PlainType, plain}
 use Rattle.c_types.specs.Layouts.{Known, no_layout, layout_of, moved}

@@ -6,7 +6,6 @@ use Rattle.c_types.specs.declared.layouts.Layout.{Layout}
 use Rattle.c_types.specs.declared.types.CType.{CType}
 use Rattle.c_types.specs.declared.types.CType.TheVariants as c
 use Rattle.c_types.specs.declared.bodies.Body.{Body}
-use Rattle.std.proofs.Math.Nat.{mul-le-mul_right}
 use Rattle.c_types.specs.Types.{plain, PlainType, Void, Int, Pointer, Array, Struct, Union, Function}
 use Rattle.c_types.specs.Layouts.{Known, AreSlots, IsSound, ArraysFit, array_layout, layout_of, no_layout, moved}
 use Rattle.c_types.specs.TagTable.{TagTable, CompletedTag, known, layout_or, size_in, tag_layout}

@@ -1,10 +1,10 @@
 -- The part of an array of arrays that is no array, and how often it stands there.
-use Rattle.std.proofs.Common.{rules, Bor, ◌≡◌, ◌⊎◌, ◌≤◌, ◌<◌, ◌-◌, ◌*◌, ◌^◌, ℕ, zero, suc, Option, Some, None, option_map, IfSome, min, refl, ap, sym, subst, ◌∙◌, arith, inl, inr}
+use Rattle.std.proofs.Common.{rules, Bor, ◌≡◌, ◌⊎◌, ◌≤◌, ◌-◌, ◌*◌, ◌^◌, ℕ, zero, suc, Option, Some, None, option_map, IfSome, min, refl, ap, sym, subst, ◌∙◌, arith, inl, inr}
 use Rattle.c_types.specs.declared.layouts.Layout.{Layout}
 use Rattle.c_types.specs.declared.types.CType.{CType, size-CType, the_lemmas}
 use Rattle.c_types.specs.declared.types.CType.TheVariants as c
 use Rattle.c_types.specs.Types.{PlainType, Array}
-use Rattle.c_types.specs.Layouts.{Known, ArraysFit, array_layout, layout_of}
+use Rattle.c_types.specs.Layouts.{Known, ArraysFit, layout_of}
 
 abbrev pub size_by : Known → PlainType → Option ℕ
 size_by k type = option_map (λ (l : Layout). l.size) (layout_of k type)

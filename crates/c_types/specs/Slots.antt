@@ -1,10 +1,10 @@
 -- How the slots of a type are listed.
-use Rattle.std.specs.Prelude.{◌≤◌, ◌+◌, ℕ, List, [], ◌∷◌, max, take}
+use Rattle.std.specs.Prelude.{◌≤◌, ℕ, List, take}
 use Rattle.std.specs.List.{AllByRecursion}
 use Rattle.c_types.specs.declared.bodies.Member.{Member}
-use Rattle.c_types.specs.Types.{PlainType, Void, Int, Pointer, Array, Struct, Union, Function, plain}
+use Rattle.c_types.specs.Types.{plain}
 use Rattle.c_types.specs.Layouts.{Known}
-use Rattle.c_types.specs.TagTable.{TagTable, CompletedTag, known, layout_or}
+use Rattle.c_types.specs.TagTable.{TagTable, known, layout_or}
 
 -- what is known of the first completed tags
 abbrev pub first_known : TagTable → ℕ → Known

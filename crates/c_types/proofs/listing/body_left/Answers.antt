@@ -1,13 +1,8 @@
-use Rattle.std.proofs.Common.{◌≡◌, ◌⊎◌, ◌<◌, ◌≤◌, ◌++◌, inl, inr, false, List, [], ap, sym, subst, ◌∙◌, refl, length, get_or, arith, IsSomeAnd, slice_get}
-use Rattle.c_types.specs.declared.bodies.Member.{Member}
-use Rattle.c_types.specs.declared.bodies.Body.{Body}
+use Rattle.std.proofs.Common.{◌≡◌, ◌⊎◌, inl, inr, false, [], sym, ◌∙◌, arith}
 use Rattle.c_types.specs.Types.{plain}
-use Rattle.c_types.specs.Layouts.{moved}
-use Rattle.c_types.specs.TagTable.{TagTable, CompletedTag, known, layout_or, tag_layout}
-use Rattle.c_types.specs.Bodies.{completed_tag}
+use Rattle.c_types.specs.TagTable.{known}
 use Rattle.c_types.specs.Slots.{first_known, IsLargest}
-use Rattle.c_types.specs.Listing.{tag_work, type_work, members_work, member_slots_at, EndsInTime}
-use Rattle.c_types.proofs.BodyLemmas.{LargestCase, largest_case, members_sized, some_within}
+use Rattle.c_types.proofs.BodyLemmas.{members_sized, some_within}
 use Rattle.c_types.proofs.LeftLemmas.{MembersCase, members_case, no_items, largest_left, size_is}
 use Rattle.c_types.proofs.ListLemmas.{first_sized, size_some}
 use Rattle.c_types.proofs.listing.body_left.Goals as goal

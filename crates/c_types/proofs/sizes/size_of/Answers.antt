@@ -1,4 +1,4 @@
-use Rattle.std.proofs.Common.{arith, refl, ap, ◌≡◌, ◌≤◌}
+use Rattle.std.proofs.Common.{arith, ap, ◌≡◌}
 use Rattle.c_types.specs.declared.types.CType.{size-CType}
 use Rattle.c_types.specs.Types.{plain, Array}
 use Rattle.c_types.specs.TagTable.{known}

@@ -1,5 +1,4 @@
-use Rattle.std.proofs.Common.{◌≡◌, ◌+◌, ap, ◌∙◌, ◌++◌, ◌∷◌, [], refl, List}
-use Rattle.c_types.specs.declared.listing.Left.{Left}
+use Rattle.std.proofs.Common.{◌≡◌, ◌+◌, refl}
 use Rattle.c_types.specs.declared.listing.Left.TheVariants as left
 use Rattle.c_types.specs.Types.{plain}
 use Rattle.c_types.specs.TagTable.{known, layout_or}

@@ -1,5 +1,4 @@
-use Rattle.std.proofs.Common.{◌≡◌, ◌⊎◌, ◌++◌, ap, sym, refl, ◌∙◌, arith, List, ℕ}
-use Rattle.c_types.specs.declared.types.CType.TheVariants as c
+use Rattle.std.proofs.Common.{◌≡◌, ◌++◌, ap, sym, refl, ◌∙◌, arith, List, ℕ}
 use Rattle.c_types.specs.declared.listing.Left.TheVariants as left
 use Rattle.c_types.specs.Types.{plain, Array}
 use Rattle.c_types.specs.Layouts.{moved}
