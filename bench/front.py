@@ -49,7 +49,101 @@ def strings(size):
     return "".join(f'char *s{number} = "{"a string " * 1000}";\n' for number in range(size // 9020))
 
 
-KINDS = [functions, list_of_values, deep, comments, strings]
+def layers(layer):
+    """Types of very many layers that come by names: each name has 390 more than the one before it."""
+
+    def text(size):
+        names = range(size // 405)
+        return "typedef int t0;\n" + "".join(layer(f"t{number}", f"t{number + 1}") for number in names)
+
+    text.__doc__ = f"Types of many layers: {layer('a', 'b')[:20]}.."
+    return text
+
+
+def pointer_layers(old, new):
+    return f"typedef {old} {'*' * 390}{new};\n"
+
+
+def array_layers(old, new):
+    return f"typedef {old} {new}{'[1]' * 130};\n"
+
+
+def named_pointers(size):
+    """Chains of names of pointers to names."""
+    return "typedef int t0;\n" + "".join(f"typedef t{number} *t{number + 1};\n" for number in range(size // 24))
+
+
+def cases(size):
+    """One switch of very many cases."""
+    inner = "".join(f"case {number}: x = {number}; break;\n" for number in range(size // 32))
+    return f"int g(int x) {{ switch (x) {{ {inner} }} return x; }}\n"
+
+
+def addresses(size):
+    """Addresses of locals that are declared between them."""
+    inner = "".join(f"int a{number} = 1; int *p{number} = &a{number};\n" for number in range(size // 36))
+    return f"int g(void) {{ {inner} return 0; }}\n"
+
+
+def members(size):
+    """Very many members, each used."""
+    count = size // 32
+    text = "".join(f"int m{number};\n" for number in range(count))
+    uses = "".join(f"s.m{number} = {number};\n" for number in range(count))
+    return f"struct s {{ {text} }};\nint g(void) {{ struct s s; {uses} return 0; }}\n"
+
+
+def linked_structs(size):
+    """Chains of pointers to structs."""
+    text = "".join(f"struct s{number + 1} {{ struct s{number} *p; }};\n" for number in range(size // 36))
+    return "struct s0 { int x; };\n" + text
+
+
+def nested_structs(size):
+    """Structs in one another."""
+    text = "".join(f"struct s{number + 1} {{ struct s{number} s; }};\n" for number in range(size // 35))
+    last = size // 35
+    return f"struct s0 {{ int *p; }};\n{text}struct s{last} all;\n"
+
+
+def pointer_locals(size):
+    """Very many pointer locals, each freed."""
+    count = size // 52
+    text = "".join(f"int *p{number} = malloc(4);\n" for number in range(count))
+    frees = "".join(f"free(p{number});\n" for number in range(count))
+    return f"#include <stdlib.h>\nint g(void) {{ {text}{frees} return 0; }}\n"
+
+
+def choices(size):
+    """Chains of choices in one another, in the last part."""
+    inner = "x ? 1 : " * 390 + "2"
+    return "".join(f"int g{number}(int x) {{ return {inner}; }}\n" for number in range(size // 3150))
+
+
+def choices_first(size):
+    """Chains of choices in one another, in the middle part."""
+    inner = "x ? " * 190 + "1" + " : 2" * 190
+    return "".join(f"int g{number}(int x) {{ return {inner}; }}\n" for number in range(size // 1550))
+
+
+KINDS = [
+    functions,
+    list_of_values,
+    deep,
+    comments,
+    strings,
+    layers(pointer_layers),
+    layers(array_layers),
+    named_pointers,
+    cases,
+    addresses,
+    members,
+    linked_structs,
+    nested_structs,
+    pointer_locals,
+    choices,
+    choices_first,
+]
 
 
 def run(command, path):

@@ -345,7 +345,7 @@ pub(crate) fn place_behind(line: Line, ty: CType) -> Result<Typed, TypeError>
     ensures { Answers plain_typed result (rules.place_behind line (operand (plain ty))) }
 {
     match ty {
-        CType::Pointer(target) => Ok(Typed::place(Box::into_inner(target))),
+        CType::Pointer(target) => Ok(Typed::place(*target)),
         CType::Void
         | CType::Int(_)
         | CType::Array(_, _)
@@ -384,7 +384,7 @@ pub fn address(alloc: Global, line: Line, e: Typed) -> Result<Typed, TypeError>
     ensures { Meets plain_typed result (rules.address line (plain_typed e)) }
 {
     if e.is_place {
-        let pointer = CType::Pointer(Box::new(alloc, e.ty)?);
+        let pointer = CType::pointer_to(alloc, e.ty)?;
         Ok(Typed::value(pointer))
     } else {
         refused(TypeKind::NotLvalue, line)

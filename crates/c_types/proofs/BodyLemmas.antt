@@ -10,9 +10,9 @@ use Rattle.c_types.specs.declared.bodies.Body.{Body}
 use Rattle.c_types.specs.declared.bodies.Member.{Member}
 use Rattle.c_types.specs.Types.{plain}
 use Rattle.c_types.specs.Layouts.{Known, Placed, IsSound, moved, place, placed, none_placed, offset_after, has_slot, member_slots}
-use Rattle.c_types.specs.TagTable.{TagTable, CompletedTag, known, layout_or, member_layout, tag_layout, IsSizedIn}
+use Rattle.c_types.specs.TagTable.{TagTable, known, layout_or, member_layout, tag_layout, IsSizedIn}
 use Rattle.c_types.specs.Bodies.{IsSized, IsPlaced, KeepsRule, completed_tag}
-use Rattle.c_types.specs.Slots.{first_known, depth, deepest, deepest_member, IsLargest}
+use Rattle.c_types.specs.Slots.{first_known, IsLargest}
 use Rattle.c_types.proofs.Filtered.{contains, filtered, same_bool, passes_all, passes_at, any_at, or_holds}
 use Rattle.c_types.proofs.ListLemmas.{first_sized, first_layout, moved_both}
 use Rattle.c_types.proofs.Sound.{AllSound, known_sound, rounded_le, slot_within, flat_map_push, some_passes, member_layouts_sound}
@@ -40,26 +40,6 @@ members_sized table first ms a =
     all_of (λ (m : Member). IsSizedIn table (plain m.ty)) ms
     (more_all (λ (m : Member). IsSized (first_known table first) (plain m.ty)) (λ (m : Member). IsSizedIn table (plain m.ty)) ms
     (λ m s. first_sized table first (plain m.ty) s) a)
-
--- depths
-member_depth : (ms : List Member) (i : ℕ) (m : Member) → i < length ms → m ≡ get_or ms i m → depth (plain m.ty) ≤ deepest_member (pairs ms)
-member_depth [] i m h e = absurd (omega arith)
-member_depth (x ∷ xs) zero m h e = subst (λ (y : Member). depth (plain y.ty) ≤ deepest_member (pairs (x ∷ xs))) (sym e) (omega arith)
-member_depth (x ∷ xs) (suc i) m h e = let rest = member_depth xs i m (omega arith) e in omega arith
-
-tag_depth_below : (ts : List CompletedTag) (i : ℕ) (t : CompletedTag) → slice_get ts i ≡ Some t → deepest_member t.members ≤ deepest ts
-tag_depth_below [] i t e = cc
-tag_depth_below (x ∷ xs) zero t e =
-    let same : x ≡ t = cc in subst (λ (y : CompletedTag). deepest_member y.members ≤ deepest (x ∷ xs)) same (omega arith)
-tag_depth_below (x ∷ xs) (suc i) t e = let rest = tag_depth_below xs i t e in omega arith
-
-pub depth_below :
-    (ts : List CompletedTag) (first : ℕ) (b : Body) (i : ℕ) (m : Member) → slice_get ts first ≡ Some (completed_tag b) → i < length b.members.items →
-    m ≡ get_or b.members.items i m → depth (plain m.ty) ≤ deepest ts
-depth_below ts first b i m s h e =
-    let one = member_depth b.members.items i m h e in
-    let all = tag_depth_below ts first (completed_tag b) s in
-    omega arith
 
 -- where members stand
 seconds : (u : Bool) (p : Placed) (ls : List Layout) → map (λ (q : ℕ × Layout). q.1) (fold (place u) p ls).members ≡ map (λ (q : ℕ × Layout). q.1) p.members ++ ls
@@ -277,7 +257,6 @@ some_within P (y ∷ ys) (suc i) h = let r = some_within P ys i h in omega arith
 
 -- what is known of the largest member of a union
 pub record LargestCase (table : TagTable) (first offset : ℕ) (b : Body) (m : Member) : Type 0 where
-  pub depth_is : depth (plain m.ty) ≤ deepest table.completed
   pub sized : IsSized (first_known table first) (plain m.ty)
   pub room : offset + (layout_or (first_known table first) (plain m.ty)).size ≤ 268435456
   pub slots : (tag_layout (first_known table first) (completed_tag b)).slots ≡ (layout_or (first_known table first) (plain m.ty)).slots
@@ -293,7 +272,6 @@ largest_case table first offset i b m stands h rule room u at some =
     let sized : IsSized k (plain m.ty) = all_at (λ (x : Member). IsSized k (plain x.ty)) b.members.items i m h.sized r.0 at in
     let inside : Fits k b.size m = all_at (Fits k b.size) b.members.items i m (members_inside k b h) r.0 at in
     record {
-      depth_is = depth_below table.completed first b i m stands r.0 at;
       sized = sized;
       room = omega arith;
       slots = union_slots k b i m (known_sound (take first table.completed)) h u rule r.0 at (largest_in_first table first b.members.items m h.sized sized r.1);
@@ -301,7 +279,6 @@ largest_case table first offset i b m stands h rule room u at some =
 
 -- what is known of a member
 pub record MemberCase (table : TagTable) (first offset : ℕ) (m : Member) : Type 0 where
-  pub depth_is : depth (plain m.ty) ≤ deepest table.completed
   pub sized : IsSized (first_known table first) (plain m.ty)
   pub room : offset + m.offset + (layout_or (first_known table first) (plain m.ty)).size ≤ 268435456
 
@@ -313,7 +290,6 @@ member_case table first offset i b m stands h room within at =
     let k = first_known table first in
     let inside : Fits k b.size m = all_at (Fits k b.size) b.members.items i m (members_inside k b h) within at in
     record {
-      depth_is = depth_below table.completed first b i m stands within at;
       sized = all_at (λ (x : Member). IsSized k (plain x.ty)) b.members.items i m h.sized within at;
       room = omega arith;
     }

@@ -6,13 +6,12 @@ use Rattle.c_types.specs.declared.layouts.Layout.{Layout}
 use Rattle.c_types.specs.declared.types.CType.{CType}
 use Rattle.c_types.specs.declared.types.CType.TheVariants as c
 use Rattle.c_types.specs.declared.bodies.Body.{Body}
-use Rattle.std.proofs.Math.Nat.{mul-le-mul_right}
 use Rattle.c_types.specs.Types.{plain, PlainType, Void, Int, Pointer, Array, Struct, Union, Function}
 use Rattle.c_types.specs.Layouts.{Known, AreSlots, IsSound, ArraysFit, array_layout, layout_of, no_layout, moved}
 use Rattle.c_types.specs.TagTable.{TagTable, CompletedTag, known, layout_or, size_in, tag_layout}
 use Rattle.c_types.proofs.PlacingLemmas.{unwrap_map}
 use Rattle.c_types.specs.Bodies.{IsSized, IsBodyOf, completed_tag}
-use Rattle.c_types.specs.Slots.{first_known, depth}
+use Rattle.c_types.specs.Slots.{first_known}
 use Rattle.c_types.proofs.MemberLemmas.{Extends, layout_stays, sized_stays}
 use Rattle.c_types.proofs.Places.{known_after_first}
 use Rattle.c_types.proofs.Sound.{layout_sound, known_sound}
@@ -182,10 +181,6 @@ pub tag_layout_is : (k : Known) (type : CType) (tag : ℕ) → (type ≡ c.Struc
 tag_layout_is k type tag (inl e) = rw e refl
 tag_layout_is k type tag (inr e) = rw e refl
 
-pub tag_depth : (type : CType) (tag : ℕ) → (type ≡ c.Struct tag) ⊎ (type ≡ c.Union tag) → depth (plain type) ≡ 0
-tag_depth type tag (inl e) = rw e refl
-tag_depth type tag (inr e) = rw e refl
-
 pub tag_known :
     (k : Known) (type : CType) (tag : ℕ) → (type ≡ c.Struct tag) ⊎ (type ≡ c.Union tag) → IsSome (layout_of k (plain type)) →
     k tag ≡ Some (layout_or k (plain type))
@@ -208,11 +203,6 @@ body_is table first tag place b l e h =
     let found : known table.completed tag ≡ Some (tag_layout (first_known table place) (completed_tag b)) = h.found in
     let both : Some l ≡ Some (tag_layout (first_known table place) (completed_tag b)) = sym some ∙ found in
     cc
-
-pub body_measure : (place first most : ℕ) → place < first → 2 * (place * (most + 1) + most) + 2 < 2 * (first * (most + 1) + 0) + 1
-body_measure place first most h =
-    let next : (place + 1) * (most + 1) ≤ first * (most + 1) = mul-le-mul_right (most + 1) (omega arith) in
-    omega arith
 
 tags_len : (ds : List CompletedTag) → length (map (λ (done : CompletedTag). done.tag) ds) ≡ length ds
 tags_len [] = refl

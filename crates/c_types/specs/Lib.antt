@@ -5,3 +5,4 @@ pub mod Codes
 pub mod Bodies
 pub mod Placing
 pub mod Slots
+pub mod Listing

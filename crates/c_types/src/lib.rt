@@ -18,6 +18,7 @@
 
 mod bodies;
 mod layouts;
+mod listing;
 mod sizes;
 mod slots;
 mod tags;

@@ -14,18 +14,25 @@ pub fn size_of(tags: &Tags, ty: &CType) -> Option<u32>
     ensures value { result ≡ size_in tags.now (plain ty.now) }
     ensures limit { IfSome result (λ size. size ≤ 268435456) }
 {
-    match ty {
-        CType::Void | CType::Function(_) => None,
-        CType::Int(int) => Some(int.width()),
-        CType::Pointer(_) => Some(4),
-        CType::Array(element, length) => match size_of(tags, element) {
-            Some(size) => Some(*length * size),
-            None => None,
-        },
-        CType::Struct(tag) | CType::Union(tag) => match tags.body(*tag) {
-            Some((_, body)) => Some(body.size),
-            None => None,
-        },
+    let mut part = *ty;
+    // How often the part stands in the type. A part that stands more often than that has no bytes.
+    let mut count: u32 = 1;
+    loop {
+        match part {
+            CType::Void | CType::Function(_) => return None,
+            CType::Int(int) => return Some(count * int.width()),
+            CType::Pointer(_) => return Some(count * 4),
+            CType::Array(element, length) => {
+                count = count.saturating_mul(length);
+                part = *element;
+            }
+            CType::Struct(tag) | CType::Union(tag) => {
+                return match tags.body(tag) {
+                    Some((_, body)) => Some(count * body.size),
+                    None => None,
+                };
+            }
+        }
     }
 }
 
@@ -34,14 +41,19 @@ pub fn align_of(tags: &Tags, ty: &CType) -> Option<u32>
     ensures value { result ≡ align_in tags.now (plain ty.now) }
     ensures aligned { IfSome result IsAlignment }
 {
-    match ty {
-        CType::Void | CType::Function(_) => None,
-        CType::Int(int) => Some(int.width()),
-        CType::Pointer(_) => Some(4),
-        CType::Array(element, _) => align_of(tags, element),
-        CType::Struct(tag) | CType::Union(tag) => match tags.body(*tag) {
-            Some((_, body)) => Some(body.align),
-            None => None,
-        },
+    let mut part = *ty;
+    loop {
+        match part {
+            CType::Void | CType::Function(_) => return None,
+            CType::Int(int) => return Some(int.width()),
+            CType::Pointer(_) => return Some(4),
+            CType::Array(element, _) => part = *element,
+            CType::Struct(tag) | CType::Union(tag) => {
+                return match tags.body(tag) {
+                    Some((_, body)) => Some(body.align),
+                    None => None,
+                };
+            }
+        }
     }
 }

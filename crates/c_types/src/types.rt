@@ -1,7 +1,7 @@
 //! C types, and their names as plain data.
 
 ghost use Rattle.std.specs.Prelude.{IfOk, IsTrue, ◌↔◌, ◌≡◌, ◌+◌, ◌<◌, ◌^◌};
-ghost use Rattle.c_types.specs.Types.{kind_of, width_of, plain, plain_signature, plain_list};
+ghost use Rattle.c_types.specs.Types.{kind_of, width_of, plain, plain_signature, plain_list, Pointer, Array};
 
 use hs_base::{IntKind, NoMemory};
 use std::alloc::Global;
@@ -25,17 +25,17 @@ pub enum IntType {
     ULongLong,
 }
 
-/// A type (C99 6.2.5).
+/// A type (C99 6.2.5). What a type is made of is shared by all that were made of it, and lasts to the end of the program.
 #[cycle(ctype)]
-#[derive(Drop)]
+#[derive(Clone, Copy)]
 pub enum CType {
     Void,
     Int(IntType),
-    Pointer(Box<CType>),
-    Array(Box<CType>, u32),
+    Pointer(&'static CType),
+    Array(&'static CType, u32),
     Struct(TagId),
     Union(TagId),
-    Function(Box<Signature>),
+    Function(&'static Signature),
 }
 
 /// The result and the parameters of a function.
@@ -77,98 +77,83 @@ impl IntType {
 }
 
 impl CType {
-    /// A copy of the type.
-    #[cycle(copy)]
-    pub fn try_clone(&self, alloc: Global) -> Result<CType, NoMemory>
-        ensures { IfOk result (λ copy. plain copy ≡ plain self.now) }
+    /// A pointer to a type.
+    pub fn pointer_to(alloc: Global, target: CType) -> Result<CType, NoMemory>
+        ensures { IfOk result (λ it. plain it ≡ Pointer (plain target)) }
     {
-        match self {
-            CType::Void => Ok(CType::Void),
-            CType::Int(int) => Ok(CType::Int(*int)),
-            CType::Pointer(target) => {
-                let copy = target.try_clone(alloc)?;
-                Ok(CType::Pointer(Box::new(alloc, copy)?))
-            }
-            CType::Array(element, length) => {
-                let copy = element.try_clone(alloc)?;
-                Ok(CType::Array(Box::new(alloc, copy)?, *length))
-            }
-            CType::Struct(tag) => Ok(CType::Struct(*tag)),
-            CType::Union(tag) => Ok(CType::Union(*tag)),
-            CType::Function(signature) => {
-                let copy = signature.try_clone(alloc)?;
-                Ok(CType::Function(Box::new(alloc, copy)?))
-            }
-        }
+        Ok(CType::Pointer(Box::leak(Box::new(alloc, target)?)))
+    }
+
+    /// An array of a type.
+    pub fn array_of(alloc: Global, element: CType, length: u32) -> Result<CType, NoMemory>
+        ensures { IfOk result (λ it. plain it ≡ Array (plain element) length) }
+    {
+        Ok(CType::Array(Box::leak(Box::new(alloc, element)?), length))
+    }
+
+    /// A function with a result and parameters.
+    pub fn function_of(alloc: Global, signature: Signature) -> Result<CType, NoMemory>
+        ensures { IfOk result (λ it. plain it ≡ plain_signature signature) }
+    {
+        Ok(CType::Function(Box::leak(Box::new(alloc, signature)?)))
     }
 }
 
 impl Signature {
-    /// A copy of the signature.
-    #[cycle(copy)]
+    /// A copy.
     pub fn try_clone(&self, alloc: Global) -> Result<Signature, NoMemory>
         ensures { IfOk result (λ copy. plain_signature copy ≡ plain_signature self.now) }
     {
-        let answer = self.result.try_clone(alloc)?;
         let mut params = Vec::new(alloc);
         for param in &self.params {
-            params.push(param.try_clone(alloc)?)?;
+            params.push(*param)?;
         }
         Ok(Signature {
-            result: answer,
+            result: self.result,
             params,
         })
     }
 }
 
-/// Whether two types are the same type.
+/// Whether two types are the same type. It goes down their layers by a loop, and calls itself for parameters alone.
 #[cycle(same)]
 pub fn same_type(a: &CType, b: &CType) -> bool
     ensures { IsTrue result ↔ (plain a.now ≡ plain b.now) }
 {
-    match a {
-        CType::Void => match b {
-            CType::Void => true,
-            _ => false,
-        },
-        CType::Int(int) => match b {
-            CType::Int(other) => int == other,
-            _ => false,
-        },
-        CType::Pointer(target) => match b {
-            CType::Pointer(other) => same_type(target, other),
-            _ => false,
-        },
-        CType::Array(element, length) => match b {
-            CType::Array(other, count) => *length == *count && same_type(element, other),
-            _ => false,
-        },
-        CType::Struct(tag) => match b {
-            CType::Struct(other) => *tag == *other,
-            _ => false,
-        },
-        CType::Union(tag) => match b {
-            CType::Union(other) => *tag == *other,
-            _ => false,
-        },
-        CType::Function(signature) => match b {
-            CType::Function(other) => same_signature(signature, other),
-            CType::Void
-            | CType::Int(_)
-            | CType::Pointer(_)
-            | CType::Array(_, _)
-            | CType::Struct(_)
-            | CType::Union(_) => false,
-        },
+    let mut a = *a;
+    let mut b = *b;
+    loop {
+        match a {
+            CType::Void => return matches!(b, CType::Void),
+            CType::Int(int) => return matches!(b, CType::Int(other) if int == other),
+            CType::Struct(tag) => return matches!(b, CType::Struct(other) if tag == other),
+            CType::Union(tag) => return matches!(b, CType::Union(other) if tag == other),
+            CType::Pointer(target) => match b {
+                CType::Pointer(other) => {
+                    a = *target;
+                    b = *other;
+                }
+                _ => return false,
+            },
+            CType::Array(element, length) => match b {
+                CType::Array(other, count) if length == count => {
+                    a = *element;
+                    b = *other;
+                }
+                _ => return false,
+            },
+            CType::Function(signature) => match b {
+                CType::Function(other) => {
+                    if !same_types(&signature.params, &other.params) {
+                        return false;
+                    }
+                    a = signature.result;
+                    b = other.result;
+                }
+                _ => return false,
+            },
+        }
     }
-}
-
-/// Whether two functions have the same type.
-#[cycle(same)]
-fn same_signature(a: &Signature, b: &Signature) -> bool
-    ensures { IsTrue result ↔ (plain_signature a.now ≡ plain_signature b.now) }
-{
-    same_type(&a.result, &b.result) && same_types(&a.params, &b.params)
 }
 
 /// Whether two lists of types are the same.

@@ -7,3 +7,4 @@ pub mod Calls
 pub mod FormatLemmas
 pub mod Lents
 pub mod Lending
+pub mod Measures

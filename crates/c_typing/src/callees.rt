@@ -42,8 +42,8 @@ impl Basic {
     {
         match self {
             Basic::Void => Ok(CType::Void),
-            Basic::VoidPointer => Ok(CType::Pointer(Box::new(alloc, CType::Void)?)),
-            Basic::Text => Ok(CType::Pointer(Box::new(alloc, CType::Int(IntType::Char))?)),
+            Basic::VoidPointer => CType::pointer_to(alloc, CType::Void),
+            Basic::Text => CType::pointer_to(alloc, CType::Int(IntType::Char)),
             Basic::Size => Ok(CType::Int(IntType::UInt)),
             Basic::Number => Ok(CType::Int(IntType::Int)),
         }
@@ -118,7 +118,7 @@ fn null(alloc: Global) -> Result<Typed, NoMemory>
     ensures { IfOk result (λ e. Ok (plain_typed e) ≡ rules.built_in_value 0 BuiltIn.Null None) }
 {
     Ok(Typed {
-        ty: CType::Pointer(Box::new(alloc, CType::Void)?),
+        ty: CType::pointer_to(alloc, CType::Void)?,
         is_place: false,
         folded: Folded::Varies,
         is_null: true,
@@ -146,8 +146,8 @@ pub fn named(alloc: Global, line: Line, named: Option<&Named>) -> Result<Typed, 
 {
     match named {
         None => refused(TypeKind::Undeclared, line),
-        Some(Named::Object { ty, .. }) => Ok(Typed::place(ty.try_clone(alloc)?)),
-        Some(Named::Register { ty, .. }) => Ok(Typed::place(ty.try_clone(alloc)?)),
+        Some(Named::Object { ty, .. }) => Ok(Typed::place(*ty)),
+        Some(Named::Register { ty, .. }) => Ok(Typed::place(*ty)),
         Some(Named::Function { .. }) => refused(TypeKind::LeftOut, line),
         Some(Named::Typedef { .. }) => refused(TypeKind::Operands, line),
         Some(Named::Constant { ty, value }) => Ok(Typed::constant(Constant {

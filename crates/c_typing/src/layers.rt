@@ -51,7 +51,7 @@ fn array_of(
     match length.checked_mul(u128::from(size)) {
         Some(bytes) if bytes <= LIMIT => {
             let length = u32::try_from(length).map_err(|_| NoMemory)?;
-            Ok(CType::Array(Box::new(alloc, element)?, length))
+            Ok(CType::array_of(alloc, element, length)?)
         }
         _ => refused(TypeKind::TypeTooLarge, line),
     }
@@ -67,7 +67,7 @@ fn layered(alloc: Global, tags: &Tags, layer: Layer, ty: CType) -> Result<CType,
             if is_function(&ty) {
                 return refused(TypeKind::LeftOut, line);
             }
-            Ok(CType::Pointer(Box::new(alloc, ty)?))
+            Ok(CType::pointer_to(alloc, ty)?)
         }
         Layer::ArrayOf(line, length) => {
             if is_function(&ty) {
@@ -81,7 +81,7 @@ fn layered(alloc: Global, tags: &Tags, layer: Layer, ty: CType) -> Result<CType,
                 return refused(TypeKind::LeftOut, line);
             }
             let signature = Signature { result: ty, params };
-            Ok(CType::Function(Box::new(alloc, signature)?))
+            Ok(CType::function_of(alloc, signature)?)
         }
     }
 }

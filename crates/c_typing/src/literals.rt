@@ -203,8 +203,8 @@ pub fn string(alloc: Global, line: Line, bytes: &[u8]) -> Result<Typed, TypeErro
     if length > 268_435_456 {
         return refused(TypeKind::TypeTooLarge, line);
     }
-    let element = Box::new(alloc, CType::Int(IntType::Char))?;
-    Ok(Typed::place(CType::Array(element, length as u32)))
+    let element = CType::Int(IntType::Char);
+    Ok(Typed::place(CType::array_of(alloc, element, length as u32)?))
 }
 
 /// The bytes of string literals at a line, through parentheses; `None` where an expression is anything else.

@@ -42,7 +42,7 @@ fn member_among(
         return refused(TypeKind::Incomplete, line);
     };
     match named(list, name) {
-        Some(member) => Ok(Typed::place(member.ty.try_clone(alloc)?)),
+        Some(member) => Ok(Typed::place(member.ty)),
         None => refused(TypeKind::NoMember, line),
     }
 }

@@ -1,6 +1,6 @@
 //! The rules of casts, choices, members and assignments (C99 6.5.2, 6.5.3.4, 6.5.4, 6.5.15, 6.5.16).
 
-ghost use Rattle.std.specs.Prelude.{◌≡◌, ◌&&◌, ◌||◌, not, cond, Ok, IfOk, option_map};
+ghost use Rattle.std.specs.Prelude.{◌≡◌, ◌<◌, ◌-◌, ◌*◌, ◌^◌, ◌⊎◌, ◌&&◌, ◌||◌, not, cond, Ok, IfOk, IfSome, option_map};
 ghost use Rattle.c_types.specs.Types.{plain};
 ghost use Rattle.c_types.specs.TagTable.{TagTable, size_in};
 ghost use Rattle.c_decls.specs.Refusals.{Answers, Meets, refused as refusal};
@@ -140,22 +140,39 @@ pub fn choice(line: Line, test: &Typed, x: Typed, y: Typed) -> Result<Typed, Typ
     }
 }
 
+/// So many times a size. No bytes are none, however often.
+fn all_of(count: u64, size: Option<u32>) -> Result<Option<u64>, NoMemory>
+    ensures value { IfOk result (λ all. all ≡ option_map (λ n. n * count) size) }
+    ensures counted { IfOk result (λ _. IfSome size (λ n. (n ≡ 0) ⊎ (count < 2 ^ 64 - 1))) }
+{
+    match size {
+        None => Ok(None),
+        Some(0) => Ok(Some(0)),
+        Some(_) if count == u64::MAX => Err(NoMemory),
+        Some(size) => Ok(Some(count.checked_mul(u64::from(size)).ok_or(NoMemory)?)),
+    }
+}
+
 /// The size of a type, or `None` where it is incomplete, void or a function. What 64 bits do not count, which is above all
 /// limits of types, is answered by want of memory.
 pub fn measured(tags: &Tags, ty: &CType) -> Result<Option<u64>, NoMemory>
     ensures { IfOk result (λ size. size ≡ size_in tags.now (plain ty.now)) }
 {
-    match ty {
-        CType::Array(element, length) => match measured(tags, element)? {
-            Some(size) => Ok(Some(u64::from(*length).checked_mul(size).ok_or(NoMemory)?)),
-            None => Ok(None),
-        },
-        CType::Void
-        | CType::Int(_)
-        | CType::Pointer(_)
-        | CType::Struct(_)
-        | CType::Union(_)
-        | CType::Function(_) => Ok(size_of(tags, ty).map(|size| u64::from(size))),
+    let mut part = *ty;
+    let mut count: u64 = 1;
+    loop {
+        match part {
+            CType::Array(element, length) => {
+                count = count.saturating_mul(u64::from(length));
+                part = *element;
+            }
+            CType::Void
+            | CType::Int(_)
+            | CType::Pointer(_)
+            | CType::Struct(_)
+            | CType::Union(_)
+            | CType::Function(_) => return all_of(count, size_of(tags, &part)),
+        }
     }
 }
 
@@ -184,7 +201,7 @@ fn element_of(line: Line, tags: &Tags, array: CType) -> Result<Typed, TypeError>
     ensures { Answers plain_typed result (rules.element_types line tags.now (operand (plain array)) (Number IntType.Int)) }
 {
     match array {
-        CType::Pointer(target) => element_behind(line, tags, Box::into_inner(target)),
+        CType::Pointer(target) => element_behind(line, tags, *target),
         CType::Void
         | CType::Int(_)
         | CType::Array(_, _)

@@ -167,7 +167,7 @@ impl Typer<'_> {
             (rules.type_named line context (found self.now.scopes name.now)) }
     {
         match self.scopes.find(name) {
-            Some(Named::Typedef { ty }) => Ok(ty.try_clone(self.alloc)?),
+            Some(Named::Typedef { ty }) => Ok(*ty),
             Some(Named::BuiltIn { index: 0 }) => Ok(CType::Int(IntType::UInt)),
             _ => refused(TypeKind::Undeclared, line),
         }
@@ -240,11 +240,7 @@ impl Typer<'_> {
             return refused(TypeKind::LeftOut, line);
         }
         if let Some(name) = name {
-            let param = ty.try_clone(self.alloc)?;
-            let named = Named::Register {
-                ty: param,
-                index: 0,
-            };
+            let named = Named::Register { ty, index: 0 };
             self.scopes.declare(line, name.as_slice(), named)?;
         }
         Ok(ty)

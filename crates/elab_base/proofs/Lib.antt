@@ -3,3 +3,4 @@ pub mod Twice
 pub mod Signatures
 pub mod CodeSizes
 pub mod DefinedCalls
+pub mod Fitting

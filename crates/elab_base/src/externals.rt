@@ -26,17 +26,17 @@ use std::mem;
 const MOST_LENGTH: u64 = 268_435_456;
 
 /// What a function of a type answers.
-fn answer_of(alloc: Global, ty: &CType) -> Result<CType, NoMemory>
-    ensures { IfOk result (λ answer. plain answer ≡ answer_of (plain ty.now)) }
+fn answer_of(ty: &CType) -> CType
+    ensures { plain result ≡ answer_of (plain ty.now) }
 {
     match ty {
-        CType::Function(signature) => signature.result.try_clone(alloc),
+        CType::Function(signature) => signature.result,
         CType::Void
         | CType::Int(_)
         | CType::Pointer(_)
         | CType::Array(_, _)
         | CType::Struct(_)
-        | CType::Union(_) => Ok(CType::Void),
+        | CType::Union(_) => CType::Void,
     }
 }
 
@@ -158,7 +158,7 @@ impl Elaborator {
     pub fn begin_body(&mut self, index: u32, ty: &CType) -> Result<(), NoMemory>
         ensures { IfOk result (λ _. self.new ≡ body_begun index (plain ty.now) self.old) }
     {
-        let answer = answer_of(self.alloc, ty)?;
+        let answer = answer_of(ty);
         self.define(index)?;
         let params = mem::replace(&mut self.params, Scope::new(self.alloc));
         self.scopes.stand_in(params)?;

@@ -133,13 +133,12 @@ impl Elaborator {
         let mem = self.running.mem_count()?;
         let register = local_register(self.running.local_count()?)?;
         let line = self.running.line();
-        let copy = ty.try_clone(self.alloc)?;
         self.with_register(name, &ty)?;
         self.with_memory(name.unwrap_or(b""), &ty)?;
         self.with_named(
             name,
             Named::Object {
-                ty: copy,
+                ty,
                 index: mem,
             },
         )?;

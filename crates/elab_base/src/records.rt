@@ -98,9 +98,7 @@ impl Elaborator {
     {
         let copy = copied(self.alloc, name)?;
         let ty = make(&mut self.tags, sort, copy)?;
-        let named = Named::Tag {
-            ty: ty.try_clone(self.alloc)?,
-        };
+        let named = Named::Tag { ty };
         self.scopes.declare(tag, named).map_err(|_| NoMemory)?;
         Ok(ty)
     }
@@ -112,7 +110,7 @@ impl Elaborator {
     {
         let tag = tag_name(self.alloc, name)?;
         match self.scopes.find_innermost(tag.as_slice()) {
-            Some(Named::Tag { ty }) => ty.try_clone(self.alloc),
+            Some(Named::Tag { ty }) => Ok(*ty),
             Some(_) => Err(NoMemory),
             None => self.newly_named(sort, name, tag.as_slice()),
         }

@@ -2,7 +2,7 @@
 //!
 //! A type that is too large is refused where it is made, so none is met here; where one were, there is no memory for it.
 
-ghost use Rattle.std.specs.Prelude.{◌≡◌, IfOk, IsTrue, unwrap_or};
+ghost use Rattle.std.specs.Prelude.{◌≡◌, ◌≢◌, ◌≤◌, ◌-◌, ◌*◌, ◌^◌, min, IfOk, IfSome, IsTrue, unwrap_or};
 ghost use Rattle.c_types.specs.Types.{plain};
 ghost use Rattle.c_types.specs.Layouts.{ArraysFit};
 ghost use Rattle.c_types.specs.TagTable.{known, size_in, layout_in};
@@ -11,26 +11,47 @@ use c_types::{CType, Layout, MAX_SIZE, Tags, layout, size_of};
 use hs_base::NoMemory;
 use std::alloc::Global;
 
+/// How often the elements of an array stand where the array stands so often. Around an array of none, all arrays fit.
+fn copies(count: u64, length: u32) -> u64
+    ensures none { length ≡ 0 → result ≡ 1 }
+    ensures some { length ≢ 0 → result ≡ min (count * length) (2 ^ 64 - 1) }
+{
+    if length == 0 {
+        1
+    } else {
+        count.saturating_mul(u64::from(length))
+    }
+}
+
+/// Whether so many of a size are not too large.
+fn is_within(count: u64, size: Option<u32>) -> bool
+    ensures { IsTrue result → IfSome size (λ n. count * n ≤ 268435456) }
+{
+    match size {
+        Some(size) => count.saturating_mul(u64::from(size)) <= u64::from(MAX_SIZE),
+        None => true,
+    }
+}
+
 /// Whether no array inside a type is too large.
 pub(crate) fn fits(tags: &Tags, ty: &CType) -> bool
     ensures { IsTrue result → ArraysFit (known tags.now.completed) (plain ty.now) }
 {
-    match ty {
-        CType::Array(element, length) => {
-            if !fits(tags, element) {
-                return false;
+    let mut part = *ty;
+    let mut count: u64 = 1;
+    loop {
+        match part {
+            CType::Array(element, length) => {
+                count = copies(count, length);
+                part = *element;
             }
-            match size_of(tags, element) {
-                Some(size) => u64::from(*length) * u64::from(size) <= u64::from(MAX_SIZE),
-                None => false,
-            }
+            CType::Void
+            | CType::Int(_)
+            | CType::Pointer(_)
+            | CType::Struct(_)
+            | CType::Union(_)
+            | CType::Function(_) => return is_within(count, size_of(tags, &part)),
         }
-        CType::Void
-        | CType::Int(_)
-        | CType::Pointer(_)
-        | CType::Struct(_)
-        | CType::Union(_)
-        | CType::Function(_) => true,
     }
 }
 

@@ -83,8 +83,7 @@ fn file_object(
     if has_no_size(state.tags(), &ty) {
         return refused(TypeKind::Incomplete, line);
     }
-    let copy = ty.try_clone(state.alloc())?;
-    state.declared_as(line, name, Named::Object { ty: copy, index })?;
+    state.declared_as(line, name, Named::Object { ty, index })?;
     state.with_variable(line, index, name, &ty)?;
     fill_variable(state, line, index, &ty, init)
 }

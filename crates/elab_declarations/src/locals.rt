@@ -127,8 +127,7 @@ fn local_object(
         }
         return refused(TypeKind::DeclaredTwice, line);
     }
-    let copy = ty.try_clone(state.alloc())?;
-    let spot = state.with_local(name, copy)?;
+    let spot = state.with_local(name, ty)?;
     fill_at(state, line, &ty, init, spot)
 }
 

@@ -55,8 +55,7 @@ fn entry(
         (rules.entry file line (plain_storage storage) (plain base.now) (declarator_tree declarator.now) (held (option_copied init.entry)) state.old) }
 {
     let layers = layers(state, declarator)?;
-    let base = base.try_clone(state.alloc())?;
-    let ty = with_init_layers(state.alloc(), state.tags(), layers, init, base)?;
+    let ty = with_init_layers(state.alloc(), state.tags(), layers, init, *base)?;
     match declared_name(declarator) {
         Some(name) => name_in(state, file, line, storage, name.as_slice(), ty, init),
         None => Ok(()),

@@ -39,7 +39,7 @@ fn member_part(alloc: Global, offset: u32, member: &Member) -> Result<Part, NoMe
     ensures { IfOk result (λ part. plain_part part ≡ member_part offset (plain_member member.now)) }
 {
     Ok(Part {
-        ty: member.ty.try_clone(alloc)?,
+        ty: member.ty,
         offset: offset.checked_add(member.offset).ok_or(NoMemory)?,
     })
 }

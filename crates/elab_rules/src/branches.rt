@@ -117,7 +117,7 @@ pub fn and_ended(
     ensures { (left : PlainFound) → left.typed ≡ plain_typed x → Meets (λ whole. (state.new, plain_found whole)) result (and_ended line false_label (expr_view tree.now) left (state.old, plain_found y)) }
 {
     let value = y.atom();
-    let ty = y.typed.ty.try_clone(state.alloc())?;
+    let ty = y.typed.ty;
     let typed = binary(line, BinaryOp::And, state.tags(), x, y.typed)?;
     let truth = tested_atom(state, tree, &ty, value)?;
     let value = and_ends(state, line, false_label, truth)?;
@@ -159,7 +159,7 @@ pub fn or_ended(
     ensures { (left : PlainFound) → left.typed ≡ plain_typed x → Meets (λ whole. (state.new, plain_found whole)) result (or_ended line end (expr_view tree.now) to left (state.old, plain_found y)) }
 {
     let value = y.atom();
-    let ty = y.typed.ty.try_clone(state.alloc())?;
+    let ty = y.typed.ty;
     let typed = binary(line, BinaryOp::Or, state.tags(), x, y.typed)?;
     let truth = tested_atom(state, tree, &ty, value)?;
     compare_again(state, line, to, truth)?;
@@ -247,7 +247,7 @@ pub fn chosen(
     ensures { (tested first : PlainFound) → tested.typed ≡ plain_typed test.now → first.typed ≡ plain_typed x → Meets (λ whole. (state.new, plain_found whole)) result (chosen line end (cut before state.old.code) to tested first (state.old, plain_found y)) }
 {
     let value = y.atom();
-    let ty = y.typed.ty.try_clone(state.alloc())?;
+    let ty = y.typed.ty;
     let typed = choice(line, test, x, y.typed)?;
     let value = state.convert(line, before, &typed.ty, &ty, value)?;
     set_again(state, line, to, value)?;

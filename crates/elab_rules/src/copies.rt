@@ -12,7 +12,7 @@ pub fn copied(alloc: Global, typed: &Typed) -> Result<Typed, NoMemory>
     ensures { IfOk result (λ copy. plain_typed copy ≡ plain_typed typed.now) }
 {
     Ok(Typed {
-        ty: typed.ty.try_clone(alloc)?,
+        ty: typed.ty,
         is_place: typed.is_place,
         folded: typed.folded,
         is_null: typed.is_null,

@@ -49,7 +49,7 @@ pub fn applied(
     ensures { Meets (λ whole. (state.new, plain_found whole)) result (applied line op (expr_view tree.now) state.old (plain_found e)) }
 {
     let value = e.atom();
-    let ty = e.typed.ty.try_clone(state.alloc())?;
+    let ty = e.typed.ty;
     let typed = unary(line, op, e.typed)?;
     if let UnaryOp::Deref = op {
         return Ok(Found {
@@ -81,11 +81,9 @@ pub fn between(
 ) -> Result<Found, TypeError>
     ensures { Meets (λ whole. (state.new, plain_found whole)) result (between line op (cut before state.old.code) state.old (plain_found x) (plain_found y)) }
 {
-    let alloc = state.alloc();
     let fixed = fixed_sum(state, op, &x, &y)?;
     let (left, right) = (x.atom(), y.atom());
-    let left_type = x.typed.ty.try_clone(alloc)?;
-    let right_type = y.typed.ty.try_clone(alloc)?;
+    let (left_type, right_type) = (x.typed.ty, y.typed.ty);
     let typed = binary(line, op, state.tags(), x.typed, y.typed)?;
     let value = combined(
         state,
@@ -114,8 +112,7 @@ pub fn cast_to(
 ) -> Result<Found, TypeError>
     ensures { Meets (λ whole. (state.new, plain_found whole)) result (cast_to line (plain ty) (cut before state.old.code) state.old (plain_found e)) }
 {
-    let copy = ty.try_clone(state.alloc())?;
-    let typed = cast(line, copy, &e.typed)?;
+    let typed = cast(line, ty, &e.typed)?;
     let value = state.convert(line, before, &ty, &e.typed.ty, e.atom())?;
     let fixed = if e.typed.is_null_constant() {
         Fixed::Nowhere

@@ -21,11 +21,9 @@ use hs_base::{Line, NoMemory};
 pub fn indexed(state: &mut Elaborator, line: Line, x: Found, y: Found) -> Result<Found, TypeError>
     ensures { Meets (λ whole. (state.new, plain_found whole)) result (indexed line state.old (plain_found x) (plain_found y)) }
 {
-    let alloc = state.alloc();
     let fixed = fixed_sum(state, BinaryOp::Add, &x, &y)?;
     let (left, right) = (x.atom(), y.atom());
-    let left_type = x.typed.ty.try_clone(alloc)?;
-    let right_type = y.typed.ty.try_clone(alloc)?;
+    let (left_type, right_type) = (x.typed.ty, y.typed.ty);
     let typed = element(line, state.tags(), x.typed, y.typed)?;
     let before = state.mark();
     let address = combined(

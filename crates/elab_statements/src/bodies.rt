@@ -76,8 +76,7 @@ pub(crate) fn defined(
         return refused(TypeKind::LeftOut, line);
     }
     let index = state.function_number(name)?;
-    let copy = ty.try_clone(state.alloc())?;
-    state.declared_function(line, name, copy)?;
+    state.declared_function(line, name, ty)?;
     if state.is_defined(index) {
         return refused(TypeKind::DeclaredTwice, line);
     }

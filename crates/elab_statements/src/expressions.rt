@@ -134,7 +134,7 @@ pub(crate) fn return_from(
 ) -> Result<(), TypeError>
     ensures { Meets (λ _. state.new) result (return_from line delays (held (option_copied e.entry)) state.old) }
 {
-    let ty = state.running().answer().try_clone(state.alloc())?;
+    let ty = *state.running().answer();
     match e {
         Some(e) => return_of(state, line, delays, e, &ty),
         None => {

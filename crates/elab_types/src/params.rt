@@ -40,7 +40,6 @@ pub(crate) fn param(
     if state.is_declared(name) {
         return refused(TypeKind::DeclaredTwice, line);
     }
-    let copy = ty.try_clone(state.alloc())?;
-    state.with_param(name, copy)?;
+    state.with_param(name, ty)?;
     Ok(ty)
 }

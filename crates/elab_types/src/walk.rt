@@ -164,8 +164,7 @@ fn member_by(
         (member_by line (plain base.now) (declarator_tree declarator.now) before state.old) }
 {
     let found = layers(state, declarator)?;
-    let base = base.try_clone(state.alloc())?;
-    let ty = with_layers(state.alloc(), state.tags(), found, base)?;
+    let ty = with_layers(state.alloc(), state.tags(), found, *base)?;
     member(state, line, declared_name(declarator), ty, before)
 }
 

@@ -1,20 +1,23 @@
-use Rattle.std.proofs.Common.{arith, ◌++◌, ap, ◌∙◌}
-use Rattle.c_types.specs.Types.{plain}
-use Rattle.c_types.specs.Layouts.{moved}
-use Rattle.c_types.specs.TagTable.{known, layout_or}
-use Rattle.c_types.proofs.ListLemmas.{all_tags, moved_zero}
+use Rattle.std.proofs.Common.{arith, sym, ◌∙◌}
+use Rattle.c_types.proofs.LeftLemmas.{pop_case}
 use Rattle.c_types.proofs.slots.slots_of.Goals as goal
 
-pub add_slots-requires-clause-sized : goal.add_slots-requires-clause-sized
-add_slots-requires-clause-sized c = rw (all_tags c.args.tags.now c.completed.result.now c.completed.ensures) c.requires.sized
+pub list-requires : goal.list-requires
+list-requires c =
+    let case = pop_case c.args.tags.now c.loop-next.listing.left.items c.pop.new.self.items c.in-Some.next c.loop-next.listing.slots.items
+    c.in-Some.ensures.items c.loop-next.invariant.listable in
+    case.listable
 
-pub add_slots-requires-clause-room : goal.add_slots-requires-clause-room
-add_slots-requires-clause-room c =
-    rw (all_tags c.args.tags.now c.completed.result.now c.completed.ensures) (let room = c.requires.room in omega arith)
+pub loop-next-smaller : goal.loop-next-smaller
+loop-next-smaller c =
+    let case = pop_case c.args.tags.now c.loop-next.listing.left.items c.pop.new.self.items c.in-Some.next c.loop-next.listing.slots.items
+    c.in-Some.ensures.items c.loop-next.invariant.listable in
+    let works = case.works in
+    let less = c.in_ok-list.ensures.less in
+    omega arith
 
-pub returns : goal.returns
-returns c =
-    c.in_ok-add_slots.ensures
-    ∙ (ap (λ k. c.new-slots.result.items ++ moved 0 (layout_or k (plain c.args.ty.now)).slots) (all_tags c.args.tags.now c.completed.result.now c.completed.ensures)
-    ∙ (ap (λ l. l ++ moved 0 (layout_or (known c.args.tags.now.completed) (plain c.args.ty.now)).slots) c.new-slots.ensures.items
-    ∙ moved_zero (layout_or (known c.args.tags.now.completed) (plain c.args.ty.now)).slots))
+pub loop-next-preserved : goal.loop-next-preserved
+loop-next-preserved c =
+    let case = pop_case c.args.tags.now c.loop-next.listing.left.items c.pop.new.self.items c.in-Some.next c.loop-next.listing.slots.items
+    c.in-Some.ensures.items c.loop-next.invariant.listable in
+    record { listable = c.in_ok-list.ensures.listable; all = c.in_ok-list.ensures.all ∙ (sym case.same ∙ c.loop-next.invariant.all) }

@@ -1,35 +1,31 @@
-use Rattle.std.proofs.Common.{add-one, IsTrue, ◌∙◌, sym, ap}
-use Rattle.c_types.specs.Types.{plain}
-use Rattle.c_types.proofs.Same.{not_void, not_int, not_pointer, not_array, not_struct, not_union, never, length-plain_list, plain-function, plain_list-at, plain_list-take}
+use Rattle.std.proofs.Common.{arith, ◌≡◌, add-one, IsTrue, ◌∙◌, sym, ap}
+use Rattle.c_types.specs.Types.{Function, plain, plain_list, plain_signature}
+use Rattle.c_types.proofs.Same.{never, length-plain_list, plain-function, plain_list-at, result_below, plain_list-take}
+use Rattle.c_types.specs.declared.types.CType.{size-CType}
 use Rattle.c_types.proofs.types.+same.Goals as goal
 
-pub same_type-returns-in_default : goal.same_type-returns-in_default
-same_type-returns-in_default t c =
-    never (λ e. not_void _ c.in_default.not-Void (sym e ∙ ap plain c.in-Void.is))
+pub same_type-returns-then-not-same_types : goal.same_type-returns-then-not-same_types
+same_type-returns-then-not-same_types t c =
+    never (λ e.
+    let both : plain_signature c.in-Function.signature.now ≡ plain_signature c.in-Function-b.other.now =
+    sym (plain-function c.in-Function.signature) ∙ sym (ap plain c.in-Function.is) ∙ c.loop-a.invariant.0.1 e ∙ ap plain c.in-Function-b.is ∙ plain-function c.in-Function-b.other in
+    let lists : plain_list c.in-Function.signature.now.params.items ≡ plain_list c.in-Function-b.other.now.params.items = cc in
+    let same : IsTrue c.same_types.result = c.same_types.ensures.1 (ap plain_list c.deref.ensures.value ∙ lists ∙ sym (ap plain_list c.deref-in-Function-b.ensures.value)) in
+    cc)
 
-pub same_type-returns-in_default-b : goal.same_type-returns-in_default-b
-same_type-returns-in_default-b t c =
-    never (λ e. not_int _ c.in_default-b.not-Int _ (sym e ∙ ap plain c.in-Int.is))
-
-pub same_type-returns-in_default-b-2 : goal.same_type-returns-in_default-b-2
-same_type-returns-in_default-b-2 t c =
-    never (λ e. not_pointer _ c.in_default-b-2.not-Pointer _ (sym e ∙ ap plain c.in-Pointer.is))
-
-pub same_type-returns-in_default-b-3 : goal.same_type-returns-in_default-b-3
-same_type-returns-in_default-b-3 t c =
-    never (λ e. not_array _ c.in_default-b-3.not-Array _ _ (sym e ∙ ap plain c.in-Array.is))
-
-pub same_type-returns-in_default-b-4 : goal.same_type-returns-in_default-b-4
-same_type-returns-in_default-b-4 t c =
-    never (λ e. not_struct _ c.in_default-b-4.not-Struct _ (sym e ∙ ap plain c.in-Struct.is))
-
-pub same_type-returns-in_default-b-5 : goal.same_type-returns-in_default-b-5
-same_type-returns-in_default-b-5 t c =
-    never (λ e. not_union _ c.in_default-b-5.not-Union _ (sym e ∙ ap plain c.in-Union.is))
-
-pub same_type-returns-in-Function-b : goal.same_type-returns-in-Function-b
-same_type-returns-in-Function-b t c =
-    rw (c.in-Function.is, c.in-Function-b.is, plain-function, plain-function, ← c.deref-in-Function-b.ensures, ← c.deref-in-Function-b-2.ensures) c.same_signature.ensures
+pub same_type-loop-a-preserved : goal.same_type-loop-a-preserved
+same_type-loop-a-preserved t c =
+    let same : IsTrue c.same_types.result = cc in
+    let lists : plain_list c.in-Function.signature.now.params.items ≡ plain_list c.in-Function-b.other.now.params.items =
+    sym (ap plain_list c.deref.ensures.value) ∙ c.same_types.ensures.0 same ∙ ap plain_list c.deref-in-Function-b.ensures.value in
+    let first = ap plain c.in-Function.is ∙ plain-function c.in-Function.signature in
+    let other = ap plain c.in-Function-b.is ∙ plain-function c.in-Function-b.other in (
+      (
+        λ e. c.loop-a.invariant.0.0 (first ∙ (λ i. Function (e i) (lists i)) ∙ sym other),
+        λ e. let both : plain_signature c.in-Function.signature.now ≡ plain_signature c.in-Function-b.other.now = sym first ∙ c.loop-a.invariant.0.1 e ∙ other in cc,
+      ),
+      omega (arith, c.loop-a.invariant.1, ap size-CType c.in-Function.is, result_below c.in-Function.signature),
+    )
 
 pub same_types-returns-then-a-b : goal.same_types-returns-then-a-b
 same_types-returns-then-a-b t c = never (λ e. c.if-a-b.true (length-plain_list _ _ e))

@@ -1,0 +1,10 @@
+use Rattle.std.proofs.Common.{◌≤◌}
+use Rattle.c_types.specs.declared.types.CType.{size-CType}
+use Rattle.c_types.specs.Types.{plain}
+use Rattle.c_types.specs.TagTable.{known}
+use Rattle.c_types.proofs.PartLemmas.{IsPart}
+use Rattle.c_types.proofs.sizes.size_of.Given as goal
+
+abbrev pub invariant-loop-part : goal.invariant-loop-part
+invariant-loop-part l =
+    IsPart (known l.tags.completed) (plain l.initial.part) (plain l.part) l.count × (size-CType l.part ≤ size-CType l.initial.part)
