@@ -14,6 +14,7 @@ ghost use Rattle.adjusters.specs.ObjectSlots.{object_slots};
 ghost use Rattle.byte_marks.specs.Marks.{AreBytes, ChangesOnly, Filled, HasMarks, IsSlotAt, IsSlotMarked, mark_in};
 
 use adjusters::Adjuster;
+use byte_memory::reach;
 use hs_base::NoMemory;
 use std::alloc::Global;
 use std::marker::Model;
@@ -105,18 +106,25 @@ fn all_bytes(marks: &[u8], at: usize, n: u32) -> bool
     }
 }
 
-/// A mark for each byte of memory, by its address.
+/// A mark for each byte of memory, by its address. The memory of all of them is taken at once, and touched as far as objects
+/// were marked.
 #[derive(Debug, Drop)]
 pub struct Marks {
+    /// The marks up to some place behind the last one that was set. Those from there on are of no object.
     list: Vec<u8>,
+    size: u32,
 }
 
 impl Model for Marks {
-    ghost use Rattle.std.specs.Prelude.{List, ℕ};
+    ghost use Rattle.std.specs.Prelude.{◌≤◌, List, ℕ, length, vec_capacity};
+    ghost use Rattle.byte_memory.specs.Filled.{filled_up};
+    ghost use Rattle.byte_marks.specs.declared.TheConstants.{NOTHING};
 
     ghost Value = { List ℕ };
 
-    ghost view = { λ m. m.list.items };
+    ghost view = { λ m. filled_up m.list.items m.size NOTHING };
+
+    ghost invariant = { λ m. (length m.list.items ≤ m.size) × (m.size ≤ vec_capacity m.list) };
 }
 
 impl Marks {
@@ -125,7 +133,8 @@ impl Marks {
         ensures { IfOk result (λ marks. marks ≡ replicate n NOTHING) }
     {
         Ok(Marks {
-            list: vec![in alloc; NOTHING; n as usize]?,
+            list: Vec::with_capacity(alloc, n as usize)?,
+            size: n,
         })
     }
 
@@ -136,7 +145,9 @@ impl Marks {
         ensures marked { HasMarks self.new start size (object_slots form.now size) }
         ensures outside { ChangesOnly self.old self.new start (size + 1) }
     {
-        mark_object(self.list.as_mut_slice(), start as usize, size, form);
+        let at = start as usize;
+        reach(&mut self.list, at + size as usize + 1, self.size, NOTHING);
+        mark_object(self.list.as_mut_slice(), at, size, form);
     }
 
     /// Says whether 1, 2, 4 or 8 bytes from an address on are all bytes of objects outside of slots.
