@@ -1,6 +1,6 @@
 -- Words in a list of bytes: what is read, what is written, and what is read after a write.
 use Rattle.std.proofs.Common.{◌≡◌, ◌≤◌, ◌<◌, ◌+◌, ◌-◌, ◌*◌, ◌/◌, ◌%◌, ◌^◌, ℕ, zero, suc, List, ◌∷◌, ◌++◌, length, length-append, get_or, take, drop, set, refl, sym, ap, ◌∙◌, subst, append_assoc, arith, length-take, length-drop, drop-cons, add-one}
-use Rattle.std.proofs.Math.Nat.{div-lt_iff_lt-mul, pow-suc, div-div-eq-div-mul}
+use Rattle.std.proofs.Math.Nat.{div-lt_iff_lt-mul, pow-suc}
 use Rattle.std.proofs.lemmas.List.{set_split, drop-drop, drop_at, take_at, drop-append-le, take-append-le, take-append-drop}
 use borrow.Rule.Slice.PartMut.{put_mid}
 use Rattle.hs_base.specs.Access.{little_endian, bytes_of}

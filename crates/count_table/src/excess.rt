@@ -56,6 +56,7 @@ impl Excess {
     }
 
     /// One more for a granule. Where it had no excess, its pair comes into use, and those behind it move up by one place.
+    #[inline(never)]
     pub fn raise(&mut self, granule: u32)
         requires fits { excess_at self.old.list granule + 1 < 2 ^ 32 }
         requires room { length (with_excess self.old.list granule (excess_at self.old.list granule + 1)) ≤ self.old.room }
@@ -74,6 +75,7 @@ impl Excess {
 
     /// One less for a granule, and whether it had any excess; if not, nothing changes. Where none is left, its pair falls
     /// out of use, and those behind it move down by one place.
+    #[inline(never)]
     pub fn lower(&mut self, granule: u32) -> bool
         ensures had { IsTrue result ↔ (0 < excess_at self.old.list granule) }
         ensures lowered { OnTrue result (self.new.list ≡ with_excess self.old.list granule (excess_at self.old.list granule - 1)) }

@@ -58,6 +58,7 @@ impl Counts {
     }
 
     /// One more for a granule. One step.
+    #[inline(always)]
     pub fn inc<L: Ledger>(&mut self, granule: u32, steps: &mut Steps<L>)
         requires granule { granule < length self.old.counts }
         requires room { sum self.old.counts < self.old.most }
@@ -76,6 +77,7 @@ impl Counts {
     }
 
     /// One less for a granule. One step.
+    #[inline(always)]
     pub fn dec<L: Ledger>(&mut self, granule: u32, steps: &mut Steps<L>)
         requires granule { granule < length self.old.counts }
         requires some { 0 < slice_index self.old.counts granule }

@@ -7,12 +7,13 @@ ghost use Rattle.c_decls.specs.Refusals.{Meets};
 ghost use Rattle.elaboration.specs.Externals.{last_answer, body_ended, body, defined};
 ghost use Rattle.elab_base.specs.Idle.{idled};
 
+use crate::around::Around;
+use crate::statements::items;
 use c_decls::{TypeError, TypeKind, is_function, refused};
 use c_tree::Stmt;
 use c_types::CType;
 use core_tree::{Atom, StmKind};
 use elab_base::Elaborator;
-use elab_statements::{Around, items};
 use hs_base::Line;
 
 /// What is returned where the end of a body is reached: zero or null, or nothing.

@@ -18,6 +18,7 @@ pub mod OneByte
 pub mod Inputs
 pub mod Cuts
 pub mod Reached
+pub mod Sorted
 pub mod Goods
 pub mod Stepped
 pub mod Loops
@@ -43,4 +44,5 @@ pub mod Lasting
 pub mod Advancing
 pub mod Grouped
 pub mod Gathered
+pub mod Working
 pub mod Onward

@@ -19,6 +19,7 @@ use meaning_state::{compared, on_one};
 
 /// The result of an operation on two integers (C99 6.5.5 to 6.5.7, 6.5.10 to 6.5.12). It traps at a zero divisor, and at a
 /// count that is below 0 or not below the width.
+#[inline(always)]
 pub(crate) fn on_two(op: BinOp, kind: IntKind, a: i128, b: i128) -> Result<i128, TrapKind>
     ensures { Operates result (on_two op kind a b) }
 {
@@ -37,6 +38,7 @@ pub(crate) fn on_two(op: BinOp, kind: IntKind, a: i128, b: i128) -> Result<i128,
 }
 
 /// 1 or 0.
+#[inline(always)]
 pub(crate) fn truth(holds: bool) -> Word
     ensures { result ≡ truth_word holds }
 {
@@ -44,6 +46,7 @@ pub(crate) fn truth(holds: bool) -> Word
 }
 
 /// Says whether an integer is 0.
+#[inline(always)]
 pub(crate) fn is_zero(n: i128) -> bool
     ensures { result ≡ is_zero n }
 {
@@ -51,6 +54,7 @@ pub(crate) fn is_zero(n: i128) -> bool
 }
 
 /// Says whether an address is not that of null.
+#[inline(always)]
 pub(crate) fn is_some(addr: u32) -> bool
     ensures { result ≡ not (nat_eq addr 0) }
 {

@@ -17,9 +17,9 @@ ghost use Rattle.flat_machine.specs.Image.{StopsIn};
 
 use crate::state::State;
 use crate::words::{address_in, integer_in};
+use byte_memory::Steps;
 use flat_code::{Code, Entry, Instr, Op};
 use flat_objects::Word;
-use byte_memory::Steps;
 use hs_base::{End, IntKind, Line};
 use std::sync::ledger::Ledger;
 

@@ -20,8 +20,8 @@ ghost use Rattle.flat_machine.specs.Image.{StopsIn};
 ghost use Rattle.flat_machine.specs.Leading.{Alone, Checks};
 
 use crate::state::State;
-use flat_code::{Instr, Op};
 use byte_memory::Steps;
+use flat_code::{Instr, Op};
 use hs_base::{BadFree, End, Holder, Line};
 use std::sync::ledger::Ledger;
 

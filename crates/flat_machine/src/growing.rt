@@ -20,9 +20,9 @@ ghost use Rattle.flat_machine.specs.Leading.{Alone};
 
 use crate::making::size_in;
 use crate::state::State;
+use byte_memory::Steps;
 use flat_code::Instr;
 use flat_objects::Word;
-use byte_memory::Steps;
 use hs_base::{BadFree, End, Line};
 use std::sync::ledger::Ledger;
 

@@ -21,8 +21,8 @@ ghost use Rattle.code_meaning.specs.Checking.{holders};
 use crate::calls::Calls;
 use crate::state::State;
 use crate::words::address_in;
-use flat_objects::{FlatObjects, Holding};
 use byte_memory::Steps;
+use flat_objects::{FlatObjects, Holding};
 use hs_base::{Holder, Pointer};
 use std::sync::ledger::Ledger;
 

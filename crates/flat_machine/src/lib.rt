@@ -14,7 +14,7 @@
 //! memory of the host, and none searches but one that makes an object, for its place in the heap.
 #![tactic(auto)]
 
-mod accesses;
+mod accessing;
 mod arithmetic;
 mod call;
 mod calling;
@@ -32,6 +32,8 @@ mod locals;
 mod machine;
 mod making;
 mod memory;
+mod memory_operations;
+mod operands;
 mod operating;
 mod operation;
 mod output;
@@ -46,6 +48,7 @@ mod state;
 mod statics;
 mod steps;
 mod strings;
+mod value_operations;
 mod words;
 
 pub use machine::Machine;

@@ -7,8 +7,8 @@ ghost use Rattle.flat_machine.specs.Locals.{HasMade, MayMakeLocals, StandsForSom
 ghost use Rattle.flat_machine.specs.Standing.{Stands};
 
 use crate::state::State;
-use flat_code::{Code, Entry};
 use byte_memory::Steps;
+use flat_code::{Code, Entry};
 use std::sync::ledger::Ledger;
 
 /// The size of a layout.

@@ -119,7 +119,6 @@ impl Machine {
         requires { KeepsSome self.now.kept.memory }
         ensures { (places : ℕ → ℕ) (objects : List Object) → Keeps self.now.kept.memory places objects → result ≡ leak_after after objects }
     {
-        self.state
-            .leak::<Brand>(after, &self.right, Blank::new(1))
+        self.state.leak::<Brand>(after, &self.right, Blank::new(1))
     }
 }

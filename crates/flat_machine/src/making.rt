@@ -14,9 +14,9 @@ ghost use Rattle.flat_machine.specs.Groups.{IsMaking};
 ghost use Rattle.flat_machine.specs.Leading.{Alone};
 
 use crate::state::State;
+use byte_memory::Steps;
 use flat_code::{Instr, Op};
 use flat_objects::Word;
-use byte_memory::Steps;
 use hs_base::Line;
 use std::sync::ledger::Ledger;
 

@@ -13,9 +13,9 @@ ghost use Rattle.flat_machine.specs.Groups.{IsMemory};
 ghost use Rattle.flat_machine.specs.Leading.{Alone};
 
 use crate::state::State;
+use byte_memory::Steps;
 use flat_code::{Instr, Op};
 use flat_objects::Word;
-use byte_memory::Steps;
 use hs_base::{End, Line};
 use std::sync::ledger::Ledger;
 

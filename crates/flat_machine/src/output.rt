@@ -14,9 +14,9 @@ ghost use Rattle.code_soundness.specs.Objects.{IsByte};
 
 use crate::calling::byte_in;
 use crate::state::State;
+use byte_memory::Steps;
 use core_tree::LibName;
 use flat_objects::Word;
-use byte_memory::Steps;
 use hs_base::{End, Line, Sink, Source, TrapKind, put_all};
 use std::sync::ledger::Ledger;
 

@@ -9,8 +9,8 @@ ghost use Rattle.flat_machine.specs.Pinning.{DoesCount, IsCountable, IsCounted, 
 
 use crate::calls::Calls;
 use crate::words::address_in;
-use flat_objects::FlatObjects;
 use byte_memory::Steps;
+use flat_objects::FlatObjects;
 use hs_base::{Items, Pointer};
 use std::sync::ledger::Ledger;
 

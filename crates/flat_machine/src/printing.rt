@@ -21,9 +21,9 @@ ghost use Rattle.flat_machine.specs.Writing.{padded, padded_at, text_at, HasStri
 
 use crate::put_error::PutError;
 use crate::state::State;
+use byte_memory::Steps;
 use c_print::{Piece, put_number, put_repeated};
 use flat_objects::Word;
-use byte_memory::Steps;
 use hs_base::{End, Failed, IntKind, Line, Sink, put_all};
 use std::sync::ledger::Ledger;
 

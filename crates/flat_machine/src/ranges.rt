@@ -22,10 +22,10 @@ ghost use Rattle.flat_machine.specs.Leading.{Alone, Counted, Moves, Seen};
 use crate::calling::byte_in;
 use crate::making::size_in;
 use crate::state::State;
+use byte_memory::Steps;
 use core_tree::LibName;
 use flat_code::Op;
 use flat_objects::Word;
-use byte_memory::Steps;
 use hs_base::{End, Line, Sink, Source};
 use std::sync::ledger::Ledger;
 

@@ -14,9 +14,9 @@ ghost use Rattle.flat_objects.specs.Leaks.{KeepsSome};
 use crate::loaded::Loaded;
 use crate::state::State;
 use crate::steps::one_step;
+use byte_memory::{CountRight, Steps};
 use code_soundness::{run_begins_well, step_leaves_less, step_stays_good};
 use flat_code::Code;
-use byte_memory::{CountRight, Steps};
 use hs_base::{End, Sink, Source};
 use std::sync::ledger::{Blank, Ledger};
 

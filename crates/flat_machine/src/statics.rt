@@ -10,10 +10,10 @@ ghost use Rattle.flat_objects.specs.Counting.{Tracks};
 ghost use Rattle.code_meaning.specs.Entering.{layout_in};
 ghost use Rattle.flat_machine.specs.Loading.{HasPlaced, HasRoom, HasStarted, blocks_length, no_frees};
 
+use byte_memory::{CountRight, Steps};
 use c_types::Layout;
 use flat_code::{Code, StaticInit};
 use flat_objects::FlatObjects;
-use byte_memory::{CountRight, Steps};
 use hs_base::{Limits, NoMemory};
 use std::alloc::Global;
 use std::marker::Brand;

@@ -24,11 +24,11 @@ ghost use Rattle.flat_machine.specs.Image.{StopsIn};
 use crate::calling::chosen;
 use crate::loaded::Loaded;
 use crate::state::State;
+use byte_memory::Steps;
 use c_print::Piece;
 use code_soundness::running_pins_are_fresh;
 use flat_code::{Code, Instr, Op};
 use flat_objects::Word;
-use byte_memory::Steps;
 use hs_base::{End, Items, Line, Sink, Source};
 use std::sync::ledger::Ledger;
 

@@ -17,9 +17,9 @@ ghost use Rattle.flat_machine.specs.Writing.{line_at, HasString, IsString};
 
 use crate::put_error::PutError;
 use crate::state::State;
+use byte_memory::Steps;
 use core_tree::LibName;
 use flat_objects::Word;
-use byte_memory::Steps;
 use hs_base::{End, Failed, Line, Sink, put_all};
 use std::sync::ledger::Ledger;
 

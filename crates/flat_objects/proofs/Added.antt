@@ -19,6 +19,8 @@ use Rattle.heap_blocks.specs.declared.headers.Header.{Header}
 use Rattle.heap_blocks.specs.Bytes.{ChangesOnly}
 use Rattle.heap_blocks.specs.Heads.{header_at}
 use Rattle.heap_blocks.specs.Held.{HeapModel, HasBounds, Holds, IsBlock, AreApart}
+use Rattle.byte_marks.specs.Marks as byte_marks
+use Rattle.byte_marks.specs.Marks.{HasMarks}
 use Rattle.object_meaning.specs.Making.{blank}
 use Rattle.flat_objects.specs.Memory.{Memory, Range, Statics, Locals, Heap, IsMemory, heap_of, is_of, range_of}
 use Rattle.flat_objects.specs.Standing.{IsThere, IsAddressOf}
@@ -36,8 +38,8 @@ use Rattle.flat_objects.proofs.Reached.{are_slots}
 
 stands_kept : (memory after : Memory) (places new_places : ℕ → ℕ) (objects new_objects : List Object) (birth addr : ℕ) (o : Object) (start long : ℕ) → StandsAt memory places objects birth addr o → ChangesOnly memory.bytes after.bytes start long → IsOutside (addr - 32) (o.size + 32) start long
     → after.forms ≡ memory.forms → (heap_of after (range_of o.sort)).base ≡ (heap_of memory (range_of o.sort)).base → addr + o.size ≤ length memory.bytes → Ascend 0 o.size o.slots
-    → ((p : Pointer) (a : ℕ) → IsAddressOf places objects p a → IsAddressOf new_places new_objects p a) → StandsAt after new_places new_objects birth addr o
-stands_kept memory after places new_places objects new_objects birth addr o start long old changes out forms base inside slots addresses =
+    → ((p : Pointer) (a : ℕ) → IsAddressOf places objects p a → IsAddressOf new_places new_objects p a) → HasMarks after.marks addr o.size o.slots → StandsAt after new_places new_objects birth addr o
+stands_kept memory after places new_places objects new_objects birth addr o start long old changes out forms base inside slots addresses marks =
     let header = header_kept memory.bytes after.bytes start long (addr - 32) changes (part_outside (addr - 32) (o.size + 32) start long (addr - 32) 32 out (omega arith) (omega arith)) in
     let here = λ (at n : ℕ) (low : addr ≤ at) (high : at + n ≤ addr + o.size). part_outside (addr - 32) (o.size + 32) start long at n out (omega arith) (omega (arith, old.room)) in
     record {
@@ -53,7 +55,15 @@ stands_kept memory after places new_places objects new_objects birth addr o star
           let same = word_kept memory.bytes after.bytes start long (addr + slot) 4 changes (here (addr + slot) 4 (omega arith) (omega arith)) in
           subst (IsAddressOf new_places new_objects (slice_index_or o.pointers k pointer.Null)) (sym same)
           (addresses (slice_index_or o.pointers k pointer.Null) (word memory.bytes (addr + slot) 4) (old.pointers k less));
+      marks = marks;
     }
+
+-- the marks of an object stay where another one is marked outside its block
+marks_kept : (before after : List ℕ) (place size : ℕ) (slots : List ℕ) (addr new_size : ℕ) → HasMarks before place size slots → byte_marks.ChangesOnly before after addr (new_size + 1) → 32 ≤ place → 32 ≤ addr → IsOutside (place - 32) (size + 32) (addr - 32) (block_size new_size) → HasMarks after place size slots
+marks_kept before after place size slots addr new_size old changes low new_low (inl h) =
+    record { bytes = λ k less. changes.below (place + k) (omega arith) ∙ old.bytes k less; behind = changes.below (place + size) (omega arith) ∙ old.behind }
+marks_kept before after place size slots addr new_size old changes low new_low (inr h) =
+    record { bytes = λ k less. changes.above (place + k) (omega arith) ∙ old.bytes k less; behind = changes.above (place + size) (omega arith) ∙ old.behind }
 
 -- One place more
 
@@ -143,6 +153,8 @@ pub record IsPlacement (memory next : Memory) (places : ℕ → ℕ) (objects : 
   pub header : IsHeaderOf (header_at next.bytes (addr - 32)) (length objects) new
   pub slots : HasSlots memory.forms (header_at next.bytes (addr - 32)).layout new
   pub zero : part next.bytes addr new.size ≡ replicate new.size 0
+  pub marks : byte_marks.ChangesOnly memory.marks next.marks addr (new.size + 1)
+  pub marked : HasMarks next.marks addr new.size new.slots
 
 pub contains_left : {X : Type 0} (xs ys : List X) (x : X) → Contains xs x → Contains (xs ++ ys) x
 contains_left xs ys x at = (at.0, omega (arith, at.1, length-append xs ys), get_or_append_left xs ys x at.0 at.1 ∙ at.2)
@@ -273,6 +285,7 @@ module _ (locals heap : ℕ) (memory next : Memory) (shape : IsMemory locals hea
       let old = keeps.standing birth there in
       stands_kept memory next places new_places objects (objects ++ new ∷ []) birth (places birth) o (addr - 32) (block_size new.size) old placed.changes (old_outside birth there) placed.forms (same_base (range_of o.sort))
       (omega (arith, own_inside memory places objects keeps birth there locals heap shape)) (are_slots locals heap memory (header_at memory.bytes (places birth - 32)).layout o shape old.slots) addresses
+      (marks_kept memory.marks next.marks (places birth) o.size o.slots addr new.size old.marks placed.marks (omega (arith, old.room)) (omega (arith, placed.address)) (old_outside birth there))
 
   new_inside : addr + new.size ≤ length next.bytes
   new_inside =
@@ -296,6 +309,7 @@ module _ (locals heap : ℕ) (memory next : Memory) (shape : IsMemory locals hea
             let ends = slot_ends 0 new.size new.slots slot slots (k, less, get_or_default new.slots k slot 0 less) in
             let zero_is = word_zero next.bytes (addr + slot) 4 (omega arith) (λ i small. let e : addr + slot + i ≡ addr + (slot + i) = omega arith in ap (λ m. get_or next.bytes m 0) e ∙ byte_zero next.bytes addr new.size (slot + i) placed.zero (omega arith)) in
             subst (λ (p : Pointer). IsAddressOf new_places (objects ++ new ∷ []) p (word next.bytes (addr + slot) 4)) (sym (blank.pointers k less)) zero_is;
+        marks = placed.marked;
       }
 
   pub added : IsAdded next places objects new addr

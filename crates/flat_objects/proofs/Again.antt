@@ -9,6 +9,7 @@ use Rattle.hs_base.specs.Object.{Object, Standing}
 use Rattle.byte_memory.proofs.Words.{word_1}
 use Rattle.adjusters.specs.ObjectSlots.{Element}
 use Rattle.heap_blocks.specs.Heads.{header_at}
+use Rattle.byte_marks.specs.Marks.{HasMarks}
 use Rattle.flat_objects.specs.Memory.{Memory, heap_of, range_of}
 use Rattle.flat_objects.specs.Standing.{IsAddressOf}
 use Rattle.flat_objects.specs.Keeping.{StandsAt, IsHeaderOf, HasSlots}
@@ -42,10 +43,10 @@ header_from before after block same =
 
 -- The object
 
-pub stands_again : (memory next : Memory) (places : ℕ → ℕ) (objects after : List Object) (birth : ℕ) (o : Object) (s : Standing) → StandsAt memory places objects birth (places birth) o → (heap_of next (range_of o.sort)).base ≡ (heap_of memory (range_of o.sort)).base → next.forms ≡ memory.forms → length next.bytes ≡ length memory.bytes
+pub stands_again : (memory next : Memory) (places : ℕ → ℕ) (objects after : List Object) (birth : ℕ) (o : Object) (s : Standing) → StandsAt memory places objects birth (places birth) o → (heap_of next (range_of o.sort)).base ≡ (heap_of memory (range_of o.sort)).base → next.forms ≡ memory.forms → next.marks ≡ memory.marks → length next.bytes ≡ length memory.bytes
     → IsHeaderOf (header_at next.bytes (places birth - 32)) birth (record o { standing = s }) → (header_at next.bytes (places birth - 32)).layout ≡ (header_at memory.bytes (places birth - 32)).layout → places birth + o.size ≤ length memory.bytes → SameWithin next.bytes memory.bytes (places birth) o.size → Ascend 0 o.size o.slots
     → ((k a : ℕ) → k < length o.slots → IsAddressOf places objects (slice_index_or o.pointers k pointer.Null) a → IsAddressOf places after (slice_index_or o.pointers k pointer.Null) a) → StandsAt next places after birth (places birth) (record o { standing = s })
-stands_again memory next places objects after birth o s old base forms long header layout inside same slots addresses = record {
+stands_again memory next places objects after birth o s old base forms marks long header layout inside same slots addresses = record {
   room = omega (arith, old.room);
   header = header;
   slots = subst (λ (n : ℕ). HasSlots next.forms n o) (sym layout) (subst (λ (f : List Element). HasSlots f (header_at memory.bytes (places birth - 32)).layout o) (sym forms) old.slots);
@@ -59,4 +60,5 @@ stands_again memory next places objects after birth o s old base forms long head
       let here = word_from next.bytes memory.bytes (places birth + slot) 4 (same (places birth + slot) 4 (omega arith) (omega arith)) in
       subst (IsAddressOf places after (slice_index_or o.pointers k pointer.Null)) (sym here)
       (addresses k (word memory.bytes (places birth + slot) 4) less (old.pointers k less));
+  marks = subst (λ (l : List ℕ). HasMarks l (places birth) o.size o.slots) (sym marks) old.marks;
 }

@@ -17,6 +17,7 @@ use Rattle.heap_blocks.specs.declared.headers.Header.{Header}
 use Rattle.heap_blocks.specs.Bytes.{ChangesOnly}
 use Rattle.heap_blocks.specs.Heads.{header_at}
 use Rattle.heap_blocks.specs.Held.{HeapModel, Holds}
+use Rattle.byte_marks.specs.Marks.{HasMarks}
 use Rattle.flat_objects.specs.Memory.{Memory, Range, Statics, Locals, Heap, IsMemory, heap_of, is_of, range_of}
 use Rattle.flat_objects.specs.Standing.{IsThere, IsAddressOf}
 use Rattle.flat_objects.specs.Keeping.{Keeps, StandsAt, IsHeaderOf, HasSlots, IsLineOf, IsStateOf, block_of, blocks_of, stands_in}
@@ -197,6 +198,7 @@ module _ (locals heap : ℕ) (memory : Memory) (shape : IsMemory locals heap mem
         bytes = stands_new.same;
         many = stands_new.many;
         pointers = stands_new.pointers;
+        marks = subst (λ (n : ℕ). HasMarks memory.marks (places birth) n new.slots) (sym like.size) (subst (HasMarks memory.marks (places birth) (object_at objects birth).size) (sym like.slots) old.marks);
       }
 
   -- each other object
@@ -224,6 +226,7 @@ module _ (locals heap : ℕ) (memory : Memory) (shape : IsMemory locals heap mem
             let same = word_kept memory.bytes bytes start size (places other + slice_index o.slots k) 4 changes (out (places other + slice_index o.slots k) 4 (omega arith) (omega arith)) in
             subst (IsAddressOf places (with_object objects birth new) (slice_index_or o.pointers k pointer.Null)) (sym same)
             (addresses (slice_index_or o.pointers k pointer.Null) (word memory.bytes (places other + slice_index o.slots k) 4) (old.pointers k less));
+        marks = old.marks;
       }
 
   pub changed : IsChanged (with_bytes memory bytes) places objects (with_object objects birth new)

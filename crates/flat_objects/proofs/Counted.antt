@@ -321,6 +321,7 @@ keeps_any memory counts scopes places objects keeps = record {
         bytes = old.bytes;
         many = old.many;
         pointers = old.pointers;
+        marks = old.marks;
       };
 }
 
@@ -488,4 +489,6 @@ memory_counted locals heap memory counts shape long most = record {
   granules = omega (arith, shape.granules);
   room = omega (arith, shape.room);
   forms = shape.forms;
+  marked = shape.marked;
+  null = shape.null;
 }

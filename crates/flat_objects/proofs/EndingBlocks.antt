@@ -95,6 +95,7 @@ module _ (memory : Memory) (places : ℕ → ℕ) (objects : List Object) (birth
           bytes = old.bytes;
           many = old.many;
           pointers = λ k less. stands_ended places objects births _ _ (old.pointers k less) (own_leads b k there less);
+          marks = old.marks;
         });
   }
 
@@ -258,7 +259,7 @@ module _ (locals heap : ℕ) (memory : Memory) (shape : IsMemory locals heap mem
         let room = old.room in
         let head : IsOutside (places c - 32) 32 (memory.locals.base + own.place) own.length = (elim (c_outside c there) [ inl h ↦ inl (omega arith) | inr h ↦ inr (omega arith) ]) in
         let header : header_at bytes (places c - 32) ≡ header_at memory.bytes (places c - 32) = header_kept memory.bytes bytes (memory.locals.base + own.place) own.length (places c - 32) changes head in
-        stands_again memory given_memory places (ended objects births) (ended objects births) c o o.standing old (same_base (range_of o.sort)) refl changes.long
+        stands_again memory given_memory places (ended objects births) (ended objects births) c o o.standing old (same_base (range_of o.sort)) refl refl changes.long
         (subst (λ (h : Header). IsHeaderOf h c o) (sym header) old.header) (ap (λ (h : Header). h.layout) header)
         (let inside = c_inside c there in omega arith) (λ at n low high. stays_same c there at n (omega arith) (omega arith)) (are_slots locals heap memory _ o shape old.slots) (λ j a below is. is)
 

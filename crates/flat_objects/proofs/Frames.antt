@@ -1,6 +1,6 @@
 -- What no call changes: the bounds of the ranges, and the elements.
 use Rattle.std.proofs.Common.{◌≡◌, ◌∙◌, ◌+◌, ◌/◌, ◌%◌, ◌≤◌, ℕ, List, length, refl, sym, ap, subst, arith}
-use Rattle.std.specs.Prelude.{All}
+use Rattle.std.specs.Prelude.{All, slice_index}
 use Rattle.byte_memory.specs.Bytes.{word}
 use Rattle.byte_memory.proofs.Words.{length-put_word}
 use Rattle.heap_blocks.specs.Held.{HeapModel, HasBounds}
@@ -16,17 +16,17 @@ pub frame_bytes : (m n : Memory) (bytes : List ℕ) → m ≡ n → length bytes
 frame_bytes m n bytes e long =
     subst (λ (x : Memory). SameFrame x (with_bytes m bytes)) e (record { statics = (refl, refl); locals = (refl, refl); heap = (refl, refl); long = long; most = refl; forms = refl })
 
-pub frame_heap : (m n : Memory) (bytes : List ℕ) (after : HeapModel) → m ≡ n → HasBounds m.heap.base m.heap.len after → length bytes ≡ length m.bytes → SameFrame n (record m { heap = after; bytes = bytes })
-frame_heap m n bytes after e bounds long =
-    subst (λ (x : Memory). SameFrame x (record m { heap = after; bytes = bytes })) e (record { statics = (refl, refl); locals = (refl, refl); heap = bounds; long = long; most = refl; forms = refl })
+pub frame_heap : (m n : Memory) (bytes marks : List ℕ) (after : HeapModel) → m ≡ n → HasBounds m.heap.base m.heap.len after → length bytes ≡ length m.bytes → SameFrame n (record m { heap = after; bytes = bytes; marks = marks })
+frame_heap m n bytes marks after e bounds long =
+    subst (λ (x : Memory). SameFrame x (record m { heap = after; bytes = bytes; marks = marks })) e (record { statics = (refl, refl); locals = (refl, refl); heap = bounds; long = long; most = refl; forms = refl })
 
-pub frame_statics : (m n : Memory) (bytes : List ℕ) (after : HeapModel) → m ≡ n → HasBounds m.statics.base m.statics.len after → length bytes ≡ length m.bytes → SameFrame n (record m { statics = after; bytes = bytes })
-frame_statics m n bytes after e bounds long =
-    subst (λ (x : Memory). SameFrame x (record m { statics = after; bytes = bytes })) e (record { statics = bounds; locals = (refl, refl); heap = (refl, refl); long = long; most = refl; forms = refl })
+pub frame_statics : (m n : Memory) (bytes marks : List ℕ) (after : HeapModel) → m ≡ n → HasBounds m.statics.base m.statics.len after → length bytes ≡ length m.bytes → SameFrame n (record m { statics = after; bytes = bytes; marks = marks })
+frame_statics m n bytes marks after e bounds long =
+    subst (λ (x : Memory). SameFrame x (record m { statics = after; bytes = bytes; marks = marks })) e (record { statics = bounds; locals = (refl, refl); heap = (refl, refl); long = long; most = refl; forms = refl })
 
-pub frame_locals : (m n : Memory) (bytes : List ℕ) (after : HeapModel) → m ≡ n → HasBounds m.locals.base m.locals.len after → length bytes ≡ length m.bytes → SameFrame n (record m { locals = after; bytes = bytes })
-frame_locals m n bytes after e bounds long =
-    subst (λ (x : Memory). SameFrame x (record m { locals = after; bytes = bytes })) e (record { statics = (refl, refl); locals = bounds; heap = (refl, refl); long = long; most = refl; forms = refl })
+pub frame_locals : (m n : Memory) (bytes marks : List ℕ) (after : HeapModel) → m ≡ n → HasBounds m.locals.base m.locals.len after → length bytes ≡ length m.bytes → SameFrame n (record m { locals = after; bytes = bytes; marks = marks })
+frame_locals m n bytes marks after e bounds long =
+    subst (λ (x : Memory). SameFrame x (record m { locals = after; bytes = bytes; marks = marks })) e (record { statics = (refl, refl); locals = bounds; heap = (refl, refl); long = long; most = refl; forms = refl })
 
 pub frame_again : (a b c : Memory) → SameFrame a b → SameFrame b c → SameFrame a c
 frame_again a b c one other = record {
@@ -49,9 +49,17 @@ frame_put m addr target inside = record {
   forms = refl;
 }
 
--- what has the same frame and as many counts is a memory of the same ranges
-pub still_memory : (locals heap : ℕ) (before after : Memory) → IsMemory locals heap before → SameFrame before after → length after.counts.counts ≡ length before.counts.counts → IsMemory locals heap after
-still_memory locals heap before after shape frame counts = record {
+-- there are as many marks, and that of null is the same
+pub record SameMarks (before after : List ℕ) : Type 0 where
+  pub long : length after ≡ length before
+  pub null : slice_index after 0 ≡ slice_index before 0
+
+pub marks_same : (marks : List ℕ) → SameMarks marks marks
+marks_same marks = record { long = refl; null = refl }
+
+-- what has the same frame, as many counts and as many marks is a memory of the same ranges
+pub still_memory : (locals heap : ℕ) (before after : Memory) → IsMemory locals heap before → SameFrame before after → length after.counts.counts ≡ length before.counts.counts → SameMarks before.marks after.marks → IsMemory locals heap after
+still_memory locals heap before after shape frame counts marks = record {
   locals_from = frame.locals.0 ∙ shape.locals_from;
   heap_from = frame.heap.0 ∙ shape.heap_from;
   statics_end = omega (arith, shape.statics_end, frame.statics.0, frame.statics.1);
@@ -62,6 +70,8 @@ still_memory locals heap before after shape frame counts = record {
   granules = omega (arith, shape.granules, frame.long);
   room = subst (λ n. n / 4 ≤ after.counts.most) (sym frame.long) (subst (λ m. length before.bytes / 4 ≤ m) (sym frame.most) shape.room);
   forms = subst (All IsForm) (sym frame.forms) shape.forms;
+  marked = omega (arith, shape.marked, frame.long, marks.long);
+  null = marks.null ∙ shape.null;
 } where
   base : (range : Range) → (heap_of after range).base ≡ (heap_of before range).base
   base Statics = frame.statics.0

@@ -5,6 +5,7 @@ mod Ascending
 mod Touching
 mod Trying
 mod Reached
+mod Plain
 mod Wording
 mod Loaded
 mod Apart
@@ -20,6 +21,7 @@ mod Made
 mod Started
 mod Pointed
 mod Frames
+mod Markings
 mod HeldBlocks
 mod Again
 mod Queueing

@@ -1,6 +1,6 @@
 -- New objects of the heap, statics, and a memory without objects.
-use Rattle.std.proofs.Common.{◌≡◌, ◌+◌, ◌/◌, ◌%◌, ◌<◌, ◌^◌, ℕ, List, [], length, get_or, replicate, Option, Some, None, refl, sym, ap, ◌∙◌, subst, arith}
-use Rattle.std.specs.Prelude.{slice_get, option_map, map, IfSome, IsTrue, All}
+use Rattle.std.proofs.Common.{◌≡◌, ◌+◌, ◌/◌, ◌%◌, ◌<◌, ◌^◌, ℕ, zero, suc, List, [], length, get_or, replicate, Option, Some, None, refl, sym, ap, ◌∙◌, subst, arith}
+use Rattle.std.specs.Prelude.{slice_get, slice_index, option_map, map, IfSome, MatchOption, IsTrue, All}
 use Rattle.std.proofs.lemmas.List.{length-replicate, get_or-replicate}
 use Rattle.std.proofs.lemmas.List.Elements.{All-map, All-nil}
 use Rattle.std.proofs.lemmas.Option.{slice_get_within, get_or_from_slice_get}
@@ -13,6 +13,7 @@ use Rattle.c_types.specs.Layouts.{array_layout}
 use Rattle.adjusters.specs.ObjectSlots.{element_of, object_slots}
 use Rattle.heap_blocks.specs.Heads.{new_header}
 use Rattle.heap_blocks.specs.Held.{HeapModel, HasBounds, Holds, IsPlaced, address_of}
+use Rattle.byte_marks.specs.Marks.{ChangesOnly, HasMarks}
 use Rattle.count_table.specs.Table.{Table}
 use Rattle.delay_scopes.specs.Check.{no_scopes}
 use Rattle.delay_scopes.specs.Queue.{HasQueue, IsQueued, ScopesModel}
@@ -23,44 +24,47 @@ use Rattle.flat_objects.specs.Counting.{LeadsSomewhere, Tracks}
 use Rattle.flat_objects.proofs.Added.{blank_is, own_element}
 use Rattle.flat_objects.proofs.Placed.{IsMade, placed_object}
 
-module _ (locals heap : ℕ) (memory : Memory) (shape : IsMemory locals heap memory) (places : ℕ → ℕ) (objects : List Object) (keeps : Keeps memory places objects) (bytes : List ℕ) (after : HeapModel) (element : Layout) (size layout line birth : ℕ) (fit result : Option ℕ)
-    (birth_is : birth ≡ length objects) (got : slice_get memory.forms layout ≡ Some (element_of element)) (placed : IfSome result (λ addr. IsPlaced memory.bytes bytes addr (block_size size) (new_header birth size layout line))) where
-  heap_others : (range : Range) → (Heap ≡ range → ⊥) → heap_of (record memory { heap = after; bytes = bytes }) range ≡ heap_of memory range
+module _ (locals heap : ℕ) (memory : Memory) (shape : IsMemory locals heap memory) (places : ℕ → ℕ) (objects : List Object) (keeps : Keeps memory places objects) (bytes marks : List ℕ) (after : HeapModel) (element : Layout) (size layout line birth : ℕ) (fit result : Option ℕ)
+    (birth_is : birth ≡ length objects) (got : slice_get memory.forms layout ≡ Some (element_of element)) (placed : IfSome result (λ addr. IsPlaced memory.bytes bytes addr (block_size size) (new_header birth size layout line)))
+    (marks_change : MatchOption result (marks ≡ memory.marks) (λ addr. ChangesOnly memory.marks marks addr (size + 1))) (marked : IfSome result (λ addr. HasMarks marks addr size (object_slots (element_of element) size))) where
+  heap_others : (range : Range) → (Heap ≡ range → ⊥) → heap_of (record memory { heap = after; bytes = bytes; marks = marks }) range ≡ heap_of memory range
   heap_others Statics differ = refl
   heap_others Locals differ = refl
   heap_others Heap differ = absurd (differ refl)
 
   pub heap_added : result ≡ option_map (address_of memory.heap) fit → Holds after (with_block (blocks_of memory places objects Heap) birth (block_size size) fit) → HasBounds memory.heap.base memory.heap.len after
-      → IfSome result (IsMade memory (record memory { heap = after; bytes = bytes }) places objects (heap_object line size element))
+      → IfSome result (IsMade memory (record memory { heap = after; bytes = bytes; marks = marks }) places objects (heap_object line size element))
   heap_added result_is holds bounds =
-      placed_object locals heap memory (record memory { heap = after; bytes = bytes }) shape places objects keeps (heap_object line size element) (blank_is (object.Heap line) size (array_layout (size / element.size) element).slots) fit result size layout line birth
-      result_is holds bounds placed refl refl refl heap_others birth_is refl refl refl (element_of element, got, refl)
+      placed_object locals heap memory (record memory { heap = after; bytes = bytes; marks = marks }) shape places objects keeps (heap_object line size element) (blank_is (object.Heap line) size (array_layout (size / element.size) element).slots) fit result size layout line birth
+      result_is holds bounds placed refl refl refl heap_others birth_is refl refl refl (element_of element, got, refl) marks_change marked
 
-  static_others : (range : Range) → (Statics ≡ range → ⊥) → heap_of (record memory { statics = after; bytes = bytes }) range ≡ heap_of memory range
+  static_others : (range : Range) → (Statics ≡ range → ⊥) → heap_of (record memory { statics = after; bytes = bytes; marks = marks }) range ≡ heap_of memory range
   static_others Statics differ = absurd (differ refl)
   static_others Locals differ = refl
   static_others Heap differ = refl
 
   pub static_added : (index : ℕ) → size ≡ element.size → result ≡ option_map (address_of memory.statics) fit → Holds after (with_block (blocks_of memory places objects Statics) birth (block_size size) fit) → HasBounds memory.statics.base memory.statics.len after
-      → IfSome result (IsMade memory (record memory { statics = after; bytes = bytes }) places objects (blank (object.Static index) size element.slots))
+      → IfSome result (IsMade memory (record memory { statics = after; bytes = bytes; marks = marks }) places objects (blank (object.Static index) size element.slots))
   static_added index size_is result_is holds bounds =
       let form : IsForm (element_of element) =
       subst IsForm (get_or_from_slice_get memory.forms layout (element_of element) (element_of element) got) (shape.forms layout (element_of element) (slice_get_within memory.forms layout (element_of element) got)) in
-      placed_object locals heap memory (record memory { statics = after; bytes = bytes }) shape places objects keeps (blank (object.Static index) size element.slots) (blank_is (object.Static index) size element.slots) fit result size layout line birth
-      result_is holds bounds placed refl refl refl static_others birth_is refl refl tt (element_of element, got, sym (own_element element.size element.slots form.slots) ∙ ap (object_slots (element_of element)) (sym size_is))
+      let own : object_slots (element_of element) size ≡ element.slots = ap (object_slots (element_of element)) size_is ∙ own_element element.size element.slots form.slots in
+      placed_object locals heap memory (record memory { statics = after; bytes = bytes; marks = marks }) shape places objects keeps (blank (object.Static index) size element.slots) (blank_is (object.Static index) size element.slots) fit result size layout line birth
+      result_is holds bounds placed refl refl refl static_others birth_is refl refl tt (element_of element, got, sym own) marks_change (subst (λ (slots : List ℕ). IfSome result (λ addr. HasMarks marks addr size slots)) own marked)
 
-  local_others : (range : Range) → (Locals ≡ range → ⊥) → heap_of (record memory { locals = after; bytes = bytes }) range ≡ heap_of memory range
+  local_others : (range : Range) → (Locals ≡ range → ⊥) → heap_of (record memory { locals = after; bytes = bytes; marks = marks }) range ≡ heap_of memory range
   local_others Statics differ = refl
   local_others Locals differ = absurd (differ refl)
   local_others Heap differ = refl
 
   pub local_added : (func index : ℕ) → size ≡ element.size → result ≡ option_map (address_of memory.locals) fit → Holds after (with_block (blocks_of memory places objects Locals) birth (block_size size) fit) → HasBounds memory.locals.base memory.locals.len after
-      → IfSome result (IsMade memory (record memory { locals = after; bytes = bytes }) places objects (blank (object.Local func index) size element.slots))
+      → IfSome result (IsMade memory (record memory { locals = after; bytes = bytes; marks = marks }) places objects (blank (object.Local func index) size element.slots))
   local_added func index size_is result_is holds bounds =
       let form : IsForm (element_of element) =
       subst IsForm (get_or_from_slice_get memory.forms layout (element_of element) (element_of element) got) (shape.forms layout (element_of element) (slice_get_within memory.forms layout (element_of element) got)) in
-      placed_object locals heap memory (record memory { locals = after; bytes = bytes }) shape places objects keeps (blank (object.Local func index) size element.slots) (blank_is (object.Local func index) size element.slots) fit result size layout line birth
-      result_is holds bounds placed refl refl refl local_others birth_is refl refl tt (element_of element, got, sym (own_element element.size element.slots form.slots) ∙ ap (object_slots (element_of element)) (sym size_is))
+      let own : object_slots (element_of element) size ≡ element.slots = ap (object_slots (element_of element)) size_is ∙ own_element element.size element.slots form.slots in
+      placed_object locals heap memory (record memory { locals = after; bytes = bytes; marks = marks }) shape places objects keeps (blank (object.Local func index) size element.slots) (blank_is (object.Local func index) size element.slots) fit result size layout line birth
+      result_is holds bounds placed refl refl refl local_others birth_is refl refl tt (element_of element, got, sym own) marks_change (subst (λ (slots : List ℕ). IfSome result (λ addr. HasMarks marks addr size slots)) own marked)
 
 none_held : (memory : Memory) (places : ℕ → ℕ) → Holds memory.statics [] → Holds memory.locals [] → Holds memory.heap [] → (range : Range) → Holds (heap_of memory range) (blocks_of memory places [] range)
 none_held memory places statics locals heap Statics = statics
@@ -79,8 +83,8 @@ abbrev pub first_counts : ℕ → ℕ → Table
 first_counts end pins = record { counts = replicate (end / 16 + 1) 0; most = end / 4 + pins }
 
 pub new_memory : (statics locals : ℕ) (memory : Memory) (layouts : List Layout) (room pins : ℕ) → HasBounds 0 statics memory.statics → HasBounds statics locals memory.locals → HasBounds (statics + locals) room memory.heap → memory.bytes ≡ replicate (statics + locals + room) 0
-    → memory.counts ≡ first_counts (statics + locals + room) pins → statics % 16 ≡ 0 → locals % 16 ≡ 0 → statics + locals + room < 2 ^ 32 → memory.forms ≡ map element_of layouts → All (λ l. IsForm (element_of l)) layouts → IsMemory statics (statics + locals) memory
-new_memory statics locals memory layouts room pins s l h bytes counts even_statics even_locals fits forms good =
+    → memory.counts ≡ first_counts (statics + locals + room) pins → statics % 16 ≡ 0 → locals % 16 ≡ 0 → statics + locals + room < 2 ^ 32 → memory.forms ≡ map element_of layouts → All (λ l. IsForm (element_of l)) layouts → memory.marks ≡ replicate (statics + locals + room) 0 → IsMemory statics (statics + locals) memory
+new_memory statics locals memory layouts room pins s l h bytes counts even_statics even_locals fits forms good marks =
     let end = statics + locals + room in
     let long : length memory.bytes ≡ end = ap length bytes ∙ length-replicate end 0 in
     let granules : length memory.counts.counts ≡ end / 16 + 1 = ap (λ (t : Table). length t.counts) counts ∙ length-replicate (end / 16 + 1) 0 in
@@ -96,7 +100,13 @@ new_memory statics locals memory layouts room pins s l h bytes counts even_stati
       granules = omega arith;
       room = omega arith;
       forms = subst (All IsForm) (sym forms) (All-map IsForm element_of layouts good);
+      marked = omega (arith, ap length marks, length-replicate {A = ℕ} end 0);
+      null = ap (λ (l : List ℕ). slice_index l 0) marks ∙ first_zero end;
     } where
+      first_zero : (n : ℕ) → slice_index (replicate n 0) 0 ≡ 0
+      first_zero zero = refl
+      first_zero (suc n) = refl
+
       elim_range : memory.statics.base % 16 ≡ 0 → memory.locals.base % 16 ≡ 0 → memory.heap.base % 16 ≡ 0 → (range : Range) → (heap_of memory range).base % 16 ≡ 0
       elim_range one two three Statics = one
       elim_range one two three Locals = two

@@ -4,12 +4,11 @@ use Rattle.std.proofs.lemmas.List.Elements.{All-contains}
 use Rattle.hs_base.specs.declared.values.Pointer.TheVariants as pointer
 use Rattle.hs_base.specs.Object.{Object, object_at}
 use Rattle.hs_base.specs.Place.{Block}
-use Rattle.heap_blocks.specs.declared.headers.Header.{Header}
 use Rattle.heap_blocks.specs.Heads.{header_at}
 use Rattle.heap_blocks.specs.Held.{HeapModel, Holds, IsBlock, address_of, owner_of}
 use Rattle.flat_objects.specs.Memory.{Memory, Range, Statics, Locals, Heap, IsMemory, heap_of, range_of, end_of}
 use Rattle.flat_objects.specs.Standing.{IsThere, IsAt}
-use Rattle.flat_objects.specs.Keeping.{Keeps, KeepsAt, IsKept, blocks_of}
+use Rattle.flat_objects.specs.Keeping.{HasSlots, Keeps, KeepsAt, IsKept, blocks_of}
 use Rattle.flat_objects.specs.Reaching.{IsFound}
 use Rattle.flat_objects.proofs.Blocks.{IsWithin, own_block, block_is_held, owner_is}
 
@@ -81,10 +80,14 @@ owned memory places objects birth offset addr found keeps at answer =
     answer range (blocks_of memory places objects range) (omega (arith, lies.above, at.address)) (omega (arith, lies.below, at.address, at.inside)) (keeps.held range)
     ∙ own_owner memory places objects keeps birth at.there offset addr at
 
-pub found_at : (memory : Memory) (places : ℕ → ℕ) (objects : List Object) (birth offset addr start : ℕ) (header : Header) → KeepsAt memory places objects (pointer.At birth offset) addr → start ≡ places birth → header ≡ header_at memory.bytes (start - 32)
-    → IsFound memory places objects birth offset (record { start = start; offset = addr - start; size = header.size; layout = header.layout })
-found_at memory places objects birth offset addr start header at start_is header_is =
+pub found_at : (memory : Memory) (places : ℕ → ℕ) (objects : List Object) (birth offset addr start size layout : ℕ) → KeepsAt memory places objects (pointer.At birth offset) addr → start ≡ places birth → size ≡ (header_at memory.bytes (start - 32)).size → layout ≡ (header_at memory.bytes (start - 32)).layout
+    → IsFound memory places objects birth offset (record { start = start; offset = addr - start; size = size; layout = layout })
+found_at memory places objects birth offset addr start size layout at start_is size_is layout_is =
     let stands = at.keeps.standing birth at.stands.there in
-    let same : header ≡ header_at memory.bytes (places birth - 32) = header_is ∙ ap (λ n. header_at memory.bytes (n - 32)) start_is in
-    subst (λ (h : Header). IsFound memory places objects birth offset (record { start = start; offset = addr - start; size = h.size; layout = h.layout })) (sym same)
-    (record { start = start_is; distance = omega (arith, at.stands.address); size = stands.header.size; slots = stands.slots })
+    let layout_same : layout ≡ (header_at memory.bytes (places birth - 32)).layout = layout_is ∙ ap (λ n. (header_at memory.bytes (n - 32)).layout) start_is in
+    record {
+      start = start_is;
+      distance = omega (arith, at.stands.address);
+      size = size_is ∙ ap (λ n. (header_at memory.bytes (n - 32)).size) start_is ∙ stands.header.size;
+      slots = subst (λ l. HasSlots memory.forms l (object_at objects birth)) (sym layout_same) stands.slots;
+    }

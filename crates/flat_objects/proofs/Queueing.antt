@@ -346,7 +346,7 @@ module _ (locals heap : ℕ) (memory : Memory) (shape : IsMemory locals heap mem
       let o = object_at objects birth in
       let old = keeps.standing birth there in
       let header : header_at bytes (places birth - 32) ≡ queued_header (header_at memory.bytes (places birth - 32)) line = now.header in
-      stands_again memory next places objects after birth o (object.Queued line) old (ap (λ (h : HeapModel). h.base) (same_next (range_of o.sort))) refl now.long
+      stands_again memory next places objects after birth o (object.Queued line) old (ap (λ (h : HeapModel). h.base) (same_next (range_of o.sort))) refl refl now.long
       (record {
         born = ap (λ (h : Header). h.birth) header ∙ old.header.born;
         size = ap (λ (h : Header). h.size) header ∙ old.header.size;
@@ -361,7 +361,7 @@ module _ (locals heap : ℕ) (memory : Memory) (shape : IsMemory locals heap mem
       let o = object_at objects other in
       let old = keeps.standing other other_there in
       let head = head_same other other_there differ in
-      stands_again memory next places objects after other o o.standing old (ap (λ (h : HeapModel). h.base) (same_next (range_of o.sort))) refl now.long
+      stands_again memory next places objects after other o o.standing old (ap (λ (h : HeapModel). h.base) (same_next (range_of o.sort))) refl refl now.long
       (record {
         born = head.birth_same ∙ old.header.born;
         size = head.size_same ∙ old.header.size;

@@ -335,7 +335,7 @@ module _ (locals heap : ℕ) (memory : Memory) (shape : IsMemory locals heap mem
         let live = live_before b there in
         let standing : buried_standing o.standing ≡ o.standing = ap buried_standing live ∙ sym live in
         subst (StandsAt next places (buried objects) b (places b)) (sym (at_buried objects b))
-        (stands_again memory next places objects (buried objects) b o (buried_standing o.standing) old (same_base (range_of o.sort)) refl released.changes.long
+        (stands_again memory next places objects (buried objects) b o (buried_standing o.standing) old (same_base (range_of o.sort)) refl refl released.changes.long
         (subst (λ (h : Header). IsHeaderOf h b (bury o)) (sym header) (record { born = old.header.born; size = old.header.size; line = old.header.line; state = subst (λ s. IsStateOf s (header_at memory.bytes (places b - 32))) (sym standing) old.header.state }))
         (ap (λ (h : Header). h.layout) header) (omega arith) (λ from n low high. same from n (omega arith) (omega arith)) (are_slots locals heap memory _ o shape old.slots)
         (λ k a less is. stand_left (slice_index_or o.pointers k pointer.Null) a is (own_leads b k there less)))

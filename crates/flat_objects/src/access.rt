@@ -1,9 +1,10 @@
 //! Reading and writing objects (C99 6.5.3.2).
 
-ghost use Rattle.std.specs.Prelude.{◌≡◌, ◌+◌, ◌*◌, ◌^◌, ◌<◌, ◌≤◌, ◌⊎◌, ℕ, List, OnOk, length};
+ghost use Rattle.std.specs.Prelude.{◌≡◌, ◌+◌, ◌*◌, ◌%◌, ◌^◌, ◌<◌, ◌≤◌, ◌⊎◌, ℕ, List, IsTrue, OnOk, length};
 ghost use Rattle.hs_base.specs.Object.{Object};
 ghost use Rattle.hs_base.specs.Access.{access_integer, access_pointer};
 ghost use Rattle.hs_base.specs.Numbers.{low_bits, width};
+ghost use Rattle.byte_marks.specs.Marks.{AreBytes, IsSlotAt};
 ghost use Rattle.object_meaning.specs.Memory.{loaded, loaded_pointer, stored, stored_pointer};
 ghost use Rattle.flat_objects.specs.Memory.{SameFrame};
 ghost use Rattle.flat_objects.specs.Standing.{IsAddressOf};
@@ -20,6 +21,7 @@ use hs_base::{IntKind, Pointer, TrapKind};
 use std::sync::ledger::Ledger;
 
 /// The low bits of a number, as many as a kind has.
+#[inline(always)]
 fn low_bits(kind: IntKind, n: i128) -> u64
     ensures value { result ≡ low_bits (8 * width kind) n }
     ensures bound { result < 2 ^ (8 * width kind) }
@@ -53,8 +55,27 @@ impl FlatObjects {
         Ok(found)
     }
 
-    /// Tries an access to an integer of so many bytes.
-    fn access_integer<L: Ledger>(
+    /// Says whether so many bytes at an address are bytes of an object outside of slots, at an address that their number
+    /// divides: a look at their marks.
+    #[inline(always)]
+    fn are_plain(&self, addr: u32, n: u32) -> bool
+        requires { (n ≡ 1) ⊎ ((n ≡ 2) ⊎ ((n ≡ 4) ⊎ (n ≡ 8))) }
+        ensures { IsTrue result → AreBytes self.now.marks addr n × (addr % n ≡ 0) }
+    {
+        self.marks.are_bytes(addr, n) && addr % n == 0
+    }
+
+    /// Says whether a slot stands at an address that is a multiple of 4: a look at its first mark.
+    #[inline(always)]
+    fn is_pointer(&self, addr: u32) -> bool
+        ensures { IsTrue result → IsSlotAt self.now.marks addr × (addr % 4 ≡ 0) }
+    {
+        self.marks.is_slot(addr) && addr % 4 == 0
+    }
+
+    /// Tries an access to an integer of so many bytes, by a look at its object.
+    #[inline(never)]
+    fn try_integer<L: Ledger>(
         &self,
         addr: u32,
         n: u32,
@@ -74,8 +95,30 @@ impl FlatObjects {
         Ok(())
     }
 
-    /// Tries an access to a pointer.
-    fn access_pointer<L: Ledger>(&self, addr: u32, steps: &mut Steps<L>) -> Result<(), TrapKind>
+    /// Tries an access to an integer of so many bytes.
+    #[inline(always)]
+    fn access_integer<L: Ledger>(
+        &self,
+        addr: u32,
+        n: u32,
+        steps: &mut Steps<L>,
+    ) -> Result<(), TrapKind>
+        requires kept { IsKept self.now addr }
+        requires width { (n ≡ 1) ⊎ ((n ≡ 2) ⊎ ((n ≡ 4) ⊎ (n ≡ 8))) }
+        ensures allows { (places : ℕ → ℕ) (objects : List Object) (p : Pointer) → KeepsAt self.now places objects p addr → Allows result (access_integer objects p n) }
+        ensures inside { OnOk result (addr + n ≤ length self.now.bytes) }
+        ensures work { steps.new ≤ steps.old + 11 }
+    {
+        let _ = &self.bytes;
+        if self.are_plain(addr, n) {
+            return Ok(());
+        }
+        self.try_integer(addr, n, steps)
+    }
+
+    /// Tries an access to a pointer, by a look at its object.
+    #[inline(never)]
+    fn try_pointer<L: Ledger>(&self, addr: u32, steps: &mut Steps<L>) -> Result<(), TrapKind>
         requires { IsKept self.now addr }
         ensures allows { (places : ℕ → ℕ) (objects : List Object) (p : Pointer) → KeepsAt self.now places objects p addr → Allows result (access_pointer objects p) }
         ensures inside { OnOk result (addr + 4 ≤ length self.now.bytes) }
@@ -89,7 +132,23 @@ impl FlatObjects {
         Ok(())
     }
 
+    /// Tries an access to a pointer.
+    #[inline(always)]
+    fn access_pointer<L: Ledger>(&self, addr: u32, steps: &mut Steps<L>) -> Result<(), TrapKind>
+        requires { IsKept self.now addr }
+        ensures allows { (places : ℕ → ℕ) (objects : List Object) (p : Pointer) → KeepsAt self.now places objects p addr → Allows result (access_pointer objects p) }
+        ensures inside { OnOk result (addr + 4 ≤ length self.now.bytes) }
+        ensures work { steps.new ≤ steps.old + 11 }
+    {
+        let _ = &self.bytes;
+        if self.is_pointer(addr) {
+            return Ok(());
+        }
+        self.try_pointer(addr, steps)
+    }
+
     /// The integer of a kind at an address. It traps as an access does. At most twelve steps.
+    #[inline(always)]
     pub fn load<L: Ledger>(
         &self,
         kind: IntKind,
@@ -106,6 +165,7 @@ impl FlatObjects {
     }
 
     /// The pointer at an address. It traps as an access does. At most twelve steps.
+    #[inline(always)]
     pub fn load_pointer<L: Ledger>(&self, addr: u32, steps: &mut Steps<L>) -> Result<u32, TrapKind>
         requires { IsKept self.now addr }
         ensures loads { (places : ℕ → ℕ) (objects : List Object) (p : Pointer) → KeepsAt self.now places objects p addr → AnswersAddress places objects result (loaded_pointer objects p) }
@@ -117,6 +177,7 @@ impl FlatObjects {
 
     /// Writes an integer at an address, converted to a kind. It traps as an access does, and then nothing changes. At most
     /// twelve steps.
+    #[inline(always)]
     pub fn store<L: Ledger>(
         &mut self,
         kind: IntKind,
@@ -138,6 +199,7 @@ impl FlatObjects {
 
     /// Writes a pointer, by its address, at an address: the one that stood there counts no longer, and the new one does. It
     /// traps as an access does, and then nothing changes. At most 15 steps.
+    #[inline(always)]
     pub fn store_pointer<L: Ledger>(
         &mut self,
         addr: u32,

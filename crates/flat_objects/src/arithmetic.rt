@@ -1,6 +1,6 @@
 //! Addresses as operands. One stays within its object, from its start to one past its end (C99 6.5.6, 6.5.8, 6.5.9).
 
-ghost use Rattle.std.specs.Prelude.{◌≡◌, ◌+◌, ◌^◌, ◌<◌, ◌<ℤ◌, ◌*ℤ◌, ◌-ℤ◌, ℕ, ℤ, List, pos, neg_ℤ, int_div};
+ghost use Rattle.std.specs.Prelude.{◌≡◌, ◌+◌, ◌^◌, ◌<◌, ◌<ℤ◌, ◌*ℤ◌, ◌-ℤ◌, ℕ, ℤ, List, pos, neg_ℤ, int_div, IfSome};
 ghost use Rattle.hs_base.specs.Numbers.{wrapped};
 ghost use Rattle.hs_base.specs.Object.{Object};
 ghost use Rattle.object_meaning.specs.Arithmetic.{compared, difference, moved_by, offsets, ordered, pointers_compared, truth};
@@ -11,12 +11,29 @@ ghost use Rattle.flat_objects.specs.Answering.{Answers, AnswersAddress, AnswersN
 ghost use Rattle.flat_objects.specs.Moving.{IsFar, MovesTo};
 
 use crate::memory::FlatObjects;
-use core_tree::CmpOp;
 use byte_memory::Steps;
+use core_tree::CmpOp;
 use hs_base::{IntKind, Pointer, TrapKind};
 use std::sync::ledger::Ledger;
 
+/// The product of two numbers where 64 bits are enough for both and for it, as they mostly are: that one is quick.
+#[inline(always)]
+fn short_product(one: i128, other: i128) -> Option<i128>
+    ensures { IfSome result (λ product. product ≡ one *ℤ other) }
+{
+    let least = i64::MIN as i128;
+    let greatest = i64::MAX as i128;
+    if one < least || greatest < one || other < least || greatest < other {
+        return None;
+    }
+    match (one as i64).checked_mul(other as i64) {
+        Some(product) => Some(product as i128),
+        None => None,
+    }
+}
+
 /// The address of a place in an object of a size, where it is from its start to one past its end.
+#[inline(always)]
 fn address_within(start: u32, size: u32, place: i128) -> Result<u32, TrapKind>
     requires { start + size < 2 ^ 32 }
     ensures { MovesTo start size place result }
@@ -29,6 +46,7 @@ fn address_within(start: u32, size: u32, place: i128) -> Result<u32, TrapKind>
 }
 
 /// Says whether a comparison holds of two offsets.
+#[inline(always)]
 fn compared(op: CmpOp, one: u32, other: u32) -> bool
     ensures { result ≡ compared op (pos one) (pos other) }
 {
@@ -43,6 +61,7 @@ fn compared(op: CmpOp, one: u32, other: u32) -> bool
 }
 
 /// The difference of two offsets in elements of a size, rounded toward zero.
+#[inline(always)]
 fn elements_between(one: u32, other: u32, element: i128) -> i128
     requires { pos 0 <ℤ element }
     ensures { result ≡ wrapped IntKind.I32 (int_div (pos one -ℤ pos other) element) }
@@ -52,6 +71,7 @@ fn elements_between(one: u32, other: u32, element: i128) -> i128
 }
 
 /// 1 or 0.
+#[inline(always)]
 fn truth(holds: bool) -> i128
     ensures { number result ≡ truth holds }
 {
@@ -60,6 +80,7 @@ fn truth(holds: bool) -> i128
 
 impl FlatObjects {
     /// An address moved by a distance of bytes. Null is moved by 0 alone.
+    #[inline(always)]
     pub fn moved<L: Ledger>(
         &self,
         addr: u32,
@@ -95,8 +116,9 @@ impl FlatObjects {
         })
     }
 
-    /// An address moved up by so many elements of a size.
-    pub fn moved_up<L: Ledger>(
+    /// An address moved up by so many elements of a size, however far.
+    #[inline(never)]
+    fn moved_up_far<L: Ledger>(
         &self,
         addr: u32,
         count: i128,
@@ -112,8 +134,27 @@ impl FlatObjects {
         }
     }
 
-    /// An address moved down by so many elements of a size.
-    pub fn moved_down<L: Ledger>(
+    /// An address moved up by so many elements of a size.
+    #[inline(always)]
+    pub fn moved_up<L: Ledger>(
+        &self,
+        addr: u32,
+        count: i128,
+        size: i128,
+        steps: &mut Steps<L>,
+    ) -> Result<u32, TrapKind>
+        requires { IsKept self.now addr }
+        ensures { (places : ℕ → ℕ) (objects : List Object) (p : Pointer) → KeepsAt self.now places objects p addr → AnswersAddress places objects result (moved_by objects p (count *ℤ size)) }
+    {
+        match short_product(count, size) {
+            Some(distance) => self.moved(addr, distance, steps),
+            None => self.moved_up_far(addr, count, size, steps),
+        }
+    }
+
+    /// An address moved down by so many elements of a size, however far.
+    #[inline(never)]
+    fn moved_down_far<L: Ledger>(
         &self,
         addr: u32,
         count: i128,
@@ -132,7 +173,29 @@ impl FlatObjects {
         }
     }
 
+    /// An address moved down by so many elements of a size.
+    #[inline(always)]
+    pub fn moved_down<L: Ledger>(
+        &self,
+        addr: u32,
+        count: i128,
+        size: i128,
+        steps: &mut Steps<L>,
+    ) -> Result<u32, TrapKind>
+        requires { IsKept self.now addr }
+        ensures { (places : ℕ → ℕ) (objects : List Object) (p : Pointer) → KeepsAt self.now places objects p addr → AnswersAddress places objects result (moved_by objects p (neg_ℤ (count *ℤ size))) }
+    {
+        let Some(up) = short_product(count, size) else {
+            return self.moved_down_far(addr, count, size, steps);
+        };
+        match 0i128.checked_sub(up) {
+            Some(distance) => self.moved(addr, distance, steps),
+            None => self.moved_far(addr),
+        }
+    }
+
     /// The offsets of two addresses in one object.
+    #[inline(always)]
     fn offsets<L: Ledger>(
         &self,
         p: u32,
@@ -156,6 +219,7 @@ impl FlatObjects {
     }
 
     /// The difference of two addresses in elements of a size, rounded toward zero (C99 6.5.6 paragraph 9).
+    #[inline(always)]
     pub fn difference<L: Ledger>(
         &self,
         p: u32,
@@ -173,6 +237,7 @@ impl FlatObjects {
     }
 
     /// Which of two addresses in one object is lower.
+    #[inline(always)]
     fn ordered<L: Ledger>(
         &self,
         op: CmpOp,
@@ -189,6 +254,7 @@ impl FlatObjects {
     }
 
     /// A comparison of two addresses: 1 or 0. Any two are equal or not; only those in one object are ordered.
+    #[inline(always)]
     pub fn compare<L: Ledger>(
         &self,
         op: CmpOp,

@@ -8,12 +8,13 @@ ghost use Rattle.flat_objects.specs.Keeping.{Keeps};
 ghost use Rattle.flat_objects.specs.Counting.{Frees, IsPinnable, IsUnpinnable, MayPin, MayUnpin, Tracks, one_less, one_more};
 
 use crate::memory::FlatObjects;
-use count_table::Counts;
 use byte_memory::Steps;
+use count_table::Counts;
 use hs_base::Pointer;
 use std::sync::ledger::Ledger;
 
 /// One more for the granule of an address. Null is in none.
+#[inline(always)]
 fn count<L: Ledger>(counts: &mut Counts, addr: u32, steps: &mut Steps<L>)
     requires granule { addr / 16 < length counts.old.counts }
     requires room { sum counts.old.counts < counts.old.most }
@@ -26,6 +27,7 @@ fn count<L: Ledger>(counts: &mut Counts, addr: u32, steps: &mut Steps<L>)
 }
 
 /// One less for the granule of an address. Null is in none.
+#[inline(always)]
 fn uncount<L: Ledger>(counts: &mut Counts, addr: u32, steps: &mut Steps<L>)
     requires granule { addr / 16 < length counts.old.counts }
     requires some { 0 < addr → 0 < slice_index counts.old.counts (addr / 16) }
@@ -40,6 +42,7 @@ fn uncount<L: Ledger>(counts: &mut Counts, addr: u32, steps: &mut Steps<L>)
 impl FlatObjects {
     /// Writes an address over that in a slot: the one that stood there counts no longer, and the new one does. At most four
     /// steps.
+    #[inline(always)]
     pub(crate) fn put_pointer<L: Ledger>(&mut self, slot: u32, target: u32, steps: &mut Steps<L>)
         requires inside { slot + 4 ≤ length self.old.bytes }
         requires goes_from { word self.old.bytes slot 4 / 16 < length self.old.counts.counts }
@@ -56,6 +59,7 @@ impl FlatObjects {
     }
 
     /// Counts a pointer that stands outside of all objects, by its address. Null counts nowhere. At most one step.
+    #[inline(always)]
     pub fn pin<L: Ledger>(&mut self, addr: u32, steps: &mut Steps<L>)
         requires { IsPinnable self.old addr }
         ensures keeps { (places : ℕ → ℕ) (objects : List Object) → Keeps self.old places objects → Keeps self.new places objects }
@@ -67,6 +71,7 @@ impl FlatObjects {
     }
 
     /// Counts a pinned pointer no longer, by its address. At most one step.
+    #[inline(always)]
     pub fn unpin<L: Ledger>(&mut self, addr: u32, steps: &mut Steps<L>)
         requires { IsUnpinnable self.old addr }
         ensures keeps { (places : ℕ → ℕ) (objects : List Object) → Keeps self.old places objects → Keeps self.new places objects }

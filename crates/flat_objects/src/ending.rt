@@ -17,9 +17,9 @@ ghost use Rattle.flat_objects.specs.EndingSteps.{AreCheckable, AreCoveredAt, Are
 
 use crate::memory::FlatObjects;
 use adjusters::Adjuster;
+use byte_memory::{FlatBytes, Steps};
 use count_table::Counts;
 use delay_scopes::{is_held, take_off_object};
-use byte_memory::{FlatBytes, Steps};
 use hs_base::{Items, Pointer};
 use std::sync::ledger::Ledger;
 

@@ -9,8 +9,8 @@ ghost use Rattle.flat_objects.specs.Keeping.{KeepsAt, IsKept};
 ghost use Rattle.flat_objects.specs.Reaching.{IsFound};
 
 use crate::memory::FlatObjects;
-use heap_blocks::{HEADER_SIZE, Header};
 use byte_memory::Steps;
+use heap_blocks::{HEADER_SIZE, Header};
 use hs_base::Pointer;
 use std::sync::ledger::Ledger;
 
@@ -26,6 +26,7 @@ pub(crate) struct Found {
 
 impl FlatObjects {
     /// The start of the object whose block holds the byte at an address of a range. The answer is that of one of the ranges.
+    #[inline(always)]
     pub(crate) fn owner<L: Ledger>(&self, addr: u32, steps: &mut Steps<L>) -> Option<u32>
         ensures owner { (range : Range) (held : List Block) → (heap_of self.now range).base ≤ addr → addr < end_of (heap_of self.now range) → Holds (heap_of self.now range) held → result ≡ owner_of (heap_of self.now range) held addr }
         ensures from { (held : Range → List Block) → ((range : Range) → Holds (heap_of self.now range) (held range)) → (range : Range) × (result ≡ owner_of (heap_of self.now range) (held range) addr) }
@@ -41,6 +42,7 @@ impl FlatObjects {
     }
 
     /// The object of an address that is not null, and its offset in it. At most eleven steps.
+    #[inline(always)]
     pub(crate) fn find<L: Ledger>(&self, addr: u32, steps: &mut Steps<L>) -> Found
         requires kept { IsKept self.now addr }
         requires some { 0 < addr }
@@ -52,12 +54,12 @@ impl FlatObjects {
         let Some(start) = self.owner(addr, steps) else {
             unreachable!()
         };
-        let header = Header::read(&self.bytes, start - HEADER_SIZE, steps);
+        let block = start - HEADER_SIZE;
         Found {
             start,
             offset: addr - start,
-            size: header.size,
-            layout: header.layout,
+            size: Header::read_size(&self.bytes, block, steps),
+            layout: Header::read_layout(&self.bytes, block, steps),
         }
     }
 }

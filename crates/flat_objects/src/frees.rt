@@ -10,8 +10,8 @@ ghost use Rattle.flat_objects.specs.Counting.{Frees, Tracks};
 ghost use Rattle.flat_objects.specs.Freeing.{AnswersCheck, AnswersFree, IsFreeable, IsInScope, MayFree, MayLeave, number_of, work_of};
 
 use crate::memory::FlatObjects;
-use delay_scopes::laws::other_bytes_stay;
 use byte_memory::Steps;
+use delay_scopes::laws::other_bytes_stay;
 use hs_base::{BadFree, Line};
 use std::sync::ledger::Ledger;
 

@@ -9,8 +9,8 @@ ghost use Rattle.flat_objects.specs.Holders.{IsIn, IsKeptObject, IsSomeObject, h
 ghost use Rattle.flat_objects.specs.Searching.{IsFirstSlot, IsHoldingAt, IsKeptSlots, IsSomeSlots};
 
 use crate::memory::FlatObjects;
-use heap_blocks::{HEADER_SIZE, Header, STATE_QUEUED};
 use byte_memory::Steps;
+use heap_blocks::{HEADER_SIZE, Header, STATE_QUEUED};
 use hs_base::Line;
 use std::sync::ledger::Ledger;
 

@@ -8,8 +8,8 @@ ghost use Rattle.flat_objects.specs.Keeping.{Keeps};
 ghost use Rattle.flat_objects.specs.Leaks.{IsHeaderAt, KeepsSome, leak_after, leak_of, next_line, with_line, with_object};
 
 use crate::memory::FlatObjects;
-use heap_blocks::{HEADER_SIZE, Header};
 use byte_memory::Steps;
+use heap_blocks::{HEADER_SIZE, Header};
 use hs_base::{Leak, Line};
 use std::sync::ledger::Ledger;
 

@@ -34,6 +34,7 @@ mod forms;
 mod frees;
 mod holders;
 mod leaks;
+mod marking;
 mod memory;
 mod new_objects;
 mod ranges;

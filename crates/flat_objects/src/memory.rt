@@ -1,10 +1,11 @@
 //! The memory of a run.
 
 use adjusters::Adjuster;
+use byte_marks::Marks;
+use byte_memory::FlatBytes;
 use count_table::Counts;
 use delay_scopes::Scopes;
 use heap_blocks::Heap;
-use byte_memory::FlatBytes;
 use hs_base::Items;
 use std::marker::Model;
 
@@ -13,6 +14,8 @@ use std::marker::Model;
 #[derive(Drop)]
 pub struct FlatObjects {
     pub(crate) bytes: FlatBytes,
+    /// What stands in each byte.
+    pub(crate) marks: Marks,
     pub(crate) statics: Heap,
     pub(crate) locals: Heap,
     pub(crate) heap: Heap,
@@ -33,7 +36,7 @@ impl Model for FlatObjects {
 
     ghost Value = { Memory };
 
-    ghost view = { λ o. record { bytes = o.bytes; statics = o.statics; locals = o.locals; heap = o.heap; counts = o.counts; scopes = o.scopes; forms = o.forms } };
+    ghost view = { λ o. record { bytes = o.bytes; statics = o.statics; locals = o.locals; heap = o.heap; counts = o.counts; scopes = o.scopes; forms = o.forms; marks = o.marks } };
 
-    ghost invariant = { λ o. IsMemory o.locals_from o.heap_from (record { bytes = o.bytes; statics = o.statics; locals = o.locals; heap = o.heap; counts = o.counts; scopes = o.scopes; forms = o.forms }) };
+    ghost invariant = { λ o. IsMemory o.locals_from o.heap_from (record { bytes = o.bytes; statics = o.statics; locals = o.locals; heap = o.heap; counts = o.counts; scopes = o.scopes; forms = o.forms; marks = o.marks }) };
 }

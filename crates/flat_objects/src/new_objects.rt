@@ -12,6 +12,7 @@ ghost use Rattle.flat_objects.specs.Keeping.{Keeps, blocks_of};
 ghost use Rattle.flat_objects.specs.Adding.{IsAdded, with_place};
 ghost use Rattle.flat_objects.specs.Counting.{Frees, Tracks};
 
+use crate::marking::mark;
 use crate::memory::FlatObjects;
 use byte_memory::Steps;
 use hs_base::Line;
@@ -35,8 +36,11 @@ impl FlatObjects {
         ensures none { IfNone result (self.new ≡ self.old) }
         ensures frame { SameFrame self.old self.new }
     {
-        self.heap
-            .place(&mut self.bytes, size, layout, line, birth, steps)
+        let placed = self
+            .heap
+            .place(&mut self.bytes, size, layout, line, birth, steps);
+        mark(&mut self.marks, &self.forms, placed, size, layout);
+        placed
     }
 
     /// Places a memory local by first fit and answers its address: one element of the layout of a number, with its birth
@@ -54,7 +58,11 @@ impl FlatObjects {
         ensures none { IfNone result (self.new ≡ self.old) }
         ensures frame { SameFrame self.old self.new }
     {
-        self.locals
-            .place(&mut self.bytes, u64::from(size), layout, 0, birth, steps)
+        let bytes = u64::from(size);
+        let placed = self
+            .locals
+            .place(&mut self.bytes, bytes, layout, 0, birth, steps);
+        mark(&mut self.marks, &self.forms, placed, bytes, layout);
+        placed
     }
 }

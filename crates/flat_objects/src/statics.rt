@@ -15,13 +15,15 @@ ghost use Rattle.flat_objects.specs.Adding.{IsAdded, with_place};
 ghost use Rattle.flat_objects.specs.Counting.{Frees, Tracks};
 ghost use Rattle.flat_objects.specs.Starting.{HasSlotFor, IsSlotFor, IsTaking, IsTakingPointers, IsWritten, TakesBytes, TakesPointers, with_first_bytes, with_first_pointers};
 
+use crate::marking::mark;
 use crate::memory::FlatObjects;
 use adjusters::Adjuster;
+use byte_marks::Marks;
+use byte_memory::{FlatBytes, Steps};
 use c_types::Layout;
 use count_table::Counts;
 use delay_scopes::Scopes;
 use heap_blocks::Heap;
-use byte_memory::{FlatBytes, Steps};
 use hs_base::{Items, NoMemory, Pointer};
 use std::alloc::Global;
 use std::sync::ledger::Ledger;
@@ -83,6 +85,7 @@ impl FlatObjects {
             locals_from: statics,
             heap_from,
             forms: forms_of(alloc, layouts)?,
+            marks: Marks::new(alloc, end)?,
         })
     }
 
@@ -101,14 +104,13 @@ impl FlatObjects {
         ensures none { IfNone result (self.new ≡ self.old) }
         ensures frame { SameFrame self.old self.new }
     {
-        self.statics.place(
-            &mut self.bytes,
-            u64::from(size),
-            layout,
-            0,
-            u64::from(index),
-            steps,
-        )
+        let bytes = u64::from(size);
+        let birth = u64::from(index);
+        let placed = self
+            .statics
+            .place(&mut self.bytes, bytes, layout, 0, birth, steps);
+        mark(&mut self.marks, &self.forms, placed, bytes, layout);
+        placed
     }
 
     /// Writes the first bytes of a static at an address, which has only zeros and null pointers.

@@ -8,8 +8,8 @@ ghost use Rattle.flat_objects.specs.Keeping.{IsKept, Keeps, KeepsAt};
 ghost use Rattle.flat_objects.specs.Tries.{AnswersTry, IsHeapStart};
 
 use crate::memory::FlatObjects;
-use heap_blocks::{HEADER_SIZE, Header, STATE_QUEUED};
 use byte_memory::Steps;
+use heap_blocks::{HEADER_SIZE, Header, STATE_QUEUED};
 use hs_base::{Pointer, Reason};
 use std::sync::ledger::Ledger;
 

@@ -11,3 +11,4 @@ mod Placing
 pub mod Objects
 pub mod Rows
 pub mod Staying
+mod Marked

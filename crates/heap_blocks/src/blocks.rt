@@ -9,10 +9,10 @@ ghost use Rattle.heap_blocks.specs.Runs.{HasNoRun, IsFirstRun};
 ghost use Rattle.heap_blocks.specs.Held.{Holds, HasAddress, HasBounds, HasHeaders, HaveOwnBirths, IsHeldObject, IsNewObject, IsObject, IsPlaced, IsWithin, address_of, fit_of, owner_of};
 
 use crate::headers::{HEADER_SIZE, Header};
-use crate::marks::{Mark, fill_marks};
-use hole_tree::Holes;
+use crate::marks::{Mark, Marks};
 use byte_memory::{FlatBytes, Steps};
-use hs_base::{Items, Line, NoMemory};
+use hole_tree::Holes;
+use hs_base::{Line, NoMemory};
 use std::alloc::Global;
 use std::marker::Model;
 use std::sync::ledger::Ledger;
@@ -51,7 +51,7 @@ fn write_block<L: Ledger>(bytes: &mut FlatBytes, block: u32, header: &Header, st
 pub struct Heap {
     base: u32,
     len: u32,
-    marks: Items<Mark>,
+    marks: Marks,
     holes: Holes,
 }
 
@@ -76,7 +76,7 @@ impl Heap {
         Ok(Heap {
             base,
             len,
-            marks: Items::from(vec![in alloc; Mark::Free; len as usize / 16]?),
+            marks: Marks::new(alloc, len / 16)?,
             holes: Holes::new(alloc, len / 16)?,
         })
     }
@@ -140,12 +140,7 @@ impl Heap {
         };
         let count = size as u32 / 16 + 3;
         self.holes.take(from, count);
-        fill_marks(
-            &mut self.marks,
-            from as usize,
-            count as usize,
-            Mark::Of(from),
-        );
+        self.marks.fill(from, count, Mark::Of(from));
         let block = self.base + 16 * from;
         let header = Header::new(birth, size as u32, layout, line);
         write_block(bytes, block, &header, steps);
@@ -170,16 +165,12 @@ impl Heap {
         let from = (block - self.base) / 16;
         let count = size / 16 + 3;
         self.holes.give(from, count);
-        fill_marks(
-            &mut self.marks,
-            from as usize,
-            count as usize,
-            Mark::Free,
-        );
+        self.marks.fill(from, count, Mark::Free);
     }
 
     /// The address of the object whose block holds the byte at an address, if one does. It reads one mark, and no byte.
     /// At most four steps.
+    #[inline(always)]
     pub fn owner<L: Ledger>(
         &self,
         bytes: &FlatBytes,
@@ -195,12 +186,8 @@ impl Heap {
         if addr < self.base {
             return None;
         }
-        let marks = self.marks.as_slice();
         let place = (addr - self.base) as usize / 16;
-        if place >= marks.len() {
-            return None;
-        }
-        match marks[place] {
+        match self.marks.get(place) {
             Mark::Of(start) => Some(self.base + 16 * start + HEADER_SIZE),
             Mark::Free => None,
         }

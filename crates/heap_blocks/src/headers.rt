@@ -54,6 +54,7 @@ impl Header {
     }
 
     /// The header of the block at an address. Seven steps.
+    #[inline(always)]
     pub fn read<L: Ledger>(bytes: &FlatBytes, block: u32, steps: &mut Steps<L>) -> Header
         requires inside { block + HEADER_SIZE ≤ length bytes.now }
         requires fits { block + HEADER_SIZE < 2 ^ 32 }
@@ -72,6 +73,7 @@ impl Header {
     }
 
     /// The size of the object of the block at an address. One step.
+    #[inline(always)]
     pub fn read_size<L: Ledger>(bytes: &FlatBytes, block: u32, steps: &mut Steps<L>) -> u32
         requires inside { block + HEADER_SIZE ≤ length bytes.now }
         requires fits { block + HEADER_SIZE < 2 ^ 32 }
@@ -82,6 +84,7 @@ impl Header {
     }
 
     /// The number of the layout of the object of the block at an address. One step.
+    #[inline(always)]
     pub fn read_layout<L: Ledger>(bytes: &FlatBytes, block: u32, steps: &mut Steps<L>) -> u32
         requires inside { block + HEADER_SIZE ≤ length bytes.now }
         requires fits { block + HEADER_SIZE < 2 ^ 32 }
@@ -92,6 +95,7 @@ impl Header {
     }
 
     /// The state of the object of the block at an address. One step.
+    #[inline(always)]
     pub fn read_state<L: Ledger>(bytes: &FlatBytes, block: u32, steps: &mut Steps<L>) -> u32
         requires inside { block + HEADER_SIZE ≤ length bytes.now }
         requires fits { block + HEADER_SIZE < 2 ^ 32 }
@@ -102,6 +106,7 @@ impl Header {
     }
 
     /// The line that freed the object of the block at an address, or 0. One step.
+    #[inline(always)]
     pub fn read_freed<L: Ledger>(bytes: &FlatBytes, block: u32, steps: &mut Steps<L>) -> Line
         requires inside { block + HEADER_SIZE ≤ length bytes.now }
         requires fits { block + HEADER_SIZE < 2 ^ 32 }
@@ -112,6 +117,7 @@ impl Header {
     }
 
     /// The block that was queued next behind the block at an address, or 0. One step.
+    #[inline(always)]
     pub fn read_next<L: Ledger>(bytes: &FlatBytes, block: u32, steps: &mut Steps<L>) -> u32
         requires inside { block + HEADER_SIZE ≤ length bytes.now }
         requires fits { block + HEADER_SIZE < 2 ^ 32 }

@@ -41,31 +41,31 @@ returns-in_err-src-clause-tracks g c = λ places objects p q at stands after fre
 pub copy-requires-clause-pointers : goal.copy-requires-clause-pointers
 copy-requires-clause-pointers g c =
     let k = c.requires in
-    let memory : Memory = record { bytes = c.self.inside.bytes; statics = c.self.inside.statics; locals = c.self.inside.locals; heap = c.self.inside.heap; counts = c.self.inside.counts; scopes = c.self.inside.scopes; forms = c.self.inside.forms } in
+    let memory : Memory = record { bytes = c.self.inside.bytes; statics = c.self.inside.statics; locals = c.self.inside.locals; heap = c.self.inside.heap; counts = c.self.inside.counts; scopes = c.self.inside.scopes; forms = c.self.inside.forms; marks = c.self.inside.marks } in
     asks_pointers c.self.inside.locals_from c.self.inside.heap_from memory c.args.self.now c.self.view_is c.self.invariant c.in_ok-src.src c.args.from (λ places objects p at. (c.in_ok-src.ensures.tries places objects p at).0) k.0 k.1 k.4 (record { keeps = k.5.at.keeps; stands = k.5.stands })
 
 pub copy-requires-clause-covered : goal.copy-requires-clause-covered
 copy-requires-clause-covered g c =
     let k = c.requires in
-    let memory : Memory = record { bytes = c.self.inside.bytes; statics = c.self.inside.statics; locals = c.self.inside.locals; heap = c.self.inside.heap; counts = c.self.inside.counts; scopes = c.self.inside.scopes; forms = c.self.inside.forms } in
+    let memory : Memory = record { bytes = c.self.inside.bytes; statics = c.self.inside.statics; locals = c.self.inside.locals; heap = c.self.inside.heap; counts = c.self.inside.counts; scopes = c.self.inside.scopes; forms = c.self.inside.forms; marks = c.self.inside.marks } in
     asks_covered c.self.inside.locals_from c.self.inside.heap_from memory c.args.self.now c.self.view_is c.self.invariant c.in_ok-dst.dst c.args.to (λ places objects p at. (c.in_ok-dst.ensures.tries places objects p at).0) k.0 k.1 k.3 k.5.at k.2 k.5.tracks
 
 pub copy-requires-clause-room : goal.copy-requires-clause-room
 copy-requires-clause-room g c =
     let k = c.requires in
-    let memory : Memory = record { bytes = c.self.inside.bytes; statics = c.self.inside.statics; locals = c.self.inside.locals; heap = c.self.inside.heap; counts = c.self.inside.counts; scopes = c.self.inside.scopes; forms = c.self.inside.forms } in
+    let memory : Memory = record { bytes = c.self.inside.bytes; statics = c.self.inside.statics; locals = c.self.inside.locals; heap = c.self.inside.heap; counts = c.self.inside.counts; scopes = c.self.inside.scopes; forms = c.self.inside.forms; marks = c.self.inside.marks } in
     asks_room c.self.inside.locals_from c.self.inside.heap_from memory c.args.self.now c.self.view_is c.self.invariant c.in_ok-dst.dst c.args.to (λ places objects p at. (c.in_ok-dst.ensures.tries places objects p at).0) k.0 k.1 k.3 k.5.at k.2 k.5.tracks
 
 pub returns-clause-changes : goal.returns-clause-changes
 returns-clause-changes g c = λ places objects p q at stands.
-    let memory : Memory = record { bytes = c.self.inside.bytes; statics = c.self.inside.statics; locals = c.self.inside.locals; heap = c.self.inside.heap; counts = c.self.inside.counts; scopes = c.self.inside.scopes; forms = c.self.inside.forms } in
+    let memory : Memory = record { bytes = c.self.inside.bytes; statics = c.self.inside.statics; locals = c.self.inside.locals; heap = c.self.inside.heap; counts = c.self.inside.counts; scopes = c.self.inside.scopes; forms = c.self.inside.forms; marks = c.self.inside.marks } in
     (copy_leaves c.self.inside.locals_from c.self.inside.heap_from memory c.args.self.now c.self.view_is c.self.invariant c.in_ok-dst.dst c.in_ok-src.src c.args.n c.copy.new.bytes c.copy.new.counts c.copy.result c.args.to c.args.from
     (λ places objects p at. (c.in_ok-dst.ensures.tries places objects p at).0) (λ places objects p at. (c.in_ok-src.ensures.tries places objects p at).0) c.in_ok-dst.ensures.inside.1 c.in_ok-src.ensures.inside.1
     (record { answers = c.copy.ensures.answers; made = c.copy.ensures.copied; refused = c.copy.ensures.refused }) places objects p q at stands).0
 
 pub returns-clause-tracks : goal.returns-clause-tracks
 returns-clause-tracks g c = λ places objects p q at stands.
-    let memory : Memory = record { bytes = c.self.inside.bytes; statics = c.self.inside.statics; locals = c.self.inside.locals; heap = c.self.inside.heap; counts = c.self.inside.counts; scopes = c.self.inside.scopes; forms = c.self.inside.forms } in
+    let memory : Memory = record { bytes = c.self.inside.bytes; statics = c.self.inside.statics; locals = c.self.inside.locals; heap = c.self.inside.heap; counts = c.self.inside.counts; scopes = c.self.inside.scopes; forms = c.self.inside.forms; marks = c.self.inside.marks } in
     (copy_leaves c.self.inside.locals_from c.self.inside.heap_from memory c.args.self.now c.self.view_is c.self.invariant c.in_ok-dst.dst c.in_ok-src.src c.args.n c.copy.new.bytes c.copy.new.counts c.copy.result c.args.to c.args.from
     (λ places objects p at. (c.in_ok-dst.ensures.tries places objects p at).0) (λ places objects p at. (c.in_ok-src.ensures.tries places objects p at).0) c.in_ok-dst.ensures.inside.1 c.in_ok-src.ensures.inside.1
     (record { answers = c.copy.ensures.answers; made = c.copy.ensures.copied; refused = c.copy.ensures.refused }) places objects p q at stands).1

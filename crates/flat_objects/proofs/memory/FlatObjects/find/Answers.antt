@@ -12,16 +12,27 @@ unreachable-requires g c =
     let none = c.in_default.is in
     cc
 
-pub overflow_sub-start : goal.overflow_sub-start
-overflow_sub-start g c =
+pub overflow_sub-block : goal.overflow_sub-block
+overflow_sub-block g c =
     let k = kept c.args.self.now c.args.addr c.requires.kept c.requires.some in
     let start : c.in-Some.start ≡ k.places k.birth =
     same_Some c.in-Some.start (k.places k.birth) (sym c.in-Some.is ∙ owned c.args.self.now k.places k.objects k.birth k.offset c.args.addr c.owner.result k.keeps k.at c.owner.ensures.owner) in
     let stands = k.keeps.standing k.birth k.at.there in
     omega (arith, stands.room)
 
-pub read-header-requires-clause-inside : goal.read-header-requires-clause-inside
-read-header-requires-clause-inside g c =
+pub read_size-requires-clause-inside : goal.read_size-requires-clause-inside
+read_size-requires-clause-inside g c =
+    let k = kept c.args.self.now c.args.addr c.requires.kept c.requires.some in
+    let start : c.in-Some.start ≡ k.places k.birth =
+    same_Some c.in-Some.start (k.places k.birth) (sym c.in-Some.is ∙ owned c.args.self.now k.places k.objects k.birth k.offset c.args.addr c.owner.result k.keeps k.at c.owner.ensures.owner) in
+    let stands = k.keeps.standing k.birth k.at.there in
+    let shape = subst (IsMemory c.self.inside.locals_from c.self.inside.heap_from) c.self.view_is c.self.invariant in
+    let inside = own_inside c.args.self.now k.places k.objects k.keeps k.birth k.at.there c.self.inside.locals_from c.self.inside.heap_from shape in
+    let bytes : length c.self.inside.bytes ≡ length c.args.self.now.bytes = ap (λ (m : Memory). length m.bytes) c.self.view_is in
+    omega (arith, stands.room)
+
+pub read_layout-requires-clause-inside : goal.read_layout-requires-clause-inside
+read_layout-requires-clause-inside g c =
     let k = kept c.args.self.now c.args.addr c.requires.kept c.requires.some in
     let start : c.in-Some.start ≡ k.places k.birth =
     same_Some c.in-Some.start (k.places k.birth) (sym c.in-Some.is ∙ owned c.args.self.now k.places k.objects k.birth k.offset c.args.addr c.owner.result k.keeps k.at c.owner.ensures.owner) in
@@ -43,7 +54,7 @@ returns-clause-found g c = λ places objects birth offset at.
     let start : c.in-Some.start ≡ places birth =
     same_Some c.in-Some.start (places birth) (sym c.in-Some.is ∙ owned c.args.self.now places objects birth offset c.args.addr c.owner.result at.keeps at.stands c.owner.ensures.owner) in
     let bytes : c.self.inside.bytes ≡ c.args.self.now.bytes = ap (λ (m : Memory). m.bytes) c.self.view_is in
-    found_at c.args.self.now places objects birth offset c.args.addr c.in-Some.start c.read-header.result at start (c.read-header.ensures.header ∙ ap (λ (b : List ℕ). header_at b (c.in-Some.start - 32)) bytes)
+    found_at c.args.self.now places objects birth offset c.args.addr c.in-Some.start c.read_size.result c.read_layout.result at start (c.read_size.ensures.size ∙ ap (λ (b : List ℕ). (header_at b (c.in-Some.start - 32)).size) bytes) (c.read_layout.ensures.layout ∙ ap (λ (b : List ℕ). (header_at b (c.in-Some.start - 32)).layout) bytes)
 
 pub returns-clause-inside : goal.returns-clause-inside
 returns-clause-inside g c =

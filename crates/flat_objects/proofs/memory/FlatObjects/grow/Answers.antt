@@ -22,24 +22,24 @@ grow-requires-clause-whole g c =
 pub grow-requires-clause-pointers : goal.grow-requires-clause-pointers
 grow-requires-clause-pointers g c =
     let k = c.requires in
-    let memory : Memory = record { bytes = c.self.inside.bytes; statics = c.self.inside.statics; locals = c.self.inside.locals; heap = c.self.inside.heap; counts = c.self.inside.counts; scopes = c.self.inside.scopes; forms = c.self.inside.forms } in
+    let memory : Memory = record { bytes = c.self.inside.bytes; statics = c.self.inside.statics; locals = c.self.inside.locals; heap = c.self.inside.heap; counts = c.self.inside.counts; scopes = c.self.inside.scopes; forms = c.self.inside.forms; marks = c.self.inside.marks } in
     asks_pointers c.self.inside.locals_from c.self.inside.heap_from memory c.args.self.now c.self.view_is c.self.invariant c.ranged-src.result c.args.from c.ranged-src.ensures.range k.0 k.1 (pointer.At k.4 0) (record { keeps = k.5.at.keeps; stands = k.5.stands })
 
 pub grow-requires-clause-covered : goal.grow-requires-clause-covered
 grow-requires-clause-covered g c =
     let k = c.requires in
-    let memory : Memory = record { bytes = c.self.inside.bytes; statics = c.self.inside.statics; locals = c.self.inside.locals; heap = c.self.inside.heap; counts = c.self.inside.counts; scopes = c.self.inside.scopes; forms = c.self.inside.forms } in
+    let memory : Memory = record { bytes = c.self.inside.bytes; statics = c.self.inside.statics; locals = c.self.inside.locals; heap = c.self.inside.heap; counts = c.self.inside.counts; scopes = c.self.inside.scopes; forms = c.self.inside.forms; marks = c.self.inside.marks } in
     asks_covered c.self.inside.locals_from c.self.inside.heap_from memory c.args.self.now c.self.view_is c.self.invariant c.ranged-dst.result c.args.to c.ranged-dst.ensures.range k.0 k.1 (pointer.At k.3 0) k.5.at k.2 k.5.tracks
 
 pub grow-requires-clause-room : goal.grow-requires-clause-room
 grow-requires-clause-room g c =
     let k = c.requires in
-    let memory : Memory = record { bytes = c.self.inside.bytes; statics = c.self.inside.statics; locals = c.self.inside.locals; heap = c.self.inside.heap; counts = c.self.inside.counts; scopes = c.self.inside.scopes; forms = c.self.inside.forms } in
+    let memory : Memory = record { bytes = c.self.inside.bytes; statics = c.self.inside.statics; locals = c.self.inside.locals; heap = c.self.inside.heap; counts = c.self.inside.counts; scopes = c.self.inside.scopes; forms = c.self.inside.forms; marks = c.self.inside.marks } in
     asks_room c.self.inside.locals_from c.self.inside.heap_from memory c.args.self.now c.self.view_is c.self.invariant c.ranged-dst.result c.args.to c.ranged-dst.ensures.range k.0 k.1 (pointer.At k.3 0) k.5.at k.2 k.5.tracks
 
 pub returns-clause-changes : goal.returns-clause-changes
 returns-clause-changes g c = λ places objects new old at stands.
-    let memory : Memory = record { bytes = c.self.inside.bytes; statics = c.self.inside.statics; locals = c.self.inside.locals; heap = c.self.inside.heap; counts = c.self.inside.counts; scopes = c.self.inside.scopes; forms = c.self.inside.forms } in
+    let memory : Memory = record { bytes = c.self.inside.bytes; statics = c.self.inside.statics; locals = c.self.inside.locals; heap = c.self.inside.heap; counts = c.self.inside.counts; scopes = c.self.inside.scopes; forms = c.self.inside.forms; marks = c.self.inside.marks } in
     let next : Memory = record memory { bytes = c.grow.new.bytes; counts = c.grow.new.counts } in
     let dst = c.ranged-dst.result in
     let src = c.ranged-src.result in
@@ -53,7 +53,7 @@ returns-clause-changes g c = λ places objects new old at stands.
 
 pub returns-clause-tracks : goal.returns-clause-tracks
 returns-clause-tracks g c = λ places objects new old at stands.
-    let memory : Memory = record { bytes = c.self.inside.bytes; statics = c.self.inside.statics; locals = c.self.inside.locals; heap = c.self.inside.heap; counts = c.self.inside.counts; scopes = c.self.inside.scopes; forms = c.self.inside.forms } in
+    let memory : Memory = record { bytes = c.self.inside.bytes; statics = c.self.inside.statics; locals = c.self.inside.locals; heap = c.self.inside.heap; counts = c.self.inside.counts; scopes = c.self.inside.scopes; forms = c.self.inside.forms; marks = c.self.inside.marks } in
     let next : Memory = record memory { bytes = c.grow.new.bytes; counts = c.grow.new.counts } in
     let dst = c.ranged-dst.result in
     let src = c.ranged-src.result in

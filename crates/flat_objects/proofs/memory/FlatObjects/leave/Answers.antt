@@ -6,7 +6,7 @@ use Rattle.flat_objects.specs.Memory.{Memory, Heap, SameFrame}
 use Rattle.flat_objects.specs.Keeping.{blocks_of}
 use Rattle.flat_objects.specs.Freeing.{AnswersCheck, MayLeave, number_of}
 use Rattle.flat_objects.proofs.Answered.{SameSizes, inner_kept, inner_sizes, leave_frame, may_check, outer_answers, outer_sizes, queue_kept}
-use Rattle.flat_objects.proofs.Frames.{still_memory}
+use Rattle.flat_objects.proofs.Frames.{marks_same, still_memory}
 use Rattle.flat_objects.proofs.Working.{work_is}
 use Rattle.flat_objects.proofs.memory.FlatObjects.leave.Goals as goal
 use Rattle.flat_objects.proofs.memory.FlatObjects.leave.Goals.{After-leave}
@@ -14,14 +14,14 @@ use Rattle.flat_objects.proofs.memory.FlatObjects.leave.Goals.{After-leave}
 pub leave-requires-clause-ready : goal.leave-requires-clause-ready
 leave-requires-clause-ready g c = λ depth.
     let k = c.requires in
-    let memory : Memory = record { bytes = c.self.inside.bytes; statics = c.self.inside.statics; locals = c.self.inside.locals; heap = c.self.inside.heap; counts = c.self.inside.counts; scopes = c.self.inside.scopes; forms = c.self.inside.forms } in
+    let memory : Memory = record { bytes = c.self.inside.bytes; statics = c.self.inside.statics; locals = c.self.inside.locals; heap = c.self.inside.heap; counts = c.self.inside.counts; scopes = c.self.inside.scopes; forms = c.self.inside.forms; marks = c.self.inside.marks } in
     let may = subst (λ (m : Memory). MayLeave m k.0 k.1 k.2) (sym c.self.view_is) k.3 in
     (blocks_of memory k.0 k.1 Heap, map k.0 k.2.queue, may_check c.self.inside.locals_from c.self.inside.heap_from memory c.self.invariant k.0 k.1 k.2 may memory.heap memory.bytes memory.counts memory.scopes)
 
-sizes : (g : _) (c : After-leave g) → SameSizes (record { bytes = c.self.inside.bytes; statics = c.self.inside.statics; locals = c.self.inside.locals; heap = c.self.inside.heap; counts = c.self.inside.counts; scopes = c.self.inside.scopes; forms = c.self.inside.forms }) c.leave.new.heap c.leave.new.bytes c.leave.new.counts
+sizes : (g : _) (c : After-leave g) → SameSizes (record { bytes = c.self.inside.bytes; statics = c.self.inside.statics; locals = c.self.inside.locals; heap = c.self.inside.heap; counts = c.self.inside.counts; scopes = c.self.inside.scopes; forms = c.self.inside.forms; marks = c.self.inside.marks }) c.leave.new.heap c.leave.new.bytes c.leave.new.counts
 sizes g c =
     let k = c.requires in
-    let memory : Memory = record { bytes = c.self.inside.bytes; statics = c.self.inside.statics; locals = c.self.inside.locals; heap = c.self.inside.heap; counts = c.self.inside.counts; scopes = c.self.inside.scopes; forms = c.self.inside.forms } in
+    let memory : Memory = record { bytes = c.self.inside.bytes; statics = c.self.inside.statics; locals = c.self.inside.locals; heap = c.self.inside.heap; counts = c.self.inside.counts; scopes = c.self.inside.scopes; forms = c.self.inside.forms; marks = c.self.inside.marks } in
     let may = subst (λ (m : Memory). MayLeave m k.0 k.1 k.2) (sym c.self.view_is) k.3 in
     elim (cases_lt 1 memory.scopes.depth) [
       | inl deep ↦ let same = c.leave.ensures.nothing deep in inner_sizes memory c.leave.new.heap c.leave.new.bytes c.leave.new.counts same.0 same.1 same.2
@@ -35,14 +35,14 @@ sizes g c =
 
 pub invariant_of-self : goal.invariant_of-self
 invariant_of-self g c =
-    let memory : Memory = record { bytes = c.self.inside.bytes; statics = c.self.inside.statics; locals = c.self.inside.locals; heap = c.self.inside.heap; counts = c.self.inside.counts; scopes = c.self.inside.scopes; forms = c.self.inside.forms } in
+    let memory : Memory = record { bytes = c.self.inside.bytes; statics = c.self.inside.statics; locals = c.self.inside.locals; heap = c.self.inside.heap; counts = c.self.inside.counts; scopes = c.self.inside.scopes; forms = c.self.inside.forms; marks = c.self.inside.marks } in
     let same = sizes g c in
     still_memory c.self.inside.locals_from c.self.inside.heap_from memory (record memory { heap = c.leave.new.heap; bytes = c.leave.new.bytes; counts = c.leave.new.counts; scopes = c.leave.new.self }) c.self.invariant
-    (leave_frame memory c.leave.new.heap c.leave.new.bytes c.leave.new.counts c.leave.new.self same) same.granules
+    (leave_frame memory c.leave.new.heap c.leave.new.bytes c.leave.new.counts c.leave.new.self same) same.granules (marks_same memory.marks)
 
 pub returns-clause-inner : goal.returns-clause-inner
 returns-clause-inner g c = λ places objects frees told inner.
-    let memory : Memory = record { bytes = c.self.inside.bytes; statics = c.self.inside.statics; locals = c.self.inside.locals; heap = c.self.inside.heap; counts = c.self.inside.counts; scopes = c.self.inside.scopes; forms = c.self.inside.forms } in
+    let memory : Memory = record { bytes = c.self.inside.bytes; statics = c.self.inside.statics; locals = c.self.inside.locals; heap = c.self.inside.heap; counts = c.self.inside.counts; scopes = c.self.inside.scopes; forms = c.self.inside.forms; marks = c.self.inside.marks } in
     let may = subst (λ (m : Memory). MayLeave m places objects frees) (sym c.self.view_is) told in
     let deep : 1 < memory.scopes.depth = omega (arith, may.tracks.open_scopes) in
     let one = c.leave.ensures.inner deep in
@@ -52,7 +52,7 @@ returns-clause-inner g c = λ places objects frees told inner.
 
 pub returns-clause-outermost : goal.returns-clause-outermost
 returns-clause-outermost g c = λ places objects frees told outer.
-    let memory : Memory = record { bytes = c.self.inside.bytes; statics = c.self.inside.statics; locals = c.self.inside.locals; heap = c.self.inside.heap; counts = c.self.inside.counts; scopes = c.self.inside.scopes; forms = c.self.inside.forms } in
+    let memory : Memory = record { bytes = c.self.inside.bytes; statics = c.self.inside.statics; locals = c.self.inside.locals; heap = c.self.inside.heap; counts = c.self.inside.counts; scopes = c.self.inside.scopes; forms = c.self.inside.forms; marks = c.self.inside.marks } in
     let may = subst (λ (m : Memory). MayLeave m places objects frees) (sym c.self.view_is) told in
     let held = blocks_of memory places objects Heap in
     let queue = map places frees.queue in
@@ -67,13 +67,13 @@ returns-clause-outermost g c = λ places objects frees told outer.
 
 pub returns-clause-frame : goal.returns-clause-frame
 returns-clause-frame g c =
-    let memory : Memory = record { bytes = c.self.inside.bytes; statics = c.self.inside.statics; locals = c.self.inside.locals; heap = c.self.inside.heap; counts = c.self.inside.counts; scopes = c.self.inside.scopes; forms = c.self.inside.forms } in
+    let memory : Memory = record { bytes = c.self.inside.bytes; statics = c.self.inside.statics; locals = c.self.inside.locals; heap = c.self.inside.heap; counts = c.self.inside.counts; scopes = c.self.inside.scopes; forms = c.self.inside.forms; marks = c.self.inside.marks } in
     let next : Memory = record memory { heap = c.leave.new.heap; bytes = c.leave.new.bytes; counts = c.leave.new.counts; scopes = c.leave.new.self } in
     subst (λ (m : Memory). SameFrame m next) c.self.view_is (leave_frame memory c.leave.new.heap c.leave.new.bytes c.leave.new.counts c.leave.new.self (sizes g c))
 
 pub returns-clause-idle : goal.returns-clause-idle
 returns-clause-idle g c = λ places objects frees told inner.
-    let memory : Memory = record { bytes = c.self.inside.bytes; statics = c.self.inside.statics; locals = c.self.inside.locals; heap = c.self.inside.heap; counts = c.self.inside.counts; scopes = c.self.inside.scopes; forms = c.self.inside.forms } in
+    let memory : Memory = record { bytes = c.self.inside.bytes; statics = c.self.inside.statics; locals = c.self.inside.locals; heap = c.self.inside.heap; counts = c.self.inside.counts; scopes = c.self.inside.scopes; forms = c.self.inside.forms; marks = c.self.inside.marks } in
     let may = subst (λ (m : Memory). MayLeave m places objects frees) (sym c.self.view_is) told in
     let deep : 1 < memory.scopes.depth = omega (arith, may.tracks.open_scopes) in
     let one = c.leave.ensures.inner deep in
@@ -81,7 +81,7 @@ returns-clause-idle g c = λ places objects frees told inner.
 
 pub returns-clause-work : goal.returns-clause-work
 returns-clause-work g c = λ places objects frees told outer.
-    let memory : Memory = record { bytes = c.self.inside.bytes; statics = c.self.inside.statics; locals = c.self.inside.locals; heap = c.self.inside.heap; counts = c.self.inside.counts; scopes = c.self.inside.scopes; forms = c.self.inside.forms } in
+    let memory : Memory = record { bytes = c.self.inside.bytes; statics = c.self.inside.statics; locals = c.self.inside.locals; heap = c.self.inside.heap; counts = c.self.inside.counts; scopes = c.self.inside.scopes; forms = c.self.inside.forms; marks = c.self.inside.marks } in
     let may = subst (λ (m : Memory). MayLeave m places objects frees) (sym c.self.view_is) told in
     let held = blocks_of memory places objects Heap in
     let queue = map places frees.queue in

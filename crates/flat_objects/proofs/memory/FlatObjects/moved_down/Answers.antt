@@ -12,8 +12,8 @@ returns-in-Some-checked_sub g c =
     let up = c.in-Some.up in
     let distance = c.in-Some-checked_sub.distance in
     let i = rw (to_z-of_z w128 c.args.count fits_count, to_z-of_z w128 c.args.size fits_size) at c.in-Some.ensures in
-    let fits_up : SFits w128 up = rw i.1 i.0 in
+    let fits_up : SFits w128 up = search rules in
     let h = rw (to_z-of_z w128 up fits_up) at c.in-Some-checked_sub.ensures in
     let fits : SFits w128 distance = rw h.1 h.0 in
     let told = rw (to_z-of_z w128 distance fits) at c.moved.ensures in
-    rw (← minus_is distance up (c.args.count *ℤ c.args.size) h.1 i.1) told
+    rw (← minus_is distance up (c.args.count *ℤ c.args.size) h.1 i) told

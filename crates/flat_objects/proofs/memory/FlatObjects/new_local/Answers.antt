@@ -1,8 +1,8 @@
-use Rattle.std.proofs.Common.{◌≡◌, ◌∙◌, ◌∷◌, ◌++◌, [], ℕ, Some, refl, sym, ap, subst}
+use Rattle.std.proofs.Common.{◌≡◌, ◌∙◌, ◌∷◌, ◌++◌, [], ℕ, Some, refl, sym, ap, subst, ◌<◌, arith}
 use Rattle.std.specs.Prelude.{option_map, slice_get, IfSome}
 use Rattle.hs_base.specs.Object.{Local}
 use Rattle.adjusters.specs.ObjectSlots.{element_of}
-use Rattle.heap_blocks.specs.Held.{address_of, fit_of}
+use Rattle.heap_blocks.specs.Held.{IsWithin, address_of, fit_of}
 use Rattle.flat_objects.specs.Memory.{Memory, Locals}
 use Rattle.flat_objects.specs.Keeping.{Keeps, blocks_of}
 use Rattle.object_meaning.specs.Making.{blank}
@@ -10,55 +10,70 @@ use Rattle.flat_objects.specs.Adding.{IsAdded, with_place}
 use Rattle.flat_objects.specs.Counting.{Tracks}
 use Rattle.flat_objects.proofs.Placed.{IsMade, some_more}
 use Rattle.flat_objects.proofs.Made.{local_added}
+use Rattle.flat_objects.proofs.Markings.{markable, no_local, placed_marks}
 use Rattle.flat_objects.proofs.Frames.{frame_locals, still_memory}
 use Rattle.flat_objects.proofs.memory.FlatObjects.new_local.Goals as goal
 
 pub invariant_of-self : goal.invariant_of-self
 invariant_of-self g c =
-    let memory : Memory = record { bytes = c.self.inside.bytes; statics = c.self.inside.statics; locals = c.self.inside.locals; heap = c.self.inside.heap; counts = c.self.inside.counts; scopes = c.self.inside.scopes; forms = c.self.inside.forms } in
-    still_memory c.self.inside.locals_from c.self.inside.heap_from memory (record memory { bytes = c.place.new.bytes; locals = c.place.new.self }) c.self.invariant
-    (frame_locals memory memory c.place.new.bytes c.place.new.self refl c.place.ensures.bounds c.place.ensures.long) refl
+    let memory : Memory = record { bytes = c.self.inside.bytes; statics = c.self.inside.statics; locals = c.self.inside.locals; heap = c.self.inside.heap; counts = c.self.inside.counts; scopes = c.self.inside.scopes; forms = c.self.inside.forms; marks = c.self.inside.marks } in
+    still_memory c.self.inside.locals_from c.self.inside.heap_from memory (record memory { bytes = c.place-placed.new.bytes; locals = c.place-placed.new.self; marks = c.mark.new.marks }) c.self.invariant
+    (frame_locals memory memory c.place-placed.new.bytes c.mark.new.marks c.place-placed.new.self refl c.place-placed.ensures.bounds c.place-placed.ensures.long) refl
+    (placed_marks memory.marks c.mark.new.marks c.place-placed.result c.from-bytes.result c.mark.ensures.changes (some_more c.place-placed.result (IsWithin memory.locals c.from-bytes.result) (λ addr. 0 < addr) (λ addr within. omega (arith, within.start)) c.place-placed.ensures.within))
+
+pub mark-requires-clause-forms : goal.mark-requires-clause-forms
+mark-requires-clause-forms g c = c.self.invariant.forms
+
+pub mark-requires-clause-inside : goal.mark-requires-clause-inside
+mark-requires-clause-inside g c =
+    let memory : Memory = record { bytes = c.self.inside.bytes; statics = c.self.inside.statics; locals = c.self.inside.locals; heap = c.self.inside.heap; counts = c.self.inside.counts; scopes = c.self.inside.scopes; forms = c.self.inside.forms; marks = c.self.inside.marks } in
+    markable c.self.inside.locals_from c.self.inside.heap_from memory c.self.invariant Locals c.from-bytes.result c.place-placed.result c.place-placed.ensures.within
+
+pub returns-clause-none : goal.returns-clause-none
+returns-clause-none g c =
+    let memory : Memory = record { bytes = c.self.inside.bytes; statics = c.self.inside.statics; locals = c.self.inside.locals; heap = c.self.inside.heap; counts = c.self.inside.counts; scopes = c.self.inside.scopes; forms = c.self.inside.forms; marks = c.self.inside.marks } in
+    no_local c.place-placed.result memory c.args.self.now c.place-placed.new.self c.place-placed.new.bytes c.mark.new.marks c.from-bytes.result c.self.view_is c.place-placed.ensures.none c.mark.ensures.changes
 
 pub returns-clause-place : goal.returns-clause-place
 returns-clause-place g c = λ places objects keeps.
-    let memory : Memory = record { bytes = c.self.inside.bytes; statics = c.self.inside.statics; locals = c.self.inside.locals; heap = c.self.inside.heap; counts = c.self.inside.counts; scopes = c.self.inside.scopes; forms = c.self.inside.forms } in
+    let memory : Memory = record { bytes = c.self.inside.bytes; statics = c.self.inside.statics; locals = c.self.inside.locals; heap = c.self.inside.heap; counts = c.self.inside.counts; scopes = c.self.inside.scopes; forms = c.self.inside.forms; marks = c.self.inside.marks } in
     let same : memory ≡ c.args.self.now = c.self.view_is in
     let before = subst (λ (m : Memory). Keeps m places objects) (sym same) keeps in
-    subst (λ (m : Memory). c.place.result ≡ option_map (address_of m.locals) (fit_of m.locals (blocks_of m places objects Locals) c.args.size)) same
-    (c.place.ensures.address (blocks_of memory places objects Locals) (before.held Locals)
-    ∙ ap (λ n. option_map (address_of memory.locals) (fit_of memory.locals (blocks_of memory places objects Locals) n)) c.from.ensures)
+    subst (λ (m : Memory). c.place-placed.result ≡ option_map (address_of m.locals) (fit_of m.locals (blocks_of m places objects Locals) c.args.size)) same
+    (c.place-placed.ensures.address (blocks_of memory places objects Locals) (before.held Locals)
+    ∙ ap (λ n. option_map (address_of memory.locals) (fit_of memory.locals (blocks_of memory places objects Locals) n)) c.from-bytes.ensures)
 
 pub returns-clause-added : goal.returns-clause-added
 returns-clause-added g c = λ places objects element func index keeps birth_is got size_is.
-    let memory : Memory = record { bytes = c.self.inside.bytes; statics = c.self.inside.statics; locals = c.self.inside.locals; heap = c.self.inside.heap; counts = c.self.inside.counts; scopes = c.self.inside.scopes; forms = c.self.inside.forms } in
+    let memory : Memory = record { bytes = c.self.inside.bytes; statics = c.self.inside.statics; locals = c.self.inside.locals; heap = c.self.inside.heap; counts = c.self.inside.counts; scopes = c.self.inside.scopes; forms = c.self.inside.forms; marks = c.self.inside.marks } in
     let same : memory ≡ c.args.self.now = c.self.view_is in
     let before = subst (λ (m : Memory). Keeps m places objects) (sym same) keeps in
     let held = blocks_of memory places objects Locals in
-    let next : Memory = record { bytes = c.place.new.bytes; statics = c.self.inside.statics; locals = c.place.new.self; heap = c.self.inside.heap; counts = c.self.inside.counts; scopes = c.self.inside.scopes; forms = c.self.inside.forms } in
+    let next : Memory = record { bytes = c.place-placed.new.bytes; statics = c.self.inside.statics; locals = c.place-placed.new.self; heap = c.self.inside.heap; counts = c.self.inside.counts; scopes = c.self.inside.scopes; forms = c.self.inside.forms; marks = c.mark.new.marks } in
     let told =
-    local_added c.self.inside.locals_from c.self.inside.heap_from memory c.self.invariant places objects before c.place.new.bytes c.place.new.self element c.from.result c.args.layout 0 c.args.birth (fit_of memory.locals held c.from.result) c.place.result
-    birth_is (subst (λ (m : Memory). slice_get m.forms c.args.layout ≡ Some (element_of element)) (sym same) got) c.place.ensures.placed func index (c.from.ensures ∙ size_is)
-    (c.place.ensures.address held (before.held Locals)) (c.place.ensures.held held (before.held Locals)) c.place.ensures.bounds in
-    subst (λ (n : ℕ). IfSome c.place.result (IsAdded next places objects (blank (Local func index) n element.slots))) c.from.ensures
-    (some_more c.place.result (IsMade memory next places objects (blank (Local func index) c.from.result element.slots)) (IsAdded next places objects (blank (Local func index) c.from.result element.slots)) (λ addr made. made.added) told)
+    local_added c.self.inside.locals_from c.self.inside.heap_from memory c.self.invariant places objects before c.place-placed.new.bytes c.mark.new.marks c.place-placed.new.self element c.from-bytes.result c.args.layout 0 c.args.birth (fit_of memory.locals held c.from-bytes.result) c.place-placed.result
+    birth_is (subst (λ (m : Memory). slice_get m.forms c.args.layout ≡ Some (element_of element)) (sym same) got) c.place-placed.ensures.placed c.mark.ensures.changes (c.mark.ensures.marked (element_of element) (subst (λ (m : Memory). slice_get m.forms c.args.layout ≡ Some (element_of element)) (sym same) got)) func index (c.from-bytes.ensures ∙ size_is)
+    (c.place-placed.ensures.address held (before.held Locals)) (c.place-placed.ensures.held held (before.held Locals)) c.place-placed.ensures.bounds in
+    subst (λ (n : ℕ). IfSome c.place-placed.result (IsAdded next places objects (blank (Local func index) n element.slots))) c.from-bytes.ensures
+    (some_more c.place-placed.result (IsMade memory next places objects (blank (Local func index) c.from-bytes.result element.slots)) (IsAdded next places objects (blank (Local func index) c.from-bytes.result element.slots)) (λ addr made. made.added) told)
 
 pub returns-clause-tracks : goal.returns-clause-tracks
 returns-clause-tracks g c = λ places objects element func index frees keeps birth_is got size_is tracks.
-    let memory : Memory = record { bytes = c.self.inside.bytes; statics = c.self.inside.statics; locals = c.self.inside.locals; heap = c.self.inside.heap; counts = c.self.inside.counts; scopes = c.self.inside.scopes; forms = c.self.inside.forms } in
+    let memory : Memory = record { bytes = c.self.inside.bytes; statics = c.self.inside.statics; locals = c.self.inside.locals; heap = c.self.inside.heap; counts = c.self.inside.counts; scopes = c.self.inside.scopes; forms = c.self.inside.forms; marks = c.self.inside.marks } in
     let same : memory ≡ c.args.self.now = c.self.view_is in
     let before = subst (λ (m : Memory). Keeps m places objects) (sym same) keeps in
     let held = blocks_of memory places objects Locals in
-    let next : Memory = record { bytes = c.place.new.bytes; statics = c.self.inside.statics; locals = c.place.new.self; heap = c.self.inside.heap; counts = c.self.inside.counts; scopes = c.self.inside.scopes; forms = c.self.inside.forms } in
+    let next : Memory = record { bytes = c.place-placed.new.bytes; statics = c.self.inside.statics; locals = c.place-placed.new.self; heap = c.self.inside.heap; counts = c.self.inside.counts; scopes = c.self.inside.scopes; forms = c.self.inside.forms; marks = c.mark.new.marks } in
     let told =
-    local_added c.self.inside.locals_from c.self.inside.heap_from memory c.self.invariant places objects before c.place.new.bytes c.place.new.self element c.from.result c.args.layout 0 c.args.birth (fit_of memory.locals held c.from.result) c.place.result
-    birth_is (subst (λ (m : Memory). slice_get m.forms c.args.layout ≡ Some (element_of element)) (sym same) got) c.place.ensures.placed func index (c.from.ensures ∙ size_is)
-    (c.place.ensures.address held (before.held Locals)) (c.place.ensures.held held (before.held Locals)) c.place.ensures.bounds in
+    local_added c.self.inside.locals_from c.self.inside.heap_from memory c.self.invariant places objects before c.place-placed.new.bytes c.mark.new.marks c.place-placed.new.self element c.from-bytes.result c.args.layout 0 c.args.birth (fit_of memory.locals held c.from-bytes.result) c.place-placed.result
+    birth_is (subst (λ (m : Memory). slice_get m.forms c.args.layout ≡ Some (element_of element)) (sym same) got) c.place-placed.ensures.placed c.mark.ensures.changes (c.mark.ensures.marked (element_of element) (subst (λ (m : Memory). slice_get m.forms c.args.layout ≡ Some (element_of element)) (sym same) got)) func index (c.from-bytes.ensures ∙ size_is)
+    (c.place-placed.ensures.address held (before.held Locals)) (c.place-placed.ensures.held held (before.held Locals)) c.place-placed.ensures.bounds in
     let old = subst (λ (m : Memory). Tracks m places objects frees) (sym same) tracks in
-    subst (λ (n : ℕ). IfSome c.place.result (λ addr. Tracks next (with_place places c.args.birth addr) (objects ++ blank (Local func index) n element.slots ∷ []) frees)) c.from.ensures
-    (some_more c.place.result (IsMade memory next places objects (blank (Local func index) c.from.result element.slots)) (λ addr. Tracks next (with_place places c.args.birth addr) (objects ++ blank (Local func index) c.from.result element.slots ∷ []) frees)
-    (λ addr made. subst (λ (b : ℕ). Tracks next (with_place places b addr) (objects ++ blank (Local func index) c.from.result element.slots ∷ []) frees) (sym birth_is) (made.tracks frees old)) told)
+    subst (λ (n : ℕ). IfSome c.place-placed.result (λ addr. Tracks next (with_place places c.args.birth addr) (objects ++ blank (Local func index) n element.slots ∷ []) frees)) c.from-bytes.ensures
+    (some_more c.place-placed.result (IsMade memory next places objects (blank (Local func index) c.from-bytes.result element.slots)) (λ addr. Tracks next (with_place places c.args.birth addr) (objects ++ blank (Local func index) c.from-bytes.result element.slots ∷ []) frees)
+    (λ addr made. subst (λ (b : ℕ). Tracks next (with_place places b addr) (objects ++ blank (Local func index) c.from-bytes.result element.slots ∷ []) frees) (sym birth_is) (made.tracks frees old)) told)
 
 pub returns-clause-frame : goal.returns-clause-frame
 returns-clause-frame g c =
-    let memory : Memory = record { bytes = c.self.inside.bytes; statics = c.self.inside.statics; locals = c.self.inside.locals; heap = c.self.inside.heap; counts = c.self.inside.counts; scopes = c.self.inside.scopes; forms = c.self.inside.forms } in
-    frame_locals memory c.args.self.now c.place.new.bytes c.place.new.self c.self.view_is c.place.ensures.bounds c.place.ensures.long
+    let memory : Memory = record { bytes = c.self.inside.bytes; statics = c.self.inside.statics; locals = c.self.inside.locals; heap = c.self.inside.heap; counts = c.self.inside.counts; scopes = c.self.inside.scopes; forms = c.self.inside.forms; marks = c.self.inside.marks } in
+    frame_locals memory c.args.self.now c.place-placed.new.bytes c.mark.new.marks c.place-placed.new.self c.self.view_is c.place-placed.ensures.bounds c.place-placed.ensures.long

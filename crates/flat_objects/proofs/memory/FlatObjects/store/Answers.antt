@@ -17,7 +17,7 @@ use Rattle.flat_objects.proofs.memory.FlatObjects.store.Goals as goal
 
 pub returns-clause-changes : goal.returns-clause-changes
 returns-clause-changes g c = λ places objects p at.
-    let memory : Memory = record { bytes = c.self.inside.bytes; statics = c.self.inside.statics; locals = c.self.inside.locals; heap = c.self.inside.heap; counts = c.self.inside.counts; scopes = c.self.inside.scopes; forms = c.self.inside.forms } in
+    let memory : Memory = record { bytes = c.self.inside.bytes; statics = c.self.inside.statics; locals = c.self.inside.locals; heap = c.self.inside.heap; counts = c.self.inside.counts; scopes = c.self.inside.scopes; forms = c.self.inside.forms; marks = c.self.inside.marks } in
     let same : memory ≡ c.args.self.now = c.self.view_is in
     let before = subst (λ (m : Memory). KeepsAt m places objects p c.args.addr) (sym same) at in
     let allowed = c.in_ok-access_integer.ensures.allows places objects p at in
@@ -32,7 +32,7 @@ returns-clause-changes g c = λ places objects p at.
 
 pub returns-clause-tracks : goal.returns-clause-tracks
 returns-clause-tracks g c = λ places objects p at after frees meant tracks.
-    let memory : Memory = record { bytes = c.self.inside.bytes; statics = c.self.inside.statics; locals = c.self.inside.locals; heap = c.self.inside.heap; counts = c.self.inside.counts; scopes = c.self.inside.scopes; forms = c.self.inside.forms } in
+    let memory : Memory = record { bytes = c.self.inside.bytes; statics = c.self.inside.statics; locals = c.self.inside.locals; heap = c.self.inside.heap; counts = c.self.inside.counts; scopes = c.self.inside.scopes; forms = c.self.inside.forms; marks = c.self.inside.marks } in
     let same : memory ≡ c.args.self.now = c.self.view_is in
     let before = subst (λ (m : Memory). KeepsAt m places objects p c.args.addr) (sym same) at in
     let allowed = c.in_ok-access_integer.ensures.allows places objects p at in
@@ -49,5 +49,5 @@ returns-clause-tracks g c = λ places objects p at after frees meant tracks.
 
 pub returns-clause-frame : goal.returns-clause-frame
 returns-clause-frame g c =
-    let memory : Memory = record { bytes = c.self.inside.bytes; statics = c.self.inside.statics; locals = c.self.inside.locals; heap = c.self.inside.heap; counts = c.self.inside.counts; scopes = c.self.inside.scopes; forms = c.self.inside.forms } in
+    let memory : Memory = record { bytes = c.self.inside.bytes; statics = c.self.inside.statics; locals = c.self.inside.locals; heap = c.self.inside.heap; counts = c.self.inside.counts; scopes = c.self.inside.scopes; forms = c.self.inside.forms; marks = c.self.inside.marks } in
     frame_bytes memory c.args.self.now c.write.new.self c.self.view_is c.write.ensures.len

@@ -26,10 +26,10 @@ invariant_of-self g c =
     let same : heap ≡ c.args.self.now = c.self.view_is in
     let count = c.args.size / 16 + 3 in
     let first = subst (λ (h : HeapModel). IsFirstRun h.marks count c.in-Some.from) (sym same) c.in-Some.ensures in
-    let marked = c.fill_marks.ensures in
+    let marked = c.fill.ensures in
     record {
-      shape = shape_placed heap.base heap.len heap.marks c.fill_marks.new.marks c.in-Some.from count c.self.invariant.shape (omega arith) first.run.inside marked;
-      same = same_filled heap.marks c.self.inside.holes c.self.invariant.same c.fill_marks.new.marks c.take.new.self c.in-Some.from count (Of c.in-Some.from) marked c.take.ensures;
+      shape = shape_placed heap.base heap.len heap.marks c.fill.new.self c.in-Some.from count c.self.invariant.shape (omega arith) first.run.inside marked;
+      same = same_filled heap.marks c.self.inside.holes c.self.invariant.same c.fill.new.self c.take.new.self c.in-Some.from count (Of c.in-Some.from) marked c.take.ensures;
     }
 
 pub returns-in_default-clause-address : goal.returns-in_default-clause-address
@@ -63,9 +63,9 @@ returns-clause-held g c = λ held holds.
     let same : heap ≡ c.args.self.now = c.self.view_is in
     let count = c.args.size / 16 + 3 in
     let first = subst (λ (h : HeapModel). IsFirstRun h.marks count c.in-Some.from) (sym same) c.in-Some.ensures in
-    let marked = c.fill_marks.ensures in
-    subst (λ (h : HeapModel). Holds (marked_heap heap c.fill_marks.new.marks) (with_block held c.args.birth (block_size c.args.size) (fit_of h held c.args.size))) same
-    (placed_holds heap held c.args.size c.self.invariant.shape (subst (λ (h : HeapModel). Holds h held) (sym same) holds) c.in-Some.from c.args.birth c.fill_marks.new.marks first marked)
+    let marked = c.fill.ensures in
+    subst (λ (h : HeapModel). Holds (marked_heap heap c.fill.new.self) (with_block held c.args.birth (block_size c.args.size) (fit_of h held c.args.size))) same
+    (placed_holds heap held c.args.size c.self.invariant.shape (subst (λ (h : HeapModel). Holds h held) (sym same) holds) c.in-Some.from c.args.birth c.fill.new.self first marked)
 
 pub returns-clause-headers : goal.returns-clause-headers
 returns-clause-headers g c = λ held holds headers.
@@ -81,7 +81,7 @@ returns-clause-object g c = λ held holds headers.
     let fit = fit_of old held c.args.size in
     let addr = c.self.inside.base + 16 * c.in-Some.from + 32 in
     let base : c.self.inside.base ≡ old.base = ap (λ (h : HeapModel). h.base) c.self.view_is in
-    let new : HeapModel = record { base = c.self.inside.base; len = c.self.inside.len; marks = c.fill_marks.new.marks } in
+    let new : HeapModel = record { base = c.self.inside.base; len = c.self.inside.len; marks = c.fill.new.self } in
     new_object new c.write_block.new.bytes held c.args.birth c.args.size addr fit
     (subst (λ (n : ℕ). Some addr ≡ option_map (λ (p : ℕ). n + p + 32) fit) (sym base) (returns-clause-address g c held holds))
     (returns-clause-held g c held holds) (returns-clause-headers g c held holds headers)

@@ -21,17 +21,17 @@ invariant_of-self g c =
     let marks = c.self.inside.marks in
     let from = (c.args.addr - 32 - c.self.inside.base) / 16 in
     let count = c.read_size-size.result / 16 + 3 in
-    let marked = c.fill_marks.ensures in
+    let marked = c.fill.ensures in
     record {
-      shape = shape_freed c.self.inside.base c.self.inside.len marks c.fill_marks.new.marks from count c.self.invariant.shape marked;
-      same = same_filled marks c.self.inside.holes c.self.invariant.same c.fill_marks.new.marks c.give.new.self from count Free marked c.give.ensures;
+      shape = shape_freed c.self.inside.base c.self.inside.len marks c.fill.new.self from count c.self.invariant.shape marked;
+      same = same_filled marks c.self.inside.holes c.self.invariant.same c.fill.new.self c.give.new.self from count Free marked c.give.ensures;
     }
 
 pub returns-clause-held : goal.returns-clause-held
 returns-clause-held g c = λ held b object births.
     let heap : HeapModel = record { base = c.self.inside.base; len = c.self.inside.len; marks = c.self.inside.marks } in
     let same : heap ≡ c.args.self.now = c.self.view_is in
-    released heap c.args.bytes.now c.args.addr c.read_size-size.result held b heap.marks c.fill_marks.new.marks (subst (λ (h : HeapModel). IsObject h c.args.bytes.now c.args.addr held b) (sym same) object) births c.read_size-size.ensures.size refl c.fill_marks.ensures
+    released heap c.args.bytes.now c.args.addr c.read_size-size.result held b heap.marks c.fill.new.self (subst (λ (h : HeapModel). IsObject h c.args.bytes.now c.args.addr held b) (sym same) object) births c.read_size-size.ensures.size refl c.fill.ensures
 
 pub returns-clause-headers : goal.returns-clause-headers
 returns-clause-headers g c = λ held b object.

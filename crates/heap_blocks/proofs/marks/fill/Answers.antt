@@ -1,10 +1,10 @@
-use Rattle.std.proofs.Common.{◌≡◌, ◌<◌, ◌≤◌, ◌+◌, ◌-◌, ◌∙◌, inl, inr, ℕ, zero, suc, List, [], ◌∷◌, length, set, Some, refl, ap, sym, subst, arith}
+use Rattle.std.proofs.Common.{◌≡◌, ◌<◌, ◌≤◌, ◌+◌, ◌-◌, ◌∙◌, inl, inr, ℕ, zero, suc, List, [], ◌∷◌, length, set, Some, refl, ap, arith}
 use Rattle.std.specs.Prelude.{slice_get}
 use Rattle.std.proofs.Math.ListN.{length-set}
 use Rattle.std.proofs.lemmas.Bool.{cases_eq}
 use Rattle.heap_blocks.specs.declared.marks.Mark.{Mark}
 use Rattle.heap_blocks.specs.Runs.{Filled}
-use Rattle.heap_blocks.proofs.marks.fill_marks.Goals as goal
+use Rattle.heap_blocks.proofs.marks.fill.Goals as goal
 
 got_set : (xs : List Mark) (i : ℕ) (y : Mark) → i < length xs → slice_get (set xs i y) i ≡ Some y
 got_set [] i y less = absurd (omega arith)
@@ -32,5 +32,4 @@ filled_more before after from place mark h low less = record {
 pub loop-place-preserved : goal.loop-place-preserved
 loop-place-preserved c =
     let so_far = c.loop-place.invariant in
-    subst (λ (l : List Mark). Filled c.args.marks.now l c.args.from (c.loop-place.place + 1 - c.args.from) c.args.mark) (sym c.set.ensures)
-    (filled_more c.args.marks.now c.loop-place.marks c.args.from c.loop-place.place c.args.mark so_far (omega arith) (omega (arith, so_far.long)))
+    filled_more c.args.marks.now c.loop-place.marks c.args.from c.loop-place.place c.args.mark so_far (omega arith) (omega (arith, so_far.long))
