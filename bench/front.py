@@ -3,7 +3,7 @@
 
 Runs `./heapsafe COMMAND FILE` (COMMAND is `print` where none is given) on generated texts of 512 KiB and of twice that, and
 prints, for each kind of text, the ratio of the two processor times and the greatest memory per byte of the longer text. Each time is the
-least of three runs, less that of a text of a few bytes. A ratio of 2 is linear."""
+least of three runs, less that of a text of a few bytes. A ratio of 2 is linear. The shapes that once grew faster are run, or laid out."""
 
 import os
 import resource
@@ -126,23 +126,20 @@ def choices_first(size):
     return "".join(f"int g{number}(int x) {{ return {inner}; }}\n" for number in range(size // 1550))
 
 
-KINDS = [
-    functions,
-    list_of_values,
-    deep,
-    comments,
-    strings,
-    layers(pointer_layers),
-    layers(array_layers),
-    named_pointers,
-    cases,
-    addresses,
-    members,
-    linked_structs,
-    nested_structs,
-    pointer_locals,
-    choices,
-    choices_first,
+# what the command in hand is run on, and what `run` or another command of its own
+KINDS = [functions, list_of_values, deep, comments, strings]
+SHAPES = [
+    (layers(pointer_layers), "run"),
+    (layers(array_layers), "run"),
+    (named_pointers, "run"),
+    (cases, "run"),
+    (addresses, "run"),
+    (members, "run"),
+    (linked_structs, "layout"),
+    (nested_structs, "run"),
+    (pointer_locals, "run"),
+    (choices, "run"),
+    (choices_first, "run"),
 ]
 
 
@@ -162,22 +159,22 @@ def least(command, path):
 
 
 def main():
-    command = sys.argv[1] if len(sys.argv) > 1 else "print"
+    given = sys.argv[1] if len(sys.argv) > 1 else "print"
     with tempfile.TemporaryDirectory() as folder:
         path = os.path.join(folder, "a.c")
 
-        def measured(text):
+        def measured(command, text):
             with open(path, "w", encoding="latin-1") as file:
                 file.write(text)
             return least(command, path)
 
-        measured(MAIN)  # the program is built here, where it is missing
-        nothing, room, _ = measured(MAIN)
-        print(f"heapsafe {command}, 512 KiB against 1 MiB")
-        for kind in KINDS:
-            short, _, _ = measured(kind(HALF - len(MAIN)) + MAIN)
+        measured(given, MAIN)  # the program is built here, where it is missing
+        print(f"heapsafe {given}, 512 KiB against 1 MiB")
+        for kind, command in [(kind, given) for kind in KINDS] + SHAPES:
+            nothing, room, _ = measured(command, MAIN)
+            short, _, _ = measured(command, kind(HALF - len(MAIN)) + MAIN)
             text = kind(2 * HALF - 1024 - len(MAIN)) + MAIN
-            long, memory, words = measured(text)
+            long, memory, words = measured(command, text)
             ratio = (long - nothing) / max(short - nothing, 1e-9)
             print(f"{kind.__doc__:48} time x{ratio:.2f}  memory {(memory - room) / len(text):.1f} bytes a byte {words.strip()}")
 

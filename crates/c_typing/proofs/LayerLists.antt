@@ -52,11 +52,6 @@ param_layer tags (ArrayOf line (Some length)) (next ∷ layers) type = refl
 param_layer tags (FunctionOf line params) [] type = refl
 param_layer tags (FunctionOf line params) (next ∷ layers) type = refl
 
--- a function type of a result and parameters
-pub function_type : (signature : Box Signature Global) →
-    plain (c.Function signature) ≡ Function (plain signature.value.result) (plain_list signature.value.params.items)
-function_type signature = plain-function signature
-
 none_left : (layers : List Layer) → is_none_left layers ≡ (length layers == 0)
 none_left [] = refl
 none_left (layer ∷ rest) = grind arith

@@ -1,8 +1,7 @@
 -- The size of an array by the part of it that is no array.
-use Rattle.std.proofs.Common.{rules, ◌≡◌, ◌⊎◌, ◌≤◌, ◌<◌, ◌-◌, ◌*◌, ◌^◌, ℕ, zero, suc, Bor, Option, Some, None, option_map, IfSome, min, refl, ap, sym, subst, ◌∙◌, arith, inl, inr}
+use Rattle.std.proofs.Common.{◌≡◌, ◌⊎◌, ◌≤◌, ◌<◌, ◌-◌, ◌*◌, ◌^◌, ℕ, zero, suc, Option, Some, None, option_map, IfSome, IfOk, Result, Ok, Err, min, refl, ap, sym, subst, ◌∙◌, arith, inl, inr}
 use Rattle.c_types.specs.declared.layouts.Layout.{Layout}
-use Rattle.c_types.specs.declared.types.CType.{CType, size-CType, the_lemmas}
-use Rattle.c_types.specs.declared.types.CType.TheVariants as c
+use Rattle.hs_base.specs.declared.items.NoMemory.{NoMemory}
 use Rattle.c_types.specs.Types.{PlainType, Array}
 use Rattle.c_types.specs.Layouts.{Known, array_layout, layout_of}
 use Rattle.c_types.specs.TagTable.{TagTable, known, size_in}
@@ -42,12 +41,14 @@ pub element_counted : (table : TagTable) (whole : Option ℕ) (part element : Pl
 element_counted table whole part element count n most is cap h =
     at_element whole count n most (layout_of (known table.completed) element) cap (subst (λ (y : PlainType). IsCounted whole count (size_in table y)) is h)
 
-pub element_below : (x : Bor CType) (n : ℕ) → size-CType x.now ≤ size-CType (c.Array x n)
-element_below x n = search (rules, the_lemmas)
-
 -- what was counted of a part is the size of the whole
 pub all_counted : (whole size all : Option ℕ) (count : ℕ) → IsCounted whole count size → all ≡ option_map (λ n. n * count) size →
     IfSome size (λ n. (n ≡ 0) ⊎ (count < 2 ^ 64 - 1)) → all ≡ whole
 all_counted whole None all count h e s = e ∙ sym h
 all_counted whole (Some n) all count h e (inl none) = e ∙ (ap Some (rw none (omega arith)) ∙ sym (h.0 none))
 all_counted whole (Some n) all count h e (inr less) = e ∙ sym (h.1 less)
+
+pub measured_ok : (r : Result (Option ℕ) NoMemory) (whole size part : Option ℕ) (count : ℕ) → IsCounted whole count part → size ≡ part →
+    IfOk r (λ all. all ≡ option_map (λ n. n * count) size) → IfOk r (λ _. IfSome size (λ n. (n ≡ 0) ⊎ (count < 2 ^ 64 - 1))) → IfOk r (λ all. all ≡ whole)
+measured_ok (Ok all) whole size part count h e is s = all_counted whole size all count (subst (λ (o : Option ℕ). IsCounted whole count o) (sym e) h) is s
+measured_ok (Err e) whole size part count h same is s = tt

@@ -171,7 +171,7 @@ pub fn no_function(line: Line, tags: &Tags, e: Typed) -> Result<Callee, TypeErro
 fn function_callee(alloc: Global, ty: &CType) -> Result<Callee, NoMemory>
     ensures { IfOk result (λ callee. plain_callee callee ≡ rules.function_callee (plain ty.now)) }
 {
-    match ty {
+    match *ty {
         CType::Function(signature) => Ok(Callee::Takes(signature.try_clone(alloc)?)),
         CType::Void
         | CType::Int(_)

@@ -58,7 +58,6 @@ fn array_of(
 }
 
 /// A type with one layer more (C99 6.7.5.1 to 6.7.5.3).
-#[tactic(auto, using(crate::proofs::LayerLists::function_type))]
 fn layered(alloc: Global, tags: &Tags, layer: Layer, ty: CType) -> Result<CType, TypeError>
     ensures { Meets plain result (rules.layered tags.now (plain_layer layer) (plain ty)) }
 {

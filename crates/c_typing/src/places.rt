@@ -106,9 +106,9 @@ fn choice_of(line: Line, test: Folded, x: Typed, y: Typed) -> Result<Typed, Type
             Ok(Typed::integer(ty, folded))
         }
         (Operand::PointerTo(s), Operand::PointerTo(t)) => {
-            let is_first = is_same(s, t) || y.is_null;
             let voids = (is_void(s), is_void(t));
-            chosen_pointer(line, is_first, voids, x, y)
+            let same = is_same(s, t);
+            chosen_pointer(line, same || y.is_null, voids, x, y)
         }
         (Operand::PointerTo(_), Operand::Number(_)) => value_if(
             y.is_null_constant(),

@@ -1,8 +1,6 @@
 -- Whether arrays of arrays fit, by the part of them that is no array.
-use Rattle.std.proofs.Common.{rules, ◌≡◌, ◌≢◌, ◌≤◌, ◌<◌, ◌-◌, ◌*◌, ◌^◌, ℕ, zero, suc, Bor, Option, Some, None, option_map, IfSome, min, refl, subst, arith}
+use Rattle.std.proofs.Common.{◌≡◌, ◌≢◌, ◌≤◌, ◌<◌, ◌-◌, ◌*◌, ◌^◌, ℕ, zero, suc, Option, Some, None, option_map, IfSome, min, refl, subst, arith}
 use Rattle.c_types.specs.declared.layouts.Layout.{Layout}
-use Rattle.c_types.specs.declared.types.CType.{CType, size-CType, the_lemmas}
-use Rattle.c_types.specs.declared.types.CType.TheVariants as c
 use Rattle.c_types.specs.Types.{PlainType, Array}
 use Rattle.c_types.specs.Layouts.{Known, ArraysFit, array_layout, layout_of}
 
@@ -52,6 +50,3 @@ element_fits k whole part element count n most is none cap h =
       some = most_some count n most h.some none cap;
       fits = λ fit room. let both = at_element k element count n most (layout_of k element) refl h.some none cap room in at.fits (fit, both.0) both.1;
     }
-
-pub element_below : (x : Bor CType) (n : ℕ) → size-CType x.now ≤ size-CType (c.Array x n)
-element_below x n = search (rules, the_lemmas)

@@ -29,8 +29,8 @@ returns-in-Some c =
     ∙ ap (λ b. barred b c.args.line (Ok (value answer))) bar in
     subst (λ r. Answers plain_typed r (call c.args.line c.args.literal.now (plain_callee c.args.callee) arguments)) (sym c.refused-in-Some.ensures) called
 
-pub returns-in-None : goal.returns-in-None
-returns-in-None c =
+pub returns-in-Takes : goal.returns-in-Takes
+returns-in-Takes c =
     let arguments = map plain_typed c.args.arguments.now in
     let same : length c.args.arguments.now ≡ length c.in-Takes.signature.params.items =
     omega (arith, c.if-arguments-len.false, c.len.ensures, c.in-Takes.signature.params.ok.0) in
