@@ -17,7 +17,7 @@ use Rattle.c_decls.specs.declared.refusal.TypeKind.TheVariants.{NotLvalue, Opera
 use Rattle.c_decls.specs.Refusals.{Checked, then, unless}
 use Rattle.c_decls.specs.Named as n
 use Rattle.c_decls.specs.Named.{PlainNamed}
-use Rattle.c_decls.specs.Typed.{PlainTyped, Operand, Number, PointerTo, Neither, operand, read, is_null_constant, int, is_void, has_no_value, wanted_value, place, value, is_record, constant}
+use Rattle.c_decls.specs.Typed.{PlainTyped, Operand, Number, operand, read, is_null_constant, int, is_void, has_no_value, wanted_value, place, value, is_record, constant}
 use Rattle.c_decls.specs.TypeRules.{address, unary, unary_of, binary}
 use Rattle.c_decls.specs.PlaceRules.{held_place, element, dot, arrow, cast, choice, assigned, changed, changed_types, is_written, behind_comma}
 use Rattle.c_decls.specs.Callees.{named, Callee, Takes, Prints, NoFunction, called, call, no_function}

@@ -22,7 +22,7 @@ use Rattle.c_decls.specs.Named as n
 use Rattle.c_decls.specs.Named.{PlainNamed}
 use Rattle.c_decls.specs.ScopeList.{Table, named_in, found_from, found as declaration}
 use Rattle.c_decls.specs.Callees.{named, Callee, call}
-use Rattle.c_decls.specs.Typed.{PlainTyped, Operand, Number, PointerTo, Neither, operand, read, is_null_constant, is_record, constant}
+use Rattle.c_decls.specs.Typed.{PlainTyped, Operand, Number, PointerTo, operand, read, is_null_constant, is_record, constant}
 use Rattle.c_decls.specs.TypeRules.{unary, binary, address}
 use Rattle.c_decls.specs.PlaceRules.{element, dot, arrow, cast, choice, assigned, changed}
 use Rattle.c_decls.specs.Expressions.{line_of, string, int_constant, char_constant, joined, first_literal, typed, typename}

@@ -25,13 +25,13 @@ use Rattle.c_decls.specs.Typed.{is_function, has_no_size, Operand, Number, opera
 use Rattle.c_decls.specs.TypeNames.{tag_named}
 use Rattle.c_decls.specs.PlaceRules.{unconverted}
 use Rattle.c_decls.specs.Expressions.{line_of, string}
-use Rattle.elaboration.specs.Context.{Context, With, Variable, asked, emit, anew, left, scoped, entered, here, new_label, with_labels, with_pieces}
+use Rattle.elaboration.specs.Context.{Context, With, Variable, asked, emit, anew, left, entered, here, new_label, with_labels, with_pieces}
 use Rattle.elaboration.specs.Conversions.{Found, Spot, Local, Memory, code_line, atom_in, valued, convert, write, size_or_zero, convert_integer, tested_value, unused}
 use Rattle.elaboration.specs.Reallocates.{reallocates, opened, closed}
 use Rattle.elaboration.specs.Rules.{with_static, with_literal}
 use Rattle.elaboration.specs.Expressions.{found}
 use Rattle.elaboration.specs.Locals.{is_twice, declared_as, next_is_memory, with_memory, with_register, local_in, with_local}
-use Rattle.elaboration.specs.Declarators.{layers, constant}
+use Rattle.elaboration.specs.Declarators.{layers}
 use Rattle.elaboration.specs.Initializers.{Target, InRegister, InMemory, InStatic, static_scalar, member_place, store_at, fill_scalar, scalar, copy_to, fill_record, is_same_place, whole, fill_text, is_character, text, by_text, by_expression, parts_of, takes_braces, is_scalar_type, surplus, all_surplus, initialize, initialize_parts, no_start, with_init_layers, not_whole}
 use Rattle.elaboration.specs.Declarations as storages
 use Rattle.elaboration.specs.Declarations.{Storage, Typedef, Outside, storage_of, specs_alone, specs_before, cleared, fill_memory, fill_register, fill_at, fill_local, local_object, local_name, function_number, with_function, declared_function, no_initializer, variable_number_of, with_new_variable, with_variable, start_of, start_in, started_variable, started, fill_variable, file_object, file_function, file_value, file_name, name_in, entry, entries, declaration}
@@ -46,7 +46,7 @@ use Rattle.core_soundness.proofs.Unused.{behind_string}
 use Rattle.hs_base.specs.Numbers.{wrapped}
 use Rattle.c_types.specs.declared.types.IntType.{IntType}
 use Rattle.c_decls.specs.IntegerTypes.{promoted}
-use Rattle.elaboration.specs.Statements.{Around, below, in_loop, in_switch, in_delay, leaves, leave_to, evaluated, maybe_evaluated, condition, leaves_if_zero, maybe_leaves, apart, return_of, return_from, has_case, case_of, cased, defaulted, switch_operand_of, switch_operand, no_cases, switched, looped, for_start, statement, items}
+use Rattle.elaboration.specs.Statements.{Around, below, in_loop, in_switch, in_delay, leaves, leave_to, evaluated, maybe_evaluated, condition, leaves_if_zero, maybe_leaves, apart, return_of, return_from, has_case, case_of, cased, defaulted, switch_operand_of, switch_operand, no_cases, for_start, statement, items}
 
 -- full expressions
 

@@ -3,7 +3,7 @@ use Rattle.std.proofs.Common.{◌≡◌, ◌+◌, ℕ, Bool, true, false, List, 
 use Rattle.std.specs.Prelude.{nat_lt}
 use Rattle.hs_base.specs.Place.{block_size}
 use Rattle.c_types.specs.declared.types.IntType.{IntType}
-use Rattle.c_types.specs.Types.{PlainType, PlainTypes, Int, Pointer}
+use Rattle.c_types.specs.Types.{PlainType, PlainTypes, Int}
 use Rattle.core_tree.specs.declared.statements.Atom.{Atom}
 use Rattle.core_tree.specs.declared.statements.StmKind.{StmKind}
 use Rattle.core_tree.specs.declared.statements.StmKind.TheVariants.{Call, Lib}

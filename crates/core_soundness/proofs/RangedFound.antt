@@ -24,7 +24,7 @@ use Rattle.c_decls.specs.Named as n
 use Rattle.c_decls.specs.Named.{PlainNamed}
 use Rattle.c_decls.specs.ScopeList.{found as declaration}
 use Rattle.c_decls.specs.BuiltIns.{built_ins, constant_of}
-use Rattle.c_decls.specs.Typed.{PlainTyped, Operand, Number, PointerTo, Neither, operand, place, value, constant, is_null_constant, is_record}
+use Rattle.c_decls.specs.Typed.{PlainTyped, Operand, Number, PointerTo, operand, place, value, constant, is_null_constant, is_record}
 use Rattle.c_decls.specs.TypeRules.{unary, binary, moving, address}
 use Rattle.c_decls.specs.PlaceRules.{element, element_types, dot, arrow, cast, choice, assigned, changed, changed_types, moves, held_place, size, size_answer}
 use Rattle.c_decls.specs.Callees.{named, built_in_named, built_in_value, Callee, Takes, NoFunction, called, call}

@@ -40,7 +40,7 @@ use Rattle.elaboration.specs.Reallocates.{opened, closed}
 use Rattle.elaboration.specs.Expressions.{found}
 use Rattle.elaboration.specs.Declarators.{specs, layers, constant}
 use Rattle.elaboration.specs.Declarations.{function_number, declared_function}
-use Rattle.elaboration.specs.Statements.{Around, around_body, below, in_loop, in_switch, in_delay, leaves, leave_to, evaluated, maybe_evaluated, condition, leaves_if_zero, maybe_leaves, apart, behind, return_of, return_from, has_case, case_of, cased, defaulted, switch_operand_of, switch_operand, no_cases, switched, looped, for_start, statement, items, dispatch, does, cases_of}
+use Rattle.elaboration.specs.Statements.{Around, around_body, below, in_loop, in_switch, in_delay, leaves, leave_to, evaluated, maybe_evaluated, condition, leaves_if_zero, maybe_leaves, apart, behind, return_of, return_from, has_case, case_of, cased, defaulted, switch_operand_of, switch_operand, no_cases, looped, for_start, statement, items, dispatch, does, cases_of}
 use Rattle.elaboration.specs.Externals.{begun, answer_of, params_of, is_defined, body_begun, last_answer, body_ended, body, defined, named_definition, definition, external, externals, calls_defined, is_main}
 use Rattle.elaboration.specs.Addressed.{addressed_in}
 use Rattle.elaboration.specs.Resolving.{function_of, variable_static, literal_static, core_of}

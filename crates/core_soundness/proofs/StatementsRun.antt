@@ -29,6 +29,7 @@ use Rattle.core_soundness.specs.Spoken.{Spoken, AllSpoken}
 use Rattle.core_soundness.proofs.Grown.{good, bad, ok_same, never}
 use Rattle.core_soundness.proofs.Names.{all_refl, all_trans}
 use Rattle.core_soundness.proofs.Agreeing.{came}
+use Rattle.core_soundness.proofs.Reached.{Led, led_ok, led_after}
 use Rattle.core_soundness.proofs.Growing.{Grew, grew_refl, grew_trans, holds_grew, pieces_grew, pieces_joined}
 use Rattle.core_soundness.proofs.Going.{Goes, goes_refl, goes_trans, goes_emit, goes_here, goes_labels}
 use Rattle.core_soundness.proofs.Sorting.{converted, integer_converted, tested_value_gives}
@@ -314,23 +315,43 @@ module _ (answer : Option Sort) (numbers : List ℕ) where
   ran_behind u b c d r x = record { runs = runs_trans answer b c d r x.runs; stands = x.stands }
 
   -- a scope of its own
-  scoped_on : (t u : Taken) (c : Context) (inner : Context → Checked Context) (z : Context) → Stands_in answer numbers t c → ((d : Context) → inner (entered c) ≡ Ok d → Ran_on answer numbers (entered c) u d) → scoped c inner ≡ Ok z → Ran_on answer numbers c (left_scope t u) z
-  scoped_on t u c inner z s k q =
-      let d = came (inner (entered c)) q in
-      let r = k d.value d.is in
-      ran_to (left_scope t u) c (left d.value) z d.last
-      (ran t (left_scope t u) c (left d.value) s (step_left t u c d.value s.step r.stands.step r.runs.addressed r.runs.fine.names.file r.runs.outside) (runs_left answer c d.value (omega (arith, s.deep)) r.runs))
+  -- of each success: a part behind another, behind what goes on, and the last of them
+  led_as : (u v : Taken) (c : Context) {x : Checked Context} → u ≡ v → Led (Ran_on answer numbers c u) x → Led (Ran_on answer numbers c v) x
+  led_as u v c e h z q = ran_as u v c z e (h z q)
 
-  leaves_on : (line label : ℕ) (e : Tree) (t : Taken) (c z : Context) → 1 ≤ line → Good numbers t e → Stands_in answer numbers t c → leaves_if_zero line label e c ≡ Ok z → Went_on answer numbers c (taken e t) z
-  leaves_on line label e t c z l g s q =
-      let k = leaves_runs line label e c z l (leaves_spoken line label e t c z s.step.2 (inside_at (taken e t).addressed numbers c.running.addressed s.same g.inside) g.written g.formed q) s.fine.names q in
-      record { goes = k; stands = stand_go t (taken e t) c z s (leaves_in_step line label e t c z g.formed s.step q) k }
+  led_then : (u v : Taken) (c : Context) {x : Checked Context} {next : Context → Checked Context} → Led (Ran_on answer numbers c u) x
+      → ((d : Context) → Stands_in answer numbers u d → Led (Ran_on answer numbers d v) (next d)) → Led (Ran_on answer numbers c v) (then x next)
+  led_then u v c {x} h k = led_after (Ran_on answer numbers c v) x (λ d q z e. let r = h d q in ran_behind v c d z r.runs (k d r.stands z e))
 
-  maybe_leaves_on : (line label : ℕ) (es : Trees) (t : Taken) (c z : Context) → 1 ≤ line → Good numbers t (Node f.MaybeExpr es) → Stands_in answer numbers t c → maybe_leaves line label es c ≡ Ok z → Went_on answer numbers c (taken (Node f.MaybeExpr es) t) z
-  maybe_leaves_on line label es t c z l g s q =
+  goes_step : (w : Taken) (c d : Context) → Stands_in answer numbers w c → Goes c d → InStep w d
+  goes_step w c d s g = keeps_step w w c d (record { names = refl; typedef = refl; declared = refl }) (goes_keeps c d g) s.step
+
+  led_goes : (w v : Taken) (c d : Context) {x : Checked Context} → Stands_in answer numbers w c → Goes c d → (Stands_in answer numbers w d → Led (Ran_on answer numbers d v) x) → Led (Ran_on answer numbers c v) x
+  led_goes w v c d s g k z q = ran_behind v c d z (goes_runs answer c d s.fine g) (k (stand_go w w c d s (goes_step w c d s g) g) z q)
+
+  led_done : (w : Taken) (c d : Context) → Stands_in answer numbers w c → Goes c d → Led (Ran_on answer numbers c w) (Ok d)
+  led_done w c d s g = led_ok (Ran_on answer numbers c w) (ran_go w w c d s (goes_step w c d s g) g)
+
+  -- a scope of its own
+  scoped_led : (t u : Taken) (c : Context) {x : Checked Context} → Stands_in answer numbers t c → (Stands_in answer numbers t (entered c) → Led (Ran_on answer numbers (entered c) u) x)
+      → Led (Ran_on answer numbers c (left_scope t u)) (then x (λ d. Ok (left d)))
+  scoped_led t u c {x} s k =
+      led_after (Ran_on answer numbers c (left_scope t u)) x
+      (λ d q. let r = k (stand_in t c s) d q in
+      led_ok (Ran_on answer numbers c (left_scope t u))
+      (ran t (left_scope t u) c (left d) s (step_left t u c d s.step r.stands.step r.runs.addressed r.runs.fine.names.file r.runs.outside) (runs_left answer c d (omega (arith, s.deep)) r.runs)))
+
+  leaves_on : (line label : ℕ) (e : Tree) (t : Taken) (c : Context) → 1 ≤ line → Good numbers t e → Stands_in answer numbers t c → Led (Ran_on answer numbers c (taken e t)) (leaves_if_zero line label e c)
+  leaves_on line label e t c l g s z q =
+      ran_go t (taken e t) c z s (leaves_in_step line label e t c z g.formed s.step q)
+      (leaves_runs line label e c z l (leaves_spoken line label e t c z s.step.2 (inside_at (taken e t).addressed numbers c.running.addressed s.same g.inside) g.written g.formed q) s.fine.names q)
+
+  maybe_leaves_on : (line label : ℕ) (es : Trees) (t : Taken) (c : Context) → 1 ≤ line → Good numbers t (Node f.MaybeExpr es) → Stands_in answer numbers t c
+      → Led (Ran_on answer numbers c (taken (Node f.MaybeExpr es) t)) (maybe_leaves line label es c)
+  maybe_leaves_on line label es t c l g s z q =
       let u : Taken = taken (Node f.MaybeExpr es) t in
-      let k = maybe_leaves_runs line label es c z l (maybe_leaves_spoken line label es t c z s.step.2 (inside_at u.addressed numbers c.running.addressed s.same g.inside) g.written g.formed q) s.fine.names q in
-      record { goes = k; stands = stand_go t u c z s (maybe_leaves_in_step line label es t c z g.formed s.step q) k }
+      ran_go t u c z s (maybe_leaves_in_step line label es t c z g.formed s.step q)
+      (maybe_leaves_runs line label es c z l (maybe_leaves_spoken line label es t c z s.step.2 (inside_at u.addressed numbers c.running.addressed s.same g.inside) g.written g.formed q) s.fine.names q)
 
   maybe_evaluated_on : (es : Trees) (t : Taken) (c z : Context) → Good numbers t (Node f.MaybeExpr es) → Stands_in answer numbers t c → maybe_evaluated es c ≡ Ok z → Went_on answer numbers c (taken (Node f.MaybeExpr es) t) z
   maybe_evaluated_on es t c z g s q =
@@ -363,110 +384,76 @@ module _ (answer : Option Sort) (numbers : List ℕ) where
   mutual
     unfolding statement items
 
-    pub statement_runs : (tree : Tree) (w : Taken) (a : Around) (c z : Context) → Good numbers w tree → Stands_in answer numbers w c → statement tree a c ≡ Ok z → Ran_on answer numbers c (taken tree w) z
-    statement_runs (Node f.Empty parts) w a c z p s q =
+    pub statement_runs : (tree : Tree) (w : Taken) (a : Around) (c : Context) → Good numbers w tree → Stands_in answer numbers w c → Led (Ran_on answer numbers c (taken tree w)) (statement tree a c)
+    statement_runs (Node f.Empty parts) w a c p s z q =
         ran_as w (taken (Node f.Empty parts) w) c z (empty_taken parts w p.formed) (ran_to w c c z q (record { runs = runs_refl answer c s.fine; stands = s }))
-    statement_runs (Node f.Expr (At line ▹ e ▹ none)) w a c z p s q =
+    statement_runs (Node f.Expr (At line ▹ e ▹ none)) w a c p s z q =
         let o = expr_good numbers w line e p in
         let g = evaluated_runs e c z (evaluated_spoken e w c z s.step.2 (inside_at (taken e w).addressed numbers c.running.addressed s.same o.inside) o.written o.formed q) s.fine.names q in
         ran_as (as_before w (taken e w)) (taken (Node f.Expr (At line ▹ e ▹ none)) w) c z (expr_taken w line e) (ran_go w (as_before w (taken e w)) c z s (typed_step w (taken e w) c z s.step (evaluated_in_step e w c z o.formed s.step q)) g)
-    statement_runs (Node f.Block (At line ▹ Node f.Items parts ▹ none)) w a c z p s q =
-        ran_as (left_scope w (behind_items parts w)) (taken (Node f.Block (At line ▹ Node f.Items parts ▹ none)) w) c z (block_taken w line parts)
-        (scoped_on w (behind_items parts w) c (λ d. items parts (below a) d) z s (λ d k. items_run parts w (below a) (entered c) d (block_good numbers w line parts p) (stand_in w c s) k) q)
-    statement_runs (Node f.Delay (At line ▹ Node f.Items parts ▹ none)) w a c z p s q =
+    statement_runs (Node f.Block (At line ▹ Node f.Items parts ▹ none)) w a c p s z q =
+        led_as (left_scope w (behind_items parts w)) _ c (block_taken w line parts)
+        (scoped_led w (behind_items parts w) c s (λ si. items_run parts w (below a) (entered c) (block_good numbers w line parts p) si)) z q
+    statement_runs (Node f.Delay (At line ▹ Node f.Items parts ▹ none)) w a c p s z q =
         let o = delay_good numbers w line parts p in
         let u : Taken = behind_items parts w in
-        ran_as (left_scope w u) (taken (Node f.Delay (At line ▹ Node f.Items parts ▹ none)) w) c z (delay_taken w line parts)
-        (scoped_on w u c (λ d. then (items parts (in_delay a) (emit line Enter d)) (λ e. good (emit line Leave e))) z s
-        (λ d k. let x = came (items parts (in_delay a) (emit line Enter (entered c))) k in
-        let s2 = stand_in w c s in
-        let g = goes_emit line Enter (entered c) o.0 tt in
-        let r = items_run parts w (in_delay a) (emit line Enter (entered c)) x.value o.1 (stand_go w w (entered c) (emit line Enter (entered c)) s2 s2.step g) x.is in
-        let r2 = runs_trans answer (entered c) (emit line Enter (entered c)) x.value (goes_runs answer (entered c) _ s2.fine g) r.runs in
-        ran_to u (entered c) (emit line Leave x.value) d x.last (ran w u (entered c) (emit line Leave x.value) s2 r.stands.step (on_runs answer (entered c) x.value _ r2 (goes_emit line Leave x.value o.0 tt)))) q)
-    statement_runs (Node f.If (At line ▹ e ▹ x ▹ none)) w a c z p s q =
+        let d = emit line Enter (entered c) in
+        led_as (left_scope w u) _ c (delay_taken w line parts)
+        (scoped_led w u c s (λ si. led_goes w u (entered c) d si (goes_emit line Enter (entered c) o.0 tt)
+        (λ sd. led_then u u d (items_run parts w (in_delay a) d o.1 sd) (λ e se. led_done u e (emit line Leave e) se (goes_emit line Leave e o.0 tt))))) z q
+    statement_runs (Node f.If (At line ▹ e ▹ x ▹ none)) w a c p s z q =
         let o = if_good numbers w line e x p in
-        let u : Taken = left_scope (taken e w) (taken x (taken e w)) in
+        let t1 : Taken = taken e w in
+        let u : Taken = left_scope t1 (taken x t1) in
         let end = new_label c in
         let b = with_labels 1 c in
-        let sb = stand_go w w c b s s.step (goes_labels 1 c) in
-        ran_as (left_scope w u) (taken (Node f.If (At line ▹ e ▹ x ▹ none)) w) c z (if_taken w line e x)
-        (ran_behind (left_scope w u) c b z (goes_runs answer c b s.fine (goes_labels 1 c))
-        (scoped_on w u b (λ d. then (leaves_if_zero line end e d) (λ t. then (scoped t (λ y. statement x (below a) y)) (λ g. good (here end g)))) z sb
-        (λ d k. let t = came (leaves_if_zero line end e (entered b)) k in
-        let g = came (scoped t.value (λ y. statement x (below a) y)) t.last in
-        let s2 = stand_in w b sb in
-        let tg = leaves_on line end e w (entered b) t.value o.0 o.1 s2 t.is in
-        let r = scoped_on (taken e w) (taken x (taken e w)) t.value (λ y. statement x (below a) y) g.value tg.stands (λ v j. statement_runs x (taken e w) (below a) (entered t.value) v o.2 (stand_in (taken e w) t.value tg.stands) j) g.is in
-        ran_to u (entered b) (here end g.value) d g.last
-        (ran w u (entered b) (here end g.value) s2 r.stands.step (on_runs answer (entered b) g.value _ (runs_trans answer (entered b) t.value g.value (goes_runs answer (entered b) t.value s2.fine tg.goes) r.runs) (goes_here end g.value)))) q))
-    statement_runs (Node f.IfElse (At line ▹ e ▹ x ▹ other ▹ none)) w a c z p s q =
+        led_as (left_scope w u) _ c (if_taken w line e x)
+        (led_goes w (left_scope w u) c b s (goes_labels 1 c) (λ sb. scoped_led w u b sb (λ si. led_then t1 u (entered b) (leaves_on line end e w (entered b) o.0 o.1 si)
+        (λ t st. led_then u u t (scoped_led t1 (taken x t1) t st (λ sx. statement_runs x t1 (below a) (entered t) o.2 sx))
+        (λ g sg. led_done u g (here end g) sg (goes_here end g)))))) z q
+    statement_runs (Node f.IfElse (At line ▹ e ▹ x ▹ other ▹ none)) w a c p s z q =
         let o = else_good numbers w line e x other p in
-        let u : Taken = left_scope (taken e w) (taken x (taken e w)) in
+        let t1 : Taken = taken e w in
+        let u : Taken = left_scope t1 (taken x t1) in
         let v : Taken = left_scope u (taken other u) in
         let end = new_label c in
         let b = with_labels 2 c in
-        let sb = stand_go w w c b s s.step (goes_labels 2 c) in
-        ran_as (left_scope w v) (taken (Node f.IfElse (At line ▹ e ▹ x ▹ other ▹ none)) w) c z (else_taken w line e x other u refl)
-        (ran_behind (left_scope w v) c b z (goes_runs answer c b s.fine (goes_labels 2 c))
-        (scoped_on w v b (λ d. then (leaves_if_zero line (end + 1) e d) (λ t. then (scoped t (λ y. statement x (below a) y)) (λ g. then (scoped (here (end + 1) (emit line (Jump end) g)) (λ y. statement other (below a) y)) (λ h. good (here end h))))) z sb
-        (λ d k. let t = came (leaves_if_zero line (end + 1) e (entered b)) k in
-        let g = came (scoped t.value (λ y. statement x (below a) y)) t.last in
-        let mid = here (end + 1) (emit line (Jump end) g.value) in
-        let h = came (scoped mid (λ y. statement other (below a) y)) g.last in
-        let s2 = stand_in w b sb in
-        let tg = leaves_on line (end + 1) e w (entered b) t.value o.0 o.1 s2 t.is in
-        let r = scoped_on (taken e w) (taken x (taken e w)) t.value (λ y. statement x (below a) y) g.value tg.stands (λ v j. statement_runs x (taken e w) (below a) (entered t.value) v o.2 (stand_in (taken e w) t.value tg.stands) j) g.is in
-        let mg = goes_trans g.value (emit line (Jump end) g.value) mid (goes_emit line (Jump end) g.value o.0 tt) (goes_here (end + 1) (emit line (Jump end) g.value)) in
-        let r2 = on_runs answer t.value g.value mid r.runs mg in
-        let sm = stand_go u u g.value mid r.stands r.stands.step mg in
-        let r3 = scoped_on u (taken other u) mid (λ y. statement other (below a) y) h.value sm (λ v j. statement_runs other u (below a) (entered mid) v o.3 (stand_in u mid sm) j) h.is in
-        let all = runs_trans answer (entered b) t.value h.value (goes_runs answer (entered b) t.value s2.fine tg.goes) (runs_trans answer t.value mid h.value r2 r3.runs) in
-        ran_to v (entered b) (here end h.value) d h.last (ran w v (entered b) (here end h.value) s2 r3.stands.step (on_runs answer (entered b) h.value _ all (goes_here end h.value)))) q))
-    statement_runs (Node f.While (At line ▹ e ▹ x ▹ none)) w a c z p s q =
+        led_as (left_scope w v) _ c (else_taken w line e x other u refl)
+        (led_goes w (left_scope w v) c b s (goes_labels 2 c) (λ sb. scoped_led w v b sb (λ si. led_then t1 v (entered b) (leaves_on line (end + 1) e w (entered b) o.0 o.1 si)
+        (λ t st. led_then u v t (scoped_led t1 (taken x t1) t st (λ sx. statement_runs x t1 (below a) (entered t) o.2 sx))
+        (λ g sg. let j = emit line (Jump end) g in
+        let m = here (end + 1) j in
+        led_goes u v g m sg (goes_trans g j m (goes_emit line (Jump end) g o.0 tt) (goes_here (end + 1) j))
+        (λ sm. led_then v v m (scoped_led u (taken other u) m sm (λ so. statement_runs other u (below a) (entered m) o.3 so))
+        (λ h sh. led_done v h (here end h) sh (goes_here end h)))))))) z q
+    statement_runs (Node f.While (At line ▹ e ▹ x ▹ none)) w a c p s z q =
         let o = while_good numbers w line e x p in
-        let u : Taken = left_scope (taken e w) (taken x (taken e w)) in
+        let t1 : Taken = taken e w in
+        let u : Taken = left_scope t1 (taken x t1) in
         let head = new_label c in
         let b = with_labels 3 c in
-        let sb = stand_go w w c b s s.step (goes_labels 3 c) in
-        ran_as (left_scope w u) (taken (Node f.While (At line ▹ e ▹ x ▹ none)) w) c z (while_taken w line e x)
-        (ran_behind (left_scope w u) c b z (goes_runs answer c b s.fine (goes_labels 3 c))
-        (scoped_on w u b (λ d. then (leaves_if_zero line (head + 1) e (here head d)) (λ t. then (scoped t (λ y. statement x (in_loop (head + 1) (head + 2) a) y)) (λ g. good (looped line head (head + 1) (here (head + 2) g))))) z sb
-        (λ d k. let t = came (leaves_if_zero line (head + 1) e (here head (entered b))) k in
-        let g = came (scoped t.value (λ y. statement x (in_loop (head + 1) (head + 2) a) y)) t.last in
-        let s2 = stand_in w b sb in
-        let hg = goes_here head (entered b) in
-        let s3 = stand_go w w (entered b) (here head (entered b)) s2 s2.step hg in
-        let lt = leaves_on line (head + 1) e w (here head (entered b)) t.value o.0 o.1 s3 t.is in
-        let tg = goes_trans (entered b) (here head (entered b)) t.value hg lt.goes in
-        let r = scoped_on (taken e w) (taken x (taken e w)) t.value (λ y. statement x (in_loop (head + 1) (head + 2) a) y) g.value lt.stands (λ v j. statement_runs x (taken e w) (in_loop (head + 1) (head + 2) a) (entered t.value) v o.2 (stand_in (taken e w) t.value lt.stands) j) g.is in
-        let made = looped line head (head + 1) (here (head + 2) g.value) in
-        let last = goes_trans g.value (here (head + 2) g.value) made (goes_here (head + 2) g.value) (looped_goes line head (head + 1) (here (head + 2) g.value) o.0) in
-        ran_to u (entered b) made d g.last
-        (ran w u (entered b) made s2 r.stands.step (on_runs answer (entered b) g.value made (runs_trans answer (entered b) t.value g.value (goes_runs answer (entered b) t.value s2.fine tg) r.runs) last))) q))
-    statement_runs (Node f.Do (At line ▹ x ▹ e ▹ none)) w a c z p s q =
+        let y = here head (entered b) in
+        led_as (left_scope w u) _ c (while_taken w line e x)
+        (led_goes w (left_scope w u) c b s (goes_labels 3 c) (λ sb. scoped_led w u b sb (λ si. led_goes w u (entered b) y si (goes_here head (entered b))
+        (λ sy. led_then t1 u y (leaves_on line (head + 1) e w y o.0 o.1 sy)
+        (λ t st. led_then u u t (scoped_led t1 (taken x t1) t st (λ sx. statement_runs x t1 (in_loop (head + 1) (head + 2) a) (entered t) o.2 sx))
+        (λ g sg. let m = here (head + 2) g in
+        led_done u g (looped line head (head + 1) m) sg (goes_trans g m _ (goes_here (head + 2) g) (looped_goes line head (head + 1) m o.0)))))))) z q
+    statement_runs (Node f.Do (At line ▹ x ▹ e ▹ none)) w a c p s z q =
         let o = do_good numbers w line x e p in
         let u : Taken = left_scope w (taken x w) in
+        let v : Taken = taken e u in
         let head = new_label c in
         let b = with_labels 3 c in
-        let sb = stand_go w w c b s s.step (goes_labels 3 c) in
-        ran_as (left_scope w (taken e u)) (taken (Node f.Do (At line ▹ x ▹ e ▹ none)) w) c z (do_taken w line x e)
-        (ran_behind (left_scope w (taken e u)) c b z (goes_runs answer c b s.fine (goes_labels 3 c))
-        (scoped_on w (taken e u) b (λ d. then (scoped (here head d) (λ y. statement x (in_loop (head + 1) (head + 2) a) y)) (λ g. then (leaves_if_zero line (head + 1) e (here (head + 2) g)) (λ t. good (looped line head (head + 1) t)))) z sb
-        (λ d k. let g = came (scoped (here head (entered b)) (λ y. statement x (in_loop (head + 1) (head + 2) a) y)) k in
-        let t = came (leaves_if_zero line (head + 1) e (here (head + 2) g.value)) g.last in
-        let s2 = stand_in w b sb in
-        let hg = goes_here head (entered b) in
-        let s3 = stand_go w w (entered b) (here head (entered b)) s2 s2.step hg in
-        let r = scoped_on w (taken x w) (here head (entered b)) (λ y. statement x (in_loop (head + 1) (head + 2) a) y) g.value s3 (λ v j. statement_runs x w (in_loop (head + 1) (head + 2) a) (entered (here head (entered b))) v o.1 (stand_in w (here head (entered b)) s3) j) g.is in
-        let gg = goes_here (head + 2) g.value in
-        let r2 = on_runs answer (here head (entered b)) g.value _ r.runs gg in
-        let s4 = stand_go u u g.value (here (head + 2) g.value) r.stands r.stands.step gg in
-        let tg = leaves_on line (head + 1) e u (here (head + 2) g.value) t.value o.0 o.2 s4 t.is in
-        let all = runs_trans answer (entered b) (here head (entered b)) t.value (goes_runs answer (entered b) _ s2.fine hg) (on_runs answer (here head (entered b)) (here (head + 2) g.value) t.value r2 tg.goes) in
-        let made = looped line head (head + 1) t.value in
-        ran_to (taken e u) (entered b) made d t.last (ran w (taken e u) (entered b) made s2 tg.stands.step (on_runs answer (entered b) t.value made all (looped_goes line head (head + 1) t.value o.0)))) q))
-    statement_runs (Node f.For (At line ▹ start ▹ Node f.MaybeExpr test ▹ Node f.MaybeExpr step ▹ x ▹ none)) w a c z p s q =
+        let y = here head (entered b) in
+        led_as (left_scope w v) _ c (do_taken w line x e)
+        (led_goes w (left_scope w v) c b s (goes_labels 3 c) (λ sb. scoped_led w v b sb (λ si. led_goes w v (entered b) y si (goes_here head (entered b))
+        (λ sy. led_then u v y (scoped_led w (taken x w) y sy (λ sx. statement_runs x w (in_loop (head + 1) (head + 2) a) (entered y) o.1 sx))
+        (λ g sg. let m = here (head + 2) g in
+        led_goes u v g m sg (goes_here (head + 2) g)
+        (λ sm. led_then v v m (leaves_on line (head + 1) e u m o.0 o.2 sm)
+        (λ t st. led_done v t (looped line head (head + 1) t) st (looped_goes line head (head + 1) t o.0)))))))) z q
+    statement_runs (Node f.For (At line ▹ start ▹ Node f.MaybeExpr test ▹ Node f.MaybeExpr step ▹ x ▹ none)) w a c p s z q =
         let o = for_good numbers w line start x test step p in
         let w1 : Taken = taken start w in
         let w2 : Taken = taken (Node f.MaybeExpr test) w1 in
@@ -474,59 +461,49 @@ module _ (answer : Option Sort) (numbers : List ℕ) where
         let u : Taken = left_scope w3 (taken x w3) in
         let head = new_label c in
         let b = with_labels 3 c in
-        let sb = stand_go w w c b s s.step (goes_labels 3 c) in
-        ran_as (left_scope w u) (taken (Node f.For (At line ▹ start ▹ Node f.MaybeExpr test ▹ Node f.MaybeExpr step ▹ x ▹ none)) w) c z (for_taken w line start x test step w3 refl)
-        (ran_behind (left_scope w u) c b z (goes_runs answer c b s.fine (goes_labels 3 c))
-        (scoped_on w u b (λ d. then (for_start line start d) (λ y. then (maybe_leaves line (head + 1) test (here head y)) (λ t. then (maybe_evaluated step (apart t)) (λ g. then (scoped (with_pieces t.code.pieces g) (λ v. statement x (in_loop (head + 1) (head + 2) a) v)) (λ h. good (looped line head (head + 1) (with_pieces (h.code.pieces ++ (Here (head + 2) ∷ g.code.pieces)) h))))))) z sb
-        (λ d k. let y = came (for_start line start (entered b)) k in
-        let t = came (maybe_leaves line (head + 1) test (here head y.value)) y.last in
-        let g = came (maybe_evaluated step (apart t.value)) t.last in
-        let h = came (scoped (with_pieces t.value.code.pieces g.value) (λ v. statement x (in_loop (head + 1) (head + 2) a) v)) g.last in
-        let s2 = stand_in w b sb in
-        let r1 = for_start_on line start w (entered b) y.value o.0 o.1 s2 y.is in
-        let r2 = on_runs answer (entered b) y.value (here head y.value) r1.runs (goes_here head y.value) in
-        let sy = stand_go w1 w1 y.value (here head y.value) r1.stands r1.stands.step (goes_here head y.value) in
-        let lt = maybe_leaves_on line (head + 1) test w1 (here head y.value) t.value o.0 o.2 sy t.is in
-        let r3 = on_runs answer (entered b) (here head y.value) t.value r2 lt.goes in
-        let st = lt.stands in
-        let sa : Stands_in answer numbers w2 (apart t.value) = record { fine = record { names = st.fine.names; lined = st.fine.lined }; inside = st.inside; deep = st.deep; sorted = st.sorted; step = st.step; same = st.same } in
-        let ge = maybe_evaluated_on step w2 (apart t.value) g.value o.3 sa g.is in
+        led_as (left_scope w u) _ c (for_taken w line start x test step w3 refl)
+        (led_goes w (left_scope w u) c b s (goes_labels 3 c) (λ sb. scoped_led w u b sb
+        (λ si. led_then w1 u (entered b) (λ y k. for_start_on line start w (entered b) y o.0 o.1 si k)
+        (λ y sy. led_goes w1 u y (here head y) sy (goes_here head y)
+        (λ sh. led_then w2 u (here head y) (maybe_leaves_on line (head + 1) test w1 (here head y) o.0 o.2 sh)
+        (λ t st. led_after (Ran_on answer numbers t u) (maybe_evaluated step (apart t))
+        (λ g k. let sa : Stands_in answer numbers w2 (apart t) = record { fine = record { names = st.fine.names; lined = st.fine.lined }; inside = st.inside; deep = st.deep; sorted = st.sorted; step = st.step; same = st.same } in
+        let ge = maybe_evaluated_on step w2 (apart t) g o.3 sa k in
         let sg = ge.stands in
-        let sw : Stands_in answer numbers w3 (with_pieces t.value.code.pieces g.value) = record { fine = record { names = sg.fine.names; lined = sg.fine.lined }; inside = sg.inside; deep = sg.deep; sorted = sg.sorted; step = sg.step; same = sg.same } in
-        let r4 = scoped_on w3 (taken x w3) (with_pieces t.value.code.pieces g.value) (λ v. statement x (in_loop (head + 1) (head + 2) a) v) h.value sw (λ v j. statement_runs x w3 (in_loop (head + 1) (head + 2) a) (entered (with_pieces t.value.code.pieces g.value)) v o.4 (stand_in w3 (with_pieces t.value.code.pieces g.value) sw) j) h.is in
-        let bodied = with_pieces (h.value.code.pieces ++ (Here (head + 2) ∷ g.value.code.pieces)) h.value in
-        let r5 = for_runs answer (head + 2) t.value g.value h.value st.fine ge.goes r4.runs in
+        let y2 = with_pieces t.code.pieces g in
+        let sw : Stands_in answer numbers w3 y2 = record { fine = record { names = sg.fine.names; lined = sg.fine.lined }; inside = sg.inside; deep = sg.deep; sorted = sg.sorted; step = sg.step; same = sg.same } in
+        led_after (Ran_on answer numbers t u) (scoped y2 (λ v. statement x (in_loop (head + 1) (head + 2) a) v))
+        (λ h j. let r = scoped_led w3 (taken x w3) y2 sw (λ sx. statement_runs x w3 (in_loop (head + 1) (head + 2) a) (entered y2) o.4 sx) h j in
+        let bodied = with_pieces (h.code.pieces ++ (Here (head + 2) ∷ g.code.pieces)) h in
         let made = looped line head (head + 1) bodied in
-        ran_to u (entered b) made d h.last
-        (ran w u (entered b) made s2 r4.stands.step (on_runs answer (entered b) bodied made (runs_trans answer (entered b) t.value bodied r3 r5) (looped_goes line head (head + 1) bodied o.0)))) q))
-    statement_runs (Node f.Switch (At line ▹ e ▹ Node f.Block (At at ▹ Node f.Items parts ▹ none) ▹ none)) w a c z p s q =
+        led_ok (Ran_on answer numbers t u)
+        (ran w2 u t made st r.stands.step (on_runs answer t bodied made (for_runs answer (head + 2) t g h st.fine ge.goes r.runs) (looped_goes line head (head + 1) bodied o.0))))))))))) z q
+    statement_runs (Node f.Switch (At line ▹ e ▹ Node f.Block (At at ▹ Node f.Items parts ▹ none) ▹ none)) w a c p s z q =
         let o = switch_good numbers w line at e parts p in
         let u : Taken = taken e w in
         let v : Taken = left_scope u (behind_items parts u) in
         let end = new_label c in
         let b = with_labels 1 c in
-        let sb = stand_go w w c b s s.step (goes_labels 1 c) in
-        ran_as (left_scope w v) (taken (Node f.Switch (At line ▹ e ▹ Node f.Block (At at ▹ Node f.Items parts ▹ none) ▹ none)) w) c z (switch_taken w line at e parts)
-        (ran_behind (left_scope w v) c b z (goes_runs answer c b s.fine (goes_labels 1 c))
-        (scoped_on w v b (λ d. then (switch_operand line e d) (λ t. then (scoped (no_cases (apart t.0)) (λ y. items parts (in_switch true end t.1.0 a) y)) (λ g. good (switched line end t.1.1 t.0 g)))) z sb
-        (λ d k. let t = came (switch_operand line e (entered b)) k in
-        let g = came (scoped (no_cases (apart t.value.0)) (λ y. items parts (in_switch true end t.value.1.0 a) y)) t.last in
-        let s2 = stand_in w b sb in
-        let k2 = operand_on line e w (entered b) t.value o.0 o.1 s2 t.is in
-        let st = k2.stands in
-        let sa : Stands_in answer numbers u (no_cases (apart t.value.0)) = record { fine = record { names = st.fine.names; lined = st.fine.lined }; inside = st.inside; deep = st.deep; sorted = st.sorted; step = st.step; same = st.same } in
-        let r = scoped_on u (behind_items parts u) (no_cases (apart t.value.0)) (λ y. items parts (in_switch true end t.value.1.0 a) y) g.value sa (λ y j. items_run parts u (in_switch true end t.value.1.0 a) (entered (no_cases (apart t.value.0))) y o.2 (stand_in u (no_cases (apart t.value.0)) sa) j) g.is in
-        let made = switched line end t.value.1.1 t.value.0 g.value in
-        ran_to v (entered b) made d g.last
-        (ran w v (entered b) made s2 r.stands.step (runs_trans answer (entered b) t.value.0 made (goes_runs answer (entered b) t.value.0 s2.fine k2.at.goes) (switched_runs answer line end t.value.1.1 t.value.0 g.value o.0 k2.at.holds r.runs)))) q))
-    statement_runs (Node f.Switch (At line ▹ e ▹ x ▹ none)) w a c z p s q =
+        led_as (left_scope w v) _ c (switch_taken w line at e parts)
+        (led_goes w (left_scope w v) c b s (goes_labels 1 c) (λ sb. scoped_led w v b sb
+        (λ si. led_after (Ran_on answer numbers (entered b) v) (switch_operand line e (entered b))
+        (λ t k. let y = no_cases (apart t.0) in
+        let at_operand = operand_on line e w (entered b) t o.0 o.1 si k in
+        let st = at_operand.stands in
+        let sa : Stands_in answer numbers u y = record { fine = record { names = st.fine.names; lined = st.fine.lined }; inside = st.inside; deep = st.deep; sorted = st.sorted; step = st.step; same = st.same } in
+        led_after (Ran_on answer numbers (entered b) v) (scoped y (λ d. items parts (in_switch true end t.1.0 a) d))
+        (λ g j. let r = scoped_led u (behind_items parts u) y sa (λ sx. items_run parts u (in_switch true end t.1.0 a) (entered y) o.2 sx) g j in
+        let made = switched line end t.1.1 t.0 g in
+        led_ok (Ran_on answer numbers (entered b) v)
+        (ran w v (entered b) made si r.stands.step (runs_trans answer (entered b) t.0 made (goes_runs answer (entered b) t.0 si.fine at_operand.at.goes) (switched_runs answer line end t.1.1 t.0 g o.0 at_operand.at.holds r.runs)))))))) z q
+    statement_runs (Node f.Switch (At line ▹ e ▹ x ▹ none)) w a c p s z q =
         let end = new_label c in
         let b = with_labels 1 c in
         let v = came (then (switch_operand line e (entered b)) (λ t. then (statement x (in_switch false end t.1.0 a) (no_cases (apart t.0))) (λ g. bad (record { kind = LeftOut; line = line })))) q in
         let t = came (switch_operand line e (entered b)) v.is in
         let g = came (statement x (in_switch false end t.value.1.0 a) (no_cases (apart t.value.0))) {next = λ g. bad (record { kind = LeftOut; line = line })} t.last in
         never _ _ v.value g.last
-    statement_runs (Node f.Case (At line ▹ e ▹ x ▹ none)) w a c z p s q =
+    statement_runs (Node f.Case (At line ▹ e ▹ x ▹ none)) w a c p s z q =
         let o = case_good numbers w line e x p in
         let u : Taken = taken x (taken e w) in
         let k = came (constant e c) q in
@@ -535,40 +512,39 @@ module _ (answer : Option Sort) (numbers : List ℕ) where
         let d = came (statement x a b) k.last in
         let r1 = constant_runs answer e c c (runs_refl answer c s.fine) k.value k.is in
         let r2 = on_runs answer c k.value.0 b r1 (goes_trans k.value.0 (with_labels 1 k.value.0) b (goes_labels 1 k.value.0) (goes_here label (with_labels 1 k.value.0))) in
-        let r3 = statement_runs x (taken e w) a b d.value o.1 (stand_on w (taken e w) c b s (constant_in_step e w c k.value o.0.formed s.step k.is) r2) d.is in
+        let r3 = statement_runs x (taken e w) a b o.1 (stand_on w (taken e w) c b s (constant_in_step e w c k.value o.0.formed s.step k.is) r2) d.value d.is in
         ran_as (as_before w u) (taken (Node f.Case (At line ▹ e ▹ x ▹ none)) w) c z (case_taken w line e x)
         (ran w (as_before w u) c z s (typed_step w u c z s.step (case_step line a a.switched (length c.running.cases) k.value.1.value label u d.value z r3.stands.step d.last))
         (runs_trans answer c b z r2 (runs_trans answer b d.value z r3.runs (case_runs answer line a a.switched (length c.running.cases) k.value.1.value label d.value z r3.runs.fine d.last))))
-    statement_runs (Node f.Default (At line ▹ x ▹ none)) w a c z p s q =
+    statement_runs (Node f.Default (At line ▹ x ▹ none)) w a c p s z q =
         let label = new_label c in
         let b = here label (with_labels 1 c) in
         let u : Taken = taken x w in
         let d = came (statement x a b) q in
         let g = goes_trans c (with_labels 1 c) b (goes_labels 1 c) (goes_here label (with_labels 1 c)) in
-        let r = statement_runs x w a b d.value (default_good numbers w line x p) (stand_go w w c b s s.step g) d.is in
+        let r = statement_runs x w a b (default_good numbers w line x p) (stand_go w w c b s s.step g) d.value d.is in
         ran_as (as_before w u) (taken (Node f.Default (At line ▹ x ▹ none)) w) c z (default_taken w line x)
         (ran w (as_before w u) c z s (typed_step w u c z s.step (default_step line a label u d.value z r.stands.step d.last))
         (runs_trans answer c b z (goes_runs answer c b s.fine g) (runs_trans answer b d.value z r.runs (default_runs answer line a label d.value z r.runs.fine d.last))))
-    statement_runs (Node f.Break (At line ▹ none)) w a c z p s q =
+    statement_runs (Node f.Break (At line ▹ none)) w a c p s z q =
         let g = leave_to_runs line a.delays a.breaks c z (line_good numbers w f.Break line none p) q in
-        ran_as w (taken (Node f.Break (At line ▹ none)) w) c z (break_taken w line) (ran_go w w c z s (keeps_step w w c z (record { names = refl; typedef = refl; declared = refl }) (goes_keeps c z g) s.step) g)
-    statement_runs (Node f.Continue (At line ▹ none)) w a c z p s q =
+        ran_as w (taken (Node f.Break (At line ▹ none)) w) c z (break_taken w line) (ran_go w w c z s (goes_step w c z s g) g)
+    statement_runs (Node f.Continue (At line ▹ none)) w a c p s z q =
         let g = leave_to_runs line a.delays a.continues c z (line_good numbers w f.Continue line none p) q in
-        ran_as w (taken (Node f.Continue (At line ▹ none)) w) c z (continue_taken w line) (ran_go w w c z s (keeps_step w w c z (record { names = refl; typedef = refl; declared = refl }) (goes_keeps c z g) s.step) g)
-    statement_runs (Node f.Return (At line ▹ Node f.MaybeExpr es ▹ none)) w a c z p s q =
+        ran_as w (taken (Node f.Continue (At line ▹ none)) w) c z (continue_taken w line) (ran_go w w c z s (goes_step w c z s g) g)
+    statement_runs (Node f.Return (At line ▹ Node f.MaybeExpr es ▹ none)) w a c p s z q =
         let o = return_good numbers w line es p in
         let u : Taken = taken (Node f.MaybeExpr es) w in
         let r = return_from_runs answer line a.delays es c z o.0
         (return_from_spoken line a.delays es w c z s.step.2 (inside_at u.addressed numbers c.running.addressed s.same o.1.inside) o.1.written o.1.formed q) s.fine s.sorted q in
         ran_as (as_before w u) (taken (Node f.Return (At line ▹ Node f.MaybeExpr es ▹ none)) w) c z (return_taken w line es)
         (ran w (as_before w u) c z s (typed_step w u c z s.step (return_from_in_step line a.delays es w c z o.1.formed s.step q)) r)
-    statement_runs (Node f.Local (At line ▹ words ▹ names ▹ none)) w a c z p s q = local_on line words names w c z (line_good numbers w f.Local line (words ▹ names ▹ none) p) p s q
-    statement_runs tree w a c z p s q = never _ _ z q
+    statement_runs (Node f.Local (At line ▹ words ▹ names ▹ none)) w a c p s z q = local_on line words names w c z (line_good numbers w f.Local line (words ▹ names ▹ none) p) p s q
+    statement_runs tree w a c p s z q = never _ _ z q
 
-    pub items_run : (parts : Trees) (w : Taken) (a : Around) (c z : Context) → ItemsGood numbers w parts → Stands_in answer numbers w c → items parts a c ≡ Ok z → Ran_on answer numbers c (behind_items parts w) z
-    items_run none w a c z p s q = ran_as w (behind_items none w) c z (none_taken w) (ran_to w c c z q (record { runs = runs_refl answer c s.fine; stands = s }))
-    items_run (item ▹ rest) w a c z p s q =
+    pub items_run : (parts : Trees) (w : Taken) (a : Around) (c : Context) → ItemsGood numbers w parts → Stands_in answer numbers w c → Led (Ran_on answer numbers c (behind_items parts w)) (items parts a c)
+    items_run none w a c p s z q = ran_as w (behind_items none w) c z (none_taken w) (ran_to w c c z q (record { runs = runs_refl answer c s.fine; stands = s }))
+    items_run (item ▹ rest) w a c p s z q =
         let o = items_good numbers w item rest p in
-        let d = came (statement item a c) q in
-        let r = statement_runs item w a c d.value o.0 s d.is in
-        ran_as (behind_items rest (taken item w)) (behind_items (item ▹ rest) w) c z (items_taken w item rest) (ran_behind (behind_items rest (taken item w)) c d.value z r.runs (items_run rest (taken item w) a d.value z o.1 r.stands d.last))
+        let u : Taken = behind_items rest (taken item w) in
+        led_as u _ c (items_taken w item rest) (led_then (taken item w) u c (statement_runs item w a c o.0 s) (λ d sd. items_run rest (taken item w) a d o.1 sd)) z q

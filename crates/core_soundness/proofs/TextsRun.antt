@@ -283,7 +283,7 @@ defined_between line name answer ps (Node f.Body (Node f.Items parts ▹ At end 
     let e = came (items parts around_body begin) a2 in
     let all = runs_trans (result_sort answer) b l d.value r rd in
     let st : Stands_in (result_sort answer) numbers start begin = record { fine = record { names = record { file = all.fine.names.file; inner = (rd.params flat params, tt) }; lined = all.fine.lined }; inside = 0; deep = refl; sorted = refl; step = body_step given line index name (Function answer ps) l d.value begins all.fine.names.file d.is; same = all.addressed ∙ addressed } in
-    let re = (items_run (result_sort answer) numbers parts start around_body begin e.value o.1 st e.is).runs in
+    let re = (items_run (result_sort answer) numbers parts start around_body begin o.1 st e.value e.is).runs in
     let prefix = locals_prefix l.running.locals e.value.running.locals (λ k reg x. re.grew.locals k reg (rd.grew.locals k reg x)) in
     let sl : Statics b e.value = statics_trans b d.value e.value (statics_of b d.value all.grew) (record { variables = re.grew.variables; literals = re.grew.literals; calls = re.grew.calls; file = re.grew.file }) in
     body_between line end name answer ps index prefix.0 c e.value z o.0 h (statics_trans c b e.value s sl) (re.walked ∙ all.walked ∙ same)
