@@ -1,8 +1,8 @@
 //! Words of registers.
 
-ghost use Rattle.std.specs.Prelude.{◌≡◌, ◌+◌, ◌<◌, ◌≤◌, ◌++◌, [], ◌∷◌, map, drop, length, slice_index_or, slice_set};
+ghost use Rattle.std.specs.Prelude.{◌≡◌, ◌+◌, ◌<◌, ◌≤◌, ◌++◌, [], ◌∷◌, map, drop, length};
 ghost use Rattle.std.specs.Vec.{vec_len, vec_capacity};
-ghost use Rattle.flat_machine.specs.Words.{integer_in, address_in, integer_at, address_at, first_word, no_word};
+ghost use Rattle.flat_machine.specs.Words.{integer_in, address_in, integer_at, address_at, first_word};
 
 use flat_objects::Word;
 
@@ -46,39 +46,6 @@ pub(crate) fn address_at(words: &[Word], k: usize) -> u32
     } else {
         0
     }
-}
-
-/// The word of a register, where there is one.
-#[inline(always)]
-pub(crate) fn word_at(words: &[Word], r: u32) -> Word
-    ensures { result ≡ slice_index_or words.now r no_word }
-{
-    let r = r as usize;
-    if r < words.len() {
-        words[r]
-    } else {
-        Word::Number(0)
-    }
-}
-
-/// A register takes a word, where there is one.
-#[inline(always)]
-pub(crate) fn put_word(words: &mut [Word], r: u32, word: Word)
-    ensures { words.new ≡ slice_set words.old r word }
-{
-    let r = r as usize;
-    if r < words.len() {
-        words[r] = word;
-    }
-}
-
-/// The address at a place, and that of null where there is none.
-#[inline(always)]
-pub(crate) fn index_of(addrs: &[u32], k: u32) -> u32
-    ensures { result ≡ slice_index_or addrs.now k 0 }
-{
-    let k = k as usize;
-    if k < addrs.len() { addrs[k] } else { 0 }
 }
 
 /// The word of a register at the start of a call.
