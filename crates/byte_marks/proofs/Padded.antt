@@ -29,8 +29,8 @@ unfolding filled_up
 same_there before after size k long same = elim (cases_lt k (length before)) [
   | inl less ↦ mark_there after size k (omega arith) ∙ same less ∙ sym (mark_there before size k less)
   | inr past ↦ get_or-append_right after (replicate (size - length after) NOTHING) (length after) k 0 refl (omega arith)
-    ∙ ap (λ n. get_or (replicate (size - n) NOTHING) (k - n) 0) long
-    ∙ sym (get_or-append_right before (replicate (size - length before) NOTHING) (length before) k 0 refl past)
+      ∙ ap (λ n. get_or (replicate (size - n) NOTHING) (k - n) 0) long
+      ∙ sym (get_or-append_right before (replicate (size - length before) NOTHING) (length before) k 0 refl past)
 ]
 
 pub changes_there : (before after : List ℕ) (size addr n : ℕ) → length before ≤ size → ChangesOnly before after addr n → ChangesOnly (filled_up before size NOTHING) (filled_up after size NOTHING) addr n

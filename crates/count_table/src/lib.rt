@@ -20,8 +20,8 @@ mod excess;
 ghost use Rattle.std.specs.Prelude.{◌≡◌, ◌+◌, ◌-◌, ◌<◌, ◌≤◌, length, replicate, sum, slice_index, slice_range, IfOk};
 ghost use Rattle.count_table.specs.Table.{with_count, lows_of, excess_of};
 
-use excess::Excess;
 use byte_memory::Steps;
+use excess::Excess;
 use hs_base::NoMemory;
 use std::alloc::Global;
 use std::marker::Model;

@@ -10,9 +10,9 @@ ghost use Rattle.delay_scopes.specs.Walks.{AreCovered, IsChain, IsCovered, IsIns
 
 use crate::scopes::Scopes;
 use adjusters::Adjuster;
+use byte_memory::{FlatBytes, Steps};
 use count_table::Counts;
 use heap_blocks::{HEADER_SIZE, Header};
-use byte_memory::{FlatBytes, Steps};
 use hs_base::Items;
 use std::sync::ledger::Ledger;
 

@@ -6,8 +6,8 @@ ghost use Rattle.delay_scopes.specs.Check.{IsReleased};
 ghost use Rattle.delay_scopes.specs.Walks.{MayRelease};
 
 use crate::scopes::Scopes;
-use heap_blocks::{HEADER_SIZE, Header, Heap};
 use byte_memory::{FlatBytes, Steps};
+use heap_blocks::{HEADER_SIZE, Header, Heap};
 use std::sync::ledger::Ledger;
 
 impl Scopes {

@@ -11,9 +11,9 @@ ghost use Rattle.delay_scopes.specs.Pointers.{LowersBy, words_inside};
 ghost use Rattle.delay_scopes.specs.Check.{IsReady, IsReadyForSome, IsReleased, answer_of, checked, no_scopes, work_of};
 
 use adjusters::Adjuster;
+use byte_memory::{FlatBytes, Steps};
 use count_table::Counts;
 use heap_blocks::{HEADER_SIZE, Header, Heap, STATE_QUEUED};
-use byte_memory::{FlatBytes, Steps};
 use hs_base::{BadFree, Items, Line, Reason};
 use std::marker::Model;
 use std::sync::ledger::Ledger;

@@ -135,13 +135,7 @@ impl Elaborator {
         let line = self.running.line();
         self.with_register(name, &ty)?;
         self.with_memory(name.unwrap_or(b""), &ty)?;
-        self.with_named(
-            name,
-            Named::Object {
-                ty,
-                index: mem,
-            },
-        )?;
+        self.with_named(name, Named::Object { ty, index: mem })?;
         self.write(line, &ty, Spot::Memory(Atom::Mem(mem)), Atom::Reg(register))
     }
 

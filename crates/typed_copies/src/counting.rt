@@ -8,8 +8,8 @@ ghost use Rattle.typed_copies.specs.Pointers.{Follow, into_granule, words_in};
 use crate::Ranged;
 use crate::slots::Within;
 use adjusters::Adjuster;
-use count_table::Counts;
 use byte_memory::{FlatBytes, Steps};
+use count_table::Counts;
 use std::sync::ledger::Ledger;
 
 /// Takes a pointer off the counts by its address; 0 is null, which does not count. At most one step.

@@ -34,8 +34,8 @@ use crate::counting::{put_on, take_off};
 use crate::moving::{fill, move_bytes};
 use crate::slots::{Within, corresponding, settable};
 use adjusters::Adjuster;
-use count_table::Counts;
 use byte_memory::{FlatBytes, Steps};
+use count_table::Counts;
 use hs_base::{Items, TrapKind};
 use std::sync::ledger::Ledger;
 

@@ -11,8 +11,7 @@ returns-then-at-marks c =
     let size = c.self.inside.size in
     let same : c.as_slice-marks.result.now ≡ marks = c.as_slice-marks.ensures.value in
     let inside : c.args.addr < length marks = omega (arith, c.if-at-marks.true, ap length same) in
-    let first = ap (λ (l : List ℕ). get_or l c.args.addr 0) same in
-    (
+    let first = ap (λ (l : List ℕ). get_or l c.args.addr 0) same in (
       λ told. subst (λ (l : List ℕ). IsSlotAt l c.args.addr) c.self.view_is (slot_there marks size c.args.addr c.self.invariant.0 inside (sym first ∙ eqb-true (get_or c.as_slice-marks.result.now c.args.addr 0) SLOT told)),
       λ is. let slot = subst (λ (l : List ℕ). IsSlotAt l c.args.addr) (sym c.self.view_is) is in eq-eqb (get_or c.as_slice-marks.result.now c.args.addr 0) SLOT (first ∙ sym (mark_there marks size c.args.addr inside) ∙ slot.first),
     )
@@ -21,8 +20,7 @@ pub returns-else-at-marks : goal.returns-else-at-marks
 returns-else-at-marks c =
     let marks = c.self.inside.list.items in
     let same : c.as_slice-marks.result.now ≡ marks = c.as_slice-marks.ensures.value in
-    let past : length marks ≤ c.args.addr = omega (arith, c.if-at-marks.false, ap length same) in
-    (
+    let past : length marks ≤ c.args.addr = omega (arith, c.if-at-marks.false, ap length same) in (
       λ told. let less = ltb-true c.args.addr (length c.as_slice-marks.result.now) told in absurd (omega (arith, c.if-at-marks.false)),
       λ is. absurd (no_slot_past marks c.self.inside.size c.args.addr c.self.invariant.0 past (subst (λ (l : List ℕ). IsSlotAt l c.args.addr) (sym c.self.view_is) is)),
     )

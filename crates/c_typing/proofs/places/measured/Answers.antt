@@ -10,10 +10,9 @@ loop-part-init c = (counted_once _, omega arith)
 
 pub loop-part-preserved : goal.loop-part-preserved
 loop-part-preserved c =
-    let is : plain c.loop-part.part ≡ Array (plain c.in-Array.element.now) c.in-Array.length = ap plain c.in-Array.is in
-    (
+    let is : plain c.loop-part.part ≡ Array (plain c.in-Array.element.now) c.in-Array.length = ap plain c.in-Array.is in (
       element_counted c.args.tags.now _ _ _ c.loop-part.count c.in-Array.length _ is
-      (c.saturating_mul-count.ensures ∙ ap (λ (m : ℕ). min (c.loop-part.count * m) (2 ^ 64 - 1)) c.from.ensures) c.loop-part.invariant.0,
+          (c.saturating_mul-count.ensures ∙ ap (λ (m : ℕ). min (c.loop-part.count * m) (2 ^ 64 - 1)) c.from.ensures) c.loop-part.invariant.0,
       omega (arith, c.loop-part.invariant.1, ap size-CType c.in-Array.is, element_below c.in-Array.element c.in-Array.length),
     )
 

@@ -8,9 +8,8 @@ use Rattle.elab_base.proofs.sizes.fits.Goals as goal
 
 pub loop-part-preserved : goal.loop-part-preserved
 loop-part-preserved c =
-    let is : plain c.loop-part.part ≡ Array (plain c.in-Array.element.now) c.in-Array.length = ap plain c.in-Array.is in
-    (
+    let is : plain c.loop-part.part ≡ Array (plain c.in-Array.element.now) c.in-Array.length = ap plain c.in-Array.is in (
       element_fits (known c.args.tags.now.completed) _ _ _ c.loop-part.count c.in-Array.length _ is c.copies-count.ensures.none c.copies-count.ensures.some
-      c.loop-part.invariant.0,
+          c.loop-part.invariant.0,
       omega (arith, c.loop-part.invariant.1, ap size-CType c.in-Array.is, element_below c.in-Array.element c.in-Array.length),
     )
