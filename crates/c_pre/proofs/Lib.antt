@@ -11,3 +11,4 @@ pub mod Formed
 pub mod FormedLines
 pub mod Replacing
 pub mod Named
+pub mod Ends
