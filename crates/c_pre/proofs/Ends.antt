@@ -5,7 +5,7 @@ use Rattle.std.proofs.lemmas.Bool.{ltb-false}
 use Rattle.std.proofs.lemmas.List.Sums.{sum_by-append}
 use Rattle.c_lexer.specs.declared.token.Token.{Token}
 use Rattle.c_pre.specs.After.{and_then}
-use Rattle.c_pre.specs.Expansion.{Arguments, Scanning, most_work, enough, fresh, macro_for, replaced, split_from, is_open, fits, kept, goes_on, arguments_scanned, object_hides, function_hides, applied, called, at_macro, at_token, scanned, expanded}
+use Rattle.c_pre.specs.Expansion.{Arguments, Scanning, most_work, enough, fresh, macro_for, replaced, split_from, is_open, fits, kept, goes_on, arguments_scanned, object_hides, function_hides, called, at_macro, at_token, scanned, expanded}
 use Rattle.c_pre.specs.declared.answer.PreKind.TheVariants as kind
 use Rattle.c_pre.specs.declared.answer.Refusal.{Refusal}
 use Rattle.c_pre.specs.declared.answer.Refusal.TheVariants.{Bad, Lex, NoMemory}
