@@ -12,3 +12,4 @@ pub mod FormedLines
 pub mod Replacing
 pub mod Named
 pub mod Ends
+pub mod Unreplaced
