@@ -1,14 +1,13 @@
 -- Every token that comes out of a run is one, and there are no more than the work allows.
-use Rattle.std.proofs.Common.{◌≡◌, refl, arith, length-append, length-drop, ℕ, zero, suc, ◌+◌, ◌-◌, ◌≤◌, ◌==◌, Bool, true, false, cond, nat_lt, ◌&&◌, not, bytes_eq, List, [], ◌∷◌, ◌++◌, length, map, take, drop, Option, Some, None, unwrap_or, Result, Ok, Err, All}
+use Rattle.std.proofs.Common.{◌≡◌, refl, arith, length-append, length-drop, ℕ, zero, suc, ◌+◌, ◌-◌, ◌≤◌, ◌==◌, Bool, true, false, cond, nat_lt, ◌&&◌, not, bytes_eq, List, [], ◌∷◌, ◌++◌, length, map, drop, Option, Some, None, unwrap_or, Result, Ok, Err, All}
 use Rattle.std.specs.Prelude.{slice_get}
-use Rattle.std.specs.List.{sum_by}
 use Rattle.std.proofs.lemmas.Bool.{ltb-false}
 use Rattle.std.proofs.lemmas.List.Elements.{All-nil, All-cons, All-head, All-tail, All-append, All-push, All-map, All-weaker, All-drop}
 use Rattle.c_lexer.specs.declared.token.Token.{Token}
 use Rattle.c_pre.specs.Formed.{IsFormed, IsFormedMacro}
 use Rattle.c_pre.specs.Directives.{is_name, is_sign, is_among}
 use Rattle.c_pre.specs.Macros.{found}
-use Rattle.c_pre.specs.Expansion.{Arguments, Scanning, most_work, enough, fresh, put_on, macro_for, place_of, part_by, replaced, substituted, parameters_of, split_from, is_open, fits, kept, goes_on, arguments_scanned, object_hides, function_hides, applied, called, at_macro, at_token, scanned, expanded}
+use Rattle.c_pre.specs.Expansion.{Arguments, Scanning, most_work, enough, fresh, put_on, macro_for, place_of, part_by, replaced, substituted, parameters_of, split_from, is_open, fits, kept, goes_on, arguments_scanned, object_hides, function_hides, called, at_macro, at_token, scanned, expanded}
 use Rattle.c_pre.specs.After.{and_then}
 use Rattle.c_pre.proofs.Left.{Conserves, split_conserves, whole}
 use Rattle.c_pre.specs.declared.macros.Macro.{Macro}

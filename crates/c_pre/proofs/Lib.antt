@@ -11,3 +11,5 @@ pub mod Formed
 pub mod FormedLines
 pub mod Replacing
 pub mod Named
+pub mod Ends
+pub mod Unreplaced

@@ -1,5 +1,5 @@
 -- A text that cannot be read is the one that was asked for, or has a name that an include can give.
-use Rattle.std.proofs.Common.{◌≡◌, ℕ, true, List, inl, inr, sym, subst, ⊎_elim, ◌∙◌, ap}
+use Rattle.std.proofs.Common.{◌≡◌, ℕ, true, List, inl, inr, ⊎_elim, ◌∙◌, ap}
 use Rattle.std.specs.List.{list_all}
 use Rattle.c_pre.specs.Answering.{FailsAt, FailsBelow}
 use Rattle.c_pre.specs.Directives.{is_path_byte}

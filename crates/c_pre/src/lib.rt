@@ -22,6 +22,7 @@ mod directive;
 mod groups;
 mod header;
 mod here;
+mod laws;
 mod lines;
 mod macros;
 mod marked;
@@ -34,4 +35,5 @@ mod substitute;
 mod text_name;
 
 pub use answer::{Opened, Place, Pre, PreError, PreKind};
+pub use laws::replacement_ends;
 pub use preprocessor::pre;

@@ -1,6 +1,6 @@
 //! The macros that are defined at a line (C99 6.10.3).
 
-ghost use Rattle.std.specs.Prelude.{◌≡◌, [], option_copied};
+ghost use Rattle.std.specs.Prelude.{◌≡◌, [], IsTrue, option_copied};
 ghost use Rattle.c_pre.specs.Macros.{same_words, same_spellings, same_parameters, same_macro, found, defined, without};
 ghost use Rattle.c_pre.specs.After.{at_line};
 ghost use Rattle.c_pre.specs.Answering.{Leaves};
@@ -95,6 +95,13 @@ impl Macros {
         Macros {
             list: Vec::new(alloc),
         }
+    }
+
+    /// Whether there is none.
+    pub(crate) fn is_empty(&self) -> bool
+        ensures { IsTrue result → self.now ≡ [] }
+    {
+        self.list.is_empty()
     }
 
     /// The macro of a name.

@@ -1,6 +1,6 @@
 //! What was read so far.
 
-ghost use Rattle.std.specs.Prelude.{◌≡◌, ℕ, ◌+◌, ◌-◌, ◌<◌, ◌≤◌, ◌^◌, ◌++◌, All, IfOk, OnOk, length, map};
+ghost use Rattle.std.specs.Prelude.{◌≡◌, [], ℕ, ◌+◌, ◌-◌, ◌<◌, ◌≤◌, ◌^◌, ◌++◌, All, IfOk, OnOk, length, map};
 ghost use Rattle.c_pre.specs.After.{at_line};
 ghost use Rattle.c_pre.specs.Expansion.{expanded};
 ghost use Rattle.c_pre.specs.Reading.{lexed, rest_lexed, moved, plain, with_expanded, with_run, run_ended, behind_line, at_header, with_text, obeyed, directive_on, directed_from, directed, passed, line_read, text_ended};
@@ -135,6 +135,17 @@ impl Progress {
         }
     }
 
+    /// Takes the tokens of a run, so many lines further down, where no macro is defined: none is replaced.
+    fn take_tokens(&mut self, base: Line, lines: Line, tokens: Items<Token>) -> Result<(), Refusal>
+        requires none { self.old.macros ≡ [] }
+        requires lines { All (λ token. token.line + lines < 2 ^ 32) tokens }
+        ensures run { Leaves (with_expanded base self.old (expanded self.old.macros (map (moved lines) tokens) self.old.work)) self.new result }
+        ensures counts { OnOk result (Counts self.old self.new) }
+    {
+        append(&mut self.tokens, tokens, lines)?;
+        Ok(())
+    }
+
     /// Ends the run of text lines since the last directive.
     #[tactic(auto, unfolding(crate::specs::Reading::run_ended))]
     fn end_run(&mut self, alloc: Global, here: &Here) -> Result<(), Refusal>
@@ -145,8 +156,12 @@ impl Progress {
         let above = here.run_line.saturating_sub(1);
         match read_tokens(alloc, here.run.as_slice()) {
             Ok(tokens) => {
+                let lines = here.base + above;
+                if self.macros.is_empty() {
+                    return self.take_tokens(here.base, lines, tokens);
+                }
                 let mut moved = Items::new(alloc);
-                append(&mut moved, tokens, here.base + above)?;
+                append(&mut moved, tokens, lines)?;
                 self.replace_macros(alloc, here.base, moved)
             }
             Err(LexError::Bad { kind, line }) => Err(Refusal::Lex {
