@@ -13,3 +13,4 @@ pub mod Replacing
 pub mod Named
 pub mod Ends
 pub mod Unreplaced
+pub mod Trees
