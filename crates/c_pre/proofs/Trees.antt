@@ -1,7 +1,10 @@
 -- What the sets of macros hold.
-use Rattle.std.proofs.Common.{◌≡◌, ◌∙◌, ℕ, zero, suc, ◌+◌, ◌-◌, ◌<◌, ◌≤◌, Bool, true, false, cond, not, ◌&&◌, ◌||◌, nat_lt, nat_eq, List, [], ◌∷◌, ◌++◌, map, refl, sym, ap, subst, arith}
+use Rattle.std.proofs.Common.{◌≡◌, ◌∙◌, ℕ, zero, suc, ◌+◌, ◌-◌, ◌<◌, ◌≤◌, Bool, true, false, cond, not, ◌&&◌, ◌||◌, nat_lt, nat_eq, List, [], ◌∷◌, ◌++◌, map, Result, Ok, Err, refl, sym, ap, subst, arith}
 use Rattle.std.specs.FinSet as set
 use Rattle.std.specs.List.{list_any, filter, range_with_len}
+use Rattle.std.specs.Cmp.{unsigned_tied}
+use Rattle.std.specs.Ordering.{nat_cmp}
+use Rattle.std.specs.Prelude.{IfOk}
 use Rattle.std.proofs.lemmas.Bool.{ltb-true, ltb-false, lt-ltb, le-ltb, eqb-true, eqb-false, eq-eqb, ne_eqb}
 use Rattle.std.proofs.lemmas.Cmp.{nat_cmp_total}
 use Rattle.std.proofs.lemmas.List.Folds.{list_any-append}
@@ -58,14 +61,14 @@ in_range from (suc len) n =
     (λ h. let more = is_lies (from + 1) (from + 1 + len) n h in lies_is from (from + suc len) n (omega (arith, more.0)) (omega (arith, more.1))))
     (λ is. let h = is_lies from (from + suc len) n is in by (nat_eq from n) refl h)
   where
+    above : ((from ≡ n) → ⊥) → from ≤ n → from + 1 ≤ n
+    above differ low = omega (arith, differ, low)
     by : (b : Bool) → nat_eq from n ≡ b → (from ≤ n) × (n < from + suc len) → (nat_eq from n || lies (from + 1) (from + 1 + len) n) ≡ true
     by true e h = or_left (nat_eq from n) (lies (from + 1) (from + 1 + len) n) e
     by false e h =
         let differ = eqb-false from n e in
         or_right (nat_eq from n) (lies (from + 1) (from + 1 + len) n) (lies_is (from + 1) (from + 1 + len) n (above differ h.0) (omega (arith, h.1)))
 
-    above : ((from ≡ n) → ⊥) → from ≤ n → from + 1 ≤ n
-    above differ low = omega (arith, differ, low)
 
 range_members : (from to n : ℕ) → lies from (from + (to - from)) n ≡ lies from to n
 range_members from to n =
@@ -86,7 +89,7 @@ filtered half n (m ∷ ns) = by (nat_lt m half) refl (filtered half n ns)
 
     there : (a b c : Bool) → (a ≡ true → b ≡ true) → (a || (b && c)) ≡ (b && (a || c))
     there true true c f = refl
-    there true false c f = f refl
+    there true false c f = sym (f refl)
     there false true c f = refl
     there false false c f = refl
 
@@ -150,3 +153,62 @@ contained tree n = set.contains-from_list_nat (members tree) n ∙ in_members tr
 pub is_set : (tree : Tree) (s : Numbers) → ((n : ℕ) → has tree n ≡ set.contains s n) → numbers tree ≡ s
 is_set tree s holds =
     set.same_set nat_cmp_total set.nat_cmp-IsAntisymmetric (numbers tree) s (λ n. contained tree n ∙ holds n)
+
+-- the same where another set has the same numbers
+pub same_set : (tree other : Tree) (s : Numbers) → numbers other ≡ s → ((n : ℕ) → has tree n ≡ has other n) → numbers tree ≡ s
+same_set tree other s is same =
+    is_set tree s (λ n. same n ∙ sym (contained other n) ∙ ap (λ (t : Numbers). set.contains t n) is)
+
+holds : (tree : Tree) (s : Numbers) → numbers tree ≡ s → (n : ℕ) → has tree n ≡ set.contains s n
+holds tree s is n = sym (contained tree n) ∙ ap (λ (t : Numbers). set.contains t n) is
+
+pub union_set : (tree left right : Tree) (s t : Numbers) → numbers left ≡ s → numbers right ≡ t → ((n : ℕ) → has tree n ≡ (has left n || has right n)) → numbers tree ≡ set.union s t
+union_set tree left right s t is are all =
+    is_set tree (set.union s t) (λ n. all n ∙ (λ i. holds left s is n i || holds right t are n i) ∙ sym (set.contains-union nat_cmp_total s t n))
+
+pub intersection_set : (tree left right : Tree) (s t : Numbers) → numbers left ≡ s → numbers right ≡ t → ((n : ℕ) → has tree n ≡ (has left n && has right n)) → numbers tree ≡ set.intersection s t
+intersection_set tree left right s t is are all =
+    is_set tree (set.intersection s t) (λ n. all n ∙ (λ i. holds left s is n i && holds right t are n i) ∙ sym (set.contains-intersection nat_cmp_total s t n))
+
+swapped : (a b : Bool) → (a || b) ≡ (b || a)
+swapped true true = refl
+swapped true false = refl
+swapped false true = refl
+swapped false false = refl
+
+-- one number lies from itself on and below the next
+one_lies : (number n : ℕ) → lies number (number + 1) n ≡ nat_eq n number
+one_lies number n =
+    alike (lies number (number + 1) n) (nat_eq n number)
+    (λ is. let h = is_lies number (number + 1) n is in eq-eqb n number (omega (arith, h.0, h.1)))
+    (λ is. let same = eqb-true n number is in lies_is number (number + 1) n (omega (arith, same)) (omega (arith, same)))
+
+pub with_set : (tree left : Tree) (s : Numbers) (number next : ℕ) → numbers left ≡ s → next ≡ number + 1 → ((n : ℕ) → has tree n ≡ (has left n || has (Range number next) n)) → numbers tree ≡ set.insert s number
+with_set tree left s number next is after all =
+    is_set tree (set.insert s number) (λ n.
+    all n
+    ∙ (λ i. holds left s is n i || lies number (after i) n)
+    ∙ (λ i. set.contains s n || one_lies number n i)
+    ∙ swapped (set.contains s n) (nat_eq n number)
+    ∙ sym (set.contains-insert nat_cmp_total s number n ∙ ap (λ b. b || set.contains s n) (unsigned_tied n number)))
+
+pub on_ok : {T E : Type 0} (P Q : T → Type 0) (r : Result T E) → ((x : T) → P x → Q x) → IfOk r P → IfOk r Q
+on_ok P Q (Ok x) f h = f x h
+on_ok P Q (Err e) f h = tt
+
+both_parts : (b x y z w : Bool) → cond b (x && y) (z && w) ≡ (cond b x z && cond b y w)
+both_parts true x y z w = refl
+both_parts false x y z w = refl
+
+-- what two sets have both, part by part
+pub common_parts : (half : ℕ) (left right left_low left_high right_low right_high low high both : Tree)
+    → ((n : ℕ) → has left n ≡ cond (nat_lt n half) (has left_low n) (has left_high (n - half)))
+    → ((n : ℕ) → has right n ≡ cond (nat_lt n half) (has right_low n) (has right_high (n - half)))
+    → ((n : ℕ) → has low n ≡ (has left_low n && has right_low n)) → ((n : ℕ) → has high n ≡ (has left_high n && has right_high n))
+    → ((n : ℕ) → has both n ≡ cond (nat_lt n half) (has low n) (has high (n - half)))
+    → (n : ℕ) → has both n ≡ (has left n && has right n)
+common_parts half left right left_low left_high right_low right_high low high both l r lo hi is n =
+    is n
+    ∙ (λ i. cond (nat_lt n half) (lo n i) (hi (n - half) i))
+    ∙ both_parts (nat_lt n half) (has left_low n) (has right_low n) (has left_high (n - half)) (has right_high (n - half))
+    ∙ sym (λ i. l n i && r n i)

@@ -20,5 +20,5 @@ members (Parts' p half low high) =
     filter (λ n. nat_lt n half) (members low) ++ map (λ n. n + half) (members high)
 
 -- the same as a set
-pub numbers : Tree → Numbers
+unfoldable pub numbers : Tree → Numbers
 numbers tree = set.from_list (members tree)

@@ -1,6 +1,6 @@
 //! The macros that are hidden from a token, by their numbers.
 
-ghost use Rattle.std.specs.Prelude.{◌≡◌, ℕ, ◌-◌, ◌&&◌, ◌||◌, not, nat_lt, if◌then◌else◌, IfOk, IfSome, IsTrue};
+ghost use Rattle.std.specs.Prelude.{◌≡◌, ℕ, ◌-◌, ◌&&◌, ◌||◌, not, nat_lt, if◌then◌else◌, false, IfOk, IfSome, IsTrue};
 ghost use Rattle.std.specs.Ordering.{nat_cmp};
 ghost use Rattle.std.specs.FinSet as set;
 ghost use Rattle.c_pre.specs.Trees.{has};
@@ -122,6 +122,13 @@ fn joined(alloc: Global, half: u32, low: Tree, high: Tree) -> Result<Tree, NoMem
     }
 }
 
+/// Whether a set has no part. The answer no says nothing.
+fn is_empty(tree: &Tree) -> bool
+    ensures { (n : ℕ) → IsTrue result → has tree.now n ≡ false }
+{
+    matches!(tree, Tree::Empty)
+}
+
 /// Whether a range lies in a set. The answer no says nothing.
 fn range_is_within(from: u32, to: u32, tree: &Tree) -> bool
     ensures { (n : ℕ) → IsTrue result → IsTrue (not (nat_lt n from) && nat_lt n to) → IsTrue (has tree.now n) }
@@ -169,14 +176,14 @@ fn united_ranges(left: &Tree, right: &Tree) -> Option<Tree>
     }
 }
 
-/// The numbers of two sets.
+/// The numbers of two sets, in parts of their own: what is made is parted at the half, and its parts at the half of that.
 fn united(alloc: Global, half: u32, left: &Tree, right: &Tree) -> Result<Tree, NoMemory>
     ensures { IfOk result (λ both. (n : ℕ) → has both n ≡ (has left.now n || has right.now n)) }
 {
-    if is_within(left, right) {
+    if is_empty(left) {
         return shared(right);
     }
-    if is_within(right, left) {
+    if is_empty(right) {
         return shared(left);
     }
     if let Some(both) = united_ranges(left, right) {
@@ -192,18 +199,27 @@ fn united(alloc: Global, half: u32, left: &Tree, right: &Tree) -> Result<Tree, N
     joined(alloc, half, low, high)
 }
 
-/// The numbers that two sets have both.
+/// The numbers that two ranges have both, where these are ranges.
+fn common_range(left: &Tree, right: &Tree) -> Option<Tree>
+    ensures { IfSome result (λ whole. (n : ℕ) → has whole n ≡ (has left.now n && has right.now n)) }
+{
+    match (left, right) {
+        (Tree::Range(from, to), Tree::Range(start, end)) => {
+            Some(range((*from).max(*start), (*to).min(*end)))
+        }
+        _ => None,
+    }
+}
+
+/// The numbers that two sets have both, in parts of their own.
 fn common(alloc: Global, half: u32, left: &Tree, right: &Tree) -> Result<Tree, NoMemory>
     ensures { IfOk result (λ both. (n : ℕ) → has both n ≡ (has left.now n && has right.now n)) }
 {
-    if is_within(left, right) {
-        return shared(left);
+    if is_empty(left) || is_empty(right) {
+        return Ok(Tree::Empty);
     }
-    if is_within(right, left) {
-        return shared(right);
-    }
-    if let (Tree::Range(from, to), Tree::Range(start, end)) = (left, right) {
-        return Ok(range((*from).max(*start), (*to).min(*end)));
+    if let Some(both) = common_range(left, right) {
+        return Ok(both);
     }
     if half == 0 {
         return Err(NoMemory);
@@ -213,6 +229,32 @@ fn common(alloc: Global, half: u32, left: &Tree, right: &Tree) -> Result<Tree, N
     let low = common(alloc, half / 2, &left_low, &right_low)?;
     let high = common(alloc, half / 2, &left_high, &right_high)?;
     joined(alloc, half, low, high)
+}
+
+/// The numbers of two sets: where one lies in the other, that itself.
+fn union(alloc: Global, left: &Tree, right: &Tree) -> Result<Tree, NoMemory>
+    ensures { IfOk result (λ all. (n : ℕ) → has all n ≡ (has left.now n || has right.now n)) }
+{
+    if is_within(left, right) {
+        shared(right)
+    } else if is_within(right, left) {
+        shared(left)
+    } else {
+        united(alloc, HALF, left, right)
+    }
+}
+
+/// The numbers that two sets have both: where one lies in the other, that itself.
+fn intersection(alloc: Global, left: &Tree, right: &Tree) -> Result<Tree, NoMemory>
+    ensures { IfOk result (λ both. (n : ℕ) → has both n ≡ (has left.now n && has right.now n)) }
+{
+    if is_within(left, right) {
+        shared(left)
+    } else if is_within(right, left) {
+        shared(right)
+    } else {
+        common(alloc, HALF, left, right)
+    }
 }
 
 /// The macros that are hidden from a token, by their numbers.
@@ -263,12 +305,11 @@ impl Hidden {
     pub(crate) fn with(&self, alloc: Global, number: u32) -> Result<Hidden, NoMemory>
         ensures { IfOk result (λ more. more ≡ set.insert self.now number) }
     {
-        let one = match number.checked_add(1) {
-            Some(next) => Tree::Range(number, next),
-            None => return Err(NoMemory),
+        let Some(next) = number.checked_add(1) else {
+            return Err(NoMemory);
         };
         Ok(Hidden {
-            tree: united(alloc, HALF, &self.tree, &one)?,
+            tree: union(alloc, &self.tree, &Tree::Range(number, next))?,
         })
     }
 
@@ -277,7 +318,7 @@ impl Hidden {
         ensures { IfOk result (λ all. all ≡ set.union self.now other.now) }
     {
         Ok(Hidden {
-            tree: united(alloc, HALF, &self.tree, &other.tree)?,
+            tree: union(alloc, &self.tree, &other.tree)?,
         })
     }
 
@@ -286,7 +327,7 @@ impl Hidden {
         ensures { IfOk result (λ both. both ≡ set.intersection self.now other.now) }
     {
         Ok(Hidden {
-            tree: common(alloc, HALF, &self.tree, &other.tree)?,
+            tree: intersection(alloc, &self.tree, &other.tree)?,
         })
     }
 }

@@ -69,13 +69,5 @@ impl Parameters {
 pub(crate) fn same_words(left: &Parameters, right: &Parameters) -> bool
     ensures { result ≡ same_words left.now right.now }
 {
-    if left.len() != right.len() {
-        return false;
-    }
-    for at in 0..left.len() {
-        if left.names.get_index(at) != right.names.get_index(at) {
-            return false;
-        }
-    }
-    true
+    left.names.as_slice() == right.names.as_slice()
 }

@@ -1,6 +1,6 @@
-use Rattle.std.proofs.Common.{List, ℕ}
-use Rattle.c_pre.proofs.Same.{not_same}
+use Rattle.c_pre.proofs.Keys.{same_keys}
 use Rattle.c_pre.proofs.parameters.same_words.Goals as goal
 
-pub returns-then-left-right : goal.returns-then-left-right
-returns-then-left-right c = not_same (λ (w : List ℕ). w) c.args.left.now c.args.right.now c.if-left-right.true
+pub returns : goal.returns
+returns c =
+    rw (c.eq.ensures, c.as_slice.ensures.keys, c.as_slice-2.ensures.keys, ← c.left.view_is, ← c.right.view_is) (same_keys (λ k. k.items) c.left.inside.names.keys c.right.inside.names.keys)

@@ -1,5 +1,5 @@
 #!/usr/bin/env python3
-"""preprocessed.py [COUNT [SEED]]: are macros replaced as another preprocessor replaces them?
+"""macros.py [COUNT [SEED]]: are macros replaced as another preprocessor replaces them?
 
 Makes COUNT texts (1000 where none is given) of generated macros: in place of one another, in circles, with arguments that hold
 commas in parentheses or other calls, with unbalanced parentheses, and with names of function-like macros at the end of a
@@ -16,9 +16,10 @@ import subprocess
 import sys
 import tempfile
 
-import build_unproved
+TOP = os.path.dirname(os.path.dirname(os.path.abspath(__file__)))
+sys.path.append(f"{TOP}/tools")
 
-TOP = os.path.join(os.path.dirname(os.path.abspath(__file__)), "..")
+import build_unproved  # noqa: E402
 TOKEN = re.compile(r"[A-Za-z_]\w*|\d+|\S")
 NAMES = [*"ABCDEF"]
 SHOWN = 3
@@ -70,7 +71,7 @@ def build_printer(folder):
     """Builds the printer, and gives its path."""
     os.makedirs(f"{folder}/crates/token_printer/src")
     for name in ("hs_base", "c_lexer", "c_pre"):
-        os.symlink(os.path.abspath(f"{TOP}/crates/{name}"), f"{folder}/crates/{name}")
+        os.symlink(f"{TOP}/crates/{name}", f"{folder}/crates/{name}")
     with open(f"{folder}/crates/token_printer/src/main.rt", "w", encoding="utf-8") as it:
         it.write(PRINTER)
     with open(f"{TOP}/crates.txt", encoding="utf-8") as all_lines, open(f"{folder}/crates.txt", "w", encoding="utf-8") as it:
