@@ -4,13 +4,24 @@ use Rattle.std.specs.List.{list_any, prefix_len}
 use Rattle.std.specs.Cmp.Lexicographic.{pointwise}
 use Rattle.std.specs.Prelude.{position}
 use Rattle.std.specs.Map.{lookup}
+use Rattle.std.proofs.lemmas.Bool.{lt-ltb, ltb-true}
 use Rattle.std.proofs.lemmas.List.{map-append}
 use Rattle.indexmap.specs.IndexMap.{insert_entry}
 use Rattle.indexmap.specs.IndexSet.{insert_key}
 use Rattle.c_pre.specs.Directives.{is_among}
 use Rattle.c_pre.specs.Expansion.{place_from, place_of}
 use Rattle.c_pre.specs.Macros.{same_words, found_in, with_entry}
+use Rattle.c_pre.specs.Table.{Table}
 use Rattle.c_pre.specs.declared.macros.Defined.{Defined}
+use Rattle.c_pre.proofs.Trees.{alike}
+
+-- what is held, where something is
+abbrev pub held : Option (Option Defined) → Option Defined
+held None = None
+held (Some o) = o
+
+abbrev pub table : ℕ → List (List ℕ × Option Defined) → Table
+table count names = record { count = count; names = names }
 
 module _ {K : Type 0} (bytes : K → List ℕ) (word : List ℕ) where
   -- a word is among the names where it is among the keys
@@ -24,21 +35,27 @@ module _ {K : Type 0} (bytes : K → List ℕ) (word : List ℕ) where
     where
       rest : ℕ
       rest = prefix_len (λ k. not (bytes_eq word (bytes k))) keys
+      one_more : (n : ℕ) → nat_lt (1 + n) (length (k ∷ keys)) ≡ nat_lt n (length keys)
+      one_more n =
+          alike (nat_lt (1 + n) (length (k ∷ keys))) (nat_lt n (length keys))
+          (λ is. lt-ltb n (length keys) (omega (arith, ltb-true (1 + n) (length (k ∷ keys)) is)))
+          (λ is. lt-ltb (1 + n) (length (k ∷ keys)) (omega (arith, ltb-true n (length keys) is)))
       by : (b : Bool) → cond (nat_lt rest (length keys)) (Some (place + 1 + rest)) None ≡ place_from (place + 1) (map bytes keys) word
           → cond (nat_lt (cond (not b) (1 + rest) 0) (length (k ∷ keys))) (Some (place + cond (not b) (1 + rest) 0)) None ≡ cond b (Some place) (place_from (place + 1) (map bytes keys) word)
-      by true more = let e : place + 0 ≡ place = omega arith in ap Some e
+      by true more =
+          let e : place + 0 ≡ place = omega arith in
+          let first : nat_lt 0 (length (k ∷ keys)) ≡ true = lt-ltb 0 (length (k ∷ keys)) (omega arith) in
+          λ i. cond (first i) (Some (e i)) None
       by false more =
           let e : place + (1 + rest) ≡ place + 1 + rest = omega arith in
-          ap (λ n. cond (nat_lt rest (length keys)) (Some n) None) e ∙ more
+          (λ i. cond (one_more rest i) (Some (e i)) None) ∙ more
 
   -- a word has the place of its key
   pub place_keys : (keys : List K) → position (λ k. bytes_eq word (bytes k)) keys ≡ place_of (map bytes keys) word
-  place_keys keys = place_by 0 keys
-
-  -- what is held, where something is
-  abbrev pub held : Option (Option Defined) → Option Defined
-  held None = None
-  held (Some o) = o
+  place_keys keys =
+      let misses = prefix_len (λ k. not (bytes_eq word (bytes k))) keys in
+      let e : misses ≡ 0 + misses = omega arith in
+      ap (λ n. cond (nat_lt misses (length keys)) (Some n) None) e ∙ place_by 0 keys
 
   -- the macro of a name is what its key has
   pub found_keys : (entries : List (K × Option Defined)) → held (lookup (λ k. bytes_eq word (bytes k)) entries) ≡ found_in word (map (λ e. (bytes e.0, e.1)) entries)
@@ -61,6 +78,11 @@ entry_keys {K} bytes key o (e ∷ entries) = by (bytes_eq (bytes key) (bytes e.0
         → named (cond b ((e.0, o) ∷ entries) (e ∷ insert_entry (λ a b. bytes_eq (bytes a) (bytes b)) entries key o)) ≡ cond b ((bytes e.0, o) ∷ named entries) ((bytes e.0, e.1) ∷ with_entry (bytes key) o (named entries))
     by true rest = refl
     by false rest = ap (λ es. (bytes e.0, e.1) ∷ es) rest
+
+pub put_keys : {K : Type 0} (bytes : K → List ℕ) (key : K) (o : Option Defined) (old new : List (K × Option Defined)) (name : List ℕ) → new ≡ insert_entry (λ a b. bytes_eq (bytes a) (bytes b)) old key o → bytes key ≡ name → map (λ e. (bytes e.0, e.1)) new ≡ with_entry name o (map (λ e. (bytes e.0, e.1)) old)
+put_keys bytes key o old new name is named =
+    ap (map (λ e. (bytes e.0, e.1))) is ∙ entry_keys bytes key o old
+    ∙ ap (λ (word : List ℕ). with_entry word o (map (λ e. (bytes e.0, e.1)) old)) named
 
 -- a key that is new is a name behind the others
 pub new_key : {K : Type 0} (bytes : K → List ℕ) (keys : List K) (key : K) → is_among (map bytes keys) (bytes key) ≡ false → map bytes (insert_key (λ a b. bytes_eq (bytes a) (bytes b)) keys key) ≡ map bytes keys ++ bytes key ∷ []
