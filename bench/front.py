@@ -11,7 +11,7 @@ import subprocess
 import sys
 import tempfile
 
-TOP = os.path.join(os.path.dirname(os.path.abspath(__file__)), "..")
+TOP = os.path.dirname(os.path.dirname(os.path.abspath(__file__)))
 PROGRAM = os.path.join(TOP, "heapsafe")
 HALF = 512 * 1024
 MAIN = "int main(void){return 0;}\n"
@@ -126,6 +126,58 @@ def choices_first(size):
     return filled(size, lambda n: f"int g{n}(int x) {{ return {inner}; }}\n")
 
 
+def replaced_in_turn(size):
+    """Macros in place of one another."""
+    count = size // 22
+    return "".join(f"#define A{number} A{number + 1}\n" for number in range(count)) + "int A0;\n"
+
+
+def calls_in_turn(size):
+    """Calls of macros in place of one another."""
+    count = size // 28
+    return "".join(f"#define F{number}(x) F{number + 1}(x)\n" for number in range(count)) + f"int F{count}(int);\nint a[sizeof(F0(1))];\n"
+
+
+def doubled(size):
+    """Macros that double one another."""
+    levels = size.bit_length() - 3
+    text = "".join(f"#define D{number + 1} D{number} D{number}\n" for number in range(levels))
+    return f"#define D0 1,\n{text}int a[] = {{ D{levels} 0 }};\n"
+
+
+def long_arguments(size):
+    """A macro of very many parameters."""
+    names = [f"p{number}" for number in range(size // 20)]
+    return f"#define F({','.join(names)}) {','.join(names)}\nint a[] = {{ F({','.join(['1'] * len(names))}) }};\n"
+
+
+def used_often(size):
+    """One macro, used over and over."""
+    return f"#define X 1,\nint a[] = {{ {'X ' * (size // 2 - 30)} 0 }};\n"
+
+
+def called_often(size):
+    """One macro, called over and over."""
+    return f"#define F(x) x\nint a[] = {{ {'F(1),' * (size // 5 - 30)} 0 }};\n"
+
+
+def definitions(size):
+    """Very many macros, each used."""
+    names = [f"A{number:06}" for number in range(size // 27)]
+    return "".join(f"#define {name} 1\n" for name in names) + f"int a[] = {{ {','.join(names)} }};\n"
+
+
+def withdrawn(size):
+    """Very many macros, each taken back."""
+    names = [f"A{number:06}" for number in range(size // 33)]
+    return "".join(f"#define {name} 1\n" for name in names) + "".join(f"#undef {name}\n" for name in names)
+
+
+def inclusions(size):
+    """Very many includes of an empty text."""
+    return '#include "empty.h"\n' * (size // 19)
+
+
 # what the command in hand is run on, and what `run` or another command of its own
 KINDS = [functions, list_of_values, deep, comments, strings]
 SHAPES = [
@@ -140,6 +192,17 @@ SHAPES = [
     (pointer_locals, "run"),
     (choices, "run"),
     (choices_first, "run"),
+]
+MACROS = [
+    replaced_in_turn,
+    calls_in_turn,
+    doubled,
+    long_arguments,
+    used_often,
+    called_often,
+    definitions,
+    withdrawn,
+    inclusions,
 ]
 
 
@@ -161,7 +224,10 @@ def least(command, path):
 def main():
     given = sys.argv[1] if len(sys.argv) > 1 else "print"
     with tempfile.TemporaryDirectory() as folder:
-        path = os.path.join(folder, "a.c")
+        path = "a.c"
+        os.chdir(folder)
+        with open("empty.h", "w", encoding="latin-1"):
+            pass
 
         def measured(command, text):
             with open(path, "w", encoding="latin-1") as file:
@@ -170,7 +236,7 @@ def main():
 
         measured(given, MAIN)  # the program is built here, where it is missing
         print(f"heapsafe {given}, 512 KiB against 1 MiB")
-        for kind, command in [(kind, given) for kind in KINDS] + SHAPES:
+        for kind, command in [(kind, given) for kind in KINDS + MACROS] + SHAPES:
             nothing, room, _ = measured(command, MAIN)
             short, _, _ = measured(command, kind(HALF - len(MAIN)) + MAIN)
             text = kind(2 * HALF - 1024 - len(MAIN)) + MAIN

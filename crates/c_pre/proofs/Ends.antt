@@ -10,7 +10,8 @@ use Rattle.c_pre.specs.declared.answer.PreKind.TheVariants as kind
 use Rattle.c_pre.specs.declared.answer.Refusal.{Refusal}
 use Rattle.c_pre.specs.declared.answer.Refusal.TheVariants.{Bad, Lex, NoMemory}
 use Rattle.c_pre.specs.declared.calls.Split.{Split}
-use Rattle.c_pre.specs.declared.macros.Macro.{Macro}
+use Rattle.c_pre.specs.Table.{Table}
+use Rattle.c_pre.specs.declared.macros.Defined.{Defined}
 use Rattle.c_pre.specs.declared.marked.Marked.{Marked}
 use Rattle.c_pre.specs.declared.scan.Expanded.{Expanded}
 use Rattle.c_pre.proofs.Left.{Conserves, split_conserves, whole}
@@ -83,33 +84,33 @@ module _ (f : Scanning) (n : ℕ) (scans : (work : ℕ) (tokens : List Marked) �
       arguments_by work args (f work arg) (scans work arg (omega (arith, room, sum_cons arg args)))
       (λ w less. arguments_end w args (omega (arith, room, less, sum_cons arg args)))
 
-  applied_by : (t : Marked) (m : Macro) (split : Split) (work : ℕ) (r : Result Arguments Refusal) → EndsAll work r → before work (length split.rest) < n → Ends work (and_then r (λ args. goes_on f t.token.line args.work (replaced t.token.line (function_hides t split) args.expanded m) split.rest))
+  applied_by : (t : Marked) (m : Defined) (split : Split) (work : ℕ) (r : Result Arguments Refusal) → EndsAll work r → before work (length split.rest) < n → Ends work (and_then r (λ args. goes_on f t.token.line args.work (replaced t.token.line (function_hides t m.number split) args.expanded m.it) split.rest))
   applied_by t m split work (Ok args) h room =
-      put_ends t.token.line work args.work (replaced t.token.line (function_hides t split) args.expanded m) split.rest h (omega (arith, room, h))
+      put_ends t.token.line work args.work (replaced t.token.line (function_hides t m.number split) args.expanded m.it) split.rest h (omega (arith, room, h))
   applied_by t m split work (Err (Bad kind line)) h room = tt
   applied_by t m split work (Err (Lex kind line)) h room = tt
   applied_by t m split work (Err NoMemory) h room = absurd h
 
-  called_ends : (t : Marked) (m : Macro) (parameters : List (List ℕ)) (o : Option Split) (work k : ℕ) → Conserves k o → before work k < n → Ends work (called f work t m parameters o)
+  called_ends : (t : Marked) (m : Defined) (parameters : List (List ℕ)) (o : Option Split) (work k : ℕ) → Conserves k o → before work k < n → Ends work (called f work t m parameters o)
   called_ends t m parameters None work k c room = tt
   called_ends t m parameters (Some split) work k c room =
       pick_ends (fits parameters split.args) work _ _
       (applied_by t m split work (arguments_scanned f work split.args) (arguments_end work split.args (omega (arith, c, room))) (omega (arith, c, room)))
       tt
 
-  at_macro_ends : (t : Marked) (m : Macro) (o : Option (List (List ℕ))) (work : ℕ) (rest : List Marked) → before work (length rest) < n → Ends work (at_macro f work t rest m o)
+  at_macro_ends : (t : Marked) (m : Defined) (o : Option (List (List ℕ))) (work : ℕ) (rest : List Marked) → before work (length rest) < n → Ends work (at_macro f work t rest m o)
   at_macro_ends t m None work rest room =
-      put_ends t.token.line work work (replaced t.token.line (object_hides t) [] m) rest (omega arith) room
+      put_ends t.token.line work work (replaced t.token.line (object_hides t m.number) [] m.it) rest (omega arith) room
   at_macro_ends t m (Some parameters) work rest room =
       pick_ends (is_open rest) work _ _
       (called_ends t m parameters (split_from 0 [] [] (drop 1 rest)) work (whole [] [] (drop 1 rest)) (split_conserves 0 [] [] (drop 1 rest)) (omega (arith, room, length-drop 1 rest)))
       (kept_ends t work (f work rest) (scans work rest room))
 
-  at_token_ends : (t : Marked) (o : Option Macro) (work : ℕ) (rest : List Marked) → before work (length rest) < n → Ends work (at_token f work t rest o)
+  at_token_ends : (t : Marked) (o : Option Defined) (work : ℕ) (rest : List Marked) → before work (length rest) < n → Ends work (at_token f work t rest o)
   at_token_ends t None work rest room = kept_ends t work (f work rest) (scans work rest room)
-  at_token_ends t (Some m) work rest room = at_macro_ends t m m.parameters work rest room
+  at_token_ends t (Some m) work rest room = at_macro_ends t m m.it.parameters work rest room
 
-scanned_ends : (macros : List Macro) (n work : ℕ) (tokens : List Marked) → before work (length tokens) < n → Ends work (scanned macros n work tokens)
+scanned_ends : (macros : Table) (n work : ℕ) (tokens : List Marked) → before work (length tokens) < n → Ends work (scanned macros n work tokens)
 unfolding scanned
 scanned_ends macros zero work [] room = omega arith
 scanned_ends macros zero work (t ∷ rest) room = absurd (omega (arith, room))
@@ -123,7 +124,7 @@ no_want work (Err (Bad kind line)) h is = cc
 no_want work (Err (Lex kind line)) h is = cc
 no_want work (Err NoMemory) h is = h
 
-pub expanded_ends : (macros : List Macro) (tokens : List Token) (work : ℕ) → expanded macros tokens work ≡ Err NoMemory → ⊥
+pub expanded_ends : (macros : Table) (tokens : List Token) (work : ℕ) → expanded macros tokens work ≡ Err NoMemory → ⊥
 unfolding expanded
 expanded_ends macros tokens work =
     no_want work (expanded macros tokens work) (scanned_ends macros (enough (map fresh tokens) work) work (map fresh tokens) (omega arith))

@@ -1,16 +1,18 @@
 -- Every token that comes out of a run is one, and there are no more than the work allows.
-use Rattle.std.proofs.Common.{◌≡◌, refl, arith, length-append, length-drop, ℕ, zero, suc, ◌+◌, ◌-◌, ◌≤◌, ◌==◌, Bool, true, false, cond, nat_lt, ◌&&◌, not, bytes_eq, List, [], ◌∷◌, ◌++◌, length, map, drop, Option, Some, None, unwrap_or, Result, Ok, Err, All}
-use Rattle.std.specs.Prelude.{slice_get}
+use Rattle.std.proofs.Common.{◌≡◌, refl, arith, length-append, length-drop, ℕ, zero, suc, ◌+◌, ◌-◌, ◌≤◌, ◌==◌, Bool, true, false, cond, nat_lt, ◌&&◌, bytes_eq, List, [], ◌∷◌, ◌++◌, length, map, drop, Option, Some, None, unwrap_or, Result, Ok, Err, All}
+use Rattle.std.specs.FinSet as set
+use Rattle.std.specs.Prelude.{slice_get, IfSome}
 use Rattle.std.proofs.lemmas.Bool.{ltb-false}
 use Rattle.std.proofs.lemmas.List.Elements.{All-nil, All-cons, All-head, All-tail, All-append, All-push, All-map, All-weaker, All-drop}
 use Rattle.c_lexer.specs.declared.token.Token.{Token}
-use Rattle.c_pre.specs.Formed.{IsFormed, IsFormedMacro}
-use Rattle.c_pre.specs.Directives.{is_name, is_sign, is_among}
-use Rattle.c_pre.specs.Macros.{found}
-use Rattle.c_pre.specs.Expansion.{Arguments, Scanning, most_work, enough, fresh, put_on, macro_for, place_of, part_by, replaced, substituted, parameters_of, split_from, is_open, fits, kept, goes_on, arguments_scanned, object_hides, function_hides, called, at_macro, at_token, scanned, expanded}
+use Rattle.c_pre.specs.Formed.{IsFormed, IsFormedMacro, IsFormedEntry}
+use Rattle.c_pre.specs.Directives.{is_name, is_sign}
+use Rattle.c_pre.specs.Macros.{found_in}
+use Rattle.c_pre.specs.Expansion.{Arguments, Scanning, most_work, enough, fresh, put_on, unhidden, macro_for, place_of, part_by, replaced, substituted, parameters_of, split_from, is_open, fits, kept, goes_on, arguments_scanned, object_hides, function_hides, called, at_macro, at_token, scanned, expanded}
 use Rattle.c_pre.specs.After.{and_then}
 use Rattle.c_pre.proofs.Left.{Conserves, split_conserves, whole}
-use Rattle.c_pre.specs.declared.macros.Macro.{Macro}
+use Rattle.c_pre.specs.Table.{Table, Numbers}
+use Rattle.c_pre.specs.declared.macros.Defined.{Defined}
 use Rattle.c_pre.specs.declared.marked.Marked.{Marked}
 use Rattle.c_pre.specs.declared.calls.Split.{Split}
 use Rattle.c_pre.specs.declared.scan.Expanded.{Expanded}
@@ -21,11 +23,11 @@ use Rattle.c_pre.specs.declared.answer.Refusal.TheVariants.{Bad}
 abbrev M : Marked → Type 0
 M m = IsFormed m.token
 
-abbrev N : Macro → Type 0
-N m = IsFormedMacro m
+abbrev N : Defined → Type 0
+N m = IsFormedMacro m.it
 
-put_on_formed : (line : ℕ) (names : List (List ℕ)) (m : Marked) → 1 ≤ line → M m → M (put_on line names m)
-put_on_formed line names m low h = ((h.0.0, low), h.1)
+put_on_formed : (line : ℕ) (numbers : Numbers) (m : Marked) → 1 ≤ line → M m → M (put_on line numbers m)
+put_on_formed line numbers m low h = ((h.0.0, low), h.1)
 
 argument_formed : (expanded : List (List Marked)) (i : ℕ) → All (All M) expanded → All M (unwrap_or (slice_get expanded i) [])
 argument_formed [] i h = All-nil M
@@ -36,27 +38,35 @@ part_formed : (expanded : List (List Marked)) (token : Token) (o : Option ℕ) �
 part_formed expanded token None h l = All-cons M (fresh token) [] l (All-nil M)
 part_formed expanded token (Some i) h l = argument_formed expanded i h
 
-substituted_formed : (line : ℕ) (names parameters : List (List ℕ)) (expanded : List (List Marked)) (tokens : List Token) → 1 ≤ line → All (All M) expanded → All IsFormed tokens → All M (substituted line names parameters expanded tokens)
-substituted_formed line names parameters expanded [] low h l = All-nil M
-substituted_formed line names parameters expanded (token ∷ tokens) low h l =
+substituted_formed : (line : ℕ) (numbers : Numbers) (parameters : List (List ℕ)) (expanded : List (List Marked)) (tokens : List Token) → 1 ≤ line → All (All M) expanded → All IsFormed tokens → All M (substituted line numbers parameters expanded tokens)
+substituted_formed line numbers parameters expanded [] low h l = All-nil M
+substituted_formed line numbers parameters expanded (token ∷ tokens) low h l =
     let part = part_by expanded token (place_of parameters token.bytes) in
-    All-append M (map (put_on line names) part) (substituted line names parameters expanded tokens)
-    (All-map M (put_on line names) part (All-weaker M (λ m. M (put_on line names m)) (λ m k. put_on_formed line names m low k) part (part_formed expanded token (place_of parameters token.bytes) h (All-head IsFormed token tokens l))))
-    (substituted_formed line names parameters expanded tokens low h (All-tail IsFormed token tokens l))
+    All-append M (map (put_on line numbers) part) (substituted line numbers parameters expanded tokens)
+    (All-map M (put_on line numbers) part (All-weaker M (λ m. M (put_on line numbers m)) (λ m k. put_on_formed line numbers m low k) part (part_formed expanded token (place_of parameters token.bytes) h (All-head IsFormed token tokens l))))
+    (substituted_formed line numbers parameters expanded tokens low h (All-tail IsFormed token tokens l))
 
 -- a macro that is found is formed
-abbrev pub OnMacro : Option Macro → Type 0
+abbrev OnMacro : Option Defined → Type 0
 OnMacro None = Unit {0}
 OnMacro (Some m) = N m
 
-pick_macro : (b : Bool) (x y : Option Macro) → OnMacro x → OnMacro y → OnMacro (cond b x y)
+pick_macro : (b : Bool) (x y : Option Defined) → OnMacro x → OnMacro y → OnMacro (cond b x y)
 pick_macro true x y hx hy = hx
 pick_macro false x y hx hy = hy
 
-pub found_formed : (name : List ℕ) (macros : List Macro) → All N macros → OnMacro (found name macros)
+entry_formed : (o : Option Defined) → IfSome o (λ m. IsFormedMacro m.it) → OnMacro o
+entry_formed None h = tt
+entry_formed (Some m) h = h
+
+found_formed : (name : List ℕ) (names : List (List ℕ × Option Defined)) → All IsFormedEntry names → OnMacro (found_in name names)
 found_formed name [] h = tt
-found_formed name (m ∷ macros) h =
-    pick_macro (bytes_eq m.name name) (Some m) (found name macros) (All-head N m macros h) (found_formed name macros (All-tail N m macros h))
+found_formed name (entry ∷ names) h =
+    pick_macro (bytes_eq name entry.0) entry.1 (found_in name names) (entry_formed entry.1 (All-head IsFormedEntry entry names h)) (found_formed name names (All-tail IsFormedEntry entry names h))
+
+unhidden_formed : (hidden : Numbers) (o : Option Defined) → OnMacro o → OnMacro (unhidden hidden o)
+unhidden_formed hidden None h = tt
+unhidden_formed hidden (Some m) h = pick_macro (set.contains hidden m.number) None (Some m) tt h
 
 abbrev OnSplit : Option Split → Type 0
 OnSplit None = Unit {0}
@@ -134,23 +144,23 @@ module _ (f : Scanning) (scans : (work : ℕ) (tokens : List Marked) → All M t
   arguments_scan work (arg ∷ args) h =
       arguments_by work arg args (f work arg) (scans work arg (All-head (All M) arg args h)) (λ w. arguments_scan w args (All-tail (All M) arg args h))
 
-  applied_by : (t : Marked) (m : Macro) (split : Split) (work : ℕ) (all : List Marked) (r : Result Arguments Refusal) → M t → N m → OnArguments work r → length split.rest ≤ length all → All M split.rest → OnScan work all (and_then r (λ args. goes_on f t.token.line args.work (replaced t.token.line (function_hides t split) args.expanded m) split.rest))
+  applied_by : (t : Marked) (m : Defined) (split : Split) (work : ℕ) (all : List Marked) (r : Result Arguments Refusal) → M t → N m → OnArguments work r → length split.rest ≤ length all → All M split.rest → OnScan work all (and_then r (λ args. goes_on f t.token.line args.work (replaced t.token.line (function_hides t m.number split) args.expanded m.it) split.rest))
   applied_by t m split work all (Err e) mt nm a short h = tt
   applied_by t m split work all (Ok args) mt nm a short h =
       put_scan t.token.line work args.work _ split.rest all a.1 short
-      (substituted_formed t.token.line (function_hides t split) (parameters_of m.parameters) args.expanded m.replacement mt.0.1 a.0 nm) h
+      (substituted_formed t.token.line (function_hides t m.number split) (parameters_of m.it.parameters) args.expanded m.it.replacement mt.0.1 a.0 nm) h
 
-  called_scan : (t : Marked) (m : Macro) (parameters : List (List ℕ)) (o : Option Split) (work n : ℕ) (all : List Marked) → M t → N m → OnSplit o → Conserves n o → n ≤ length all → OnScan work all (called f work t m parameters o)
+  called_scan : (t : Marked) (m : Defined) (parameters : List (List ℕ)) (o : Option Split) (work n : ℕ) (all : List Marked) → M t → N m → OnSplit o → Conserves n o → n ≤ length all → OnScan work all (called f work t m parameters o)
   called_scan t m parameters None work n all mt nm p c short = tt
   called_scan t m parameters (Some split) work n all mt nm p c short =
       pick_scan (fits parameters split.args) work all _ _
       (applied_by t m split work all (arguments_scanned f work split.args) mt nm (arguments_scan work split.args p.0) (omega (arith, c, short)) p.1)
       tt
 
-  at_macro_scan : (t : Marked) (m : Macro) (o : Option (List (List ℕ))) (work : ℕ) (rest : List Marked) → M t → N m → All M rest → OnScan work (t ∷ rest) (at_macro f work t rest m o)
+  at_macro_scan : (t : Marked) (m : Defined) (o : Option (List (List ℕ))) (work : ℕ) (rest : List Marked) → M t → N m → All M rest → OnScan work (t ∷ rest) (at_macro f work t rest m o)
   at_macro_scan t m None work rest mt nm h =
       put_scan t.token.line work work _ rest (t ∷ rest) (omega arith) (omega arith)
-      (substituted_formed t.token.line (object_hides t) (parameters_of m.parameters) [] m.replacement mt.0.1 (All-nil (All M)) nm) h
+      (substituted_formed t.token.line (object_hides t m.number) (parameters_of m.it.parameters) [] m.it.replacement mt.0.1 (All-nil (All M)) nm) h
   at_macro_scan t m (Some parameters) work rest mt nm h =
       pick_scan (is_open rest) work (t ∷ rest) _ _
       (called_scan t m parameters (split_from 0 [] [] (drop 1 rest)) work (whole [] [] (drop 1 rest)) (t ∷ rest) mt nm
@@ -158,21 +168,21 @@ module _ (f : Scanning) (scans : (work : ℕ) (tokens : List Marked) → All M t
       (split_conserves 0 [] [] (drop 1 rest)) (omega (arith, length-drop 1 rest)))
       (kept_scan t work rest (f work rest) mt (scans work rest h))
 
-  at_token_scan : (t : Marked) (o : Option Macro) (work : ℕ) (rest : List Marked) → M t → OnMacro o → All M rest → OnScan work (t ∷ rest) (at_token f work t rest o)
+  at_token_scan : (t : Marked) (o : Option Defined) (work : ℕ) (rest : List Marked) → M t → OnMacro o → All M rest → OnScan work (t ∷ rest) (at_token f work t rest o)
   at_token_scan t None work rest mt nm h = kept_scan t work rest (f work rest) mt (scans work rest h)
-  at_token_scan t (Some m) work rest mt nm h = at_macro_scan t m m.parameters work rest mt nm h
+  at_token_scan t (Some m) work rest mt nm h = at_macro_scan t m m.it.parameters work rest mt nm h
 
-scanned_scan : (macros : List Macro) (n work : ℕ) (tokens : List Marked) → All N macros → All M tokens → OnScan work tokens (scanned macros n work tokens)
+scanned_scan : (macros : Table) (n work : ℕ) (tokens : List Marked) → All IsFormedEntry macros.names → All M tokens → OnScan work tokens (scanned macros n work tokens)
 unfolding scanned
 scanned_scan macros zero work [] m h = (All-nil M, omega arith, omega arith, λ k. k)
 scanned_scan macros zero work (t ∷ rest) m h = tt
 scanned_scan macros (suc n) work [] m h = (All-nil M, omega arith, omega arith, λ k. k)
 scanned_scan macros (suc n) work (t ∷ rest) m h =
     at_token_scan (scanned macros n) (λ w ts k. scanned_scan macros n w ts m k) t (macro_for macros t) work rest (All-head M t rest h)
-    (pick_macro (is_name t.token && not (is_among t.hidden t.token.bytes)) (found t.token.bytes macros) None (found_formed t.token.bytes macros m) tt)
+    (pick_macro (is_name t.token) (unhidden t.hidden (found_in t.token.bytes macros.names)) None (unhidden_formed t.hidden (found_in t.token.bytes macros.names) (found_formed t.token.bytes macros.names m)) tt)
     (All-tail M t rest h)
 
-pub expanded_scan : (macros : List Macro) (tokens : List Token) (work : ℕ) → All N macros → All IsFormed tokens → OnScan work (map fresh tokens) (expanded macros tokens work)
+pub expanded_scan : (macros : Table) (tokens : List Token) (work : ℕ) → All IsFormedEntry macros.names → All IsFormed tokens → OnScan work (map fresh tokens) (expanded macros tokens work)
 unfolding expanded
 expanded_scan macros tokens work n l =
     scanned_scan macros (enough (map fresh tokens) work) work (map fresh tokens) n (All-map M fresh tokens l)

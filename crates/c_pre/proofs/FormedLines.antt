@@ -1,7 +1,7 @@
 -- Every line leaves formed tokens and macros.
 use Rattle.std.proofs.Common.{◌≡◌, ℕ, ◌+◌, ◌-◌, ◌≤◌, Bool, true, false, cond, ◌||◌, not, bytes_eq, List, [], ◌∷◌, ◌++◌, map, length, ◌==◌, Option, Some, None, option_map, Result, Ok, Err, All, refl, sym, subst, arith, codes, length-append, length-drop, ◌&&◌}
 use Rattle.std.proofs.lemmas.List.{length-map}
-use Rattle.std.specs.Prelude.{is_some}
+use Rattle.std.specs.Prelude.{is_some, IfSome}
 use Rattle.std.proofs.lemmas.List.Elements.{All-nil, All-cons, All-head, All-tail, All-append, All-push, All-map, All-weaker}
 use Rattle.c_lexer.specs.Gaps.{include_end}
 use Rattle.c_lexer.specs.Tokens.{first_place, IsLexed}
@@ -12,7 +12,7 @@ use Rattle.c_lexer.specs.declared.token.LexError.TheVariants as lex
 use Rattle.c_lexer.specs.declared.token.LexKind.TheVariants.{BadByte}
 use Rattle.c_lexer.proofs.Cuts.{text_cut}
 use Rattle.c_lexer.proofs.Loop.{lexed_of}
-use Rattle.c_pre.specs.Formed.{IsFormed, IsFormedMacro, Formed}
+use Rattle.c_pre.specs.Formed.{IsFormed, IsFormedMacro, IsFormedEntry, Formed}
 use Rattle.c_pre.specs.After.{and_then, at_line}
 use Rattle.c_pre.specs.Comments.{begins_with}
 use Rattle.c_pre.specs.Lines.{behind_spaces, behind_hash, directive_rest, first_word}
@@ -21,10 +21,12 @@ use Rattle.c_lexer.specs.Bytes.{is_space}
 use Rattle.std.specs.List.{list_all, prefix_len}
 use Rattle.c_pre.specs.Groups.{is_live, first_line, turned, closed, skipped}
 use Rattle.c_pre.specs.Directives.{is_name, is_sign, is_among, is_path_byte, path_of, included_name, is_string_kind, names_from, signature_of, with_signature, function_behind, macro_behind, takes_arguments, define_of, include_of, only_name, named_by, alone, directive_by, directive_of}
-use Rattle.c_pre.specs.Macros.{found, same_macro, defined_by, defined, without}
+use Rattle.c_pre.specs.Macros.{found, with_entry, with_macro, same_macro, defined_by, defined, undefined}
 use Rattle.c_pre.specs.Expansion.{expanded, fresh, most_work}
 use Rattle.c_pre.specs.Reading.{lexed, rest_lexed, moved, plain, with_expanded, with_run, run_ended, behind_line, at_header, Step, step, with_groups, with_macros, obeyed, of_form, of_tokens, directive_on, directed_from, directed, passed, line_by, line_read, balanced, text_ended}
 use Rattle.c_pre.specs.declared.groups.Group.{Group}
+use Rattle.c_pre.specs.Table.{Table}
+use Rattle.c_pre.specs.declared.macros.Defined.{Defined}
 use Rattle.c_pre.specs.declared.macros.Macro.{Macro}
 use Rattle.c_pre.specs.declared.marked.Marked.{Marked}
 use Rattle.c_pre.specs.declared.scan.Expanded.{Expanded}
@@ -40,7 +42,7 @@ use Rattle.c_pre.specs.declared.answer.Refusal.TheVariants.{Bad, Lex, NoMemory}
 use Rattle.c_pre.specs.declared.here.Here.{Here}
 use Rattle.c_pre.specs.declared.progress.Progress.{Progress}
 use Rattle.c_pre.proofs.Lexed.{few_cut, short_cut}
-use Rattle.c_pre.proofs.Formed.{OnMacro, OnScan, expanded_scan}
+use Rattle.c_pre.proofs.Formed.{OnScan, expanded_scan}
 
 abbrev OnTokens : ℕ → Result (List Token) LexError → Type 0
 OnTokens most (Ok tokens) = All IsFormed tokens × (length tokens ≤ most)
@@ -157,6 +159,10 @@ signature_formed [] h = tt
 signature_formed (first ∷ rest) h =
     pick_signature (is_sign 41 first) (Some (record { names = []; replacement = rest })) (names_from [] (first ∷ rest)) (All-tail IsFormed first rest h) (names_formed [] (first ∷ rest) h)
 
+abbrev OnMacro : Option Macro → Type 0
+OnMacro None = Unit {0}
+OnMacro (Some m) = IsFormedMacro m
+
 with_signature_formed : (name : List ℕ) (o : Option Signature) → OnSignature o → OnMacro (option_map (with_signature name) o)
 with_signature_formed name None h = tt
 with_signature_formed name (Some s) h = h
@@ -243,38 +249,43 @@ groups_formed : (n w : ℕ) (here : Here) (p : Progress) (r : Result (List Group
 groups_formed n w here p (Ok groups) f = (f, tt)
 groups_formed n w here p (Err e) f = tt
 
-abbrev OnMacros : Result (List Macro) PreKind → Type 0
-OnMacros (Ok macros) = All IsFormedMacro macros
+abbrev IsFormedTable : Table → Type 0
+IsFormedTable table = All IsFormedEntry table.names
+
+abbrev OnMacros : Result Table PreKind → Type 0
+OnMacros (Ok table) = IsFormedTable table
 OnMacros (Err e) = Unit {0}
 
-redefined : (b : Bool) (macros : List Macro) → All IsFormedMacro macros → OnMacros (cond b (Ok macros) (Err Redefined))
-redefined true macros h = h
-redefined false macros h = tt
+redefined : (b : Bool) (table : Table) → IsFormedTable table → OnMacros (cond b (Ok table) (Err Redefined))
+redefined true table h = h
+redefined false table h = tt
 
-defined_formed : (o : Option Macro) (m : Macro) (macros : List Macro) → IsFormedMacro m → All IsFormedMacro macros → OnMacros (defined_by o m macros)
-defined_formed None m macros n h = All-push IsFormedMacro macros m h n
-defined_formed (Some before) m macros n h = redefined (same_macro before m) macros h
+entry_by : (b : Bool) (x y : List (List ℕ × Option Defined)) → All IsFormedEntry x → All IsFormedEntry y → All IsFormedEntry (cond b x y)
+entry_by true x y hx hy = hx
+entry_by false x y hx hy = hy
 
-macros_formed : (n w line : ℕ) (here : Here) (p : Progress) (r : Result (List Macro) PreKind) → Holds n w here p → OnMacros r → OnStep n w (with_macros here p (at_line line r))
-macros_formed n w line here p (Ok macros) f h = ((record { tokens = f.0.tokens; macros = h }, f.1, f.2), tt)
+entry_formed : (name : List ℕ) (o : Option Defined) (names : List (List ℕ × Option Defined)) → IfSome o (λ m. IsFormedMacro m.it) → All IsFormedEntry names → All IsFormedEntry (with_entry name o names)
+entry_formed name o [] f h = All-cons IsFormedEntry (name, o) [] f (All-nil IsFormedEntry)
+entry_formed name o (entry ∷ names) f h =
+    let more = All-tail IsFormedEntry entry names h in
+    entry_by (bytes_eq name entry.0) ((entry.0, o) ∷ names) (entry ∷ with_entry name o names)
+    (All-cons IsFormedEntry (entry.0, o) names f more)
+    (All-cons IsFormedEntry entry (with_entry name o names) (All-head IsFormedEntry entry names h) (entry_formed name o names f more))
+
+defined_formed : (o : Option Defined) (m : Macro) (table : Table) → IsFormedMacro m → IsFormedTable table → OnMacros (defined_by o m table)
+defined_formed None m table n h = entry_formed m.name (Some (record { number = table.count; it = m })) table.names n h
+defined_formed (Some before) m table n h = redefined (same_macro before.it m) table h
+
+macros_formed : (n w line : ℕ) (here : Here) (p : Progress) (r : Result Table PreKind) → Holds n w here p → OnMacros r → OnStep n w (with_macros here p (at_line line r))
+macros_formed n w line here p (Ok table) f h = ((record { tokens = f.0.tokens; macros = h }, f.1, f.2), tt)
 macros_formed n w line here p (Err e) f h = tt
-
-without_by : (b : Bool) (x y : List Macro) → All IsFormedMacro x → All IsFormedMacro y → All IsFormedMacro (cond b x y)
-without_by true x y hx hy = hx
-without_by false x y hx hy = hy
-
-without_formed : (name : List ℕ) (macros : List Macro) → All IsFormedMacro macros → All IsFormedMacro (without name macros)
-without_formed name [] h = All-nil IsFormedMacro
-without_formed name (m ∷ macros) h =
-    let more = All-tail IsFormedMacro m macros h in
-    without_by (bytes_eq m.name name) macros (m ∷ without name macros) more (All-cons IsFormedMacro m (without name macros) (All-head IsFormedMacro m macros h) (without_formed name macros more))
 
 obeyed_formed : (n w : ℕ) (d : Directive) (here : Here) (p : Progress) → OnDirective d → Holds n w here p → OnStep n w (obeyed d here p)
 unfolding obeyed
 obeyed_formed n w Empty here p h f = (f, tt)
 obeyed_formed n w (Include name) here p h f = (f, h)
 obeyed_formed n w (Define m) here p h f = macros_formed n w here.line here p (defined m p.macros) f (defined_formed (found m.name p.macros) m p.macros h f.0.macros)
-obeyed_formed n w (Undefine name) here p h f = ((record { tokens = f.0.tokens; macros = without_formed name p.macros f.0.macros }, f.1, f.2), tt)
+obeyed_formed n w (Undefine name) here p h f = ((record { tokens = f.0.tokens; macros = entry_formed name None p.macros.names tt f.0.macros }, f.1, f.2), tt)
 obeyed_formed n w (GroupOf name wanted) here p h f = (f, tt)
 obeyed_formed n w Else here p h f = groups_formed n w here p (at_line here.line (turned here.groups)) f
 obeyed_formed n w EndIf here p h f = groups_formed n w here p (at_line here.line (closed here.groups)) f

@@ -7,9 +7,10 @@ use Rattle.std.proofs.lemmas.List.Sums.{sum_by_push, sum_by-append}
 use Rattle.c_lexer.specs.declared.token.Token.{Token}
 use Rattle.c_pre.specs.Directives.{is_sign}
 use Rattle.c_pre.specs.Macros.{found}
-use Rattle.c_pre.specs.Expansion.{most_work, enough, fresh, macro_for, both, split_from, is_open, fits}
+use Rattle.c_pre.specs.Expansion.{most_work, enough, fresh, macro_for, function_hides, split_from, is_open, fits}
 use Rattle.c_pre.specs.Steps.{Next, Goes, Ends, Stops, put_in, first_of, behind_first, begun, called, kept, at_macro, at_token, ended, argument_done, rest_done, step_by, step, goes_on, scanned, scan_of, expanded_by_steps}
-use Rattle.c_pre.specs.declared.macros.Macro.{Macro}
+use Rattle.c_pre.specs.Table.{Table, Numbers}
+use Rattle.c_pre.specs.declared.macros.Defined.{Defined}
 use Rattle.c_pre.specs.declared.marked.Marked.{Marked}
 use Rattle.c_pre.specs.declared.calls.Call.{Call}
 use Rattle.c_pre.specs.declared.calls.Split.{Split}
@@ -84,36 +85,36 @@ behind_short : (args : List (List Marked)) → length (behind_first args) ≤ le
 behind_short [] = omega arith
 behind_short (arg ∷ args) = omega arith
 
-begun_by : (b : Bool) (t : Marked) (names : List (List ℕ)) (split : Split) (s : Scan) (n k : ℕ) → Conserves k (Some split) → 3 * (most_work + 1 - s.work) + 3 * k + sum_by weight s.calls + 1 < n → Falls n (cond b (Goes (begun t names split s)) (Stops (Bad Arguments t.token.line)))
-begun_by false t names split s n k h low = tt
-begun_by true t names split s n k h low =
-    let call : Call = record { name = t.token.bytes; line = t.token.line; hidden = names; expanded = []; left = behind_first split.args; done = s.done; rest = split.rest } in
+begun_by : (b : Bool) (t : Marked) (numbers : Numbers) (split : Split) (s : Scan) (n k : ℕ) → Conserves k (Some split) → 3 * (most_work + 1 - s.work) + 3 * k + sum_by weight s.calls + 1 < n → Falls n (cond b (Goes (begun t numbers split s)) (Stops (Bad Arguments t.token.line)))
+begun_by false t numbers split s n k h low = tt
+begun_by true t numbers split s n k h low =
+    let call : Call = record { name = t.token.bytes; line = t.token.line; hidden = numbers; expanded = []; left = behind_first split.args; done = s.done; rest = split.rest } in
     omega (arith, h, low, sum_by_push weight s.calls call, sum_first split.args, behind_short split.args)
 
-called_falls : (t : Marked) (parameters : List (List ℕ)) (o : Option Split) (s : Scan) (n k : ℕ) → Conserves k o → 3 * (most_work + 1 - s.work) + 3 * k + sum_by weight s.calls + 1 < n → Falls n (called t parameters o s)
-called_falls t parameters None s n k h low = tt
-called_falls t parameters (Some split) s n k h low =
-    begun_by (fits parameters split.args) t (both t.hidden split.hidden ++ t.token.bytes ∷ []) split s n k h low
+called_falls : (t : Marked) (number : ℕ) (parameters : List (List ℕ)) (o : Option Split) (s : Scan) (n k : ℕ) → Conserves k o → 3 * (most_work + 1 - s.work) + 3 * k + sum_by weight s.calls + 1 < n → Falls n (called t number parameters o s)
+called_falls t number parameters None s n k h low = tt
+called_falls t number parameters (Some split) s n k h low =
+    begun_by (fits parameters split.args) t (function_hides t number split) split s n k h low
 
-open_by : (b : Bool) (t : Marked) (parameters : List (List ℕ)) (s : Scan) (n : ℕ) → left s + 2 < n → Falls n (cond b (called t parameters (split_from 0 [] [] (drop 1 s.rest)) s) (kept t s))
-open_by true t parameters s n low =
-    called_falls t parameters (split_from 0 [] [] (drop 1 s.rest)) s n (whole [] [] (drop 1 s.rest)) (split_conserves 0 [] [] (drop 1 s.rest)) (omega (arith, low, length-drop 1 s.rest))
-open_by false t parameters s n low = omega (arith, low)
+open_by : (b : Bool) (t : Marked) (number : ℕ) (parameters : List (List ℕ)) (s : Scan) (n : ℕ) → left s + 2 < n → Falls n (cond b (called t number parameters (split_from 0 [] [] (drop 1 s.rest)) s) (kept t s))
+open_by true t number parameters s n low =
+    called_falls t number parameters (split_from 0 [] [] (drop 1 s.rest)) s n (whole [] [] (drop 1 s.rest)) (split_conserves 0 [] [] (drop 1 s.rest)) (omega (arith, low, length-drop 1 s.rest))
+open_by false t number parameters s n low = omega (arith, low)
 
-at_macro_falls : (t : Marked) (m : Macro) (o : Option (List (List ℕ))) (s : Scan) (n : ℕ) → left s + 2 < n → Falls n (at_macro t m o s)
+at_macro_falls : (t : Marked) (m : Defined) (o : Option (List (List ℕ))) (s : Scan) (n : ℕ) → left s + 2 < n → Falls n (at_macro t m o s)
 at_macro_falls t m None s n low = put_in_falls t.token.line _ s n (omega (arith, low))
-at_macro_falls t m (Some parameters) s n low = open_by (is_open s.rest) t parameters s n low
+at_macro_falls t m (Some parameters) s n low = open_by (is_open s.rest) t m.number parameters s n low
 
-at_token_falls : (t : Marked) (o : Option Macro) (s : Scan) (n : ℕ) → left s + 2 < n → Falls n (at_token t o s)
+at_token_falls : (t : Marked) (o : Option Defined) (s : Scan) (n : ℕ) → left s + 2 < n → Falls n (at_token t o s)
 at_token_falls t None s n low = omega (arith, low)
-at_token_falls t (Some m) s n low = at_macro_falls t m m.parameters s n low
+at_token_falls t (Some m) s n low = at_macro_falls t m m.it.parameters s n low
 
-ended_falls : (call : Call) (o : Option Macro) (s : Scan) (n : ℕ) → 3 * (most_work + 1 - s.work) + sum_by weight s.calls + 3 * length call.rest ≤ n → Falls n (ended call o s)
+ended_falls : (call : Call) (o : Option Defined) (s : Scan) (n : ℕ) → 3 * (most_work + 1 - s.work) + sum_by weight s.calls + 3 * length call.rest ≤ n → Falls n (ended call o s)
 ended_falls call None s n low = tt
 ended_falls call (Some m) s n low =
     put_in_falls call.line _ (record s { done = call.done; rest = call.rest }) n (omega (arith, low))
 
-argument_falls : (macros : List Macro) (call : Call) (args : List (List Marked)) (s : Scan) (n : ℕ) → 3 * (most_work + 1 - s.work) + sum_by weight s.calls + (3 * (length call.rest + sum_by length args) + length args + 1) ≤ n → Falls n (argument_done macros call args s)
+argument_falls : (macros : Table) (call : Call) (args : List (List Marked)) (s : Scan) (n : ℕ) → 3 * (most_work + 1 - s.work) + sum_by weight s.calls + (3 * (length call.rest + sum_by length args) + length args + 1) ≤ n → Falls n (argument_done macros call args s)
 argument_falls macros call [] s n low = ended_falls call (found call.name macros) s n (omega (arith, low))
 argument_falls macros call (arg ∷ args) s n low =
     omega (arith, low, sum_by_push weight s.calls (record call { left = args }), sum_cons length arg args)
@@ -129,50 +130,50 @@ sum_last : (calls : List Call) (call : Call) → slice_get calls (length calls -
 sum_last [] call is = cc
 sum_last (c ∷ calls) call is = sum_last_at (c ∷ calls) (length (c ∷ calls) - 1) call (omega arith) is
 
-rest_falls : (macros : List Macro) (o : Option Call) (s : Scan) → slice_get s.calls (length s.calls - 1) ≡ o → Falls (left s) (rest_done macros o s)
+rest_falls : (macros : Table) (o : Option Call) (s : Scan) → slice_get s.calls (length s.calls - 1) ≡ o → Falls (left s) (rest_done macros o s)
 rest_falls macros None s is = tt
 rest_falls macros (Some call) s is =
     argument_falls macros (record call { expanded = call.expanded ++ s.done ∷ [] }) call.left (record s { calls = take (length s.calls - 1) s.calls }) (left s) (omega (arith, sum_last s.calls call is))
 
-by_rest : (macros : List Macro) (s : Scan) (rest : List Marked) → s.rest ≡ rest → Falls (left s) (step_by macros rest s)
+by_rest : (macros : Table) (s : Scan) (rest : List Marked) → s.rest ≡ rest → Falls (left s) (step_by macros rest s)
 by_rest macros s [] is = rest_falls macros _ s refl
 by_rest macros s (t ∷ rest) is = at_token_falls t (macro_for macros t) (record s { rest = rest }) (left s) (omega (arith, ap length is))
 
-pub step_falls : (macros : List Macro) (s : Scan) → Falls (left s) (step macros s)
+pub step_falls : (macros : Table) (s : Scan) → Falls (left s) (step macros s)
 unfolding step
 step_falls macros s = by_rest macros s s.rest refl
 
-pub falls : (macros : List Macro) (s t : Scan) → step macros s ≡ Goes t → left t < left s
+pub falls : (macros : Table) (s t : Scan) → step macros s ≡ Goes t → left t < left s
 falls macros s t is = let h : Falls (left s) (Goes t) = subst (Falls (left s)) is (step_falls macros s) in h
 
 -- a scan comes to this in more steps than it leaves
-abbrev pub ComesTo : List Macro → Scan → Result Expanded Refusal → Type 0
+abbrev pub ComesTo : Table → Scan → Result Expanded Refusal → Type 0
 ComesTo macros s whole = (fuel : ℕ) × (left s < fuel) × (scanned macros fuel s ≡ whole)
 
-one_step : (macros : List Macro) (n : ℕ) (s : Scan) → scanned macros (suc n) s ≡ goes_on (scanned macros n) (step macros s)
+one_step : (macros : Table) (n : ℕ) (s : Scan) → scanned macros (suc n) s ≡ goes_on (scanned macros n) (step macros s)
 unfolding scanned
 one_step macros n s = refl
 
-pub goes : (macros : List Macro) (s t : Scan) (whole : Result Expanded Refusal) → ComesTo macros s whole → step macros s ≡ Goes t → ComesTo macros t whole
+pub goes : (macros : Table) (s t : Scan) (whole : Result Expanded Refusal) → ComesTo macros s whole → step macros s ≡ Goes t → ComesTo macros t whole
 goes macros s t whole (zero, low, is) h = absurd (omega (arith, low))
 goes macros s t whole (suc n, low, is) h =
     (n, omega (arith, low, falls macros s t h), sym (one_step macros n s ∙ ap (goes_on (scanned macros n)) h) ∙ is)
 
-pub stops_by : (macros : List Macro) (s : Scan) (whole : Result Expanded Refusal) (e : Refusal) → ComesTo macros s whole → step macros s ≡ Stops e → whole ≡ Err e
+pub stops_by : (macros : Table) (s : Scan) (whole : Result Expanded Refusal) (e : Refusal) → ComesTo macros s whole → step macros s ≡ Stops e → whole ≡ Err e
 stops_by macros s whole e (zero, low, is) h = absurd (omega (arith, low))
 stops_by macros s whole e (suc n, low, is) h = sym is ∙ (one_step macros n s ∙ ap (goes_on (scanned macros n)) h)
 
-pub ends_by : (macros : List Macro) (s : Scan) (whole : Result Expanded Refusal) (tokens : List Marked) (work : ℕ) → ComesTo macros s whole → step macros s ≡ Ends tokens work → whole ≡ Ok (record { tokens = tokens; work = work })
+pub ends_by : (macros : Table) (s : Scan) (whole : Result Expanded Refusal) (tokens : List Marked) (work : ℕ) → ComesTo macros s whole → step macros s ≡ Ends tokens work → whole ≡ Ok (record { tokens = tokens; work = work })
 ends_by macros s whole tokens work (zero, low, is) h = absurd (omega (arith, low))
 ends_by macros s whole tokens work (suc n, low, is) h = sym is ∙ (one_step macros n s ∙ ap (goes_on (scanned macros n)) h)
 
-pub refused : (macros : List Macro) (s new : Scan) (whole : Result Expanded Refusal) (e : Refusal) → ComesTo macros s whole → StepsTo (step macros s) new (Err e) → Answers whole (Err e)
+pub refused : (macros : Table) (s new : Scan) (whole : Result Expanded Refusal) (e : Refusal) → ComesTo macros s whole → StepsTo (step macros s) new (Err e) → Answers whole (Err e)
 refused macros s new whole (Bad kind line) h is = stops_by macros s whole (Bad kind line) h is
 refused macros s new whole (Lex kind line) h is = stops_by macros s whole (Lex kind line) h is
 refused macros s new whole NoMemory h is = tt
 
 -- before the first step
-pub starts : (macros : List Macro) (tokens : List Token) (work : ℕ) (s : Scan) → s ≡ scan_of (map fresh tokens) work → ComesTo macros s (expanded_by_steps macros tokens work)
+pub starts : (macros : Table) (tokens : List Token) (work : ℕ) (s : Scan) → s ≡ scan_of (map fresh tokens) work → ComesTo macros s (expanded_by_steps macros tokens work)
 unfolding expanded_by_steps
 starts macros tokens work s is =
     subst (λ t. ComesTo macros t (expanded_by_steps macros tokens work)) (sym is) (enough (map fresh tokens) work, omega arith, refl)

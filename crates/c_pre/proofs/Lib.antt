@@ -13,3 +13,5 @@ pub mod Replacing
 pub mod Named
 pub mod Ends
 pub mod Unreplaced
+pub mod Keys
+pub mod Trees

@@ -40,7 +40,7 @@ is_sign sign token = bytes_eq token.bytes (sign ∷ [])
 
 -- a name is one of these
 abbrev pub is_among : List (List ℕ) → List ℕ → Bool
-is_among names name = list_any (λ held. bytes_eq held name) names
+is_among names name = list_any (bytes_eq name) names
 
 -- the name that some tokens are
 abbrev pub only_name : List Token → Option (List ℕ)

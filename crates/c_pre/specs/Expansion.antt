@@ -1,13 +1,15 @@
--- The replacement of macros in a run of text lines (C99 6.10.3 and 6.10.3.4). Each token has the names of the macros that are
--- hidden from it. The run is scanned from left to right. A name of a macro that is not hidden from it is replaced: one of a
+-- The replacement of macros in a run of text lines (C99 6.10.3 and 6.10.3.4). Each token has a set of macros that are hidden
+-- from it. The run is scanned from left to right. A name of a macro that is not hidden from it is replaced: one of a
 -- function-like macro only where a `(` is the next token, and then by way of its arguments, each of which is expanded alone and
 -- once. The scan goes on at the first token of what stands in its place.
-use Rattle.std.specs.Prelude.{ℕ, zero, suc, ◌+◌, ◌-◌, ◌*◌, ◌==◌, Bool, false, not, ◌&&◌, bytes_eq, nat_lt, if◌then◌else◌, List, [], ◌∷◌, ◌++◌, length, map, drop, slice_get, Option, Some, None, unwrap_or, Result, Ok, Err}
-use Rattle.std.specs.List.{filter}
+use Rattle.std.specs.Prelude.{ℕ, zero, suc, ◌+◌, ◌-◌, ◌*◌, ◌==◌, Bool, false, ◌&&◌, bytes_eq, nat_lt, if◌then◌else◌, List, [], ◌∷◌, ◌++◌, length, map, drop, slice_get, Option, Some, None, unwrap_or, Result, Ok, Err}
+use Rattle.std.specs.FinSet as set
 use Rattle.c_lexer.specs.declared.token.Token.{Token}
 use Rattle.c_pre.specs.After.{and_then}
-use Rattle.c_pre.specs.Directives.{is_name, is_sign, is_among}
+use Rattle.c_pre.specs.Directives.{is_name, is_sign}
 use Rattle.c_pre.specs.Macros.{found}
+use Rattle.c_pre.specs.Table.{Table, Numbers}
+use Rattle.c_pre.specs.declared.macros.Defined.{Defined}
 use Rattle.c_pre.specs.declared.macros.Macro.{Macro}
 use Rattle.c_pre.specs.declared.answer.PreKind.TheVariants as kind
 use Rattle.c_pre.specs.declared.answer.Refusal.{Refusal}
@@ -22,24 +24,28 @@ most_work = 4000000
 
 -- a token of a text, from which nothing is hidden
 abbrev pub fresh : Token → Marked
-fresh token = record { token = token; hidden = [] }
+fresh token = record { token = token; hidden = set.empty }
 
--- a token that is put in on a line, with more names hidden from it
-abbrev pub put_on : ℕ → List (List ℕ) → Marked → Marked
-put_on line names m = record {
+-- a token that is put in on a line, with more macros hidden from it
+abbrev pub put_on : ℕ → Numbers → Marked → Marked
+put_on line numbers m = record {
   token = record { line = line; kind = m.token.kind; bytes = m.token.bytes };
-  hidden = m.hidden ++ names;
+  hidden = set.union m.hidden numbers;
 }
 
--- the macro of a token: of a name that is not hidden from it
-abbrev pub macro_for : List Macro → Marked → Option Macro
-macro_for macros t =
-    if is_name t.token && not (is_among t.hidden t.token.bytes) then found t.token.bytes macros else None
+-- a macro, where it is not hidden
+abbrev pub unhidden : Numbers → Option Defined → Option Defined
+unhidden hidden None = None
+unhidden hidden (Some m) = if set.contains hidden m.number then None else Some m
+
+-- the macro of a token: of a name from which it is not hidden
+abbrev pub macro_for : Table → Marked → Option Defined
+macro_for macros t = if is_name t.token then unhidden t.hidden (found t.token.bytes macros) else None
 
 -- the place of a parameter, behind so many others
 abbrev pub place_from : ℕ → List (List ℕ) → List ℕ → Option ℕ
 place_from place [] word = None
-place_from place (name ∷ names) word = if bytes_eq name word then Some place else place_from (place + 1) names word
+place_from place (name ∷ names) word = if bytes_eq word name then Some place else place_from (place + 1) names word
 
 -- the place of a parameter
 abbrev pub place_of : List (List ℕ) → List ℕ → Option ℕ
@@ -51,11 +57,11 @@ part_by expanded token None = fresh token ∷ []
 part_by expanded token (Some i) = unwrap_or (slice_get expanded i) []
 
 -- the tokens in place of those of a macro
-abbrev pub substituted : ℕ → List (List ℕ) → List (List ℕ) → List (List Marked) → List Token → List Marked
-substituted line names parameters expanded [] = []
-substituted line names parameters expanded (token ∷ tokens) =
-    map (put_on line names) (part_by expanded token (place_of parameters token.bytes))
-    ++ substituted line names parameters expanded tokens
+abbrev pub substituted : ℕ → Numbers → List (List ℕ) → List (List Marked) → List Token → List Marked
+substituted line numbers parameters expanded [] = []
+substituted line numbers parameters expanded (token ∷ tokens) =
+    map (put_on line numbers) (part_by expanded token (place_of parameters token.bytes))
+    ++ substituted line numbers parameters expanded tokens
 
 -- the parameters of a macro, none of an object-like one
 abbrev pub parameters_of : Option (List (List ℕ)) → List (List ℕ)
@@ -63,12 +69,8 @@ parameters_of None = []
 parameters_of (Some names) = names
 
 -- what stands in place of a macro
-abbrev pub replaced : ℕ → List (List ℕ) → List (List Marked) → Macro → List Marked
-replaced line names expanded m = substituted line names (parameters_of m.parameters) expanded m.replacement
-
--- the names that both have, in the order of the first
-abbrev pub both : List (List ℕ) → List (List ℕ) → List (List ℕ)
-both names others = filter (λ name. is_among others name) names
+abbrev pub replaced : ℕ → Numbers → List (List Marked) → Macro → List Marked
+replaced line numbers expanded m = substituted line numbers (parameters_of m.parameters) expanded m.replacement
 
 -- what a call has behind its `(`: its arguments, what is hidden from its `)`, and what stands behind that
 abbrev pub split_from : ℕ → List (List Marked) → List Marked → List Marked → Option Split
@@ -123,39 +125,40 @@ arguments_scanned scan work (arg ∷ args) =
     and_then (arguments_scanned scan e.work args) (λ es.
     Ok (record { expanded = e.tokens ∷ es.expanded; work = es.work })))
 
--- the names that are hidden from what stands in place of an object-like macro: those hidden from its name, and its name
-abbrev pub object_hides : Marked → List (List ℕ)
-object_hides t = t.hidden ++ t.token.bytes ∷ []
+-- what is hidden from what stands in place of an object-like macro: what is hidden from its name, and itself
+abbrev pub object_hides : Marked → ℕ → Numbers
+object_hides t number = set.insert t.hidden number
 
--- and of a function-like one: those hidden both from its name and from its `)`, and its name
-abbrev pub function_hides : Marked → Split → List (List ℕ)
-function_hides t split = both t.hidden split.hidden ++ t.token.bytes ∷ []
+-- and of a function-like one: what is hidden both from its name and from its `)`, and itself
+abbrev pub function_hides : Marked → ℕ → Split → Numbers
+function_hides t number split = set.insert (set.intersection t.hidden split.hidden) number
 
 -- a call of a function-like macro with these arguments
-abbrev pub applied : Scanning → ℕ → Marked → Macro → Split → Result Expanded Refusal
+abbrev pub applied : Scanning → ℕ → Marked → Defined → Split → Result Expanded Refusal
 applied scan work t m split =
     and_then (arguments_scanned scan work split.args) (λ args.
-    goes_on scan t.token.line args.work (replaced t.token.line (function_hides t split) args.expanded m) split.rest)
+    goes_on scan t.token.line args.work (replaced t.token.line (function_hides t m.number split) args.expanded m.it) split.rest)
 
 -- at a call of a function-like macro, by what stands behind its `(`
-abbrev pub called : Scanning → ℕ → Marked → Macro → List (List ℕ) → Option Split → Result Expanded Refusal
+abbrev pub called : Scanning → ℕ → Marked → Defined → List (List ℕ) → Option Split → Result Expanded Refusal
 called scan work t m parameters None = Err (Bad kind.Arguments t.token.line)
 called scan work t m parameters (Some split) =
     if fits parameters split.args then applied scan work t m split else Err (Bad kind.Arguments t.token.line)
 
 -- at a name of a macro with these parameters: a function-like one is replaced only before a `(`
-abbrev pub at_macro : Scanning → ℕ → Marked → List Marked → Macro → Option (List (List ℕ)) → Result Expanded Refusal
-at_macro scan work t rest m None = goes_on scan t.token.line work (replaced t.token.line (object_hides t) [] m) rest
+abbrev pub at_macro : Scanning → ℕ → Marked → List Marked → Defined → Option (List (List ℕ)) → Result Expanded Refusal
+at_macro scan work t rest m None =
+    goes_on scan t.token.line work (replaced t.token.line (object_hides t m.number) [] m.it) rest
 at_macro scan work t rest m (Some parameters) =
     if is_open rest then called scan work t m parameters (split_from 0 [] [] (drop 1 rest)) else kept t (scan work rest)
 
 -- at a token, by its macro, and those behind it
-abbrev pub at_token : Scanning → ℕ → Marked → List Marked → Option Macro → Result Expanded Refusal
+abbrev pub at_token : Scanning → ℕ → Marked → List Marked → Option Defined → Result Expanded Refusal
 at_token scan work t rest None = kept t (scan work rest)
-at_token scan work t rest (Some m) = at_macro scan work t rest m m.parameters
+at_token scan work t rest (Some m) = at_macro scan work t rest m m.it.parameters
 
 -- what a scan comes to. It looks at no more than so many tokens in turn, and at `enough` of them it has come to its end.
-unfoldable pub scanned : List Macro → ℕ → Scanning
+unfoldable pub scanned : Table → ℕ → Scanning
 scanned macros looks work [] = Ok (record { tokens = []; work = work })
 scanned macros zero work (t ∷ rest) = Err NoMemory
 scanned macros (suc looks) work (t ∷ rest) = at_token (scanned macros looks) work t rest (macro_for macros t)
@@ -165,5 +168,5 @@ abbrev pub enough : List Marked → ℕ → ℕ
 enough tokens work = 3 * (most_work + 1 - work) + 3 * length tokens + 1
 
 -- the tokens of a run with its macros replaced, behind so much work
-unfoldable pub expanded : List Macro → List Token → ℕ → Result Expanded Refusal
+unfoldable pub expanded : Table → List Token → ℕ → Result Expanded Refusal
 expanded macros tokens work = scanned macros (enough (map fresh tokens) work) work (map fresh tokens)

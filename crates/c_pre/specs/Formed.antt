@@ -1,8 +1,9 @@
 -- Every token is one of its kind, with a line, and short, and so is every token of a macro.
-use Rattle.std.specs.Prelude.{◌≤◌, length, All}
+use Rattle.std.specs.Prelude.{◌≤◌, ℕ, List, Option, IfSome, length, All}
 use Rattle.c_lexer.specs.Tokens.{IsLexed}
 use Rattle.c_lexer.specs.declared.token.Token.{Token}
 use Rattle.c_pre.specs.Texts.{most_bytes}
+use Rattle.c_pre.specs.declared.macros.Defined.{Defined}
 use Rattle.c_pre.specs.declared.macros.Macro.{Macro}
 use Rattle.c_pre.specs.declared.progress.Progress.{Progress}
 
@@ -14,7 +15,11 @@ IsFormed token = IsLexed token × (length token.bytes ≤ most_bytes)
 abbrev pub IsFormedMacro : Macro → Type 0
 IsFormedMacro m = All IsFormed m.replacement
 
+-- so is every token of the macro of a name, if it has one
+abbrev pub IsFormedEntry : List ℕ × Option Defined → Type 0
+IsFormedEntry entry = IfSome entry.1 (λ m. IsFormedMacro m.it)
+
 -- every token so far is one of its kind, and so is every token of a macro
 pub record Formed (p : Progress) : Type 0 where
   pub tokens : All IsFormed p.tokens
-  pub macros : All IsFormedMacro p.macros
+  pub macros : All IsFormedEntry p.macros.names

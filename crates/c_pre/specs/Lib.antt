@@ -7,9 +7,12 @@ pub mod Directives
 pub mod Expansion
 pub mod Formed
 pub mod Groups
+pub mod Held
 pub mod Lines
 pub mod Macros
 pub mod Reading
 pub mod Steps
+pub mod Table
 pub mod Texts
+pub mod Trees
 pub mod Words

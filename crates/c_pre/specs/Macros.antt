@@ -1,6 +1,8 @@
--- The macros that are defined at a line (C99 6.10.3).
-use Rattle.std.specs.Prelude.{ℕ, Bool, true, false, ◌&&◌, bytes_eq, if◌then◌else◌, List, [], ◌∷◌, ◌++◌, Option, Some, None, Result, Ok, Err}
+-- How macros are defined and found (C99 6.10.3).
+use Rattle.std.specs.Prelude.{ℕ, ◌+◌, Bool, true, false, ◌&&◌, bytes_eq, if◌then◌else◌, List, [], ◌∷◌, ◌++◌, Option, Some, None, Result, Ok, Err}
 use Rattle.c_lexer.specs.declared.token.Token.{Token}
+use Rattle.c_pre.specs.Table.{Table}
+use Rattle.c_pre.specs.declared.macros.Defined.{Defined}
 use Rattle.c_pre.specs.declared.macros.Macro.{Macro}
 use Rattle.c_pre.specs.declared.answer.PreKind.{PreKind}
 use Rattle.c_pre.specs.declared.answer.PreKind.TheVariants.{Redefined}
@@ -31,21 +33,40 @@ same_parameters (Some vs) (Some ws) = same_words vs ws
 abbrev pub same_macro : Macro → Macro → Bool
 same_macro one other = same_parameters one.parameters other.parameters && same_spellings one.replacement other.replacement
 
+-- before anything is defined
+abbrev pub no_macros : Table
+no_macros = record { count = 0; names = [] }
+
 -- the macro of a name
-abbrev pub found : List ℕ → List Macro → Option Macro
-found name [] = None
-found name (m ∷ macros) = if bytes_eq m.name name then Some m else found name macros
+abbrev pub found_in : List ℕ → List (List ℕ × Option Defined) → Option Defined
+found_in name [] = None
+found_in name (entry ∷ rest) = if bytes_eq name entry.0 then entry.1 else found_in name rest
 
--- the macros behind a definition, by the macro of that name before
-abbrev pub defined_by : Option Macro → Macro → List Macro → Result (List Macro) PreKind
-defined_by None m macros = Ok (macros ++ m ∷ [])
-defined_by (Some before) m macros = if same_macro before m then Ok macros else Err Redefined
+abbrev pub found : List ℕ → Table → Option Defined
+found name table = found_in name table.names
 
--- the macros behind a definition: a name is defined again only in the same way
-abbrev pub defined : Macro → List Macro → Result (List Macro) PreKind
-defined m macros = defined_by (found m.name macros) m macros
+-- where a name gets its macro, or none
+abbrev pub with_entry : List ℕ → Option Defined → List (List ℕ × Option Defined) → List (List ℕ × Option Defined)
+with_entry name macro [] = (name, macro) ∷ []
+with_entry name macro (entry ∷ rest) =
+    if bytes_eq name entry.0 then (entry.0, macro) ∷ rest else entry ∷ with_entry name macro rest
 
--- the macros without that of a name
-abbrev pub without : List ℕ → List Macro → List Macro
-without name [] = []
-without name (m ∷ macros) = if bytes_eq m.name name then macros else m ∷ without name macros
+-- behind the definition of a macro whose name has none: each has a number of its own
+abbrev pub with_macro : Macro → Table → Table
+with_macro m table = record {
+  count = table.count + 1;
+  names = with_entry m.name (Some (record { number = table.count; it = m })) table.names;
+}
+
+-- behind a definition, by the macro of that name before: a name is defined again only in the same way
+abbrev pub defined_by : Option Defined → Macro → Table → Result Table PreKind
+defined_by None m table = Ok (with_macro m table)
+defined_by (Some before) m table = if same_macro before.it m then Ok table else Err Redefined
+
+-- behind a definition
+abbrev pub defined : Macro → Table → Result Table PreKind
+defined m table = defined_by (found m.name table) m table
+
+-- behind an `#undef`: the name has no macro
+abbrev pub undefined : List ℕ → Table → Table
+undefined name table = record table { names = with_entry name None table.names }

@@ -12,10 +12,10 @@ use Rattle.c_pre.specs.Comments.{begins_with}
 use Rattle.c_pre.specs.Lines.{behind_spaces, first_word, directive_rest}
 use Rattle.c_pre.specs.Expansion.{expanded}
 use Rattle.c_pre.specs.Groups.{is_live, first_line, opened, turned, closed, skipped}
-use Rattle.c_pre.specs.Macros.{found, defined, without}
+use Rattle.c_pre.specs.Macros.{found, defined, undefined}
+use Rattle.c_pre.specs.Table.{Table}
 use Rattle.c_pre.specs.Directives.{directive_of}
 use Rattle.c_pre.specs.declared.groups.Group.{Group}
-use Rattle.c_pre.specs.declared.macros.Macro.{Macro}
 use Rattle.c_pre.specs.declared.marked.Marked.{Marked}
 use Rattle.c_pre.specs.declared.scan.Expanded.{Expanded}
 use Rattle.c_pre.specs.declared.directive.Directive.{Directive}
@@ -91,7 +91,7 @@ abbrev pub with_groups : Here → Progress → Result (List Group) Refusal → R
 with_groups here p (Ok groups) = Ok (step (record here { groups = groups }) p)
 with_groups here p (Err e) = Err e
 
-abbrev pub with_macros : Here → Progress → Result (List Macro) Refusal → Result Step Refusal
+abbrev pub with_macros : Here → Progress → Result Table Refusal → Result Step Refusal
 with_macros here p (Ok macros) = Ok (step here (record p { macros = macros }))
 with_macros here p (Err e) = Err e
 
@@ -106,7 +106,7 @@ unfoldable pub obeyed : Directive → Here → Progress → Result Step Refusal
 obeyed directive.Empty here p = Ok (step here p)
 obeyed (directive.Include name) here p = Ok (record { here = here; progress = p; include = Some name })
 obeyed (directive.Define m) here p = with_macros here p (at_line here.line (defined m p.macros))
-obeyed (directive.Undefine name) here p = Ok (step here (record p { macros = without name p.macros }))
+obeyed (directive.Undefine name) here p = Ok (step here (record p { macros = undefined name p.macros }))
 obeyed (directive.Group name wanted) here p =
     with_groups here p (Ok (here.groups ++ opened here.line (same (is_some (found name p.macros)) wanted) ∷ []))
 obeyed directive.Else here p = with_groups here p (at_line here.line (turned here.groups))

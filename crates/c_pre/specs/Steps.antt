@@ -2,9 +2,10 @@
 -- tokens behind it, while the tokens of an argument are scanned. What it comes to is what `Expansion` says.
 use Rattle.std.specs.Prelude.{ℕ, zero, suc, ◌+◌, ◌-◌, nat_lt, if◌then◌else◌, List, [], ◌∷◌, ◌++◌, length, map, take, drop, slice_get, Option, Some, None, Result, Ok, Err}
 use Rattle.c_lexer.specs.declared.token.Token.{Token}
-use Rattle.c_pre.specs.Expansion.{most_work, enough, fresh, macro_for, replaced, both, split_from, is_open, fits}
+use Rattle.c_pre.specs.Expansion.{most_work, enough, fresh, macro_for, replaced, function_hides, object_hides, split_from, is_open, fits}
 use Rattle.c_pre.specs.Macros.{found}
-use Rattle.c_pre.specs.declared.macros.Macro.{Macro}
+use Rattle.c_pre.specs.Table.{Table, Numbers}
+use Rattle.c_pre.specs.declared.macros.Defined.{Defined}
 use Rattle.c_pre.specs.declared.answer.PreKind.TheVariants as kind
 use Rattle.c_pre.specs.declared.answer.Refusal.{Refusal}
 use Rattle.c_pre.specs.declared.answer.Refusal.TheVariants.{Bad, NoMemory}
@@ -36,14 +37,14 @@ behind_first [] = []
 behind_first (arg ∷ args) = args
 
 -- a call begins: the first of its arguments is scanned, and it waits
-abbrev pub begun : Marked → List (List ℕ) → Split → Scan → Scan
-begun t names split s = record s {
+abbrev pub begun : Marked → Numbers → Split → Scan → Scan
+begun t numbers split s = record s {
   done = [];
   rest = first_of split.args;
   calls = s.calls ++ record {
     name = t.token.bytes;
     line = t.token.line;
-    hidden = names;
+    hidden = numbers;
     expanded = [];
     left = behind_first split.args;
     done = s.done;
@@ -52,11 +53,10 @@ begun t names split s = record s {
 }
 
 -- at a call of a function-like macro, by what stands behind its `(`
-abbrev pub called : Marked → List (List ℕ) → Option Split → Scan → Next
-called t parameters None s = Stops (Bad kind.Arguments t.token.line)
-called t parameters (Some split) s =
-    if fits parameters split.args then
-    Goes (begun t (both t.hidden split.hidden ++ t.token.bytes ∷ []) split s)
+abbrev pub called : Marked → ℕ → List (List ℕ) → Option Split → Scan → Next
+called t number parameters None s = Stops (Bad kind.Arguments t.token.line)
+called t number parameters (Some split) s =
+    if fits parameters split.args then Goes (begun t (function_hides t number split) split s)
     else Stops (Bad kind.Arguments t.token.line)
 
 -- a token is done
@@ -64,43 +64,43 @@ abbrev pub kept : Marked → Scan → Next
 kept t s = Goes (record s { done = s.done ++ t ∷ [] })
 
 -- at a name of a macro: a function-like one is replaced only before a `(`
-abbrev pub at_macro : Marked → Macro → Option (List (List ℕ)) → Scan → Next
-at_macro t m None s = put_in t.token.line (replaced t.token.line (t.hidden ++ t.token.bytes ∷ []) [] m) s
+abbrev pub at_macro : Marked → Defined → Option (List (List ℕ)) → Scan → Next
+at_macro t m None s = put_in t.token.line (replaced t.token.line (object_hides t m.number) [] m.it) s
 at_macro t m (Some parameters) s =
-    if is_open s.rest then called t parameters (split_from 0 [] [] (drop 1 s.rest)) s else kept t s
+    if is_open s.rest then called t m.number parameters (split_from 0 [] [] (drop 1 s.rest)) s else kept t s
 
 -- at a token, by its macro
-abbrev pub at_token : Marked → Option Macro → Scan → Next
+abbrev pub at_token : Marked → Option Defined → Scan → Next
 at_token t None s = kept t s
-at_token t (Some m) s = at_macro t m m.parameters s
+at_token t (Some m) s = at_macro t m m.it.parameters s
 
 -- behind the last argument of a call: its macro is replaced, and the scan goes on at the replacement's first token; the
 -- case without a macro never comes
-abbrev pub ended : Call → Option Macro → Scan → Next
+abbrev pub ended : Call → Option Defined → Scan → Next
 ended call None s = Stops NoMemory
 ended call (Some m) s =
-    put_in call.line (replaced call.line call.hidden call.expanded m) (record s { done = call.done; rest = call.rest })
+    put_in call.line (replaced call.line call.hidden call.expanded m.it) (record s { done = call.done; rest = call.rest })
 
 -- behind an argument of a call: the next is scanned, or the call ends
-abbrev pub argument_done : List Macro → Call → List (List Marked) → Scan → Next
+abbrev pub argument_done : Table → Call → List (List Marked) → Scan → Next
 argument_done macros call [] s = ended call (found call.name macros) s
 argument_done macros call (arg ∷ args) s =
     Goes (record s { done = []; rest = arg; calls = s.calls ++ record call { left = args } ∷ [] })
 
 -- behind the tokens that are left: an argument of the innermost call is done, or all is
-abbrev pub rest_done : List Macro → Option Call → Scan → Next
+abbrev pub rest_done : Table → Option Call → Scan → Next
 rest_done macros None s = Ends s.done s.work
 rest_done macros (Some call) s =
     argument_done macros (record call { expanded = call.expanded ++ s.done ∷ [] }) call.left
     (record s { calls = take (length s.calls - 1) s.calls })
 
 -- one step, by the tokens that are left
-abbrev pub step_by : List Macro → List Marked → Scan → Next
+abbrev pub step_by : Table → List Marked → Scan → Next
 step_by macros [] s = rest_done macros (slice_get s.calls (length s.calls - 1)) s
 step_by macros (t ∷ rest) s = at_token t (macro_for macros t) (record s { rest = rest })
 
 -- one step
-unfoldable pub step : List Macro → Scan → Next
+unfoldable pub step : Table → Scan → Next
 step macros s = step_by macros s.rest s
 
 -- what a step comes to, by what a scan comes to
@@ -110,7 +110,7 @@ goes_on scan (Ends tokens work) = Ok (record { tokens = tokens; work = work })
 goes_on scan (Stops e) = Err e
 
 -- what a scan comes to in at most so many steps
-unfoldable pub scanned : List Macro → ℕ → Scan → Result Expanded Refusal
+unfoldable pub scanned : Table → ℕ → Scan → Result Expanded Refusal
 scanned macros zero s = Err NoMemory
 scanned macros (suc n) s = goes_on (scanned macros n) (step macros s)
 
@@ -119,6 +119,6 @@ abbrev pub scan_of : List Marked → ℕ → Scan
 scan_of tokens work = record { done = []; rest = tokens; calls = []; work = work }
 
 -- the steps for the tokens of a run, behind so much work
-unfoldable pub expanded_by_steps : List Macro → List Token → ℕ → Result Expanded Refusal
+unfoldable pub expanded_by_steps : Table → List Token → ℕ → Result Expanded Refusal
 expanded_by_steps macros tokens work =
     scanned macros (enough (map fresh tokens) work) (scan_of (map fresh tokens) work)

@@ -4,6 +4,7 @@ use Rattle.c_lexer.specs.declared.token.LexKind.TheVariants.{OpenComment}
 use Rattle.c_pre.specs.Comments.{blanked, open_comment}
 use Rattle.c_pre.specs.Lines.{lines_of}
 use Rattle.c_pre.specs.After.{and_then}
+use Rattle.c_pre.specs.Macros.{no_macros}
 use Rattle.c_pre.specs.Reading.{first_of, line_read, text_ended}
 use Rattle.c_pre.specs.declared.comments.Mode.TheVariants.{Code}
 use Rattle.c_pre.specs.declared.answer.Place.{Place}
@@ -102,7 +103,7 @@ below told (suc left) at name p = text_read (below told left) name (told name) p
 
 -- before anything is read but so many bytes
 abbrev pub nothing : ℕ → Progress
-nothing used = record { tokens = []; texts = []; lines = 0; used = used; macros = []; work = 0 }
+nothing used = record { tokens = []; texts = []; lines = 0; used = used; macros = no_macros; work = 0 }
 
 -- the tokens and texts of what was read
 abbrev pub answer_of : Result Progress PreError → Result Pre PreError

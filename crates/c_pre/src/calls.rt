@@ -1,14 +1,15 @@
 //! Calls of function-like macros, whose arguments are expanded.
 
-ghost use Rattle.std.specs.Prelude.{◌≡◌, ◌+◌, ◌-◌, [], ◌∷◌, ◌++◌, IfOk, OnOk, length, take, slice_get};
-ghost use Rattle.c_pre.specs.Expansion.{split_from, is_open, is_blank, fits};
+ghost use Rattle.std.specs.Prelude.{◌≡◌, [], IfOk};
+ghost use Rattle.c_pre.specs.Expansion.{split_from, is_open, fits};
 
 use crate::directive::is_sign;
+use crate::hidden::Hidden;
 use crate::marked::Marked;
+use crate::parameters::Parameters;
 use crate::queue::Queue;
 use hs_base::{Items, Line, NoMemory};
 use std::alloc::Global;
-use std::marker::Model;
 
 /// A call that waits while one of its arguments is expanded.
 #[derive(Drop)]
@@ -18,7 +19,7 @@ pub(crate) struct Call {
     /// The line of that name.
     pub(crate) line: Line,
     /// What is hidden from the tokens that will stand in its place.
-    pub(crate) hidden: Items<Items<u8>>,
+    pub(crate) hidden: Hidden,
     /// Its arguments that are expanded.
     pub(crate) expanded: Items<Items<Marked>>,
     /// Those behind the one that is being expanded.
@@ -29,55 +30,13 @@ pub(crate) struct Call {
     pub(crate) rest: Queue<Marked>,
 }
 
-/// Calls that wait, the innermost last.
-#[derive(Drop)]
-pub(crate) struct Calls {
-    list: Vec<Call>,
-}
-
-impl Model for Calls {
-    ghost use Rattle.std.specs.Prelude.{List};
-    ghost use Rattle.c_pre.specs.declared.calls.Call.{Call};
-
-    ghost Value = { List Call };
-
-    ghost view = { λ c. c.list.items };
-}
-
-impl Calls {
-    /// No call.
-    pub(crate) fn new(alloc: Global) -> Calls
-        ensures { result ≡ [] }
-    {
-        Calls {
-            list: Vec::new(alloc),
-        }
-    }
-
-    /// Adds a call inside the others.
-    pub(crate) fn push(&mut self, call: Call) -> Result<(), NoMemory>
-        ensures { OnOk result (self.new ≡ self.old ++ call ∷ []) }
-    {
-        self.list.push(call)?;
-        Ok(())
-    }
-
-    /// Takes the innermost call.
-    pub(crate) fn pop(&mut self) -> Option<Call>
-        ensures call { result ≡ slice_get self.old (length self.old - 1) }
-        ensures rest { self.new ≡ take (length self.old - 1) self.old }
-    {
-        self.list.pop()
-    }
-}
-
 /// What a call has behind its `(`.
 #[derive(Drop)]
 pub(crate) struct Split {
     /// Its arguments, at least one.
     pub(crate) args: Queue<Queue<Marked>>,
     /// What is hidden from its `)`.
-    pub(crate) hidden: Items<Items<u8>>,
+    pub(crate) hidden: Hidden,
     /// The tokens behind that.
     pub(crate) rest: Queue<Marked>,
 }
@@ -122,10 +81,10 @@ pub(crate) fn split_call(alloc: Global, rest: Queue<Marked>) -> Result<Option<Sp
 }
 
 /// Whether a macro with these parameters takes these arguments: as many, or one that is empty where it has none.
-pub(crate) fn fits(parameters: &[Items<u8>], args: &Queue<Queue<Marked>>) -> bool
+pub(crate) fn fits(parameters: &Parameters, args: &Queue<Queue<Marked>>) -> bool
     ensures { result ≡ fits parameters.now args.now }
 {
-    if parameters.is_empty() {
+    if parameters.len() == 0 {
         args.len() == 1
             && match args.front() {
                 Some(arg) => arg.is_empty(),

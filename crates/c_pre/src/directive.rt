@@ -2,15 +2,15 @@
 
 ghost use Rattle.std.specs.Prelude.{◌≡◌, [], true, option_map, IfOk, IfSome};
 ghost use Rattle.std.specs.List.{list_all};
-ghost use Rattle.c_pre.specs.Directives.{is_name, is_sign, is_among, only_name, is_path_byte, path_of, included_name, include_of, takes_arguments, names_from, signature_of, macro_behind, define_of, named_by, alone, directive_by, directive_of};
+ghost use Rattle.c_pre.specs.Directives.{is_name, is_sign, only_name, is_path_byte, path_of, included_name, include_of, takes_arguments, names_from, signature_of, macro_behind, define_of, named_by, alone, directive_by, directive_of};
 
-use crate::bytes::is_name_byte;
 use crate::comments::begins_with;
 use crate::copies::{copied, copied_tokens};
 use crate::lines::behind_word;
 use crate::macros::Macro;
+use crate::parameters::Parameters;
 use crate::text_name::TextName;
-use c_lexer::{Token, TokenKind};
+use c_lexer::{Token, TokenKind, is_name_byte};
 use hs_base::{Items, NoMemory};
 use std::alloc::Global;
 
@@ -41,13 +41,6 @@ pub(crate) fn is_sign(sign: u8, token: &Token) -> bool
     ensures { result ≡ is_sign sign token.now }
 {
     token.bytes.as_slice() == [sign].as_slice()
-}
-
-/// Whether a name is one of these.
-pub(crate) fn is_among(names: &[Items<u8>], name: &[u8]) -> bool
-    ensures { result ≡ is_among names.now name.now }
-{
-    names.iter().any(|held| held.as_slice() == name)
 }
 
 /// The name that some tokens are.
@@ -118,7 +111,7 @@ fn takes_arguments(rest: &[u8]) -> bool
 /// The parameters of a function-like macro, and what stands in its place.
 #[derive(Drop)]
 pub(crate) struct Signature {
-    names: Items<Items<u8>>,
+    names: Parameters,
     replacement: Items<Token>,
 }
 
@@ -126,13 +119,13 @@ pub(crate) struct Signature {
 fn read_names(alloc: Global, tokens: &[Token]) -> Result<Option<Signature>, NoMemory>
     ensures { IfOk result (λ signature. signature ≡ names_from [] tokens.now) }
 {
-    let mut names = Items::new(alloc);
+    let mut names = Parameters::new(alloc);
     let mut rest = tokens;
     while let [name, sign, behind @ ..] = rest {
-        if !is_name(name) || is_among(names.as_slice(), name.bytes.as_slice()) {
+        if !is_name(name) || names.has(name.bytes.as_slice()) {
             return Ok(None);
         }
-        names.push(copied(alloc, name.bytes.as_slice())?)?;
+        names.add(alloc, name.bytes.as_slice())?;
         if is_sign(b')', sign) {
             return Ok(Some(Signature {
                 names,
@@ -156,7 +149,7 @@ fn read_signature(alloc: Global, tokens: &[Token]) -> Result<Option<Signature>, 
     };
     if is_sign(b')', first) {
         return Ok(Some(Signature {
-            names: Items::new(alloc),
+            names: Parameters::new(alloc),
             replacement: copied_tokens(alloc, rest)?,
         }));
     }

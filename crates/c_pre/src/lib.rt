@@ -14,23 +14,24 @@
 #![tactic(auto)]
 
 mod answer;
-mod bytes;
 mod calls;
 mod comments;
 mod copies;
 mod directive;
 mod groups;
-mod header;
 mod here;
+mod hidden;
 mod laws;
 mod lines;
 mod macros;
 mod marked;
+mod parameters;
 mod preprocessor;
 mod progress;
 mod queue;
 mod reading;
 mod scan;
+mod stack;
 mod substitute;
 mod text_name;
 

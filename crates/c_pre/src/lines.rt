@@ -2,10 +2,27 @@
 
 ghost use Rattle.std.specs.Prelude.{◌≡◌, ◌+◌, ◌<◌, ◌≤◌, option_map, IfSome, length, take, drop};
 ghost use Rattle.std.specs.List.{prefix_len};
+ghost use Rattle.c_lexer.specs.Bytes.{is_space, is_name_byte};
 ghost use Rattle.c_lexer.specs.Gaps.{is_on_line};
 ghost use Rattle.c_pre.specs.Lines.{line_length, behind_spaces, behind_word, first_word, directive_rest};
 
-use crate::bytes::{name_length, space_count};
+use c_lexer::{is_name_byte, is_space};
+
+/// How many bytes of white space a text begins with.
+fn space_count(text: &[u8]) -> usize
+    ensures count { result ≡ prefix_len is_space text.now }
+    ensures bound { result ≤ length text.now }
+{
+    text.iter().take_while(|byte| is_space(**byte)).count()
+}
+
+/// How many bytes of a name a text begins with.
+fn name_length(text: &[u8]) -> usize
+    ensures count { result ≡ prefix_len is_name_byte text.now }
+    ensures bound { result ≤ length text.now }
+{
+    text.iter().take_while(|byte| is_name_byte(**byte)).count()
+}
 
 /// How many bytes a text has before its first byte 10.
 fn visible_length(text: &[u8]) -> usize

@@ -11,14 +11,13 @@ use crate::answer::{Opened, PreKind, Refusal};
 use crate::comments::begins_with;
 use crate::directive::{Directive, read_directive};
 use crate::groups::Groups;
-use crate::header::include_end;
 use crate::here::Here;
 use crate::lines::{behind_spaces, directive_rest, first_word};
 use crate::macros::Macros;
 use crate::marked::Marked;
 use crate::scan::{Expanded, expand};
 use crate::text_name::TextName;
-use c_lexer::{LexError, LexKind, Token, lex};
+use c_lexer::{LexError, LexKind, Token, include_end, lex};
 use hs_base::{Items, Line, NoMemory};
 use std::alloc::Global;
 
@@ -137,7 +136,7 @@ impl Progress {
 
     /// Takes the tokens of a run, so many lines further down, where no macro is defined: none is replaced.
     fn take_tokens(&mut self, base: Line, lines: Line, tokens: Items<Token>) -> Result<(), Refusal>
-        requires none { self.old.macros ≡ [] }
+        requires none { self.old.macros.names ≡ [] }
         requires lines { All (λ token. token.line + lines < 2 ^ 32) tokens }
         ensures run { Leaves (with_expanded base self.old (expanded self.old.macros (map (moved lines) tokens) self.old.work)) self.new result }
         ensures counts { OnOk result (Counts self.old self.new) }
@@ -174,7 +173,12 @@ impl Progress {
 
     /// Goes on behind a directive, and answers the name of the text that it includes, if it includes one.
     #[tactic(auto, unfolding(crate::specs::Reading::obeyed))]
-    fn obey(&mut self, here: &mut Here, directive: Directive) -> Result<Option<TextName>, Refusal>
+    fn obey(
+        &mut self,
+        alloc: Global,
+        here: &mut Here,
+        directive: Directive,
+    ) -> Result<Option<TextName>, Refusal>
         ensures step { Steps (obeyed directive here.old self.old) here.new self.new result }
         ensures keeps { OnOk result (Keeps here.old here.new) }
         ensures counts { OnOk result (Counts self.old self.new) }
@@ -182,8 +186,8 @@ impl Progress {
         match directive {
             Directive::Empty => {}
             Directive::Include(name) => return Ok(Some(name)),
-            Directive::Define(it) => self.macros.define(here.line, it)?,
-            Directive::Undefine(name) => self.macros.undefine(name.as_slice()),
+            Directive::Define(it) => self.macros.define(alloc, here.line, it)?,
+            Directive::Undefine(name) => self.macros.undefine(alloc, name.as_slice())?,
             Directive::Group { name, defined } => {
                 let live = self.macros.find(name.as_slice()).is_some() == defined;
                 here.groups.open(here.line, live)?;
@@ -216,7 +220,7 @@ impl Progress {
         }
         let directive = find_directive(alloc, here.line, rest)?;
         here.begin_run();
-        self.obey(here, directive)
+        self.obey(alloc, here, directive)
     }
 
     /// Goes on behind a directive that is read. The run before it ends first.

@@ -1,17 +1,19 @@
 //! The replacement of macros in a run of text lines (C99 6.10.3).
 
 ghost use Rattle.std.specs.Prelude.{◌≡◌, [], ◌∷◌, ◌++◌, drop};
-ghost use Rattle.c_pre.specs.Expansion.{replaced, both, split_from, expanded};
+ghost use Rattle.c_pre.specs.Expansion.{object_hides, function_hides, replaced, split_from, expanded};
 ghost use Rattle.c_pre.specs.Steps.{put_in, kept, begun, Goes, called, at_macro, ended, argument_done, step, expanded_by_steps};
 ghost use Rattle.c_pre.specs.Macros.{found};
 ghost use Rattle.c_pre.specs.Answering.{StepsTo, Answers};
 
 use crate::answer::{PreKind, Refusal};
-use crate::calls::{Call, Calls, Split, fits, is_open, split_call};
-use crate::copies::copied;
-use crate::macros::{Macro, Macros};
-use crate::marked::{Marked, add_names, both, fresh, macro_for};
+use crate::calls::{Call, Split, fits, is_open, split_call};
+use crate::hidden::Hidden;
+use crate::macros::{Defined, Macro, Macros};
+use crate::marked::{Marked, fresh, macro_for};
+use crate::parameters::Parameters;
 use crate::queue::Queue;
+use crate::stack::Stack;
 use crate::substitute::replaced;
 use c_lexer::Token;
 use hs_base::{Items, Line};
@@ -28,8 +30,8 @@ pub(crate) struct Scan {
     pub(crate) done: Items<Marked>,
     /// Those that are left of it.
     pub(crate) rest: Queue<Marked>,
-    /// The calls that wait.
-    pub(crate) calls: Calls,
+    /// The calls that wait, the innermost last.
+    pub(crate) calls: Stack<Call>,
     /// The work so far.
     pub(crate) work: u32,
 }
@@ -40,17 +42,17 @@ impl Scan {
         &mut self,
         alloc: Global,
         line: Line,
-        names: &[Items<u8>],
+        numbers: &Hidden,
         expanded: &[Items<Marked>],
         it: &Macro,
     ) -> Result<bool, Refusal>
-        ensures { StepsTo (put_in line (replaced line names.now expanded.now it.now) self.old) self.new result }
+        ensures { StepsTo (put_in line (replaced line numbers.now expanded.now it.now) self.old) self.new result }
     {
         let room = MOST_WORK.saturating_sub(self.work);
         let found = if room == 0 {
             None
         } else {
-            replaced(alloc, line, names, expanded, it, room as usize - 1)?
+            replaced(alloc, line, numbers, expanded, it, room as usize - 1)?
         };
         match found {
             Some(tokens) => {
@@ -74,11 +76,17 @@ impl Scan {
     }
 
     /// Begins a call: the first of its arguments is scanned, and it waits.
-    fn begin(&mut self, alloc: Global, token: Marked, split: Split) -> Result<bool, Refusal>
-        ensures { StepsTo (Goes (begun token (both token.hidden split.hidden ++ token.token.bytes ∷ []) split self.old)) self.new result }
+    fn begin(
+        &mut self,
+        alloc: Global,
+        token: Marked,
+        number: u32,
+        split: Split,
+    ) -> Result<bool, Refusal>
+        ensures { StepsTo (Goes (begun token (function_hides token number split) split self.old)) self.new result }
     {
-        let mut hidden = both(alloc, token.hidden.as_slice(), split.hidden.as_slice())?;
-        hidden.push(copied(alloc, token.token.bytes.as_slice())?)?;
+        let both = token.hidden.intersection(alloc, &split.hidden)?;
+        let hidden = both.with(alloc, number)?;
         let Split { args, rest, .. } = split;
         let mut left = args;
         let first = match left.pop() {
@@ -105,16 +113,17 @@ impl Scan {
         &mut self,
         alloc: Global,
         token: Marked,
-        parameters: &[Items<u8>],
+        number: u32,
+        parameters: &Parameters,
     ) -> Result<bool, Refusal>
-        ensures { StepsTo (called token parameters.now (split_from 0 [] [] (drop 1 self.old.rest)) self.old) self.new result }
+        ensures { StepsTo (called token number parameters.now (split_from 0 [] [] (drop 1 self.old.rest)) self.old) self.new result }
     {
         let line = token.token.line;
         let mut rest = replace(&mut self.rest, Queue::new(alloc));
         let _ = rest.pop();
         if let Some(split) = split_call(alloc, rest)? {
             if fits(parameters, &split.args) {
-                return self.begin(alloc, token, split);
+                return self.begin(alloc, token, number, split);
             }
         }
         Err(Refusal::Bad {
@@ -124,19 +133,17 @@ impl Scan {
     }
 
     /// At a name of a macro: a function-like one is replaced only before a `(`.
-    fn at_macro(&mut self, alloc: Global, token: Marked, it: &Macro) -> Result<bool, Refusal>
-        ensures { StepsTo (at_macro token it.now it.now.parameters self.old) self.new result }
+    fn at_macro(&mut self, alloc: Global, token: Marked, found: &Defined) -> Result<bool, Refusal>
+        ensures { StepsTo (at_macro token found.now found.now.it.parameters self.old) self.new result }
     {
-        match &it.parameters {
+        match &found.it.parameters {
             None => {
-                let mut names = Items::new(alloc);
-                add_names(alloc, &mut names, token.hidden.as_slice())?;
-                names.push(copied(alloc, token.token.bytes.as_slice())?)?;
-                self.put_in(alloc, token.token.line, names.as_slice(), &[], it)
+                let hidden = token.hidden.with(alloc, found.number)?;
+                self.put_in(alloc, token.token.line, &hidden, &[], &found.it)
             }
             Some(parameters) => {
                 if is_open(&self.rest) {
-                    self.at_call(alloc, token, parameters.as_slice())
+                    self.at_call(alloc, token, found.number, parameters)
                 } else {
                     self.keep(token)
                 }
@@ -148,7 +155,7 @@ impl Scan {
     fn end_call(&mut self, alloc: Global, macros: &Macros, call: Call) -> Result<bool, Refusal>
         ensures { StepsTo (ended call (found call.name macros.now) self.old) self.new result }
     {
-        let Some(it) = macros.find(call.name.as_slice()) else {
+        let Some(found) = macros.find(call.name.as_slice()) else {
             return Err(Refusal::NoMemory);
         };
         self.done = call.done;
@@ -156,9 +163,9 @@ impl Scan {
         self.put_in(
             alloc,
             call.line,
-            call.hidden.as_slice(),
+            &call.hidden,
             call.expanded.as_slice(),
-            it,
+            &found.it,
         )
     }
 
@@ -186,7 +193,7 @@ impl Scan {
     {
         match self.rest.pop() {
             Some(token) => match macro_for(macros, &token) {
-                Some(it) => self.at_macro(alloc, token, it),
+                Some(found) => self.at_macro(alloc, token, found),
                 None => self.keep(token),
             },
             None => match self.calls.pop() {
@@ -217,7 +224,7 @@ pub(crate) fn expand(
     let mut scan = Scan {
         done: Items::new(alloc),
         rest: fresh(alloc, tokens)?,
-        calls: Calls::new(alloc),
+        calls: Stack::new(alloc),
         work,
     };
     'steps: while scan.step(alloc, macros)? {}

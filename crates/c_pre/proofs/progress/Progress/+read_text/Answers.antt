@@ -1,7 +1,7 @@
 use Rattle.c_lexer.specs.declared.token.Token.{Token}
 use Rattle.std.proofs.Common.{ℕ, ◌+◌, ◌-◌, ◌<◌, ◌≤◌, List, length, take, drop, Some, None, All, sym, ap, subst, ◌∙◌, arith}
 use Rattle.std.proofs.lemmas.Result.{err_from_is_err_and}
-use Rattle.c_pre.specs.Formed.{IsFormed, IsFormedMacro, Formed}
+use Rattle.c_pre.specs.Formed.{IsFormed, IsFormedEntry, Formed}
 use Rattle.c_pre.specs.Lines.{lines_of}
 use Rattle.c_pre.specs.Texts.{below, most_bytes}
 use Rattle.c_pre.specs.declared.here.Here.{Here}
@@ -27,7 +27,7 @@ lines-init g t c =
       count = c.in_ok-source.ensures.cause;
       formed = λ f. record {
         tokens = subst (All IsFormed) (sym c.in_ok-source.ensures.opens.tokens) f.tokens;
-        macros = subst (All IsFormedMacro) (sym c.in_ok-source.ensures.opens.macros) f.macros;
+        macros = subst (λ t. All IsFormedEntry t.names) (sym c.in_ok-source.ensures.opens.macros) f.macros;
       };
       few = λ f. omega (arith, ap (λ (l : List Token). length l) c.in_ok-source.ensures.opens.tokens, ap (λ (h : Here). length h.run) e, c.in_ok-source.ensures.opens.used, c.in_ok-source.ensures.opens.work);
       work = λ f k. omega (arith, k, c.in_ok-source.ensures.opens.work);

@@ -1,6 +1,0 @@
-use Rattle.std.proofs.Common.{◌≡◌, drop}
-use Rattle.c_pre.specs.Macros.{same_words}
-use Rattle.c_pre.proofs.macros.same_words.Given as goal
-
-abbrev pub invariant-loop-at : goal.invariant-loop-at
-invariant-loop-at l = same_words (drop l.at l.left) (drop l.at l.right) ≡ same_words l.left l.right
