@@ -3,7 +3,7 @@ use Rattle.std.specs.Vec.{with_items}
 use Rattle.std.proofs.lemmas.List.{with_items_is}
 use Rattle.hole_tree.specs.Tree.{IsTree}
 use Rattle.hole_tree.proofs.Trees.{node_count_is}
-use Rattle.hole_tree.proofs.holes.Holes.new.Goals as goal
+use Rattle.hole_tree.proofs.holes.Granules.new.Goals as goal
 
 pub open-requires-clause-long : goal.open-requires-clause-long
 open-requires-clause-long c =
