@@ -4,7 +4,7 @@ ghost use Rattle.std.specs.Prelude.{◌≡◌, ◌+◌, ◌*◌, ◌^◌, ◌<�
 ghost use Rattle.hole_tree.specs.Granules.{HasNoHole, IsFirstHole, IsRun, IsSet};
 ghost use Rattle.hole_tree.specs.Tree.{node_count};
 
-use crate::node::Node;
+use crate::node::{Node, first_in_part};
 use crate::tree::{CHUNK, MAX_HEIGHT, first_hole, open, refresh};
 use hs_base::NoMemory;
 use std::alloc::Global;
@@ -52,12 +52,15 @@ fn is_free(row: &[bool], place: usize, n: usize) -> bool
     true
 }
 
-/// A row of granules with the tree of its nodes.
+/// A row of granules with the tree of its nodes. The granules from a place up to another may have changed since the nodes
+/// were counted: so changes side by side, of which there are many, are counted together.
 #[derive(Debug, Drop)]
 struct Granules {
     row: Vec<bool>,
     nodes: Vec<Node>,
     height: u32,
+    from: u32,
+    to: u32,
 }
 
 impl Model for Granules {
@@ -68,7 +71,7 @@ impl Model for Granules {
 
     ghost view = { λ h. h.row.items };
 
-    ghost invariant = { λ h. IsTreeOf h.height h.row.items h.nodes.items };
+    ghost invariant = { λ h. IsTreeOf h.height h.row.items h.nodes.items h.from h.to };
 }
 
 impl Granules {
@@ -84,33 +87,60 @@ impl Granules {
             row: vec![in alloc; false; granules as usize]?,
             nodes,
             height,
+            from: 0,
+            to: 0,
         })
     }
 
-    /// The lowest place from which on so many granules in a row are free, if there is one.
+    /// Counts the nodes again whose parts have granules that changed since.
+    fn settle(&mut self)
+        ensures { self.new ≡ self.old }
+    {
+        if self.from < self.to {
+            refresh(
+                self.nodes.as_mut_slice(),
+                self.row.as_slice(),
+                self.height,
+                self.from as usize,
+                self.to as usize,
+            );
+        }
+        self.from = 0;
+        self.to = 0;
+    }
+
+    /// The lowest place from which on so many granules in a row are free, if there is one: by a look at each granule where
+    /// changes are not counted yet, and else by the tree.
     fn first(&self, n: u32) -> Option<u32>
         requires { 0 < n }
         ensures { MatchOption result (HasNoHole self.now n) (IsFirstHole self.now n) }
     {
+        if self.from < self.to {
+            return first_in_part(self.row.as_slice(), n);
+        }
         first_hole(self.nodes.as_slice(), self.row.as_slice(), self.height, n)
     }
 
-    /// Sets so many granules from a place on, and counts again the nodes whose parts have any of them.
+    /// Sets so many granules from a place on. They are counted later.
     fn set(&mut self, place: u32, n: u32, taken: bool)
         requires { place + n ≤ length self.old }
         ensures { IsSet self.old self.new place n taken }
     {
-        let from = place as usize;
-        let count = n as usize;
-        set_run(self.row.as_mut_slice(), from, count, taken);
-        refresh(
-            self.nodes.as_mut_slice(),
-            self.row.as_slice(),
-            self.height,
-            from,
-            from + count,
-        );
+        let _ = &self.row;
+        let end = place + n;
+        if self.to < place || end < self.from {
+            self.settle();
+        }
+        set_run(self.row.as_mut_slice(), place as usize, n as usize, taken);
+        if self.from < self.to {
+            self.from = self.from.min(place);
+            self.to = self.to.max(end);
+        } else {
+            self.from = place;
+            self.to = end;
+        }
     }
+
     /// Says whether so many granules from a place on are there and free.
     fn is_free(&self, place: u32, n: u32) -> bool
         ensures { IsTrue result → IsRun self.now place n false }
@@ -149,7 +179,18 @@ impl Holes {
         })
     }
 
-    /// The lowest place from which on so many granules in a row are free, if there is one.
+    /// Counts what has changed, unless the lowest place of so many granules is known without: behind it [`Holes::first`] for
+    /// that many goes down one path of the tree at most. The row stays.
+    pub fn settle(&mut self, n: u32)
+        ensures { self.new ≡ self.old }
+    {
+        if !self.granules.is_free(self.low, n) {
+            self.granules.settle();
+        }
+    }
+
+    /// The lowest place from which on so many granules in a row are free, if there is one. Where changes are not counted yet
+    /// ([`Holes::settle`]), it may look at each granule.
     pub fn first(&self, n: u32) -> Option<u32>
         requires { 0 < n }
         ensures { MatchOption result (HasNoHole self.now n) (IsFirstHole self.now n) }
