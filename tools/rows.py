@@ -4,7 +4,7 @@
 A file is a list of groups, each with what it `shows` and its `rows`. A row has its `words`, a list of command lines that all
 answer alike; the `text` of the file a.c, or none; other `files` by name; the `input`; the bytes of the output and of the error stream,
 `out` and `err`; and the `status`. What a row lacks is empty, or 0. A text or bytes may be a list of parts, and a part [BYTES, COUNT] stands for
-so many times these bytes. With --quiet it says only what differs."""
+so many times these bytes. A row with `seconds` has to end within so many. With --quiet it says only what differs."""
 
 import glob
 import json
@@ -33,7 +33,12 @@ def difference(case):
         for file_name, text in {**texts, **row.get("files", {})}.items():
             with open(os.path.join(folder, file_name), "wb") as file:
                 file.write(content(text))
-        ran = subprocess.run([PROGRAM, *words], cwd=folder, input=content(row.get("input", "")), capture_output=True)
+        try:
+            ran = subprocess.run(
+                [PROGRAM, *words], cwd=folder, input=content(row.get("input", "")), capture_output=True, timeout=row.get("seconds")
+            )
+        except subprocess.TimeoutExpired:
+            return f"{name}: {words}: {row.get('text')!r:.300}\n  not done in {row['seconds']} seconds"
     wanted = content(row.get("out", "")), content(row.get("err", "")), row.get("status", 0)
     got = ran.stdout, ran.stderr, ran.returncode
     return None if got == wanted else f"{name}: {words}: {row.get('text')!r:.300}\n  got    {got!r:.600}\n  wanted {wanted!r:.600}"

@@ -10,7 +10,7 @@ use Rattle.hs_base.specs.declared.values.Pointer.TheVariants as pointer
 use Rattle.hs_base.specs.Access.{with_object}
 use Rattle.hs_base.specs.Object.{Object, is_dead, no_object, object_at}
 use Rattle.count_table.specs.Table.{Table}
-use Rattle.typed_copies.specs.Pointers.{ArePointers, Cover, Follow, HaveRoom, into_granule, nulls, words_at}
+use Rattle.typed_copies.specs.Pointers.{ArePointers, Cover, Follow, HaveRoom, addresses, into_granule, words_at}
 use Rattle.flat_objects.specs.Memory.{Memory, IsMemory}
 use Rattle.flat_objects.specs.Standing.{IsThere, IsAddressOf}
 use Rattle.flat_objects.specs.Keeping.{Keeps}
@@ -19,8 +19,8 @@ use Rattle.flat_objects.proofs.Blocks.{there_below}
 use Rattle.flat_objects.proofs.Changing.{SameShape}
 use Rattle.flat_objects.proofs.Counted.{count_is, counts_few, granule_inside, lands_as, leads, leads_as, living_few, pointers_there}
 use Rattle.flat_objects.proofs.Owners.{own_inside}
-use Rattle.flat_objects.proofs.RangesWords.{Stand, stand_at, words_stand}
-use Rattle.flat_objects.proofs.Tallies.{one_if, sum_flat, sum_ones, sum_same}
+use Rattle.flat_objects.proofs.RangesWords.{Stand, stand_at, stand_long, words_stand}
+use Rattle.flat_objects.proofs.Tallies.{one_if, sum_flat}
 
 -- Sums over pointers
 
@@ -30,25 +30,22 @@ part_of_sum f [] k d less = absurd (omega arith)
 part_of_sum f (x ∷ xs) zero d less = let one = sum_by-cons f x xs in omega arith
 part_of_sum f (x ∷ xs) (suc k) d less = let one = sum_by-cons f x xs in let rest = part_of_sum f xs k d (omega arith) in omega arith
 
--- the sum of two weights
-sum_both : {X : Type 0} (f g : X → ℕ) (xs : List X) → sum_by (λ x. f x + g x) xs ≡ sum_by f xs + sum_by g xs
-sum_both f g [] = refl
-sum_both f g (x ∷ xs) =
-    let one = sum_by-cons (λ x. f x + g x) x xs in
-    let two = sum_by-cons f x xs in
-    let three = sum_by-cons g x xs in
-    let rest = sum_both f g xs in
-    omega arith
-
 -- 1 for a null pointer
 abbrev pub is_null : Pointer → ℕ
 is_null p = 1 - one_if (leads p)
 
-one_or_other : (p : Pointer) → one_if (leads p) + is_null p ≡ 1
-one_or_other p = either (leads p) where
-  either : (b : Bool) → one_if b + (1 - one_if b) ≡ 1
-  either true = refl
-  either false = refl
+one_or_none : (b : Bool) → one_if b ≤ 1
+one_or_none true = omega arith
+one_or_none false = omega arith
+
+-- each pointer leads to an object or is null
+leads_or_not : (ps : List Pointer) → count_by leads ps + sum_by is_null ps ≡ length ps
+leads_or_not [] = refl
+leads_or_not (p ∷ ps) =
+    let one = sum_by-cons (λ p. one_if (leads p)) p ps in
+    let two = sum_by-cons is_null p ps in
+    let rest = leads_or_not ps in
+    omega (arith, one_or_none (leads p))
 
 -- the pointers of an object are among those of all objects that are not dead
 pub own_part : (w : Pointer → ℕ) (objects : List Object) (birth : ℕ) → IsThere objects birth → sum_by w (object_at objects birth).pointers ≤ sum_by w (living_pointers objects)
@@ -121,22 +118,16 @@ module _ (locals heap : ℕ) (memory : Memory) (shape : IsMemory locals heap mem
       }
 
   module _ (frees : Frees) (tracks : Tracks memory places objects frees) where
-    null_as : (p : Pointer) (w : ℕ) → IsAddressOf places objects p w → one_if (nat_eq w 0) ≡ is_null p
-    null_as p w is = other (nat_eq w 0) ∙ ap (λ n. 1 - n) (sym (leads_as locals heap memory shape places objects keeps frees tracks p w is)) where
-      other : (b : Bool) → one_if b ≡ 1 - one_if (not b)
-      other true = refl
-      other false = refl
-
-    -- as many words are 0 as pointers are null
-    nulls_as : (ps : List Pointer) (ws : List ℕ) → Stand places objects ps ws → nulls ws ≡ sum_by is_null ps
-    nulls_as [] [] s = refl
-    nulls_as [] (w ∷ ws) s = absurd s
-    nulls_as (p ∷ ps) [] s = absurd s
-    nulls_as (p ∷ ps) (w ∷ ws) s =
-        let first = null_as p w s.0 in
-        let one = sum_by-cons (λ w. one_if (nat_eq w 0)) w ws in
-        let two = sum_by-cons is_null p ps in
-        let rest = nulls_as ps ws s.1 in
+    -- as many words are addresses as pointers lead to an object
+    addresses_as : (ps : List Pointer) (ws : List ℕ) → Stand places objects ps ws → addresses ws ≡ count_by leads ps
+    addresses_as [] [] s = refl
+    addresses_as [] (w ∷ ws) s = absurd s
+    addresses_as (p ∷ ps) [] s = absurd s
+    addresses_as (p ∷ ps) (w ∷ ws) s =
+        let first = leads_as locals heap memory shape places objects keeps frees tracks p w s.0 in
+        let one = sum_by-cons (λ w. one_if (not (nat_eq w 0))) w ws in
+        let two = sum_by-cons (λ p. one_if (leads p)) p ps in
+        let rest = addresses_as ps ws s.1 in
         omega arith
 
   module _ (frees : Frees) (tracks : Tracks memory places objects frees) (birth : ℕ) (there : IsThere objects birth) where
@@ -158,20 +149,19 @@ module _ (locals heap : ℕ) (memory : Memory) (shape : IsMemory locals heap mem
               omega arith
         ]
 
-    pub have_room : HaveRoom memory.counts (words_at memory.bytes (places birth) (object_at objects birth).slots)
-    have_room =
+    pub have_room : (new : List ℕ) → length new ≡ length (words_at memory.bytes (places birth) (object_at objects birth).slots) → HaveRoom memory.counts (words_at memory.bytes (places birth) (object_at objects birth).slots) new
+    have_room new many =
         let o = object_at objects birth in
         let ws = words_at memory.bytes (places birth) o.slots in
-        let same = nulls_as frees tracks o.pointers ws (words_stand memory places objects keeps birth there) in
+        let stand = words_stand memory places objects keeps birth there in
+        let same = addresses_as frees tracks o.pointers ws stand in
+        let long = stand_long places objects o.pointers ws stand in
+        let come = count_by-le-length (λ w. not (nat_eq w 0)) new in
         let own = own_part is_null objects birth there in
         let all = counts_few places (living_pointers objects ++ frees.pins) memory.counts.counts tracks.counts in
         let split = sum_by-append (λ p. one_if (leads p)) (living_pointers objects) frees.pins in
         let pins = count_by-le-length leads frees.pins in
-        let both = sum_both (λ p. one_if (leads p)) is_null (living_pointers objects) in
-        let ones = sum_same (λ p. one_if (leads p) + is_null p) (λ p. 1) (living_pointers objects) (λ k d less. one_or_other (get_or (living_pointers objects) k d)) in
-        let many = sum_ones (living_pointers objects) in
-        let living = living_few locals heap memory shape places objects keeps in
-        omega (arith, tracks.few, shape.room)
+        omega (arith, tracks.few, shape.room, leads_or_not o.pointers, leads_or_not (living_pointers objects), living_few locals heap memory shape places objects keeps)
 
     -- Where the words in its slots change, so do the counts
 

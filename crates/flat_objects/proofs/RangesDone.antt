@@ -1,5 +1,6 @@
 -- What copies and sets of ranges ask of a memory, and what they leave.
-use Rattle.std.proofs.Common.{◌≡◌, ◌≤◌, ◌+◌, ◌∙◌, ℕ, List, min, Ok, Err, OnErr, OnOk, Result, sym, ap, subst, arith}
+use Rattle.std.proofs.Common.{◌≡◌, ◌≤◌, ◌+◌, ◌∙◌, ℕ, List, length, min, Ok, Err, OnErr, OnOk, Result, sym, ap, subst, arith}
+use Rattle.std.proofs.lemmas.List.{length-map}
 use Rattle.hs_base.specs.declared.ends.TrapKind.{TrapKind}
 use Rattle.hs_base.specs.declared.values.Pointer.{Pointer}
 use Rattle.hs_base.specs.declared.values.Pointer.TheVariants as pointer
@@ -8,7 +9,7 @@ use Rattle.hs_base.specs.Object.{Object, object_at}
 use Rattle.object_meaning.specs.Memory.{copied}
 use Rattle.count_table.specs.Table.{Table}
 use Rattle.typed_copies.specs.declared.Ranged.{Ranged}
-use Rattle.typed_copies.specs.Copying.{Answers, IsCleared, IsCopied, IsRangeIn, slots_of, words_of}
+use Rattle.typed_copies.specs.Copying.{Answers, HasRoom, IsCleared, IsCopied, IsRangeIn, bytes_after, slots_of, words_of}
 use Rattle.typed_copies.specs.Pointers.{ArePointers, Cover, HaveRoom, words_at}
 use Rattle.typed_copies.proofs.Allowed.{after_copy, after_set}
 use Rattle.flat_objects.specs.Memory.{Memory, IsMemory}
@@ -37,8 +38,12 @@ module _ (locals heap : ℕ) (memory : Memory) (shape : IsMemory locals heap mem
   pub range_covered : (frees : Frees) → Tracks memory places objects frees → Cover memory.counts (words_of memory.forms memory.bytes range)
   range_covered frees tracks = subst (Cover memory.counts) own_words (cover locals heap memory shape places objects keeps frees tracks at.lies.birth at.lies.there)
 
-  pub range_room : (frees : Frees) → Tracks memory places objects frees → HaveRoom memory.counts (words_of memory.forms memory.bytes range)
-  range_room frees tracks = subst (HaveRoom memory.counts) own_words (have_room locals heap memory shape places objects keeps frees tracks at.lies.birth at.lies.there)
+  pub range_room : (frees : Frees) → Tracks memory places objects frees → (src : Ranged) (n : ℕ) → HasRoom memory.forms memory.bytes memory.counts range src n
+  range_room frees tracks src n _ =
+      let slots = slots_of memory.forms range in
+      let new = words_of memory.forms (bytes_after memory.bytes range src n) range in
+      let many : length new ≡ length (words_of memory.forms memory.bytes range) = length-map slots _ ∙ sym (length-map slots _) in
+      subst (λ (ws : List ℕ). length new ≡ length ws → HaveRoom memory.counts ws new) own_words (have_room locals heap memory shape places objects keeps frees tracks at.lies.birth at.lies.there new) many
 
 -- A copy
 
@@ -138,9 +143,9 @@ module _ (locals heap : ℕ) (memory now : Memory) (view : memory ≡ now) (shap
     asks_covered frees tracks =
         subst (λ (m : Memory). Cover m.counts (words_of m.forms m.bytes range)) (sym view) (range_covered locals heap now (subst (IsMemory locals heap) view shape) places objects at.keeps p range (leads places objects p at) frees tracks)
 
-    pub asks_room : (frees : Frees) → Tracks now places objects frees → HaveRoom memory.counts (words_of memory.forms memory.bytes range)
-    asks_room frees tracks =
-        subst (λ (m : Memory). HaveRoom m.counts (words_of m.forms m.bytes range)) (sym view) (range_room locals heap now (subst (IsMemory locals heap) view shape) places objects at.keeps p range (leads places objects p at) frees tracks)
+    pub asks_room : (frees : Frees) → Tracks now places objects frees → (src : Ranged) (n : ℕ) → HasRoom memory.forms memory.bytes memory.counts range src n
+    asks_room frees tracks src n =
+        subst (λ (m : Memory). HasRoom m.forms m.bytes m.counts range src n) (sym view) (range_room locals heap now (subst (IsMemory locals heap) view shape) places objects at.keeps p range (leads places objects p at) frees tracks src n)
 
   abbrev Leaves : Result Unit TrapKind → Memory → Memory → (ℕ → ℕ) → List Object → Result (List Object) Refusal → Type 0
   Leaves result old new places objects meant = Changes places objects result old new meant × StaysTracked old new places objects meant

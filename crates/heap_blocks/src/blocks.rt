@@ -6,7 +6,7 @@ ghost use Rattle.hs_base.specs.Place.{Block, block_size, rounded_up, with_block,
 ghost use Rattle.heap_blocks.specs.Bytes.{ChangesOnly};
 ghost use Rattle.heap_blocks.specs.Heads.{new_header};
 ghost use Rattle.heap_blocks.specs.Runs.{HasNoRun, IsFirstRun};
-ghost use Rattle.heap_blocks.specs.Held.{Holds, HasAddress, HasBounds, HasHeaders, HaveOwnBirths, IsHeldObject, IsNewObject, IsObject, IsPlaced, IsWithin, address_of, fit_of, owner_of};
+ghost use Rattle.heap_blocks.specs.Held.{Holds, HasAddress, HasBounds, HasHeaders, HaveOwnBirths, IsHeap, IsHeldObject, IsNewObject, IsObject, IsPlaced, IsWithin, address_of, fit_of, owner_of};
 
 use crate::headers::{HEADER_SIZE, Header};
 use crate::marks::{Mark, Marks};
@@ -96,14 +96,18 @@ impl Heap {
         self.base + self.len
     }
 
-    /// The lowest place for an object of a size, in 16 bytes from the base on.
-    fn room(&self, size: u64) -> Option<u32>
-        ensures { MatchOption result (HasNoRun self.now.marks (size / 16 + 3)) (IsFirstRun self.now.marks (size / 16 + 3)) }
+    /// The lowest place for an object of a size, in 16 bytes from the base on. The heap stays.
+    fn room(&mut self, size: u64) -> Option<u32>
+        ensures same { self.new ≡ self.old }
+        ensures shape { IsHeap self.old.base self.old.len self.old.marks }
+        ensures place { MatchOption result (HasNoRun self.old.marks (size / 16 + 3)) (IsFirstRun self.old.marks (size / 16 + 3)) }
     {
         if size >= u64::from(self.len) {
             return None;
         }
-        self.holes.first(size as u32 / 16 + 3)
+        let count = size as u32 / 16 + 3;
+        self.holes.settle(count);
+        self.holes.first(count)
     }
 
     /// Places a block by first fit and answers the address of its object, all of whose bytes are 0. Nothing changes

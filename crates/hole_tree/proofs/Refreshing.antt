@@ -1,13 +1,9 @@
 -- The halves of a tree some of whose granules have changed.
-use Rattle.std.proofs.Common.{◌≡◌, ◌≢◌, ◌≤◌, ◌-◌, ◌*◌, ◌/◌, ◌^◌, inl, ℕ, min, Bool, List, length, take, drop, sym, subst, refl, arith}
+use Rattle.std.proofs.Common.{◌≡◌, ◌≢◌, ◌≤◌, ◌-◌, ◌*◌, ◌/◌, ◌^◌, inl, ℕ, min, max, Bool, List, length, take, drop, sym, subst, refl, ◌∙◌, arith}
 use Rattle.hole_tree.specs.declared.node.Node.{Node}
 use Rattle.hole_tree.specs.Granules.{IsSameOutside}
-use Rattle.hole_tree.specs.Tree.{IsTree, node_count}
+use Rattle.hole_tree.specs.Tree.{IsTree, WasTree, node_count}
 use Rattle.hole_tree.proofs.Trees.{left_row, right_row, left_tree, right_tree, same_row, same_take, same_drop}
-
--- the nodes are the tree of a row of which those of a part have changed since
-abbrev pub WasTree : ℕ → List Bool → List Node → ℕ → ℕ → Type 0
-WasTree height row nodes from to = (before : List Bool) × IsTree height before nodes × IsSameOutside before row from to
 
 module _ (height half : ℕ) (above : height ≢ 0) (half_is : half ≡ 32 * 2 ^ (height - 1)) (row : List Bool) (nodes below : List Node) (from to cut : ℕ) (was : WasTree height row nodes from to) (long : length nodes ≡ node_count height) (below_is : below ≡ drop 1 nodes)
     (cut_is : cut ≡ min half (length row)) where
@@ -37,3 +33,23 @@ module _ (height half : ℕ) (above : height ≢ 0) (half_is : half ≡ 32 * 2 ^
   right_is_tree part right part_is right_is before_half =
       let half_was = right_was part right (from - half) (to - half) part_is right_is refl refl in
       subst (λ xs. IsTree (height - 1) xs right) (same_row half_was.0 part (from - half) (to - half) half_was.2 (inl (omega arith))) half_was.1
+
+-- A tree of which nothing has changed yet, and of which more has
+
+pub is_still_tree : (height : ℕ) (row : List Bool) (nodes : List Node) (from to : ℕ) → IsTree height row nodes → WasTree height row nodes from to
+is_still_tree height row nodes from to tree = (row, tree, record { long = refl; below = λ k h. refl; above = λ k h. refl })
+
+pub nothing_changed : (height : ℕ) (row : List Bool) (nodes : List Node) (from to : ℕ) → WasTree height row nodes from to → to ≤ from → IsTree height row nodes
+nothing_changed height row nodes from to was none =
+    subst (λ r. IsTree height r nodes) (same_row was.0 row from to was.2 (inl none)) was.1
+
+pub more_changed : (height : ℕ) (row after : List Bool) (nodes : List Node) (from to place end : ℕ) → WasTree height row nodes from to → IsSameOutside row after place end → WasTree height after nodes (min from place) (max to end)
+more_changed height row after nodes from to place end was same = (
+  was.0,
+  was.1,
+  record {
+    long = same.long ∙ was.2.long;
+    below = λ k h. same.below k (omega arith) ∙ was.2.below k (omega arith);
+    above = λ k h. same.above k (omega arith) ∙ was.2.above k (omega arith);
+  },
+)

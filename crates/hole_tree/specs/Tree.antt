@@ -1,6 +1,7 @@
 -- The tree of nodes over a row.
 use Rattle.std.specs.Prelude.{◌≡◌, ℕ, zero, suc, ◌+◌, ◌*◌, ◌^◌, ◌<◌, ◌≤◌, Bool, List, length, Some, slice_get, take, drop}
 use Rattle.hole_tree.specs.declared.node.Node.{Node}
+use Rattle.hole_tree.specs.Granules.{IsSameOutside}
 use Rattle.hole_tree.specs.Runs.{summary}
 
 -- how many nodes a tree of that height has
@@ -15,9 +16,14 @@ IsTree (suc height) row nodes =
     (slice_get nodes 0 ≡ Some (summary row)) × IsTree height (take (32 * 2 ^ height) row) (take (node_count height) (drop 1 nodes))
     × IsTree height (drop (32 * 2 ^ height) row) (drop (node_count height) (drop 1 nodes))
 
--- a tree over a row whose granules have numbers of 32 bits
-pub record IsTreeOf (height : ℕ) (row : List Bool) (nodes : List Node) : Type 0 where
+-- the nodes are the tree of a row of which the granules from a place up to another may have changed since
+abbrev pub WasTree : ℕ → List Bool → List Node → ℕ → ℕ → Type 0
+WasTree height row nodes from to = (before : List Bool) × IsTree height before nodes × IsSameOutside before row from to
+
+-- such a tree over a row whose granules have numbers of 32 bits
+pub record IsTreeOf (height : ℕ) (row : List Bool) (nodes : List Node) (from to : ℕ) : Type 0 where
   pub most : height ≤ 27
   pub fits : length row < 2 ^ 32
   pub long : length nodes ≡ node_count height
-  pub tree : IsTree height row nodes
+  pub inside : to ≤ length row
+  pub tree : WasTree height row nodes from to

@@ -4,9 +4,9 @@
 //! has the first `CHUNK` times 2 to the power of its height less 1 granules of its part in its left half, and the others,
 //! if any, in its right half.
 
-ghost use Rattle.std.specs.Prelude.{◌≡◌, ◌+◌, ◌-◌, ◌*◌, ◌^◌, ◌<◌, ◌≤◌, Bool, false, List, length, replicate, MatchOption};
-ghost use Rattle.hole_tree.specs.Granules.{HasNoHole, IsFirstHole, IsSameOutside};
-ghost use Rattle.hole_tree.specs.Tree.{IsTree, node_count};
+ghost use Rattle.std.specs.Prelude.{◌≡◌, ◌+◌, ◌-◌, ◌*◌, ◌^◌, ◌<◌, ◌≤◌, false, length, replicate, MatchOption};
+ghost use Rattle.hole_tree.specs.Granules.{HasNoHole, IsFirstHole};
+ghost use Rattle.hole_tree.specs.Tree.{IsTree, WasTree, node_count};
 
 use crate::node::{Node, first_in_part, joined, node_of};
 
@@ -49,7 +49,7 @@ pub fn refresh(nodes: &mut [Node], taken: &[bool], height: u32, from: usize, to:
     requires long { length nodes.old ≡ node_count height }
     requires most { height ≤ 27 }
     requires fits { length taken.now < 2 ^ 32 }
-    requires tree { (before : List Bool) × IsTree height before nodes.old × IsSameOutside before taken.now from to }
+    requires tree { WasTree height taken.now nodes.old from to }
     ensures { IsTree height taken.now nodes.new }
 {
     let (root, below) = nodes.split_at_mut(1);

@@ -1,11 +1,11 @@
 -- Counts that follow pointers one by one.
-use Rattle.std.proofs.Common.{◌≡◌, ◌<◌, ◌≤◌, ◌+◌, ◌/◌, ℕ, Bool, cond, not, List, [], ◌∷◌, ◌++◌, length, get_or, take, refl, sym, subst, arith}
+use Rattle.std.proofs.Common.{◌≡◌, ◌<◌, ◌≤◌, ◌+◌, ◌/◌, ℕ, Bool, cond, not, List, [], ◌∷◌, ◌++◌, length, get_or, take, sum, refl, sym, subst, arith}
 use Rattle.std.specs.Prelude.{nat_eq, ◌&&◌}
 use Rattle.std.proofs.lemmas.Bool.{and_from, cond-true, eq-eqb, ne_eqb, not_from_false}
 use Rattle.std.proofs.lemmas.List.{take_more}
 use Rattle.std.proofs.lemmas.List.Sums.{sum_by-append, sum_by_more_le}
 use Rattle.count_table.specs.Table.{Table}
-use Rattle.typed_copies.specs.Pointers.{Follow, into_granule}
+use Rattle.typed_copies.specs.Pointers.{Follow, HaveRoom, into_granule}
 
 -- is the word an address in the granule?
 abbrev pub points_into : ℕ → ℕ → Bool
@@ -48,3 +48,9 @@ pub still_counted : (a b : Table) (ws : List ℕ) (k : ℕ) → k < length ws �
 still_counted a b ws k inside follow covered some =
     let granule = get_or ws k 0 / 16 in
     omega (arith, follow.exact granule, covered granule, points_there (get_or ws k 0) some, sum_by_more_le (λ w. one_if (points_into granule w)) ws k 0 inside)
+
+-- there is room for an address that is still to come
+pub still_room : (a b : Table) (ws : List ℕ) (k : ℕ) → k < length ws → Follow a b [] (take k ws) → HaveRoom a [] ws → 0 < get_or ws k 0 → sum b.counts < b.most
+still_room a b ws k inside follow room some =
+    let one : one_if (is_address (get_or ws k 0)) ≡ 1 = cond-true (is_address (get_or ws k 0)) 1 0 (not_from_false (nat_eq (get_or ws k 0) 0) (ne_eqb (get_or ws k 0) 0 (λ e. omega arith))) in
+    omega (arith, follow.all, follow.most, room, one, sum_by_more_le (λ w. one_if (is_address w)) ws k 0 inside)

@@ -10,10 +10,10 @@ use Rattle.count_table.specs.Table.{Table}
 use Rattle.typed_copies.specs.declared.Ranged.{Ranged}
 use Rattle.typed_copies.specs.declared.slots.Within.{Within}
 use Rattle.typed_copies.specs.Slots.{AreWithin, Correspond}
-use Rattle.typed_copies.specs.Pointers.{ArePointers, Follow, words_at, words_in}
+use Rattle.typed_copies.specs.Pointers.{ArePointers, Follow, HaveRoom, words_at, words_in}
 use Rattle.typed_copies.specs.Copying.{IsCleared, IsCopied}
 use Rattle.typed_copies.proofs.Overlaid.{moved_none, overlaid_none, part_len, word_moved, word_null}
-use Rattle.typed_copies.proofs.Replaced.{follow_nulls, follow_replaced, replaced_now, words_replaced}
+use Rattle.typed_copies.proofs.Replaced.{follow_nulls, follow_replaced, replaced_now, room_replaced, words_replaced}
 use Rattle.typed_copies.proofs.Selecting.{first_is, many_within}
 use Rattle.typed_copies.proofs.Touched.{touches_alike}
 use Rattle.typed_copies.proofs.Worded.{word_in_at, words_in_len, words_len}
@@ -69,6 +69,13 @@ module _ (d s : List ℕ) (dst src : Ranged) (n : ℕ) (old : List ℕ) (into : 
         inside = All-take (λ w. w < length old) co.out.count (drop co.out.first (words_at old src.start s)) (All-drop (λ w. w < length old) co.out.first (words_at old src.start s) are.inside);
         granules = are.granules;
       })
+
+  -- room for all words of the destination then is room for those that come
+  pub room_comes : (counts : Table) → HaveRoom counts (words_at old dst.start d) (words_at moved dst.start d) → HaveRoom counts (words_in old dst.start d into) (words_in moved dst.start d into)
+  room_comes counts room =
+      let words = words_at old dst.start d in
+      let some = room_replaced counts words into.first incoming fit (subst (HaveRoom counts words) words_moved room) in
+      subst (HaveRoom counts (words_in old dst.start d into)) (sym come_is) (subst (λ (m : ℕ). HaveRoom counts (take m (drop into.first words)) incoming) many_come some)
 
   -- what a copy leaves
   pub copied_is : (new : List ℕ) (before after : Table) → new ≡ moved → Follow before after (words_in old dst.start d into) (words_in new dst.start d into) → IsCopied d s dst src n old new before after

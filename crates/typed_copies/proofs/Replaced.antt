@@ -12,7 +12,7 @@ use Rattle.byte_memory.specs.Bytes.{word}
 use Rattle.count_table.specs.Table.{Table}
 use Rattle.typed_copies.specs.declared.slots.Within.{Within}
 use Rattle.typed_copies.specs.Slots.{AreWithin}
-use Rattle.typed_copies.specs.Pointers.{Cover, Follow, HaveRoom, addresses, nulls, words_at}
+use Rattle.typed_copies.specs.Pointers.{Cover, Follow, HaveRoom, words_at}
 use Rattle.typed_copies.proofs.Following.{is_address, one_if, points_into}
 use Rattle.typed_copies.proofs.Overlaid.{at_before, at_behind, at_inside, overlaid_len, word_before, word_behind}
 use Rattle.typed_copies.proofs.Worded.{word_at, words_len}
@@ -84,18 +84,13 @@ replaced_now words first new inside =
 pub cover_part : (counts : Table) (words : List ℕ) (first count : ℕ) → Cover counts words → Cover counts (take count (drop first words))
 cover_part counts words first count covered = λ granule. omega (arith, covered granule, part_of_sum (λ w. one_if (points_into granule w)) words first count)
 
--- room for some words is room for a part of them
-pub room_part : (counts : Table) (words : List ℕ) (first count : ℕ) → HaveRoom counts words → HaveRoom counts (take count (drop first words))
-room_part counts words first count room = omega (arith, room, part_of_sum (λ w. one_if (nat_eq w 0)) words first count)
+-- room for all words once some were replaced is room for these
+pub room_replaced : (counts : Table) (words : List ℕ) (first : ℕ) (new : List ℕ) → first + length new ≤ length words → HaveRoom counts words (overlaid words first new) → HaveRoom counts (take (length new) (drop first words)) new
+room_replaced counts words first new inside room = omega (arith, room, sum_replaced (λ w. one_if (is_address w)) words first new inside)
 
--- each word is null or an address
-pub null_or_not : (words : List ℕ) → nulls words + addresses words ≡ length words
-null_or_not words =
-    omega (arith, length-filter_both (λ w. nat_eq w 0) (λ w. not (nat_eq w 0)) (λ w. refl) words, length-filter (λ w. nat_eq w 0) words, length-filter (λ w. not (nat_eq w 0)) words)
-
--- where pointers go there is room for those that come in their places
-pub room_left : (before after : Table) (words : List ℕ) → Follow before after words [] → HaveRoom before words → sum after.counts + length words ≤ after.most
-room_left before after words gone room = omega (arith, gone.all, gone.most, room, null_or_not words)
+-- where pointers have gone there is room for those that come in their places
+pub room_left : (before after : Table) (old new : List ℕ) → Follow before after old [] → HaveRoom before old new → HaveRoom after [] new
+room_left before after old new gone room = omega (arith, gone.all, gone.most, room)
 
 -- nulls in place of pointers that have gone
 pub follow_nulls : (before after : Table) (words : List ℕ) (n : ℕ) → Follow before after words [] → Follow before after words (replicate n 0)

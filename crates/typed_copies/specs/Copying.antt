@@ -1,5 +1,5 @@
 -- What copies and sets of ranges of bytes answer, and what they leave.
-use Rattle.std.specs.Prelude.{◌≡◌, ◌+◌, ◌<◌, ◌≤◌, ℕ, false, List, [], length, replicate, take, drop, Result, Ok, Err, slice_index_or}
+use Rattle.std.specs.Prelude.{◌≡◌, ◌+◌, ◌<◌, ◌≤◌, ℕ, true, false, List, [], length, replicate, take, drop, Result, Ok, Err, slice_index_or}
 use Rattle.hs_base.specs.declared.ends.TrapKind.{TrapKind}
 use Rattle.hs_base.specs.declared.values.Pointer.{Pointer}
 use Rattle.hs_base.specs.declared.values.Pointer.TheVariants as pointer
@@ -9,7 +9,8 @@ use Rattle.hs_base.specs.Object.{Object, is_dead, object_at}
 use Rattle.adjusters.specs.ObjectSlots.{Element, object_slots}
 use Rattle.count_table.specs.Table.{Table}
 use Rattle.typed_copies.specs.declared.Ranged.{Ranged}
-use Rattle.typed_copies.specs.Pointers.{Follow, words_at}
+use Rattle.typed_copies.specs.Slots.{slots_agree}
+use Rattle.typed_copies.specs.Pointers.{Follow, HaveRoom, words_at}
 
 -- the element of a number, by which an object names it
 abbrev pub form_at : List Element → ℕ → Element
@@ -22,6 +23,16 @@ slots_of forms range = object_slots (form_at forms range.form) range.size
 -- the words in these slots
 abbrev pub words_of : List Element → List ℕ → Ranged → List ℕ
 words_of forms bytes range = words_at bytes range.start (slots_of forms range)
+
+-- the bytes once n of them were copied from one range to another, as through a buffer
+abbrev pub bytes_after : List ℕ → Ranged → Ranged → ℕ → List ℕ
+bytes_after bytes dst src n = overlaid bytes (dst.start + dst.offset) (part bytes (src.start + src.offset) n)
+
+-- where the slots allow a copy of n bytes, the counts have room for the pointers that come by it
+abbrev pub HasRoom : List Element → List ℕ → Table → Ranged → Ranged → ℕ → Type 0
+HasRoom forms bytes counts dst src n =
+    slots_agree (slots_of forms dst) dst.offset (slots_of forms src) src.offset n ≡ true
+    → HaveRoom counts (words_of forms bytes dst) (words_of forms (bytes_after bytes dst src n) dst)
 
 -- the object of a range lies inside the bytes, its offset is at most its size, and its element is one of these
 pub record IsInside (forms : List Element) (bytes : List ℕ) (range : Ranged) : Type 0 where
@@ -55,7 +66,7 @@ pub record SameFrame (old new : List ℕ) (before after : Table) : Type 0 where
 -- n bytes were copied between two objects with these slots: the destination has those that the source had, as through a buffer
 pub record IsCopied (d s : List ℕ) (dst src : Ranged) (n : ℕ) (old new : List ℕ) (before after : Table) : Type 0 where
   -- no other byte has changed
-  pub bytes : new ≡ overlaid old (dst.start + dst.offset) (part old (src.start + src.offset) n)
+  pub bytes : new ≡ bytes_after old dst src n
   -- a byte of it lies in a slot exactly where that of the source does
   pub slots : (k : ℕ) → k < n → touches_slot d (dst.offset + k) 1 ≡ touches_slot s (src.offset + k) 1
   -- the slots within the range have the words that those of the source had

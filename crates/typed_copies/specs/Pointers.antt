@@ -22,10 +22,6 @@ into_granule granule words = count_by (λ w. not (nat_eq w 0) && nat_eq (w / 16)
 abbrev pub addresses : List ℕ → ℕ
 addresses words = count_by (λ w. not (nat_eq w 0)) words
 
--- how many of these words are null
-abbrev pub nulls : List ℕ → ℕ
-nulls words = count_by (λ w. nat_eq w 0) words
-
 -- each word is null or an address inside the bytes, and there is a count for each granule of these
 pub record ArePointers (bytes : List ℕ) (counts : Table) (words : List ℕ) : Type 0 where
   pub inside : All (λ w. w < length bytes) words
@@ -37,9 +33,9 @@ pub record ArePointers (bytes : List ℕ) (counts : Table) (words : List ℕ) : 
 abbrev pub Cover : Table → List ℕ → Type 0
 Cover counts words = (granule : ℕ) → into_granule granule words ≤ slice_index counts.counts granule
 
--- the counts have room for a pointer in place of each of these words that is null
-abbrev pub HaveRoom : Table → List ℕ → Type 0
-HaveRoom counts words = sum counts.counts + nulls words ≤ counts.most
+-- the counts have room for the pointers among the new words, where those among the old ones go
+abbrev pub HaveRoom : Table → List ℕ → List ℕ → Type 0
+HaveRoom counts old new = sum counts.counts + addresses new ≤ counts.most + addresses old
 
 -- the pointers among the old words are gone from the counts, and those among the new ones have come
 pub record Follow (before after : Table) (old new : List ℕ) : Type 0 where

@@ -3,7 +3,7 @@
 ghost use Rattle.std.specs.Prelude.{◌+◌, ◌*◌, ◌/◌, ◌^◌, ◌<◌, ◌≤◌, ℕ, ◌∷◌, [], All, length, sum, slice_index};
 ghost use Rattle.c_types.specs.Layouts.{AreSlots};
 ghost use Rattle.adjusters.specs.ObjectSlots.{object_slots};
-ghost use Rattle.typed_copies.specs.Pointers.{Follow, into_granule, words_in};
+ghost use Rattle.typed_copies.specs.Pointers.{Follow, HaveRoom, into_granule, words_in};
 
 use crate::Ranged;
 use crate::slots::Within;
@@ -26,7 +26,7 @@ fn take_one<L: Ledger>(counts: &mut Counts, addr: u32, steps: &mut Steps<L>)
 /// Adds a pointer to the counts by its address; 0 is null, which does not count. At most one step.
 fn add_one<L: Ledger>(counts: &mut Counts, addr: u32, steps: &mut Steps<L>)
     requires granule { addr / 16 < length counts.old.counts }
-    requires room { sum counts.old.counts < counts.old.most }
+    requires room { 0 < addr → sum counts.old.counts < counts.old.most }
     ensures follow { Follow counts.old counts.new [] (addr ∷ []) }
     ensures work { steps.new ≤ steps.old + 1 }
 {
@@ -73,7 +73,7 @@ pub(crate) fn put_on<L: Ledger>(
     requires inside { range.start + range.size ≤ length bytes.now }
     requires reach { length bytes.now < 2 ^ 32 }
     requires granules { All (λ w. w / 16 < length counts.old.counts) (words_in bytes.now range.start (object_slots form.now range.size) within) }
-    requires room { sum counts.old.counts + within.count ≤ counts.old.most }
+    requires room { HaveRoom counts.old [] (words_in bytes.now range.start (object_slots form.now range.size) within) }
     ensures follow { Follow counts.old counts.new [] (words_in bytes.now range.start (object_slots form.now range.size) within) }
     ensures work { steps.new ≤ steps.old + 2 * within.count }
 {

@@ -24,7 +24,7 @@ ghost use Rattle.hs_base.specs.Object.{Object};
 ghost use Rattle.adjusters.specs.ObjectSlots.{Element, object_slots};
 ghost use Rattle.typed_copies.specs.Slots.{AreWithin};
 ghost use Rattle.typed_copies.specs.Pointers.{ArePointers, Cover, Follow, HaveRoom, words_in};
-ghost use Rattle.typed_copies.specs.Copying.{Answers, IsCleared, IsCopied, IsInside, IsRangeIn, SameFrame, form_at, slots_of, words_of};
+ghost use Rattle.typed_copies.specs.Copying.{Answers, HasRoom, IsCleared, IsCopied, IsInside, IsRangeIn, SameFrame, form_at, slots_of, words_of};
 
 mod counting;
 mod moving;
@@ -81,7 +81,7 @@ fn replace<L: Ledger>(
     requires into { AreWithin (object_slots form.now dst.size) dst.offset n into }
     requires pointers { ArePointers bytes.old counts.old (words_in (overlaid bytes.old (dst.start + dst.offset) (part bytes.old from n)) dst.start (object_slots form.now dst.size) into) }
     requires covered { Cover counts.old (words_in bytes.old dst.start (object_slots form.now dst.size) into) }
-    requires room { HaveRoom counts.old (words_in bytes.old dst.start (object_slots form.now dst.size) into) }
+    requires room { HaveRoom counts.old (words_in bytes.old dst.start (object_slots form.now dst.size) into) (words_in (overlaid bytes.old (dst.start + dst.offset) (part bytes.old from n)) dst.start (object_slots form.now dst.size) into) }
     ensures moved { bytes.new ≡ overlaid bytes.old (dst.start + dst.offset) (part bytes.old from n) }
     ensures follow { Follow counts.old counts.new (words_in bytes.old dst.start (object_slots form.now dst.size) into) (words_in bytes.new dst.start (object_slots form.now dst.size) into) }
     ensures work { steps.new ≤ steps.old + 3 * n }
@@ -107,7 +107,7 @@ fn transfer<L: Ledger>(
     requires source { IsInside forms.now bytes.old src }
     requires pointers { ArePointers bytes.old counts.old (words_of forms.now bytes.old src) }
     requires covered { Cover counts.old (words_of forms.now bytes.old dst) }
-    requires room { HaveRoom counts.old (words_of forms.now bytes.old dst) }
+    requires room { HasRoom forms.now bytes.old counts.old dst src n }
     requires into { dst.offset + n ≤ dst.size }
     requires from { src.offset + n ≤ src.size }
     ensures answers { (objects : List Object) (p q : values.Pointer) → IsRangeIn forms.now objects p dst → IsRangeIn forms.now objects q src → Answers result (access.copy objects p q n) }
@@ -160,10 +160,10 @@ pub fn copy<L: Ledger>(
     requires source { IsInside forms.now bytes.old src }
 
     // The words in the source's slots are null or addresses inside the bytes. The counts cover the pointers in the
-    // destination's slots, and have room for one more in each of these slots that is null.
+    // destination's slots, and have room for the pointers that come.
     requires pointers { ArePointers bytes.old counts.old (words_of forms.now bytes.old src) }
     requires covered { Cover counts.old (words_of forms.now bytes.old dst) }
-    requires room { HaveRoom counts.old (words_of forms.now bytes.old dst) }
+    requires room { HasRoom forms.now bytes.old counts.old dst src n }
 
     // For all objects that have the ranges.
     ensures answers { (objects : List Object) (p q : values.Pointer) → IsRangeIn forms.now objects p dst → IsRangeIn forms.now objects q src → Answers result (access.copy objects p q n) }
@@ -243,7 +243,7 @@ pub fn grow<L: Ledger>(
     requires whole { (dst.offset ≡ 0) × (src.offset ≡ 0) }
     requires pointers { ArePointers bytes.old counts.old (words_of forms.now bytes.old src) }
     requires covered { Cover counts.old (words_of forms.now bytes.old dst) }
-    requires room { HaveRoom counts.old (words_of forms.now bytes.old dst) }
+    requires room { HasRoom forms.now bytes.old counts.old dst src (min src.size dst.size) }
     ensures answers { (objects : List Object) (p q : values.Pointer) → IsRangeIn forms.now objects p dst → IsRangeIn forms.now objects q src → Answers result (access.copy objects p q (min src.size dst.size)) }
     ensures layout { IfErr result (λ kind. kind ≡ TrapKind.Layout) }
     ensures copied { OnOk result (IsCopied (slots_of forms.now dst) (slots_of forms.now src) dst src (min src.size dst.size) bytes.old bytes.new counts.old counts.new) }

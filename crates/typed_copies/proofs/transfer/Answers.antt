@@ -2,11 +2,11 @@ use Rattle.std.proofs.Common.{◌≡◌, ◌+◌, ◌∙◌, true, sym, subst, a
 use Rattle.adjusters.specs.ObjectSlots.{Element, object_slots}
 use Rattle.typed_copies.specs.Slots.{slots_agree}
 use Rattle.typed_copies.specs.Pointers.{ArePointers, Cover, HaveRoom, words_at, words_in}
-use Rattle.typed_copies.specs.Copying.{IsCopied, slots_of}
+use Rattle.typed_copies.specs.Copying.{IsCopied, bytes_after, slots_of}
 use Rattle.typed_copies.proofs.Allowed.{after_copy, copy_allowed, copy_of_none}
-use Rattle.typed_copies.proofs.Outcomes.{copied_is, copied_none, pointers_come}
+use Rattle.typed_copies.proofs.Outcomes.{copied_is, copied_none, pointers_come, room_comes}
 use Rattle.typed_copies.proofs.Overlaid.{moved_long}
-use Rattle.typed_copies.proofs.Replaced.{cover_part, room_part}
+use Rattle.typed_copies.proofs.Replaced.{cover_part}
 use Rattle.typed_copies.proofs.Worded.{slot_inside}
 use Rattle.typed_copies.proofs.transfer.Goals as goal
 
@@ -36,9 +36,17 @@ replace-requires-clause-covered g c =
 pub replace-requires-clause-room : goal.replace-requires-clause-room
 replace-requires-clause-room g c =
     let dst = c.args.dst in
-    let into = c.in-Some.into in
-    subst (λ (form : Element). HaveRoom c.args.counts.now (words_in c.args.bytes.now dst.start (object_slots form dst.size) into)) (sym c.adjuster_of-d_form.ensures.element)
-    (room_part c.args.counts.now (words_at c.args.bytes.now dst.start (slots_of c.args.forms.now dst)) into.first into.count c.requires.room)
+    let src = c.args.src in
+    let forms = c.args.forms.now in
+    let bytes = c.args.bytes.now in
+    let d = object_slots c.adjuster_of-d_form.result.now dst.size in
+    let s = object_slots c.adjuster_of-s_form.result.now src.size in
+    let d_is = c.adjuster_of-d_form.ensures.element in
+    let s_is = c.adjuster_of-s_form.ensures.element in
+    let agree : slots_agree (slots_of forms dst) dst.offset (slots_of forms src) src.offset c.args.n ≡ true =
+    sym (λ i. slots_agree (object_slots (d_is i) dst.size) dst.offset (object_slots (s_is i) src.size) src.offset c.args.n) ∙ c.in-Some.ensures.agree in
+    room_comes d s dst src c.args.n bytes c.in-Some.into c.in-Some.ensures.some (λ k less. slot_inside c.adjuster_of-d_form.result.now dst.size k c.adjuster_of-d_form.ensures.formed less) c.requires.destination.end c.requires.into (omega (arith, c.requires.source.end, c.requires.from)) c.args.counts.now
+    (subst (λ (form : Element). HaveRoom c.args.counts.now (words_at bytes dst.start (object_slots form dst.size)) (words_at (bytes_after bytes dst src c.args.n) dst.start (object_slots form dst.size))) (sym d_is) (c.requires.room agree))
 
 pub returns-clause-answers : goal.returns-clause-answers
 returns-clause-answers g c = λ objects p q to from.

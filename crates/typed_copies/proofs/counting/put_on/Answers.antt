@@ -4,7 +4,7 @@ use Rattle.adjusters.specs.ObjectSlots.{object_slots}
 use Rattle.typed_copies.specs.Pointers.{words_in}
 use Rattle.typed_copies.proofs.Ascending.{few_slots}
 use Rattle.typed_copies.proofs.Worded.{slot_inside, word_in_at, words_in_len}
-use Rattle.typed_copies.proofs.Following.{next_comes}
+use Rattle.typed_copies.proofs.Following.{next_comes, still_room}
 use Rattle.typed_copies.proofs.counting.put_on.Goals as goal
 
 pub overflow_add-within : goal.overflow_add-within
@@ -31,6 +31,15 @@ add_one-requires-clause-granule g c =
     ∙ ap (λ s. word c.args.bytes.now (c.args.range.start + s) 4) (sym c.slot-slot.ensures.slot) ∙ sym c.read-addr.ensures.value in
     let inside = c.requires.granules c.loop-k.k 0 (let len = words_in_len c.args.bytes.now c.args.range.start slots c.args.within c.requires.within in omega (arith, c.loop-k-test.true)) in
     subst (λ (w : ℕ). w / 16 < length c.loop-k.counts.counts) here (omega (arith, inside, c.loop-k.invariant.follow.long))
+
+pub add_one-requires-clause-room : goal.add_one-requires-clause-room
+add_one-requires-clause-room g c = λ some.
+    let slots = object_slots c.args.form.now c.args.range.size in
+    let ws = words_in c.args.bytes.now c.args.range.start slots c.args.within in
+    let here : c.read-addr.result ≡ get_or ws c.loop-k.k 0 =
+    c.read-addr.ensures.value ∙ ap (λ s. word c.args.bytes.now (c.args.range.start + s) 4) c.slot-slot.ensures.slot
+    ∙ sym (word_in_at c.args.bytes.now c.args.range.start slots c.args.within c.loop-k.k c.requires.within c.loop-k-test.true) in
+    still_room c.args.counts.now c.loop-k.counts ws c.loop-k.k (let len = words_in_len c.args.bytes.now c.args.range.start slots c.args.within c.requires.within in omega (arith, c.loop-k-test.true)) c.loop-k.invariant.follow c.requires.room (omega arith)
 
 pub loop-k-preserved : goal.loop-k-preserved
 loop-k-preserved g c =

@@ -54,7 +54,7 @@ pub copy-requires-clause-room : goal.copy-requires-clause-room
 copy-requires-clause-room g c =
     let k = c.requires in
     let memory : Memory = record { bytes = c.self.inside.bytes; statics = c.self.inside.statics; locals = c.self.inside.locals; heap = c.self.inside.heap; counts = c.self.inside.counts; scopes = c.self.inside.scopes; forms = c.self.inside.forms; marks = c.self.inside.marks } in
-    asks_room c.self.inside.locals_from c.self.inside.heap_from memory c.args.self.now c.self.view_is c.self.invariant c.in_ok-dst.dst c.args.to (λ places objects p at. (c.in_ok-dst.ensures.tries places objects p at).0) k.0 k.1 k.3 k.5.at k.2 k.5.tracks
+    asks_room c.self.inside.locals_from c.self.inside.heap_from memory c.args.self.now c.self.view_is c.self.invariant c.in_ok-dst.dst c.args.to (λ places objects p at. (c.in_ok-dst.ensures.tries places objects p at).0) k.0 k.1 k.3 k.5.at k.2 k.5.tracks c.in_ok-src.src c.args.n
 
 pub returns-clause-changes : goal.returns-clause-changes
 returns-clause-changes g c = λ places objects p q at stands.

@@ -35,7 +35,7 @@ pub grow-requires-clause-room : goal.grow-requires-clause-room
 grow-requires-clause-room g c =
     let k = c.requires in
     let memory : Memory = record { bytes = c.self.inside.bytes; statics = c.self.inside.statics; locals = c.self.inside.locals; heap = c.self.inside.heap; counts = c.self.inside.counts; scopes = c.self.inside.scopes; forms = c.self.inside.forms; marks = c.self.inside.marks } in
-    asks_room c.self.inside.locals_from c.self.inside.heap_from memory c.args.self.now c.self.view_is c.self.invariant c.ranged-dst.result c.args.to c.ranged-dst.ensures.range k.0 k.1 (pointer.At k.3 0) k.5.at k.2 k.5.tracks
+    asks_room c.self.inside.locals_from c.self.inside.heap_from memory c.args.self.now c.self.view_is c.self.invariant c.ranged-dst.result c.args.to c.ranged-dst.ensures.range k.0 k.1 (pointer.At k.3 0) k.5.at k.2 k.5.tracks c.ranged-src.result (min c.ranged-src.result.size c.ranged-dst.result.size)
 
 pub returns-clause-changes : goal.returns-clause-changes
 returns-clause-changes g c = λ places objects new old at stands.
