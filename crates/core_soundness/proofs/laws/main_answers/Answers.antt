@@ -1,6 +1,6 @@
-use Rattle.core_soundness.proofs.Grammatical as grammatical
-use Rattle.core_soundness.proofs.FormedTrees as formed
-use Rattle.core_soundness.proofs.MainTyped as mains
+use Rattle.core_soundness.proofs.Formed as grammatical
+use Rattle.core_soundness.proofs.Formed as formed
+use Rattle.core_soundness.proofs.Typing as mains
 use Rattle.core_soundness.proofs.laws.main_answers.Goals as goal
 
 pub returns : goal.returns

@@ -1,5 +1,5 @@
-use Rattle.core_soundness.proofs.Grammatical as grammatical
-use Rattle.core_soundness.proofs.FormedTrees as formed
+use Rattle.core_soundness.proofs.Formed as grammatical
+use Rattle.core_soundness.proofs.Formed as formed
 use Rattle.core_soundness.proofs.Typing as typing
 use Rattle.core_soundness.proofs.laws.statements_are_typed.Goals as goal
 
