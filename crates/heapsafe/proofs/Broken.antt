@@ -1,6 +1,6 @@
 -- What the input lost, and the streams took, where a write failed.
 use Rattle.std.proofs.Common.{◌≡◌, ◌⊎◌, ◌+◌, ◌≤◌, ◌∙◌, arith, inl, inr, ℕ, Bool, true, false, List, [], ◌∷◌, ◌++◌, Option, Some, None, Ok, Err, refl, sym, ap, subst, ⊎_elim}
-use Rattle.std.specs.Prelude.{IsTrue, MatchBool, cond, length}
+use Rattle.std.specs.Prelude.{IsTrue, cond}
 use Rattle.std.proofs.lemmas.Bool.{lt-ltb, le-ltb}
 use Rattle.std.proofs.lemmas.List.{append-nil}
 use Rattle.hs_base.specs.declared.ends.End.{End}

@@ -14,7 +14,6 @@ ghost use Rattle.command_words.specs.Commands.{OnFile, Task as AskedTask, comman
 ghost use Rattle.c_tree.specs.StatementView.{unit_view};
 ghost use Rattle.heapsafe.specs.Answer.{Answers, AnswersTokens, AnswersFile, AsksNoFile, AsksNoMeaning, AsksNone, Does, MeansNone, RunsNone};
 ghost use Rattle.c_pre.specs.Bounds.{most_tokens};
-ghost use Rattle.c_pre.specs.Texts.{preprocessed};
 ghost use Rattle.heapsafe.specs.Shown.{Shown, input_fault, output_fault};
 ghost use Rattle.heapsafe.specs.Program.{input_of, steady};
 ghost use Rattle.heapsafe.specs.Saying.{Breaks, Faults, Gives, HasCause, Refuses, Says, SaysMore, SaysUnread, Wants, WriteFails, unread_file};

@@ -1,5 +1,5 @@
-use Rattle.std.proofs.Common.{ℕ, ◌≡◌, List, All, sym, subst, refl, inl, inr, ap, ◌∙◌}
-use Rattle.std.specs.Prelude.{Some, length}
+use Rattle.std.proofs.Common.{List, All, sym, subst, refl, inl, inr}
+use Rattle.std.specs.Prelude.{Some}
 use Rattle.c_lexer.specs.declared.token.Token.{Token}
 use Rattle.c_lexer.specs.Tokens.{IsLexed}
 use Rattle.core_soundness.specs.Laws.{AreWithin}
@@ -8,7 +8,7 @@ use Rattle.c_pre.specs.declared.answer.Opened.{Opened}
 use Rattle.command_words.specs.Commands.{OnFile, task_shown}
 use Rattle.heapsafe.specs.Answer.{AnswersFile, AnswersTokens}
 use Rattle.heapsafe.specs.Program.{input_of, steady}
-use Rattle.heapsafe.specs.Shown.{Shown, untokened}
+use Rattle.heapsafe.specs.Shown.{untokened}
 use Rattle.heapsafe.specs.Saying.{Gives}
 use Rattle.heapsafe.proofs.Told.{faults_as, file_is, gives_file, gives_said, untokened_is, untokened_silent}
 use Rattle.heapsafe.proofs.Broken.{broken_read, broken_said, untokened_said}

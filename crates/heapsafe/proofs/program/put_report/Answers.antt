@@ -1,4 +1,4 @@
-use Rattle.std.proofs.Common.{◌≡◌, ◌∙◌, List, ℕ, sym, subst}
+use Rattle.std.proofs.Common.{◌∙◌, List, ℕ, sym, subst}
 use Rattle.hs_base.specs.PutAll.{PutsAll}
 use Rattle.heapsafe.proofs.Reported.{report_without}
 use Rattle.heapsafe.proofs.program.put_report.Goals as goal
