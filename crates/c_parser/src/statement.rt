@@ -87,6 +87,7 @@ fn by_keyword(
 }
 
 /// A statement with parts of its own, which is a scope.
+#[inline(never)]
 #[cycle(statements)]
 fn compound(
     alloc: Global,
@@ -138,6 +139,7 @@ fn branch(alloc: Global, reader: &mut Reader, room: usize) -> Result<Stmt, ReadE
 }
 
 /// Ends the scope of what was read in it. For any type, since dropping a statement is long to prove.
+#[inline(never)]
 fn ended<T: Drop>(
     reader: &mut Reader,
     outer: Outer,
@@ -163,6 +165,7 @@ fn block(alloc: Global, reader: &mut Reader, room: usize) -> Result<Stmt, ReadEr
 }
 
 /// The same, whose names still hold.
+#[inline(never)]
 #[cycle(statements)]
 #[tactic(auto, using(crate::proofs::Steps::less_step), unfolding(c_tree::specs::Grammar::shape))]
 fn open_block(alloc: Global, reader: &mut Reader, room: usize) -> Result<Stmt, ReadError>
@@ -178,6 +181,7 @@ fn open_block(alloc: Global, reader: &mut Reader, room: usize) -> Result<Stmt, R
 }
 
 /// `__delay_frees { items }`
+#[inline(never)]
 #[cycle(statements)]
 #[tactic(auto, using(crate::proofs::Steps::less_step), unfolding(c_tree::specs::Grammar::shape))]
 fn delay(alloc: Global, reader: &mut Reader, room: usize) -> Result<Stmt, ReadError>
@@ -194,6 +198,7 @@ fn delay(alloc: Global, reader: &mut Reader, room: usize) -> Result<Stmt, ReadEr
 }
 
 /// `if (test) body`, and the statement behind `else`.
+#[inline(never)]
 #[cycle(statements)]
 #[tactic(auto, using(crate::proofs::Steps::less_step), unfolding(c_tree::specs::Grammar::shape))]
 fn branching(alloc: Global, reader: &mut Reader, room: usize) -> Result<Stmt, ReadError>
@@ -211,6 +216,7 @@ fn branching(alloc: Global, reader: &mut Reader, room: usize) -> Result<Stmt, Re
 }
 
 /// The rest of an `if`, with its `else` where it has one.
+#[inline(never)]
 #[cycle(statements)]
 #[tactic(auto, using(crate::proofs::Steps::less_step))]
 fn otherwise(
@@ -235,6 +241,7 @@ fn otherwise(
 }
 
 /// `while (test) body`
+#[inline(never)]
 #[cycle(statements)]
 #[tactic(auto, using(crate::proofs::Steps::less_step), unfolding(c_tree::specs::Grammar::shape))]
 fn while_loop(alloc: Global, reader: &mut Reader, room: usize) -> Result<Stmt, ReadError>
@@ -252,6 +259,7 @@ fn while_loop(alloc: Global, reader: &mut Reader, room: usize) -> Result<Stmt, R
 }
 
 /// `do body while (test);`
+#[inline(never)]
 #[cycle(statements)]
 #[tactic(auto, using(crate::proofs::Steps::less_step), unfolding(c_tree::specs::Grammar::shape))]
 fn do_loop(alloc: Global, reader: &mut Reader, room: usize) -> Result<Stmt, ReadError>
@@ -272,6 +280,7 @@ fn do_loop(alloc: Global, reader: &mut Reader, room: usize) -> Result<Stmt, Read
 }
 
 /// `for (start test; step) body`
+#[inline(never)]
 #[cycle(statements)]
 #[tactic(auto, using(crate::proofs::Steps::less_step), unfolding(c_tree::specs::Grammar::shape))]
 fn for_loop(alloc: Global, reader: &mut Reader, room: usize) -> Result<Stmt, ReadError>
@@ -310,6 +319,7 @@ fn for_rest(alloc: Global, reader: &mut Reader, room: usize) -> Result<ForRest, 
 }
 
 /// `; step) body`
+#[inline(never)]
 #[cycle(statements)]
 #[tactic(auto, using(crate::proofs::Steps::less_step), unfolding(c_tree::specs::Grammar::shape))]
 fn for_step(
@@ -341,6 +351,7 @@ fn enclosed_body(alloc: Global, reader: &mut Reader, room: usize) -> Result<Stmt
 }
 
 /// `switch (value) body`
+#[inline(never)]
 #[cycle(statements)]
 #[tactic(auto, using(crate::proofs::Steps::less_step), unfolding(c_tree::specs::Grammar::shape))]
 fn switch(alloc: Global, reader: &mut Reader, room: usize) -> Result<Stmt, ReadError>
@@ -358,6 +369,7 @@ fn switch(alloc: Global, reader: &mut Reader, room: usize) -> Result<Stmt, ReadE
 }
 
 /// `case value: body`
+#[inline(never)]
 #[cycle(statements)]
 #[tactic(auto, using(crate::proofs::Steps::less_step), unfolding(c_tree::specs::Grammar::shape))]
 fn case(alloc: Global, reader: &mut Reader, room: usize) -> Result<Stmt, ReadError>
@@ -375,6 +387,7 @@ fn case(alloc: Global, reader: &mut Reader, room: usize) -> Result<Stmt, ReadErr
 }
 
 /// `default: body`
+#[inline(never)]
 #[cycle(statements)]
 #[tactic(auto, using(crate::proofs::Steps::less_step), unfolding(c_tree::specs::Grammar::shape))]
 fn default_case(alloc: Global, reader: &mut Reader, room: usize) -> Result<Stmt, ReadError>
