@@ -6,4 +6,5 @@ pub mod Functions
 pub mod Texts
 pub mod Loops
 pub mod Scoping
+mod Branches
 mod Parsing

@@ -2,7 +2,7 @@
 //!
 //! Each function gives what the definition of its form in `specs/Statements.antt` reads; `room` is how deep the tree may be.
 
-ghost use Rattle.std.specs.Prelude.{◌≡◌, ◌<◌, zero, [], ◌∷◌, drop, IfOk};
+ghost use Rattle.std.specs.Prelude.{◌≡◌, ◌<◌, zero, [], ◌∷◌, drop, IfOk, option_map};
 ghost use Rattle.c_tree.specs.Forms as form;
 ghost use Rattle.c_tree.specs.Places.{Statement, Branch, Items as ItemsPlace};
 ghost use Rattle.c_tree.specs.Grammar.{Part, mark, shape};
@@ -16,7 +16,7 @@ ghost use Rattle.grammar_reading.specs.Reading.{fixed, parts_of, scoped, snoc};
 ghost use Rattle.grammar_reading.specs.Rooms.{less, read};
 ghost use Rattle.grammar_reading.specs.Statements as spec;
 ghost use Rattle.c_parser.specs.Ends.{Ends};
-ghost use Rattle.c_parser.specs.Pieces.{open_at};
+ghost use Rattle.c_parser.specs.Pieces.{else_part, open_at};
 
 use crate::expression::expression;
 use crate::levels::{COMMA, CONDITION};
@@ -218,7 +218,7 @@ fn branching(alloc: Global, reader: &mut Reader, room: usize) -> Result<Stmt, Re
 /// The rest of an `if`, with its `else` where it has one.
 #[inline(never)]
 #[cycle(statements)]
-#[tactic(auto, using(crate::proofs::Steps::less_step))]
+#[tactic(auto, using(crate::proofs::Branches::else_is, crate::proofs::Branches::else_fails))]
 fn otherwise(
     alloc: Global,
     reader: &mut Reader,
@@ -231,13 +231,25 @@ fn otherwise(
     requires some { 0 < room }
     ensures { Reads stmt_view result reader.new (spec.else_by (less room) room (At line ▹ expr_view test ▹ stmt_view body ▹ none) (at_key k.Else reader.old) reader.old) }
 {
+    let other = else_branch(alloc, reader, room)?;
+    let stmt = Stmt::branch(alloc, line, test, body, other)?;
+    Ok(stmt)
+}
+
+/// The statement behind `else`, where there is one.
+#[inline(never)]
+#[cycle(statements)]
+#[tactic(auto, using(crate::proofs::Steps::less_step))]
+fn else_branch(alloc: Global, reader: &mut Reader, room: usize) -> Result<Option<Stmt>, ReadError>
+    requires room { room < 401 }
+    requires some { 0 < room }
+    ensures { Reads (option_map stmt_view) result reader.new (else_part (less room) room (at_key k.Else reader.old) reader.old) }
+{
     if !reader.take_else() {
-        let stmt = Stmt::branch(alloc, line, test, body, None)?;
-        return Ok(stmt);
+        return Ok(None);
     }
     let other = branch(alloc, reader, room - 1)?;
-    let stmt = Stmt::branch(alloc, line, test, body, Some(other))?;
-    Ok(stmt)
+    Ok(Some(other))
 }
 
 /// `while (test) body`
