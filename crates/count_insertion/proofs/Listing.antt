@@ -10,12 +10,13 @@ use Rattle.core_tree.specs.declared.program.Func.{Func}
 use Rattle.core_tree.specs.declared.program.Reg.{Reg as Register}
 use Rattle.core_tree.specs.declared.statements.Stm.{Stm}
 use Rattle.core_tree.specs.declared.statements.StmKind.{StmKind}
+use Rattle.core_tree.specs.declared.statements.StmKind.TheVariants.{Call, Realloc, Free, Leave}
 use Rattle.core_tree.specs.Lives.{IsLive, is_live}
 use Rattle.core_tree.proofs.Paths.{live_by_paths}
 use Rattle.counted_meaning.specs.declared.pins.Pin.{Pin}
 use Rattle.counted_meaning.specs.Pinning.{holds_pointer, holds_on, counts_at}
 use Rattle.local_liveness.specs.Tables.{IsTableOf}
-use Rattle.count_insertion.specs.Inserted.{AreTables, pin_of, pins_below, pins_at, pins_before}
+use Rattle.count_insertion.specs.Inserted.{AreTables, may_count, pin_of, pins_below, pins_at, pins_before}
 
 pub range_more : (a n : ℕ) → range_with_len a (n + 1) ≡ range_with_len a n ++ (a + n) ∷ []
 range_more a n = let e : n + 1 ≡ suc n = omega arith in ap (range_with_len a) e ∙ last a n where
@@ -34,6 +35,22 @@ filter_map_append f test (y ∷ xs) x b e = both (test y) (filter_map_append f t
   both : (c : Bool) → map f (filter test (xs ++ x ∷ [])) ≡ map f (filter test xs) ++ cond b (f x ∷ []) [] → map f (cond c (y ∷ filter test (xs ++ x ∷ [])) (filter test (xs ++ x ∷ []))) ≡ map f (cond c (y ∷ filter test xs) (filter test xs)) ++ cond b (f x ∷ []) []
   both true h = ap (λ ks. f y ∷ ks) h
   both false h = h
+
+-- where no registers count there are no pins
+none_counts : (func : Func) (point r : ℕ) (kind : StmKind) → may_count kind ≡ false → counts_at func point kind r ≡ false
+none_counts func point r (Call f answer args) h = cc
+none_counts func point r (Realloc q p n t) h = cc
+none_counts func point r (Free p) h = cc
+none_counts func point r Leave h = cc
+none_counts func point r _ h = refl
+
+filter_none : (test : ℕ → Bool) → ((x : ℕ) → test x ≡ false) → (xs : List ℕ) → filter test xs ≡ []
+filter_none test fails [] = refl
+filter_none test fails (x ∷ xs) = ap (λ (b : Bool). cond b (x ∷ filter test xs) (filter test xs)) (fails x) ∙ filter_none test fails xs
+
+pub no_pins : (func : Func) (point n : ℕ) (kind : StmKind) (pins : List Pin) → may_count kind ≡ false → pins ≡ pins ++ pins_below func point kind n
+no_pins func point n kind pins h =
+    sym (ap (λ (rs : List ℕ). pins ++ map (pin_of point) rs) (filter_none (counts_at func point kind) (λ r. none_counts func point r kind h) (range_with_len 0 n)) ∙ append-nil pins)
 
 -- one register more
 pub below_more : (func : Func) (point : ℕ) (kind : StmKind) (n : ℕ) (b : Bool) → counts_at func point kind n ≡ b → pins_below func point kind (n + 1) ≡ pins_below func point kind n ++ cond b (pin_of point n ∷ []) []

@@ -1,9 +1,10 @@
 -- The pins of a core, in order.
-use Rattle.std.specs.Prelude.{ℕ, Bool, List, [], map, filter, length, Option, Some, None, slice_get}
+use Rattle.std.specs.Prelude.{ℕ, Bool, true, false, List, [], map, filter, length, Option, Some, None, slice_get}
 use Rattle.std.specs.List.{flat_map, range_with_len, AllZip}
 use Rattle.core_tree.specs.declared.program.Func.{Func}
 use Rattle.core_tree.specs.declared.statements.Stm.{Stm}
 use Rattle.core_tree.specs.declared.statements.StmKind.{StmKind}
+use Rattle.core_tree.specs.declared.statements.StmKind.TheVariants.{Call, Realloc, Free, Leave}
 use Rattle.counted_meaning.specs.declared.pins.Pin.{Pin}
 use Rattle.counted_meaning.specs.Pinning.{counts_at}
 use Rattle.local_liveness.specs.Tables.{IsTableOf}
@@ -15,6 +16,14 @@ AreTables tables funcs = AllZip IsTableOf tables funcs
 -- a register is pinned at a point
 abbrev pub pin_of : ℕ → ℕ → Pin
 pin_of point r = record { point = point; reg = r }
+
+-- whether registers may count at a statement
+abbrev pub may_count : StmKind → Bool
+may_count (Call f answer args) = true
+may_count (Realloc q p n t) = true
+may_count (Free p) = true
+may_count Leave = true
+may_count kind = false
 
 -- the pins of a point, of the registers below one
 abbrev pub pins_below : Func → ℕ → StmKind → ℕ → List Pin

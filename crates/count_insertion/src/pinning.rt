@@ -3,7 +3,7 @@
 ghost use Rattle.std.specs.Prelude.{◌≡◌, ◌<◌, ◌++◌, Some, IfOk, length, map, slice_get};
 ghost use Rattle.counted_meaning.specs.Pinning.{AreExact, counts_at, holds_on};
 ghost use Rattle.local_liveness.specs.Tables.{IsTableOf};
-ghost use Rattle.count_insertion.specs.Inserted.{AreTables, pins_below, func_pins};
+ghost use Rattle.count_insertion.specs.Inserted.{AreTables, may_count, pins_below, func_pins};
 
 use crate::copies::core_copy;
 use core_tree::{Core, Func, Stm, StmKind};
@@ -52,6 +52,16 @@ fn counts_at(func: &Func, table: &LiveTable, point: u32, kind: &StmKind, reg: u3
     }
 }
 
+/// Says whether registers may count at a statement.
+fn may_count(kind: &StmKind) -> bool
+    ensures { result ≡ may_count kind.now }
+{
+    matches!(
+        kind,
+        StmKind::Call(..) | StmKind::Realloc(..) | StmKind::Free(_) | StmKind::Leave
+    )
+}
+
 /// Adds the pins of a point.
 fn add_pins(
     pins: &mut Vec<Pin>,
@@ -64,6 +74,9 @@ fn add_pins(
     requires point { point < length func.now.body }
     ensures { IfOk result (λ _. pins.new.items ≡ pins.old.items ++ pins_below func.now point stm.now.kind (length func.now.regs)) }
 {
+    if !may_count(&stm.kind) {
+        return Ok(());
+    }
     for number in 0..func.regs.len() {
         let reg = fit(number)?;
         if counts_at(func, table, point, &stm.kind, reg) {

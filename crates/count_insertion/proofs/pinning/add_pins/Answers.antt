@@ -1,8 +1,8 @@
-use Rattle.std.proofs.Common.{◌≡◌, true, false, [], ◌∷◌, ◌++◌, Vec, Global, sym, ap, ◌∙◌}
+use Rattle.std.proofs.Common.{◌≡◌, true, false, [], ◌∷◌, ◌++◌, Vec, Global, length, sym, ap, ◌∙◌}
 use Rattle.counted_meaning.specs.declared.pins.Pin.{Pin}
 use Rattle.counted_meaning.specs.Pinning.{counts_at}
 use Rattle.count_insertion.specs.Inserted.{pin_of}
-use Rattle.count_insertion.proofs.Listing.{pin_more, pin_none}
+use Rattle.count_insertion.proofs.Listing.{no_pins, pin_more, pin_none}
 use Rattle.count_insertion.proofs.pinning.add_pins.Goals as goal
 use Rattle.count_insertion.proofs.pinning.add_pins.Goals.{then-counts_at+in_ok-push, else-counts_at}
 
@@ -19,3 +19,7 @@ loop-number-preserved c =
           let new : c.if-counts_at.pins.items ≡ c.loop-number.pins.items = ap (λ (v : Vec Pin Global). v.items) w.pins-is in
           pin_none c.args.func.now c.args.point c.args.stm.now.kind c.loop-number.number c.args.pins.now.items c.loop-number.pins.items c.if-counts_at.pins.items c.in_ok-reg.reg same c.loop-number.invariant test new
     ]
+
+pub returns-then-not-may_count : goal.returns-then-not-may_count
+returns-then-not-may_count c =
+    no_pins c.args.func.now c.args.point (length c.args.func.now.regs) c.args.stm.now.kind c.args.pins.now.items (sym c.may_count.ensures ∙ c.if-not-may_count.true)
