@@ -17,15 +17,22 @@ HALF = 512 * 1024
 MAIN = "int main(void){return 0;}\n"
 
 
-def functions(size):
-    """Many small functions."""
+def filled(size, piece):
+    """Pieces by their numbers, as many as fit."""
     text, number = [], 0
-    while size > 0:
-        one = f"int f{number}(int a, int b) {{ int c = a * {number}; if (c > b) return c; while (c < b) c = c + 1; return c - b; }}\n"
+    while (one := piece(number)) and len(one) <= size:
         text.append(one)
         size -= len(one)
         number += 1
     return "".join(text)
+
+
+def functions(size):
+    """Many small functions."""
+    return filled(
+        size,
+        lambda n: f"int f{n}(int a, int b) {{ int c = a * {n}; if (c > b) return c; while (c < b) c = c + 1; return c - b; }}\n",
+    )
 
 
 def list_of_values(size):
@@ -36,7 +43,7 @@ def list_of_values(size):
 def deep(size):
     """Expressions nested close to the greatest depth."""
     inner = "(" * 390 + "x" + ")" * 390
-    return "".join(f"int g{number}(int x) {{ return {inner}; }}\n" for number in range(size // 820))
+    return filled(size, lambda n: f"int g{n}(int x) {{ return {inner}; }}\n")
 
 
 def comments(size):
@@ -46,15 +53,14 @@ def comments(size):
 
 def strings(size):
     """Long strings."""
-    return "".join(f'char *s{number} = "{"a string " * 1000}";\n' for number in range(size // 9020))
+    return filled(size, lambda n: f'char *s{n} = "{"a string " * 1000}";\n')
 
 
 def layers(layer):
-    """Types of very many layers that come by names: each name has 390 more than the one before it."""
+    """Types of very many layers that come by names: each name has so many more than the one before it."""
 
     def text(size):
-        names = range(size // 405)
-        return "typedef int t0;\n" + "".join(layer(f"t{number}", f"t{number + 1}") for number in names)
+        return "typedef int t0;\n" + filled(size, lambda n: layer(f"t{n}", f"t{n + 1}"))
 
     text.__doc__ = f"Types of many layers: {layer('a', 'b')[:20]}.."
     return text
@@ -70,60 +76,54 @@ def array_layers(old, new):
 
 def named_pointers(size):
     """Chains of names of pointers to names."""
-    return "typedef int t0;\n" + "".join(f"typedef t{number} *t{number + 1};\n" for number in range(size // 24))
+    return "typedef int t0;\n" + filled(size, lambda n: f"typedef t{n} *t{n + 1};\n")
 
 
 def cases(size):
     """One switch of very many cases."""
-    inner = "".join(f"case {number}: x = {number}; break;\n" for number in range(size // 32))
-    return f"int g(int x) {{ switch (x) {{ {inner} }} return x; }}\n"
+    return f"int g(int x) {{ switch (x) {{ {filled(size, lambda n: f'case {n}: x = {n}; break;' + chr(10))} }} return x; }}\n"
 
 
 def addresses(size):
     """Addresses of locals that are declared between them."""
-    inner = "".join(f"int a{number} = 1; int *p{number} = &a{number};\n" for number in range(size // 36))
-    return f"int g(void) {{ {inner} return 0; }}\n"
+    return f"int g(void) {{ {filled(size, lambda n: f'int a{n} = 1; int *p{n} = &a{n};' + chr(10))} return 0; }}\n"
 
 
 def members(size):
     """Very many members, each used."""
-    count = size // 32
-    text = "".join(f"int m{number};\n" for number in range(count))
-    uses = "".join(f"s.m{number} = {number};\n" for number in range(count))
-    return f"struct s {{ {text} }};\nint g(void) {{ struct s s; {uses} return 0; }}\n"
+    names = filled(size * 2 // 5, lambda n: f"int m{n};\n")
+    uses = "".join(f"s.m{n} = {n};\n" for n in range(names.count(";")))
+    return f"struct s {{ {names} }};\nint g(void) {{ struct s s; {uses} return 0; }}\n"
 
 
 def linked_structs(size):
     """Chains of pointers to structs."""
-    text = "".join(f"struct s{number + 1} {{ struct s{number} *p; }};\n" for number in range(size // 36))
-    return "struct s0 { int x; };\n" + text
+    return "struct s0 { int x; };\n" + filled(size, lambda n: f"struct s{n + 1} {{ struct s{n} *p; }};\n")
 
 
 def nested_structs(size):
     """Structs in one another."""
-    text = "".join(f"struct s{number + 1} {{ struct s{number} s; }};\n" for number in range(size // 35))
-    last = size // 35
-    return f"struct s0 {{ int *p; }};\n{text}struct s{last} all;\n"
+    text = filled(size, lambda n: f"struct s{n + 1} {{ struct s{n} s; }};\n")
+    return f"struct s0 {{ int *p; }};\n{text}struct s{text.count('};')} all;\n"
 
 
 def pointer_locals(size):
     """Very many pointer locals, each freed."""
-    count = size // 52
-    text = "".join(f"int *p{number} = malloc(4);\n" for number in range(count))
-    frees = "".join(f"free(p{number});\n" for number in range(count))
+    text = filled(size * 5 // 8, lambda n: f"int *p{n} = malloc(4);\n")
+    frees = "".join(f"free(p{n});\n" for n in range(text.count(";")))
     return f"#include <stdlib.h>\nint g(void) {{ {text}{frees} return 0; }}\n"
 
 
 def choices(size):
     """Chains of choices in one another, in the last part."""
     inner = "x ? 1 : " * 390 + "2"
-    return "".join(f"int g{number}(int x) {{ return {inner}; }}\n" for number in range(size // 3150))
+    return filled(size, lambda n: f"int g{n}(int x) {{ return {inner}; }}\n")
 
 
 def choices_first(size):
     """Chains of choices in one another, in the middle part."""
     inner = "x ? " * 190 + "1" + " : 2" * 190
-    return "".join(f"int g{number}(int x) {{ return {inner}; }}\n" for number in range(size // 1550))
+    return filled(size, lambda n: f"int g{n}(int x) {{ return {inner}; }}\n")
 
 
 # what the command in hand is run on, and what `run` or another command of its own
