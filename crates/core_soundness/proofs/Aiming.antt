@@ -1,54 +1,59 @@
--- Fixed addresses are those of objects that are there, at offsets up to their ends (C99 6.6).
-use Rattle.std.proofs.Common.{◌≡◌, ◌≤◌, ◌+◌, ◌*◌, ◌/◌, ◌%◌, ◌&&◌, ◌==◌, ℕ, ℤ, pos, negsuc, neg_ℤ, ◌+ℤ◌, ◌*ℤ◌, Bool, true, false, cond, length, is_some, List, [], ◌∷◌, ◌++◌, slice_get, Option, Some, None, Ok, refl, sym, ap, ◌∙◌, subst, arith}
-use Rattle.std.specs.Prelude.{int_le, nat_le}
-use Rattle.std.specs.Ordering.{int_eq}
-use Rattle.std.specs.Option.{option_or}
+-- Fixed addresses and pointers of statics are those of objects that are there.
+use Rattle.std.proofs.Common.{◌≡◌, ◌≤◌, ◌+◌, ◌*◌, ◌/◌, ◌%◌, ◌&&◌, ◌==◌, ℕ, ℤ, pos, negsuc, neg_ℤ, ◌+ℤ◌, ◌*ℤ◌, Bool, true, false, cond, length, is_some, List, [], ◌∷◌, ◌++◌, slice_get, Option, Some, None, Ok, refl, sym, ap, ◌∙◌, subst, arith, not}
 use Rattle.std.proofs.lemmas.Bool.{and_parts, leb-true, eq-eqb}
+use Rattle.std.specs.Option.{option_or}
+use Rattle.std.specs.Ordering.{int_eq}
+use Rattle.std.specs.Prelude.{int_le, nat_le, unsigned_abs}
 use Rattle.hs_base.specs.Place.{block_size}
-use Rattle.c_types.specs.declared.layouts.Layout.{Layout}
 use Rattle.c_types.specs.Types as ct
-use Rattle.c_types.specs.Types.{PlainType, Void}
+use Rattle.c_types.specs.Types.{PlainType, Void, Array, Struct, Union}
+use Rattle.c_types.specs.declared.layouts.Layout.{Layout}
+use Rattle.c_types.specs.declared.types.IntType.{IntType}
+use Rattle.core_tree.specs.declared.program.Start.{Start}
 use Rattle.core_tree.specs.declared.statements.Atom.{Atom}
 use Rattle.core_tree.specs.declared.statements.Atom.TheVariants as atom
-use Rattle.c_tree.specs.declared.operator.UnaryOp.{UnaryOp}
-use Rattle.c_tree.specs.declared.operator.UnaryOp.TheVariants as u
-use Rattle.c_tree.specs.declared.operator.BinaryOp.{BinaryOp}
-use Rattle.c_tree.specs.declared.operator.BinaryOp.TheVariants as b
-use Rattle.c_tree.specs.Tree.{Tree, Trees, Leaf, At, Node, none, ◌▹◌}
-use Rattle.c_decls.specs.declared.refusal.TypeKind.TheVariants.{StaticTooLarge}
-use Rattle.c_decls.specs.declared.typed.Folded.{Folded}
-use Rattle.c_decls.specs.declared.typed.Folded.TheVariants.{Is}
-use Rattle.c_decls.specs.Named as n
-use Rattle.c_decls.specs.Named.{PlainNamed}
-use Rattle.c_decls.specs.ScopeList.{Table, named_in, found_from, found as declaration}
-use Rattle.c_decls.specs.Callees.{named, Callee, call}
-use Rattle.c_decls.specs.Typed.{PlainTyped, Operand, Number, PointerTo, operand, read, is_null_constant, is_record, constant}
-use Rattle.c_decls.specs.TypeRules.{unary, binary, address}
-use Rattle.c_decls.specs.PlaceRules.{element, dot, arrow, cast, choice, assigned, changed}
-use Rattle.c_decls.specs.Expressions.{line_of, string, int_constant, char_constant, joined, first_literal, typed, typename}
-use Rattle.elaboration.specs.Context.{Code, Context, Variable, With, file_variable, literal_object, asked, told, new_label}
-use Rattle.elaboration.specs.Conversions.{Found, Value, Fixed, Unknown, Nowhere, Inside, found_as, atom_in, code_line, read_spot, read_fixed, valued_from, valued, convert, forget, size_or_zero, unused}
-use Rattle.elaboration.specs.Operations.{variable_size, literal_size, static_size, moved_by, moved_times, fixed_sum_of, fixed_sum, combined, offset_of, member_address}
-use Rattle.elaboration.specs.Rules.{object_found, built_in_found, name_found, is_inner, with_static, with_literal, literal_found, indexed, dotted, target_of, pointed, before_number, apply, applied, tells_equal, is_pointer_ahead, ahead, left_operand, between, cast_to, constant_found, and_then, and_ended, or_else, or_ended, choose, type_ahead, choose_first, chosen}
-use Rattle.elaboration.specs.Expressions.{name_answer, literal_answer, address_answer, unevaluated, changing, comma_answer, callee, callee_name, parameters, call_answer, found, arguments, cast_operand}
-use Rattle.core_soundness.proofs.Names.{more_refl}
-use Rattle.core_soundness.proofs.Growth.{Longer, Counted, Grows, grows_refl, grows_trans, grows_told}
-use Rattle.core_soundness.proofs.Grown.{ok_same, never}
-use Rattle.core_soundness.proofs.Agreeing.{came}
-use Rattle.core_soundness.proofs.Owners.{get_last}
-use Rattle.core_soundness.proofs.Operating.{passed}
-use Rattle.core_soundness.proofs.Working.{grows_read, grows_convert, grows_combined, grows_member, grows_left, found_grows, grown_unused}
-use Rattle.core_soundness.proofs.Settled.{Settled, grows_settled}
-use Rattle.core_soundness.proofs.Unused.{valued_unused, cast_unused}
+use Rattle.core_tree.specs.declared.statements.StmKind.TheVariants.{Enter}
+use Rattle.c_tree.specs.Forms as f
+use Rattle.c_tree.specs.Tree.{Tree, Trees, Leaf, At, Node, none, ◌▹◌, count}
+use Rattle.c_tree.specs.Words as w
 use Rattle.c_tree.specs.declared.operator.AssignOp.{AssignOp}
 use Rattle.c_tree.specs.declared.operator.AssignOp.TheVariants as a
-use Rattle.c_tree.specs.Words as w
-use Rattle.c_tree.specs.Forms as f
-use Rattle.c_decls.specs.Refusals.{Checked}
+use Rattle.c_tree.specs.declared.operator.BinaryOp.{BinaryOp}
+use Rattle.c_tree.specs.declared.operator.BinaryOp.TheVariants as b
+use Rattle.c_tree.specs.declared.operator.UnaryOp.{UnaryOp}
+use Rattle.c_tree.specs.declared.operator.UnaryOp.TheVariants as u
+use Rattle.c_decls.specs.Callees.{named, Callee, call}
+use Rattle.c_decls.specs.Expressions.{line_of, string, int_constant, char_constant, joined, first_literal, typed, typename}
+use Rattle.c_decls.specs.Named as n
+use Rattle.c_decls.specs.Named.{PlainNamed}
+use Rattle.c_decls.specs.PlaceRules.{element, dot, arrow, cast, choice, assigned, changed, unconverted}
+use Rattle.c_decls.specs.Refusals.{Checked, refused, then}
+use Rattle.c_decls.specs.ScopeList.{Table, named_in, found_from, found as declaration}
 use Rattle.c_decls.specs.TypeNames as names
-use Rattle.elaboration.specs.Calls.{Argument, types_of}
+use Rattle.c_decls.specs.TypeRules.{unary, binary, address}
+use Rattle.c_decls.specs.Typed.{PlainTyped, Operand, Number, PointerTo, operand, read, is_null_constant, is_record, constant}
+use Rattle.c_decls.specs.declared.refusal.TypeKind.TheVariants.{StaticTooLarge, Assignment}
+use Rattle.c_decls.specs.declared.typed.Folded.{Folded}
+use Rattle.c_decls.specs.declared.typed.Folded.TheVariants.{Is}
 use Rattle.elaboration.specs.Assignments.{record_assigned, scalar_assigned, old_value, changed_answer, changed_by, one_found, stepped}
-use Rattle.core_soundness.proofs.TypedNames.{typename_after}
+use Rattle.elaboration.specs.Calls.{Argument, types_of}
+use Rattle.elaboration.specs.Context.{Code, Context, Variable, With, file_variable, literal_object, asked, told, new_label, emit, anew}
+use Rattle.elaboration.specs.Conversions.{Found, Value, Fixed, Unknown, Nowhere, Inside, found_as, atom_in, code_line, read_spot, read_fixed, valued_from, valued, convert, forget, size_or_zero, unused}
+use Rattle.elaboration.specs.Expressions.{name_answer, literal_answer, address_answer, unevaluated, changing, comma_answer, callee, callee_name, parameters, call_answer, found, arguments, cast_operand}
+use Rattle.elaboration.specs.Initializers.{Target, InRegister, InMemory, InStatic, static_integer, static_address, static_pointer, static_scalar, fill_scalar, scalar, fill_record, is_same_place, whole, fill_text, is_character, text, by_text, by_expression, parts_of, takes_braces, is_scalar_type, all_surplus, initialize, initialize_parts, not_whole}
+use Rattle.elaboration.specs.Operations.{variable_size, literal_size, static_size, moved_by, moved_times, fixed_sum_of, fixed_sum, combined, offset_of, member_address}
+use Rattle.elaboration.specs.Reallocates.{reallocates, opened}
+use Rattle.elaboration.specs.Rules.{object_found, built_in_found, name_found, is_inner, with_static, with_literal, literal_found, indexed, dotted, target_of, pointed, before_number, apply, applied, tells_equal, is_pointer_ahead, ahead, left_operand, between, cast_to, constant_found, and_then, and_ended, or_else, or_ended, choose, type_ahead, choose_first, chosen}
+use Rattle.core_soundness.proofs.Agreeing.{came}
+use Rattle.core_soundness.proofs.Growth.{Longer, Counted, Grows, grows_refl, grows_trans, grows_told, ok_same, never, Settled, grows_settled, valued_unused, cast_unused, Led, led_ok, led_refused, led_after, led_unless, led_barred, settled_refl, settled_trans, behind_string}
+use Rattle.core_soundness.proofs.Scopes.{more_refl, get_last}
+use Rattle.core_soundness.proofs.Sorting.{passed}
+use Rattle.core_soundness.proofs.TagSorts.{typename_after}
+use Rattle.core_soundness.proofs.TypedWhole.{led_cond}
+use Rattle.core_soundness.proofs.Walks.{grows_read, grows_convert, grows_combined, grows_member, grows_left, found_grows, grown_unused}
+use Rattle.core_soundness.proofs.Choices.{either_way}
+
+-- fixed addresses are those of objects that are there, at offsets up to their ends (C99 6.6)
 
 -- an offset in a static that is there, up to its end
 pub data Aims (vs : List Variable) (ls : List (List ℕ)) (g n : ℕ) : Type 0 where
@@ -141,11 +146,7 @@ moved_to c g i (negsuc m) h = tt
 
 pub moved_in : (c : Context) (distance : ℤ) (fixed : Fixed) → FixedAt c fixed → FixedAt c (moved_by c distance fixed)
 moved_in c distance Unknown h = tt
-moved_in c distance Nowhere h = by (int_eq distance (pos 0))
-  where
-    by : (t : Bool) → FixedAt c (cond t Nowhere Unknown)
-    by true = tt
-    by false = tt
+moved_in c distance Nowhere h = either_way (FixedAt c) (int_eq distance (pos 0)) tt tt
 moved_in c distance (Inside g at) h = moved_to c g h.0 (at +ℤ distance) h.2
 
 times_in : (c : Context) (down : Bool) (size : ℕ) (folded : Folded) (fixed : Fixed) → FixedAt c fixed → FixedAt c (moved_times c down size folded fixed)
@@ -298,11 +299,7 @@ applied_aimed line op tree c e z h q =
     let t = came (unary line op c.tags e.typed) q in subst Aimed (ok_same _ z t.last) (apply_aimed line op tree t.value c e h)
 
 pub left_aimed : (op : BinaryOp) (before : Code) (right : Tree) (d : Context × Found) → Aimed d → Aimed (left_operand op before right d)
-left_aimed op before right d h = by (tells_equal op && is_null_constant d.1.typed && is_pointer_ahead (ahead right d.0))
-  where
-    by : (t : Bool) → Aimed (cond t (forget before d.0, found_as d.1.typed (Value atom.Null) Nowhere) d)
-    by true = tt
-    by false = h
+left_aimed op before right d h = either_way Aimed (tells_equal op && is_null_constant d.1.typed && is_pointer_ahead (ahead right d.0)) tt h
 
 pub between_aimed : (line : ℕ) (op : BinaryOp) (base c : Context) (x y : Found) (z : Context × Found) → Settled c (combined line op base.code x y c).0 → FixedAt c x.fixed → FixedAt c y.fixed → between line op base.code c x y ≡ Ok z → Aimed z
 between_aimed line op base c x y z s h k q =
@@ -318,9 +315,6 @@ cast_aimed line type before c e z s h q =
 -- the walk over expressions keeps fixed addresses inside their objects (C99 6.6)
 
 -- what an expression grows by, and its value
-found_grew : (e : Tree) (wish : PlainType) (c : Context) (z : Context × Found) → found e wish c ≡ Ok z → Grows c z.0
-found_grew e wish c z q = found_grows e wish c c (grows_refl c) z q
-
 pub unused_grew : (e : Tree) (wish : PlainType) (c : Context) (z : Context × Found) → unused e (found e wish c) ≡ Ok z → Grows c z.0
 unused_grew e wish c z q = grown_unused e c (found e wish c) (found_grows e wish c c (grows_refl c)) z q
 
@@ -455,3 +449,121 @@ found_aimed tree wish c z h q = never (Aimed z) _ z q
 
 pub value_aimed : (e : Tree) (wish : PlainType) (c : Context) (z : Context × Found) → There c → valued e (found e wish c) ≡ Ok z → Aimed z
 value_aimed e wish c z h q = valued_aimed e (found e wish c) z (λ x k. found_aimed e wish c x h k) q
+
+-- the pointers that statics hold first are those of objects that are there (C99 6.7.8)
+
+-- each pointer is one to a static that is there
+abbrev pub PointersIn : List Variable → List (List ℕ) → List (ℕ × ℕ × ℕ) → Type 0
+PointersIn vs ls [] = Unit {0}
+PointersIn vs ls (p ∷ ps) = Aims vs ls p.1 p.2 × PointersIn vs ls ps
+
+pub pointers_stay : (vs ws : List Variable) (ls ms : List (List ℕ)) (ps : List (ℕ × ℕ × ℕ)) → VariablesStay vs ws → Longer ls ms → PointersIn vs ls ps → PointersIn ws ms ps
+pointers_stay vs ws ls ms [] x y h = tt
+pointers_stay vs ws ls ms (p ∷ ps) x y h = (aims_stay vs ws ls ms p.1 p.2 x y h.0, pointers_stay vs ws ls ms ps x y h.1)
+
+pointers_push : (vs : List Variable) (ls : List (List ℕ)) (ps : List (ℕ × ℕ × ℕ)) (p : ℕ × ℕ × ℕ) → PointersIn vs ls ps → Aims vs ls p.1 p.2 → PointersIn vs ls (ps ++ p ∷ [])
+pointers_push vs ls [] p h k = (k, tt)
+pointers_push vs ls (x ∷ ps) p h k = (h.0, pointers_push vs ls ps p h.1 k)
+
+abbrev pub StartIn : Context → Start → Type 0
+StartIn c start = PointersIn c.variables c.literals start.pointers
+
+pub start_on : (c d : Context) (start : Start) → Settled c d → StartIn c start → StartIn d start
+start_on c d start s h = pointers_stay c.variables d.variables c.literals d.literals start.pointers (same_variables c.variables d.variables s.variables) s.literals h
+
+-- what is initialized is a static, whose pointers are such
+abbrev pub TargetIn : Context → Target → Type 0
+TargetIn c (InRegister line register) = ⊥
+TargetIn c (InMemory line mem) = ⊥
+TargetIn c (InStatic start) = StartIn c start
+
+-- behind an initializer
+abbrev pub Points : Context → Context × Target → Type 0
+Points c z = Settled c z.0 × TargetIn z.0 z.1
+
+-- scalars
+
+address_points : (line offset : ℕ) (start : Start) (c : Context) (fixed : Fixed) → StartIn c start → FixedAt c fixed → Led (StartIn c) (static_address line offset start fixed)
+address_points line offset start c Unknown h k = led_refused (StartIn c)
+address_points line offset start c Nowhere h k = led_ok (StartIn c) h
+address_points line offset start c (Inside g at) h k =
+    led_ok (StartIn c)
+    (pointers_push c.variables c.literals start.pointers (offset, g, unsigned_abs at) h (subst (λ (x : ℤ). Aims c.variables c.literals g (unsigned_abs x)) (sym k.1) k.2))
+
+pointer_points : (line offset : ℕ) (start : Start) (c : Context) (e : Found) → StartIn c start → FixedAt c e.fixed → Led (StartIn c) (static_pointer line offset start e)
+pointer_points line offset start c e h k = led_cond (StartIn c) (is_null_constant e.typed) (Ok start) (static_address line offset start e.fixed) (led_ok (StartIn c) h) (address_points line offset start c e.fixed h k)
+
+integer_points : (line : ℕ) (ty : IntType) (offset : ℕ) (start : Start) (c : Context) (folded : Folded) → StartIn c start → Led (StartIn c) (static_integer line ty offset start folded)
+integer_points line ty offset start c (Is v) h = led_ok (StartIn c) h
+integer_points line ty offset start c other h = led_refused (StartIn c)
+
+static_points : (line : ℕ) (type : PlainType) (offset : ℕ) (start : Start) (c : Context) (e : Found) → StartIn c start → FixedAt c e.fixed → Led (StartIn c) (static_scalar line type offset start e)
+static_points line (ct.Int ty) offset start c e h k = integer_points line ty offset start c e.typed.folded h
+static_points line type offset start c e h k = pointer_points line offset start c e h k
+
+pub opened_settled : (e : Tree) (c : Context) → Settled c (opened e c)
+opened_settled e c =
+    either_way (Settled c) (reallocates c.scopes e)
+    (record { variables = refl; literals = λ i w q. q; objects = λ name type i q. q })
+    (record { variables = refl; literals = λ i w q. q; objects = λ name type i q. q })
+
+fill_points : (e : Tree) (line : ℕ) (type : PlainType) (offset : ℕ) (before : Code) (target : Target) (c : Context) (d : Context × Found) → Settled c d.0 → Aimed d → TargetIn c target → Led (Points c) (fill_scalar e line type offset before d target)
+fill_points e line type offset before (InStatic start) c d s k h =
+    led_after (Points c) (static_scalar line type offset start d.1)
+    (λ filled q. led_ok (Points c) (s, static_points line type offset start d.0 d.1 (start_on c d.0 start s h) k filled q))
+fill_points e line type offset before other c d s k h = absurd h
+
+scalar_points : (e : Tree) (line : ℕ) (type : PlainType) (offset : ℕ) (target : Target) (c : Context) → There c → TargetIn c target → Led (Points c) (scalar e line type offset target c)
+scalar_points e line type offset target c n h =
+    let begun = opened e c in
+    let o = opened_settled e c in
+    led_after (Points c) (valued e (found e type begun))
+    (λ d q. led_barred (Points c) (unconverted type d.1.typed) line
+    (fill_points e line type offset begun.code target c d (settled_trans c begun d.0 o (grows_settled begun d.0 (value_grew e type begun d q))) (value_aimed e type begun d (there_on c begun o n) q) h))
+
+record_points : (e : Tree) (line : ℕ) (type : PlainType) (offset : ℕ) (c : Context) (d : Context × Found) (target : Target) → TargetIn c target → Led (Points c) (fill_record e line type offset d target)
+record_points e line type offset c d (InMemory at mem) h = absurd h
+record_points e line type offset c d other h = led_refused (Points c)
+
+whole_points : (e : Tree) (line : ℕ) (type : PlainType) (offset : ℕ) (target : Target) (c : Context) → TargetIn c target → Led (Points c) (whole e line type offset target c)
+whole_points e line type offset target c h =
+    led_after (Points c) (found e type (opened e c))
+    (λ d q. led_unless (Points c) (not (is_same_place type d.1.typed)) (not_whole d.1.typed) line (λ x. record_points e line type offset c d target h))
+
+text_points : (e : Tree) (line : ℕ) (bytes : List ℕ) (size offset : ℕ) (target : Target) (c : Context) → TargetIn c target → Led (Points c) (fill_text e line bytes size offset target c)
+text_points e line bytes size offset (InMemory at mem) c h = absurd h
+text_points e line bytes size offset (InStatic start) c h = led_ok (Points c) (settled_refl c, h)
+text_points e line bytes size offset (InRegister at register) c h = led_refused (Points c)
+
+by_text_points : (e : Tree) (line : ℕ) (element : PlainType) (size offset : ℕ) (o : Option (List ℕ)) (target : Target) (c : Context) → TargetIn c target → Led (Points c) (by_text e line element size offset o target c)
+by_text_points e line element size offset None target c h = whole_points e line (Array element size) offset target c h
+by_text_points e line element size offset (Some bytes) target c h =
+    led_cond (Points c) (is_character element) (then (string line bytes) (λ literal. fill_text e line bytes size offset target c)) (whole e line (Array element size) offset target c)
+    (λ z q. text_points e line bytes size offset target c h z (behind_string line bytes (fill_text e line bytes size offset target c) z q)) (whole_points e line (Array element size) offset target c h)
+
+by_expression_points : (e : Tree) (line : ℕ) (type : PlainType) (offset : ℕ) (target : Target) (c : Context) → There c → TargetIn c target → Led (Points c) (by_expression e line type offset target c)
+by_expression_points e line (Array element size) offset target c n h = by_text_points e line element size offset (text e) target c h
+by_expression_points e line (Struct tag) offset target c n h = whole_points e line (Struct tag) offset target c h
+by_expression_points e line (Union tag) offset target c n h = whole_points e line (Union tag) offset target c h
+by_expression_points e line type offset target c n h = scalar_points e line type offset target c n h
+
+mutual
+  unfolding initialize initialize_parts
+
+  pub initialize_points : (tree : Tree) (in_scalar : Bool) (type : PlainType) (offset : ℕ) (target : Target) (c : Context) → There c → TargetIn c target → Led (Points c) (initialize tree in_scalar type offset target c)
+  initialize_points (Node f.InitExpr (At line ▹ e ▹ none)) in_scalar type offset target c n h = by_expression_points e (line_of e) type offset target c n h
+  initialize_points (Node (f.InitList trailing) (At line ▹ Node f.Inits inits ▹ none)) in_scalar type offset target c n h =
+      led_cond (Points c) (takes_braces type in_scalar) (initialize_parts line inits (is_scalar_type type) (parts_of c (count inits) type offset) target c) (then (all_surplus inits c) (λ d. refused Assignment line))
+      (parts_point inits line (is_scalar_type type) (parts_of c (count inits) type offset) target c n h)
+      (led_after (Points c) (all_surplus inits c) (λ d q. led_refused (Points c)))
+  initialize_points tree in_scalar type offset target c n h = led_refused (Points c)
+
+  parts_point : (inits : Trees) (line : ℕ) (in_scalar : Bool) (parts : List (PlainType × ℕ)) (target : Target) (c : Context) → There c → TargetIn c target → Led (Points c) (initialize_parts line inits in_scalar parts target c)
+  parts_point none line in_scalar parts target c n h = led_ok (Points c) (settled_refl c, h)
+  parts_point (init ▹ rest) line in_scalar [] target c n h = led_after (Points c) (all_surplus (init ▹ rest) c) (λ d q. led_refused (Points c))
+  parts_point (init ▹ rest) line in_scalar (part ∷ parts) target c n h =
+      led_after (Points c) (initialize init in_scalar part.0 part.1 target c)
+      (λ d q z s.
+      let one = initialize_points init in_scalar part.0 part.1 target c n h d q in
+      let last = parts_point rest line in_scalar parts d.1 d.0 (there_on c d.0 one.0 n) one.1 z s in
+      (settled_trans c d.0 z.0 one.0 last.0, last.1))

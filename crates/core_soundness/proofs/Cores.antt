@@ -1,38 +1,37 @@
 -- What the walk over a text says of its core.
 use Rattle.std.proofs.Common.{◌≡◌, ◌≤◌, ◌<◌, ◌+◌, ℕ, zero, suc, List, [], ◌∷◌, ◌++◌, length, map, sum_by, Some, None, slice_get, Ok, Err, All, refl, sym, ap, ◌∙◌, subst, arith, mul-one, Bool, true, false, ◌&&◌, cond, is_some, bytes_eq, codes, count_by, Option, unwrap_or}
-use Rattle.std.proofs.lemmas.List.Sums.{sum_by-append, sum_by-cons}
 use Rattle.std.proofs.lemmas.List.{length-map}
+use Rattle.std.proofs.lemmas.List.Sums.{sum_by-append, sum_by-cons}
+use Rattle.std.proofs.lemmas.Slice.Eq.{bytes_eq-Decides}
+use Rattle.std.proofs.lemmas.Bool.{and_parts}
 use Rattle.hs_base.specs.Place.{block_size}
 use Rattle.c_types.specs.TagTable.{TagTable}
+use Rattle.c_types.specs.Types.{PlainType, Int, Function, none}
+use Rattle.c_types.specs.declared.types.IntType.TheVariants as i
+use Rattle.core_tree.specs.Sound.{EachFunc, EachStatement, LeadsOn, HasScopes, code_size, is_main}
+use Rattle.core_tree.specs.Statements.{operands, edges}
 use Rattle.core_tree.specs.declared.program.Core.{Core}
 use Rattle.core_tree.specs.declared.program.Func.{Func}
 use Rattle.core_tree.specs.declared.program.Static.{Static}
 use Rattle.core_tree.specs.declared.statements.Stm.{Stm}
 use Rattle.core_tree.specs.declared.statements.StmKind.{StmKind}
 use Rattle.core_tree.specs.declared.statements.StmKind.TheVariants.{Call, Lib, Printf, Return}
-use Rattle.core_tree.specs.Statements.{operands, edges}
-use Rattle.core_tree.specs.Sound.{EachFunc, EachStatement, LeadsOn, HasScopes, code_size, is_main}
 use Rattle.c_tree.specs.Tree.{Trees}
-use Rattle.c_decls.specs.Refusals.{Checked, then}
-use Rattle.elaboration.specs.Context.{Piece, Does, Here, Context, Walked, Declared}
-use Rattle.elaboration.specs.Externals.{piece_length, is_defined}
-use Rattle.elaboration.specs.Resolving.{Numbers, numbered, atom_by, point_in, body_of, numbers_of, function_of, variable_static, literal_static, core_of, definition_of, function_by}
-use Rattle.elaboration.specs.Elaboration.{walked, elaborated}
-use Rattle.core_soundness.specs.Laws.{HasFlow, HasSizes, CallsInside}
-use Rattle.core_soundness.proofs.Flow.{steps}
-use Rattle.core_soundness.proofs.Fragments.{stm_at}
-use Rattle.core_soundness.proofs.Growth.{variable_bytes, literal_bytes}
-use Rattle.core_soundness.proofs.Bodies.{body_length, inside, ahead, scopes}
-use Rattle.core_soundness.proofs.Grown.{ok_same, never}
-use Rattle.core_soundness.proofs.Texts.{Complete, AreComplete, walked_length, Sane, walked_sane, Finished, walked_finished}
-use Rattle.std.proofs.lemmas.Slice.Eq.{bytes_eq-Decides}
-use Rattle.c_types.specs.declared.types.IntType.TheVariants as i
-use Rattle.c_types.specs.Types.{PlainType, Int, Function, none}
 use Rattle.c_decls.specs.Named as n
 use Rattle.c_decls.specs.Named.{PlainNamed}
+use Rattle.c_decls.specs.Refusals.{Checked, then}
 use Rattle.c_decls.specs.ScopeList.{named_in}
 use Rattle.c_decls.specs.Typed.{same}
+use Rattle.elaboration.specs.Context.{Piece, Does, Here, Context, Walked, Declared}
+use Rattle.elaboration.specs.Elaboration.{walked, elaborated}
 use Rattle.elaboration.specs.Externals as externals
+use Rattle.elaboration.specs.Externals.{piece_length, is_defined}
+use Rattle.elaboration.specs.Resolving.{Numbers, numbered, atom_by, point_in, body_of, numbers_of, function_of, variable_static, literal_static, core_of, definition_of, function_by}
+use Rattle.core_soundness.specs.Laws.{HasFlow, HasSizes, CallsInside}
+use Rattle.core_soundness.proofs.Flows.{steps, stm_at, body_length, inside, ahead, scopes}
+use Rattle.core_soundness.proofs.Growth.{variable_bytes, literal_bytes, ok_same, never}
+use Rattle.core_soundness.proofs.Statements.{Complete, AreComplete, walked_length, Sane, walked_sane, Finished, walked_finished}
+use Rattle.core_soundness.proofs.Choices.{some_same, get_some, some_number}
 
 -- the walk behind a core
 pub record Behind (unit : Trees) (core : Core) : Type 0 where
@@ -205,14 +204,6 @@ count_map p g [] = refl
 count_map p g (x ∷ xs) =
     sum_by-cons (λ y. cond (p y) 1 0) (g x) (map g xs) ∙ ap (λ k. cond (p (g x)) 1 0 + k) (count_map p g xs) ∙ sym (sum_by-cons (λ y. cond (p (g y)) 1 0) x xs)
 
-get_some : {X : Type 0} (xs : List X) (k : ℕ) → k < length xs → (x : X) × (slice_get xs k ≡ Some x)
-get_some [] k h = absurd (omega arith)
-get_some (x ∷ xs) zero h = (x, refl)
-get_some (x ∷ xs) (suc k) h = get_some xs k (omega arith)
-
-same_value : {X : Type 0} (x y : X) → Some x ≡ Some y → x ≡ y
-same_value x y e = cc
-
 -- what the last test of a text says
 
 record IsMain (fs : List Declared) (o : Option PlainNamed) : Type 0 where
@@ -221,18 +212,10 @@ record IsMain (fs : List Declared) (o : Option PlainNamed) : Type 0 where
   is : o ≡ Some (n.Function type index)
   defined : is_defined (slice_get fs index) ≡ true
 
-and_second : (a b : Bool) → (a && b) ≡ true → b ≡ true
-and_second true b e = e
-and_second false b e = cc
-
 main_is : (fs : List Declared) (o : Option PlainNamed) → externals.is_main fs o ≡ true → IsMain fs o
 main_is fs (Some (n.Function type index)) e =
-    record { type = type; index = index; is = refl; defined = and_second (same type (Function (Int i.Int) none)) (is_defined (slice_get fs index)) e }
+    record { type = type; index = index; is = refl; defined = (and_parts (same type (Function (Int i.Int) none)) (is_defined (slice_get fs index)) e).1 }
 main_is fs other e = cc
-
-some_number : (o : Option ℕ) → is_some o ≡ true → (k : ℕ) × (o ≡ Some k)
-some_number None e = cc
-some_number (Some k) e = (k, refl)
 
 same_number : (name : List ℕ) (t v : PlainType) (i j : ℕ) (o : Option PlainNamed) → o ≡ Some (n.Function t i) → o ≡ Some (n.Function v j) → i ≡ j
 same_number name t v i j o x y = let both : Some (n.Function t i) ≡ Some (n.Function v j) = sym x ∙ y in cc
@@ -255,7 +238,7 @@ walked_main c f =
     let w = get_some c.walked k.0 (s.strict m.index k.0 d.0 d.1 k.1) in
     let o = s.named.owned k.0 w.0 w.1 in
     let at : o.index ≡ m.index = s.named.single o.index m.index k.0 o.declared d.0 o.there d.1 o.defined k.1 in
-    let one : o.declared ≡ d.0 = same_value o.declared d.0 (sym o.there ∙ ap (λ j. slice_get c.functions j) at ∙ d.1) in
+    let one : o.declared ≡ d.0 = some_same o.declared d.0 (sym o.there ∙ ap (λ j. slice_get c.functions j) at ∙ d.1) in
     let name : (w.0).name ≡ codes "main" = sym o.name ∙ ap (λ (x : Declared). x.name) one ∙ d.2 in
     counted_one (λ (x : Walked). bytes_eq x.name (codes "main")) c.walked k.0 w.0 w.1 ((bytes_eq-Decides (w.0).name (codes "main")).1 name)
     (λ j v e q.
@@ -263,8 +246,8 @@ walked_main c f =
     let called : p.declared.name ≡ codes "main" = p.name ∙ (bytes_eq-Decides v.name (codes "main")).0 q in
     let named_so = s.named.declared p.index p.declared p.there in
     let same_index : p.index ≡ m.index = same_number (codes "main") named_so.0 m.type p.index m.index (named_in (codes "main") c.scopes.file) (ap (λ x. named_in x c.scopes.file) (sym called) ∙ named_so.1) m.is in
-    let same_one : p.declared ≡ d.0 = same_value p.declared d.0 (sym p.there ∙ ap (λ x. slice_get c.functions x) same_index ∙ d.1) in
-    same_value j k.0 (sym p.defined ∙ ap (λ (x : Declared). x.defined) same_one ∙ k.1))
+    let same_one : p.declared ≡ d.0 = some_same p.declared d.0 (sym p.there ∙ ap (λ x. slice_get c.functions x) same_index ∙ d.1) in
+    some_same j k.0 (sym p.defined ∙ ap (λ (x : Declared). x.defined) same_one ∙ k.1))
 
 pub core_main : (unit : Trees) (core : Core) (tags : TagTable) → elaborated unit ≡ Ok (core, tags) → count_by is_main core.funcs ≡ 1
 core_main unit core tags e =

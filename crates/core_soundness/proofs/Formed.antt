@@ -1,10 +1,31 @@
--- The shapes of trees that the walk over addresses stands on: what elaboration does not look at has no nodes, and nothing
--- stands where a declarator or a suffix is looked for but one of these.
-use Rattle.std.proofs.Common.{◌≡◌, Bool, true, false, IsSome}
-use Rattle.c_tree.specs.Forms.{Form}
+-- What the grammar says of trees.
+use Rattle.std.proofs.Common.{◌≡◌, Bool, true, false, IsSome, ◌⊎◌, replicate, ◌≤◌, ℕ, zero, suc, List, [], ◌∷◌, ◌++◌, All, Option, Some, None, refl, sym, ap, ◌∙◌, subst, inl, inr, arith, ◌+◌, ◌==◌, ◌||◌, ◌&&◌, nat_le, not, if◌then◌else◌}
+use Rattle.std.proofs.lemmas.Bool.{eqb-true, and_parts}
+use Rattle.std.proofs.lemmas.List.Elements.{All-tail}
+use Rattle.c_lexer.proofs.Constants.{constant_read}
+use Rattle.c_lexer.specs.Pieces.{IsToken}
+use Rattle.c_lexer.specs.Tokens.{IsLexed}
+use Rattle.c_lexer.specs.declared.token.Token.{Token}
+use Rattle.c_lexer.specs.declared.token.TokenKind.{TokenKind}
+use Rattle.c_lexer.specs.declared.token.TokenKind.TheVariants as kind
+use Rattle.c_tree.specs.Allowed.{Takes, IsBase, IsDeclarator, Allowed, AllAllowed, IsExternal, AreExternals, Tally, with_keyword, with_word, tally, is_integer_type, is_one_type, are_specs, obeys, is_none}
 use Rattle.c_tree.specs.Forms as f
-use Rattle.c_tree.specs.Tree.{Tree, Trees, Leaf, At, Node, none, ◌▹◌}
-use Rattle.c_tree.specs.Scopes.{name_of, has_typedef, params_of}
+use Rattle.c_tree.specs.Forms.{Form}
+use Rattle.c_tree.specs.Grammar.{Item, Says, Here, Part, key, shape, form_home, keyword_home, home, rows, some, commas, behind_commas, some_commas, expr, cond_level}
+use Rattle.c_tree.specs.HasTree.{HasTree}
+use Rattle.c_tree.specs.Places as p
+use Rattle.c_tree.specs.Places.{Place, Expression}
+use Rattle.c_tree.specs.Scopes.{name_of, has_typedef, params_of, Scope, leads_to_name, places, params_among, suffix_params, first_list, first_scope, is_scope, after, left}
+use Rattle.c_tree.specs.Spelling.{Piece, Said, Line, filled, spell, spell_all, IsWord, Spells}
+use Rattle.c_tree.specs.Tree.{Tree, Trees, Leaf, At, Node, none, ◌▹◌, count}
+use Rattle.c_tree.specs.Words as w
+use Rattle.c_tree.specs.Words.{Word}
+use Rattle.c_tree.specs.declared.word.Keyword.{Keyword}
+use Rattle.c_tree.specs.declared.word.Keyword.TheVariants as k
+use Rattle.core_soundness.specs.Spoken.{HasLists, HasParameters, IsDefinition}
+use Rattle.core_soundness.specs.Written.{IsHeld, HasParts, Written, AllWritten, AreWritten}
+
+-- the shapes of trees that the walk over addresses stands on: what elaboration does not look at has no nodes, and nothing stands where a declarator or a suffix is looked for but one of these
 
 -- parts that are no nodes, of which one is a node, and of which there is at most one
 abbrev pub NoNodes : Trees → Type 0
@@ -96,3 +117,558 @@ HasParams tree = Unit {0}
 abbrev pub AreFormed : Trees → Type 0
 AreFormed none = Unit {0}
 AreFormed (tree ▹ rest) = (Formed tree × HasParams tree) × AreFormed rest
+
+-- the trees of tokens are written as the grammar says
+
+-- a word of a spelling, and a line of it
+abbrev Fits : Piece → Type 0
+Fits (Said word) = IsHeld word
+Fits (Line line) = 1 ≤ line
+
+abbrev AllFit : List Piece → Type 0
+AllFit [] = Unit {0}
+AllFit (piece ∷ pieces) = Fits piece × AllFit pieces
+
+abbrev EachFit : List (List Piece) → Type 0
+EachFit [] = Unit {0}
+EachFit (pieces ∷ rest) = AllFit pieces × EachFit rest
+
+word_held : (word : Word) (token : Token) → IsLexed token → IsWord word token → IsHeld word
+word_held (w.Int bytes) token l h =
+    let t : IsToken kind.Int bytes = subst (λ (k : TokenKind). IsToken k bytes) h.0 (subst (λ (x : List ℕ). IsToken token.kind x) h.1 l.0) in
+    (constant_read bytes t).fits
+word_held word token l h = tt
+
+spelled_fit : (pieces : List Piece) (tokens rest : List Token) → All IsLexed tokens → Spells pieces tokens rest → AllFit pieces
+unfolding Spells
+spelled_fit [] tokens rest l h = tt
+spelled_fit (Said word ∷ pieces) (token ∷ tokens) rest l h =
+    (word_held word token (l 0 token (omega arith)) h.0, spelled_fit pieces tokens rest (All-tail IsLexed token tokens l) h.1)
+spelled_fit (Line line ∷ pieces) (token ∷ tokens) rest l h =
+    (subst (λ (k : ℕ). 1 ≤ k) h.0 (l 0 token (omega arith)).1, spelled_fit pieces (token ∷ tokens) rest l h.1)
+spelled_fit (Said word ∷ pieces) [] rest l h = absurd h
+spelled_fit (Line line ∷ pieces) [] rest l h = absurd h
+
+parts_fit : (one other : List Piece) → AllFit (one ++ other) → AllFit one × AllFit other
+parts_fit [] other h = (tt, h)
+parts_fit (piece ∷ one) other h = let r = parts_fit one other h.1 in ((h.0, r.0), r.1)
+
+-- all parts are spelled where there is a place for each
+filled_fit : (items : List Item) (parts : Trees) (scope : Scope) → AllAllowed parts (places items) scope → AllFit (filled items (spell_all parts)) → EachFit (spell_all parts)
+unfolding AllAllowed spell_all
+filled_fit [] none scope a h = tt
+filled_fit [] (tree ▹ rest) scope a h = absurd a
+filled_fit (Says word ∷ items) parts scope a h = filled_fit items parts scope a h.1
+filled_fit (Here ∷ items) (tree ▹ rest) scope a h =
+    let r = parts_fit (spell tree) (filled items (spell_all rest)) h in (r.0, filled_fit items rest _ a.2 r.1)
+filled_fit (Part place ∷ items) (tree ▹ rest) scope a h =
+    let r = parts_fit (spell tree) (filled items (spell_all rest)) h in (r.0, filled_fit items rest _ a.2 r.1)
+filled_fit other none scope a h = absurd a
+
+has_parts : (form : Form) (parts : Trees) (scope : Scope) → AllAllowed parts (places (shape form (count parts))) scope → HasParts form parts
+unfolding shape AllAllowed HasParts Takes
+has_parts f.Members none scope a = a
+has_parts f.Members (tree ▹ rest) scope a = tt
+has_parts f.MemberNames none scope a = a
+has_parts f.MemberNames (tree ▹ rest) scope a = a.0.1
+has_parts f.Inits none scope a = a
+has_parts form parts scope a = tt
+
+mutual
+  unfolding Allowed AllAllowed spell spell_all Written AllWritten
+
+  tree_written : (tree : Tree) (scope : Scope) → Allowed tree scope → AllFit (spell tree) → Written tree
+  tree_written (Node form parts) scope a h =
+      (has_parts form parts scope a.1, trees_written parts (places (shape form (count parts))) scope a.1 (filled_fit (shape form (count parts)) parts scope a.1 h))
+  tree_written other scope a h = h.0
+
+  trees_written : (trees : Trees) (ps : List Place) (scope : Scope) → AllAllowed trees ps scope → EachFit (spell_all trees) → AllWritten trees
+  trees_written none ps scope a h = tt
+  trees_written (tree ▹ rest) [] scope a h = absurd a
+  trees_written (tree ▹ rest) (place ∷ ps) scope a h = (tree_written tree scope a.1 h.0, trees_written rest ps _ a.2 h.1)
+
+-- parameter lists
+
+pub no_line : (form : Form) → form_home form ≡ p.Line → ⊥
+unfolding form_home
+no_line f.Unit e = cc
+no_line form e = cc
+
+suffixes_alone : (form : Form) → form_home form ≡ p.Suffixes → form ≡ f.Suffixes
+unfolding form_home
+suffixes_alone f.Suffixes e = refl
+suffixes_alone form e = cc
+
+key_no_suffixes : (keyword : Keyword) → keyword_home keyword ≡ p.Suffixes → ⊥
+unfolding keyword_home
+key_no_suffixes k.Void e = cc
+key_no_suffixes keyword e = cc
+
+word_no_suffixes : (word : Word) → home (Leaf word) ≡ p.Suffixes → ⊥
+word_no_suffixes (w.Key keyword) e = key_no_suffixes keyword e
+word_no_suffixes word e = cc
+
+no_list : {G : Type 0} → false ≡ true → G
+no_list e = cc
+
+list_first : (suffixes : Trees) → IsSome (suffix_params (Node f.Suffixes suffixes ▹ none)) → HasLists suffixes
+unfolding suffix_params
+list_first (Node f.FunctionSuffix parts ▹ rest) e = inl tt
+list_first (Node f.VoidSuffix parts ▹ rest) e = inl tt
+list_first other e = no_list e
+
+pub behind_stars : (consts : ℕ) → places (replicate consts (key k.Const) ++ Part p.AnyDeclarator ∷ []) ≡ p.AnyDeclarator ∷ []
+behind_stars zero = refl
+behind_stars (suc n) = behind_stars n
+
+declarator_named : (place : Place) → IsDeclarator place → place ≡ p.Declared → ⊥
+declarator_named place h e = subst IsDeclarator e h
+
+base_named : (place : Place) → IsBase place → place ≡ p.Declared → ⊥
+base_named place h e = subst IsBase e h
+
+key_no_line : (keyword : Keyword) → keyword_home keyword ≡ p.Line → ⊥
+unfolding keyword_home
+key_no_line k.Void e = cc
+key_no_line keyword e = cc
+
+pub word_no_line : (word : Word) → home (Leaf word) ≡ p.Line → ⊥
+word_no_line (w.Key keyword) e = key_no_line keyword e
+word_no_line word e = cc
+
+-- a line with one part behind it
+pub line_parts : (parts : Trees) (place : Place) (scope : Scope) → AllAllowed parts (p.Line ∷ place ∷ []) scope → (line : ℕ) × (tree : Tree) × (parts ≡ (At line ▹ tree ▹ none))
+unfolding AllAllowed Takes
+line_parts none place scope a = absurd a
+line_parts (Leaf word ▹ rest) place scope a = absurd (word_no_line word a.0)
+line_parts (Node form parts ▹ rest) place scope a = absurd (no_line form a.0)
+line_parts (At line ▹ none) place scope a = absurd a.2
+line_parts (At line ▹ tree ▹ (more ▹ rest)) place scope a = absurd a.2.2
+line_parts (At line ▹ tree ▹ none) place scope a = (line, tree, refl)
+
+-- a base with suffixes behind it
+pub base_parts : (parts : Trees) (scope : Scope) → AllAllowed parts (p.Base ∷ p.Suffixes ∷ []) scope → (base : Tree) × (suffixes : Trees) × (parts ≡ (base ▹ Node f.Suffixes suffixes ▹ none))
+unfolding AllAllowed Takes
+base_parts none scope a = absurd a
+base_parts (base ▹ none) scope a = absurd a.2
+base_parts (base ▹ Leaf word ▹ rest) scope a = absurd (word_no_suffixes word a.2.0)
+base_parts (base ▹ At line ▹ rest) scope a = let e : p.Line ≡ p.Suffixes = a.2.0 in cc
+base_parts (base ▹ Node form parts ▹ (more ▹ rest)) scope a = absurd a.2.2
+base_parts (base ▹ Node form parts ▹ none) scope a = (base, parts, ap (λ (x : Form). base ▹ Node x parts ▹ none) (suffixes_alone form a.2.0))
+
+-- the parameters of a part alone
+pub alone : (tree : Tree) → IsSome (params_among (tree ▹ none)) → IsSome (params_of tree)
+unfolding params_of params_among suffix_params
+alone (Leaf word) h = no_list h
+alone (At line) h = no_list h
+alone (Node form parts) h = by (params_of (Node form parts)) h
+  where
+    by : (o : Option Trees) → IsSome (first_list o None) → IsSome o
+    by None h = h
+    by (Some list) h = refl
+
+-- the parameters of a base, or of the suffixes behind it
+base_or : (base : Tree) (suffixes : Trees) → IsBase (home base) → IsSome (params_among (base ▹ Node f.Suffixes suffixes ▹ none)) → IsSome (params_of base) ⊎ HasLists suffixes
+unfolding params_of params_among leads_to_name
+base_or (Leaf word) suffixes b h = inr (list_first suffixes h)
+base_or (At line) suffixes b h = absurd b
+base_or (Node form parts) suffixes b h = by (params_of (Node form parts)) h
+  where
+    by : (o : Option Trees) → IsSome (first_list o None) → IsSome o ⊎ HasLists suffixes
+    by None h = no_list h
+    by (Some list) h = inl refl
+
+layer_named : (place : Place) → place ≡ p.PointerLayer → place ≡ p.Declared → ⊥
+layer_named place h e = let clash : p.PointerLayer ≡ p.Declared = sym h ∙ e in cc
+
+either : {P Q R : Type 0} → P ⊎ R → (P → Q) → Q ⊎ R
+either (inl x) f = inl (f x)
+either (inr x) f = inr x
+
+has_list : (tree : Tree) (scope : Scope) → Allowed tree scope → (home tree ≡ p.Declared → ⊥) → IsSome (params_of tree) → HasParameters tree
+unfolding Allowed AllAllowed params_of params_among leads_to_name HasParameters shape Takes form_home
+has_list (Node (f.Pointer consts) (At line ▹ declarator ▹ none)) scope a n h =
+    let b : AllAllowed (At line ▹ declarator ▹ none) (p.Line ∷ p.AnyDeclarator ∷ []) scope = subst (λ (ps : List Place). AllAllowed (At line ▹ declarator ▹ none) (p.Line ∷ ps) scope) (behind_stars consts) a.1 in
+    has_list declarator _ b.2.1 (declarator_named (home declarator) b.2.0) (alone declarator h)
+has_list (Node (f.Pointer consts) parts) scope a n h =
+    let r = line_parts parts p.AnyDeclarator scope (subst (λ (ps : List Place). AllAllowed parts (p.Line ∷ ps) scope) (behind_stars consts) a.1) in
+    let e : parts ≡ (At r.0 ▹ r.1 ▹ none) = r.2 in cc
+has_list (Node f.Direct (base ▹ Node f.Suffixes suffixes ▹ none)) scope a n h =
+    either (base_or base suffixes a.1.0 h) (λ x. has_list base scope a.1.1 (base_named (home base) a.1.0) x)
+has_list (Node f.Direct parts) scope a n h =
+    let r = base_parts parts scope a.1 in
+    let e : parts ≡ (r.0 ▹ Node f.Suffixes r.1 ▹ none) = r.2 in cc
+has_list (Node f.Parens (At line ▹ declarator ▹ none)) scope a n h =
+    has_list declarator _ a.1.2.1 (layer_named (home declarator) a.1.2.0) (alone declarator h)
+has_list (Node f.Parens parts) scope a n h =
+    let r = line_parts parts p.PointerLayer scope a.1 in
+    let e : parts ≡ (At r.0 ▹ r.1 ▹ none) = r.2 in cc
+has_list (Node f.Declared parts) scope a n h = absurd (n refl)
+has_list other scope a n h = no_list h
+
+-- external declarations
+
+external_defined : (tree : Tree) (scope : Scope) → IsExternal tree scope → IsDefinition tree
+unfolding IsExternal AllAllowed Allowed Takes params_of params_among leads_to_name shape
+external_defined (Node f.Function (line ▹ words ▹ Node f.Declared (declarator ▹ none) ▹ body ▹ none)) scope h =
+    let d = h.front.2.2.1.1 in
+    has_list declarator _ d.1 (declarator_named (home declarator) d.0.0) (alone declarator h.function)
+external_defined tree scope h = tt
+
+external_written : (tree : Tree) (scope : Scope) → IsExternal tree scope → AllFit (spell tree) → Written tree
+unfolding IsExternal AllAllowed spell spell_all shape Written AllWritten HasParts
+external_written (Node f.Function (line ▹ words ▹ declared ▹ body ▹ none)) scope h g =
+    let l = parts_fit (spell line) (spell words ++ (spell declared ++ (spell body ++ []))) g in
+    let s = parts_fit (spell words) (spell declared ++ (spell body ++ [])) l.1 in
+    let d = parts_fit (spell declared) (spell body ++ []) s.1 in
+    let b = parts_fit (spell body) [] d.1 in
+    (tt, (tree_written line _ h.front.1 l.0, (tree_written words _ h.front.2.1 s.0, (tree_written declared _ h.front.2.2.1 d.0, (tree_written body _ h.inside b.0, tt)))))
+external_written (Node f.Declaration parts) scope h g = tree_written (Node f.Declaration parts) scope h g
+external_written tree scope h g = absurd h
+
+externals_written : (unit : Trees) (scope : Scope) → AreExternals unit scope → EachFit (spell_all unit) → AreWritten unit
+unfolding AreExternals spell_all
+externals_written none scope a h = tt
+externals_written (tree ▹ rest) scope a h = ((external_written tree scope a.0 h.0, external_defined tree scope a.0), externals_written rest _ a.1 h.1)
+
+row_fit : (unit : Trees) → AllFit (filled (rows p.External (count unit)) (spell_all unit)) → EachFit (spell_all unit)
+unfolding spell_all
+row_fit none h = tt
+row_fit (tree ▹ rest) h = let r = parts_fit (spell tree) (filled (rows p.External (count rest)) (spell_all rest)) h in (r.0, row_fit rest r.1)
+
+unit_fit : (unit : Trees) → AllFit (spell (Node f.Unit unit)) → EachFit (spell_all unit)
+unfolding spell shape
+unit_fit unit h = row_fit unit h
+
+pub trees_written_all : (tokens : List Token) (unit : Trees) → All IsLexed tokens → HasTree tokens unit → AreWritten unit
+trees_written_all tokens unit l h = externals_written unit first_scope h.allowed (unit_fit unit (spelled_fit (spell (Node f.Unit unit)) tokens [] l h.spelled))
+
+-- the trees of tokens have the shapes that the walk over addresses stands on
+
+-- words
+
+no_str : (form : Form) → form_home form ≡ p.Str → ⊥
+unfolding form_home
+no_str f.Unit e = cc
+no_str form e = cc
+
+no_name : (form : Form) → form_home form ≡ p.Name → ⊥
+unfolding form_home
+no_name f.Unit e = cc
+no_name form e = cc
+
+strings_alone : (parts : Trees) (scope : Scope) → AllAllowed parts (places (rows p.Str (count parts))) scope → NoNodes parts
+unfolding AllAllowed Takes
+strings_alone none scope a = tt
+strings_alone (Leaf word ▹ rest) scope a = strings_alone rest _ a.2
+strings_alone (At line ▹ rest) scope a = strings_alone rest _ a.2
+strings_alone (Node form parts ▹ rest) scope a = absurd (no_str form a.0)
+
+strings_formed : (parts : Trees) (scope : Scope) → AllAllowed parts (places (some p.Str (count parts))) scope → NoNodes parts
+unfolding AllAllowed
+strings_formed none scope a = tt
+strings_formed (tree ▹ rest) scope a = strings_alone (tree ▹ rest) scope a
+
+line_alone : (parts : Trees) (scope : Scope) → AllAllowed parts (p.Line ∷ []) scope → NoNodes parts
+unfolding AllAllowed Takes
+line_alone (Leaf word ▹ more ▹ rest) scope a = absurd a.2
+line_alone (At line ▹ more ▹ rest) scope a = absurd a.2
+line_alone (Node form parts ▹ rest) scope a = absurd (no_line form a.0)
+line_alone other scope a = tt
+
+name_alone : (parts : Trees) (scope : Scope) → AllAllowed parts (p.Name ∷ []) scope → NoNodes parts
+unfolding AllAllowed Takes
+name_alone (Leaf word ▹ more ▹ rest) scope a = absurd a.2
+name_alone (At line ▹ more ▹ rest) scope a = absurd a.2
+name_alone (Node form parts ▹ rest) scope a = absurd (no_name form a.0)
+name_alone other scope a = tt
+
+at_most : (parts : Trees) (place : Place) (scope : Scope) → AllAllowed parts (place ∷ []) scope → AtMostOne parts
+unfolding AllAllowed
+at_most (tree ▹ more ▹ rest) place scope a = absurd a.2
+at_most other place scope a = tt
+
+-- specs
+
+keyword_whole : (keyword : Keyword) (t : Tally) → (with_keyword keyword t).whole ≡ t.whole
+unfolding with_keyword
+keyword_whole k.Static t = refl
+keyword_whole keyword t = refl
+
+word_whole : (word : Word) (t : Tally) → (with_word word t).whole ≡ t.whole
+word_whole (w.Key keyword) t = keyword_whole keyword t
+word_whole word t = refl
+
+no_nodes : (parts : Trees) → (tally parts).whole ≡ 0 → NoNodes parts
+unfolding tally
+no_nodes none e = tt
+no_nodes (Leaf word ▹ rest) e = no_nodes rest (sym (word_whole word (tally rest)) ∙ e)
+no_nodes (At line ▹ rest) e = no_nodes rest e
+no_nodes (Node form parts ▹ rest) e = absurd (omega (arith, e))
+
+one_node : (parts : Trees) → (tally parts).whole ≤ 1 → OneNode parts
+unfolding tally
+one_node none h = tt
+one_node (Leaf word ▹ rest) h = one_node rest (subst (λ (n : ℕ). n ≤ 1) (word_whole word (tally rest)) h)
+one_node (At line ▹ rest) h = one_node rest h
+one_node (Node form parts ▹ rest) h = no_nodes rest (omega (arith, h))
+
+one_type : (t : Tally) → is_one_type t ≡ true → t.whole ≤ 1
+one_type t h = by (t.void + t.whole == 0) refl h
+  where
+    one : (x : Bool) → t.void + t.whole == 1 && x ≡ true → t.whole ≤ 1
+    one x e = omega (arith, eqb-true (t.void + t.whole) 1 (and_parts (t.void + t.whole == 1) x e).0)
+
+    by : (x : Bool) → t.void + t.whole == 0 ≡ x → (if x then is_integer_type t else t.void + t.whole == 1 && (t.char + t.short + t.long + t.int + t.sign == 0)) ≡ true → t.whole ≤ 1
+    by true e q = omega (arith, eqb-true (t.void + t.whole) 0 e)
+    by false e q = one (t.char + t.short + t.long + t.int + t.sign == 0) q
+
+specs_whole : (t : Tally) → are_specs t ≡ true → t.whole ≤ 1
+unfolding are_specs
+specs_whole t h = one_type t (and_parts (is_one_type t) (nat_le t.storage 1) h).0
+
+-- declarators
+
+-- where a layer of a declarator may stand
+abbrev Layering : Place → Type 0
+Layering p.PointerLayer = Unit {0}
+Layering p.AnyDeclarator = Unit {0}
+Layering p.Base = Unit {0}
+Layering p.Name = Unit {0}
+Layering place = ⊥
+
+declarator_layering : (place : Place) → IsDeclarator place → Layering place
+declarator_layering p.PointerLayer h = tt
+declarator_layering p.AnyDeclarator h = tt
+declarator_layering place h = absurd h
+
+base_layering : (place : Place) → IsBase place → Layering place
+base_layering p.Base h = tt
+base_layering p.Name h = tt
+base_layering place h = absurd h
+
+layer_formed : (tree : Tree) (scope : Scope) → Layering (home tree) → Allowed tree scope → IsLayer tree
+unfolding Allowed AllAllowed shape form_home
+layer_formed (Leaf word) scope l a = tt
+layer_formed (At line) scope l a = tt
+layer_formed (Node (f.Pointer consts) (At line ▹ declarator ▹ none)) scope l a = tt
+layer_formed (Node (f.Pointer consts) parts) scope l a =
+    let r = line_parts parts p.AnyDeclarator scope (subst (λ (ps : List Place). AllAllowed parts (p.Line ∷ ps) scope) (behind_stars consts) a.1) in
+    let e : parts ≡ (At r.0 ▹ r.1 ▹ none) = r.2 in cc
+layer_formed (Node f.Direct (base ▹ Node f.Suffixes suffixes ▹ none)) scope l a = tt
+layer_formed (Node f.Direct parts) scope l a =
+    let r = base_parts parts scope a.1 in
+    let e : parts ≡ (r.0 ▹ Node f.Suffixes r.1 ▹ none) = r.2 in cc
+layer_formed (Node f.Parens (At line ▹ declarator ▹ none)) scope l a = tt
+layer_formed (Node f.Parens parts) scope l a =
+    let r = line_parts parts p.PointerLayer scope a.1 in
+    let e : parts ≡ (At r.0 ▹ r.1 ▹ none) = r.2 in cc
+layer_formed (Node f.Nothing none) scope l a = tt
+layer_formed (Node f.Nothing (tree ▹ rest)) scope l a = absurd a.1
+layer_formed (Node form parts) scope l a = absurd l
+
+layers_formed : (trees : Trees) (scope : Scope) → AllAllowed trees (places (behind_commas p.Declarator (count trees))) scope → AreLayers trees
+unfolding AllAllowed Takes
+layers_formed none scope a = tt
+layers_formed (tree ▹ rest) scope a = (layer_formed tree scope (declarator_layering (home tree) a.0.0) a.1, layers_formed rest _ a.2)
+
+members_formed : (trees : Trees) (scope : Scope) → AllAllowed trees (places (some_commas p.Declarator (count trees))) scope → AreLayers trees
+unfolding AllAllowed Takes
+members_formed none scope a = absurd a
+members_formed (tree ▹ rest) scope a = (layer_formed tree scope (declarator_layering (home tree) a.0.0) a.1, layers_formed rest _ a.2)
+
+-- suffixes
+
+word_no_length : (word : Word) → home (Leaf word) ≡ p.MaybeLength → ⊥
+unfolding keyword_home
+word_no_length (w.Key k.Void) e = cc
+word_no_length word e = cc
+
+word_no_params : (word : Word) → home (Leaf word) ≡ p.Params → ⊥
+unfolding keyword_home
+word_no_params (w.Key k.Void) e = cc
+word_no_params word e = cc
+
+word_no_suffix : (word : Word) → home (Leaf word) ≡ p.Suffix → ⊥
+unfolding keyword_home
+word_no_suffix (w.Key k.Void) e = cc
+word_no_suffix word e = cc
+
+length_form : (form : Form) → form_home form ≡ p.MaybeLength → form ≡ f.MaybeLength
+unfolding form_home
+length_form f.MaybeLength e = refl
+length_form form e = cc
+
+params_form : (form : Form) → form_home form ≡ p.Params → form ≡ f.Params
+unfolding form_home
+params_form f.Params e = refl
+params_form form e = cc
+
+length_formed : (tree : Tree) (scope : Scope) → home tree ≡ p.MaybeLength → Allowed tree scope → (parts : Trees) × (tree ≡ Node f.MaybeLength parts) × AtMostOne parts
+unfolding Allowed AllAllowed shape
+length_formed (Leaf word) scope h a = absurd (word_no_length word h)
+length_formed (At line) scope h a = let e : p.Line ≡ p.MaybeLength = h in cc
+length_formed (Node f.MaybeLength none) scope h a = (none, refl, tt)
+length_formed (Node f.MaybeLength (e ▹ rest)) scope h a = (e ▹ rest, refl, at_most (e ▹ rest) (Expression cond_level) scope a.1)
+length_formed (Node form parts) scope h a = let e : form ≡ f.MaybeLength = length_form form h in cc
+
+params_formed : (tree : Tree) → home tree ≡ p.Params → (parts : Trees) × (tree ≡ Node f.Params parts)
+params_formed (Leaf word) h = absurd (word_no_params word h)
+params_formed (At line) h = let e : p.Line ≡ p.Params = h in cc
+params_formed (Node form parts) h = (parts, ap (λ (x : Form). Node x parts) (params_form form h))
+
+array_formed : (line : ℕ) (parts : Trees) → AtMostOne parts → IsSuffix (Node f.ArraySuffix (At line ▹ Node f.MaybeLength parts ▹ none))
+array_formed line (e ▹ more ▹ rest) h = absurd h
+array_formed line other h = tt
+
+suffix_formed : (tree : Tree) (scope : Scope) → home tree ≡ p.Suffix → Allowed tree scope → IsSuffix tree
+unfolding Allowed AllAllowed Takes shape form_home
+suffix_formed (Leaf word) scope h a = absurd (word_no_suffix word h)
+suffix_formed (At line) scope h a = let e : p.Line ≡ p.Suffix = h in cc
+suffix_formed (Node f.ArraySuffix parts) scope h a =
+    let r = line_parts parts p.MaybeLength scope a.1 in
+    let b : AllAllowed (At r.0 ▹ r.1 ▹ none) (p.Line ∷ p.MaybeLength ∷ []) scope = subst (λ (ts : Trees). AllAllowed ts (p.Line ∷ p.MaybeLength ∷ []) scope) r.2 a.1 in
+    let m = length_formed r.1 _ b.2.0 b.2.1 in
+    subst (λ (ts : Trees). IsSuffix (Node f.ArraySuffix ts)) (sym r.2) (subst (λ (x : Tree). IsSuffix (Node f.ArraySuffix (At r.0 ▹ x ▹ none))) (sym m.1) (array_formed r.0 m.0 m.2))
+suffix_formed (Node f.FunctionSuffix parts) scope h a =
+    let r = line_parts parts p.Params scope a.1 in
+    let b : AllAllowed (At r.0 ▹ r.1 ▹ none) (p.Line ∷ p.Params ∷ []) scope = subst (λ (ts : Trees). AllAllowed ts (p.Line ∷ p.Params ∷ []) scope) r.2 a.1 in
+    let m = params_formed r.1 b.2.0 in
+    subst (λ (ts : Trees). IsSuffix (Node f.FunctionSuffix ts)) (sym r.2) (subst (λ (x : Tree). IsSuffix (Node f.FunctionSuffix (At r.0 ▹ x ▹ none))) (sym m.1) tt)
+suffix_formed (Node f.VoidSuffix parts) scope h a = line_alone parts scope a.1
+suffix_formed (Node form parts) scope h a = let e : form_home form ≡ p.Suffix = h in cc
+
+suffixes_formed : (trees : Trees) (scope : Scope) → AllAllowed trees (places (rows p.Suffix (count trees))) scope → AreSuffixes trees
+unfolding AllAllowed Takes
+suffixes_formed none scope a = tt
+suffixes_formed (tree ▹ rest) scope a = (suffix_formed tree scope a.0 a.1, suffixes_formed rest _ a.2)
+
+-- declarations of typedef names
+
+-- what is no specs keeps whether typedef names are declared
+typedef_kept : (tree : Tree) (scope : Scope) → (home tree ≡ p.Specs → ⊥) → (after tree scope).typedef ≡ scope.typedef
+unfolding after left form_home
+typedef_kept (Node f.Specs parts) scope n = absurd (n refl)
+typedef_kept other scope n = refl
+
+typedef_begun : (words : Tree) (scope : Scope) → of_typedefs words ≡ true → (after words scope).typedef ≡ true
+unfolding after left
+typedef_begun (Node f.Specs parts) scope h = ap (λ (x : Bool). x || scope.typedef) h
+typedef_begun words scope h = cc
+
+init_form : (form : Form) → form_home form ≡ p.MaybeInit → form ≡ f.MaybeInit
+unfolding form_home
+init_form f.MaybeInit e = refl
+init_form form e = cc
+
+word_no_init : (word : Word) → home (Leaf word) ≡ p.MaybeInit → ⊥
+unfolding keyword_home
+word_no_init (w.Key k.Void) e = cc
+word_no_init word e = cc
+
+word_no_entry : (word : Word) → home (Leaf word) ≡ p.Entry → ⊥
+unfolding keyword_home
+word_no_entry (w.Key k.Void) e = cc
+word_no_entry word e = cc
+
+entry_parts : (parts : Trees) (scope : Scope) → AllAllowed parts (p.Declared ∷ p.MaybeInit ∷ []) scope → (declared : Tree) × (inits : Trees) × (parts ≡ (declared ▹ Node f.MaybeInit inits ▹ none))
+unfolding AllAllowed Takes
+entry_parts none scope a = absurd a
+entry_parts (declared ▹ none) scope a = absurd a.2
+entry_parts (declared ▹ Leaf word ▹ rest) scope a = absurd (word_no_init word a.2.0)
+entry_parts (declared ▹ At line ▹ rest) scope a = let e : p.Line ≡ p.MaybeInit = a.2.0 in cc
+entry_parts (declared ▹ Node form parts ▹ (more ▹ rest)) scope a = absurd a.2.2
+entry_parts (declared ▹ Node form parts ▹ none) scope a = (declared, parts, ap (λ (x : Form). declared ▹ Node x parts ▹ none) (init_form form a.2.0))
+
+no_init : (inits : Trees) (typedef : Bool) → not typedef || is_none inits ≡ true → typedef ≡ true → inits ≡ none
+no_init none typedef h e = refl
+no_init (init ▹ rest) true h e = cc
+no_init (init ▹ rest) false h e = cc
+
+entry_alone : (tree : Tree) (rest : Trees) (scope : Scope) → home tree ≡ p.Entry → Allowed tree scope → scope.typedef ≡ true → NoInits rest → NoInits (tree ▹ rest)
+unfolding Allowed AllAllowed Takes shape form_home is_scope obeys
+entry_alone (Leaf word) rest scope h a e n = absurd (word_no_entry word h)
+entry_alone (At line) rest scope h a e n = let x : p.Line ≡ p.Entry = h in cc
+entry_alone (Node f.Entry parts) rest scope h a e n =
+    let r = entry_parts parts scope a.1 in
+    let b : AllAllowed (r.0 ▹ Node f.MaybeInit r.1 ▹ none) (p.Declared ∷ p.MaybeInit ∷ []) scope = subst (λ (ts : Trees). AllAllowed ts (p.Declared ∷ p.MaybeInit ∷ []) scope) r.2 a.1 in
+    let same : (after r.0 scope).typedef ≡ scope.typedef = typedef_kept r.0 scope (λ q. let x : p.Declared ≡ p.Specs = sym b.0 ∙ q in cc) in
+    let bare : r.1 ≡ none = no_init r.1 (after r.0 scope).typedef b.2.1.0 (same ∙ e) in
+    subst (λ (ts : Trees). NoInits (Node f.Entry ts ▹ rest)) (sym r.2) (subst (λ (ts : Trees). NoInits (Node f.Entry (r.0 ▹ Node f.MaybeInit ts ▹ none) ▹ rest)) (sym bare) n)
+entry_alone (Node form parts) rest scope h a e n = let x : form_home form ≡ p.Entry = h in cc
+
+entries_behind : (entries : Trees) (scope : Scope) → AllAllowed entries (places (behind_commas p.Entry (count entries))) scope → scope.typedef ≡ true → NoInits entries
+unfolding AllAllowed Takes is_scope
+entries_behind none scope a e = tt
+entries_behind (tree ▹ rest) scope a e =
+    entry_alone tree rest scope a.0 a.1 e (entries_behind rest (after tree scope) a.2 (typedef_kept tree scope (λ q. let x : p.Entry ≡ p.Specs = sym a.0 ∙ q in cc) ∙ e))
+
+entries_alone : (entries : Trees) (scope : Scope) → AllAllowed entries (places (commas p.Entry (count entries))) scope → scope.typedef ≡ true → NoInits entries
+entries_alone none scope a e = tt
+entries_alone (tree ▹ rest) scope a e = entries_behind (tree ▹ rest) scope a e
+
+local_formed : (line words : Tree) (entries : Trees) (scope : Scope) → AllAllowed (line ▹ words ▹ Node f.Names entries ▹ none) (p.Line ∷ p.Specs ∷ p.Names ∷ []) scope → of_typedefs words ≡ true → NoInits entries
+unfolding Allowed AllAllowed shape is_scope
+local_formed line words entries scope a h = entries_alone entries _ a.2.2.1.1 (typedef_begun words (after line scope) h)
+
+for_formed : (words : Tree) (entries : Trees) (scope : Scope) → AllAllowed (words ▹ Node f.Names entries ▹ none) (p.Specs ∷ p.SomeNames ∷ []) scope → of_typedefs words ≡ true → NoInits entries
+unfolding Allowed AllAllowed shape is_scope
+for_formed words entries scope a h = entries_alone entries _ a.2.1.1 (typedef_begun words scope h)
+
+-- nodes
+
+shaped : (form : Form) (parts : Trees) (scope : Scope) → obeys form parts scope ≡ true → AllAllowed parts (places (shape form (count parts))) scope → Shaped form parts
+unfolding shape obeys Allowed AllAllowed Takes Shaped
+shaped f.Strings parts scope o a = strings_formed parts scope a
+shaped f.Empty parts scope o a = line_alone parts scope a
+shaped f.MaybeName none scope o a = tt
+shaped f.MaybeName (tree ▹ rest) scope o a = name_alone (tree ▹ rest) scope a
+shaped f.Specs parts scope o a = one_node parts (specs_whole (tally parts) o)
+shaped f.MaybeExpr none scope o a = tt
+shaped f.MaybeExpr (tree ▹ rest) scope o a = at_most (tree ▹ rest) expr scope a
+shaped f.MaybeInit none scope o a = tt
+shaped f.MaybeInit (tree ▹ rest) scope o a = at_most (tree ▹ rest) p.Init scope a
+shaped (f.Pointer consts) (line ▹ declarator ▹ none) scope o a =
+    let b : AllAllowed (line ▹ declarator ▹ none) (p.Line ∷ p.AnyDeclarator ∷ []) scope = subst (λ (ps : List Place). AllAllowed (line ▹ declarator ▹ none) (p.Line ∷ ps) scope) (behind_stars consts) a in
+    layer_formed declarator _ (declarator_layering (home declarator) b.2.0) b.2.1
+shaped f.Direct (base ▹ Node f.Suffixes suffixes ▹ none) scope o a = (layer_formed base scope (base_layering (home base) a.0) a.1, suffixes_formed suffixes _ a.2.1.1)
+shaped f.Parens (line ▹ declarator ▹ none) scope o a = layer_formed declarator _ (subst Layering (sym a.2.0) tt) a.2.1
+shaped f.Typename (line ▹ words ▹ declarator ▹ none) scope o a = layer_formed declarator _ (declarator_layering (home declarator) a.2.2.0.0) a.2.2.1
+shaped f.Param (line ▹ words ▹ declarator ▹ none) scope o a = layer_formed declarator _ (declarator_layering (home declarator) a.2.2.0) a.2.2.1
+shaped f.MemberNames declarators scope o a = members_formed declarators scope a
+shaped f.Declared (declarator ▹ none) scope o a = (layer_formed declarator scope (declarator_layering (home declarator) a.0.0) a.1, a.0.1)
+shaped f.Local (line ▹ words ▹ Node f.Names entries ▹ none) scope o a = local_formed line words entries scope a
+shaped f.ForNames (words ▹ Node f.Names entries ▹ none) scope o a = for_formed words entries scope a
+shaped form parts scope o a = tt
+
+mutual
+  unfolding Allowed AllAllowed Formed AllFormed
+
+  tree_formed : (tree : Tree) (scope : Scope) → Allowed tree scope → Formed tree
+  tree_formed (Node form parts) scope a = (shaped form parts scope a.0 a.1, trees_formed parts (places (shape form (count parts))) scope a.1)
+  tree_formed other scope a = tt
+
+  trees_formed : (trees : Trees) (ps : List Place) (scope : Scope) → AllAllowed trees ps scope → AllFormed trees
+  trees_formed none ps scope a = tt
+  trees_formed (tree ▹ rest) [] scope a = absurd a
+  trees_formed (tree ▹ rest) (place ∷ ps) scope a = (tree_formed tree scope a.1, trees_formed rest ps _ a.2)
+
+external_formed : (tree : Tree) (scope : Scope) → IsExternal tree scope → Formed tree
+unfolding IsExternal AllAllowed Formed AllFormed Shaped
+external_formed (Node f.Function (line ▹ words ▹ declared ▹ body ▹ none)) scope h =
+    (tt, (tree_formed line _ h.front.1, (tree_formed words _ h.front.2.1, (tree_formed declared _ h.front.2.2.1, (tree_formed body _ h.inside, tt)))))
+external_formed (Node f.Declaration parts) scope h = tree_formed (Node f.Declaration parts) scope h
+external_formed tree scope h = absurd h
+
+external_params : (tree : Tree) (scope : Scope) → IsExternal tree scope → HasParams tree
+unfolding IsExternal params_of leads_to_name
+external_params (Node f.Function (line ▹ words ▹ Node f.Declared (declarator ▹ none) ▹ body ▹ none)) scope h = alone declarator h.function
+external_params tree scope h = tt
+
+externals_formed : (unit : Trees) (scope : Scope) → AreExternals unit scope → AreFormed unit
+unfolding AreExternals
+externals_formed none scope a = tt
+externals_formed (tree ▹ rest) scope a = ((external_formed tree scope a.0, external_params tree scope a.0), externals_formed rest _ a.1)
+
+pub trees_formed_all : (tokens : List Token) (unit : Trees) → HasTree tokens unit → AreFormed unit
+trees_formed_all tokens unit h = externals_formed unit first_scope h.allowed

@@ -1,22 +1,19 @@
 -- Each function of a core of a text is sound.
 use Rattle.std.proofs.Common.{◌≡◌, All, List, Ok, ◌≤◌, length}
-use Rattle.c_lexer.specs.declared.token.Token.{Token}
-use Rattle.c_lexer.specs.Tokens.{IsLexed}
 use Rattle.c_types.specs.TagTable.{TagTable}
-use Rattle.core_tree.specs.declared.program.Core.{Core}
+use Rattle.c_lexer.specs.Tokens.{IsLexed}
+use Rattle.c_lexer.specs.declared.token.Token.{Token}
 use Rattle.core_tree.specs.Sound.{EachFunc, IsFunction, IsShort, IsSound}
-use Rattle.c_tree.specs.Tree.{Trees}
+use Rattle.core_tree.specs.declared.program.Core.{Core}
 use Rattle.c_tree.specs.HasTree.{HasTree}
+use Rattle.c_tree.specs.Tree.{Trees}
 use Rattle.elaboration.specs.Elaboration.{elaborated}
 use Rattle.core_soundness.proofs.Cores.{core_flows, core_sizes, core_main}
-use Rattle.core_soundness.proofs.Typing.{core_types}
-use Rattle.core_soundness.proofs.Grammatical.{trees_written_all}
-use Rattle.core_soundness.proofs.FormedTrees.{trees_formed_all}
-use Rattle.core_soundness.proofs.SolidTexts.{core_layouts}
-use Rattle.core_soundness.proofs.Numbered.{core_ranges}
-use Rattle.core_soundness.proofs.MainTyped.{core_main_typed}
-use Rattle.core_soundness.proofs.NearTexts.{core_short}
 use Rattle.core_soundness.proofs.FittedTexts.{core_statics}
+use Rattle.core_soundness.proofs.Formed.{trees_written_all, trees_formed_all}
+use Rattle.core_soundness.proofs.NearTexts.{core_short}
+use Rattle.core_soundness.proofs.SolidTexts.{core_layouts, core_ranges}
+use Rattle.core_soundness.proofs.Typing.{core_types, core_main_typed}
 
 pub functions_sound : (tokens : List Token) (unit : Trees) (core : Core) (tags : TagTable) → All IsLexed tokens → HasTree tokens unit → elaborated unit ≡ Ok (core, tags) → EachFunc core (IsFunction core)
 functions_sound tokens unit core tags l h q f func e =

@@ -1,12 +1,38 @@
--- What elaborating an expression does to what is known: its code is a fragment with no way out but its end.
-use Rattle.std.proofs.Common.{◌≡◌, ◌≤◌, ◌+◌, ℕ, List, [], ◌∷◌, ◌++◌, length, slice_get, Some, sum_by, refl, sym, ap, ◌∙◌, arith, append_assoc, append-nil}
+-- How the context grows while a text is walked, and what answers lead to.
+use Rattle.std.proofs.Common.{◌≡◌, ◌≤◌, ◌+◌, ℕ, List, [], ◌∷◌, ◌++◌, length, slice_get, Some, sum_by, refl, sym, ap, ◌∙◌, arith, append_assoc, append-nil, Bool, true, false, cond, is_some, subst, ⊎_elim, Ok, Err, Option, None, ltb-false, ◌⊎◌, ◌<◌, inl, inr, ◌||◌}
+use Rattle.std.proofs.lemmas.List.Sums.{sum_by-append}
+use Rattle.std.specs.Prelude.{nat_lt}
 use Rattle.hs_base.specs.Place.{block_size}
+use Rattle.c_types.specs.Types.{PlainType}
+use Rattle.core_tree.specs.declared.statements.Atom.{Atom}
 use Rattle.core_tree.specs.declared.statements.Stm.{Stm}
 use Rattle.core_tree.specs.declared.statements.StmKind.{StmKind}
+use Rattle.core_tree.specs.declared.statements.StmKind.TheVariants.{Free, Enter, Leave, Jump, Zero}
+use Rattle.c_tree.specs.Forms as f
+use Rattle.c_tree.specs.Tree.{Tree, Trees, Leaf, At, Node, none, ◌▹◌}
+use Rattle.c_tree.specs.Words as w
+use Rattle.c_decls.specs.Expressions as types
+use Rattle.c_decls.specs.Expressions.{line_of, answered, wanted, string}
+use Rattle.c_decls.specs.Named as n
+use Rattle.c_decls.specs.Named.{PlainNamed}
+use Rattle.c_decls.specs.Refusals.{Checked, Refusal, refused, then, unless}
+use Rattle.c_decls.specs.ScopeList.{ScopeList, Table, named_in, innermost, with_name, with_name_in, after_declaration}
 use Rattle.c_decls.specs.TypeNames as names
-use Rattle.elaboration.specs.Context.{Piece, Does, Code, Context, Variable, told, emit, integer_by, pointer_by}
-use Rattle.core_soundness.proofs.Names.{More, more_refl, more_trans}
-use Rattle.core_soundness.proofs.Fragments.{Fragment, IsPlain, nothing, joined, plain}
+use Rattle.c_decls.specs.TypeRules.{barred}
+use Rattle.c_decls.specs.Typed.{PlainTyped, is_void, read, has_no_value}
+use Rattle.c_decls.specs.declared.refusal.TypeKind.{TypeKind}
+use Rattle.c_decls.specs.declared.refusal.TypeKind.TheVariants.{Operands, StaticTooLarge}
+use Rattle.elaboration.specs.Calls.{with_format}
+use Rattle.elaboration.specs.Context.{asked, Piece, Does, Code, Context, Variable, told, emit, integer_by, pointer_by, With, literal_object, Here, here, with_labels, anew}
+use Rattle.elaboration.specs.Conversions.{Found, valued_from, unused, valued, code_line}
+use Rattle.elaboration.specs.Expressions.{cast_operand}
+use Rattle.elaboration.specs.Reallocates.{calls_realloc, reallocates, any_reallocates, opened, closed}
+use Rattle.elaboration.specs.Rules.{with_literal}
+use Rattle.core_soundness.proofs.Flows.{Fragment, IsPlain, nothing, joined, plain, agree_refl, Marks, Targets, Places, Placed, steps, Agree, agree_trans, steps_append, targets_append, targets_map, places_append, places_map, placed_left, placed_right, flows_append, flows_agree, marked, Way, IsWay, Leads, AreEarlier, leads_less, leads_agree, earlier_less, Made, stm_at, in_scope}
+use Rattle.core_soundness.proofs.Scopes.{More, more_refl, more_trans, MoreTags, IsNewTag, Pushed, push_get, get_left, Safe, SafeTable, same_frees, more_safe, Tied, tied_trans, tied_same, more_keeps, more_depth}
+use Rattle.core_soundness.proofs.Choices.{either_way, some_same}
+
+-- what elaborating an expression does to what is known: its code is a fragment with no way out but its end
 
 -- the bytes of the blocks of statics
 abbrev pub variable_bytes : List Variable → ℕ
@@ -65,17 +91,44 @@ pub record Grows (c d : Context) : Type 0 where
   pub names : More c.scopes d.scopes
   pub kept : Kept c d
 
-pub grows_refl : (c : Context) → Grows c c
-grows_refl c = record {
-  pieces = [];
-  code = sym (append-nil c.code.pieces);
-  more = omega arith;
-  fragment = λ n. nothing [] n c.code.labels c.code.labels;
-  cases = refl;
-  otherwise = refl;
-  names = more_refl c.scopes;
-  kept = kept_refl c;
+-- what is kept beside code
+pub recoded : (c d : Context) (x y : Code) → Kept (record c { code = x }) d → Kept c (record d { code = y })
+recoded c d x y k = record {
+  variables = k.variables;
+  functions = k.functions;
+  params = k.params;
+  walked = k.walked;
+  length = k.length;
+  answer = k.answer;
+  mems = k.mems;
+  declared = k.declared;
+  addressed = k.addressed;
+  literals = k.literals;
+  counted = λ (h : Counted c). let r = k.counted (record { bytes = h.bytes; small = h.small }) in record { bytes = r.bytes; small = r.small };
 }
+
+-- code that is as long, whatever else it grew by
+grows_by : (c d : Context) → d.code.pieces ≡ c.code.pieces → d.code.labels ≡ c.code.labels → d.running.cases ≡ c.running.cases → d.running.otherwise ≡ c.running.otherwise → More c.scopes d.scopes → Kept c d → Grows c d
+grows_by c d e l same same2 m k = record {
+  pieces = [];
+  code = e ∙ sym (append-nil c.code.pieces);
+  more = omega (arith, l);
+  fragment = λ n. nothing [] n c.code.labels d.code.labels;
+  cases = same;
+  otherwise = same2;
+  names = m;
+  kept = k;
+}
+
+-- other scopes and tags, formats and calls, and other code that is as long
+grows_other : (n : names.Context) (formats : List (List ℕ)) (calls : List (ℕ × ℕ)) (code : Code) (c : Context) → code.pieces ≡ c.code.pieces → code.labels ≡ c.code.labels → More c.scopes n.scopes
+    → Grows c (record c { scopes = n.scopes; tags = n.tags; running = record c.running { formats = formats }; calls = calls; code = code })
+grows_other n formats calls code c e l m =
+    grows_by c (record c { scopes = n.scopes; tags = n.tags; running = record c.running { formats = formats }; calls = calls; code = code }) e l refl refl m
+    (record { variables = refl; functions = refl; params = refl; walked = refl; length = refl; answer = refl; mems = refl; declared = refl; addressed = refl; literals = λ i w e. e; counted = λ (h : Counted c). record { bytes = h.bytes; small = h.small } })
+
+pub grows_refl : (c : Context) → Grows c c
+grows_refl c = grows_other (asked c) c.running.formats c.calls c.code c refl refl (more_refl c.scopes)
 
 pub grows_trans : (a b c : Context) → Grows a b → Grows b c → Grows a c
 grows_trans a b c x y = record {
@@ -113,50 +166,516 @@ grows_pointer line kind c h = grows_step c _ (record { line = line; kind = kind 
 
 -- other code that is as long, and other scopes and tags
 pub grows_code : (c : Context) (code : Code) → code.pieces ≡ c.code.pieces → code.labels ≡ c.code.labels → Grows c (record c { code = code })
-grows_code c code e l = record {
-  pieces = [];
-  code = e ∙ sym (append-nil c.code.pieces);
-  more = omega (arith, l);
-  fragment = λ n. nothing [] n c.code.labels code.labels;
+grows_code c code e l = grows_other (asked c) c.running.formats c.calls code c e l (more_refl c.scopes)
+
+pub grows_told : (n : names.Context) (c : Context) → More c.scopes n.scopes → Grows c (told n c)
+grows_told n c m = grows_other n c.running.formats c.calls c.code c refl refl m
+
+-- code that is forgotten again
+pub grows_forgotten : (b c : Context) → Grows b c → Grows b (record c { code = b.code })
+grows_forgotten b c g = grows_by b (record c { code = b.code }) refl refl g.cases g.otherwise g.names (recoded b c b.code b.code g.kept)
+
+-- what was made at file scope stays while a part of a function is walked: its variables, its names of objects, and literals
+
+-- each object of the second table is one of the first
+abbrev pub ObjectsStay : Table → Table → Type 0
+ObjectsStay f g = (name : List ℕ) (type : PlainType) (i : ℕ) → named_in name g ≡ Some (n.Object type i) → named_in name f ≡ Some (n.Object type i)
+
+pub record Settled (c d : Context) : Type 0 where
+  pub variables : d.variables ≡ c.variables
+  pub literals : Longer c.literals d.literals
+  pub objects : ObjectsStay c.scopes.file d.scopes.file
+
+pub settled_refl : (c : Context) → Settled c c
+settled_refl c = record { variables = refl; literals = λ i w e. e; objects = λ name type i e. e }
+
+pub settled_trans : (a b c : Context) → Settled a b → Settled b c → Settled a c
+settled_trans a b c x y = record {
+  variables = y.variables ∙ x.variables;
+  literals = λ i w e. y.literals i w (x.literals i w e);
+  objects = λ name type i e. x.objects name type i (y.objects name type i e);
+}
+
+-- expressions declare tags alone
+no_tag : (tag type : PlainType) (i : ℕ) → n.Tag tag ≡ n.Object type i → ⊥
+no_tag tag type i e = cc
+
+pub more_objects : (f g : Table) → MoreTags f g → ObjectsStay f g
+more_objects f g m name type i e =
+    ⊎_elim
+    (λ (q : named_in name g ≡ named_in name f). sym q ∙ e)
+    (λ (q : IsNewTag name f g). absurd (no_tag q.1 type i (some_same (n.Tag q.1) (n.Object type i) (sym q.4 ∙ e))))
+    (m name)
+
+pub grows_settled : (c d : Context) → Grows c d → Settled c d
+grows_settled c d g = record { variables = g.kept.variables; literals = g.kept.literals; objects = more_objects c.scopes.file d.scopes.file g.names.file }
+
+-- names that are declared
+abbrev pub IsNoObject : PlainNamed → Type 0
+IsNoObject (n.Object type i) = ⊥
+IsNoObject other = Unit {0}
+
+no_object_is : (v : PlainNamed) (type : PlainType) (i : ℕ) → IsNoObject v → v ≡ n.Object type i → ⊥
+no_object_is v type i h e = subst IsNoObject e h
+
+pub push_objects : (key : List ℕ) (v : PlainNamed) (t : Table) → IsNoObject v → ObjectsStay t (t ++ (key, v) ∷ [])
+push_objects key v t h name type i e =
+    ⊎_elim (λ (q : named_in name t ≡ Some (n.Object type i)). q) (λ (q : Pushed name key v (n.Object type i) t). absurd (no_object_is v type i h q.value)) (push_get name key v (n.Object type i) t e)
+
+-- no object, or inside a scope of its own
+pub with_name_objects : (s : ScopeList) (key : List ℕ) (v : PlainNamed) → IsNoObject v → ObjectsStay s.file (with_name s key v).file
+with_name_objects s key v h = by s.inner
+  where
+    by : (inner : List Table) → ObjectsStay s.file (with_name_in s.file inner key v).file
+    by [] = push_objects key v s.file h
+    by (t ∷ ts) = λ name type i e. e
+
+pub inner_objects : (s : ScopeList) (key : List ℕ) (v : PlainNamed) → 1 ≤ length s.inner → ObjectsStay s.file (with_name s key v).file
+inner_objects s key v h = by s.inner h
+  where
+    by : (inner : List Table) → 1 ≤ length inner → ObjectsStay s.file (with_name_in s.file inner key v).file
+    by [] k = absurd (omega (arith, k))
+    by (t ∷ ts) k = λ name type i e. e
+
+pub declared_objects : (s : ScopeList) (key : List ℕ) (v : PlainNamed) → ObjectsStay s.file (with_name s key v).file → ObjectsStay s.file (after_declaration s key v).file
+declared_objects s key v h = either_way (λ (x : ScopeList). ObjectsStay s.file x.file) (is_some (named_in key (innermost s))) (λ name type i e. e) h
+
+-- answers whose context has grown from another
+
+abbrev pub good : {A : Type 0} → A → Checked A
+good x = Ok x
+
+pub ok_same : {A : Type 0} (x y : A) → good x ≡ good y → x ≡ y
+ok_same x y e = cc
+
+abbrev pub bad : {A : Type 0} → Refusal → Checked A
+bad r = Err r
+
+pub never : {A : Type 0} (G : Type 0) (r : Refusal) (x : A) → bad r ≡ good x → G
+never G r x e = cc
+
+abbrev pub Grown : {A : Type 0} → Context → With A → Type 0
+Grown {A} b r = (d : Context × A) → r ≡ Ok d → Grows b d.0
+
+-- answers with what is known behind them
+
+-- R of what is known behind an answer
+abbrev pub Reached : {C A : Type 0} → (C → Type 0) → Checked (C × A) → Type 0
+Reached {C} {A} R r = (d : C × A) → r ≡ Ok d → R d.0
+
+module _ {C : Type 0} (R : C → Type 0) where
+  pub reached_ok : {A : Type 0} {x : C × A} → R x.0 → Reached R (Ok x)
+  reached_ok {x} g d e = subst (λ y. R y.0) (ok_same x d e) g
+
+  pub reached_refused : {A : Type 0} {kind : TypeKind} {line : ℕ} → Reached {A = A} R (refused kind line)
+  reached_refused d e = never (R d.0) _ d e
+
+  pub reached_after : {A B : Type 0} (r : Checked A) {f : A → Checked (C × B)} → ((a : A) → r ≡ Ok a → Reached R (f a)) → Reached R (then r f)
+  reached_after (Ok a) h d e = h a refl d e
+  reached_after (Err x) h d e = never (R d.0) x d e
+
+  pub reached_then : {A B : Type 0} (S : C → Type 0) {r : Checked (C × A)} {f : C × A → Checked (C × B)} → Reached S r → ((d : C × A) → S d.0 → Reached R (f d)) → Reached R (then r f)
+  reached_then S {r} {f} g h = reached_after r {f = f} (λ a e. h a (g a e))
+
+  pub reached_unless : {A : Type 0} (test : Bool) (kind : TypeKind) (line : ℕ) {r : Checked (C × A)} → Reached R r → Reached R (unless test kind line r)
+  reached_unless true kind line g d e = never (R d.0) _ d e
+  reached_unless false kind line g d e = g d e
+
+  pub reached_barred : {A : Type 0} (reason : Option TypeKind) (line : ℕ) {r : Checked (C × A)} → Reached R r → Reached R (barred reason line r)
+  reached_barred None line g d e = g d e
+  reached_barred (Some kind) line g d e = never (R d.0) _ d e
+
+-- the same where the answer is what is known
+abbrev pub Led : {C : Type 0} → (C → Type 0) → Checked C → Type 0
+Led {C} R r = (d : C) → r ≡ Ok d → R d
+
+module _ {C : Type 0} (R : C → Type 0) where
+  pub led_ok : {x : C} → R x → Led R (Ok x)
+  led_ok {x} g d e = subst R (ok_same x d e) g
+
+  pub led_refused : {kind : TypeKind} {line : ℕ} → Led R (refused kind line)
+  led_refused d e = never (R d) _ d e
+
+  pub led_after : {A : Type 0} (r : Checked A) {f : A → Checked C} → ((a : A) → r ≡ Ok a → Led R (f a)) → Led R (then r f)
+  led_after (Ok a) h d e = h a refl d e
+  led_after (Err x) h d e = never (R d) x d e
+
+  pub led_unless : (test : Bool) (kind : TypeKind) (line : ℕ) {r : Checked C} → (test ≡ false → Led R r) → Led R (unless test kind line r)
+  led_unless true kind line g d e = never (R d) _ d e
+  led_unless false kind line g d e = g refl d e
+
+  pub led_barred : (reason : Option TypeKind) (line : ℕ) {r : Checked C} → Led R r → Led R (barred reason line r)
+  led_barred None line g d e = g d e
+  led_barred (Some kind) line g d e = never (R d) _ d e
+
+-- where a value is wanted, an expression is evaluated as where its value is not used
+
+pub behind_test : {A : Type 0} (test : Bool) (kind : TypeKind) (line : ℕ) (r : Checked A) (z : A) → unless test kind line r ≡ Ok z → r ≡ Ok z
+behind_test true kind line r z h = never (r ≡ Ok z) _ z h
+behind_test false kind line r z h = h
+
+pub valued_unused : (tree : Tree) (answer : With Found) (z : Context × Found) → valued tree answer ≡ Ok z → unused tree answer ≡ Ok z
+valued_unused tree (Ok d) z h = behind_test (has_no_value d.1.typed) Operands (line_of tree) (valued_from tree d.0 d.1) z h
+valued_unused tree (Err refusal) z h = h
+
+pub cast_unused : (type : PlainType) (tree : Tree) (answer : With Found) (z : Context × Found) → cast_operand type tree answer ≡ Ok z → unused tree answer ≡ Ok z
+cast_unused type tree answer z h = either_way (λ x. x ≡ Ok z → unused tree answer ≡ Ok z) (is_void type) (λ h. h) (λ h. valued_unused tree answer z h) h
+
+-- the same by types alone
+
+pub wanted_unused : (tree : Tree) (x : types.Found) (z : names.Context × PlainTyped) → wanted tree x ≡ Ok z → types.unused tree x ≡ Ok z
+wanted_unused tree (Ok e) z h = by (has_no_value e.1) h
+  where
+    by : (k : Bool) → answered e.0 (unless k Operands (line_of tree) (read (line_of tree) e.0.tags e.1)) ≡ Ok z → answered e.0 (read (line_of tree) e.0.tags e.1) ≡ Ok z
+    by true h = never (answered e.0 (read (line_of tree) e.0.tags e.1) ≡ Ok z) _ z h
+    by false h = h
+wanted_unused tree (Err refusal) z h = h
+
+pub type_cast_unused : (type : PlainType) (tree : Tree) (x : types.Found) (z : names.Context × PlainTyped) → types.cast_operand type tree x ≡ Ok z → types.unused tree x ≡ Ok z
+type_cast_unused type tree x z h = either_way (λ y0. y0 ≡ Ok z → types.unused tree x ≡ Ok z) (is_void type) (λ h. h) (λ h. wanted_unused tree x z h) h
+
+-- a string that is no larger than an object
+pub behind_string : {A : Type 0} (line : ℕ) (bytes : List ℕ) (r : Checked A) (z : A) → then (string line bytes) (λ literal. r) ≡ Ok z → r ≡ Ok z
+behind_string line bytes r z h = by (string line bytes) h
+  where
+    by : (s : Checked PlainTyped) → then s (λ literal. r) ≡ Ok z → r ≡ Ok z
+    by (Ok literal) h = h
+    by (Err refusal) h = never (r ≡ Ok z) refusal z h
+
+-- what changes beside the code of an expression: formats, calls and literals
+
+-- what changes beside the code
+pub grows_format : (bytes : List ℕ) (c : Context) → Grows c (with_format bytes c)
+grows_format bytes c = grows_other (asked c) (c.running.formats ++ bytes ∷ []) c.calls c.code c refl refl (more_refl c.scopes)
+
+pub grows_calls : (calls : List (ℕ × ℕ)) (c : Context) → Grows c (record c { calls = calls })
+grows_calls calls c = grows_other (asked c) c.running.formats calls c.code c refl refl (more_refl c.scopes)
+
+-- an object is freed in a scope of its own
+pub grows_free : (line : ℕ) (a : Atom) (c : Context) → Grows c (emit line Leave (emit line (Free a) (emit line Enter c)))
+grows_free line a c = record {
+  pieces = Does (record { line = line; kind = Enter }) ∷ Does (record { line = line; kind = Free a }) ∷ Does (record { line = line; kind = Leave }) ∷ [];
+  code = simp append_assoc;
+  more = omega arith;
+  fragment = λ k. record {
+    goes = (tt, (tt, (tt, tt)));
+    targets = (tt, (tt, (tt, tt)));
+    places = tt;
+    placed = tt;
+    flows = λ m p lead. record { marks = m; same = agree_refl c.code.labels m; flow = (k + 1, refl, (k + 1, refl, (k, refl, refl))); entered = tt };
+  };
   cases = refl;
   otherwise = refl;
   names = more_refl c.scopes;
   kept = record { variables = refl; functions = refl; params = refl; walked = refl; length = refl; answer = refl; mems = refl; declared = refl; addressed = refl; literals = λ i w e. e; counted = λ (h : Counted c). record { bytes = h.bytes; small = h.small } };
 }
 
-pub grows_told : (n : names.Context) (c : Context) → More c.scopes n.scopes → Grows c (told n c)
-grows_told n c m = record {
-  pieces = [];
-  code = sym (append-nil c.code.pieces);
-  more = omega arith;
-  fragment = λ k. nothing [] k c.code.labels c.code.labels;
-  cases = refl;
-  otherwise = refl;
-  names = m;
-  kept = record { variables = refl; functions = refl; params = refl; walked = refl; length = refl; answer = refl; mems = refl; declared = refl; addressed = refl; literals = λ i w e. e; counted = λ (h : Counted c). record { bytes = h.bytes; small = h.small } };
+-- literals
+
+more_bytes : (literals : List (List ℕ)) (bytes : List ℕ) → literal_bytes (literals ++ bytes ∷ []) ≡ literal_bytes literals + block_size (length bytes + 1)
+more_bytes literals bytes = sum_by-append (λ (x : List ℕ). block_size (length x + 1)) literals (bytes ∷ []) ∙ ap (λ k. literal_bytes literals + k) (zero_first (block_size (length bytes + 1)))
+  where
+    zero_first : (k : ℕ) → 0 + k ≡ k
+    zero_first k = omega arith
+
+with_one_literal : (c : Context) (bytes : List ℕ) → c.static_bytes + block_size (length bytes + 1) ≤ 67108864
+    → Grows c (record c { static_bytes = c.static_bytes + block_size (length bytes + 1); literals = c.literals ++ bytes ∷ [] })
+with_one_literal c bytes small =
+    grows_by c (record c { static_bytes = c.static_bytes + block_size (length bytes + 1); literals = c.literals ++ bytes ∷ [] }) refl refl refl refl (more_refl c.scopes)
+    (record {
+      variables = refl;
+      functions = refl;
+      params = refl;
+      walked = refl;
+      length = refl;
+      answer = refl;
+      mems = refl;
+      declared = refl;
+      addressed = refl;
+      literals = λ i w e. get_left c.literals (bytes ∷ []) i w e;
+      counted = λ (h : Counted c). record { bytes = omega (arith, h.bytes, more_bytes c.literals bytes); small = small };
+    })
+
+pub grown_literal : (line : ℕ) (bytes : List ℕ) (b c : Context) → Grows b c → Grown b (with_literal line bytes c)
+grown_literal line bytes b c g = by (nat_lt 67108864 (c.static_bytes + block_size (length bytes + 1))) refl
+  where
+    large : ℕ
+    large = c.static_bytes + block_size (length bytes + 1)
+
+    by : (t : Bool) → nat_lt 67108864 (c.static_bytes + block_size (length bytes + 1)) ≡ t
+        → Grown b (then (unless t StaticTooLarge line (good (record c { static_bytes = c.static_bytes + block_size (length bytes + 1) }))) (λ d. good (record d { literals = d.literals ++ bytes ∷ [] }, literal_object (length c.literals))))
+    by true e d f = never (Grows b d.0) _ d f
+    by false e d f =
+        subst (λ (x : Context × ℕ). Grows b x.0) (ok_same _ d f) (grows_trans b c _ g (with_one_literal c bytes (ltb-false 67108864 (c.static_bytes + block_size (length bytes + 1)) e)))
+
+-- code that goes one of two ways
+
+-- marks of two labels above those so far
+pub record Picked (low one other p q n : ℕ) (m : Marks) : Type 0 where
+  pub marks : Marks
+  pub same : Agree low m marks
+  pub one_point : marks.point one ≡ p
+  pub one_depth : marks.depth one ≡ n
+  pub other_point : marks.point other ≡ q
+  pub other_depth : marks.depth other ≡ n
+
+pub in_order : (low p q n : ℕ) (m : Marks) → Picked low low (low + 1) p q n m
+in_order low p q n m =
+    let a = marked low p n m in
+    let b = marked (low + 1) q n a.marks in
+    record {
+      marks = b.marks;
+      same = agree_trans low (low + 1) m a.marks b.marks (omega arith) a.same b.same;
+      one_point = b.same.points low (omega arith) ∙ a.point;
+      one_depth = b.same.depths low (omega arith) ∙ a.depth;
+      other_point = b.point;
+      other_depth = b.depth;
+    }
+
+abbrev pub forked : ℕ → Atom → ℕ → List Piece → ℕ → ℕ → List Piece → List Piece
+forked line a one first at other second =
+    Does (stm_at line (Zero a one)) ∷ (first ++ (Does (stm_at at (Jump other)) ∷ Here one ∷ (second ++ (Here other ∷ []))))
+
+module _ (ws : List Way) (n low middle high : ℕ) (a : Atom) (line at one other : ℕ) (first second : List Piece)
+    (pick : (p q : ℕ) (m : Marks) → Picked low one other p q n m) (one_in : one < low + 2) (other_in : other < low + 2)
+    (early : AreEarlier low ws) (le : low + 2 ≤ middle) (le2 : middle ≤ high)
+    (f : Fragment ws n (low + 2) middle first []) (g : Fragment ws n middle high second []) where
+  abbrev code : List Piece
+  code = forked line a one first at other second
+
+  abbrev rest : List Piece
+  rest = Does (stm_at at (Jump other)) ∷ Here one ∷ (second ++ (Here other ∷ []))
+
+  one_placed : Placed one code
+  one_placed = placed_right one first rest (inl refl)
+
+  other_placed : Placed other code
+  other_placed = placed_right other first rest (inr (placed_right other second (Here other ∷ []) (inl refl)))
+
+  abbrev Goal : ℕ → Type 0
+  Goal l = Placed l code ⊎ IsWay ws l
+
+  fork_goes : Targets Goal code
+  fork_goes = (
+    inl one_placed,
+    targets_append Goal first rest
+        (targets_map _ Goal first (λ l. ⊎_elim (λ (h : Placed l first). inl (placed_left l first rest h)) (λ (h : IsWay ws l). inr h)) f.goes) (
+          inl other_placed,
+          targets_append Goal second (Here other ∷ [])
+              (targets_map _ Goal second (λ l. ⊎_elim (λ (h : Placed l second). inl (placed_right l first rest (inr (placed_left l second (Here other ∷ []) h)))) (λ (h : IsWay ws l). inr h)) g.goes)
+              tt,
+        ),
+  )
+
+  fork_targets : Targets (λ l. l < high) code
+  fork_targets =
+      let small : one < high = omega arith in
+      let small2 : other < high = omega arith in
+      (small, targets_append _ first rest (targets_map _ _ first (λ l h. omega (arith, h)) f.targets) (small2, targets_append _ second (Here other ∷ []) g.targets tt))
+
+  fork_places : Places (λ l. l < high) code
+  fork_places =
+      let small : one < high = omega arith in
+      let small2 : other < high = omega arith in
+      places_append _ first rest (places_map _ _ first (λ l h. omega (arith, h)) f.places) (small, places_append _ second (Here other ∷ []) g.places (small2, tt))
+
+  fork_long : steps code ≡ steps first + steps second + 2
+  fork_long = omega (arith, steps_append first rest, steps_append second (Here other ∷ []))
+
+  fork_made : (m : Marks) (p : ℕ) → Leads m (p + steps code) ws → Made low n p m code []
+  fork_made m p lead =
+      let long = fork_long in
+      let p1 : ℕ = p + 1 in
+      let p2 : ℕ = p + 1 + steps first + 1 in
+      let p3 : ℕ = p2 + steps second in
+      let base = pick p2 p3 m in
+      let lead1 = leads_agree low m base.marks (p + steps code) ws base.same early lead in
+      let one_made = f.flows base.marks p1 (leads_less base.marks (p1 + steps first) (p + steps code) ws (omega arith) lead1) in
+      let lead2 = leads_agree (low + 2) base.marks one_made.marks (p + steps code) ws one_made.same (earlier_less low (low + 2) ws (omega arith) early) lead1 in
+      let two_made = g.flows one_made.marks p2 (leads_less one_made.marks (p2 + steps second) (p + steps code) ws (omega arith) lead2) in
+      let all : Agree (low + 2) base.marks two_made.marks = agree_trans (low + 2) middle base.marks one_made.marks two_made.marks le one_made.same two_made.same in
+      let here_one : two_made.marks.point one ≡ p2 = all.points one one_in ∙ base.one_point in
+      let here_other : two_made.marks.point other ≡ p3 = all.points other other_in ∙ base.other_point in
+      let deep_one : two_made.marks.depth one ≡ n = all.depths one one_in ∙ base.one_depth in
+      let deep_other : two_made.marks.depth other ≡ n = all.depths other other_in ∙ base.other_depth in
+      let ahead : p < two_made.marks.point one = omega arith in
+      let ahead2 : p1 + steps first < two_made.marks.point other = omega arith in
+      record {
+        marks = two_made.marks;
+        same = agree_trans low (low + 2) m base.marks two_made.marks (omega arith) base.same all;
+        flow = (
+          n,
+          (deep_one, ahead, refl),
+          flows_append two_made.marks first rest p1 n n n
+              (flows_agree middle one_made.marks two_made.marks first p1 n n two_made.same f.targets f.places one_made.flow) (
+                n,
+                (deep_other, ahead2),
+                (
+                  here_one,
+                  deep_one,
+                  flows_append two_made.marks second (Here other ∷ []) p2 n n n two_made.flow (here_other, deep_other, refl),
+                ),
+              ),
+        );
+        entered = tt;
+      }
+
+  pub fork_fragment : Fragment ws n low high code []
+  fork_fragment = record { goes = fork_goes; targets = fork_targets; places = fork_places; placed = tt; flows = fork_made }
+
+-- pieces that are put behind others one after another
+pub forked_behind : (start first second : List Piece) (line : ℕ) (a : Atom) (one at other : ℕ)
+    → ((((((start ++ (Does (stm_at line (Zero a one)) ∷ [])) ++ first) ++ (Does (stm_at at (Jump other)) ∷ [])) ++ (Here one ∷ [])) ++ second) ++ (Here other ∷ [])) ≡ start ++ forked line a one first at other second
+forked_behind start first second line a one at other = simp append_assoc
+
+pub grows_fork : (t r s : Context) (line at : ℕ) (a : Atom)
+    → Grows (emit line (Zero a t.code.labels) (with_labels 2 t)) r
+    → Grows (here t.code.labels (emit at (Jump (t.code.labels + 1)) r)) s
+    → Grows t (here (t.code.labels + 1) s)
+grows_fork t r s line at a g h = record {
+  pieces = forked line a t.code.labels g.pieces at (t.code.labels + 1) h.pieces;
+  code = ap (λ (l : List Piece). l ++ (Here (t.code.labels + 1) ∷ [])) (h.code ∙ ap (λ (l : List Piece). ((l ++ (Does (stm_at at (Jump (t.code.labels + 1))) ∷ [])) ++ (Here t.code.labels ∷ [])) ++ h.pieces) g.code)
+      ∙ forked_behind t.code.pieces g.pieces h.pieces line a t.code.labels at (t.code.labels + 1);
+  more = omega (arith, g.more, h.more);
+  fragment = λ n. fork_fragment [] n t.code.labels r.code.labels s.code.labels a line at t.code.labels (t.code.labels + 1) g.pieces h.pieces
+      (λ p q m. in_order t.code.labels p q n m) (omega arith) (omega arith) tt g.more h.more (g.fragment n) (h.fragment n);
+  cases = h.cases ∙ g.cases;
+  otherwise = h.otherwise ∙ g.otherwise;
+  names = more_trans t.scopes r.scopes s.scopes g.names h.names;
+  kept = kept_trans t (record r { code = r.code }) (here (t.code.labels + 1) s) (recoded t r _ r.code g.kept) (recoded r s _ _ h.kept);
 }
 
--- code that is forgotten again
-pub grows_forgotten : (b c : Context) → Grows b c → Grows b (record c { code = b.code })
-grows_forgotten b c g = record {
+-- what a part of a function, or of a text, leaves as it was
+
+-- what every part leaves as it was
+pub record Stays (c d : Context) : Type 0 where
+  pub safe : Safe d.scopes
+  pub depth : length d.scopes.inner ≡ length c.scopes.inner
+  pub inside : 1 ≤ length c.scopes.inner → Settled c d
+  pub tied : Tied c.functions c.scopes.file c.walked d.functions d.scopes.file d.walked
+  pub walked : d.walked ≡ c.walked
+  pub length : d.length ≡ c.length
+  pub params : SafeTable c.params → SafeTable d.params
+  pub counted : Counted c → Counted d
+
+pub stays_trans : (a b c : Context) → Stays a b → Stays b c → Stays a c
+stays_trans a b c x y = record { safe = y.safe; depth = y.depth ∙ x.depth; tied = tied_trans a.functions b.functions c.functions a.scopes.file b.scopes.file c.scopes.file a.walked b.walked c.walked x.tied y.tied; walked = y.walked ∙ x.walked; length = y.length ∙ x.length; params = λ h. y.params (x.params h); counted = λ h. y.counted (x.counted h); inside = λ h. settled_trans a b c (x.inside h) (y.inside (omega (arith, h, x.depth))) }
+
+-- a part whose code goes to its end alone
+pub record Passes (c d : Context) : Type 0 where
+  pub pieces : List Piece
+  pub code : d.code.pieces ≡ c.code.pieces ++ pieces
+  pub more : c.code.labels ≤ d.code.labels
+  pub fragment : (n : ℕ) → Fragment [] n c.code.labels d.code.labels pieces []
+  pub cases : d.running.cases ≡ c.running.cases
+  pub otherwise : d.running.otherwise ≡ c.running.otherwise
+  pub stays : Stays c d
+
+pub passes_trans : (a b c : Context) → Passes a b → Passes b c → Passes a c
+passes_trans a b c x y = record {
+  pieces = x.pieces ++ y.pieces;
+  code = y.code ∙ ap (λ (l : List Piece). l ++ y.pieces) x.code ∙ append_assoc a.code.pieces x.pieces y.pieces;
+  more = omega (arith, x.more, y.more);
+  fragment = λ n. joined [] n a.code.labels b.code.labels c.code.labels x.pieces y.pieces [] [] tt x.more y.more (x.fragment n) (y.fragment n);
+  cases = y.cases ∙ x.cases;
+  otherwise = y.otherwise ∙ x.otherwise;
+  stays = stays_trans a b c x.stays y.stays;
+}
+
+pub grows_stays : (c d : Context) → Safe c.scopes → Grows c d → Stays c d
+grows_stays c d s g = record { safe = more_safe c.scopes d.scopes g.names s; depth = more_depth c.scopes d.scopes g.names; tied = tied_same c.functions d.functions c.scopes.file d.scopes.file c.walked d.walked g.kept.functions g.kept.walked (more_keeps c.scopes d.scopes g.names); walked = g.kept.walked; length = g.kept.length; params = λ h. subst SafeTable (sym g.kept.params) h; counted = g.kept.counted; inside = λ h. grows_settled c d g }
+
+pub grows_passes : (c d : Context) → Safe c.scopes → Grows c d → Passes c d
+grows_passes c d s g = record {
+  pieces = g.pieces;
+  code = g.code;
+  more = g.more;
+  fragment = g.fragment;
+  cases = g.cases;
+  otherwise = g.otherwise;
+  stays = grows_stays c d s g;
+}
+
+-- other facts of which the code is as it was
+pub passes_beside : (c d : Context) → d.code ≡ c.code → d.running.cases ≡ c.running.cases → d.running.otherwise ≡ c.running.otherwise → Stays c d → Passes c d
+passes_beside c d e same same2 s = record {
   pieces = [];
-  code = sym (append-nil b.code.pieces);
-  more = omega arith;
-  fragment = λ k. nothing [] k b.code.labels b.code.labels;
+  code = ap (λ (x : Code). x.pieces) e ∙ sym (append-nil c.code.pieces);
+  more = omega (arith, ap (λ (x : Code). x.labels) e);
+  fragment = λ n. nothing [] n c.code.labels d.code.labels;
+  cases = same;
+  otherwise = same2;
+  stays = s;
+}
+
+pub stays_beside : (c d : Context) → Safe d.scopes → d.walked ≡ c.walked → d.length ≡ c.length → d.static_bytes ≡ c.static_bytes → d.variables ≡ c.variables → d.literals ≡ c.literals → (SafeTable c.params → SafeTable d.params) → length d.scopes.inner ≡ length c.scopes.inner
+    → Tied c.functions c.scopes.file c.walked d.functions d.scopes.file d.walked → (1 ≤ length c.scopes.inner → ObjectsStay c.scopes.file d.scopes.file) → Stays c d
+stays_beside c d s e1 e2 e3 e4 e5 keep deep tie objects = record {
+  safe = s;
+  depth = deep;
+  tied = tie;
+  walked = e1;
+  length = e2;
+  params = keep;
+  counted = λ (h : Counted c). record { bytes = cc (h.bytes); small = subst (λ n. n ≤ 67108864) (sym e3) h.small };
+  inside = λ h. record { variables = e4; literals = λ i w q. subst (λ (ls : List (List ℕ)). slice_get ls i ≡ Some w) (sym e5) q; objects = objects h };
+}
+
+-- full expressions
+
+both2 : (a b c d : Bool) → a ≡ b → c ≡ d → (a || c) ≡ (b || d)
+both2 a b c d x y = cc
+
+both3 : (a b c d e g : Bool) → a ≡ b → c ≡ d → e ≡ g → (a || c || e) ≡ (b || d || g)
+both3 a b c d e g x y z = cc
+
+calls_same : (e : Tree) (s t : ScopeList) → More s t → Safe s → calls_realloc t e ≡ calls_realloc s e
+calls_same (Node f.Name (At line ▹ Leaf (w.Name name) ▹ none)) s t m h = same_frees s t name m h
+calls_same tree s t m h = refl
+
+mutual
+  unfolding reallocates any_reallocates
+
+  reallocates_same : (e : Tree) (s t : ScopeList) → More s t → Safe s → reallocates t e ≡ reallocates s e
+  reallocates_same (Leaf word) s t m h = refl
+  reallocates_same (At line) s t m h = refl
+  reallocates_same (Node f.SizeofExpr parts) s t m h = refl
+  reallocates_same (Node f.Str parts) s t m h = refl
+  reallocates_same (Node f.Call (At line ▹ e ▹ arguments)) s t m h =
+      both3 _ _ _ _ _ _ (calls_same e s t m h) (reallocates_same e s t m h) (any_same arguments s t m h)
+  reallocates_same (Node other parts) s t m h = any_same parts s t m h
+
+  any_same : (es : Trees) (s t : ScopeList) → More s t → Safe s → any_reallocates t es ≡ any_reallocates s es
+  any_same none s t m h = refl
+  any_same (e ▹ rest) s t m h = both2 _ _ _ _ (reallocates_same e s t m h) (any_same rest s t m h)
+
+-- a full expression: its scope, where it has one, is closed at its end
+closed_in : (b c : Context) (line : ℕ) (r : Bool) → Safe b.scopes
+    → Grows (cond r (emit line Enter (anew b)) (anew b)) c → Grows b (cond r (emit line Leave c) c)
+closed_in b c line false s g = grows_trans b (anew b) c (grows_code b _ refl refl) g
+closed_in b c line true s g = record {
+  pieces = Does (stm_at line Enter) ∷ (g.pieces ++ (Does (stm_at line Leave) ∷ []));
+  code = ap (λ (l : List Piece). l ++ (Does (stm_at line Leave) ∷ [])) g.code ∙ simp append_assoc;
+  more = g.more;
+  fragment = λ n. in_scope [] n b.code.labels c.code.labels line line g.pieces (g.fragment (n + 1));
   cases = g.cases;
   otherwise = g.otherwise;
   names = g.names;
-  kept = record {
-    variables = g.kept.variables;
-    functions = g.kept.functions;
-    params = g.kept.params;
-    walked = g.kept.walked;
-    length = g.kept.length;
-    answer = g.kept.answer;
-    mems = g.kept.mems;
-    declared = g.kept.declared;
-    addressed = g.kept.addressed;
-    literals = g.kept.literals;
-    counted = λ (h : Counted b). let k = g.kept.counted h in record { bytes = k.bytes; small = k.small };
-  };
+  kept = recoded b c (emit line Enter (anew b)).code _ g.kept;
 }
+
+more_cond : (b c : Context) (line : ℕ) (r : Bool) → Grows (cond r (emit line Enter (anew b)) (anew b)) c → More b.scopes c.scopes
+more_cond b c line true g = g.names
+more_cond b c line false g = g.names
+
+pub grows_closed : (e : Tree) (b c : Context) → Safe b.scopes → Grows (opened e b) c → Grows b (closed e c)
+grows_closed e b c s g =
+    let same : reallocates c.scopes e ≡ reallocates b.scopes e = reallocates_same e b.scopes c.scopes (more_cond b c (code_line e) (reallocates b.scopes e) g) s in
+    subst (λ r. Grows b (cond r (emit (code_line e) Leave c) c)) (sym same) (closed_in b c (code_line e) (reallocates b.scopes e) s g)
+
+-- one that is not closed
+pub opened_stays : (e : Tree) (c d : Context) → Safe c.scopes → Grows (opened e c) d → Stays c d
+opened_stays e c d s =
+    either_way (λ x. Grows x d → Stays c d) (reallocates c.scopes e)
+    (λ g. record { safe = more_safe c.scopes d.scopes g.names s; depth = more_depth c.scopes d.scopes g.names; tied = tied_same c.functions d.functions c.scopes.file d.scopes.file c.walked d.walked g.kept.functions g.kept.walked (more_keeps c.scopes d.scopes g.names); walked = g.kept.walked; length = g.kept.length; params = λ k. subst SafeTable (sym g.kept.params) k; counted = λ (h : Counted c). g.kept.counted (record { bytes = h.bytes; small = h.small }); inside = λ h. let k = grows_settled _ d g in record { variables = k.variables; literals = k.literals; objects = k.objects } })
+    (λ g. record { safe = more_safe c.scopes d.scopes g.names s; depth = more_depth c.scopes d.scopes g.names; tied = tied_same c.functions d.functions c.scopes.file d.scopes.file c.walked d.walked g.kept.functions g.kept.walked (more_keeps c.scopes d.scopes g.names); walked = g.kept.walked; length = g.kept.length; params = λ k. subst SafeTable (sym g.kept.params) k; counted = λ (h : Counted c). g.kept.counted (record { bytes = h.bytes; small = h.small }); inside = λ h. let k = grows_settled _ d g in record { variables = k.variables; literals = k.literals; objects = k.objects } })

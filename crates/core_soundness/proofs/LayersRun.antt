@@ -1,40 +1,173 @@
--- What declarators, specs and tags do to what fits (C99 6.7).
-use Rattle.std.proofs.Common.{◌≡◌, ◌<◌, not, option_map, ap, sym, ◌≤◌, ◌∙◌, subst, ⊎_elim, length-append, ℕ, zero, suc, Bool, true, false, ◌||◌, cond, is_some, List, [], ◌∷◌, ◌++◌, length, slice_get, unwrap_or, Option, Some, None, Ok, refl, arith}
-use Rattle.c_types.specs.declared.types.IntType.TheVariants as i
-use Rattle.c_types.specs.Types.{PlainType, PlainTypes, Int, Pointer}
+-- What declarators, specs and prototypes do to what fits.
+use Rattle.std.proofs.Common.{◌≡◌, ℕ, ◌+◌, Bool, true, false, cond, is_some, nat_lt, List, [], ◌∷◌, length, Option, Some, None, ◌≤◌, refl, ap, ◌∙◌, arith, ◌<◌, not, option_map, sym, subst, ⊎_elim, length-append, zero, suc, ◌||◌, ◌++◌, slice_get, unwrap_or, Ok}
+use Rattle.std.proofs.lemmas.Bool.{ltb-false}
 use Rattle.c_types.specs.Layouts.{no_layout}
 use Rattle.c_types.specs.TagTable.{TagTable, layout_in}
+use Rattle.c_types.specs.Types.{PlainType, Int, PlainTypes, Pointer}
+use Rattle.c_types.specs.declared.types.IntType.TheVariants as i
+use Rattle.core_tree.specs.Sorts.{Sort, sort_of}
+use Rattle.core_tree.specs.declared.program.Reg.{Reg as Register}
 use Rattle.core_tree.specs.declared.statements.Atom.TheVariants as atom
 use Rattle.c_tree.specs.Tree.{Tree, Trees}
-use Rattle.c_decls.specs.declared.refusal.TypeKind.TheVariants.{DeclaredTwice}
 use Rattle.c_decls.specs.Named as n
 use Rattle.c_decls.specs.Named.{PlainNamed}
-use Rattle.c_decls.specs.ScopeList as scopes
-use Rattle.c_decls.specs.ScopeList.{ScopeList, Table, named_in, innermost, first_or, with_name, tag_name, after_declaration}
 use Rattle.c_decls.specs.Refusals.{Checked}
-use Rattle.c_decls.specs.Typed.{is_scalar}
+use Rattle.c_decls.specs.ScopeList as scopes
+use Rattle.c_decls.specs.ScopeList.{ScopeList, Table, named_in, innermost, with_name, tag_name, after_declaration, first_or}
 use Rattle.c_decls.specs.TypeNames as names
-use Rattle.elaboration.specs.Context.{Context, Running, Code, Variable, asked, told, entered, local_register}
+use Rattle.c_decls.specs.Typed.{is_scalar}
+use Rattle.c_decls.specs.declared.refusal.TypeKind.TheVariants.{DeclaredTwice}
+use Rattle.elaboration.specs.Context.{Context, Running, told, entered, Code, Variable, asked, local_register}
 use Rattle.elaboration.specs.Conversions.{Spot, Memory}
-use Rattle.elaboration.specs.Locals.{is_pointer, is_twice, declared_as, next_is_memory, with_register, with_memory, counted, with_named, memory_param, register_param, function_param, prototype_param, with_param, local_in, with_local}
-use Rattle.elaboration.specs.Declarators.{constant, with_type, left_params, specs, layers, suffix_layers, suffix_layer, params}
-use Rattle.core_soundness.proofs.Names.{More, MoreAll, more_refl, all_refl}
-use Rattle.core_soundness.proofs.Owners.{IsNoFunction, with_name_keeps, with_name_depth, tag_kept}
-use Rattle.core_soundness.proofs.ShortNames.{Any, any_names, all_any}
-use Rattle.core_soundness.proofs.LayersWalk.{Steps, constant_keeps, specs_keep, layers_keep, suffixes_keep, suffix_keeps, params_keep}
-use Rattle.core_soundness.proofs.Reached.{Reached, reached_ok, reached_after, Led, led_ok, led_unless}
-use Rattle.core_soundness.proofs.TypedNames.{After}
-use Rattle.core_tree.specs.declared.program.Reg.{Reg as Register}
-use Rattle.core_tree.specs.Sorts.{Sort, sort_of}
+use Rattle.elaboration.specs.Declarators.{left_params, specs, layers, params, constant, with_type, suffix_layers, suffix_layer}
+use Rattle.elaboration.specs.Locals.{counted, with_named, prototype_param, function_param, is_prototype, with_param, is_pointer, is_twice, declared_as, next_is_memory, with_register, with_memory, memory_param, register_param, local_in, with_local}
 use Rattle.core_soundness.specs.Worlds.{World, world, local_sort, type_sort, is_local, Held, StandsAs, InnerFits, FileFits, TableFits, TablesFit, NamesFit, PiecesFit}
+use Rattle.core_soundness.proofs.Calls.{names_more, sort_kept}
 use Rattle.core_soundness.proofs.Declaring.{tail_depth}
-use Rattle.core_soundness.proofs.Owners.{Pushed, push_get, get_left, get_last}
-use Rattle.core_soundness.proofs.Growing.{Grew, grew_refl, pieces_grew}
-use Rattle.core_soundness.proofs.Going.{goes_told}
-use Rattle.core_soundness.proofs.Sorting.{write_goes}
-use Rattle.core_soundness.proofs.Readying.{names_more, sort_kept}
-use Rattle.core_soundness.proofs.Prototypes.{Aside, aside_refl, left_aside, with_name_outside, own_params, params_beside}
-use Rattle.core_soundness.proofs.Running.{Fine, Runs, tail_more, runs_refl, runs_trans, on_runs, table_grew, names_left, entered_fine}
+use Rattle.core_soundness.proofs.Growth.{Reached, reached_ok, reached_after, Led, led_ok, led_unless}
+use Rattle.core_soundness.proofs.Scopes.{More, MoreTags, MoreAll, tags_refl, tags_trans, all_refl, all_trans, more_depth, with_name_depth, Any, any_names, all_any, more_refl, IsNoFunction, with_name_keeps, tag_kept, Pushed, push_get, get_left, get_last, tail_more}
+use Rattle.core_soundness.proofs.Sitting.{Fine, Runs, runs_refl, runs_trans, on_runs, table_grew, names_left, entered_fine, goes_runs}
+use Rattle.core_soundness.proofs.Sorting.{Grew, grew_refl, pieces_grew, goes_told, write_goes}
+use Rattle.core_soundness.proofs.TagSorts.{After}
+use Rattle.core_soundness.proofs.Walks.{Steps, specs_keep, layers_keep, params_keep, constant_keeps, suffixes_keep, suffix_keeps}
+use Rattle.core_soundness.proofs.Choices.{either_way}
+
+-- parts that stand inside a scope: their parameter lists are those of prototypes, of which nothing is made (C99 6.2.1)
+
+-- what such a part leaves as it was: the code and the running function, but for how many are declared; what is kept of the
+-- whole text; and the scopes around the innermost, but for new tags
+pub record Aside (c d : Context) : Type 0 where
+  pub code : d.code ≡ c.code
+  pub running : d.running ≡ record c.running { declared = d.running.declared }
+  pub variables : d.variables ≡ c.variables
+  pub literals : d.literals ≡ c.literals
+  pub calls : d.calls ≡ c.calls
+  pub walked : d.walked ≡ c.walked
+  pub file : MoreTags c.scopes.file d.scopes.file
+  pub outside : MoreAll (scopes.tail c.scopes.inner) (scopes.tail d.scopes.inner)
+  pub depth : length d.scopes.inner ≡ length c.scopes.inner
+
+pub aside_refl : (c : Context) → Aside c c
+aside_refl c = record { code = refl; running = refl; variables = refl; literals = refl; calls = refl; walked = refl; file = tags_refl c.scopes.file; outside = all_refl (scopes.tail c.scopes.inner); depth = refl }
+
+pub aside_trans : (a b c : Context) → Aside a b → Aside b c → Aside a c
+aside_trans a b c x y = record {
+  code = y.code ∙ x.code;
+  running = y.running ∙ ap (λ (run : Running). record run { declared = c.running.declared }) x.running;
+  variables = y.variables ∙ x.variables;
+  literals = y.literals ∙ x.literals;
+  calls = y.calls ∙ x.calls;
+  walked = y.walked ∙ x.walked;
+  file = tags_trans a.scopes.file b.scopes.file c.scopes.file x.file y.file;
+  outside = all_trans (scopes.tail a.scopes.inner) (scopes.tail b.scopes.inner) (scopes.tail c.scopes.inner) x.outside y.outside;
+  depth = y.depth ∙ x.depth;
+}
+
+told_aside : (told_of : names.Context) (c : Context) → More c.scopes told_of.scopes → Aside c (told told_of c)
+told_aside told_of c m = record { code = refl; running = refl; variables = refl; literals = refl; calls = refl; walked = refl; file = m.file; outside = tail_more c.scopes.inner told_of.scopes.inner m.inner; depth = more_depth c.scopes told_of.scopes m }
+
+-- names of the innermost scope
+
+pub with_name_outside : (s : ScopeList) (name : List ℕ) (v : PlainNamed) → MoreAll (scopes.tail s.inner) (scopes.tail (with_name s name v).inner)
+with_name_outside s name v = by s.inner
+  where
+    by : (inner : List Table) → MoreAll (scopes.tail inner) (scopes.tail (scopes.with_name_in s.file inner name v).inner)
+    by [] = tt
+    by (t ∷ ts) = all_refl ts
+
+file_stays : (file : Table) (inner : List Table) (name : List ℕ) (v : PlainNamed) → 1 ≤ length inner → MoreTags file (scopes.with_name_in file inner name v).file
+file_stays file [] name v deep = absurd (omega (arith, deep))
+file_stays file (t ∷ ts) name v deep = tags_refl file
+
+name_aside : (name : List ℕ) (v : PlainNamed) (c : Context) → 1 ≤ length c.scopes.inner → Aside c (record c { scopes = with_name c.scopes name v })
+name_aside name v c deep = record { code = refl; running = refl; variables = refl; literals = refl; calls = refl; walked = refl; file = file_stays c.scopes.file c.scopes.inner name v deep; outside = with_name_outside c.scopes name v; depth = with_name_depth c.scopes name v }
+
+named_aside : (name : Option (List ℕ)) (v : PlainNamed) (c : Context) → 1 ≤ length c.scopes.inner → Aside c (with_named name v c)
+named_aside None v c deep = aside_refl c
+named_aside (Some name) v c deep = name_aside name v c deep
+
+after_aside : (name : List ℕ) (v : PlainNamed) (c : Context) → 1 ≤ length c.scopes.inner → Aside c (record c { scopes = after_declaration c.scopes name v })
+after_aside name v c deep = either_way (λ x. Aside c (record c { scopes = x })) (is_some (named_in name (innermost c.scopes))) (aside_refl c) (name_aside name v c deep)
+
+-- constants, specs and declarators
+
+same_aside : (c : Context) (tags : TagTable) (params : Table) → Aside c (record c { tags = tags; params = params })
+same_aside c tags params = record { code = refl; running = refl; variables = refl; literals = refl; calls = refl; walked = refl; file = tags_refl c.scopes.file; outside = all_refl (scopes.tail c.scopes.inner); depth = refl }
+
+counted_aside : (b c : Context) → Aside b c → Aside b (counted c)
+counted_aside b c p = record {
+  code = p.code;
+  running = ap (λ (run : Running). record run { declared = c.running.declared + 1 }) p.running;
+  variables = p.variables;
+  literals = p.literals;
+  calls = p.calls;
+  walked = p.walked;
+  file = p.file;
+  outside = p.outside;
+  depth = p.depth;
+}
+
+-- a list at file scope is no prototype's
+pub own_params : (c : Context) → length c.scopes.inner ≡ 1 → is_prototype c.scopes ≡ false
+own_params c deep = ap (λ (k : ℕ). nat_lt 1 k) deep
+
+-- a list inside another scope is that of a prototype
+with_param_aside : (name : Option (List ℕ)) (type : PlainType) (c : Context) → 2 ≤ length c.scopes.inner → Aside c (with_param name type c)
+with_param_aside name type c deep = by (is_prototype c.scopes) refl
+  where
+    by : (t : Bool) → is_prototype c.scopes ≡ t → Aside c (counted (cond t (prototype_param name type c) (function_param name type c)))
+    by true e = counted_aside c _ (named_aside name (n.Object type 0) c (omega (arith, deep)))
+    by false e = absurd (omega (arith, deep, ltb-false 1 (length c.scopes.inner) e))
+
+-- a list of parameters in a scope of its own
+pub left_aside : (c x : Context) → Aside (entered c) x → Aside c (left_params x)
+left_aside c x p = record {
+  code = p.code;
+  running = p.running;
+  variables = p.variables;
+  literals = p.literals;
+  calls = p.calls;
+  walked = p.walked;
+  file = p.file;
+  outside = tail_more c.scopes.inner (scopes.tail x.scopes.inner) p.outside;
+  depth = tail_depth x.scopes.inner (length c.scopes.inner) p.depth;
+}
+
+-- a parameter list stands in a scope that stands in another
+abbrev least : Bool → ℕ
+least true = 2
+least false = 1
+
+least_one : (deep : Bool) → 1 ≤ least deep
+least_one true = omega arith
+least_one false = omega arith
+
+abbrev KeptWithin : Bool → ℕ → Context → Context → Type 0
+KeptWithin deep n c d = least deep ≤ length c.scopes.inner → Aside c d
+
+aside_step : Steps Any KeptWithin
+aside_step = record {
+  stop = λ deep n c h. aside_refl c;
+  join = λ deep m n k a b c e x y h. let p = x h in aside_trans a b c p (y (omega (arith, p.depth, h)));
+  tells = λ deep t c m h. told_aside t c m;
+  retags = λ deep tags c h. same_aside c tags c.params;
+  enumerates = λ deep name value c h. after_aside name (n.Constant i.Int value) c (omega (arith, least_one deep, h));
+  names = λ deep name c h. name_aside (tag_name name) (n.Tag (Int i.Int)) c (omega (arith, least_one deep, h));
+  takes = λ name type c named h. with_param_aside name type c h;
+  lists = λ deep n parts c x q p h. left_aside c x.0 (p (omega (arith, least_one deep, h)));
+  unlists = λ deep c h. same_aside c c.tags [];
+}
+
+pub specs_beside : (tree : Tree) (b : Context) → 1 ≤ length b.scopes.inner → (c : Context) → Aside b c → Reached (Aside b) (specs tree c)
+specs_beside tree b deep c p z q = aside_trans b c z.0 p (specs_keep Any KeptWithin aside_step false tree c (any_names tree) z q (omega (arith, deep, p.depth)))
+
+pub layers_beside : (tree : Tree) (b : Context) → 1 ≤ length b.scopes.inner → (c : Context) → Aside b c → Reached (Aside b) (layers tree c)
+layers_beside tree b deep c p z q = aside_trans b c z.0 p (layers_keep Any KeptWithin aside_step false tree c (any_names tree) z q (omega (arith, deep, p.depth)))
+
+pub params_beside : (parts : Trees) (b : Context) → 2 ≤ length b.scopes.inner → (c : Context) → Aside b c → Reached (Aside b) (params parts c)
+params_beside parts b deep c p z q = aside_trans b c z.0 p (params_keep Any KeptWithin aside_step parts c (all_any parts) z q (omega (arith, deep, p.depth)))
+
+-- what declarators, specs and tags do to what fits (C99 6.7)
 
 pub pushed_fits : (P : PlainNamed → Type 0) (name : List ℕ) (v : PlainNamed) (t : Table) → P v → TableFits P t → TableFits P (t ++ (name, v) ∷ [])
 pushed_fits P name v t h f key w e =
@@ -107,33 +240,13 @@ pub more_register : (answer : Option Sort) (name : Option (List ℕ)) (type : Pl
 more_register answer name type c f =
     let d = with_register name type c in
     let grew : Grew (world c) (world d) = record { locals = λ k r e. get_left c.running.locals (record { name = name; pointer = is_pointer type } ∷ []) k r e; mems = omega arith; integers = omega arith; pointers = omega arith; variables = omega arith; literals = omega arith; formats = λ k g e. e; calls = λ j y e. e; file = λ key t i e. e } in
-    record {
-      grew = grew;
-      fine = record { names = names_more (world c) (world d) c.scopes c.scopes grew (more_refl c.scopes) f.names; lined = f.lined };
-      fits = λ k. pieces_grew answer (world c) (world d) c.code.pieces grew k;
-      answer = refl;
-      addressed = refl;
-      outside = all_refl (scopes.tail c.scopes.inner);
-      depth = refl;
-      params = λ flat k. table_grew (world c) (world d) c.params grew k;
-      walked = refl;
-    }
+    goes_runs answer c d f (record { grew = grew; more = more_refl c.scopes; kept = record { line = refl; answer = refl; addressed = refl; declared = refl; params = refl; walked = refl }; fits = λ a k. pieces_grew a (world c) (world d) c.code.pieces grew k })
 
 pub more_memory : (answer : Option Sort) (name : List ℕ) (type : PlainType) (c : Context) → Fine c → Runs answer c (with_memory name type c)
 more_memory answer name type c f =
     let d = with_memory name type c in
     let grew : Grew (world c) (world d) = record { locals = λ k r e. e; mems = omega (arith, length-append c.running.mems (record { name = name; layout = unwrap_or (layout_in c.tags type) no_layout } ∷ [])); integers = omega arith; pointers = omega arith; variables = omega arith; literals = omega arith; formats = λ k g e. e; calls = λ j y e. e; file = λ key t i e. e } in
-    record {
-      grew = grew;
-      fine = record { names = names_more (world c) (world d) c.scopes c.scopes grew (more_refl c.scopes) f.names; lined = f.lined };
-      fits = λ k. pieces_grew answer (world c) (world d) c.code.pieces grew k;
-      answer = refl;
-      addressed = refl;
-      outside = all_refl (scopes.tail c.scopes.inner);
-      depth = refl;
-      params = λ flat k. table_grew (world c) (world d) c.params grew k;
-      walked = refl;
-    }
+    goes_runs answer c d f (record { grew = grew; more = more_refl c.scopes; kept = record { line = refl; answer = refl; addressed = refl; declared = refl; params = refl; walked = refl }; fits = λ a k. pieces_grew a (world c) (world d) c.code.pieces grew k })
 
 pub counted_runs : (answer : Option Sort) (b c : Context) → Runs answer b c → Runs answer b (counted c)
 counted_runs answer b c r = record { grew = r.grew; fine = record { names = r.fine.names; lined = r.fine.lined }; fits = r.fits; answer = r.answer; addressed = r.addressed; outside = r.outside; depth = r.depth; params = r.params; walked = r.walked }
@@ -222,11 +335,10 @@ module _ (answer : Option Sort) where
       runs_trans answer b c _ p (rescoped answer c (with_name c.scopes name v) (with_name_keeps c.scopes name v i).kept (with_name_depth c.scopes name v) (with_name_outside c.scopes name v) (with_name_any (world c) c.scopes name v h q p.fine.names) p.fine)
 
   after_runs : (name : List ℕ) (v : PlainNamed) (b c : Context) → IsNoFunction v → InnerFits (world c) v → FileFits (world c) v → Runs answer b c → Runs answer b (record c { scopes = after_declaration c.scopes name v })
-  after_runs name v b c i h q p = by (is_some (named_in name (innermost c.scopes)))
-    where
-      by : (t : Bool) → Runs answer b (record c { scopes = cond t c.scopes (with_name c.scopes name v) })
-      by true = record { grew = p.grew; fine = record { names = p.fine.names; lined = p.fine.lined }; fits = p.fits; answer = p.answer; addressed = p.addressed; outside = p.outside; depth = p.depth; params = p.params; walked = p.walked }
-      by false = scopes_run name v b c i h q p
+  after_runs name v b c i h q p =
+      either_way (λ x. Runs answer b (record c { scopes = x })) (is_some (named_in name (innermost c.scopes)))
+      (record { grew = p.grew; fine = record { names = p.fine.names; lined = p.fine.lined }; fits = p.fits; answer = p.answer; addressed = p.addressed; outside = p.outside; depth = p.depth; params = p.params; walked = p.walked })
+      (scopes_run name v b c i h q p)
 
   pub declared_runs : (line : ℕ) (name : List ℕ) (v : PlainNamed) (b c : Context) → IsNoFunction v → InnerFits (world c) v → FileFits (world c) v → Runs answer b c → Led (Runs answer b) (declared_as line name v c)
   declared_runs line name v b c i h q p =

@@ -1,53 +1,262 @@
--- What declarations do to what fits (C99 6.7, 6.9.2).
-use Rattle.std.proofs.Common.{◌≡◌, ◌≤◌, ◌+◌, ℕ, zero, suc, pos, Bool, true, false, cond, nat_lt, length, is_some, List, [], ◌∷◌, ◌++◌, slice_get, slice_set, unwrap_or, Option, Some, None, Ok, refl, ap, ◌∙◌, subst, arith, bytes_eq, length-append}
-use Rattle.std.specs.Option.{option_or}
+-- What initializers and declarations of locals do to what fits.
+use Rattle.std.proofs.Common.{◌≡◌, ◌≤◌, ◌<◌, ◌+◌, ◌&&◌, ℕ, pos, Bool, true, false, cond, min, take, length, List, [], ◌∷◌, Option, Some, None, Ok, refl, sym, subst, arith, zero, suc, nat_lt, is_some, ◌++◌, slice_get, slice_set, unwrap_or, ap, ◌∙◌, bytes_eq, length-append}
 use Rattle.std.proofs.lemmas.Bool.{ltb-true}
+use Rattle.std.specs.Option.{option_or}
 use Rattle.hs_base.specs.Place.{block_size}
-use Rattle.c_types.specs.Types as types
-use Rattle.c_types.specs.Types.{PlainType, Function}
 use Rattle.c_types.specs.Layouts.{no_layout}
 use Rattle.c_types.specs.TagTable.{layout_in}
+use Rattle.c_types.specs.Types as types
+use Rattle.c_types.specs.Types.{PlainType, Array, Struct, Union, Function}
+use Rattle.core_tree.specs.Sorts.{Pointer, Sort, Integer}
 use Rattle.core_tree.specs.declared.program.Start.{Start}
 use Rattle.core_tree.specs.declared.statements.Atom.{Atom}
 use Rattle.core_tree.specs.declared.statements.Atom.TheVariants as atom
-use Rattle.core_tree.specs.declared.statements.StmKind.TheVariants.{Set, Clear}
-use Rattle.core_tree.specs.Sorts.{Sort, Integer, Pointer}
-use Rattle.c_tree.specs.Words as w
+use Rattle.core_tree.specs.declared.statements.StmKind.TheVariants.{Off, Copy, Set, Clear}
 use Rattle.c_tree.specs.Forms as f
-use Rattle.c_tree.specs.Tree.{Tree, Trees, Leaf, At, Node, none, ◌▹◌}
 use Rattle.c_tree.specs.Scopes.{name_of}
-use Rattle.c_decls.specs.declared.refusal.TypeKind.TheVariants.{DeclaredTwice, Incomplete, LeftOut, StaticTooLarge}
+use Rattle.c_tree.specs.Tree.{Tree, Trees, At, Node, none, ◌▹◌, count, Leaf}
+use Rattle.c_tree.specs.Words as w
+use Rattle.c_decls.specs.Expressions.{line_of, string}
 use Rattle.c_decls.specs.Named as n
 use Rattle.c_decls.specs.Named.{PlainNamed}
-use Rattle.c_decls.specs.ScopeList.{Table, named_in, innermost, with_name, after_declaration, tag_name}
+use Rattle.c_decls.specs.PlaceRules.{unconverted}
+use Rattle.c_decls.specs.Refusals.{Checked, refused, then, unless}
 use Rattle.c_decls.specs.ScopeList as scopes
-use Rattle.c_decls.specs.Refusals.{Checked, then, unless}
-use Rattle.c_decls.specs.Typed.{is_function, has_no_size}
+use Rattle.c_decls.specs.ScopeList.{ScopeList, Table, named_in, innermost, with_name, after_declaration, tag_name}
 use Rattle.c_decls.specs.TypeNames.{Layer, tag_named}
-use Rattle.elaboration.specs.Context.{Context, Variable, asked, emit}
-use Rattle.elaboration.specs.Conversions.{Spot, Local, Memory, size_or_zero}
-use Rattle.elaboration.specs.Rules.{with_static}
-use Rattle.elaboration.specs.Locals.{is_twice, declared_as, with_local}
-use Rattle.elaboration.specs.Declarators.{layers}
-use Rattle.elaboration.specs.Initializers.{Target, InRegister, InMemory, InStatic, initialize, surplus, no_start, with_init_layers}
+use Rattle.c_decls.specs.Typed.{is_record, same, is_function, has_no_size}
+use Rattle.c_decls.specs.declared.refusal.TypeKind.TheVariants.{Assignment, DeclaredTwice, Incomplete, LeftOut, StaticTooLarge}
+use Rattle.elaboration.specs.Context.{Context, emit, Variable, asked}
+use Rattle.elaboration.specs.Conversions.{Found, Local, Memory, atom_in, code_line, valued, convert, write, size_or_zero, Spot}
 use Rattle.elaboration.specs.Declarations as storages
-use Rattle.elaboration.specs.Declarations.{Storage, Typedef, Outside, storage_of, specs_alone, specs_before, zero_of, cleared, fill_memory, fill_register, fill_at, fill_local, local_object, local_name, function_number, with_function, declared_function, no_initializer, variable_number_of, with_new_variable, with_variable, start_of, start_in, started_variable, started, fill_variable, file_object, file_function, file_value, file_name, name_in, entry, entries, declaration}
-use Rattle.core_soundness.specs.Worlds.{world, Holds, StandsAs, InnerFits, FileFits, TablesFit}
-use Rattle.core_soundness.specs.Spoken.{AllSpoken}
+use Rattle.elaboration.specs.Declarations.{Storage, storage_of, specs_before, fill_local, entry, Typedef, Outside, specs_alone, zero_of, cleared, fill_memory, fill_register, fill_at, local_object, local_name, function_number, with_function, declared_function, no_initializer, variable_number_of, with_new_variable, with_variable, start_of, start_in, started_variable, started, fill_variable, file_object, file_function, file_value, file_name, name_in, entries, declaration}
+use Rattle.elaboration.specs.Declarators.{layers}
+use Rattle.elaboration.specs.Expressions.{found}
+use Rattle.elaboration.specs.Initializers.{Target, InRegister, InMemory, InStatic, static_scalar, member_place, store_at, fill_scalar, scalar, copy_to, fill_record, is_same_place, whole, fill_text, is_character, text, by_text, by_expression, parts_of, takes_braces, is_scalar_type, all_surplus, initialize, initialize_parts, with_bytes, with_init_layers, surplus, no_start}
+use Rattle.elaboration.specs.Locals.{with_local, is_twice, declared_as}
+use Rattle.elaboration.specs.Reallocates.{opened, closed}
+use Rattle.elaboration.specs.Rules.{with_literal, with_static}
+use Rattle.core_soundness.specs.Spoken.{Spoken, AllSpoken}
+use Rattle.core_soundness.specs.Worlds.{World, world, Holds, StandsAs, Stands, NamesFit, InnerFits, FileFits, TablesFit}
 use Rattle.core_soundness.specs.Written.{Written, AllWritten}
-use Rattle.core_soundness.proofs.Grown.{good, ok_same, never}
-use Rattle.core_soundness.proofs.Names.{more_refl, all_refl, named_push}
-use Rattle.core_soundness.proofs.TypedNames.{tag_after}
 use Rattle.core_soundness.proofs.Agreeing.{came}
-use Rattle.core_soundness.proofs.Growing.{Grew, grew_refl, pieces_grew}
-use Rattle.core_soundness.proofs.Going.{Goes, goes_trans, goes_emit}
-use Rattle.core_soundness.proofs.Operating.{passed, behind_test}
-use Rattle.core_soundness.proofs.Readying.{names_more}
-use Rattle.core_soundness.proofs.Outside.{outside_spoken}
-use Rattle.core_soundness.proofs.LocalsSpoken.{LocalSpoken, EntriesSpoken, DeclarationSpoken}
-use Rattle.core_soundness.proofs.Running.{Fine, Runs, runs_refl, runs_trans, goes_runs, on_runs, table_grew}
+use Rattle.core_soundness.proofs.Calls.{converting_of, same_record, names_more, all_spoken_more}
+use Rattle.core_soundness.proofs.Growth.{good, bad, ok_same, never, behind_string, behind_test}
+use Rattle.core_soundness.proofs.Landing.{in_memory, literal_there, not_false}
 use Rattle.core_soundness.proofs.LayersRun.{TableKept, rescoped, pushed_fits, with_local_runs, declared_runs, with_type_runs, specs_run, layers_run}
-use Rattle.core_soundness.proofs.FillsRun.{initialize_fits}
+use Rattle.core_soundness.proofs.Scopes.{more_refl, all_refl, named_push, outside_spoken}
+use Rattle.core_soundness.proofs.Sitting.{opened_rests, closed_goes, Evaluates, evaluates, evaluated_goes, opened_goes, Fine, Runs, runs_refl, runs_trans, goes_runs, on_runs, table_grew}
+use Rattle.core_soundness.proofs.Sorting.{Grew, holds_grew, Goes, goes_refl, goes_trans, goes_emit, gives_pointer, Gives, held_grew, stands_as_grew, converted, write_goes, kept_test, unbarred, grew_refl, pieces_grew, passed}
+use Rattle.core_soundness.proofs.TagSorts.{tag_after}
+use Rattle.core_soundness.proofs.Choices.{either_way, three_parts}
+
+-- what initializers do to what fits (C99 6.7.8)
+
+-- what is initialized fits
+abbrev pub TargetFits : World → PlainType → Target → Type 0
+TargetFits v type (InRegister line register) = (1 ≤ line) × StandsAs v true type (Local register)
+TargetFits v type (InMemory line mem) = (1 ≤ line) × (mem < v.mems)
+TargetFits v type (InStatic start) = Unit {0}
+
+abbrev pub SameTarget : Target → Target → Type 0
+SameTarget (InRegister line register) u = u ≡ InRegister line register
+SameTarget (InMemory line mem) u = u ≡ InMemory line mem
+SameTarget (InStatic start) (InStatic other) = Unit {0}
+SameTarget (InStatic start) (InRegister line register) = ⊥
+SameTarget (InStatic start) (InMemory line mem) = ⊥
+
+target_refl : (t : Target) → SameTarget t t
+target_refl (InStatic start) = tt
+target_refl other = refl
+
+target_trans : (t u v : Target) → SameTarget t u → SameTarget u v → SameTarget t v
+target_trans (InStatic start) (InStatic other) (InStatic third) x y = tt
+target_trans (InStatic start) (InStatic other) (InRegister line register) x y = y
+target_trans (InStatic start) (InStatic other) (InMemory line mem) x y = y
+target_trans (InStatic start) (InRegister line register) v x y = absurd x
+target_trans (InStatic start) (InMemory line mem) v x y = absurd x
+target_trans other u v x y = subst (λ (k : Target). SameTarget k v) x y
+
+target_on : (v w : World) (type : PlainType) (t u : Target) → Grew v w → SameTarget t u → TargetFits v type t → TargetFits w type u
+target_on v w type (InRegister line register) u g s h = subst (TargetFits w type) (sym s) (h.0, stands_as_grew v w true type (Local register) g h.1)
+target_on v w type (InMemory line mem) u g s h = subst (TargetFits w type) (sym s) (h.0, omega (arith, h.1, g.mems))
+target_on v w type (InStatic start) (InStatic other) g s h = tt
+target_on v w type (InStatic start) other g s h = absurd s
+
+-- what is filled, and where the walk goes
+pub record Fills (c : Context) (t : Target) (z : Context × Target) : Type 0 where
+  pub goes : Goes c z.0
+  pub same : SameTarget t z.1
+
+place_gives : (line mem offset : ℕ) (c : Context) → 1 ≤ line → mem < (world c).mems → Gives c Pointer (member_place line mem offset c)
+place_gives line mem offset c l h = gives_pointer line (λ p. Off p (atom.Mem mem) (pos offset)) c l (λ v r g there. (there, (refl, omega (arith, h, g.mems))))
+
+-- leaves
+
+fill_scalar_fits : (e : Tree) (line : ℕ) (type : PlainType) (offset : ℕ) (c : Context) (d : Context × Found) (t : Target) (z : Context × Target) → Evaluates c e d → unconverted type d.1.typed ≡ None → TargetFits (world c) type t
+    → fill_scalar e line type offset (opened e c).code d t ≡ Ok z → Fills c t z
+fill_scalar_fits e line type offset c d (InRegister at register) z v u h q =
+    let begun = opened e c in
+    let x = convert at begun.code type d.1.typed (atom_in d.1) d.0 in
+    let k = converted at begun type d.1.typed (atom_in d.1) d.0 h.0 v.comes.goes v.comes.value.held in
+    let gx : Goes c x.0 = goes_trans c begun x.0 v.begun k.goes in
+    let s = write at type (Local register) x.1 x.0 in
+    let gs : Goes x.0 s = write_goes at type (Local register) x.1 x.0 h.0 (stands_as_grew (world c) (world x.0) true type (Local register) gx.grew h.1) (k.held (converting_of type d.1.typed u)) in
+    subst (Fills c (InRegister at register)) (ok_same (closed e s, InRegister at register) z q) (record { goes = goes_trans c x.0 _ gx (goes_trans x.0 s _ gs (closed_goes e s v.line)); same = refl })
+fill_scalar_fits e line type offset c d (InMemory at mem) z v u h q =
+    let begun = opened e c in
+    let x = convert at begun.code type d.1.typed (atom_in d.1) d.0 in
+    let k = converted at begun type d.1.typed (atom_in d.1) d.0 h.0 v.comes.goes v.comes.value.held in
+    let gx : Goes c x.0 = goes_trans c begun x.0 v.begun k.goes in
+    let place = member_place at mem offset x.0 in
+    let pg = place_gives at mem offset x.0 h.0 (omega (arith, h.1, gx.grew.mems)) in
+    let s = store_at at type x.1 place in
+    let gs : Goes place.0 s = write_goes at type (Memory place.1) x.1 place.0 h.0 pg.holds (held_grew (world x.0) (world place.0) type x.1 pg.goes.grew (k.held (converting_of type d.1.typed u))) in
+    subst (Fills c (InMemory at mem)) (ok_same (closed e s, InMemory at mem) z q)
+    (record { goes = goes_trans c x.0 _ gx (goes_trans x.0 place.0 _ pg.goes (goes_trans place.0 s _ gs (closed_goes e s v.line))); same = refl })
+fill_scalar_fits e line type offset c d (InStatic start) z v u h q =
+    let s = came (static_scalar line type offset start d.1) q in
+    subst (Fills c (InStatic start)) (ok_same (d.0, InStatic s.value) z s.last) (record { goes = evaluated_goes c e d v; same = tt })
+
+scalar_fits : (e : Tree) (line : ℕ) (type : PlainType) (offset : ℕ) (t : Target) (c : Context) (z : Context × Target) → Spoken c.scopes e → NamesFit (world c) c.scopes → TargetFits (world c) type t → scalar e line type offset t c ≡ Ok z → Fills c t z
+scalar_fits e line type offset t c z s n h q =
+    let d = came (valued e (found e type (opened e c))) q in
+    let k = unbarred (unconverted type d.value.1.typed) line (fill_scalar e line type offset (opened e c).code d.value t) z d.last in
+    fill_scalar_fits e line type offset c d.value t z (evaluates e type c d.value s n d.is) k.0 h k.1
+
+record_held : (v : World) (type : PlainType) (e : Found) → is_same_place type e.typed ≡ true → Stands v e → Holds v Pointer (atom_in e)
+record_held v type e test h =
+    let three = three_parts e.typed.is_place (is_record type) (same type e.typed.type) test in
+    in_memory v e.typed.type e.spot e refl (same_record type e.typed.type three.1 three.2) (subst (λ (x : Bool). StandsAs v x e.typed.type e.spot) three.0 h)
+
+fill_record_fits : (e : Tree) (line : ℕ) (type : PlainType) (offset : ℕ) (c : Context) (d : Context × Found) (t : Target) (z : Context × Target) → Goes c d.0 → 1 ≤ code_line e → Holds (world d.0) Pointer (atom_in d.1) → TargetFits (world c) type t → fill_record e line type offset d t ≡ Ok z → Fills c t z
+fill_record_fits e line type offset c d (InMemory at mem) z g l held h q =
+    let place = member_place at mem offset d.0 in
+    let pg = place_gives at mem offset d.0 h.0 (omega (arith, h.1, g.grew.mems)) in
+    let s = copy_to at type (atom_in d.1) place in
+    let gs : Goes place.0 s = goes_emit at (Copy place.1 (atom_in d.1) (pos (size_or_zero place.0 type))) place.0 h.0 (pg.holds, holds_grew (world d.0) (world place.0) Pointer (atom_in d.1) pg.goes.grew held) in
+    subst (Fills c (InMemory at mem)) (ok_same (closed e s, InMemory at mem) z q)
+    (record { goes = goes_trans c d.0 _ g (goes_trans d.0 place.0 _ pg.goes (goes_trans place.0 s _ gs (closed_goes e s l))); same = refl })
+fill_record_fits e line type offset c d other z g l held h q = never _ _ z q
+
+whole_fits : (e : Tree) (line : ℕ) (type : PlainType) (offset : ℕ) (t : Target) (c : Context) (z : Context × Target) → Spoken c.scopes e → NamesFit (world c) c.scopes → TargetFits (world c) type t → whole e line type offset t c ≡ Ok z → Fills c t z
+whole_fits e line type offset t c z s n h q =
+    let d = came (found e type (opened e c)) q in
+    let o = opened_rests e type c d.value s n d.is in
+    fill_record_fits e line type offset c d.value t z (goes_trans c (opened e c) d.value.0 o.goes o.rests.sits.goes) o.rests.line
+    (record_held (world d.value.0) type d.value.1 (not_false _ (kept_test _ _ line _ z d.last)) o.rests.sits.stands) h (behind_test _ _ line _ z d.last)
+
+text_line : (e : Tree) (s : ScopeList) (bytes : List ℕ) → text e ≡ Some bytes → Spoken s e → 1 ≤ code_line e
+unfolding Spoken AllSpoken line_of
+text_line (Node f.Str (At line ▹ Node f.Strings parts ▹ none)) s bytes h k = k.1.0
+text_line e s bytes h k = cc
+
+fill_text_fits : (e : Tree) (line : ℕ) (bytes : List ℕ) (type : PlainType) (size offset : ℕ) (t : Target) (c : Context) (z : Context × Target) → 1 ≤ code_line e → TargetFits (world c) type t → fill_text e line bytes size offset t c ≡ Ok z → Fills c t z
+fill_text_fits e line bytes type size offset (InMemory at mem) c z l h q =
+    let d = came (with_literal line bytes (opened e c)) q in
+    let k = literal_there line bytes (opened e c) d.value d.is in
+    let g : Goes c d.value.0 = goes_trans c (opened e c) d.value.0 (opened_goes e c l) k.goes in
+    let place = member_place at mem offset d.value.0 in
+    let pg = place_gives at mem offset d.value.0 h.0 (omega (arith, h.1, g.grew.mems)) in
+    let copied = Copy place.1 (atom.Static d.value.1) (pos (min (length bytes + 1) size)) in
+    let gs : Goes place.0 (emit at copied place.0) = goes_emit at copied place.0 h.0 (pg.holds, holds_grew (world d.value.0) (world place.0) Pointer (atom.Static d.value.1) pg.goes.grew (refl, k.there)) in
+    subst (Fills c (InMemory at mem)) (ok_same (emit at copied place.0, InMemory at mem) z d.last) (record { goes = goes_trans c d.value.0 _ g (goes_trans d.value.0 place.0 _ pg.goes gs); same = refl })
+fill_text_fits e line bytes type size offset (InStatic start) c z l h q = subst (Fills c (InStatic start)) (ok_same (c, InStatic (with_bytes start offset (take size bytes))) z q) (record { goes = goes_refl c; same = tt })
+fill_text_fits e line bytes type size offset (InRegister at register) c z l h q = never _ _ z q
+
+by_text_fits : (e : Tree) (line : ℕ) (element : PlainType) (size offset : ℕ) (o : Option (List ℕ)) (t : Target) (c : Context) (z : Context × Target) → text e ≡ o → Spoken c.scopes e → NamesFit (world c) c.scopes → TargetFits (world c) (Array element size) t → by_text e line element size offset o t c ≡ Ok z → Fills c t z
+by_text_fits e line element size offset None t c z is s n h q = whole_fits e line (Array element size) offset t c z s n h q
+by_text_fits e line element size offset (Some bytes) t c z is s n h q =
+    either_way (λ x. x ≡ Ok z → Fills c t z) (is_character element)
+    (λ q. fill_text_fits e line bytes (Array element size) size offset t c z (text_line e c.scopes bytes is s) h (behind_string line bytes (fill_text e line bytes size offset t c) z q))
+    (λ q. whole_fits e line (Array element size) offset t c z s n h q) q
+
+by_expression_fits : (e : Tree) (line : ℕ) (type : PlainType) (offset : ℕ) (t : Target) (c : Context) (z : Context × Target) → Spoken c.scopes e → NamesFit (world c) c.scopes → TargetFits (world c) type t → by_expression e line type offset t c ≡ Ok z → Fills c t z
+by_expression_fits e line (Array element size) offset t c z s n h q = by_text_fits e line element size offset (text e) t c z refl s n h q
+by_expression_fits e line (Struct tag) offset t c z s n h q = whole_fits e line (Struct tag) offset t c z s n h q
+by_expression_fits e line (Union tag) offset t c z s n h q = whole_fits e line (Union tag) offset t c z s n h q
+by_expression_fits e line type offset t c z s n h q = scalar_fits e line type offset t c z s n h q
+
+-- braces
+
+abbrev AllTargets : World → List (PlainType × ℕ) → Target → Type 0
+AllTargets v [] t = Unit {0}
+AllTargets v (part ∷ parts) t = TargetFits v part.0 t × AllTargets v parts t
+
+all_targets_on : (v w : World) (parts : List (PlainType × ℕ)) (t u : Target) → Grew v w → SameTarget t u → AllTargets v parts t → AllTargets w parts u
+all_targets_on v w [] t u g s h = tt
+all_targets_on v w (part ∷ parts) t u g s h = (target_on v w part.0 t u g s h.0, all_targets_on v w parts t u g s h.1)
+
+-- memory and statics hold parts of any type
+in_memory_parts : (v : World) (line mem : ℕ) (parts : List (PlainType × ℕ)) → (1 ≤ line) × (mem < v.mems) → AllTargets v parts (InMemory line mem)
+in_memory_parts v line mem [] h = tt
+in_memory_parts v line mem (part ∷ parts) h = (h, in_memory_parts v line mem parts h)
+
+in_static_parts : (v : World) (start : Start) (parts : List (PlainType × ℕ)) → AllTargets v parts (InStatic start)
+in_static_parts v start [] = tt
+in_static_parts v start (part ∷ parts) = (tt, in_static_parts v start parts)
+
+parts_fit : (c : Context) (asked : ℕ) (type : PlainType) (offset : ℕ) (t : Target) → TargetFits (world c) type t → AllTargets (world c) (parts_of c asked type offset) t
+unfolding parts_of
+parts_fit c asked type offset (InMemory line mem) h = in_memory_parts (world c) line mem (parts_of c asked type offset) h
+parts_fit c asked type offset (InStatic start) h = in_static_parts (world c) start (parts_of c asked type offset)
+parts_fit c asked (Array element n) offset (InRegister line register) h = let clash : false ≡ true = h.1.0 in cc
+parts_fit c asked (Struct tag) offset (InRegister line register) h = let clash : false ≡ true = h.1.0 in cc
+parts_fit c asked (Union tag) offset (InRegister line register) h = let clash : false ≡ true = h.1.0 in cc
+parts_fit c asked other offset (InRegister line register) h = (h, tt)
+
+cond_parts : (k : Bool) (c : Context) (t : Target) (one other : Checked (Context × Target)) (z : Context × Target) → (one ≡ Ok z → Fills c t z) → (other ≡ Ok z → Fills c t z) → cond k one other ≡ Ok z → Fills c t z
+cond_parts true c t one other z x y q = x q
+cond_parts false c t one other z x y q = y q
+
+surplus_never : (c : Context) (t : Target) (inits : Trees) (line : ℕ) (z : Context × Target) → then (all_surplus inits c) (λ d. bad (record { kind = Assignment; line = line })) ≡ good z → Fills c t z
+surplus_never c t inits line z q = let d = came (all_surplus inits c) q in never _ _ z d.last
+
+mutual
+  unfolding initialize initialize_parts Spoken AllSpoken
+
+  pub initialize_fits : (tree : Tree) (in_scalar : Bool) (type : PlainType) (offset : ℕ) (t : Target) (c : Context) (z : Context × Target) → Spoken c.scopes tree → NamesFit (world c) c.scopes → TargetFits (world c) type t → initialize tree in_scalar type offset t c ≡ Ok z → Fills c t z
+  initialize_fits (Node f.InitExpr (At line ▹ e ▹ none)) in_scalar type offset t c z s n h q = by_expression_fits e (line_of e) type offset t c z s.1.1.0 n h q
+  initialize_fits (Node (f.InitList trailing) (At line ▹ Node f.Inits inits ▹ none)) in_scalar type offset t c z s n h q =
+      cond_parts (takes_braces type in_scalar) c t (initialize_parts line inits (is_scalar_type type) (parts_of c (count inits) type offset) t c) (then (all_surplus inits c) (λ d. refused Assignment line)) z
+      (λ k. initialize_parts_fit inits line (is_scalar_type type) (parts_of c (count inits) type offset) t c z s.1.1.0.1 n (parts_fit c (count inits) type offset t h) k) (λ k. surplus_never c t inits line z k) q
+  initialize_fits tree in_scalar type offset t c z s n h q = never _ _ z q
+
+  initialize_parts_fit : (inits : Trees) (line : ℕ) (in_scalar : Bool) (parts : List (PlainType × ℕ)) (t : Target) (c : Context) (z : Context × Target) → AllSpoken c.scopes inits → NamesFit (world c) c.scopes → AllTargets (world c) parts t → initialize_parts line inits in_scalar parts t c ≡ Ok z → Fills c t z
+  initialize_parts_fit none line in_scalar parts t c z s n h q = subst (Fills c t) (ok_same (c, t) z q) (record { goes = goes_refl c; same = target_refl t })
+  initialize_parts_fit (init ▹ rest) line in_scalar [] t c z s n h q = surplus_never c t (init ▹ rest) line z q
+  initialize_parts_fit (init ▹ rest) line in_scalar (part ∷ parts) t c z s n h q =
+      let d = came (initialize init in_scalar part.0 part.1 t c) q in
+      let one = initialize_fits init in_scalar part.0 part.1 t c d.value s.0 n h.0 d.is in
+      let two = initialize_parts_fit rest line in_scalar parts d.value.1 d.value.0 z (all_spoken_more c.scopes d.value.0.scopes rest one.goes.more s.1) (names_more (world c) (world d.value.0) c.scopes d.value.0.scopes one.goes.grew one.goes.more n) (all_targets_on (world c) (world d.value.0) parts t d.value.1 one.goes.grew one.same h.1) d.last in
+      record { goes = goes_trans c d.value.0 z.0 one.goes two.goes; same = target_trans t d.value.1 z.1 one.same two.same }
+
+-- what is asked of the initializers of the locals that a declaration declares: where they are filled with success, they take the address of no register
+
+-- of a local that is declared there
+abbrev pub LocalSpoken : ℕ → List ℕ → PlainType → Trees → Context → Context → Type 0
+LocalSpoken line name type inits c z =
+    fill_local line type inits (with_local name type c) ≡ Ok z → AllSpoken (with_local name type c).0.scopes inits
+
+-- of a declarator, which may have no name
+abbrev pub EntrySpoken : ℕ → PlainType → Tree → Trees → Context → Context → Type 0
+EntrySpoken line base declarator inits c z =
+    (l : Context × List Layer) (type : PlainType) (name : List ℕ) → layers declarator c ≡ Ok l → with_init_layers l.0.tags l.1 inits base ≡ Ok type → name_of declarator ≡ Some name → LocalSpoken line name type inits l.0 z
+
+-- of declarators in turn
+unfoldable pub EntriesSpoken : ℕ → Storage → PlainType → Trees → Context → Type 0
+EntriesSpoken line storage base none c = Unit {0}
+EntriesSpoken line storage base (Node f.Entry (Node f.Declared (declarator ▹ none) ▹ Node f.MaybeInit inits ▹ none) ▹ rest) c =
+    (d : Context) → entry false line storage base declarator inits c ≡ Ok d → EntrySpoken line base declarator inits c d × EntriesSpoken line storage base rest d
+EntriesSpoken line storage base (tree ▹ rest) c = Unit {0}
+
+-- of a declaration
+abbrev pub DeclarationSpoken : ℕ → Tree → Tree → Context → Type 0
+DeclarationSpoken line words (Node f.Names names) c =
+    (base : Context × PlainType) → specs_before words names c ≡ Ok base → EntriesSpoken line (storage_of words) base.1 names base.0
+DeclarationSpoken line words tree c = Unit {0}
+
+-- what declarations do to what fits (C99 6.7, 6.9.2)
 
 -- locals
 
@@ -129,11 +338,10 @@ declared_at : (line : ℕ) (name : List ℕ) (v : PlainNamed) (c d : Context) �
 declared_at line name v c d q = passed (is_twice c.scopes name v) DeclaredTwice line (record c { scopes = after_declaration c.scopes name v }) d q
 
 functions_grew : (answer : Option Sort) (c : Context) (index : ℕ) (name : List ℕ) → Fine c → Runs answer c (with_function index name c)
-functions_grew answer c index name g = by (nat_lt index (length c.functions))
-  where
-    by : (t : Bool) → Runs answer c (cond t c (record c { functions = c.functions ++ (record { name = name; defined = None }) ∷ [] }))
-    by true = runs_refl answer c g
-    by false = record { grew = grew_refl (world c); fine = record { names = g.names; lined = g.lined }; fits = λ k. k; answer = refl; addressed = refl; outside = all_refl (scopes.tail c.scopes.inner); depth = refl; params = λ flat k. k; walked = refl }
+functions_grew answer c index name g =
+    either_way (Runs answer c) (nat_lt index (length c.functions))
+    (runs_refl answer c g)
+    (record { grew = grew_refl (world c); fine = record { names = g.names; lined = g.lined }; fits = λ k. k; answer = refl; addressed = refl; outside = all_refl (scopes.tail c.scopes.inner); depth = refl; params = λ flat k. k; walked = refl })
 
 pub function_runs : (answer : Option Sort) (line : ℕ) (name : List ℕ) (type : PlainType) (c z : Context) → length c.scopes.inner ≡ 0 → Fine c → declared_function line name type c ≡ Ok z → Runs answer c z
 function_runs answer line name type c z flat g q =
@@ -151,17 +359,7 @@ more_variables : (answer : Option Sort) (c : Context) (v : Variable) (bytes : �
 more_variables answer c v bytes g =
     let d : Context = record c { static_bytes = bytes; variables = c.variables ++ v ∷ [] } in
     let grew : Grew (world c) (world d) = record { locals = λ k r e. e; mems = omega arith; integers = omega arith; pointers = omega arith; variables = omega (arith, length-append c.variables (v ∷ [])); literals = omega arith; formats = λ k x e. e; calls = λ j y e. e; file = λ name t i e. e } in
-    record {
-      grew = grew;
-      fine = record { names = names_more (world c) (world d) c.scopes c.scopes grew (more_refl c.scopes) g.names; lined = g.lined };
-      fits = λ k. pieces_grew answer (world c) (world d) c.code.pieces grew k;
-      answer = refl;
-      addressed = refl;
-      outside = all_refl (scopes.tail c.scopes.inner);
-      depth = refl;
-      params = λ flat k. table_grew (world c) (world d) c.params grew k;
-      walked = refl;
-    }
+    goes_runs answer c d g (record { grew = grew; more = more_refl c.scopes; kept = record { line = refl; answer = refl; addressed = refl; declared = refl; params = refl; walked = refl }; fits = λ a k. pieces_grew a (world c) (world d) c.code.pieces grew k })
 
 number_small : (c : Context) (o : Option PlainNamed) → ((v : PlainNamed) → o ≡ Some v → FileFits (world c) v) → variable_number_of c o ≤ length c.variables
 number_small c (Some (n.Object type i)) h = omega (arith, h (n.Object type i) refl)
@@ -197,17 +395,7 @@ started_runs : (answer : Option Sort) (index : ℕ) (d : Context × Target) → 
 started_runs answer index d g =
     let z = started index d in
     let grew : Grew (world d.0) (world z) = record { locals = λ k r e. e; mems = omega arith; integers = omega arith; pointers = omega arith; variables = omega (arith, started_length index (start_in d.1) (slice_get d.0.variables index) d.0.variables); literals = omega arith; formats = λ k x e. e; calls = λ j y e. e; file = λ name t i e. e } in
-    record {
-      grew = grew;
-      fine = record { names = names_more (world d.0) (world z) d.0.scopes d.0.scopes grew (more_refl d.0.scopes) g.names; lined = g.lined };
-      fits = λ k. pieces_grew answer (world d.0) (world z) d.0.code.pieces grew k;
-      answer = refl;
-      addressed = refl;
-      outside = all_refl (scopes.tail d.0.scopes.inner);
-      depth = refl;
-      params = λ flat k. table_grew (world d.0) (world z) d.0.params grew k;
-      walked = refl;
-    }
+    goes_runs answer d.0 z g (record { grew = grew; more = more_refl d.0.scopes; kept = record { line = refl; answer = refl; addressed = refl; declared = refl; params = refl; walked = refl }; fits = λ a k. pieces_grew a (world d.0) (world z) d.0.code.pieces grew k })
 
 fill_variable_runs : (answer : Option Sort) (line index : ℕ) (type : PlainType) (inits : Trees) (c z : Context) → AllWritten inits → Fine c → length c.scopes.inner ≡ 0 → fill_variable line index type inits c ≡ Ok z → Runs answer c z
 unfolding AllWritten

@@ -1,17 +1,204 @@
--- How much a part of a text makes: registers, memory locals, formats and temporaries, all with short names.
-use Rattle.std.proofs.Common.{◌≤◌, ◌+◌, ℕ, max, List, [], ◌∷◌, length, All, Option, unwrap_or, arith, length-append}
+-- How much expressions and declarators make, by the tokens of their trees.
+use Rattle.std.proofs.Common.{◌≡◌, ◌≤◌, ◌<◌, ◌+◌, ◌*◌, ◌^◌, ℕ, List, [], ◌∷◌, ◌++◌, length, All, subst, arith, max, Option, unwrap_or, length-append, nat_lt, Bool, true, false, cond, Some, None}
+use Rattle.std.proofs.lemmas.List.Elements.{All-tail, All-push}
 use Rattle.std.specs.Prelude.{IfSome}
-use Rattle.std.proofs.lemmas.List.Elements.{All-push}
-use Rattle.c_types.specs.Types.{PlainType}
+use Rattle.hs_base.specs.Place.{block_size}
 use Rattle.c_types.specs.Layouts.{no_layout}
 use Rattle.c_types.specs.TagTable.{layout_in}
+use Rattle.c_types.specs.Types.{PlainType}
+use Rattle.c_types.specs.declared.types.IntType.{IntType}
+use Rattle.c_lexer.specs.declared.token.Token.{Token}
+use Rattle.core_tree.specs.Sound.{IsShort}
 use Rattle.core_tree.specs.declared.program.Mem.{Mem}
 use Rattle.core_tree.specs.declared.program.Reg.{Reg as Register}
+use Rattle.core_tree.specs.declared.statements.Atom.{Atom}
+use Rattle.core_tree.specs.declared.statements.Atom.TheVariants as atom
 use Rattle.core_tree.specs.declared.statements.StmKind.{StmKind}
-use Rattle.core_tree.specs.Sound.{IsShort}
-use Rattle.elaboration.specs.Context.{Context, Variable, Walked, integer_by, pointer_by}
+use Rattle.c_tree.specs.Allowed.{Allowed, AllAllowed, IsExternal, AreExternals}
+use Rattle.c_tree.specs.Forms as f
+use Rattle.c_tree.specs.Grammar.{Item, Says, Here, Part, shape, rows}
+use Rattle.c_tree.specs.HasTree.{HasTree}
+use Rattle.c_tree.specs.Places as p
+use Rattle.c_tree.specs.Places.{Place}
+use Rattle.c_tree.specs.Scopes.{Scope, places, first_scope}
+use Rattle.c_tree.specs.Spelling.{Piece, Said, Line, filled, spell, spell_all, IsWord, Spells}
+use Rattle.c_tree.specs.Tree.{Tree, Trees, Leaf, At, Node, none, ◌▹◌, count}
+use Rattle.c_tree.specs.Words as w
+use Rattle.c_tree.specs.Words.{Word}
+use Rattle.c_decls.specs.Named as n
+use Rattle.c_decls.specs.Named.{PlainNamed}
+use Rattle.c_decls.specs.Refusals.{Checked}
+use Rattle.c_decls.specs.ScopeList.{after_declaration}
+use Rattle.c_decls.specs.TypeNames as names
+use Rattle.c_decls.specs.Typed.{PlainTyped}
+use Rattle.c_decls.specs.declared.refusal.TypeKind.TheVariants.{StaticTooLarge, DeclaredTwice}
 use Rattle.elaboration.specs.Calls.{with_format}
-use Rattle.elaboration.specs.Locals.{is_pointer, with_register, with_memory}
+use Rattle.elaboration.specs.Context.{Context, Variable, Walked, integer_by, pointer_by, With, local_register}
+use Rattle.elaboration.specs.Conversions.{Found, Spot, unused, valued, convert_integer, convert, tested_value, write, Memory}
+use Rattle.elaboration.specs.Declarators.{constant, with_type, specs, layers}
+use Rattle.elaboration.specs.Expressions.{found}
+use Rattle.elaboration.specs.Locals.{is_pointer, with_register, with_memory, is_twice, declared_as, next_is_memory, with_named, memory_param, register_param, function_param, prototype_param, is_prototype, with_param}
+use Rattle.elaboration.specs.Rules.{with_static, with_literal}
+use Rattle.core_soundness.proofs.Agreeing.{came}
+use Rattle.core_soundness.proofs.CodeWalk.{Writes, unused_keeps, valued_keeps, convert_integer_keeps, convert_keeps, tested_value_keeps, write_keeps}
+use Rattle.core_soundness.proofs.Growth.{Reached, reached_ok, Led, led_ok, led_unless, reached_after}
+use Rattle.core_soundness.proofs.Scopes.{ShortWord, Short, AllShort, some_short}
+use Rattle.core_soundness.proofs.Walks.{said, weight, weights, Walks, found_keeps, Steps, constant_keeps, specs_keep, layers_keep}
+
+-- a tree weighs no more than its tokens, and its names are theirs
+
+-- the words of a spelling
+abbrev told : List Piece → ℕ
+told [] = 0
+told (Said word ∷ pieces) = 1 + told pieces
+told (Line line ∷ pieces) = told pieces
+
+abbrev told_all : List (List Piece) → ℕ
+told_all [] = 0
+told_all (pieces ∷ rest) = told pieces + told_all rest
+
+told_joined : (one other : List Piece) → told (one ++ other) ≡ told one + told other
+told_joined [] other = omega arith
+told_joined (Said word ∷ one) other = omega (arith, told_joined one other)
+told_joined (Line line ∷ one) other = told_joined one other
+
+spelled_told : (pieces : List Piece) (tokens rest : List Token) → Spells pieces tokens rest → told pieces ≤ length tokens
+unfolding Spells
+spelled_told [] tokens rest h = omega arith
+spelled_told (Said word ∷ pieces) (token ∷ tokens) rest h = omega (arith, spelled_told pieces tokens rest h.1)
+spelled_told (Line line ∷ pieces) (token ∷ tokens) rest h = spelled_told pieces (token ∷ tokens) rest h.1
+spelled_told (Said word ∷ pieces) [] rest h = absurd h
+spelled_told (Line line ∷ pieces) [] rest h = absurd h
+
+filled_told : (items : List Item) (parts : Trees) (scope : Scope) → AllAllowed parts (places items) scope → said items + 6 * told_all (spell_all parts) ≤ 6 * told (filled items (spell_all parts))
+unfolding AllAllowed spell_all
+filled_told [] none scope a = omega arith
+filled_told [] (tree ▹ rest) scope a = absurd a
+filled_told (Says word ∷ items) parts scope a = omega (arith, filled_told items parts scope a)
+filled_told (Here ∷ items) (tree ▹ rest) scope a = omega (arith, filled_told items rest _ a.2, told_joined (spell tree) (filled items (spell_all rest)))
+filled_told (Part place ∷ items) (tree ▹ rest) scope a = omega (arith, filled_told items rest _ a.2, told_joined (spell tree) (filled items (spell_all rest)))
+filled_told other none scope a = absurd a
+
+mutual
+  unfolding Allowed AllAllowed spell spell_all
+
+  tree_weighed : (tree : Tree) (scope : Scope) → Allowed tree scope → weight tree ≤ 6 * told (spell tree)
+  tree_weighed (Node form parts) scope a =
+      let parts_fit = trees_weighed parts (places (shape form (count parts))) scope a.1 in
+      let whole = filled_told (shape form (count parts)) parts scope a.1 in
+      omega (arith, parts_fit, whole)
+  tree_weighed other scope a = omega arith
+
+  trees_weighed : (trees : Trees) (ps : List Place) (scope : Scope) → AllAllowed trees ps scope → weights trees ≤ 6 * told_all (spell_all trees)
+  trees_weighed none ps scope a = omega arith
+  trees_weighed (tree ▹ rest) [] scope a = absurd a
+  trees_weighed (tree ▹ rest) (place ∷ ps) scope a = omega (arith, tree_weighed tree scope a.1, trees_weighed rest ps _ a.2)
+
+-- the names of a spelling are short
+abbrev Fits : Piece → Type 0
+Fits (Said word) = ShortWord word
+Fits (Line line) = Unit {0}
+
+abbrev AllFit : List Piece → Type 0
+AllFit [] = Unit {0}
+AllFit (piece ∷ pieces) = Fits piece × AllFit pieces
+
+abbrev EachFit : List (List Piece) → Type 0
+EachFit [] = Unit {0}
+EachFit (pieces ∷ rest) = AllFit pieces × EachFit rest
+
+abbrev IsSmall : Token → Type 0
+IsSmall token = IsShort token.bytes
+
+word_fits : (word : Word) (token : Token) → IsShort token.bytes → IsWord word token → ShortWord word
+word_fits (w.Name bytes) token l h = subst (λ (x : List ℕ). length x < 2 ^ 32) h.1 l
+word_fits word token l h = tt
+
+spelled_fit : (pieces : List Piece) (tokens rest : List Token) → All IsSmall tokens → Spells pieces tokens rest → AllFit pieces
+unfolding Spells
+spelled_fit [] tokens rest l h = tt
+spelled_fit (Said word ∷ pieces) (token ∷ tokens) rest l h =
+    (word_fits word token (l 0 token (omega arith)) h.0, spelled_fit pieces tokens rest (All-tail IsSmall token tokens l) h.1)
+spelled_fit (Line line ∷ pieces) (token ∷ tokens) rest l h = (tt, spelled_fit pieces (token ∷ tokens) rest l h.1)
+spelled_fit (Said word ∷ pieces) [] rest l h = absurd h
+spelled_fit (Line line ∷ pieces) [] rest l h = absurd h
+
+parts_fit : (one other : List Piece) → AllFit (one ++ other) → AllFit one × AllFit other
+parts_fit [] other h = (tt, h)
+parts_fit (piece ∷ one) other h = let r = parts_fit one other h.1 in ((h.0, r.0), r.1)
+
+filled_fit : (items : List Item) (parts : Trees) (scope : Scope) → AllAllowed parts (places items) scope → AllFit (filled items (spell_all parts)) → EachFit (spell_all parts)
+unfolding AllAllowed spell_all
+filled_fit [] none scope a h = tt
+filled_fit [] (tree ▹ rest) scope a h = absurd a
+filled_fit (Says word ∷ items) parts scope a h = filled_fit items parts scope a h.1
+filled_fit (Here ∷ items) (tree ▹ rest) scope a h =
+    let r = parts_fit (spell tree) (filled items (spell_all rest)) h in (r.0, filled_fit items rest _ a.2 r.1)
+filled_fit (Part place ∷ items) (tree ▹ rest) scope a h =
+    let r = parts_fit (spell tree) (filled items (spell_all rest)) h in (r.0, filled_fit items rest _ a.2 r.1)
+filled_fit other none scope a h = absurd a
+
+mutual
+  unfolding Allowed AllAllowed spell spell_all
+
+  tree_short : (tree : Tree) (scope : Scope) → Allowed tree scope → AllFit (spell tree) → Short tree
+  tree_short (Leaf word) scope a h = h.0
+  tree_short (At line) scope a h = tt
+  tree_short (Node form parts) scope a h = trees_short parts (places (shape form (count parts))) scope a.1 (filled_fit (shape form (count parts)) parts scope a.1 h)
+
+  trees_short : (trees : Trees) (ps : List Place) (scope : Scope) → AllAllowed trees ps scope → EachFit (spell_all trees) → AllShort trees
+  trees_short none ps scope a h = tt
+  trees_short (tree ▹ rest) [] scope a h = absurd a
+  trees_short (tree ▹ rest) (place ∷ ps) scope a h = (tree_short tree scope a.1 h.0, trees_short rest ps _ a.2 h.1)
+
+-- external declarations
+
+external_weighed : (tree : Tree) (scope : Scope) → IsExternal tree scope → weight tree ≤ 6 * told (spell tree)
+unfolding IsExternal AllAllowed spell spell_all shape
+external_weighed (Node f.Function (line ▹ words ▹ declared ▹ body ▹ none)) scope h =
+    let l = tree_weighed line _ h.front.1 in
+    let s = tree_weighed words _ h.front.2.1 in
+    let d = tree_weighed declared _ h.front.2.2.1 in
+    let b = tree_weighed body _ h.inside in
+    omega (arith, l, s, d, b, told_joined (spell line) (spell words ++ (spell declared ++ (spell body ++ []))), told_joined (spell words) (spell declared ++ (spell body ++ [])), told_joined (spell declared) (spell body ++ []), told_joined (spell body) [])
+external_weighed (Node f.Declaration parts) scope h = tree_weighed (Node f.Declaration parts) scope h
+external_weighed tree scope h = absurd h
+
+externals_weighed : (unit : Trees) (scope : Scope) → AreExternals unit scope → weights unit ≤ 6 * told (filled (rows p.External (count unit)) (spell_all unit))
+unfolding AreExternals spell_all
+externals_weighed none scope a = omega arith
+externals_weighed (tree ▹ rest) scope a =
+    omega (arith, external_weighed tree scope a.0, externals_weighed rest _ a.1, told_joined (spell tree) (filled (rows p.External (count rest)) (spell_all rest)))
+
+external_short : (tree : Tree) (scope : Scope) → IsExternal tree scope → AllFit (spell tree) → Short tree
+unfolding IsExternal AllAllowed spell spell_all shape
+external_short (Node f.Function (line ▹ words ▹ declared ▹ body ▹ none)) scope h g =
+    let l = parts_fit (spell line) (spell words ++ (spell declared ++ (spell body ++ []))) g in
+    let s = parts_fit (spell words) (spell declared ++ (spell body ++ [])) l.1 in
+    let d = parts_fit (spell declared) (spell body ++ []) s.1 in
+    let b = parts_fit (spell body) [] d.1 in
+    (tree_short line _ h.front.1 l.0, (tree_short words _ h.front.2.1 s.0, (tree_short declared _ h.front.2.2.1 d.0, (tree_short body _ h.inside b.0, tt))))
+external_short (Node f.Declaration parts) scope h g = tree_short (Node f.Declaration parts) scope h g
+external_short tree scope h g = absurd h
+
+externals_short : (unit : Trees) (scope : Scope) → AreExternals unit scope → AllFit (filled (rows p.External (count unit)) (spell_all unit)) → AllShort unit
+unfolding AreExternals spell_all
+externals_short none scope a h = tt
+externals_short (tree ▹ rest) scope a h =
+    let r = parts_fit (spell tree) (filled (rows p.External (count rest)) (spell_all rest)) h in (external_short tree scope a.0 r.0, externals_short rest _ a.1 r.1)
+
+pub unit_weighed : (tokens : List Token) (unit : Trees) → HasTree tokens unit → weights unit ≤ 6 * length tokens
+unfolding spell shape
+unit_weighed tokens unit h =
+    let one = externals_weighed unit first_scope h.allowed in
+    let two : told (filled (rows p.External (count unit)) (spell_all unit)) ≤ length tokens = spelled_told (spell (Node f.Unit unit)) tokens [] h.spelled in
+    omega (arith, one, two)
+
+pub unit_short : (tokens : List Token) (unit : Trees) → All (λ (token : Token). IsShort token.bytes) tokens → HasTree tokens unit → AllShort unit
+unfolding spell shape
+unit_short tokens unit l h = externals_short unit first_scope h.allowed (spelled_fit (spell (Node f.Unit unit)) tokens [] l h.spelled)
+
+-- how much a part of a text makes: registers, memory locals, formats and temporaries, all with short names
 
 -- what of a context is counted, and what has names
 pub record Share : Type 0 where
@@ -162,3 +349,122 @@ near_memory name type c h = record {
     walked = k.walked;
   };
 }
+
+-- what conversions, operators and calls make
+
+pub near_writes : Writes Near
+near_writes = record {
+  stop = λ n c. near_most 0 n (omega arith) (near_refl c);
+  join = λ m n k a b c h x y. near_on m n k h x y;
+  emits = λ line kind c h. near_refl c;
+  integer = λ line kind c h. near_integer line kind c;
+  pointer = λ line kind c h. near_pointer line kind c;
+  forgets = λ n b c g. near_forgotten n b c g;
+  forks = λ m n k t r s line at a h x y. near_on m n k h x y;
+  formats = λ bytes c h. near_format bytes c h;
+  calls = λ calls c. near_refl c;
+  frees = λ line a c. near_refl c;
+}
+
+pub unused_near : (n : ℕ) (tree : Tree) (b : Context) (answer : With Found) → Reached (Near n b) answer → Reached (Near (n + 1) b) (unused tree answer)
+unused_near n tree b answer g = unused_keeps Near near_writes n tree b answer g
+
+pub valued_near : (n : ℕ) (tree : Tree) (b : Context) (answer : With Found) → Reached (Near n b) answer → Reached (Near (n + 1) b) (valued tree answer)
+valued_near n tree b answer g = valued_keeps Near near_writes n tree b answer g
+
+pub integer_near : (line : ℕ) (ty source : IntType) (a : Atom) (c : Context) → Near 1 c (convert_integer line ty source a c).0
+integer_near line ty source a c = convert_integer_keeps Near near_writes line ty source a c
+
+pub convert_near : (n line : ℕ) (b : Context) (type : PlainType) (e : PlainTyped) (a : Atom) (c : Context) → Near n b c → Near (n + 1) b (convert line b.code type e a c).0
+convert_near n line b type e a c g = convert_keeps Near near_writes n line b type e a c g
+
+pub tested_value_near : (tree : Tree) (d : Context × Found) → Near 1 d.0 (tested_value tree d).0
+tested_value_near tree d = tested_value_keeps Near near_writes tree d
+
+pub write_near : (line : ℕ) (type : PlainType) (spot : Spot) (a : Atom) (c : Context) → Near 0 c (write line type spot a c)
+write_near line type spot a c = write_keeps Near near_writes line type spot a c
+
+-- what expressions make: at most six for each word
+
+-- literals
+
+pub static_near : (line size : ℕ) (c : Context) → Led (Near 0 c) (with_static line size c)
+static_near line size c =
+    let d : Context = record c { static_bytes = c.static_bytes + block_size size } in
+    led_unless (Near 0 c) (nat_lt 67108864 (c.static_bytes + block_size size)) StaticTooLarge line (λ x. led_ok (Near 0 c) (near_refl c))
+
+pub literal_near : (line : ℕ) (bytes : List ℕ) (c : Context) → Reached (Near 0 c) (with_literal line bytes c)
+literal_near line bytes c z q =
+    let d = came (with_static line (length bytes + 1) c) q in
+    reached_ok (Near 0 c) (static_near line (length bytes + 1) c d.value d.is) z d.last
+
+near_walk : Walks Near
+near_walk = record { writes = near_writes; tells = λ t c m. near_refl c; literals = literal_near }
+
+pub found_near : (tree : Tree) (wish : PlainType) (c : Context) → Reached (Near (weight tree) c) (found tree wish c)
+found_near tree wish c = found_keeps Near near_walk tree wish c
+
+-- what specs, tags, declarators and parameters make
+
+-- names
+
+pub declared_near : (line : ℕ) (name : List ℕ) (v : PlainNamed) (c : Context) → Led (Near 0 c) (declared_as line name v c)
+declared_near line name v c =
+    let z : Context = record c { scopes = after_declaration c.scopes name v } in
+    led_unless (Near 0 c) (is_twice c.scopes name v) DeclaredTwice line (λ t. led_ok (Near 0 c) (near_refl c))
+
+pub named_near : (name : Option (List ℕ)) (v : PlainNamed) (c : Context) → Near 0 c (with_named name v c)
+named_near None v c = near_refl c
+named_near (Some name) v c = near_refl c
+
+memory_param_near : (name : Option (List ℕ)) (type : PlainType) (c : Context) → IfSome name IsShort → Near 2 c (memory_param name type c)
+memory_param_near name type c h =
+    let x = with_register name type c in
+    let y = with_memory (unwrap_or name []) type x in
+    let z = with_named name (n.Object type (length c.running.mems)) y in
+    let one = near_register name type c h in
+    let two = near_memory (unwrap_or name []) type x (some_short name h) in
+    let three = near_on 0 0 0 (omega arith) (named_near name (n.Object type (length c.running.mems)) y) (write_near c.running.line type (Memory (atom.Mem (length c.running.mems))) (atom.Reg (local_register (length c.running.locals))) z) in
+    near_on 1 1 2 (omega arith) one (near_on 1 0 1 (omega arith) two three)
+
+register_param_near : (name : Option (List ℕ)) (type : PlainType) (c : Context) → IfSome name IsShort → Near 2 c (register_param name type c)
+register_param_near name type c h =
+    near_on 1 0 2 (omega arith) (near_register name type c h) (named_near name (n.Register type (length c.running.locals)) (with_register name type c))
+
+with_param_near : (name : Option (List ℕ)) (type : PlainType) (c : Context) → IfSome name IsShort → Near 2 c (with_param name type c)
+with_param_near name type c h = by (is_prototype c.scopes)
+  where
+    own : (t : Bool) → Near 2 c (cond t (memory_param name type c) (register_param name type c))
+    own true = memory_param_near name type c h
+    own false = register_param_near name type c h
+
+    by : (t : Bool) → Near 2 c (cond t (prototype_param name type c) (function_param name type c))
+    by true = near_on 0 0 2 (omega arith) (named_near name (n.Object type 0) c) (near_refl (prototype_param name type c))
+    by false = own (next_is_memory type c)
+
+-- specs and declarators
+
+pub with_type_near : (answer : Checked (names.Context × PlainType)) (c : Context) → Reached (Near 0 c) (with_type answer c)
+with_type_near answer c = reached_after (Near 0 c) answer (λ x q. reached_ok (Near 0 c) (near_refl c))
+
+near_step : Steps IsShort (λ deep n c d. Near n c d)
+near_step = record {
+  stop = λ deep n c. near_most 0 n (omega arith) (near_refl c);
+  join = λ deep m n k a b c h x y. near_on m n k h x y;
+  tells = λ deep t c m. near_refl c;
+  retags = λ deep tags c. near_refl c;
+  enumerates = λ deep name value c. near_refl c;
+  names = λ deep name c. near_refl c;
+  takes = with_param_near;
+  lists = λ deep n parts c x q h. h;
+  unlists = λ deep c. near_refl c;
+}
+
+pub constant_near : (e : Tree) (c : Context) → Reached (Near 0 c) (constant e c)
+constant_near e c = constant_keeps IsShort (λ deep n c d. Near n c d) near_step false e c
+
+pub specs_near : (tree : Tree) (c : Context) → Short tree → Reached (Near (weight tree) c) (specs tree c)
+specs_near tree c h = specs_keep IsShort (λ deep n c d. Near n c d) near_step false tree c h
+
+pub layers_near : (tree : Tree) (c : Context) → Short tree → Reached (Near (weight tree) c) (layers tree c)
+layers_near tree c h = layers_keep IsShort (λ deep n c d. Near n c d) near_step false tree c h

@@ -1,61 +1,63 @@
--- The pointers that the statics of a core hold first name statics, and offsets in them up to their ends (C99 6.7.8, 6.9.2).
-use Rattle.std.proofs.Common.{◌≡◌, ◌≤◌, ◌<◌, ◌+◌, ◌*◌, ◌/◌, ◌%◌, ◌==◌, not, ℕ, zero, suc, Bool, true, false, cond, is_some, nat_lt, codes, All, length, map, sum_by, List, [], ◌∷◌, ◌++◌, slice_get, slice_set, option_map, unwrap_or, Option, Some, None, Ok, refl, sym, ap, ◌∙◌, subst, ⊎_elim, arith, bytes_eq}
+-- The pointers that the statics of a core hold first.
+use Rattle.std.proofs.Common.{◌≡◌, ◌≤◌, ◌<◌, ◌+◌, ◌*◌, ◌/◌, ◌%◌, ◌==◌, not, ℕ, zero, suc, Bool, true, false, cond, is_some, nat_lt, codes, All, length, map, sum_by, List, [], ◌∷◌, ◌++◌, slice_get, slice_set, option_map, unwrap_or, Option, Some, None, Ok, refl, sym, ap, ◌∙◌, subst, ⊎_elim, arith, bytes_eq, inl, inr}
 use Rattle.std.proofs.lemmas.Bool.{ltb-true, ltb-false, eq-eqb}
 use Rattle.std.proofs.lemmas.List.{length-map}
-use Rattle.std.proofs.lemmas.List.Elements.{All-cons, All-nil, All-append}
+use Rattle.std.proofs.lemmas.List.Elements.{All-cons, All-nil, All-append, All-head, All-tail}
 use Rattle.std.proofs.lemmas.Option.{slice_get-map}
+use Rattle.std.specs.List.{IsDistinct}
+use Rattle.std.specs.Prelude.{Contains, nat_eq}
 use Rattle.hs_base.specs.Place.{block_size}
-use Rattle.c_types.specs.Types.{PlainType}
-use Rattle.c_types.specs.Layouts.{no_layout}
+use Rattle.c_types.specs.Layouts.{no_layout, array_layout, number_layout}
 use Rattle.c_types.specs.TagTable.{TagTable, layout_in}
+use Rattle.c_types.specs.Types.{PlainType}
+use Rattle.core_tree.specs.LayoutsOfTypes.{IsLayoutOfType}
+use Rattle.core_tree.specs.Sound.{IsTarget, IsStatic}
 use Rattle.core_tree.specs.declared.program.Core.{Core}
 use Rattle.core_tree.specs.declared.program.Start.{Start}
 use Rattle.core_tree.specs.declared.program.Static.{Static}
 use Rattle.core_tree.specs.declared.statements.StmKind.TheVariants.{Return}
-use Rattle.core_tree.specs.Sound.{IsTarget}
-use Rattle.c_tree.specs.Words as w
 use Rattle.c_tree.specs.Forms as f
-use Rattle.c_tree.specs.Tree.{Tree, Trees, Leaf, At, Node, none, ◌▹◌}
 use Rattle.c_tree.specs.Scopes.{name_of}
-use Rattle.c_decls.specs.declared.built_in.BuiltIn.{BuiltIn}
-use Rattle.c_decls.specs.declared.refusal.TypeKind.TheVariants.{DeclaredTwice, Incomplete, LeftOut, StaticTooLarge, ProgramTooLong, Undeclared, NoMain}
-use Rattle.c_decls.specs.Named as n
-use Rattle.c_decls.specs.Named.{PlainNamed}
-use Rattle.c_decls.specs.ScopeList.{ScopeList, Table, named_in, innermost, with_name, with_name_in, after_declaration, tag_name}
+use Rattle.c_tree.specs.Tree.{Tree, Trees, Leaf, At, Node, none, ◌▹◌}
+use Rattle.c_tree.specs.Words as w
 use Rattle.c_decls.specs.BuiltIns as names
 use Rattle.c_decls.specs.BuiltIns.{built_ins, numbered_from}
+use Rattle.c_decls.specs.Named as n
+use Rattle.c_decls.specs.Named.{PlainNamed}
 use Rattle.c_decls.specs.Refusals.{refused}
-use Rattle.c_decls.specs.Typed.{is_function, has_no_size}
+use Rattle.c_decls.specs.ScopeList.{ScopeList, Table, named_in, innermost, with_name, with_name_in, after_declaration, tag_name}
 use Rattle.c_decls.specs.TypeNames.{with_layers, tag_named}
+use Rattle.c_decls.specs.Typed.{is_function, has_no_size}
+use Rattle.c_decls.specs.declared.built_in.BuiltIn.{BuiltIn}
+use Rattle.c_decls.specs.declared.refusal.TypeKind.TheVariants.{DeclaredTwice, Incomplete, LeftOut, StaticTooLarge, ProgramTooLong, Undeclared, NoMain}
+use Rattle.elaboration.specs.Addressed.{addressed_in}
 use Rattle.elaboration.specs.Context.{Context, Variable, Declared, asked, emit, first_context, file_variable, literal_object}
 use Rattle.elaboration.specs.Conversions.{size_or_zero}
-use Rattle.elaboration.specs.Rules.{with_static}
-use Rattle.elaboration.specs.Locals.{is_twice, declared_as}
-use Rattle.elaboration.specs.Declarators.{specs, layers}
-use Rattle.elaboration.specs.Initializers.{Target, InStatic, initialize, surplus, no_start, with_init_layers}
 use Rattle.elaboration.specs.Declarations.{Storage, Typedef, storage_of, specs_alone, specs_before, function_number, with_function, declared_function, no_initializer, variable_number_of, with_new_variable, with_variable, start_of, start_in, started_variable, fill_variable, file_object, file_function, file_value, file_name, name_in, entry, entries, declaration}
-use Rattle.elaboration.specs.Statements.{around_body, items}
-use Rattle.elaboration.specs.Externals.{begun, is_defined, body_begun, last_answer, piece_length, params_of, body_ended, body, defined, named_definition, definition, external, externals, calls_defined, is_main}
-use Rattle.elaboration.specs.Addressed.{addressed_in}
-use Rattle.elaboration.specs.Resolving.{static_by, variable_static, literal_static, core_of}
+use Rattle.elaboration.specs.Declarators.{specs, layers}
 use Rattle.elaboration.specs.Elaboration.{walked, elaborated}
-use Rattle.core_soundness.proofs.Names.{Safe, SafeTable}
-use Rattle.core_soundness.proofs.Grown.{good, ok_same}
+use Rattle.elaboration.specs.Externals.{begun, is_defined, body_begun, last_answer, piece_length, params_of, body_ended, body, defined, named_definition, definition, external, externals, calls_defined, is_main}
+use Rattle.elaboration.specs.Initializers.{Target, InStatic, initialize, surplus, no_start, with_init_layers, trimmed}
+use Rattle.elaboration.specs.Locals.{is_twice, declared_as}
+use Rattle.elaboration.specs.Resolving.{static_by, variable_static, literal_static, core_of, start_by}
+use Rattle.elaboration.specs.Rules.{with_static}
+use Rattle.elaboration.specs.Statements.{around_body, items}
+use Rattle.core_soundness.specs.Laws.{HasLayouts}
 use Rattle.core_soundness.proofs.Agreeing.{came}
-use Rattle.core_soundness.proofs.Operating.{passed}
-use Rattle.core_soundness.proofs.Owners.{get_left, get_last, get_push, get_below, set_get, Pushed, push_get}
-use Rattle.core_soundness.proofs.Reached.{Reached, Led, led_ok, led_refused, led_after, led_unless}
-use Rattle.core_soundness.proofs.TypedNames.{tag_after}
-use Rattle.core_soundness.proofs.TypedWhole.{led_cond}
-use Rattle.core_soundness.proofs.Declaring.{passes_refl, specs_passes, layers_pass}
-use Rattle.core_soundness.proofs.Introducing.{introduced}
-use Rattle.core_soundness.proofs.StatementWalks.{items_walk}
-use Rattle.core_soundness.proofs.Texts.{Sane, external_sane, first_sane}
+use Rattle.core_soundness.proofs.Aiming.{Aims, in_variable, in_literal, VariablesStay, same_variables, ObjectsThere, There, there_on, PointersIn, pointers_stay, TargetIn, initialize_points}
 use Rattle.core_soundness.proofs.Cores.{behind as core_behind}
-use Rattle.core_soundness.proofs.Settled.{Settled, settled_refl, settled_trans}
-use Rattle.core_soundness.proofs.Specifying.{Levels, levels_refl, with_type_levels, declared_levels, specs_level, layers_level}
-use Rattle.core_soundness.proofs.Aiming.{Aims, in_variable, in_literal, VariablesStay, same_variables, ObjectsThere, There, there_on}
-use Rattle.core_soundness.proofs.Pointing.{PointersIn, pointers_stay, TargetIn, initialize_points}
+use Rattle.core_soundness.proofs.Declaring.{passes_refl, specs_passes, layers_pass, introduced, Levels, levels_refl, with_type_levels, declared_levels, specs_level, layers_level}
+use Rattle.core_soundness.proofs.Growth.{good, ok_same, Reached, Led, led_ok, led_refused, led_after, led_unless, Settled, settled_refl, settled_trans}
+use Rattle.core_soundness.proofs.Scopes.{Safe, SafeTable, get_left, get_last, get_push, get_below, set_get, Pushed, push_get}
+use Rattle.core_soundness.proofs.Seats.{Has, has_row, byte, PointersBelow, places, Filled, trimmed_length}
+use Rattle.core_soundness.proofs.Sorting.{passed}
+use Rattle.core_soundness.proofs.Statements.{items_walk, Sane, external_sane, first_sane}
+use Rattle.core_soundness.proofs.TagSorts.{tag_after}
+use Rattle.core_soundness.proofs.TypedWhole.{led_cond}
+use Rattle.core_soundness.proofs.Choices.{either_way, some_same}
+use Rattle.core_soundness.proofs.Resolved.{variable_number, literal_number}
+
+-- the pointers that the statics of a core hold first name statics, and offsets in them up to their ends (C99 6.7.8, 6.9.2)
 
 -- each variable that has an initializer holds such pointers
 abbrev pub StartsIn : List Variable → List Variable → List (List ℕ) → Type 0
@@ -165,11 +167,8 @@ set_starts vs ls index v start e h p i u s g r =
     (λ (k : (i ≡ index → ⊥) × (slice_get vs i ≡ Some u)). h i u s k.1 r)
     (set_get vs index (record v { start = Some start }) i u g))
   where
-    some_start : (x y : Start) → Some x ≡ Some y → x ≡ y
-    some_start x y q = cc
-
     started_is : (u : Variable) (s : Start) → u ≡ record v { start = Some start } → u.start ≡ Some s → start ≡ s
-    started_is u s k r = some_start start s (sym (ap (λ (y : Variable). y.start) k) ∙ r)
+    started_is u s k r = some_same start s (sym (ap (λ (y : Variable). y.start) k) ∙ r)
 
 start_pointed : (index : ℕ) (c : Context) (start : Start) (o : Option Variable) → slice_get c.variables index ≡ o → Pointed c → PointersIn c.variables c.literals start.pointers → Pointed (record c { variables = started_variable index start o c.variables })
 start_pointed index c start None e h p = record { there = h.there; starts = h.starts }
@@ -200,11 +199,7 @@ object_pointed line name type inits c h =
 -- functions and other names
 
 with_function_settled : (index : ℕ) (name : List ℕ) (c : Context) → Settled c (with_function index name c)
-with_function_settled index name c = by (nat_lt index (length c.functions))
-  where
-    by : (t : Bool) → Settled c (cond t c (record c { functions = c.functions ++ (record { name = name; defined = None }) ∷ [] }))
-    by true = settled_refl c
-    by false = record { variables = refl; literals = λ i u e. e; objects = λ name type i e. e }
+with_function_settled index name c = either_way (Settled c) (nat_lt index (length c.functions)) (settled_refl c) (record { variables = refl; literals = λ i u e. e; objects = λ name type i e. e })
 
 pub function_settled : (line : ℕ) (name : List ℕ) (type : PlainType) (c : Context) → Led (Settled c) (declared_function line name type c)
 function_settled line name type c =
@@ -318,11 +313,10 @@ externals_pointed (tree ▹ rest) c s h =
 
 no_objects : (k : ℕ) (list : List BuiltIn) → ObjectsThere [] (numbered_from k list)
 no_objects k [] name type i e = cc
-no_objects k (b ∷ list) name type i e = by (bytes_eq name (names.name_of b)) (no_objects (k + 1) list name type i) e
-  where
-    by : (t : Bool) → (named_in name (numbered_from (k + 1) list) ≡ Some (n.Object type i) → (v : Variable) × (slice_get [] i ≡ Some v)) → cond t (Some (n.BuiltIn k)) (named_in name (numbered_from (k + 1) list)) ≡ Some (n.Object type i) → (v : Variable) × (slice_get [] i ≡ Some v)
-    by true rest q = cc
-    by false rest q = rest q
+no_objects k (b ∷ list) name type i e =
+    either_way (λ x. (named_in name (numbered_from (k + 1) list) ≡ Some (n.Object type i) → (v : Variable) × (slice_get [] i ≡ Some v)) → x ≡ Some (n.Object type i) → (v : Variable) × (slice_get [] i ≡ Some v)) (bytes_eq name (names.name_of b))
+    (λ rest q. cc)
+    (λ rest q. rest q) (no_objects (k + 1) list name type i) e
 
 first_pointed : Pointed first_context
 first_pointed = record { there = no_objects 0 built_ins; starts = λ i v s e q. cc }
@@ -345,31 +339,16 @@ get_behind [] ys j k x e q = let same : j ≡ k = omega (arith, e) in ap (slice_
 get_behind (y ∷ xs) ys zero k x e q = absurd (omega (arith, e))
 get_behind (y ∷ xs) ys (suc j) k x e q = get_behind xs ys j k x (omega (arith, e)) q
 
-even_place : (count k : ℕ) → static_by count (file_variable k) ≡ k
-even_place count k = ap (λ (t : Bool). cond t (file_variable k / 2) (count + file_variable k / 2)) (eq-eqb ((2 * k) % 2) 0 (omega arith)) ∙ half
-  where
-    half : file_variable k / 2 ≡ k
-    half = omega arith
-
-odd_place : (count k : ℕ) → static_by count (literal_object k) ≡ count + k
-odd_place count k = ap (λ (t : Bool). cond t (literal_object k / 2) (count + literal_object k / 2)) (subst (λ (j : ℕ). (j == 0) ≡ false) (sym one) refl) ∙ ap (λ (j : ℕ). count + j) half
-  where
-    one : literal_object k % 2 ≡ 1
-    one = omega arith
-
-    half : literal_object k / 2 ≡ k
-    half = omega arith
-
 aims_target : (c : Context) (slot g i : ℕ) → Aims c.variables c.literals g i → IsTarget (core_of c) (slot, static_by (length c.variables) g, i)
 aims_target c slot g i (in_variable k v at there inside) =
     let here : slice_get (core_of c).statics k ≡ Some (variable_static c v) =
     get_left (map (variable_static c) c.variables) (map literal_static c.literals) k (variable_static c v) (slice_get-map (variable_static c) c.variables k ∙ ap (option_map (variable_static c)) there) in
-    (variable_static c v, ap (slice_get (core_of c).statics) (ap (static_by (length c.variables)) at ∙ even_place (length c.variables) k) ∙ here, inside)
+    (variable_static c v, ap (slice_get (core_of c).statics) (ap (static_by (length c.variables)) at ∙ variable_number (length c.variables) k) ∙ here, inside)
 aims_target c slot g i (in_literal k bytes at there inside) =
     let here : slice_get (core_of c).statics (length (map (variable_static c) c.variables) + k) ≡ Some (literal_static bytes) =
     get_behind (map (variable_static c) c.variables) (map literal_static c.literals) (length (map (variable_static c) c.variables) + k) k (literal_static bytes) refl (slice_get-map literal_static c.literals k ∙ ap (option_map literal_static) there) in
     let place : static_by (length c.variables) g ≡ length (map (variable_static c) c.variables) + k =
-    ap (static_by (length c.variables)) at ∙ odd_place (length c.variables) k ∙ ap (λ (j : ℕ). j + k) (sym (length-map c.variables (variable_static c))) in
+    ap (static_by (length c.variables)) at ∙ literal_number (length c.variables) k ∙ ap (λ (j : ℕ). j + k) (sym (length-map c.variables (variable_static c))) in
     (literal_static bytes, ap (slice_get (core_of c).statics) place ∙ here, omega (arith, inside))
 
 -- what a static holds first
@@ -399,3 +378,95 @@ core_targets unit core tags q =
     let c = b.context in
     subst (λ (x : Core). All (HasTargets x) x.statics) b.made
     (All-append (HasTargets (core_of c)) (map (variable_static c) c.variables) (map literal_static c.literals) (variables_target c c.variables h.starts) (literals_target (core_of c) c.literals))
+
+-- a static is sound, where its layout is one of a type, its first bytes and pointers fill that, and the pointers name statics
+
+-- the first bytes and pointers of each variable that has an initializer fill its layout
+abbrev pub StartsFilled : List Variable → Type 0
+StartsFilled us = (i : ℕ) (v : Variable) (s : Start) → slice_get us i ≡ Some v → v.start ≡ Some s → Filled v.layout.slots v.layout.size s
+
+-- slots of lists
+
+all_has : (P : ℕ → Type 0) (xs : List ℕ) → ((s : ℕ) → Has xs s → P s) → All P xs
+all_has P [] h = All-nil P
+all_has P (x ∷ xs) h = All-cons P x xs (h x (inl refl)) (all_has P xs (λ s k. h s (inr k)))
+
+has_contains : (xs : List ℕ) (s : ℕ) → Has xs s → Contains xs s
+has_contains [] s h = absurd h
+has_contains (x ∷ xs) s (inl e) = (0, omega arith, e)
+has_contains (x ∷ xs) s (inr h) = let r = has_contains xs s h in (suc r.0, omega (arith, r.1), r.2)
+
+-- pointers in the numbers of the core
+
+abbrev numbered : ℕ → List (ℕ × ℕ × ℕ) → List (ℕ × ℕ × ℕ)
+numbered count ps = map (λ (p : ℕ × ℕ × ℕ). (p.0, static_by count p.1, p.2)) ps
+
+places_same : (count : ℕ) (ps : List (ℕ × ℕ × ℕ)) → places (numbered count ps) ≡ places ps
+places_same count [] = refl
+places_same count (p ∷ ps) = ap (λ (xs : List ℕ). p.0 ∷ xs) (places_same count ps)
+
+pointers_slots : (count : ℕ) (slots : List ℕ) (low : ℕ) (ps : List (ℕ × ℕ × ℕ)) → PointersBelow slots low ps → All (λ (pointer : ℕ × ℕ × ℕ). Contains slots pointer.0) (numbered count ps)
+pointers_slots count slots low [] h = All-nil (λ (pointer : ℕ × ℕ × ℕ). Contains slots pointer.0)
+pointers_slots count slots low (p ∷ ps) h = All-cons (λ (pointer : ℕ × ℕ × ℕ). Contains slots pointer.0) _ _ (has_contains slots p.0 h.0.0) (pointers_slots count slots low ps h.1)
+
+-- a variable
+
+filled_static : (c : Context) (v : Variable) (s : Start) → IsLayoutOfType v.layout → Filled v.layout.slots v.layout.size s → PointersIn c.variables c.literals s.pointers → IsStatic (core_of c) (record { name = Some v.name; layout = v.layout; start = start_by c s })
+filled_static c v s layout h p = record {
+  layout = layout;
+  inside = h.inside;
+  zeros = all_has (λ slot. (k : ℕ) → k < 4 → byte s.bytes (slot + k) ≡ 0) v.layout.slots (λ slot there k small. h.zeros slot k there small);
+  slots = pointers_slots (length c.variables) v.layout.slots v.layout.size s.pointers h.pointers;
+  distinct = subst (IsDistinct nat_eq) (sym (places_same (length c.variables) s.pointers)) h.distinct;
+  targets = pointers_target c s.pointers p;
+}
+
+pub nothing_filled : (slots : List ℕ) (low : ℕ) → Filled slots low no_start
+unfolding IsDistinct
+nothing_filled slots low = record { inside = omega arith; zeros = λ s k there small. refl; pointers = tt; distinct = tt }
+
+variable_sound : (c : Context) (v : Variable) (o : Option Start) → IsLayoutOfType v.layout → ((s : Start) → o ≡ Some s → Filled v.layout.slots v.layout.size s) → ((s : Start) → o ≡ Some s → PointersIn c.variables c.literals s.pointers)
+    → IsStatic (core_of c) (record { name = Some v.name; layout = v.layout; start = start_by c (unwrap_or o no_start) })
+variable_sound c v None layout h p = filled_static c v no_start layout (nothing_filled v.layout.slots v.layout.size) tt
+variable_sound c v (Some s) layout h p = filled_static c v s layout (h s refl) (p s refl)
+
+variables_sound : (c : Context) (us : List Variable) (rest : List Static) → All (λ (static : Static). IsLayoutOfType static.layout) (map (variable_static c) us ++ rest) → StartsFilled us → StartsIn us c.variables c.literals → All (IsStatic (core_of c)) (map (variable_static c) us)
+variables_sound c [] rest l h p = All-nil (IsStatic (core_of c))
+variables_sound c (v ∷ us) rest l h p =
+    let Laid : Static → Type 0 = λ (static : Static). IsLayoutOfType static.layout in
+    All-cons (IsStatic (core_of c)) (variable_static c v) (map (variable_static c) us)
+    (variable_sound c v v.start (All-head Laid (variable_static c v) (map (variable_static c) us ++ rest) l) (λ s e. h 0 v s refl e) (λ s e. p 0 v s refl e))
+    (variables_sound c us rest (All-tail Laid (variable_static c v) (map (variable_static c) us ++ rest) l) (λ i x s e q. h (suc i) x s e q) (λ i x s e q. p (suc i) x s e q))
+
+-- a literal
+
+literal_sound : (core : Core) (bytes : List ℕ) → IsLayoutOfType (array_layout (length bytes + 1) (number_layout 1)) → IsStatic core (literal_static bytes)
+unfolding IsDistinct
+literal_sound core bytes layout = record {
+  layout = layout;
+  inside = omega (arith, trimmed_length (record { bytes = bytes; pointers = [] }));
+  zeros = all_has (λ slot. (k : ℕ) → k < 4 → byte (trimmed (record { bytes = bytes; pointers = [] })).bytes (slot + k) ≡ 0) (array_layout (length bytes + 1) (number_layout 1)).slots (λ s there k small. let r = has_row 1 [] 0 (length bytes + 1) s there in absurd r.there);
+  slots = All-nil (λ (pointer : ℕ × ℕ × ℕ). Contains (array_layout (length bytes + 1) (number_layout 1)).slots pointer.0);
+  distinct = tt;
+  targets = All-nil (IsTarget core);
+}
+
+literals_sound : (core : Core) (ls : List (List ℕ)) → All (λ (static : Static). IsLayoutOfType static.layout) (map literal_static ls) → All (IsStatic core) (map literal_static ls)
+literals_sound core [] h = All-nil (IsStatic core)
+literals_sound core (l ∷ ls) h =
+    let Laid : Static → Type 0 = λ (static : Static). IsLayoutOfType static.layout in
+    All-cons (IsStatic core) (literal_static l) (map literal_static ls) (literal_sound core l (All-head Laid (literal_static l) (map literal_static ls) h)) (literals_sound core ls (All-tail Laid (literal_static l) (map literal_static ls) h))
+
+-- what is behind a list
+
+all_right : {X : Type 0} (P : X → Type 0) (xs ys : List X) → All P (xs ++ ys) → All P ys
+all_right P [] ys h = h
+all_right P (x ∷ xs) ys h = all_right P xs ys (All-tail P x (xs ++ ys) h)
+
+-- from what the walk keeps to the statics of the core
+pub statics_sound : (c : Context) → Pointed c → StartsFilled c.variables → HasLayouts (core_of c) → All (IsStatic (core_of c)) (core_of c).statics
+statics_sound c p h l =
+    let Laid : Static → Type 0 = λ (static : Static). IsLayoutOfType static.layout in
+    All-append (IsStatic (core_of c)) (map (variable_static c) c.variables) (map literal_static c.literals)
+    (variables_sound c c.variables (map literal_static c.literals) l.statics h p.starts)
+    (literals_sound (core_of c) c.literals (all_right Laid (map (variable_static c) c.variables) (map literal_static c.literals) l.statics))

@@ -1,47 +1,290 @@
--- Sizes and offsets that are in range.
-use Rattle.std.proofs.Common.{◌≡◌, ◌≤◌, ◌==◌, ◌&&◌, not, ℕ, pos, Bool, true, false, cond, is_none, nat_lt, List, [], ◌∷◌, ◌++◌, map, fold, zip, Option, Some, None, option_map, unwrap_or, refl, sym, ap, ◌∙◌, subst, arith, bytes_eq, Ok}
+-- Whole types, and numbers, sizes and offsets in range.
+use Rattle.std.proofs.Common.{◌≤◌, ℕ, pos, Bool, true, false, cond, List, [], ◌∷◌, ◌++◌, arith, ◌≡◌, ℤ, is_some, Option, Some, None, unwrap_or, Ok, refl, sym, ap, ◌∙◌, subst, ◌==◌, ◌&&◌, not, is_none, nat_lt, map, fold, zip, option_map, bytes_eq, ◌+◌, ◌*◌, zero, suc, take, append_assoc}
+use Rattle.std.proofs.lemmas.Bool.{ltb-false, eqb-true}
+use Rattle.std.proofs.lemmas.Int.{ints, SFits-int_wrap}
+use Rattle.std.specs.Int.{w8, w16, w32, w64}
 use Rattle.std.specs.List.{find}
-use Rattle.std.proofs.lemmas.Bool.{ltb-false}
-use Rattle.c_types.specs.declared.layouts.Layout.{Layout}
-use Rattle.c_types.specs.declared.tags.TagError.TheVariants.{PointerInUnion, TooLarge}
-use Rattle.c_types.specs.Types.{PlainType, Int, Pointer, Struct, Union, kind_of}
-use Rattle.c_types.specs.Layouts.{Known, Placed, none_placed, offset_after, place, placed, no_layout, keeps_union_rule}
-use Rattle.c_types.specs.TagTable.{CompletedTag, TagTable, PlainMember, known, learn, tag_layout, member_layout, refusal, placed_members, members_in, layout_in}
-use Rattle.c_types.proofs.MemberLemmas.{Extends, sized_stays}
+use Rattle.std.specs.Option.{option_or}
+use Rattle.hs_base.proofs.Wrapping.{low_bits_lt}
+use Rattle.hs_base.specs.Numbers.{wrapped}
+use Rattle.hs_base.specs.declared.ends.IntKind.{IntKind}
+use Rattle.hs_base.specs.declared.ends.IntKind.TheVariants.{I8, U8, I16, U16, I32, U32, I64, U64}
+use Rattle.c_types.proofs.MemberLemmas.{Extends, sized_stays, layout_stays, some_array}
 use Rattle.c_types.proofs.Places.{stays_known}
 use Rattle.c_types.proofs.Sound.{rounded_le}
-use Rattle.core_tree.specs.Sound.{IsNumber}
-use Rattle.c_decls.specs.declared.refusal.TypeKind.{TypeKind}
-use Rattle.c_decls.specs.declared.refusal.TypeKind.TheVariants.{Operands, Incomplete}
-use Rattle.c_decls.specs.Typed.{is_void, has_no_size, PlainTyped, Operand, Number, PointerTo, Neither, operand, read, value, int}
-use Rattle.c_decls.specs.TypeRules.{immovable, result_type, moving, sum_types, difference_types, integer_types, binary}
-use Rattle.elaboration.specs.Context.{Context, Code}
-use Rattle.elaboration.specs.Conversions.{size_or_zero, Found, Spot, Local, Memory, Value, Empty, read_spot, read_value, code_line, valued_from, atom_in, atom_of, holds_all, convert_integer, convert_to, convert, tested, write}
-use Rattle.elaboration.specs.Operations.{offset_among, offset_of, working, Working, Calculates, Shifts, Compares, Branches, convert_both, work, on_integers, before_integer, move_pointer, between_pointers, pointer_beside, beside_integer, combine, combined, change, changed_to, member_address}
-use Rattle.elaboration.specs.Calls.{byte_layout, element_layout}
-use Rattle.core_soundness.specs.Whole.{Whole, AreMade, MembersWhole}
-use Rattle.core_soundness.proofs.WholeTypes.{nothing, made_sized, is_layout, learn_extends}
-use Rattle.core_soundness.specs.Solid.{Solid}
-use Rattle.core_soundness.proofs.Solid.{K, wrapped_number}
-use Rattle.core_soundness.specs.Ranges.{IsStep, IsElement, AtomIn, PiecesIn}
-use Rattle.core_soundness.proofs.Ranges.{small_number, small_step, zero_number, In, Has, in_emit, in_integer, in_pointer, has_cond}
+use Rattle.c_types.specs.Layouts.{Known, no_layout, Placed, none_placed, offset_after, place, placed, keeps_union_rule, layout_of}
+use Rattle.c_types.specs.TagTable.{CompletedTag, known, layout_in, TagTable, PlainMember, learn, tag_layout, member_layout, refusal, placed_members, members_in}
+use Rattle.c_types.specs.Types.{PlainType, Int, Pointer, Struct, Union, kind_of, Array}
+use Rattle.c_types.specs.declared.layouts.Layout.{Layout}
+use Rattle.c_types.specs.declared.tags.TagError.TheVariants.{PointerInUnion, TooLarge}
 use Rattle.c_types.specs.declared.types.IntType.{IntType}
+use Rattle.core_tree.specs.LayoutsOfTypes.{IsLayoutOfType}
+use Rattle.core_tree.specs.Sound.{IsNumber}
+use Rattle.core_tree.specs.declared.program.Mem.{Mem}
 use Rattle.core_tree.specs.declared.statements.Atom.{Atom}
 use Rattle.core_tree.specs.declared.statements.Atom.TheVariants as atom
-use Rattle.core_tree.specs.declared.statements.UnOp.TheVariants as un
 use Rattle.core_tree.specs.declared.statements.CmpOp.{CmpOp}
 use Rattle.core_tree.specs.declared.statements.CmpOp.TheVariants as cmp
-use Rattle.core_tree.specs.declared.statements.StmKind.TheVariants.{Set, Conv, Load, Loadp, Store, Storep, Test, Un, Bin, Cmp, Add, Sub, Off, Diff, Pcmp}
+use Rattle.core_tree.specs.declared.statements.StmKind.{StmKind}
+use Rattle.core_tree.specs.declared.statements.StmKind.TheVariants.{Enter, Leave, Set, Conv, Load, Loadp, Store, Storep, Test, Un, Bin, Cmp, Add, Sub, Off, Diff, Pcmp}
+use Rattle.core_tree.specs.declared.statements.UnOp.TheVariants as un
+use Rattle.c_tree.specs.Tree.{Tree}
 use Rattle.c_tree.specs.declared.operator.BinaryOp.{BinaryOp}
 use Rattle.c_tree.specs.declared.operator.BinaryOp.TheVariants as b
 use Rattle.c_tree.specs.declared.operator.UnaryOp.{UnaryOp}
 use Rattle.c_tree.specs.declared.operator.UnaryOp.TheVariants as u
-use Rattle.c_tree.specs.Tree.{Tree}
+use Rattle.c_decls.specs.Expressions.{typed, line_of}
 use Rattle.c_decls.specs.IntegerTypes.{promoted, common_type}
-use Rattle.c_decls.specs.Expressions.{line_of}
-use Rattle.core_soundness.proofs.Grown.{good, ok_same, never}
-use Rattle.core_soundness.proofs.Agreeing.{came}
-use Rattle.core_soundness.proofs.Operating.{behind_test, unbarred}
+use Rattle.c_decls.specs.TypeNames as names
+use Rattle.c_decls.specs.TypeRules.{immovable, result_type, moving, sum_types, difference_types, integer_types, binary}
+use Rattle.c_decls.specs.Typed.{is_void, has_no_size, PlainTyped, Operand, Number, PointerTo, Neither, operand, read, value, int}
+use Rattle.c_decls.specs.declared.refusal.TypeKind.{TypeKind}
+use Rattle.c_decls.specs.declared.refusal.TypeKind.TheVariants.{Operands, Incomplete}
+use Rattle.elaboration.specs.Calls.{byte_layout, element_layout}
+use Rattle.elaboration.specs.Context.{Piece, Does, Here, Context, emit, here, integer_by, pointer_by, Variable, Walked, asked, told, anew, Code}
+use Rattle.elaboration.specs.Conversions.{Found, code_line, valued, convert, atom_in, write, Spot, unused, size_or_zero, Local, Memory, Value, Empty, read_spot, read_value, valued_from, atom_of, holds_all, convert_integer, convert_to, tested}
+use Rattle.elaboration.specs.Expressions.{found}
+use Rattle.elaboration.specs.Initializers.{elements, struct_parts, parts_of}
+use Rattle.elaboration.specs.Operations.{offset_among, offset_of, working, Working, Calculates, Shifts, Compares, Branches, convert_both, work, on_integers, before_integer, move_pointer, between_pointers, pointer_beside, beside_integer, combine, combined, change, changed_to, member_address}
+use Rattle.elaboration.specs.Reallocates.{reallocates, opened, closed}
+use Rattle.core_soundness.specs.Ranges.{IsStep, AtomIn, KindIn, PiecesIn, IsElement}
+use Rattle.core_soundness.specs.Solid.{MemsLaid, VariablesLaid, WalkedLaid, Solid}
+use Rattle.core_soundness.specs.Whole.{Whole, AreMade, TableWhole, NamesWhole, MembersWhole}
+use Rattle.core_soundness.proofs.Agreeing.{unused_agrees, found_agrees, came}
+use Rattle.core_soundness.proofs.CodeWalk.{quiet_convert, quiet_write}
+use Rattle.core_soundness.proofs.Growth.{Grows, Kept, grows_refl, valued_unused, good, ok_same, never, behind_test}
+use Rattle.core_soundness.proofs.Sorting.{unbarred}
+use Rattle.core_soundness.proofs.TagSorts.{Leads, typed_leads, unused_leads, Kinds, kinds_refl, leads_kinds, same_kinds}
+use Rattle.core_soundness.proofs.TypedWhole.{Fit, LayersWhole, LayerWhole, typed_good, unused_good}
+use Rattle.core_soundness.proofs.Walks.{found_grows, grown_unused, grows_convert, grows_write}
+use Rattle.core_soundness.proofs.WholeTypes.{nothing, all_stay, extends_refl, is_layout, made_sized, learn_extends, whole_stays, members_stay, some_layout, placed_far}
+use Rattle.core_soundness.proofs.Choices.{either_way, some_same}
+
+-- code whose numbers are in range, with one statement more
+
+pub pieces_joined : (one other : List Piece) → PiecesIn one → PiecesIn other → PiecesIn (one ++ other)
+pieces_joined [] other x y = y
+pieces_joined (Does stm ∷ one) other x y = (x.0, pieces_joined one other x.1 y)
+pieces_joined (Here label ∷ one) other x y = pieces_joined one other x y
+
+-- the code of a context
+abbrev pub In : Context → Type 0
+In c = PiecesIn c.code.pieces
+
+abbrev pub Has : Context × Atom → Type 0
+Has z = In z.0 × AtomIn z.1
+
+pub in_emit : (line : ℕ) (kind : StmKind) (c : Context) → In c → KindIn kind → In (emit line kind c)
+in_emit line kind c h k = pieces_joined c.code.pieces (Does (record { line = line; kind = kind }) ∷ []) h (k, tt)
+
+pub in_here : (label : ℕ) (c : Context) → In c → In (here label c)
+in_here label c h = pieces_joined c.code.pieces (Here label ∷ []) h tt
+
+pub in_integer : (line : ℕ) (kind : ℕ → StmKind) (c : Context) → In c → ((r : ℕ) → KindIn (kind r)) → Has (integer_by line kind c)
+in_integer line kind c h k = (pieces_joined c.code.pieces _ h (k _, tt), tt)
+
+pub in_pointer : (line : ℕ) (kind : ℕ → StmKind) (c : Context) → In c → ((r : ℕ) → KindIn (kind r)) → Has (pointer_by line kind c)
+in_pointer line kind c h k = (pieces_joined c.code.pieces _ h (k _, tt), tt)
+
+pub has_cond : (test : Bool) (x y : Context × Atom) → Has x → Has y → Has (cond test x y)
+has_cond true x y g h = g
+has_cond false x y g h = h
+
+-- numbers
+
+pub small_number : (k : ℕ) → k ≤ 268435456 → IsNumber (pos k)
+small_number k h = (omega (arith, ints, h), omega (arith, ints, h))
+
+pub small_step : (k : ℕ) → 1 ≤ k → k ≤ 268435456 → IsStep (pos k)
+small_step k h g = (omega (arith, ints, h), omega (arith, ints, g))
+
+pub zero_number : IsNumber (pos 0)
+zero_number = small_number 0 (omega arith)
+
+pub one_number : IsNumber (pos 1)
+one_number = small_number 1 (omega arith)
+
+-- what is known while a text is walked has whole types, and what was made so far has the layouts of types
+
+-- numbers that registers hold
+pub wrapped_number : (k : IntKind) (v : ℤ) → IsNumber (wrapped k v)
+wrapped_number I8 v = (omega (arith, ints, SFits-int_wrap w8 v), omega (arith, ints, SFits-int_wrap w8 v))
+wrapped_number U8 v = (omega (arith, ints, low_bits_lt 8 v), omega (arith, ints, low_bits_lt 8 v))
+wrapped_number I16 v = (omega (arith, ints, SFits-int_wrap w16 v), omega (arith, ints, SFits-int_wrap w16 v))
+wrapped_number U16 v = (omega (arith, ints, low_bits_lt 16 v), omega (arith, ints, low_bits_lt 16 v))
+wrapped_number I32 v = (omega (arith, ints, SFits-int_wrap w32 v), omega (arith, ints, SFits-int_wrap w32 v))
+wrapped_number U32 v = (omega (arith, ints, low_bits_lt 32 v), omega (arith, ints, low_bits_lt 32 v))
+wrapped_number I64 v = (omega (arith, ints, SFits-int_wrap w64 v), omega (arith, ints, SFits-int_wrap w64 v))
+wrapped_number U64 v = (omega (arith, ints, low_bits_lt 64 v), omega (arith, ints, low_bits_lt 64 v))
+
+pub mems_push : (ms : List Mem) (m : Mem) → MemsLaid ms → IsLayoutOfType m.layout → MemsLaid (ms ++ m ∷ [])
+mems_push [] m h k = (k, tt)
+mems_push (x ∷ ms) m h k = (h.0, mems_push ms m h.1 k)
+
+pub variables_push : (vs : List Variable) (v : Variable) → VariablesLaid vs → IsLayoutOfType v.layout → VariablesLaid (vs ++ v ∷ [])
+variables_push [] v h k = (k, tt)
+variables_push (x ∷ vs) v h k = (h.0, variables_push vs v h.1 k)
+
+pub walked_push : (xs : List Walked) (x : Walked) → WalkedLaid xs → MemsLaid x.running.mems → WalkedLaid (xs ++ x ∷ [])
+walked_push [] x h k = (k, tt)
+walked_push (y ∷ xs) x h k = (h.0, walked_push xs x h.1 k)
+
+abbrev pub K : Context → Known
+K c = known c.tags.completed
+
+-- what a part of a text leads to
+pub record Widens (c d : Context) : Type 0 where
+  pub solid : Solid d
+  pub more : Extends (K c) (K d)
+  pub kinds : Kinds c d
+
+pub widens_refl : (c : Context) → Solid c → Widens c c
+widens_refl c h = record { solid = h; more = extends_refl (K c); kinds = kinds_refl c }
+
+pub widens_trans : (a b c : Context) → Widens a b → Widens b c → Widens a c
+widens_trans a b c x y = record { solid = y.solid; more = λ tag l e. y.more tag l (x.more tag l e); kinds = record { made = λ i u e. y.kinds.made i u (x.kinds.made i u e); sorts = λ ks. y.kinds.sorts (x.kinds.sorts ks) } }
+
+-- what keeps all of this
+pub record Same (c d : Context) : Type 0 where
+  pub known : asked d ≡ asked c
+  pub params : d.params ≡ c.params
+  pub mems : d.running.mems ≡ c.running.mems
+  pub answer : d.running.answer ≡ c.running.answer
+  pub variables : d.variables ≡ c.variables
+  pub walked : d.walked ≡ c.walked
+
+pub same_widens : (c d : Context) → Same c d → Solid c → Widens c d
+same_widens c d e h =
+    let tags : d.tags.completed ≡ c.tags.completed = ap (λ (x : names.Context). x.tags.completed) e.known in
+    let places : d.scopes ≡ c.scopes = ap (λ (x : names.Context). x.scopes) e.known in
+    record {
+      solid = record {
+        made = subst (λ (x : List CompletedTag). AreMade nothing x) (sym tags) h.made;
+        names = subst (λ (x : List CompletedTag). NamesWhole (known x) d.scopes) (sym tags) (subst (NamesWhole (K c)) (sym places) h.names);
+        list = subst (λ (x : List CompletedTag). TableWhole (known x) d.params) (sym tags) (subst (TableWhole (K c)) (sym e.params) h.list);
+        memory = subst MemsLaid (sym e.mems) h.memory;
+        result = subst (λ (x : List CompletedTag). Whole (known x) d.running.answer) (sym tags) (subst (Whole (K c)) (sym e.answer) h.result);
+        statics = subst VariablesLaid (sym e.variables) h.statics;
+        functions = subst WalkedLaid (sym e.walked) h.functions;
+      };
+      more = λ tag l q. ap (λ (x : List CompletedTag). known x tag) tags ∙ q;
+      kinds = same_kinds c d e.known e.params;
+    }
+
+-- what grew from the same context, with the same scopes and tags
+pub same_by : (b c d : Context) → asked d ≡ asked c → Kept b c → Kept b d → Same c d
+same_by b c d e x y = record {
+  known = e;
+  params = y.params ∙ sym x.params;
+  mems = y.mems ∙ sym x.mems;
+  answer = y.answer ∙ sym x.answer;
+  variables = y.variables ∙ sym x.variables;
+  walked = y.walked ∙ sym x.walked;
+}
+
+pub same_kept : (c d : Context) → asked d ≡ asked c → Kept c d → Same c d
+same_kept c d e x = record { known = e; params = x.params; mems = x.mems; answer = x.answer; variables = x.variables; walked = x.walked }
+
+-- full expressions
+
+pub opened_widens : (e : Tree) (c : Context) → Solid c → Widens c (opened e c)
+opened_widens e c h = either_way (Widens c) (reallocates c.scopes e) (record { solid = h; more = extends_refl (K c); kinds = kinds_refl c }) (record { solid = h; more = extends_refl (K c); kinds = kinds_refl c })
+
+-- expressions
+
+abbrev Fits_in : Context → names.Context → Type 0
+Fits_in c n = (n.tags.completed ≡ c.tags.completed) × NamesWhole (K c) n.scopes
+
+pub fit_of : (c : Context) (h : Solid c) → Fit c.tags.completed h.made (asked c)
+fit_of c h = record { completed = refl; names = h.names }
+
+found_fits : (c d : Context) → Solid c → Fits_in c (asked d) → Kept c d → Leads (asked c) (asked d) → Widens c d
+found_fits c d h f k l =
+    record {
+      solid = record {
+        made = subst (λ (x : List CompletedTag). AreMade nothing x) (sym f.0) h.made;
+        names = subst (λ (x : List CompletedTag). NamesWhole (known x) d.scopes) (sym f.0) f.1;
+        list = subst (λ (x : List CompletedTag). TableWhole (known x) d.params) (sym f.0) (subst (TableWhole (K c)) (sym k.params) h.list);
+        memory = subst MemsLaid (sym k.mems) h.memory;
+        result = subst (λ (x : List CompletedTag). Whole (known x) d.running.answer) (sym f.0) (subst (Whole (K c)) (sym k.answer) h.result);
+        statics = subst VariablesLaid (sym k.variables) h.statics;
+        functions = subst WalkedLaid (sym k.walked) h.functions;
+      };
+      more = λ tag l q. ap (λ (x : List CompletedTag). known x tag) f.0 ∙ q;
+      kinds = leads_kinds c d l k.params f.0;
+    }
+
+-- an expression that was elaborated, and the value of one
+pub record Gone (c : Context) (z : Context × Found) : Type 0 where
+  pub rises : Widens c z.0
+  pub grows : Grows c z.0
+  pub whole : Whole (K z.0) z.1.typed.type
+
+pub found_gone : (e : Tree) (wish : PlainType) (c : Context) (z : Context × Found) → Solid c → found e wish c ≡ Ok z → Gone c z
+found_gone e wish c z h q =
+    let g = typed_good c.tags.completed h.made e (asked c) (fit_of c h) (asked z.0, z.1.typed) (found_agrees e wish c z q) in
+    let k = found_grows e wish c c (grows_refl c) z q in
+    record { rises = found_fits c z.0 h (g.0.completed, g.0.names) k.kept (typed_leads e (asked c) (asked z.0, z.1.typed) (found_agrees e wish c z q)); grows = k; whole = subst (λ (x : List CompletedTag). Whole (known x) z.1.typed.type) (sym g.0.completed) g.1 }
+
+pub unused_gone : (e : Tree) (wish : PlainType) (c : Context) (z : Context × Found) → Solid c → unused e (found e wish c) ≡ Ok z → Gone c z
+unused_gone e wish c z h q =
+    let agreed = unused_agrees e (found e wish c) (typed e (asked c)) z (λ x k. found_agrees e wish c x k) q in
+    let g = unused_good c.tags.completed h.made e (typed e (asked c)) (typed_good c.tags.completed h.made e (asked c) (fit_of c h)) (asked z.0, z.1.typed) agreed in
+    let k = grown_unused e c (found e wish c) (found_grows e wish c c (grows_refl c)) z q in
+    record { rises = found_fits c z.0 h (g.0.completed, g.0.names) k.kept (unused_leads (asked c) e (typed e (asked c)) (typed_leads e (asked c)) (asked z.0, z.1.typed) agreed); grows = k; whole = subst (λ (x : List CompletedTag). Whole (known x) z.1.typed.type) (sym g.0.completed) g.1 }
+
+pub value_gone : (e : Tree) (wish : PlainType) (c : Context) (z : Context × Found) → Solid c → valued e (found e wish c) ≡ Ok z → Gone c z
+value_gone e wish c z h q = unused_gone e wish c z h (valued_unused e (found e wish c) z q)
+
+-- the value of a full expression
+pub full_value : (e : Tree) (wish : PlainType) (c : Context) (z : Context × Found) → Solid c → valued e (found e wish (opened e c)) ≡ Ok z → Widens c z.0
+full_value e wish c z h q =
+    let o = opened_widens e c h in widens_trans c (opened e c) z.0 o (value_gone e wish (opened e c) z o.solid q).rises
+
+-- other scopes and tags that were asked for
+pub told_widens : (c : Context) (n : names.Context) (h : Solid c) → Fit c.tags.completed h.made n → Leads (asked c) n → Widens c (told n c)
+told_widens c n h f l = record {
+  solid = record {
+    made = subst (λ (x : List CompletedTag). AreMade nothing x) (sym f.completed) h.made;
+    names = subst (λ (x : List CompletedTag). NamesWhole (known x) n.scopes) (sym f.completed) f.names;
+    list = subst (λ (x : List CompletedTag). TableWhole (known x) c.params) (sym f.completed) h.list;
+    memory = h.memory;
+    result = subst (λ (x : List CompletedTag). Whole (known x) c.running.answer) (sym f.completed) h.result;
+    statics = h.statics;
+    functions = h.functions;
+  };
+  more = λ tag l q. ap (λ (x : List CompletedTag). known x tag) f.completed ∙ q;
+  kinds = leads_kinds c (told n c) l refl f.completed;
+}
+
+pub told_whole : (c : Context) (n : names.Context) (h : Solid c) (type : PlainType) → Fit c.tags.completed h.made n → Whole (K c) type → Whole (K (told n c)) type
+told_whole c n h type f w = subst (λ (x : List CompletedTag). Whole (known x) type) (sym f.completed) w
+
+-- conversions and writes, behind what began at b
+pub converted_widens : (line : ℕ) (b : Context) (type : PlainType) (z : Context × Found) → Grows b z.0 → Solid z.0 → Widens z.0 (convert line b.code type z.1.typed (atom_in z.1) z.0).0
+converted_widens line b type z g h =
+    let x = (convert line b.code type z.1.typed (atom_in z.1) z.0).0 in
+    same_widens z.0 x (same_by b z.0 x (quiet_convert line b.code type z.1.typed (atom_in z.1) z.0) g.kept (grows_convert line b type z.1.typed (atom_in z.1) z.0 g).kept) h
+
+pub write_widens : (line : ℕ) (type : PlainType) (spot : Spot) (a : Atom) (c : Context) → Solid c → Widens c (write line type spot a c)
+write_widens line type spot a c h = same_widens c _ (same_kept c _ (quiet_write line type spot a c) (grows_write line type spot a c).kept) h
+
+-- layers and members with more tags
+pub layers_stay : (ls : List names.Layer) (j k : Known) → Extends j k → LayersWhole j ls → LayersWhole k ls
+layers_stay [] j k x h = tt
+layers_stay (names.PointerTo line ∷ ls) j k x h = (tt, layers_stay ls j k x h.1)
+layers_stay (names.ArrayOf line None ∷ ls) j k x h = (tt, layers_stay ls j k x h.1)
+layers_stay (names.ArrayOf line (Some m) ∷ ls) j k x h = (h.0, layers_stay ls j k x h.1)
+layers_stay (names.FunctionOf line params ∷ ls) j k x h = (all_stay params j k x h.0, layers_stay ls j k x h.1)
+
+pub layer_stays : (l : names.Layer) (j k : Known) → Extends j k → LayerWhole j l → LayerWhole k l
+layer_stays l j k x h = (layers_stay (l ∷ []) j k x (h, tt)).0
+
+-- the layout that something of a type has
+pub laid : (c : Context) (type : PlainType) → Solid c → Whole (K c) type → is_some (layout_in c.tags type) ≡ true → IsLayoutOfType (unwrap_or (layout_in c.tags type) no_layout)
+laid c type h w s = is_layout c.tags.completed type (unwrap_or (layout_in c.tags type) no_layout) h.made w (some_layout (layout_in c.tags type) s)
+
+-- sizes and offsets that are in range
 
 -- sizes of types
 
@@ -395,3 +638,137 @@ changed_in line op type old e y c g h k q = change_in line op (operand type) (op
 
 pub member_in : (line offset : ℕ) (p : Atom) (c : Context) → In c → AtomIn p → IsNumber (pos offset) → Has (member_address line offset p c)
 member_in line offset p c g h k = in_pointer line (λ r. Off r p (pos offset)) c g (λ r. ((h, tt), k))
+
+-- what initializers are for lies inside an object
+
+abbrev pub Within : Known → PlainType → ℕ → Type 0
+Within k type offset = (l : Layout) × (layout_of k type ≡ Some l) × (offset + l.size ≤ 268435456)
+
+abbrev pub PartsIn : Known → List (PlainType × ℕ) → Type 0
+PartsIn k [] = Unit {0}
+PartsIn k (p ∷ ps) = (Whole k p.0 × Within k p.0 p.1) × PartsIn k ps
+
+pub within_stays : (j k : Known) (type : PlainType) (offset : ℕ) → Extends j k → Within j type offset → Within k type offset
+within_stays j k type offset x h = (h.0, layout_stays j k x type h.0 h.1, h.2)
+
+pub parts_stay : (ps : List (PlainType × ℕ)) (j k : Known) → Extends j k → PartsIn j ps → PartsIn k ps
+parts_stay [] j k x h = tt
+parts_stay (p ∷ ps) j k x h = ((whole_stays p.0 j k x h.0.0, within_stays j k p.0 p.1 x h.0.1), parts_stay ps j k x h.1)
+
+pub within_number : (k : Known) (type : PlainType) (offset : ℕ) → Within k type offset → IsNumber (pos offset)
+within_number k type offset h = small_number offset (omega (arith, h.2))
+
+-- elements of an array
+
+elements_in : (k : Known) (asked n offset : ℕ) (l : Layout) (element : PlainType) → Whole k element → layout_of k element ≡ Some l → offset + n * l.size ≤ 268435456 → PartsIn k (elements asked n offset l.size element)
+elements_in k zero n offset l element w e h = tt
+elements_in k (suc asked) zero offset l element w e h = tt
+elements_in k (suc asked) (suc n) offset l element w e h =
+    let m : suc n * l.size ≡ l.size + n * l.size = omega arith in
+    ((w, (l, e, omega (arith, h, m))), elements_in k asked n (offset + l.size) l element w e (omega (arith, h, m)))
+
+-- members of a struct or union
+
+rest_placed : Bool → Placed → List Layout → List (ℕ × Layout)
+rest_placed u p [] = []
+rest_placed u p (l ∷ ls) = (offset_after u p l, l) ∷ rest_placed u (place u p l) ls
+
+fold_rest : (u : Bool) (p : Placed) (ls : List Layout) → (fold (place u) p ls).members ≡ p.members ++ rest_placed u p ls
+unfolding rest_placed
+fold_rest u p [] = sym (Rattle.std.proofs.Common.append-nil p.members)
+fold_rest u p (l ∷ ls) = fold_rest u (place u p l) ls ∙ append_assoc p.members ((offset_after u p l, l) ∷ []) (rest_placed u (place u p l) ls)
+
+abbrev RowsIn : Known → ℕ → List (List ℕ × PlainType) → List (ℕ × Layout) → Type 0
+RowsIn k end [] ps = Unit {0}
+RowsIn k end (m ∷ ms) [] = Unit {0}
+RowsIn k end (m ∷ ms) (p ∷ ps) = (p.0 + (member_layout k m).size ≤ end) × RowsIn k end ms ps
+
+rows_rest : (k : Known) (u : Bool) (p : Placed) (ms : List (List ℕ × PlainType)) → RowsIn k (fold (place u) p (map (member_layout k) ms)).end ms (rest_placed u p (map (member_layout k) ms))
+unfolding rest_placed
+rows_rest k u p [] = tt
+rows_rest k u p (m ∷ ms) =
+    let l = member_layout k m in
+    let q = place u p l in
+    let here : offset_after u p l + l.size ≤ q.end = omega arith in
+    let far = placed_far u q (map (member_layout k) ms) in
+    (omega (arith, here, far), rows_rest k u q ms)
+
+placed_rows : (k : Known) (u : Bool) (ms : List (List ℕ × PlainType)) → RowsIn k (placed u (map (member_layout k) ms)).end ms (placed u (map (member_layout k) ms)).members
+placed_rows k u ms = subst (λ (ps : List (ℕ × Layout)). RowsIn k (placed u (map (member_layout k) ms)).end ms ps) (sym (fold_rest u none_placed (map (member_layout k) ms))) (rows_rest k u none_placed ms)
+
+rows_parts : (k : Known) (end offset : ℕ) (ms : List (List ℕ × PlainType)) (ps : List (ℕ × Layout)) → MembersWhole k ms → RowsIn k end ms ps → offset + end ≤ 268435456
+    → PartsIn k (map (λ (m : PlainMember). (m.type, offset + m.offset)) (map (λ (x : (List ℕ × PlainType) × (ℕ × Layout)). record { name = x.0.0; type = x.0.1; offset = x.1.0 }) (zip ms ps)))
+rows_parts k end offset [] ps w h e = tt
+rows_parts k end offset (m ∷ ms) [] w h e = tt
+rows_parts k end offset (m ∷ ms) (p ∷ ps) w h e =
+    ((w.0.0, (member_layout k m, some_layout (layout_of k m.1) w.0.1, omega (arith, h.0, e))), rows_parts k end offset ms ps w.1 h.1 e)
+
+-- the layout of a tag that was completed
+pub learnt : (j : Known) (t : CompletedTag) (tag : ℕ) → j tag ≡ None → (t.tag == tag) ≡ true → learn j t tag ≡ Some (tag_layout j t)
+learnt j t tag e q = ap (λ (o : Option Layout). option_or o (cond (t.tag == tag) (Some (tag_layout j t)) None)) e ∙ ap (λ (b : Bool). cond b (Some (tag_layout j t)) None) q
+
+record Done (k : Known) (tag : ℕ) (done : CompletedTag) (l : Layout) : Type 0 where
+  members : MembersWhole k done.members
+  inside : (placed done.is_union (map (member_layout k) done.members)).end ≤ l.size
+
+done_at : (j : Known) (tags : List CompletedTag) (tag : ℕ) (done : CompletedTag) (l : Layout) → AreMade j tags → find (λ (d : CompletedTag). d.tag == tag) tags ≡ Some done → fold learn j tags tag ≡ Some l → Done (fold learn j tags) tag done l
+done_at j [] tag done l m e h = cc
+done_at j (t ∷ tags) tag done l m e h = by (t.tag == tag) refl (λ q. done_at (learn j t) tags tag done l m.1 q h) e
+  where
+    far : Known
+    far = fold learn (learn j t) tags
+
+    by : (b : Bool) → (t.tag == tag) ≡ b → (find (λ (d : CompletedTag). d.tag == tag) tags ≡ Some done → Done far tag done l) → cond b (Some t) (find (λ (d : CompletedTag). d.tag == tag) tags) ≡ Some done → Done far tag done l
+    by true s again q =
+        let same : t ≡ done = ap (λ (o : Option CompletedTag). unwrap_or o done) q in
+        let x : Extends j far = λ tag l h. stays_known (learn j t) tags tag l (learn_extends j t tag l h) in
+        let once : j tag ≡ None = ap j (sym (eqb-true t.tag tag s)) ∙ m.0.0.once in
+        let is : tag_layout j t ≡ l = some_same (tag_layout j t) l (sym (stays_known (learn j t) tags tag (tag_layout j t) (learnt j t tag once s)) ∙ h) in
+        let all = placed t.is_union (map (member_layout j) t.members) in
+        let r = rounded_le all.end all.align in
+        let near : all.end ≤ l.size = subst (λ (y : Layout). all.end ≤ y.size) is r in
+        subst (λ (y : CompletedTag). Done far tag y l) same
+        (record {
+          members = members_stay t.members j far x m.0.1;
+          inside = subst (λ (ls : List Layout). (placed t.is_union ls).end ≤ l.size) (members_same t.members j far x m.0.1) near;
+        })
+    by false s again q = again q
+
+struct_in : (c : Context) (tag offset : ℕ) (l : Layout) → Solid c → K c tag ≡ Some l → offset + l.size ≤ 268435456 → PartsIn (K c) (struct_parts offset (members_in c.tags tag))
+struct_in c tag offset l h e s = by (find (λ (d : CompletedTag). d.tag == tag) c.tags.completed) refl
+  where
+    by : (o : Option CompletedTag) → find (λ (d : CompletedTag). d.tag == tag) c.tags.completed ≡ o → PartsIn (K c) (struct_parts offset (option_map (placed_members (K c)) o))
+    by None q = tt
+    by (Some done) q =
+        let d = done_at nothing c.tags.completed tag done l h.made q e in
+        let all = placed done.is_union (map (member_layout (K c)) done.members) in
+        rows_parts (K c) all.end offset done.members all.members d.members (placed_rows (K c) done.is_union done.members) (let near = d.inside in omega (arith, near, s))
+
+first_within : (k : Known) (ps : List (PlainType × ℕ)) → PartsIn k ps → PartsIn k (take 1 ps)
+first_within k [] h = tt
+first_within k (p ∷ ps) h = (h.0, tt)
+
+array_in : (c : Context) (asked n offset : ℕ) (element : PlainType) (l : Layout) → Whole (K c) element → layout_of (K c) element ≡ Some l → offset + n * l.size ≤ 268435456 → PartsIn (K c) (elements asked n offset (size_or_zero c element) element)
+array_in c asked n offset element l w e h =
+    subst (λ (o : Option Layout). PartsIn (K c) (elements asked n offset (unwrap_or (option_map (λ (x : Layout). x.size) o) 0) element)) (sym e) (elements_in (K c) asked n offset l element w e h)
+
+pub parts_in : (c : Context) (asked : ℕ) (type : PlainType) (offset : ℕ) → Solid c → Whole (K c) type → Within (K c) type offset → PartsIn (K c) (parts_of c asked type offset)
+unfolding parts_of
+parts_in c asked (Array element n) offset h w v =
+    let r = some_array (layout_of (K c) element) n v.0 v.1 in
+    array_in c asked n offset element r.0 w.0 r.1 (subst (λ (x : Layout). offset + x.size ≤ 268435456) (sym r.2) v.2)
+parts_in c asked (Struct tag) offset h w v = struct_in c tag offset v.0 h v.1 v.2
+parts_in c asked (Union tag) offset h w v = first_within (K c) (struct_parts offset (members_in c.tags tag)) (struct_in c tag offset v.0 h v.1 v.2)
+parts_in c asked other offset h w v = ((w, v), tt)
+
+-- at the start of an object
+pub starts_within : (c : Context) (type : PlainType) (l : Layout) → Solid c → Whole (K c) type → layout_of (K c) type ≡ Some l → Within (K c) type 0
+starts_within c type l h w e = let s = made_sized c.tags.completed type l h.made w e in (l, e, omega (arith, s.1))
+
+-- a row of characters is no longer than an object
+pub row_short : (c : Context) (element : PlainType) (n : ℕ) → Solid c → Whole (K c) (Array element n) → n ≤ 268435456
+row_short c element n h w = let s = made_sized c.tags.completed element w.1.0 h.made w.0 w.1.1 in times n w.1.0.size s.0 w.1.2
+  where
+    times : (n k : ℕ) → 1 ≤ k → n * k ≤ 268435456 → n ≤ 268435456
+    times n zero h g = absurd (omega (arith, h))
+    times n (suc k) h g = omega arith

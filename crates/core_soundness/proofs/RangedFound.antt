@@ -1,78 +1,75 @@
 -- Expressions keep the numbers of statements in range.
-use Rattle.std.proofs.Common.{◌≡◌, ◌<◌, ◌+◌, ◌&&◌, ◌^◌, not, ℕ, pos, zero, suc, Bool, true, false, cond, length, drop, List, [], ◌∷◌, ◌++◌, slice_get, Option, Some, None, unwrap_or, Ok, refl, sym, subst, arith, option_map, ◌∙◌}
-use Rattle.std.specs.Prelude.{slice_index_or}
+use Rattle.std.proofs.Common.{◌≡◌, ◌<◌, ◌+◌, ◌&&◌, ◌^◌, not, ℕ, pos, zero, suc, Bool, true, false, cond, length, drop, List, [], ◌∷◌, ◌++◌, slice_get, Option, Some, None, unwrap_or, Ok, refl, sym, subst, arith, option_map, ◌∙◌, ℤ}
 use Rattle.std.proofs.lemmas.Int.{ints}
+use Rattle.std.specs.Prelude.{slice_index_or}
+use Rattle.hs_base.specs.declared.ends.IntKind.TheVariants.{I8}
+use Rattle.c_types.proofs.MemberLemmas.{Extends}
+use Rattle.c_types.specs.TagTable.{TagTable, CompletedTag, known, layout_in}
 use Rattle.c_types.specs.Types as ct
 use Rattle.c_types.specs.Types.{PlainType, PlainTypes, Void, Int, Pointer}
+use Rattle.c_types.specs.declared.layouts.Layout.{Layout}
+use Rattle.c_lexer.specs.Numbers.{number_value}
+use Rattle.core_tree.specs.Sound.{IsNumber}
 use Rattle.core_tree.specs.declared.statements.Atom.{Atom}
 use Rattle.core_tree.specs.declared.statements.Atom.TheVariants as atom
 use Rattle.core_tree.specs.declared.statements.CmpOp.TheVariants as cmp
 use Rattle.core_tree.specs.declared.statements.StmKind.{StmKind}
 use Rattle.core_tree.specs.declared.statements.StmKind.TheVariants.{Set, Cmp, Zero, Jump, Copy, Call, Malloc, Calloc, Realloc, Free, Lib, Printf, Enter, Leave}
-use Rattle.core_tree.specs.Sound.{IsNumber}
-use Rattle.c_tree.specs.declared.operator.UnaryOp.{UnaryOp}
-use Rattle.c_tree.specs.declared.operator.UnaryOp.TheVariants as u
+use Rattle.c_tree.specs.Forms as f
+use Rattle.c_tree.specs.Tree.{Tree, Trees, Leaf, At, Node, none, ◌▹◌}
+use Rattle.c_tree.specs.Words as w
+use Rattle.c_tree.specs.declared.operator.AssignOp.{AssignOp}
+use Rattle.c_tree.specs.declared.operator.AssignOp.TheVariants as a
 use Rattle.c_tree.specs.declared.operator.BinaryOp.{BinaryOp}
 use Rattle.c_tree.specs.declared.operator.BinaryOp.TheVariants as b
-use Rattle.c_tree.specs.declared.operator.AssignOp.{AssignOp}
-use Rattle.c_tree.specs.Tree.{Tree, Trees, Leaf, At, Node, none, ◌▹◌}
+use Rattle.c_tree.specs.declared.operator.UnaryOp.{UnaryOp}
+use Rattle.c_tree.specs.declared.operator.UnaryOp.TheVariants as u
+use Rattle.c_decls.specs.BuiltIns.{built_ins, constant_of}
+use Rattle.c_decls.specs.Callees.{named, built_in_named, built_in_value, Callee, Takes, NoFunction, called, call}
+use Rattle.c_decls.specs.Expressions.{line_of, string, typed, int_constant, char_constant, joined, first_literal, typename}
+use Rattle.c_decls.specs.Named as n
+use Rattle.c_decls.specs.Named.{PlainNamed}
+use Rattle.c_decls.specs.PlaceRules.{element, element_types, dot, arrow, cast, choice, assigned, changed, changed_types, moves, held_place, size, size_answer}
+use Rattle.c_decls.specs.Refusals.{Checked, then}
+use Rattle.c_decls.specs.ScopeList.{found as declaration}
+use Rattle.c_decls.specs.TypeNames as names
+use Rattle.c_decls.specs.TypeRules.{unary, binary, moving, address}
+use Rattle.c_decls.specs.Typed.{PlainTyped, Operand, Number, PointerTo, operand, place, value, constant, is_null_constant, is_record}
 use Rattle.c_decls.specs.declared.built_in.BuiltIn.{BuiltIn}
 use Rattle.c_decls.specs.declared.built_in.BuiltIn.TheVariants as built
 use Rattle.c_decls.specs.declared.constant.Constant.{Constant}
 use Rattle.c_decls.specs.declared.refusal.TypeKind.TheVariants.{Operands, StaticTooLarge}
-use Rattle.c_decls.specs.Named as n
-use Rattle.c_decls.specs.Named.{PlainNamed}
-use Rattle.c_decls.specs.ScopeList.{found as declaration}
-use Rattle.c_decls.specs.BuiltIns.{built_ins, constant_of}
-use Rattle.c_decls.specs.Typed.{PlainTyped, Operand, Number, PointerTo, operand, place, value, constant, is_null_constant, is_record}
-use Rattle.c_decls.specs.TypeRules.{unary, binary, moving, address}
-use Rattle.c_decls.specs.PlaceRules.{element, element_types, dot, arrow, cast, choice, assigned, changed, changed_types, moves, held_place, size, size_answer}
-use Rattle.c_decls.specs.Callees.{named, built_in_named, built_in_value, Callee, Takes, NoFunction, called, call}
-use Rattle.c_decls.specs.Expressions.{line_of, string, typed, int_constant, char_constant, joined, first_literal, typename}
-use Rattle.elaboration.specs.Context.{Code, Context, emit, here, new_label, with_labels, integer_by, With, asked, told}
-use Rattle.elaboration.specs.Conversions.{Found, Spot, Value, Nowhere, found_as, atom_in, valued_from, convert, forget, tested_value, code_line, write, size_or_zero, valued_as, valued, unused}
-use Rattle.elaboration.specs.Operations.{working, Branches, offset_of, operator_of, changed_to}
-use Rattle.elaboration.specs.Calls.{Argument, atoms_of, atom_at, argument_from, lib_name, result_by, with_format, call_built_in, call_of_built_in, call_named, element_layout, types_of, first_type, rest_types}
-use Rattle.elaboration.specs.Rules.{set_again, compare_again, constant_found, object_found, built_in_found, name_found, is_inner, with_static, with_literal, indexed, dotted, target_of, pointed, negated, before_number, apply, applied, tells_equal, is_pointer_ahead, ahead, left_operand, between, cast_to, and_then, and_ends, and_ended, or_else, or_ended, chosen_by, choose_first, choice_spot, chosen, choose, type_ahead}
 use Rattle.elaboration.specs.Assignments.{record_assigned, scalar_assigned, old_value, changed_answer, changed_by, one_found, stepped}
+use Rattle.elaboration.specs.Calls.{Argument, atoms_of, atom_at, argument_from, lib_name, result_by, with_format, call_built_in, call_of_built_in, call_named, element_layout, types_of, first_type, rest_types}
+use Rattle.elaboration.specs.Context.{Code, Context, emit, here, new_label, with_labels, integer_by, With, asked, told, Walked, anew}
+use Rattle.elaboration.specs.Conversions.{Found, Spot, Value, Nowhere, found_as, atom_in, valued_from, convert, forget, tested_value, code_line, write, size_or_zero, valued_as, valued, unused}
 use Rattle.elaboration.specs.Expressions.{name_answer, literal_answer, unevaluated, changing, comma_answer, callee, callee_name, parameters, format_argument, is_printf, call_answer, found, arguments, cast_operand}
-use Rattle.core_soundness.specs.Whole.{Whole, NamedWhole, AllWhole, AreMade}
-use Rattle.core_soundness.proofs.Grown.{good, ok_same, never}
-use Rattle.core_soundness.proofs.Working.{grows_read, grows_tested}
-use Rattle.core_soundness.proofs.Quiet.{quiet_read, quiet_tested_value}
-use Rattle.core_soundness.proofs.Agreeing.{came, left_typed}
-use Rattle.core_soundness.proofs.Operating.{behind_test, moved_is}
-use Rattle.core_soundness.proofs.Reached.{Led, led_ok, led_after, led_unless}
-use Rattle.core_soundness.proofs.WholeTypes.{whole_stays, nothing, all_stay, extends_refl, made_sized}
-use Rattle.core_soundness.proofs.TypedWhole.{found_whole, assigned_whole, led_cond, called_whole, typed_good, typename_good, CW}
+use Rattle.elaboration.specs.Operations.{working, Branches, offset_of, operator_of, changed_to}
+use Rattle.elaboration.specs.Reallocates.{reallocates, opened, closed}
+use Rattle.elaboration.specs.Rules.{set_again, compare_again, constant_found, object_found, built_in_found, name_found, is_inner, with_static, with_literal, indexed, dotted, target_of, pointed, negated, before_number, apply, applied, tells_equal, is_pointer_ahead, ahead, left_operand, between, cast_to, and_then, and_ends, and_ended, or_else, or_ended, chosen_by, choose_first, choice_spot, chosen, choose, type_ahead}
 use Rattle.core_soundness.specs.Ranges.{AtomIn, AtomsIn, PiecesIn}
-use Rattle.core_soundness.proofs.Ranges.{In, Has, in_emit, in_here, in_integer, in_pointer, zero_number, one_number, small_number}
-use Rattle.core_soundness.proofs.Ranged.{size_number, offset_number, wanted_element, SpotIn, spot_atom, read_in, valued_from_in, convert_in, tested_in, write_in, before_in, Steps, combined_in, Pointed, pointed_of, moving_step, IsBetween, binary_steps, changed_in, member_in}
 use Rattle.core_soundness.specs.Solid.{Solid}
-use Rattle.core_soundness.proofs.Solid.{K, Rises, same_kept, same_rises, wrapped_number, rises_refl, rises_trans, fit_of, told_rises, told_whole, found_gone, value_gone, converted_rises, unused_gone}
-use Rattle.hs_base.specs.declared.ends.IntKind.TheVariants.{I8}
-use Rattle.c_lexer.specs.Numbers.{number_value}
-use Rattle.c_types.specs.declared.layouts.Layout.{Layout}
-use Rattle.c_types.specs.TagTable.{TagTable, CompletedTag, known, layout_in}
-use Rattle.c_tree.specs.declared.operator.AssignOp.TheVariants as a
-use Rattle.c_tree.specs.Words as w
-use Rattle.c_tree.specs.Forms as f
-use Rattle.c_decls.specs.Refusals.{Checked, then}
-use Rattle.c_decls.specs.TypeNames as names
+use Rattle.core_soundness.specs.Whole.{Whole, NamedWhole, AllWhole, AreMade}
 use Rattle.core_soundness.specs.Written.{Written, AllWritten}
-use Rattle.core_soundness.proofs.Growth.{Grows, grows_refl}
-use Rattle.core_soundness.proofs.TypedNames.{typename_leads}
-use Rattle.core_soundness.proofs.TagKinds.{kinds_refl}
-use Rattle.core_soundness.proofs.Unused.{valued_unused, cast_unused}
+use Rattle.core_soundness.proofs.Agreeing.{came, left_typed, changing_first}
+use Rattle.core_soundness.proofs.CodeWalk.{quiet_read, quiet_tested_value}
+use Rattle.core_soundness.proofs.Growth.{good, ok_same, never, Led, led_ok, led_after, led_unless, Grows, grows_refl, valued_unused, cast_unused, behind_test}
+use Rattle.core_soundness.proofs.Ranged as base
+use Rattle.core_soundness.proofs.Ranged.{In, Has, in_emit, in_here, in_integer, in_pointer, zero_number, one_number, small_number, size_number, offset_number, wanted_element, SpotIn, spot_atom, read_in, valued_from_in, convert_in, tested_in, write_in, before_in, Steps, combined_in, Pointed, pointed_of, moving_step, IsBetween, binary_steps, changed_in, member_in, K, Widens, same_kept, same_widens, wrapped_number, widens_refl, widens_trans, fit_of, told_widens, told_whole, found_gone, value_gone, converted_widens, unused_gone, Gone}
+use Rattle.core_soundness.proofs.Sorting.{moved_is}
+use Rattle.core_soundness.proofs.TagSorts.{typename_leads, kinds_refl, Leads, Kinds}
+use Rattle.core_soundness.proofs.TypedWhole.{found_whole, assigned_whole, led_cond, called_whole, typed_good, typename_good, CW, Fit}
+use Rattle.core_soundness.proofs.Walks.{grows_read, grows_tested, grows_write}
+use Rattle.core_soundness.proofs.WholeTypes.{whole_stays, nothing, all_stay, extends_refl, made_sized}
+use Rattle.core_soundness.proofs.Choices.{either_way, some_same}
+
+-- expressions keep the numbers of statements in range
 
 -- an expression whose code and place are in range
 abbrev pub E : Context × Found → Type 0
 E z = In z.0 × SpotIn z.1.spot
 
 -- names and constants
-
-some_same : (x y : Constant) → Some x ≡ Some y → x ≡ y
-some_same x y q = cc
 
 built_number : (name : BuiltIn) (c : Constant) → constant_of name ≡ Some c → IsNumber c.value
 built_number built.Eof c e = subst (λ (x : Constant). IsNumber x.value) (some_same _ c e) (omega (arith, ints), omega (arith, ints))
@@ -201,11 +198,7 @@ applied_in line op tree c e g s = led_after E (unary line op c.tags e.typed) (λ
 -- operators between values
 
 pub left_in : (op : BinaryOp) (before : Code) (right : Tree) (d : Context × Found) → PiecesIn before.pieces → E d → E (left_operand op before right d)
-left_in op before right d p h = by (tells_equal op && is_null_constant d.1.typed && is_pointer_ahead (ahead right d.0))
-  where
-    by : (t : Bool) → E (cond t (forget before d.0, found_as d.1.typed (Value atom.Null) Nowhere) d)
-    by true = (p, tt)
-    by false = h
+left_in op before right d p h = either_way E (tells_equal op && is_null_constant d.1.typed && is_pointer_ahead (ahead right d.0)) ((p, tt)) h
 
 pub between_in : (line : ℕ) (op : BinaryOp) (before : Code) (c : Context) (x y : Found) → IsBetween op → PiecesIn before.pieces → Solid c → In c → SpotIn x.spot → SpotIn y.spot → Whole (K c) x.typed.type → Whole (K c) y.typed.type → Led E (between line op before c x y)
 between_in line op before c x y i f h g p q v w =
@@ -329,8 +322,8 @@ changed_by_in line op keeps target old d s w p o h =
     answer true t old v g o r = (g, o)
     answer false t old v g o r = (g, r)
 
-pub old_solid : (line : ℕ) (d : Context × Found) → Solid d.0 → Rises d.0 (old_value line d).0
-old_solid line d h = same_rises d.0 _ (same_kept d.0 _ (quiet_read line d.1.typed.type d.1.spot d.0) (grows_read line d.1.typed.type d.1.spot d.0).kept) h
+pub old_solid : (line : ℕ) (d : Context × Found) → Solid d.0 → Widens d.0 (old_value line d).0
+old_solid line d h = same_widens d.0 _ (same_kept d.0 _ (quiet_read line d.1.typed.type d.1.spot d.0) (grows_read line d.1.typed.type d.1.spot d.0).kept) h
 
 pub stepped_in : (line : ℕ) (op : AssignOp) (keeps : Bool) (d : Context × Found) → Solid d.0 → Whole (K d.0) d.1.typed.type → E d → Led E (stepped line op keeps d)
 stepped_in line op keeps d s w h =
@@ -432,40 +425,33 @@ unused_in e wish c z k q =
 pub valued_in : (e : Tree) (wish : PlainType) (c : Context) (z : Context × Found) → ((x : Context × Found) → found e wish c ≡ Ok x → E x) → valued e (found e wish c) ≡ Ok z → E z
 valued_in e wish c z k q = unused_in e wish c z k (valued_unused e (found e wish c) z q)
 
-pub tested_solid : (e : Tree) (d : Context × Found) → Solid d.0 → Rises d.0 (tested_value e d).0
-tested_solid e d h = same_rises d.0 _ (same_kept d.0 _ (quiet_tested_value e d) (grows_tested (code_line e) d.1.typed.type (atom_in d.1) d.0).kept) h
+pub tested_solid : (e : Tree) (d : Context × Found) → Solid d.0 → Widens d.0 (tested_value e d).0
+tested_solid e d h = same_widens d.0 _ (same_kept d.0 _ (quiet_tested_value e d) (grows_tested (code_line e) d.1.typed.type (atom_in d.1) d.0).kept) h
 
-then_solid : (line : ℕ) (e : Tree) (d : Context × Found) → Solid d.0 → Rises d.0 (and_then line e d)
+then_solid : (line : ℕ) (e : Tree) (d : Context × Found) → Solid d.0 → Widens d.0 (and_then line e d)
 then_solid line e d h = let r = tested_solid e d h in record { solid = r.solid; more = r.more; kinds = r.kinds }
 
-else_solid : (line : ℕ) (e : Tree) (d : Context × Found) → Solid d.0 → Rises d.0 (or_else line e d).0
+else_solid : (line : ℕ) (e : Tree) (d : Context × Found) → Solid d.0 → Widens d.0 (or_else line e d).0
 else_solid line e d h = let r = tested_solid e d h in record { solid = r.solid; more = r.more; kinds = r.kinds }
 
-left_solid : (op : BinaryOp) (before : Code) (right : Tree) (d : Context × Found) → Solid d.0 → Rises d.0 (left_operand op before right d).0
-left_solid op before right d h = by (tells_equal op && is_null_constant d.1.typed && is_pointer_ahead (ahead right d.0))
-  where
-    by : (t : Bool) → Rises d.0 (cond t (forget before d.0, found_as d.1.typed (Value atom.Null) Nowhere) d).0
-    by true = record { solid = h; more = extends_refl (K d.0); kinds = kinds_refl d.0 }
-    by false = rises_refl d.0 h
+left_solid : (op : BinaryOp) (before : Code) (right : Tree) (d : Context × Found) → Solid d.0 → Widens d.0 (left_operand op before right d).0
+left_solid op before right d h =
+    either_way (λ (x : Context × Found). Widens d.0 x.0) (tells_equal op && is_null_constant d.1.typed && is_pointer_ahead (ahead right d.0))
+    (record { solid = h; more = extends_refl (K d.0); kinds = kinds_refl d.0 })
+    (widens_refl d.0 h)
 
-chosen_solid : (line : ℕ) (base : Context) (type : PlainType) (x : Context × Found) → Grows base x.0 → Solid x.0 → Rises x.0 (chosen_by line base.code type x.1.typed (x.0, atom_in x.1)).0
-chosen_solid line base (Int ty) x g h = let r = converted_rises line base (Int ty) x g h in record { solid = r.solid; more = r.more; kinds = r.kinds }
-chosen_solid line base (Pointer target) x g h = let r = converted_rises line base (Pointer target) x g h in record { solid = r.solid; more = r.more; kinds = r.kinds }
-chosen_solid line base other x g h = rises_refl x.0 h
+chosen_solid : (line : ℕ) (base : Context) (type : PlainType) (x : Context × Found) → Grows base x.0 → Solid x.0 → Widens x.0 (chosen_by line base.code type x.1.typed (x.0, atom_in x.1)).0
+chosen_solid line base (Int ty) x g h = let r = converted_widens line base (Int ty) x g h in record { solid = r.solid; more = r.more; kinds = r.kinds }
+chosen_solid line base (Pointer target) x g h = let r = converted_widens line base (Pointer target) x g h in record { solid = r.solid; more = r.more; kinds = r.kinds }
+chosen_solid line base other x g h = widens_refl x.0 h
 
-first_solid : (line other : ℕ) (base : Context) (type : PlainType) (x : Context × Found) → Grows base x.0 → Solid x.0 → Rises x.0 (choose_first line other base.code type x).0
+first_solid : (line other : ℕ) (base : Context) (type : PlainType) (x : Context × Found) → Grows base x.0 → Solid x.0 → Widens x.0 (choose_first line other base.code type x).0
 first_solid line other base type x g h = let r = chosen_solid line base type x g h in record { solid = r.solid; more = r.more; kinds = r.kinds }
-
-changing_ok : (tree : Tree) (answer : With Found) (z : Context × Found) → changing tree answer ≡ Ok z → answer ≡ Ok z
-changing_ok tree answer z h =
-    let d = came answer h in
-    let k = came (held_place (line_of tree) d.value.0.tags d.value.1.typed) d.last in
-    d.is ∙ k.last
 
 -- callees and arguments
 
 record Called (c : Context) (d : Context × Callee) : Type 0 where
-  rises : Rises c d.0
+  rises : Widens c d.0
   code : In d.0
   params : AllWhole (K d.0) (parameters d.1)
 
@@ -477,7 +463,7 @@ name_called : (line : ℕ) (name : List ℕ) (c : Context) (d : Context × Calle
 name_called line name c d h g q =
     let k = came (called line c.tags (declaration c.scopes name)) q in
     subst (Called c) (ok_same (c, k.value) d k.last)
-    (record { rises = rises_refl c h; code = g; params = params_whole c h k.value (called_whole c.tags.completed h.made line c.tags (declaration c.scopes name) (λ v e. found_whole (K c) c.scopes name v h.names e) k.value k.is) })
+    (record { rises = widens_refl c h; code = g; params = params_whole c h k.value (called_whole c.tags.completed h.made line c.tags (declaration c.scopes name) (λ v e. found_whole (K c) c.scopes name v h.names e) k.value k.is) })
 
 other_called : (tree : Tree) (c : Context) (d : Context × Callee) → Solid c → ((x : Context × Found) → found tree Void c ≡ Ok x → E x) → then (valued tree (found tree Void c)) (λ d. good (d.0, NoFunction)) ≡ Ok d → Called c d
 other_called tree c d h k q =
@@ -490,7 +476,7 @@ callee_in (Node f.Name (At line ▹ Leaf (w.Name name) ▹ none)) c d h g k q = 
 callee_in tree c d h g k q = other_called tree c d h k q
 
 record Argued (c : Context) (d : Context × Found) : Type 0 where
-  rises : Rises c d.0
+  rises : Widens c d.0
   grows : Grows c d.0
   fits : E d
 
@@ -498,11 +484,11 @@ format_in : (o : Option (List ℕ)) (e : Tree) (wish : PlainType) (c : Context) 
 format_in None e wish c answer d h g k q = let v = value_gone e wish c d h q in record { rises = v.rises; grows = v.grows; fits = valued_in e wish c d k q }
 format_in (Some bytes) e wish c answer d h g k q =
     let t = came answer q in
-    subst (Argued c) (ok_same (c, valued_as t.value.1 atom.Null) d t.last) (record { rises = rises_refl c h; grows = grows_refl c; fits = (g, tt) })
+    subst (Argued c) (ok_same (c, valued_as t.value.1 atom.Null) d t.last) (record { rises = widens_refl c h; grows = grows_refl c; fits = (g, tt) })
 
-argument_solid : (line : ℕ) (params : PlainTypes) (c : Context) (d : Context × Found) → Grows c d.0 → Solid d.0 → Rises d.0 (argument_from line params c.code d.0 d.1).0
-argument_solid line ct.none c d g h = rises_refl d.0 h
-argument_solid line (ct.first type rest) c d g h = converted_rises line c type d g h
+argument_solid : (line : ℕ) (params : PlainTypes) (c : Context) (d : Context × Found) → Grows c d.0 → Solid d.0 → Widens d.0 (argument_from line params c.code d.0 d.1).0
+argument_solid line ct.none c d g h = widens_refl d.0 h
+argument_solid line (ct.first type rest) c d g h = converted_widens line c type d g h
 
 first_whole : (c : Context) (params : PlainTypes) → AllWhole (K c) params → Whole (K c) (first_type params)
 first_whole c ct.none h = tt
@@ -513,7 +499,7 @@ rest_whole c ct.none h = tt
 rest_whole c (ct.first type rest) h = h.1
 
 record Arguments_in (c : Context) (z : Context × List Argument) : Type 0 where
-  rises : Rises c z.0
+  rises : Widens c z.0
   code : In z.0
   atoms : AtomsIn (atoms_of z.1)
 
@@ -544,7 +530,7 @@ mutual
       let x = came (arguments line d.value.1 (parameters d.value.1) values d.value.0) d.last in
       let one = callee_in e c d.value h g (λ y k. found_in e Void c y h v.1.1.0 tt g k) d.is in
       let two = arguments_in values line d.value.1 (parameters d.value.1) d.value.0 x.value one.rises.solid v.1.1.1.0.1 one.params one.code x.is in
-      let far = rises_trans c d.value.0 x.value.0 one.rises two.rises in
+      let far = widens_trans c d.value.0 x.value.0 one.rises two.rises in
       call_answer_in line (callee_name e c) d.value.1 wish values x.value.0 x.value.1 two.rises.solid (whole_stays wish (K c) (K x.value.0) far.more t) two.code two.atoms z x.last
   found_in (Node f.Dot (At line ▹ e ▹ Leaf (w.Name name) ▹ none)) wish c z h v t g q =
       let d = came (found e Void c) q in
@@ -556,22 +542,22 @@ mutual
       pointed_in line name d.value.0 d.value.1 (value_gone e Void c d.value h d.is).rises.solid one.0 one.1 z d.last
   found_in (Node f.PostInc (At line ▹ e ▹ none)) wish c z h v t g q =
       let d = came (changing e (found e Void c)) q in
-      let is = changing_ok e (found e Void c) d.value d.is in
+      let is = changing_first e (found e Void c) d.value d.is in
       let gd = found_gone e Void c d.value h is in
       stepped_in line a.Add true d.value gd.rises.solid gd.whole (found_in e Void c d.value h v.1.1.0 tt g is) z d.last
   found_in (Node f.PostDec (At line ▹ e ▹ none)) wish c z h v t g q =
       let d = came (changing e (found e Void c)) q in
-      let is = changing_ok e (found e Void c) d.value d.is in
+      let is = changing_first e (found e Void c) d.value d.is in
       let gd = found_gone e Void c d.value h is in
       stepped_in line a.Subtract true d.value gd.rises.solid gd.whole (found_in e Void c d.value h v.1.1.0 tt g is) z d.last
   found_in (Node f.PreInc (At line ▹ e ▹ none)) wish c z h v t g q =
       let d = came (changing e (found e Void c)) q in
-      let is = changing_ok e (found e Void c) d.value d.is in
+      let is = changing_first e (found e Void c) d.value d.is in
       let gd = found_gone e Void c d.value h is in
       stepped_in line a.Add false d.value gd.rises.solid gd.whole (found_in e Void c d.value h v.1.1.0 tt g is) z d.last
   found_in (Node f.PreDec (At line ▹ e ▹ none)) wish c z h v t g q =
       let d = came (changing e (found e Void c)) q in
-      let is = changing_ok e (found e Void c) d.value d.is in
+      let is = changing_first e (found e Void c) d.value d.is in
       let gd = found_gone e Void c d.value h is in
       stepped_in line a.Subtract false d.value gd.rises.solid gd.whole (found_in e Void c d.value h v.1.1.0 tt g is) z d.last
   found_in (Node (f.Unary u.Address) (At line ▹ e ▹ none)) wish c z h v t g q =
@@ -590,7 +576,7 @@ mutual
       let begun = told y.value.0 c in
       let d = came (cast_operand y.value.1 e (found e y.value.1 begun)) y.last in
       let k = typename_good c.tags.completed h.made name (asked c) (fit_of c h) y.value y.is in
-      let hb = told_rises c y.value.0 h k.0 (typename_leads name (asked c) y.value y.is) in
+      let hb = told_widens c y.value.0 h k.0 (typename_leads name (asked c) y.value y.is) in
       let one = unused_in e y.value.1 begun d.value (λ x s. found_in e y.value.1 begun x hb.solid v.1.1.1.0 (told_whole c y.value.0 h y.value.1 k.0 k.1) g s) (cast_unused y.value.1 e (found e y.value.1 begun) d.value d.is) in
       cast_in line y.value.1 c.code d.value.0 d.value.1 g one.0 one.1 z d.last
   found_in (Node (f.Binary b.And) (At line ▹ e ▹ e2 ▹ none)) wish c z h v t g q =
@@ -622,7 +608,7 @@ mutual
       let first = left_in op c.code e2 d.value g one in
       let two = valued_in e2 Void begun.0 r.value (λ x k. found_in e2 Void begun.0 x hb.solid v.1.1.1.0 tt first.0 k) r.is in
       let gr = value_gone e2 Void begun.0 r.value hb.solid r.is in
-      let far = rises_trans d.value.0 begun.0 r.value.0 hb gr.rises in
+      let far = widens_trans d.value.0 begun.0 r.value.0 hb gr.rises in
       between_in line op begun.0.code r.value.0 begun.1 r.value.1 tt first.0 gr.rises.solid two.0 first.1 two.1
       (subst (λ (x : PlainTyped). Whole (K r.value.0) x.type) (sym (left_typed op c.code e2 d.value)) (whole_stays d.value.1.typed.type (K d.value.0) (K r.value.0) far.more gd.whole)) gr.whole z r.last
   found_in (Node f.Cond (At line ▹ e ▹ e2 ▹ e3 ▹ none)) wish c z h v t g q =
@@ -654,7 +640,7 @@ mutual
       (scalar_in line d.value.0.code e2 d.value.1 r.value one.0 one.1 two) z r.last
   found_in (Node (f.Assign op) (At line ▹ e ▹ e2 ▹ none)) wish c z h v t g q =
       let d = came (changing e (found e Void c)) q in
-      let is = changing_ok e (found e Void c) d.value d.is in
+      let is = changing_first e (found e Void c) d.value d.is in
       let old = old_value line d.value in
       let r = came (valued e2 (found e2 Void old.0)) d.last in
       let one = found_in e Void c d.value h v.1.1.0 tt g is in
@@ -663,7 +649,7 @@ mutual
       let mid = read_in line d.value.1.typed.type d.value.1.spot d.value.0 one.0 one.1 in
       let two = valued_in e2 Void old.0 r.value (λ x k. found_in e2 Void old.0 x ho.solid v.1.1.1.0 tt mid.0 k) r.is in
       let gr = value_gone e2 Void old.0 r.value ho.solid r.is in
-      let far = rises_trans d.value.0 old.0 r.value.0 ho gr.rises in
+      let far = widens_trans d.value.0 old.0 r.value.0 ho gr.rises in
       changed_by_in line op false d.value.1 old.1 r.value gr.rises.solid (whole_stays d.value.1.typed.type (K d.value.0) (K r.value.0) far.more gd.whole) one.1 mid.1 two z r.last
   found_in (Node f.Comma (At line ▹ e ▹ e2 ▹ none)) wish c z h v t g q =
       let d = came (unused e (found e Void c)) q in
@@ -675,7 +661,7 @@ mutual
   found_in tree wish c z h v t g q = never (E z) _ z q
 
   arguments_in : (trees : Trees) (line : ℕ) (target : Callee) (params : PlainTypes) (c : Context) (z : Context × List Argument) → Solid c → AllWritten trees → AllWhole (K c) params → In c → arguments line target params trees c ≡ Ok z → Arguments_in c z
-  arguments_in none line target params c z h v t g q = subst (Arguments_in c) (ok_same (c, []) z q) (record { rises = rises_refl c h; code = g; atoms = tt })
+  arguments_in none line target params c z h v t g q = subst (Arguments_in c) (ok_same (c, []) z q) (record { rises = widens_refl c h; code = g; atoms = tt })
   arguments_in (e ▹ rest) line target params c z h v t g q =
       let d = came (format_argument (is_printf target e) c (typed e (asked c)) (valued e (found e (first_type params) c))) q in
       let x = argument_from line params c.code d.value.0 d.value.1 in
@@ -683,7 +669,103 @@ mutual
       let one = format_in (is_printf target e) e (first_type params) c (typed e (asked c)) d.value h g (λ y k. found_in e (first_type params) c y h v.0 (first_whole c params t) g k) d.is in
       let hx = argument_solid line params c d.value one.grows one.rises.solid in
       let s = argument_in line params c.code d.value.0 d.value.1 g one.fits.0 one.fits.1 in
-      let far = rises_trans c d.value.0 x.0 one.rises hx in
+      let far = widens_trans c d.value.0 x.0 one.rises hx in
       let rs = arguments_in rest line NoFunction (rest_types params) x.0 more.value hx.solid v.1 (all_stay (rest_types params) (K c) (K x.0) far.more (rest_whole c params t)) s.0 more.is in
       subst (Arguments_in c) (ok_same (more.value.0, x.1 ∷ more.value.1) z more.last)
-      (record { rises = rises_trans c x.0 more.value.0 far rs.rises; code = rs.code; atoms = (s.1, rs.atoms) })
+      (record { rises = widens_trans c x.0 more.value.0 far rs.rises; code = rs.code; atoms = (s.1, rs.atoms) })
+
+-- what a part of a text leads to: whole types, and statements whose numbers are in range
+
+-- the values of the running switch, and the code of the functions that were walked
+abbrev pub CasesIn : List (ℤ × ℕ) → Type 0
+CasesIn [] = Unit {0}
+CasesIn (x ∷ xs) = IsNumber x.0 × CasesIn xs
+
+abbrev pub WalkedIn : List Walked → Type 0
+WalkedIn [] = Unit {0}
+WalkedIn (x ∷ xs) = PiecesIn x.code.pieces × WalkedIn xs
+
+abbrev pub Cases : Context → Type 0
+Cases c = CasesIn c.running.cases
+
+pub same_cases : (c d : Context) → Grows c d → Cases c → Cases d
+same_cases c d g k = subst CasesIn (sym g.cases) k
+
+pub same_walked : (c d : Context) → Grows c d → WalkedIn c.walked → WalkedIn d.walked
+same_walked c d g k = subst WalkedIn (sym g.kept.walked) k
+
+pub record Rises (c d : Context) : Type 0 where
+  pub solid : Solid d
+  pub more : Extends (K c) (K d)
+  pub kinds : Kinds c d
+  pub code : In c → In d
+  pub cases : Cases c → Cases d
+  pub walked : WalkedIn c.walked → WalkedIn d.walked
+
+pub rises_refl : (c : Context) → Solid c → Rises c c
+rises_refl c h = record { solid = h; more = extends_refl (K c); kinds = kinds_refl c; code = λ k. k; cases = λ k. k; walked = λ k. k }
+
+pub rises_trans : (a b c : Context) → Rises a b → Rises b c → Rises a c
+rises_trans a b c x y = record { solid = y.solid; more = λ tag l e. y.more tag l (x.more tag l e); kinds = record { made = λ i u e. y.kinds.made i u (x.kinds.made i u e); sorts = λ ks. y.kinds.sorts (x.kinds.sorts ks) }; code = λ k. y.code (x.code k); cases = λ k. y.cases (x.cases k); walked = λ k. y.walked (x.walked k) }
+
+-- the same with code that is known
+pub with_code : (c d : Context) → base.Widens c d → (In c → In d) → (Cases c → Cases d) → (WalkedIn c.walked → WalkedIn d.walked) → Rises c d
+with_code c d r k m w = record { solid = r.solid; more = r.more; kinds = r.kinds; code = k; cases = m; walked = w }
+
+-- other code
+pub coded_rises : (a c : Context) (code : Code) → Rises a c → (In a → In (record c { code = code })) → Rises a (record c { code = code })
+coded_rises a c code r k = record { solid = r.solid; more = r.more; kinds = r.kinds; code = k; cases = r.cases; walked = r.walked }
+
+-- a part that grew behind what was led to
+pub rises_more : (a b d : Context) → Rises a b → base.Widens b d → Grows b d → (In a → In d) → Rises a d
+rises_more a b d r s g k =
+    with_code a d (base.widens_trans a b d (record { solid = r.solid; more = r.more; kinds = r.kinds }) s) k (λ q. same_cases b d g (r.cases q)) (λ q. same_walked b d g (r.walked q))
+
+pub opened_rises : (e : Tree) (c : Context) → Solid c → Rises c (opened e c)
+opened_rises e c h =
+    either_way (Rises c) (reallocates c.scopes e)
+    (record { solid = h; more = extends_refl (K c); kinds = kinds_refl c; code = λ k. in_emit (code_line e) Enter (anew c) k (tt, tt); cases = λ k. k; walked = λ k. k })
+    (record { solid = h; more = extends_refl (K c); kinds = kinds_refl c; code = λ k. k; cases = λ k. k; walked = λ k. k })
+
+pub closed_rises : (e : Tree) (c : Context) → Solid c → Rises c (closed e c)
+closed_rises e c h =
+    either_way (Rises c) (reallocates c.scopes e)
+    (record { solid = h; more = extends_refl (K c); kinds = kinds_refl c; code = λ k. in_emit (code_line e) Leave c k (tt, tt); cases = λ k. k; walked = λ k. k })
+    (rises_refl c h)
+
+pub write_rises : (line : ℕ) (type : PlainType) (spot : Spot) (a : Atom) (c : Context) → Solid c → (In c → SpotIn spot × AtomIn a) → Rises c (write line type spot a c)
+write_rises line type spot a c h s = with_code c _ (base.write_widens line type spot a c h) (λ k. let r = s k in write_in line type spot a c k r.0 r.1) (same_cases c _ (grows_write line type spot a c)) (same_walked c _ (grows_write line type spot a c))
+
+pub told_rises : (c : Context) (n : names.Context) (h : Solid c) → Fit c.tags.completed h.made n → Leads (asked c) n → Rises c (told n c)
+told_rises c n h f l = with_code c _ (base.told_widens c n h f l) (λ k. k) (λ k. k) (λ k. k)
+
+-- an expression that was gone through
+pub record Went (c : Context) (z : Context × Found) : Type 0 where
+  pub gone : Gone c z
+  pub fits : In c → E z
+
+pub went_rises : (c : Context) (z : Context × Found) → Went c z → Rises c z.0
+went_rises c z g = with_code c z.0 g.gone.rises (λ k. (g.fits k).0) (same_cases c z.0 g.gone.grows) (same_walked c z.0 g.gone.grows)
+
+pub found_went : (e : Tree) (wish : PlainType) (c : Context) (z : Context × Found) → Solid c → Written e → Whole (K c) wish → found e wish c ≡ Ok z → Went c z
+found_went e wish c z h w t q = record { gone = found_gone e wish c z h q; fits = λ k. found_in e wish c z h w t k q }
+
+pub unused_went : (e : Tree) (wish : PlainType) (c : Context) (z : Context × Found) → Solid c → Written e → Whole (K c) wish → unused e (found e wish c) ≡ Ok z → Went c z
+unused_went e wish c z h w t q = record { gone = unused_gone e wish c z h q; fits = λ k. unused_in e wish c z (λ x s. found_in e wish c x h w t k s) q }
+
+pub value_went : (e : Tree) (wish : PlainType) (c : Context) (z : Context × Found) → Solid c → Written e → Whole (K c) wish → valued e (found e wish c) ≡ Ok z → Went c z
+value_went e wish c z h w t q = unused_went e wish c z h w t (valued_unused e (found e wish c) z q)
+
+-- a full expression
+pub record Full (c : Context) (z : Context × Found) : Type 0 where
+  pub rises : Rises c z.0
+  pub fits : In c → E z
+
+pub full_unused : (e : Tree) (wish : PlainType) (c : Context) (z : Context × Found) → Solid c → Written e → Whole (K c) wish → unused e (found e wish (opened e c)) ≡ Ok z → Full c z
+full_unused e wish c z h w t q =
+    let o = opened_rises e c h in
+    let v = unused_went e wish (opened e c) z o.solid w (whole_stays wish (K c) (K (opened e c)) o.more t) q in
+    record { rises = rises_trans c (opened e c) z.0 o (went_rises (opened e c) z v); fits = λ k. v.fits (o.code k) }
+
+pub full_value : (e : Tree) (wish : PlainType) (c : Context) (z : Context × Found) → Solid c → Written e → Whole (K c) wish → valued e (found e wish (opened e c)) ≡ Ok z → Full c z
+full_value e wish c z h w t q = full_unused e wish c z h w t (valued_unused e (found e wish (opened e c)) z q)

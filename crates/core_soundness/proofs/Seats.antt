@@ -1,11 +1,30 @@
--- Where a type lies in a whole: its slots are those of the whole there, and no other slot of the whole touches it.
-use Rattle.std.proofs.Common.{◌≡◌, ◌⊎◌, ◌≤◌, ◌<◌, ◌+◌, ◌*◌, ◌==◌, ◌||◌, ℕ, zero, suc, Bool, true, false, cond, filter, fold, List, [], ◌∷◌, ◌++◌, refl, sym, ap, ◌∙◌, subst, inl, inr, ⊎_elim, arith}
-use Rattle.std.specs.Prelude.{nat_le}
-use Rattle.std.specs.List.{flat_map, range_with_len, list_any, list_all}
-use Rattle.std.proofs.lemmas.Bool.{eqb-true, eq-eqb, leb-true, and_parts}
+-- Where the parts of an object lie, and how initializers fill them.
+use Rattle.std.proofs.Common.{◌≡◌, ◌⊎◌, ◌≤◌, ◌<◌, ◌+◌, ◌*◌, ◌==◌, ◌||◌, ℕ, zero, suc, Bool, true, false, cond, filter, fold, List, [], ◌∷◌, ◌++◌, refl, sym, ap, ◌∙◌, subst, inl, inr, ⊎_elim, arith, ◌-◌, ◌/◌, length, reverse, replicate, map, slice_get, unwrap_or, length-append, append_assoc, ◌&&◌, not, is_some, take, zip, Option, Some, None, option_map}
+use Rattle.std.proofs.lemmas.Bool.{eqb-true, eq-eqb, leb-true, and_parts, cases_lt}
+use Rattle.std.proofs.lemmas.List.{reverse-append, reverse-reverse, length-reverse, length-replicate}
+use Rattle.std.specs.List.{flat_map, range_with_len, list_any, list_all, IsDistinct, AllByRecursion, find}
+use Rattle.std.specs.Option.{option_or}
+use Rattle.std.specs.Prelude.{nat_le, nat_eq}
+use Rattle.c_types.proofs.MemberLemmas.{Extends, some_array}
+use Rattle.c_types.proofs.Places.{stays_known}
+use Rattle.c_types.proofs.Sound.{rounded_le, layout_sound, member_sound, known_sound}
+use Rattle.c_types.specs.Layouts.{Placed, none_placed, offset_after, place, placed, moved, array_layout, members_layout, has_slot, keeps_union_rule, AreSlots, IsSound, Known, layout_of}
+use Rattle.c_types.specs.TagTable.{CompletedTag, PlainMember, known, learn, tag_layout, member_layout, placed_members}
+use Rattle.c_types.specs.Types.{PlainType, Void, Int, Pointer, Array, Struct, Union, Function}
 use Rattle.c_types.specs.declared.layouts.Layout.{Layout}
-use Rattle.c_types.specs.Layouts.{Placed, none_placed, offset_after, place, placed, moved, array_layout, members_layout, has_slot, keeps_union_rule, AreSlots, IsSound}
-use Rattle.c_types.proofs.Sound.{rounded_le}
+use Rattle.c_types.specs.declared.tags.TagError.{TagError}
+use Rattle.c_types.specs.declared.tags.TagError.TheVariants.{PointerInUnion}
+use Rattle.core_tree.specs.declared.program.Start.{Start}
+use Rattle.elaboration.specs.Context.{Context}
+use Rattle.elaboration.specs.Conversions.{size_or_zero}
+use Rattle.elaboration.specs.Initializers.{bytes_of, with_bytes, with_pointer, without_zeros, trimmed, elements, struct_parts, parts_of}
+use Rattle.core_soundness.specs.Solid.{Solid}
+use Rattle.core_soundness.specs.Whole.{AreMade, MembersWhole}
+use Rattle.core_soundness.proofs.Ranged.{members_same, learnt}
+use Rattle.core_soundness.proofs.WholeTypes.{nothing, members_stay, learn_extends, placed_far}
+use Rattle.core_soundness.proofs.Choices.{either_way, some_same}
+
+-- where a type lies in a whole: its slots are those of the whole there, and no other slot of the whole touches it
 
 -- a slot of a list
 abbrev pub Has : List ℕ → ℕ → Type 0
@@ -308,10 +327,6 @@ has_any (x ∷ xs) s (inr h) = by (x == s) (has_any xs s h)
     by true q = refl
     by false q = q
 
-end_far : (u : Bool) (p : Placed) (ls : List Layout) → p.end ≤ (fold (place u) p ls).end
-end_far u p [] = omega arith
-end_far u p (l ∷ ls) = let rest = end_far u (place u p l) ls in omega (arith, rest)
-
 any_member : (p : Placed) (ls : List Layout) (s : ℕ) → list_any (λ (m : ℕ × Layout). has_slot s m.1) (rest_placed true p ls) ≡ list_any (λ (l : Layout). has_slot s l) ls
 any_member p [] s = refl
 any_member p (l ∷ ls) s = ap (λ (t : Bool). has_slot s l || t) (any_member (place true p l) ls s)
@@ -343,7 +358,7 @@ union_seat l ls sound rule =
     let all = placed true (l ∷ ls) in
     let w = members_layout true (l ∷ ls) in
     let is : all.members ≡ rest_placed true none_placed (l ∷ ls) = fold_rest true none_placed (l ∷ ls) in
-    let far = end_far true (place true none_placed l) ls in
+    let far = placed_far true (place true none_placed l) ls in
     let fits : l.size ≤ w.size = omega (arith, far, rounded_le all.end all.align) in
     record {
       inside = omega (arith, fits);
@@ -364,3 +379,354 @@ union_seat l ls sound rule =
     by : (s : ℕ) (t : Bool) → nat_le l.size s ≡ t → (t || has_slot s l) ≡ true → (s + 4 ≤ 0) ⊎ (0 + l.size ≤ s) ⊎ Moved 0 l.slots s
     by s true q k = inr (inl (omega (arith, leb-true l.size s q)))
     by s false q k = inr (inr (record { slot = s; there = any_has l.slots s k; is = sym (zero_first s) }))
+
+-- what a static holds first, while its places are filled one behind another
+
+-- bytes
+
+abbrev pub byte : List ℕ → ℕ → ℕ
+byte bytes j = unwrap_or (slice_get bytes j) 0
+
+byte_left : (xs ys : List ℕ) (j : ℕ) → j < length xs → byte (xs ++ ys) j ≡ byte xs j
+byte_left [] ys j h = absurd (omega (arith, h))
+byte_left (x ∷ xs) ys zero h = refl
+byte_left (x ∷ xs) ys (suc j) h = byte_left xs ys j (omega (arith, h))
+
+byte_right : (xs ys : List ℕ) (j k : ℕ) → j ≡ length xs + k → byte (xs ++ ys) j ≡ byte ys k
+byte_right [] ys j k e = let same : j ≡ k = omega (arith, e) in ap (byte ys) same
+byte_right (x ∷ xs) ys zero k e = absurd (omega (arith, e))
+byte_right (x ∷ xs) ys (suc j) k e = byte_right xs ys j k (omega (arith, e))
+
+byte_past : (xs : List ℕ) (j : ℕ) → length xs ≤ j → byte xs j ≡ 0
+byte_past [] j h = refl
+byte_past (x ∷ xs) zero h = absurd (omega (arith, h))
+byte_past (x ∷ xs) (suc j) h = byte_past xs j (omega (arith, h))
+
+byte_zeros : (n : ℕ) (ys : List ℕ) (j : ℕ) → j < n → byte (replicate n 0 ++ ys) j ≡ 0
+byte_zeros zero ys j h = absurd (omega (arith, h))
+byte_zeros (suc n) ys zero h = refl
+byte_zeros (suc n) ys (suc j) h = byte_zeros n ys j (omega (arith, h))
+
+-- bytes behind those so far, at an offset
+abbrev padded : List ℕ → ℕ → List ℕ → List ℕ
+padded old offset bytes = old ++ replicate (offset - length old) 0 ++ bytes
+
+padded_is : (old bytes : List ℕ) (offset : ℕ) → padded old offset bytes ≡ old ++ (replicate (offset - length old) 0 ++ bytes)
+padded_is old bytes offset = append_assoc old (replicate (offset - length old) 0) bytes
+
+padded_length : (old bytes : List ℕ) (offset : ℕ) → length old ≤ offset → length (padded old offset bytes) ≡ offset + length bytes
+padded_length old bytes offset h =
+    let zeros : List ℕ = replicate (offset - length old) 0 in
+    omega (arith, h, ap length (padded_is old bytes offset), length-append old (zeros ++ bytes), length-append zeros bytes, length-replicate {A = ℕ} (offset - length old) 0)
+
+padded_before : (old bytes : List ℕ) (offset j : ℕ) → length old ≤ offset → j < offset → byte (padded old offset bytes) j ≡ byte old j
+padded_before old bytes offset j h k =
+    ap (λ (xs : List ℕ). byte xs j) (padded_is old bytes offset)
+    ∙ ⊎_elim
+    (λ (near : j < length old). byte_left old (replicate (offset - length old) 0 ++ bytes) j near)
+    (λ (far : length old ≤ j).
+    byte_right old (replicate (offset - length old) 0 ++ bytes) j (j - length old) (omega (arith, far))
+    ∙ (byte_zeros (offset - length old) bytes (j - length old) (omega (arith, far, k)) ∙ sym (byte_past old j far)))
+    (cases_lt j (length old))
+
+padded_behind : (old bytes : List ℕ) (offset j : ℕ) → length old ≤ offset → offset + length bytes ≤ j → byte (padded old offset bytes) j ≡ 0
+padded_behind old bytes offset j h k = byte_past (padded old offset bytes) j (omega (arith, padded_length old bytes offset h, k))
+
+pub bytes_of_length : (width v : ℕ) → length (bytes_of width v) ≡ width
+bytes_of_length zero v = refl
+bytes_of_length (suc width) v = let rest = bytes_of_length width (v / 256) in omega (arith, rest)
+
+-- without zeros at the end
+
+reversed_more : (x : ℕ) (xs : List ℕ) → reverse (x ∷ xs) ≡ reverse xs ++ (x ∷ [])
+reversed_more x xs = reverse-append (x ∷ []) xs
+
+last_zero : (xs : List ℕ) (x j : ℕ) → x ≡ 0 → byte (xs ++ (x ∷ [])) j ≡ byte xs j
+last_zero xs x j e =
+    ⊎_elim
+    (λ (near : j < length xs). byte_left xs (x ∷ []) j near)
+    (λ (far : length xs ≤ j). byte_right xs (x ∷ []) j (j - length xs) (omega (arith, far)) ∙ (at (j - length xs) ∙ sym (byte_past xs j far)))
+    (cases_lt j (length xs))
+  where
+    at : (k : ℕ) → byte (x ∷ []) k ≡ 0
+    at zero = e
+    at (suc k) = refl
+
+cut_same : (xs : List ℕ) (j : ℕ) → byte (reverse (without_zeros xs)) j ≡ byte (reverse xs) j
+cut_same [] j = refl
+cut_same (x ∷ xs) j = by (x == 0) (cut_same xs j) refl
+  where
+    by : (t : Bool) → byte (reverse (without_zeros xs)) j ≡ byte (reverse xs) j → (x == 0) ≡ t → byte (reverse (cond t (without_zeros xs) (x ∷ xs))) j ≡ byte (reverse (x ∷ xs)) j
+    by true again e = again ∙ (sym (last_zero (reverse xs) x j (eqb-true x 0 e)) ∙ ap (λ (ys : List ℕ). byte ys j) (sym (reversed_more x xs)))
+    by false again e = refl
+
+cut_length : (xs : List ℕ) → length (without_zeros xs) ≤ length xs
+cut_length [] = omega arith
+cut_length (x ∷ xs) = either_way (λ y0. length (without_zeros xs) ≤ length xs → length y0 ≤ length (x ∷ xs)) (x == 0) (λ again. omega (arith, again)) (λ again. omega arith) (cut_length xs)
+
+pub trimmed_byte : (start : Start) (j : ℕ) → byte (trimmed start).bytes j ≡ byte start.bytes j
+trimmed_byte start j = cut_same (reverse start.bytes) j ∙ ap (λ (ys : List ℕ). byte ys j) (reverse-reverse start.bytes)
+
+pub trimmed_length : (start : Start) → length (trimmed start).bytes ≤ length start.bytes
+trimmed_length start = omega (arith, length-reverse (without_zeros (reverse start.bytes)), cut_length (reverse start.bytes), length-reverse start.bytes)
+
+-- filling
+
+-- pointers stand in slots that end below a place
+abbrev pub PointersBelow : List ℕ → ℕ → List (ℕ × ℕ × ℕ) → Type 0
+PointersBelow slots low [] = Unit {0}
+PointersBelow slots low (p ∷ ps) = (Has slots p.0 × (p.0 + 4 ≤ low)) × PointersBelow slots low ps
+
+abbrev pub places : List (ℕ × ℕ × ℕ) → List ℕ
+places ps = map (λ (p : ℕ × ℕ × ℕ). p.0) ps
+
+-- a whole with these slots is filled up to a place
+pub record Filled (slots : List ℕ) (low : ℕ) (start : Start) : Type 0 where
+  pub inside : length start.bytes ≤ low
+  pub zeros : (s k : ℕ) → Has slots s → k < 4 → byte start.bytes (s + k) ≡ 0
+  pub pointers : PointersBelow slots low start.pointers
+  pub distinct : IsDistinct nat_eq (places start.pointers)
+
+below_more : (slots : List ℕ) (low high : ℕ) (ps : List (ℕ × ℕ × ℕ)) → low ≤ high → PointersBelow slots low ps → PointersBelow slots high ps
+below_more slots low high [] e h = tt
+below_more slots low high (p ∷ ps) e h = ((h.0.0, omega (arith, h.0.1, e)), below_more slots low high ps e h.1)
+
+pub filled_more : (slots : List ℕ) (low high : ℕ) (start : Start) → low ≤ high → Filled slots low start → Filled slots high start
+filled_more slots low high start e h = record { inside = omega (arith, h.inside, e); zeros = h.zeros; pointers = below_more slots low high start.pointers e h.pointers; distinct = h.distinct }
+
+-- bytes of a place without slots
+pub filled_bytes : (room : ℕ) (slots : List ℕ) (low offset : ℕ) (l : Layout) (start : Start) (bytes : List ℕ) → Filled slots low start → low ≤ offset → Seat room slots offset l → ((s : ℕ) → Has l.slots s → ⊥) → length bytes ≤ l.size → Filled slots (offset + l.size) (with_bytes start offset bytes)
+filled_bytes room slots low offset l start bytes h e seat none fits =
+    let near : length start.bytes ≤ offset = omega (arith, h.inside, e) in
+    record {
+      inside = omega (arith, padded_length start.bytes bytes offset near, fits);
+      zeros = λ s k there small. ⊎_elim
+          (λ (x : s + 4 ≤ offset). padded_before start.bytes bytes offset (s + k) near (omega (arith, x, small)) ∙ h.zeros s k there small)
+          (λ x. ⊎_elim
+          (λ (y : offset + l.size ≤ s). padded_behind start.bytes bytes offset (s + k) near (omega (arith, y, fits)))
+          (λ (y : Moved offset l.slots s). absurd (none y.slot y.there))
+          x)
+          (seat.down s there);
+      pointers = below_more slots low (offset + l.size) start.pointers (omega (arith, e)) h.pointers;
+      distinct = h.distinct;
+    }
+
+-- a pointer
+
+distinct_push : (slots : List ℕ) (low : ℕ) (ps : List (ℕ × ℕ × ℕ)) (p : ℕ × ℕ × ℕ) → low ≤ p.0 → PointersBelow slots low ps → IsDistinct nat_eq (places ps) → IsDistinct nat_eq (places (ps ++ (p ∷ [])))
+unfolding IsDistinct
+distinct_push slots low [] p e h d = (tt, tt)
+distinct_push slots low (q ∷ ps) p e h d = (all_last ps (d.0), distinct_push slots low ps p e h.1 d.1)
+  where
+    apart : nat_eq q.0 p.0 ≡ false
+    apart = by (nat_eq q.0 p.0) refl
+      where
+        by : (t : Bool) → nat_eq q.0 p.0 ≡ t → t ≡ false
+        by true k = absurd (omega (arith, eqb-true q.0 p.0 k, h.0.1, e))
+        by false k = refl
+
+    all_last : (rs : List (ℕ × ℕ × ℕ)) → AllByRecursion (λ y. nat_eq q.0 y ≡ false) (places rs) → AllByRecursion (λ y. nat_eq q.0 y ≡ false) (places (rs ++ (p ∷ [])))
+    all_last [] k = (apart, tt)
+    all_last (r ∷ rs) k = (k.0, all_last rs k.1)
+
+below_push : (slots : List ℕ) (low : ℕ) (ps : List (ℕ × ℕ × ℕ)) (p : ℕ × ℕ × ℕ) → PointersBelow slots low ps → Has slots p.0 → p.0 + 4 ≤ low → PointersBelow slots low (ps ++ (p ∷ []))
+below_push slots low [] p h k e = ((k, e), tt)
+below_push slots low (q ∷ ps) p h k e = (h.0, below_push slots low ps p h.1 k e)
+
+pub filled_pointer : (slots : List ℕ) (low offset static at : ℕ) (start : Start) → Filled slots low start → low ≤ offset → Has slots offset → Filled slots (offset + 4) (with_pointer start offset static at)
+filled_pointer slots low offset static at start h e there = record {
+  inside = omega (arith, h.inside, e);
+  zeros = h.zeros;
+  pointers = below_push slots (offset + 4) start.pointers (offset, static, at) (below_more slots low (offset + 4) start.pointers (omega (arith, e)) h.pointers) there (omega arith);
+  distinct = distinct_push slots low start.pointers (offset, static, at) e h.pointers h.distinct;
+}
+
+-- the zeros at the end go
+pub filled_trimmed : (slots : List ℕ) (low : ℕ) (start : Start) → Filled slots low start → Filled slots low (trimmed start)
+filled_trimmed slots low start h = record {
+  inside = omega (arith, trimmed_length start, h.inside);
+  zeros = λ s k there small. trimmed_byte start (s + k) ∙ h.zeros s k there small;
+  pointers = h.pointers;
+  distinct = h.distinct;
+}
+
+-- the parts that braces are for lie in seats, one behind another (C99 6.7.8)
+
+-- a type that is a struct by its word is no union
+abbrev pub Proper : List CompletedTag → PlainType → Type 0
+Proper ts (Struct tag) = (done : CompletedTag) → find (λ (d : CompletedTag). d.tag == tag) ts ≡ Some done → done.is_union ≡ false
+Proper ts (Array element length) = Proper ts element
+Proper ts type = Unit {0}
+
+abbrev pub MembersProper : List CompletedTag → List (List ℕ × PlainType) → Type 0
+MembersProper ts [] = Unit {0}
+MembersProper ts (m ∷ ms) = Proper ts m.1 × MembersProper ts ms
+
+abbrev pub AllProper : List CompletedTag → Type 0
+AllProper ts = (tag : ℕ) (done : CompletedTag) → find (λ (d : CompletedTag). d.tag == tag) ts ≡ Some done → MembersProper ts done.members
+
+-- parts in seats of a whole, from a place on
+abbrev pub PartsSeated : List CompletedTag → ℕ → List ℕ → ℕ → ℕ → List (PlainType × ℕ) → Type 0
+PartsSeated ts room slots low high [] = low ≤ high
+PartsSeated ts room slots low high (p ∷ ps) =
+    (low ≤ p.1) × ((m : Layout) × (layout_of (known ts) p.0 ≡ Some m) × Seat room slots p.1 m × Proper ts p.0 × PartsSeated ts room slots (p.1 + m.size) high ps)
+
+pub parts_end : (ts : List CompletedTag) (room : ℕ) (slots : List ℕ) (low high : ℕ) (ps : List (PlainType × ℕ)) → PartsSeated ts room slots low high ps → low ≤ high
+parts_end ts room slots low high [] h = h
+parts_end ts room slots low high (p ∷ ps) h = let r = parts_end ts room slots (p.1 + h.1.0.size) high ps h.1.4 in omega (arith, h.0, r)
+
+-- elements of an array
+
+times_le : (i j size : ℕ) → i ≤ j → i * size ≤ j * size
+times_le zero j size h = omega arith
+times_le (suc i) zero size h = absurd (omega (arith, h))
+times_le (suc i) (suc j) size h = let r = times_le i j size (omega (arith, h)) in omega (arith, r)
+
+next_element : (base i size offset : ℕ) → offset ≡ base + i * size → offset + size ≡ base + (i + 1) * size
+next_element base i size offset e = let m : (i + 1) * size ≡ i * size + size = omega arith in omega (arith, e, m)
+
+module _ (ts : List CompletedTag) (room : ℕ) (slots : List ℕ) where
+  row_end : (base total i size offset : ℕ) → offset ≡ base + i * size → i ≤ total → offset ≤ base + total * size
+  row_end base total i size offset e h = let r = times_le i total size h in omega (arith, e, r)
+
+  elements_seated : (base total : ℕ) (l : Layout) (element : PlainType) → IsSound l → layout_of (known ts) element ≡ Some l → Proper ts element → Seat room slots base (array_layout total l)
+      → (asked n i offset : ℕ) → offset ≡ base + i * l.size → i + n ≤ total → PartsSeated ts room slots offset (base + total * l.size) (elements asked n offset l.size element)
+  elements_seated base total l element sound e p seat zero n i offset at fits = row_end base total i l.size offset at (omega (arith, fits))
+  elements_seated base total l element sound e p seat (suc asked) zero i offset at fits = row_end base total i l.size offset at (omega (arith, fits))
+  elements_seated base total l element sound e p seat (suc asked) (suc n) i offset at fits =
+      let here : Seat room slots offset l = subst (λ (x : ℕ). Seat room slots x l) (sym at) (seat_within room slots base (i * l.size) (array_layout total l) l seat (seat_element total i l sound (omega (arith, fits)))) in
+      (omega arith, (l, e, here, p, elements_seated base total l element sound e p seat asked n (i + 1) (offset + l.size) (next_element base i l.size offset at) (omega (arith, fits))))
+
+  array_seated : (c : Context) (asked n base : ℕ) (element : PlainType) (l : Layout) → c.tags.completed ≡ ts → layout_of (known ts) element ≡ Some l → Proper ts element → Seat room slots base (array_layout n l) → PartsSeated ts room slots base (base + n * l.size) (elements asked n base (size_or_zero c element) element)
+  array_seated c asked n base element l same e p seat =
+      let size : size_or_zero c element ≡ l.size = ap (λ (x : List CompletedTag). unwrap_or (option_map (λ (y : Layout). y.size) (layout_of (known x) element)) 0) same ∙ ap (λ (o : Option Layout). unwrap_or (option_map (λ (y : Layout). y.size) o) 0) e in
+      subst (λ (s : ℕ). PartsSeated ts room slots base (base + n * l.size) (elements asked n base s element)) (sym size)
+      (elements_seated base n l element (layout_sound (known ts) (known_sound ts) element l e) e p seat asked n 0 base (omega arith) (omega arith))
+
+-- tags
+
+record TagIs (k : Known) (done : CompletedTag) (l : Layout) : Type 0 where
+  members : MembersWhole k done.members
+  is : members_layout done.is_union (map (member_layout k) done.members) ≡ l
+  rule : done.is_union ≡ true → keeps_union_rule (map (member_layout k) done.members) ≡ true
+
+kept_rule : (u r : Bool) (rest : Option TagError) → cond (u && not r) (Some PointerInUnion) rest ≡ None → u ≡ true → r ≡ true
+kept_rule true true rest e q = refl
+kept_rule true false rest e q = cc
+kept_rule false r rest e q = cc
+
+tag_at : (j : Known) (tags : List CompletedTag) (tag : ℕ) (done : CompletedTag) (l : Layout) → AreMade j tags → find (λ (d : CompletedTag). d.tag == tag) tags ≡ Some done → fold learn j tags tag ≡ Some l → TagIs (fold learn j tags) done l
+tag_at j [] tag done l m e h = cc
+tag_at j (t ∷ tags) tag done l m e h = by (t.tag == tag) refl (λ q. tag_at (learn j t) tags tag done l m.1 q h) e
+  where
+    far : Known
+    far = fold learn (learn j t) tags
+
+    by : (b : Bool) → (t.tag == tag) ≡ b → (find (λ (d : CompletedTag). d.tag == tag) tags ≡ Some done → TagIs far done l) → cond b (Some t) (find (λ (d : CompletedTag). d.tag == tag) tags) ≡ Some done → TagIs far done l
+    by true s again q =
+        let same : t ≡ done = ap (λ (o : Option CompletedTag). unwrap_or o done) q in
+        let x : Extends j far = λ tag l h. stays_known (learn j t) tags tag l (learn_extends j t tag l h) in
+        let once : j tag ≡ None = ap j (sym (eqb-true t.tag tag s)) ∙ m.0.0.once in
+        let is : tag_layout j t ≡ l = some_same (tag_layout j t) l (sym (stays_known (learn j t) tags tag (tag_layout j t) (learnt j t tag once s)) ∙ h) in
+        let ms : map (member_layout j) t.members ≡ map (member_layout far) t.members = members_same t.members j far x m.0.1 in
+        subst (λ (y : CompletedTag). TagIs far y l) same
+        (record {
+          members = members_stay t.members j far x m.0.1;
+          is = ap (λ (ls : List Layout). members_layout t.is_union ls) (sym ms) ∙ is;
+          rule = λ u. subst (λ (ls : List Layout). keeps_union_rule ls ≡ true) ms (kept_rule t.is_union (keeps_union_rule (map (member_layout j) t.members)) _ m.0.0.kept u);
+        })
+    by false s again q = again q
+
+each_sound : (ts : List CompletedTag) (ms : List (List ℕ × PlainType)) → EachSound (map (member_layout (known ts)) ms)
+each_sound ts [] = tt
+each_sound ts (m ∷ ms) = (member_sound (known ts) (known_sound ts) m, each_sound ts ms)
+
+there : (o : Option Layout) (d : Layout) → is_some o ≡ true → o ≡ Some (unwrap_or o d)
+there None d e = cc
+there (Some l) d e = refl
+
+abbrev member_of : (List ℕ × PlainType) × (ℕ × Layout) → PlainMember
+member_of x = record { name = x.0.0; type = x.0.1; offset = x.1.0 }
+
+module _ (ts : List CompletedTag) (room : ℕ) (slots : List ℕ) where
+  rows_seated : (base : ℕ) (w : Layout) → Seat room slots base w → (ms : List (List ℕ × PlainType)) (p : Placed) (low high : ℕ) → MembersWhole (known ts) ms → MembersProper ts ms → Seated w.size w.slots low high (rest_placed false p (map (member_layout (known ts)) ms))
+      → PartsSeated ts room slots (base + low) (base + high) (map (λ (m : PlainMember). (m.type, base + m.offset)) (map member_of (zip ms (rest_placed false p (map (member_layout (known ts)) ms)))))
+  rows_seated base w seat [] p low high whole proper h = omega (arith, h)
+  rows_seated base w seat (m ∷ ms) p low high whole proper h =
+      let l = member_layout (known ts) m in
+      let o = Rattle.c_types.specs.Layouts.offset_after false p l in
+      let rest = rows_seated base w seat ms (Rattle.c_types.specs.Layouts.place false p l) (o + l.size) high whole.1 proper.1 h.2 in
+      let next : base + (o + l.size) ≡ base + o + l.size = omega arith in (
+        omega (arith, h.0),
+        (
+          l,
+          there (layout_of (known ts) m.1) Rattle.c_types.specs.Layouts.no_layout whole.0.1,
+          seat_within room slots base o w l seat h.1,
+          proper.0,
+          subst (λ (x : ℕ). PartsSeated ts room slots x (base + high) (map (λ (y : PlainMember). (y.type, base + y.offset)) (map member_of (zip ms (rest_placed false (Rattle.c_types.specs.Layouts.place false p l) (map (member_layout (known ts)) ms)))))) next rest,
+        ),
+      )
+
+  -- a struct's members
+  body_seated : (base : ℕ) (done : CompletedTag) (l : Layout) → TagIs (known ts) done l → done.is_union ≡ false → MembersProper ts done.members → Seat room slots base l → PartsSeated ts room slots base (base + l.size) (struct_parts base (Some (placed_members (known ts) done)))
+  body_seated base done l h u proper seat =
+      let ls = map (member_layout (known ts)) done.members in
+      let w = members_layout false ls in
+      let same : w ≡ l = ap (λ (t : Bool). members_layout t ls) (sym u) ∙ h.is in
+      let seat2 : Seat room slots base w = subst (λ (x : Layout). Seat room slots base x) (sym same) seat in
+      let listed : (placed done.is_union ls).members ≡ rest_placed false none_placed ls = ap (λ (t : Bool). (placed t ls).members) u ∙ fold_rest false none_placed ls in
+      let zero_first : base + 0 ≡ base = omega arith in
+      let parts = rows_seated base w seat2 done.members none_placed 0 w.size h.members proper (struct_seats ls (each_sound ts done.members)) in
+      let parts2 = subst (λ (x : ℕ). PartsSeated ts room slots x (base + w.size) (map (λ (m : PlainMember). (m.type, base + m.offset)) (map member_of (zip done.members (rest_placed false none_placed ls))))) zero_first parts in
+      let parts3 = subst (λ (x : Layout). PartsSeated ts room slots base (base + x.size) (map (λ (m : PlainMember). (m.type, base + m.offset)) (map member_of (zip done.members (rest_placed false none_placed ls))))) same parts2 in
+      subst (λ (ps : List (ℕ × Layout)). PartsSeated ts room slots base (base + l.size) (map (λ (m : PlainMember). (m.type, base + m.offset)) (map member_of (zip done.members ps)))) (sym listed) parts3
+
+  take_seated : (low high : ℕ) (ps : List (PlainType × ℕ)) → PartsSeated ts room slots low high ps → PartsSeated ts room slots low high (take 1 ps)
+  take_seated low high [] h = h
+  take_seated low high (p ∷ ps) h = (h.0, (h.1.0, h.1.1, h.1.2, h.1.3, parts_end ts room slots (p.1 + h.1.0.size) high ps h.1.4))
+
+  -- a union's first member
+  first_seated : (base : ℕ) (u : Bool) (tag : ℕ) (ms : List (List ℕ × PlainType)) (l : Layout) → u ≡ true → (let done : CompletedTag = record { tag = tag; is_union = u; members = ms } in TagIs (known ts) done l → MembersProper ts ms → Seat room slots base l → PartsSeated ts room slots base (base + l.size) (take 1 (struct_parts base (Some (placed_members (known ts) done)))))
+  first_seated base u tag [] l e h proper seat = omega arith
+  first_seated base u tag (m ∷ ms) l e h proper seat =
+      let first = member_layout (known ts) m in
+      let rest = map (member_layout (known ts)) ms in
+      let w = members_layout true (first ∷ rest) in
+      let same : w ≡ l = ap (λ (t : Bool). members_layout t (first ∷ rest)) (sym e) ∙ h.is in
+      let inner : Seat w.size w.slots 0 first = union_seat first rest (member_sound (known ts) (known_sound ts) m) (h.rule e) in
+      let seat2 : Seat room slots base w = subst (λ (x : Layout). Seat room slots base x) (sym same) seat in
+      let here = seat_within room slots base 0 w first seat2 inner in
+      let last : base + 0 + first.size ≤ base + l.size = (let s = ap (λ (x : Layout). x.size) same in omega (arith, inner.inside, s)) in
+      let parts : PartsSeated ts room slots base (base + l.size) ((m.1, base + 0) ∷ []) = (omega arith, (first, there (layout_of (known ts) m.1) Rattle.c_types.specs.Layouts.no_layout h.members.0.1, here, proper.0, last)) in
+      let listed : (placed u (first ∷ rest)).members ≡ rest_placed true none_placed (first ∷ rest) = ap (λ (t : Bool). (placed t (first ∷ rest)).members) e ∙ fold_rest true none_placed (first ∷ rest) in
+      subst (λ (ps : List (ℕ × Layout)). PartsSeated ts room slots base (base + l.size) (take 1 (map (λ (x : PlainMember). (x.type, base + x.offset)) (map member_of (zip (m ∷ ms) ps))))) (sym listed) parts
+
+  union_seated : (base : ℕ) (done : CompletedTag) (l : Layout) → TagIs (known ts) done l → MembersProper ts done.members → Seat room slots base l → PartsSeated ts room slots base (base + l.size) (take 1 (struct_parts base (Some (placed_members (known ts) done))))
+  union_seated base done l h proper seat = by done.is_union refl
+    where
+      by : (u : Bool) → done.is_union ≡ u → PartsSeated ts room slots base (base + l.size) (take 1 (struct_parts base (Some (placed_members (known ts) done))))
+      by true e = first_seated base done.is_union done.tag done.members l e h proper seat
+      by false e = take_seated base (base + l.size) (struct_parts base (Some (placed_members (known ts) done))) (body_seated base done l h e proper seat)
+
+-- the parts of a type
+
+pub parts_seated : (c : Context) (room : ℕ) (slots : List ℕ) (asked : ℕ) (type : PlainType) (base : ℕ) (l : Layout) → Solid c → (let ts = c.tags.completed in AllProper ts → Proper ts type → layout_of (known ts) type ≡ Some l → Seat room slots base l → PartsSeated ts room slots base (base + l.size) (parts_of c asked type base))
+unfolding parts_of
+parts_seated c room slots asked (Array element n) base l h all proper e seat =
+    let r = some_array (layout_of (known c.tags.completed) element) n l e in
+    subst (λ (x : Layout). PartsSeated c.tags.completed room slots base (base + x.size) (elements asked n base (size_or_zero c element) element)) r.2
+    (array_seated c.tags.completed room slots c asked n base element r.0 refl r.1 proper (subst (λ (x : Layout). Seat room slots base x) (sym r.2) seat))
+parts_seated c room slots asked (Struct tag) base l h all proper e seat = by (find (λ (d : CompletedTag). d.tag == tag) c.tags.completed) refl
+  where
+    by : (o : Option CompletedTag) → find (λ (d : CompletedTag). d.tag == tag) c.tags.completed ≡ o → PartsSeated c.tags.completed room slots base (base + l.size) (struct_parts base (option_map (placed_members (known c.tags.completed)) o))
+    by None q = omega arith
+    by (Some done) q = body_seated c.tags.completed room slots base done l (tag_at nothing c.tags.completed tag done l h.made q e) (proper done q) (all tag done q) seat
+parts_seated c room slots asked (Union tag) base l h all proper e seat = by (find (λ (d : CompletedTag). d.tag == tag) c.tags.completed) refl
+  where
+    by : (o : Option CompletedTag) → find (λ (d : CompletedTag). d.tag == tag) c.tags.completed ≡ o → PartsSeated c.tags.completed room slots base (base + l.size) (take 1 (struct_parts base (option_map (placed_members (known c.tags.completed)) o)))
+    by None q = omega arith
+    by (Some done) q = union_seated c.tags.completed room slots base done l (tag_at nothing c.tags.completed tag done l h.made q e) (all tag done q) seat
+parts_seated c room slots asked Void base l h all proper e seat = cc
+parts_seated c room slots asked (Int ty) base l h all proper e seat = (omega arith, (l, e, seat, tt, omega arith))
+parts_seated c room slots asked (Pointer target) base l h all proper e seat = (omega arith, (l, e, seat, tt, omega arith))
+parts_seated c room slots asked (Function answer params) base l h all proper e seat = cc

@@ -1,49 +1,52 @@
--- Each expression is where it says, and its code fits (C99 6.5).
-use Rattle.std.proofs.Common.{◌≡◌, ◌≤◌, ◌+◌, ℕ, ℤ, pos, Bool, true, false, cond, is_some, ⊎_elim, List, [], ◌∷◌, Option, Some, None, Ok, refl, sym, ap, ◌∙◌, subst}
-use Rattle.c_types.specs.declared.types.IntType.TheVariants as i
+-- Each expression is where it says, and its code fits.
+use Rattle.std.proofs.Common.{◌≡◌, ◌≤◌, ◌+◌, ℕ, ℤ, pos, Bool, true, false, cond, is_some, ⊎_elim, List, [], ◌∷◌, Option, Some, None, Ok, refl, sym, ap, ◌∙◌, subst, length, arith}
+use Rattle.c_types.specs.TagTable.{size_in}
 use Rattle.c_types.specs.Types as ct
 use Rattle.c_types.specs.Types.{PlainType, PlainTypes, Void}
-use Rattle.c_types.specs.TagTable.{size_in}
+use Rattle.c_types.specs.declared.types.IntType.TheVariants as i
+use Rattle.core_tree.specs.Sorts.{Sort}
 use Rattle.core_tree.specs.declared.statements.Atom.TheVariants as atom
-use Rattle.c_tree.specs.declared.operator.UnaryOp.TheVariants as u
-use Rattle.c_tree.specs.declared.operator.BinaryOp.TheVariants as b
-use Rattle.c_tree.specs.declared.operator.AssignOp.TheVariants as a
-use Rattle.c_tree.specs.Words as w
+use Rattle.core_tree.specs.declared.statements.StmKind.TheVariants.{Enter, Leave}
 use Rattle.c_tree.specs.Forms as f
 use Rattle.c_tree.specs.Tree.{Tree, Trees, Leaf, At, Node, none, ◌▹◌}
-use Rattle.c_decls.specs.declared.typed.Folded.TheVariants.{Is}
-use Rattle.c_decls.specs.Refusals.{Checked, then}
-use Rattle.c_decls.specs.ScopeList.{named_in, found_from, found as declaration}
-use Rattle.c_decls.specs.Named as n
-use Rattle.c_decls.specs.Named.{PlainNamed}
-use Rattle.c_decls.specs.Typed.{PlainTyped, operand, is_record, integer}
-use Rattle.c_decls.specs.TypeRules.{binary}
-use Rattle.c_decls.specs.PlaceRules.{held_place, choice, size_answer}
+use Rattle.c_tree.specs.Words as w
+use Rattle.c_tree.specs.declared.operator.AssignOp.TheVariants as a
+use Rattle.c_tree.specs.declared.operator.BinaryOp.TheVariants as b
+use Rattle.c_tree.specs.declared.operator.UnaryOp.TheVariants as u
 use Rattle.c_decls.specs.Callees.{Callee, Takes, Prints, NoFunction, called}
-use Rattle.c_decls.specs.TypeNames as names
 use Rattle.c_decls.specs.Expressions as types
 use Rattle.c_decls.specs.Expressions.{line_of, int_constant, char_constant, joined, literal, typed, typename}
+use Rattle.c_decls.specs.Named as n
+use Rattle.c_decls.specs.Named.{PlainNamed}
+use Rattle.c_decls.specs.PlaceRules.{held_place, choice, size_answer}
+use Rattle.c_decls.specs.Refusals.{Checked, then}
+use Rattle.c_decls.specs.ScopeList as scopes
+use Rattle.c_decls.specs.ScopeList.{named_in, found_from, found as declaration, ScopeList, Table, entered as scope_entered}
+use Rattle.c_decls.specs.TypeNames as names
+use Rattle.c_decls.specs.TypeRules.{binary}
+use Rattle.c_decls.specs.Typed.{PlainTyped, operand, is_record, integer}
+use Rattle.c_decls.specs.declared.typed.Folded.TheVariants.{Is}
 use Rattle.elaboration.specs.Addressed.{plain_name}
-use Rattle.elaboration.specs.Context.{Context, With, asked, told, new_label}
-use Rattle.elaboration.specs.Conversions.{Found, valued_as, atom_in, valued, unused}
-use Rattle.elaboration.specs.Calls.{Argument, first_type, rest_types, argument_from}
-use Rattle.elaboration.specs.Rules.{constant_found, ahead, ahead_of, typed_value, left_operand, and_then, or_else, choose, choice_ahead, choice_type, type_ahead, choose_first}
 use Rattle.elaboration.specs.Assignments.{record_assigned, scalar_assigned, old_value}
+use Rattle.elaboration.specs.Calls.{Argument, first_type, rest_types, argument_from}
+use Rattle.elaboration.specs.Context.{Context, With, asked, told, new_label, emit, anew, entered, left}
+use Rattle.elaboration.specs.Conversions.{Found, valued_as, atom_in, valued, unused, code_line}
 use Rattle.elaboration.specs.Expressions.{unevaluated, changing, comma_answer, callee_name, callee, parameters, format_argument, is_printf, found, arguments, cast_operand}
-use Rattle.core_soundness.specs.Worlds.{World, world, HeldAs, Held, StandsAs, Stands, NamesFit}
+use Rattle.elaboration.specs.Reallocates.{reallocates, opened, closed}
+use Rattle.elaboration.specs.Rules.{constant_found, ahead, ahead_of, typed_value, left_operand, and_then, or_else, choose, choice_ahead, choice_type, type_ahead, choose_first}
 use Rattle.core_soundness.specs.Spoken.{NoRegister, TakesAddress, Spoken, AllSpoken}
-use Rattle.core_soundness.proofs.Grown.{good, ok_same, never}
-use Rattle.core_soundness.proofs.TypedNames.{typed_after, typename_after}
-use Rattle.core_soundness.proofs.Agreeing.{came, quiet_left, quiet_first, valued_agrees, found_agrees}
-use Rattle.core_soundness.proofs.Growing.{Grew}
-use Rattle.core_soundness.proofs.Going.{Goes, goes_refl, goes_trans, goes_told}
-use Rattle.core_soundness.proofs.Sorting.{Sits, Lands, Comes, comes_lands, value_grew, stands_grew, held_grew, old_brings, Converting}
-use Rattle.core_soundness.proofs.Landing.{found_name, name_lands, constant_lands, string_lands, indexed_lands, dotted_lands, pointed_lands, InMemory, address_lands, applied_lands, left_goes, between_lands, cast_lands}
-use Rattle.core_soundness.proofs.Choosing.{logical_typed, and_then_goes, and_comes, or_else_gives, or_comes, choice_sides, first_goes, first_null, chosen_lands}
-use Rattle.core_soundness.proofs.Assigning.{record_lands, scalar_lands, changing_rule, changed_comes, stepped_comes}
-use Rattle.core_soundness.proofs.CallSorts.{arguments_grew, AllHeld, argument_goes, CallOf, call_of, call_lands}
-use Rattle.core_soundness.proofs.Readying.{ready_on, NamesRegister, Rests, rests, name_local, valued_operated, names_more, all_spoken_more, unused_operated}
-use Rattle.core_soundness.proofs.Unused.{cast_unused}
+use Rattle.core_soundness.specs.Worlds.{World, world, HeldAs, Held, StandsAs, Stands, NamesFit, InnerFits, TableFits, TablesFit}
+use Rattle.core_soundness.proofs.Agreeing.{came, quiet_left, quiet_first, valued_agrees, found_agrees, changing_first}
+use Rattle.core_soundness.proofs.Calls.{record_lands, scalar_lands, changing_rule, changed_comes, stepped_comes, arguments_grew, AllHeld, argument_goes, CallOf, call_of, call_lands, ready_on, NamesRegister, Rests, rests, name_local, valued_operated, names_more, all_spoken_more, unused_operated, inner_kept}
+use Rattle.core_soundness.proofs.Declaring.{tail_depth}
+use Rattle.core_soundness.proofs.Growth.{good, ok_same, never, cast_unused, valued_unused}
+use Rattle.core_soundness.proofs.Landing.{found_name, name_lands, constant_lands, string_lands, indexed_lands, dotted_lands, pointed_lands, InMemory, address_lands, applied_lands, left_goes, between_lands, cast_lands, logical_typed, and_then_goes, and_comes, or_else_gives, or_comes, choice_sides, first_goes, first_null, chosen_lands}
+use Rattle.core_soundness.proofs.Scopes.{MoreAll, all_refl, all_trans, more_depth, tail_more}
+use Rattle.core_soundness.proofs.Sorting.{Grew, Goes, goes_refl, goes_trans, goes_told, Sits, Lands, Comes, comes_lands, value_grew, stands_grew, held_grew, old_brings, Converting, grew_refl, grew_trans, CodeFits, goes_emit, unused_comes}
+use Rattle.core_soundness.proofs.TagSorts.{typed_after, typename_after}
+use Rattle.core_soundness.proofs.Choices.{either_way}
+
+-- each expression is where it says, and its code fits (C99 6.5)
 
 -- sizes
 
@@ -85,12 +88,6 @@ ahead_is g c d r same h =
     ap (λ (m : names.Context). ahead_of (typed_value (types.wanted g (typed g m)))) (sym same) ∙ ap (λ (x : types.Found). ahead_of (typed_value x)) agreed
 
 -- an operand that is read and written
-changing_is : (tree : Tree) (answer : With Found) (z : Context × Found) → changing tree answer ≡ Ok z → answer ≡ Ok z
-changing_is tree answer z h =
-    let d = came answer h in
-    let k = came (held_place (line_of tree) d.value.0.tags d.value.1.typed) d.last in
-    d.is ∙ k.last
-
 comma_comes : (c : Context) (r z : Context × Found) → Comes c r → good (comma_answer r) ≡ Ok z → Comes c z
 comma_comes c r z h q =
     subst (Comes c) (ok_same (comma_answer r) z q) (record { goes = h.goes; value = record { spot = h.value.spot; value = refl; held = h.value.held } })
@@ -242,19 +239,19 @@ mutual
       (record { goes = goes_trans c d.value.0 z.0 one.comes.goes last.goes; stands = last.stands; apart = last.apart })
   found_rests (Node f.PostInc (At line ▹ e ▹ none)) wish c z s h q =
       let d = came (changing e (found e Void c)) q in
-      let one = found_rests e Void c d.value s.1.1.0 h (changing_is e (found e Void c) d.value d.is) in
+      let one = found_rests e Void c d.value s.1.1.0 h (changing_first e (found e Void c) d.value d.is) in
       rests c (Node f.PostInc (At line ▹ e ▹ none)) z line refl s.1.0 (landed c d.value z one.sits.goes (stepped_comes line a.Add true d.value z s.1.0 one.sits.stands d.last))
   found_rests (Node f.PostDec (At line ▹ e ▹ none)) wish c z s h q =
       let d = came (changing e (found e Void c)) q in
-      let one = found_rests e Void c d.value s.1.1.0 h (changing_is e (found e Void c) d.value d.is) in
+      let one = found_rests e Void c d.value s.1.1.0 h (changing_first e (found e Void c) d.value d.is) in
       rests c (Node f.PostDec (At line ▹ e ▹ none)) z line refl s.1.0 (landed c d.value z one.sits.goes (stepped_comes line a.Subtract true d.value z s.1.0 one.sits.stands d.last))
   found_rests (Node f.PreInc (At line ▹ e ▹ none)) wish c z s h q =
       let d = came (changing e (found e Void c)) q in
-      let one = found_rests e Void c d.value s.1.1.0 h (changing_is e (found e Void c) d.value d.is) in
+      let one = found_rests e Void c d.value s.1.1.0 h (changing_first e (found e Void c) d.value d.is) in
       rests c (Node f.PreInc (At line ▹ e ▹ none)) z line refl s.1.0 (landed c d.value z one.sits.goes (stepped_comes line a.Add false d.value z s.1.0 one.sits.stands d.last))
   found_rests (Node f.PreDec (At line ▹ e ▹ none)) wish c z s h q =
       let d = came (changing e (found e Void c)) q in
-      let one = found_rests e Void c d.value s.1.1.0 h (changing_is e (found e Void c) d.value d.is) in
+      let one = found_rests e Void c d.value s.1.1.0 h (changing_first e (found e Void c) d.value d.is) in
       rests c (Node f.PreDec (At line ▹ e ▹ none)) z line refl s.1.0 (landed c d.value z one.sits.goes (stepped_comes line a.Subtract false d.value z s.1.0 one.sits.stands d.last))
   found_rests (Node (f.Unary u.Address) (At line ▹ e ▹ none)) wish c z s h q =
       let d = came (found e Void c) q in
@@ -316,7 +313,7 @@ mutual
       let two = valued_operated g begun.0 (found g Void begun.0) r.value (λ x k. found_rests g Void begun.0 x next.spoken next.names k) r.is in
       let known = ahead_is g d.value.0 begun.0 r.value (quiet_left op c.code g d.value) r.is in
       let last = between_lands line op begun.0 r.value.0 begun.1 r.value.1 z tt s.1.0 two.comes.goes
-      (subst (λ (t : PlainTyped). Rattle.core_soundness.proofs.Operating.LeftOf begun.0 op (operand t.type) (operand r.value.1.typed.type) (atom_in begun.1)) (sym left.typed) (left.left r.value.1.typed known)) two.comes.value r.last in
+      (subst (λ (t : PlainTyped). Rattle.core_soundness.proofs.Sorting.LeftOf begun.0 op (operand t.type) (operand r.value.1.typed.type) (atom_in begun.1)) (sym left.typed) (left.left r.value.1.typed known)) two.comes.value r.last in
       rests c (Node (f.Binary op) (At line ▹ e ▹ g ▹ none)) z line refl s.1.0 (landed c (begun.0, d.value.1) z left.goes last)
   found_rests (Node f.Cond (At line ▹ e ▹ g ▹ k ▹ none)) wish c z s h q =
       let d = came (valued e (found e Void c)) q in
@@ -356,7 +353,7 @@ mutual
       let old = old_value line d.value in
       let r = came (valued g (found g Void old.0)) d.last in
       let rule = changing_rule line op false d.value.1 old.1 r.value z r.last in
-      let one = found_rests e Void c d.value s.1.1.0 h (changing_is e (found e Void c) d.value d.is) in
+      let one = found_rests e Void c d.value s.1.1.0 h (changing_first e (found e Void c) d.value d.is) in
       let o = old_brings line d.value.1.typed d.value.1.spot d.value.0 s.1.0 rule.1.scalar (subst (λ (x : Bool). StandsAs (world d.value.0) x d.value.1.typed.type d.value.1.spot) rule.1.flag one.sits.stands) in
       let go : Goes c old.0 = goes_trans c d.value.0 old.0 one.sits.goes o.goes in
       let next = ready_on c old.0 g go h s.1.1.1.0 in
@@ -385,3 +382,122 @@ mutual
       more_arguments line target params c d.value more.value z l p one
       (λ g. arguments_rest rest line NoFunction (rest_types params) v.0 more.value l tt (all_spoken_more c.scopes v.0.scopes rest g.more s.1) (names_more (world c) (world v.0) c.scopes v.0.scopes g.grew g.more h) more.is)
       (ok_same (more.value.0, v.1 ∷ more.value.1) z more.last)
+
+-- what a part of a function does to what fits
+
+-- the parameters of the list that ended last fit
+abbrev pub ParamsFit : Context → Type 0
+ParamsFit c = TableFits (InnerFits (world c)) c.params
+
+-- what holds at each point of a walk: names fit, and the running function has a line
+pub record Fine (c : Context) : Type 0 where
+  pub names : NamesFit (world c) c.scopes
+  pub lined : 1 ≤ c.running.line
+
+-- a part of a function that answers that; scopes around the innermost have new tags at most; at file scope the list that ended
+-- last fits
+pub record Runs (result : Option Sort) (c d : Context) : Type 0 where
+  pub grew : Grew (world c) (world d)
+  pub fine : Fine d
+  pub fits : CodeFits result c → CodeFits result d
+  pub answer : d.running.answer ≡ c.running.answer
+  pub addressed : d.running.addressed ≡ c.running.addressed
+  pub outside : MoreAll (scopes.tail c.scopes.inner) (scopes.tail d.scopes.inner)
+  pub depth : length d.scopes.inner ≡ length c.scopes.inner
+  pub params : length c.scopes.inner ≡ 0 → ParamsFit c → ParamsFit d
+  pub walked : d.walked ≡ c.walked
+
+pub runs_refl : (answer : Option Sort) (c : Context) → Fine c → Runs answer c c
+runs_refl answer c h = record { grew = grew_refl (world c); fine = h; fits = λ k. k; answer = refl; addressed = refl; outside = all_refl (scopes.tail c.scopes.inner); depth = refl; params = λ flat k. k; walked = refl }
+
+pub runs_trans : (answer : Option Sort) (a b c : Context) → Runs answer a b → Runs answer b c → Runs answer a c
+runs_trans answer a b c x y = record {
+  grew = grew_trans (world a) (world b) (world c) x.grew y.grew;
+  fine = y.fine;
+  fits = λ h. y.fits (x.fits h);
+  answer = y.answer ∙ x.answer;
+  addressed = y.addressed ∙ x.addressed;
+  outside = all_trans (scopes.tail a.scopes.inner) (scopes.tail b.scopes.inner) (scopes.tail c.scopes.inner) x.outside y.outside;
+  depth = y.depth ∙ x.depth;
+  params = λ flat h. y.params (x.depth ∙ flat) (x.params flat h);
+  walked = y.walked ∙ x.walked;
+}
+
+pub table_grew : (a b : World) (t : Table) → Grew a b → TableFits (InnerFits a) t → TableFits (InnerFits b) t
+table_grew a b t g h name v e = inner_kept a b v g (h name v e)
+
+pub goes_runs : (answer : Option Sort) (c d : Context) → Fine c → Goes c d → Runs answer c d
+goes_runs answer c d h g = record {
+  grew = g.grew;
+  fine = record { names = names_more (world c) (world d) c.scopes d.scopes g.grew g.more h.names; lined = subst (λ (k : ℕ). 1 ≤ k) (sym g.kept.line) h.lined };
+  fits = g.fits answer;
+  answer = g.kept.answer;
+  addressed = g.kept.addressed;
+  outside = tail_more c.scopes.inner d.scopes.inner g.more.inner;
+  depth = more_depth c.scopes d.scopes g.more;
+  params = λ flat k. subst (TableFits (InnerFits (world d))) (sym g.kept.params) (table_grew (world c) (world d) c.params g.grew k);
+  walked = g.kept.walked;
+}
+
+-- the same behind a part
+pub on_runs : (answer : Option Sort) (a b c : Context) → Runs answer a b → Goes b c → Runs answer a c
+on_runs answer a b c x g = runs_trans answer a b c x (goes_runs answer b c x.fine g)
+
+-- scopes
+
+pub names_entered : (w : World) (s : ScopeList) → NamesFit w s → NamesFit w (scope_entered s)
+names_entered w s h = record { file = h.file; inner = (λ name v e. cc, h.inner) }
+
+tables_tail : (P : PlainNamed → Type 0) (ts : List Table) → TablesFit P ts → TablesFit P (scopes.tail ts)
+tables_tail P [] h = tt
+tables_tail P (t ∷ ts) h = h.1
+
+pub names_left : (w : World) (s : ScopeList) → NamesFit w s → NamesFit w (scopes.left s)
+names_left w s h = record { file = h.file; inner = tables_tail (InnerFits w) s.inner h.inner }
+
+pub entered_fine : (c : Context) → Fine c → Fine (entered c)
+entered_fine c h = record { names = names_entered (world c) c.scopes h.names; lined = h.lined }
+
+-- what ran in a scope of its own
+pub runs_left : (answer : Option Sort) (c d : Context) → 1 ≤ length c.scopes.inner → Runs answer (entered c) d → Runs answer c (left d)
+runs_left answer c d deep r = record { grew = r.grew; fine = record { names = names_left (world d) d.scopes r.fine.names; lined = r.fine.lined }; fits = r.fits; answer = r.answer; addressed = r.addressed; outside = tail_more c.scopes.inner (scopes.tail d.scopes.inner) r.outside; depth = tail_depth d.scopes.inner (length c.scopes.inner) r.depth; params = λ flat h. absurd (omega (arith, deep, flat)); walked = r.walked }
+
+-- full expressions
+
+pub goes_anew : (c : Context) → Goes c (anew c)
+goes_anew c = record { grew = grew_refl (world c); more = (goes_refl c).more; kept = record { line = refl; answer = refl; addressed = refl; declared = refl; params = refl; walked = refl }; fits = λ answer h. h }
+
+pub record Opened (c : Context) (e : Tree) (z : Context × Found) : Type 0 where
+  pub goes : Goes c (opened e c)
+  pub rests : Rests (opened e c) e z
+
+pub opened_rests : (e : Tree) (type : PlainType) (c : Context) (z : Context × Found) → Spoken c.scopes e → NamesFit (world c) c.scopes → found e type (opened e c) ≡ Ok z → Opened c e z
+opened_rests e type c z s h q = let r =
+    either_way (λ x. found e type x ≡ Ok z → Goes c x × Rests x e z) (reallocates c.scopes e)
+    (λ k. let r = found_rests e type (emit (code_line e) Enter (anew c)) z s h k in (goes_trans c (anew c) _ (goes_anew c) (goes_emit (code_line e) Enter (anew c) r.line tt), r))
+    (λ k. (goes_anew c, found_rests e type (anew c) z s h k)) q in record { goes = r.0; rests = r.1 }
+
+pub closed_goes : (e : Tree) (c : Context) → 1 ≤ code_line e → Goes c (closed e c)
+closed_goes e c l = either_way (Goes c) (reallocates c.scopes e) (goes_emit (code_line e) Leave c l tt) (goes_refl c)
+
+pub opened_goes : (e : Tree) (c : Context) → 1 ≤ code_line e → Goes c (opened e c)
+opened_goes e c l = either_way (Goes c) (reallocates c.scopes e) (goes_trans c (anew c) _ (goes_anew c) (goes_emit (code_line e) Enter (anew c) l tt)) (goes_anew c)
+
+-- the value of a full expression
+pub record Evaluates (c : Context) (e : Tree) (z : Context × Found) : Type 0 where
+  pub begun : Goes c (opened e c)
+  pub comes : Comes (opened e c) z
+  pub line : 1 ≤ code_line e
+
+pub evaluates_unused : (e : Tree) (type : PlainType) (c : Context) (z : Context × Found) → Spoken c.scopes e → NamesFit (world c) c.scopes → unused e (found e type (opened e c)) ≡ Ok z → Evaluates c e z
+evaluates_unused e type c z s h q =
+    let d = came (found e type (opened e c)) q in
+    let o = opened_rests e type c d.value s h d.is in
+    record { begun = o.goes; comes = unused_comes e (opened e c) (found e type (opened e c)) z o.rests.line (λ x k. (opened_rests e type c x s h k).rests.sits) q; line = o.rests.line }
+
+pub evaluates : (e : Tree) (type : PlainType) (c : Context) (z : Context × Found) → Spoken c.scopes e → NamesFit (world c) c.scopes → valued e (found e type (opened e c)) ≡ Ok z → Evaluates c e z
+evaluates e type c z s h q = evaluates_unused e type c z s h (valued_unused e (found e type (opened e c)) z q)
+
+-- all that is known of it goes on from the start
+pub evaluated_goes : (c : Context) (e : Tree) (z : Context × Found) → Evaluates c e z → Goes c z.0
+evaluated_goes c e z v = goes_trans c (opened e c) z.0 v.begun v.comes.goes

@@ -1,64 +1,56 @@
 -- Initializers and declarations keep whole types, and what they make has the layouts of types (C99 6.7, 6.7.8, 6.9.2).
 use Rattle.std.proofs.Common.{◌≡◌, ◌≤◌, ◌+◌, not, ℕ, zero, suc, pos, Bool, true, false, cond, is_some, nat_lt, min, length, List, [], ◌∷◌, ◌++◌, slice_get, slice_set, Option, Some, None, unwrap_or, Ok, refl, subst, arith}
 use Rattle.hs_base.specs.Place.{block_size}
-use Rattle.c_types.specs.Types as types
-use Rattle.c_types.specs.Types.{PlainType, Array, Struct, Union, Function}
+use Rattle.c_types.proofs.MemberLemmas.{Extends}
 use Rattle.c_types.specs.Layouts.{Known, no_layout}
 use Rattle.c_types.specs.TagTable.{TagTable, known, layout_in}
+use Rattle.c_types.specs.Types as types
+use Rattle.c_types.specs.Types.{PlainType, Array, Struct, Union, Function}
+use Rattle.c_types.specs.declared.layouts.Layout.{Layout}
+use Rattle.core_tree.specs.LayoutsOfTypes.{IsLayoutOfType}
+use Rattle.core_tree.specs.Sound.{IsNumber}
 use Rattle.core_tree.specs.declared.program.Start.{Start}
 use Rattle.core_tree.specs.declared.statements.Atom.{Atom}
 use Rattle.core_tree.specs.declared.statements.Atom.TheVariants as atom
 use Rattle.core_tree.specs.declared.statements.StmKind.TheVariants.{Set, Clear, Off, Copy}
-use Rattle.core_tree.specs.LayoutsOfTypes.{IsLayoutOfType}
-use Rattle.core_tree.specs.Sound.{IsNumber}
-use Rattle.c_types.specs.declared.layouts.Layout.{Layout}
-use Rattle.c_tree.specs.Words as w
 use Rattle.c_tree.specs.Forms as f
-use Rattle.c_tree.specs.Tree.{Tree, Trees, Leaf, At, Node, none, ◌▹◌, count}
 use Rattle.c_tree.specs.Scopes.{name_of}
-use Rattle.c_decls.specs.declared.refusal.TypeKind.TheVariants.{Assignment, DeclaredTwice, Incomplete, LeftOut, StaticTooLarge}
-use Rattle.c_decls.specs.Named as n
-use Rattle.c_decls.specs.ScopeList.{named_in, innermost, tag_name, after_declaration}
-use Rattle.c_decls.specs.Refusals.{Checked, refused, then, unless}
-use Rattle.c_decls.specs.Typed.{is_function, has_no_size}
-use Rattle.c_decls.specs.TypeNames.{Layer, ArrayOf, layered_before, tag_named}
-use Rattle.c_decls.specs.PlaceRules.{unconverted}
+use Rattle.c_tree.specs.Tree.{Tree, Trees, Leaf, At, Node, none, ◌▹◌, count}
+use Rattle.c_tree.specs.Words as w
 use Rattle.c_decls.specs.Expressions.{line_of, string}
+use Rattle.c_decls.specs.Named as n
+use Rattle.c_decls.specs.PlaceRules.{unconverted}
+use Rattle.c_decls.specs.Refusals.{Checked, refused, then, unless}
+use Rattle.c_decls.specs.ScopeList.{named_in, innermost, tag_name, after_declaration}
+use Rattle.c_decls.specs.TypeNames.{Layer, ArrayOf, layered_before, tag_named}
+use Rattle.c_decls.specs.Typed.{is_function, has_no_size}
+use Rattle.c_decls.specs.declared.refusal.TypeKind.TheVariants.{Assignment, DeclaredTwice, Incomplete, LeftOut, StaticTooLarge}
 use Rattle.elaboration.specs.Context.{Context, Variable, asked, emit}
 use Rattle.elaboration.specs.Conversions.{Found, Spot, Local, Memory, atom_in, valued, convert, write, size_or_zero}
-use Rattle.elaboration.specs.Reallocates.{opened}
-use Rattle.elaboration.specs.Rules.{with_static, with_literal}
-use Rattle.elaboration.specs.Expressions.{found}
-use Rattle.elaboration.specs.Locals.{is_twice, declared_as, next_is_memory, with_memory, with_register, local_in, counted_local, with_local}
-use Rattle.elaboration.specs.Declarators.{layers}
-use Rattle.elaboration.specs.Initializers.{Target, InRegister, InMemory, InStatic, static_scalar, member_place, store_at, fill_scalar, scalar, copy_to, fill_record, is_same_place, whole, fill_text, is_character, text, by_text, by_expression, parts_of, takes_braces, is_scalar_type, surplus, all_surplus, initialize, initialize_parts, no_start, text_length, given_length, with_init_layers, not_whole}
 use Rattle.elaboration.specs.Declarations as storages
 use Rattle.elaboration.specs.Declarations.{Storage, Typedef, Outside, storage_of, specs_alone, specs_before, zero_of, cleared, fill_memory, fill_register, fill_at, fill_local, local_object, local_name, function_number, with_function, declared_function, no_initializer, variable_number_of, with_new_variable, with_variable, start_of, start_in, started_variable, started, fill_variable, file_object, file_function, file_value, file_name, name_in, entry, entries, declaration}
+use Rattle.elaboration.specs.Declarators.{layers}
+use Rattle.elaboration.specs.Expressions.{found}
+use Rattle.elaboration.specs.Initializers.{Target, InRegister, InMemory, InStatic, static_scalar, member_place, store_at, fill_scalar, scalar, copy_to, fill_record, is_same_place, whole, fill_text, is_character, text, by_text, by_expression, parts_of, takes_braces, is_scalar_type, surplus, all_surplus, initialize, initialize_parts, no_start, text_length, given_length, with_init_layers, not_whole}
+use Rattle.elaboration.specs.Locals.{is_twice, declared_as, next_is_memory, with_memory, with_register, local_in, counted_local, with_local}
+use Rattle.elaboration.specs.Reallocates.{opened}
+use Rattle.elaboration.specs.Rules.{with_static, with_literal}
+use Rattle.core_soundness.specs.Ranges.{AtomIn}
+use Rattle.core_soundness.specs.Solid.{VariablesLaid, Solid}
 use Rattle.core_soundness.specs.Whole.{Whole}
 use Rattle.core_soundness.specs.Written.{HasParts, Written, AllWritten}
-use Rattle.core_soundness.proofs.Growth.{grows_refl, Longer}
-use Rattle.core_soundness.proofs.Calling.{grown_literal}
-use Rattle.core_soundness.proofs.Quiet.{quiet_literal}
-use Rattle.core_soundness.proofs.Reached.{Led, led_ok, led_refused, led_after, led_unless, led_barred}
-use Rattle.core_soundness.proofs.WholeTypes.{whole_stays, extends_refl, some_stays}
+use Rattle.core_soundness.proofs.CodeWalk.{quiet_literal}
+use Rattle.core_soundness.proofs.Growth.{grows_refl, Longer, grown_literal, Led, led_ok, led_refused, led_after, led_unless, led_barred, behind_string}
+use Rattle.core_soundness.proofs.Ranged as base
+use Rattle.core_soundness.proofs.Ranged.{In, in_emit, in_pointer, zero_number, small_number, size_number, SpotIn, spot_atom, convert_in, write_in, Within, PartsIn, within_stays, parts_stay, within_number, parts_in, starts_within, row_short, variables_push, K, same_kept, same_widens, converted_widens, laid, fit_of}
+use Rattle.core_soundness.proofs.RangedFound.{literal_in, same_cases, same_walked, Rises, rises_refl, rises_trans, opened_rises, closed_rises, went_rises, found_went, value_went, rises_more, coded_rises, with_code}
+use Rattle.core_soundness.proofs.SolidLayers.{T, R1, named_rises, declared_rises, typedef_rises, memory_rises, has_size, specs_rise, layers_rise, type_rises}
+use Rattle.core_soundness.proofs.Sorting.{passed}
+use Rattle.core_soundness.proofs.TagSorts.{tag_leads, SortedType, type_longer, innermost_sorted, tag_sorted, init_layers_sorted, Sorts, kinds_refl}
 use Rattle.core_soundness.proofs.TypedWhole.{LayersWhole, LayerWhole, led_cond, layered_whole, before_whole, tag_good}
-use Rattle.core_soundness.specs.Ranges.{AtomIn}
-use Rattle.core_soundness.proofs.Ranges.{In, in_emit, in_pointer, zero_number, small_number}
-use Rattle.core_soundness.proofs.Ranged.{size_number, SpotIn, spot_atom, convert_in, write_in}
-use Rattle.core_soundness.proofs.RangedFound.{literal_in}
-use Rattle.core_soundness.proofs.Within.{Within, PartsIn, within_stays, parts_stay, within_number, parts_in, starts_within, row_short}
-use Rattle.core_soundness.proofs.Solid as base
-use Rattle.core_soundness.specs.Solid.{VariablesLaid, Solid}
-use Rattle.core_soundness.proofs.Solid.{variables_push, K, same_kept, same_rises, converted_rises, laid, fit_of}
-use Rattle.c_types.proofs.MemberLemmas.{Extends}
-use Rattle.core_soundness.proofs.Operating.{passed}
-use Rattle.core_soundness.proofs.TypedNames.{tag_leads}
-use Rattle.core_soundness.proofs.TagSorts.{SortedType, type_longer, innermost_sorted, tag_sorted, init_layers_sorted}
-use Rattle.core_soundness.proofs.TagKinds.{Sorts, kinds_refl}
-use Rattle.core_soundness.proofs.Working.{grows_convert, grows_write}
-use Rattle.core_soundness.proofs.Moving.{same_cases, same_walked, Rises, rises_refl, rises_trans, opened_rises, closed_rises, went_rises, found_went, value_went}
-use Rattle.core_soundness.proofs.SolidLayers.{T, R1, named_rises, declared_rises, typedef_rises, memory_rises, has_size, specs_rise, layers_rise, asked_type_rises}
-use Rattle.core_soundness.proofs.Unused.{behind_string}
+use Rattle.core_soundness.proofs.Walks.{grows_convert, grows_write}
+use Rattle.core_soundness.proofs.WholeTypes.{whole_stays, extends_refl, some_stays, some_layout}
+use Rattle.core_soundness.proofs.Choices.{either_way}
 
 -- initializers
 
@@ -73,52 +65,28 @@ scalar_value e at type c d h w t q =
     let o = opened_rises e c h in
     let v = value_went e type begun d o.solid w (whole_stays type (K c) (K begun) o.more t) q in
     let x = convert at begun.code type d.1.typed (atom_in d.1) d.0 in
-    let a = converted_rises at begun type d v.gone.grows v.gone.rises.solid in
-    let g = went_rises begun d v in
-    record {
-      rises = record {
-        solid = a.solid;
-        more = λ tag l y. a.more tag l (g.more tag l (o.more tag l y));
-        kinds = record { made = λ i u e. a.kinds.made i u (g.kinds.made i u (o.kinds.made i u e)); sorts = λ ks. a.kinds.sorts (g.kinds.sorts (o.kinds.sorts ks)) };
-        code = λ k. let r = v.fits (o.code k) in (convert_in at begun.code type d.1.typed (atom_in d.1) d.0 (o.code k) r.0 (spot_atom d.1.spot r.1)).0;
-        cases = λ k. same_cases begun x.0 (grows_convert at begun type d.1.typed (atom_in d.1) d.0 v.gone.grows) (o.cases k);
-        walked = λ k. same_walked begun x.0 (grows_convert at begun type d.1.typed (atom_in d.1) d.0 v.gone.grows) (o.walked k);
-      };
-      fits = λ k. let r = v.fits (o.code k) in (convert_in at begun.code type d.1.typed (atom_in d.1) d.0 (o.code k) r.0 (spot_atom d.1.spot r.1)).1;
-    }
+    let a = converted_widens at begun type d v.gone.grows v.gone.rises.solid in
+    let g = base.widens_trans begun d.0 x.0 v.gone.rises a in
+    let s = λ (k : In c). (let r = v.fits (o.code k) in convert_in at begun.code type d.1.typed (atom_in d.1) d.0 (o.code k) r.0 (spot_atom d.1.spot r.1)) in
+    record { rises = rises_more c begun x.0 o g (grows_convert at begun type d.1.typed (atom_in d.1) d.0 v.gone.grows) (λ k. (s k).0); fits = λ k. (s k).1 }
 
 fill_scalar_rises : (e : Tree) (line : ℕ) (type : PlainType) (offset : ℕ) (target : Target) (c : Context) (d : Context × Found) → Solid c → Written e → Whole (K c) type → IsNumber (pos offset) → valued e (found e type (opened e c)) ≡ Ok d → Led (R1 c) (fill_scalar e line type offset (opened e c).code d target)
 fill_scalar_rises e line type offset (InRegister at register) c d h w t m q =
     let v = scalar_value e at type c d h w t q in
     let x = convert at (opened e c).code type d.1.typed (atom_in d.1) d.0 in
     let s = write at type (Local register) x.1 x.0 in
-    let b = base.write_rises at type (Local register) x.1 x.0 v.rises.solid in
-    let z = closed_rises e s b.solid in
-    led_ok (R1 c)
-    (record {
-      solid = z.solid;
-      more = λ tag l y. z.more tag l (b.more tag l (v.rises.more tag l y));
-      kinds = record { made = λ i u e. z.kinds.made i u (b.kinds.made i u (v.rises.kinds.made i u e)); sorts = λ ks. z.kinds.sorts (b.kinds.sorts (v.rises.kinds.sorts ks)) };
-      code = λ k. z.code (write_in at type (Local register) x.1 x.0 (v.rises.code k) tt (v.fits k));
-      cases = λ k. z.cases (same_cases x.0 s (grows_write at type (Local register) x.1 x.0) (v.rises.cases k));
-      walked = λ k. z.walked (same_walked x.0 s (grows_write at type (Local register) x.1 x.0) (v.rises.walked k));
-    })
+    let b = base.write_widens at type (Local register) x.1 x.0 v.rises.solid in
+    let y = rises_more c x.0 s v.rises b (grows_write at type (Local register) x.1 x.0) (λ k. write_in at type (Local register) x.1 x.0 (v.rises.code k) tt (v.fits k)) in
+    led_ok (R1 c) (rises_trans c s _ y (closed_rises e s y.solid))
 fill_scalar_rises e line type offset (InMemory at mem) c d h w t m q =
     let v = scalar_value e at type c d h w t q in
     let x = convert at (opened e c).code type d.1.typed (atom_in d.1) d.0 in
     let place = member_place at mem offset x.0 in
     let s = store_at at type x.1 place in
-    let b = base.write_rises at type (Memory place.1) x.1 place.0 v.rises.solid in
-    let z = closed_rises e s b.solid in
-    led_ok (R1 c)
-    (record {
-      solid = z.solid;
-      more = λ tag l y. z.more tag l (b.more tag l (v.rises.more tag l y));
-      kinds = record { made = λ i u e. z.kinds.made i u (b.kinds.made i u (v.rises.kinds.made i u e)); sorts = λ ks. z.kinds.sorts (b.kinds.sorts (v.rises.kinds.sorts ks)) };
-      code = λ k. let p = in_pointer at (λ p. Off p (atom.Mem mem) (pos offset)) x.0 (v.rises.code k) (λ r. ((tt, tt), m)) in z.code (write_in at type (Memory place.1) x.1 place.0 p.0 p.1 (v.fits k));
-      cases = λ k. z.cases (same_cases place.0 s (grows_write at type (Memory place.1) x.1 place.0) (v.rises.cases k));
-      walked = λ k. z.walked (same_walked place.0 s (grows_write at type (Memory place.1) x.1 place.0) (v.rises.walked k));
-    })
+    let b = base.write_widens at type (Memory place.1) x.1 place.0 v.rises.solid in
+    let p = λ (k : In c). in_pointer at (λ p. Off p (atom.Mem mem) (pos offset)) x.0 (v.rises.code k) (λ r. ((tt, tt), m)) in
+    let y = rises_more c place.0 s (coded_rises c x.0 place.0.code v.rises (λ k. (p k).0)) b (grows_write at type (Memory place.1) x.1 place.0) (λ k. write_in at type (Memory place.1) x.1 place.0 (p k).0 (p k).1 (v.fits k)) in
+    led_ok (R1 c) (rises_trans c s _ y (closed_rises e s y.solid))
 fill_scalar_rises e line type offset (InStatic start) c d h w t m q =
     let begun = opened e c in
     let o = opened_rises e c h in
@@ -134,18 +102,10 @@ fill_record_rises : (e : Tree) (line : ℕ) (type : PlainType) (offset : ℕ) (c
 fill_record_rises e line type offset c d (InMemory at mem) r f t m =
     let place = member_place at mem offset d.0 in
     let s = copy_to at type (atom_in d.1) place in
-    let z = closed_rises e s r.solid in
-    led_ok (R1 c)
-    (record {
-      solid = z.solid;
-      more = λ tag l y. z.more tag l (r.more tag l y);
-      kinds = record { made = λ i u e. z.kinds.made i u (r.kinds.made i u e); sorts = λ ks. z.kinds.sorts (r.kinds.sorts ks) };
-      code = λ k.
-          let p = in_pointer at (λ p. Off p (atom.Mem mem) (pos offset)) d.0 (r.code k) (λ r. ((tt, tt), m)) in
-          z.code (in_emit at (Copy place.1 (atom_in d.1) (pos (size_or_zero place.0 type))) place.0 p.0 ((p.1, (spot_atom d.1.spot (f k), tt)), size_number d.0 type r.solid (whole_stays type (K c) (K d.0) r.more t)));
-      cases = λ k. z.cases (r.cases k);
-      walked = λ k. z.walked (r.walked k);
-    })
+    let y = coded_rises c d.0 s.code r
+    (λ k. let p = in_pointer at (λ p. Off p (atom.Mem mem) (pos offset)) d.0 (r.code k) (λ r. ((tt, tt), m)) in
+    in_emit at (Copy place.1 (atom_in d.1) (pos (size_or_zero place.0 type))) place.0 p.0 ((p.1, (spot_atom d.1.spot (f k), tt)), size_number d.0 type r.solid (whole_stays type (K c) (K d.0) r.more t))) in
+    led_ok (R1 c) (rises_trans c s _ y (closed_rises e s y.solid))
 fill_record_rises e line type offset c d other r f t m = led_refused (R1 c)
 
 whole_rises : (e : Tree) (line : ℕ) (type : PlainType) (offset : ℕ) (target : Target) (c : Context) → Solid c → Written e → Whole (K c) type → IsNumber (pos offset) → Led (R1 c) (whole e line type offset target c)
@@ -164,21 +124,15 @@ fill_text_rises e line bytes size offset (InMemory at mem) c h small m =
     let begun = opened e c in
     let o = opened_rises e c h in
     led_after (R1 c) (with_literal line bytes begun)
-    (λ d q. let r = same_rises begun d.0 (same_kept begun d.0 (quiet_literal line bytes begun d q) (grown_literal line bytes begun begun (grows_refl begun) d q).kept) o.solid in
+    (λ d q. let r = same_widens begun d.0 (same_kept begun d.0 (quiet_literal line bytes begun d q) (grown_literal line bytes begun begun (grows_refl begun) d q).kept) o.solid in
     let k : ℕ = min (length bytes + 1) size in
     let place = member_place at mem offset d.0 in
     let s = emit at (Copy place.1 (atom.Static d.1) (pos k)) place.0 in
+    let y = rises_more c begun d.0 o r (grown_literal line bytes begun begun (grows_refl begun) d q) (λ g. literal_in line bytes begun (o.code g) d q) in
     led_ok (R1 c)
-    (record {
-      solid = r.solid;
-      more = λ tag l y. r.more tag l (o.more tag l y);
-      kinds = record { made = λ i u e. r.kinds.made i u (o.kinds.made i u e); sorts = λ ks. r.kinds.sorts (o.kinds.sorts ks) };
-      code = λ g.
-          let p = in_pointer at (λ p. Off p (atom.Mem mem) (pos offset)) d.0 (literal_in line bytes begun (o.code g) d q) (λ r. ((tt, tt), m)) in
-          in_emit at (Copy place.1 (atom.Static d.1) (pos k)) place.0 p.0 ((p.1, (tt, tt)), small_number k (least (length bytes + 1) size 268435456 small));
-      cases = λ g. same_cases begun d.0 (grown_literal line bytes begun begun (grows_refl begun) d q) (o.cases g);
-      walked = λ g. same_walked begun d.0 (grown_literal line bytes begun begun (grows_refl begun) d q) (o.walked g);
-    }))
+    (coded_rises c d.0 s.code y
+    (λ g. let p = in_pointer at (λ p. Off p (atom.Mem mem) (pos offset)) d.0 (y.code g) (λ r. ((tt, tt), m)) in
+    in_emit at (Copy place.1 (atom.Static d.1) (pos k)) place.0 p.0 ((p.1, (tt, tt)), small_number k (least (length bytes + 1) size 268435456 small)))))
 fill_text_rises e line bytes size offset (InStatic start) c h small m = led_ok (R1 c) (rises_refl c h)
 fill_text_rises e line bytes size offset (InRegister at register) c h small m = led_refused (R1 c)
 
@@ -265,11 +219,7 @@ local_spot name type c = by (next_is_memory type c)
 
 -- the layout of a type that has one
 has_layout : (c : Context) (type : PlainType) → is_some (layout_in c.tags type) ≡ true → layout_in c.tags type ≡ Some (unwrap_or (layout_in c.tags type) no_layout)
-has_layout c type s = by (layout_in c.tags type) s
-  where
-    by : (o : Option Layout) → is_some o ≡ true → o ≡ Some (unwrap_or o no_layout)
-    by None e = cc
-    by (Some l) e = refl
+has_layout c type s = some_layout (layout_in c.tags type) s
 
 starts : (c : Context) (type : PlainType) → Solid c → Whole (K c) type → is_some (layout_in c.tags type) ≡ true → Within (K c) type 0
 starts c type h w s = starts_within c type (unwrap_or (layout_in c.tags type) no_layout) h w (has_layout c type s)
@@ -316,11 +266,7 @@ local_name_rises past line storages.Plain name type inits c r v w s = onward_led
 -- file scope
 
 function_rises : (index : ℕ) (name : List ℕ) (c : Context) → Solid c → Rises c (with_function index name c)
-function_rises index name c h = by (nat_lt index (length c.functions))
-  where
-    by : (t : Bool) → Rises c (cond t c (record c { functions = c.functions ++ (record { name = name; defined = None }) ∷ [] }))
-    by true = rises_refl c h
-    by false = record { solid = h; more = extends_refl (K c); kinds = kinds_refl c; code = λ k. k; cases = λ k. k; walked = λ k. k }
+function_rises index name c h = either_way (Rises c) (nat_lt index (length c.functions)) (rises_refl c h) (record { solid = h; more = extends_refl (K c); kinds = kinds_refl c; code = λ k. k; cases = λ k. k; walked = λ k. k })
 
 pub declared_function_rises : (line : ℕ) (name : List ℕ) (type : PlainType) (c : Context) → Solid c → Whole (K c) type → Led (Rises c) (declared_function line name type c)
 declared_function_rises line name type c h w =
@@ -347,15 +293,13 @@ new_variable_rises line name type c h w s =
     led_after (Rises c) (with_static line size c)
     (λ d q. let y = led_unless (Ready c type) (nat_lt 67108864 (c.static_bytes + block_size size)) StaticTooLarge line
     (λ t. led_ok (Ready c type) (record { rises = record { solid = h; more = extends_refl (K c); kinds = kinds_refl c; code = λ k. k; cases = λ k. k; walked = λ k. k }; whole = w; sized = s })) d q in
+    let laid_one = variables_push d.variables _ y.rises.solid.statics (laid d type y.rises.solid y.whole y.sized) in
     led_ok (Rises c)
-    (record {
-      solid = record { made = y.rises.solid.made; names = y.rises.solid.names; list = y.rises.solid.list; memory = y.rises.solid.memory; result = y.rises.solid.result; statics = variables_push d.variables _ y.rises.solid.statics (laid d type y.rises.solid y.whole y.sized); functions = y.rises.solid.functions };
+    (with_code c _ (record {
+      solid = record { made = y.rises.solid.made; names = y.rises.solid.names; list = y.rises.solid.list; memory = y.rises.solid.memory; result = y.rises.solid.result; statics = laid_one; functions = y.rises.solid.functions };
       more = y.rises.more;
       kinds = y.rises.kinds;
-      code = y.rises.code;
-      cases = y.rises.cases;
-      walked = y.rises.walked;
-    }))
+    }) y.rises.code y.rises.cases y.rises.walked))
 
 pub variable_rises : (line index : ℕ) (name : List ℕ) (type : PlainType) (c : Context) → Solid c → Whole (K c) type → is_some (layout_in c.tags type) ≡ true → Led (Rises c) (with_variable line index name type c)
 variable_rises line index name type c h w s =
@@ -376,14 +320,11 @@ started_laid index start None vs e h = h
 started_laid index start (Some v) vs e h = set_laid vs index (record v { start = Some start }) h (get_laid vs index v e h)
 
 started_rises : (index : ℕ) (d : Context × Target) → Solid d.0 → Rises d.0 (started index d)
-started_rises index d h = record {
+started_rises index d h = with_code d.0 _ (record {
   solid = record { made = h.made; names = h.names; list = h.list; memory = h.memory; result = h.result; statics = started_laid index (start_in d.1) (slice_get d.0.variables index) d.0.variables refl h.statics; functions = h.functions };
   more = extends_refl (K d.0);
   kinds = kinds_refl d.0;
-  code = λ k. k;
-  cases = λ k. k;
-  walked = λ k. k;
-}
+}) (λ k. k) (λ k. k) (λ k. k)
 
 fill_variable_rises : (line index : ℕ) (type : PlainType) (inits : Trees) (c : Context) → Solid c → AllWritten inits → Whole (K c) type → is_some (layout_in c.tags type) ≡ true → Led (Rises c) (fill_variable line index type inits c)
 unfolding AllWritten
@@ -425,11 +366,7 @@ name_in_rises past false line storage (Some name) type inits c r v w s = local_n
 
 text_some : (element : PlainType) (o : Option (List ℕ)) → 1 ≤ text_length element o
 text_some element None = omega arith
-text_some element (Some bytes) = by (is_character element)
-  where
-    by : (t : Bool) → 1 ≤ cond t (length bytes + 1) 1
-    by true = omega arith
-    by false = omega arith
+text_some element (Some bytes) = either_way (λ x. 1 ≤ x) (is_character element) (omega arith) (omega arith)
 
 inits_some : (inits : Trees) → HasParts f.Inits inits → 1 ≤ count inits
 unfolding HasParts
@@ -473,7 +410,7 @@ entries_rise (tree ▹ rest) past file line storage base c r b st w = led_refuse
 
 alone_rises : (tree : Tree) (c : Context) → Solid c → Written tree → Led (T c) (specs_alone tree c)
 alone_rises (Node f.Specs (At line ▹ Node (f.RecordTag sort) (At at ▹ Leaf (w.Name name) ▹ none) ▹ none)) c h v =
-    asked_type_rises (tag_named at sort name (asked c) (named_in (tag_name name) (innermost c.scopes))) c h (tag_good c.tags.completed h.made at sort name (asked c) (named_in (tag_name name) (innermost c.scopes)) (fit_of c h))
+    type_rises (tag_named at sort name (asked c) (named_in (tag_name name) (innermost c.scopes))) c h (tag_good c.tags.completed h.made at sort name (asked c) (named_in (tag_name name) (innermost c.scopes)) (fit_of c h))
     (λ x q. tag_leads at sort name (asked c) (named_in (tag_name name) (innermost c.scopes)) x q)
     (λ ks. tag_sorted at sort name (asked c) (named_in (tag_name name) (innermost c.scopes)) (λ type e. innermost_sorted c.tags.made c.scopes ks.names (tag_name name) (n.Tag type) e))
 alone_rises tree c h v = specs_rise tree c h v

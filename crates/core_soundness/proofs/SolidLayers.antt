@@ -1,53 +1,50 @@
 -- Declarators, specs and tags have whole types (C99 6.7).
 use Rattle.std.proofs.Common.{◌≡◌, ℕ, ℤ, pos, Bool, true, false, ◌||◌, cond, is_some, is_none, All, List, [], ◌∷◌, ◌++◌, length, reverse, slice_get, unwrap_or, option_map, Option, Some, None, Ok, refl, ap, ◌∙◌, arith}
-use Rattle.std.specs.Option.{option_map_or}
 use Rattle.std.proofs.lemmas.List.Elements.{All-cons}
-use Rattle.hs_base.specs.declared.ends.IntKind.TheVariants.{I32}
+use Rattle.std.specs.Option.{option_map_or}
 use Rattle.hs_base.specs.Numbers.{wrapped}
-use Rattle.c_types.specs.declared.layouts.Layout.{Layout}
-use Rattle.c_types.specs.declared.types.IntType.TheVariants as i
-use Rattle.c_types.specs.declared.tags.TagInfo.{TagInfo}
-use Rattle.c_types.specs.declared.tags.TagError.{TagError}
-use Rattle.c_types.specs.Types.{PlainType, PlainTypes, Void, Int, Pointer, Array, Struct, Union}
+use Rattle.hs_base.specs.declared.ends.IntKind.TheVariants.{I32}
 use Rattle.c_types.specs.Layouts.{Known, layout_of}
 use Rattle.c_types.specs.TagTable as tables
 use Rattle.c_types.specs.TagTable.{TagTable, CompletedTag, refusal, layout_in}
+use Rattle.c_types.specs.Types.{PlainType, PlainTypes, Void, Int, Pointer, Array, Struct, Union}
+use Rattle.c_types.specs.declared.layouts.Layout.{Layout}
+use Rattle.c_types.specs.declared.tags.TagError.{TagError}
+use Rattle.c_types.specs.declared.tags.TagInfo.{TagInfo}
+use Rattle.c_types.specs.declared.types.IntType.TheVariants as i
 use Rattle.core_tree.specs.LayoutsOfTypes.{HasLayout}
 use Rattle.core_tree.specs.declared.statements.Atom.TheVariants as atom
+use Rattle.c_tree.specs.Forms as f
+use Rattle.c_tree.specs.Scopes.{name_of}
+use Rattle.c_tree.specs.Tree.{Tree, Trees, Leaf, At, Node, none, ◌▹◌}
+use Rattle.c_tree.specs.Words as w
 use Rattle.c_tree.specs.declared.operator.RecordSort.{RecordSort}
 use Rattle.c_tree.specs.declared.operator.RecordSort.TheVariants as r
-use Rattle.c_tree.specs.Words as w
-use Rattle.c_tree.specs.Forms as f
-use Rattle.c_tree.specs.Tree.{Tree, Trees, Leaf, At, Node, none, ◌▹◌}
-use Rattle.c_tree.specs.Scopes.{name_of}
-use Rattle.c_decls.specs.declared.refusal.TypeKind.TheVariants.{DeclaredTwice, Incomplete, LeftOut}
+use Rattle.c_decls.specs.Expressions.{line_of, typed, wanted, constant_from}
 use Rattle.c_decls.specs.Named as n
 use Rattle.c_decls.specs.Named.{PlainNamed}
-use Rattle.c_decls.specs.ScopeList.{Table, named_in, innermost, first_or, with_name, tag_name}
 use Rattle.c_decls.specs.Refusals.{Checked, then, unless}
-use Rattle.c_decls.specs.Typed.{is_void, is_record, is_array, is_function, has_no_size}
+use Rattle.c_decls.specs.ScopeList.{Table, named_in, innermost, first_or, with_name, tag_name}
 use Rattle.c_decls.specs.TypeNames as names
 use Rattle.c_decls.specs.TypeNames.{Layer, record_type, is_union, special_type, array_length, with_layers, with_param_layers, adjusted}
-use Rattle.c_decls.specs.Expressions.{line_of, typed, wanted, constant_from}
+use Rattle.c_decls.specs.Typed.{is_void, is_record, is_array, is_function, has_no_size}
+use Rattle.c_decls.specs.declared.refusal.TypeKind.TheVariants.{DeclaredTwice, Incomplete, LeftOut}
 use Rattle.elaboration.specs.Context.{Context, asked, entered, local_register}
 use Rattle.elaboration.specs.Conversions.{Memory}
-use Rattle.elaboration.specs.Locals.{is_twice, declared_as, next_is_memory, with_register, with_memory, counted, with_named, memory_param, register_param, function_param, prototype_param, is_prototype, with_param}
 use Rattle.elaboration.specs.Declarators as d
 use Rattle.elaboration.specs.Declarators.{constant, with_type, maybe_name, newly_named, begun_as, begun, completed_by, complete, ended, with_member, member, enumerator, enum_named, is_declared, param, left_params, specs, words_type, tag_type, members, member_names, enumerators, layers, suffix_layers, suffix_layer, params}
+use Rattle.elaboration.specs.Locals.{is_twice, declared_as, next_is_memory, with_register, with_memory, counted, with_named, memory_param, register_param, function_param, prototype_param, is_prototype, with_param}
+use Rattle.core_soundness.specs.Solid.{Solid}
 use Rattle.core_soundness.specs.Whole.{Whole, AllWhole, MembersWhole, NamedWhole, TableWhole, TablesWhole}
 use Rattle.core_soundness.specs.Written.{HasParts, Written, AllWritten}
-use Rattle.core_soundness.proofs.Grown.{good, ok_same, never}
 use Rattle.core_soundness.proofs.Agreeing.{came}
-use Rattle.core_soundness.proofs.Operating.{behind_test}
-use Rattle.core_soundness.proofs.Reached.{Led, led_ok, led_refused, led_after, led_unless}
-use Rattle.core_soundness.proofs.WholeTypes.{whole_stays, members_stay, table_stays, names_stay, push_extends, extends_refl, made_push, whole_fits}
-use Rattle.core_soundness.proofs.TagSorts.{SortedType, SortedName, type_longer, table_longer, scopes_longer, with_name_sorted, entered_sorted, left_sorted, none_sorted, first_sorted, innermost_sorted, push_longer, new_sorted, ST, word_sorted, special_sorted, with_layers_sorted}
-use Rattle.core_soundness.proofs.TypedNames.{Leads, typed_leads, wanted_leads, special_leads, new_tag_leads}
-use Rattle.core_soundness.proofs.TagKinds.{MembersSorted, members_longer, bodies_longer, bodies_push, Sorts, kinds_refl, leads_kinds}
+use Rattle.core_soundness.proofs.Growth.{good, ok_same, never, Led, led_ok, led_refused, led_after, led_unless, behind_test}
+use Rattle.core_soundness.proofs.Ranged.{wrapped_number, mems_push, K, fit_of, told_whole, layers_stay, layer_stays, laid}
+use Rattle.core_soundness.proofs.RangedFound.{Rises, rises_refl, rises_trans, told_rises, write_rises, with_code}
+use Rattle.core_soundness.proofs.TagSorts.{SortedType, SortedName, type_longer, table_longer, scopes_longer, with_name_sorted, entered_sorted, left_sorted, none_sorted, first_sorted, innermost_sorted, push_longer, new_sorted, ST, word_sorted, special_sorted, with_layers_sorted, Leads, typed_leads, wanted_leads, special_leads, new_tag_leads, MembersSorted, members_longer, bodies_longer, bodies_push, Sorts, kinds_refl, leads_kinds}
 use Rattle.core_soundness.proofs.TypedWhole.{GoodType, LayersWhole, LayerWhole, layers_append, layers_reverse, with_name_whole, entered_whole, left_whole, with_layers_whole, with_param_layers_whole, adjusted_whole, special_good, word_whole, length_some, typed_good, wanted_good}
-use Rattle.core_soundness.specs.Solid.{Solid}
-use Rattle.core_soundness.proofs.Solid.{wrapped_number, mems_push, K, fit_of, told_whole, layers_stay, layer_stays, laid}
-use Rattle.core_soundness.proofs.Moving.{Rises, rises_refl, rises_trans, told_rises, write_rises}
+use Rattle.core_soundness.proofs.WholeTypes.{whole_stays, members_stay, table_stays, names_stay, push_extends, extends_refl, made_push, whole_fits}
+use Rattle.core_soundness.proofs.Choices.{either_way}
 
 -- answers behind a context: with a whole type, with layers, with members, with the types of parameters
 abbrev pub T : Context → Context × PlainType → Type 0
@@ -72,23 +69,18 @@ R1 {A} c z = Rises c z.0
 -- names that are declared
 
 pub named_rises : (c : Context) (name : List ℕ) (v : PlainNamed) → Solid c → NamedWhole (K c) v → (Sorts c → SortedName c.tags.made v) → Rises c (record c { scopes = with_name c.scopes name v })
-named_rises c name v h w s = record {
+named_rises c name v h w s = with_code c _ (record {
   solid = record { made = h.made; names = with_name_whole (K c) c.scopes name v w h.names; list = h.list; memory = h.memory; result = h.result; statics = h.statics; functions = h.functions };
   more = extends_refl (K c);
   kinds = record { made = λ i u e. e; sorts = λ ks. record { names = with_name_sorted c.tags.made c.scopes name v (s ks) ks.names; list = ks.list; bodies = ks.bodies } };
-  code = λ k. k;
-  cases = λ k. k;
-  walked = λ k. k;
-}
+}) (λ k. k) (λ k. k) (λ k. k)
 
 pub declared_rises : (line : ℕ) (name : List ℕ) (v : PlainNamed) (c : Context) → Solid c → NamedWhole (K c) v → (Sorts c → SortedName c.tags.made v) → Led (Rises c) (declared_as line name v c)
 declared_rises line name v c h w s =
     led_unless (Rises c) (is_twice c.scopes name v) DeclaredTwice line
-    (λ t. led_ok (Rises c) (by (is_some (named_in name (innermost c.scopes)))))
-  where
-    by : (t : Bool) → Rises c (record c { scopes = cond t c.scopes (with_name c.scopes name v) })
-    by true = record { solid = h; more = extends_refl (K c); kinds = kinds_refl c; code = λ k. k; cases = λ k. k; walked = λ k. k }
-    by false = named_rises c name v h w s
+    (λ t. led_ok (Rises c) (either_way (λ x. Rises c (record c { scopes = x })) (is_some (named_in name (innermost c.scopes)))
+    (record { solid = h; more = extends_refl (K c); kinds = kinds_refl c; code = λ k. k; cases = λ k. k; walked = λ k. k })
+    (named_rises c name v h w s)))
 
 -- the name of a type, whose tags are of their sorts where they are so at an earlier point
 pub typedef_rises : (past c : Context) → Rises past c → (line : ℕ) (name : List ℕ) (type : PlainType) → Whole (K c) type → (Sorts past → SortedType c.tags.made type) → Led (Rises past) (declared_as line name (n.Typedef type) c)
@@ -114,14 +106,11 @@ maybe_named None v c h w s = rises_refl c h
 maybe_named (Some name) v c h w s = named_rises c name v h w s
 
 pub memory_rises : (name : List ℕ) (type : PlainType) (c : Context) → Solid c → Whole (K c) type → is_some (layout_in c.tags type) ≡ true → Rises c (with_memory name type c)
-memory_rises name type c h w s = record {
+memory_rises name type c h w s = with_code c _ (record {
   solid = record { made = h.made; names = h.names; list = h.list; memory = mems_push c.running.mems _ h.memory (laid c type h w s); result = h.result; statics = h.statics; functions = h.functions };
   more = extends_refl (K c);
   kinds = kinds_refl c;
-  code = λ k. k;
-  cases = λ k. k;
-  walked = λ k. k;
-}
+}) (λ k. k) (λ k. k) (λ k. k)
 
 pub counted_rises : (c x : Context) → Rises c x → Rises c (counted x)
 counted_rises c x r = record { solid = r.solid; more = r.more; kinds = r.kinds; code = r.code; cases = r.cases; walked = r.walked }
@@ -177,14 +166,11 @@ param_rises line name type c h w flat =
 
 -- tags
 
-type_rises : (answer : Checked (names.Context × PlainType)) (c : Context) (h : Solid c) → Led (GoodType c.tags.completed h.made) answer → ((x : names.Context × PlainType) → answer ≡ Ok x → Leads (asked c) x.0) → (Sorts c → Led ST answer) → Led (T c) (with_type answer c)
+pub type_rises : (answer : Checked (names.Context × PlainType)) (c : Context) (h : Solid c) → Led (GoodType c.tags.completed h.made) answer → ((x : names.Context × PlainType) → answer ≡ Ok x → Leads (asked c) x.0) → (Sorts c → Led ST answer) → Led (T c) (with_type answer c)
 type_rises answer c h g l s = led_after (T c) answer (λ x q. let k = g x q in led_ok (T c) (told_rises c x.0 h k.0 (l x q), told_whole c x.0 h x.1 k.0 k.1, λ ks. s ks x q))
 
 pub with_type_rises : (line : ℕ) (tree : Tree) (c : Context) → Solid c → Led (T c) (with_type (special_type line tree (asked c)) c)
 with_type_rises line tree c h = type_rises (special_type line tree (asked c)) c h (special_good c.tags.completed h.made line tree (asked c) (fit_of c h)) (λ x q. special_leads line tree (asked c) x q) (λ ks. special_sorted line tree (asked c) ks.names)
-
-pub asked_type_rises : (answer : Checked (names.Context × PlainType)) (c : Context) (h : Solid c) → Led (GoodType c.tags.completed h.made) answer → ((x : names.Context × PlainType) → answer ≡ Ok x → Leads (asked c) x.0) → (Sorts c → Led ST answer) → Led (T c) (with_type answer c)
-asked_type_rises answer c h g l s = type_rises answer c h g l s
 
 pub constant_rises : (e : Tree) (c : Context) → Solid c → Led (R1 c) (constant e c)
 constant_rises e c h =
@@ -193,14 +179,11 @@ constant_rises e c h =
     led_after (R1 c) (constant_from (line_of e) x.1.type x.1.folded) (λ k z. led_ok (R1 c) (told_rises c x.0 h g.0 (wanted_leads (asked c) e (typed e (asked c)) (typed_leads e (asked c)) x q))))
 
 newly_rises : (sort : RecordSort) (name : List ℕ) (c : Context) → Solid c → Rises c (newly_named sort name c).0
-newly_rises sort name c h = record {
+newly_rises sort name c h = with_code c _ (record {
   solid = record { made = h.made; names = with_name_whole (K c) c.scopes (tag_name name) (n.Tag (record_type sort (length c.tags.made))) tt h.names; list = h.list; memory = h.memory; result = h.result; statics = h.statics; functions = h.functions };
   more = extends_refl (K c);
   kinds = leads_kinds c (newly_named sort name c).0 (new_tag_leads sort name (asked c)) refl refl;
-  code = λ k. k;
-  cases = λ k. k;
-  walked = λ k. k;
-}
+}) (λ k. k) (λ k. k) (λ k. k)
 
 begun_as_rises : (sort : RecordSort) (name : List ℕ) (o : Option PlainNamed) (c : Context) → Solid c → Rises c (begun_as sort name o c).0
 begun_as_rises sort name (Some (n.Tag type)) c h = rises_refl c h
@@ -272,15 +255,12 @@ members_push : (k : Known) (ms : d.Members) (m : List ℕ × PlainType) → Memb
 members_push k [] m h w s = ((w, s), tt)
 members_push k (x ∷ ms) m h w s = (h.0, members_push k ms m h.1 w s)
 
-sized : (tags : TagTable) (type : PlainType) → has_no_size tags type ≡ false → is_some (layout_in tags type) ≡ true
-sized tags type e = by (layout_in tags type) e
+pub has_size : (tags : TagTable) (type : PlainType) → has_no_size tags type ≡ false → is_some (layout_in tags type) ≡ true
+has_size tags type e = by (layout_in tags type) e
   where
     by : (o : Option Layout) → is_none (option_map (λ (l : Layout). l.size) o) ≡ false → is_some o ≡ true
     by None q = cc
     by (Some l) q = refl
-
-pub has_size : (tags : TagTable) (type : PlainType) → has_no_size tags type ≡ false → is_some (layout_in tags type) ≡ true
-has_size tags type e = sized tags type e
 
 with_member_rises : (line : ℕ) (name : Option (List ℕ)) (type : PlainType) (k : Known) (list : d.Members) → MembersWhole k list → Whole k type → is_some (layout_of k type) ≡ true → Led (MembersWhole k) (with_member line name type list)
 with_member_rises line None type k list m w s = led_ok (MembersWhole k) m
@@ -301,7 +281,7 @@ member_rises past line name type list c h w m st sm =
     led_unless (M past c) (is_function type) LeftOut line
     (λ t. led_unless (M past c) (has_no_size c.tags type) Incomplete line
     (λ s. led_after (M past c) (with_member line name type list)
-    (λ more q. led_ok (M past c) (rises_refl c h, with_member_rises line name type (K c) list m w (sized c.tags type s) more q, λ ks. with_member_sorted line name type c.tags.made list (sm ks) (st ks) more q))))
+    (λ more q. led_ok (M past c) (rises_refl c h, with_member_rises line name type (K c) list m w (has_size c.tags type s) more q, λ ks. with_member_sorted line name type c.tags.made list (sm ks) (st ks) more q))))
 
 -- members in braces are some
 

@@ -1,70 +1,72 @@
--- Statements, functions and texts keep whole types (C99 6.8, 6.9).
-use Rattle.std.proofs.Common.{take, drop, ◌≡◌, ◌≤◌, ◌+◌, ◌*◌, ◌-◌, not, ℕ, zero, suc, ℤ, Bool, true, false, cond, is_some, nat_lt, codes, All, length, map, List, [], ◌∷◌, ◌++◌, slice_get, sum_by, Option, Some, None, Ok, refl, sym, subst, arith, bytes_eq}
-use Rattle.std.proofs.lemmas.List.Elements.{All-cons}
+-- Statements, functions and texts keep whole types, and numbers in range.
+use Rattle.std.proofs.Common.{take, drop, ◌≡◌, ◌≤◌, ◌+◌, ◌*◌, ◌-◌, not, ℕ, zero, suc, ℤ, Bool, true, false, cond, is_some, nat_lt, codes, All, length, map, List, [], ◌∷◌, ◌++◌, slice_get, sum_by, Option, Some, None, Ok, refl, sym, subst, arith, bytes_eq, pos}
+use Rattle.std.proofs.lemmas.List.Elements.{All-cons, All-nil}
 use Rattle.std.proofs.lemmas.List.Sums.{sum_by-append, sum_by-cons}
+use Rattle.std.specs.List.{flat_map}
 use Rattle.hs_base.specs.Place.{block_size}
-use Rattle.c_types.specs.declared.types.IntType.{IntType}
-use Rattle.c_types.specs.declared.types.IntType.TheVariants as i
-use Rattle.c_types.specs.Types as types
-use Rattle.c_types.specs.Types.{PlainType, Void, Function}
 use Rattle.c_types.specs.Layouts.{Known, array_layout, number_layout}
 use Rattle.c_types.specs.TagTable.{TagTable}
+use Rattle.c_types.specs.Types as types
+use Rattle.c_types.specs.Types.{PlainType, Void, Function}
+use Rattle.c_types.specs.declared.types.IntType.{IntType}
+use Rattle.c_types.specs.declared.types.IntType.TheVariants as i
+use Rattle.core_tree.specs.LayoutsOfTypes.{IsLayoutOfType}
+use Rattle.core_tree.specs.Sound.{IsNumber, EachFunc, EachStatement, atom_numbers, element_layouts, HasNumbers}
+use Rattle.core_tree.specs.Statements.{given, operands}
 use Rattle.core_tree.specs.declared.program.Core.{Core}
 use Rattle.core_tree.specs.declared.program.Func.{Func}
 use Rattle.core_tree.specs.declared.program.Mem.{Mem}
 use Rattle.core_tree.specs.declared.program.Static.{Static}
 use Rattle.core_tree.specs.declared.statements.Atom.{Atom}
+use Rattle.core_tree.specs.declared.statements.Atom.TheVariants as atom
+use Rattle.core_tree.specs.declared.statements.Stm.{Stm}
 use Rattle.core_tree.specs.declared.statements.StmKind.{StmKind}
-use Rattle.core_tree.specs.declared.statements.StmKind.TheVariants.{Enter, Leave, Return, Jump, Zero, Loop, Case}
-use Rattle.core_tree.specs.Statements.{given}
-use Rattle.core_tree.specs.LayoutsOfTypes.{IsLayoutOfType}
-use Rattle.core_tree.specs.Sound.{IsNumber}
+use Rattle.core_tree.specs.declared.statements.StmKind.TheVariants.{Enter, Leave, Return, Jump, Zero, Loop, Case, Add, Sub, Off, Diff, Copy, Clear, Malloc, Calloc, Realloc}
 use Rattle.c_tree.specs.Forms as f
-use Rattle.c_tree.specs.Tree.{Tree, Trees, At, Node, none, ◌▹◌}
 use Rattle.c_tree.specs.Scopes.{name_of}
-use Rattle.c_decls.specs.declared.refusal.TypeKind.TheVariants.{Operands, Assignment, StrayBreak, CaseTwice, LeftOut, DeclaredTwice, ProgramTooLong, Undeclared, NoMain}
-use Rattle.c_decls.specs.declared.built_in.BuiltIn.{BuiltIn}
-use Rattle.c_decls.specs.Named as n
-use Rattle.c_decls.specs.ScopeList.{named_in}
+use Rattle.c_tree.specs.Tree.{Tree, Trees, At, Node, none, ◌▹◌}
 use Rattle.c_decls.specs.BuiltIns as names
 use Rattle.c_decls.specs.BuiltIns.{built_ins, numbered_from}
-use Rattle.c_decls.specs.Refusals.{Checked, refused, then, unless}
-use Rattle.c_decls.specs.IntegerTypes.{promoted}
-use Rattle.c_decls.specs.Typed.{Operand, Number, operand, is_void, is_scalar, is_function}
-use Rattle.c_decls.specs.TypeNames.{with_layers}
-use Rattle.c_decls.specs.PlaceRules.{unconverted}
 use Rattle.c_decls.specs.Expressions.{line_of}
-use Rattle.elaboration.specs.Context.{Here, Code, left, Context, Variable, Walked, scoped, entered, emit, here, new_label, with_labels, with_pieces, first_context, Declared}
-use Rattle.elaboration.specs.Conversions.{Found, atom_in, valued, convert, convert_integer, tested_value, code_line, unused}
-use Rattle.elaboration.specs.Reallocates.{opened, closed}
-use Rattle.elaboration.specs.Expressions.{found}
-use Rattle.elaboration.specs.Declarators.{specs, layers, constant}
-use Rattle.elaboration.specs.Declarations.{function_number, declared_function}
-use Rattle.elaboration.specs.Statements.{Around, around_body, below, in_loop, in_switch, in_delay, leaves, leave_to, evaluated, maybe_evaluated, condition, leaves_if_zero, maybe_leaves, apart, behind, return_of, return_from, has_case, case_of, cased, defaulted, switch_operand_of, switch_operand, no_cases, looped, for_start, statement, items, dispatch, does, cases_of}
-use Rattle.elaboration.specs.Externals.{begun, answer_of, params_of, is_defined, body_begun, last_answer, body_ended, body, defined, named_definition, definition, external, externals, calls_defined, is_main}
+use Rattle.c_decls.specs.IntegerTypes.{promoted}
+use Rattle.c_decls.specs.Named as n
+use Rattle.c_decls.specs.PlaceRules.{unconverted}
+use Rattle.c_decls.specs.Refusals.{Checked, refused, then, unless}
+use Rattle.c_decls.specs.ScopeList.{named_in}
+use Rattle.c_decls.specs.TypeNames.{with_layers}
+use Rattle.c_decls.specs.Typed.{Operand, Number, operand, is_void, is_scalar, is_function}
+use Rattle.c_decls.specs.declared.built_in.BuiltIn.{BuiltIn}
+use Rattle.c_decls.specs.declared.refusal.TypeKind.TheVariants.{Operands, Assignment, StrayBreak, CaseTwice, LeftOut, DeclaredTwice, ProgramTooLong, Undeclared, NoMain}
 use Rattle.elaboration.specs.Addressed.{addressed_in}
-use Rattle.elaboration.specs.Resolving.{function_of, variable_static, literal_static, core_of}
+use Rattle.elaboration.specs.Context.{Here, Code, left, Context, Variable, Walked, scoped, entered, emit, here, new_label, with_labels, with_pieces, first_context, Declared, Piece, Does}
+use Rattle.elaboration.specs.Conversions.{Found, atom_in, valued, convert, convert_integer, tested_value, code_line, unused}
+use Rattle.elaboration.specs.Declarations.{function_number, declared_function}
+use Rattle.elaboration.specs.Declarators.{specs, layers, constant}
 use Rattle.elaboration.specs.Elaboration.{walked, elaborated}
+use Rattle.elaboration.specs.Expressions.{found}
+use Rattle.elaboration.specs.Externals.{begun, answer_of, params_of, is_defined, body_begun, last_answer, body_ended, body, defined, named_definition, definition, external, externals, calls_defined, is_main}
+use Rattle.elaboration.specs.Reallocates.{opened, closed}
+use Rattle.elaboration.specs.Resolving.{function_of, variable_static, literal_static, core_of, Numbers, atom_by, numbered, body_of, numbers_of}
+use Rattle.elaboration.specs.Statements.{Around, around_body, below, in_loop, in_switch, in_delay, leaves, leave_to, evaluated, maybe_evaluated, condition, leaves_if_zero, maybe_leaves, apart, behind, return_of, return_from, has_case, case_of, cased, defaulted, switch_operand_of, switch_operand, no_cases, looped, for_start, statement, items, dispatch, does, cases_of}
+use Rattle.core_soundness.specs.Laws.{HasLayouts, HasRanges}
+use Rattle.core_soundness.specs.Ranges.{KindIn, AtomIn, AtomsIn, PiecesIn, IsStep}
+use Rattle.core_soundness.specs.Solid.{MemsLaid, VariablesLaid, WalkedLaid, Solid}
 use Rattle.core_soundness.specs.Whole.{Whole, TableWhole}
 use Rattle.core_soundness.specs.Written.{Written, AllWritten, AreWritten}
-use Rattle.core_soundness.specs.Laws.{HasLayouts}
-use Rattle.core_soundness.proofs.Working.{grows_tested, grows_convert_integer}
-use Rattle.core_soundness.proofs.Quiet.{quiet_convert_integer}
+use Rattle.core_soundness.proofs.CodeWalk.{quiet_convert_integer}
 use Rattle.core_soundness.proofs.Cores.{behind as core_behind, core_sizes}
-use Rattle.core_soundness.proofs.Reached.{Led, led_ok, led_refused, led_after, led_unless, led_barred}
-use Rattle.core_soundness.proofs.WholeTypes.{whole_stays, extends_refl, is_layout}
-use Rattle.core_soundness.proofs.TagSorts.{none_sorted, entered_sorted, left_sorted}
-use Rattle.core_soundness.proofs.TagKinds.{kinds_refl}
-use Rattle.core_soundness.proofs.TypedWhole.{left_whole, with_layers_whole}
-use Rattle.core_soundness.specs.Solid.{MemsLaid, VariablesLaid, WalkedLaid, Solid}
-use Rattle.core_soundness.proofs.Solid.{walked_push, K, same_kept, same_rises, wrapped_number}
-use Rattle.core_soundness.specs.Ranges.{KindIn, AtomIn, AtomsIn, PiecesIn}
-use Rattle.core_soundness.proofs.Ranges.{In, in_emit, in_here, pieces_joined, zero_number}
-use Rattle.core_soundness.proofs.Ranged.{spot_atom, convert_integer_in}
-use Rattle.core_soundness.proofs.RangedFound.{tested_value_in, tested_solid}
-use Rattle.core_soundness.proofs.Moving.{CasesIn, WalkedIn, same_cases, same_walked, Rises, rises_refl, rises_trans, closed_rises, Full, full_value, full_unused}
-use Rattle.core_soundness.proofs.SolidLayers.{constant_rises, entered_solid, specs_rise, layers_rise}
+use Rattle.core_soundness.proofs.Growth.{Led, led_ok, led_refused, led_after, led_unless, led_barred}
+use Rattle.core_soundness.proofs.Ranged.{walked_push, K, same_kept, same_widens, wrapped_number, In, in_emit, in_here, pieces_joined, zero_number, spot_atom, convert_integer_in}
+use Rattle.core_soundness.proofs.RangedFound.{tested_value_in, tested_solid, CasesIn, WalkedIn, same_cases, same_walked, Rises, rises_refl, rises_trans, closed_rises, Full, full_value, full_unused, with_code, rises_more, coded_rises}
 use Rattle.core_soundness.proofs.SolidFills.{declared_function_rises, declaration_rises, scalar_value}
+use Rattle.core_soundness.proofs.SolidLayers.{constant_rises, entered_solid, specs_rise, layers_rise}
+use Rattle.core_soundness.proofs.TagSorts.{none_sorted, entered_sorted, left_sorted, kinds_refl}
+use Rattle.core_soundness.proofs.TypedWhole.{left_whole, with_layers_whole}
+use Rattle.core_soundness.proofs.Walks.{grows_tested, grows_convert_integer}
+use Rattle.core_soundness.proofs.WholeTypes.{whole_stays, extends_refl, is_layout}
+use Rattle.core_soundness.proofs.Choices.{either_way}
+
+-- statements, functions and texts keep whole types (C99 6.8, 6.9)
 
 -- scopes, and parts one behind another
 
@@ -73,14 +75,11 @@ scoped_rises c {x} k =
     led_after (Rises c) x
     (λ d q. let r = k d q in
     led_ok (Rises c)
-    (record {
+    (with_code c _ (record {
       solid = record { made = r.solid.made; names = left_whole (K d) d.scopes r.solid.names; list = r.solid.list; memory = r.solid.memory; result = r.solid.result; statics = r.solid.statics; functions = r.solid.functions };
       more = r.more;
       kinds = record { made = r.kinds.made; sorts = λ ks. let k = r.kinds.sorts (record { names = entered_sorted c.tags.made c.scopes ks.names; list = ks.list; bodies = ks.bodies }) in record { names = left_sorted d.tags.made d.scopes k.names; list = k.list; bodies = k.bodies } };
-      code = r.code;
-      cases = r.cases;
-      walked = r.walked;
-    }))
+    }) r.code r.cases r.walked))
 
 on_led : (a b : Context) (x : Checked Context) → Rises a b → Led (Rises b) x → Led (Rises a) x
 on_led a b x r k z q = rises_trans a b z r (k z q)
@@ -90,7 +89,7 @@ then_rises c {x} h k = led_after (Rises c) x (λ d q. on_led c d _ (h d q) (k d 
 
 -- other code
 coded : (c : Context) (code : Code) → Solid c → (In c → In (record c { code = code })) → Rises c (record c { code = code })
-coded c code h k = record { solid = h; more = extends_refl (K c); kinds = kinds_refl c; code = k; cases = λ g. g; walked = λ g. g }
+coded c code h k = coded_rises c c code (rises_refl c h) k
 
 labels_rise : (n : ℕ) (c : Context) → Solid c → Rises c (with_labels n c)
 labels_rise n c h = coded c (with_labels n c).code h (λ g. g)
@@ -134,20 +133,10 @@ condition_rises : (e : Tree) (c : Context) → Solid c → Written e → Led (C1
 condition_rises e c h w =
     led_after (C1 c) (valued e (found e Void (opened e c)))
     (λ d q. let r = full_value e Void c d h w tt q in
-    let k = tested_solid e d r.rises.solid in
-    let z = closed_rises e (tested_value e d).0 k.solid in
+    let x = (tested_value e d).0 in
+    let y = rises_more c d.0 x r.rises (tested_solid e d r.rises.solid) (grows_tested (code_line e) d.1.typed.type (atom_in d.1) d.0) (λ g. (tested_value_in e d (r.fits g)).0) in
     led_unless (C1 c) (not (is_scalar d.1.typed.type)) Operands (line_of e)
-    (λ x. led_ok (C1 c) (
-      record {
-        solid = z.solid;
-        more = λ tag l y. z.more tag l (k.more tag l (r.rises.more tag l y));
-        kinds = record { made = λ i u e. z.kinds.made i u (k.kinds.made i u (r.rises.kinds.made i u e)); sorts = λ ks. z.kinds.sorts (k.kinds.sorts (r.rises.kinds.sorts ks)) };
-        code = λ g. z.code (tested_value_in e d (r.fits g)).0;
-        cases = λ g. z.cases (same_cases d.0 (tested_value e d).0 (grows_tested (code_line e) d.1.typed.type (atom_in d.1) d.0) (r.rises.cases g));
-        walked = λ g. z.walked (same_walked d.0 (tested_value e d).0 (grows_tested (code_line e) d.1.typed.type (atom_in d.1) d.0) (r.rises.walked g));
-      },
-      λ g. (tested_value_in e d (r.fits g)).1,
-    )))
+    (λ t. led_ok (C1 c) (rises_trans c x _ y (closed_rises e x y.solid), λ g. (tested_value_in e d (r.fits g)).1)))
 
 if_zero_rises : (line label : ℕ) (e : Tree) (c : Context) → Solid c → Written e → Led (Rises c) (leaves_if_zero line label e c)
 if_zero_rises line label e c h w =
@@ -165,20 +154,12 @@ return_of_rises line delays e type c h w t =
     led_after (Rises c) (valued e (found e type begin))
     (λ d q. let v = scalar_value e line type c d h w t q in
     let x = convert line begin.code type d.1.typed (atom_in d.1) d.0 in
-    let k = closed_rises e x.0 v.rises.solid in
+    let k = rises_trans c x.0 (closed e x.0) v.rises (closed_rises e x.0 v.rises.solid) in
     let f = leaves line delays (closed e x.0) in
-    let z = leaves_rise delays line (closed e x.0) k.solid in
+    let z = rises_trans c (closed e x.0) f k (leaves_rise delays line (closed e x.0) k.solid) in
     led_unless (Rises c) (is_void type) Assignment line
     (λ b. led_barred (Rises c) (unconverted type d.1.typed) line
-    (led_ok (Rises c)
-    (record {
-      solid = z.solid;
-      more = λ tag l y. z.more tag l (k.more tag l (v.rises.more tag l y));
-      kinds = record { made = λ i u e. z.kinds.made i u (k.kinds.made i u (v.rises.kinds.made i u e)); sorts = λ ks. z.kinds.sorts (k.kinds.sorts (v.rises.kinds.sorts ks)) };
-      code = λ g. in_emit line (Return (Some x.1)) f (z.code (k.code (v.rises.code g))) ((v.fits g, tt), tt);
-      cases = λ g. z.cases (k.cases (v.rises.cases g));
-      walked = λ g. z.walked (k.walked (v.rises.walked g));
-    }))))
+    (led_ok (Rises c) (coded_rises c f (emit line (Return (Some x.1)) f).code z (λ g. in_emit line (Return (Some x.1)) f (z.code g) ((v.fits g, tt), tt))))))
 
 return_rises : (line delays : ℕ) (es : Trees) (c : Context) → Solid c → AllWritten es → Led (Rises c) (return_from line delays es c)
 unfolding AllWritten
@@ -228,19 +209,10 @@ operand_of_rises : (line : ℕ) (e : Tree) (o : Operand) (c : Context) (d : Cont
 operand_of_rises line e (Number ty) c d r =
     let x = convert_integer line (promoted ty) ty (atom_in d.1) d.0 in
     let grown = grows_convert_integer line (promoted ty) ty (atom_in d.1) d.0 in
-    let a = same_rises d.0 x.0 (same_kept d.0 x.0 (quiet_convert_integer line (promoted ty) ty (atom_in d.1) d.0) grown.kept) r.rises.solid in
-    let z = closed_rises e x.0 a.solid in
-    led_ok (O1 c) (
-      record {
-        solid = z.solid;
-        more = λ tag l y. z.more tag l (a.more tag l (r.rises.more tag l y));
-        kinds = record { made = λ i u e. z.kinds.made i u (a.kinds.made i u (r.rises.kinds.made i u e)); sorts = λ ks. z.kinds.sorts (a.kinds.sorts (r.rises.kinds.sorts ks)) };
-        code = λ g. let f = r.fits g in z.code (convert_integer_in line (promoted ty) ty (atom_in d.1) d.0 f.0 (spot_atom d.1.spot f.1)).0;
-        cases = λ g. z.cases (same_cases d.0 x.0 grown (r.rises.cases g));
-        walked = λ g. z.walked (same_walked d.0 x.0 grown (r.rises.walked g));
-      },
-      λ g. let f = r.fits g in (convert_integer_in line (promoted ty) ty (atom_in d.1) d.0 f.0 (spot_atom d.1.spot f.1)).1,
-    )
+    let a = same_widens d.0 x.0 (same_kept d.0 x.0 (quiet_convert_integer line (promoted ty) ty (atom_in d.1) d.0) grown.kept) r.rises.solid in
+    let s = λ (g : In c). (let f = r.fits g in convert_integer_in line (promoted ty) ty (atom_in d.1) d.0 f.0 (spot_atom d.1.spot f.1)) in
+    let y = rises_more c d.0 x.0 r.rises a grown (λ g. (s g).0) in
+    led_ok (O1 c) (rises_trans c x.0 _ y (closed_rises e x.0 y.solid), λ g. (s g).1)
 operand_of_rises line e other c d r = led_refused (O1 c)
 
 operand_rises : (line : ℕ) (e : Tree) (c : Context) → Solid c → Written e → Led (O1 c) (switch_operand line e c)
@@ -326,15 +298,10 @@ mutual
       led_after (Rises d0) (scoped x (λ b. items parts (in_switch true end t.1.0 a) b))
       (λ g k. let near = scoped_rises x (items_rise parts (in_switch true end t.1.0 a) (entered x) (entered_solid x rx.solid) w.1.1.1.0.1.1.0.1) g k in
       let m = rises_trans d0 x g rx near in
-      led_ok (Rises d0)
-      (record {
-        solid = m.solid;
-        more = m.more;
-        kinds = m.kinds;
-        code = λ v. in_here end (cases_of t.0 (behind (t.0.code.pieces ++ dispatch line t.1.1 end g) g)) (pieces_joined (t.0.code.pieces ++ dispatch line t.1.1 end g) g.code.pieces (pieces_joined t.0.code.pieces (dispatch line t.1.1 end g) (r.0.code v) (dispatch_in line t.1.1 end g (r.1 v) (near.cases tt))) (m.code v));
-        cases = λ v. r.0.cases v;
-        walked = m.walked;
-      })))))
+      led_ok (Rises d0) (with_code d0 _ (record { solid = m.solid; more = m.more; kinds = m.kinds })
+      (λ v. in_here end (cases_of t.0 (behind (t.0.code.pieces ++ dispatch line t.1.1 end g) g))
+      (pieces_joined (t.0.code.pieces ++ dispatch line t.1.1 end g) g.code.pieces (pieces_joined t.0.code.pieces (dispatch line t.1.1 end g) (r.0.code v) (dispatch_in line t.1.1 end g (r.1 v) (near.cases tt))) (m.code v)))
+      r.0.cases m.walked)))))
   statement_rises (Node f.Switch (At line ▹ e ▹ s ▹ none)) a c h w =
       let d0 = entered (with_labels 1 c) in
       on_led c (with_labels 1 c) _ (labels_rise 1 c h)
@@ -365,28 +332,22 @@ mutual
 -- functions
 
 pub begun_rises : (line : ℕ) (addressed : List ℕ) (c : Context) → Solid c → Rises c (begun line addressed c)
-begun_rises line addressed c h = record {
+begun_rises line addressed c h = with_code c _ (record {
   solid = record { made = h.made; names = h.names; list = h.list; memory = tt; result = tt; statics = h.statics; functions = h.functions };
   more = extends_refl (K c);
   kinds = kinds_refl c;
-  code = λ g. tt;
-  cases = λ g. tt;
-  walked = λ g. g;
-}
+}) (λ g. tt) (λ g. tt) (λ g. g)
 
 answer_whole : (k : Known) (type : PlainType) → Whole k type → Whole k (answer_of type)
 answer_whole k (Function answer params) h = h.0
 answer_whole k other h = tt
 
 body_begun_rises : (index : ℕ) (type : PlainType) (c : Context) → Solid c → Whole (K c) type → Rises c (body_begun index type c)
-body_begun_rises index type c h w = record {
+body_begun_rises index type c h w = with_code c _ (record {
   solid = record { made = h.made; names = record { file = h.names.file; inner = (h.list, tt) }; list = λ name v e. cc; memory = h.memory; result = answer_whole (K c) type w; statics = h.statics; functions = h.functions };
   more = extends_refl (K c);
   kinds = record { made = λ i u e. e; sorts = λ ks. record { names = record { file = ks.names.file; inner = (ks.list, tt) }; list = none_sorted c.tags.made; bodies = ks.bodies } };
-  code = λ g. g;
-  cases = λ g. g;
-  walked = λ g. g;
-}
+}) (λ g. g) (λ g. g) (λ g. g)
 
 last_in : (type : PlainType) → AtomsIn (given (last_answer type))
 last_in Void = tt
@@ -408,14 +369,11 @@ body_ended_rises line name type end c h g =
       walked = d.walked ++ (record { name = name; params = params_of type; running = d.running; code = d.code }) ∷ [];
     } in
     led_unless (Rises c) (nat_lt 268435456 total) ProgramTooLong line
-    (λ x. led_ok (Rises c) (record {
+    (λ x. led_ok (Rises c) (with_code c z (record {
       solid = record { made = h.made; names = record { file = h.names.file; inner = tt }; list = h.list; memory = h.memory; result = h.result; statics = h.statics; functions = walked_push c.walked _ h.functions h.memory };
       more = extends_refl (K c);
       kinds = record { made = λ i u e. e; sorts = λ ks. record { names = record { file = ks.names.file; inner = tt }; list = ks.list; bodies = ks.bodies } };
-      code = λ k. done;
-      cases = λ k. k;
-      walked = λ k. walked_in c.walked (record { name = name; params = params_of type; running = d.running; code = d.code }) k done;
-    }))
+    }) (λ k. done) (λ k. k) (λ k. walked_in c.walked (record { name = name; params = params_of type; running = d.running; code = d.code }) k done)))
 
 body_rises : (line : ℕ) (name : List ℕ) (type : PlainType) (tree : Tree) (c : Context) → Solid c → In c → Written tree → Led (Rises c) (body line name type tree c)
 unfolding Written AllWritten
@@ -467,11 +425,10 @@ externals_rise (tree ▹ rest) c h w =
 
 numbered_whole : (k : Known) (j : ℕ) (bs : List BuiltIn) → TableWhole k (numbered_from j bs)
 numbered_whole k j [] name v e = cc
-numbered_whole k j (b ∷ bs) name v e = by (bytes_eq name (names.name_of b)) (numbered_whole k (j + 1) bs name v) e
-  where
-    by : (x : Bool) → (named_in name (numbered_from (j + 1) bs) ≡ Some v → Rattle.core_soundness.specs.Whole.NamedWhole k v) → cond x (Some (n.BuiltIn j)) (named_in name (numbered_from (j + 1) bs)) ≡ Some v → Rattle.core_soundness.specs.Whole.NamedWhole k v
-    by true again q = let same : n.BuiltIn j ≡ v = cc in subst (Rattle.core_soundness.specs.Whole.NamedWhole k) same tt
-    by false again q = again q
+numbered_whole k j (b ∷ bs) name v e =
+    either_way (λ y0. (named_in name (numbered_from (j + 1) bs) ≡ Some v → Rattle.core_soundness.specs.Whole.NamedWhole k v) → y0 ≡ Some v → Rattle.core_soundness.specs.Whole.NamedWhole k v) (bytes_eq name (names.name_of b))
+    (λ again q. let same : n.BuiltIn j ≡ v = cc in subst (Rattle.core_soundness.specs.Whole.NamedWhole k) same tt)
+    (λ again q. again q) (numbered_whole k (j + 1) bs name v) e
 
 pub first_solid : Solid first_context
 first_solid = record { made = tt; names = record { file = numbered_whole (K first_context) 0 built_ins; inner = tt }; list = λ name v e. cc; memory = tt; result = tt; statics = tt; functions = tt }
@@ -482,11 +439,7 @@ Ends c = Solid c × WalkedIn c.walked
 
 calls_same : (functions : List Declared) (calls : List (ℕ × ℕ)) (c : Context) → Ends c → Led Ends (calls_defined functions calls c)
 calls_same functions [] c h = led_ok Ends h
-calls_same functions (call ∷ calls) c h = by (is_defined (slice_get functions call.0)) (calls_same functions calls c h)
-  where
-    by : (x : Bool) → Led Ends (calls_defined functions calls c) → Led Ends (cond x (calls_defined functions calls c) (refused Undeclared call.1))
-    by true k = k
-    by false k = led_refused Ends
+calls_same functions (call ∷ calls) c h = either_way (λ y0. Led Ends (calls_defined functions calls c) → Led Ends y0) (is_defined (slice_get functions call.0)) (λ k. k) (λ k. led_refused Ends) (calls_same functions calls c h)
 
 walked_ends : (unit : Trees) (c : Context) → AreWritten unit → walked unit ≡ Ok c → Ends c
 walked_ends unit c w q =
@@ -507,11 +460,8 @@ walked_numbers unit c w q = (walked_ends unit c w q).1
 abbrev Laid : Static → Type 0
 Laid static = IsLayoutOfType static.layout
 
-none_laid : {X : Type 0} (P : X → Type 0) → All P []
-none_laid P j x q = absurd (omega (arith, q))
-
 mems_all : (ms : List Mem) → MemsLaid ms → All (λ (m : Mem). IsLayoutOfType m.layout) ms
-mems_all [] h = none_laid (λ (m : Mem). IsLayoutOfType m.layout)
+mems_all [] h = All-nil (λ (m : Mem). IsLayoutOfType m.layout)
 mems_all (m ∷ ms) h = All-cons (λ (x : Mem). IsLayoutOfType x.layout) m ms h.0 (mems_all ms h.1)
 
 statics_all : (c : Context) (vs : List Variable) (rest : List Static) → VariablesLaid vs → All Laid rest → All Laid (map (variable_static c) vs ++ rest)
@@ -526,7 +476,7 @@ abbrev bytes_in : List Static → ℕ
 bytes_in statics = sum_by (λ (static : Static). block_size static.layout.size) statics
 
 literals_all : (ls : List (List ℕ)) → bytes_in (map literal_static ls) ≤ 67108864 → All Laid (map literal_static ls)
-literals_all [] h = none_laid Laid
+literals_all [] h = All-nil Laid
 literals_all (l ∷ ls) h =
     let e = sum_by-cons (λ (static : Static). block_size static.layout.size) (literal_static l) (map literal_static ls) in
     let first : block_size (length l + 1) ≤ 67108864 = head (length l + 1) (bytes_in (map literal_static ls)) (bytes_in (map literal_static (l ∷ ls))) (one (length l)) e h in
@@ -559,3 +509,65 @@ core_layouts unit core tags w q =
       mems = λ k func e. each_mems b.context b.context.walked h.functions k func e;
       statics = statics_all b.context b.context.variables (map literal_static b.context.literals) h.statics (literals_all b.context.literals (literals_small b.context b.context.variables b.context.literals small));
     })
+
+-- the numbers of the statements of a core are in range
+
+one_all : {X : Type 0} (P : X → Type 0) (x : X) → P x → All P (x ∷ [])
+one_all P x h = All-cons P x [] h (All-nil P)
+
+numbers_all : (n : Numbers) (atoms : List Atom) (own : List ℤ) → AtomsIn atoms → All IsNumber own → All IsNumber (flat_map atom_numbers (map (atom_by n) atoms) ++ own)
+numbers_all n [] own h k = k
+numbers_all n (atom.Int v ∷ atoms) own h k = All-cons IsNumber v (flat_map atom_numbers (map (atom_by n) atoms) ++ own) h.0 (numbers_all n atoms own h.1 k)
+numbers_all n (atom.Reg r ∷ atoms) own h k = numbers_all n atoms own h.1 k
+numbers_all n (atom.Null ∷ atoms) own h k = numbers_all n atoms own h.1 k
+numbers_all n (atom.Static g ∷ atoms) own h k = numbers_all n atoms own h.1 k
+numbers_all n (atom.Mem m ∷ atoms) own h k = numbers_all n atoms own h.1 k
+
+kind_numbers : (n : Numbers) (kind : StmKind) → KindIn kind → HasNumbers (numbered n kind)
+unfolding numbered
+kind_numbers n (Add r p a s) h = record { numbers = numbers_all n (p ∷ a ∷ []) [] h.0 (All-nil IsNumber); sizes = one_all IsStep s h.1 }
+kind_numbers n (Sub r p a s) h = record { numbers = numbers_all n (p ∷ a ∷ []) [] h.0 (All-nil IsNumber); sizes = one_all IsStep s h.1 }
+kind_numbers n (Diff r p q s) h = record { numbers = numbers_all n (p ∷ q ∷ []) [] h.0 (All-nil IsNumber); sizes = one_all IsStep s h.1 }
+kind_numbers n (Off r p v) h = record { numbers = numbers_all n (p ∷ []) (v ∷ []) h.0 (one_all IsNumber v h.1); sizes = All-nil IsStep }
+kind_numbers n (Copy p q v) h = record { numbers = numbers_all n (p ∷ q ∷ []) (v ∷ []) h.0 (one_all IsNumber v h.1); sizes = All-nil IsStep }
+kind_numbers n (Clear p v) h = record { numbers = numbers_all n (p ∷ []) (v ∷ []) h.0 (one_all IsNumber v h.1); sizes = All-nil IsStep }
+kind_numbers n (Case a v l) h = record { numbers = numbers_all n (a ∷ []) (v ∷ []) h.0 (one_all IsNumber v h.1); sizes = All-nil IsStep }
+kind_numbers n (Malloc r k t) h = record { numbers = numbers_all n (k ∷ []) [] h.0 (All-nil IsNumber); sizes = one_all IsStep (pos t.size) h.1.0 }
+kind_numbers n (Calloc r m k t) h = record { numbers = numbers_all n (m ∷ k ∷ []) [] h.0 (All-nil IsNumber); sizes = one_all IsStep (pos t.size) h.1.0 }
+kind_numbers n (Realloc r p k t) h = record { numbers = numbers_all n (p ∷ k ∷ []) [] h.0 (All-nil IsNumber); sizes = one_all IsStep (pos t.size) h.1.0 }
+kind_numbers n (Return None) h = record { numbers = All-nil IsNumber; sizes = All-nil IsStep }
+kind_numbers n (Return (Some a)) h = record { numbers = numbers_all n (a ∷ []) [] h.0 (All-nil IsNumber); sizes = All-nil IsStep }
+kind_numbers n kind h = record { numbers = numbers_all n (operands kind) [] h.0 (All-nil IsNumber); sizes = All-nil IsStep }
+
+kind_elements : (n : Numbers) (kind : StmKind) → KindIn kind → All IsLayoutOfType (element_layouts (numbered n kind))
+unfolding numbered
+kind_elements n (Malloc r k t) h = one_all IsLayoutOfType t h.1.1
+kind_elements n (Calloc r m k t) h = one_all IsLayoutOfType t h.1.1
+kind_elements n (Realloc r p k t) h = one_all IsLayoutOfType t h.1.1
+kind_elements n kind h = All-nil IsLayoutOfType
+
+-- the kind of each statement of a body
+kind_at : (P : StmKind → Type 0) (n : Numbers) → ((kind : StmKind) → KindIn kind → P (numbered n kind)) → (pieces : List Piece) → PiecesIn pieces → EachStatement (body_of n pieces) (λ point stm. P stm.kind)
+kind_at P n f [] h point stm e = cc
+kind_at P n f (Here l ∷ pieces) h point stm e = kind_at P n f pieces h point stm e
+kind_at P n f (Does s ∷ pieces) h zero stm e = subst (λ (y : Stm). P y.kind) (first e) (f s.kind h.0)
+  where
+    first : Some (record { line = s.line; kind = numbered n s.kind }) ≡ Some stm → record { line = s.line; kind = numbered n s.kind } ≡ stm
+    first q = cc
+kind_at P n f (Does s ∷ pieces) h (suc point) stm e = kind_at P n f pieces h.1 point stm e
+
+function_ranges : (c : Context) (x : Walked) → PiecesIn x.code.pieces → HasRanges (function_of c x)
+function_ranges c x h = record {
+  numbers = kind_at HasNumbers (numbers_of c x) (kind_numbers (numbers_of c x)) x.code.pieces h;
+  elements = kind_at (λ kind. All IsLayoutOfType (element_layouts kind)) (numbers_of c x) (kind_elements (numbers_of c x)) x.code.pieces h;
+}
+
+each_ranges : (c : Context) (xs : List Walked) → WalkedIn xs → (i : ℕ) (func : Func) → slice_get (map (function_of c) xs) i ≡ Some func → HasRanges func
+each_ranges c [] h i func e = cc
+each_ranges c (x ∷ xs) h zero func e = let same : function_of c x ≡ func = cc in subst HasRanges same (function_ranges c x h.0)
+each_ranges c (x ∷ xs) h (suc i) func e = each_ranges c xs h.1 i func e
+
+pub core_ranges : (unit : Trees) (core : Core) (tags : TagTable) → AreWritten unit → elaborated unit ≡ Ok (core, tags) → EachFunc core HasRanges
+core_ranges unit core tags w q =
+    let b = core_behind unit core tags q in
+    subst (λ (x : Core). EachFunc x HasRanges) b.made (λ i func e. each_ranges b.context b.context.walked (walked_numbers unit b.context w b.is) i func e)

@@ -1,24 +1,284 @@
--- The sorts of what conversions and operators give.
-use Rattle.std.proofs.Common.{◌≡◌, ◌≤◌, ℕ, Bool, true, false, cond, Ok, refl, sym, subst}
-use Rattle.c_types.specs.declared.types.IntType.{IntType}
+-- The sorts of operands and results.
+use Rattle.std.proofs.Common.{◌≡◌, ◌≤◌, ℕ, List, [], ◌∷◌, ◌++◌, slice_get, Option, Some, None, option_map, refl, sym, ap, ◌∙◌, subst, arith, ◌<◌, ◌+◌, max, Bool, true, false, cond, Ok, pos, ◌⊎◌, inl, inr}
+use Rattle.c_types.specs.TagTable.{TagTable}
 use Rattle.c_types.specs.Types as types
 use Rattle.c_types.specs.Types.{PlainType, kind_of}
-use Rattle.c_types.specs.TagTable.{TagTable}
+use Rattle.c_types.specs.declared.types.IntType.{IntType}
+use Rattle.core_tree.specs.Sorts.{Sort, Integer, Pointer, sort_of}
+use Rattle.core_tree.specs.declared.program.Reg.{Reg as Register}
 use Rattle.core_tree.specs.declared.statements.Atom.{Atom}
 use Rattle.core_tree.specs.declared.statements.Atom.TheVariants as atom
-use Rattle.core_tree.specs.declared.statements.StmKind.TheVariants.{Set, Conv, Load, Loadp, Store, Storep, Test}
-use Rattle.core_tree.specs.Sorts.{Sort, Integer, Pointer}
+use Rattle.core_tree.specs.declared.statements.CmpOp.{CmpOp}
+use Rattle.core_tree.specs.declared.statements.CmpOp.TheVariants as cmp
+use Rattle.core_tree.specs.declared.statements.StmKind.{StmKind}
+use Rattle.core_tree.specs.declared.statements.StmKind.TheVariants.{Set, Conv, Un, Bin, Cmp, Add, Sub, Off, Diff, Pcmp, Test, Load, Loadp, Store, Storep, Copy, Clear, Zero, Case, Call, Malloc, Calloc, Realloc, Free, Lib, Printf, Return}
+use Rattle.core_tree.specs.declared.statements.UnOp.TheVariants as un
 use Rattle.c_tree.specs.Tree.{Tree}
-use Rattle.c_decls.specs.Refusals.{Refusal}
+use Rattle.c_tree.specs.declared.operator.BinaryOp.{BinaryOp}
+use Rattle.c_tree.specs.declared.operator.BinaryOp.TheVariants as bin
+use Rattle.c_tree.specs.declared.operator.UnaryOp.{UnaryOp}
+use Rattle.c_tree.specs.declared.operator.UnaryOp.TheVariants as u
 use Rattle.c_decls.specs.Expressions.{line_of}
-use Rattle.c_decls.specs.Typed.{PlainTyped, Operand, Number, PointerTo, Neither, operand, held, read, is_scalar, has_no_size}
-use Rattle.elaboration.specs.Context.{Context, With, integer_by, pointer_by}
-use Rattle.elaboration.specs.Conversions.{Found, Spot, Local, Memory, Value, Empty, read_spot, read_value, code_line, valued_from, atom_in, holds_all, convert_integer, convert_to, convert, tested, tested_value, write, unused}
-use Rattle.core_soundness.specs.Worlds.{World, world, Holds, HeldAs, Held, StandsAs, Stands}
-use Rattle.core_soundness.proofs.Grown.{good, bad, ok_same, never}
+use Rattle.c_decls.specs.IntegerTypes.{promoted, common_type}
+use Rattle.c_decls.specs.Named as n
+use Rattle.c_decls.specs.Refusals.{Refusal, Checked, refused, unless}
+use Rattle.c_decls.specs.ScopeList.{named_in}
+use Rattle.c_decls.specs.TypeNames as names
+use Rattle.c_decls.specs.TypeRules.{result_type, barred, moving, immovable, beside_pointer, sum_types, difference_types, order_types, equal_types, integer_types, binary}
+use Rattle.c_decls.specs.Typed.{PlainTyped, Operand, Number, PointerTo, Neither, operand, held, read, is_scalar, has_no_size, value, int, is_null_constant}
+use Rattle.c_decls.specs.declared.refusal.TypeKind.{TypeKind}
+use Rattle.c_decls.specs.declared.refusal.TypeKind.TheVariants.{PointerAndInteger}
+use Rattle.elaboration.specs.Context.{Piece, Does, Here, Context, told, emit, here, with_labels, integer_by, pointer_by, integer_temporary, pointer_temporary, With}
+use Rattle.elaboration.specs.Conversions.{Found, Spot, Local, Memory, Value, Empty, read_spot, read_value, code_line, valued_from, atom_in, holds_all, convert_integer, convert_to, convert, tested, tested_value, write, unused, size_or_zero}
+use Rattle.elaboration.specs.Operations.{working, Working, Calculates, Shifts, Compares, Branches, convert_both, work, on_integers, before_integer, move_pointer, between_pointers, pointer_beside, beside_integer, combine, change, changed_to, member_address}
+use Rattle.elaboration.specs.Rules.{tells_equal}
+use Rattle.core_soundness.specs.Worlds.{World, IsRegister, is_local, is_integer, is_pointer_temporary, IsObject, is_variable, is_literal, Holds, HoldAll, local_sort, Receives, IsPrinted, Fits, FitsAnswer, FitsIn, PiecesFit, world, HeldAs, Held, StandsAs, Stands}
 use Rattle.core_soundness.proofs.Agreeing.{came}
-use Rattle.core_soundness.proofs.Growing.{Grew, register_grew, holds_grew}
-use Rattle.core_soundness.proofs.Going.{Goes, goes_refl, goes_trans, goes_emit, goes_forgotten, Gives, gives_integer, gives_pointer}
+use Rattle.core_soundness.proofs.Growth.{good, bad, ok_same, never, behind_test}
+use Rattle.core_soundness.proofs.Scopes.{More, more_refl, more_trans, more_keeps}
+use Rattle.core_soundness.proofs.Choices.{either_way}
+
+-- operands and statements that fit go on to fit while a text is walked
+
+-- what is there stays there
+pub record Grew (w v : World) : Type 0 where
+  pub locals : (k : ℕ) (reg : Register) → slice_get w.locals k ≡ Some reg → slice_get v.locals k ≡ Some reg
+  pub mems : w.mems ≤ v.mems
+  pub integers : w.integers ≤ v.integers
+  pub pointers : w.pointers ≤ v.pointers
+  pub variables : w.variables ≤ v.variables
+  pub literals : w.literals ≤ v.literals
+  pub formats : (k : ℕ) (format : List ℕ) → slice_get w.formats k ≡ Some format → slice_get v.formats k ≡ Some format
+  pub calls : (k : ℕ) (x : ℕ × ℕ) → slice_get w.calls k ≡ Some x → slice_get v.calls k ≡ Some x
+  pub file : (name : List ℕ) (type : PlainType) (i : ℕ) → named_in name w.file ≡ Some (n.Function type i) → named_in name v.file ≡ Some (n.Function type i)
+
+pub grew_refl : (w : World) → Grew w w
+grew_refl w = record { locals = λ k r e. e; mems = omega arith; integers = omega arith; pointers = omega arith; variables = omega arith; literals = omega arith; formats = λ k f e. e; calls = λ k x e. e; file = λ name t i e. e }
+
+pub grew_trans : (u v w : World) → Grew u v → Grew v w → Grew u w
+grew_trans u v w x y = record {
+  locals = λ k r e. y.locals k r (x.locals k r e);
+  mems = omega (arith, x.mems, y.mems);
+  integers = omega (arith, x.integers, y.integers);
+  pointers = omega (arith, x.pointers, y.pointers);
+  variables = omega (arith, x.variables, y.variables);
+  literals = omega (arith, x.literals, y.literals);
+  formats = λ k f e. y.formats k f (x.formats k f e);
+  calls = λ k v e. y.calls k v (x.calls k v e);
+  file = λ name t i e. y.file name t i (x.file name t i e);
+}
+
+local_grew : (w v : World) (k : ℕ) (sort : Sort) (o : Option Register) → slice_get w.locals k ≡ o → ((reg : Register) → o ≡ Some reg → slice_get v.locals k ≡ Some reg) → option_map sort_of o ≡ Some sort → local_sort v k ≡ Some sort
+local_grew w v k sort None e h q = cc
+local_grew w v k sort (Some reg) e h q = ap (λ (x : Option Register). option_map sort_of x) (h reg refl) ∙ q
+
+pub register_grew : (w v : World) (sort : Sort) (r : ℕ) → Grew w v → IsRegister w sort r → IsRegister v sort r
+register_grew w v sort r g (is_local k e h) = is_local k e (local_grew w v k sort (slice_get w.locals k) refl (λ reg q. g.locals k reg q) h)
+register_grew w v sort r g (is_integer k e h s) = is_integer k e (omega (arith, h, g.integers)) s
+register_grew w v sort r g (is_pointer_temporary k e h s) = is_pointer_temporary k e (omega (arith, h, g.pointers)) s
+
+pub object_grew : (w v : World) (i : ℕ) → Grew w v → IsObject w i → IsObject v i
+object_grew w v i g (is_variable k e h) = is_variable k e (omega (arith, h, g.variables))
+object_grew w v i g (is_literal k e h) = is_literal k e (omega (arith, h, g.literals))
+
+pub holds_grew : (w v : World) (sort : Sort) (a : Atom) → Grew w v → Holds w sort a → Holds v sort a
+holds_grew w v sort (atom.Reg r) g h = register_grew w v sort r g h
+holds_grew w v sort (atom.Static i) g h = (h.0, object_grew w v i g h.1)
+holds_grew w v sort (atom.Mem m) g h = (h.0, omega (arith, h.1, g.mems))
+holds_grew w v sort other g h = h
+
+pub all_grew : (w v : World) (sorts : List Sort) (atoms : List Atom) → Grew w v → HoldAll w sorts atoms → HoldAll v sorts atoms
+all_grew w v [] [] g h = tt
+all_grew w v [] (a ∷ atoms) g h = absurd h
+all_grew w v (sort ∷ sorts) [] g h = absurd h
+all_grew w v (sort ∷ sorts) (a ∷ atoms) g h = (holds_grew w v sort a g h.0, all_grew w v sorts atoms g h.1)
+
+pub receives_grew : (w v : World) (result : Option Sort) (r : Option ℕ) → Grew w v → Receives w result r → Receives v result r
+receives_grew w v None None g h = tt
+receives_grew w v (Some sort) None g h = tt
+receives_grew w v None (Some r) g h = absurd h
+receives_grew w v (Some sort) (Some r) g h = register_grew w v sort r g h
+
+printed_grew : (w v : World) (args : List Atom) (k : ℕ) (o : Option (List ℕ)) → slice_get w.formats k ≡ o → Grew w v → IsPrinted w args o → IsPrinted v args (slice_get v.formats k)
+printed_grew w v args k None e g h = absurd h
+printed_grew w v args k (Some format) e g h =
+    subst (IsPrinted v args) (sym (g.formats k format e)) (h.0, all_grew w v _ args g h.1)
+
+pub fits_grew : (w v : World) (kind : StmKind) → Grew w v → Fits w kind → Fits v kind
+fits_grew w v (Set r a) g h = (h.0, register_grew w v h.0 r g h.1, holds_grew w v h.0 a g h.2)
+fits_grew w v (Call f r args) g h = record {
+  name = h.name;
+  answer = h.answer;
+  params = h.params;
+  there = g.file h.name (types.Function h.answer h.params) f h.there;
+  called = (h.called.0, h.called.1, g.calls h.called.0 (f, h.called.1) h.called.2);
+  takes = all_grew w v _ args g h.takes;
+  gives = receives_grew w v _ r g h.gives;
+}
+fits_grew w v (Printf r k args) g h = (register_grew w v Integer r g h.0, printed_grew w v args k (slice_get w.formats k) refl g h.1)
+fits_grew w v (Return a) g h = absurd h
+fits_grew w v kind g h = search (register_grew, holds_grew, all_grew, receives_grew)
+
+pub answer_grew : (w v : World) (answer : Option Sort) (a : Option Atom) → Grew w v → FitsAnswer w answer a → FitsAnswer v answer a
+answer_grew w v None None g h = tt
+answer_grew w v None (Some a) g h = absurd h
+answer_grew w v (Some sort) None g h = absurd h
+answer_grew w v (Some sort) (Some a) g h = holds_grew w v sort a g h
+
+fits_in_grew : (answer : Option Sort) (w v : World) (kind : StmKind) → Grew w v → FitsIn answer w kind → FitsIn answer v kind
+fits_in_grew answer w v (Return a) g h = answer_grew w v answer a g h
+fits_in_grew answer w v kind g h = fits_grew w v kind g h
+
+-- a statement that fits is no return
+pub fits_any : (answer : Option Sort) (w : World) (kind : StmKind) → Fits w kind → FitsIn answer w kind
+fits_any answer w (Return a) h = absurd h
+fits_any answer w kind h = h
+
+pub pieces_grew : (answer : Option Sort) (w v : World) (pieces : List Piece) → Grew w v → PiecesFit answer w pieces → PiecesFit answer v pieces
+pieces_grew answer w v [] g h = tt
+pieces_grew answer w v (Does stm ∷ pieces) g h = ((h.0.0, fits_in_grew answer w v stm.kind g h.0.1), pieces_grew answer w v pieces g h.1)
+pieces_grew answer w v (Here label ∷ pieces) g h = (tt, pieces_grew answer w v pieces g h.1)
+
+pub pieces_joined : (answer : Option Sort) (w : World) (one other : List Piece) → PiecesFit answer w one → PiecesFit answer w other → PiecesFit answer w (one ++ other)
+pieces_joined answer w [] other x y = y
+pieces_joined answer w (piece ∷ one) other x y = (x.0, pieces_joined answer w one other x.1 y)
+
+-- what elaborating an expression does to what fits: its statements fit, and what fitted before it fits behind it
+
+-- the code fits, whatever the function answers
+abbrev pub CodeFits : Option Sort → Context → Type 0
+CodeFits answer c = PiecesFit answer (world c) c.code.pieces
+
+-- what no expression changes
+pub record Keeps (c d : Context) : Type 0 where
+  pub line : d.running.line ≡ c.running.line
+  pub answer : d.running.answer ≡ c.running.answer
+  pub addressed : d.running.addressed ≡ c.running.addressed
+  pub declared : d.running.declared ≡ c.running.declared
+  pub params : d.params ≡ c.params
+  pub walked : d.walked ≡ c.walked
+
+pub keeps_refl : (c : Context) → Keeps c c
+keeps_refl c = record { line = refl; answer = refl; addressed = refl; declared = refl; params = refl; walked = refl }
+
+pub keeps_trans : (a b c : Context) → Keeps a b → Keeps b c → Keeps a c
+keeps_trans a b c x y = record { line = y.line ∙ x.line; answer = y.answer ∙ x.answer; addressed = y.addressed ∙ x.addressed; declared = y.declared ∙ x.declared; params = y.params ∙ x.params; walked = y.walked ∙ x.walked }
+
+pub record Goes (c d : Context) : Type 0 where
+  pub grew : Grew (world c) (world d)
+  pub more : More c.scopes d.scopes
+  pub kept : Keeps c d
+  pub fits : (answer : Option Sort) → CodeFits answer c → CodeFits answer d
+
+pub goes_refl : (c : Context) → Goes c c
+goes_refl c = record { grew = grew_refl (world c); more = more_refl c.scopes; kept = keeps_refl c; fits = λ answer h. h }
+
+pub goes_trans : (a b c : Context) → Goes a b → Goes b c → Goes a c
+goes_trans a b c x y = record {
+  grew = grew_trans (world a) (world b) (world c) x.grew y.grew;
+  more = more_trans a.scopes b.scopes c.scopes x.more y.more;
+  kept = keeps_trans a b c x.kept y.kept;
+  fits = λ answer h. y.fits answer (x.fits answer h);
+}
+
+-- a statement that fits
+pub goes_emit : (line : ℕ) (kind : StmKind) (c : Context) → 1 ≤ line → Fits (world c) kind → Goes c (emit line kind c)
+goes_emit line kind c l h = record {
+  grew = grew_refl (world c);
+  more = more_refl c.scopes;
+  kept = record { line = refl; answer = refl; addressed = refl; declared = refl; params = refl; walked = refl };
+  fits = λ answer k. pieces_joined answer (world c) c.code.pieces (Does (record { line = line; kind = kind }) ∷ []) k ((l, fits_any answer (world c) kind h), tt);
+}
+
+pub goes_here : (label : ℕ) (c : Context) → Goes c (here label c)
+goes_here label c = record {
+  grew = grew_refl (world c);
+  more = more_refl c.scopes;
+  kept = record { line = refl; answer = refl; addressed = refl; declared = refl; params = refl; walked = refl };
+  fits = λ answer k. pieces_joined answer (world c) c.code.pieces (Here label ∷ []) k (tt, tt);
+}
+
+pub goes_labels : (k : ℕ) (c : Context) → Goes c (with_labels k c)
+goes_labels k c = record { grew = grew_refl (world c); more = more_refl c.scopes; kept = record { line = refl; answer = refl; addressed = refl; declared = refl; params = refl; walked = refl }; fits = λ answer h. h }
+
+-- a temporary more
+max_left : (a b : ℕ) → a ≤ max a b
+max_left a b = omega arith
+
+max_right : (a b : ℕ) → a < max b (a + 1)
+max_right a b = omega arith
+
+pub with_integer_grew : (line : ℕ) (kind : ℕ → StmKind) (c : Context) → Grew (world c) (world (integer_by line kind c).0)
+with_integer_grew line kind c =
+    record { locals = λ k r e. e; mems = omega arith; integers = max_left c.code.most_integers (c.code.integers + 1); pointers = omega arith; variables = omega arith; literals = omega arith; formats = λ k f e. e; calls = λ j y e. e; file = λ name t i e. e }
+
+pub with_pointer_grew : (line : ℕ) (kind : ℕ → StmKind) (c : Context) → Grew (world c) (world (pointer_by line kind c).0)
+with_pointer_grew line kind c =
+    record { locals = λ k r e. e; mems = omega arith; integers = omega arith; pointers = max_left c.code.most_pointers (c.code.pointers + 1); variables = omega arith; literals = omega arith; formats = λ k f e. e; calls = λ j y e. e; file = λ name t i e. e }
+
+pub integer_there : (line : ℕ) (kind : ℕ → StmKind) (c : Context) → IsRegister (world (integer_by line kind c).0) Integer (integer_temporary c.code.integers)
+integer_there line kind c = is_integer c.code.integers refl (max_right c.code.integers c.code.most_integers) refl
+
+pub pointer_there : (line : ℕ) (kind : ℕ → StmKind) (c : Context) → IsRegister (world (pointer_by line kind c).0) Pointer (pointer_temporary c.code.pointers)
+pointer_there line kind c = is_pointer_temporary c.code.pointers refl (max_right c.code.pointers c.code.most_pointers) refl
+
+-- where a context goes with an operand of a sort
+pub record Gives (c : Context) (sort : Sort) (d : Context × Atom) : Type 0 where
+  pub goes : Goes c d.0
+  pub holds : Holds (world d.0) sort d.1
+
+pub gives_on : (b c : Context) (sort : Sort) (d : Context × Atom) → Goes b c → Gives c sort d → Gives b sort d
+gives_on b c sort d g h = record { goes = goes_trans b c d.0 g h.goes; holds = h.holds }
+
+-- a statement that writes a new temporary, and fits where this and all before are there
+pub gives_integer : (line : ℕ) (kind : ℕ → StmKind) (c : Context) → 1 ≤ line → ((v : World) (r : ℕ) → Grew (world c) v → IsRegister v Integer r → Fits v (kind r)) → Gives c Integer (integer_by line kind c)
+gives_integer line kind c l h =
+    let d = (integer_by line kind c).0 in
+    let grew = with_integer_grew line kind c in
+    let there = integer_there line kind c in
+    record {
+      goes = record {
+        grew = grew;
+        more = more_refl c.scopes;
+        kept = record { line = refl; answer = refl; addressed = refl; declared = refl; params = refl; walked = refl };
+        fits = λ answer k. pieces_joined answer (world d) c.code.pieces _ (pieces_grew answer (world c) (world d) c.code.pieces grew k)
+            ((l, fits_any answer (world d) (kind (integer_temporary c.code.integers)) (h (world d) (integer_temporary c.code.integers) grew there)), tt);
+      };
+      holds = there;
+    }
+
+pub gives_pointer : (line : ℕ) (kind : ℕ → StmKind) (c : Context) → 1 ≤ line → ((v : World) (r : ℕ) → Grew (world c) v → IsRegister v Pointer r → Fits v (kind r)) → Gives c Pointer (pointer_by line kind c)
+gives_pointer line kind c l h =
+    let d = (pointer_by line kind c).0 in
+    let grew = with_pointer_grew line kind c in
+    let there = pointer_there line kind c in
+    record {
+      goes = record {
+        grew = grew;
+        more = more_refl c.scopes;
+        kept = record { line = refl; answer = refl; addressed = refl; declared = refl; params = refl; walked = refl };
+        fits = λ answer k. pieces_joined answer (world d) c.code.pieces _ (pieces_grew answer (world c) (world d) c.code.pieces grew k)
+            ((l, fits_any answer (world d) (kind (pointer_temporary c.code.pointers)) (h (world d) (pointer_temporary c.code.pointers) grew there)), tt);
+      };
+      holds = there;
+    }
+
+-- other scopes and tags
+pub goes_told : (n : names.Context) (c : Context) → More c.scopes n.scopes → Goes c (told n c)
+goes_told n c m = record {
+  grew = record { locals = λ k r e. e; mems = omega arith; integers = omega arith; pointers = omega arith; variables = omega arith; literals = omega arith; formats = λ k f e. e; calls = λ j y e. e; file = λ name t i e. (more_keeps c.scopes n.scopes m).kept name _ e };
+  more = m;
+  kept = record { line = refl; answer = refl; addressed = refl; declared = refl; params = refl; walked = refl };
+  fits = λ answer h. pieces_grew answer (world c) (world (told n c)) c.code.pieces (record { locals = λ k r e. e; mems = omega arith; integers = omega arith; pointers = omega arith; variables = omega arith; literals = omega arith; formats = λ k f e. e; calls = λ j y e. e; file = λ name t i e. (more_keeps c.scopes n.scopes m).kept name _ e }) h;
+}
+
+-- code that is forgotten again
+pub goes_forgotten : (b c : Context) → Goes b c → Goes b (record c { code = b.code })
+goes_forgotten b c g =
+    let grew : Grew (world b) (world (record c { code = b.code })) = record { locals = g.grew.locals; mems = g.grew.mems; integers = omega arith; pointers = omega arith; variables = g.grew.variables; literals = g.grew.literals; formats = g.grew.formats; calls = g.grew.calls; file = g.grew.file } in
+    record { grew = grew; more = g.more; kept = record { line = g.kept.line; answer = g.kept.answer; addressed = g.kept.addressed; declared = g.kept.declared; params = g.kept.params; walked = g.kept.walked }; fits = λ answer h. pieces_grew answer (world b) (world (record c { code = b.code })) b.code.pieces grew h }
+
+-- the sorts of what conversions and operators give
 
 pub held_as_grew : (w v : World) (o : Operand) (a : Atom) → Grew w v → HeldAs w o a → HeldAs v o a
 held_as_grew w v (Number ty) a g h = holds_grew w v Integer a g h
@@ -223,3 +483,223 @@ write_goes line (types.Pointer target) (Memory p) a c l s h = goes_emit line (St
 write_goes line other (Local r) a c l s h = let clash : false ≡ true = s.0 in cc
 write_goes line other (Memory p) a c l s h = goes_refl c
 write_goes line type other a c l s h = absurd s
+
+-- the sorts of what operators give (C99 6.5)
+
+-- what a check that was passed says
+
+pub passed : {A : Type 0} (test : Bool) (kind : TypeKind) (line : ℕ) (x y : A) → unless test kind line (Ok x) ≡ Ok y → x ≡ y
+passed true kind line x y e = never (x ≡ y) _ y e
+passed false kind line x y e = ok_same x y e
+
+pub kept_test : {A : Type 0} (test : Bool) (kind : TypeKind) (line : ℕ) (r : Checked A) (y : A) → unless test kind line r ≡ Ok y → test ≡ false
+kept_test true kind line r y e = never (true ≡ false) _ y e
+kept_test false kind line r y e = refl
+
+pub unbarred : {A : Type 0} (o : Option TypeKind) (line : ℕ) (r : Checked A) (y : A) → barred o line r ≡ Ok y → (o ≡ None) × (r ≡ Ok y)
+unbarred None line r y e = (refl, e)
+unbarred (Some kind) line r y e = never _ _ y e
+
+pub moved_is : (line : ℕ) (tags : TagTable) (target : PlainType) (x y : PlainTyped) → moving line tags target x ≡ Ok y → x ≡ y
+moved_is line tags target x y e = ok_same x y (unbarred (immovable tags target) line (good x) y e).1
+
+pub beside_is : (line : ℕ) (e : PlainTyped) (r : Checked PlainTyped) (y : PlainTyped) → beside_pointer line e r ≡ Ok y → r ≡ Ok y
+beside_is line e r y h = either_way (λ x. x ≡ Ok y → r ≡ Ok y) (is_null_constant e) (λ q. q) (λ q. never (r ≡ Ok y) _ y q) h
+
+-- what an operator makes: a value with its operand in hand
+pub record Makes (c : Context) (typed : PlainTyped) (d : Context × Atom) : Type 0 where
+  pub value : typed.is_place ≡ false
+  pub goes : Goes c d.0
+  pub held : Held (world d.0) typed.type d.1
+
+pub makes_integer : (c : Context) (typed : PlainTyped) (ty : IntType) (d : Context × Atom) → typed.is_place ≡ false → typed.type ≡ types.Int ty → Gives c Integer d → Makes c typed d
+makes_integer c typed ty d p e g = record { value = p; goes = g.goes; held = subst (λ (t : PlainType). Held (world d.0) t d.1) (sym e) g.holds }
+
+pub makes_pointer : (c : Context) (type target : PlainType) (typed : PlainTyped) (d : Context × Atom) → operand type ≡ PointerTo target → value type ≡ typed → Gives c Pointer d → Makes c typed d
+makes_pointer c type target typed d o e g =
+    subst (λ (t : PlainTyped). Makes c t d) e (record { value = refl; goes = g.goes; held = subst (λ (q : Operand). HeldAs (world d.0) q d.1) (sym o) g.holds })
+
+-- integers
+
+both_converted : (line : ℕ) (to_left s : IntType) (x : Atom) (to_right t : IntType) (y : Atom) (c : Context) → 1 ≤ line → Holds (world c) Integer x → Holds (world c) Integer y
+    → Goes c (convert_both line to_left s x to_right t y c).0 × Holds (world (convert_both line to_left s x to_right t y c).0) Integer (convert_both line to_left s x to_right t y c).1 × Holds (world (convert_both line to_left s x to_right t y c).0) Integer (convert_both line to_left s x to_right t y c).2
+both_converted line to_left s x to_right t y c l h k =
+    let d = convert_integer line to_left s x c in
+    let one = integer_converted line to_left s x c l h in
+    let two = integer_converted line to_right t y d.0 l (holds_grew (world c) (world d.0) Integer y one.goes.grew k) in
+    (goes_trans c d.0 _ one.goes two.goes, holds_grew (world d.0) _ Integer d.1 two.goes.grew one.holds, two.holds)
+
+pub work_gives : (line : ℕ) (how : Working) (s : IntType) (x : Atom) (t : IntType) (y : Atom) (c : Context) → 1 ≤ line → Holds (world c) Integer x → Holds (world c) Integer y → Gives c Integer (work line how s x t y c)
+work_gives line (Calculates op) s x t y c l h k =
+    let ty = common_type s t in
+    let d = convert_both line ty s x ty t y c in
+    let f = both_converted line ty s x ty t y c l h k in
+    gives_on c d.0 Integer _ f.0 (gives_integer line (λ r. Bin op (kind_of ty) r d.1 d.2) d.0 l (λ v r g i. (i, holds_grew (world d.0) v Integer d.1 g f.1, holds_grew (world d.0) v Integer d.2 g f.2)))
+work_gives line (Shifts op) s x t y c l h k =
+    let d = convert_both line (promoted s) s x (promoted t) t y c in
+    let f = both_converted line (promoted s) s x (promoted t) t y c l h k in
+    gives_on c d.0 Integer _ f.0 (gives_integer line (λ r. Bin op (kind_of (promoted s)) r d.1 d.2) d.0 l (λ v r g i. (i, holds_grew (world d.0) v Integer d.1 g f.1, holds_grew (world d.0) v Integer d.2 g f.2)))
+work_gives line (Compares op) s x t y c l h k =
+    let ty = common_type s t in
+    let d = convert_both line ty s x ty t y c in
+    let f = both_converted line ty s x ty t y c l h k in
+    gives_on c d.0 Integer _ f.0 (gives_integer line (λ r. Cmp op r d.1 d.2) d.0 l (λ v r g i. (i, holds_grew (world d.0) v Integer d.1 g f.1, holds_grew (world d.0) v Integer d.2 g f.2)))
+work_gives line Branches s x t y c l h k = gives_here c Integer x h
+
+pub before_gives : (line : ℕ) (op : UnaryOp) (ty : IntType) (x : Atom) (c : Context) → 1 ≤ line → Holds (world c) Integer x → Gives c Integer (before_integer line op ty x c)
+unfolding before_integer
+before_gives line u.Minus ty x c l h =
+    let d = convert_integer line (promoted ty) ty x c in
+    let f = integer_converted line (promoted ty) ty x c l h in
+    gives_on c d.0 Integer _ f.goes (gives_integer line (λ r. Un un.Neg (kind_of (promoted ty)) r d.1) d.0 l (λ v r g i. (i, holds_grew (world d.0) v Integer d.1 g f.holds)))
+before_gives line u.Complement ty x c l h =
+    let d = convert_integer line (promoted ty) ty x c in
+    let f = integer_converted line (promoted ty) ty x c l h in
+    gives_on c d.0 Integer _ f.goes (gives_integer line (λ r. Un un.Not (kind_of (promoted ty)) r d.1) d.0 l (λ v r g i. (i, holds_grew (world d.0) v Integer d.1 g f.holds)))
+before_gives line op ty x c l h = integer_converted line (promoted ty) ty x c l h
+
+-- pointers
+
+pub move_gives : (line : ℕ) (op : BinaryOp) (target : PlainType) (p k : Atom) (c : Context) → 1 ≤ line → Holds (world c) Pointer p → Holds (world c) Integer k → Gives c Pointer (move_pointer line op target p k c)
+unfolding move_pointer
+move_gives line bin.Subtract target p k c l h q = gives_pointer line (λ r. Sub r p k (pos (size_or_zero c target))) c l (λ v r g i. (i, holds_grew (world c) v Pointer p g h, holds_grew (world c) v Integer k g q))
+move_gives line op target p k c l h q = gives_pointer line (λ r. Add r p k (pos (size_or_zero c target))) c l (λ v r g i. (i, holds_grew (world c) v Pointer p g h, holds_grew (world c) v Integer k g q))
+
+pub between_gives : (line : ℕ) (how : Working) (target : PlainType) (p q : Atom) (c : Context) → 1 ≤ line → Holds (world c) Pointer p → Holds (world c) Pointer q → Gives c Integer (between_pointers line how target p q c)
+between_gives line (Compares op) target p q c l h k = gives_integer line (λ r. Pcmp op r p q) c l (λ v r g i. (i, holds_grew (world c) v Pointer p g h, holds_grew (world c) v Pointer q g k))
+between_gives line other target p q c l h k = gives_integer line (λ r. Diff r p q (pos (size_or_zero c target))) c l (λ v r g i. (i, holds_grew (world c) v Pointer p g h, holds_grew (world c) v Pointer q g k))
+
+pub member_gives : (line offset : ℕ) (p : Atom) (c : Context) → 1 ≤ line → Holds (world c) Pointer p → Gives c Pointer (member_address line offset p c)
+member_gives line offset p c l h = gives_pointer line (λ r. Off r p (pos offset)) c l (λ v r g i. (i, holds_grew (world c) v Pointer p g h))
+
+abbrev pub IsPointed : Operand → Type 0
+IsPointed (PointerTo target) = Unit {0}
+IsPointed (Number ty) = ⊥
+IsPointed Neither = ⊥
+
+-- a left operand in hand, or a null pointer constant beside a pointer, of which only null is in hand
+abbrev pub Left : Context → Operand → Operand → Atom → Type 0
+Left b s t p = HeldAs (world b) s p ⊎ (IsPointed t × (p ≡ atom.Null))
+
+-- an operator between two values; `&&` and `||` are not among them
+abbrev pub IsBetween : BinaryOp → Type 0
+IsBetween bin.And = ⊥
+IsBetween bin.Or = ⊥
+IsBetween op = Unit {0}
+
+abbrev pub LeftOf : Context → BinaryOp → Operand → Operand → Atom → Type 0
+LeftOf b op s t p = HeldAs (world b) s p ⊎ ((tells_equal op ≡ true) × IsPointed t × (p ≡ atom.Null))
+
+-- an operator between a value in front of which b stands, and one behind which c stands: p and q are they
+module _ (line : ℕ) (l : 1 ≤ line) (b c : Context) (g : Goes b c) where
+  numbers : (op : BinaryOp) (s t : IntType) (p q : Atom) → Holds (world b) Integer p → Holds (world c) Integer q → Gives b Integer (on_integers line op s p t q c)
+  numbers op s t p q h k = gives_on b c Integer _ g (work_gives line (working op) s p t q c l (holds_grew (world b) (world c) Integer p g.grew h) k)
+
+  moves_first : (op : BinaryOp) (target : PlainType) (p q : Atom) → Holds (world b) Pointer p → Holds (world c) Integer q → Gives b Pointer (move_pointer line op target p q c)
+  moves_first op target p q h k = gives_on b c Pointer _ g (move_gives line op target p q c l (holds_grew (world b) (world c) Pointer p g.grew h) k)
+
+  moves_last : (op : BinaryOp) (target : PlainType) (p q : Atom) → Holds (world b) Integer p → Holds (world c) Pointer q → Gives b Pointer (move_pointer line op target q p c)
+  moves_last op target p q h k = gives_on b c Pointer _ g (move_gives line op target q p c l k (holds_grew (world b) (world c) Integer p g.grew h))
+
+  pointers : (how : Working) (target : PlainType) (p q : Atom) → Holds (world b) Pointer p → Holds (world c) Pointer q → Gives b Integer (between_pointers line how target p q c)
+  pointers how target p q h k = gives_on b c Integer _ g (between_gives line how target p q c l (holds_grew (world b) (world c) Pointer p g.grew h) k)
+
+  number_made : (ty : IntType) (typed made : PlainTyped) (d : Context × Atom) → made.type ≡ types.Int ty → made.is_place ≡ false → made ≡ typed → Gives b Integer d → Makes b typed d
+  number_made ty typed made d o p e k = subst (λ (x : PlainTyped). Makes b x d) e (makes_integer b made ty d p o k)
+
+  pub sum_makes : (tags : TagTable) (x y typed : PlainTyped) (s t : Operand) (p q : Atom) → operand x.type ≡ s → operand y.type ≡ t → sum_types line tags x y s t ≡ Ok typed → HeldAs (world b) s p → HeldAs (world c) t q → Makes b typed (combine line bin.Add b.code s t p q c)
+  unfolding working
+  sum_makes tags x y typed (Number s) (Number t) p q o m e h k = number_made (result_type bin.Add s t) typed _ _ refl refl (ok_same _ typed e) (numbers bin.Add s t p q h k)
+  sum_makes tags x y typed (PointerTo target) (Number t) p q o m e h k = makes_pointer b x.type target typed _ o (moved_is line tags target (value x.type) typed e) (moves_first bin.Add target p q h k)
+  sum_makes tags x y typed (Number s) (PointerTo target) p q o m e h k = makes_pointer b y.type target typed _ m (moved_is line tags target (value y.type) typed e) (moves_last bin.Add target p q h k)
+  sum_makes tags x y typed rest other p q o m e h k = never _ _ typed e
+
+  pub difference_makes : (tags : TagTable) (x y typed : PlainTyped) (s t : Operand) (p q : Atom) → operand x.type ≡ s → operand y.type ≡ t → difference_types line tags x y s t ≡ Ok typed → HeldAs (world b) s p → HeldAs (world c) t q → Makes b typed (combine line bin.Subtract b.code s t p q c)
+  unfolding working
+  difference_makes tags x y typed (Number s) (Number t) p q o m e h k = number_made (result_type bin.Subtract s t) typed _ _ refl refl (ok_same _ typed e) (numbers bin.Subtract s t p q h k)
+  difference_makes tags x y typed (PointerTo target) (Number t) p q o m e h k = makes_pointer b x.type target typed _ o (moved_is line tags target (value x.type) typed e) (moves_first bin.Subtract target p q h k)
+  difference_makes tags x y typed (PointerTo target) (PointerTo other) p q o m e h k =
+      number_made _ typed int _ refl refl (moved_is line tags target int typed (behind_test _ _ line _ typed e)) (pointers (working bin.Subtract) target p q h k)
+  difference_makes tags x y typed rest other p q o m e h k = never _ _ typed e
+
+  pub order_makes : (op : BinaryOp) (x y typed : PlainTyped) (s t : Operand) (p q : Atom) → order_types op line x y s t ≡ Ok typed → HeldAs (world b) s p → HeldAs (world c) t q → Makes b typed (combine line op b.code s t p q c)
+  order_makes op x y typed (Number s) (Number t) p q e h k = number_made (result_type op s t) typed _ _ refl refl (ok_same _ typed e) (numbers op s t p q h k)
+  order_makes op x y typed (PointerTo target) (PointerTo other) p q e h k = number_made _ typed int _ refl refl (passed _ _ line int typed e) (pointers (working op) target p q h k)
+  order_makes op x y typed (PointerTo target) (Number t) p q e h k = never _ _ typed (beside_is line y _ typed e)
+  order_makes op x y typed (Number s) (PointerTo other) p q e h k = never _ _ typed (beside_is line x _ typed e)
+  order_makes op x y typed other rest p q e h k = never _ _ typed e
+
+  pub integer_makes : (op : BinaryOp) (x y typed : PlainTyped) (s t : Operand) (p q : Atom) → integer_types op line x y s t ≡ Ok typed → HeldAs (world b) s p → HeldAs (world c) t q → Makes b typed (combine line op b.code s t p q c)
+  integer_makes op x y typed (Number s) (Number t) p q e h k = number_made (result_type op s t) typed _ _ refl refl (ok_same _ typed e) (numbers op s t p q h k)
+  integer_makes op x y typed other t p q e h k = never _ _ typed e
+
+  -- comparisons of pointers with null pointer constants
+  first_compared : (op : BinaryOp) (how : Working) (test : CmpOp) (target : PlainType) (p q : Atom) → how ≡ Compares test → Holds (world b) Pointer p → Gives b Integer (pointer_beside line op how b.code target p q c)
+  first_compared op how test target p q w h =
+      let gf = goes_forgotten b c g in
+      let fc : Context = record c { code = b.code } in
+      subst (λ (x : Working). Gives b Integer (pointer_beside line op x b.code target p q c)) (sym w)
+      (gives_on b fc Integer _ gf (gives_integer line (λ r. Pcmp test r p atom.Null) fc l (λ v r gv i. (i, holds_grew (world fc) v Pointer p gv (holds_grew (world b) (world fc) Pointer p gf.grew h), refl))))
+
+  last_compared : (op : BinaryOp) (how : Working) (test : CmpOp) (target : PlainType) (p q : Atom) → how ≡ Compares test → Holds (world c) Pointer q → Gives b Integer (beside_integer line op how target p q c)
+  last_compared op how test target p q w h =
+      subst (λ (x : Working). Gives b Integer (beside_integer line op x target p q c)) (sym w)
+      (gives_on b c Integer _ g (gives_integer line (λ r. Pcmp test r atom.Null q) c l (λ v r gv i. (i, refl, holds_grew (world c) v Pointer q gv h))))
+
+  left_number : (s : IntType) (t : Operand) (p : Atom) → (IsPointed t → ⊥) → Left b (Number s) t p → Holds (world b) Integer p
+  left_number s t p n (inl h) = h
+  left_number s t p n (inr h) = absurd (n h.0)
+
+  left_pointer : (target : PlainType) (t : Operand) (p : Atom) → Left b (PointerTo target) t p → Holds (world b) Pointer p
+  left_pointer target t p (inl h) = h
+  left_pointer target t p (inr h) = subst (Holds (world b) Pointer) (sym h.1) refl
+
+  pub equal_makes : (op : BinaryOp) (test : CmpOp) (x y typed : PlainTyped) (s t : Operand) (p q : Atom) → working op ≡ Compares test → equal_types op line x y s t ≡ Ok typed → Left b s t p → HeldAs (world c) t q → Makes b typed (combine line op b.code s t p q c)
+  equal_makes op test x y typed (Number s) (Number t) p q w e h k = number_made (result_type op s t) typed _ _ refl refl (ok_same _ typed e) (numbers op s t p q (left_number s (Number t) p (λ n. n) h) k)
+  equal_makes op test x y typed (PointerTo target) (PointerTo other) p q w e h k = number_made _ typed int _ refl refl (passed _ _ line int typed e) (pointers (working op) target p q (left_pointer target (PointerTo other) p h) k)
+  equal_makes op test x y typed (PointerTo target) (Number t) p q w e h k = number_made _ typed int _ refl refl (ok_same int typed (beside_is line y (good int) typed e)) (first_compared op (working op) test target p q w (left_pointer target (Number t) p h))
+  equal_makes op test x y typed (Number s) (PointerTo other) p q w e h k = number_made _ typed int _ refl refl (ok_same int typed (beside_is line x (good int) typed e)) (last_compared op (working op) test other p q w k)
+  equal_makes op test x y typed other rest p q w e h k = never _ _ typed e
+
+  left_held : (op : BinaryOp) (s t : Operand) (p : Atom) → tells_equal op ≡ false → LeftOf b op s t p → HeldAs (world b) s p
+  left_held op s t p n (inl h) = h
+  left_held op s t p n (inr h) = let clash : false ≡ true = sym n ∙ h.0 in cc
+
+  left_of : (op : BinaryOp) (s t : Operand) (p : Atom) → LeftOf b op s t p → Left b s t p
+  left_of op s t p (inl h) = inl h
+  left_of op s t p (inr h) = inr (h.1, h.2)
+
+  pub binary_makes : (op : BinaryOp) (tags : TagTable) (x y typed : PlainTyped) (p q : Atom) → IsBetween op → binary line op tags x y ≡ Ok typed → LeftOf b op (operand x.type) (operand y.type) p → Held (world c) y.type q → Makes b typed (combine line op b.code (operand x.type) (operand y.type) p q c)
+  unfolding working
+  binary_makes bin.Add tags x y typed p q i e h k = sum_makes tags x y typed (operand x.type) (operand y.type) p q refl refl e (left_held bin.Add _ _ p refl h) k
+  binary_makes bin.Subtract tags x y typed p q i e h k = difference_makes tags x y typed (operand x.type) (operand y.type) p q refl refl e (left_held bin.Subtract _ _ p refl h) k
+  binary_makes bin.Less tags x y typed p q i e h k = order_makes bin.Less x y typed (operand x.type) (operand y.type) p q e (left_held bin.Less _ _ p refl h) k
+  binary_makes bin.Greater tags x y typed p q i e h k = order_makes bin.Greater x y typed (operand x.type) (operand y.type) p q e (left_held bin.Greater _ _ p refl h) k
+  binary_makes bin.LessEqual tags x y typed p q i e h k = order_makes bin.LessEqual x y typed (operand x.type) (operand y.type) p q e (left_held bin.LessEqual _ _ p refl h) k
+  binary_makes bin.GreaterEqual tags x y typed p q i e h k = order_makes bin.GreaterEqual x y typed (operand x.type) (operand y.type) p q e (left_held bin.GreaterEqual _ _ p refl h) k
+  binary_makes bin.Equal tags x y typed p q i e h k = equal_makes bin.Equal cmp.Eq x y typed (operand x.type) (operand y.type) p q refl e (left_of bin.Equal _ _ p h) k
+  binary_makes bin.NotEqual tags x y typed p q i e h k = equal_makes bin.NotEqual cmp.Ne x y typed (operand x.type) (operand y.type) p q refl e (left_of bin.NotEqual _ _ p h) k
+  binary_makes bin.BitOr tags x y typed p q i e h k = integer_makes bin.BitOr x y typed (operand x.type) (operand y.type) p q e (left_held bin.BitOr _ _ p refl h) k
+  binary_makes bin.BitXor tags x y typed p q i e h k = integer_makes bin.BitXor x y typed (operand x.type) (operand y.type) p q e (left_held bin.BitXor _ _ p refl h) k
+  binary_makes bin.BitAnd tags x y typed p q i e h k = integer_makes bin.BitAnd x y typed (operand x.type) (operand y.type) p q e (left_held bin.BitAnd _ _ p refl h) k
+  binary_makes bin.ShiftLeft tags x y typed p q i e h k = integer_makes bin.ShiftLeft x y typed (operand x.type) (operand y.type) p q e (left_held bin.ShiftLeft _ _ p refl h) k
+  binary_makes bin.ShiftRight tags x y typed p q i e h k = integer_makes bin.ShiftRight x y typed (operand x.type) (operand y.type) p q e (left_held bin.ShiftRight _ _ p refl h) k
+  binary_makes bin.Multiply tags x y typed p q i e h k = integer_makes bin.Multiply x y typed (operand x.type) (operand y.type) p q e (left_held bin.Multiply _ _ p refl h) k
+  binary_makes bin.Divide tags x y typed p q i e h k = integer_makes bin.Divide x y typed (operand x.type) (operand y.type) p q e (left_held bin.Divide _ _ p refl h) k
+  binary_makes bin.Remainder tags x y typed p q i e h k = integer_makes bin.Remainder x y typed (operand x.type) (operand y.type) p q e (left_held bin.Remainder _ _ p refl h) k
+  binary_makes other tags x y typed p q i e h k = absurd i
+
+-- an operator with `=`
+
+change_brings : (line : ℕ) (op : BinaryOp) (s t : Operand) (old y : Atom) (c : Context) → 1 ≤ line → HeldAs (world c) s old → HeldAs (world c) t y → Goes c (change line op s t old y c).0 × HeldAs (world (change line op s t old y c).0) s (change line op s t old y c).1
+change_brings line op (Number s) (Number t) old y c l h k =
+    let d = on_integers line op s old t y c in
+    let one = work_gives line (working op) s old t y c l h k in
+    let two = integer_converted line s (result_type op s t) d.1 d.0 l one.holds in
+    (goes_trans c d.0 _ one.goes two.goes, two.holds)
+change_brings line op (PointerTo target) (Number t) old y c l h k = let g = move_gives line op target old y c l h k in (g.goes, g.holds)
+change_brings line op Neither t old y c l h k = (goes_refl c, tt)
+change_brings line op other rest old y c l h k = (goes_refl c, h)
+
+pub changed_brings : (line : ℕ) (op : BinaryOp) (type : PlainType) (old : Atom) (e : PlainTyped) (y : Atom) (c : Context) → 1 ≤ line → Held (world c) type old → Held (world c) e.type y → Brings c type (changed_to line op type old e y c)
+changed_brings line op type old e y c l h k = let r = change_brings line op (operand type) (operand e.type) old y c l h k in record { goes = r.0; held = r.1 }

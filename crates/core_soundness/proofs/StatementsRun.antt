@@ -1,51 +1,43 @@
 -- What statements do to what fits (C99 6.8).
 use Rattle.std.proofs.Common.{◌≡◌, ◌≤◌, ◌+◌, ◌-◌, ℕ, ℤ, zero, suc, true, false, not, is_some, map, length, List, [], ◌∷◌, ◌++◌, Option, Some, None, Ok, refl, sym, ap, ◌∙◌, subst, arith}
-use Rattle.c_types.specs.declared.types.IntType.{IntType}
+use Rattle.hs_base.specs.Numbers.{wrapped}
 use Rattle.c_types.specs.Types as types
 use Rattle.c_types.specs.Types.{PlainType, Void, kind_of}
+use Rattle.c_types.specs.declared.types.IntType.{IntType}
+use Rattle.core_tree.specs.Sorts.{Sort, Integer}
 use Rattle.core_tree.specs.declared.statements.Atom.{Atom}
 use Rattle.core_tree.specs.declared.statements.StmKind.TheVariants.{Jump, Zero, Case, Loop, Enter, Leave, Return}
-use Rattle.core_tree.specs.Sorts.{Sort, Integer}
 use Rattle.c_tree.specs.Forms as f
 use Rattle.c_tree.specs.Tree.{Tree, Trees, At, Node, none, ◌▹◌}
-use Rattle.c_decls.specs.declared.refusal.TypeKind.TheVariants.{LeftOut, Operands, Assignment, CaseTwice, StrayBreak}
-use Rattle.hs_base.specs.Numbers.{wrapped}
-use Rattle.c_decls.specs.ScopeList.{tail}
 use Rattle.c_decls.specs.Expressions.{line_of}
-use Rattle.c_decls.specs.Refusals.{Checked, then, unless}
 use Rattle.c_decls.specs.IntegerTypes.{promoted}
-use Rattle.c_decls.specs.Typed.{Operand, Number, PointerTo, Neither, operand, is_void, is_scalar}
 use Rattle.c_decls.specs.PlaceRules.{unconverted, converts}
+use Rattle.c_decls.specs.Refusals.{Checked, then, unless}
+use Rattle.c_decls.specs.ScopeList.{tail}
+use Rattle.c_decls.specs.Typed.{Operand, Number, PointerTo, Neither, operand, is_void, is_scalar}
+use Rattle.c_decls.specs.declared.refusal.TypeKind.TheVariants.{LeftOut, Operands, Assignment, CaseTwice, StrayBreak}
+use Rattle.elaboration.specs.Addressed.{Taken, left_scope, taken}
 use Rattle.elaboration.specs.Context.{Here, Context, entered, left, scoped, emit, here, new_label, with_labels, with_pieces}
 use Rattle.elaboration.specs.Conversions.{Found, atom_in, valued, convert, convert_integer, tested_value, unused}
-use Rattle.elaboration.specs.Reallocates.{opened, closed}
-use Rattle.elaboration.specs.Expressions.{found}
-use Rattle.elaboration.specs.Addressed.{Taken, left_scope, taken}
-use Rattle.elaboration.specs.Declarators.{constant}
 use Rattle.elaboration.specs.Declarations.{declaration}
+use Rattle.elaboration.specs.Declarators.{constant}
+use Rattle.elaboration.specs.Expressions.{found}
+use Rattle.elaboration.specs.Reallocates.{opened, closed}
 use Rattle.elaboration.specs.Statements.{Around, below, in_loop, in_switch, in_delay, has_case, leaves, leave_to, evaluated, maybe_evaluated, closed_atom, condition, leaves_if_zero, maybe_leaves, apart, returned, return_value, return_of, return_from, with_case, cased, defaulted, does, dispatch, switch_operand_of, switch_operand, no_cases, switched, looped, for_start, statement, items}
-use Rattle.core_soundness.specs.Worlds.{World, world, Holds, HeldAs, Held, FitsAnswer, PiecesFit, NamesFit, result_sort}
 use Rattle.core_soundness.specs.Spoken.{Spoken, AllSpoken}
-use Rattle.core_soundness.proofs.Grown.{good, bad, ok_same, never}
-use Rattle.core_soundness.proofs.Names.{all_refl, all_trans}
+use Rattle.core_soundness.specs.Worlds.{World, world, Holds, HeldAs, Held, FitsAnswer, PiecesFit, NamesFit, result_sort}
 use Rattle.core_soundness.proofs.Agreeing.{came}
-use Rattle.core_soundness.proofs.Reached.{Led, led_ok, led_after}
-use Rattle.core_soundness.proofs.Growing.{Grew, grew_refl, grew_trans, holds_grew, pieces_grew, pieces_joined}
-use Rattle.core_soundness.proofs.Going.{Goes, goes_refl, goes_trans, goes_emit, goes_here, goes_labels}
-use Rattle.core_soundness.proofs.Sorting.{converted, integer_converted, tested_value_gives}
-use Rattle.core_soundness.proofs.Operating.{passed, kept_test, behind_test, unbarred}
+use Rattle.core_soundness.proofs.Calls.{converting_of}
+use Rattle.core_soundness.proofs.DeclaredSteps.{declaration_spoken, declaration_in_step}
+use Rattle.core_soundness.proofs.Growth.{good, bad, ok_same, never, Led, led_ok, led_after, behind_test}
+use Rattle.core_soundness.proofs.Keeping.{keeps_step, evaluated_in_step, leaves_in_step, operand_in_step, maybe_evaluated_in_step, maybe_leaves_in_step, constant_in_step, return_from_in_step, evaluated_spoken, leaves_spoken, operand_spoken, maybe_evaluated_spoken, maybe_leaves_spoken, return_from_spoken}
 use Rattle.core_soundness.proofs.Landing.{not_false}
-use Rattle.core_soundness.proofs.Assigning.{converting_of}
-use Rattle.core_soundness.proofs.Running.{Fine, Runs, runs_refl, runs_trans, goes_runs, on_runs, entered_fine, runs_left, closed_goes, Evaluates, evaluates, evaluated_goes, evaluates_unused}
 use Rattle.core_soundness.proofs.LayersRun.{constant_runs}
 use Rattle.core_soundness.proofs.LocalsRun.{local_declaration_runs}
-use Rattle.core_soundness.proofs.Adding.{Has, Inside}
-use Rattle.core_soundness.proofs.InStep.{InStep, Keeps}
-use Rattle.core_soundness.proofs.Keeping.{keeps_step, evaluated_in_step, leaves_in_step, operand_in_step, maybe_evaluated_in_step, maybe_leaves_in_step, constant_in_step, return_from_in_step}
-use Rattle.core_soundness.proofs.Leaving.{step_left}
-use Rattle.core_soundness.proofs.Good.{Good, ItemsGood, behind_items, as_before, expr_taken, block_taken, delay_taken, if_taken, else_taken, while_taken, do_taken, for_taken, switch_taken, case_taken, default_taken, break_taken, continue_taken, return_taken, start_taken, names_taken, items_taken, none_taken, empty_taken, line_good, expr_good, block_good, delay_good, if_good, else_good, while_good, do_good, for_good, switch_good, case_good, default_good, return_good, start_good, names_good, items_good}
-use Rattle.core_soundness.proofs.SpokenSteps.{evaluated_spoken, leaves_spoken, operand_spoken, maybe_evaluated_spoken, maybe_leaves_spoken, return_from_spoken}
-use Rattle.core_soundness.proofs.DeclaredSteps.{declaration_spoken, declaration_in_step}
+use Rattle.core_soundness.proofs.Scopes.{all_refl, all_trans}
+use Rattle.core_soundness.proofs.Sitting.{Fine, Runs, runs_refl, runs_trans, goes_runs, on_runs, entered_fine, runs_left, closed_goes, Evaluates, evaluates, evaluated_goes, evaluates_unused}
+use Rattle.core_soundness.proofs.Sorting.{Grew, grew_refl, grew_trans, holds_grew, pieces_grew, pieces_joined, Goes, goes_refl, goes_trans, goes_emit, goes_here, goes_labels, converted, integer_converted, tested_value_gives, passed, kept_test, unbarred}
+use Rattle.core_soundness.proofs.Taking.{Has, Inside, InStep, Keeps, step_left, Good, ItemsGood, behind_items, as_before, expr_taken, block_taken, delay_taken, if_taken, else_taken, while_taken, do_taken, for_taken, switch_taken, case_taken, default_taken, break_taken, continue_taken, return_taken, start_taken, names_taken, items_taken, none_taken, empty_taken, line_good, expr_good, block_good, delay_good, if_good, else_good, while_good, do_good, for_good, switch_good, case_good, default_good, return_good, start_good, names_good, items_good}
 
 -- expressions
 

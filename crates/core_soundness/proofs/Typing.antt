@@ -1,38 +1,363 @@
--- The functions of a core are typed.
-use Rattle.std.proofs.Common.{◌≡◌, ◌≤◌, ◌<◌, ℕ, zero, suc, Bool, true, false, cond, is_some, not, codes, map, length, replicate, take, List, [], ◌∷◌, ◌++◌, slice_get, unwrap_or, Option, Some, None, option_map, Ok, refl, sym, ap, ◌∙◌, subst, arith, length-append}
+-- The functions of a text are typed.
+use Rattle.std.proofs.Common.{◌≡◌, ◌≤◌, ◌+◌, ◌&&◌, ◌||◌, ℕ, suc, Bool, true, false, not, cond, nat_lt, reverse, is_some, map, length, List, [], ◌∷◌, ◌++◌, slice_get, Option, Some, None, IsSome, Ok, refl, sym, ap, ◌∙◌, subst, inl, inr, ⊎_elim, arith, bytes_eq, ◌<◌, zero, codes, replicate, take, unwrap_or, option_map, length-append}
 use Rattle.std.proofs.lemmas.List.{length-map}
-use Rattle.c_types.specs.Types as types
-use Rattle.c_types.specs.Types.{PlainType, PlainTypes, Function}
+use Rattle.std.proofs.lemmas.Slice.Eq.{bytes_eq-Decides}
+use Rattle.std.proofs.lemmas.Bool.{and_parts}
+use Rattle.std.specs.List.{sum_by}
+use Rattle.std.specs.Option.{option_or, ForSome}
 use Rattle.c_types.specs.TagTable.{TagTable}
+use Rattle.c_types.specs.Types as types
+use Rattle.c_types.specs.Types.{PlainType, PlainTypes, Void, Int, Function, none}
+use Rattle.c_types.specs.declared.types.IntType.TheVariants as i
+use Rattle.core_tree.specs.Sorts.{Sort, sort_of, register_sort, GivesResult, TakesCall, HasRegister}
+use Rattle.core_tree.specs.Sound.{EachFunc, EachReturn, answer_sort, GivesAnswer, is_main as is_main_function, first_main, main_of, IsMain}
 use Rattle.core_tree.specs.declared.program.Core.{Core}
 use Rattle.core_tree.specs.declared.program.Func.{Func}
 use Rattle.core_tree.specs.declared.program.Reg.{Reg as Register}
 use Rattle.core_tree.specs.declared.statements.Atom.{Atom}
 use Rattle.core_tree.specs.declared.statements.Stm.{Stm}
 use Rattle.core_tree.specs.declared.statements.StmKind.{StmKind}
-use Rattle.core_tree.specs.declared.statements.StmKind.TheVariants.{Call}
-use Rattle.core_tree.specs.Sorts.{Sort, sort_of, register_sort, GivesResult, TakesCall, HasRegister}
-use Rattle.core_tree.specs.Sound.{EachFunc, EachReturn, answer_sort, GivesAnswer}
-use Rattle.c_tree.specs.Tree.{Trees}
+use Rattle.core_tree.specs.declared.statements.StmKind.TheVariants.{Return, Call}
+use Rattle.c_tree.specs.Forms as f
+use Rattle.c_tree.specs.Scopes.{name_of, params_of}
+use Rattle.c_tree.specs.Tree as t
+use Rattle.c_tree.specs.Tree.{Tree, Trees, At, Node, ◌▹◌}
+use Rattle.c_decls.proofs.SameTypes.{same_equal}
+use Rattle.c_decls.specs.BuiltIns.{built_ins, numbered_from}
 use Rattle.c_decls.specs.Named as n
-use Rattle.c_decls.specs.ScopeList.{named_in}
-use Rattle.c_decls.specs.declared.refusal.TypeKind.TheVariants.{Undeclared, NoMain}
+use Rattle.c_decls.specs.Named.{PlainNamed}
 use Rattle.c_decls.specs.PlaceRules.{length_of}
-use Rattle.elaboration.specs.Context.{Piece, Does, Here, Context, Declared, Walked, first_context}
-use Rattle.elaboration.specs.Externals.{externals, is_defined, is_main, calls_defined}
-use Rattle.elaboration.specs.Resolving.{atoms_by, numbered, body_of, temporary, pointer_register, numbers_of, function_of, core_of, definition_of, function_by}
+use Rattle.c_decls.specs.Refusals.{then, unless}
+use Rattle.c_decls.specs.ScopeList.{Table, named_in, with_name}
+use Rattle.c_decls.specs.TypeNames.{Layer, FunctionOf, with_layers}
+use Rattle.c_decls.specs.Typed.{same, is_array, is_record, is_function}
+use Rattle.c_decls.specs.declared.built_in.BuiltIn.{BuiltIn}
+use Rattle.c_decls.specs.declared.refusal.TypeKind.TheVariants.{DeclaredTwice, ProgramTooLong, Undeclared, NoMain}
+use Rattle.elaboration.specs.Addressed.{Taken, nothing_taken, params_taken, addressed_in}
+use Rattle.elaboration.specs.Context.{no_code, Declared, Context, Walked, entered, emit, first_context, Piece, Does, Here}
+use Rattle.elaboration.specs.Declarations.{function_number, function_number_of, with_function, declared_function, declaration}
+use Rattle.elaboration.specs.Declarators.{specs, layers, suffix_layers, suffix_layer, params, left_params}
 use Rattle.elaboration.specs.Elaboration.{walked, elaborated}
-use Rattle.core_soundness.specs.Worlds.{walked_world, IsCall, result_sort, param_sorts, PiecesFit}
-use Rattle.core_soundness.specs.Written.{AreWritten}
-use Rattle.core_soundness.proofs.Formed.{AreFormed}
+use Rattle.elaboration.specs.Externals as externals
+use Rattle.elaboration.specs.Externals.{piece_length, begun, is_defined, body_begun, last_answer, body_ended, body, defined, named_definition, definition, external, externals, is_main, calls_defined}
+use Rattle.elaboration.specs.Locals.{is_twice_in}
+use Rattle.elaboration.specs.Resolving.{atoms_by, numbered, body_of, temporary, pointer_register, numbers_of, function_of, core_of, definition_of, function_by}
+use Rattle.elaboration.specs.Statements.{around_body, items}
 use Rattle.core_soundness.specs.Laws.{HasTypes}
-use Rattle.core_soundness.proofs.Grown.{good, bad, ok_same, never}
+use Rattle.core_soundness.specs.Spoken.{IsList, HasLists, HasParameters, IsDefinition}
+use Rattle.core_soundness.specs.Worlds.{World, world, walked_world, FitsAnswer, PiecesFit, InnerFits, FileFits, TableFits, TablesFit, result_sort, param_sorts, IsCall}
+use Rattle.core_soundness.specs.Written.{Written, AllWritten, AreWritten}
 use Rattle.core_soundness.proofs.Agreeing.{came}
-use Rattle.core_soundness.proofs.Operating.{passed}
 use Rattle.core_soundness.proofs.Cores.{behind}
-use Rattle.core_soundness.proofs.Texts.{Sane, walked_sane}
-use Rattle.core_soundness.proofs.TextsRun.{WalkedFits, Between, externals_between, first_between}
+use Rattle.core_soundness.proofs.DeclaredSteps.{Begun, layers_start, body_step}
+use Rattle.core_soundness.proofs.Formed.{Shaped, Formed, AllFormed, HasParams, AreFormed}
+use Rattle.core_soundness.proofs.Growth.{good, ok_same, never, bad, behind_test}
+use Rattle.core_soundness.proofs.Landing.{not_false}
+use Rattle.core_soundness.proofs.LayersRun.{specs_run, layers_run, suffixes_run, suffix_runs, first_fits, params_run}
+use Rattle.core_soundness.proofs.LocalsRun.{file_declaration_runs, function_runs}
+use Rattle.core_soundness.proofs.Parameters.{specs_counts, sorts, functions, function_sorts, functions_joined, functions_reversed, functions_one, makes_function, specs_sorts, layers_added}
 use Rattle.core_soundness.proofs.Resolved.{result_resolves, all_resolve, statements_resolve, returns_resolve}
+use Rattle.core_soundness.proofs.Scopes.{named_push, get_push, no_scope}
+use Rattle.core_soundness.proofs.Sitting.{Fine, Runs, runs_refl, runs_trans, ParamsFit, entered_fine}
+use Rattle.core_soundness.proofs.Sorting.{Grew, pieces_grew, CodeFits, passed, kept_test}
+use Rattle.core_soundness.proofs.Statements.{Sane, walked_sane, walked_finished}
+use Rattle.core_soundness.proofs.StatementsRun.{Stands_in, items_run, return_fits}
+use Rattle.core_soundness.proofs.Taking.{Good, body_good}
+use Rattle.core_soundness.proofs.Choices.{either_way, some_same, get_some, some_number}
+
+-- the functions of a text fit (C99 6.9)
+
+-- a function that was walked
+
+pub record WalkedFits (c : Context) (x : Walked) : Type 0 where
+  pub answer : PlainType
+  pub params : PlainTypes
+  pub index : ℕ
+  pub named : named_in x.name c.scopes.file ≡ Some (n.Function (Function answer params) index)
+  pub lined : 1 ≤ x.running.line
+  pub fits : PiecesFit (result_sort answer) (walked_world c x) x.code.pieces
+  pub count : x.params ≡ length_of params
+  pub rest : List Sort
+  pub sorted : map sort_of x.running.locals ≡ param_sorts params ++ rest
+
+-- statics, calls and names at file scope that are there stay there
+record Statics (c d : Context) : Type 0 where
+  variables : length c.variables ≤ length d.variables
+  literals : length c.literals ≤ length d.literals
+  calls : (k : ℕ) (x : ℕ × ℕ) → slice_get c.calls k ≡ Some x → slice_get d.calls k ≡ Some x
+  file : (name : List ℕ) (type : PlainType) (j : ℕ) → named_in name c.scopes.file ≡ Some (n.Function type j) → named_in name d.scopes.file ≡ Some (n.Function type j)
+
+statics_of : (c d : Context) → Grew (world c) (world d) → Statics c d
+statics_of c d g = record { variables = g.variables; literals = g.literals; calls = g.calls; file = g.file }
+
+statics_trans : (a b c : Context) → Statics a b → Statics b c → Statics a c
+statics_trans a b c x y = record {
+  variables = omega (arith, x.variables, y.variables);
+  literals = omega (arith, x.literals, y.literals);
+  calls = λ k v e. y.calls k v (x.calls k v e);
+  file = λ name type j e. y.file name type j (x.file name type j e);
+}
+
+walked_grew : (c d : Context) (x : Walked) → Statics c d → Grew (walked_world c x) (walked_world d x)
+walked_grew c d x s = record { locals = λ k r e. e; mems = omega arith; integers = omega arith; pointers = omega arith; variables = s.variables; literals = s.literals; formats = λ k v e. e; calls = s.calls; file = s.file }
+
+walked_on : (c d : Context) (x : Walked) → Statics c d → WalkedFits c x → WalkedFits d x
+walked_on c d x s h = record {
+  answer = h.answer;
+  params = h.params;
+  index = h.index;
+  named = s.file x.name (Function h.answer h.params) h.index h.named;
+  lined = h.lined;
+  fits = pieces_grew (result_sort h.answer) (walked_world c x) (walked_world d x) x.code.pieces (walked_grew c d x s) h.fits;
+  count = h.count;
+  rest = h.rest;
+  sorted = h.sorted;
+}
+
+-- what holds between external declarations
+pub record Between (c : Context) : Type 0 where
+  pub file : TableFits (FileFits (world c)) c.scopes.file
+  pub flat : length c.scopes.inner ≡ 0
+  pub walked : (k : ℕ) (x : Walked) → slice_get c.walked k ≡ Some x → WalkedFits c x
+
+empty_fits : (P : PlainNamed → Type 0) (inner : List Table) → length inner ≡ 0 → TablesFit P inner
+empty_fits P [] e = tt
+empty_fits P (t ∷ ts) e = absurd (omega (arith, e))
+
+begun_fine : (line : ℕ) (addressed : List ℕ) (c : Context) → 1 ≤ line → Between c → Fine (begun line addressed c)
+begun_fine line addressed c l h = record { names = record { file = h.file; inner = empty_fits (InnerFits (world (begun line addressed c))) c.scopes.inner h.flat }; lined = l }
+
+-- a declaration at file scope
+declared_between : (line : ℕ) (words names : Tree) (c z : Context) → 1 ≤ line → Written names → Between c → declaration true line words names (begun line [] c) ≡ Ok z → Between z
+declared_between line words names c z l p h q =
+    let b = begun line [] c in
+    let r = file_declaration_runs None line words names b z l p (begun_fine line [] c l h) h.flat q in
+    let s : Statics c z = record { variables = r.grew.variables; literals = r.grew.literals; calls = r.grew.calls; file = r.grew.file } in
+    record {
+      file = r.fine.names.file;
+      flat = r.depth ∙ h.flat;
+      walked = λ k x e. walked_on c z x s (h.walked k x (subst (λ (ws : List Walked). slice_get ws k ≡ Some x) r.walked e));
+    }
+
+-- the parameters of a definition
+
+-- layers with a function among them, whose parameters are the list that ended last
+record HasList (z : Context × List Layer) : Type 0 where
+  some : 1 ≤ functions z.1
+  params : ParamsFit z.0
+
+none_fit : (P : PlainNamed → Type 0) → TableFits P []
+none_fit P name v e = cc
+
+list_suffix : (answer : Option Sort) (tree : Tree) (c : Context) (z : Context × Layer) → IsList tree → Fine c → length c.scopes.inner ≡ 0 → suffix_layer tree c ≡ Ok z → HasList (z.0, z.1 ∷ [])
+unfolding suffix_layer
+list_suffix answer (Node f.ArraySuffix parts) c z i g flat q = absurd i
+list_suffix answer (Node f.FunctionSuffix (At line ▹ Node f.Params parts ▹ t.none)) c z i g flat q =
+    let p = came (params parts (entered c)) q in
+    let r = params_run answer parts (entered c) (entered c) (omega (arith, flat)) (runs_refl answer (entered c) (entered_fine c g)) p.value p.is in
+    subst (λ (y : Context × Layer). HasList (y.0, y.1 ∷ [])) (ok_same (left_params p.value.0, FunctionOf line p.value.1) z p.last)
+    (record { some = omega arith; params = first_fits (world p.value.0) p.value.0.scopes.inner r.fine.names.inner })
+list_suffix answer tree c z i g flat q =
+    subst (λ (y : Context × Layer). HasList (y.0, y.1 ∷ [])) (ok_same (record c { params = [] }, FunctionOf (Rattle.c_decls.specs.Expressions.line_of tree) types.none) z q)
+    (record { some = omega arith; params = none_fit (InnerFits (world c)) })
+
+suffixes_list : (parts : Trees) (answer : Option Sort) (c : Context) (z : Context × List Layer) → HasLists parts → Fine c → length c.scopes.inner ≡ 0 → suffix_layers parts c ≡ Ok z → HasList z
+unfolding suffix_layers
+suffixes_list t.none answer c z i g flat q = absurd i
+suffixes_list (suffix ▹ rest) answer c z (inl i) g flat q =
+    let l = came (suffix_layer suffix c) q in
+    let m = came (suffix_layers rest l.value.0) l.last in
+    let one = list_suffix answer suffix c l.value i g flat l.is in
+    let r1 = suffix_runs answer suffix c c (runs_refl answer c g) l.value l.is in
+    let r2 = suffixes_run answer rest l.value.0 l.value.0 (runs_refl answer l.value.0 r1.fine) m.value m.is in
+    subst HasList (ok_same (m.value.0, l.value.1 ∷ m.value.1) z m.last) (record { some = omega (arith, one.some, functions_one l.value.1 m.value.1); params = r2.params (r1.depth ∙ flat) one.params })
+suffixes_list (suffix ▹ rest) answer c z (inr i) g flat q =
+    let l = came (suffix_layer suffix c) q in
+    let m = came (suffix_layers rest l.value.0) l.last in
+    let r1 = suffix_runs answer suffix c c (runs_refl answer c g) l.value l.is in
+    let one = suffixes_list rest answer l.value.0 m.value i r1.fine (r1.depth ∙ flat) m.is in
+    subst HasList (ok_same (m.value.0, l.value.1 ∷ m.value.1) z m.last) (record { some = omega (arith, one.some, functions_one l.value.1 m.value.1); params = one.params })
+
+joined_some : (ms ls : List Layer) → 1 ≤ functions ms + functions ls → 1 ≤ functions (reverse ms ++ ls)
+joined_some ms ls h = omega (arith, h, functions_joined (reverse ms) ls, functions_reversed ms)
+
+layers_list : (tree : Tree) (answer : Option Sort) (c : Context) (z : Context × List Layer) → HasParameters tree → Fine c → length c.scopes.inner ≡ 0 → layers tree c ≡ Ok z → HasList z
+unfolding layers HasParameters
+layers_list (Node (f.Pointer consts) (At line ▹ declarator ▹ t.none)) answer c z h g flat q =
+    let l = came (layers declarator c) q in
+    let one = layers_list declarator answer c l.value h g flat l.is in
+    subst HasList (ok_same (l.value.0, Rattle.c_decls.specs.TypeNames.PointerTo line ∷ l.value.1) z l.last) (record { some = one.some; params = one.params })
+layers_list (Node f.Direct (base ▹ Node f.Suffixes suffixes ▹ t.none)) answer c z (inl h) g flat q =
+    let l = came (layers base c) q in
+    let s = came (suffix_layers suffixes l.value.0) l.last in
+    let one = layers_list base answer c l.value h g flat l.is in
+    let r1 = layers_run answer base c c (runs_refl answer c g) l.value l.is in
+    let r2 = suffixes_run answer suffixes l.value.0 l.value.0 (runs_refl answer l.value.0 r1.fine) s.value s.is in
+    subst HasList (ok_same (s.value.0, reverse s.value.1 ++ l.value.1) z s.last) (record { some = joined_some s.value.1 l.value.1 (omega (arith, one.some)); params = r2.params (r1.depth ∙ flat) one.params })
+layers_list (Node f.Direct (base ▹ Node f.Suffixes suffixes ▹ t.none)) answer c z (inr h) g flat q =
+    let l = came (layers base c) q in
+    let s = came (suffix_layers suffixes l.value.0) l.last in
+    let r1 = layers_run answer base c c (runs_refl answer c g) l.value l.is in
+    let one = suffixes_list suffixes answer l.value.0 s.value h r1.fine (r1.depth ∙ flat) s.is in
+    subst HasList (ok_same (s.value.0, reverse s.value.1 ++ l.value.1) z s.last) (record { some = joined_some s.value.1 l.value.1 (omega (arith, one.some)); params = one.params })
+layers_list (Node f.Parens (At line ▹ declarator ▹ t.none)) answer c z h g flat q = layers_list declarator answer c z h g flat q
+layers_list tree answer c z h g flat q = absurd h
+
+-- a function's type is that of its name
+
+abbrev Typed : List ℕ → PlainType → Context → Context → Type 0
+Typed name type c d = named_in name d.scopes.file ≡ Some (n.Function type (function_number name c))
+
+pushed_name : (key : List ℕ) (v : PlainNamed) (table : Table) → named_in key table ≡ None → named_in key (table ++ (key, v) ∷ []) ≡ Some v
+pushed_name key v table e =
+    named_push key key v table ∙ ap (λ o. option_or o (cond (bytes_eq key key) (Some v) None)) e ∙ ap (λ k. cond k (Some v) None) ((bytes_eq-Decides key key).1 refl)
+
+function_kept : (k : Bool) (name key : List ℕ) (type : PlainType) (index : ℕ) (x : Context) → named_in key x.scopes.file ≡ Some (n.Function type index) → named_in key (cond k x (record x { functions = x.functions ++ (record { name = name; defined = None }) ∷ [] })).scopes.file ≡ Some (n.Function type index)
+function_kept true name key type index x e = e
+function_kept false name key type index x e = e
+
+-- a file scope alone, by what it has under the name
+flat_typed : (line : ℕ) (name : List ℕ) (type : PlainType) (c : Context) (file : Table) (o : Option PlainNamed) (d : Context) → named_in name file ≡ o
+    → (let x : Context = record c { scopes = record { file = file; inner = [] } } in
+    then (unless (is_twice_in true (n.Function type (function_number_of x o)) o) DeclaredTwice line (good (record x { scopes = cond (is_some o) x.scopes (with_name x.scopes name (n.Function type (function_number_of x o))) }))) (λ y. good (with_function (function_number_of x o) name y)) ≡ Ok d)
+    → named_in name d.scopes.file ≡ Some (n.Function type (function_number_of (record c { scopes = record { file = file; inner = [] } }) o))
+flat_typed line name type c file None d e q =
+    let x : Context = record c { scopes = record { file = file ++ (name, n.Function type (length c.functions)) ∷ []; inner = [] } } in
+    subst (λ (y : Context). named_in name y.scopes.file ≡ Some (n.Function type (length c.functions))) (ok_same (with_function (length c.functions) name x) d q)
+    (function_kept (nat_lt (length c.functions) (length c.functions)) name name type (length c.functions) x (pushed_name name (n.Function type (length c.functions)) file e))
+flat_typed line name type c file (Some (n.Function t j)) d e q =
+    let x : Context = record c { scopes = record { file = file; inner = [] } } in
+    let y = came (unless (not (true && same t type)) DeclaredTwice line (good x)) q in
+    let alike : t ≡ type = same_equal t type (not_false (same t type) (kept_test (not (true && same t type)) DeclaredTwice line (good x) y.value y.is)) in
+    let there : named_in name file ≡ Some (n.Function type j) = subst (λ (k : PlainType). named_in name file ≡ Some (n.Function k j)) alike e in
+    let same_x : x ≡ y.value = passed (not (true && same t type)) DeclaredTwice line x y.value y.is in
+    subst (λ (z : Context). named_in name z.scopes.file ≡ Some (n.Function type j)) (ap (λ (z : Context). with_function j name z) same_x ∙ ok_same (with_function j name y.value) d y.last)
+    (function_kept (nat_lt j (length c.functions)) name name type j x there)
+flat_typed line name type c file (Some other) d e q = never _ _ d q
+
+function_typed : (line : ℕ) (name : List ℕ) (type : PlainType) (c d : Context) → length c.scopes.inner ≡ 0 → declared_function line name type c ≡ Ok d → Typed name type c d
+function_typed line name type c d flat q =
+    let at : record c { scopes = record { file = c.scopes.file; inner = [] } } ≡ c = ap (λ (inner : List Table). record c { scopes = record { file = c.scopes.file; inner = inner } }) (no_scope c.scopes.inner flat) in
+    subst (λ (x : Context). declared_function line name type x ≡ Ok d → Typed name type x d) at (λ k. flat_typed line name type c c.scopes.file (named_in name c.scopes.file) d refl k) q
+
+-- the end of a body
+
+last_fits : (v : World) (type : PlainType) → (is_array type || is_function type || is_record type) ≡ false → FitsAnswer v (result_sort type) (last_answer type)
+last_fits v Void e = tt
+last_fits v (Int ty) e = refl
+last_fits v (types.Pointer target) e = refl
+last_fits v other e = cc
+
+-- the body of a function of a name, in front of which c stands between external declarations
+body_between : (line end : ℕ) (name : List ℕ) (answer : PlainType) (ps : PlainTypes) (index : ℕ) (more : List Sort) (c e z : Context) → 1 ≤ end → Between c → Statics c e → e.walked ≡ c.walked → Fine e → CodeFits (result_sort answer) e → e.running.answer ≡ answer
+    → (is_array answer || is_function answer || is_record answer) ≡ false → named_in name e.scopes.file ≡ Some (n.Function (Function answer ps) index) → map sort_of e.running.locals ≡ param_sorts ps ++ more
+    → body_ended line name (Function answer ps) end e ≡ Ok z → Between z
+body_between line end name answer ps index more c e z l h s same g fits is_answer plain there regs q =
+    let x = emit end (Return (last_answer e.running.answer)) e in
+    let r = return_fits (result_sort answer) end (last_answer e.running.answer) e l g (subst (λ (type : PlainType). FitsAnswer (world e) (result_sort answer) (last_answer type)) (sym is_answer) (last_fits (world e) answer plain)) in
+    let w : Walked = record { name = name; params = length_of ps; running = x.running; code = x.code } in
+    let total = x.length + sum_by piece_length x.code.pieces in
+    let made : Context = record x { scopes = record { file = x.scopes.file; inner = [] }; length = total; walked = x.walked ++ w ∷ [] } in
+    subst Between (passed (nat_lt 268435456 total) ProgramTooLong line made z q)
+    (record {
+      file = g.names.file;
+      flat = refl;
+      walked = λ k v k_is. ⊎_elim
+          (λ (old : slice_get e.walked k ≡ Some v). walked_on c made v (record { variables = s.variables; literals = s.literals; calls = s.calls; file = s.file }) (h.walked k v (subst (λ (ws : List Walked). slice_get ws k ≡ Some v) same old)))
+          (λ (new : (k ≡ length e.walked) × (v ≡ w)). subst (WalkedFits made) (sym new.1) (record { answer = answer; params = ps; index = index; named = there; lined = g.lined; fits = r.fits fits; count = refl; rest = more; sorted = regs }))
+          (get_push e.walked w k v k_is);
+    })
+
+locals_prefix : (xs ys : List Register) → ((k : ℕ) (reg : Register) → slice_get xs k ≡ Some reg → slice_get ys k ≡ Some reg) → (more : List Sort) × (map sort_of ys ≡ map sort_of xs ++ more)
+locals_prefix [] ys h = (map sort_of ys, refl)
+locals_prefix (x ∷ xs) [] h = let clash : None ≡ Some x = h 0 x refl in cc
+locals_prefix (x ∷ xs) (y ∷ ys) h =
+    let same : y ≡ x = first_same (h 0 x refl) in
+    let rest = locals_prefix xs ys (λ k reg e. h (suc k) reg e) in
+    (rest.0, ap (λ (v : Register). sort_of v ∷ map sort_of ys) same ∙ ap (λ (ss : List Sort). sort_of x ∷ ss) rest.1)
+  where
+    first_same : Some y ≡ Some x → y ≡ x
+    first_same e = cc
+
+-- a definition: b is where it begins, and l behind its declarator
+defined_between : (line : ℕ) (name : List ℕ) (answer : PlainType) (ps : PlainTypes) (tree : Tree) (given : Option Trees) (numbers : List ℕ) (c b l z : Context) → Between c → Statics c b → b.walked ≡ c.walked → b.running.addressed ≡ numbers → Good numbers (params_taken given nothing_taken) tree → Begun given l
+    → Runs (result_sort answer) b l → CodeFits (result_sort answer) b → length l.scopes.inner ≡ 0 → ParamsFit l
+    → (is_array answer || is_function answer || is_record answer) ≡ false → sorts l ≡ param_sorts ps → defined line name (Function answer ps) tree l ≡ Ok z → Between z
+defined_between line name answer ps (Node f.Body (Node f.Items parts ▹ At end ▹ t.none)) given numbers c b l z h s same addressed p begins r fits flat params plain regs q =
+    let start : Taken = params_taken given nothing_taken in
+    let o = body_good numbers start end parts p in
+    let index = function_number name l in
+    let d = came (declared_function line name (Function answer ps) l) q in
+    let a2 = behind_test (is_defined (slice_get d.value.functions index)) DeclaredTwice line (body line name (Function answer ps) (Node f.Body (Node f.Items parts ▹ At end ▹ t.none)) (body_begun index (Function answer ps) d.value)) z d.last in
+    let rd = function_runs (result_sort answer) line name (Function answer ps) l d.value flat r.fine d.is in
+    let there = function_typed line name (Function answer ps) l d.value flat d.is in
+    let begin = body_begun index (Function answer ps) d.value in
+    let e = came (items parts around_body begin) a2 in
+    let all = runs_trans (result_sort answer) b l d.value r rd in
+    let st : Stands_in (result_sort answer) numbers start begin = record { fine = record { names = record { file = all.fine.names.file; inner = (rd.params flat params, tt) }; lined = all.fine.lined }; inside = 0; deep = refl; sorted = refl; step = body_step given line index name (Function answer ps) l d.value begins all.fine.names.file d.is; same = all.addressed ∙ addressed } in
+    let re = (items_run (result_sort answer) numbers parts start around_body begin o.1 st e.value e.is).runs in
+    let prefix = locals_prefix l.running.locals e.value.running.locals (λ k reg x. re.grew.locals k reg (rd.grew.locals k reg x)) in
+    let sl : Statics b e.value = statics_trans b d.value e.value (statics_of b d.value all.grew) (record { variables = re.grew.variables; literals = re.grew.literals; calls = re.grew.calls; file = re.grew.file }) in
+    body_between line end name answer ps index prefix.0 c e.value z o.0 h (statics_trans c b e.value s sl) (re.walked ∙ all.walked ∙ same)
+    re.fine (re.fits (all.fits fits)) re.answer plain (re.grew.file name (Function answer ps) index there) (prefix.1 ∙ ap (λ (ss : List Sort). ss ++ prefix.0) regs) e.last
+defined_between line name answer ps tree given numbers c b l z h s same addressed p begins r fits flat params plain regs q =
+    let index = function_number name l in
+    let d = came (declared_function line name (Function answer ps) l) q in
+    never _ _ z (behind_test (is_defined (slice_get d.value.functions index)) DeclaredTwice line (body line name (Function answer ps) tree (body_begun index (Function answer ps) d.value)) z d.last)
+
+-- a definition by what its name and its type are
+named_between : (line : ℕ) (o : Option (List ℕ)) (type base : PlainType) (tree : Tree) (given : Option Trees) (numbers : List ℕ) (c b : Context) (l : Context × List Layer) (z : Context) → Between c → Statics c b → b.walked ≡ c.walked → b.running.addressed ≡ numbers → Good numbers (params_taken given nothing_taken) tree → (functions l.1 ≡ 1 → Begun given l.0)
+    → ((answer : Option Sort) → Runs answer b l.0) → b.code ≡ no_code
+    → length b.scopes.inner ≡ 0 → HasList l → (functions l.1 ≡ 1 → sorts l.0 ≡ function_sorts l.1) → with_layers l.0.tags l.1 base ≡ Ok type → named_definition line o type tree l.0 ≡ Ok z → Between z
+named_between line None type base tree given numbers c b l z h s same addressed p begins r code flat list regs made q = never _ _ z q
+named_between line (Some name) (Function answer ps) base tree given numbers c b l z h s same addressed p begins r code flat list regs made q =
+    let m = makes_function l.0.tags l.1 base answer ps made list.some in
+    defined_between line name answer ps tree given numbers c b l.0 z h s same addressed p (begins m.single) (r (result_sort answer)) (subst (λ (x : Rattle.elaboration.specs.Context.Code). PiecesFit (result_sort answer) (world b) x.pieces) (sym code) tt)
+    ((r (result_sort answer)).depth ∙ flat) list.params m.plain (regs m.single ∙ m.sorts) q
+named_between line (Some name) other base tree given numbers c b l z h s same addressed p begins r code flat list regs made q = never _ _ z q
+
+definition_between : (line : ℕ) (words declarator tree : Tree) (c z : Context) → 1 ≤ line → Written tree → Formed words → Formed (Node f.Declared (declarator ▹ t.none)) → Formed tree → HasParameters declarator → IsSome (params_of declarator) → Between c → definition line words declarator tree (begun line (addressed_in declarator tree) c) ≡ Ok z → Between z
+unfolding Formed AllFormed Shaped
+definition_between line words declarator tree c z one p form_words form_name form_tree has listed h q =
+    let numbers : List ℕ = addressed_in declarator tree in
+    let b = begun line numbers c in
+    let g = begun_fine line numbers c one h in
+    let base = came (specs words b) q in
+    let l = came (layers declarator base.value.0) base.last in
+    let type = came (with_layers l.value.0.tags l.value.1 base.value.1) l.last in
+    let first : (answer : Option Sort) → Runs answer b base.value.0 = λ answer. specs_run answer words b b (runs_refl answer b g) base.value base.is in
+    let added = layers_added declarator base.value.0 l.value ((first None).depth ∙ h.flat) l.is in
+    named_between line (name_of declarator) type.value base.value.1 tree (params_of declarator) numbers c b l.value z h (record { variables = omega arith; literals = omega arith; calls = λ k x e. e; file = λ name t j e. e }) refl refl
+    (record { inside = λ k i. i; written = p; formed = form_tree })
+    (λ single. (layers_start declarator base.value.0 l.value form_name.0.0 form_name.1.0 listed (ap (λ (x : ℕ × List ℕ × Table). x.0) (specs_counts words b base.value base.is)) ((first None).depth ∙ h.flat) (first None).fine.names.file l.is).begun single)
+    (λ answer. layers_run answer declarator b base.value.0 (first answer) l.value l.is) refl h.flat
+    (layers_list declarator None base.value.0 l.value has (first None).fine ((first None).depth ∙ h.flat) l.is)
+    (λ single. added.adds.added ∙ ap (λ (ss : List Sort). ss ++ added.sorts_of) (specs_sorts words b base.value h.flat base.is) ∙ added.counts.one single) type.is type.last
+
+external_between : (tree : Tree) (c z : Context) → Written tree → Formed tree → HasParams tree → IsDefinition tree → Between c → external tree c ≡ Ok z → Between z
+unfolding external Written AllWritten Formed AllFormed
+external_between (Node f.Function (At line ▹ words ▹ Node f.Declared (declarator ▹ t.none) ▹ tree ▹ t.none)) c z p i j d h q = definition_between line words declarator tree c z p.1.0 p.1.1.1.1.0 i.1.1.0 i.1.1.1.0 i.1.1.1.1.0 d j h q
+external_between (Node f.Declaration (At line ▹ words ▹ names ▹ t.none)) c z p i j d h q = declared_between line words names c z p.1.0 p.1.1.1.0 h q
+external_between tree c z p i j d h q = never _ _ z q
+
+pub externals_between : (unit : Trees) (c z : Context) → AreWritten unit → AreFormed unit → Between c → externals unit c ≡ Ok z → Between z
+unfolding externals
+externals_between t.none c z p i h q = subst Between (ok_same c z q) h
+externals_between (tree ▹ rest) c z p i h q =
+    let d = came (external tree c) q in
+    externals_between rest d.value z p.1 i.1 (external_between tree c d.value p.0.0 i.0.0 i.0.1 p.0.1 h d.is) d.last
+
+built_fit : (v : World) (k : ℕ) (list : List BuiltIn) → TableFits (FileFits v) (numbered_from k list)
+built_fit v k [] name x e = cc
+built_fit v k (b ∷ rest) name x e =
+    either_way (λ y0. (named_in name (numbered_from (k + 1) rest) ≡ Some x → FileFits v x) → y0 ≡ Some x → FileFits v x) (bytes_eq name (Rattle.c_decls.specs.BuiltIns.name_of b))
+    (λ again q. subst (FileFits v) (some_same (n.BuiltIn k) x q) tt)
+    (λ again q. again q) (built_fit v (k + 1) rest name x) e
+
+pub first_between : Between first_context
+first_between = record { file = built_fit (world first_context) 0 built_ins; flat = refl; walked = λ k x e. cc }
+
+-- the functions of a core are typed
 
 -- calls of functions that are defined
 
@@ -40,22 +365,18 @@ defined_calls : (functions : List Declared) (calls : List (ℕ × ℕ)) (c d : C
 defined_calls functions [] c d k f line h e = cc
 defined_calls functions (call ∷ calls) c d k f line h e = by (is_defined (slice_get functions call.0)) refl (λ j q. defined_calls functions calls c d j f line q) k h e
   where
-    pair_is : (x y : ℕ × ℕ) → Some x ≡ Some y → x ≡ y
-    pair_is x y q = cc
-
     by : (t : Bool) → is_defined (slice_get functions call.0) ≡ t → ((j : ℕ) → calls_defined functions calls c ≡ Ok d → slice_get calls j ≡ Some (f, line) → is_defined (slice_get functions f) ≡ true) → (k : ℕ)
         → cond t (calls_defined functions calls c) (bad (record { kind = Undeclared; line = call.1 })) ≡ good d → slice_get (call ∷ calls) k ≡ Some (f, line) → is_defined (slice_get functions f) ≡ true
-    by true q again zero h e = ap (λ (x : ℕ × ℕ). is_defined (slice_get functions x.0)) (sym (pair_is call (f, line) e)) ∙ q
+    by true q again zero h e = ap (λ (x : ℕ × ℕ). is_defined (slice_get functions x.0)) (sym (some_same call (f, line) e)) ∙ q
     by true q again (suc k) h e = again k h e
     by false q again k h e = never _ _ d h
 
 calls_same : (functions : List Declared) (calls : List (ℕ × ℕ)) (c d : Context) → calls_defined functions calls c ≡ Ok d → c ≡ d
 calls_same functions [] c d h = ok_same c d h
-calls_same functions (call ∷ calls) c d h = by (is_defined (slice_get functions call.0)) (λ q. calls_same functions calls c d q) h
-  where
-    by : (t : Bool) → (calls_defined functions calls c ≡ Ok d → c ≡ d) → cond t (calls_defined functions calls c) (bad (record { kind = Undeclared; line = call.1 })) ≡ good d → c ≡ d
-    by true again q = again q
-    by false again q = never _ _ d q
+calls_same functions (call ∷ calls) c d h =
+    either_way (λ x. (calls_defined functions calls c ≡ Ok d → c ≡ d) → x ≡ good d → c ≡ d) (is_defined (slice_get functions call.0))
+    (λ again q. again q)
+    (λ again q. never _ _ d q) (λ q. calls_same functions calls c d q) h
 
 -- what is known behind a text
 pub record Ended (c : Context) : Type 0 where
@@ -83,18 +404,6 @@ record Callee_at (c : Context) (f : ℕ) (answer : PlainType) (params : PlainTyp
   answer_is : fits.answer ≡ answer
   params_is : fits.params ≡ params
 
-get_some : {X : Type 0} (xs : List X) (k : ℕ) → k < length xs → (x : X) × (slice_get xs k ≡ Some x)
-get_some [] k h = absurd (omega (arith, h))
-get_some (x ∷ xs) zero h = (x, refl)
-get_some (x ∷ xs) (suc k) h = get_some xs k (omega (arith, h))
-
-some_number : (o : Option ℕ) → is_some o ≡ true → (k : ℕ) × (o ≡ Some k)
-some_number None e = cc
-some_number (Some k) e = (k, refl)
-
-same_value : {X : Type 0} (x y : X) → Some x ≡ Some y → x ≡ y
-same_value x y e = cc
-
 function_parts : (a b : PlainType) (ps qs : PlainTypes) (i j : ℕ) → Some (n.Function (Function a ps) i) ≡ Some (n.Function (Function b qs) j) → (a ≡ b) × (ps ≡ qs)
 function_parts a b ps qs i j e = (cc, cc)
 
@@ -105,7 +414,7 @@ callee_at c e f answer params name k line there called =
     let x = get_some c.walked m.0 (e.sane.strict f m.0 d.0 d.1 m.1) in
     let o = e.sane.named.owned m.0 x.0 x.1 in
     let at : o.index ≡ f = e.sane.named.single o.index f m.0 o.declared d.0 o.there d.1 o.defined m.1 in
-    let one : o.declared ≡ d.0 = same_value o.declared d.0 (sym o.there ∙ ap (λ j. slice_get c.functions j) at ∙ d.1) in
+    let one : o.declared ≡ d.0 = some_same o.declared d.0 (sym o.there ∙ ap (λ j. slice_get c.functions j) at ∙ d.1) in
     let called_so : (x.0).name ≡ name = sym o.name ∙ ap (λ (y : Declared). y.name) one ∙ d.2 in
     let fits = e.between.walked m.0 x.0 x.1 in
     let parts = function_parts fits.answer answer fits.params params fits.index f (sym fits.named ∙ ap (λ (y : List ℕ). named_in y c.scopes.file) called_so ∙ there) in
@@ -143,7 +452,7 @@ params_inside c x h =
 
 get_map : {X Y : Type 0} (g : X → Y) (xs : List X) (k : ℕ) (x : X) → slice_get xs k ≡ Some x → slice_get (map g xs) k ≡ Some (g x)
 get_map g [] k x e = cc
-get_map g (y ∷ xs) zero x e = let same : y ≡ x = same_value y x e in ap (λ z. Some (g z)) same
+get_map g (y ∷ xs) zero x e = let same : y ≡ x = some_same y x e in ap (λ z. Some (g z)) same
 get_map g (y ∷ xs) (suc k) x e = get_map g xs k x e
 
 has_register : (func : Func) (sort : Sort) (r : ℕ) → register_sort func r ≡ Some sort → r < length func.regs
@@ -181,7 +490,7 @@ piece_of : (c : Context) (x : Walked) (answer : Option Sort) (pieces : List Piec
     → (kind : StmKind) × (numbered (numbers_of c x) kind ≡ stm.kind) × Rattle.core_soundness.specs.Worlds.FitsIn answer (walked_world c x) kind
 piece_of c x answer [] point stm h e = cc
 piece_of c x answer (Here l ∷ pieces) point stm h e = piece_of c x answer pieces point stm h.1 e
-piece_of c x answer (Does s ∷ pieces) zero stm h e = (s.kind, ap (λ (y : Stm). y.kind) (same_value _ stm e), h.0.1)
+piece_of c x answer (Does s ∷ pieces) zero stm h e = (s.kind, ap (λ (y : Stm). y.kind) (some_same _ stm e), h.0.1)
 piece_of c x answer (Does s ∷ pieces) (suc point) stm h e = piece_of c x answer pieces point stm h.1 e
 
 answers_of : (c : Context) (x : Walked) → Ended c → (answer : Option Sort) (kind made : StmKind) → Rattle.core_soundness.specs.Worlds.FitsIn answer (walked_world c x) kind → numbered (numbers_of c x) kind ≡ made → GivesAnswer (core_of c) (function_of c x) made
@@ -190,7 +499,7 @@ answers_of c x e answer (Call f r args) made h q =
     subst (GivesAnswer (core_of c) (function_of c x)) q
     (λ callee there point stm at a is_return.
     let k = callee_at c e f h.answer h.params h.name h.called.0 h.called.1 h.there h.called.2 in
-    let same : function_of c k.body ≡ callee = same_value (function_of c k.body) callee (sym (get_map (function_of c) c.walked (function_by c.functions f) k.body k.there) ∙ there) in
+    let same : function_of c k.body ≡ callee = some_same (function_of c k.body) callee (sym (get_map (function_of c) c.walked (function_by c.functions f) k.body k.there) ∙ there) in
     let given : answer_sort (core_of c) callee a ≡ result_sort k.fits.answer = subst (λ (func : Func). EachReturn func (λ b. answer_sort (core_of c) func b ≡ result_sort k.fits.answer)) same (function_returns c k.body k.fits) point stm at a is_return in
     subst (λ (o : Option Sort). GivesResult (function_of c x) o (option_map (numbers_of c x).register r)) (sym (given ∙ ap result_sort k.answer_is)) (result_resolves c x (result_sort h.answer) r h.gives))
 answers_of c x e answer kind made h q = subst (GivesAnswer (core_of c) (function_of c x)) q tt
@@ -207,7 +516,7 @@ function_types c x e h = record {
 
 each_types : (c : Context) (xs : List Walked) (core : Core) → core ≡ core_of c → ((x : Walked) (k : ℕ) → slice_get xs k ≡ Some x → HasTypes core (function_of c x)) → (i : ℕ) (func : Func) → slice_get (map (function_of c) xs) i ≡ Some func → HasTypes core func
 each_types c [] core s h i func e = cc
-each_types c (x ∷ xs) core s h zero func e = subst (HasTypes core) (same_value (function_of c x) func e) (h x 0 refl)
+each_types c (x ∷ xs) core s h zero func e = subst (HasTypes core) (some_same (function_of c x) func e) (h x 0 refl)
 each_types c (x ∷ xs) core s h (suc i) func e = each_types c xs core s (λ y k q. h y (suc k) q) i func e
 
 pub core_types : (unit : Trees) (core : Core) (tags : TagTable) → AreWritten unit → AreFormed unit → elaborated unit ≡ Ok (core, tags) → EachFunc core (HasTypes core)
@@ -216,3 +525,50 @@ core_types unit core tags p i q =
     let e = text_ended unit b.context p i b.is in
     subst (λ (x : Core). EachFunc x (HasTypes x)) b.made
     (λ i func at. each_types b.context b.context.walked (core_of b.context) refl (λ x k h. function_types b.context x e (e.between.walked k x h)) i func at)
+
+-- the function named `main` has no parameters, and answers an integer (C99 5.1.2.2.1)
+
+first_is_main : (funcs : List Func) (func : Func) → slice_get funcs (first_main funcs) ≡ Some func → is_main_function func ≡ true
+first_is_main [] func e = cc
+first_is_main (f ∷ fs) func e = by (is_main_function f) refl (λ q. first_is_main fs func q) e
+  where
+    next : (k : ℕ) → slice_get (f ∷ fs) (k + 1) ≡ slice_get fs k
+    next k = let e : k + 1 ≡ suc k = omega arith in ap (λ (j : ℕ). slice_get (f ∷ fs) j) e
+
+    by : (t : Bool) → is_main_function f ≡ t → (slice_get fs (first_main fs) ≡ Some func → is_main_function func ≡ true) → slice_get (f ∷ fs) (cond t 0 (first_main fs + 1)) ≡ Some func → is_main_function func ≡ true
+    by true q again h = ap is_main_function (sym (some_same f func h)) ∙ q
+    by false q again h = again (sym (next (first_main fs)) ∙ h)
+
+-- the type of `main`
+main_type : (functions : List Declared) (o : Option PlainNamed) (answer : PlainType) (params : PlainTypes) (index : ℕ) → o ≡ Some (n.Function (Function answer params) index) → externals.is_main functions o ≡ true → (answer ≡ Int i.Int) × (params ≡ types.none)
+main_type functions o answer params index e h =
+    let test : same (Function answer params) (Function (Int i.Int) types.none) && is_defined (slice_get functions index) ≡ true = sym (ap (externals.is_main functions) e) ∙ h in
+    let alike : Function answer params ≡ Function (Int i.Int) types.none = same_equal (Function answer params) (Function (Int i.Int) types.none) (and_parts _ _ test).0 in
+    parts answer params alike
+  where
+    parts : (a : PlainType) (ps : PlainTypes) → Function a ps ≡ Function (Int i.Int) types.none → (a ≡ Int i.Int) × (ps ≡ types.none)
+    parts a ps q = (cc, cc)
+
+walked_at : (c : Context) (ws : List Walked) (k : ℕ) (func : Func) → slice_get (map (function_of c) ws) k ≡ Some func → (w : Walked) × (slice_get ws k ≡ Some w) × (function_of c w ≡ func)
+walked_at c [] k func e = cc
+walked_at c (w ∷ ws) zero func e = (w, refl, some_same (function_of c w) func e)
+walked_at c (w ∷ ws) (suc k) func e = walked_at c ws k func e
+
+pub core_main_typed : (unit : Trees) (core : Core) (tags : TagTable) → AreWritten unit → AreFormed unit → elaborated unit ≡ Ok (core, tags) → ForSome (slice_get core.funcs (main_of core)) (IsMain core)
+core_main_typed unit core tags p i q =
+    let b = behind unit core tags q in
+    let c = b.context in
+    let e = text_ended unit c p i b.is in
+    let f = walked_finished unit c b.is in
+    subst (λ (x : Core). ForSome (slice_get x.funcs (main_of x)) (IsMain x)) b.made
+    (λ func at.
+    let w = walked_at c c.walked (first_main (core_of c).funcs) func at in
+    let h = e.between.walked (first_main (core_of c).funcs) w.0 w.1 in
+    let named : func.name ≡ codes "main" = (bytes_eq-Decides func.name (codes "main")).0 (first_is_main (core_of c).funcs func at) in
+    let same_name : (w.0).name ≡ codes "main" = ap (λ (g : Func). g.name) w.2 ∙ named in
+    let t = main_type c.functions (named_in (codes "main") c.scopes.file) h.answer h.params h.index (ap (λ (name : List ℕ). named_in name c.scopes.file) (sym same_name) ∙ h.named) f.main in
+    subst (IsMain (core_of c)) w.2
+    (record {
+      params = h.count ∙ ap Rattle.c_decls.specs.PlaceRules.length_of t.1;
+      answers = λ point stm there a is. function_returns c w.0 h point stm there a is ∙ ap Rattle.core_soundness.specs.Worlds.result_sort t.0;
+    }))

@@ -1,19 +1,19 @@
 -- Types that are whole stay so, and have sizes from 1 to that of the largest object.
 use Rattle.std.proofs.Common.{◌≡◌, ◌≤◌, ◌*◌, ◌==◌, ℕ, zero, suc, Bool, true, false, cond, is_some, List, [], ◌∷◌, ◌++◌, map, fold, zip, Option, Some, None, IsSome, IfSome, option_map, unwrap_or, refl, sym, ap, ◌∙◌, subst, arith}
-use Rattle.std.specs.Option.{option_or}
-use Rattle.std.specs.List.{find}
 use Rattle.std.proofs.lemmas.List.Sums.{fold_push}
-use Rattle.c_types.specs.declared.layouts.Layout.{Layout}
-use Rattle.c_types.specs.declared.types.IntType.{IntType}
-use Rattle.c_types.specs.declared.types.IntType.TheVariants as i
-use Rattle.c_types.specs.Types.{PlainType, PlainTypes, Int, Pointer, Array, Struct, Union, Function, none, first, width_of}
-use Rattle.c_types.specs.Layouts.{Known, ArraysFit, Placed, none_placed, place, placed, layout_of, number_layout, pointer_layout, no_layout, members_layout}
-use Rattle.c_types.specs.TagTable.{CompletedTag, TagTable, PlainMember, learn, known, tag_layout, member_layout, placed_members, members_in}
+use Rattle.std.specs.List.{find}
+use Rattle.std.specs.Option.{option_or}
 use Rattle.c_types.proofs.MemberLemmas.{Extends, some_array, layout_stays}
 use Rattle.c_types.proofs.Places.{stays_known}
 use Rattle.c_types.proofs.Sound.{rounded_le}
-use Rattle.core_tree.specs.LayoutsOfTypes.{IsCompleted, AreCompleted, IsLayoutOfType}
+use Rattle.c_types.specs.Layouts.{Known, ArraysFit, Placed, none_placed, place, placed, layout_of, number_layout, pointer_layout, no_layout, members_layout}
+use Rattle.c_types.specs.TagTable.{CompletedTag, TagTable, PlainMember, learn, known, tag_layout, member_layout, placed_members, members_in}
+use Rattle.c_types.specs.Types.{PlainType, PlainTypes, Int, Pointer, Array, Struct, Union, Function, none, first, width_of}
+use Rattle.c_types.specs.declared.layouts.Layout.{Layout}
+use Rattle.c_types.specs.declared.types.IntType.{IntType}
+use Rattle.c_types.specs.declared.types.IntType.TheVariants as i
 use Rattle.core_tree.proofs.TypeLayouts.{type_layout_small}
+use Rattle.core_tree.specs.LayoutsOfTypes.{IsCompleted, AreCompleted, IsLayoutOfType}
 use Rattle.c_decls.specs.Named as n
 use Rattle.c_decls.specs.Named.{PlainNamed}
 use Rattle.c_decls.specs.ScopeList.{ScopeList, Table}
@@ -122,7 +122,7 @@ layout_some k a (Union tag) l w e = a tag l e
 layout_some k a other l w e = cc
 
 -- members are placed one behind another, or all at 0
-placed_far : (u : Bool) (p : Placed) (ls : List Layout) → p.end ≤ (fold (place u) p ls).end
+pub placed_far : (u : Bool) (p : Placed) (ls : List Layout) → p.end ≤ (fold (place u) p ls).end
 placed_far u p [] = omega arith
 placed_far u p (l ∷ ls) = let rest = placed_far u (place u p l) ls in omega (arith, rest)
 
@@ -133,7 +133,7 @@ body_some : (u : Bool) (l : Layout) (ls : List Layout) → 1 ≤ l.size → 1 �
 body_some u l ls h =
     let all = placed u (l ∷ ls) in let e = first_far u l ls h in let r = rounded_le all.end all.align in omega (arith, e, r)
 
-some_layout : (o : Option Layout) → is_some o ≡ true → o ≡ Some (unwrap_or o no_layout)
+pub some_layout : (o : Option Layout) → is_some o ≡ true → o ≡ Some (unwrap_or o no_layout)
 some_layout None e = cc
 some_layout (Some l) e = refl
 

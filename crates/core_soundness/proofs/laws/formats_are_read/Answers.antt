@@ -1,4 +1,4 @@
-use Rattle.core_soundness.proofs.Formats as formats
+use Rattle.core_soundness.proofs.Resolved as formats
 use Rattle.core_soundness.proofs.laws.formats_are_read.Goals as goal
 
 pub returns : goal.returns

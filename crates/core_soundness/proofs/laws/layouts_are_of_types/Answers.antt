@@ -1,4 +1,4 @@
-use Rattle.core_soundness.proofs.Grammatical as grammatical
+use Rattle.core_soundness.proofs.Formed as grammatical
 use Rattle.core_soundness.proofs.SolidTexts as solid
 use Rattle.core_soundness.proofs.laws.layouts_are_of_types.Goals as goal
 

@@ -1,5 +1,5 @@
-use Rattle.core_soundness.proofs.Grammatical as grammatical
-use Rattle.core_soundness.proofs.Numbered as numbered
+use Rattle.core_soundness.proofs.Formed as grammatical
+use Rattle.core_soundness.proofs.SolidTexts as numbered
 use Rattle.core_soundness.proofs.laws.numbers_are_in_range.Goals as goal
 
 pub returns : goal.returns

@@ -1,4 +1,4 @@
-use Rattle.core_soundness.proofs.Grammatical as grammatical
+use Rattle.core_soundness.proofs.Formed as grammatical
 use Rattle.core_soundness.proofs.FittedTexts as fitted
 use Rattle.core_soundness.proofs.laws.statics_are_sound.Goals as goal
 

@@ -1,4 +1,4 @@
-use Rattle.core_soundness.proofs.TextTokens as texts
+use Rattle.core_soundness.proofs.NearTexts as texts
 use Rattle.core_soundness.proofs.laws.tokens_are_within.Goals as goal
 
 pub returns : goal.returns

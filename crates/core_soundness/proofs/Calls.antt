@@ -1,48 +1,240 @@
--- The sorts of what calls take and give (C99 6.5.2.2, 7.19 to 7.21).
-use Rattle.std.proofs.Common.{◌≡◌, suc, nat_eq, ◌≤◌, ◌==◌, ◌++◌, ◌&&◌, ℕ, Bool, true, false, not, cond, drop, length, List, [], ◌∷◌, slice_get, unwrap_or, Option, Some, None, Ok, refl, sym, subst, arith, eqb-true, ◌⊎◌, inl, inr}
-use Rattle.std.specs.List.{flat_map}
+-- The sorts of what assignments write and calls take, and what is asked of names.
+use Rattle.std.proofs.Common.{◌≡◌, ◌≤◌, ◌&&◌, ℕ, pos, Bool, true, false, not, cond, None, Ok, refl, sym, ap, ◌∙◌, subst, suc, nat_eq, ◌==◌, ◌++◌, drop, length, List, [], ◌∷◌, slice_get, unwrap_or, Option, Some, arith, eqb-true, ◌⊎◌, inl, inr, option_map, ⊎_elim}
 use Rattle.std.proofs.lemmas.List.Concat.{flat_map-cons}
-use Rattle.c_types.specs.declared.types.IntType.TheVariants as i
+use Rattle.std.proofs.lemmas.Bool.{and_parts}
+use Rattle.std.specs.List.{flat_map}
+use Rattle.std.specs.Option.{option_or}
+use Rattle.hs_base.specs.Numbers.{width}
+use Rattle.c_types.specs.TagTable.{TagTable}
 use Rattle.c_types.specs.Types as types
 use Rattle.c_types.specs.Types.{PlainType, PlainTypes, Void, kind_of}
-use Rattle.c_types.specs.TagTable.{TagTable}
+use Rattle.c_types.specs.declared.types.IntType.{IntType}
+use Rattle.c_types.specs.declared.types.IntType.TheVariants as i
+use Rattle.c_print.specs.Pieces.{pieces_of}
 use Rattle.c_print.specs.declared.piece.Piece.{Piece}
 use Rattle.c_print.specs.declared.piece.Piece.TheVariants as p
-use Rattle.c_print.specs.Pieces.{pieces_of}
-use Rattle.hs_base.specs.Numbers.{width}
+use Rattle.core_tree.specs.Sorts.{Pointer, Sort, Integer, lib_takes, lib_gives, piece_takes}
+use Rattle.core_tree.specs.declared.program.Reg.{Reg as Register}
 use Rattle.core_tree.specs.declared.statements.Atom.{Atom}
 use Rattle.core_tree.specs.declared.statements.StmKind.{StmKind}
-use Rattle.core_tree.specs.declared.statements.StmKind.TheVariants.{Call, Malloc, Calloc, Realloc, Free, Lib, Printf, Enter, Leave}
-use Rattle.core_tree.specs.Sorts.{Sort, Integer, Pointer, lib_takes, lib_gives, piece_takes}
-use Rattle.c_tree.specs.Tree.{Trees}
+use Rattle.core_tree.specs.declared.statements.StmKind.TheVariants.{Copy, Call, Malloc, Calloc, Realloc, Free, Lib, Printf, Enter, Leave}
+use Rattle.c_tree.specs.Forms as f
+use Rattle.c_tree.specs.Forms.{Form}
+use Rattle.c_tree.specs.Tree.{Tree, Trees, Leaf, At, Node, none, ◌▹◌}
+use Rattle.c_tree.specs.declared.operator.AssignOp.{AssignOp}
+use Rattle.c_tree.specs.declared.operator.UnaryOp.TheVariants as u
+use Rattle.c_decls.specs.BuiltIns.{built_ins}
+use Rattle.c_decls.specs.Callees.{Callee, Takes, Prints, NoFunction, built_in_callee, function_callee, no_function, built_in_named, built_in_called, callee_at, named, called, call, prints, is_format, suit, suits_type}
+use Rattle.c_decls.specs.Expressions.{line_of, first_literal}
+use Rattle.c_decls.specs.IntegerTypes.{promoted}
+use Rattle.c_decls.specs.Named as n
+use Rattle.c_decls.specs.Named.{PlainNamed, Tag}
+use Rattle.c_decls.specs.PlaceRules as places
+use Rattle.c_decls.specs.PlaceRules.{unconverted, unconverted_types, converts, is_written, changed, changed_types, assigned, all_convert, length_of}
+use Rattle.c_decls.specs.Refusals.{Checked, then, unless}
+use Rattle.c_decls.specs.ScopeList.{named_in, ScopeList, Table, found_from, found as declaration}
+use Rattle.c_decls.specs.Typed.{PlainTyped, Operand, Number, PointerTo, Neither, operand, value, is_scalar, is_record, is_array, is_void, same, has_no_size, read, has_no_value, wanted_value}
 use Rattle.c_decls.specs.declared.built_in.BuiltIn.{BuiltIn}
 use Rattle.c_decls.specs.declared.built_in.BuiltIn.TheVariants as b
-use Rattle.c_decls.specs.BuiltIns.{built_ins}
-use Rattle.c_decls.specs.declared.refusal.TypeKind.TheVariants.{ArgumentCount, Format}
-use Rattle.c_decls.specs.IntegerTypes.{promoted}
-use Rattle.c_decls.specs.Refusals.{Checked}
-use Rattle.c_decls.specs.Named as n
-use Rattle.c_decls.specs.Named.{PlainNamed}
-use Rattle.c_decls.specs.ScopeList.{named_in}
-use Rattle.c_decls.specs.Typed.{PlainTyped, operand, value, wanted_value}
-use Rattle.c_decls.specs.PlaceRules.{unconverted, all_convert, length_of}
-use Rattle.c_decls.specs.Callees.{Callee, Takes, Prints, NoFunction, built_in_callee, function_callee, no_function, built_in_named, built_in_called, callee_at, named, called, call, prints, is_format, suit, suits_type}
-use Rattle.c_decls.specs.Expressions.{first_literal}
-use Rattle.elaboration.specs.Context.{Context, emit}
-use Rattle.elaboration.specs.Conversions.{Found, Spot, Unknown, found_as, atom_in}
+use Rattle.c_decls.specs.declared.refusal.TypeKind.TheVariants.{NotLvalue, Incomplete, Operands, Assignment, ArgumentCount, Format}
+use Rattle.elaboration.specs.Addressed.{plain_name}
+use Rattle.elaboration.specs.Assignments.{record_assigned, set_to, scalar_assigned, old_value, change_place, changed_answer, changed_by, one_found, stepped}
 use Rattle.elaboration.specs.Calls.{Argument, types_of, atoms_of, atom_at, rest_types, argument_from, lib_name, result_by, pointer_result, with_format, printing, call_built_in, call_of_built_in, call_named, element_layout}
-use Rattle.elaboration.specs.Expressions.{call_answer, parameters as params_of}
-use Rattle.core_soundness.specs.Worlds.{World, world, Holds, HoldAll, Held, StandsAs, Receives, IsPrinted, Fits, type_sort, param_sorts, result_sort}
-use Rattle.core_soundness.proofs.Grown.{good, ok_same, never}
-use Rattle.core_soundness.proofs.Names.{more_refl}
-use Rattle.core_soundness.proofs.Agreeing.{came}
-use Rattle.core_soundness.proofs.Owners.{get_last, get_left}
-use Rattle.core_soundness.proofs.Growing.{Grew, grew_trans, holds_grew, all_grew, pieces_grew}
-use Rattle.core_soundness.proofs.Going.{Goes, goes_refl, goes_trans, goes_emit, Gives, gives_integer, gives_pointer}
-use Rattle.core_soundness.proofs.Sorting.{Apart, Lands, held_grew, Converting, converted}
-use Rattle.core_soundness.proofs.Operating.{passed, kept_test, behind_test, unbarred}
-use Rattle.core_soundness.proofs.Landing.{not_false}
-use Rattle.core_soundness.proofs.Assigning.{converting_of}
+use Rattle.elaboration.specs.Context.{Context, emit, With}
+use Rattle.elaboration.specs.Conversions.{Found, Empty, Unknown, found_as, atom_in, code_line, convert, write, valued_from, size_or_zero, Spot, Local, valued, unused}
+use Rattle.elaboration.specs.Expressions.{call_answer, parameters as params_of, name_answer}
+use Rattle.elaboration.specs.Operations.{changed_to, operator_of}
+use Rattle.elaboration.specs.Rules.{name_found, is_inner, object_found, built_in_found}
+use Rattle.core_soundness.specs.Spoken.{is_register, NoRegister, TakesAddress, Spoken, AllSpoken}
+use Rattle.core_soundness.specs.Worlds.{World, world, Holds, Held, StandsAs, Stands, HoldAll, Receives, IsPrinted, Fits, type_sort, param_sorts, result_sort, local_sort, InnerFits, FileFits, TableFits, TablesFit, NamesFit}
+use Rattle.core_soundness.proofs.Agreeing.{came, valued_from_rule}
+use Rattle.core_soundness.proofs.Growth.{good, ok_same, never, valued_unused, behind_test}
+use Rattle.core_soundness.proofs.Landing.{in_memory, not_false, number_scalar, pointer_scalar}
+use Rattle.core_soundness.proofs.Scopes.{more_refl, get_last, get_left, More, MoreAll, MoreTags, IsNewTag}
+use Rattle.core_soundness.proofs.Sorting.{Goes, goes_trans, goes_emit, Lands, Comes, held_grew, stands_as_grew, stands_grew, Converting, converted, write_goes, old_brings, valued_from_comes, passed, kept_test, unbarred, moved_is, changed_brings, Grew, grew_trans, holds_grew, all_grew, pieces_grew, goes_refl, Gives, gives_integer, gives_pointer, Apart, Sits, lands_sits, unused_comes}
+use Rattle.core_soundness.proofs.Choices.{some_same}
+
+-- the sorts of what assignments write (C99 6.5.2.4, 6.5.3.1, 6.5.16)
+
+-- what converts
+pub converting_of : (type : PlainType) (e : PlainTyped) → unconverted type e ≡ None → Converting (operand type) (operand e.type)
+converting_of type e h = by (operand type) (operand e.type) h
+  where
+    by : (s t : Operand) → unconverted_types e s t ≡ None → Converting s t
+    by (Number ty) (Number source) h = tt
+    by (Number ty) (PointerTo source) h = cc
+    by (Number ty) Neither h = cc
+    by (PointerTo target) (Number source) h = tt
+    by (PointerTo target) (PointerTo source) h = tt
+    by (PointerTo target) Neither h = cc
+    by Neither t h = tt
+
+flag_first : (x y : Bool) → not (x && y) ≡ false → x ≡ true
+flag_first true y e = refl
+flag_first false y e = cc
+
+stands_flag : (w : World) (e : Found) (k : Bool) → e.typed.is_place ≡ k → Stands w e → StandsAs w k e.typed.type e.spot
+stands_flag w e k q h = subst (λ (x : Bool). StandsAs w x e.typed.type e.spot) q h
+
+-- structs and unions
+
+record_operand : (type : PlainType) → is_record type ≡ true → (operand type ≡ Neither) × (is_scalar type ≡ false)
+record_operand (types.Struct tag) e = (refl, refl)
+record_operand (types.Union tag) e = (refl, refl)
+record_operand other e = cc
+
+pub same_record : (s t : PlainType) → is_record s ≡ true → same s t ≡ true → is_scalar t ≡ false
+unfolding same
+same_record (types.Struct tag) (types.Int ty) r e = cc
+same_record (types.Struct tag) (types.Pointer target) r e = cc
+same_record (types.Union tag) (types.Int ty) r e = cc
+same_record (types.Union tag) (types.Pointer target) r e = cc
+same_record (types.Struct tag) other r e = refl
+same_record (types.Union tag) other r e = refl
+same_record other t r e = cc
+
+cond_true : {A : Type 0} (k : Bool) (x y : Checked A) (v : A) → k ≡ true → cond k x y ≡ Ok v → x ≡ Ok v
+cond_true true x y v e h = h
+cond_true false x y v e h = cc
+
+cond_false : {A : Type 0} (k : Bool) (x y : Checked A) (v : A) → k ≡ false → cond k x y ≡ Ok v → y ≡ Ok v
+cond_false true x y v e h = cc
+cond_false false x y v e h = h
+
+record_again : (s t : PlainType) → is_record s ≡ true → same s t ≡ true → is_record t ≡ true
+unfolding same
+record_again (types.Struct tag) (types.Struct other) r e = refl
+record_again (types.Struct tag) (types.Int ty) r e = cc
+record_again (types.Struct tag) (types.Pointer target) r e = cc
+record_again (types.Struct tag) types.Void r e = cc
+record_again (types.Struct tag) (types.Array element length) r e = cc
+record_again (types.Struct tag) (types.Union other) r e = cc
+record_again (types.Struct tag) (types.Function answer params) r e = cc
+record_again (types.Union tag) (types.Union other) r e = refl
+record_again other t r e = cc
+
+-- a struct or a union that is no assignment is a place
+record_place : (type : PlainType) (e : PlainTyped) → is_record type ≡ true → same type e.type ≡ true → has_no_value e ≡ false → e.is_place ≡ true
+record_place type e r s h = by (is_record e.type) e.is_place (record_again type e.type r s) h
+  where
+    by : (k p : Bool) → k ≡ true → k && not p ≡ false → p ≡ true
+    by true true e h = refl
+    by true false e h = cc
+    by false p e h = cc
+
+pub record_lands : (line right : ℕ) (target : Found) (d z : Context × Found) → 1 ≤ line → is_record target.typed.type ≡ true → Stands (world d.0) target → Stands (world d.0) d.1 → record_assigned line right target d ≡ Ok z → Lands d.0 z
+record_lands line right target d z l r h k q =
+    let t = came (assigned line right d.0.tags target.typed d.1.typed) q in
+    let r3 : Checked PlainTyped = good (value target.typed.type) in
+    let r2 : Checked PlainTyped = unless (not (same target.typed.type d.1.typed.type)) Assignment line r3 in
+    let r1 : Checked PlainTyped = unless (has_no_size d.0.tags target.typed.type) Incomplete line r2 in
+    let r0 : Checked PlainTyped = unless (not target.typed.is_place) NotLvalue line r1 in
+    let all : unless (has_no_value d.1.typed) Operands line r0 ≡ Ok t.value = cond_true (is_record target.typed.type) _ _ t.value r t.is in
+    let a = behind_test (has_no_value d.1.typed) Operands line r0 t.value all in
+    let flag : target.typed.is_place ≡ true = not_false target.typed.is_place (kept_test (not target.typed.is_place) NotLvalue line r1 t.value a) in
+    let a1 = behind_test (not target.typed.is_place) NotLvalue line r1 t.value a in
+    let a2 = behind_test (has_no_size d.0.tags target.typed.type) Incomplete line r2 t.value a1 in
+    let alike : same target.typed.type d.1.typed.type ≡ true = not_false (same target.typed.type d.1.typed.type) (kept_test (not (same target.typed.type d.1.typed.type)) Assignment line r3 t.value a2) in
+    let flag2 : d.1.typed.is_place ≡ true = record_place target.typed.type d.1.typed r alike (kept_test (has_no_value d.1.typed) Operands line r0 t.value all) in
+    let made : value target.typed.type ≡ t.value = passed (not (same target.typed.type d.1.typed.type)) Assignment line (value target.typed.type) t.value a2 in
+    let o = record_operand target.typed.type r in
+    let one : Holds (world d.0) Pointer (atom_in target) = in_memory (world d.0) target.typed.type target.spot target refl o.1 (stands_flag (world d.0) target true flag h) in
+    let two : Holds (world d.0) Pointer (atom_in d.1) = in_memory (world d.0) d.1.typed.type d.1.spot d.1 refl (same_record target.typed.type d.1.typed.type r alike) (stands_flag (world d.0) d.1 true flag2 k) in
+    subst (Lands d.0) (ap (λ (x : PlainTyped). (emit line (Copy (atom_in target) (atom_in d.1) (pos (size_or_zero d.0 x.type))) d.0, found_as x Empty Unknown)) made ∙ ok_same _ z t.last)
+    (record { goes = goes_emit line (Copy (atom_in target) (atom_in d.1) (pos (size_or_zero d.0 target.typed.type))) d.0 l (one, two); stands = o.0; apart = tt })
+
+-- scalars
+
+record Written (target e typed : PlainTyped) : Type 0 where
+  flag : target.is_place ≡ true
+  converts : Converting (operand target.type) (operand e.type)
+  made : value target.type ≡ typed
+
+written_scalar : (line : ℕ) (target e typed : PlainTyped) → places.scalar_assigned line target e ≡ Ok typed → Written target e typed
+written_scalar line target e typed h =
+    let last : Checked PlainTyped = converts line target.type e (good (value target.type)) in
+    let a = behind_test (not (is_written target)) NotLvalue line (unless (is_void target.type) Incomplete line last) typed h in
+    let b = behind_test (is_void target.type) Incomplete line last typed a in
+    let c = unbarred (unconverted target.type e) line (good (value target.type)) typed b in
+    record { flag = flag_first target.is_place (not (is_array target.type)) (kept_test (not (is_written target)) NotLvalue line (unless (is_void target.type) Incomplete line last) typed h); converts = converting_of target.type e c.0; made = ok_same _ typed c.1 }
+
+-- b is in front of the right side
+pub scalar_lands : (line : ℕ) (b : Context) (tree : Tree) (target : Found) (d z : Context × Found) → 1 ≤ line → 1 ≤ code_line tree → is_record target.typed.type ≡ false → Stands (world b) target → Goes b d.0 → Stands (world d.0) d.1 → scalar_assigned line b.code tree target d ≡ Ok z → Comes b z
+scalar_lands line b tree target d z l l2 r h g k q =
+    let t = came (assigned line (line_of tree) d.0.tags target.typed d.1.typed) q in
+    let v = came (valued_from tree d.0 d.1) t.last in
+    let a : then (wanted_value (line_of tree) d.0.tags d.1.typed) (places.scalar_assigned line target.typed) ≡ Ok t.value = cond_false (is_record target.typed.type) _ _ t.value r t.is in
+    let e = came (wanted_value (line_of tree) d.0.tags d.1.typed) a in
+    let read_is = behind_test (has_no_value d.1.typed) Operands (line_of tree) (read (line_of tree) d.0.tags d.1.typed) e.value e.is in
+    let rule = valued_from_rule tree d.0 d.1 v.value v.is in
+    let same_typed : e.value ≡ v.value.1.typed = ok_same e.value v.value.1.typed (sym read_is ∙ rule.typed) in
+    let w = written_scalar line target.typed v.value.1.typed t.value (subst (λ (x : PlainTyped). places.scalar_assigned line target.typed x ≡ Ok t.value) same_typed e.last) in
+    let c = valued_from_comes tree d.0 d.1 v.value l2 k v.is in
+    let gv : Goes b v.value.0 = goes_trans b d.0 v.value.0 g c.goes in
+    let type : PlainType = target.typed.type in
+    let x = convert line b.code type v.value.1.typed (atom_in v.value.1) v.value.0 in
+    let cx = converted line b type v.value.1.typed (atom_in v.value.1) v.value.0 l gv c.value.held in
+    let held : Held (world x.0) type x.1 = cx.held w.converts in
+    let place : StandsAs (world x.0) true type target.spot = stands_as_grew (world b) (world x.0) true type target.spot cx.goes.grew (stands_flag (world b) target true w.flag h) in
+    let gw : Goes x.0 (write line type target.spot x.1 x.0) = write_goes line type target.spot x.1 x.0 l place held in
+    let last : good (set_to line b.code t.value target v.value) ≡ Ok z = v.last in
+    subst (Comes b) (ap (λ (y : PlainTyped). set_to line b.code y target v.value) w.made ∙ ok_same _ z last)
+    (record { goes = goes_trans b x.0 _ cx.goes gw; value = record { spot = refl; value = refl; held = held_grew (world x.0) _ type x.1 gw.grew held } })
+
+-- places that are read and written
+
+pub record Changed (target typed : PlainTyped) : Type 0 where
+  pub flag : target.is_place ≡ true
+  pub scalar : is_scalar target.type ≡ true
+  pub made : value target.type ≡ typed
+
+pub changed_typed : (line : ℕ) (op : AssignOp) (tags : TagTable) (target e typed : PlainTyped) → changed line op tags target e ≡ Ok typed → Changed target typed
+changed_typed line op tags target e typed h =
+    let r = by (operand target.type) (operand e.type) refl (behind_test _ _ line _ typed h) in
+    record { flag = flag_first _ _ (kept_test _ _ line _ typed h); scalar = r.0; made = r.1 }
+  where
+    by : (s t : Operand) → operand target.type ≡ s → changed_types line op tags target.type s t ≡ Ok typed → (is_scalar target.type ≡ true) × (value target.type ≡ typed)
+    by (Number ty) (Number source) o q = (number_scalar target.type ty o, ok_same _ typed q)
+    by (PointerTo to) (Number source) o q = (pointer_scalar target.type to o, moved_is line tags to (value target.type) typed (behind_test _ _ line _ typed q))
+    by (Number ty) (PointerTo source) o q = never _ _ typed q
+    by (Number ty) Neither o q = never _ _ typed q
+    by (PointerTo to) (PointerTo source) o q = never _ _ typed q
+    by (PointerTo to) Neither o q = never _ _ typed q
+    by Neither t o q = never _ _ typed q
+
+-- the rule of what is changed
+pub changing_rule : (line : ℕ) (op : AssignOp) (keeps_old : Bool) (target : Found) (old : Atom) (d z : Context × Found) → changed_by line op keeps_old target old d ≡ Ok z
+    → (typed : PlainTyped) × Changed target.typed typed × (good (changed_answer keeps_old typed old (change_place line (operator_of op) typed target old d.1.typed (atom_in d.1) d.0)) ≡ Ok z)
+changing_rule line op keeps_old target old d z h =
+    let t = came (changed line op d.0.tags target.typed d.1.typed) h in
+    (t.value, changed_typed line op d.0.tags target.typed d.1.typed t.value t.is, t.last)
+
+pub changed_comes : (line : ℕ) (op : AssignOp) (keeps_old : Bool) (target : Found) (old : Atom) (d z : Context × Found) → 1 ≤ line → Stands (world d.0) target → Held (world d.0) target.typed.type old → Held (world d.0) d.1.typed.type (atom_in d.1) → changed_by line op keeps_old target old d ≡ Ok z → Comes d.0 z
+changed_comes line op keeps_old target old d z l h ho k q =
+    let r = changing_rule line op keeps_old target old d z q in
+    let type : PlainType = target.typed.type in
+    let v = changed_to line (operator_of op) type old d.1.typed (atom_in d.1) d.0 in
+    let b = changed_brings line (operator_of op) type old d.1.typed (atom_in d.1) d.0 l ho k in
+    let place : StandsAs (world v.0) true type target.spot = stands_as_grew (world d.0) (world v.0) true type target.spot b.goes.grew (stands_flag (world d.0) target true r.1.flag h) in
+    let gw : Goes v.0 (write line type target.spot v.1 v.0) = write_goes line type target.spot v.1 v.0 l place b.held in
+    let goes : Goes d.0 (write line type target.spot v.1 v.0) = goes_trans d.0 v.0 _ b.goes gw in
+    subst (Comes d.0) (ap (λ (y : PlainTyped). changed_answer keeps_old y old (change_place line (operator_of op) y target old d.1.typed (atom_in d.1) d.0)) r.1.made ∙ ok_same _ z r.2)
+    (by keeps_old goes (held_grew (world d.0) _ type old goes.grew ho) (held_grew (world v.0) _ type v.1 gw.grew b.held))
+  where
+    by : (keeps : Bool) → let type : PlainType = target.typed.type in let v = changed_to line (operator_of op) type old d.1.typed (atom_in d.1) d.0 in let c = write line type target.spot v.1 v.0 in
+        Goes d.0 c → Held (world c) type old → Held (world c) type v.1 → Comes d.0 (changed_answer keeps (value type) old (c, v.1))
+    by true g x y = record { goes = g; value = record { spot = refl; value = refl; held = x } }
+    by false g x y = record { goes = g; value = record { spot = refl; value = refl; held = y } }
+
+pub stepped_comes : (line : ℕ) (op : AssignOp) (keeps_old : Bool) (d z : Context × Found) → 1 ≤ line → Stands (world d.0) d.1 → stepped line op keeps_old d ≡ Ok z → Comes d.0 z
+stepped_comes line op keeps_old d z l h q =
+    let old = old_value line d in
+    let r = changing_rule line op keeps_old d.1 old.1 (old.0, one_found) z q in
+    let o = old_brings line d.1.typed d.1.spot d.0 l r.1.scalar (stands_flag (world d.0) d.1 true r.1.flag h) in
+    let c = changed_comes line op keeps_old d.1 old.1 (old.0, one_found) z l (stands_grew (world d.0) (world old.0) d.1 o.goes.grew h) o.held refl q in
+    record { goes = goes_trans d.0 old.0 z.0 o.goes c.goes; value = c.value }
+
+-- the sorts of what calls take and give (C99 6.5.2.2, 7.19 to 7.21)
 
 -- arguments
 
@@ -218,14 +410,6 @@ suited w conv bytes (types.Pointer (types.Int i.SChar)) a e h = subst (λ (k : B
 suited w conv bytes (types.Pointer (types.Int i.UChar)) a e h = subst (λ (k : Bool). Holds w (cond k Pointer Integer) a) (sym e) h
 suited w conv bytes type a e h = cc
 
-and_left : (x y : Bool) → x && y ≡ true → x ≡ true
-and_left true y e = refl
-and_left false y e = cc
-
-and_right : (x y : Bool) → x && y ≡ true → y ≡ true
-and_right true y e = e
-and_right false y e = cc
-
 all_suited : (w : World) (pieces : List Piece) (vs : List Argument) → suit pieces (types_of vs) ≡ true → ArgumentsHeld w types.none vs → HoldAll w (flat_map piece_takes pieces) (atoms_of vs)
 all_suited w [] [] e h = tt
 all_suited w [] (v ∷ vs) e h = cc
@@ -233,7 +417,7 @@ all_suited w (p.Plain bytes ∷ pieces) vs e h = subst (λ (s : List Sort). Hold
 all_suited w (p.Item flush zeros width' conv kind ∷ pieces) [] e h = cc
 all_suited w (p.Item flush zeros width' conv kind ∷ pieces) (v ∷ vs) e h =
     subst (λ (s : List Sort). HoldAll w s (atoms_of (v ∷ vs))) (sym (flat_map-cons piece_takes (p.Item flush zeros width' conv kind) pieces))
-    (suited w conv (width kind) v.0.type v.1 (and_left _ _ e) h.0, all_suited w pieces vs (and_right (suits_type conv (width kind) v.0.type) _ e) h.1)
+    (suited w conv (width kind) v.0.type v.1 (and_parts _ _ e).0 h.0, all_suited w pieces vs (and_parts (suits_type conv (width kind) v.0.type) _ e).1 h.1)
 
 more_formats : (c : Context) (bytes : List ℕ) → Goes c (with_format bytes c)
 more_formats c bytes =
@@ -305,7 +489,7 @@ printf_called line (Some bytes) (v ∷ vs) c e l h k =
     let test : Bool = is_format bytes && suit (pieces_of bytes) (types_of vs) in
     let both : is_format bytes && suit (pieces_of bytes) (types_of vs) ≡ true = not_false test (kept_test (not test) Format line (good (value (types.Int i.Int))) e k) in
     answered_as c (value (types.Int i.Int)) e _ (passed (not test) Format line (value (types.Int i.Int)) e k)
-    (printf_answered line bytes (atoms_of vs) c l (and_left _ _ both, all_suited (world c) (pieces_of bytes) vs (and_right (is_format bytes) _ both) h))
+    (printf_answered line bytes (atoms_of vs) c l ((and_parts _ _ both).0, all_suited (world c) (pieces_of bytes) vs (and_parts (is_format bytes) _ both).1 h))
 
 prints_called : (name : BuiltIn) (line : ℕ) (wanted : PlainType) (format : Option (List ℕ)) (vs : List Argument) (c : Context) (e : PlainTyped) → 1 ≤ line → built_in_callee name ≡ Prints → AllHeld (world c) Prints types.none vs → prints line format (types_of vs) ≡ Ok e → Answered c e (call_built_in line name e.type wanted format vs c)
 unfolding call_built_in
@@ -342,3 +526,148 @@ call_lands line o function wanted trees c vs z l q h k =
     let a = named_called line o function wanted (first_literal trees) vs c e.value l q h e.is in
     subst (Lands c) (ok_same ((call_named line o e.value.type wanted (first_literal trees) vs c).0, found_as e.value (call_named line o e.value.type wanted (first_literal trees) vs c).1 Unknown) z e.last)
     (record { goes = a.goes; stands = a.stands; apart = a.apart })
+
+-- what is asked of names and expressions is kept while a text is walked
+
+-- names
+
+pub sort_kept : (a b : World) (k : ℕ) (sort : Sort) → Grew a b → local_sort a k ≡ Some sort → local_sort b k ≡ Some sort
+sort_kept a b k sort g h = by (slice_get a.locals k) refl h
+  where
+    by : (o : Option Register) → slice_get a.locals k ≡ o → option_map Rattle.core_tree.specs.Sorts.sort_of o ≡ Some sort → local_sort b k ≡ Some sort
+    by None e q = cc
+    by (Some reg) e q = ap (λ (x : Option Register). option_map Rattle.core_tree.specs.Sorts.sort_of x) (g.locals k reg e) ∙ q
+
+pub inner_kept : (a b : World) (v : PlainNamed) → Grew a b → InnerFits a v → InnerFits b v
+inner_kept a b (n.Object type i) g h = omega (arith, h, g.mems)
+inner_kept a b (n.Register type i) g h = (h.0, sort_kept a b i (type_sort type) g h.1)
+inner_kept a b (n.Function type i) g h = h
+inner_kept a b other g h = tt
+
+pub file_kept : (a b : World) (v : PlainNamed) → Grew a b → FileFits a v → FileFits b v
+file_kept a b (n.Object type i) g h = omega (arith, h, g.variables)
+file_kept a b (n.Register type i) g h = h
+file_kept a b other g h = tt
+
+table_more : (P Q : PlainNamed → Type 0) (one other : Table) → ((v : PlainNamed) → P v → Q v) → ((type : PlainType) → Q (Tag type)) → MoreTags one other → TableFits P one → TableFits Q other
+table_more P Q one other up tags m h name v e =
+    ⊎_elim
+    (λ (q : named_in name other ≡ named_in name one). up v (h name v (sym q ∙ e)))
+    (λ (q : IsNewTag name one other). subst Q (some_same (Tag q.1) v (sym q.4 ∙ e)) (tags q.1))
+    (m name)
+
+tables_more : (P Q : PlainNamed → Type 0) (one other : List Table) → ((v : PlainNamed) → P v → Q v) → ((type : PlainType) → Q (Tag type)) → MoreAll one other → TablesFit P one → TablesFit Q other
+tables_more P Q [] [] up tags m h = tt
+tables_more P Q [] (t ∷ ts) up tags m h = absurd m
+tables_more P Q (s ∷ ss) [] up tags m h = absurd m
+tables_more P Q (s ∷ ss) (t ∷ ts) up tags m h = (table_more P Q s t up tags m.0 h.0, tables_more P Q ss ts up tags m.1 h.1)
+
+pub names_more : (a b : World) (s t : ScopeList) → Grew a b → More s t → NamesFit a s → NamesFit b t
+names_more a b s t g m h = record {
+  file = table_more (FileFits a) (FileFits b) s.file t.file (λ v x. file_kept a b v g x) (λ type. tt) m.file h.file;
+  inner = tables_more (InnerFits a) (InnerFits b) s.inner t.inner (λ v x. inner_kept a b v g x) (λ type. tt) m.inner h.inner;
+}
+
+-- registers
+
+register_from : (f g : Table) (ss ts : List Table) (name : List ℕ) → MoreTags f g → MoreAll ss ts → is_register (found_from f name ss) ≡ false → is_register (found_from g name ts) ≡ false
+register_from f g [] [] name m k h =
+    ⊎_elim (λ (q : named_in name g ≡ named_in name f). ap is_register q ∙ h) (λ (q : IsNewTag name f g). ap is_register q.4) (m name)
+register_from f g [] (t ∷ ts) name m k h = absurd k
+register_from f g (s ∷ ss) [] name m k h = absurd k
+register_from f g (s ∷ ss) (t ∷ ts) name m k h =
+    ⊎_elim
+    (λ (q : named_in name t ≡ named_in name s). same (named_in name s) (named_in name t) q (λ j. register_from f g ss ts name m k.1 j) h)
+    (λ (q : IsNewTag name s t). ap (λ (o : Option PlainNamed). is_register (option_or o (found_from g name ts))) q.4)
+    (k.0 name)
+  where
+    same : (x y : Option PlainNamed) → y ≡ x → (is_register (found_from f name ss) ≡ false → is_register (found_from g name ts) ≡ false) → is_register (option_or x (found_from f name ss)) ≡ false → is_register (option_or y (found_from g name ts)) ≡ false
+    same (Some v) y e again q = ap (λ (o : Option PlainNamed). is_register (option_or o (found_from g name ts))) e ∙ q
+    same None y e again q = ap (λ (o : Option PlainNamed). is_register (option_or o (found_from g name ts))) e ∙ again q
+
+no_register_more : (s t : ScopeList) (o : Option (List ℕ)) → More s t → NoRegister s o → NoRegister t o
+no_register_more s t None m h = tt
+no_register_more s t (Some name) m h = register_from s.file t.file s.inner t.inner name m.file m.inner h
+
+address_more : (s t : ScopeList) (form : Form) (parts : Trees) → More s t → TakesAddress s form parts → TakesAddress t form parts
+unfolding TakesAddress
+address_more s t (f.Unary u.Address) (line ▹ e ▹ none) m h = no_register_more s t (plain_name e) m h
+address_more s t form parts m h = tt
+
+mutual
+  unfolding Spoken AllSpoken
+
+  pub spoken_more : (s t : ScopeList) (tree : Tree) → More s t → Spoken s tree → Spoken t tree
+  spoken_more s t (Leaf word) m h = tt
+  spoken_more s t (At line) m h = h
+  spoken_more s t (Node form parts) m h = (address_more s t form parts m h.0, all_spoken_more s t parts m h.1)
+
+  pub all_spoken_more : (s t : ScopeList) (trees : Trees) → More s t → AllSpoken s trees → AllSpoken t trees
+  all_spoken_more s t none m h = tt
+  all_spoken_more s t (tree ▹ rest) m h = (spoken_more s t tree m h.0, all_spoken_more s t rest m h.1)
+
+-- what is asked of an expression in a context
+pub record Ready (c : Context) (tree : Tree) : Type 0 where
+  pub spoken : Spoken c.scopes tree
+  pub names : NamesFit (world c) c.scopes
+
+pub ready_on : (c d : Context) (tree : Tree) → Goes c d → NamesFit (world c) c.scopes → Spoken c.scopes tree → Ready d tree
+ready_on c d tree g h s = record { spoken = spoken_more c.scopes d.scopes tree g.more s; names = names_more (world c) (world d) c.scopes d.scopes g.grew g.more h }
+
+-- the name of a register, in parentheses or without them
+abbrev pub NamesRegister : ScopeList → Option (List ℕ) → Type 0
+NamesRegister s None = ⊥
+NamesRegister s (Some name) = is_register (declaration s name) ≡ true
+
+abbrev pub LocalNamed : Context → Tree → Spot → Type 0
+LocalNamed c tree spot = (r : ℕ) → spot ≡ Local r → NamesRegister c.scopes (plain_name tree)
+
+pub apart_named : (c : Context) (tree : Tree) (spot : Spot) → Apart spot → LocalNamed c tree spot
+apart_named c tree (Local r) a k e = absurd a
+apart_named c tree spot a k e = cc
+
+-- what is known of an expression that was elaborated
+pub record Rests (c : Context) (tree : Tree) (z : Context × Found) : Type 0 where
+  pub sits : Sits c z
+  pub local : LocalNamed c tree z.1.spot
+  pub line : 1 ≤ code_line tree
+
+pub rests : (c : Context) (tree : Tree) (z : Context × Found) (line : ℕ) → code_line tree ≡ line → 1 ≤ line → Lands c z → Rests c tree z
+rests c tree z line e l h = record { sits = lands_sits c z h; local = apart_named c tree z.1.spot h.apart; line = subst (λ (k : ℕ). 1 ≤ k) (sym e) l }
+
+-- the name of a local
+
+plain_spot : (k : Bool) (typed : PlainTyped) (index r : ℕ) → (object_found typed k index).spot ≡ Local r → ⊥
+plain_spot true typed index r e = cc
+plain_spot false typed index r e = cc
+
+built_in_spot : (k : Bool) (typed : PlainTyped) (r : ℕ) → (built_in_found typed k).spot ≡ Local r → ⊥
+built_in_spot true typed r e = cc
+built_in_spot false typed r e = cc
+
+spot_named : (o : Option PlainNamed) (typed : PlainTyped) (inner : Bool) (r : ℕ) → (name_found typed inner o).spot ≡ Local r → is_register o ≡ true
+spot_named (Some (n.Register type i)) typed inner r e = refl
+spot_named (Some (n.Object type i)) typed inner r e = absurd (plain_spot inner typed i r e)
+spot_named (Some (n.BuiltIn i)) typed inner r e = absurd (built_in_spot typed.is_null typed r e)
+spot_named other typed inner r e = cc
+
+pub name_local : (line : ℕ) (name : List ℕ) (o : Option PlainNamed) (c : Context) (z : Context × Found) (r : ℕ) → name_answer line name o c ≡ Ok z → z.1.spot ≡ Local r → is_register o ≡ true
+name_local line name o c z r h e =
+    let t = came (named line o) h in
+    let same : (c, name_found t.value (is_inner c name) o) ≡ z = ok_same (c, name_found t.value (is_inner c name) o) z t.last in
+    spot_named o t.value (is_inner c name) r (ap (λ (x : Context × Found). x.1.spot) same ∙ e)
+
+-- operands
+
+pub record Operated (c : Context) (tree : Tree) (z : Context × Found) : Type 0 where
+  pub comes : Comes c z
+  pub line : 1 ≤ code_line tree
+
+pub unused_operated : (tree : Tree) (c : Context) (answer : With Found) (z : Context × Found) → ((d : Context × Found) → answer ≡ Ok d → Rests c tree d) → unused tree answer ≡ Ok z → Operated c tree z
+unused_operated tree c answer z h q =
+    let d = came answer q in
+    let l = (h d.value d.is).line in
+    record { comes = unused_comes tree c answer z l (λ x k. (h x k).sits) q; line = l }
+
+pub valued_operated : (tree : Tree) (c : Context) (answer : With Found) (z : Context × Found) → ((d : Context × Found) → answer ≡ Ok d → Rests c tree d) → valued tree answer ≡ Ok z → Operated c tree z
+valued_operated tree c answer z h q = unused_operated tree c answer z h (valued_unused tree answer z q)

@@ -1,0 +1,24 @@
+-- What holds of a choice where it holds of both of its sides, and what options and lists are that are equal or long enough.
+use Rattle.std.proofs.Common.{◌≡◌, ◌<◌, ℕ, zero, suc, Bool, true, false, ◌&&◌, cond, List, [], ◌∷◌, length, Option, Some, None, is_some, slice_get, refl, arith}
+
+pub either_way : {A : Type 0} (P : A → Type 0) (test : Bool) {x y : A} → P x → P y → P (cond test x y)
+either_way P true g h = g
+either_way P false g h = h
+
+pub some_same : {A : Type 0} (x y : A) → Some x ≡ Some y → x ≡ y
+some_same x y e = cc
+
+pub three_parts : (x y z : Bool) → x && y && z ≡ true → (x ≡ true) × (y ≡ true) × (z ≡ true)
+three_parts true true true e = (refl, refl, refl)
+three_parts true true false e = cc
+three_parts true false z e = cc
+three_parts false y z e = cc
+
+pub get_some : {A : Type 0} (xs : List A) (k : ℕ) → k < length xs → (x : A) × (slice_get xs k ≡ Some x)
+get_some [] k h = absurd (omega (arith, h))
+get_some (x ∷ xs) zero h = (x, refl)
+get_some (x ∷ xs) (suc k) h = get_some xs k (omega (arith, h))
+
+pub some_number : (o : Option ℕ) → is_some o ≡ true → (k : ℕ) × (o ≡ Some k)
+some_number None e = cc
+some_number (Some k) e = (k, refl)

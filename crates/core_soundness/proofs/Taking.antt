@@ -1,0 +1,579 @@
+-- The walk over addresses: what it adds, and what it leaves.
+use Rattle.std.proofs.Common.{◌≡◌, ℕ, Bool, true, false, ◌||◌, nat_eq, List, [], ◌∷◌, Option, Some, None, refl, ◌≤◌, sym, ap, ◌∙◌, zero, suc, length, ⊎_elim, ◌++◌, replicate}
+use Rattle.std.specs.List.{list_any}
+use Rattle.std.specs.Option.{option_or}
+use Rattle.c_tree.specs.Forms as f
+use Rattle.c_tree.specs.Forms.{Form}
+use Rattle.c_tree.specs.Grammar.{shape, Part, key, rows, some, commas, behind_commas, some_commas, here_rows}
+use Rattle.c_tree.specs.Places as p
+use Rattle.c_tree.specs.Places.{Place}
+use Rattle.c_tree.specs.Scopes.{name_among, is_scope, places}
+use Rattle.c_tree.specs.Tree.{Tree, Trees, Node, none, ◌▹◌, count, Leaf, At}
+use Rattle.c_tree.specs.declared.operator.UnaryOp.TheVariants as u
+use Rattle.c_tree.specs.declared.word.Keyword.TheVariants as k
+use Rattle.c_decls.specs.Named as n
+use Rattle.c_decls.specs.Named.{PlainNamed, Tag}
+use Rattle.c_decls.specs.ScopeList as scopes
+use Rattle.c_decls.specs.ScopeList.{ScopeList, Table, found, named_in, found_from, tail}
+use Rattle.elaboration.specs.Addressed.{Taken, number_of, plain_name, with_number, with_address, with_known, declare, left, left_part, taken, all_taken, left_scope}
+use Rattle.elaboration.specs.Context.{Context, left as left_context}
+use Rattle.core_soundness.specs.Spoken.{is_register}
+use Rattle.core_soundness.specs.Worlds.{World, world, FileFits, TableFits}
+use Rattle.core_soundness.specs.Written.{HasParts, Written, AllWritten}
+use Rattle.core_soundness.proofs.Formed.{NoNodes, Shaped, Formed, AllFormed, behind_stars}
+use Rattle.core_soundness.proofs.Scopes.{More, MoreAll, IsNewTag}
+
+-- of which parameters and locals the address was taken stays known behind each tree
+
+-- a number is one of a list
+abbrev pub Has : List ℕ → ℕ → Type 0
+Has numbers k = list_any (λ number. nat_eq number k) numbers ≡ true
+
+-- each number of a list is one of another
+abbrev pub Inside : List ℕ → List ℕ → Type 0
+Inside one other = (k : ℕ) → Has one k → Has other k
+
+or_right : (x y : Bool) → y ≡ true → x || y ≡ true
+or_right true y e = refl
+or_right false y e = e
+
+with_number_adds : (o : Option ℕ) (t : Taken) (k : ℕ) → Has t.addressed k → Has (with_number o t).addressed k
+with_number_adds None t k h = h
+with_number_adds (Some n) t k h = or_right (nat_eq n k) _ h
+
+with_address_adds : (o : Option (List ℕ)) (t : Taken) (k : ℕ) → Has t.addressed k → Has (with_address o t).addressed k
+with_address_adds None t k h = h
+with_address_adds (Some name) t k h = with_number_adds (number_of t.names name) t k h
+
+known_adds : (name : Option (List ℕ)) (number : Option ℕ) (t : Taken) (k : ℕ) → Has t.addressed k → Has (with_known name number t).addressed k
+known_adds None number t k h = h
+known_adds (Some name) number t k h = h
+
+declare_adds : (typedef : Bool) (name : Option (List ℕ)) (t : Taken) (k : ℕ) → Has t.addressed k → Has (declare typedef name t).addressed k
+declare_adds true name t k h = known_adds name None t k h
+declare_adds false name t k h = known_adds name (Some t.declared) t k h
+
+pub left_adds : (form : Form) (parts : Trees) (before inner : Taken) (k : ℕ) → Has inner.addressed k → Has (left form parts before inner).addressed k
+unfolding left
+left_adds f.Body parts before inner k h = h
+left_adds f.Block parts before inner k h = h
+left_adds f.Delay parts before inner k h = h
+left_adds f.If parts before inner k h = h
+left_adds f.IfElse parts before inner k h = h
+left_adds f.While parts before inner k h = h
+left_adds f.Do parts before inner k h = h
+left_adds f.For parts before inner k h = h
+left_adds f.Switch parts before inner k h = h
+left_adds f.FunctionSuffix parts before inner k h = h
+left_adds f.Specs parts before inner k h = h
+left_adds f.Declared parts before inner k h = declare_adds before.typedef (name_among parts) (record inner { typedef = before.typedef }) k h
+left_adds f.Param parts before inner k h = known_adds (name_among parts) (Some inner.declared) (record inner { typedef = before.typedef }) k h
+left_adds f.Enumerator parts before inner k h = known_adds (name_among parts) None (record inner { typedef = before.typedef }) k h
+left_adds (f.Unary u.Address) (line ▹ e ▹ none) before inner k h = with_address_adds (plain_name e) inner k h
+left_adds form parts before inner k h = h
+
+pub part_adds : (scope : Bool) (before inner : Taken) (k : ℕ) → Has inner.addressed k → Has (left_part scope before inner).addressed k
+part_adds true before inner k h = h
+part_adds false before inner k h = h
+
+mutual
+  unfolding taken all_taken
+
+  pub taken_adds : (tree : Tree) (t : Taken) (k : ℕ) → Has t.addressed k → Has (taken tree t).addressed k
+  taken_adds (Node form parts) t k h =
+      left_adds form parts t (all_taken parts (places (shape form (count parts))) t) k (all_taken_adds parts (places (shape form (count parts))) t k h)
+  taken_adds other t k h = h
+
+  pub all_taken_adds : (parts : Trees) (ps : List Place) (t : Taken) (k : ℕ) → Has t.addressed k → Has (all_taken parts ps t).addressed k
+  all_taken_adds none ps t k h = h
+  all_taken_adds (tree ▹ rest) [] t k h = h
+  all_taken_adds (tree ▹ rest) (place ∷ ps) t k h =
+      all_taken_adds rest ps (left_part (is_scope place) t (taken tree t)) k (part_adds (is_scope place) t (taken tree t) k (taken_adds tree t k h))
+
+-- a tree whose addresses are among given numbers: what is so of a statement is so of each part where it is walked
+
+-- the addresses that are taken up to the end of a tree are among these
+pub record Good (numbers : List ℕ) (t : Taken) (tree : Tree) : Type 0 where
+  pub inside : Inside (taken tree t).addressed numbers
+  pub written : Written tree
+  pub formed : Formed tree
+
+-- the same of parts of a list
+pub record AllGood (numbers : List ℕ) (t : Taken) (parts : Trees) (ps : List Place) : Type 0 where
+  pub inside : Inside (all_taken parts ps t).addressed numbers
+  pub written : AllWritten parts
+  pub formed : AllFormed parts
+
+-- what is asked of a declaration in front of a `for` is what is asked of one
+names_shaped : (line : ℕ) (words names : Tree) → Shaped f.ForNames (words ▹ names ▹ none) → Shaped f.Local (At line ▹ words ▹ names ▹ none)
+unfolding Shaped
+names_shaped line words (Node f.Names entries) h = h
+names_shaped line words names h = tt
+
+-- the items of a block
+abbrev pub ItemsGood : List ℕ → Taken → Trees → Type 0
+ItemsGood numbers t parts = AllGood numbers t parts (places (shape f.Items (count parts)))
+
+-- what is known behind items
+abbrev pub behind_items : Trees → Taken → Taken
+behind_items parts t = all_taken parts (places (shape f.Items (count parts))) t
+
+-- what is known behind parts, where none of the names is one of typedef names
+abbrev pub as_before : Taken → Taken → Taken
+as_before t u = record u { typedef = t.typedef }
+
+module _ (t : Taken) where
+  pub expr_taken : (line : ℕ) (e : Tree) → as_before t (taken e t) ≡ taken (Node f.Expr (At line ▹ e ▹ none)) t
+  unfolding taken all_taken left shape is_scope
+  expr_taken line e = refl
+
+  pub block_taken : (line : ℕ) (parts : Trees) → left_scope t (behind_items parts t) ≡ taken (Node f.Block (At line ▹ Node f.Items parts ▹ none)) t
+  unfolding taken all_taken left shape is_scope
+  block_taken line parts = refl
+
+  pub delay_taken : (line : ℕ) (parts : Trees) → left_scope t (behind_items parts t) ≡ taken (Node f.Delay (At line ▹ Node f.Items parts ▹ none)) t
+  unfolding taken all_taken left shape is_scope
+  delay_taken line parts = refl
+
+  pub if_taken : (line : ℕ) (e s : Tree) → left_scope t (left_scope (taken e t) (taken s (taken e t))) ≡ taken (Node f.If (At line ▹ e ▹ s ▹ none)) t
+  unfolding taken all_taken left shape is_scope
+  if_taken line e s = refl
+
+  pub else_taken : (line : ℕ) (e s other : Tree) (u : Taken) → left_scope (taken e t) (taken s (taken e t)) ≡ u → left_scope t (left_scope u (taken other u)) ≡ taken (Node f.IfElse (At line ▹ e ▹ s ▹ other ▹ none)) t
+  unfolding taken all_taken left shape is_scope
+  else_taken line e s other u h = ap (λ (v : Taken). left_scope t (left_scope v (taken other v))) (sym h)
+
+  pub while_taken : (line : ℕ) (e s : Tree) → left_scope t (left_scope (taken e t) (taken s (taken e t))) ≡ taken (Node f.While (At line ▹ e ▹ s ▹ none)) t
+  unfolding taken all_taken left shape is_scope
+  while_taken line e s = refl
+
+  pub do_taken : (line : ℕ) (s e : Tree) → left_scope t (taken e (left_scope t (taken s t))) ≡ taken (Node f.Do (At line ▹ s ▹ e ▹ none)) t
+  unfolding taken all_taken left shape is_scope
+  do_taken line s e = refl
+
+  pub for_taken : (line : ℕ) (start s : Tree) (test step : Trees) (u : Taken) → taken (Node f.MaybeExpr step) (taken (Node f.MaybeExpr test) (taken start t)) ≡ u → left_scope t (left_scope u (taken s u)) ≡ taken (Node f.For (At line ▹ start ▹ Node f.MaybeExpr test ▹ Node f.MaybeExpr step ▹ s ▹ none)) t
+  unfolding taken all_taken left shape is_scope
+  for_taken line start s test step u h = ap (λ (v : Taken). left_scope t (left_scope v (taken s v))) (sym h)
+
+  pub switch_taken : (line at : ℕ) (e : Tree) (parts : Trees) → left_scope t (left_scope (taken e t) (behind_items parts (taken e t))) ≡ taken (Node f.Switch (At line ▹ e ▹ Node f.Block (At at ▹ Node f.Items parts ▹ none) ▹ none)) t
+  unfolding taken all_taken left shape is_scope
+  switch_taken line at e parts = refl
+
+  pub case_taken : (line : ℕ) (e s : Tree) → as_before t (taken s (taken e t)) ≡ taken (Node f.Case (At line ▹ e ▹ s ▹ none)) t
+  unfolding taken all_taken left shape is_scope
+  case_taken line e s = refl
+
+  pub default_taken : (line : ℕ) (s : Tree) → as_before t (taken s t) ≡ taken (Node f.Default (At line ▹ s ▹ none)) t
+  unfolding taken all_taken left shape is_scope
+  default_taken line s = refl
+
+  pub break_taken : (line : ℕ) → t ≡ taken (Node f.Break (At line ▹ none)) t
+  unfolding taken all_taken left shape is_scope
+  break_taken line = refl
+
+  pub continue_taken : (line : ℕ) → t ≡ taken (Node f.Continue (At line ▹ none)) t
+  unfolding taken all_taken left shape is_scope
+  continue_taken line = refl
+
+  pub return_taken : (line : ℕ) (es : Trees) → as_before t (taken (Node f.MaybeExpr es) t) ≡ taken (Node f.Return (At line ▹ Node f.MaybeExpr es ▹ none)) t
+  unfolding taken all_taken left shape is_scope
+  return_taken line es = refl
+
+  pub start_taken : (es : Trees) → as_before t (taken (Node f.MaybeExpr es) t) ≡ taken (Node f.ForStart (Node f.MaybeExpr es ▹ none)) t
+  unfolding taken all_taken left shape is_scope
+  start_taken es = refl
+
+  pub names_taken : (line : ℕ) (words names : Tree) → taken (Node f.Local (At line ▹ words ▹ names ▹ none)) t ≡ taken (Node f.ForNames (words ▹ names ▹ none)) t
+  unfolding taken all_taken left shape is_scope
+  names_taken line words names = refl
+
+  pub items_taken : (item : Tree) (rest : Trees) → behind_items rest (taken item t) ≡ behind_items (item ▹ rest) t
+  unfolding all_taken shape is_scope
+  items_taken item rest = refl
+
+  pub none_taken : t ≡ behind_items none t
+  unfolding all_taken
+  none_taken = refl
+
+-- words alone change nothing
+part_same : (scope : Bool) (t : Taken) → left_part scope t t ≡ t
+part_same true t = refl
+part_same false t = refl
+
+words_taken : (parts : Trees) (ps : List Place) (t : Taken) → NoNodes parts → all_taken parts ps t ≡ t
+unfolding taken all_taken
+words_taken none ps t h = refl
+words_taken (Leaf word ▹ rest) (place ∷ ps) t h = ap (λ (u : Taken). all_taken rest ps u) (part_same (is_scope place) t) ∙ words_taken rest ps t h
+words_taken (At line ▹ rest) (place ∷ ps) t h = ap (λ (u : Taken). all_taken rest ps u) (part_same (is_scope place) t) ∙ words_taken rest ps t h
+words_taken (Node form parts ▹ rest) ps t h = absurd h
+words_taken other [] t h = refl
+
+pub empty_taken : (parts : Trees) (t : Taken) → Formed (Node f.Empty parts) → t ≡ taken (Node f.Empty parts) t
+unfolding taken left Formed Shaped
+empty_taken parts t g = ap (λ (u : Taken). as_before t u) (sym (words_taken parts (places (shape f.Empty (count parts))) t g.0))
+
+module _ (numbers : List ℕ) (t : Taken) where
+  pub line_good : (form : Form) (line : ℕ) (rest : Trees) → Good numbers t (Node form (At line ▹ rest)) → 1 ≤ line
+  unfolding Written AllWritten
+  line_good form line rest g = g.written.1.0
+
+  pub expr_good : (line : ℕ) (e : Tree) → Good numbers t (Node f.Expr (At line ▹ e ▹ none)) → Good numbers t e
+  unfolding taken all_taken left shape is_scope Written AllWritten Formed AllFormed
+  expr_good line e g = record { inside = g.inside; written = g.written.1.1.0; formed = g.formed.1.1.0 }
+
+  pub block_good : (line : ℕ) (parts : Trees) → Good numbers t (Node f.Block (At line ▹ Node f.Items parts ▹ none)) → ItemsGood numbers t parts
+  unfolding taken all_taken left shape is_scope Written AllWritten Formed AllFormed
+  block_good line parts g = record { inside = g.inside; written = g.written.1.1.0.1; formed = g.formed.1.1.0.1 }
+
+  pub delay_good : (line : ℕ) (parts : Trees) → Good numbers t (Node f.Delay (At line ▹ Node f.Items parts ▹ none)) → (1 ≤ line) × ItemsGood numbers t parts
+  unfolding taken all_taken left shape is_scope Written AllWritten Formed AllFormed
+  delay_good line parts g = (g.written.1.0, record { inside = g.inside; written = g.written.1.1.0.1; formed = g.formed.1.1.0.1 })
+
+  pub if_good : (line : ℕ) (e s : Tree) → Good numbers t (Node f.If (At line ▹ e ▹ s ▹ none)) → (1 ≤ line) × Good numbers t e × Good numbers (taken e t) s
+  unfolding taken all_taken left shape is_scope Written AllWritten Formed AllFormed
+  if_good line e s g = (
+    g.written.1.0,
+    record { inside = λ k h. g.inside k (taken_adds s (taken e t) k h); written = g.written.1.1.0; formed = g.formed.1.1.0 },
+    record { inside = g.inside; written = g.written.1.1.1.0; formed = g.formed.1.1.1.0 },
+  )
+
+  pub else_good : (line : ℕ) (e s other : Tree) → Good numbers t (Node f.IfElse (At line ▹ e ▹ s ▹ other ▹ none)) → (1 ≤ line) × Good numbers t e × Good numbers (taken e t) s × Good numbers (left_scope (taken e t) (taken s (taken e t))) other
+  unfolding taken all_taken left shape is_scope Written AllWritten Formed AllFormed
+  else_good line e s other g =
+      let u : Taken = left_scope (taken e t) (taken s (taken e t)) in (
+        g.written.1.0,
+        record { inside = λ k h. g.inside k (taken_adds other u k (taken_adds s (taken e t) k h)); written = g.written.1.1.0; formed = g.formed.1.1.0 },
+        record { inside = λ k h. g.inside k (taken_adds other u k h); written = g.written.1.1.1.0; formed = g.formed.1.1.1.0 },
+        record { inside = g.inside; written = g.written.1.1.1.1.0; formed = g.formed.1.1.1.1.0 },
+      )
+
+  pub while_good : (line : ℕ) (e s : Tree) → Good numbers t (Node f.While (At line ▹ e ▹ s ▹ none)) → (1 ≤ line) × Good numbers t e × Good numbers (taken e t) s
+  unfolding taken all_taken left shape is_scope Written AllWritten Formed AllFormed
+  while_good line e s g = (
+    g.written.1.0,
+    record { inside = λ k h. g.inside k (taken_adds s (taken e t) k h); written = g.written.1.1.0; formed = g.formed.1.1.0 },
+    record { inside = g.inside; written = g.written.1.1.1.0; formed = g.formed.1.1.1.0 },
+  )
+
+  pub do_good : (line : ℕ) (s e : Tree) → Good numbers t (Node f.Do (At line ▹ s ▹ e ▹ none)) → (1 ≤ line) × Good numbers t s × Good numbers (left_scope t (taken s t)) e
+  unfolding taken all_taken left shape is_scope Written AllWritten Formed AllFormed
+  do_good line s e g = (
+    g.written.1.0,
+    record { inside = λ k h. g.inside k (taken_adds e (left_scope t (taken s t)) k h); written = g.written.1.1.0; formed = g.formed.1.1.0 },
+    record { inside = g.inside; written = g.written.1.1.1.0; formed = g.formed.1.1.1.0 },
+  )
+
+  pub for_good : (line : ℕ) (start s : Tree) (test step : Trees) → Good numbers t (Node f.For (At line ▹ start ▹ Node f.MaybeExpr test ▹ Node f.MaybeExpr step ▹ s ▹ none))
+      → (1 ≤ line) × Good numbers t start × Good numbers (taken start t) (Node f.MaybeExpr test) × Good numbers (taken (Node f.MaybeExpr test) (taken start t)) (Node f.MaybeExpr step)
+      × Good numbers (taken (Node f.MaybeExpr step) (taken (Node f.MaybeExpr test) (taken start t))) s
+  unfolding taken all_taken left shape is_scope Written AllWritten Formed AllFormed
+  for_good line start s test step g =
+      let t1 : Taken = taken start t in
+      let t2 : Taken = taken (Node f.MaybeExpr test) t1 in
+      let t3 : Taken = taken (Node f.MaybeExpr step) t2 in (
+        g.written.1.0,
+        record { inside = λ k h. g.inside k (taken_adds s t3 k (taken_adds (Node f.MaybeExpr step) t2 k (taken_adds (Node f.MaybeExpr test) t1 k h))); written = g.written.1.1.0; formed = g.formed.1.1.0 },
+        record { inside = λ k h. g.inside k (taken_adds s t3 k (taken_adds (Node f.MaybeExpr step) t2 k h)); written = g.written.1.1.1.0; formed = g.formed.1.1.1.0 },
+        record { inside = λ k h. g.inside k (taken_adds s t3 k h); written = g.written.1.1.1.1.0; formed = g.formed.1.1.1.1.0 },
+        record { inside = g.inside; written = g.written.1.1.1.1.1.0; formed = g.formed.1.1.1.1.1.0 },
+      )
+
+  pub switch_good : (line at : ℕ) (e : Tree) (parts : Trees) → Good numbers t (Node f.Switch (At line ▹ e ▹ Node f.Block (At at ▹ Node f.Items parts ▹ none) ▹ none)) → (1 ≤ line) × Good numbers t e × ItemsGood numbers (taken e t) parts
+  unfolding taken all_taken left shape is_scope Written AllWritten Formed AllFormed
+  switch_good line at e parts g = (
+    g.written.1.0,
+    record { inside = λ k h. g.inside k (all_taken_adds parts (places (shape f.Items (count parts))) (taken e t) k h); written = g.written.1.1.0; formed = g.formed.1.1.0 },
+    record { inside = g.inside; written = g.written.1.1.1.0.1.1.0.1; formed = g.formed.1.1.1.0.1.1.0.1 },
+  )
+
+  pub case_good : (line : ℕ) (e s : Tree) → Good numbers t (Node f.Case (At line ▹ e ▹ s ▹ none)) → Good numbers t e × Good numbers (taken e t) s
+  unfolding taken all_taken left shape is_scope Written AllWritten Formed AllFormed
+  case_good line e s g = (
+    record { inside = λ k h. g.inside k (taken_adds s (taken e t) k h); written = g.written.1.1.0; formed = g.formed.1.1.0 },
+    record { inside = g.inside; written = g.written.1.1.1.0; formed = g.formed.1.1.1.0 },
+  )
+
+  pub default_good : (line : ℕ) (s : Tree) → Good numbers t (Node f.Default (At line ▹ s ▹ none)) → Good numbers t s
+  unfolding taken all_taken left shape is_scope Written AllWritten Formed AllFormed
+  default_good line s g = record { inside = g.inside; written = g.written.1.1.0; formed = g.formed.1.1.0 }
+
+  pub return_good : (line : ℕ) (es : Trees) → Good numbers t (Node f.Return (At line ▹ Node f.MaybeExpr es ▹ none)) → (1 ≤ line) × Good numbers t (Node f.MaybeExpr es)
+  unfolding taken all_taken left shape is_scope Written AllWritten Formed AllFormed
+  return_good line es g = (g.written.1.0, record { inside = g.inside; written = g.written.1.1.0; formed = g.formed.1.1.0 })
+
+  pub start_good : (es : Trees) → Good numbers t (Node f.ForStart (Node f.MaybeExpr es ▹ none)) → Good numbers t (Node f.MaybeExpr es)
+  unfolding taken all_taken left shape is_scope Written AllWritten Formed AllFormed
+  start_good es g = record { inside = g.inside; written = g.written.1.0; formed = g.formed.1.0 }
+
+  pub names_good : (line : ℕ) (words names : Tree) → 1 ≤ line → Good numbers t (Node f.ForNames (words ▹ names ▹ none)) → Good numbers t (Node f.Local (At line ▹ words ▹ names ▹ none))
+  unfolding taken all_taken left shape is_scope Written AllWritten Formed AllFormed Shaped HasParts
+  names_good line words names l g = record { inside = g.inside; written = (tt, (l, g.written.1)); formed = (names_shaped line words names g.formed.0, (tt, g.formed.1)) }
+
+  pub body_good : (end : ℕ) (parts : Trees) → Good numbers t (Node f.Body (Node f.Items parts ▹ At end ▹ none)) → (1 ≤ end) × ItemsGood numbers t parts
+  unfolding taken all_taken left shape is_scope Written AllWritten Formed AllFormed
+  body_good end parts g = (g.written.1.1.0, record { inside = g.inside; written = g.written.1.0.1; formed = g.formed.1.0.1 })
+
+  pub items_good : (item : Tree) (rest : Trees) → ItemsGood numbers t (item ▹ rest) → Good numbers t item × ItemsGood numbers (taken item t) rest
+  unfolding all_taken shape is_scope AllWritten AllFormed
+  items_good item rest g = (
+    record { inside = λ k h. g.inside k (all_taken_adds rest (places (shape f.Items (count rest))) (taken item t) k h); written = g.written.0; formed = g.formed.0 },
+    record { inside = g.inside; written = g.written.1; formed = g.formed.1 },
+  )
+
+-- what the walk over addresses knows at a place goes with what elaboration knows there
+
+-- a number is one of a list
+abbrev pub among : ℕ → List ℕ → Bool
+among k numbers = list_any (λ number. nat_eq number k) numbers
+
+-- a name has a number, and the address of what has it is taken nowhere
+abbrev pub Numbered : Taken → List ℕ → List ℕ → Type 0
+Numbered t addressed name = (k : ℕ) × (number_of t.names name ≡ Some k) × (among k addressed ≡ false)
+
+-- as many are declared, and a name that stands for a register is such a one
+abbrev pub FollowsAt : Taken → ScopeList → ℕ → List ℕ → Type 0
+FollowsAt t s declared addressed =
+    (t.declared ≡ declared) × ((name : List ℕ) → is_register (found s name) ≡ true → Numbered t addressed name)
+
+abbrev pub Follows : Taken → Context → Type 0
+Follows t c = FollowsAt t c.scopes c.running.declared c.running.addressed
+
+-- a scope is open
+abbrev pub HasScope : List Table → Type 0
+HasScope [] = ⊥
+HasScope (scope ∷ outer) = Unit {0}
+
+-- inside a function, where no typedef names are being declared
+abbrev pub InStep : Taken → Context → Type 0
+InStep t c = (t.typedef ≡ false) × HasScope c.scopes.inner × Follows t c
+
+-- the same names, and as many that are declared
+pub record Same (t u : Taken) : Type 0 where
+  pub names : u.names ≡ t.names
+  pub typedef : u.typedef ≡ t.typedef
+  pub declared : u.declared ≡ t.declared
+
+-- no name stands for a register behind that did not before
+abbrev pub Fewer : ScopeList → ScopeList → Type 0
+Fewer s r = (name : List ℕ) → is_register (found r name) ≡ true → is_register (found s name) ≡ true
+
+-- what an expression leaves as it was
+pub record Keeps (c d : Context) : Type 0 where
+  pub more : More c.scopes d.scopes
+  pub declared : d.running.declared ≡ c.running.declared
+  pub addressed : d.running.addressed ≡ c.running.addressed
+
+-- some scopes are left
+abbrev pub drops : ℕ → ScopeList → ScopeList
+drops zero s = s
+drops (suc k) s = drops k (scopes.left s)
+
+-- what any part leaves as it was
+pub record Stepped (t : Taken) (c : Context) (u : Taken) (d : Context) : Type 0 where
+  pub follows : Follows u d
+  pub addressed : d.running.addressed ≡ c.running.addressed
+  pub depth : length d.scopes.inner ≡ length c.scopes.inner
+  pub outside : (k : ℕ) → Fewer (drops k (scopes.left c.scopes)) (drops k (scopes.left d.scopes))
+
+-- parts in turn, whatever their places are, if none is a scope
+unfoldable pub each : Trees → Taken → Taken
+each none t = t
+each (tree ▹ rest) t = each rest (taken tree t)
+
+-- behind a scope, what the walk over addresses knows is what it knew before it, with the numbers that were given inside
+
+-- a name at file scope is no register
+pub file_none : (w : World) (g : Table) (name : List ℕ) → TableFits (FileFits w) g → is_register (named_in name g) ≡ true → ⊥
+file_none w g name h e = by (named_in name g) (λ v q. h name v q) e
+  where
+    by : (o : Option PlainNamed) → ((v : PlainNamed) → o ≡ Some v → FileFits w v) → is_register o ≡ true → ⊥
+    by (Some (n.Register type i)) fits e = fits (n.Register type i) refl
+    by other fits e = cc
+
+register_back : (w : World) (f g : Table) (ss ts : List Table) (name : List ℕ) → TableFits (FileFits w) g → MoreAll ss ts → is_register (found_from g name ts) ≡ true → is_register (found_from f name ss) ≡ true
+register_back w f g [] [] name h m e = absurd (file_none w g name h e)
+register_back w f g [] (t ∷ ts) name h m e = absurd m
+register_back w f g (s ∷ ss) [] name h m e = absurd m
+register_back w f g (s ∷ ss) (t ∷ ts) name h m e =
+    ⊎_elim
+    (λ (q : named_in name t ≡ named_in name s). same (named_in name s) (named_in name t) q (λ j. register_back w f g ss ts name h m.1 j) e)
+    (λ (q : IsNewTag name s t). let clash : false ≡ true = sym (ap (λ (o : Option PlainNamed). is_register (option_or o (found_from g name ts))) q.4) ∙ e in cc)
+    (m.0 name)
+  where
+    same : (x y : Option PlainNamed) → y ≡ x → (is_register (found_from g name ts) ≡ true → is_register (found_from f name ss) ≡ true) → is_register (option_or y (found_from g name ts)) ≡ true → is_register (option_or x (found_from f name ss)) ≡ true
+    same (Some v) y q again k = sym (ap (λ (o : Option PlainNamed). is_register (option_or o (found_from g name ts))) q) ∙ k
+    same None y q again k = again (sym (ap (λ (o : Option PlainNamed). is_register (option_or o (found_from g name ts))) q) ∙ k)
+
+pub scope_more : (ss ts : List Table) → MoreAll ss ts → HasScope ss → HasScope ts
+scope_more [] ts m h = absurd h
+scope_more (s ∷ ss) [] m h = absurd m
+scope_more (s ∷ ss) (t ∷ ts) m h = tt
+
+pub step_left : (t u : Taken) (c d : Context) → InStep t c → InStep u d → d.running.addressed ≡ c.running.addressed → TableFits (FileFits (world d)) d.scopes.file → MoreAll c.scopes.inner (tail d.scopes.inner) → InStep (left_scope t u) (left_context d)
+step_left t u c d s r same h m = (
+  s.0,
+  scope_more c.scopes.inner (tail d.scopes.inner) m s.1,
+  (
+    r.2.0,
+    λ name e. let k : Numbered t c.running.addressed name = s.2.1 name (register_back (world d) c.scopes.file d.scopes.file c.scopes.inner (tail d.scopes.inner) name h m e) in
+        (k.0, k.1, ap (λ (numbers : List ℕ). among k.0 numbers) same ∙ k.2),
+  ),
+)
+
+-- trees that declare nothing: behind them the walk over addresses knows the same names
+
+abbrev pub declares : Form → Bool
+declares f.Declared = true
+declares f.Param = true
+declares f.Enumerator = true
+declares _ = false
+
+-- each part has a place
+abbrev pub Held : Trees → List Place → Type 0
+Held none ps = Unit {0}
+Held (tree ▹ rest) [] = ⊥
+Held (tree ▹ rest) (place ∷ ps) = Held rest ps
+
+unfoldable mutual
+  pub Still : Tree → Type 0
+  Still (Leaf word) = Unit {0}
+  Still (At line) = Unit {0}
+  Still (Node form parts) = (declares form ≡ false) × Held parts (places (shape form (count parts))) × AllStill parts
+
+  pub AllStill : Trees → Type 0
+  AllStill none = Unit {0}
+  AllStill (tree ▹ rest) = Still tree × AllStill rest
+
+pub no_nodes_still : (parts : Trees) → NoNodes parts → AllStill parts
+unfolding Still AllStill
+no_nodes_still none h = tt
+no_nodes_still (Leaf word ▹ rest) h = (tt, no_nodes_still rest h)
+no_nodes_still (At line ▹ rest) h = (tt, no_nodes_still rest h)
+no_nodes_still (Node _ parts ▹ rest) h = absurd h
+
+-- lists of parts have a place for each
+
+pub rows_held : (place : Place) (parts : Trees) → Held parts (places (rows place (count parts)))
+rows_held place none = tt
+rows_held place (tree ▹ rest) = rows_held place rest
+
+pub some_held : (place : Place) (parts : Trees) → Held parts (places (some place (count parts)))
+some_held place none = tt
+some_held place (tree ▹ rest) = rows_held place rest
+
+behind_held : (place : Place) (parts : Trees) → Held parts (places (behind_commas place (count parts)))
+behind_held place none = tt
+behind_held place (tree ▹ rest) = behind_held place rest
+
+pub commas_held : (place : Place) (parts : Trees) → Held parts (places (commas place (count parts)))
+commas_held place none = tt
+commas_held place (tree ▹ rest) = behind_held place rest
+
+pub some_commas_held : (place : Place) (parts : Trees) → Held parts (places (some_commas place (count parts)))
+some_commas_held place none = tt
+some_commas_held place (tree ▹ rest) = behind_held place rest
+
+pub here_held : (place : Place) (line : Tree) (parts : Trees) → Held (line ▹ parts) (places (here_rows place (suc (count parts))))
+here_held place line parts = rows_held place parts
+
+-- the same names, and as many declared
+
+abbrev pub SameNames : Taken → Taken → Type 0
+SameNames t u = (u.names ≡ t.names) × (u.declared ≡ t.declared)
+
+address_names : (o : Option (List ℕ)) (t : Taken) → SameNames t (with_address o t)
+address_names None t = (refl, refl)
+address_names (Some name) t = by (number_of t.names name)
+  where
+    by : (o : Option ℕ) → SameNames t (with_number o t)
+    by None = (refl, refl)
+    by (Some n) = (refl, refl)
+
+pub left_names : (form : Form) (parts : Trees) (before inner : Taken) → declares form ≡ false → SameNames before inner → SameNames before (left form parts before inner)
+unfolding left
+left_names f.Body parts before inner e h = (refl, h.1)
+left_names f.Block parts before inner e h = (refl, h.1)
+left_names f.Delay parts before inner e h = (refl, h.1)
+left_names f.If parts before inner e h = (refl, h.1)
+left_names f.IfElse parts before inner e h = (refl, h.1)
+left_names f.While parts before inner e h = (refl, h.1)
+left_names f.Do parts before inner e h = (refl, h.1)
+left_names f.For parts before inner e h = (refl, h.1)
+left_names f.Switch parts before inner e h = (refl, h.1)
+left_names f.FunctionSuffix parts before inner e h = (refl, h.1)
+left_names f.Declared parts before inner e h = cc
+left_names f.Param parts before inner e h = cc
+left_names f.Enumerator parts before inner e h = cc
+left_names (f.Unary u.Address) (line ▹ e1 ▹ none) before inner e h =
+    let a = address_names (plain_name e1) inner in (a.0 ∙ h.0, a.1 ∙ h.1)
+left_names _ parts before inner e h = (h.0, h.1)
+
+pub part_names : (scope : Bool) (before inner : Taken) → SameNames before inner → SameNames before (left_part scope before inner)
+part_names true before inner h = (refl, h.1)
+part_names false before inner h = h
+
+mutual
+  unfolding taken all_taken Still AllStill
+
+  pub still_names : (tree : Tree) (t : Taken) → Still tree → SameNames t (taken tree t)
+  still_names (Node form parts) t h =
+      left_names form parts t (all_taken parts (places (shape form (count parts))) t) h.0 (all_still_names parts (places (shape form (count parts))) t h.2)
+  still_names other t h = (refl, refl)
+
+  pub all_still_names : (parts : Trees) (ps : List Place) (t : Taken) → AllStill parts → SameNames t (all_taken parts ps t)
+  all_still_names none ps t h = (refl, refl)
+  all_still_names (tree ▹ rest) [] t h = (refl, refl)
+  all_still_names (tree ▹ rest) (place ∷ ps) t h =
+      let a = part_names (is_scope place) t (taken tree t) (still_names tree t h.0) in
+      let b = all_still_names rest ps (left_part (is_scope place) t (taken tree t)) h.1 in
+      (b.0 ∙ a.0, b.1 ∙ a.1)
+
+-- a tree that is still, and behind which it is no other declaration that runs
+
+pub record Calm (tree : Tree) : Type 0 where
+  pub still : Still tree
+  pub typedef : (t : Taken) → (taken tree t).typedef ≡ t.typedef
+
+pub calm_same : (tree : Tree) (t : Taken) → Calm tree → Same t (taken tree t)
+calm_same tree t h = let n = still_names tree t h.still in record { names = n.0; typedef = h.typedef t; declared = n.1 }
+
+-- a form behind which the declaration is the one that ran before
+abbrev pub restores : Form → Bool
+restores f.Specs = false
+restores f.Declared = false
+restores f.Param = false
+restores f.Enumerator = false
+restores (f.Unary u.Address) = false
+restores _ = true
+
+left_typedef : (form : Form) (parts : Trees) (before inner : Taken) → restores form ≡ true → (left form parts before inner).typedef ≡ before.typedef
+unfolding left
+left_typedef f.Specs parts before inner e = cc
+left_typedef f.Declared parts before inner e = cc
+left_typedef f.Param parts before inner e = cc
+left_typedef f.Enumerator parts before inner e = cc
+left_typedef (f.Unary u.Address) parts before inner e = cc
+left_typedef _ parts before inner e = refl
+
+pub restored : (form : Form) (parts : Trees) (t : Taken) → restores form ≡ true → (taken (Node form parts) t).typedef ≡ t.typedef
+unfolding taken
+restored form parts t e = left_typedef form parts t (all_taken parts (places (shape form (count parts))) t) e
+
+pub calm_node : (form : Form) (parts : Trees) → declares form ≡ false → restores form ≡ true → Held parts (places (shape form (count parts))) → AllStill parts → Calm (Node form parts)
+unfolding Still
+calm_node form parts d r h s = record { still = (d, h, s); typedef = λ t. restored form parts t r }
+
+address_typedef : (o : Option (List ℕ)) (t : Taken) → (with_address o t).typedef ≡ t.typedef
+address_typedef None t = refl
+address_typedef (Some name) t = by (number_of t.names name)
+  where
+    by : (o : Option ℕ) → (with_number o t).typedef ≡ t.typedef
+    by None = refl
+    by (Some n) = refl
+
+pub calm_address : (line : ℕ) (e : Tree) → Calm e → Calm (Node (f.Unary u.Address) (At line ▹ e ▹ none))
+unfolding Still AllStill taken all_taken left shape is_scope
+calm_address line e h = record {
+  still = (refl, tt, (tt, (h.still, tt)));
+  typedef = λ t. address_typedef (plain_name e) (taken e t) ∙ h.typedef t;
+}
