@@ -149,12 +149,12 @@ spelled_fit (Line line ∷ pieces) (token ∷ tokens) rest l h =
 spelled_fit (Said word ∷ pieces) [] rest l h = absurd h
 spelled_fit (Line line ∷ pieces) [] rest l h = absurd h
 
-pub parts_fit : (one other : List Piece) → AllFit (one ++ other) → AllFit one × AllFit other
+parts_fit : (one other : List Piece) → AllFit (one ++ other) → AllFit one × AllFit other
 parts_fit [] other h = (tt, h)
 parts_fit (piece ∷ one) other h = let r = parts_fit one other h.1 in ((h.0, r.0), r.1)
 
 -- all parts are spelled where there is a place for each
-pub filled_fit : (items : List Item) (parts : Trees) (scope : Scope) → AllAllowed parts (places items) scope → AllFit (filled items (spell_all parts)) → EachFit (spell_all parts)
+filled_fit : (items : List Item) (parts : Trees) (scope : Scope) → AllAllowed parts (places items) scope → AllFit (filled items (spell_all parts)) → EachFit (spell_all parts)
 unfolding AllAllowed spell_all
 filled_fit [] none scope a h = tt
 filled_fit [] (tree ▹ rest) scope a h = absurd a

@@ -383,7 +383,15 @@ with_one_literal : (c : Context) (bytes : List ℕ) → c.static_bytes + block_s
 with_one_literal c bytes small =
     grows_by c (record c { static_bytes = c.static_bytes + block_size (length bytes + 1); literals = c.literals ++ bytes ∷ [] }) refl refl refl refl (more_refl c.scopes)
     (record {
-      variables = refl; functions = refl; params = refl; walked = refl; length = refl; answer = refl; mems = refl; declared = refl; addressed = refl;
+      variables = refl;
+      functions = refl;
+      params = refl;
+      walked = refl;
+      length = refl;
+      answer = refl;
+      mems = refl;
+      declared = refl;
+      addressed = refl;
       literals = λ i w e. get_left c.literals (bytes ∷ []) i w e;
       counted = λ (h : Counted c). record { bytes = omega (arith, h.bytes, more_bytes c.literals bytes); small = small };
     })

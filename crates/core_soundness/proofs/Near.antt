@@ -44,7 +44,6 @@ use Rattle.core_soundness.proofs.CodeWalk.{Writes, unused_keeps, valued_keeps, c
 use Rattle.core_soundness.proofs.Growth.{Reached, reached_ok, Led, led_ok, led_unless, reached_after}
 use Rattle.core_soundness.proofs.Scopes.{ShortWord, Short, AllShort, some_short}
 use Rattle.core_soundness.proofs.Walks.{said, weight, weights, Walks, found_keeps, Steps, constant_keeps, specs_keep, layers_keep}
-use Rattle.core_soundness.proofs.Formed.{filled_fit, parts_fit}
 
 -- a tree weighs no more than its tokens, and its names are theirs
 
@@ -123,6 +122,21 @@ spelled_fit (Said word ∷ pieces) (token ∷ tokens) rest l h =
 spelled_fit (Line line ∷ pieces) (token ∷ tokens) rest l h = (tt, spelled_fit pieces (token ∷ tokens) rest l h.1)
 spelled_fit (Said word ∷ pieces) [] rest l h = absurd h
 spelled_fit (Line line ∷ pieces) [] rest l h = absurd h
+
+parts_fit : (one other : List Piece) → AllFit (one ++ other) → AllFit one × AllFit other
+parts_fit [] other h = (tt, h)
+parts_fit (piece ∷ one) other h = let r = parts_fit one other h.1 in ((h.0, r.0), r.1)
+
+filled_fit : (items : List Item) (parts : Trees) (scope : Scope) → AllAllowed parts (places items) scope → AllFit (filled items (spell_all parts)) → EachFit (spell_all parts)
+unfolding AllAllowed spell_all
+filled_fit [] none scope a h = tt
+filled_fit [] (tree ▹ rest) scope a h = absurd a
+filled_fit (Says word ∷ items) parts scope a h = filled_fit items parts scope a h.1
+filled_fit (Here ∷ items) (tree ▹ rest) scope a h =
+    let r = parts_fit (spell tree) (filled items (spell_all rest)) h in (r.0, filled_fit items rest _ a.2 r.1)
+filled_fit (Part place ∷ items) (tree ▹ rest) scope a h =
+    let r = parts_fit (spell tree) (filled items (spell_all rest)) h in (r.0, filled_fit items rest _ a.2 r.1)
+filled_fit other none scope a h = absurd a
 
 mutual
   unfolding Allowed AllAllowed spell spell_all
