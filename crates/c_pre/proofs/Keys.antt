@@ -35,11 +35,13 @@ module _ {K : Type 0} (bytes : K → List ℕ) (word : List ℕ) where
     where
       rest : ℕ
       rest = prefix_len (λ k. not (bytes_eq word (bytes k))) keys
+
       one_more : (n : ℕ) → nat_lt (1 + n) (length (k ∷ keys)) ≡ nat_lt n (length keys)
       one_more n =
           alike (nat_lt (1 + n) (length (k ∷ keys))) (nat_lt n (length keys))
           (λ is. lt-ltb n (length keys) (omega (arith, ltb-true (1 + n) (length (k ∷ keys)) is)))
           (λ is. lt-ltb (1 + n) (length (k ∷ keys)) (omega (arith, ltb-true n (length keys) is)))
+
       by : (b : Bool) → cond (nat_lt rest (length keys)) (Some (place + 1 + rest)) None ≡ place_from (place + 1) (map bytes keys) word
           → cond (nat_lt (cond (not b) (1 + rest) 0) (length (k ∷ keys))) (Some (place + cond (not b) (1 + rest) 0)) None ≡ cond b (Some place) (place_from (place + 1) (map bytes keys) word)
       by true more =
@@ -74,6 +76,7 @@ entry_keys {K} bytes key o (e ∷ entries) = by (bytes_eq (bytes key) (bytes e.0
   where
     named : List (K × Option Defined) → List (List ℕ × Option Defined)
     named es = map (λ e. (bytes e.0, e.1)) es
+
     by : (b : Bool) → named (insert_entry (λ a b. bytes_eq (bytes a) (bytes b)) entries key o) ≡ with_entry (bytes key) o (named entries)
         → named (cond b ((e.0, o) ∷ entries) (e ∷ insert_entry (λ a b. bytes_eq (bytes a) (bytes b)) entries key o)) ≡ cond b ((bytes e.0, o) ∷ named entries) ((bytes e.0, e.1) ∷ with_entry (bytes key) o (named entries))
     by true rest = refl

@@ -63,12 +63,12 @@ in_range from (suc len) n =
   where
     above : ((from ≡ n) → ⊥) → from ≤ n → from + 1 ≤ n
     above differ low = omega (arith, differ, low)
+
     by : (b : Bool) → nat_eq from n ≡ b → (from ≤ n) × (n < from + suc len) → (nat_eq from n || lies (from + 1) (from + 1 + len) n) ≡ true
     by true e h = or_left (nat_eq from n) (lies (from + 1) (from + 1 + len) n) e
     by false e h =
         let differ = eqb-false from n e in
         or_right (nat_eq from n) (lies (from + 1) (from + 1 + len) n) (lies_is (from + 1) (from + 1 + len) n (above differ h.0) (omega (arith, h.1)))
-
 
 range_members : (from to n : ℕ) → lies from (from + (to - from)) n ≡ lies from to n
 range_members from to n =
