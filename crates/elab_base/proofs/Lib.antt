@@ -4,4 +4,3 @@ pub mod Signatures
 pub mod CodeSizes
 pub mod DefinedCalls
 pub mod Fitting
-mod Puts

@@ -5,4 +5,3 @@ pub mod PlainFound
 pub mod MaybeNames
 pub mod Idle
 pub mod Calls
-pub mod Sets
