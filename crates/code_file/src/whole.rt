@@ -19,14 +19,15 @@ use std::alloc::Global;
 /// What a code file begins with.
 const MAGIC: &[u8] = b"HSCODE01";
 
-/// The bytes of a code file.
+/// The bytes of a code file. Its numbers are those of their types, so [`read_code`] gives the file back.
 ///
 /// # Errors
 ///
 /// [`NoMemory`], where there is none for the bytes.
 pub fn write_code(alloc: Global, file: &CodeFile) -> Result<Items<u8>, NoMemory>
     requires { IsWritable file.now }
-    ensures { IfOk result (λ bytes. bytes ≡ spelling file.now) }
+    ensures bytes { IfOk result (λ bytes. bytes ≡ spelling file.now) }
+    ensures ranged { IfOk result (λ _. IsRanged file.now) }
 {
     let mut text = Vec::new(alloc);
     text.extend_from_slice(MAGIC)?;

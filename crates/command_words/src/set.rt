@@ -64,6 +64,17 @@ pub(crate) fn command_set<'a>(alloc: Global) -> Result<Command<'a>, AllocError>
     let list = Command::new(alloc, "list").arg(file(alloc))?;
     let live = Command::new(alloc, "live").arg(file(alloc))?;
     let generated = Command::new(alloc, "self").arg(needed(alloc, "N"))?;
+    let compile = Command::new(alloc, "compile").arg(file(alloc))?;
+    let exec_heap = option(alloc, "heap");
+    let exec_stack = option(alloc, "stack");
+    let exec_steps = option(alloc, "steps");
+    let exec_leaks = flag(alloc, "leaks");
+    let exec = Command::new(alloc, "exec")
+        .arg(file(alloc))?
+        .arg(exec_heap)?
+        .arg(exec_stack)?
+        .arg(exec_steps)?
+        .arg(exec_leaks)?;
     Command::new(alloc, "heapsafe")
         .no_binary_name(true)
         .disable_help_flag(true)
@@ -76,5 +87,7 @@ pub(crate) fn command_set<'a>(alloc: Global) -> Result<Command<'a>, AllocError>
         .subcommand(layout)?
         .subcommand(list)?
         .subcommand(live)?
-        .subcommand(generated)
+        .subcommand(generated)?
+        .subcommand(compile)?
+        .subcommand(exec)
 }
