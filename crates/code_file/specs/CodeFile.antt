@@ -174,9 +174,13 @@ pub record IsRanged (file : CodeFile) : Type 0 where
 
 -- What bytes give
 
--- the one file that has these bytes
-pub record IsFileOf (bytes : List ℕ) (file : CodeFile) : Type 0 where
+-- a file that can be written has these bytes
+pub record HasBytes (bytes : List ℕ) (file : CodeFile) : Type 0 where
   pub writable : IsWritable file
   pub ranged : IsRanged file
   pub spelled : spelling file ≡ bytes
-  pub only : (other : CodeFile) → IsWritable other → IsRanged other → spelling other ≡ bytes → other ≡ file
+
+-- and no other file has them
+pub record IsFileOf (bytes : List ℕ) (file : CodeFile) : Type 0 where
+  pub has : HasBytes bytes file
+  pub only : (other : CodeFile) → HasBytes bytes other → other ≡ file

@@ -9,12 +9,10 @@ ghost use Rattle.code_file.specs.Names.{bare, bare_function, bare_memory, bare_s
 ghost use Rattle.code_file.specs.Spelling.{IsShort, IsShortList};
 
 use crate::names::{no_layout, no_start};
+use crate::shortness::SHORT;
 use core_tree::{Core, Func, Mem, Reg, Static};
 use hs_base::{Items, NoMemory};
 use std::alloc::Global;
-
-/// What the length of a list of a code file is below.
-const SHORT: usize = 1 << 32;
 
 /// Refuses a length that no list of a code file has. No memory holds such a list.
 fn short(count: usize) -> Result<(), NoMemory>

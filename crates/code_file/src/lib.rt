@@ -12,10 +12,12 @@ mod names;
 mod ops;
 mod part;
 mod reader;
+mod shortness;
 mod verifier;
 mod whole;
 
 pub use bare::names_of;
 pub use file::{CodeError, CodeFile};
+pub use shortness::has_short_lists;
 pub use verifier::verify;
 pub use whole::{read_code, write_code};

@@ -95,7 +95,7 @@ fn flag(found: &ArgMatches, id: &str) -> bool
 }
 
 /// What is said of a run, by the values of a command's arguments.
-fn options(found: &ArgMatches) -> Option<Options>
+fn run_options(found: &ArgMatches) -> Option<Options>
     ensures value { result ≡ options_in (rows_of (found_of found.now)) }
     ensures bounds { IfSome result (λ o. IsLimited (Run o.heap o.stack o.steps o.leaks)) }
 {
@@ -119,7 +119,7 @@ fn run<'a>(found: &ArgMatches<'a>) -> Result<Command<'a>, WordsError>
     let Some(file) = value_of(found, "FILE") else {
         return Err(WordsError::Usage);
     };
-    let Some(options) = options(found) else {
+    let Some(options) = run_options(found) else {
         return Err(WordsError::Usage);
     };
     let task = Task::Run {
@@ -139,7 +139,7 @@ fn execute<'a>(found: &ArgMatches<'a>) -> Result<Command<'a>, WordsError>
     let Some(file) = value_of(found, "FILE") else {
         return Err(WordsError::Usage);
     };
-    let Some(options) = options(found) else {
+    let Some(options) = run_options(found) else {
         return Err(WordsError::Usage);
     };
     if !is_file(file) {

@@ -4,7 +4,7 @@ ghost use Rattle.std.specs.Prelude.{IfOk};
 ghost use Rattle.compiled_file.specs.CompiledFile.{IsFileOfCore};
 ghost use Rattle.core_tree.specs.Sound.{IsSound};
 
-use code_file::{CodeFile, names_of};
+use code_file::{CodeFile, has_short_lists, names_of};
 use core_tree::Core;
 use count_insertion::{insert, listed_pins_are_exact, live_tables};
 use flat_codegen::compile;
@@ -17,7 +17,7 @@ use std::alloc::Global;
 ///
 /// # Errors
 ///
-/// [`NoMemory`] only for want of memory.
+/// [`NoMemory`], where there is none; no memory holds a list of 2^32 items or more.
 pub fn compile_file(alloc: Global, core: &Core) -> Result<CodeFile, NoMemory>
     requires { IsSound core.now }
     ensures { IfOk result (IsFileOfCore core.now) }
@@ -26,6 +26,9 @@ pub fn compile_file(alloc: Global, core: &Core) -> Result<CodeFile, NoMemory>
     let live = live_tables(alloc, core)?;
     let counted = insert(alloc, core, &live)?;
     let code = compile(alloc, &counted)?;
+    if !has_short_lists(&code) {
+        return Err(NoMemory);
+    }
     let names = names_of(alloc, core)?;
     Ok(CodeFile { code, names })
 }

@@ -1,20 +1,20 @@
--- Reading a text.
+-- Reading a code file.
 use Rattle.std.specs.Prelude.{◌≡◌, ◌<◌, ◌≤◌, ◌+◌, ℕ, List, length, take, Bool, true, false, Result, Ok, Err}
 use Rattle.heapsafe.specs.declared.reading.ReadError.{ReadError}
 use Rattle.heapsafe.specs.declared.reading.ReadError.TheVariants.{Fault, TooLong, NoMemory}
 
--- the most bytes that a text may have
+-- the most bytes that a code file may have
 abbrev pub most_bytes : ℕ
-most_bytes = 1048576
+most_bytes = 134217728
 
--- what reading a told text answers
+-- what reading a told file answers
 abbrev pub Reads : List ℕ → Result (List ℕ) ReadError → Type 0
 Reads text (Ok read) = (read ≡ text) × (length text ≤ most_bytes)
 Reads text (Err Fault) = Unit {0}
 Reads text (Err TooLong) = most_bytes < length text
 Reads text (Err NoMemory) = Unit {0}
 
--- these bytes are the first of a text
+-- these bytes are the first of a file
 abbrev pub IsFront : List ℕ → List ℕ → Type 0
 IsFront text front = front ≡ take (length front) text
 
