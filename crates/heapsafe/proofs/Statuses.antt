@@ -65,6 +65,12 @@ no_fault_0 is = other 0 (λ h. omega (arith, h)) (λ h. omega (arith, h)) (λ h.
 pub no_fault_134 : IsFault 134 → ⊥
 no_fault_134 is = other 134 (λ h. omega (arith, h)) (λ h. omega (arith, h)) (λ h. omega (arith, h)) is
 
+pub no_fault_136 : IsFault 136 → ⊥
+no_fault_136 is = other 136 (λ h. omega (arith, h)) (λ h. omega (arith, h)) (λ h. omega (arith, h)) is
+
+pub no_fault_137 : IsFault 137 → ⊥
+no_fault_137 is = other 137 (λ h. omega (arith, h)) (λ h. omega (arith, h)) (λ h. omega (arith, h)) is
+
 pub no_fault_120 : IsFault 120 → ⊥
 no_fault_120 is = other 120 (λ h. omega (arith, h)) (λ h. omega (arith, h)) (λ h. omega (arith, h)) is
 
@@ -109,12 +115,12 @@ untyped_no_fault type.NoMemory opened is = no_fault_134 is
 
 pub refusal_low : (status : ℕ) → IsRefusal status → 120 ≤ status
 refusal_low status is =
-    ⊎_elim (λ h. omega (arith, h)) (λ h. ⊎_elim (λ k. omega (arith, k)) (λ k. omega (arith, k.0)) h) is
+    ⊎_elim (λ h. omega (arith, h)) (λ h. ⊎_elim (λ k. omega (arith, k.0)) (λ k. omega (arith, k.0)) h) is
 
 -- the statuses between are none
 refusal_apart : (status : ℕ) → 126 ≤ status → status ≤ 134 → IsRefusal status → ⊥
 refusal_apart status more less is =
-    ⊎_elim (λ h. omega (arith, h, more)) (λ h. ⊎_elim (λ k. omega (arith, k, less)) (λ k. omega (arith, k.1, more)) h) is
+    ⊎_elim (λ h. omega (arith, h, more)) (λ h. ⊎_elim (λ k. omega (arith, k.0, less)) (λ k. omega (arith, k.1, more)) h) is
 
 -- bytes were said with one of those
 pub never_refused : (Stays Own : Type 0) (e e' : Option (List ℕ)) (f f' status result : ℕ) (bytes : List ℕ) → 126 ≤ status → status ≤ 134 → Says e e' f f' bytes status result → Refuses Stays Own e e' result

@@ -16,6 +16,7 @@ use crate::refusal::{Refusal, refuse};
 use crate::running::run_file;
 use c_pre::Opened;
 use code_file::{CodeError, CodeFile, read_code, verify};
+use compiled_file::whole_runs_are_whole;
 use hs_base::{Items, Limits, NoMemory, Sink, Source, Texts};
 use std::alloc::Global;
 
@@ -78,6 +79,7 @@ fn run_verified<I: Source, O: Sink, E: Sink>(
     ensures cause { HasCause ((I.faults input.old < I.faults input.new) ⊎ WriteFails (O.faults out.old) (O.faults out.new) (E.faults err.old) (E.faults err.new)) ⊤ (E.taken err.old) (E.taken err.new) result }
     ensures refused { Refuses ((input.new ≡ input.old) × (out.new ≡ out.old)) ⊤ (E.taken err.old) (E.taken err.new) result }
 {
+    whole_runs_are_whole();
     match run_file(alloc, &code.code, asked.limits, asked.steps, input, out) {
         Ok((end, machine)) => {
             finish_run(&end, &machine, asked.leaks, &code.names, file, opened, err)
