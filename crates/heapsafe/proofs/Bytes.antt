@@ -1,5 +1,5 @@
 -- What is answered for the bytes of a file that is executed.
-use Rattle.std.proofs.Common.{◌≡◌, ◌⊎◌, ◌≤◌, ◌<◌, ℕ, List, Err, true, false, inl, inr, refl, sym, subst, arith, length}
+use Rattle.std.proofs.Common.{◌≡◌, ◌⊎◌, ◌≤◌, ◌<◌, ℕ, List, Some, None, cond, Err, true, false, inl, inr, refl, sym, subst, arith, length}
 use Rattle.std.specs.Prelude.{MatchBool, nat_lt}
 use Rattle.std.specs.List.{All}
 use Rattle.std.proofs.lemmas.Bool.{le-ltb, lt-ltb}
@@ -14,8 +14,11 @@ use Rattle.heapsafe.specs.declared.reading.ReadError.TheVariants.{Fault, TooLong
 use Rattle.heapsafe.specs.Execution.{AnswersBytes, AnswersCode, AnswersExecution, AnswersVerified}
 use Rattle.heapsafe.specs.Program.{Input}
 use Rattle.heapsafe.specs.Reading.{ReadCounts, Reads, most_bytes}
-use Rattle.heapsafe.specs.Saying.{unread}
-use Rattle.heapsafe.specs.Shown.{Shown, bad_code, no_memory, text_too_long, unverified}
+use Rattle.command_words.specs.Commands.{Execute}
+use Rattle.heapsafe.specs.Saying.{IsSaid, unread, unread_file}
+use Rattle.heapsafe.proofs.Broken.{own_line}
+use Rattle.heapsafe.proofs.Told.{IsSilent}
+use Rattle.heapsafe.specs.Shown.{Shown, bad_code, no_memory, text_fault, text_too_long, unverified}
 
 -- the numbers of a file are those of their types, and so its statics hold bytes
 pub ranged_bytes : (file : CodeFile) → IsRanged file → HoldsBytes file.code
@@ -63,3 +66,17 @@ pub unread_line : (error : ReadError) (name bytes : List ℕ) (input : Input) (a
 unread_line Fault name bytes input asked a t t' reads counts same is = absurd (omega (arith, counts, same))
 unread_line TooLong name bytes input asked a t t' reads counts same is = inl (long_is name input asked a bytes reads is)
 unread_line NoMemory name bytes input asked a t t' reads counts same is = inr refl
+
+pub unread_silent : (error : ReadError) (name : List ℕ) → IsSilent (unread error name)
+unread_silent Fault name = record { read = refl; out = refl }
+unread_silent TooLong name = record { read = refl; out = refl }
+unread_silent NoMemory name = record { read = refl; out = refl }
+
+-- its line, where the error stream failed
+pub unread_off : (error : ReadError) (name bytes : List ℕ) (input : Input) (asked : Asked) (a : Shown) (t t' i p : ℕ) → Reads bytes (Err error) → ReadCounts {T = List ℕ} t t' (Err error) → AnswersExecution name bytes input asked a →
+    IsSaid (unread_file (Some (Execute name asked.limits.heap asked.limits.stack asked.steps asked.leaks)) t t') a i i p p (unread error name).err
+unread_off Fault name bytes input asked a t t' i p reads counts is =
+    subst (λ b. IsSaid (cond b (Some name) None) a i i p p (text_fault name).err) (sym (lt-ltb t t' (omega (arith, counts)))) (name, inl refl, refl)
+unread_off error name bytes input asked a t t' i p reads counts is =
+    subst (λ b. IsSaid (cond b (Some name) None) a i i p p (unread error name).err) (sym (le-ltb t t' (omega (arith, counts))))
+    (own_line (unread error name) a i i p p (unread_line error name bytes input asked a t t' reads counts counts is) refl refl)

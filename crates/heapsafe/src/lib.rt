@@ -21,6 +21,7 @@ ghost use Rattle.heapsafe.specs.Saying.{BreaksOff, Faults, Gives, HasCause, Refu
 
 mod executing;
 mod generated;
+mod laws;
 mod leaks;
 mod lent;
 mod log;
@@ -42,6 +43,7 @@ use hs_base::{Limits, Sink, Source, Texts};
 use program::{Way, run_program};
 use refusal::{Refusal, refuse, refuse_text, refuse_tokens};
 use std::alloc::Global;
+pub use laws::executions_are_runs;
 use written::{core_compiled, core_list, core_live, layouts, print};
 
 /// Does what is asked with a text that has this tree.
