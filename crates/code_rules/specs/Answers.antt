@@ -7,9 +7,9 @@ use Rattle.flat_code.specs.declared.instructions.Op.TheVariants as op
 use Rattle.flat_code.specs.declared.program.Code.{Code}
 use Rattle.flat_code.specs.declared.program.Entry.{Entry}
 use Rattle.flat_code.specs.declared.program.Site.{Site}
-use Rattle.flat_code.specs.Sites.{Counts, answered, site_of}
+use Rattle.flat_code.specs.Sites.{Counts, answered, has_site, site_of}
 use Rattle.flat_code.specs.Table.{chosen, register_sort}
-use Rattle.flat_code.specs.WellFormed.{GivesTo, IsAt, handed_before}
+use Rattle.flat_code.specs.WellFormed.{EachInstr, GivesTo, IsAt, handed_before}
 use Rattle.code_rules.specs.Lively.{marked}
 use Rattle.code_rules.specs.Operands.{sort_told}
 use Rattle.code_rules.specs.Rules.{OfFunction}
@@ -96,3 +96,7 @@ pub record AreRegisters (entry : Entry) (pins : List ℕ) : Type 0 where
 abbrev pub ListsSite : Code → Entry → ℕ → Bool → Type 0
 ListsSite code entry point true = MatchOption (site_of code.sites point) ⊥ (AreRegisters entry)
 ListsSite code entry point false = site_of code.sites point ≡ None
+
+-- each instruction has its site
+abbrev pub AreListed : Code → Type 0
+AreListed code = EachInstr code (λ f entry point i. ListsSite code entry point (has_site i.op))

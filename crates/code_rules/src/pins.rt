@@ -1,13 +1,13 @@
 //! The sites of code, and their pins.
 
-ghost use Rattle.std.specs.Prelude.{◌≡◌, ◌↔◌, ◌<◌, ◌≤◌, ◌≢◌, ◌+◌, ◌^◌, ℕ, All, AllPairs, IfOk, IsTrue, Some, length, option_map, true};
+ghost use Rattle.std.specs.Prelude.{◌≡◌, ◌↔◌, ◌<◌, ◌≤◌, ◌≢◌, ◌+◌, ◌^◌, ℕ, All, AllPairs, Contains, IfOk, IsTrue, Some, length, option_map, true};
 ghost use Rattle.core_tree.specs.Sorts.{Pointer};
 ghost use Rattle.flat_code.specs.Table.{register_sort};
 ghost use Rattle.code_rules.specs.Lively.{marked};
 ghost use Rattle.flat_code.specs.Sites.{HasSite, answered, has_site, site_of};
 ghost use Rattle.flat_code.specs.declared.program.Entry.{Entry};
 ghost use Rattle.flat_code.specs.WellFormed.{EachInstr};
-ghost use Rattle.code_rules.specs.Answers.{ArePlaces, ArePlacesUpTo, AreRegisters, ListsSite, PinsAgree, PinsExact};
+ghost use Rattle.code_rules.specs.Answers.{AreListed, ArePlaces, ArePlacesUpTo, AreRegisters, ListsSite, PinsAgree, PinsExact};
 
 use crate::instrs::chosen;
 use crate::live::live_points;
@@ -99,6 +99,17 @@ fn are_registers(entry: &Entry, pins: &[u32]) -> bool
     ascend(pins) && pins.iter().all(|pin| (*pin as usize) < entry.kinds.len())
 }
 
+/// Says whether pins that ascend have a register.
+fn has_pin(pins: &[u32], register: u32) -> bool
+    requires { AllPairs (λ one other. one < other) pins.now }
+    ensures { IsTrue result ↔ Contains pins.now register }
+{
+    match pins.binary_search(&register) {
+        Ok(_) => true,
+        Err(_) => false,
+    }
+}
+
 /// Each site is listed.
 #[derive(Drop)]
 pub(crate) struct Listed<'a> {
@@ -137,7 +148,7 @@ pub(crate) struct Pins<'a> {
 impl<'a> Rule for Pins<'a> {
     ghost holds = { λ rule code f entry point i. PinsAgree code rule.marks.now rule.register entry point i (has_site i.op) };
 
-    ghost suits = { λ rule code. ArePlaces code rule.places.now };
+    ghost suits = { λ rule code. ArePlaces code rule.places.now × AreListed code };
 
     fn check(
         &self,
@@ -154,7 +165,7 @@ impl<'a> Rule for Pins<'a> {
         Ok(match site_of(code, self.places, point) {
             Some(pins) => {
                 let is_live = mark_at(self.marks, point);
-                counts(entry, instr, is_live, self.register) == pins.contains(&self.register)
+                counts(entry, instr, is_live, self.register) == has_pin(pins, self.register)
             }
             None => true,
         })
@@ -178,7 +189,8 @@ fn pins_are_exact_of(
     places: &[Option<usize>],
     register: u32,
 ) -> Result<bool, NoMemory>
-    requires { ArePlaces code.now places.now }
+    requires places { ArePlaces code.now places.now }
+    requires listed { AreListed code.now }
     ensures { IfOk result (λ b. IsTrue b ↔ EachInstr code.now (λ f entry point i. PinsExact code.now register entry point i (has_site i.op))) }
 {
     let marks = live_points(alloc, code, register)?;
@@ -197,7 +209,8 @@ fn pins_are_exact(
     places: &[Option<usize>],
     most: u32,
 ) -> Result<bool, NoMemory>
-    requires { ArePlaces code.now places.now }
+    requires places { ArePlaces code.now places.now }
+    requires listed { AreListed code.now }
     ensures { IfOk result (λ b. IsTrue b ↔
         ((r : ℕ) → r < most → EachInstr code.now (λ f entry point i. PinsExact code.now r entry point i (has_site i.op)))) }
 {
