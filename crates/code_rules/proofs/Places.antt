@@ -78,7 +78,6 @@ none_yet code count same = record {
   first = λ point inside. ap (pins_at code.sites) (blank point);
 } where
   blank : (point : ℕ) → get_or (replicate count none) point None ≡ None
-  unfolding none
   blank point =
       ⊎_elim
       (λ (less : point < count). get_or-replicate count point none None less)
@@ -121,7 +120,7 @@ module _ (code : Code) (count : ℕ) (s : Site) (is : slice_get code.sites count
     put_first point within =
         ⊎_elim
         (λ h. ap (pins_at code.sites) (here point h.1)
-            ∙ comes code.sites count s is point h.1 (subst (λ n. site_of (take count code.sites) n ≡ None) h.1 (sym (are.first s.instr (omega (arith, inside, are.long))) ∙ ap (pins_at code.sites) free)))
+        ∙ comes code.sites count s is point h.1 (subst (λ n. site_of (take count code.sites) n ≡ None) h.1 (sym (are.first s.instr (omega (arith, inside, are.long))) ∙ ap (pins_at code.sites) free)))
         (λ h. ap (pins_at code.sites) (elsewhere point h.1)
-            ∙ stays code.sites count s is point (get_or places point None) (are.first point within) (are.there point) (λ same. absurd (h.1 same)))
+        ∙ stays code.sites count s is point (get_or places point None) (are.first point within) (are.there point) (λ same. absurd (h.1 same)))
         (eqb_tells s.instr point)
