@@ -116,9 +116,7 @@ fn with_code<I: Source, O: Sink, E: Sink>(
         return refuse(err, Refusal::NoMemory);
     };
     match verify(alloc, code) {
-        Ok(true) => {
-            run_verified(alloc, file, opened.as_slice(), code, asked, input, out, err)
-        }
+        Ok(true) => { run_verified(alloc, file, opened.as_slice(), code, asked, input, out, err) }
         Ok(false) => refuse(err, Refusal::Unverified(file.as_bytes())),
         Err(_) => refuse(err, Refusal::NoMemory),
     }

@@ -40,10 +40,10 @@ use command_words::{Command, Task, WordsError};
 use executing::{Asked, execute_file};
 use generated::run_generated;
 use hs_base::{Limits, Sink, Source, Texts};
+pub use laws::executions_are_runs;
 use program::{Way, run_program};
 use refusal::{Refusal, refuse, refuse_text, refuse_tokens};
 use std::alloc::Global;
-pub use laws::executions_are_runs;
 use written::{core_compiled, core_list, core_live, layouts, print};
 
 /// Does what is asked with a text that has this tree.
@@ -227,13 +227,15 @@ pub fn heapsafe<T: Texts, I: Source, O: Sink, E: Sink>(
 {
     match command_words::read(alloc, words) {
         Ok(Command::OnFile { file, task }) => with_file(alloc, file, task, texts, input, out, err),
-        Ok(Command::Execute {
-            file,
-            heap,
-            stack,
-            steps,
-            leaks,
-        }) => {
+        Ok(
+            Command::Execute {
+                file,
+                heap,
+                stack,
+                steps,
+                leaks,
+            },
+        ) => {
             let asked = Asked {
                 limits: Limits { heap, stack },
                 steps,
