@@ -16,8 +16,8 @@ use c_pre::Opened;
 use flat_machine::Machine;
 use hs_base::{Failed, Sink};
 
-/// Writes a line for each leak of the heap of a machine, by ascending lines of birth over all texts, each counted in its text. After a failure, which is the last call
-/// on the sink, a prefix was taken.
+/// Writes a line for each leak of the heap of a machine, by ascending lines of birth over all texts, each counted in its text.
+/// After a failure, which is the last call on the sink, a prefix was taken.
 pub(crate) fn write_leaks<E: Sink>(
     machine: &Machine,
     opened: &[Opened],
