@@ -19,12 +19,13 @@ unfolding command_set
 set_is_free a is = ap is_simple_and_free is
 
 -- a name and rows that are found in one place
-pub same_pair : {B X Y : Type 0} (f : B → X) (h : B → Y) (o : Option B) (x : X) (y : Y) → Some x ≡ option_map f o → Some y ≡ option_map (λ (p : X × Y). p.1) (option_map (λ b. (f b, h b)) o) → option_map (λ b. (f b, h b)) o ≡ Some (x, y)
+pub same_pair : {B X Y : Type 0} (f : B → X) (h : B → Y) (o : Option B) (x : X) (y : Y) → Some x ≡ option_map f o → Some y ≡ option_map (λ (p : X × Y). p.1) (option_map {U = X × Y} (λ b. (f b, h b)) o) → option_map {U = X × Y} (λ b. (f b, h b)) o ≡ Some (x, y)
 same_pair f h None x y name rows = absurd (cc)
 same_pair f h (Some b) x y name rows =
     let first : f b ≡ x = cc in
     let second : h b ≡ y = cc in
-    ap₂ (λ u v. Some (u, v)) first second
+    let pair : X → Y → Option (X × Y) = λ u v. Some (u, v) in
+    ap₂ pair first second
 
 -- words without a fault
 pub asks : (words : List Text) (name : Text) (rows : List Row) → fault_of command_set words ≡ [] → subcommand_of command_set words ≡ Some (name, rows) → command_of words ≡ asked name rows
