@@ -32,7 +32,7 @@ fn name_copy(alloc: Global, name: &[u8]) -> Result<Items<u8>, NoMemory>
 
 /// A copy of a name that may be missing.
 fn optional_copy(alloc: Global, name: Option<&Items<u8>>) -> Result<Option<Items<u8>>, NoMemory>
-    ensures copy { IfOk result (λ copy. copy ≡ option_copied name) }
+    ensures copy { IfOk result (λ copy. copy ≡ option_copied name.entry) }
     ensures short { IfOk result (λ copy. IfSome copy IsShort) }
 {
     match name {

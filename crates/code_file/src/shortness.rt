@@ -18,9 +18,7 @@ fn are_short_entries(entries: &[Entry]) -> bool
     ensures { IsTrue result ↔ IsShortList IsShortEntry entries.now }
 {
     entries.len() < SHORT
-        && entries
-            .iter()
-            .all(|entry| entry.kinds.len() < SHORT && entry.mems.len() < SHORT)
+        && entries.iter().all(|entry| entry.kinds.len() < SHORT && entry.mems.len() < SHORT)
 }
 
 /// Says whether statics are few, with few bytes and pointers.
@@ -28,9 +26,7 @@ fn are_short_statics(statics: &[StaticInit]) -> bool
     ensures { IsTrue result ↔ IsShortList IsShortStatic statics.now }
 {
     statics.len() < SHORT
-        && statics
-            .iter()
-            .all(|item| item.bytes.len() < SHORT && item.pointers.len() < SHORT)
+        && statics.iter().all(|item| item.bytes.len() < SHORT && item.pointers.len() < SHORT)
 }
 
 /// Says whether layouts are few, with few slots.

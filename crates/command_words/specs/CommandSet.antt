@@ -52,6 +52,6 @@ abbrev pub program : App
 program = on_top bare (new_app (codes "heapsafe"))
 
 -- `run` and `mean`, `print FILE`, `layout FILE`, `list FILE` and `live FILE`, `self`, and `compile FILE` and `exec`
-abbrev pub command_set : App
+unfoldable pub command_set : App
 command_set =
     with_subcommand (with_subcommand (with_subcommand (with_subcommand (with_subcommand (with_subcommand (with_subcommand (with_subcommand (with_subcommand program (running (codes "run")).top) mean.top) (plain (codes "print")).top) (plain (codes "layout")).top) (plain (codes "list")).top) (plain (codes "live")).top) generated.top) (plain (codes "compile")).top) (running (codes "exec")).top

@@ -35,14 +35,14 @@ module _ {S : Type 0} (make : List Event → S → Next S Event Ending) where
   grown r j k trace now ending h end =
       ⊎_elim
       (λ lt.
-          let n : (j + 1) + (k - (j + 1)) ≡ k = omega arith in
-          let more = after_grows make (after make r (j + 1)) (k - (j + 1)) in
-          let there = sym (ap (after make r) n) ∙ in_turn r (j + 1) (k - (j + 1)) in
-          (more.0, ap (λ (q : Ran S Event Ending). q.trace) there ∙ more.1 ∙ ap (λ (q : Ran S Event Ending). q.trace ++ more.0) (next_step r j trace now h)))
+      let n : (j + 1) + (k - (j + 1)) ≡ k = omega arith in
+      let more = after_grows make (after make r (j + 1)) (k - (j + 1)) in
+      let there = sym (ap (after make r) n) ∙ in_turn r (j + 1) (k - (j + 1)) in
+      (more.0, ap (λ (q : Ran S Event Ending). q.trace) there ∙ more.1 ∙ ap (λ (q : Ran S Event Ending). q.trace ++ more.0) (next_step r j trace now h)))
       (λ le.
-          let n : k + (j - k) ≡ j = omega arith in
-          let stays = sym (ap (after make r) n) ∙ after_stays make r ending k (j - k) end in
-          absurd (let no : None ≡ Some ending = sym (ap (λ (q : Ran S Event Ending). q.ended) h) ∙ ap (λ (q : Ran S Event Ending). q.ended) stays ∙ end in (cc)))
+      let n : k + (j - k) ≡ j = omega arith in
+      let stays = sym (ap (after make r) n) ∙ after_stays make r ending k (j - k) end in
+      absurd (let no : None ≡ Some ending = sym (ap (λ (q : Ran S Event Ending). q.ended) h) ∙ ap (λ (q : Ran S Event Ending). q.ended) stays ∙ end in (cc)))
       (cases_lt j k)
 
 module _ (code : Code) (input : List ℕ) (n : ℕ) (limits : Limits) (last : CodeState) (ending : Ending) (ends : EndsIn code input n limits last) (none : (cut limits.stack (meaning code input n limits.heap).trace).refused ≡ None) (ended : (meaning code input n limits.heap).ended ≡ Some ending) where

@@ -47,7 +47,7 @@ module _ (core : Core) (pins : Pins) (code : Code) (is : IsCompiled core pins co
   entry_agrees f func entry e = record {
     params = sym e.params;
     registers = subst (λ (kinds : List Bool). AllZip (λ (pointer : Bool) (reg : Reg). reg.pointer ≡ pointer) kinds func.regs) (sym e.kinds) (own_kinds func.regs);
-    mems = length-map bare_memory func.mems ∙ sym (length-map (λ (m : Mem). Some m.layout) func.mems) ∙ sym (ap (λ (ls : List (Option Layout)). length ls) e.mems) ∙ length-map (slice_get code.layouts) entry.mems;
+    mems = length-map func.mems bare_memory ∙ sym (length-map func.mems (λ (m : Mem). Some m.layout)) ∙ sym (ap (λ (ls : List (Option Layout)). length ls) e.mems) ∙ length-map entry.mems (slice_get code.layouts);
   }
 
   function_agrees : (f : ℕ) (entry : Entry) (func : Func) → slice_get code.funcs f ≡ Some entry → slice_get core.funcs f ≡ Some func → AgreesWith entry (bare_function func)
@@ -57,7 +57,7 @@ module _ (core : Core) (pins : Pins) (code : Code) (is : IsCompiled core pins co
       subst (λ (e : Entry). AgreesWith e (bare_function func)) same (entry_agrees f func one.0 one.2)
 
   ends_otherwise : All (λ (s : StaticInit). EndsOtherwise s.bytes) code.statics
-  ends_otherwise k d h =
+  ends_otherwise = λ k d h.
       let static = item_at core.statics k (omega (arith, is.few_statics)) in
       let one = is.statics k static.0 static.1 in
       let same : one.0 ≡ get_or code.statics k d = cc (one.1, slice_get-get_or code.statics k d h) in
@@ -66,7 +66,7 @@ module _ (core : Core) (pins : Pins) (code : Code) (is : IsCompiled core pins co
   pub writable : (names : Core) → names ≡ bare core → IsShortCode code → IsShortNames names → IsWritable (record { code = code; names = names })
   writable names named short short_names = record {
     agree = record {
-      statics = ap (λ (n : Core). length n.statics) named ∙ length-map bare_static core.statics ∙ sym is.few_statics;
+      statics = ap (λ (n : Core). length n.statics) named ∙ length-map core.statics bare_static ∙ sym is.few_statics;
       functions = subst (λ (n : Core). AllZip AgreesWith code.funcs n.funcs) (sym named) (zip_map AgreesWith bare_function code.funcs core.funcs is.few_funcs (λ f entry func here there. function_agrees f entry func here there));
     };
     code = short;

@@ -1,5 +1,5 @@
 -- What is answered for the bytes of a file that is executed.
-use Rattle.std.proofs.Common.{◌≡◌, ◌⊎◌, ◌≤◌, ◌<◌, ℕ, List, Some, None, cond, Err, true, false, inl, inr, refl, sym, subst, arith, length}
+use Rattle.std.proofs.Common.{◌≡◌, ◌⊎◌, ◌≤◌, ◌<◌, ℕ, List, Some, None, cond, Err, true, false, inl, inr, refl, sym, subst, arith, get_or, length}
 use Rattle.std.specs.Prelude.{MatchBool, nat_lt}
 use Rattle.std.specs.List.{All}
 use Rattle.std.proofs.lemmas.Bool.{le-ltb, lt-ltb}
@@ -7,7 +7,7 @@ use Rattle.flat_code.specs.declared.program.StaticInit.{StaticInit}
 use Rattle.flat_code.specs.WellFormed.{IsWellFormed}
 use Rattle.code_soundness.specs.Laws.{HoldsBytes}
 use Rattle.code_file.specs.declared.file.CodeFile.{CodeFile}
-use Rattle.code_file.specs.CodeFile.{HasBytes, IsFileOf, IsRanged}
+use Rattle.code_file.specs.CodeFile.{HasBytes, IsFileOf, IsRanged, IsRangedStatic}
 use Rattle.heapsafe.specs.declared.executing.Asked.{Asked}
 use Rattle.heapsafe.specs.declared.reading.ReadError.{ReadError}
 use Rattle.heapsafe.specs.declared.reading.ReadError.TheVariants.{Fault, TooLong, NoMemory}
@@ -22,7 +22,7 @@ use Rattle.heapsafe.specs.Shown.{Shown, bad_code, no_memory, text_fault, text_to
 
 -- the numbers of a file are those of their types, and so its statics hold bytes
 pub ranged_bytes : (file : CodeFile) → IsRanged file → HoldsBytes file.code
-ranged_bytes file ranged k d h = ranged.code.statics k d h .1
+ranged_bytes file ranged = λ k d h. let one : IsRangedStatic (get_or file.code.statics k d) = ranged.code.statics k d h in one.1
 
 module _ (name : List ℕ) (input : Input) (asked : Asked) (a : Shown) where
   -- code that is well formed, or not

@@ -1,7 +1,7 @@
 -- What is said of an answer, and what a fault of the outside leads to.
 use Rattle.std.specs.List.{list_all}
 use Rattle.c_pre.specs.Directives.{is_path_byte}
-use Rattle.std.specs.Prelude.{◌≡◌, ◌≢◌, ◌⊎◌, ◌<◌, ◌≤◌, ◌+◌, ℕ, nat_lt, cond, List, ◌++◌, Option, Some, None, codes}
+use Rattle.std.specs.Prelude.{◌≡◌, ◌≢◌, ◌⊎◌, ◌<◌, ◌≤◌, ◌+◌, ℕ, true, nat_lt, cond, List, ◌++◌, Option, Some, None, codes}
 use Rattle.command_words.specs.Commands.{Command, OnFile, Execute}
 use Rattle.hs_base.specs.Object.{Object}
 use Rattle.hs_base.specs.declared.ends.Leak.{Leak}

@@ -104,7 +104,8 @@ fn run_core(alloc: Global, core: &Core, limits: Limits, steps: u64) -> Result<Ra
     requires heap { limits.heap ≤ 268435456 }
     requires stack { limits.stack ≤ 67108864 }
     requires steps { steps ≤ 1000000000 }
-    ensures answers { IfOk result (λ ran. (text : List ℕ) → Went (AnswersWay [] (alone [] text) core.now no_input (way.Run limits steps false)) ran) }
+    ensures answers { IfOk result (λ ran. (text : List ℕ) →
+        Went (AnswersWay [] (alone [] text) core.now no_input (way.Run limits steps false)) ran) }
     ensures made { IfOk result (λ ran. ran.steps ≡ steps_of core.now limits steps) }
 {
     let mut input = SureSource::new(Items::new(alloc));
@@ -128,7 +129,8 @@ fn run_text(alloc: Global, text: &[u8], limits: Limits, steps: u64) -> Result<Ra
     requires heap { limits.heap ≤ 268435456 }
     requires stack { limits.stack ≤ 67108864 }
     requires steps { steps ≤ 1000000000 }
-    ensures answers { IfOk result (Went (AnswersText [] text.now no_input (Run limits.heap limits.stack steps false))) }
+    ensures answers { IfOk result
+        (Went (AnswersText [] text.now no_input (Run limits.heap limits.stack steps false))) }
     ensures makes { IfOk result (λ ran. MakesOnly text.now limits steps ran.steps) }
 {
     match prepare(alloc, text)? {
@@ -168,12 +170,22 @@ fn sum_up(alloc: Global, number: u32) -> Result<Summary, NoMemory>
 fn write_summary<O: Sink, E: Sink>(summary: Summary, out: &mut O, err: &mut E) -> u8
     requires out { O.faults out.old + 1 < 2 ^ 64 }
     requires err { E.faults err.old + 1 < 2 ^ 64 }
-    ensures exact { (left : List ℕ) → O.faults out.new ≡ O.faults out.old → E.faults err.new ≡ E.faults err.old → Gives (λ a. a ≡ written (summary_line summary)) left (Some left) (O.taken out.old) (O.taken out.new) (E.taken err.old) (E.taken err.new) result }
-    ensures faults { (t i : ℕ) → Faults t t i i (O.faults out.old) (O.faults out.new) (E.faults err.old) (E.faults err.new) result }
-    ensures output_fault { O.faults out.old < O.faults out.new → Says (E.taken err.old) (E.taken err.new) (E.faults err.old) (E.faults err.new) output_fault.err 133 result }
-    ensures broken { (left : List ℕ) (i : ℕ) → WriteFails (O.faults out.old) (O.faults out.new) (E.faults err.old) (E.faults err.new) → (a : Shown) → a ≡ written (summary_line summary) → Breaks None a left (Some left) (O.taken out.old) (O.taken out.new) (E.taken err.old) (E.taken err.new) i i (O.faults out.old) (O.faults out.new) (E.faults err.old) (E.faults err.new) }
+    ensures exact { (left : List ℕ) → O.faults out.new ≡ O.faults out.old →
+        E.faults err.new ≡ E.faults err.old → Gives (λ a. a ≡ written (summary_line summary)) left
+        (Some left) (O.taken out.old) (O.taken out.new) (E.taken err.old) (E.taken err.new) result }
+    ensures faults { (t i : ℕ) → Faults t t i i (O.faults out.old) (O.faults out.new)
+        (E.faults err.old) (E.faults err.new) result }
+    ensures output_fault { O.faults out.old < O.faults out.new →
+        Says (E.taken err.old) (E.taken err.new) (E.faults err.old) (E.faults err.new)
+        output_fault.err 133 result }
+    ensures broken { (left : List ℕ) (i : ℕ) → WriteFails (O.faults out.old) (O.faults out.new)
+        (E.faults err.old) (E.faults err.new) → (a : Shown) → a ≡ written (summary_line summary) →
+        Breaks None a left (Some left) (O.taken out.old) (O.taken out.new) (E.taken err.old)
+        (E.taken err.new) i i (O.faults out.old) (O.faults out.new) (E.faults err.old)
+        (E.faults err.new) }
     ensures memory { Wants (out.new ≡ out.old) ⊥ (E.taken err.old) (E.taken err.new) result }
-    ensures cause { HasCause (WriteFails (O.faults out.old) (O.faults out.new) (E.faults err.old) (E.faults err.new)) ⊥ (E.taken err.old) (E.taken err.new) result }
+    ensures cause { HasCause (WriteFails (O.faults out.old) (O.faults out.new) (E.faults err.old)
+        (E.faults err.new)) ⊥ (E.taken err.old) (E.taken err.new) result }
     ensures refused { Refuses (out.new ≡ out.old) ⊥ (E.taken err.old) (E.taken err.new) result }
 {
     match put_summary(out, summary) {
@@ -192,12 +204,22 @@ pub(crate) fn run_generated<O: Sink, E: Sink>(
     requires number { (1 ≤ number) × (number ≤ 2000) }
     requires out { O.faults out.old + 1 < 2 ^ 64 }
     requires err { E.faults err.old + 1 < 2 ^ 64 }
-    ensures exact { (left : List ℕ) → O.faults out.new ≡ O.faults out.old → E.faults err.new ≡ E.faults err.old → Gives (AnswersGenerated number) left (Some left) (O.taken out.old) (O.taken out.new) (E.taken err.old) (E.taken err.new) result }
-    ensures faults { (t i : ℕ) → Faults t t i i (O.faults out.old) (O.faults out.new) (E.faults err.old) (E.faults err.new) result }
-    ensures output_fault { O.faults out.old < O.faults out.new → Says (E.taken err.old) (E.taken err.new) (E.faults err.old) (E.faults err.new) output_fault.err 133 result }
-    ensures broken { (left : List ℕ) (i : ℕ) → WriteFails (O.faults out.old) (O.faults out.new) (E.faults err.old) (E.faults err.new) → (a : Shown) → AnswersGenerated number a → Breaks None a left (Some left) (O.taken out.old) (O.taken out.new) (E.taken err.old) (E.taken err.new) i i (O.faults out.old) (O.faults out.new) (E.faults err.old) (E.faults err.new) }
+    ensures exact { (left : List ℕ) → O.faults out.new ≡ O.faults out.old →
+        E.faults err.new ≡ E.faults err.old → Gives (AnswersGenerated number) left (Some left)
+        (O.taken out.old) (O.taken out.new) (E.taken err.old) (E.taken err.new) result }
+    ensures faults { (t i : ℕ) → Faults t t i i (O.faults out.old) (O.faults out.new)
+        (E.faults err.old) (E.faults err.new) result }
+    ensures output_fault { O.faults out.old < O.faults out.new →
+        Says (E.taken err.old) (E.taken err.new) (E.faults err.old) (E.faults err.new)
+        output_fault.err 133 result }
+    ensures broken { (left : List ℕ) (i : ℕ) → WriteFails (O.faults out.old) (O.faults out.new)
+        (E.faults err.old) (E.faults err.new) → (a : Shown) → AnswersGenerated number a →
+        Breaks None a left (Some left) (O.taken out.old) (O.taken out.new) (E.taken err.old)
+        (E.taken err.new) i i (O.faults out.old) (O.faults out.new) (E.faults err.old)
+        (E.faults err.new) }
     ensures memory { Wants (out.new ≡ out.old) ⊥ (E.taken err.old) (E.taken err.new) result }
-    ensures cause { HasCause (WriteFails (O.faults out.old) (O.faults out.new) (E.faults err.old) (E.faults err.new)) ⊥ (E.taken err.old) (E.taken err.new) result }
+    ensures cause { HasCause (WriteFails (O.faults out.old) (O.faults out.new) (E.faults err.old)
+        (E.faults err.new)) ⊥ (E.taken err.old) (E.taken err.new) result }
     ensures refused { Refuses (out.new ≡ out.old) ⊥ (E.taken err.old) (E.taken err.new) result }
 {
     match sum_up(alloc, number) {

@@ -16,8 +16,8 @@ use c_pre::Opened;
 use flat_machine::Machine;
 use hs_base::{Failed, Sink};
 
-/// Writes a line for each leak of the heap of a machine, by ascending lines of birth over all texts, each counted in its text. After a failure, which is the last call
-/// on the sink, a prefix was taken.
+/// Writes a line for each leak of the heap of a machine, by ascending lines of birth over all texts, each counted in its text.
+/// After a failure, which is the last call on the sink, a prefix was taken.
 pub(crate) fn write_leaks<E: Sink>(
     machine: &Machine,
     opened: &[Opened],
@@ -25,8 +25,11 @@ pub(crate) fn write_leaks<E: Sink>(
 ) -> Result<(), Failed>
     requires kept { KeepsSome machine.now.kept.memory }
     requires err { E.faults err.old + 1 < 2 ^ 64 }
-    ensures bytes { (places : ℕ → ℕ) (objects : List Object) → Keeps machine.now.kept.memory places objects → (leaks : List Leak) → AreLeaks objects 0 leaks → PutsAll (E.taken err.old) (E.taken err.new) (told_leaks opened.now leaks) result }
-    ensures all { (places : ℕ → ℕ) (objects : List Object) → Keeps machine.now.kept.memory places objects → IfOk result (λ _. (leaks : List Leak) × AreLeaks objects 0 leaks) }
+    ensures bytes { (places : ℕ → ℕ) (objects : List Object) → Keeps machine.now.kept.memory places
+        objects → (leaks : List Leak) → AreLeaks objects 0 leaks →
+        PutsAll (E.taken err.old) (E.taken err.new) (told_leaks opened.now leaks) result }
+    ensures all { (places : ℕ → ℕ) (objects : List Object) → Keeps machine.now.kept.memory places
+        objects → IfOk result (λ _. (leaks : List Leak) × AreLeaks objects 0 leaks) }
     ensures cause { CountsFaults (E.faults err.old) (E.faults err.new) result }
 {
     let mut above = 0;

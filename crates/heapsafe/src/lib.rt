@@ -40,10 +40,10 @@ use command_words::{Command, Task, WordsError};
 use executing::{Asked, execute_file};
 use generated::run_generated;
 use hs_base::{Limits, Sink, Source, Texts};
+pub use laws::executions_are_runs;
 use program::{Way, run_program};
 use refusal::{Refusal, refuse, refuse_text, refuse_tokens};
 use std::alloc::Global;
-pub use laws::executions_are_runs;
 use written::{core_compiled, core_list, core_live, layouts, print};
 
 /// Does what is asked with a text that has this tree.
@@ -62,15 +62,35 @@ fn with_tree<I: Source, O: Sink, E: Sink>(
     requires input { I.faults input.old + 1 < 2 ^ 64 }
     requires out { O.faults out.old + 1 < 2 ^ 64 }
     requires err { E.faults err.old + 1 < 2 ^ 64 }
-    ensures exact { (left : List ℕ) → I.left input.old ≡ Some left → O.faults out.new ≡ O.faults out.old → E.faults err.new ≡ E.faults err.old → Gives (Does file.now opened.now (unit_view unit.now) (input_of left (I.faults input.old) (I.faults input.new)) (task_shown task)) left (I.left input.new) (O.taken out.old) (O.taken out.new) (E.taken err.old) (E.taken err.new) result }
-    ensures faults { (t : ℕ) → Faults t t (I.faults input.old) (I.faults input.new) (O.faults out.old) (O.faults out.new) (E.faults err.old) (E.faults err.new) result }
-    ensures input_fault { I.faults input.old < I.faults input.new → Says (E.taken err.old) (E.taken err.new) (E.faults err.old) (E.faults err.new) input_fault.err 132 result }
-    ensures output_fault { O.faults out.old < O.faults out.new → Says (E.taken err.old) (E.taken err.new) (E.faults err.old) (E.faults err.new) output_fault.err 133 result }
+    ensures exact { (left : List ℕ) → I.left input.old ≡ Some left →
+        O.faults out.new ≡ O.faults out.old → E.faults err.new ≡ E.faults err.old →
+        Gives (Does file.now opened.now (unit_view unit.now)
+        (input_of left (I.faults input.old) (I.faults input.new)) (task_shown task)) left
+        (I.left input.new) (O.taken out.old) (O.taken out.new) (E.taken err.old) (E.taken err.new)
+        result }
+    ensures faults { (t : ℕ) → Faults t t (I.faults input.old) (I.faults input.new)
+        (O.faults out.old) (O.faults out.new) (E.faults err.old) (E.faults err.new) result }
+    ensures input_fault { I.faults input.old < I.faults input.new →
+        Says (E.taken err.old) (E.taken err.new) (E.faults err.old) (E.faults err.new)
+        input_fault.err 132 result }
+    ensures output_fault { O.faults out.old < O.faults out.new →
+        Says (E.taken err.old) (E.taken err.new) (E.faults err.old) (E.faults err.new)
+        output_fault.err 133 result }
     ensures stays { RunsNone (task_shown task) → input.new ≡ input.old }
-    ensures broken { (left : List ℕ) → I.left input.old ≡ Some left → WriteFails (O.faults out.old) (O.faults out.new) (E.faults err.old) (E.faults err.new) → BreaksOff (HasOne (task_shown task)) (Does file.now opened.now (unit_view unit.now) (steady left) (task_shown task)) None left (I.left input.new) (O.taken out.old) (O.taken out.new) (E.taken err.old) (E.taken err.new) (I.faults input.old) (I.faults input.new) (O.faults out.old) (O.faults out.new) (E.faults err.old) (E.faults err.new) }
-    ensures memory { Wants (MeansNone (task_shown task) → (input.new ≡ input.old) × (out.new ≡ out.old)) (RunsNone (task_shown task) → ⊥) (E.taken err.old) (E.taken err.new) result }
-    ensures cause { HasCause ((I.faults input.old < I.faults input.new) ⊎ WriteFails (O.faults out.old) (O.faults out.new) (E.faults err.old) (E.faults err.new)) (RunsNone (task_shown task) → ⊥) (E.taken err.old) (E.taken err.new) result }
-    ensures refused { Refuses ((input.new ≡ input.old) × (out.new ≡ out.old)) (RunsNone (task_shown task) → ⊥) (E.taken err.old) (E.taken err.new) result }
+    ensures broken { (left : List ℕ) → I.left input.old ≡ Some left → WriteFails (O.faults out.old)
+        (O.faults out.new) (E.faults err.old) (E.faults err.new) → BreaksOff (HasOne (task_shown
+        task)) (Does file.now opened.now (unit_view unit.now) (steady left) (task_shown task)) None
+        left (I.left input.new) (O.taken out.old) (O.taken out.new) (E.taken err.old) (E.taken
+        err.new) (I.faults input.old) (I.faults input.new) (O.faults out.old) (O.faults out.new)
+        (E.faults err.old) (E.faults err.new) }
+    ensures memory { Wants (MeansNone (task_shown task) → (input.new ≡ input.old) ×
+        (out.new ≡ out.old)) (RunsNone (task_shown task) → ⊥) (E.taken err.old) (E.taken err.new)
+        result }
+    ensures cause { HasCause ((I.faults input.old < I.faults input.new) ⊎
+        WriteFails (O.faults out.old) (O.faults out.new) (E.faults err.old) (E.faults err.new))
+        (RunsNone (task_shown task) → ⊥) (E.taken err.old) (E.taken err.new) result }
+    ensures refused { Refuses ((input.new ≡ input.old) × (out.new ≡ out.old))
+        (RunsNone (task_shown task) → ⊥) (E.taken err.old) (E.taken err.new) result }
 {
     match task {
         Task::Run {
@@ -116,15 +136,35 @@ fn with_tokens<I: Source, O: Sink, E: Sink>(
     requires input { I.faults input.old + 1 < 2 ^ 64 }
     requires out { O.faults out.old + 1 < 2 ^ 64 }
     requires err { E.faults err.old + 1 < 2 ^ 64 }
-    ensures exact { (left : List ℕ) → I.left input.old ≡ Some left → O.faults out.new ≡ O.faults out.old → E.faults err.new ≡ E.faults err.old → Gives (AnswersTokens file.now opened.now tokens.now (input_of left (I.faults input.old) (I.faults input.new)) (task_shown task)) left (I.left input.new) (O.taken out.old) (O.taken out.new) (E.taken err.old) (E.taken err.new) result }
-    ensures faults { (t : ℕ) → Faults t t (I.faults input.old) (I.faults input.new) (O.faults out.old) (O.faults out.new) (E.faults err.old) (E.faults err.new) result }
-    ensures input_fault { I.faults input.old < I.faults input.new → Says (E.taken err.old) (E.taken err.new) (E.faults err.old) (E.faults err.new) input_fault.err 132 result }
-    ensures output_fault { O.faults out.old < O.faults out.new → Says (E.taken err.old) (E.taken err.new) (E.faults err.old) (E.faults err.new) output_fault.err 133 result }
+    ensures exact { (left : List ℕ) → I.left input.old ≡ Some left →
+        O.faults out.new ≡ O.faults out.old → E.faults err.new ≡ E.faults err.old →
+        Gives (AnswersTokens file.now opened.now tokens.now
+        (input_of left (I.faults input.old) (I.faults input.new)) (task_shown task)) left
+        (I.left input.new) (O.taken out.old) (O.taken out.new) (E.taken err.old) (E.taken err.new)
+        result }
+    ensures faults { (t : ℕ) → Faults t t (I.faults input.old) (I.faults input.new)
+        (O.faults out.old) (O.faults out.new) (E.faults err.old) (E.faults err.new) result }
+    ensures input_fault { I.faults input.old < I.faults input.new →
+        Says (E.taken err.old) (E.taken err.new) (E.faults err.old) (E.faults err.new)
+        input_fault.err 132 result }
+    ensures output_fault { O.faults out.old < O.faults out.new →
+        Says (E.taken err.old) (E.taken err.new) (E.faults err.old) (E.faults err.new)
+        output_fault.err 133 result }
     ensures stays { RunsNone (task_shown task) → input.new ≡ input.old }
-    ensures broken { (left : List ℕ) → I.left input.old ≡ Some left → WriteFails (O.faults out.old) (O.faults out.new) (E.faults err.old) (E.faults err.new) → BreaksOff (HasOne (task_shown task)) (AnswersTokens file.now opened.now tokens.now (steady left) (task_shown task)) None left (I.left input.new) (O.taken out.old) (O.taken out.new) (E.taken err.old) (E.taken err.new) (I.faults input.old) (I.faults input.new) (O.faults out.old) (O.faults out.new) (E.faults err.old) (E.faults err.new) }
-    ensures memory { Wants (MeansNone (task_shown task) → (input.new ≡ input.old) × (out.new ≡ out.old)) (RunsNone (task_shown task) → ⊥) (E.taken err.old) (E.taken err.new) result }
-    ensures cause { HasCause ((I.faults input.old < I.faults input.new) ⊎ WriteFails (O.faults out.old) (O.faults out.new) (E.faults err.old) (E.faults err.new)) (RunsNone (task_shown task) → ⊥) (E.taken err.old) (E.taken err.new) result }
-    ensures refused { Refuses ((input.new ≡ input.old) × (out.new ≡ out.old)) (RunsNone (task_shown task) → ⊥) (E.taken err.old) (E.taken err.new) result }
+    ensures broken { (left : List ℕ) → I.left input.old ≡ Some left → WriteFails (O.faults out.old)
+        (O.faults out.new) (E.faults err.old) (E.faults err.new) → BreaksOff (HasOne (task_shown
+        task)) (AnswersTokens file.now opened.now tokens.now (steady left) (task_shown task)) None
+        left (I.left input.new) (O.taken out.old) (O.taken out.new) (E.taken err.old) (E.taken
+        err.new) (I.faults input.old) (I.faults input.new) (O.faults out.old) (O.faults out.new)
+        (E.faults err.old) (E.faults err.new) }
+    ensures memory { Wants (MeansNone (task_shown task) → (input.new ≡ input.old) ×
+        (out.new ≡ out.old)) (RunsNone (task_shown task) → ⊥) (E.taken err.old) (E.taken err.new)
+        result }
+    ensures cause { HasCause ((I.faults input.old < I.faults input.new) ⊎
+        WriteFails (O.faults out.old) (O.faults out.new) (E.faults err.old) (E.faults err.new))
+        (RunsNone (task_shown task) → ⊥) (E.taken err.old) (E.taken err.new) result }
+    ensures refused { Refuses ((input.new ≡ input.old) × (out.new ≡ out.old))
+        (RunsNone (task_shown task) → ⊥) (E.taken err.old) (E.taken err.new) result }
 {
     match parse(alloc, tokens) {
         Ok(unit) => with_tree(alloc, file, task, opened, &unit, input, out, err),
@@ -147,16 +187,41 @@ fn with_file<T: Texts, I: Source, O: Sink, E: Sink>(
     requires input { I.faults input.old + 1 < 2 ^ 64 }
     requires out { O.faults out.old + 1 < 2 ^ 64 }
     requires err { E.faults err.old + 1 < 2 ^ 64 }
-    ensures exact { (told : List ℕ → List ℕ) (left : List ℕ) → T.texts texts.old ≡ Some told → I.left input.old ≡ Some left → T.faults texts.new ≡ T.faults texts.old → O.faults out.new ≡ O.faults out.old → E.faults err.new ≡ E.faults err.old → Gives (AnswersFile file.now told (input_of left (I.faults input.old) (I.faults input.new)) (task_shown task)) left (I.left input.new) (O.taken out.old) (O.taken out.new) (E.taken err.old) (E.taken err.new) result }
-    ensures faults { Faults (T.faults texts.old) (T.faults texts.new) (I.faults input.old) (I.faults input.new) (O.faults out.old) (O.faults out.new) (E.faults err.old) (E.faults err.new) result }
-    ensures input_fault { I.faults input.old < I.faults input.new → Says (E.taken err.old) (E.taken err.new) (E.faults err.old) (E.faults err.new) input_fault.err 132 result }
-    ensures output_fault { O.faults out.old < O.faults out.new → Says (E.taken err.old) (E.taken err.new) (E.faults err.old) (E.faults err.new) output_fault.err 133 result }
+    ensures exact { (told : List ℕ → List ℕ) (left : List ℕ) → T.texts texts.old ≡ Some told →
+        I.left input.old ≡ Some left → T.faults texts.new ≡ T.faults texts.old →
+        O.faults out.new ≡ O.faults out.old → E.faults err.new ≡ E.faults err.old →
+        Gives (AnswersFile file.now told (input_of left (I.faults input.old) (I.faults input.new))
+        (task_shown task)) left (I.left input.new) (O.taken out.old) (O.taken out.new)
+        (E.taken err.old) (E.taken err.new) result }
+    ensures faults { Faults (T.faults texts.old) (T.faults texts.new) (I.faults input.old)
+        (I.faults input.new) (O.faults out.old) (O.faults out.new) (E.faults err.old)
+        (E.faults err.new) result }
+    ensures input_fault { I.faults input.old < I.faults input.new →
+        Says (E.taken err.old) (E.taken err.new) (E.faults err.old) (E.faults err.new)
+        input_fault.err 132 result }
+    ensures output_fault { O.faults out.old < O.faults out.new →
+        Says (E.taken err.old) (E.taken err.new) (E.faults err.old) (E.faults err.new)
+        output_fault.err 133 result }
     ensures stays { RunsNone (task_shown task) → input.new ≡ input.old }
-    ensures text_fault { T.faults texts.old < T.faults texts.new → (input.new ≡ input.old) × (out.new ≡ out.old) × SaysUnread file.now (E.taken err.old) (E.taken err.new) (E.faults err.old) (E.faults err.new) result }
-    ensures broken { (told : List ℕ → List ℕ) (left : List ℕ) → T.texts texts.old ≡ Some told → I.left input.old ≡ Some left → WriteFails (O.faults out.old) (O.faults out.new) (E.faults err.old) (E.faults err.new) → BreaksOff (HasOne (task_shown task)) (AnswersFile file.now told (steady left) (task_shown task)) (unread_file (Some (OnFile file.now (task_shown task))) (T.faults texts.old) (T.faults texts.new)) left (I.left input.new) (O.taken out.old) (O.taken out.new) (E.taken err.old) (E.taken err.new) (I.faults input.old) (I.faults input.new) (O.faults out.old) (O.faults out.new) (E.faults err.old) (E.faults err.new) }
-    ensures memory { Wants (MeansNone (task_shown task) → (input.new ≡ input.old) × (out.new ≡ out.old)) (RunsNone (task_shown task) → ⊥) (E.taken err.old) (E.taken err.new) result }
-    ensures cause { HasCause ((T.faults texts.old < T.faults texts.new) ⊎ (I.faults input.old < I.faults input.new) ⊎ WriteFails (O.faults out.old) (O.faults out.new) (E.faults err.old) (E.faults err.new)) (RunsNone (task_shown task) → ⊥) (E.taken err.old) (E.taken err.new) result }
-    ensures refused { Refuses ((input.new ≡ input.old) × (out.new ≡ out.old)) (RunsNone (task_shown task) → ⊥) (E.taken err.old) (E.taken err.new) result }
+    ensures text_fault { T.faults texts.old < T.faults texts.new → (input.new ≡ input.old) ×
+        (out.new ≡ out.old) × SaysUnread file.now (E.taken err.old) (E.taken err.new) (E.faults
+        err.old) (E.faults err.new) result }
+    ensures broken { (told : List ℕ → List ℕ) (left : List ℕ) → T.texts texts.old ≡ Some told →
+        I.left input.old ≡ Some left → WriteFails (O.faults out.old) (O.faults out.new) (E.faults
+        err.old) (E.faults err.new) → BreaksOff (HasOne (task_shown task)) (AnswersFile file.now
+        told (steady left) (task_shown task)) (unread_file (Some (OnFile file.now (task_shown
+        task))) (T.faults texts.old) (T.faults texts.new)) left (I.left input.new) (O.taken out.old)
+        (O.taken out.new) (E.taken err.old) (E.taken err.new) (I.faults input.old) (I.faults
+        input.new) (O.faults out.old) (O.faults out.new) (E.faults err.old) (E.faults err.new) }
+    ensures memory { Wants (MeansNone (task_shown task) → (input.new ≡ input.old) ×
+        (out.new ≡ out.old)) (RunsNone (task_shown task) → ⊥) (E.taken err.old) (E.taken err.new)
+        result }
+    ensures cause { HasCause ((T.faults texts.old < T.faults texts.new) ⊎
+        (I.faults input.old < I.faults input.new) ⊎ WriteFails (O.faults out.old) (O.faults out.new)
+        (E.faults err.old) (E.faults err.new)) (RunsNone (task_shown task) → ⊥) (E.taken err.old)
+        (E.taken err.new) result }
+    ensures refused { Refuses ((input.new ≡ input.old) × (out.new ≡ out.old))
+        (RunsNone (task_shown task) → ⊥) (E.taken err.old) (E.taken err.new) result }
 {
     match pre(alloc, texts, file, 0) {
         Ok(read) => {
@@ -212,28 +277,61 @@ pub fn heapsafe<T: Texts, I: Source, O: Sink, E: Sink>(
     requires input { I.faults input.old + 1 < 2 ^ 64 }
     requires out { O.faults out.old + 1 < 2 ^ 64 }
     requires err { E.faults err.old + 1 < 2 ^ 64 }
-    ensures exact { (told : List ℕ → List ℕ) (left : List ℕ) → T.texts texts.old ≡ Some told → I.left input.old ≡ Some left → T.faults texts.new ≡ T.faults texts.old → O.faults out.new ≡ O.faults out.old → E.faults err.new ≡ E.faults err.old → Gives (Answers (map (λ w. w.now) words.now) told (input_of left (I.faults input.old) (I.faults input.new))) left (I.left input.new) (O.taken out.old) (O.taken out.new) (E.taken err.old) (E.taken err.new) result }
-    ensures faults { Faults (T.faults texts.old) (T.faults texts.new) (I.faults input.old) (I.faults input.new) (O.faults out.old) (O.faults out.new) (E.faults err.old) (E.faults err.new) result }
-    ensures input_fault { I.faults input.old < I.faults input.new → Says (E.taken err.old) (E.taken err.new) (E.faults err.old) (E.faults err.new) input_fault.err 132 result }
-    ensures output_fault { O.faults out.old < O.faults out.new → Says (E.taken err.old) (E.taken err.new) (E.faults err.old) (E.faults err.new) output_fault.err 133 result }
-    ensures usage { command_of (map (λ w. w.now) words.now) ≡ None → (texts.new ≡ texts.old) × (input.new ≡ input.old) × (out.new ≡ out.old) }
-    ensures no_file { AsksNoFile (command_of (map (λ w. w.now) words.now)) → (texts.new ≡ texts.old) × (input.new ≡ input.old) }
+    ensures exact { (told : List ℕ → List ℕ) (left : List ℕ) → T.texts texts.old ≡ Some told →
+        I.left input.old ≡ Some left → T.faults texts.new ≡ T.faults texts.old →
+        O.faults out.new ≡ O.faults out.old → E.faults err.new ≡ E.faults err.old →
+        Gives (Answers (map (λ w. w.now) words.now) told
+        (input_of left (I.faults input.old) (I.faults input.new))) left (I.left input.new)
+        (O.taken out.old) (O.taken out.new) (E.taken err.old) (E.taken err.new) result }
+    ensures faults { Faults (T.faults texts.old) (T.faults texts.new) (I.faults input.old)
+        (I.faults input.new) (O.faults out.old) (O.faults out.new) (E.faults err.old)
+        (E.faults err.new) result }
+    ensures input_fault { I.faults input.old < I.faults input.new →
+        Says (E.taken err.old) (E.taken err.new) (E.faults err.old) (E.faults err.new)
+        input_fault.err 132 result }
+    ensures output_fault { O.faults out.old < O.faults out.new →
+        Says (E.taken err.old) (E.taken err.new) (E.faults err.old) (E.faults err.new)
+        output_fault.err 133 result }
+    ensures usage { command_of (map (λ w. w.now) words.now) ≡ None → (texts.new ≡ texts.old) ×
+        (input.new ≡ input.old) × (out.new ≡ out.old) }
+    ensures no_file { AsksNoFile (command_of (map (λ w. w.now) words.now)) →
+        (texts.new ≡ texts.old) × (input.new ≡ input.old) }
     ensures stays { AsksNone (command_of (map (λ w. w.now) words.now)) → input.new ≡ input.old }
-    ensures text_fault { (file : List ℕ) → file_asked (command_of (map (λ w. w.now) words.now)) ≡ Some file → T.faults texts.old < T.faults texts.new → (input.new ≡ input.old) × (out.new ≡ out.old) × SaysUnread file (E.taken err.old) (E.taken err.new) (E.faults err.old) (E.faults err.new) result }
-    ensures broken { (told : List ℕ → List ℕ) (left : List ℕ) → T.texts texts.old ≡ Some told → I.left input.old ≡ Some left → WriteFails (O.faults out.old) (O.faults out.new) (E.faults err.old) (E.faults err.new) → BreaksOff (AsksOne (command_of (map (λ w. w.now) words.now))) (Answers (map (λ w. w.now) words.now) told (steady left)) (unread_file (command_of (map (λ w. w.now) words.now)) (T.faults texts.old) (T.faults texts.new)) left (I.left input.new) (O.taken out.old) (O.taken out.new) (E.taken err.old) (E.taken err.new) (I.faults input.old) (I.faults input.new) (O.faults out.old) (O.faults out.new) (E.faults err.old) (E.faults err.new) }
-    ensures memory { Wants (AsksNoMeaning (command_of (map (λ w. w.now) words.now)) → (input.new ≡ input.old) × (out.new ≡ out.old)) (AsksNone (command_of (map (λ w. w.now) words.now)) → ⊥) (E.taken err.old) (E.taken err.new) result }
-    ensures cause { HasCause ((T.faults texts.old < T.faults texts.new) ⊎ (I.faults input.old < I.faults input.new) ⊎ WriteFails (O.faults out.old) (O.faults out.new) (E.faults err.old) (E.faults err.new)) (AsksNone (command_of (map (λ w. w.now) words.now)) → ⊥) (E.taken err.old) (E.taken err.new) result }
-    ensures refused { Refuses ((input.new ≡ input.old) × (out.new ≡ out.old)) (AsksNone (command_of (map (λ w. w.now) words.now)) → ⊥) (E.taken err.old) (E.taken err.new) result }
+    ensures text_fault { (file : List ℕ) → file_asked (command_of (map (λ w. w.now) words.now)) ≡
+        Some file → T.faults texts.old < T.faults texts.new → (input.new ≡ input.old) × (out.new ≡
+        out.old) × SaysUnread file (E.taken err.old) (E.taken err.new) (E.faults err.old) (E.faults
+        err.new) result }
+    ensures broken { (told : List ℕ → List ℕ) (left : List ℕ) → T.texts texts.old ≡ Some told →
+        I.left input.old ≡ Some left → WriteFails (O.faults out.old) (O.faults out.new) (E.faults
+        err.old) (E.faults err.new) → BreaksOff (AsksOne (command_of (map (λ w. w.now) words.now)))
+        (Answers (map (λ w. w.now) words.now) told (steady left)) (unread_file (command_of (map (λ
+        w. w.now) words.now)) (T.faults texts.old) (T.faults texts.new)) left (I.left input.new)
+        (O.taken out.old) (O.taken out.new) (E.taken err.old) (E.taken err.new) (I.faults input.old)
+        (I.faults input.new) (O.faults out.old) (O.faults out.new) (E.faults err.old) (E.faults
+        err.new) }
+    ensures memory { Wants (AsksNoMeaning (command_of (map (λ w. w.now) words.now)) →
+        (input.new ≡ input.old) × (out.new ≡ out.old))
+        (AsksNone (command_of (map (λ w. w.now) words.now)) → ⊥) (E.taken err.old) (E.taken err.new)
+        result }
+    ensures cause { HasCause ((T.faults texts.old < T.faults texts.new) ⊎
+        (I.faults input.old < I.faults input.new) ⊎ WriteFails (O.faults out.old) (O.faults out.new)
+        (E.faults err.old) (E.faults err.new)) (AsksNone (command_of (map (λ w. w.now) words.now)) →
+        ⊥) (E.taken err.old) (E.taken err.new) result }
+    ensures refused { Refuses ((input.new ≡ input.old) × (out.new ≡ out.old))
+        (AsksNone (command_of (map (λ w. w.now) words.now)) → ⊥) (E.taken err.old) (E.taken err.new)
+        result }
 {
     match command_words::read(alloc, words) {
         Ok(Command::OnFile { file, task }) => with_file(alloc, file, task, texts, input, out, err),
-        Ok(Command::Execute {
-            file,
-            heap,
-            stack,
-            steps,
-            leaks,
-        }) => {
+        Ok(
+            Command::Execute {
+                file,
+                heap,
+                stack,
+                steps,
+                leaks,
+            },
+        ) => {
             let asked = Asked {
                 limits: Limits { heap, stack },
                 steps,

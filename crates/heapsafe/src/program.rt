@@ -70,7 +70,8 @@ fn put_report<E: Sink>(
     err: &mut E,
 ) -> Result<(), Failed>
     requires { E.faults err.old + 1 < 2 ^ 64 }
-    ensures bytes { PutsAll (E.taken err.old) (E.taken err.new) (told_report core.now file.now opened.now end.now) result }
+    ensures bytes { PutsAll (E.taken err.old) (E.taken err.new)
+        (told_report core.now file.now opened.now end.now) result }
     ensures cause { CountsFaults (E.faults err.old) (E.faults err.new) result }
 {
     let told = told_end(opened, *end);
@@ -86,7 +87,8 @@ fn put_report<E: Sink>(
 /// Reports how a program ended, and answers its status or that of a failed write.
 fn finish<E: Sink>(end: &End, core: &Core, file: &str, opened: &[Opened], err: &mut E) -> u8
     requires { E.faults err.old + 1 < 2 ^ 64 }
-    ensures says { Says (E.taken err.old) (E.taken err.new) (E.faults err.old) (E.faults err.new) (told_report core.now file.now opened.now end.now) (status_of end.now) result }
+    ensures says { Says (E.taken err.old) (E.taken err.new) (E.faults err.old) (E.faults err.new)
+        (told_report core.now file.now opened.now end.now) (status_of end.now) result }
 {
     match put_report(end, core, file, opened, err) {
         Ok(()) => status_of(end),
@@ -105,10 +107,15 @@ fn finish_exit<E: Sink>(
 ) -> u8
     requires kept { KeepsSome machine.now.kept.memory }
     requires err { E.faults err.old + 1 < 2 ^ 64 }
-    ensures none { leaks ≡ false → Says (E.taken err.old) (E.taken err.new) (E.faults err.old) (E.faults err.new) [] code result }
-    ensures leaks { IsTrue leaks → (places : ℕ → ℕ) (objects : List Object) → Keeps machine.now.kept.memory places objects → SaysLeaks opened.now objects (E.taken err.old) (E.taken err.new) (E.faults err.old) (E.faults err.new) code result }
+    ensures none { leaks ≡ false → Says (E.taken err.old) (E.taken err.new) (E.faults err.old)
+        (E.faults err.new) [] code result }
+    ensures leaks { IsTrue leaks → (places : ℕ → ℕ) (objects : List Object) →
+        Keeps machine.now.kept.memory places objects →
+        SaysLeaks opened.now objects (E.taken err.old) (E.taken err.new) (E.faults err.old)
+        (E.faults err.new) code result }
     ensures counts { SaysCounts (E.faults err.old) (E.faults err.new) code result }
-    ensures own { E.faults err.new ≡ E.faults err.old → TakesLeaks (E.taken err.old) (E.taken err.new) }
+    ensures own { E.faults err.new ≡ E.faults err.old →
+        TakesLeaks (E.taken err.old) (E.taken err.new) }
 {
     if !leaks {
         return code;
@@ -132,10 +139,16 @@ pub(crate) fn finish_run<E: Sink>(
 ) -> u8
     requires kept { KeepsSome machine.now.kept.memory }
     requires err { E.faults err.old + 1 < 2 ^ 64 }
-    ensures says { TellsNone leaks end.now → Says (E.taken err.old) (E.taken err.new) (E.faults err.old) (E.faults err.new) (told_report core.now file.now opened.now end.now) (status_of end.now) result }
-    ensures leaks { (code : ℕ) → IsTrue leaks → end.now ≡ Exit code → (places : ℕ → ℕ) (objects : List Object) → Keeps machine.now.kept.memory places objects → SaysLeaks opened.now objects (E.taken err.old) (E.taken err.new) (E.faults err.old) (E.faults err.new) code result }
+    ensures says { TellsNone leaks end.now → Says (E.taken err.old) (E.taken err.new)
+        (E.faults err.old) (E.faults err.new) (told_report core.now file.now opened.now end.now)
+        (status_of end.now) result }
+    ensures leaks { (code : ℕ) → IsTrue leaks → end.now ≡ Exit code →
+        (places : ℕ → ℕ) (objects : List Object) → Keeps machine.now.kept.memory places objects →
+        SaysLeaks opened.now objects (E.taken err.old) (E.taken err.new) (E.faults err.old)
+        (E.faults err.new) code result }
     ensures counts { SaysCounts (E.faults err.old) (E.faults err.new) (status_of end.now) result }
-    ensures own { (code : ℕ) → end.now ≡ Exit code → E.faults err.new ≡ E.faults err.old → TakesLeaks (E.taken err.old) (E.taken err.new) }
+    ensures own { (code : ℕ) → end.now ≡ Exit code → E.faults err.new ≡ E.faults err.old →
+        TakesLeaks (E.taken err.old) (E.taken err.new) }
 {
     match end {
         End::Exit(code) => finish_exit(*code, machine, leaks, opened, err),
@@ -163,14 +176,33 @@ fn run_core<I: Source, O: Sink, E: Sink>(
     requires input { I.faults input.old + 1 < 2 ^ 64 }
     requires out { O.faults out.old + 1 < 2 ^ 64 }
     requires err { E.faults err.old + 1 < 2 ^ 64 }
-    ensures exact { (left : List ℕ) → I.left input.old ≡ Some left → O.faults out.new ≡ O.faults out.old → E.faults err.new ≡ E.faults err.old → Gives (AnswersWay file.now opened.now core.now (input_of left (I.faults input.old) (I.faults input.new)) (Way.Run limits steps leaks)) left (I.left input.new) (O.taken out.old) (O.taken out.new) (E.taken err.old) (E.taken err.new) result }
-    ensures faults { (t : ℕ) → Faults t t (I.faults input.old) (I.faults input.new) (O.faults out.old) (O.faults out.new) (E.faults err.old) (E.faults err.new) result }
-    ensures input_fault { I.faults input.old < I.faults input.new → Says (E.taken err.old) (E.taken err.new) (E.faults err.old) (E.faults err.new) input_fault.err 132 result }
-    ensures output_fault { O.faults out.old < O.faults out.new → Says (E.taken err.old) (E.taken err.new) (E.faults err.old) (E.faults err.new) output_fault.err 133 result }
-    ensures broken { (left : List ℕ) → I.left input.old ≡ Some left → WriteFails (O.faults out.old) (O.faults out.new) (E.faults err.old) (E.faults err.new) → (a : Shown) → AnswersWay file.now opened.now core.now (steady left) (Way.Run limits steps leaks) a → SaysMore a → Breaks None a left (I.left input.new) (O.taken out.old) (O.taken out.new) (E.taken err.old) (E.taken err.new) (I.faults input.old) (I.faults input.new) (O.faults out.old) (O.faults out.new) (E.faults err.old) (E.faults err.new) }
-    ensures memory { Wants ((input.new ≡ input.old) × (out.new ≡ out.old)) (⊤) (E.taken err.old) (E.taken err.new) result }
-    ensures cause { HasCause ((I.faults input.old < I.faults input.new) ⊎ WriteFails (O.faults out.old) (O.faults out.new) (E.faults err.old) (E.faults err.new)) ⊤ (E.taken err.old) (E.taken err.new) result }
-    ensures refused { Refuses ((input.new ≡ input.old) × (out.new ≡ out.old)) ⊤ (E.taken err.old) (E.taken err.new) result }
+    ensures exact { (left : List ℕ) → I.left input.old ≡ Some left →
+        O.faults out.new ≡ O.faults out.old → E.faults err.new ≡ E.faults err.old →
+        Gives (AnswersWay file.now opened.now core.now
+        (input_of left (I.faults input.old) (I.faults input.new)) (Way.Run limits steps leaks)) left
+        (I.left input.new) (O.taken out.old) (O.taken out.new) (E.taken err.old) (E.taken err.new)
+        result }
+    ensures faults { (t : ℕ) → Faults t t (I.faults input.old) (I.faults input.new)
+        (O.faults out.old) (O.faults out.new) (E.faults err.old) (E.faults err.new) result }
+    ensures input_fault { I.faults input.old < I.faults input.new →
+        Says (E.taken err.old) (E.taken err.new) (E.faults err.old) (E.faults err.new)
+        input_fault.err 132 result }
+    ensures output_fault { O.faults out.old < O.faults out.new →
+        Says (E.taken err.old) (E.taken err.new) (E.faults err.old) (E.faults err.new)
+        output_fault.err 133 result }
+    ensures broken { (left : List ℕ) → I.left input.old ≡ Some left → WriteFails (O.faults out.old)
+        (O.faults out.new) (E.faults err.old) (E.faults err.new) → (a : Shown) →
+        AnswersWay file.now opened.now core.now (steady left) (Way.Run limits steps leaks) a →
+        SaysMore a → Breaks None a left (I.left input.new) (O.taken out.old) (O.taken out.new)
+        (E.taken err.old) (E.taken err.new) (I.faults input.old) (I.faults input.new)
+        (O.faults out.old) (O.faults out.new) (E.faults err.old) (E.faults err.new) }
+    ensures memory { Wants ((input.new ≡ input.old) × (out.new ≡ out.old)) (⊤) (E.taken err.old)
+        (E.taken err.new) result }
+    ensures cause { HasCause ((I.faults input.old < I.faults input.new) ⊎
+        WriteFails (O.faults out.old) (O.faults out.new) (E.faults err.old) (E.faults err.new)) ⊤
+        (E.taken err.old) (E.taken err.new) result }
+    ensures refused { Refuses ((input.new ≡ input.old) × (out.new ≡ out.old)) ⊤ (E.taken err.old)
+        (E.taken err.new) result }
 {
     match run_code(alloc, core, limits, steps, input, out) {
         Ok((end, machine)) => finish_run(&end, &machine, leaks, core, file, opened, err),
@@ -195,14 +227,32 @@ fn mean_core<I: Source, O: Sink, E: Sink>(
     requires input { I.faults input.old + 1 < 2 ^ 64 }
     requires out { O.faults out.old + 1 < 2 ^ 64 }
     requires err { E.faults err.old + 1 < 2 ^ 64 }
-    ensures exact { (left : List ℕ) → I.left input.old ≡ Some left → O.faults out.new ≡ O.faults out.old → E.faults err.new ≡ E.faults err.old → Gives (AnswersWay file.now opened.now core.now (input_of left (I.faults input.old) (I.faults input.new)) (Way.Mean heap steps)) left (I.left input.new) (O.taken out.old) (O.taken out.new) (E.taken err.old) (E.taken err.new) result }
-    ensures faults { (t : ℕ) → Faults t t (I.faults input.old) (I.faults input.new) (O.faults out.old) (O.faults out.new) (E.faults err.old) (E.faults err.new) result }
-    ensures input_fault { I.faults input.old < I.faults input.new → Says (E.taken err.old) (E.taken err.new) (E.faults err.old) (E.faults err.new) input_fault.err 132 result }
-    ensures output_fault { O.faults out.old < O.faults out.new → Says (E.taken err.old) (E.taken err.new) (E.faults err.old) (E.faults err.new) output_fault.err 133 result }
-    ensures broken { (left : List ℕ) → I.left input.old ≡ Some left → WriteFails (O.faults out.old) (O.faults out.new) (E.faults err.old) (E.faults err.new) → (a : Shown) → AnswersWay file.now opened.now core.now (steady left) (Way.Mean heap steps) a → SaysMore a → Breaks None a left (I.left input.new) (O.taken out.old) (O.taken out.new) (E.taken err.old) (E.taken err.new) (I.faults input.old) (I.faults input.new) (O.faults out.old) (O.faults out.new) (E.faults err.old) (E.faults err.new) }
+    ensures exact { (left : List ℕ) → I.left input.old ≡ Some left →
+        O.faults out.new ≡ O.faults out.old → E.faults err.new ≡ E.faults err.old →
+        Gives (AnswersWay file.now opened.now core.now
+        (input_of left (I.faults input.old) (I.faults input.new)) (Way.Mean heap steps)) left
+        (I.left input.new) (O.taken out.old) (O.taken out.new) (E.taken err.old) (E.taken err.new)
+        result }
+    ensures faults { (t : ℕ) → Faults t t (I.faults input.old) (I.faults input.new)
+        (O.faults out.old) (O.faults out.new) (E.faults err.old) (E.faults err.new) result }
+    ensures input_fault { I.faults input.old < I.faults input.new →
+        Says (E.taken err.old) (E.taken err.new) (E.faults err.old) (E.faults err.new)
+        input_fault.err 132 result }
+    ensures output_fault { O.faults out.old < O.faults out.new →
+        Says (E.taken err.old) (E.taken err.new) (E.faults err.old) (E.faults err.new)
+        output_fault.err 133 result }
+    ensures broken { (left : List ℕ) → I.left input.old ≡ Some left → WriteFails (O.faults out.old)
+        (O.faults out.new) (E.faults err.old) (E.faults err.new) → (a : Shown) →
+        AnswersWay file.now opened.now core.now (steady left) (Way.Mean heap steps) a → SaysMore a →
+        Breaks None a left (I.left input.new) (O.taken out.old) (O.taken out.new) (E.taken err.old)
+        (E.taken err.new) (I.faults input.old) (I.faults input.new) (O.faults out.old)
+        (O.faults out.new) (E.faults err.old) (E.faults err.new) }
     ensures memory { Wants (⊤) (⊤) (E.taken err.old) (E.taken err.new) result }
-    ensures cause { HasCause ((I.faults input.old < I.faults input.new) ⊎ WriteFails (O.faults out.old) (O.faults out.new) (E.faults err.old) (E.faults err.new)) ⊤ (E.taken err.old) (E.taken err.new) result }
-    ensures refused { Refuses ((input.new ≡ input.old) × (out.new ≡ out.old)) ⊤ (E.taken err.old) (E.taken err.new) result }
+    ensures cause { HasCause ((I.faults input.old < I.faults input.new) ⊎
+        WriteFails (O.faults out.old) (O.faults out.new) (E.faults err.old) (E.faults err.new)) ⊤
+        (E.taken err.old) (E.taken err.new) result }
+    ensures refused { Refuses ((input.new ≡ input.old) × (out.new ≡ out.old)) ⊤ (E.taken err.old)
+        (E.taken err.new) result }
 {
     match evaluate(alloc, core, steps, heap, input, out) {
         Ok(end) => finish(&end, core, file, opened, err),
@@ -226,14 +276,32 @@ fn go<I: Source, O: Sink, E: Sink>(
     requires input { I.faults input.old + 1 < 2 ^ 64 }
     requires out { O.faults out.old + 1 < 2 ^ 64 }
     requires err { E.faults err.old + 1 < 2 ^ 64 }
-    ensures exact { (left : List ℕ) → I.left input.old ≡ Some left → O.faults out.new ≡ O.faults out.old → E.faults err.new ≡ E.faults err.old → Gives (AnswersWay file.now opened.now core.now (input_of left (I.faults input.old) (I.faults input.new)) way) left (I.left input.new) (O.taken out.old) (O.taken out.new) (E.taken err.old) (E.taken err.new) result }
-    ensures faults { (t : ℕ) → Faults t t (I.faults input.old) (I.faults input.new) (O.faults out.old) (O.faults out.new) (E.faults err.old) (E.faults err.new) result }
-    ensures input_fault { I.faults input.old < I.faults input.new → Says (E.taken err.old) (E.taken err.new) (E.faults err.old) (E.faults err.new) input_fault.err 132 result }
-    ensures output_fault { O.faults out.old < O.faults out.new → Says (E.taken err.old) (E.taken err.new) (E.faults err.old) (E.faults err.new) output_fault.err 133 result }
-    ensures broken { (left : List ℕ) → I.left input.old ≡ Some left → WriteFails (O.faults out.old) (O.faults out.new) (E.faults err.old) (E.faults err.new) → (a : Shown) → AnswersWay file.now opened.now core.now (steady left) way a → SaysMore a → Breaks None a left (I.left input.new) (O.taken out.old) (O.taken out.new) (E.taken err.old) (E.taken err.new) (I.faults input.old) (I.faults input.new) (O.faults out.old) (O.faults out.new) (E.faults err.old) (E.faults err.new) }
-    ensures memory { Wants (OnMachine way → (input.new ≡ input.old) × (out.new ≡ out.old)) (⊤) (E.taken err.old) (E.taken err.new) result }
-    ensures cause { HasCause ((I.faults input.old < I.faults input.new) ⊎ WriteFails (O.faults out.old) (O.faults out.new) (E.faults err.old) (E.faults err.new)) ⊤ (E.taken err.old) (E.taken err.new) result }
-    ensures refused { Refuses ((input.new ≡ input.old) × (out.new ≡ out.old)) ⊤ (E.taken err.old) (E.taken err.new) result }
+    ensures exact { (left : List ℕ) → I.left input.old ≡ Some left →
+        O.faults out.new ≡ O.faults out.old → E.faults err.new ≡ E.faults err.old →
+        Gives (AnswersWay file.now opened.now core.now
+        (input_of left (I.faults input.old) (I.faults input.new)) way) left (I.left input.new)
+        (O.taken out.old) (O.taken out.new) (E.taken err.old) (E.taken err.new) result }
+    ensures faults { (t : ℕ) → Faults t t (I.faults input.old) (I.faults input.new)
+        (O.faults out.old) (O.faults out.new) (E.faults err.old) (E.faults err.new) result }
+    ensures input_fault { I.faults input.old < I.faults input.new →
+        Says (E.taken err.old) (E.taken err.new) (E.faults err.old) (E.faults err.new)
+        input_fault.err 132 result }
+    ensures output_fault { O.faults out.old < O.faults out.new →
+        Says (E.taken err.old) (E.taken err.new) (E.faults err.old) (E.faults err.new)
+        output_fault.err 133 result }
+    ensures broken { (left : List ℕ) → I.left input.old ≡ Some left → WriteFails (O.faults out.old)
+        (O.faults out.new) (E.faults err.old) (E.faults err.new) → (a : Shown) →
+        AnswersWay file.now opened.now core.now (steady left) way a → SaysMore a →
+        Breaks None a left (I.left input.new) (O.taken out.old) (O.taken out.new) (E.taken err.old)
+        (E.taken err.new) (I.faults input.old) (I.faults input.new) (O.faults out.old)
+        (O.faults out.new) (E.faults err.old) (E.faults err.new) }
+    ensures memory { Wants (OnMachine way → (input.new ≡ input.old) × (out.new ≡ out.old)) (⊤)
+        (E.taken err.old) (E.taken err.new) result }
+    ensures cause { HasCause ((I.faults input.old < I.faults input.new) ⊎
+        WriteFails (O.faults out.old) (O.faults out.new) (E.faults err.old) (E.faults err.new)) ⊤
+        (E.taken err.old) (E.taken err.new) result }
+    ensures refused { Refuses ((input.new ≡ input.old) × (out.new ≡ out.old)) ⊤ (E.taken err.old)
+        (E.taken err.new) result }
 {
     match way {
         Way::Run {
@@ -265,14 +333,32 @@ pub(crate) fn run_program<I: Source, O: Sink, E: Sink>(
     requires input { I.faults input.old + 1 < 2 ^ 64 }
     requires out { O.faults out.old + 1 < 2 ^ 64 }
     requires err { E.faults err.old + 1 < 2 ^ 64 }
-    ensures exact { (left : List ℕ) → I.left input.old ≡ Some left → O.faults out.new ≡ O.faults out.old → E.faults err.new ≡ E.faults err.old → Gives (AnswersTypes file.now opened.now (core_in (unit_view unit.now)) (input_of left (I.faults input.old) (I.faults input.new)) way) left (I.left input.new) (O.taken out.old) (O.taken out.new) (E.taken err.old) (E.taken err.new) result }
-    ensures faults { (t : ℕ) → Faults t t (I.faults input.old) (I.faults input.new) (O.faults out.old) (O.faults out.new) (E.faults err.old) (E.faults err.new) result }
-    ensures input_fault { I.faults input.old < I.faults input.new → Says (E.taken err.old) (E.taken err.new) (E.faults err.old) (E.faults err.new) input_fault.err 132 result }
-    ensures output_fault { O.faults out.old < O.faults out.new → Says (E.taken err.old) (E.taken err.new) (E.faults err.old) (E.faults err.new) output_fault.err 133 result }
-    ensures broken { (left : List ℕ) → I.left input.old ≡ Some left → WriteFails (O.faults out.old) (O.faults out.new) (E.faults err.old) (E.faults err.new) → (a : Shown) → AnswersTypes file.now opened.now (core_in (unit_view unit.now)) (steady left) way a → SaysMore a → Breaks None a left (I.left input.new) (O.taken out.old) (O.taken out.new) (E.taken err.old) (E.taken err.new) (I.faults input.old) (I.faults input.new) (O.faults out.old) (O.faults out.new) (E.faults err.old) (E.faults err.new) }
-    ensures memory { Wants (OnMachine way → (input.new ≡ input.old) × (out.new ≡ out.old)) (⊤) (E.taken err.old) (E.taken err.new) result }
-    ensures cause { HasCause ((I.faults input.old < I.faults input.new) ⊎ WriteFails (O.faults out.old) (O.faults out.new) (E.faults err.old) (E.faults err.new)) ⊤ (E.taken err.old) (E.taken err.new) result }
-    ensures refused { Refuses ((input.new ≡ input.old) × (out.new ≡ out.old)) ⊤ (E.taken err.old) (E.taken err.new) result }
+    ensures exact { (left : List ℕ) → I.left input.old ≡ Some left →
+        O.faults out.new ≡ O.faults out.old → E.faults err.new ≡ E.faults err.old →
+        Gives (AnswersTypes file.now opened.now (core_in (unit_view unit.now))
+        (input_of left (I.faults input.old) (I.faults input.new)) way) left (I.left input.new)
+        (O.taken out.old) (O.taken out.new) (E.taken err.old) (E.taken err.new) result }
+    ensures faults { (t : ℕ) → Faults t t (I.faults input.old) (I.faults input.new)
+        (O.faults out.old) (O.faults out.new) (E.faults err.old) (E.faults err.new) result }
+    ensures input_fault { I.faults input.old < I.faults input.new →
+        Says (E.taken err.old) (E.taken err.new) (E.faults err.old) (E.faults err.new)
+        input_fault.err 132 result }
+    ensures output_fault { O.faults out.old < O.faults out.new →
+        Says (E.taken err.old) (E.taken err.new) (E.faults err.old) (E.faults err.new)
+        output_fault.err 133 result }
+    ensures broken { (left : List ℕ) → I.left input.old ≡ Some left → WriteFails (O.faults out.old)
+        (O.faults out.new) (E.faults err.old) (E.faults err.new) → (a : Shown) →
+        AnswersTypes file.now opened.now (core_in (unit_view unit.now)) (steady left) way a →
+        SaysMore a → Breaks None a left (I.left input.new) (O.taken out.old) (O.taken out.new)
+        (E.taken err.old) (E.taken err.new) (I.faults input.old) (I.faults input.new)
+        (O.faults out.old) (O.faults out.new) (E.faults err.old) (E.faults err.new) }
+    ensures memory { Wants (OnMachine way → (input.new ≡ input.old) × (out.new ≡ out.old)) (⊤)
+        (E.taken err.old) (E.taken err.new) result }
+    ensures cause { HasCause ((I.faults input.old < I.faults input.new) ⊎
+        WriteFails (O.faults out.old) (O.faults out.new) (E.faults err.old) (E.faults err.new)) ⊤
+        (E.taken err.old) (E.taken err.new) result }
+    ensures refused { Refuses ((input.new ≡ input.old) × (out.new ≡ out.old)) ⊤ (E.taken err.old)
+        (E.taken err.new) result }
 {
     match elab(alloc, unit) {
         Ok(core) => go(alloc, file, opened, &core, way, input, out, err),

@@ -94,7 +94,8 @@ pub(crate) const BAD_TYPES: u8 = 125;
 /// Writes the line of a refusal and answers its status, or that of a failed write.
 pub(crate) fn refuse<E: Sink>(err: &mut E, refusal: Refusal<'_>) -> u8
     requires { E.faults err.old + 1 < 2 ^ 64 }
-    ensures says { Says (E.taken err.old) (E.taken err.new) (E.faults err.old) (E.faults err.new) (shown_of refusal.entry).err (shown_of refusal.entry).status result }
+    ensures says { Says (E.taken err.old) (E.taken err.new) (E.faults err.old) (E.faults err.new)
+        (shown_of refusal.entry).err (shown_of refusal.entry).status result }
 {
     match complain(err, refusal.name(), refusal.words()) {
         Ok(()) => refusal.status(),
@@ -114,7 +115,9 @@ fn refuse_at<E: Sink>(
     status: u8,
 ) -> u8
     requires { E.faults err.old + 1 < 2 ^ 64 }
-    ensures says { Says (E.taken err.old) (E.taken err.new) (E.faults err.old) (E.faults err.new) (refusal_at (record { name = name.now; line = line; text = text.now }) (label.now ++ words.now) status).err status result }
+    ensures says { Says (E.taken err.old) (E.taken err.new) (E.faults err.old) (E.faults err.new)
+        (refusal_at (record { name = name.now; line = line; text = text.now })
+        (label.now ++ words.now) status).err status result }
 {
     match complain_labelled(err, name, line, label, words, text) {
         Ok(()) => status,
@@ -132,7 +135,8 @@ fn refuse_in<E: Sink>(
     status: u8,
 ) -> u8
     requires { E.faults err.old + 1 < 2 ^ 64 }
-    ensures says { Says (E.taken err.old) (E.taken err.new) (E.faults err.old) (E.faults err.new) (refusal_at (line_in opened.now line) (label.now ++ words.now) status).err status result }
+    ensures says { Says (E.taken err.old) (E.taken err.new) (E.faults err.old) (E.faults err.new)
+        (refusal_at (line_in opened.now line) (label.now ++ words.now) status).err status result }
 {
     match text_of(opened, line) {
         Some(text) => {
@@ -153,7 +157,8 @@ fn refuse_in<E: Sink>(
 /// Says why a text has no tokens, and answers the status of that.
 pub(crate) fn refuse_text<E: Sink>(err: &mut E, error: &PreError) -> u8
     requires { E.faults err.old + 1 < 2 ^ 64 }
-    ensures says { Says (E.taken err.old) (E.taken err.new) (E.faults err.old) (E.faults err.new) (untokened error.now).err (untokened error.now).status result }
+    ensures says { Says (E.taken err.old) (E.taken err.new) (E.faults err.old) (E.faults err.new)
+        (untokened error.now).err (untokened error.now).status result }
 {
     match error {
         PreError::Bad { kind, at } => {
@@ -187,7 +192,8 @@ pub(crate) fn refuse_text<E: Sink>(err: &mut E, error: &PreError) -> u8
 /// Says why tokens have no tree, and answers the status of that.
 pub(crate) fn refuse_tokens<E: Sink>(err: &mut E, error: ParseError, opened: &[Opened]) -> u8
     requires { E.faults err.old + 1 < 2 ^ 64 }
-    ensures says { Says (E.taken err.old) (E.taken err.new) (E.faults err.old) (E.faults err.new) (unparsed error opened.now).err (unparsed error opened.now).status result }
+    ensures says { Says (E.taken err.old) (E.taken err.new) (E.faults err.old) (E.faults err.new)
+        (unparsed error opened.now).err (unparsed error opened.now).status result }
 {
     match error {
         ParseError::Syntax { line } => refuse_in(err, opened, line, b"", b"syntax", BAD_TREE),
@@ -198,7 +204,8 @@ pub(crate) fn refuse_tokens<E: Sink>(err: &mut E, error: ParseError, opened: &[O
 /// Says why the types of a text are refused, and answers the status of that.
 pub(crate) fn refuse_types<E: Sink>(err: &mut E, error: TypeError, opened: &[Opened]) -> u8
     requires { E.faults err.old + 1 < 2 ^ 64 }
-    ensures says { Says (E.taken err.old) (E.taken err.new) (E.faults err.old) (E.faults err.new) (untyped error opened.now).err (untyped error opened.now).status result }
+    ensures says { Says (E.taken err.old) (E.taken err.new) (E.faults err.old) (E.faults err.new)
+        (untyped error opened.now).err (untyped error opened.now).status result }
 {
     match error {
         TypeError::Bad { kind, line } => {

@@ -50,11 +50,28 @@ fn execute_lent<'a, I: Source, O: Sink, K: Lent>(
     requires same_loan { out.ghost_name ≡ K.name }
     requires taken { O.taken out.old ≡ K.taken }
     ensures same_reference { result.0.ghost_name ≡ out.entry.ghost_name }
-    ensures told { (core : Core) (pins : Pins) → IsSound core → AreExact core pins → AreAscending pins → IsCompiled core pins code.now → (left : List ℕ) → I.left input.old ≡ Some left → Puts (RunAnswers core left steps (record { heap = machine.old.kept.memory.heap.len; stack = machine.old.stack }) [] result.1 (I.left input.new)) (O.taken out.old) (O.taken result.0.now) }
-    ensures made { (core : Core) (pins : Pins) → IsSound core → AreExact core pins → AreAscending pins → IsCompiled core pins code.now → (left : List ℕ) → I.left input.old ≡ Some left → MakesSteps core left steps (record { heap = machine.old.kept.memory.heap.len; stack = machine.old.stack }) result.1 (steps_made machine.new) }
+    ensures told { (core : Core) (pins : Pins) → IsSound core → AreExact core pins →
+        AreAscending pins → IsCompiled core pins code.now → (left : List ℕ) →
+        I.left input.old ≡ Some left →
+        Puts
+        (RunAnswers core left steps
+        (record { heap = machine.old.kept.memory.heap.len; stack = machine.old.stack }) [] result.1
+        (I.left input.new)) (O.taken out.old) (O.taken result.0.now) }
+    ensures made { (core : Core) (pins : Pins) → IsSound core → AreExact core pins →
+        AreAscending pins → IsCompiled core pins code.now → (left : List ℕ) →
+        I.left input.old ≡ Some left →
+        MakesSteps core left steps
+        (record { heap = machine.old.kept.memory.heap.len; stack = machine.old.stack }) result.1
+        (steps_made machine.new) }
     ensures kept { KeepsSome machine.new.kept.memory }
-    ensures left { (core : Core) (pins : Pins) → IsSound core → AreExact core pins → AreAscending pins → IsCompiled core pins code.now → (left : List ℕ) → I.left input.old ≡ Some left → LeavesImage core pins left steps (record { heap = machine.old.kept.memory.heap.len; stack = machine.old.stack }) result.1 machine.new.kept }
-    ensures faults { RunCounts result.1 (I.faults input.old) (I.faults input.new) (O.faults out.old) (O.faults result.0.now) }
+    ensures left { (core : Core) (pins : Pins) → IsSound core → AreExact core pins →
+        AreAscending pins → IsCompiled core pins code.now → (left : List ℕ) →
+        I.left input.old ≡ Some left →
+        LeavesImage core pins left steps
+        (record { heap = machine.old.kept.memory.heap.len; stack = machine.old.stack }) result.1
+        machine.new.kept }
+    ensures faults { RunCounts result.1 (I.faults input.old) (I.faults input.new) (O.faults out.old)
+        (O.faults result.0.now) }
 {
     let mut told = Told::<O, K>::new(out);
     let end = execute(machine, code, input, &mut told, steps);
@@ -79,11 +96,17 @@ pub(crate) fn run_code<I: Source, O: Sink>(
     requires steps { steps ≤ 1000000000 }
     requires input { I.faults input.old + 1 < 2 ^ 64 }
     requires out { O.faults out.old + 1 < 2 ^ 64 }
-    ensures told { IfOk result (λ ran. (left : List ℕ) → I.left input.old ≡ Some left → Puts (RunAnswers core.now left steps limits [] ran.0 (I.left input.new)) (O.taken out.old) (O.taken out.new)) }
-    ensures made { IfOk result (λ ran. (left : List ℕ) → I.left input.old ≡ Some left → MakesSteps core.now left steps limits ran.0 (steps_made ran.1)) }
+    ensures told { IfOk result (λ ran. (left : List ℕ) → I.left input.old ≡ Some left →
+        Puts (RunAnswers core.now left steps limits [] ran.0 (I.left input.new)) (O.taken out.old)
+        (O.taken out.new)) }
+    ensures made { IfOk result (λ ran. (left : List ℕ) → I.left input.old ≡ Some left →
+        MakesSteps core.now left steps limits ran.0 (steps_made ran.1)) }
     ensures kept { IfOk result (λ ran. KeepsSome ran.1.kept.memory) }
-    ensures left { IfOk result (λ ran. (left : List ℕ) → I.left input.old ≡ Some left → (pins : Pins) × AreExact core.now pins × LeavesImage core.now pins left steps limits ran.0 ran.1.kept) }
-    ensures faults { IfOk result (λ ran. RunCounts ran.0 (I.faults input.old) (I.faults input.new) (O.faults out.old) (O.faults out.new)) }
+    ensures left { IfOk result (λ ran. (left : List ℕ) → I.left input.old ≡ Some left →
+        (pins : Pins) × AreExact core.now pins × LeavesImage core.now pins left steps limits ran.0
+        ran.1.kept) }
+    ensures faults { IfOk result (λ ran. RunCounts ran.0 (I.faults input.old) (I.faults input.new)
+        (O.faults out.old) (O.faults out.new)) }
     ensures input_stays { OnErr result (input.new ≡ input.old) }
     ensures out_stays { OnErr result (out.new ≡ out.old) }
 {
@@ -114,10 +137,16 @@ fn run_lent<'a, I: Source, O: Sink, K: Lent>(
     requires same_loan { out.ghost_name ≡ K.name }
     requires taken { O.taken out.old ≡ K.taken }
     ensures same_reference { result.0.ghost_name ≡ out.entry.ghost_name }
-    ensures told { (left : List ℕ) → I.left input.old ≡ Some left → Puts (machine_runs.RunAnswers code.now left steps (record { heap = machine.old.kept.memory.heap.len; stack = machine.old.stack }) [] result.1 (I.left input.new)) (O.taken out.old) (O.taken result.0.now) }
+    ensures told { (left : List ℕ) → I.left input.old ≡ Some left → Puts (machine_runs.RunAnswers
+        code.now left steps (record { heap = machine.old.kept.memory.heap.len; stack =
+        machine.old.stack }) [] result.1 (I.left input.new)) (O.taken out.old) (O.taken
+        result.0.now) }
     ensures kept { KeepsSome machine.new.kept.memory }
-    ensures left { (left : List ℕ) → I.left input.old ≡ Some left → machine_lasts.LeavesImage code.now left steps (record { heap = machine.old.kept.memory.heap.len; stack = machine.old.stack }) result.1 machine.new.kept }
-    ensures faults { RunCounts result.1 (I.faults input.old) (I.faults input.new) (O.faults out.old) (O.faults result.0.now) }
+    ensures left { (left : List ℕ) → I.left input.old ≡ Some left → machine_lasts.LeavesImage
+        code.now left steps (record { heap = machine.old.kept.memory.heap.len; stack =
+        machine.old.stack }) result.1 machine.new.kept }
+    ensures faults { RunCounts result.1 (I.faults input.old) (I.faults input.new) (O.faults out.old)
+        (O.faults result.0.now) }
 {
     let mut told = Told::<O, K>::new(out);
     let end = machine.run(code, input, &mut told, steps);
@@ -143,10 +172,14 @@ pub(crate) fn run_file<I: Source, O: Sink>(
     requires steps { steps ≤ 1000000000 }
     requires input { I.faults input.old + 1 < 2 ^ 64 }
     requires out { O.faults out.old + 1 < 2 ^ 64 }
-    ensures told { IfOk result (λ ran. (left : List ℕ) → I.left input.old ≡ Some left → Puts (machine_runs.RunAnswers code.now left steps limits [] ran.0 (I.left input.new)) (O.taken out.old) (O.taken out.new)) }
+    ensures told { IfOk result (λ ran. (left : List ℕ) → I.left input.old ≡ Some left → Puts
+        (machine_runs.RunAnswers code.now left steps limits [] ran.0 (I.left input.new)) (O.taken
+        out.old) (O.taken out.new)) }
     ensures kept { IfOk result (λ ran. KeepsSome ran.1.kept.memory) }
-    ensures left { IfOk result (λ ran. (left : List ℕ) → I.left input.old ≡ Some left → machine_lasts.LeavesImage code.now left steps limits ran.0 ran.1.kept) }
-    ensures faults { IfOk result (λ ran. RunCounts ran.0 (I.faults input.old) (I.faults input.new) (O.faults out.old) (O.faults out.new)) }
+    ensures left { IfOk result (λ ran. (left : List ℕ) → I.left input.old ≡ Some left →
+        machine_lasts.LeavesImage code.now left steps limits ran.0 ran.1.kept) }
+    ensures faults { IfOk result (λ ran. RunCounts ran.0 (I.faults input.old) (I.faults input.new)
+        (O.faults out.old) (O.faults out.new)) }
     ensures input_stays { OnErr result (input.new ≡ input.old) }
     ensures out_stays { OnErr result (out.new ≡ out.old) }
 {
@@ -171,8 +204,11 @@ fn mean_lent<'a, I: Source, O: Sink, K: Lent>(
     requires same_loan { out.ghost_name ≡ K.name }
     requires taken { O.taken out.old ≡ K.taken }
     ensures same_reference { result.0.ghost_name ≡ out.entry.ghost_name }
-    ensures told { (left : List ℕ) → I.left input.old ≡ Some left → Puts (MeanAnswers core.now left steps heap [] result.1 (I.left input.new)) (O.taken out.old) (O.taken result.0.now) }
-    ensures faults { MeanCounts result.1 (I.faults input.old) (I.faults input.new) (O.faults out.old) (O.faults result.0.now) }
+    ensures told { (left : List ℕ) → I.left input.old ≡ Some left →
+        Puts (MeanAnswers core.now left steps heap [] result.1 (I.left input.new)) (O.taken out.old)
+        (O.taken result.0.now) }
+    ensures faults { MeanCounts result.1 (I.faults input.old) (I.faults input.new)
+        (O.faults out.old) (O.faults result.0.now) }
 {
     let mut told = Told::<O, K>::new(out);
     let ended = mean(alloc, core, input, &mut told, steps, heap);
@@ -194,8 +230,11 @@ pub(crate) fn evaluate<I: Source, O: Sink>(
     requires steps { steps ≤ 1000000000 }
     requires input { I.faults input.old + 1 < 2 ^ 64 }
     requires out { O.faults out.old + 1 < 2 ^ 64 }
-    ensures told { (left : List ℕ) → I.left input.old ≡ Some left → Puts (MeanAnswers core.now left steps heap [] result (I.left input.new)) (O.taken out.old) (O.taken out.new) }
-    ensures faults { MeanCounts result (I.faults input.old) (I.faults input.new) (O.faults out.old) (O.faults out.new) }
+    ensures told { (left : List ℕ) → I.left input.old ≡ Some left →
+        Puts (MeanAnswers core.now left steps heap [] result (I.left input.new)) (O.taken out.old)
+        (O.taken out.new) }
+    ensures faults { MeanCounts result (I.faults input.old) (I.faults input.new) (O.faults out.old)
+        (O.faults out.new) }
 {
     let (_, ended) = mean_lent::<I, O, Brand>(alloc, core, steps, heap, input, out);
     ended

@@ -30,12 +30,22 @@ use std::alloc::Global;
 fn write_text<O: Sink, E: Sink>(text: &[u8], out: &mut O, err: &mut E) -> u8
     requires out { O.faults out.old + 1 < 2 ^ 64 }
     requires err { E.faults err.old + 1 < 2 ^ 64 }
-    ensures exact { (left : List ℕ) → O.faults out.new ≡ O.faults out.old → E.faults err.new ≡ E.faults err.old → Gives (λ a. a ≡ written text.now) left (Some left) (O.taken out.old) (O.taken out.new) (E.taken err.old) (E.taken err.new) result }
-    ensures faults { (t i : ℕ) → Faults t t i i (O.faults out.old) (O.faults out.new) (E.faults err.old) (E.faults err.new) result }
-    ensures output_fault { O.faults out.old < O.faults out.new → Says (E.taken err.old) (E.taken err.new) (E.faults err.old) (E.faults err.new) output_fault.err 133 result }
-    ensures broken { (left : List ℕ) (i : ℕ) → WriteFails (O.faults out.old) (O.faults out.new) (E.faults err.old) (E.faults err.new) → (a : Shown) → a ≡ written text.now → Breaks None a left (Some left) (O.taken out.old) (O.taken out.new) (E.taken err.old) (E.taken err.new) i i (O.faults out.old) (O.faults out.new) (E.faults err.old) (E.faults err.new) }
+    ensures exact { (left : List ℕ) → O.faults out.new ≡ O.faults out.old →
+        E.faults err.new ≡ E.faults err.old → Gives (λ a. a ≡ written text.now) left (Some left)
+        (O.taken out.old) (O.taken out.new) (E.taken err.old) (E.taken err.new) result }
+    ensures faults { (t i : ℕ) → Faults t t i i (O.faults out.old) (O.faults out.new)
+        (E.faults err.old) (E.faults err.new) result }
+    ensures output_fault { O.faults out.old < O.faults out.new →
+        Says (E.taken err.old) (E.taken err.new) (E.faults err.old) (E.faults err.new)
+        output_fault.err 133 result }
+    ensures broken { (left : List ℕ) (i : ℕ) → WriteFails (O.faults out.old) (O.faults out.new)
+        (E.faults err.old) (E.faults err.new) → (a : Shown) → a ≡ written text.now →
+        Breaks None a left (Some left) (O.taken out.old) (O.taken out.new) (E.taken err.old)
+        (E.taken err.new) i i (O.faults out.old) (O.faults out.new) (E.faults err.old)
+        (E.faults err.new) }
     ensures memory { Wants (out.new ≡ out.old) ⊥ (E.taken err.old) (E.taken err.new) result }
-    ensures cause { HasCause (WriteFails (O.faults out.old) (O.faults out.new) (E.faults err.old) (E.faults err.new)) ⊥ (E.taken err.old) (E.taken err.new) result }
+    ensures cause { HasCause (WriteFails (O.faults out.old) (O.faults out.new) (E.faults err.old)
+        (E.faults err.new)) ⊥ (E.taken err.old) (E.taken err.new) result }
     ensures refused { Refuses (out.new ≡ out.old) ⊥ (E.taken err.old) (E.taken err.new) result }
 {
     match put_all(out, text) {
@@ -48,12 +58,22 @@ fn write_text<O: Sink, E: Sink>(text: &[u8], out: &mut O, err: &mut E) -> u8
 pub(crate) fn print<O: Sink, E: Sink>(alloc: Global, unit: &Unit, out: &mut O, err: &mut E) -> u8
     requires out { O.faults out.old + 1 < 2 ^ 64 }
     requires err { E.faults err.old + 1 < 2 ^ 64 }
-    ensures exact { (left : List ℕ) → O.faults out.new ≡ O.faults out.old → E.faults err.new ≡ E.faults err.old → Gives (λ a. a ≡ printed (unit_view unit.now)) left (Some left) (O.taken out.old) (O.taken out.new) (E.taken err.old) (E.taken err.new) result }
-    ensures faults { (t i : ℕ) → Faults t t i i (O.faults out.old) (O.faults out.new) (E.faults err.old) (E.faults err.new) result }
-    ensures output_fault { O.faults out.old < O.faults out.new → Says (E.taken err.old) (E.taken err.new) (E.faults err.old) (E.faults err.new) output_fault.err 133 result }
-    ensures broken { (left : List ℕ) (i : ℕ) → WriteFails (O.faults out.old) (O.faults out.new) (E.faults err.old) (E.faults err.new) → (a : Shown) → a ≡ printed (unit_view unit.now) → Breaks None a left (Some left) (O.taken out.old) (O.taken out.new) (E.taken err.old) (E.taken err.new) i i (O.faults out.old) (O.faults out.new) (E.faults err.old) (E.faults err.new) }
+    ensures exact { (left : List ℕ) → O.faults out.new ≡ O.faults out.old →
+        E.faults err.new ≡ E.faults err.old → Gives (λ a. a ≡ printed (unit_view unit.now)) left
+        (Some left) (O.taken out.old) (O.taken out.new) (E.taken err.old) (E.taken err.new) result }
+    ensures faults { (t i : ℕ) → Faults t t i i (O.faults out.old) (O.faults out.new)
+        (E.faults err.old) (E.faults err.new) result }
+    ensures output_fault { O.faults out.old < O.faults out.new →
+        Says (E.taken err.old) (E.taken err.new) (E.faults err.old) (E.faults err.new)
+        output_fault.err 133 result }
+    ensures broken { (left : List ℕ) (i : ℕ) → WriteFails (O.faults out.old) (O.faults out.new)
+        (E.faults err.old) (E.faults err.new) → (a : Shown) → a ≡ printed (unit_view unit.now) →
+        Breaks None a left (Some left) (O.taken out.old) (O.taken out.new) (E.taken err.old)
+        (E.taken err.new) i i (O.faults out.old) (O.faults out.new) (E.faults err.old)
+        (E.faults err.new) }
     ensures memory { Wants (out.new ≡ out.old) ⊥ (E.taken err.old) (E.taken err.new) result }
-    ensures cause { HasCause (WriteFails (O.faults out.old) (O.faults out.new) (E.faults err.old) (E.faults err.new)) ⊥ (E.taken err.old) (E.taken err.new) result }
+    ensures cause { HasCause (WriteFails (O.faults out.old) (O.faults out.new) (E.faults err.old)
+        (E.faults err.new)) ⊥ (E.taken err.old) (E.taken err.new) result }
     ensures refused { Refuses (out.new ≡ out.old) ⊥ (E.taken err.old) (E.taken err.new) result }
 {
     match write_unit(alloc, unit) {
@@ -66,12 +86,23 @@ pub(crate) fn print<O: Sink, E: Sink>(alloc: Global, unit: &Unit, out: &mut O, e
 fn write_layouts<O: Sink, E: Sink>(alloc: Global, tags: &Tags, out: &mut O, err: &mut E) -> u8
     requires out { O.faults out.old + 1 < 2 ^ 64 }
     requires err { E.faults err.old + 1 < 2 ^ 64 }
-    ensures exact { (left : List ℕ) → O.faults out.new ≡ O.faults out.old → E.faults err.new ≡ E.faults err.old → Gives (λ a. a ≡ written (layout_listing tags.now)) left (Some left) (O.taken out.old) (O.taken out.new) (E.taken err.old) (E.taken err.new) result }
-    ensures faults { (t i : ℕ) → Faults t t i i (O.faults out.old) (O.faults out.new) (E.faults err.old) (E.faults err.new) result }
-    ensures output_fault { O.faults out.old < O.faults out.new → Says (E.taken err.old) (E.taken err.new) (E.faults err.old) (E.faults err.new) output_fault.err 133 result }
-    ensures broken { (left : List ℕ) (i : ℕ) → WriteFails (O.faults out.old) (O.faults out.new) (E.faults err.old) (E.faults err.new) → (a : Shown) → a ≡ written (layout_listing tags.now) → Breaks None a left (Some left) (O.taken out.old) (O.taken out.new) (E.taken err.old) (E.taken err.new) i i (O.faults out.old) (O.faults out.new) (E.faults err.old) (E.faults err.new) }
+    ensures exact { (left : List ℕ) → O.faults out.new ≡ O.faults out.old →
+        E.faults err.new ≡ E.faults err.old → Gives (λ a. a ≡ written (layout_listing tags.now))
+        left (Some left) (O.taken out.old) (O.taken out.new) (E.taken err.old) (E.taken err.new)
+        result }
+    ensures faults { (t i : ℕ) → Faults t t i i (O.faults out.old) (O.faults out.new)
+        (E.faults err.old) (E.faults err.new) result }
+    ensures output_fault { O.faults out.old < O.faults out.new →
+        Says (E.taken err.old) (E.taken err.new) (E.faults err.old) (E.faults err.new)
+        output_fault.err 133 result }
+    ensures broken { (left : List ℕ) (i : ℕ) → WriteFails (O.faults out.old) (O.faults out.new)
+        (E.faults err.old) (E.faults err.new) → (a : Shown) → a ≡ written (layout_listing tags.now)
+        → Breaks None a left (Some left) (O.taken out.old) (O.taken out.new) (E.taken err.old)
+        (E.taken err.new) i i (O.faults out.old) (O.faults out.new) (E.faults err.old)
+        (E.faults err.new) }
     ensures memory { Wants (out.new ≡ out.old) ⊥ (E.taken err.old) (E.taken err.new) result }
-    ensures cause { HasCause (WriteFails (O.faults out.old) (O.faults out.new) (E.faults err.old) (E.faults err.new)) ⊥ (E.taken err.old) (E.taken err.new) result }
+    ensures cause { HasCause (WriteFails (O.faults out.old) (O.faults out.new) (E.faults err.old)
+        (E.faults err.new)) ⊥ (E.taken err.old) (E.taken err.new) result }
     ensures refused { Refuses (out.new ≡ out.old) ⊥ (E.taken err.old) (E.taken err.new) result }
 {
     match list_layouts(alloc, tags) {
@@ -90,12 +121,24 @@ pub(crate) fn layouts<O: Sink, E: Sink>(
 ) -> u8
     requires out { O.faults out.old + 1 < 2 ^ 64 }
     requires err { E.faults err.old + 1 < 2 ^ 64 }
-    ensures exact { (left : List ℕ) → O.faults out.new ≡ O.faults out.old → E.faults err.new ≡ E.faults err.old → Gives (λ a. a ≡ layouts_shown opened.now (tags_of (unit_view unit.now))) left (Some left) (O.taken out.old) (O.taken out.new) (E.taken err.old) (E.taken err.new) result }
-    ensures faults { (t i : ℕ) → Faults t t i i (O.faults out.old) (O.faults out.new) (E.faults err.old) (E.faults err.new) result }
-    ensures output_fault { O.faults out.old < O.faults out.new → Says (E.taken err.old) (E.taken err.new) (E.faults err.old) (E.faults err.new) output_fault.err 133 result }
-    ensures broken { (left : List ℕ) (i : ℕ) → WriteFails (O.faults out.old) (O.faults out.new) (E.faults err.old) (E.faults err.new) → (a : Shown) → a ≡ layouts_shown opened.now (tags_of (unit_view unit.now)) → Breaks None a left (Some left) (O.taken out.old) (O.taken out.new) (E.taken err.old) (E.taken err.new) i i (O.faults out.old) (O.faults out.new) (E.faults err.old) (E.faults err.new) }
+    ensures exact { (left : List ℕ) → O.faults out.new ≡ O.faults out.old →
+        E.faults err.new ≡ E.faults err.old →
+        Gives (λ a. a ≡ layouts_shown opened.now (tags_of (unit_view unit.now))) left (Some left)
+        (O.taken out.old) (O.taken out.new) (E.taken err.old) (E.taken err.new) result }
+    ensures faults { (t i : ℕ) → Faults t t i i (O.faults out.old) (O.faults out.new)
+        (E.faults err.old) (E.faults err.new) result }
+    ensures output_fault { O.faults out.old < O.faults out.new →
+        Says (E.taken err.old) (E.taken err.new) (E.faults err.old) (E.faults err.new)
+        output_fault.err 133 result }
+    ensures broken { (left : List ℕ) (i : ℕ) → WriteFails (O.faults out.old) (O.faults out.new)
+        (E.faults err.old) (E.faults err.new) → (a : Shown) →
+        a ≡ layouts_shown opened.now (tags_of (unit_view unit.now)) →
+        Breaks None a left (Some left) (O.taken out.old) (O.taken out.new) (E.taken err.old)
+        (E.taken err.new) i i (O.faults out.old) (O.faults out.new) (E.faults err.old)
+        (E.faults err.new) }
     ensures memory { Wants (out.new ≡ out.old) ⊥ (E.taken err.old) (E.taken err.new) result }
-    ensures cause { HasCause (WriteFails (O.faults out.old) (O.faults out.new) (E.faults err.old) (E.faults err.new)) ⊥ (E.taken err.old) (E.taken err.new) result }
+    ensures cause { HasCause (WriteFails (O.faults out.old) (O.faults out.new) (E.faults err.old)
+        (E.faults err.new)) ⊥ (E.taken err.old) (E.taken err.new) result }
     ensures refused { Refuses (out.new ≡ out.old) ⊥ (E.taken err.old) (E.taken err.new) result }
 {
     match tags(alloc, unit) {
@@ -108,12 +151,22 @@ pub(crate) fn layouts<O: Sink, E: Sink>(
 fn write_core<O: Sink, E: Sink>(alloc: Global, core: &Core, out: &mut O, err: &mut E) -> u8
     requires out { O.faults out.old + 1 < 2 ^ 64 }
     requires err { E.faults err.old + 1 < 2 ^ 64 }
-    ensures exact { (left : List ℕ) → O.faults out.new ≡ O.faults out.old → E.faults err.new ≡ E.faults err.old → Gives (λ a. a ≡ written (listing core.now)) left (Some left) (O.taken out.old) (O.taken out.new) (E.taken err.old) (E.taken err.new) result }
-    ensures faults { (t i : ℕ) → Faults t t i i (O.faults out.old) (O.faults out.new) (E.faults err.old) (E.faults err.new) result }
-    ensures output_fault { O.faults out.old < O.faults out.new → Says (E.taken err.old) (E.taken err.new) (E.faults err.old) (E.faults err.new) output_fault.err 133 result }
-    ensures broken { (left : List ℕ) (i : ℕ) → WriteFails (O.faults out.old) (O.faults out.new) (E.faults err.old) (E.faults err.new) → (a : Shown) → a ≡ written (listing core.now) → Breaks None a left (Some left) (O.taken out.old) (O.taken out.new) (E.taken err.old) (E.taken err.new) i i (O.faults out.old) (O.faults out.new) (E.faults err.old) (E.faults err.new) }
+    ensures exact { (left : List ℕ) → O.faults out.new ≡ O.faults out.old →
+        E.faults err.new ≡ E.faults err.old → Gives (λ a. a ≡ written (listing core.now)) left
+        (Some left) (O.taken out.old) (O.taken out.new) (E.taken err.old) (E.taken err.new) result }
+    ensures faults { (t i : ℕ) → Faults t t i i (O.faults out.old) (O.faults out.new)
+        (E.faults err.old) (E.faults err.new) result }
+    ensures output_fault { O.faults out.old < O.faults out.new →
+        Says (E.taken err.old) (E.taken err.new) (E.faults err.old) (E.faults err.new)
+        output_fault.err 133 result }
+    ensures broken { (left : List ℕ) (i : ℕ) → WriteFails (O.faults out.old) (O.faults out.new)
+        (E.faults err.old) (E.faults err.new) → (a : Shown) → a ≡ written (listing core.now) →
+        Breaks None a left (Some left) (O.taken out.old) (O.taken out.new) (E.taken err.old)
+        (E.taken err.new) i i (O.faults out.old) (O.faults out.new) (E.faults err.old)
+        (E.faults err.new) }
     ensures memory { Wants (out.new ≡ out.old) ⊥ (E.taken err.old) (E.taken err.new) result }
-    ensures cause { HasCause (WriteFails (O.faults out.old) (O.faults out.new) (E.faults err.old) (E.faults err.new)) ⊥ (E.taken err.old) (E.taken err.new) result }
+    ensures cause { HasCause (WriteFails (O.faults out.old) (O.faults out.new) (E.faults err.old)
+        (E.faults err.new)) ⊥ (E.taken err.old) (E.taken err.new) result }
     ensures refused { Refuses (out.new ≡ out.old) ⊥ (E.taken err.old) (E.taken err.new) result }
 {
     match list(alloc, core) {
@@ -132,12 +185,24 @@ pub(crate) fn core_list<O: Sink, E: Sink>(
 ) -> u8
     requires out { O.faults out.old + 1 < 2 ^ 64 }
     requires err { E.faults err.old + 1 < 2 ^ 64 }
-    ensures exact { (left : List ℕ) → O.faults out.new ≡ O.faults out.old → E.faults err.new ≡ E.faults err.old → Gives (λ a. a ≡ core_shown opened.now (core_in (unit_view unit.now))) left (Some left) (O.taken out.old) (O.taken out.new) (E.taken err.old) (E.taken err.new) result }
-    ensures faults { (t i : ℕ) → Faults t t i i (O.faults out.old) (O.faults out.new) (E.faults err.old) (E.faults err.new) result }
-    ensures output_fault { O.faults out.old < O.faults out.new → Says (E.taken err.old) (E.taken err.new) (E.faults err.old) (E.faults err.new) output_fault.err 133 result }
-    ensures broken { (left : List ℕ) (i : ℕ) → WriteFails (O.faults out.old) (O.faults out.new) (E.faults err.old) (E.faults err.new) → (a : Shown) → a ≡ core_shown opened.now (core_in (unit_view unit.now)) → Breaks None a left (Some left) (O.taken out.old) (O.taken out.new) (E.taken err.old) (E.taken err.new) i i (O.faults out.old) (O.faults out.new) (E.faults err.old) (E.faults err.new) }
+    ensures exact { (left : List ℕ) → O.faults out.new ≡ O.faults out.old →
+        E.faults err.new ≡ E.faults err.old →
+        Gives (λ a. a ≡ core_shown opened.now (core_in (unit_view unit.now))) left (Some left)
+        (O.taken out.old) (O.taken out.new) (E.taken err.old) (E.taken err.new) result }
+    ensures faults { (t i : ℕ) → Faults t t i i (O.faults out.old) (O.faults out.new)
+        (E.faults err.old) (E.faults err.new) result }
+    ensures output_fault { O.faults out.old < O.faults out.new →
+        Says (E.taken err.old) (E.taken err.new) (E.faults err.old) (E.faults err.new)
+        output_fault.err 133 result }
+    ensures broken { (left : List ℕ) (i : ℕ) → WriteFails (O.faults out.old) (O.faults out.new)
+        (E.faults err.old) (E.faults err.new) → (a : Shown) →
+        a ≡ core_shown opened.now (core_in (unit_view unit.now)) →
+        Breaks None a left (Some left) (O.taken out.old) (O.taken out.new) (E.taken err.old)
+        (E.taken err.new) i i (O.faults out.old) (O.faults out.new) (E.faults err.old)
+        (E.faults err.new) }
     ensures memory { Wants (out.new ≡ out.old) ⊥ (E.taken err.old) (E.taken err.new) result }
-    ensures cause { HasCause (WriteFails (O.faults out.old) (O.faults out.new) (E.faults err.old) (E.faults err.new)) ⊥ (E.taken err.old) (E.taken err.new) result }
+    ensures cause { HasCause (WriteFails (O.faults out.old) (O.faults out.new) (E.faults err.old)
+        (E.faults err.new)) ⊥ (E.taken err.old) (E.taken err.new) result }
     ensures refused { Refuses (out.new ≡ out.old) ⊥ (E.taken err.old) (E.taken err.new) result }
 {
     match elab(alloc, unit) {
@@ -160,12 +225,20 @@ fn write_compiled<O: Sink, E: Sink>(alloc: Global, core: &Core, out: &mut O, err
     requires sound { IsSound core.now }
     requires out { O.faults out.old + 1 < 2 ^ 64 }
     requires err { E.faults err.old + 1 < 2 ^ 64 }
-    ensures exact { (left : List ℕ) → O.faults out.new ≡ O.faults out.old → E.faults err.new ≡ E.faults err.old → Gives (AnswersCompiled [] (Ok core.now)) left (Some left) (O.taken out.old) (O.taken out.new) (E.taken err.old) (E.taken err.new) result }
-    ensures faults { (t i : ℕ) → Faults t t i i (O.faults out.old) (O.faults out.new) (E.faults err.old) (E.faults err.new) result }
-    ensures output_fault { O.faults out.old < O.faults out.new → Says (E.taken err.old) (E.taken err.new) (E.faults err.old) (E.faults err.new) output_fault.err 133 result }
-    ensures broken { (left : List ℕ) (i : ℕ) → WriteFails (O.faults out.old) (O.faults out.new) (E.faults err.old) (E.faults err.new) → BreaksOne (AnswersCompiled [] (Ok core.now)) None left (Some left) (O.taken out.old) (O.taken out.new) (E.taken err.old) (E.taken err.new) i i (O.faults out.old) (O.faults out.new) (E.faults err.old) (E.faults err.new) }
+    ensures exact { (left : List ℕ) → O.faults out.new ≡ O.faults out.old → E.faults err.new ≡
+        E.faults err.old → Gives (AnswersCompiled [] (Ok core.now)) left (Some left) (O.taken
+        out.old) (O.taken out.new) (E.taken err.old) (E.taken err.new) result }
+    ensures faults { (t i : ℕ) → Faults t t i i (O.faults out.old) (O.faults out.new) (E.faults
+        err.old) (E.faults err.new) result }
+    ensures output_fault { O.faults out.old < O.faults out.new → Says (E.taken err.old) (E.taken
+        err.new) (E.faults err.old) (E.faults err.new) output_fault.err 133 result }
+    ensures broken { (left : List ℕ) (i : ℕ) → WriteFails (O.faults out.old) (O.faults out.new)
+        (E.faults err.old) (E.faults err.new) → BreaksOne (AnswersCompiled [] (Ok core.now)) None
+        left (Some left) (O.taken out.old) (O.taken out.new) (E.taken err.old) (E.taken err.new) i i
+        (O.faults out.old) (O.faults out.new) (E.faults err.old) (E.faults err.new) }
     ensures memory { Wants (out.new ≡ out.old) ⊥ (E.taken err.old) (E.taken err.new) result }
-    ensures cause { HasCause (WriteFails (O.faults out.old) (O.faults out.new) (E.faults err.old) (E.faults err.new)) ⊥ (E.taken err.old) (E.taken err.new) result }
+    ensures cause { HasCause (WriteFails (O.faults out.old) (O.faults out.new) (E.faults err.old)
+        (E.faults err.new)) ⊥ (E.taken err.old) (E.taken err.new) result }
     ensures refused { Refuses (out.new ≡ out.old) ⊥ (E.taken err.old) (E.taken err.new) result }
 {
     match code_bytes(alloc, core) {
@@ -185,12 +258,21 @@ pub(crate) fn core_compiled<O: Sink, E: Sink>(
     requires text { IsOfTokens (unit_view unit.now) }
     requires out { O.faults out.old + 1 < 2 ^ 64 }
     requires err { E.faults err.old + 1 < 2 ^ 64 }
-    ensures exact { (left : List ℕ) → O.faults out.new ≡ O.faults out.old → E.faults err.new ≡ E.faults err.old → Gives (AnswersCompiled opened.now (core_in (unit_view unit.now))) left (Some left) (O.taken out.old) (O.taken out.new) (E.taken err.old) (E.taken err.new) result }
-    ensures faults { (t i : ℕ) → Faults t t i i (O.faults out.old) (O.faults out.new) (E.faults err.old) (E.faults err.new) result }
-    ensures output_fault { O.faults out.old < O.faults out.new → Says (E.taken err.old) (E.taken err.new) (E.faults err.old) (E.faults err.new) output_fault.err 133 result }
-    ensures broken { (left : List ℕ) (i : ℕ) → WriteFails (O.faults out.old) (O.faults out.new) (E.faults err.old) (E.faults err.new) → BreaksOne (AnswersCompiled opened.now (core_in (unit_view unit.now))) None left (Some left) (O.taken out.old) (O.taken out.new) (E.taken err.old) (E.taken err.new) i i (O.faults out.old) (O.faults out.new) (E.faults err.old) (E.faults err.new) }
+    ensures exact { (left : List ℕ) → O.faults out.new ≡ O.faults out.old → E.faults err.new ≡
+        E.faults err.old → Gives (AnswersCompiled opened.now (core_in (unit_view unit.now))) left
+        (Some left) (O.taken out.old) (O.taken out.new) (E.taken err.old) (E.taken err.new) result }
+    ensures faults { (t i : ℕ) → Faults t t i i (O.faults out.old) (O.faults out.new) (E.faults
+        err.old) (E.faults err.new) result }
+    ensures output_fault { O.faults out.old < O.faults out.new → Says (E.taken err.old) (E.taken
+        err.new) (E.faults err.old) (E.faults err.new) output_fault.err 133 result }
+    ensures broken { (left : List ℕ) (i : ℕ) → WriteFails (O.faults out.old) (O.faults out.new)
+        (E.faults err.old) (E.faults err.new) → BreaksOne (AnswersCompiled opened.now (core_in
+        (unit_view unit.now))) None left (Some left) (O.taken out.old) (O.taken out.new) (E.taken
+        err.old) (E.taken err.new) i i (O.faults out.old) (O.faults out.new) (E.faults err.old)
+        (E.faults err.new) }
     ensures memory { Wants (out.new ≡ out.old) ⊥ (E.taken err.old) (E.taken err.new) result }
-    ensures cause { HasCause (WriteFails (O.faults out.old) (O.faults out.new) (E.faults err.old) (E.faults err.new)) ⊥ (E.taken err.old) (E.taken err.new) result }
+    ensures cause { HasCause (WriteFails (O.faults out.old) (O.faults out.new) (E.faults err.old)
+        (E.faults err.new)) ⊥ (E.taken err.old) (E.taken err.new) result }
     ensures refused { Refuses (out.new ≡ out.old) ⊥ (E.taken err.old) (E.taken err.new) result }
 {
     match elab(alloc, unit) {
@@ -203,12 +285,22 @@ pub(crate) fn core_compiled<O: Sink, E: Sink>(
 fn write_live<O: Sink, E: Sink>(alloc: Global, core: &Core, out: &mut O, err: &mut E) -> u8
     requires out { O.faults out.old + 1 < 2 ^ 64 }
     requires err { E.faults err.old + 1 < 2 ^ 64 }
-    ensures exact { (left : List ℕ) → O.faults out.new ≡ O.faults out.old → E.faults err.new ≡ E.faults err.old → Gives (λ a. a ≡ written (live_listing core.now)) left (Some left) (O.taken out.old) (O.taken out.new) (E.taken err.old) (E.taken err.new) result }
-    ensures faults { (t i : ℕ) → Faults t t i i (O.faults out.old) (O.faults out.new) (E.faults err.old) (E.faults err.new) result }
-    ensures output_fault { O.faults out.old < O.faults out.new → Says (E.taken err.old) (E.taken err.new) (E.faults err.old) (E.faults err.new) output_fault.err 133 result }
-    ensures broken { (left : List ℕ) (i : ℕ) → WriteFails (O.faults out.old) (O.faults out.new) (E.faults err.old) (E.faults err.new) → (a : Shown) → a ≡ written (live_listing core.now) → Breaks None a left (Some left) (O.taken out.old) (O.taken out.new) (E.taken err.old) (E.taken err.new) i i (O.faults out.old) (O.faults out.new) (E.faults err.old) (E.faults err.new) }
+    ensures exact { (left : List ℕ) → O.faults out.new ≡ O.faults out.old →
+        E.faults err.new ≡ E.faults err.old → Gives (λ a. a ≡ written (live_listing core.now)) left
+        (Some left) (O.taken out.old) (O.taken out.new) (E.taken err.old) (E.taken err.new) result }
+    ensures faults { (t i : ℕ) → Faults t t i i (O.faults out.old) (O.faults out.new)
+        (E.faults err.old) (E.faults err.new) result }
+    ensures output_fault { O.faults out.old < O.faults out.new →
+        Says (E.taken err.old) (E.taken err.new) (E.faults err.old) (E.faults err.new)
+        output_fault.err 133 result }
+    ensures broken { (left : List ℕ) (i : ℕ) → WriteFails (O.faults out.old) (O.faults out.new)
+        (E.faults err.old) (E.faults err.new) → (a : Shown) → a ≡ written (live_listing core.now) →
+        Breaks None a left (Some left) (O.taken out.old) (O.taken out.new) (E.taken err.old)
+        (E.taken err.new) i i (O.faults out.old) (O.faults out.new) (E.faults err.old)
+        (E.faults err.new) }
     ensures memory { Wants (out.new ≡ out.old) ⊥ (E.taken err.old) (E.taken err.new) result }
-    ensures cause { HasCause (WriteFails (O.faults out.old) (O.faults out.new) (E.faults err.old) (E.faults err.new)) ⊥ (E.taken err.old) (E.taken err.new) result }
+    ensures cause { HasCause (WriteFails (O.faults out.old) (O.faults out.new) (E.faults err.old)
+        (E.faults err.new)) ⊥ (E.taken err.old) (E.taken err.new) result }
     ensures refused { Refuses (out.new ≡ out.old) ⊥ (E.taken err.old) (E.taken err.new) result }
 {
     match list_live(alloc, core) {
@@ -227,12 +319,24 @@ pub(crate) fn core_live<O: Sink, E: Sink>(
 ) -> u8
     requires out { O.faults out.old + 1 < 2 ^ 64 }
     requires err { E.faults err.old + 1 < 2 ^ 64 }
-    ensures exact { (left : List ℕ) → O.faults out.new ≡ O.faults out.old → E.faults err.new ≡ E.faults err.old → Gives (λ a. a ≡ live_shown opened.now (core_in (unit_view unit.now))) left (Some left) (O.taken out.old) (O.taken out.new) (E.taken err.old) (E.taken err.new) result }
-    ensures faults { (t i : ℕ) → Faults t t i i (O.faults out.old) (O.faults out.new) (E.faults err.old) (E.faults err.new) result }
-    ensures output_fault { O.faults out.old < O.faults out.new → Says (E.taken err.old) (E.taken err.new) (E.faults err.old) (E.faults err.new) output_fault.err 133 result }
-    ensures broken { (left : List ℕ) (i : ℕ) → WriteFails (O.faults out.old) (O.faults out.new) (E.faults err.old) (E.faults err.new) → (a : Shown) → a ≡ live_shown opened.now (core_in (unit_view unit.now)) → Breaks None a left (Some left) (O.taken out.old) (O.taken out.new) (E.taken err.old) (E.taken err.new) i i (O.faults out.old) (O.faults out.new) (E.faults err.old) (E.faults err.new) }
+    ensures exact { (left : List ℕ) → O.faults out.new ≡ O.faults out.old →
+        E.faults err.new ≡ E.faults err.old →
+        Gives (λ a. a ≡ live_shown opened.now (core_in (unit_view unit.now))) left (Some left)
+        (O.taken out.old) (O.taken out.new) (E.taken err.old) (E.taken err.new) result }
+    ensures faults { (t i : ℕ) → Faults t t i i (O.faults out.old) (O.faults out.new)
+        (E.faults err.old) (E.faults err.new) result }
+    ensures output_fault { O.faults out.old < O.faults out.new →
+        Says (E.taken err.old) (E.taken err.new) (E.faults err.old) (E.faults err.new)
+        output_fault.err 133 result }
+    ensures broken { (left : List ℕ) (i : ℕ) → WriteFails (O.faults out.old) (O.faults out.new)
+        (E.faults err.old) (E.faults err.new) → (a : Shown) →
+        a ≡ live_shown opened.now (core_in (unit_view unit.now)) →
+        Breaks None a left (Some left) (O.taken out.old) (O.taken out.new) (E.taken err.old)
+        (E.taken err.new) i i (O.faults out.old) (O.faults out.new) (E.faults err.old)
+        (E.faults err.new) }
     ensures memory { Wants (out.new ≡ out.old) ⊥ (E.taken err.old) (E.taken err.new) result }
-    ensures cause { HasCause (WriteFails (O.faults out.old) (O.faults out.new) (E.faults err.old) (E.faults err.new)) ⊥ (E.taken err.old) (E.taken err.new) result }
+    ensures cause { HasCause (WriteFails (O.faults out.old) (O.faults out.new) (E.faults err.old)
+        (E.faults err.new)) ⊥ (E.taken err.old) (E.taken err.new) result }
     ensures refused { Refuses (out.new ≡ out.old) ⊥ (E.taken err.old) (E.taken err.new) result }
 {
     match elab(alloc, unit) {

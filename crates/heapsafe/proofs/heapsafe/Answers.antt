@@ -105,7 +105,6 @@ returns-in-Err-NoMemory-clause-broken g c = λ told left k l fails.
     let broke = λ (a : Shown). broken_read asked a left _ _ _ _ _ _ _ _ _ _ _ _ _ refl (broken_own no_memory a left _ _ _ _ _ _ _ _ _ _ _ _ (inr refl) l refl refl refl c.refuse-in-Err-NoMemory.ensures.says) in
     this_answer (AnswersCommand asked told (steady left)) _ left _ _ _ _ _ _ _ _ _ _ _ (AsksOne asked) no_memory (inr refl) (λ a is more. broke a) (broke no_memory)
 
-
 pub returns-in-Ok-OnFile-clause-memory : goal.returns-in-Ok-OnFile-clause-memory
 returns-in-Ok-OnFile-clause-memory g c =
     let words : List (List ℕ) = map (λ (w : Bor (List ℕ)). w.now) c.args.words.now in

@@ -17,11 +17,11 @@ use Rattle.heapsafe.proofs.Sources.{formed_lexed, formed_within}
 use Rattle.heapsafe.proofs.Statuses.{cause_more, caused, unread_says, untokened_cause, untokened_wants, wanted}
 use Rattle.heapsafe.proofs.with_file.Goals as goal
 
-pub pre-with_tokens-lexed : goal.pre-with_tokens-lexed
-pre-with_tokens-lexed g c = subst (λ (ts : List Token). All IsLexed ts) (sym c.as_slice-2.ensures) (formed_lexed c.in-Ok.read.tokens c.in-Ok.ensures.forms)
+pub with_tokens-requires-clause-lexed : goal.with_tokens-requires-clause-lexed
+with_tokens-requires-clause-lexed g c = subst (λ (ts : List Token). All IsLexed ts) (sym c.as_slice-in-Ok.ensures) (formed_lexed c.in-Ok.read.tokens c.in-Ok.ensures.forms)
 
-pub pre-with_tokens-short : goal.pre-with_tokens-short
-pre-with_tokens-short g c = subst (AreWithin most_tokens) (sym c.as_slice-2.ensures) (formed_within c.in-Ok.read.tokens c.in-Ok.ensures.forms c.in-Ok.ensures.few)
+pub with_tokens-requires-clause-short : goal.with_tokens-requires-clause-short
+with_tokens-requires-clause-short g c = subst (AreWithin most_tokens) (sym c.as_slice-in-Ok.ensures) (formed_within c.in-Ok.read.tokens c.in-Ok.ensures.forms c.in-Ok.ensures.few)
 
 pub returns-in-Ok-clause-exact : goal.returns-in-Ok-clause-exact
 returns-in-Ok-clause-exact g c = λ told left k l same_texts same_out same_err.
@@ -29,7 +29,7 @@ returns-in-Ok-clause-exact g c = λ told left k l same_texts same_out same_err.
     let task = task_shown c.args.task in
     gives_file c.args.file.now told c.in-Ok.read input task left _ _ _ _ _ _ (c.in-Ok.ensures.told told k)
     (subst (λ (os : List Opened). Gives (AnswersTokens c.args.file.now os c.in-Ok.read.tokens input task) left _ _ _ _ _ _) c.as_slice.ensures
-    (subst (λ (ts : List Token). Gives (AnswersTokens c.args.file.now c.as_slice.result.now ts input task) left _ _ _ _ _ _) c.as_slice-2.ensures
+    (subst (λ (ts : List Token). Gives (AnswersTokens c.args.file.now c.as_slice.result.now ts input task) left _ _ _ _ _ _) c.as_slice-in-Ok.ensures
     (c.with_tokens.ensures.exact left l same_out same_err)))
 
 pub returns-in-Ok-clause-faults : goal.returns-in-Ok-clause-faults
@@ -45,7 +45,7 @@ returns-in-Ok-clause-broken g c = λ told left k l fails.
     let gives = c.in-Ok.ensures.told told k in
     let of_slices =
     subst (λ (os : List Opened). BreaksOff (HasOne task) (AnswersTokens c.args.file.now os read.tokens (steady left) task) None left _ _ _ _ _ _ _ _ _ _ _) c.as_slice.ensures
-    (subst (λ (ts : List Token). BreaksOff (HasOne task) (AnswersTokens c.args.file.now c.as_slice.result.now ts (steady left) task) None left _ _ _ _ _ _ _ _ _ _ _) c.as_slice-2.ensures (c.with_tokens.ensures.broken left l fails)) in
+    (subst (λ (ts : List Token). BreaksOff (HasOne task) (AnswersTokens c.args.file.now c.as_slice.result.now ts (steady left) task) None left _ _ _ _ _ _ _ _ _ _ _) c.as_slice-in-Ok.ensures (c.with_tokens.ensures.broken left l fails)) in
     off_read (Some (OnFile c.args.file.now task)) (AnswersFile c.args.file.now told (steady left) task) (HasOne task) left _ _ _ _ _ _ _ _ _ _ _ _ _ c.in-Ok.ensures.cause
     (off_as (AnswersTokens c.args.file.now read.texts read.tokens (steady left) task) None left _ _ _ _ _ _ _ _ _ _ _ (HasOne task) (AnswersFile c.args.file.now told (steady left) task)
     (λ a is. subst (λ r. AnswersRead c.args.file.now r (steady left) task a) (sym gives) is) (λ a is. file_is c.args.file.now told read (steady left) task a gives is) of_slices)

@@ -48,7 +48,6 @@ returns-in-Compile-clause-exact g c = λ left k same_out same_err.
     subst (λ (t : Task). Gives (Does c.args.file.now c.args.opened.now (unit_view c.args.unit.now) (input_of left (g.I.Source.faults c.args.input.now) (g.I.Source.faults c.args.input.now)) (task_shown t)) left (g.I.Source.left c.args.input.now) (g.O.Sink.taken c.args.out.now) (g.O.Sink.taken c.core_compiled.new.out) (g.E.Sink.taken c.args.err.now) (g.E.Sink.taken c.core_compiled.new.err) c.core_compiled.result) (sym c.in-Compile.is)
     (gives_left _ left _ _ _ _ _ _ k (c.core_compiled.ensures.exact left same_out same_err))
 
-
 pub returns-in-Print-clause-faults : goal.returns-in-Print-clause-faults
 returns-in-Print-clause-faults g c = λ t. c.print.ensures.faults t (g.I.Source.faults c.args.input.now)
 
@@ -63,7 +62,6 @@ returns-in-Live-clause-faults g c = λ t. c.core_live.ensures.faults t (g.I.Sour
 
 pub returns-in-Compile-clause-faults : goal.returns-in-Compile-clause-faults
 returns-in-Compile-clause-faults g c = λ t. c.core_compiled.ensures.faults t (g.I.Source.faults c.args.input.now)
-
 
 pub returns-in-Run-clause-broken : goal.returns-in-Run-clause-broken
 returns-in-Run-clause-broken g c = λ left k fails.
@@ -103,7 +101,6 @@ returns-in-Compile-clause-broken g c = λ left k fails.
       some = λ several. subst (λ (l : Option (List ℕ)). BreaksOne (AnswersCompiled c.args.opened.now (core_in (unit_view c.args.unit.now))) None left l _ _ _ _ _ _ _ _ _ _) (sym k) (c.core_compiled.ensures.broken left _ fails);
     })
 
-
 pub returns-in-Run-clause-memory : goal.returns-in-Run-clause-memory
 returns-in-Run-clause-memory g c =
     wants_more _ _ _ _ _ _ _ (λ stays one. stays tt) (λ own none. subst (λ (t : Task). RunsNone (task_shown t)) c.in-Run.is none) c.run_program.ensures.memory
@@ -128,7 +125,6 @@ returns-in-Live-clause-memory g c = wants_more _ _ _ _ _ _ _ (λ stays one. (ref
 pub returns-in-Compile-clause-memory : goal.returns-in-Compile-clause-memory
 returns-in-Compile-clause-memory g c = wants_more _ _ _ _ _ _ _ (λ stays one. (refl, stays)) (λ own. absurd own) c.core_compiled.ensures.memory
 
-
 pub returns-in-Run-clause-cause : goal.returns-in-Run-clause-cause
 returns-in-Run-clause-cause g c =
     cause_more _ _ _ _ _ _ _ (λ h. h) (λ own none. subst (λ (t : Task). RunsNone (task_shown t)) c.in-Run.is none) c.run_program.ensures.cause
@@ -151,7 +147,6 @@ returns-in-Live-clause-cause g c = cause_more _ _ _ _ _ _ _ (λ h. inr h) (λ ow
 
 pub returns-in-Compile-clause-cause : goal.returns-in-Compile-clause-cause
 returns-in-Compile-clause-cause g c = cause_more _ _ _ _ _ _ _ (λ h. inr h) (λ own. absurd own) c.core_compiled.ensures.cause
-
 
 pub returns-in-Run-clause-refused : goal.returns-in-Run-clause-refused
 returns-in-Run-clause-refused g c =

@@ -2,7 +2,7 @@ use Rattle.std.proofs.Common.{◌≡◌, ◌∙◌, ap, codes, true}
 use Rattle.std.proofs.lemmas.Result.{IfOk-weaker}
 use Rattle.clap.specs.Words.{App, Shape, app_of, new_app, with_subcommand}
 use Rattle.clap.specs.Simple.{on_top, app_of_fields}
-use Rattle.command_words.specs.CommandSet.{generated, mean, plain, program, running}
+use Rattle.command_words.specs.CommandSet.{command_set, generated, mean, plain, program, running}
 use Rattle.command_words.proofs.set.command_set.Goals as goal
 
 abbrev words_alone : Shape → Shape
@@ -21,6 +21,7 @@ abbrev in_need_of_a_command : Shape → Shape
 in_need_of_a_command s = record s { subcommand_required = true }
 
 pub returns : goal.returns
+unfolding command_set
 returns c =
     let one : app_of c.no_binary_name.result ≡ on_top words_alone (new_app (codes "heapsafe")) =
     ap app_of_fields c.no_binary_name.ensures ∙ ap (on_top words_alone) c.new.ensures.app in
@@ -28,8 +29,8 @@ returns c =
     ap app_of_fields c.disable_help_flag.ensures ∙ ap (on_top helpless) one in
     let three = ap app_of_fields c.disable_version_flag.ensures ∙ ap (on_top versionless) two in
     let four = ap app_of_fields c.disable_help_subcommand.ensures ∙ ap (on_top without_help_command) three in
-    let top_is : app_of c.subcommand_required.result ≡ program =
-    ap app_of_fields c.subcommand_required.ensures ∙ ap (on_top in_need_of_a_command) four in
+    let top_is : app_of c.subcommand_required-program.result ≡ program =
+    ap app_of_fields c.subcommand_required-program.ensures ∙ ap (on_top in_need_of_a_command) four in
     let with_more = λ (sub : App) (a b : App) (e : a ≡ b). ap (λ (x : App). with_subcommand x sub.top) e in
     let with_run = c.in_ok-program.ensures ∙ with_more (running (codes "run")) _ _ top_is in
     let with_mean = c.in_ok-program-2.ensures ∙ with_more mean _ _ with_run in
