@@ -1,0 +1,4 @@
+pub mod Mentions
+pub mod Names
+pub mod Externals
+pub mod Merge

@@ -1,0 +1,127 @@
+//! External declarations as they stand in the program.
+
+ghost use Rattle.std.specs.Prelude.{◌≡◌, IfOk};
+ghost use Rattle.c_tree.specs.StatementView.{decl_view};
+ghost use Rattle.c_units.specs.Gives.{GivesExternal};
+
+use crate::declarations::{declared_name, declared_params};
+use crate::mention::Role;
+use crate::names::Binding;
+use crate::walk::Walk;
+use c_tree::{Decl, Declarator, Init, Param, Spec, Specs, Stmt};
+use hs_base::{Items, Line, NoMemory};
+
+/// Whether `typedef` is one of the words of specs.
+fn has_typedef(specs: &Specs) -> bool {
+    for word in &specs.words {
+        if let Spec::Typedef = word {
+            return true;
+        }
+    }
+    false
+}
+
+/// What a declaration without a body says of a name.
+fn role_of(typedef: bool, init: &Option<Init>) -> Role {
+    if typedef {
+        return Role::Typedef;
+    }
+    match init {
+        Some(_) => Role::Defined,
+        None => Role::Declared,
+    }
+}
+
+impl<'a> Walk<'a> {
+    /// A declarator at file scope, in an external declaration at this line.
+    fn file_declarator(
+        &mut self,
+        role: Role,
+        line: Line,
+        declarator: &'a Declarator,
+    ) -> Result<Declarator, NoMemory> {
+        let Some(name) = declared_name(declarator) else {
+            return self.declarator(declarator);
+        };
+        let binding = self.binding_as(role, name);
+        self.mention(binding, role, name, line)?;
+        let new = self.name_by(binding, name)?;
+        let declarator = self.declarator_as(declarator, new)?;
+        self.declare(Some(name), binding)?;
+        Ok(declarator)
+    }
+
+    /// A name of a declaration at file scope, which holds before its initializer (C99 6.2.1).
+    fn file_entry(
+        &mut self,
+        line: Line,
+        typedef: bool,
+        entry: &'a (Declarator, Option<Init>),
+    ) -> Result<(Declarator, Option<Init>), NoMemory> {
+        let declarator = self.file_declarator(role_of(typedef, &entry.1), line, &entry.0)?;
+        let init = self.maybe_init(&entry.1)?;
+        Ok((declarator, init))
+    }
+
+    /// The names of a declaration at file scope.
+    fn file_entries(
+        &mut self,
+        line: Line,
+        typedef: bool,
+        list: &'a [(Declarator, Option<Init>)],
+    ) -> Result<Items<(Declarator, Option<Init>)>, NoMemory> {
+        let mut all = Items::new(self.alloc);
+        for one in list {
+            all.push(self.file_entry(line, typedef, one)?)?;
+        }
+        Ok(all)
+    }
+
+    /// The parameters are declared where the body begins, and mention nothing a second time.
+    fn inside_params(&mut self, params: Option<&'a [Param]>) -> Result<(), NoMemory> {
+        self.enter();
+        if let Some(params) = params {
+            let mentions = self.take_mentions();
+            self.params(params)?;
+            self.put_mentions(mentions);
+        }
+        Ok(())
+    }
+
+    /// The body of a function with this declarator.
+    fn function_body(
+        &mut self,
+        declarator: &'a Declarator,
+        body: &'a [Stmt],
+    ) -> Result<Items<Stmt>, NoMemory> {
+        let outer = self.outer();
+        self.inside_params(declared_params(declarator))?;
+        let body = self.body(body)?;
+        self.leave(outer)?;
+        Ok(body)
+    }
+
+    /// An external declaration.
+    pub(crate) fn external(&mut self, decl: &'a Decl) -> Result<Decl, NoMemory> {
+        match decl {
+            Decl::Function {
+                line,
+                specs,
+                declarator,
+                body,
+                end,
+            } => {
+                let specs = self.specs(specs)?;
+                let new = self.file_declarator(Role::Defined, *line, declarator)?;
+                let body = self.function_body(declarator, body.as_slice())?;
+                Ok(Decl::function(*line, specs, new, body, *end))
+            }
+            Decl::Names { line, specs, names } => {
+                let typedef = has_typedef(specs);
+                let specs = self.specs(specs)?;
+                let names = self.file_entries(*line, typedef, names.as_slice())?;
+                Ok(Decl::names(*line, specs, names))
+            }
+        }
+    }
+}

@@ -1,0 +1,80 @@
+//! What a unit has for itself: the objects and functions that it declares `static` (C99 6.2.2).
+
+ghost use Rattle.std.specs.Prelude.{◌≡◌, [], IfOk};
+ghost use Rattle.c_tree.specs.StatementView.{unit_view};
+ghost use Rattle.c_units.specs.Externals.{own_names};
+
+use crate::declarations::declared_name;
+use crate::name_set::NameSet;
+use c_tree::{Decl, Declarator, Init, Spec, Specs, Unit};
+use hs_base::NoMemory;
+use std::alloc::Global;
+
+/// Whether `static` is one of the words of specs.
+fn has_static(specs: &Specs) -> bool {
+    for word in &specs.words {
+        if let Spec::Static = word {
+            return true;
+        }
+    }
+    false
+}
+
+/// Notes the name of a declarator, unless it is that of the program's first function.
+fn note(alloc: Global, names: &mut NameSet, declarator: &Declarator) -> Result<(), NoMemory> {
+    match declared_name(declarator) {
+        Some(name) => {
+            if name == b"main" {
+                Ok(())
+            } else {
+                names.note(alloc, name)
+            }
+        }
+        None => Ok(()),
+    }
+}
+
+/// Notes the names of a declaration.
+fn note_all(
+    alloc: Global,
+    names: &mut NameSet,
+    list: &[(Declarator, Option<Init>)],
+) -> Result<(), NoMemory> {
+    for entry in list {
+        note(alloc, names, &entry.0)?;
+    }
+    Ok(())
+}
+
+/// Notes what an external declaration declares `static`.
+fn note_static(alloc: Global, names: &mut NameSet, decl: &Decl) -> Result<(), NoMemory> {
+    match decl {
+        Decl::Function {
+            specs, declarator, ..
+        } => {
+            if has_static(specs) {
+                note(alloc, names, declarator)
+            } else {
+                Ok(())
+            }
+        }
+        Decl::Names { specs, names: list, .. } => {
+            if has_static(specs) {
+                note_all(alloc, names, list.as_slice())
+            } else {
+                Ok(())
+            }
+        }
+    }
+}
+
+/// What a unit declares `static`.
+pub(crate) fn own_names(alloc: Global, unit: &Unit) -> Result<NameSet, NoMemory>
+    ensures { IfOk result (λ names. names ≡ own_names (unit_view unit.now) []) }
+{
+    let mut names = NameSet::new(alloc);
+    for decl in unit.decls.as_slice() {
+        note_static(alloc, &mut names, decl)?;
+    }
+    Ok(names)
+}
