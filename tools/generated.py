@@ -46,7 +46,11 @@ int main(void) {
 USED_LATER = "int main(void){\nchar *p = malloc(1);\nfree(p);\nif (getchar() == 'r') return *p;\nreturn 0;}"
 STRUCTS = "struct s { char c; char *p; short n; };\nunion u { char *p; int *q; };\nstruct w { char c; long long v; };\nint main(void){return 0;}"
 
-# the words behind the program, the text, the input; the output, the error stream, the status, and how many bytes of the input are read
+TWO = '#include "b.h"\n#ifdef TWO\nint main(void){ return ADD(1, TWO); }\n#endif'
+ADD = "#define ADD(x, y) ((x) + (y))\n#define TWO 2"
+AGAIN = "#define f(a) a*g\n#define g(a) f(a)\nint main(void){ int g = 3; return f(2)(9); }"
+
+# the words behind the program, the text of a.c or texts by name, the input; the output, the error stream, the status, and how many bytes of the input are read
 ROWS = [
     (["run"], HELD_300 % 1, "", "", "", 0, 0),
     (["run"], HELD_300 % 2, "", "", "a.c:7: bad free: held\n  __delay_frees { free(a[0]); a[0] = 0; }\nheld by global a at 4\n", 126, 0),
@@ -111,6 +115,21 @@ ROWS = [
         0,
     ),
     (["layout"], "union u { char *p; int *q; };\nint main(void){return 0;}", "", "union u size 4 align 4 slots 0\n", "", 0, 0),
+    (["run"], {"a.c": TWO, "b.h": ADD}, "", "", "", 3, 0),
+    (["mean"], {"a.c": TWO, "b.h": ADD}, "", "", "", 3, 0),
+    (["run"], TWO, "", "", "b.h: cannot read\n", 121, 0),
+    (["run"], AGAIN, "", "", "", 54, 0),
+    (
+        ["run"],
+        "#define F(x) x\nint main(void){ return F(1, 2); }",
+        "",
+        "",
+        "a.c:2: preprocess: arguments\n  int main(void){ return F(1, 2); }\n",
+        138,
+        0,
+    ),
+    (["run"], "#ifdef A\nint main(void){return 0;}", "", "", "a.c:1: preprocess: unbalanced\n  #ifdef A\n", 138, 0),
+    (["run", "--leaks"], {"a.c": '#include "b.h"\nint main(void){ f(); malloc(8); return 0; }', "b.h": "\nint *f(void){ return malloc(4); }\n\n"}, "", "", "leak: line 2: 1 blocks, 8 bytes\nleak: line 2: 1 blocks, 4 bytes\n", 0, 0),
 ]
 
 
@@ -321,8 +340,9 @@ def canonical(tokens):
 def ran(words, text, given=""):
     """What a run writes and answers, and how many bytes of its input are read."""
     with tempfile.TemporaryDirectory() as folder, tempfile.TemporaryFile() as input_file:
-        with open(f"{folder}/a.c", "w", encoding="latin-1", newline="") as it:
-            it.write(text)
+        for name, content in (text if isinstance(text, dict) else {"a.c": text}).items():
+            with open(f"{folder}/{name}", "w", encoding="latin-1", newline="") as it:
+                it.write(content)
         input_file.write(given.encode())
         input_file.seek(0)
         got = subprocess.run([PROGRAM, words[0], "a.c", *words[1:]], cwd=folder, stdin=input_file, capture_output=True)

@@ -1,4 +1,5 @@
-#define SIZE 10
+#if SIZE > 10
 int main(void) {
-  return SIZE;
+  return 0;
 }
+#endif

@@ -20,7 +20,7 @@ use hs_base::{BadFree, End, Failed, Holder, Reason, Sink};
 pub fn report<E: Sink>(
     end: &End,
     core: &Core,
-    name: &str,
+    name: &[u8],
     text: &[u8],
     err: &mut E,
 ) -> Result<(), Failed>
@@ -51,8 +51,8 @@ pub fn report<E: Sink>(
         }
         End::Spent => complain(err, name, b"out of steps"),
         End::OutOfStack(line) => complain_at(err, name, line, b"out of stack", text),
-        End::InputFault => complain(err, "heapsafe", b"input fault"),
-        End::OutputFault => complain(err, "heapsafe", b"output fault"),
+        End::InputFault => complain(err, b"heapsafe", b"input fault"),
+        End::OutputFault => complain(err, b"heapsafe", b"output fault"),
     }
 }
 
@@ -60,7 +60,7 @@ pub fn report<E: Sink>(
 fn report_bad_free<E: Sink>(
     err: &mut E,
     core: &Core,
-    name: &str,
+    name: &[u8],
     text: &[u8],
     free: BadFree,
     holder: Option<Holder>,

@@ -37,18 +37,18 @@ fn put_source_line<E: Sink>(err: &mut E, line: Line, text: &[u8]) -> Result<(), 
 }
 
 /// Writes `NAME: WORDS` and a line feed. After a failure, which is the last call on the sink, a prefix was taken.
-pub fn complain<E: Sink>(err: &mut E, name: &str, words: &[u8]) -> Result<(), Failed>
+pub fn complain<E: Sink>(err: &mut E, name: &[u8], words: &[u8]) -> Result<(), Failed>
     requires { E.faults err.old + 1 < 2 ^ 64 }
     ensures bytes { PutsAll (E.taken err.old) (E.taken err.new) (complaint name.now words.now) result }
     ensures cause { CountsFaults (E.faults err.old) (E.faults err.new) result }
 {
-    put_parts(err, &[name.as_bytes(), b": ", words, b"\n"])
+    put_parts(err, &[name, b": ", words, b"\n"])
 }
 
 /// Writes `NAME:LINE: ` with a label and words behind it, and a line feed.
 fn put_heading<'a, E: Sink>(
     err: &mut E,
-    name: &'a str,
+    name: &'a [u8],
     line: Line,
     label: &'a [u8],
     words: &'a [u8],
@@ -59,16 +59,13 @@ fn put_heading<'a, E: Sink>(
 {
     let mut digits = Buffer::new();
     let number = digits.format(line).as_bytes();
-    put_parts(
-        err,
-        &[name.as_bytes(), b":", number, b": ", label, words, b"\n"],
-    )
+    put_parts(err, &[name, b":", number, b": ", label, words, b"\n"])
 }
 
 /// What [`complain_at`] does, with words that begin with a label, as `trap: `.
 pub fn complain_labelled<E: Sink>(
     err: &mut E,
-    name: &str,
+    name: &[u8],
     line: Line,
     label: &[u8],
     words: &[u8],
@@ -88,7 +85,7 @@ pub fn complain_labelled<E: Sink>(
 /// taken.
 pub fn complain_at<E: Sink>(
     err: &mut E,
-    name: &str,
+    name: &[u8],
     line: Line,
     words: &[u8],
     text: &[u8],

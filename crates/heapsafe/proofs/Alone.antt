@@ -14,13 +14,10 @@ use Rattle.generated_text.specs.Text.{generated}
 use Rattle.generated_text.specs.declared.summary.Summary.{Summary}
 use Rattle.heapsafe.specs.declared.generated.Ran.{Ran}
 use Rattle.heapsafe.specs.declared.program.Way.TheVariants.{Run}
-use Rattle.heapsafe.specs.Reading.{most_bytes}
 use Rattle.heapsafe.specs.Shown.{Shown, written}
 use Rattle.heapsafe.specs.Program.{AnswersWay, Ended, ended, run_within, status_of}
-use Rattle.heapsafe.specs.Answer.{AnswersFile, AnswersText, RunMakes, no_input}
+use Rattle.heapsafe.specs.Answer.{AnswersText, RunMakes, alone, no_input}
 use Rattle.heapsafe.specs.Generated.{HasOnly, IsWithout, MakesOnly, SumsUp, Went, steps_of}
-use Rattle.heapsafe.proofs.Told.{short_is}
-use Rattle.heapsafe.proofs.Broken.{text_of_file}
 
 -- the bytes that a sink has kept which kept none before
 kept_is : (kept written : List ℕ) → Some kept ≡ Some written → kept ≡ written
@@ -31,11 +28,11 @@ one_end x y e = cc
 
 module _ (core : Core) (limits : Limits) (steps : ℕ) (left : Option (List ℕ)) (kept : List ℕ) (ran : Ran) (output : ran.output ≡ length kept) (text : List ℕ) where
   abbrev Answered : Type 0
-  Answered = Went (AnswersWay [] text core no_input (Run limits steps false)) ran
+  Answered = Went (AnswersWay [] (alone [] text) core no_input (Run limits steps false)) ran
 
   whole : (x : End) → Whole core [] steps limits [] x left (Some kept) → ran.status ≡ status_of x → Answered
   whole x w status = record {
-    shown = ended [] text core (run_within limits core [] steps false).events x [];
+    shown = ended [] (alone [] text) core (run_within limits core [] steps false).events x [];
     is = record { how = x; leaks = []; ends = w.end; told = refl; is = refl };
     output = output ∙ ap length (kept_is kept (bytes_out (run_within limits core [] steps false).events) w.is_taken);
     status = status;
@@ -44,7 +41,7 @@ module _ (core : Core) (limits : Limits) (steps : ℕ) (left : Option (List ℕ)
     events : List Event
     events = (run_within limits core [] steps false).events
 
-    one_answer : (other : Shown) → Ended [] text core (run_within limits core [] steps false) other → (length other.out ≡ ran.output) × (other.status ≡ ran.status)
+    one_answer : (other : Shown) → Ended [] (alone [] text) core (run_within limits core [] steps false) other → (length other.out ≡ ran.output) × (other.status ≡ ran.status)
     one_answer other e =
         let same : x ≡ e.how = one_end x e.how (sym w.end ∙ e.ends) in (
           ap (λ (s : Shown). length s.out) e.is ∙ sym (output ∙ ap length (kept_is kept (bytes_out events) w.is_taken)),
@@ -73,24 +70,18 @@ made core room steps (end.OutOfStack line) i i' o o' steps_made h counts same fi
 made core room steps end.InputFault i i' o o' steps_made h counts same fine = absurd (omega (arith, counts.0, same))
 made core room steps end.OutputFault i i' o o' steps_made h counts same fine = absurd (fine refl)
 
-module _ (text : List ℕ) (short : length text ≤ most_bytes) (limits : Limits) (steps : ℕ) where
+module _ (text : List ℕ) (limits : Limits) (steps : ℕ) where
   abbrev Filed : Ran → Type 0
-  Filed ran = Went (AnswersFile [] text no_input (Runs limits.heap limits.stack steps false)) ran
-
-  filed : (a : Shown) → AnswersText [] text no_input (Runs limits.heap limits.stack steps false) a → AnswersFile [] text no_input (Runs limits.heap limits.stack steps false) a
-  filed a is = short_is [] text no_input (Runs limits.heap limits.stack steps false) a short is
-
-  unfiled : (a : Shown) → AnswersFile [] text no_input (Runs limits.heap limits.stack steps false) a → AnswersText [] text no_input (Runs limits.heap limits.stack steps false) a
-  unfiled a is = text_of_file [] text text no_input (Runs limits.heap limits.stack steps false) a (refl, short) is
+  Filed ran = Went (AnswersText [] text no_input (Runs limits.heap limits.stack steps false)) ran
 
   -- a text with a core alone goes as that does
-  pub core_went : (core : Core) (ran : Ran) → HasOnly text core → Went (AnswersWay [] text core no_input (Run limits steps false)) ran → Filed ran
+  pub core_went : (core : Core) (ran : Ran) → HasOnly text core → Went (AnswersWay [] (alone [] text) core no_input (Run limits steps false)) ran → Filed ran
   core_went core ran has w = record {
     shown = w.shown;
-    is = filed w.shown (has.answers [] no_input limits.heap limits.stack steps w.shown w.is);
+    is = has.answers [] no_input limits.heap limits.stack steps w.shown w.is;
     output = w.output;
     status = w.status;
-    only = λ other is. w.only other (has.answered [] no_input limits.heap limits.stack steps other (unfiled other is));
+    only = λ other is. w.only other (has.answered [] no_input limits.heap limits.stack steps other is);
   }
 
   pub refused_went : (status : ℕ) → IsWithout text status → Filed (record { output = 0; steps = 0; status = status })
@@ -98,10 +89,10 @@ module _ (text : List ℕ) (short : length text ≤ most_bytes) (limits : Limits
       let answer = has.answers [] no_input limits.heap limits.stack steps in
       record {
         shown = answer.0;
-        is = filed answer.0 answer.1;
+        is = answer.1;
         output = sym (ap length answer.2);
         status = sym answer.3;
-        only = λ other is. let said = has.only [] no_input limits.heap limits.stack steps other (unfiled other is) in (ap length said.0, said.1);
+        only = λ other is. let said = has.only [] no_input limits.heap limits.stack steps other is in (ap length said.0, said.1);
       }
 
 -- and makes its steps
@@ -131,7 +122,7 @@ abbrev default_room : Limits
 default_room = record { heap = 16777216; stack = 1048576 }
 
 abbrev AsRun : List ℕ → Shown → Type 0
-AsRun text a = AnswersFile [] text no_input (Runs 16777216 1048576 100000000 false) a
+AsRun text a = AnswersText [] text no_input (Runs 16777216 1048576 100000000 false) a
 
 -- the summary of a run
 pub sums_up : (number : ℕ) (text : List ℕ) (ran : Ran) → text ≡ generated number → Went (AsRun text) ran → MakesOnly text default_room 100000000 ran.steps → SumsUp number (record { number = number; text = length text; output = ran.output; steps = ran.steps; status = ran.status })

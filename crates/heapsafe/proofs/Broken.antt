@@ -9,7 +9,8 @@ use Rattle.hs_base.specs.declared.ends.Leak.{Leak}
 use Rattle.hs_base.specs.declared.ends.Limits.{Limits}
 use Rattle.hs_base.specs.Object.{Object}
 use Rattle.hs_base.specs.Trace.{Event, In, Out, New, Gone, Enter, Leave, bytes_in, bytes_out}
-use Rattle.bad_free_report.specs.Report.{end_report}
+use Rattle.heapsafe.specs.Places.{told_leaks, told_report}
+use Rattle.c_pre.specs.declared.answer.Opened.{Opened}
 use Rattle.core_tree.specs.declared.program.Core.{Core}
 use Rattle.meaning_run.specs.Meant.{StopsAtIn, Stopped, MeanAnswers, MeanCounts}
 use Rattle.meaning_run.specs.Meant as meant_specs
@@ -19,25 +20,23 @@ use Rattle.flat_machine.specs.Running.{RunCounts}
 use Rattle.flat_codegen.specs.Running as run_specs
 use Rattle.heapsafe.specs.declared.program.Way.TheVariants.{Run, Mean}
 use Rattle.c_lexer.specs.declared.token.Token.{Token}
-use Rattle.c_lexer.specs.declared.token.LexError.{LexError}
-use Rattle.c_lexer.specs.declared.token.LexError.TheVariants as lex
-use Rattle.c_lexer.specs.Tokens.{HasTokens, IsRefused as Refused}
 use Rattle.c_parser.specs.Parses.{IsRefused}
 use Rattle.c_parser.specs.declared.error.ParseError.{ParseError}
 use Rattle.c_parser.specs.declared.error.ParseError.TheVariants as parse
 use Rattle.c_decls.specs.Refusals.{Checked, Meets}
 use Rattle.c_decls.specs.declared.refusal.TypeError.{TypeError}
 use Rattle.c_decls.specs.declared.refusal.TypeError.TheVariants as type
+use Rattle.c_pre.specs.Answering.{CountsFault, FailsBelow, Gives as Expects}
+use Rattle.c_pre.specs.Texts.{preprocessed}
+use Rattle.c_pre.specs.declared.answer.Pre.{Pre}
+use Rattle.c_pre.specs.declared.answer.PreError.{PreError}
+use Rattle.c_pre.specs.declared.answer.PreError.TheVariants as pre
 use Rattle.command_words.specs.Commands.{Command, Generated, OnFile, Task}
 use Rattle.heapsafe.specs.declared.program.Way.{Way}
-use Rattle.heapsafe.specs.declared.reading.ReadError.{ReadError}
-use Rattle.heapsafe.specs.declared.reading.ReadError.TheVariants.{Fault, TooLong, NoMemory}
-use Rattle.heapsafe.specs.Reading.{ReadCounts, Reads, most_bytes}
-use Rattle.heapsafe.specs.Answer.{AnswersFile, AnswersText, AnswersTokens, AnswersTypes}
-use Rattle.heapsafe.specs.Shown.{Shown, written, no_memory, output_fault, text_fault, text_too_long}
-use Rattle.heapsafe.specs.Leaks.{leak_lines}
+use Rattle.heapsafe.specs.Answer.{AnswersFile, AnswersRead, AnswersTokens, AnswersTypes}
+use Rattle.heapsafe.specs.Shown.{Shown, written, no_memory, output_fault, text_fault, untokened}
 use Rattle.heapsafe.specs.Program.{Done, Ended, Input, AnswersWay, AreTold, TellsNone, ended, meant, run_within, status_of, steady}
-use Rattle.heapsafe.specs.Saying.{Breaks, IsSaid, Says, SaysLeaks, SaysMore, TakesAll, TakesFront, unparsed, unread, unread_file, untokened, untyped}
+use Rattle.heapsafe.specs.Saying.{Breaks, IsSaid, Says, SaysLeaks, SaysMore, TakesAll, TakesFront, unparsed, unread_file, untyped}
 use Rattle.heapsafe.proofs.Ended.{IsNoExit, same_some, tells_none}
 
 -- all of some bytes are a front of them
@@ -90,39 +89,31 @@ pub said_either : (s a other : Shown) → a ≡ other → (s ≡ other) ⊎ (s �
 said_either s a other is either = ⊎_elim (λ h. inl (is ∙ sym h)) (λ h. inr h) either
 
 -- what was said where types were refused, where tokens have no tree, where a text has no tokens, and where it was not read
-pub untyped_line : (error : TypeError) (file text : List ℕ) (wanted : Checked Core) (input : Input) (way : Way) (a : Shown) → Meets {A = Core} (λ core. core) (Err error) wanted → AnswersTypes file text wanted input way a → (a ≡ untyped error file text) ⊎ (untyped error file text ≡ no_memory)
-untyped_line (type.Bad kind line) file text wanted input way a meets is =
-    inl (subst (λ (w : Checked Core). AnswersTypes file text w input way a) meets is)
-untyped_line type.NoMemory file text wanted input way a meets is = inr refl
+pub untyped_line : (error : TypeError) (file : List ℕ) (opened : List Opened) (wanted : Checked Core) (input : Input) (way : Way) (a : Shown) → Meets {A = Core} (λ core. core) (Err error) wanted → AnswersTypes file opened wanted input way a → (a ≡ untyped error opened) ⊎ (untyped error opened ≡ no_memory)
+untyped_line (type.Bad kind line) file opened wanted input way a meets is =
+    inl (subst (λ (w : Checked Core). AnswersTypes file opened w input way a) meets is)
+untyped_line type.NoMemory file opened wanted input way a meets is = inr refl
 
-pub unparsed_line : (error : ParseError) (file text : List ℕ) (tokens : List Token) (input : Input) (task : Task) (a : Shown) → IsRefused tokens error → AnswersTokens file text tokens input task a → (a ≡ unparsed error file text) ⊎ (unparsed error file text ≡ no_memory)
-unparsed_line (parse.Syntax line) file text tokens input task a wrong is = inl (is.refused line wrong)
-unparsed_line parse.NoMemory file text tokens input task a wrong is = inr refl
+pub unparsed_line : (error : ParseError) (file : List ℕ) (opened : List Opened) (tokens : List Token) (input : Input) (task : Task) (a : Shown) → IsRefused tokens error → AnswersTokens file opened tokens input task a → (a ≡ unparsed error opened) ⊎ (unparsed error opened ≡ no_memory)
+unparsed_line (parse.Syntax line) file opened tokens input task a wrong is = inl (is.refused line wrong)
+unparsed_line parse.NoMemory file opened tokens input task a wrong is = inr refl
 
--- a text that is not too long, as it was read
-pub text_of_file : (file told read : List ℕ) (input : Input) (task : Task) (a : Shown) → (read ≡ told) × (length told ≤ most_bytes) → AnswersFile file told input task a → AnswersText file read input task a
-text_of_file file told read input task a same is =
-    subst (λ (t : List ℕ). AnswersText file t input task a) (sym same.0)
-    (subst (λ b. MatchBool b (a ≡ text_too_long file) (AnswersText file told input task a)) (le-ltb most_bytes (length told) same.1) is)
+refused_said : (error : PreError) (file : List ℕ) (input : Input) (task : Task) (a : Shown) (t t' i p : ℕ) → t' ≡ t → a ≡ untokened error → IsSaid (unread_file (Some (OnFile file task)) t t') a i i p p (untokened error).err
+refused_said error file input task a t t' i p same is =
+    subst (λ b. IsSaid (cond b (Some file) None) a i i p p (untokened error).err) (sym (le-ltb t t' (omega (arith, same))))
+    (own_line (untokened error) a i i p p (inl is) refl refl)
 
-pub lexed_file : (file told read : List ℕ) (tokens : List Token) (input : Input) (task : Task) (a : Shown) → (read ≡ told) × (length told ≤ most_bytes) → HasTokens read tokens → AnswersFile file told input task a → AnswersTokens file read tokens input task a
-lexed_file file told read tokens input task a same has is =
-    (text_of_file file told read input task a same is).lexed tokens has
-
-pub untokened_line : (error : LexError) (file told read : List ℕ) (input : Input) (task : Task) (a : Shown) → (read ≡ told) × (length told ≤ most_bytes) → Refused read error → AnswersFile file told input task a → (a ≡ untokened error file read) ⊎ (untokened error file read ≡ no_memory)
-untokened_line (lex.Bad kind line) file told read input task a same bad is =
-    inl ((text_of_file file told read input task a same is).refused kind line bad)
-untokened_line lex.NoMemory file told read input task a same bad is = inr refl
-
--- a text that was not read
-pub unread_said : (error : ReadError) (file text : List ℕ) (input : Input) (task : Task) (a : Shown) (t t' i p : ℕ) → Reads text (Err error) → ReadCounts {T = List ℕ} t t' (Err error) → AnswersFile file text input task a → IsSaid (unread_file (Some (OnFile file task)) t t') a i i p p (unread error file).err
-unread_said Fault file text input task a t t' i p reads counts is =
-    subst (λ b. IsSaid (cond b (Some file) None) a i i p p (text_fault file).err) (sym (lt-ltb t t' (omega (arith, counts)))) refl
-unread_said TooLong file text input task a t t' i p reads counts is =
-    let own = subst (λ b. MatchBool b (a ≡ text_too_long file) (AnswersText file text input task a)) (lt-ltb most_bytes (length text) reads) is in
-    subst (λ b. IsSaid (cond b (Some file) None) a i i p p (text_too_long file).err) (sym (le-ltb t t' (omega (arith, counts))))
-    (own_line (text_too_long file) a i i p p (inl own) refl refl)
-unread_said NoMemory file text input task a t t' i p reads counts is =
+-- a file that has no tokens
+pub untokened_said : (error : PreError) (file : List ℕ) (told : List ℕ → List ℕ) (input : Input) (task : Task) (a : Shown) (t t' i p : ℕ) → Expects {S = Pre} (preprocessed told file 0) (Err error) → FailsBelow file error → CountsFault {T = Pre} t t' (Err error) → AnswersFile file told input task a → IsSaid (unread_file (Some (OnFile file task)) t t') a i i p p (untokened error).err
+untokened_said (pre.Fault name) file told input task a t t' i p gives below counts is =
+    subst (λ b. IsSaid (cond b (Some file) None) a i i p p (text_fault name).err) (sym (lt-ltb t t' (omega (arith, counts)))) (name, below, refl)
+untokened_said (pre.Bad kind at) file told input task a t t' i p gives below counts is =
+    refused_said (pre.Bad kind at) file input task a t t' i p counts (subst (λ r. AnswersRead file r input task a) gives is)
+untokened_said (pre.Lex kind at) file told input task a t t' i p gives below counts is =
+    refused_said (pre.Lex kind at) file input task a t t' i p counts (subst (λ r. AnswersRead file r input task a) gives is)
+untokened_said (pre.TooLong name) file told input task a t t' i p gives below counts is =
+    refused_said (pre.TooLong name) file input task a t t' i p counts (subst (λ r. AnswersRead file r input task a) gives is)
+untokened_said pre.NoMemory file told input task a t t' i p gives below counts is =
     subst (λ b. IsSaid (cond b (Some file) None) a i i p p no_memory.err) (sym (le-ltb t t' (omega (arith, counts))))
     (own_line no_memory a i i p p (inr refl) refl refl)
 
@@ -186,13 +177,13 @@ in_of_parts (Gone birth ∷ a) b = in_of_parts a b
 in_of_parts (Enter cost line ∷ a) b = in_of_parts a b
 in_of_parts (Leave ∷ a) b = in_of_parts a b
 
-module _ (file text : List ℕ) (core : Core) (left put : List ℕ) (left' out out' err err' : Option (List ℕ)) (i i' p p' f f' result : ℕ) (took : TakesAll out out' put) where
+module _ (file : List ℕ) (opened : List Opened) (core : Core) (left put : List ℕ) (left' out out' err err' : Option (List ℕ)) (i i' p p' f f' result : ℕ) (took : TakesAll out out' put) where
   -- the output took a front of these bytes
   took_front : (bytes whole more : List ℕ) → bytes ++ more ≡ whole → Some put ≡ Some bytes → TakesFront out out' whole
   took_front bytes whole more is written = λ t h. (bytes, more, is, took t h ∙ ap (λ (b : List ℕ). Some (t ++ b)) (same_some put bytes written))
 
   -- the events before some others were made
-  pub parted : (done : Done) (a : Shown) (before rest : List Event) (kept : List ℕ) (how : End) (leaks : List Leak) → done.events ≡ before ++ rest → a ≡ ended file text core done.events how leaks → left' ≡ Some kept → bytes_in before ++ kept ≡ left → Some put ≡ Some (bytes_out before) → (line : List ℕ) → IsSaid None a i i' p p' line → Fronts err err' f f' line → p' ≤ p + 1 → Breaks None a left left' out out' err err' i i' p p' f f'
+  pub parted : (done : Done) (a : Shown) (before rest : List Event) (kept : List ℕ) (how : End) (leaks : List Leak) → done.events ≡ before ++ rest → a ≡ ended file opened core done.events how leaks → left' ≡ Some kept → bytes_in before ++ kept ≡ left → Some put ≡ Some (bytes_out before) → (line : List ℕ) → IsSaid None a i i' p p' line → Fronts err err' f f' line → p' ≤ p + 1 → Breaks None a left left' out out' err err' i i' p p' f f'
   parted done a before rest kept how leaks split is is_left is_lost written line said front stops = record {
     lost = bytes_in before;
     kept = kept;
@@ -210,28 +201,28 @@ module _ (file text : List ℕ) (core : Core) (left put : List ℕ) (left' out o
 
   -- the report of an end
   abbrev Plain : End → Type 0
-  Plain x = Says err err' f f' (end_report core file text x) (status_of x) result
+  Plain x = Says err err' f f' (told_report core file opened x) (status_of x) result
 
-  plain_front : (x : End) → Plain x → Fronts err err' f f' (end_report core file text x)
-  plain_front x said = says_front err err' f f' (status_of x) result (end_report core file text x) said
+  plain_front : (x : End) → Plain x → Fronts err err' f f' (told_report core file opened x)
+  plain_front x said = says_front err err' f f' (status_of x) result (told_report core file opened x) said
 
   -- neither the input nor the output failed
   abbrev Steady : Type 0
   Steady = (i' ≡ i) × (p' ≡ p)
 
   -- the whole run was made, and its report was not said whole
-  whole : (done : Done) (a : Shown) (kept : List ℕ) (e : Ended file text core done a) → Steady → left' ≡ Some kept → bytes_in done.events ++ kept ≡ left → Some put ≡ Some (bytes_out done.events) → Fronts err err' f f' (end_report core file text e.how ++ leak_lines e.leaks) → Breaks None a left left' out out' err err' i i' p p' f f'
+  whole : (done : Done) (a : Shown) (kept : List ℕ) (e : Ended file opened core done a) → Steady → left' ≡ Some kept → bytes_in done.events ++ kept ≡ left → Some put ≡ Some (bytes_out done.events) → Fronts err err' f f' (told_report core file opened e.how ++ told_leaks opened e.leaks) → Breaks None a left left' out out' err err' i i' p p' f f'
   whole done a kept e steady is_left is_lost written front =
       parted done a done.events [] kept e.how e.leaks (sym (append-nil done.events)) e.is is_left is_lost written
-      (end_report core file text e.how ++ leak_lines e.leaks) (inr (inr (steady.0, steady.1, inl (sym (ap (λ (s : Shown). s.err) e.is))))) front (omega (arith, steady.1))
+      (told_report core file opened e.how ++ told_leaks opened e.leaks) (inr (inr (steady.0, steady.1, inl (sym (ap (λ (s : Shown). s.err) e.is))))) front (omega (arith, steady.1))
 
   -- the input failed, or the output did, or memory was wanted
-  starved : (done : Done) (a : Shown) (e : Ended file text core done a) → (i' ≡ i + 1) × (p' ≡ p) → StopsAtIn done.events left [] left' (Some put) → Plain end.InputFault → Breaks None a left left' out out' err err' i i' p p' f f'
+  starved : (done : Done) (a : Shown) (e : Ended file opened core done a) → (i' ≡ i + 1) × (p' ≡ p) → StopsAtIn done.events left [] left' (Some put) → Plain end.InputFault → Breaks None a left left' out out' err err' i i' p p' f f'
   starved done a e counts s said =
       parted done a s.before (In s.byte ∷ s.rest) s.left e.how e.leaks s.is e.is s.is_left s.is_read s.is_taken
-      (end_report core file text end.InputFault) (inl (omega (arith, counts.0), refl)) (plain_front end.InputFault said) (omega (arith, counts.1))
+      (told_report core file opened end.InputFault) (inl (omega (arith, counts.0), refl)) (plain_front end.InputFault said) (omega (arith, counts.1))
 
-  stopped : (done : Done) (a : Shown) (e : Ended file text core done a) (line : List ℕ) → Stopped done.events left [] left' (Some put) → IsSaid None a i i' p p' line → Fronts err err' f f' line → p' ≤ p + 1 → Breaks None a left left' out out' err err' i i' p p' f f'
+  stopped : (done : Done) (a : Shown) (e : Ended file opened core done a) (line : List ℕ) → Stopped done.events left [] left' (Some put) → IsSaid None a i i' p p' line → Fronts err err' f f' line → p' ≤ p + 1 → Breaks None a left left' out out' err err' i i' p p' f f'
   stopped done a e line s is front stops =
       parted done a s.before s.rest s.left e.how e.leaks s.is e.is s.is_left s.is_read s.is_taken line is front stops
 
@@ -251,18 +242,18 @@ module _ (file text : List ℕ) (core : Core) (left put : List ℕ) (left' out o
   told_none (Some objects) end.OutputFault leaks unlike told = told
 
   -- what was said is a front of the report of the same end, with no leaks
-  plain_told : (x how : End) (leaks : List Leak) → x ≡ how → leaks ≡ [] → Plain x → Fronts err err' f f' (end_report core file text how ++ leak_lines leaks)
+  plain_told : (x how : End) (leaks : List Leak) → x ≡ how → leaks ≡ [] → Plain x → Fronts err err' f f' (told_report core file opened how ++ told_leaks opened leaks)
   plain_told x how leaks same none said =
-      subst (λ (ls : List Leak). Fronts err err' f f' (end_report core file text how ++ leak_lines ls)) (sym none)
-      (subst (λ (bytes : List ℕ). Fronts err err' f f' bytes) (sym (append-nil (end_report core file text how)))
-      (subst (λ (y : End). Fronts err err' f f' (end_report core file text y)) same (plain_front x said)))
+      subst (λ (ls : List Leak). Fronts err err' f f' (told_report core file opened how ++ told_leaks opened ls)) (sym none)
+      (subst (λ (bytes : List ℕ). Fronts err err' f f' bytes) (sym (append-nil (told_report core file opened how)))
+      (subst (λ (y : End). Fronts err err' f f' (told_report core file opened y)) same (plain_front x said)))
 
   -- what is told of a run, whatever failed: nothing behind its report, or behind an exit its leaks
   pub record Tells (limits : Limits) (steps : ℕ) (leaks : Bool) (x : End) : Type 0 where
     pub none : TellsNone leaks x → Plain x
-    pub some : (code : ℕ) → IsTrue leaks → x ≡ end.Exit code → SaysLeaks (cut_run core left steps limits).state.objects err err' f f' code result
+    pub some : (code : ℕ) → IsTrue leaks → x ≡ end.Exit code → SaysLeaks opened (cut_run core left steps limits).state.objects err err' f f' code result
 
-  module _ (limits : Limits) (steps : ℕ) (leaks : Bool) (a : Shown) (e : Ended file text core (run_within limits core left steps leaks) a) where
+  module _ (limits : Limits) (steps : ℕ) (leaks : Bool) (a : Shown) (e : Ended file opened core (run_within limits core left steps leaks) a) where
     abbrev done : Done
     done = run_within limits core left steps leaks
 
@@ -278,7 +269,7 @@ module _ (file text : List ℕ) (core : Core) (left put : List ℕ) (left' out o
         let none = told_none done.left e.how e.leaks (subst IsNoExit same unlike) e.told in
         whole done a w.left e counts w.is_left w.is_read w.is_taken (plain_told x e.how e.leaks same none (t.none (tells_none leaks x unlike)))
 
-  exit : (limits : Limits) (steps : ℕ) (leaks : Bool) (a : Shown) (e : Ended file text core (run_within limits core left steps leaks) a) (code : ℕ) → Steady → run_specs.Whole core left steps limits [] (end.Exit code) left' (Some put) → Tells limits steps leaks (end.Exit code) → Breaks None a left left' out out' err err' i i' p p' f f'
+  exit : (limits : Limits) (steps : ℕ) (leaks : Bool) (a : Shown) (e : Ended file opened core (run_within limits core left steps leaks) a) (code : ℕ) → Steady → run_specs.Whole core left steps limits [] (end.Exit code) left' (Some put) → Tells limits steps leaks (end.Exit code) → Breaks None a left left' out out' err err' i i' p p' f f'
   exit limits steps false a e code counts w t =
       let same = same_how limits steps false a e (end.Exit code) w.end in
       whole (run_within limits core left steps false) a w.left e counts w.is_left w.is_read w.is_taken
@@ -288,10 +279,10 @@ module _ (file text : List ℕ) (core : Core) (left put : List ℕ) (left' out o
       let said = t.some code refl refl in
       let told = subst (λ (y : End). AreTold (run_within limits core left steps true).left y e.leaks) (sym same) e.told in
       whole (run_within limits core left steps true) a w.left e counts w.is_left w.is_read w.is_taken
-      (subst (λ (y : End). Fronts err err' f f' (end_report core file text y ++ leak_lines e.leaks)) same
-      (says_front err err' f f' code result (leak_lines e.leaks) (said.says e.leaks told)))
+      (subst (λ (y : End). Fronts err err' f f' (told_report core file opened y ++ told_leaks opened e.leaks)) same
+      (says_front err err' f f' code result (told_leaks opened e.leaks) (said.says e.leaks told)))
 
-  pub broken_run : (limits : Limits) (steps : ℕ) (leaks : Bool) (a : Shown) (x : End) → AnswersWay file text core (steady left) (Run limits steps leaks) a → RunCounts x i i' p p' → RunAnswers core left steps limits [] x left' (Some put) → Tells limits steps leaks x → Breaks None a left left' out out' err err' i i' p p' f f'
+  pub broken_run : (limits : Limits) (steps : ℕ) (leaks : Bool) (a : Shown) (x : End) → AnswersWay file opened core (steady left) (Run limits steps leaks) a → RunCounts x i i' p p' → RunAnswers core left steps limits [] x left' (Some put) → Tells limits steps leaks x → Breaks None a left left' out out' err err' i i' p p' f f'
   broken_run limits steps leaks a (end.Exit code) e counts w t = exit limits steps leaks a e code counts w t
   broken_run limits steps leaks a (end.Trap kind line) e counts w t = other limits steps leaks a e (end.Trap kind line) tt counts w t
   broken_run limits steps leaks a (end.BadFree why holder) e counts w t = other limits steps leaks a e (end.BadFree why holder) tt counts w t
@@ -301,19 +292,19 @@ module _ (file text : List ℕ) (core : Core) (left put : List ℕ) (left' out o
   broken_run limits steps leaks a end.InputFault e counts s t =
       starved (run_within limits core left steps leaks) a e counts s (t.none (tells_none leaks end.InputFault tt))
   broken_run limits steps leaks a end.OutputFault e counts s t =
-      stopped (run_within limits core left steps leaks) a e (end_report core file text end.OutputFault) s (inr (inl (omega (arith, counts.1), refl))) (plain_front end.OutputFault (t.none (tells_none leaks end.OutputFault tt))) (omega (arith, counts.1))
+      stopped (run_within limits core left steps leaks) a e (told_report core file opened end.OutputFault) s (inr (inl (omega (arith, counts.1), refl))) (plain_front end.OutputFault (t.none (tells_none leaks end.OutputFault tt))) (omega (arith, counts.1))
 
   -- an answer of `mean` that is more than the line of want of memory
-  meant_whole : (steps heap : ℕ) (a : Shown) → SaysMore a → AnswersWay file text core (steady left) (Mean heap steps) a → Ended file text core (meant core left steps heap) a
+  meant_whole : (steps heap : ℕ) (a : Shown) → SaysMore a → AnswersWay file opened core (steady left) (Mean heap steps) a → Ended file opened core (meant core left steps heap) a
   meant_whole steps heap a more is =
       ⊎_elim (λ h. h) (λ h. absurd (more (ap (λ (s : Shown). s.err) h.3))) is
 
-  whole_mean : (steps heap : ℕ) (a : Shown) (x : End) → Steady → Ended file text core (meant core left steps heap) a → meant_specs.Whole core left steps heap [] x left' (Some put) → Plain x → Breaks None a left left' out out' err err' i i' p p' f f'
+  whole_mean : (steps heap : ℕ) (a : Shown) (x : End) → Steady → Ended file opened core (meant core left steps heap) a → meant_specs.Whole core left steps heap [] x left' (Some put) → Plain x → Breaks None a left left' out out' err err' i i' p p' f f'
   whole_mean steps heap a x counts e w said =
       let same = same_end x e.how (sym w.end ∙ e.ends) in
       whole (meant core left steps heap) a w.left e counts w.is_left w.is_read w.is_taken (plain_told x e.how e.leaks same e.told said)
 
-  broken_meant : (steps heap : ℕ) (a : Shown) (x : End) → MeanCounts (Ok x) i i' p p' → Ended file text core (meant core left steps heap) a → MeanAnswers core left steps heap [] (Ok x) left' (Some put) → Plain x → Breaks None a left left' out out' err err' i i' p p' f f'
+  broken_meant : (steps heap : ℕ) (a : Shown) (x : End) → MeanCounts (Ok x) i i' p p' → Ended file opened core (meant core left steps heap) a → MeanAnswers core left steps heap [] (Ok x) left' (Some put) → Plain x → Breaks None a left left' out out' err err' i i' p p' f f'
   broken_meant steps heap a (end.Exit code) counts e w said = whole_mean steps heap a (end.Exit code) counts e w said
   broken_meant steps heap a (end.Trap kind line) counts e w said = whole_mean steps heap a (end.Trap kind line) counts e w said
   broken_meant steps heap a (end.BadFree why holder) counts e w said = whole_mean steps heap a (end.BadFree why holder) counts e w said
@@ -322,12 +313,12 @@ module _ (file text : List ℕ) (core : Core) (left put : List ℕ) (left' out o
   broken_meant steps heap a (end.OutOfStack line) counts e w said = whole_mean steps heap a (end.OutOfStack line) counts e w said
   broken_meant steps heap a end.InputFault counts e s said = starved (meant core left steps heap) a e counts s said
   broken_meant steps heap a end.OutputFault counts e s said =
-      stopped (meant core left steps heap) a e (end_report core file text end.OutputFault) s (inr (inl (omega (arith, counts.1), refl))) (plain_front end.OutputFault said) (omega (arith, counts.1))
+      stopped (meant core left steps heap) a e (told_report core file opened end.OutputFault) s (inr (inl (omega (arith, counts.1), refl))) (plain_front end.OutputFault said) (omega (arith, counts.1))
 
-  pub broken_mean : (steps heap : ℕ) (a : Shown) (x : End) → SaysMore a → AnswersWay file text core (steady left) (Mean heap steps) a → MeanCounts (Ok x) i i' p p' → MeanAnswers core left steps heap [] (Ok x) left' (Some put) → Plain x → Breaks None a left left' out out' err err' i i' p p' f f'
+  pub broken_mean : (steps heap : ℕ) (a : Shown) (x : End) → SaysMore a → AnswersWay file opened core (steady left) (Mean heap steps) a → MeanCounts (Ok x) i i' p p' → MeanAnswers core left steps heap [] (Ok x) left' (Some put) → Plain x → Breaks None a left left' out out' err err' i i' p p' f f'
   broken_mean steps heap a x more is counts w said = broken_meant steps heap a x counts (meant_whole steps heap a more is) w said
 
   -- memory was wanted
-  pub broken_unfinished : (steps heap : ℕ) (a : Shown) → SaysMore a → AnswersWay file text core (steady left) (Mean heap steps) a → Steady → Stopped (meant core left steps heap).events left [] left' (Some put) → Says err err' f f' no_memory.err 134 result → Breaks None a left left' out out' err err' i i' p p' f f'
+  pub broken_unfinished : (steps heap : ℕ) (a : Shown) → SaysMore a → AnswersWay file opened core (steady left) (Mean heap steps) a → Steady → Stopped (meant core left steps heap).events left [] left' (Some put) → Says err err' f f' no_memory.err 134 result → Breaks None a left left' out out' err err' i i' p p' f f'
   broken_unfinished steps heap a more is counts s said =
       stopped (meant core left steps heap) a (meant_whole steps heap a more is) no_memory.err s (inr (inr (counts.0, counts.1, inr refl))) (says_front err err' f f' 134 result no_memory.err said) (omega (arith, counts.1))

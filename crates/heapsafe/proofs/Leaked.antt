@@ -12,7 +12,11 @@ use Rattle.hs_base.specs.declared.outside.Failed.{Failed}
 use Rattle.hs_base.specs.declared.ends.Leak.{Leak}
 use Rattle.flat_objects.specs.Leaks.{leak_after, leak_of, lines_left, next_line}
 use Rattle.bad_free_report.specs.Report.{leak_text}
+use Rattle.c_pre.specs.declared.answer.Opened.{Opened}
 use Rattle.heapsafe.specs.Leaks.{AreLeaks, leak_lines}
+use Rattle.heapsafe.specs.Places.{told_leak, told_leaks}
+use Rattle.std.proofs.lemmas.List.{map-append}
+use Rattle.std.specs.Prelude.{map}
 
 -- The line of a leak is above the one behind which it was asked for
 
@@ -45,16 +49,24 @@ leak_is_above objects above leak is =
     (λ line found. reduce_above above (filter (nat_lt above) (lines_left objects)) line (filter_passes (nat_lt above) (lines_left objects)) found)
     is
 
+-- what is said of a leak
+abbrev told_text : List Opened → Leak → List ℕ
+told_text opened leak = leak_text (told_leak opened leak)
+
+told_append : (opened : List Opened) (some more : List Leak) → told_leaks opened (some ++ more) ≡ told_leaks opened some ++ told_leaks opened more
+told_append opened some more =
+    ap leak_lines (map-append (told_leak opened) some more) ∙ flat_map-append leak_text (map (told_leak opened) some) (map (told_leak opened) more)
+
 -- Some leaks are told of, and the others come behind a line
-pub record AreBegun (objects : List Object) (leaks : List Leak) (above : ℕ) (before after : Option (List ℕ)) : Type 0 where
+pub record AreBegun (opened : List Opened) (objects : List Object) (leaks : List Leak) (above : ℕ) (before after : Option (List ℕ)) : Type 0 where
   pub told : List Leak
   pub more : List Leak
   pub is : leaks ≡ told ++ more
   pub come : AreLeaks objects above more
-  pub taken : (bytes : List ℕ) → before ≡ Some bytes → after ≡ Some (bytes ++ leak_lines told)
+  pub taken : (bytes : List ℕ) → before ≡ Some bytes → after ≡ Some (bytes ++ told_leaks opened told)
 
-pub none_begun : (objects : List Object) (leaks : List Leak) (taken : Option (List ℕ)) → AreLeaks objects 0 leaks → AreBegun objects leaks 0 taken taken
-none_begun objects leaks taken are = record {
+pub none_begun : (opened : List Opened) (objects : List Object) (leaks : List Leak) (taken : Option (List ℕ)) → AreLeaks objects 0 leaks → AreBegun opened objects leaks 0 taken taken
+none_begun opened objects leaks taken are = record {
   told = [];
   more = leaks;
   is = refl;
@@ -62,13 +74,14 @@ none_begun objects leaks taken are = record {
   taken = λ bytes h. h ∙ ap Some (sym (append-nil bytes));
 }
 
-lines_more : (told : List Leak) (leak : Leak) → leak_lines (told ++ leak ∷ []) ≡ leak_lines told ++ leak_text leak
-lines_more told leak = flat_map-append leak_text told (leak ∷ []) ∙ ap (λ (b : List ℕ). leak_lines told ++ b) (append-nil (leak_text leak))
+lines_more : (opened : List Opened) (told : List Leak) (leak : Leak) → told_leaks opened (told ++ leak ∷ []) ≡ told_leaks opened told ++ told_text opened leak
+lines_more opened told leak =
+    told_append opened told (leak ∷ []) ∙ ap (λ (b : List ℕ). told_leaks opened told ++ b) (append-nil (told_text opened leak))
 
 -- one leak more was told of
-pub one_begun : (objects : List Object) (leaks : List Leak) (above : ℕ) (leak : Leak) (before between after : Option (List ℕ)) → leak_after above objects ≡ Some leak → ((bytes : List ℕ) → between ≡ Some bytes → after ≡ Some (bytes ++ leak_text leak)) → AreBegun objects leaks above before between → AreBegun objects leaks leak.line before after
-one_begun objects leaks above leak before between after found puts begun = next begun.more begun.come begun.is where
-  next : (more : List Leak) → AreLeaks objects above more → leaks ≡ begun.told ++ more → AreBegun objects leaks leak.line before after
+pub one_begun : (opened : List Opened) (objects : List Object) (leaks : List Leak) (above : ℕ) (leak : Leak) (before between after : Option (List ℕ)) → leak_after above objects ≡ Some leak → ((bytes : List ℕ) → between ≡ Some bytes → after ≡ Some (bytes ++ told_text opened leak)) → AreBegun opened objects leaks above before between → AreBegun opened objects leaks leak.line before after
+one_begun opened objects leaks above leak before between after found puts begun = next begun.more begun.come begun.is where
+  next : (more : List Leak) → AreLeaks objects above more → leaks ≡ begun.told ++ more → AreBegun opened objects leaks leak.line before after
   next [] none is = absurd cc
   next (first ∷ rest) come is =
       let same : first ≡ leak = cc in
@@ -77,39 +90,39 @@ one_begun objects leaks above leak before between after found puts begun = next 
         more = rest;
         is = is ∙ ap (λ (l : Leak). begun.told ++ l ∷ rest) same ∙ sym (append_assoc begun.told (leak ∷ []) rest);
         come = subst (λ (l : Leak). AreLeaks objects l.line rest) same come.1;
-        taken = λ bytes h. puts (bytes ++ leak_lines begun.told) (begun.taken bytes h) ∙ ap Some (append_assoc bytes (leak_lines begun.told) (leak_text leak) ∙ ap (λ (b : List ℕ). bytes ++ b) (sym (lines_more begun.told leak)));
+        taken = λ bytes h. puts (bytes ++ told_leaks opened begun.told) (begun.taken bytes h) ∙ ap Some (append_assoc bytes (told_leaks opened begun.told) (told_text opened leak) ∙ ap (λ (b : List ℕ). bytes ++ b) (sym (lines_more opened begun.told leak)));
       }
 
 -- all were told of
-pub all_begun : (objects : List Object) (leaks : List Leak) (above : ℕ) (before after : Option (List ℕ)) → leak_after above objects ≡ None → AreBegun objects leaks above before after → (bytes : List ℕ) → before ≡ Some bytes → after ≡ Some (bytes ++ leak_lines leaks)
-all_begun objects leaks above before after none begun bytes h = last begun.more begun.come begun.is where
-  last : (more : List Leak) → AreLeaks objects above more → leaks ≡ begun.told ++ more → after ≡ Some (bytes ++ leak_lines leaks)
+pub all_begun : (opened : List Opened) (objects : List Object) (leaks : List Leak) (above : ℕ) (before after : Option (List ℕ)) → leak_after above objects ≡ None → AreBegun opened objects leaks above before after → (bytes : List ℕ) → before ≡ Some bytes → after ≡ Some (bytes ++ told_leaks opened leaks)
+all_begun opened objects leaks above before after none begun bytes h = last begun.more begun.come begun.is where
+  last : (more : List Leak) → AreLeaks objects above more → leaks ≡ begun.told ++ more → after ≡ Some (bytes ++ told_leaks opened leaks)
   last [] come is =
-      begun.taken bytes h ∙ ap (λ (ls : List Leak). Some (bytes ++ leak_lines ls)) (sym (is ∙ append-nil begun.told))
+      begun.taken bytes h ∙ ap (λ (ls : List Leak). Some (bytes ++ told_leaks opened ls)) (sym (is ∙ append-nil begun.told))
   last (first ∷ rest) come is = absurd cc
 
 -- the last call failed: a prefix was taken
-prefix_begun : (objects : List Object) (leaks : List Leak) (above : ℕ) (leak : Leak) (before between after : Option (List ℕ)) → leak_after above objects ≡ Some leak → ((bytes : List ℕ) → between ≡ Some bytes → (put : List ℕ) × (rest : List ℕ) × (put ++ rest ≡ leak_text leak) × (after ≡ Some (bytes ++ put))) → AreBegun objects leaks above before between → (bytes : List ℕ) → before ≡ Some bytes → (put : List ℕ) × (rest : List ℕ) × (put ++ rest ≡ leak_lines leaks) × (after ≡ Some (bytes ++ put))
-prefix_begun objects leaks above leak before between after found puts begun bytes h = part begun.more begun.come begun.is where
-  p : (put : List ℕ) × (rest : List ℕ) × (put ++ rest ≡ leak_text leak) × (after ≡ Some ((bytes ++ leak_lines begun.told) ++ put))
-  p = puts (bytes ++ leak_lines begun.told) (begun.taken bytes h)
+prefix_begun : (opened : List Opened) (objects : List Object) (leaks : List Leak) (above : ℕ) (leak : Leak) (before between after : Option (List ℕ)) → leak_after above objects ≡ Some leak → ((bytes : List ℕ) → between ≡ Some bytes → (put : List ℕ) × (rest : List ℕ) × (put ++ rest ≡ told_text opened leak) × (after ≡ Some (bytes ++ put))) → AreBegun opened objects leaks above before between → (bytes : List ℕ) → before ≡ Some bytes → (put : List ℕ) × (rest : List ℕ) × (put ++ rest ≡ told_leaks opened leaks) × (after ≡ Some (bytes ++ put))
+prefix_begun opened objects leaks above leak before between after found puts begun bytes h = part begun.more begun.come begun.is where
+  p : (put : List ℕ) × (rest : List ℕ) × (put ++ rest ≡ told_text opened leak) × (after ≡ Some ((bytes ++ told_leaks opened begun.told) ++ put))
+  p = puts (bytes ++ told_leaks opened begun.told) (begun.taken bytes h)
 
-  part : (more : List Leak) → AreLeaks objects above more → leaks ≡ begun.told ++ more → (put : List ℕ) × (rest : List ℕ) × (put ++ rest ≡ leak_lines leaks) × (after ≡ Some (bytes ++ put))
+  part : (more : List Leak) → AreLeaks objects above more → leaks ≡ begun.told ++ more → (put : List ℕ) × (rest : List ℕ) × (put ++ rest ≡ told_leaks opened leaks) × (after ≡ Some (bytes ++ put))
   part [] come is = absurd cc
   part (first ∷ more) come is =
       let same : first ≡ leak = cc in
-      let told = leak_lines begun.told in
-      let all : leak_lines leaks ≡ told ++ (leak_text leak ++ leak_lines more) = ap leak_lines (is ∙ ap (λ (l : Leak). begun.told ++ l ∷ more) same) ∙ flat_map-append leak_text begun.told (leak ∷ more) in (
+      let told = told_leaks opened begun.told in
+      let all : told_leaks opened leaks ≡ told ++ (told_text opened leak ++ told_leaks opened more) = ap (told_leaks opened) (is ∙ ap (λ (l : Leak). begun.told ++ l ∷ more) same) ∙ told_append opened begun.told (leak ∷ more) in (
         told ++ p.0,
-        p.1 ++ leak_lines more,
-        append_assoc told p.0 (p.1 ++ leak_lines more)
-            ∙ ap (λ (b : List ℕ). told ++ b) (sym (append_assoc p.0 p.1 (leak_lines more)) ∙ ap (λ (b : List ℕ). b ++ leak_lines more) p.2)
+        p.1 ++ told_leaks opened more,
+        append_assoc told p.0 (p.1 ++ told_leaks opened more)
+            ∙ ap (λ (b : List ℕ). told ++ b) (sym (append_assoc p.0 p.1 (told_leaks opened more)) ∙ ap (λ (b : List ℕ). b ++ told_leaks opened more) p.2)
             ∙ sym all,
         p.3 ∙ ap Some (append_assoc bytes told p.0),
       )
 
-pub failed_begun : {T U : Type 0} (objects : List Object) (leaks : List Leak) (above : ℕ) (leak : Leak) (before between after : Option (List ℕ)) (told : Result T Failed) (answer : Result U Failed) → IsErr told → IsErr answer → leak_after above objects ≡ Some leak → PutsAll between after (leak_text leak) told → AreBegun objects leaks above before between → PutsAll before after (leak_lines leaks) answer
-failed_begun objects leaks above leak before between after (Err e) (Err e') is is' found puts begun =
-    prefix_begun objects leaks above leak before between after found puts begun
-failed_begun objects leaks above leak before between after (Ok v) answer is is' found puts begun = absurd cc
-failed_begun objects leaks above leak before between after (Err e) (Ok v) is is' found puts begun = absurd cc
+pub failed_begun : {T U : Type 0} (opened : List Opened) (objects : List Object) (leaks : List Leak) (above : ℕ) (leak : Leak) (before between after : Option (List ℕ)) (told : Result T Failed) (answer : Result U Failed) → IsErr told → IsErr answer → leak_after above objects ≡ Some leak → PutsAll between after (told_text opened leak) told → AreBegun opened objects leaks above before between → PutsAll before after (told_leaks opened leaks) answer
+failed_begun opened objects leaks above leak before between after (Err e) (Err e') is is' found puts begun =
+    prefix_begun opened objects leaks above leak before between after found puts begun
+failed_begun opened objects leaks above leak before between after (Ok v) answer is is' found puts begun = absurd cc
+failed_begun opened objects leaks above leak before between after (Err e) (Ok v) is is' found puts begun = absurd cc

@@ -16,7 +16,7 @@ use Rattle.heapsafe.specs.declared.generated.Prepared.TheVariants.{Core, Refused
 use Rattle.heapsafe.specs.declared.program.Way.TheVariants as way
 use Rattle.heapsafe.specs.Shown.{Shown, bad_place, bad_syntax, bad_type}
 use Rattle.heapsafe.specs.Program.{Input}
-use Rattle.heapsafe.specs.Answer.{AnswersText, AnswersTypes, HasCore}
+use Rattle.heapsafe.specs.Answer.{AnswersText, AnswersTypes, HasCore, alone}
 use Rattle.heapsafe.specs.Generated.{IsPrepared, IsPreparedTokens, IsPreparedUnit, IsWithout}
 use Rattle.heapsafe.proofs.Told.{bad_place_is, no_tokens, only_tokens, tokens_is}
 use Rattle.heapsafe.proofs.Trees.{never_both, tree_is, wrong_is}
@@ -55,17 +55,17 @@ module _ (text : List ℕ) (tokens : List Token) (lexed : HasTokens text tokens)
 
   -- the text answers what its checked core does
   typed_answers : (externals : Trees) → IsOnlyTree tokens externals → (wanted : Checked Program) → core_in externals ≡ wanted → (file : List ℕ) (input : Input) (heap stack steps : ℕ) (a : Shown) →
-      AnswersTypes file text wanted input (way.Run (record { heap = heap; stack = stack }) steps false) a → AnswersText file text input (Run heap stack steps false) a
+      AnswersTypes file (alone file text) wanted input (way.Run (record { heap = heap; stack = stack }) steps false) a → AnswersText file text input (Run heap stack steps false) a
   typed_answers externals is wanted e file input heap stack steps a h =
       tokens_is file text tokens input (Run heap stack steps false) a only
-      (tree_is file text tokens externals input (Run heap stack steps false) a is
-      (subst (λ (w : Checked Program). AnswersTypes file text w input (way.Run (record { heap = heap; stack = stack }) steps false) a) (sym e) h))
+      (tree_is file (alone file text) tokens externals input (Run heap stack steps false) a is
+      (subst (λ (w : Checked Program). AnswersTypes file (alone file text) w input (way.Run (record { heap = heap; stack = stack }) steps false) a) (sym e) h))
 
   -- and does what the text answers
   typed_answered : (externals : Trees) → HasTree tokens externals → (wanted : Checked Program) → core_in externals ≡ wanted → (file : List ℕ) (input : Input) (heap stack steps : ℕ) (a : Shown) →
-      AnswersText file text input (Run heap stack steps false) a → AnswersTypes file text wanted input (way.Run (record { heap = heap; stack = stack }) steps false) a
+      AnswersText file text input (Run heap stack steps false) a → AnswersTypes file (alone file text) wanted input (way.Run (record { heap = heap; stack = stack }) steps false) a
   typed_answered externals has wanted e file input heap stack steps a h =
-      subst (λ (w : Checked Program). AnswersTypes file text w input (way.Run (record { heap = heap; stack = stack }) steps false) a) e ((h.lexed tokens lexed).parsed externals has)
+      subst (λ (w : Checked Program). AnswersTypes file (alone file text) w input (way.Run (record { heap = heap; stack = stack }) steps false) a) e ((h.lexed tokens lexed).parsed externals has)
 
   pub tokens_prepared : (p : Prepared) → IsPreparedTokens tokens p → IsPrepared text p
   tokens_prepared (Core core) (externals, is, e, sound) = (
@@ -80,23 +80,23 @@ module _ (text : List ℕ) (tokens : List Token) (lexed : HasTokens text tokens)
   tokens_prepared (Refused status) (inl (line, wrong, is_status)) = record {
     none = λ core h. never_both tokens h.externals line (own_tree core h) wrong;
     answers = λ file input heap stack steps. (
-      bad_syntax file text line,
-      tokens_is file text tokens input (Run heap stack steps false) (bad_syntax file text line) only
-          (wrong_is line file text tokens input (Run heap stack steps false) wrong),
+      bad_syntax (alone file text) line,
+      tokens_is file text tokens input (Run heap stack steps false) (bad_syntax (alone file text) line) only
+          (wrong_is line file (alone file text) tokens input (Run heap stack steps false) wrong),
       refl,
       sym is_status,
     );
-    only = λ file input heap stack steps a h. said_is (bad_syntax file text line) a status ((h.lexed tokens lexed).refused line wrong) refl (sym is_status);
+    only = λ file input heap stack steps a h. said_is (bad_syntax (alone file text) line) a status ((h.lexed tokens lexed).refused line wrong) refl (sym is_status);
   }
   tokens_prepared (Refused status) (inr (externals, is, refusal, e, is_status)) = record {
     none = λ core h. never_typed core refusal (sym (one_typed externals is core h) ∙ e);
     answers = λ file input heap stack steps. (
-      bad_type file text refusal,
-      typed_answers externals is (Err refusal) e file input heap stack steps (bad_type file text refusal) refl,
+      bad_type (alone file text) refusal,
+      typed_answers externals is (Err refusal) e file input heap stack steps (bad_type (alone file text) refusal) refl,
       refl,
       sym is_status,
     );
-    only = λ file input heap stack steps a h. said_is (bad_type file text refusal) a status (typed_answered externals is.tree (Err refusal) e file input heap stack steps a h) refl (sym is_status);
+    only = λ file input heap stack steps a h. said_is (bad_type (alone file text) refusal) a status (typed_answered externals is.tree (Err refusal) e file input heap stack steps a h) refl (sym is_status);
   }
 
 -- a text with a bad place
@@ -104,10 +104,10 @@ pub bad_prepared : (text : List ℕ) (kind : LexKind) (line : ℕ) → HasBadPla
 bad_prepared text kind line bad only = record {
   none = λ core h. no_tokens text kind line h.tokens only h.lexed;
   answers = λ file input heap stack steps. (
-    bad_place file text kind line,
+    bad_place kind (record { name = file; line = line; text = text }),
     bad_place_is kind line file text input (Run heap stack steps false) only,
     refl,
     refl,
   );
-  only = λ file input heap stack steps a h. said_is (bad_place file text kind line) a 123 (h.refused kind line bad) refl refl;
+  only = λ file input heap stack steps a h. said_is (bad_place kind (record { name = file; line = line; text = text })) a 123 (h.refused kind line bad) refl refl;
 }

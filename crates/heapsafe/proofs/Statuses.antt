@@ -2,21 +2,21 @@
 use Rattle.std.proofs.Common.{◌≡◌, ◌⊎◌, ◌<◌, ◌≤◌, ◌∙◌, ℕ, List, [], Option, Err, inl, inr, refl, sym, subst, arith, ⊎_elim}
 use Rattle.hs_base.specs.declared.ends.End.{End}
 use Rattle.hs_base.specs.declared.ends.End.TheVariants as end
-use Rattle.bad_free_report.specs.Report.{end_report}
+use Rattle.heapsafe.specs.Places.{told_report}
 use Rattle.c_decls.specs.declared.refusal.TypeError.{TypeError}
 use Rattle.c_decls.specs.declared.refusal.TypeError.TheVariants as type
-use Rattle.c_lexer.specs.declared.token.LexError.{LexError}
-use Rattle.c_lexer.specs.declared.token.LexError.TheVariants as lex
 use Rattle.c_parser.specs.declared.error.ParseError.{ParseError}
 use Rattle.c_parser.specs.declared.error.ParseError.TheVariants as parse
+use Rattle.c_pre.specs.declared.answer.Opened.{Opened}
 use Rattle.core_tree.specs.declared.program.Core.{Core}
-use Rattle.heapsafe.specs.declared.reading.ReadError.{ReadError}
-use Rattle.heapsafe.specs.declared.reading.ReadError.TheVariants.{Fault, TooLong, NoMemory}
 use Rattle.flat_machine.specs.Running.{RunCounts}
 use Rattle.heapsafe.specs.Program.{status_of}
-use Rattle.heapsafe.specs.Reading.{ReadCounts}
-use Rattle.heapsafe.specs.Saying.{HasCause, IsFault, IsRefusal, Refuses, Says, SaysCounts, TakesAll, TakesLeaks, Wants, WriteFails, unparsed, unread, untokened, untyped}
-use Rattle.heapsafe.specs.Shown.{Shown, no_memory}
+use Rattle.heapsafe.specs.Saying.{HasCause, IsFault, IsRefusal, Refuses, Says, SaysCounts, SaysUnread, TakesAll, TakesLeaks, Wants, WriteFails, unparsed, untyped}
+use Rattle.c_pre.specs.Answering.{CountsFault, FailsBelow}
+use Rattle.c_pre.specs.declared.answer.Pre.{Pre}
+use Rattle.c_pre.specs.declared.answer.PreError.{PreError}
+use Rattle.c_pre.specs.declared.answer.PreError.TheVariants as pre
+use Rattle.heapsafe.specs.Shown.{Shown, no_memory, untokened}
 
 -- an answer was said that has that status for want of memory alone
 pub wanted : (Stays Own : Type 0) (s : Shown) (e e' : Option (List ℕ)) (f f' result : ℕ) → Stays → (s.status ≡ 134 → s ≡ no_memory) → Says e e' f f' s.err s.status result → Wants Stays Own e e' result
@@ -38,22 +38,20 @@ wants_more Stays Stays' Own Own' e e' result stays own wants = λ is.
 
 -- The refusals that have that status
 
-pub unread_wants : (error : ReadError) (file : List ℕ) → (unread error file).status ≡ 134 → unread error file ≡ no_memory
-unread_wants Fault file is = absurd (omega (arith, is))
-unread_wants TooLong file is = absurd (omega (arith, is))
-unread_wants NoMemory file is = refl
+pub untokened_wants : (error : PreError) → (untokened error).status ≡ 134 → untokened error ≡ no_memory
+untokened_wants (pre.Bad kind at) is = absurd (omega (arith, is))
+untokened_wants (pre.Lex kind at) is = absurd (omega (arith, is))
+untokened_wants (pre.Fault name) is = absurd (omega (arith, is))
+untokened_wants (pre.TooLong name) is = absurd (omega (arith, is))
+untokened_wants pre.NoMemory is = refl
 
-pub untokened_wants : (error : LexError) (file text : List ℕ) → (untokened error file text).status ≡ 134 → untokened error file text ≡ no_memory
-untokened_wants (lex.Bad kind line) file text is = absurd (omega (arith, is))
-untokened_wants lex.NoMemory file text is = refl
+pub unparsed_wants : (error : ParseError) (opened : List Opened) → (unparsed error opened).status ≡ 134 → unparsed error opened ≡ no_memory
+unparsed_wants (parse.Syntax line) opened is = absurd (omega (arith, is))
+unparsed_wants parse.NoMemory opened is = refl
 
-pub unparsed_wants : (error : ParseError) (file text : List ℕ) → (unparsed error file text).status ≡ 134 → unparsed error file text ≡ no_memory
-unparsed_wants (parse.Syntax line) file text is = absurd (omega (arith, is))
-unparsed_wants parse.NoMemory file text is = refl
-
-pub untyped_wants : (error : TypeError) (file text : List ℕ) → (untyped error file text).status ≡ 134 → untyped error file text ≡ no_memory
-untyped_wants (type.Bad kind line) file text is = absurd (omega (arith, is))
-untyped_wants type.NoMemory file text is = refl
+pub untyped_wants : (error : TypeError) (opened : List Opened) → (untyped error opened).status ≡ 134 → untyped error opened ≡ no_memory
+untyped_wants (type.Bad kind line) opened is = absurd (omega (arith, is))
+untyped_wants type.NoMemory opened is = refl
 
 -- The causes of the statuses of failures of the outside
 
@@ -80,34 +78,48 @@ pub cause_more : (Fails Fails' Own Own' : Type 0) (e e' : Option (List ℕ)) (re
 cause_more Fails Fails' Own Own' e e' result fails own has = λ is.
     ⊎_elim (λ h. inl (fails h)) (λ h. inr (own h.0, h.1)) (has is)
 
-pub unread_cause : (error : ReadError) (file : List ℕ) (before after : ℕ) → ReadCounts {T = List ℕ} before after (Err error) → IsFault (unread error file).status → before < after
-unread_cause Fault file before after counts is = omega (arith, counts)
-unread_cause TooLong file before after counts is =
+-- such a status of a file without tokens comes where a text failed
+pub untokened_cause : (error : PreError) (before after : ℕ) → CountsFault {T = Pre} before after (Err error) → IsFault (untokened error).status → before < after
+untokened_cause (pre.Bad kind at) before after counts is =
+    absurd (other 138 (λ h. omega (arith, h)) (λ h. omega (arith, h)) (λ h. omega (arith, h)) is)
+untokened_cause (pre.Lex kind at) before after counts is =
+    absurd (other 123 (λ h. omega (arith, h)) (λ h. omega (arith, h)) (λ h. omega (arith, h)) is)
+untokened_cause (pre.Fault name) before after counts is = omega (arith, counts)
+untokened_cause (pre.TooLong name) before after counts is =
     absurd (other 122 (λ h. omega (arith, h)) (λ h. omega (arith, h)) (λ h. omega (arith, h)) is)
-unread_cause NoMemory file before after counts is = absurd (no_fault_134 is)
+untokened_cause pre.NoMemory before after counts is = absurd (no_fault_134 is)
 
-pub untokened_no_fault : (error : LexError) (file text : List ℕ) → IsFault (untokened error file text).status → ⊥
-untokened_no_fault (lex.Bad kind line) file text is = other 123 (λ h. omega (arith, h)) (λ h. omega (arith, h)) (λ h. omega (arith, h)) is
-untokened_no_fault lex.NoMemory file text is = no_fault_134 is
+-- a text failed
+pub unread_says : (error : PreError) (file : List ℕ) (before after : ℕ) (e e' : Option (List ℕ)) (f f' result : ℕ) → CountsFault {T = Pre} before after (Err error) → before < after → FailsBelow file error → Says e e' f f' (untokened error).err (untokened error).status result → SaysUnread file e e' f f' result
+unread_says (pre.Fault name) file before after e e' f f' result counts more below said = record { name = name; is_text = below; says = said }
+unread_says (pre.Bad kind at) file before after e e' f f' result counts more below said = absurd (omega (arith, counts, more))
+unread_says (pre.Lex kind at) file before after e e' f f' result counts more below said = absurd (omega (arith, counts, more))
+unread_says (pre.TooLong name) file before after e e' f f' result counts more below said = absurd (omega (arith, counts, more))
+unread_says pre.NoMemory file before after e e' f f' result counts more below said = absurd (omega (arith, counts, more))
 
-pub unparsed_no_fault : (error : ParseError) (file text : List ℕ) → IsFault (unparsed error file text).status → ⊥
-unparsed_no_fault (parse.Syntax line) file text is = other 124 (λ h. omega (arith, h)) (λ h. omega (arith, h)) (λ h. omega (arith, h)) is
-unparsed_no_fault parse.NoMemory file text is = no_fault_134 is
+pub unparsed_no_fault : (error : ParseError) (opened : List Opened) → IsFault (unparsed error opened).status → ⊥
+unparsed_no_fault (parse.Syntax line) opened is = other 124 (λ h. omega (arith, h)) (λ h. omega (arith, h)) (λ h. omega (arith, h)) is
+unparsed_no_fault parse.NoMemory opened is = no_fault_134 is
 
-pub untyped_no_fault : (error : TypeError) (file text : List ℕ) → IsFault (untyped error file text).status → ⊥
-untyped_no_fault (type.Bad kind line) file text is = other 125 (λ h. omega (arith, h)) (λ h. omega (arith, h)) (λ h. omega (arith, h)) is
-untyped_no_fault type.NoMemory file text is = no_fault_134 is
+pub untyped_no_fault : (error : TypeError) (opened : List Opened) → IsFault (untyped error opened).status → ⊥
+untyped_no_fault (type.Bad kind line) opened is = other 125 (λ h. omega (arith, h)) (λ h. omega (arith, h)) (λ h. omega (arith, h)) is
+untyped_no_fault type.NoMemory opened is = no_fault_134 is
 
 -- The statuses of refusals
 
-pub refusal_within : (status : ℕ) → IsRefusal status → (120 ≤ status) × (status ≤ 125)
-refusal_within status is = ⊎_elim (λ h. (omega (arith, h), omega (arith, h))) (λ h. (omega (arith, h.0), h.1)) is
+pub refusal_low : (status : ℕ) → IsRefusal status → 120 ≤ status
+refusal_low status is =
+    ⊎_elim (λ h. omega (arith, h)) (λ h. ⊎_elim (λ k. omega (arith, k)) (λ k. omega (arith, k.0)) h) is
 
--- bytes were said with a greater status
-pub never_refused : (Stays Own : Type 0) (e e' : Option (List ℕ)) (f f' status result : ℕ) (bytes : List ℕ) → 126 ≤ status → Says e e' f f' bytes status result → Refuses Stays Own e e' result
-never_refused Stays Own e e' f f' status result bytes more said = λ is.
-    let low = refusal_within result is in
-    absurd (⊎_elim (λ h. omega (arith, h.1, more, low.1)) (λ h. omega (arith, h.1, low.1)) said)
+-- the statuses between are none
+refusal_apart : (status : ℕ) → 126 ≤ status → status ≤ 134 → IsRefusal status → ⊥
+refusal_apart status more less is =
+    ⊎_elim (λ h. omega (arith, h, more)) (λ h. ⊎_elim (λ k. omega (arith, k, less)) (λ k. omega (arith, k.1, more)) h) is
+
+-- bytes were said with one of those
+pub never_refused : (Stays Own : Type 0) (e e' : Option (List ℕ)) (f f' status result : ℕ) (bytes : List ℕ) → 126 ≤ status → status ≤ 134 → Says e e' f f' bytes status result → Refuses Stays Own e e' result
+never_refused Stays Own e e' f f' status result bytes more less said = λ is.
+    absurd (⊎_elim (λ h. refusal_apart result (omega (arith, h.1, more)) (omega (arith, h.1, less)) is) (λ h. refusal_apart result (omega (arith, h.1)) (omega (arith, h.1)) is) said)
 
 -- in other words
 pub refused_more : (Stays Stays' Own Own' : Type 0) (e e' : Option (List ℕ)) (result : ℕ) → (Stays → Stays') → (Own → Own') → Refuses Stays Own e e' result → Refuses Stays' Own' e e' result
@@ -127,9 +139,9 @@ module _ (e e' : Option (List ℕ)) (f f' result : ℕ) where
   SaysOwn x = (code : ℕ) → x ≡ end.Exit code → f' ≡ f → TakesLeaks e e'
 
   -- so it is where its report was said, which is empty
-  pub own_of : (file text : List ℕ) (core : Core) (x : End) → Says e e' f f' (end_report core file text x) (status_of x) result → SaysOwn x
-  own_of file text core x said = λ code exits same.
-      let plain = subst (λ (y : End). Says e e' f f' (end_report core file text y) (status_of y) result) exits said in
+  pub own_of : (file : List ℕ) (opened : List Opened) (core : Core) (x : End) → Says e e' f f' (told_report core file opened x) (status_of x) result → SaysOwn x
+  own_of file opened core x said = λ code exits same.
+      let plain = subst (λ (y : End). Says e e' f f' (told_report core file opened y) (status_of y) result) exits said in
       ⊎_elim (λ h. ([], h.2)) (λ h. absurd (omega (arith, h.0, same))) plain
 
   -- the status of want of memory is that of an exit
@@ -144,23 +156,21 @@ module _ (e e' : Option (List ℕ)) (f f' result : ℕ) where
   own_end end.OutputFault counts own is = absurd (⊎_elim (λ h. omega (arith, h.1, is)) (λ h. omega (arith, h.1, is)) counts)
 
   -- no refusal has a greater status
-  higher : (status : ℕ) → 126 ≤ status → SaysCounts f f' status result → IsRefusal result → TakesLeaks e e'
-  higher status more counts is =
-      let low = refusal_within result is in
-      absurd (⊎_elim (λ h. omega (arith, h.1, more, low.1)) (λ h. omega (arith, h.1, low.1)) counts)
+  higher : (status : ℕ) → 126 ≤ status → status ≤ 134 → SaysCounts f f' status result → IsRefusal result → TakesLeaks e e'
+  higher status more less counts is =
+      absurd (⊎_elim (λ h. refusal_apart result (omega (arith, h.1, more)) (omega (arith, h.1, less)) is) (λ h. refusal_apart result (omega (arith, h.1)) (omega (arith, h.1)) is) counts)
 
   -- and so are those of refusals
   pub end_refused : (x : End) → SaysCounts f f' (status_of x) result → SaysOwn x → IsRefusal result → TakesLeaks e e'
   end_refused (end.Exit code) counts own is =
-      let low = refusal_within result is in
-      ⊎_elim (λ h. own code refl h.0) (λ h. absurd (omega (arith, h.1, low.1))) counts
-  end_refused (end.Trap kind line) counts own is = higher (status_of (end.Trap kind line)) (omega arith) counts is
-  end_refused (end.BadFree why holder) counts own is = higher (status_of (end.BadFree why holder)) (omega arith) counts is
-  end_refused (end.Escape func local line) counts own is = higher (status_of (end.Escape func local line)) (omega arith) counts is
-  end_refused end.Spent counts own is = higher (status_of end.Spent) (omega arith) counts is
-  end_refused (end.OutOfStack line) counts own is = higher (status_of (end.OutOfStack line)) (omega arith) counts is
-  end_refused end.InputFault counts own is = higher (status_of end.InputFault) (omega arith) counts is
-  end_refused end.OutputFault counts own is = higher (status_of end.OutputFault) (omega arith) counts is
+      ⊎_elim (λ h. own code refl h.0) (λ h. absurd (refusal_apart result (omega (arith, h.1)) (omega (arith, h.1)) is)) counts
+  end_refused (end.Trap kind line) counts own is = higher (status_of (end.Trap kind line)) (omega arith) (omega arith) counts is
+  end_refused (end.BadFree why holder) counts own is = higher (status_of (end.BadFree why holder)) (omega arith) (omega arith) counts is
+  end_refused (end.Escape func local line) counts own is = higher (status_of (end.Escape func local line)) (omega arith) (omega arith) counts is
+  end_refused end.Spent counts own is = higher (status_of end.Spent) (omega arith) (omega arith) counts is
+  end_refused (end.OutOfStack line) counts own is = higher (status_of (end.OutOfStack line)) (omega arith) (omega arith) counts is
+  end_refused end.InputFault counts own is = higher (status_of end.InputFault) (omega arith) (omega arith) counts is
+  end_refused end.OutputFault counts own is = higher (status_of end.OutputFault) (omega arith) (omega arith) counts is
 
   module _ (i i' o o' : ℕ) where
     abbrev Caused : Type 0

@@ -1,16 +1,17 @@
 -- Answers, from what was said.
-use Rattle.std.proofs.Common.{◌≡◌, ◌⊎◌, ℕ, ◌<◌, ◌≤◌, List, [], ◌++◌, Option, Some, None, inl, inr, refl, sym, ap, ◌∙◌, subst, arith, ⊎_elim}
-use Rattle.std.specs.Prelude.{MatchBool, Result, Ok, Err, length}
-use Rattle.std.proofs.lemmas.Bool.{lt-ltb, le-ltb}
+use Rattle.std.proofs.Common.{◌≡◌, ◌⊎◌, ℕ, List, [], ◌++◌, Option, Some, None, inl, inr, refl, sym, ap, ◌∙◌, subst, arith, ⊎_elim}
+use Rattle.std.specs.Prelude.{Result, Ok, Err}
 use Rattle.std.proofs.lemmas.List.{append-nil}
-use Rattle.heapsafe.specs.declared.reading.ReadError.{ReadError}
-use Rattle.heapsafe.specs.declared.reading.ReadError.TheVariants.{Fault, TooLong, NoMemory}
+use Rattle.c_pre.specs.Answering.{CountsFault, Gives as Expects}
+use Rattle.c_pre.specs.Texts.{preprocessed}
+use Rattle.c_pre.specs.declared.answer.Pre.{Pre}
+use Rattle.c_pre.specs.declared.answer.PreError.{PreError}
+use Rattle.c_pre.specs.declared.answer.PreError.TheVariants as pre
 use Rattle.command_words.specs.Commands.{Command, OnFile, Task}
-use Rattle.heapsafe.specs.Reading.{Reads, ReadCounts, most_bytes}
-use Rattle.heapsafe.specs.Shown.{Shown, usage, no_memory, text_too_long, bad_place}
+use Rattle.heapsafe.specs.Shown.{Shown, usage, no_memory, bad_place, untokened}
 use Rattle.heapsafe.specs.Program.{Input}
-use Rattle.heapsafe.specs.Answer.{AnswersTokens, AnswersText, AnswersFile, AnswersCommand}
-use Rattle.heapsafe.specs.Saying.{Says, Gives, Faults, TakesAll, unread, untokened}
+use Rattle.heapsafe.specs.Answer.{AnswersTokens, AnswersText, AnswersRead, AnswersFile, AnswersCommand, alone}
+use Rattle.heapsafe.specs.Saying.{Says, Gives, Faults, TakesAll}
 use Rattle.c_lexer.specs.declared.token.Token.{Token}
 use Rattle.c_lexer.specs.declared.token.LexKind.{LexKind}
 use Rattle.c_lexer.specs.declared.token.LexError.{LexError}
@@ -63,28 +64,6 @@ pub gives_left : (Is : Shown → Type 0) (left : List ℕ) (left' o o' e e' : Op
 gives_left Is left left' o o' e e' result same g =
     subst (λ (l : Option (List ℕ)). Gives Is left l o o' e e' result) (sym same) g
 
--- a text that is too long
-too_long_is : (file text : List ℕ) (input : Input) (task : Task) (a : Shown) → most_bytes < length text → a ≡ text_too_long file → AnswersFile file text input task a
-too_long_is file text input task a long is =
-    subst (λ b. MatchBool b (a ≡ text_too_long file) (AnswersText file text input task a)) (sym (lt-ltb most_bytes (length text) long)) is
-
--- a text that was not read
-pub unread_is : (error : ReadError) (file text : List ℕ) (input : Input) (task : Task) (before after : ℕ) → Reads text (Err error) → ReadCounts {T = List ℕ} before after (Err error) → after ≡ before → AnswersFile file text input task (unread error file) ⊎ (unread error file ≡ no_memory)
-unread_is Fault file text input task before after reads counts same = absurd (omega (arith, counts, same))
-unread_is TooLong file text input task before after reads counts same =
-    inl (too_long_is file text input task (text_too_long file) reads refl)
-unread_is NoMemory file text input task before after reads counts same = inr refl
-
-pub unread_silent : (error : ReadError) (file : List ℕ) → IsSilent (unread error file)
-unread_silent Fault file = record { read = refl; out = refl }
-unread_silent TooLong file = record { read = refl; out = refl }
-unread_silent NoMemory file = record { read = refl; out = refl }
-
--- a text that is not too long
-pub short_is : (file text : List ℕ) (input : Input) (task : Task) (a : Shown) → length text ≤ most_bytes → AnswersText file text input task a → AnswersFile file text input task a
-short_is file text input task a short is =
-    subst (λ b. MatchBool b (a ≡ text_too_long file) (AnswersText file text input task a)) (sym (le-ltb most_bytes (length text) short)) is
-
 -- an answer of the lexer that is another
 abbrev given : List Token → Result (List Token) LexError
 given tokens = Ok tokens
@@ -99,10 +78,10 @@ bad_is : (kind kind' : LexKind) (line line' : ℕ) → refused (lex.Bad kind lin
 bad_is kind kind' line line' e = (cc, cc)
 
 -- a text that has these tokens
-pub tokens_is : (file text : List ℕ) (tokens : List Token) (input : Input) (task : Task) (a : Shown) → IsOnlyAnswer text (Ok tokens) → AnswersTokens file text tokens input task a → AnswersText file text input task a
+pub tokens_is : (file text : List ℕ) (tokens : List Token) (input : Input) (task : Task) (a : Shown) → IsOnlyAnswer text (Ok tokens) → AnswersTokens file (alone file text) tokens input task a → AnswersText file text input task a
 tokens_is file text tokens input task a only is = record {
   refused = λ kind line bad. ⊎_elim (λ (h : given tokens ≡ refused (lex.Bad kind line)). absurd cc) (λ (h : given tokens ≡ refused lex.NoMemory). absurd cc) (only (Err (lex.Bad kind line)) bad);
-  lexed = λ others has. ⊎_elim (λ h. subst (λ ts. AnswersTokens file text ts input task a) (sym (ok_is tokens others h)) is) (λ (h : given tokens ≡ refused lex.NoMemory). absurd cc) (only (Ok others) has);
+  lexed = λ others has. ⊎_elim (λ h. subst (λ ts. AnswersTokens file (alone file text) ts input task a) (sym (ok_is tokens others h)) is) (λ (h : given tokens ≡ refused lex.NoMemory). absurd cc) (only (Ok others) has);
 }
 
 -- a text that has these tokens alone
@@ -116,37 +95,41 @@ no_tokens text kind line tokens only has =
     ⊎_elim (λ (h : refused (lex.Bad kind line) ≡ given tokens). absurd cc) (λ (h : refused (lex.Bad kind line) ≡ refused lex.NoMemory). absurd cc) (only (Ok tokens) has)
 
 -- a text that has no tokens
-pub bad_place_is : (kind : LexKind) (line : ℕ) (file text : List ℕ) (input : Input) (task : Task) → IsOnlyAnswer text (Err (lex.Bad kind line)) → AnswersText file text input task (bad_place file text kind line)
+pub bad_place_is : (kind : LexKind) (line : ℕ) (file text : List ℕ) (input : Input) (task : Task) → IsOnlyAnswer text (Err (lex.Bad kind line)) → AnswersText file text input task (bad_place kind (record { name = file; line = line; text = text }))
 bad_place_is kind line file text input task only = record {
   refused = λ kind' line' bad. ⊎_elim
-      (λ h. let same = bad_is kind kind' line line' h in ap (λ (k : LexKind). bad_place file text k line) same.0 ∙ ap (λ l. bad_place file text kind' l) same.1)
+      (λ h. let same = bad_is kind kind' line line' h in ap (λ (k : LexKind). bad_place k (record { name = file; line = line; text = text })) same.0 ∙ ap (λ l. bad_place kind' (record { name = file; line = l; text = text })) same.1)
       (λ (h : refused (lex.Bad kind line) ≡ refused lex.NoMemory). absurd cc)
       (only (Err (lex.Bad kind' line')) bad);
   lexed = λ tokens has. absurd (no_tokens text kind line tokens only has);
 }
 
-pub untokened_is : (error : LexError) (file text : List ℕ) (input : Input) (task : Task) → IsOnlyAnswer text (Err error) → AnswersText file text input task (untokened error file text) ⊎ (untokened error file text ≡ no_memory)
-untokened_is (lex.Bad kind line) file text input task only = inl (bad_place_is kind line file text input task only)
-untokened_is lex.NoMemory file text input task only = inr refl
+-- a file without tokens, where no text failed
+pub untokened_is : (error : PreError) (file : List ℕ) (told : List ℕ → List ℕ) (input : Input) (task : Task) (before after : ℕ) → Expects {S = Pre} (preprocessed told file 0) (Err error) → CountsFault {T = Pre} before after (Err error) → after ≡ before → AnswersFile file told input task (untokened error) ⊎ (untokened error ≡ no_memory)
+untokened_is (pre.Bad kind at) file told input task before after gives counts same =
+    inl (subst (λ r. AnswersRead file r input task (untokened (pre.Bad kind at))) (sym gives) refl)
+untokened_is (pre.Lex kind at) file told input task before after gives counts same =
+    inl (subst (λ r. AnswersRead file r input task (untokened (pre.Lex kind at))) (sym gives) refl)
+untokened_is (pre.TooLong name) file told input task before after gives counts same =
+    inl (subst (λ r. AnswersRead file r input task (untokened (pre.TooLong name))) (sym gives) refl)
+untokened_is (pre.Fault name) file told input task before after gives counts same = absurd (omega (arith, counts, same))
+untokened_is pre.NoMemory file told input task before after gives counts same = inr refl
 
-pub untokened_silent : (error : LexError) (file text : List ℕ) → IsSilent (untokened error file text)
-untokened_silent (lex.Bad kind line) file text = record { read = refl; out = refl }
-untokened_silent lex.NoMemory file text = record { read = refl; out = refl }
+pub untokened_silent : (error : PreError) → IsSilent (untokened error)
+untokened_silent (pre.Bad kind at) = record { read = refl; out = refl }
+untokened_silent (pre.Lex kind at) = record { read = refl; out = refl }
+untokened_silent (pre.TooLong name) = record { read = refl; out = refl }
+untokened_silent (pre.Fault name) = record { read = refl; out = refl }
+untokened_silent pre.NoMemory = record { read = refl; out = refl }
 
--- a text that was read and is refused for its tokens
-pub untokened_file : (error : LexError) (file told read : List ℕ) (input : Input) (task : Task) → (read ≡ told) × (length told ≤ most_bytes) → IsOnlyAnswer read (Err error) → AnswersFile file told input task (untokened error file read) ⊎ (untokened error file read ≡ no_memory)
-untokened_file error file told read input task same only =
-    ⊎_elim
-    (λ h. inl (short_is file told input task (untokened error file read) same.1 (subst (λ t. AnswersText file t input task (untokened error file read)) same.0 h)))
-    (λ h. inr h)
-    (untokened_is error file read input task only)
+-- a file that has tokens
+pub file_is : (file : List ℕ) (told : List ℕ → List ℕ) (read : Pre) (input : Input) (task : Task) (a : Shown) → preprocessed told file 0 ≡ Ok read → AnswersFile file told input task a → AnswersTokens file read.texts read.tokens input task a
+file_is file told read input task a same is = subst (λ r. AnswersRead file r input task a) same is
 
--- a text that was read and has tokens
-pub gives_file : (file told read : List ℕ) (tokens : List Token) (input : Input) (task : Task) (left : List ℕ) (left' o o' e e' : Option (List ℕ)) (result : ℕ) → (read ≡ told) × (length told ≤ most_bytes) → IsOnlyAnswer read (Ok tokens) → Gives (AnswersTokens file read tokens input task) left left' o o' e e' result → Gives (AnswersFile file told input task) left left' o o' e e' result
-gives_file file told read tokens input task left left' o o' e e' result same only g =
-    gives_more (AnswersTokens file read tokens input task) (AnswersFile file told input task)
-    (λ s is. short_is file told input task s same.1 (subst (λ t. AnswersText file t input task s) same.0 (tokens_is file read tokens input task s only is)))
-    left left' o o' e e' result g
+pub gives_file : (file : List ℕ) (told : List ℕ → List ℕ) (read : Pre) (input : Input) (task : Task) (left : List ℕ) (left' o o' e e' : Option (List ℕ)) (result : ℕ) → preprocessed told file 0 ≡ Ok read → Gives (AnswersTokens file read.texts read.tokens input task) left left' o o' e e' result → Gives (AnswersFile file told input task) left left' o o' e e' result
+gives_file file told read input task left left' o o' e e' result same g =
+    gives_more (AnswersTokens file read.texts read.tokens input task) (AnswersFile file told input task)
+    (λ s is. subst (λ r. AnswersRead file r input task s) (sym same) is) left left' o o' e e' result g
 
 -- the count of the texts stayed
 pub faults_as : (t t' i i' o o' e e' result : ℕ) → t' ≡ t → Faults t t i i' o o' e e' result → Faults t t' i i' o o' e e' result

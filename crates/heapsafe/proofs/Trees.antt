@@ -9,6 +9,7 @@ use Rattle.c_parser.specs.Parses.{IsOnlyTree, IsRefused}
 use Rattle.c_parser.specs.declared.error.ParseError.{ParseError}
 use Rattle.c_parser.specs.declared.error.ParseError.TheVariants as parse
 use Rattle.command_words.specs.Commands.{Task}
+use Rattle.c_pre.specs.declared.answer.Opened.{Opened}
 use Rattle.heapsafe.specs.Shown.{Shown, bad_syntax, no_memory}
 use Rattle.heapsafe.specs.Program.{Input}
 use Rattle.heapsafe.specs.Answer.{AnswersTokens, Does}
@@ -39,28 +40,28 @@ one_line tokens line other a b =
     sym a.here ∙ ap (λ (t : Token). t.line) tokens_are ∙ b.here
 
 -- a text with this tree alone
-pub tree_is : (file text : List ℕ) (tokens : List Token) (externals : Trees) (input : Input) (task : Task) (a : Shown) → IsOnlyTree tokens externals → Does file text externals input task a → AnswersTokens file text tokens input task a
-tree_is file text tokens externals input task a is does = record {
+pub tree_is : (file : List ℕ) (opened : List Opened) (tokens : List Token) (externals : Trees) (input : Input) (task : Task) (a : Shown) → IsOnlyTree tokens externals → Does file opened externals input task a → AnswersTokens file opened tokens input task a
+tree_is file opened tokens externals input task a is does = record {
   refused = λ line wrong. absurd (never_both tokens externals line is.tree wrong);
-  parsed = λ other has. subst (λ (t : Trees). Does file text t input task a) (sym (is.only other has)) does;
+  parsed = λ other has. subst (λ (t : Trees). Does file opened t input task a) (sym (is.only other has)) does;
 }
 
-pub gives_tree : (file text : List ℕ) (tokens : List Token) (externals : Trees) (input : Input) (task : Task) (left : List ℕ) (left' o o' e e' : Option (List ℕ)) (result : ℕ) → IsOnlyTree tokens externals → Gives (Does file text externals input task) left left' o o' e e' result → Gives (AnswersTokens file text tokens input task) left left' o o' e e' result
-gives_tree file text tokens externals input task left left' o o' e e' result is g =
-    gives_more (Does file text externals input task) (AnswersTokens file text tokens input task)
-    (λ s does. tree_is file text tokens externals input task s is does) left left' o o' e e' result g
+pub gives_tree : (file : List ℕ) (opened : List Opened) (tokens : List Token) (externals : Trees) (input : Input) (task : Task) (left : List ℕ) (left' o o' e e' : Option (List ℕ)) (result : ℕ) → IsOnlyTree tokens externals → Gives (Does file opened externals input task) left left' o o' e e' result → Gives (AnswersTokens file opened tokens input task) left left' o o' e e' result
+gives_tree file opened tokens externals input task left left' o o' e e' result is g =
+    gives_more (Does file opened externals input task) (AnswersTokens file opened tokens input task)
+    (λ s does. tree_is file opened tokens externals input task s is does) left left' o o' e e' result g
 
 -- a text whose tokens are refused
-pub wrong_is : (line : ℕ) (file text : List ℕ) (tokens : List Token) (input : Input) (task : Task) → GoesWrong tokens line → AnswersTokens file text tokens input task (bad_syntax file text line)
-wrong_is line file text tokens input task wrong = record {
-  refused = λ other also. ap (λ l. bad_syntax file text l) (one_line tokens line other wrong also);
+pub wrong_is : (line : ℕ) (file : List ℕ) (opened : List Opened) (tokens : List Token) (input : Input) (task : Task) → GoesWrong tokens line → AnswersTokens file opened tokens input task (bad_syntax opened line)
+wrong_is line file opened tokens input task wrong = record {
+  refused = λ other also. ap (λ l. bad_syntax opened l) (one_line tokens line other wrong also);
   parsed = λ externals has. absurd (never_both tokens externals line has wrong);
 }
 
-pub unparsed_is : (error : ParseError) (file text : List ℕ) (tokens : List Token) (input : Input) (task : Task) → IsRefused tokens error → AnswersTokens file text tokens input task (unparsed error file text) ⊎ (unparsed error file text ≡ no_memory)
-unparsed_is (parse.Syntax line) file text tokens input task wrong = inl (wrong_is line file text tokens input task wrong)
-unparsed_is parse.NoMemory file text tokens input task wrong = inr refl
+pub unparsed_is : (error : ParseError) (file : List ℕ) (opened : List Opened) (tokens : List Token) (input : Input) (task : Task) → IsRefused tokens error → AnswersTokens file opened tokens input task (unparsed error opened) ⊎ (unparsed error opened ≡ no_memory)
+unparsed_is (parse.Syntax line) file opened tokens input task wrong = inl (wrong_is line file opened tokens input task wrong)
+unparsed_is parse.NoMemory file opened tokens input task wrong = inr refl
 
-pub unparsed_silent : (error : ParseError) (file text : List ℕ) → IsSilent (unparsed error file text)
-unparsed_silent (parse.Syntax line) file text = record { read = refl; out = refl }
-unparsed_silent parse.NoMemory file text = record { read = refl; out = refl }
+pub unparsed_silent : (error : ParseError) (opened : List Opened) → IsSilent (unparsed error opened)
+unparsed_silent (parse.Syntax line) opened = record { read = refl; out = refl }
+unparsed_silent parse.NoMemory opened = record { read = refl; out = refl }

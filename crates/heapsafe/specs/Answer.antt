@@ -1,9 +1,13 @@
 -- What the program reads, writes and answers for its words.
-use Rattle.std.specs.Prelude.{◌≡◌, ◌-◌, ⊤, ℕ, false, nat_lt, List, [], length, Option, Some, None, Ok, Err, MatchBool}
+use Rattle.std.specs.Prelude.{◌≡◌, ◌-◌, ⊤, ℕ, false, List, [], ◌∷◌, length, Option, Some, None, Result, Ok, Err}
 use Rattle.hs_base.specs.declared.ends.Limits.{Limits}
 use Rattle.c_lexer.specs.declared.token.Token.{Token}
 use Rattle.c_lexer.specs.declared.token.LexKind.{LexKind}
 use Rattle.c_lexer.specs.Tokens.{HasTokens, HasBadPlace}
+use Rattle.c_pre.specs.Texts.{preprocessed}
+use Rattle.c_pre.specs.declared.answer.Opened.{Opened}
+use Rattle.c_pre.specs.declared.answer.Pre.{Pre}
+use Rattle.c_pre.specs.declared.answer.PreError.{PreError}
 use Rattle.c_tree.specs.Tree.{Trees}
 use Rattle.c_tree.specs.HasTree.{HasTree, GoesWrong}
 use Rattle.c_decls.specs.Refusals.{Checked}
@@ -16,39 +20,46 @@ use Rattle.generated_text.specs.Text.{generated}
 use Rattle.command_words.specs.Commands.{Command, OnFile, Generated, Task, Run, Mean, Print, Layout, List as ListCore, Live, command_of}
 use Rattle.heapsafe.specs.declared.program.Way.{Way}
 use Rattle.heapsafe.specs.declared.program.Way.TheVariants as way
-use Rattle.heapsafe.specs.Reading.{most_bytes}
-use Rattle.heapsafe.specs.Shown.{Shown, usage, text_too_long, bad_place, bad_syntax, bad_type, written, printed, layouts_shown, core_shown, live_shown}
+use Rattle.heapsafe.specs.Shown.{Shown, usage, untokened, bad_place, bad_syntax, bad_type, written, printed, layouts_shown, core_shown, live_shown}
 use Rattle.heapsafe.specs.Program.{Input, AnswersWay}
 
 -- a text whose types are refused has no core
-abbrev pub AnswersTypes : List ℕ → List ℕ → Checked Core → Input → Way → Shown → Type 0
-AnswersTypes file text (Ok core) input way a = AnswersWay file text core input way a
-AnswersTypes file text (Err refusal) input way a = a ≡ bad_type file text refusal
+abbrev pub AnswersTypes : List ℕ → List Opened → Checked Core → Input → Way → Shown → Type 0
+AnswersTypes file opened (Ok core) input way a = AnswersWay file opened core input way a
+AnswersTypes file opened (Err refusal) input way a = a ≡ bad_type opened refusal
 
 -- what is answered for a text with this tree
-abbrev pub Does : List ℕ → List ℕ → Trees → Input → Task → Shown → Type 0
-Does file text externals input (Run heap stack steps leaks) a =
-    AnswersTypes file text (core_in externals) input (way.Run (record { heap = heap; stack = stack }) steps leaks) a
-Does file text externals input (Mean heap steps) a = AnswersTypes file text (core_in externals) input (way.Mean heap steps) a
-Does file text externals input Print a = a ≡ printed externals
-Does file text externals input Layout a = a ≡ layouts_shown file text (tags_of externals)
-Does file text externals input ListCore a = a ≡ core_shown file text (core_in externals)
-Does file text externals input Live a = a ≡ live_shown file text (core_in externals)
+abbrev pub Does : List ℕ → List Opened → Trees → Input → Task → Shown → Type 0
+Does file opened externals input (Run heap stack steps leaks) a =
+    AnswersTypes file opened (core_in externals) input (way.Run (record { heap = heap; stack = stack }) steps leaks) a
+Does file opened externals input (Mean heap steps) a = AnswersTypes file opened (core_in externals) input (way.Mean heap steps) a
+Does file opened externals input Print a = a ≡ printed externals
+Does file opened externals input Layout a = a ≡ layouts_shown opened (tags_of externals)
+Does file opened externals input ListCore a = a ≡ core_shown opened (core_in externals)
+Does file opened externals input Live a = a ≡ live_shown opened (core_in externals)
 
 -- a text without a tree is refused, by the line of the first external declaration that has none
-pub record AnswersTokens (file text : List ℕ) (tokens : List Token) (input : Input) (task : Task) (a : Shown) : Type 0 where
-  pub refused : (line : ℕ) → GoesWrong tokens line → a ≡ bad_syntax file text line
-  pub parsed : (externals : Trees) → HasTree tokens externals → Does file text externals input task a
+pub record AnswersTokens (file : List ℕ) (opened : List Opened) (tokens : List Token) (input : Input) (task : Task) (a : Shown) : Type 0 where
+  pub refused : (line : ℕ) → GoesWrong tokens line → a ≡ bad_syntax opened line
+  pub parsed : (externals : Trees) → HasTree tokens externals → Does file opened externals input task a
 
--- a text without tokens is refused, by its first bad place
+-- what is answered where a file was read: by its tokens, or by why it has none
+abbrev pub AnswersRead : List ℕ → Result Pre PreError → Input → Task → Shown → Type 0
+AnswersRead file (Ok read) input task a = AnswersTokens file read.texts read.tokens input task a
+AnswersRead file (Err error) input task a = a ≡ untokened error
+
+-- a file is preprocessed, where each name has this text
+abbrev pub AnswersFile : List ℕ → (List ℕ → List ℕ) → Input → Task → Shown → Type 0
+AnswersFile file texts input task a = AnswersRead file (preprocessed texts file 0) input task a
+
+-- a text that stands alone
+abbrev pub alone : List ℕ → List ℕ → List Opened
+alone file text = record { name = file; base = 0; text = text } ∷ []
+
+-- what is answered for a text that is not preprocessed; one without tokens is refused, by its first bad place
 pub record AnswersText (file text : List ℕ) (input : Input) (task : Task) (a : Shown) : Type 0 where
-  pub refused : (kind : LexKind) (line : ℕ) → HasBadPlace text kind line → a ≡ bad_place file text kind line
-  pub lexed : (tokens : List Token) → HasTokens text tokens → AnswersTokens file text tokens input task a
-
--- a text that is too long is refused as such
-abbrev pub AnswersFile : List ℕ → List ℕ → Input → Task → Shown → Type 0
-AnswersFile file text input task a =
-    MatchBool (nat_lt most_bytes (length text)) (a ≡ text_too_long file) (AnswersText file text input task a)
+  pub refused : (kind : LexKind) (line : ℕ) → HasBadPlace text kind line → a ≡ bad_place kind (record { name = file; line = line; text = text })
+  pub lexed : (tokens : List Token) → HasTokens text tokens → AnswersTokens file (alone file text) tokens input task a
 
 -- the text has this core
 pub record HasCore (text : List ℕ) (core : Core) : Type 0 where
@@ -67,10 +78,10 @@ pub record RunMakes (text : List ℕ) (room : Limits) (n made : ℕ) : Type 0 wh
 abbrev pub no_input : Input
 no_input = record { bytes = []; fails = false }
 
--- how the text with so many functions is run by `self`: what `run` answers for it without input, with the heap, the stack and
--- the steps that it has where no option is given, and how many steps it makes
+-- how the text with so many functions, which has no directive to obey, is run by `self`: what `run` answers for it without input,
+-- with the heap, the stack and the steps that it has where no option is given, and how many steps it makes
 pub record RunsGenerated (number : ℕ) (run : Shown) (made : ℕ) : Type 0 where
-  pub is_run : AnswersFile [] (generated number) no_input (Run 16777216 1048576 100000000 false) run
+  pub is_run : AnswersText [] (generated number) no_input (Run 16777216 1048576 100000000 false) run
   pub makes : RunMakes (generated number) (record { heap = 16777216; stack = 1048576 }) 100000000 made
 
 -- `self` writes the line of that run
@@ -82,7 +93,7 @@ pub record AnswersGenerated (number : ℕ) (a : Shown) : Type 0 where
 
 abbrev pub AnswersCommand : Option Command → (List ℕ → List ℕ) → Input → Shown → Type 0
 AnswersCommand None texts input a = a ≡ usage
-AnswersCommand (Some (OnFile file task)) texts input a = AnswersFile file (texts file) input task a
+AnswersCommand (Some (OnFile file task)) texts input a = AnswersFile file texts input task a
 AnswersCommand (Some (Generated number)) texts input a = AnswersGenerated number a
 
 -- the answer for these words, where each name has this text and the input is this one

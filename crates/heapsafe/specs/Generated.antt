@@ -20,7 +20,7 @@ use Rattle.heapsafe.specs.declared.generated.Ran.{Ran}
 use Rattle.heapsafe.specs.declared.program.Way.TheVariants as way
 use Rattle.heapsafe.specs.Shown.{Shown, written}
 use Rattle.heapsafe.specs.Program.{Input, AnswersWay}
-use Rattle.heapsafe.specs.Answer.{AnswersGenerated, AnswersText, HasCore, RunMakes, RunsGenerated}
+use Rattle.heapsafe.specs.Answer.{AnswersGenerated, AnswersText, HasCore, RunMakes, RunsGenerated, alone}
 
 -- a tree is prepared by its core, or refused for its types
 abbrev pub IsPreparedUnit : Checked Program → Prepared → Type 0
@@ -40,11 +40,11 @@ pub record HasOnly (text : List ℕ) (core : Program) : Type 0 where
   pub has : HasCore text core
   pub only : (other : Program) → HasCore text other → other ≡ core
   pub answers : (file : List ℕ) (input : Input) (heap stack steps : ℕ) (a : Shown) →
-      AnswersWay file text core input (way.Run (record { heap = heap; stack = stack }) steps false) a →
+      AnswersWay file (alone file text) core input (way.Run (record { heap = heap; stack = stack }) steps false) a →
       AnswersText file text input (Run heap stack steps false) a
   pub answered : (file : List ℕ) (input : Input) (heap stack steps : ℕ) (a : Shown) →
       AnswersText file text input (Run heap stack steps false) a →
-      AnswersWay file text core input (way.Run (record { heap = heap; stack = stack }) steps false) a
+      AnswersWay file (alone file text) core input (way.Run (record { heap = heap; stack = stack }) steps false) a
 
 -- a text has no core, and is refused with this status before it writes a byte
 pub record IsWithout (text : List ℕ) (status : ℕ) : Type 0 where

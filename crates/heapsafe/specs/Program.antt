@@ -7,14 +7,16 @@ use Rattle.hs_base.specs.declared.ends.End.TheVariants as end
 use Rattle.hs_base.specs.Object.{Object}
 use Rattle.hs_base.specs.Trace.{Event, In, bytes_in, bytes_out}
 use Rattle.hs_base.specs.Cut.{cut, ending_of}
-use Rattle.bad_free_report.specs.Report.{complaint, end_report}
+use Rattle.bad_free_report.specs.Report.{complaint}
 use Rattle.core_tree.specs.declared.program.Core.{Core}
 use Rattle.object_meaning.specs.Meaning.{meaning}
 use Rattle.meaning_run.specs.Meant.{end_in}
 use Rattle.flat_codegen.specs.Lasting.{cut_run}
 use Rattle.heapsafe.specs.declared.program.Way.{Way}
 use Rattle.heapsafe.specs.declared.program.Way.TheVariants.{Run, Mean}
-use Rattle.heapsafe.specs.Leaks.{AreLeaks, leak_lines}
+use Rattle.heapsafe.specs.Leaks.{AreLeaks}
+use Rattle.heapsafe.specs.Places.{told_leaks, told_report}
+use Rattle.c_pre.specs.declared.answer.Opened.{Opened}
 use Rattle.heapsafe.specs.Shown.{Shown}
 
 -- the bytes of input that are left, and whether the input fails
@@ -74,9 +76,9 @@ TellsNone true (end.Exit code) = ⊥
 TellsNone leaks e = Unit {0}
 
 -- the bytes that events read and write, with the report, the leaks and the status of an end
-abbrev pub ended : List ℕ → List ℕ → Core → List Event → End → List Leak → Shown
-ended file text core events e leaks =
-    record { read = bytes_in events; out = bytes_out events; err = end_report core file text e ++ leak_lines leaks; status = status_of e }
+abbrev pub ended : List ℕ → List Opened → Core → List Event → End → List Leak → Shown
+ended file opened core events e leaks =
+    record { read = bytes_in events; out = bytes_out events; err = told_report core file opened e ++ told_leaks opened leaks; status = status_of e }
 
 -- the same for want of memory
 abbrev pub unfinished : List Event → Shown
@@ -84,33 +86,33 @@ unfinished events =
     record { read = bytes_in events; out = bytes_out events; err = complaint (codes "heapsafe") (codes "no memory"); status = 134 }
 
 -- a program made all of its events and ended
-pub record Ended (file text : List ℕ) (core : Core) (done : Done) (a : Shown) : Type 0 where
+pub record Ended (file : List ℕ) (opened : List Opened) (core : Core) (done : Done) (a : Shown) : Type 0 where
   pub how : End
   pub leaks : List Leak
   pub ends : done.ends ≡ Some how
   pub told : AreTold done.left how leaks
-  pub is : a ≡ ended file text core done.events how leaks
+  pub is : a ≡ ended file opened core done.events how leaks
 
 -- a program made its events before one that reads, and stopped there since the input failed
-pub record Starved (file text : List ℕ) (core : Core) (done : Done) (a : Shown) : Type 0 where
+pub record Starved (file : List ℕ) (opened : List Opened) (core : Core) (done : Done) (a : Shown) : Type 0 where
   pub before : List Event
   pub byte : Option ℕ
   pub rest : List Event
   pub stops : done.events ≡ before ++ In byte ∷ rest
-  pub is : a ≡ ended file text core before end.InputFault []
+  pub is : a ≡ ended file opened core before end.InputFault []
 
 -- which of the two it is goes by whether the input fails
-abbrev pub AnswersProgram : List ℕ → List ℕ → Core → Bool → Done → Shown → Type 0
-AnswersProgram file text core fails done a =
-    MatchBool fails (Starved file text core done a) (Ended file text core done a)
+abbrev pub AnswersProgram : List ℕ → List Opened → Core → Bool → Done → Shown → Type 0
+AnswersProgram file opened core fails done a =
+    MatchBool fails (Starved file opened core done a) (Ended file opened core done a)
 
 -- `run` does what the meaning does while the stack has room; `mean` does all of it, or wants memory after a first part
-abbrev pub AnswersWay : List ℕ → List ℕ → Core → Input → Way → Shown → Type 0
-AnswersWay file text core input (Run limits steps leaks) a =
-    AnswersProgram file text core input.fails (run_within limits core input.bytes steps leaks) a
-AnswersWay file text core input (Mean heap steps) a =
+abbrev pub AnswersWay : List ℕ → List Opened → Core → Input → Way → Shown → Type 0
+AnswersWay file opened core input (Run limits steps leaks) a =
+    AnswersProgram file opened core input.fails (run_within limits core input.bytes steps leaks) a
+AnswersWay file opened core input (Mean heap steps) a =
     let done = meant core input.bytes steps heap in
-    AnswersProgram file text core input.fails done a ⊎ ((before : List Event) × (rest : List Event) × (done.events ≡ before ++ rest) × (a ≡ unfinished before))
+    AnswersProgram file opened core input.fails done a ⊎ ((before : List Event) × (rest : List Event) × (done.events ≡ before ++ rest) × (a ≡ unfinished before))
 
 -- a program is run on a machine
 abbrev pub OnMachine : Way → Type 0

@@ -1,21 +1,20 @@
 -- What is said of an answer, and what a fault of the outside leads to.
+use Rattle.std.specs.List.{list_all}
+use Rattle.c_pre.specs.Directives.{is_path_byte}
 use Rattle.std.specs.Prelude.{◌≡◌, ◌≢◌, ◌⊎◌, ◌<◌, ◌≤◌, ◌+◌, ℕ, nat_lt, cond, List, ◌++◌, Option, Some, None, codes}
 use Rattle.command_words.specs.Commands.{Command, OnFile}
 use Rattle.hs_base.specs.Object.{Object}
 use Rattle.hs_base.specs.declared.ends.Leak.{Leak}
+use Rattle.c_pre.specs.declared.answer.Opened.{Opened}
 use Rattle.heapsafe.specs.Leaks.{AreLeaks, leak_lines}
+use Rattle.heapsafe.specs.Places.{told_leaks}
 use Rattle.heapsafe.specs.declared.refusal.Refusal.{Refusal}
 use Rattle.heapsafe.specs.declared.refusal.Refusal.TheVariants.{Usage, TextFault, TextTooLong, NoMemory, OutputFault}
-use Rattle.heapsafe.specs.Shown.{Shown, refusal, input_fault, output_fault, text_fault, text_too_long, no_memory, bad_place, bad_syntax, bad_type}
+use Rattle.heapsafe.specs.Shown.{Shown, refusal, input_fault, output_fault, text_fault, no_memory, bad_syntax, bad_type}
 use Rattle.c_decls.specs.declared.refusal.TypeError.{TypeError}
 use Rattle.c_decls.specs.declared.refusal.TypeError.TheVariants as type
 use Rattle.c_parser.specs.declared.error.ParseError.{ParseError}
 use Rattle.c_parser.specs.declared.error.ParseError.TheVariants as parse
-use Rattle.c_lexer.specs.declared.token.LexError.{LexError}
-use Rattle.c_lexer.specs.declared.token.LexError.TheVariants as lex
-use Rattle.heapsafe.specs.declared.reading.ReadError.{ReadError}
-use Rattle.heapsafe.specs.declared.reading.ReadError.TheVariants.{Fault, TooLong}
-use Rattle.heapsafe.specs.declared.reading.ReadError.TheVariants as reading
 
 abbrev pub name_of : Refusal → List ℕ
 name_of Usage = codes "heapsafe"
@@ -41,26 +40,15 @@ status_in OutputFault = 133
 abbrev pub shown_of : Refusal → Shown
 shown_of r = refusal (name_of r) (words_of r) (status_in r)
 
--- what is said where a text was not read
-abbrev pub unread : ReadError → List ℕ → Shown
-unread Fault file = text_fault file
-unread TooLong file = text_too_long file
-unread reading.NoMemory file = no_memory
-
--- what is said where a text has no tokens
-abbrev pub untokened : LexError → List ℕ → List ℕ → Shown
-untokened (lex.Bad kind line) file text = bad_place file text kind line
-untokened lex.NoMemory file text = no_memory
-
 -- what is said where tokens have no tree
-abbrev pub unparsed : ParseError → List ℕ → List ℕ → Shown
-unparsed (parse.Syntax line) file text = bad_syntax file text line
-unparsed parse.NoMemory file text = no_memory
+abbrev pub unparsed : ParseError → List Opened → Shown
+unparsed (parse.Syntax line) opened = bad_syntax opened line
+unparsed parse.NoMemory opened = no_memory
 
 -- what is said where types are refused
-abbrev pub untyped : TypeError → List ℕ → List ℕ → Shown
-untyped (type.Bad kind line) file text = bad_type file text (record { kind = kind; line = line })
-untyped type.NoMemory file text = no_memory
+abbrev pub untyped : TypeError → List Opened → Shown
+untyped (type.Bad kind line) opened = bad_type opened (record { kind = kind; line = line })
+untyped type.NoMemory opened = no_memory
 
 -- these bytes were taken, where what was taken is told
 abbrev pub TakesAll : Option (List ℕ) → Option (List ℕ) → List ℕ → Type 0
@@ -103,7 +91,7 @@ HasCause Fails Own taken taken' result = IsFault result → Fails ⊎ (Own × Ta
 
 -- a status of words or of a text that are refused
 abbrev pub IsRefusal : ℕ → Type 0
-IsRefusal status = (status ≡ 120) ⊎ ((122 ≤ status) × (status ≤ 125))
+IsRefusal status = (status ≡ 120) ⊎ (status ≡ 138) ⊎ ((122 ≤ status) × (status ≤ 125))
 
 -- with such a status the first of these holds; or it is a program's own, the second holds, and the error stream took no line but
 -- those of leaks
@@ -116,8 +104,8 @@ SaysCounts faults faults' status result =
     ((faults' ≡ faults) × (result ≡ status)) ⊎ ((faults' ≡ faults + 1) × (result ≡ 133))
 
 -- it took the lines of the leaks of these objects, or a front of them
-pub record SaysLeaks (objects : List Object) (taken taken' : Option (List ℕ)) (faults faults' status result : ℕ) : Type 0 where
-  pub says : (leaks : List Leak) → AreLeaks objects 0 leaks → Says taken taken' faults faults' (leak_lines leaks) status result
+pub record SaysLeaks (opened : List Opened) (objects : List Object) (taken taken' : Option (List ℕ)) (faults faults' status result : ℕ) : Type 0 where
+  pub says : (leaks : List Leak) → AreLeaks objects 0 leaks → Says taken taken' faults faults' (told_leaks opened leaks) status result
   pub all : faults' ≡ faults → (leaks : List Leak) × AreLeaks objects 0 leaks
 
 -- the output took some bytes, of which this holds
@@ -146,15 +134,25 @@ Faults t t' i i' o o' e e' result =
     ⊎ ((t < t') × (i' ≡ i) × (o' ≡ o) × (e' ≡ e) × (result ≡ 121))
     ⊎ ((t' ≡ t) × (i < i') × (o' ≡ o) × (e' ≡ e) × (result ≡ 132))
 
--- the file of the words, where its text failed
+-- the file of the words, where a text failed
 abbrev pub unread_file : Option Command → ℕ → ℕ → Option (List ℕ)
 unread_file (Some (OnFile file task)) t t' = cond (nat_lt t t') (Some file) None
 unread_file asked t t' = None
 
--- the line that is said where a write failed: that of the file whose text failed; else that of the input or of the output,
+-- a text is this file, or one that an include can name
+abbrev pub IsTextOf : List ℕ → List ℕ → Type 0
+IsTextOf file name = (name ≡ file) ⊎ (list_all is_path_byte name ≡ true)
+
+-- it is said of a text that it could not be read: of this file, or of one that an include can name
+pub record SaysUnread (file : List ℕ) (taken taken' : Option (List ℕ)) (faults faults' result : ℕ) : Type 0 where
+  pub name : List ℕ
+  pub is_text : IsTextOf file name
+  pub says : Says taken taken' faults faults' (text_fault name).err 121 result
+
+-- the line that is said where a write failed: that of the text that failed; else that of the input or of the output,
 -- where it failed; or, where neither did, that of the answer or of want of memory
 abbrev pub IsSaid : Option (List ℕ) → Shown → ℕ → ℕ → ℕ → ℕ → List ℕ → Type 0
-IsSaid (Some file) a i i' o o' line = line ≡ (text_fault file).err
+IsSaid (Some file) a i i' o o' line = (name : List ℕ) × IsTextOf file name × (line ≡ (text_fault name).err)
 IsSaid None a i i' o o' line =
     ((i < i') × (line ≡ input_fault.err)) ⊎ ((o < o') × (line ≡ output_fault.err))
     ⊎ ((i' ≡ i) × (o' ≡ o) × ((line ≡ a.err) ⊎ (line ≡ no_memory.err)))

@@ -3,6 +3,12 @@ use Rattle.std.specs.Prelude.{◌++◌, ℕ, List, [], Ok, Err, codes}
 use Rattle.bad_free_report.specs.Report.{complaint, complaint_at}
 use Rattle.c_lexer.specs.declared.token.LexKind.{LexKind}
 use Rattle.c_lexer.specs.Words.{word_of}
+use Rattle.c_pre.specs.Words as lines
+use Rattle.c_pre.specs.declared.answer.Opened.{Opened}
+use Rattle.c_pre.specs.declared.answer.Place.{Place}
+use Rattle.c_pre.specs.declared.answer.PreError.{PreError}
+use Rattle.c_pre.specs.declared.answer.PreError.TheVariants as pre
+use Rattle.c_pre.specs.declared.answer.PreKind.{PreKind}
 use Rattle.c_tree.specs.Tree.{Trees}
 use Rattle.c_tree.specs.Canonical.{canonical}
 use Rattle.c_types.specs.TagTable.{TagTable}
@@ -12,6 +18,7 @@ use Rattle.core_tree.specs.declared.program.Core.{Core}
 use Rattle.core_tree.specs.Listing.{listing}
 use Rattle.layout_list.specs.Listing.{layout_listing}
 use Rattle.live_list.specs.Listing.{live_listing}
+use Rattle.heapsafe.specs.Places.{line_in}
 
 -- the bytes that are read from the input, those that are written to the two streams, and the status
 pub record Shown : Type 0 where
@@ -28,9 +35,9 @@ said lines status = record { read = []; out = []; err = lines; status = status }
 abbrev pub refusal : List ℕ → List ℕ → ℕ → Shown
 refusal name words status = said (complaint name words) status
 
--- one that names a line of the text, which is shown below it
-abbrev pub refusal_at : List ℕ → List ℕ → ℕ → List ℕ → ℕ → Shown
-refusal_at file text line words status = said (complaint_at file line words text) status
+-- one at a line of a text, which is shown below it
+abbrev pub refusal_at : Place → List ℕ → ℕ → Shown
+refusal_at at words status = said (complaint_at at.name at.line words at.text) status
 
 abbrev pub usage : Shown
 usage = refusal (codes "heapsafe") (codes "bad command line") 120
@@ -48,14 +55,17 @@ output_fault = refusal (codes "heapsafe") (codes "output fault") 133
 abbrev pub text_too_long : List ℕ → Shown
 text_too_long file = refusal file (codes "text too long") 122
 
-abbrev pub bad_place : List ℕ → List ℕ → LexKind → ℕ → Shown
-bad_place file text kind line = refusal_at file text line (codes "lex: " ++ word_of kind) 123
+abbrev pub bad_line : PreKind → Place → Shown
+bad_line kind at = refusal_at at (codes "preprocess: " ++ lines.word_of kind) 138
 
-abbrev pub bad_syntax : List ℕ → List ℕ → ℕ → Shown
-bad_syntax file text line = refusal_at file text line (codes "syntax") 124
+abbrev pub bad_place : LexKind → Place → Shown
+bad_place kind at = refusal_at at (codes "lex: " ++ word_of kind) 123
 
-abbrev pub bad_type : List ℕ → List ℕ → Refusal → Shown
-bad_type file text refusal = refusal_at file text refusal.line (codes "type: " ++ types.word_of refusal.kind) 125
+abbrev pub bad_syntax : List Opened → ℕ → Shown
+bad_syntax opened line = refusal_at (line_in opened line) (codes "syntax") 124
+
+abbrev pub bad_type : List Opened → Refusal → Shown
+bad_type opened refusal = refusal_at (line_in opened refusal.line) (codes "type: " ++ types.word_of refusal.kind) 125
 
 abbrev pub no_memory : Shown
 no_memory = refusal (codes "heapsafe") (codes "no memory") 134
@@ -69,14 +79,22 @@ written text = record { read = []; out = text; err = []; status = 0 }
 abbrev pub printed : Trees → Shown
 printed externals = written (canonical externals)
 
-abbrev pub layouts_shown : List ℕ → List ℕ → Checked TagTable → Shown
-layouts_shown file text (Ok tags) = written (layout_listing tags)
-layouts_shown file text (Err refusal) = bad_type file text refusal
+abbrev pub layouts_shown : List Opened → Checked TagTable → Shown
+layouts_shown opened (Ok tags) = written (layout_listing tags)
+layouts_shown opened (Err refusal) = bad_type opened refusal
 
-abbrev pub core_shown : List ℕ → List ℕ → Checked Core → Shown
-core_shown file text (Ok core) = written (listing core)
-core_shown file text (Err refusal) = bad_type file text refusal
+abbrev pub core_shown : List Opened → Checked Core → Shown
+core_shown opened (Ok core) = written (listing core)
+core_shown opened (Err refusal) = bad_type opened refusal
 
-abbrev pub live_shown : List ℕ → List ℕ → Checked Core → Shown
-live_shown file text (Ok core) = written (live_listing core)
-live_shown file text (Err refusal) = bad_type file text refusal
+abbrev pub live_shown : List Opened → Checked Core → Shown
+live_shown opened (Ok core) = written (live_listing core)
+live_shown opened (Err refusal) = bad_type opened refusal
+
+-- what is said where a file has no tokens
+abbrev pub untokened : PreError → Shown
+untokened (pre.Bad kind at) = bad_line kind at
+untokened (pre.Lex kind at) = bad_place kind at
+untokened (pre.Fault name) = text_fault name
+untokened (pre.TooLong name) = text_too_long name
+untokened pre.NoMemory = no_memory

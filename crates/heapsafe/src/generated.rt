@@ -8,10 +8,11 @@ ghost use Rattle.core_soundness.specs.Laws.{AreWithin};
 ghost use Rattle.core_tree.specs.Sound.{IsSound};
 ghost use Rattle.command_words.specs.Commands.{Run};
 ghost use Rattle.generated_text.specs.Summary.{summary_line};
-ghost use Rattle.heapsafe.specs.Answer.{AnswersFile, AnswersGenerated, no_input};
+ghost use Rattle.heapsafe.specs.Answer.{AnswersGenerated, AnswersText, alone, no_input};
 ghost use Rattle.heapsafe.specs.Generated.{IsPrepared, IsPreparedTokens, IsPreparedUnit, MakesOnly, SumsUp, Went, steps_of};
 ghost use Rattle.heapsafe.specs.Program.{AnswersWay};
-ghost use Rattle.heapsafe.specs.Reading.{most_bytes};
+ghost use Rattle.c_pre.specs.Bounds.{most_tokens};
+ghost use Rattle.c_pre.specs.Texts.{most_bytes};
 ghost use Rattle.heapsafe.specs.Saying.{Breaks, Faults, Gives, HasCause, Refuses, Says, Wants, WriteFails};
 ghost use Rattle.heapsafe.specs.Shown.{Shown, output_fault, written};
 ghost use Rattle.heapsafe.specs.declared.program.Way.TheVariants as way;
@@ -73,7 +74,7 @@ fn prepare_unit(alloc: Global, unit: &Unit) -> Result<Prepared, NoMemory>
 /// The core of tokens.
 fn prepare_tokens(alloc: Global, tokens: &[Token]) -> Result<Prepared, NoMemory>
     requires lexed { All IsLexed tokens.now }
-    requires short { AreWithin most_bytes tokens.now }
+    requires short { AreWithin most_tokens tokens.now }
     ensures { IfOk result (IsPreparedTokens tokens.now) }
 {
     match parse(alloc, tokens) {
@@ -103,7 +104,7 @@ fn run_core(alloc: Global, core: &Core, limits: Limits, steps: u64) -> Result<Ra
     requires heap { limits.heap ≤ 268435456 }
     requires stack { limits.stack ≤ 67108864 }
     requires steps { steps ≤ 1000000000 }
-    ensures answers { IfOk result (λ ran. (text : List ℕ) → Went (AnswersWay [] text core.now no_input (way.Run limits steps false)) ran) }
+    ensures answers { IfOk result (λ ran. (text : List ℕ) → Went (AnswersWay [] (alone [] text) core.now no_input (way.Run limits steps false)) ran) }
     ensures made { IfOk result (λ ran. ran.steps ≡ steps_of core.now limits steps) }
 {
     let mut input = SureSource::new(Items::new(alloc));
@@ -127,7 +128,7 @@ fn run_text(alloc: Global, text: &[u8], limits: Limits, steps: u64) -> Result<Ra
     requires heap { limits.heap ≤ 268435456 }
     requires stack { limits.stack ≤ 67108864 }
     requires steps { steps ≤ 1000000000 }
-    ensures answers { IfOk result (Went (AnswersFile [] text.now no_input (Run limits.heap limits.stack steps false))) }
+    ensures answers { IfOk result (Went (AnswersText [] text.now no_input (Run limits.heap limits.stack steps false))) }
     ensures makes { IfOk result (λ ran. MakesOnly text.now limits steps ran.steps) }
 {
     match prepare(alloc, text)? {

@@ -13,51 +13,40 @@ ghost use Rattle.core_soundness.specs.Laws.{AreWithin};
 ghost use Rattle.command_words.specs.Commands.{OnFile, Task as AskedTask, command_of, task_shown, IsLimited};
 ghost use Rattle.c_tree.specs.StatementView.{unit_view};
 ghost use Rattle.heapsafe.specs.Answer.{Answers, AnswersTokens, AnswersFile, AsksNoFile, AsksNoMeaning, AsksNone, Does, MeansNone, RunsNone};
-ghost use Rattle.heapsafe.specs.Reading.{most_bytes};
-ghost use Rattle.heapsafe.specs.Shown.{Shown, input_fault, output_fault, text_fault};
+ghost use Rattle.c_pre.specs.Bounds.{most_tokens};
+ghost use Rattle.c_pre.specs.Texts.{preprocessed};
+ghost use Rattle.heapsafe.specs.Shown.{Shown, input_fault, output_fault};
 ghost use Rattle.heapsafe.specs.Program.{input_of, steady};
-ghost use Rattle.heapsafe.specs.Saying.{Breaks, Faults, Gives, HasCause, Refuses, Says, SaysMore, Wants, WriteFails, shown_of, unread, unread_file};
+ghost use Rattle.heapsafe.specs.Saying.{Breaks, Faults, Gives, HasCause, Refuses, Says, SaysMore, SaysUnread, Wants, WriteFails, unread_file};
 
 mod generated;
 mod leaks;
 mod lent;
 mod log;
+mod places;
 mod program;
-mod reading;
 mod refusal;
 mod running;
 mod written;
 
-use c_lexer::{Token, lex};
+use c_lexer::Token;
 use c_parser::parse;
+use c_pre::{Opened, pre};
 use c_tree::Unit;
 use command_words::{Command, Task, WordsError};
-use core_soundness::tokens_are_within;
 use generated::run_generated;
 use hs_base::{Limits, Sink, Source, Texts};
 use program::{Way, run_program};
-use reading::{ReadError, read_text};
 use refusal::{Refusal, refuse, refuse_text, refuse_tokens};
 use std::alloc::Global;
 use written::{core_list, core_live, layouts, print};
-
-/// The refusal for a text that was not read.
-fn reading_refusal(error: ReadError, file: &str) -> Refusal<'_>
-    ensures { shown_of result ≡ unread error file.now }
-{
-    match error {
-        ReadError::Fault => Refusal::TextFault(file),
-        ReadError::TooLong => Refusal::TextTooLong(file),
-        ReadError::NoMemory => Refusal::NoMemory,
-    }
-}
 
 /// Does what is asked with a text that has this tree.
 fn with_tree<I: Source, O: Sink, E: Sink>(
     alloc: Global,
     file: &str,
     task: Task,
-    text: &[u8],
+    opened: &[Opened],
     unit: &Unit,
     input: &mut I,
     out: &mut O,
@@ -68,12 +57,12 @@ fn with_tree<I: Source, O: Sink, E: Sink>(
     requires input { I.faults input.old + 1 < 2 ^ 64 }
     requires out { O.faults out.old + 1 < 2 ^ 64 }
     requires err { E.faults err.old + 1 < 2 ^ 64 }
-    ensures exact { (left : List ℕ) → I.left input.old ≡ Some left → O.faults out.new ≡ O.faults out.old → E.faults err.new ≡ E.faults err.old → Gives (Does file.now text.now (unit_view unit.now) (input_of left (I.faults input.old) (I.faults input.new)) (task_shown task)) left (I.left input.new) (O.taken out.old) (O.taken out.new) (E.taken err.old) (E.taken err.new) result }
+    ensures exact { (left : List ℕ) → I.left input.old ≡ Some left → O.faults out.new ≡ O.faults out.old → E.faults err.new ≡ E.faults err.old → Gives (Does file.now opened.now (unit_view unit.now) (input_of left (I.faults input.old) (I.faults input.new)) (task_shown task)) left (I.left input.new) (O.taken out.old) (O.taken out.new) (E.taken err.old) (E.taken err.new) result }
     ensures faults { (t : ℕ) → Faults t t (I.faults input.old) (I.faults input.new) (O.faults out.old) (O.faults out.new) (E.faults err.old) (E.faults err.new) result }
     ensures input_fault { I.faults input.old < I.faults input.new → Says (E.taken err.old) (E.taken err.new) (E.faults err.old) (E.faults err.new) input_fault.err 132 result }
     ensures output_fault { O.faults out.old < O.faults out.new → Says (E.taken err.old) (E.taken err.new) (E.faults err.old) (E.faults err.new) output_fault.err 133 result }
     ensures stays { RunsNone (task_shown task) → input.new ≡ input.old }
-    ensures broken { (left : List ℕ) → I.left input.old ≡ Some left → WriteFails (O.faults out.old) (O.faults out.new) (E.faults err.old) (E.faults err.new) → (a : Shown) → Does file.now text.now (unit_view unit.now) (steady left) (task_shown task) a → SaysMore a → Breaks None a left (I.left input.new) (O.taken out.old) (O.taken out.new) (E.taken err.old) (E.taken err.new) (I.faults input.old) (I.faults input.new) (O.faults out.old) (O.faults out.new) (E.faults err.old) (E.faults err.new) }
+    ensures broken { (left : List ℕ) → I.left input.old ≡ Some left → WriteFails (O.faults out.old) (O.faults out.new) (E.faults err.old) (E.faults err.new) → (a : Shown) → Does file.now opened.now (unit_view unit.now) (steady left) (task_shown task) a → SaysMore a → Breaks None a left (I.left input.new) (O.taken out.old) (O.taken out.new) (E.taken err.old) (E.taken err.new) (I.faults input.old) (I.faults input.new) (O.faults out.old) (O.faults out.new) (E.faults err.old) (E.faults err.new) }
     ensures memory { Wants (MeansNone (task_shown task) → (input.new ≡ input.old) × (out.new ≡ out.old)) (RunsNone (task_shown task) → ⊥) (E.taken err.old) (E.taken err.new) result }
     ensures cause { HasCause ((I.faults input.old < I.faults input.new) ⊎ WriteFails (O.faults out.old) (O.faults out.new) (E.faults err.old) (E.faults err.new)) (RunsNone (task_shown task) → ⊥) (E.taken err.old) (E.taken err.new) result }
     ensures refused { Refuses ((input.new ≡ input.old) × (out.new ≡ out.old)) (RunsNone (task_shown task) → ⊥) (E.taken err.old) (E.taken err.new) result }
@@ -91,16 +80,16 @@ fn with_tree<I: Source, O: Sink, E: Sink>(
                 steps,
                 leaks,
             };
-            run_program(alloc, file, text, unit, way, input, out, err)
+            run_program(alloc, file, opened, unit, way, input, out, err)
         }
         Task::Mean { heap, steps } => {
             let way = Way::Mean { heap, steps };
-            run_program(alloc, file, text, unit, way, input, out, err)
+            run_program(alloc, file, opened, unit, way, input, out, err)
         }
         Task::Print => print(alloc, unit, out, err),
-        Task::Layout => layouts(alloc, file, text, unit, out, err),
-        Task::List => core_list(alloc, file, text, unit, out, err),
-        Task::Live => core_live(alloc, file, text, unit, out, err),
+        Task::Layout => layouts(alloc, opened, unit, out, err),
+        Task::List => core_list(alloc, opened, unit, out, err),
+        Task::Live => core_live(alloc, opened, unit, out, err),
     }
 }
 
@@ -109,35 +98,35 @@ fn with_tokens<I: Source, O: Sink, E: Sink>(
     alloc: Global,
     file: &str,
     task: Task,
-    text: &[u8],
+    opened: &[Opened],
     tokens: &[Token],
     input: &mut I,
     out: &mut O,
     err: &mut E,
 ) -> u8
     requires lexed { All IsLexed tokens.now }
-    requires short { AreWithin most_bytes tokens.now }
+    requires short { AreWithin most_tokens tokens.now }
     requires limits { IsLimited (task_shown task) }
     requires input { I.faults input.old + 1 < 2 ^ 64 }
     requires out { O.faults out.old + 1 < 2 ^ 64 }
     requires err { E.faults err.old + 1 < 2 ^ 64 }
-    ensures exact { (left : List ℕ) → I.left input.old ≡ Some left → O.faults out.new ≡ O.faults out.old → E.faults err.new ≡ E.faults err.old → Gives (AnswersTokens file.now text.now tokens.now (input_of left (I.faults input.old) (I.faults input.new)) (task_shown task)) left (I.left input.new) (O.taken out.old) (O.taken out.new) (E.taken err.old) (E.taken err.new) result }
+    ensures exact { (left : List ℕ) → I.left input.old ≡ Some left → O.faults out.new ≡ O.faults out.old → E.faults err.new ≡ E.faults err.old → Gives (AnswersTokens file.now opened.now tokens.now (input_of left (I.faults input.old) (I.faults input.new)) (task_shown task)) left (I.left input.new) (O.taken out.old) (O.taken out.new) (E.taken err.old) (E.taken err.new) result }
     ensures faults { (t : ℕ) → Faults t t (I.faults input.old) (I.faults input.new) (O.faults out.old) (O.faults out.new) (E.faults err.old) (E.faults err.new) result }
     ensures input_fault { I.faults input.old < I.faults input.new → Says (E.taken err.old) (E.taken err.new) (E.faults err.old) (E.faults err.new) input_fault.err 132 result }
     ensures output_fault { O.faults out.old < O.faults out.new → Says (E.taken err.old) (E.taken err.new) (E.faults err.old) (E.faults err.new) output_fault.err 133 result }
     ensures stays { RunsNone (task_shown task) → input.new ≡ input.old }
-    ensures broken { (left : List ℕ) → I.left input.old ≡ Some left → WriteFails (O.faults out.old) (O.faults out.new) (E.faults err.old) (E.faults err.new) → (a : Shown) → AnswersTokens file.now text.now tokens.now (steady left) (task_shown task) a → SaysMore a → Breaks None a left (I.left input.new) (O.taken out.old) (O.taken out.new) (E.taken err.old) (E.taken err.new) (I.faults input.old) (I.faults input.new) (O.faults out.old) (O.faults out.new) (E.faults err.old) (E.faults err.new) }
+    ensures broken { (left : List ℕ) → I.left input.old ≡ Some left → WriteFails (O.faults out.old) (O.faults out.new) (E.faults err.old) (E.faults err.new) → (a : Shown) → AnswersTokens file.now opened.now tokens.now (steady left) (task_shown task) a → SaysMore a → Breaks None a left (I.left input.new) (O.taken out.old) (O.taken out.new) (E.taken err.old) (E.taken err.new) (I.faults input.old) (I.faults input.new) (O.faults out.old) (O.faults out.new) (E.faults err.old) (E.faults err.new) }
     ensures memory { Wants (MeansNone (task_shown task) → (input.new ≡ input.old) × (out.new ≡ out.old)) (RunsNone (task_shown task) → ⊥) (E.taken err.old) (E.taken err.new) result }
     ensures cause { HasCause ((I.faults input.old < I.faults input.new) ⊎ WriteFails (O.faults out.old) (O.faults out.new) (E.faults err.old) (E.faults err.new)) (RunsNone (task_shown task) → ⊥) (E.taken err.old) (E.taken err.new) result }
     ensures refused { Refuses ((input.new ≡ input.old) × (out.new ≡ out.old)) (RunsNone (task_shown task) → ⊥) (E.taken err.old) (E.taken err.new) result }
 {
     match parse(alloc, tokens) {
-        Ok(unit) => with_tree(alloc, file, task, text, &unit, input, out, err),
-        Err(error) => refuse_tokens(err, error, file, text),
+        Ok(unit) => with_tree(alloc, file, task, opened, &unit, input, out, err),
+        Err(error) => refuse_tokens(err, error, opened),
     }
 }
 
-/// Reads a text, and does what is asked with it.
+/// Preprocesses a file, and does what is asked with its tokens.
 fn with_file<T: Texts, I: Source, O: Sink, E: Sink>(
     alloc: Global,
     file: &str,
@@ -152,26 +141,31 @@ fn with_file<T: Texts, I: Source, O: Sink, E: Sink>(
     requires input { I.faults input.old + 1 < 2 ^ 64 }
     requires out { O.faults out.old + 1 < 2 ^ 64 }
     requires err { E.faults err.old + 1 < 2 ^ 64 }
-    ensures exact { (told : List ℕ → List ℕ) (left : List ℕ) → T.texts texts.old ≡ Some told → I.left input.old ≡ Some left → T.faults texts.new ≡ T.faults texts.old → O.faults out.new ≡ O.faults out.old → E.faults err.new ≡ E.faults err.old → Gives (AnswersFile file.now (told file.now) (input_of left (I.faults input.old) (I.faults input.new)) (task_shown task)) left (I.left input.new) (O.taken out.old) (O.taken out.new) (E.taken err.old) (E.taken err.new) result }
+    ensures exact { (told : List ℕ → List ℕ) (left : List ℕ) → T.texts texts.old ≡ Some told → I.left input.old ≡ Some left → T.faults texts.new ≡ T.faults texts.old → O.faults out.new ≡ O.faults out.old → E.faults err.new ≡ E.faults err.old → Gives (AnswersFile file.now told (input_of left (I.faults input.old) (I.faults input.new)) (task_shown task)) left (I.left input.new) (O.taken out.old) (O.taken out.new) (E.taken err.old) (E.taken err.new) result }
     ensures faults { Faults (T.faults texts.old) (T.faults texts.new) (I.faults input.old) (I.faults input.new) (O.faults out.old) (O.faults out.new) (E.faults err.old) (E.faults err.new) result }
     ensures input_fault { I.faults input.old < I.faults input.new → Says (E.taken err.old) (E.taken err.new) (E.faults err.old) (E.faults err.new) input_fault.err 132 result }
     ensures output_fault { O.faults out.old < O.faults out.new → Says (E.taken err.old) (E.taken err.new) (E.faults err.old) (E.faults err.new) output_fault.err 133 result }
     ensures stays { RunsNone (task_shown task) → input.new ≡ input.old }
-    ensures text_fault { T.faults texts.old < T.faults texts.new → (input.new ≡ input.old) × (out.new ≡ out.old) × Says (E.taken err.old) (E.taken err.new) (E.faults err.old) (E.faults err.new) (text_fault file.now).err 121 result }
-    ensures broken { (told : List ℕ → List ℕ) (left : List ℕ) → T.texts texts.old ≡ Some told → I.left input.old ≡ Some left → WriteFails (O.faults out.old) (O.faults out.new) (E.faults err.old) (E.faults err.new) → (a : Shown) → AnswersFile file.now (told file.now) (steady left) (task_shown task) a → SaysMore a → Breaks (unread_file (Some (OnFile file.now (task_shown task))) (T.faults texts.old) (T.faults texts.new)) a left (I.left input.new) (O.taken out.old) (O.taken out.new) (E.taken err.old) (E.taken err.new) (I.faults input.old) (I.faults input.new) (O.faults out.old) (O.faults out.new) (E.faults err.old) (E.faults err.new) }
+    ensures text_fault { T.faults texts.old < T.faults texts.new → (input.new ≡ input.old) × (out.new ≡ out.old) × SaysUnread file.now (E.taken err.old) (E.taken err.new) (E.faults err.old) (E.faults err.new) result }
+    ensures broken { (told : List ℕ → List ℕ) (left : List ℕ) → T.texts texts.old ≡ Some told → I.left input.old ≡ Some left → WriteFails (O.faults out.old) (O.faults out.new) (E.faults err.old) (E.faults err.new) → (a : Shown) → AnswersFile file.now told (steady left) (task_shown task) a → SaysMore a → Breaks (unread_file (Some (OnFile file.now (task_shown task))) (T.faults texts.old) (T.faults texts.new)) a left (I.left input.new) (O.taken out.old) (O.taken out.new) (E.taken err.old) (E.taken err.new) (I.faults input.old) (I.faults input.new) (O.faults out.old) (O.faults out.new) (E.faults err.old) (E.faults err.new) }
     ensures memory { Wants (MeansNone (task_shown task) → (input.new ≡ input.old) × (out.new ≡ out.old)) (RunsNone (task_shown task) → ⊥) (E.taken err.old) (E.taken err.new) result }
     ensures cause { HasCause ((T.faults texts.old < T.faults texts.new) ⊎ (I.faults input.old < I.faults input.new) ⊎ WriteFails (O.faults out.old) (O.faults out.new) (E.faults err.old) (E.faults err.new)) (RunsNone (task_shown task) → ⊥) (E.taken err.old) (E.taken err.new) result }
     ensures refused { Refuses ((input.new ≡ input.old) × (out.new ≡ out.old)) (RunsNone (task_shown task) → ⊥) (E.taken err.old) (E.taken err.new) result }
 {
-    let text = match read_text(alloc, texts, file) {
-        Ok(text) => text,
-        Err(error) => return refuse(err, reading_refusal(error, file)),
-    };
-    let text = text.as_slice();
-    tokens_are_within();
-    match lex(alloc, text) {
-        Ok(tokens) => with_tokens(alloc, file, task, text, tokens.as_slice(), input, out, err),
-        Err(error) => refuse_text(err, error, file, text),
+    match pre(alloc, texts, file, 0) {
+        Ok(read) => {
+            with_tokens(
+                alloc,
+                file,
+                task,
+                read.texts.as_slice(),
+                read.tokens.as_slice(),
+                input,
+                out,
+                err,
+            )
+        }
+        Err(error) => refuse_text(err, &error),
     }
 }
 
@@ -188,8 +182,8 @@ fn with_file<T: Texts, I: Source, O: Sink, E: Sink>(
 /// Where texts and input are told and neither texts nor streams failed, what is read and answered, and what each stream took that
 /// tells of it, is by `Answers`, or nothing but the line of want of memory. Where a write to a stream failed, the input lost a
 /// front of what the answer reads, the output took a front of what it writes, and nothing more was written to a stream that
-/// failed. The error stream then took a front of one line: of the file of the words where its text failed, of the input or the
-/// output where that failed, and else the answer's own, or the one for want of memory.
+/// failed. The error stream then took a front of one line: of the text that failed, which is the file of the words or one that an
+/// include names; of the input or the output where that failed; and else the answer's own, or the one for want of memory.
 ///
 /// The rest holds whatever is told. The status of a failure of the texts, the input or a stream comes only where that failed, and
 /// where it failed its line is said, unless the error stream fails. The status of want of memory comes with its line, and input
@@ -216,7 +210,7 @@ pub fn heapsafe<T: Texts, I: Source, O: Sink, E: Sink>(
     ensures usage { command_of (map (λ w. w.now) words.now) ≡ None → (texts.new ≡ texts.old) × (input.new ≡ input.old) × (out.new ≡ out.old) }
     ensures no_file { AsksNoFile (command_of (map (λ w. w.now) words.now)) → (texts.new ≡ texts.old) × (input.new ≡ input.old) }
     ensures stays { AsksNone (command_of (map (λ w. w.now) words.now)) → input.new ≡ input.old }
-    ensures text_fault { (file : List ℕ) (task : AskedTask) → command_of (map (λ w. w.now) words.now) ≡ Some (OnFile file task) → T.faults texts.old < T.faults texts.new → (input.new ≡ input.old) × (out.new ≡ out.old) × Says (E.taken err.old) (E.taken err.new) (E.faults err.old) (E.faults err.new) (text_fault file).err 121 result }
+    ensures text_fault { (file : List ℕ) (task : AskedTask) → command_of (map (λ w. w.now) words.now) ≡ Some (OnFile file task) → T.faults texts.old < T.faults texts.new → (input.new ≡ input.old) × (out.new ≡ out.old) × SaysUnread file (E.taken err.old) (E.taken err.new) (E.faults err.old) (E.faults err.new) result }
     ensures broken { (told : List ℕ → List ℕ) (left : List ℕ) → T.texts texts.old ≡ Some told → I.left input.old ≡ Some left → WriteFails (O.faults out.old) (O.faults out.new) (E.faults err.old) (E.faults err.new) → (a : Shown) → Answers (map (λ w. w.now) words.now) told (steady left) a → SaysMore a → Breaks (unread_file (command_of (map (λ w. w.now) words.now)) (T.faults texts.old) (T.faults texts.new)) a left (I.left input.new) (O.taken out.old) (O.taken out.new) (E.taken err.old) (E.taken err.new) (I.faults input.old) (I.faults input.new) (O.faults out.old) (O.faults out.new) (E.faults err.old) (E.faults err.new) }
     ensures memory { Wants (AsksNoMeaning (command_of (map (λ w. w.now) words.now)) → (input.new ≡ input.old) × (out.new ≡ out.old)) (AsksNone (command_of (map (λ w. w.now) words.now)) → ⊥) (E.taken err.old) (E.taken err.new) result }
     ensures cause { HasCause ((T.faults texts.old < T.faults texts.new) ⊎ (I.faults input.old < I.faults input.new) ⊎ WriteFails (O.faults out.old) (O.faults out.new) (E.faults err.old) (E.faults err.new)) (AsksNone (command_of (map (λ w. w.now) words.now)) → ⊥) (E.taken err.old) (E.taken err.new) result }

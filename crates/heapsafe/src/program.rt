@@ -7,22 +7,26 @@ ghost use Rattle.core_tree.specs.Sound.{IsSound};
 ghost use Rattle.flat_objects.specs.Keeping.{Keeps};
 ghost use Rattle.flat_objects.specs.Leaks.{KeepsSome};
 ghost use Rattle.hs_base.specs.Object.{Object};
+ghost use Rattle.hs_base.specs.Outside.{CountsFaults};
+ghost use Rattle.hs_base.specs.PutAll.{PutsAll};
 ghost use Rattle.hs_base.specs.declared.ends.End.TheVariants.{Exit};
-ghost use Rattle.bad_free_report.specs.Report.{end_report};
 ghost use Rattle.heapsafe.specs.Shown.{Shown, input_fault, output_fault};
+ghost use Rattle.heapsafe.specs.Places.{told_report};
 ghost use Rattle.heapsafe.specs.Program.{AnswersWay, IsBounded, OnMachine, TellsNone, input_of, status_of, steady};
 ghost use Rattle.heapsafe.specs.Answer.{AnswersTypes};
 ghost use Rattle.heapsafe.specs.Saying.{Breaks, Faults, Gives, HasCause, Refuses, Says, SaysCounts, SaysLeaks, SaysMore, TakesLeaks, Wants, WriteFails};
 
 use crate::leaks::write_leaks;
+use crate::places::{line_of_end, text_of, told_end};
 use crate::refusal::{OUTPUT_FAULT, Refusal, refuse, refuse_types};
 use crate::running::{evaluate, run_code};
 use bad_free_report::report;
 use c_elab::elab;
+use c_pre::Opened;
 use c_tree::Unit;
 use core_tree::Core;
 use flat_machine::Machine;
-use hs_base::{End, Limits, Sink, Source};
+use hs_base::{End, Failed, Limits, Sink, Source};
 use std::alloc::Global;
 
 /// How a program is run, and with how many steps.
@@ -57,12 +61,34 @@ pub(crate) fn status_of(end: &End) -> u8
     }
 }
 
-/// Reports how a program ended, and answers its status or that of a failed write.
-fn finish<E: Sink>(end: &End, core: &Core, file: &str, text: &[u8], err: &mut E) -> u8
+/// Writes how a program ended, with the lines of their texts.
+fn put_report<E: Sink>(
+    end: &End,
+    core: &Core,
+    file: &str,
+    opened: &[Opened],
+    err: &mut E,
+) -> Result<(), Failed>
     requires { E.faults err.old + 1 < 2 ^ 64 }
-    ensures says { Says (E.taken err.old) (E.taken err.new) (E.faults err.old) (E.faults err.new) (end_report core.now file.now text.now end.now) (status_of end.now) result }
+    ensures bytes { PutsAll (E.taken err.old) (E.taken err.new) (told_report core.now file.now opened.now end.now) result }
+    ensures cause { CountsFaults (E.faults err.old) (E.faults err.new) result }
 {
-    match report(end, core, file, text, err) {
+    let told = told_end(opened, *end);
+    let Some(line) = line_of_end(end) else {
+        return report(&told, core, file.as_bytes(), b"", err);
+    };
+    match text_of(opened, line) {
+        Some(text) => report(&told, core, text.name.as_slice(), text.text.as_slice(), err),
+        None => report(&told, core, b"", b"", err),
+    }
+}
+
+/// Reports how a program ended, and answers its status or that of a failed write.
+fn finish<E: Sink>(end: &End, core: &Core, file: &str, opened: &[Opened], err: &mut E) -> u8
+    requires { E.faults err.old + 1 < 2 ^ 64 }
+    ensures says { Says (E.taken err.old) (E.taken err.new) (E.faults err.old) (E.faults err.new) (told_report core.now file.now opened.now end.now) (status_of end.now) result }
+{
+    match put_report(end, core, file, opened, err) {
         Ok(()) => status_of(end),
         Err(_) => OUTPUT_FAULT,
     }
@@ -70,18 +96,24 @@ fn finish<E: Sink>(end: &End, core: &Core, file: &str, text: &[u8], err: &mut E)
 
 /// Writes the lines of the leaks behind an exit, where they are asked for, and answers the program's own status or that of a
 /// failed write.
-fn finish_exit<E: Sink>(code: u8, machine: &Machine, leaks: bool, err: &mut E) -> u8
+fn finish_exit<E: Sink>(
+    code: u8,
+    machine: &Machine,
+    leaks: bool,
+    opened: &[Opened],
+    err: &mut E,
+) -> u8
     requires kept { KeepsSome machine.now.kept.memory }
     requires err { E.faults err.old + 1 < 2 ^ 64 }
     ensures none { leaks ≡ false → Says (E.taken err.old) (E.taken err.new) (E.faults err.old) (E.faults err.new) [] code result }
-    ensures leaks { IsTrue leaks → (places : ℕ → ℕ) (objects : List Object) → Keeps machine.now.kept.memory places objects → SaysLeaks objects (E.taken err.old) (E.taken err.new) (E.faults err.old) (E.faults err.new) code result }
+    ensures leaks { IsTrue leaks → (places : ℕ → ℕ) (objects : List Object) → Keeps machine.now.kept.memory places objects → SaysLeaks opened.now objects (E.taken err.old) (E.taken err.new) (E.faults err.old) (E.faults err.new) code result }
     ensures counts { SaysCounts (E.faults err.old) (E.faults err.new) code result }
     ensures own { E.faults err.new ≡ E.faults err.old → TakesLeaks (E.taken err.old) (E.taken err.new) }
 {
     if !leaks {
         return code;
     }
-    match write_leaks(machine, err) {
+    match write_leaks(machine, opened, err) {
         Ok(()) => code,
         Err(_) => OUTPUT_FAULT,
     }
@@ -95,19 +127,19 @@ fn finish_run<E: Sink>(
     leaks: bool,
     core: &Core,
     file: &str,
-    text: &[u8],
+    opened: &[Opened],
     err: &mut E,
 ) -> u8
     requires kept { KeepsSome machine.now.kept.memory }
     requires err { E.faults err.old + 1 < 2 ^ 64 }
-    ensures says { TellsNone leaks end.now → Says (E.taken err.old) (E.taken err.new) (E.faults err.old) (E.faults err.new) (end_report core.now file.now text.now end.now) (status_of end.now) result }
-    ensures leaks { (code : ℕ) → IsTrue leaks → end.now ≡ Exit code → (places : ℕ → ℕ) (objects : List Object) → Keeps machine.now.kept.memory places objects → SaysLeaks objects (E.taken err.old) (E.taken err.new) (E.faults err.old) (E.faults err.new) code result }
+    ensures says { TellsNone leaks end.now → Says (E.taken err.old) (E.taken err.new) (E.faults err.old) (E.faults err.new) (told_report core.now file.now opened.now end.now) (status_of end.now) result }
+    ensures leaks { (code : ℕ) → IsTrue leaks → end.now ≡ Exit code → (places : ℕ → ℕ) (objects : List Object) → Keeps machine.now.kept.memory places objects → SaysLeaks opened.now objects (E.taken err.old) (E.taken err.new) (E.faults err.old) (E.faults err.new) code result }
     ensures counts { SaysCounts (E.faults err.old) (E.faults err.new) (status_of end.now) result }
     ensures own { (code : ℕ) → end.now ≡ Exit code → E.faults err.new ≡ E.faults err.old → TakesLeaks (E.taken err.old) (E.taken err.new) }
 {
     match end {
-        End::Exit(code) => finish_exit(*code, machine, leaks, err),
-        _ => finish(end, core, file, text, err),
+        End::Exit(code) => finish_exit(*code, machine, leaks, opened, err),
+        _ => finish(end, core, file, opened, err),
     }
 }
 
@@ -115,7 +147,7 @@ fn finish_run<E: Sink>(
 fn run_core<I: Source, O: Sink, E: Sink>(
     alloc: Global,
     file: &str,
-    text: &[u8],
+    opened: &[Opened],
     core: &Core,
     limits: Limits,
     steps: u64,
@@ -131,17 +163,17 @@ fn run_core<I: Source, O: Sink, E: Sink>(
     requires input { I.faults input.old + 1 < 2 ^ 64 }
     requires out { O.faults out.old + 1 < 2 ^ 64 }
     requires err { E.faults err.old + 1 < 2 ^ 64 }
-    ensures exact { (left : List ℕ) → I.left input.old ≡ Some left → O.faults out.new ≡ O.faults out.old → E.faults err.new ≡ E.faults err.old → Gives (AnswersWay file.now text.now core.now (input_of left (I.faults input.old) (I.faults input.new)) (Way.Run limits steps leaks)) left (I.left input.new) (O.taken out.old) (O.taken out.new) (E.taken err.old) (E.taken err.new) result }
+    ensures exact { (left : List ℕ) → I.left input.old ≡ Some left → O.faults out.new ≡ O.faults out.old → E.faults err.new ≡ E.faults err.old → Gives (AnswersWay file.now opened.now core.now (input_of left (I.faults input.old) (I.faults input.new)) (Way.Run limits steps leaks)) left (I.left input.new) (O.taken out.old) (O.taken out.new) (E.taken err.old) (E.taken err.new) result }
     ensures faults { (t : ℕ) → Faults t t (I.faults input.old) (I.faults input.new) (O.faults out.old) (O.faults out.new) (E.faults err.old) (E.faults err.new) result }
     ensures input_fault { I.faults input.old < I.faults input.new → Says (E.taken err.old) (E.taken err.new) (E.faults err.old) (E.faults err.new) input_fault.err 132 result }
     ensures output_fault { O.faults out.old < O.faults out.new → Says (E.taken err.old) (E.taken err.new) (E.faults err.old) (E.faults err.new) output_fault.err 133 result }
-    ensures broken { (left : List ℕ) → I.left input.old ≡ Some left → WriteFails (O.faults out.old) (O.faults out.new) (E.faults err.old) (E.faults err.new) → (a : Shown) → AnswersWay file.now text.now core.now (steady left) (Way.Run limits steps leaks) a → SaysMore a → Breaks None a left (I.left input.new) (O.taken out.old) (O.taken out.new) (E.taken err.old) (E.taken err.new) (I.faults input.old) (I.faults input.new) (O.faults out.old) (O.faults out.new) (E.faults err.old) (E.faults err.new) }
+    ensures broken { (left : List ℕ) → I.left input.old ≡ Some left → WriteFails (O.faults out.old) (O.faults out.new) (E.faults err.old) (E.faults err.new) → (a : Shown) → AnswersWay file.now opened.now core.now (steady left) (Way.Run limits steps leaks) a → SaysMore a → Breaks None a left (I.left input.new) (O.taken out.old) (O.taken out.new) (E.taken err.old) (E.taken err.new) (I.faults input.old) (I.faults input.new) (O.faults out.old) (O.faults out.new) (E.faults err.old) (E.faults err.new) }
     ensures memory { Wants ((input.new ≡ input.old) × (out.new ≡ out.old)) (⊤) (E.taken err.old) (E.taken err.new) result }
     ensures cause { HasCause ((I.faults input.old < I.faults input.new) ⊎ WriteFails (O.faults out.old) (O.faults out.new) (E.faults err.old) (E.faults err.new)) ⊤ (E.taken err.old) (E.taken err.new) result }
     ensures refused { Refuses ((input.new ≡ input.old) × (out.new ≡ out.old)) ⊤ (E.taken err.old) (E.taken err.new) result }
 {
     match run_code(alloc, core, limits, steps, input, out) {
-        Ok((end, machine)) => finish_run(&end, &machine, leaks, core, file, text, err),
+        Ok((end, machine)) => finish_run(&end, &machine, leaks, core, file, opened, err),
         Err(_) => refuse(err, Refusal::NoMemory),
     }
 }
@@ -150,7 +182,7 @@ fn run_core<I: Source, O: Sink, E: Sink>(
 fn mean_core<I: Source, O: Sink, E: Sink>(
     alloc: Global,
     file: &str,
-    text: &[u8],
+    opened: &[Opened],
     core: &Core,
     heap: u32,
     steps: u64,
@@ -163,17 +195,17 @@ fn mean_core<I: Source, O: Sink, E: Sink>(
     requires input { I.faults input.old + 1 < 2 ^ 64 }
     requires out { O.faults out.old + 1 < 2 ^ 64 }
     requires err { E.faults err.old + 1 < 2 ^ 64 }
-    ensures exact { (left : List ℕ) → I.left input.old ≡ Some left → O.faults out.new ≡ O.faults out.old → E.faults err.new ≡ E.faults err.old → Gives (AnswersWay file.now text.now core.now (input_of left (I.faults input.old) (I.faults input.new)) (Way.Mean heap steps)) left (I.left input.new) (O.taken out.old) (O.taken out.new) (E.taken err.old) (E.taken err.new) result }
+    ensures exact { (left : List ℕ) → I.left input.old ≡ Some left → O.faults out.new ≡ O.faults out.old → E.faults err.new ≡ E.faults err.old → Gives (AnswersWay file.now opened.now core.now (input_of left (I.faults input.old) (I.faults input.new)) (Way.Mean heap steps)) left (I.left input.new) (O.taken out.old) (O.taken out.new) (E.taken err.old) (E.taken err.new) result }
     ensures faults { (t : ℕ) → Faults t t (I.faults input.old) (I.faults input.new) (O.faults out.old) (O.faults out.new) (E.faults err.old) (E.faults err.new) result }
     ensures input_fault { I.faults input.old < I.faults input.new → Says (E.taken err.old) (E.taken err.new) (E.faults err.old) (E.faults err.new) input_fault.err 132 result }
     ensures output_fault { O.faults out.old < O.faults out.new → Says (E.taken err.old) (E.taken err.new) (E.faults err.old) (E.faults err.new) output_fault.err 133 result }
-    ensures broken { (left : List ℕ) → I.left input.old ≡ Some left → WriteFails (O.faults out.old) (O.faults out.new) (E.faults err.old) (E.faults err.new) → (a : Shown) → AnswersWay file.now text.now core.now (steady left) (Way.Mean heap steps) a → SaysMore a → Breaks None a left (I.left input.new) (O.taken out.old) (O.taken out.new) (E.taken err.old) (E.taken err.new) (I.faults input.old) (I.faults input.new) (O.faults out.old) (O.faults out.new) (E.faults err.old) (E.faults err.new) }
+    ensures broken { (left : List ℕ) → I.left input.old ≡ Some left → WriteFails (O.faults out.old) (O.faults out.new) (E.faults err.old) (E.faults err.new) → (a : Shown) → AnswersWay file.now opened.now core.now (steady left) (Way.Mean heap steps) a → SaysMore a → Breaks None a left (I.left input.new) (O.taken out.old) (O.taken out.new) (E.taken err.old) (E.taken err.new) (I.faults input.old) (I.faults input.new) (O.faults out.old) (O.faults out.new) (E.faults err.old) (E.faults err.new) }
     ensures memory { Wants (⊤) (⊤) (E.taken err.old) (E.taken err.new) result }
     ensures cause { HasCause ((I.faults input.old < I.faults input.new) ⊎ WriteFails (O.faults out.old) (O.faults out.new) (E.faults err.old) (E.faults err.new)) ⊤ (E.taken err.old) (E.taken err.new) result }
     ensures refused { Refuses ((input.new ≡ input.old) × (out.new ≡ out.old)) ⊤ (E.taken err.old) (E.taken err.new) result }
 {
     match evaluate(alloc, core, steps, heap, input, out) {
-        Ok(end) => finish(&end, core, file, text, err),
+        Ok(end) => finish(&end, core, file, opened, err),
         Err(_) => refuse(err, Refusal::NoMemory),
     }
 }
@@ -182,7 +214,7 @@ fn mean_core<I: Source, O: Sink, E: Sink>(
 fn go<I: Source, O: Sink, E: Sink>(
     alloc: Global,
     file: &str,
-    text: &[u8],
+    opened: &[Opened],
     core: &Core,
     way: Way,
     input: &mut I,
@@ -194,11 +226,11 @@ fn go<I: Source, O: Sink, E: Sink>(
     requires input { I.faults input.old + 1 < 2 ^ 64 }
     requires out { O.faults out.old + 1 < 2 ^ 64 }
     requires err { E.faults err.old + 1 < 2 ^ 64 }
-    ensures exact { (left : List ℕ) → I.left input.old ≡ Some left → O.faults out.new ≡ O.faults out.old → E.faults err.new ≡ E.faults err.old → Gives (AnswersWay file.now text.now core.now (input_of left (I.faults input.old) (I.faults input.new)) way) left (I.left input.new) (O.taken out.old) (O.taken out.new) (E.taken err.old) (E.taken err.new) result }
+    ensures exact { (left : List ℕ) → I.left input.old ≡ Some left → O.faults out.new ≡ O.faults out.old → E.faults err.new ≡ E.faults err.old → Gives (AnswersWay file.now opened.now core.now (input_of left (I.faults input.old) (I.faults input.new)) way) left (I.left input.new) (O.taken out.old) (O.taken out.new) (E.taken err.old) (E.taken err.new) result }
     ensures faults { (t : ℕ) → Faults t t (I.faults input.old) (I.faults input.new) (O.faults out.old) (O.faults out.new) (E.faults err.old) (E.faults err.new) result }
     ensures input_fault { I.faults input.old < I.faults input.new → Says (E.taken err.old) (E.taken err.new) (E.faults err.old) (E.faults err.new) input_fault.err 132 result }
     ensures output_fault { O.faults out.old < O.faults out.new → Says (E.taken err.old) (E.taken err.new) (E.faults err.old) (E.faults err.new) output_fault.err 133 result }
-    ensures broken { (left : List ℕ) → I.left input.old ≡ Some left → WriteFails (O.faults out.old) (O.faults out.new) (E.faults err.old) (E.faults err.new) → (a : Shown) → AnswersWay file.now text.now core.now (steady left) way a → SaysMore a → Breaks None a left (I.left input.new) (O.taken out.old) (O.taken out.new) (E.taken err.old) (E.taken err.new) (I.faults input.old) (I.faults input.new) (O.faults out.old) (O.faults out.new) (E.faults err.old) (E.faults err.new) }
+    ensures broken { (left : List ℕ) → I.left input.old ≡ Some left → WriteFails (O.faults out.old) (O.faults out.new) (E.faults err.old) (E.faults err.new) → (a : Shown) → AnswersWay file.now opened.now core.now (steady left) way a → SaysMore a → Breaks None a left (I.left input.new) (O.taken out.old) (O.taken out.new) (E.taken err.old) (E.taken err.new) (I.faults input.old) (I.faults input.new) (O.faults out.old) (O.faults out.new) (E.faults err.old) (E.faults err.new) }
     ensures memory { Wants (OnMachine way → (input.new ≡ input.old) × (out.new ≡ out.old)) (⊤) (E.taken err.old) (E.taken err.new) result }
     ensures cause { HasCause ((I.faults input.old < I.faults input.new) ⊎ WriteFails (O.faults out.old) (O.faults out.new) (E.faults err.old) (E.faults err.new)) ⊤ (E.taken err.old) (E.taken err.new) result }
     ensures refused { Refuses ((input.new ≡ input.old) × (out.new ≡ out.old)) ⊤ (E.taken err.old) (E.taken err.new) result }
@@ -209,10 +241,10 @@ fn go<I: Source, O: Sink, E: Sink>(
             steps,
             leaks,
         } => run_core(
-            alloc, file, text, core, limits, steps, leaks, input, out, err,
+            alloc, file, opened, core, limits, steps, leaks, input, out, err,
         ),
         Way::Mean { heap, steps } => {
-            mean_core(alloc, file, text, core, heap, steps, input, out, err)
+            mean_core(alloc, file, opened, core, heap, steps, input, out, err)
         }
     }
 }
@@ -221,7 +253,7 @@ fn go<I: Source, O: Sink, E: Sink>(
 pub(crate) fn run_program<I: Source, O: Sink, E: Sink>(
     alloc: Global,
     file: &str,
-    text: &[u8],
+    opened: &[Opened],
     unit: &Unit,
     way: Way,
     input: &mut I,
@@ -233,17 +265,17 @@ pub(crate) fn run_program<I: Source, O: Sink, E: Sink>(
     requires input { I.faults input.old + 1 < 2 ^ 64 }
     requires out { O.faults out.old + 1 < 2 ^ 64 }
     requires err { E.faults err.old + 1 < 2 ^ 64 }
-    ensures exact { (left : List ℕ) → I.left input.old ≡ Some left → O.faults out.new ≡ O.faults out.old → E.faults err.new ≡ E.faults err.old → Gives (AnswersTypes file.now text.now (core_in (unit_view unit.now)) (input_of left (I.faults input.old) (I.faults input.new)) way) left (I.left input.new) (O.taken out.old) (O.taken out.new) (E.taken err.old) (E.taken err.new) result }
+    ensures exact { (left : List ℕ) → I.left input.old ≡ Some left → O.faults out.new ≡ O.faults out.old → E.faults err.new ≡ E.faults err.old → Gives (AnswersTypes file.now opened.now (core_in (unit_view unit.now)) (input_of left (I.faults input.old) (I.faults input.new)) way) left (I.left input.new) (O.taken out.old) (O.taken out.new) (E.taken err.old) (E.taken err.new) result }
     ensures faults { (t : ℕ) → Faults t t (I.faults input.old) (I.faults input.new) (O.faults out.old) (O.faults out.new) (E.faults err.old) (E.faults err.new) result }
     ensures input_fault { I.faults input.old < I.faults input.new → Says (E.taken err.old) (E.taken err.new) (E.faults err.old) (E.faults err.new) input_fault.err 132 result }
     ensures output_fault { O.faults out.old < O.faults out.new → Says (E.taken err.old) (E.taken err.new) (E.faults err.old) (E.faults err.new) output_fault.err 133 result }
-    ensures broken { (left : List ℕ) → I.left input.old ≡ Some left → WriteFails (O.faults out.old) (O.faults out.new) (E.faults err.old) (E.faults err.new) → (a : Shown) → AnswersTypes file.now text.now (core_in (unit_view unit.now)) (steady left) way a → SaysMore a → Breaks None a left (I.left input.new) (O.taken out.old) (O.taken out.new) (E.taken err.old) (E.taken err.new) (I.faults input.old) (I.faults input.new) (O.faults out.old) (O.faults out.new) (E.faults err.old) (E.faults err.new) }
+    ensures broken { (left : List ℕ) → I.left input.old ≡ Some left → WriteFails (O.faults out.old) (O.faults out.new) (E.faults err.old) (E.faults err.new) → (a : Shown) → AnswersTypes file.now opened.now (core_in (unit_view unit.now)) (steady left) way a → SaysMore a → Breaks None a left (I.left input.new) (O.taken out.old) (O.taken out.new) (E.taken err.old) (E.taken err.new) (I.faults input.old) (I.faults input.new) (O.faults out.old) (O.faults out.new) (E.faults err.old) (E.faults err.new) }
     ensures memory { Wants (OnMachine way → (input.new ≡ input.old) × (out.new ≡ out.old)) (⊤) (E.taken err.old) (E.taken err.new) result }
     ensures cause { HasCause ((I.faults input.old < I.faults input.new) ⊎ WriteFails (O.faults out.old) (O.faults out.new) (E.faults err.old) (E.faults err.new)) ⊤ (E.taken err.old) (E.taken err.new) result }
     ensures refused { Refuses ((input.new ≡ input.old) × (out.new ≡ out.old)) ⊤ (E.taken err.old) (E.taken err.new) result }
 {
     match elab(alloc, unit) {
-        Ok(core) => go(alloc, file, text, &core, way, input, out, err),
-        Err(error) => refuse_types(err, error, file, text),
+        Ok(core) => go(alloc, file, opened, &core, way, input, out, err),
+        Err(error) => refuse_types(err, error, opened),
     }
 }

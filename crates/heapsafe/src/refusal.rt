@@ -1,13 +1,15 @@
 //! Answers that are not of a run: each has a line on the error stream and a status.
 
 ghost use Rattle.std.specs.Prelude.{◌≡◌, ◌+◌, ◌<◌, ◌^◌, ◌++◌};
-ghost use Rattle.heapsafe.specs.Shown.{refusal_at};
-ghost use Rattle.heapsafe.specs.Saying.{Says, name_of, words_of, status_in, shown_of, untokened, unparsed, untyped};
+ghost use Rattle.heapsafe.specs.Places.{line_in};
+ghost use Rattle.heapsafe.specs.Shown.{refusal_at, untokened};
+ghost use Rattle.heapsafe.specs.Saying.{Says, name_of, words_of, status_in, shown_of, unparsed, untyped};
 
+use crate::places::text_of;
 use bad_free_report::{complain, complain_labelled};
 use c_decls::TypeError;
-use c_lexer::LexError;
 use c_parser::ParseError;
+use c_pre::{Opened, PreError};
 use hs_base::{Line, Sink};
 
 /// Why nothing is run, or why nothing is written.
@@ -16,9 +18,9 @@ pub(crate) enum Refusal<'a> {
     /// The words are not taken.
     Usage,
     /// The text could not be read.
-    TextFault(&'a str),
+    TextFault(&'a [u8]),
     /// The text has more bytes than a text may have.
-    TextTooLong(&'a str),
+    TextTooLong(&'a [u8]),
     /// Memory was wanted and there was none.
     NoMemory,
     /// The output failed.
@@ -27,12 +29,12 @@ pub(crate) enum Refusal<'a> {
 
 impl<'a> Refusal<'a> {
     /// The name that the line begins with.
-    fn name(&self) -> &'a str
+    fn name(&self) -> &'a [u8]
         ensures { result.now ≡ name_of self.now }
     {
         match self {
             Refusal::TextFault(file) | Refusal::TextTooLong(file) => file,
-            Refusal::Usage | Refusal::NoMemory | Refusal::OutputFault => "heapsafe",
+            Refusal::Usage | Refusal::NoMemory | Refusal::OutputFault => b"heapsafe",
         }
     }
 
@@ -66,7 +68,10 @@ impl<'a> Refusal<'a> {
 /// The status where a write to the error stream failed.
 pub(crate) const OUTPUT_FAULT: u8 = 133;
 
-/// The status of a text that has no tokens.
+/// The status of a text with a line that the preprocessor refuses.
+pub(crate) const BAD_LINE: u8 = 138;
+
+/// The status of a text with a place that the lexer refuses.
 pub(crate) const BAD_TOKENS: u8 = 123;
 
 /// The status of a text whose tokens have no tree.
@@ -86,69 +91,109 @@ pub(crate) fn refuse<E: Sink>(err: &mut E, refusal: Refusal<'_>) -> u8
     }
 }
 
-/// Writes the line of a refusal that names a line of the text, with that line below it, and answers this status, or that
-/// of a failed write.
+/// Writes the line of a refusal at a line of a text, with that line below it, and answers this status, or that of a failed
+/// write.
 fn refuse_at<E: Sink>(
     err: &mut E,
-    file: &str,
+    name: &[u8],
+    line: Line,
     text: &[u8],
+    label: &[u8],
+    words: &[u8],
+    status: u8,
+) -> u8
+    requires { E.faults err.old + 1 < 2 ^ 64 }
+    ensures says { Says (E.taken err.old) (E.taken err.new) (E.faults err.old) (E.faults err.new) (refusal_at (record { name = name.now; line = line; text = text.now }) (label.now ++ words.now) status).err status result }
+{
+    match complain_labelled(err, name, line, label, words, text) {
+        Ok(()) => status,
+        Err(_) => OUTPUT_FAULT,
+    }
+}
+
+/// The same at a line that is counted over all texts.
+fn refuse_in<E: Sink>(
+    err: &mut E,
+    opened: &[Opened],
     line: Line,
     label: &[u8],
     words: &[u8],
     status: u8,
 ) -> u8
     requires { E.faults err.old + 1 < 2 ^ 64 }
-    ensures says { Says (E.taken err.old) (E.taken err.new) (E.faults err.old) (E.faults err.new) (refusal_at file.now text.now line (label.now ++ words.now) status).err status result }
+    ensures says { Says (E.taken err.old) (E.taken err.new) (E.faults err.old) (E.faults err.new) (refusal_at (line_in opened.now line) (label.now ++ words.now) status).err status result }
 {
-    match complain_labelled(err, file, line, label, words, text) {
-        Ok(()) => status,
-        Err(_) => OUTPUT_FAULT,
+    match text_of(opened, line) {
+        Some(text) => {
+            refuse_at(
+                err,
+                text.name.as_slice(),
+                line.saturating_sub(text.base),
+                text.text.as_slice(),
+                label,
+                words,
+                status,
+            )
+        }
+        None => refuse_at(err, b"", line, b"", label, words, status),
     }
 }
 
 /// Says why a text has no tokens, and answers the status of that.
-pub(crate) fn refuse_text<E: Sink>(err: &mut E, error: LexError, file: &str, text: &[u8]) -> u8
+pub(crate) fn refuse_text<E: Sink>(err: &mut E, error: &PreError) -> u8
     requires { E.faults err.old + 1 < 2 ^ 64 }
-    ensures says { Says (E.taken err.old) (E.taken err.new) (E.faults err.old) (E.faults err.new) (untokened error file.now text.now).err (untokened error file.now text.now).status result }
+    ensures says { Says (E.taken err.old) (E.taken err.new) (E.faults err.old) (E.faults err.new) (untokened error.now).err (untokened error.now).status result }
 {
     match error {
-        LexError::Bad { kind, line } => {
+        PreError::Bad { kind, at } => {
             refuse_at(
                 err,
-                file,
-                text,
-                line,
+                at.name.as_slice(),
+                at.line,
+                at.text.as_slice(),
+                b"preprocess: ",
+                kind.word().as_bytes(),
+                BAD_LINE,
+            )
+        }
+        PreError::Lex { kind, at } => {
+            refuse_at(
+                err,
+                at.name.as_slice(),
+                at.line,
+                at.text.as_slice(),
                 b"lex: ",
                 kind.word().as_bytes(),
                 BAD_TOKENS,
             )
         }
-        LexError::NoMemory => refuse(err, Refusal::NoMemory),
+        PreError::Fault { name } => refuse(err, Refusal::TextFault(name.as_slice())),
+        PreError::TooLong { name } => refuse(err, Refusal::TextTooLong(name.as_slice())),
+        PreError::NoMemory => refuse(err, Refusal::NoMemory),
     }
 }
 
 /// Says why tokens have no tree, and answers the status of that.
-pub(crate) fn refuse_tokens<E: Sink>(err: &mut E, error: ParseError, file: &str, text: &[u8]) -> u8
+pub(crate) fn refuse_tokens<E: Sink>(err: &mut E, error: ParseError, opened: &[Opened]) -> u8
     requires { E.faults err.old + 1 < 2 ^ 64 }
-    ensures says { Says (E.taken err.old) (E.taken err.new) (E.faults err.old) (E.faults err.new) (unparsed error file.now text.now).err (unparsed error file.now text.now).status result }
+    ensures says { Says (E.taken err.old) (E.taken err.new) (E.faults err.old) (E.faults err.new) (unparsed error opened.now).err (unparsed error opened.now).status result }
 {
     match error {
-        ParseError::Syntax { line } => refuse_at(err, file, text, line, b"", b"syntax", BAD_TREE),
+        ParseError::Syntax { line } => refuse_in(err, opened, line, b"", b"syntax", BAD_TREE),
         ParseError::NoMemory => refuse(err, Refusal::NoMemory),
     }
 }
 
 /// Says why the types of a text are refused, and answers the status of that.
-pub(crate) fn refuse_types<E: Sink>(err: &mut E, error: TypeError, file: &str, text: &[u8]) -> u8
+pub(crate) fn refuse_types<E: Sink>(err: &mut E, error: TypeError, opened: &[Opened]) -> u8
     requires { E.faults err.old + 1 < 2 ^ 64 }
-    ensures says { Says (E.taken err.old) (E.taken err.new) (E.faults err.old) (E.faults err.new) (untyped error file.now text.now).err (untyped error file.now text.now).status result }
+    ensures says { Says (E.taken err.old) (E.taken err.new) (E.faults err.old) (E.faults err.new) (untyped error opened.now).err (untyped error opened.now).status result }
 {
     match error {
         TypeError::Bad { kind, line } => {
-            refuse_at(
+            refuse_in(
                 err,
-                file,
-                text,
+                opened,
                 line,
                 b"type: ",
                 kind.word().as_bytes(),

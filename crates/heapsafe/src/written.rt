@@ -13,6 +13,7 @@ ghost use Rattle.heapsafe.specs.Saying.{Breaks, Faults, Gives, HasCause, Refuses
 
 use crate::refusal::{Refusal, refuse, refuse_types};
 use c_elab::{elab, tags};
+use c_pre::Opened;
 use c_tree::{Unit, write_unit};
 use c_types::Tags;
 use core_tree::{Core, list};
@@ -78,25 +79,24 @@ fn write_layouts<O: Sink, E: Sink>(alloc: Global, tags: &Tags, out: &mut O, err:
 /// Writes the layouts of a text's structs and unions.
 pub(crate) fn layouts<O: Sink, E: Sink>(
     alloc: Global,
-    file: &str,
-    text: &[u8],
+    opened: &[Opened],
     unit: &Unit,
     out: &mut O,
     err: &mut E,
 ) -> u8
     requires out { O.faults out.old + 1 < 2 ^ 64 }
     requires err { E.faults err.old + 1 < 2 ^ 64 }
-    ensures exact { (left : List ℕ) → O.faults out.new ≡ O.faults out.old → E.faults err.new ≡ E.faults err.old → Gives (λ a. a ≡ layouts_shown file.now text.now (tags_of (unit_view unit.now))) left (Some left) (O.taken out.old) (O.taken out.new) (E.taken err.old) (E.taken err.new) result }
+    ensures exact { (left : List ℕ) → O.faults out.new ≡ O.faults out.old → E.faults err.new ≡ E.faults err.old → Gives (λ a. a ≡ layouts_shown opened.now (tags_of (unit_view unit.now))) left (Some left) (O.taken out.old) (O.taken out.new) (E.taken err.old) (E.taken err.new) result }
     ensures faults { (t i : ℕ) → Faults t t i i (O.faults out.old) (O.faults out.new) (E.faults err.old) (E.faults err.new) result }
     ensures output_fault { O.faults out.old < O.faults out.new → Says (E.taken err.old) (E.taken err.new) (E.faults err.old) (E.faults err.new) output_fault.err 133 result }
-    ensures broken { (left : List ℕ) (i : ℕ) → WriteFails (O.faults out.old) (O.faults out.new) (E.faults err.old) (E.faults err.new) → (a : Shown) → a ≡ layouts_shown file.now text.now (tags_of (unit_view unit.now)) → Breaks None a left (Some left) (O.taken out.old) (O.taken out.new) (E.taken err.old) (E.taken err.new) i i (O.faults out.old) (O.faults out.new) (E.faults err.old) (E.faults err.new) }
+    ensures broken { (left : List ℕ) (i : ℕ) → WriteFails (O.faults out.old) (O.faults out.new) (E.faults err.old) (E.faults err.new) → (a : Shown) → a ≡ layouts_shown opened.now (tags_of (unit_view unit.now)) → Breaks None a left (Some left) (O.taken out.old) (O.taken out.new) (E.taken err.old) (E.taken err.new) i i (O.faults out.old) (O.faults out.new) (E.faults err.old) (E.faults err.new) }
     ensures memory { Wants (out.new ≡ out.old) ⊥ (E.taken err.old) (E.taken err.new) result }
     ensures cause { HasCause (WriteFails (O.faults out.old) (O.faults out.new) (E.faults err.old) (E.faults err.new)) ⊥ (E.taken err.old) (E.taken err.new) result }
     ensures refused { Refuses (out.new ≡ out.old) ⊥ (E.taken err.old) (E.taken err.new) result }
 {
     match tags(alloc, unit) {
         Ok(tags) => write_layouts(alloc, &tags, out, err),
-        Err(error) => refuse_types(err, error, file, text),
+        Err(error) => refuse_types(err, error, opened),
     }
 }
 
@@ -121,25 +121,24 @@ fn write_core<O: Sink, E: Sink>(alloc: Global, core: &Core, out: &mut O, err: &m
 /// Writes the functions of a text's core.
 pub(crate) fn core_list<O: Sink, E: Sink>(
     alloc: Global,
-    file: &str,
-    text: &[u8],
+    opened: &[Opened],
     unit: &Unit,
     out: &mut O,
     err: &mut E,
 ) -> u8
     requires out { O.faults out.old + 1 < 2 ^ 64 }
     requires err { E.faults err.old + 1 < 2 ^ 64 }
-    ensures exact { (left : List ℕ) → O.faults out.new ≡ O.faults out.old → E.faults err.new ≡ E.faults err.old → Gives (λ a. a ≡ core_shown file.now text.now (core_in (unit_view unit.now))) left (Some left) (O.taken out.old) (O.taken out.new) (E.taken err.old) (E.taken err.new) result }
+    ensures exact { (left : List ℕ) → O.faults out.new ≡ O.faults out.old → E.faults err.new ≡ E.faults err.old → Gives (λ a. a ≡ core_shown opened.now (core_in (unit_view unit.now))) left (Some left) (O.taken out.old) (O.taken out.new) (E.taken err.old) (E.taken err.new) result }
     ensures faults { (t i : ℕ) → Faults t t i i (O.faults out.old) (O.faults out.new) (E.faults err.old) (E.faults err.new) result }
     ensures output_fault { O.faults out.old < O.faults out.new → Says (E.taken err.old) (E.taken err.new) (E.faults err.old) (E.faults err.new) output_fault.err 133 result }
-    ensures broken { (left : List ℕ) (i : ℕ) → WriteFails (O.faults out.old) (O.faults out.new) (E.faults err.old) (E.faults err.new) → (a : Shown) → a ≡ core_shown file.now text.now (core_in (unit_view unit.now)) → Breaks None a left (Some left) (O.taken out.old) (O.taken out.new) (E.taken err.old) (E.taken err.new) i i (O.faults out.old) (O.faults out.new) (E.faults err.old) (E.faults err.new) }
+    ensures broken { (left : List ℕ) (i : ℕ) → WriteFails (O.faults out.old) (O.faults out.new) (E.faults err.old) (E.faults err.new) → (a : Shown) → a ≡ core_shown opened.now (core_in (unit_view unit.now)) → Breaks None a left (Some left) (O.taken out.old) (O.taken out.new) (E.taken err.old) (E.taken err.new) i i (O.faults out.old) (O.faults out.new) (E.faults err.old) (E.faults err.new) }
     ensures memory { Wants (out.new ≡ out.old) ⊥ (E.taken err.old) (E.taken err.new) result }
     ensures cause { HasCause (WriteFails (O.faults out.old) (O.faults out.new) (E.faults err.old) (E.faults err.new)) ⊥ (E.taken err.old) (E.taken err.new) result }
     ensures refused { Refuses (out.new ≡ out.old) ⊥ (E.taken err.old) (E.taken err.new) result }
 {
     match elab(alloc, unit) {
         Ok(core) => write_core(alloc, &core, out, err),
-        Err(error) => refuse_types(err, error, file, text),
+        Err(error) => refuse_types(err, error, opened),
     }
 }
 
@@ -164,24 +163,23 @@ fn write_live<O: Sink, E: Sink>(alloc: Global, core: &Core, out: &mut O, err: &m
 /// Writes the registers that are live after each point of a text's core.
 pub(crate) fn core_live<O: Sink, E: Sink>(
     alloc: Global,
-    file: &str,
-    text: &[u8],
+    opened: &[Opened],
     unit: &Unit,
     out: &mut O,
     err: &mut E,
 ) -> u8
     requires out { O.faults out.old + 1 < 2 ^ 64 }
     requires err { E.faults err.old + 1 < 2 ^ 64 }
-    ensures exact { (left : List ℕ) → O.faults out.new ≡ O.faults out.old → E.faults err.new ≡ E.faults err.old → Gives (λ a. a ≡ live_shown file.now text.now (core_in (unit_view unit.now))) left (Some left) (O.taken out.old) (O.taken out.new) (E.taken err.old) (E.taken err.new) result }
+    ensures exact { (left : List ℕ) → O.faults out.new ≡ O.faults out.old → E.faults err.new ≡ E.faults err.old → Gives (λ a. a ≡ live_shown opened.now (core_in (unit_view unit.now))) left (Some left) (O.taken out.old) (O.taken out.new) (E.taken err.old) (E.taken err.new) result }
     ensures faults { (t i : ℕ) → Faults t t i i (O.faults out.old) (O.faults out.new) (E.faults err.old) (E.faults err.new) result }
     ensures output_fault { O.faults out.old < O.faults out.new → Says (E.taken err.old) (E.taken err.new) (E.faults err.old) (E.faults err.new) output_fault.err 133 result }
-    ensures broken { (left : List ℕ) (i : ℕ) → WriteFails (O.faults out.old) (O.faults out.new) (E.faults err.old) (E.faults err.new) → (a : Shown) → a ≡ live_shown file.now text.now (core_in (unit_view unit.now)) → Breaks None a left (Some left) (O.taken out.old) (O.taken out.new) (E.taken err.old) (E.taken err.new) i i (O.faults out.old) (O.faults out.new) (E.faults err.old) (E.faults err.new) }
+    ensures broken { (left : List ℕ) (i : ℕ) → WriteFails (O.faults out.old) (O.faults out.new) (E.faults err.old) (E.faults err.new) → (a : Shown) → a ≡ live_shown opened.now (core_in (unit_view unit.now)) → Breaks None a left (Some left) (O.taken out.old) (O.taken out.new) (E.taken err.old) (E.taken err.new) i i (O.faults out.old) (O.faults out.new) (E.faults err.old) (E.faults err.new) }
     ensures memory { Wants (out.new ≡ out.old) ⊥ (E.taken err.old) (E.taken err.new) result }
     ensures cause { HasCause (WriteFails (O.faults out.old) (O.faults out.new) (E.faults err.old) (E.faults err.new)) ⊥ (E.taken err.old) (E.taken err.new) result }
     ensures refused { Refuses (out.new ≡ out.old) ⊥ (E.taken err.old) (E.taken err.new) result }
 {
     match elab(alloc, unit) {
         Ok(core) => write_live(alloc, &core, out, err),
-        Err(error) => refuse_types(err, error, file, text),
+        Err(error) => refuse_types(err, error, opened),
     }
 }

@@ -2,13 +2,13 @@ use Rattle.std.proofs.Common.{◌∙◌, ℕ, List, Some, Ok, Err, inl, inr, ref
 use Rattle.command_words.specs.Commands.{Generated, command_of, task_shown, IsRead, Command as Asked}
 use Rattle.command_words.specs.declared.command.Command.{Command}
 use Rattle.command_words.specs.declared.error.WordsError.{WordsError}
-use Rattle.heapsafe.specs.Shown.{usage, no_memory, text_fault}
+use Rattle.heapsafe.specs.Shown.{usage, no_memory}
 use Rattle.heapsafe.specs.Program.{input_of, steady}
 use Rattle.heapsafe.specs.Answer.{Answers, AnswersGenerated, AnswersCommand, AsksNoMeaning, AsksNone}
 use Rattle.heapsafe.proofs.Told.{gives_said, gives_as, gives_left, one_file, usage_is}
 use Rattle.heapsafe.proofs.Broken.{broken_asked, broken_left, broken_own, broken_read}
 use Rattle.std.specs.Prelude.{Option}
-use Rattle.heapsafe.specs.Saying.{Says}
+use Rattle.heapsafe.specs.Saying.{SaysUnread}
 use Rattle.heapsafe.proofs.Statuses.{unwanted, wanted, wants_more, cause_more, caused, no_fault_120, no_fault_134, refused_more}
 use Rattle.heapsafe.proofs.heapsafe.Goals as goal
 
@@ -26,7 +26,7 @@ returns-in-Ok-OnFile-clause-text_fault g c = λ file task asked more.
     let said = c.with_file.ensures.text_fault more in (
       said.0,
       said.1,
-      subst (λ (f : List ℕ). Says (g.E.Sink.taken c.args.err.now) (g.E.Sink.taken c.with_file.new.err) (g.E.Sink.faults c.args.err.now) (g.E.Sink.faults c.with_file.new.err) (text_fault f).err 121 c.with_file.result) same said.2,
+      subst (λ (f : List ℕ). SaysUnread f (g.E.Sink.taken c.args.err.now) (g.E.Sink.taken c.with_file.new.err) (g.E.Sink.faults c.args.err.now) (g.E.Sink.faults c.with_file.new.err) c.with_file.result) same said.2,
     )
 
 pub returns-in-Ok-Generated-clause-exact : goal.returns-in-Ok-Generated-clause-exact

@@ -12,15 +12,15 @@ use Rattle.heapsafe.proofs.with_tokens.Goals as goal
 
 pub returns-in-Ok-clause-exact : goal.returns-in-Ok-clause-exact
 returns-in-Ok-clause-exact g c = λ left k same_out same_err.
-    gives_tree c.args.file.now c.args.text.now c.args.tokens.now (unit_view c.in-Ok.unit) _ (task_shown c.args.task) left _ _ _ _ _ _ c.in-Ok.ensures.tree
+    gives_tree c.args.file.now c.args.opened.now c.args.tokens.now (unit_view c.in-Ok.unit) _ (task_shown c.args.task) left _ _ _ _ _ _ c.in-Ok.ensures.tree
     (c.with_tree.ensures.exact left k same_out same_err)
 
 pub returns-in-Err-clause-exact : goal.returns-in-Err-clause-exact
 returns-in-Err-clause-exact g c = λ left k same_out same_err.
     let input = input_of left (g.I.Source.faults c.args.input.now) (g.I.Source.faults c.args.input.now) in
-    gives_said (AnswersTokens c.args.file.now c.args.text.now c.args.tokens.now input (task_shown c.args.task)) (unparsed c.in-Err.error c.args.file.now c.args.text.now) left _ _ _ _ _ _ _ _
-    (unparsed_is c.in-Err.error c.args.file.now c.args.text.now c.args.tokens.now input (task_shown c.args.task) c.in-Err.ensures.refused)
-    (unparsed_silent c.in-Err.error c.args.file.now c.args.text.now) k refl same_err c.refuse_tokens.ensures.says
+    gives_said (AnswersTokens c.args.file.now c.args.opened.now c.args.tokens.now input (task_shown c.args.task)) (unparsed c.in-Err.error c.args.opened.now) left _ _ _ _ _ _ _ _
+    (unparsed_is c.in-Err.error c.args.file.now c.args.opened.now c.args.tokens.now input (task_shown c.args.task) c.in-Err.ensures.refused)
+    (unparsed_silent c.in-Err.error c.args.opened.now) k refl same_err c.refuse_tokens.ensures.says
 
 pub returns-in-Ok-clause-broken : goal.returns-in-Ok-clause-broken
 returns-in-Ok-clause-broken g c = λ left k fails a is more.
@@ -28,17 +28,17 @@ returns-in-Ok-clause-broken g c = λ left k fails a is more.
 
 pub returns-in-Err-clause-broken : goal.returns-in-Err-clause-broken
 returns-in-Err-clause-broken g c = λ left k fails a is more.
-    broken_own (unparsed c.in-Err.error c.args.file.now c.args.text.now) a left _ _ _ _ _ _ _ _ _ _ _ _
-    (unparsed_line c.in-Err.error c.args.file.now c.args.text.now c.args.tokens.now (steady left) (task_shown c.args.task) a c.in-Err.ensures.refused is)
+    broken_own (unparsed c.in-Err.error c.args.opened.now) a left _ _ _ _ _ _ _ _ _ _ _ _
+    (unparsed_line c.in-Err.error c.args.file.now c.args.opened.now c.args.tokens.now (steady left) (task_shown c.args.task) a c.in-Err.ensures.refused is)
     k refl refl refl c.refuse_tokens.ensures.says
 
 pub returns-in-Err-clause-memory : goal.returns-in-Err-clause-memory
 returns-in-Err-clause-memory g c =
-    wanted _ _ (unparsed c.in-Err.error c.args.file.now c.args.text.now) _ _ _ _ _ (λ one. (refl, refl)) (unparsed_wants c.in-Err.error c.args.file.now c.args.text.now) c.refuse_tokens.ensures.says
+    wanted _ _ (unparsed c.in-Err.error c.args.opened.now) _ _ _ _ _ (λ one. (refl, refl)) (unparsed_wants c.in-Err.error c.args.opened.now) c.refuse_tokens.ensures.says
 
 pub returns-in-Err-clause-cause : goal.returns-in-Err-clause-cause
 returns-in-Err-clause-cause g c =
-    caused _ _ _ _ _ _ _ _ _ (λ h. inr (inr h)) (λ h. absurd (unparsed_no_fault c.in-Err.error c.args.file.now c.args.text.now h)) c.refuse_tokens.ensures.says
+    caused _ _ _ _ _ _ _ _ _ (λ h. inr (inr h)) (λ h. absurd (unparsed_no_fault c.in-Err.error c.args.opened.now h)) c.refuse_tokens.ensures.says
 
 pub returns-in-Err-clause-refused : goal.returns-in-Err-clause-refused
 returns-in-Err-clause-refused g c = λ is. inl (refl, refl)

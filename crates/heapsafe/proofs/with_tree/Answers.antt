@@ -12,32 +12,32 @@ use Rattle.heapsafe.proofs.with_tree.Goals as goal
 
 pub returns-in-Run-clause-exact : goal.returns-in-Run-clause-exact
 returns-in-Run-clause-exact g c = λ left k same_out same_err.
-    subst (λ (t : Task). Gives (Does c.args.file.now c.args.text.now (unit_view c.args.unit.now) (input_of left (g.I.Source.faults c.args.input.now) (g.I.Source.faults c.run_program.new.input)) (task_shown t)) left (g.I.Source.left c.run_program.new.input) (g.O.Sink.taken c.args.out.now) (g.O.Sink.taken c.run_program.new.out) (g.E.Sink.taken c.args.err.now) (g.E.Sink.taken c.run_program.new.err) c.run_program.result) (sym c.in-Run.is)
+    subst (λ (t : Task). Gives (Does c.args.file.now c.args.opened.now (unit_view c.args.unit.now) (input_of left (g.I.Source.faults c.args.input.now) (g.I.Source.faults c.run_program.new.input)) (task_shown t)) left (g.I.Source.left c.run_program.new.input) (g.O.Sink.taken c.args.out.now) (g.O.Sink.taken c.run_program.new.out) (g.E.Sink.taken c.args.err.now) (g.E.Sink.taken c.run_program.new.err) c.run_program.result) (sym c.in-Run.is)
     (c.run_program.ensures.exact left k same_out same_err)
 
 pub returns-in-Mean-clause-exact : goal.returns-in-Mean-clause-exact
 returns-in-Mean-clause-exact g c = λ left k same_out same_err.
-    subst (λ (t : Task). Gives (Does c.args.file.now c.args.text.now (unit_view c.args.unit.now) (input_of left (g.I.Source.faults c.args.input.now) (g.I.Source.faults c.run_program-in-Mean.new.input)) (task_shown t)) left (g.I.Source.left c.run_program-in-Mean.new.input) (g.O.Sink.taken c.args.out.now) (g.O.Sink.taken c.run_program-in-Mean.new.out) (g.E.Sink.taken c.args.err.now) (g.E.Sink.taken c.run_program-in-Mean.new.err) c.run_program-in-Mean.result) (sym c.in-Mean.is)
+    subst (λ (t : Task). Gives (Does c.args.file.now c.args.opened.now (unit_view c.args.unit.now) (input_of left (g.I.Source.faults c.args.input.now) (g.I.Source.faults c.run_program-in-Mean.new.input)) (task_shown t)) left (g.I.Source.left c.run_program-in-Mean.new.input) (g.O.Sink.taken c.args.out.now) (g.O.Sink.taken c.run_program-in-Mean.new.out) (g.E.Sink.taken c.args.err.now) (g.E.Sink.taken c.run_program-in-Mean.new.err) c.run_program-in-Mean.result) (sym c.in-Mean.is)
     (c.run_program-in-Mean.ensures.exact left k same_out same_err)
 
 pub returns-in-Print-clause-exact : goal.returns-in-Print-clause-exact
 returns-in-Print-clause-exact g c = λ left k same_out same_err.
-    subst (λ (t : Task). Gives (Does c.args.file.now c.args.text.now (unit_view c.args.unit.now) (input_of left (g.I.Source.faults c.args.input.now) (g.I.Source.faults c.args.input.now)) (task_shown t)) left (g.I.Source.left c.args.input.now) (g.O.Sink.taken c.args.out.now) (g.O.Sink.taken c.print.new.out) (g.E.Sink.taken c.args.err.now) (g.E.Sink.taken c.print.new.err) c.print.result) (sym c.in-Print.is)
+    subst (λ (t : Task). Gives (Does c.args.file.now c.args.opened.now (unit_view c.args.unit.now) (input_of left (g.I.Source.faults c.args.input.now) (g.I.Source.faults c.args.input.now)) (task_shown t)) left (g.I.Source.left c.args.input.now) (g.O.Sink.taken c.args.out.now) (g.O.Sink.taken c.print.new.out) (g.E.Sink.taken c.args.err.now) (g.E.Sink.taken c.print.new.err) c.print.result) (sym c.in-Print.is)
     (gives_left _ left _ _ _ _ _ _ k (c.print.ensures.exact left same_out same_err))
 
 pub returns-in-Layout-clause-exact : goal.returns-in-Layout-clause-exact
 returns-in-Layout-clause-exact g c = λ left k same_out same_err.
-    subst (λ (t : Task). Gives (Does c.args.file.now c.args.text.now (unit_view c.args.unit.now) (input_of left (g.I.Source.faults c.args.input.now) (g.I.Source.faults c.args.input.now)) (task_shown t)) left (g.I.Source.left c.args.input.now) (g.O.Sink.taken c.args.out.now) (g.O.Sink.taken c.layouts.new.out) (g.E.Sink.taken c.args.err.now) (g.E.Sink.taken c.layouts.new.err) c.layouts.result) (sym c.in-Layout.is)
+    subst (λ (t : Task). Gives (Does c.args.file.now c.args.opened.now (unit_view c.args.unit.now) (input_of left (g.I.Source.faults c.args.input.now) (g.I.Source.faults c.args.input.now)) (task_shown t)) left (g.I.Source.left c.args.input.now) (g.O.Sink.taken c.args.out.now) (g.O.Sink.taken c.layouts.new.out) (g.E.Sink.taken c.args.err.now) (g.E.Sink.taken c.layouts.new.err) c.layouts.result) (sym c.in-Layout.is)
     (gives_left _ left _ _ _ _ _ _ k (c.layouts.ensures.exact left same_out same_err))
 
 pub returns-in-List-clause-exact : goal.returns-in-List-clause-exact
 returns-in-List-clause-exact g c = λ left k same_out same_err.
-    subst (λ (t : Task). Gives (Does c.args.file.now c.args.text.now (unit_view c.args.unit.now) (input_of left (g.I.Source.faults c.args.input.now) (g.I.Source.faults c.args.input.now)) (task_shown t)) left (g.I.Source.left c.args.input.now) (g.O.Sink.taken c.args.out.now) (g.O.Sink.taken c.core_list.new.out) (g.E.Sink.taken c.args.err.now) (g.E.Sink.taken c.core_list.new.err) c.core_list.result) (sym c.in-List.is)
+    subst (λ (t : Task). Gives (Does c.args.file.now c.args.opened.now (unit_view c.args.unit.now) (input_of left (g.I.Source.faults c.args.input.now) (g.I.Source.faults c.args.input.now)) (task_shown t)) left (g.I.Source.left c.args.input.now) (g.O.Sink.taken c.args.out.now) (g.O.Sink.taken c.core_list.new.out) (g.E.Sink.taken c.args.err.now) (g.E.Sink.taken c.core_list.new.err) c.core_list.result) (sym c.in-List.is)
     (gives_left _ left _ _ _ _ _ _ k (c.core_list.ensures.exact left same_out same_err))
 
 pub returns-in-Live-clause-exact : goal.returns-in-Live-clause-exact
 returns-in-Live-clause-exact g c = λ left k same_out same_err.
-    subst (λ (t : Task). Gives (Does c.args.file.now c.args.text.now (unit_view c.args.unit.now) (input_of left (g.I.Source.faults c.args.input.now) (g.I.Source.faults c.args.input.now)) (task_shown t)) left (g.I.Source.left c.args.input.now) (g.O.Sink.taken c.args.out.now) (g.O.Sink.taken c.core_live.new.out) (g.E.Sink.taken c.args.err.now) (g.E.Sink.taken c.core_live.new.err) c.core_live.result) (sym c.in-Live.is)
+    subst (λ (t : Task). Gives (Does c.args.file.now c.args.opened.now (unit_view c.args.unit.now) (input_of left (g.I.Source.faults c.args.input.now) (g.I.Source.faults c.args.input.now)) (task_shown t)) left (g.I.Source.left c.args.input.now) (g.O.Sink.taken c.args.out.now) (g.O.Sink.taken c.core_live.new.out) (g.E.Sink.taken c.args.err.now) (g.E.Sink.taken c.core_live.new.err) c.core_live.result) (sym c.in-Live.is)
     (gives_left _ left _ _ _ _ _ _ k (c.core_live.ensures.exact left same_out same_err))
 
 pub returns-in-Print-clause-faults : goal.returns-in-Print-clause-faults
@@ -54,27 +54,27 @@ returns-in-Live-clause-faults g c = λ t. c.core_live.ensures.faults t (g.I.Sour
 
 pub returns-in-Run-clause-broken : goal.returns-in-Run-clause-broken
 returns-in-Run-clause-broken g c = λ left k fails a is more.
-    c.run_program.ensures.broken left k fails a (subst (λ (t : Task). Does c.args.file.now c.args.text.now (unit_view c.args.unit.now) (steady left) (task_shown t) a) c.in-Run.is is) more
+    c.run_program.ensures.broken left k fails a (subst (λ (t : Task). Does c.args.file.now c.args.opened.now (unit_view c.args.unit.now) (steady left) (task_shown t) a) c.in-Run.is is) more
 
 pub returns-in-Mean-clause-broken : goal.returns-in-Mean-clause-broken
 returns-in-Mean-clause-broken g c = λ left k fails a is more.
-    c.run_program-in-Mean.ensures.broken left k fails a (subst (λ (t : Task). Does c.args.file.now c.args.text.now (unit_view c.args.unit.now) (steady left) (task_shown t) a) c.in-Mean.is is) more
+    c.run_program-in-Mean.ensures.broken left k fails a (subst (λ (t : Task). Does c.args.file.now c.args.opened.now (unit_view c.args.unit.now) (steady left) (task_shown t) a) c.in-Mean.is is) more
 
 pub returns-in-Print-clause-broken : goal.returns-in-Print-clause-broken
 returns-in-Print-clause-broken g c = λ left k fails a is more.
-    broken_left a left _ _ _ _ _ _ _ _ _ _ _ k (c.print.ensures.broken left _ fails a (subst (λ (t : Task). Does c.args.file.now c.args.text.now (unit_view c.args.unit.now) (steady left) (task_shown t) a) c.in-Print.is is))
+    broken_left a left _ _ _ _ _ _ _ _ _ _ _ k (c.print.ensures.broken left _ fails a (subst (λ (t : Task). Does c.args.file.now c.args.opened.now (unit_view c.args.unit.now) (steady left) (task_shown t) a) c.in-Print.is is))
 
 pub returns-in-Layout-clause-broken : goal.returns-in-Layout-clause-broken
 returns-in-Layout-clause-broken g c = λ left k fails a is more.
-    broken_left a left _ _ _ _ _ _ _ _ _ _ _ k (c.layouts.ensures.broken left _ fails a (subst (λ (t : Task). Does c.args.file.now c.args.text.now (unit_view c.args.unit.now) (steady left) (task_shown t) a) c.in-Layout.is is))
+    broken_left a left _ _ _ _ _ _ _ _ _ _ _ k (c.layouts.ensures.broken left _ fails a (subst (λ (t : Task). Does c.args.file.now c.args.opened.now (unit_view c.args.unit.now) (steady left) (task_shown t) a) c.in-Layout.is is))
 
 pub returns-in-List-clause-broken : goal.returns-in-List-clause-broken
 returns-in-List-clause-broken g c = λ left k fails a is more.
-    broken_left a left _ _ _ _ _ _ _ _ _ _ _ k (c.core_list.ensures.broken left _ fails a (subst (λ (t : Task). Does c.args.file.now c.args.text.now (unit_view c.args.unit.now) (steady left) (task_shown t) a) c.in-List.is is))
+    broken_left a left _ _ _ _ _ _ _ _ _ _ _ k (c.core_list.ensures.broken left _ fails a (subst (λ (t : Task). Does c.args.file.now c.args.opened.now (unit_view c.args.unit.now) (steady left) (task_shown t) a) c.in-List.is is))
 
 pub returns-in-Live-clause-broken : goal.returns-in-Live-clause-broken
 returns-in-Live-clause-broken g c = λ left k fails a is more.
-    broken_left a left _ _ _ _ _ _ _ _ _ _ _ k (c.core_live.ensures.broken left _ fails a (subst (λ (t : Task). Does c.args.file.now c.args.text.now (unit_view c.args.unit.now) (steady left) (task_shown t) a) c.in-Live.is is))
+    broken_left a left _ _ _ _ _ _ _ _ _ _ _ k (c.core_live.ensures.broken left _ fails a (subst (λ (t : Task). Does c.args.file.now c.args.opened.now (unit_view c.args.unit.now) (steady left) (task_shown t) a) c.in-Live.is is))
 
 pub returns-in-Run-clause-memory : goal.returns-in-Run-clause-memory
 returns-in-Run-clause-memory g c =

@@ -4,7 +4,7 @@ use Rattle.heapsafe.proofs.leaks.write_leaks.Goals as goal
 
 pub returns-in_err-leak_line-clause-bytes : goal.returns-in_err-leak_line-clause-bytes
 returns-in_err-leak_line-clause-bytes g c = λ places objects keeps leaks are.
-    failed_begun objects leaks c.lines.above c.in-Some.leak _ _ _ c.leak_line.result c.from_residual.result
+    failed_begun c.args.opened.now objects leaks c.lines.above c.in-Some.leak _ _ _ c.leak_line.result c.from_residual.result
     (search rules) c.from_residual.ensures.0 (sym (c.leak.ensures places objects keeps) ∙ c.in-Some.is) c.leak_line.ensures.bytes
     (c.lines.invariant.begun places objects keeps leaks are)
 
@@ -17,7 +17,7 @@ lines-smaller g c =
 pub lines-preserved : goal.lines-preserved
 lines-preserved g c = record {
   begun = λ places objects keeps leaks are.
-      one_begun objects leaks c.lines.above c.in-Some.leak _ _ _ (sym (c.leak.ensures places objects keeps) ∙ c.in-Some.is) c.in_ok-leak_line.ensures.bytes
+      one_begun c.args.opened.now objects leaks c.lines.above c.in-Some.leak _ _ _ (sym (c.leak.ensures places objects keeps) ∙ c.in-Some.is) c.in_ok-leak_line.ensures.bytes
       (c.lines.invariant.begun places objects keeps leaks are);
   all = λ places objects keeps more are.
       c.lines.invariant.all places objects keeps (c.in-Some.leak ∷ more) (sym (c.leak.ensures places objects keeps) ∙ c.in-Some.is, are);
@@ -26,7 +26,7 @@ lines-preserved g c = record {
 
 pub returns-clause-bytes : goal.returns-clause-bytes
 returns-clause-bytes g c = λ places objects keeps leaks are.
-    all_begun objects leaks c.lines.above _ _ (sym (c.leak.ensures places objects keeps) ∙ c.in_default.is) (c.lines.invariant.begun places objects keeps leaks are)
+    all_begun c.args.opened.now objects leaks c.lines.above _ _ (sym (c.leak.ensures places objects keeps) ∙ c.in_default.is) (c.lines.invariant.begun places objects keeps leaks are)
 
 pub returns-clause-all : goal.returns-clause-all
 returns-clause-all g c = λ places objects keeps.

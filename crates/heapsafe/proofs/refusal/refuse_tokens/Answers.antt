@@ -5,5 +5,5 @@ use Rattle.heapsafe.proofs.refusal.refuse_tokens.Goals as goal
 
 pub returns-in-NoMemory : goal.returns-in-NoMemory
 returns-in-NoMemory g c = record {
-  says = subst (λ (e : ParseError). Says (g.E.Sink.taken c.args.err.now) (g.E.Sink.taken c.refuse.new.err) (g.E.Sink.faults c.args.err.now) (g.E.Sink.faults c.refuse.new.err) (unparsed e c.args.file.now c.args.text.now).err (unparsed e c.args.file.now c.args.text.now).status c.refuse.result) (sym c.in-NoMemory.is) c.refuse.ensures.says;
+  says = subst (λ (e : ParseError). Says (g.E.Sink.taken c.args.err.now) (g.E.Sink.taken c.refuse.new.err) (g.E.Sink.faults c.args.err.now) (g.E.Sink.faults c.refuse.new.err) (unparsed e c.args.file.now c.args.opened.now).err (unparsed e c.args.file.now c.args.opened.now).status c.refuse.result) (sym c.in-NoMemory.is) c.refuse.ensures.says;
 }

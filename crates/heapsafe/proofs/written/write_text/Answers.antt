@@ -2,7 +2,7 @@ use Rattle.std.proofs.Common.{[], inl, refl, ⊎_elim, arith}
 use Rattle.heapsafe.specs.Shown.{written, output_fault}
 use Rattle.heapsafe.proofs.Told.{takes_none}
 use Rattle.heapsafe.proofs.Broken.{broken_text}
-use Rattle.heapsafe.proofs.Statuses.{unwanted, no_fault_0, never_refused, refusal_within}
+use Rattle.heapsafe.proofs.Statuses.{unwanted, no_fault_0, never_refused, refusal_low}
 use Rattle.heapsafe.proofs.written.write_text.Goals as goal
 
 pub returns-in-Ok-clause-exact : goal.returns-in-Ok-clause-exact
@@ -38,7 +38,7 @@ pub returns-in-Err-clause-cause : goal.returns-in-Err-clause-cause
 returns-in-Err-clause-cause g c = λ is. inl (inl (omega (arith, c.in-Err.ensures.cause)))
 
 pub returns-in-Ok-clause-refused : goal.returns-in-Ok-clause-refused
-returns-in-Ok-clause-refused g c = λ is. let within = refusal_within 0 is in absurd (omega (arith, within.0))
+returns-in-Ok-clause-refused g c = λ is. absurd (omega (arith, refusal_low 0 is))
 
 pub returns-in-Err-clause-refused : goal.returns-in-Err-clause-refused
-returns-in-Err-clause-refused g c = never_refused _ _ _ _ _ _ 133 _ output_fault.err (omega arith) c.refuse.ensures.says
+returns-in-Err-clause-refused g c = never_refused _ _ _ _ _ _ 133 _ output_fault.err (omega arith) (omega arith) c.refuse.ensures.says

@@ -1,0 +1,81 @@
+-- Lines of the texts that were opened. Below the tokens a line is counted over all of them, in the order in which they were
+-- opened; what is said names a text and counts in it.
+use Rattle.std.specs.Prelude.{ℕ, ◌-◌, nat_lt, cond, List, [], ◌∷◌, map, Option, Some, None, option_map}
+use Rattle.hs_base.specs.declared.ends.BadFree.{BadFree as WrongFree}
+use Rattle.hs_base.specs.declared.ends.End.{End}
+use Rattle.hs_base.specs.declared.ends.End.TheVariants.{Exit, Trap, BadFree, Escape, Spent, OutOfStack, InputFault, OutputFault}
+use Rattle.hs_base.specs.declared.ends.Holder.{Holder}
+use Rattle.hs_base.specs.declared.ends.Holder.TheVariants.{Global, Memory, Block, Register}
+use Rattle.hs_base.specs.declared.ends.Leak.{Leak}
+use Rattle.bad_free_report.specs.Report.{end_report}
+use Rattle.c_pre.specs.declared.answer.Opened.{Opened}
+use Rattle.c_pre.specs.declared.answer.Place.{Place}
+use Rattle.core_tree.specs.declared.program.Core.{Core}
+use Rattle.heapsafe.specs.Leaks.{leak_lines}
+
+-- the last of some texts that begins before a line, or the one before them
+abbrev pub last_before : Option Opened → List Opened → ℕ → Option Opened
+last_before found [] line = found
+last_before found (t ∷ opened) line = last_before (cond (nat_lt t.base line) (Some t) found) opened line
+
+-- the text that a line stands in
+abbrev pub text_of : List Opened → ℕ → Option Opened
+text_of opened line = last_before None opened line
+
+-- a line of a text
+abbrev pub line_of : Option Opened → ℕ → Place
+line_of None line = record { name = []; line = line; text = [] }
+line_of (Some t) line = record { name = t.name; line = line - t.base; text = t.text }
+
+-- a line of the texts, in its text
+abbrev pub line_in : List Opened → ℕ → Place
+line_in opened line = line_of (text_of opened line) line
+
+-- its number there
+abbrev pub told_line : List Opened → ℕ → ℕ
+told_line opened line = (line_in opened line).line
+
+-- a holder, a bad free, an end and a leak with lines of their texts
+abbrev pub told_holder : List Opened → Holder → Holder
+told_holder opened (Block line offset) = Block (told_line opened line) offset
+told_holder opened (Global index offset) = Global index offset
+told_holder opened (Memory func index offset) = Memory func index offset
+told_holder opened (Register func index) = Register func index
+
+abbrev pub told_free : List Opened → WrongFree → WrongFree
+told_free opened free = record { reason = free.reason; line = told_line opened free.line }
+
+abbrev pub told_end : List Opened → End → End
+told_end opened (Trap kind line) = Trap kind (told_line opened line)
+told_end opened (BadFree free holder) = BadFree (told_free opened free) (option_map (told_holder opened) holder)
+told_end opened (Escape func local line) = Escape func local (told_line opened line)
+told_end opened (OutOfStack line) = OutOfStack (told_line opened line)
+told_end opened (Exit code) = Exit code
+told_end opened Spent = Spent
+told_end opened InputFault = InputFault
+told_end opened OutputFault = OutputFault
+
+abbrev pub told_leak : List Opened → Leak → Leak
+told_leak opened leak = record { line = told_line opened leak.line; blocks = leak.blocks; bytes = leak.bytes }
+
+-- the line of an end, where it has one
+abbrev pub line_of_end : End → Option ℕ
+line_of_end (Trap kind line) = Some line
+line_of_end (BadFree free holder) = Some free.line
+line_of_end (Escape func local line) = Some line
+line_of_end (OutOfStack line) = Some line
+line_of_end e = None
+
+-- the place that is named of it: of an end without a line the file that was asked for
+abbrev pub named_place : List ℕ → List Opened → Option ℕ → Place
+named_place file opened None = record { name = file; line = 0; text = [] }
+named_place file opened (Some line) = line_in opened line
+
+-- what is said of an end
+abbrev pub told_report : Core → List ℕ → List Opened → End → List ℕ
+told_report core file opened e =
+    let at = named_place file opened (line_of_end e) in end_report core at.name at.text (told_end opened e)
+
+-- a line for each leak
+abbrev pub told_leaks : List Opened → List Leak → List ℕ
+told_leaks opened leaks = leak_lines (map (told_leak opened) leaks)

@@ -1,0 +1,5 @@
+#define SIZE 10
+#define SIZE 11
+int main(void) {
+  return SIZE;
+}

@@ -1,0 +1,4 @@
+#include "too_deep.c"
+int main(void) {
+  return 0;
+}

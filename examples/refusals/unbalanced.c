@@ -1,0 +1,4 @@
+#ifdef WIDE
+int main(void) {
+  return 0;
+}
