@@ -49,6 +49,25 @@ mention Shared role name line s =
     record s { mentions = s.mentions ++ record { role = role; name = name; line = line } ∷ [] }
 mention binding role name line s = s
 
+abbrev pub mention_any : Option (List ℕ) → Binding → Role → ℕ → Names → Names
+mention_any None binding role line s = s
+mention_any (Some name) binding role line s = mention binding role name line s
+
+-- a name in an expression is mentioned
+abbrev pub used : Option (List ℕ) → ℕ → Names → Names
+used None line s = s
+used (Some name) line s = mention (binding_of s.known name) Used name line s
+
+-- the line of a node, by its parts
+abbrev pub line_in : Trees → ℕ
+line_in (At line ▹ rest) = line
+line_in parts = 0
+
+-- the name of a tag with braces, by its parts
+abbrev pub tag_name : Trees → Option (List ℕ)
+tag_name (line ▹ Node f.MaybeName names ▹ rest) = name_among names
+tag_name parts = None
+
 -- what is declared at a place that is in no declarator of file scope
 abbrev pub binding_at : Names → Binding
 binding_at s = if s.inside then Inner else Shared
@@ -63,28 +82,11 @@ left_part false before inner = inner
 
 -- what a node says before its parts: a tag with braces and an enumerator are mentioned, and a parameter list is a scope
 unfoldable pub entered : Form → Trees → Names → Names
-entered (f.RecordBody sort) (At line ▹ Node f.MaybeName (Leaf (w.Name name) ▹ none) ▹ rest) s =
-    mention (binding_at s) Tagged name line s
-entered (f.EnumBody trailing) (At line ▹ Node f.MaybeName (Leaf (w.Name name) ▹ none) ▹ rest) s =
-    mention (binding_at s) Tagged name line s
-entered f.Enumerator (At line ▹ Leaf (w.Name name) ▹ rest) s = mention (binding_at s) Defined name line s
+entered (f.RecordBody sort) parts s = mention_any (tag_name parts) (binding_at s) Tagged (line_in parts) s
+entered (f.EnumBody trailing) parts s = mention_any (tag_name parts) (binding_at s) Tagged (line_in parts) s
+entered f.Enumerator parts s = mention_any (name_among parts) (binding_at s) Defined (line_in parts) s
 entered f.FunctionSuffix parts s = record s { inside = true }
 entered form parts s = s
-
--- a name in an expression
-unfoldable pub named : Trees → Names → Tree
-named (At line ▹ Leaf (w.Name name) ▹ none) s =
-    Node f.Name (At line ▹ name_leaf (name_by (binding_of s.known name) s.suffix name) ▹ none)
-named parts s = Node f.Name parts
-
-unfoldable pub mentioned : Trees → Names → Names
-mentioned (At line ▹ Leaf (w.Name name) ▹ none) s = mention (binding_of s.known name) Used name line s
-mentioned parts s = s
-
--- a node with its parts as they stand in the program
-abbrev pub made : Form → Trees → Names → Tree
-made f.Name parts s = named parts s
-made form parts s = Node form parts
 
 -- what is known behind a node, given what is known before it and behind its parts: names are declared at the end of their
 -- declarators, parameters and enumerators
@@ -102,23 +104,44 @@ left f.FunctionSuffix parts before inner = left_scope before inner
 left f.Declared parts before inner = declare (name_among parts) Inner inner
 left f.Param parts before inner = declare (name_among parts) Inner inner
 left f.Enumerator parts before inner = declare (name_among parts) (binding_at inner) inner
-left f.Name parts before inner = mentioned parts inner
+left f.Name parts before inner = used (name_among parts) (line_in parts) inner
 left form parts before inner = inner
 
 unfoldable mutual
-  -- a tree of a unit as it stands in the program, and what is known behind it
-  pub changed : Tree → Names → Tree × Names
-  changed (Leaf word) s = (Leaf word, s)
-  changed (At line) s = (At line, s)
-  changed (Node form parts) s =
-      let inner = all_changed parts (places (shape form (count parts))) (entered form parts s) in
-      (made form inner.0 inner.1, left form parts s inner.1)
+  -- what is known behind a tree
+  pub behind : Tree → Names → Names
+  behind (Leaf word) s = s
+  behind (At line) s = s
+  behind (Node form parts) s =
+      left form parts s (all_behind parts (places (shape form (count parts))) (entered form parts s))
 
   -- the same of parts in turn, at these places
-  pub all_changed : Trees → List Place → Names → Trees × Names
-  all_changed none ps s = (none, s)
-  all_changed (tree ▹ rest) [] s = (tree ▹ rest, s)
-  all_changed (tree ▹ rest) (place ∷ ps) s =
-      let here = changed tree s in
-      let more = all_changed rest ps (left_part (is_scope place) s here.1) in
-      (here.0 ▹ more.0, more.1)
+  pub all_behind : Trees → List Place → Names → Names
+  all_behind none ps s = s
+  all_behind (tree ▹ rest) [] s = s
+  all_behind (tree ▹ rest) (place ∷ ps) s = all_behind rest ps (left_part (is_scope place) s (behind tree s))
+
+-- a name in an expression, as it stands in the program
+unfoldable pub named : Trees → Names → Tree
+named (At line ▹ Leaf (w.Name name) ▹ none) s =
+    Node f.Name (At line ▹ name_leaf (name_by (binding_of s.known name) s.suffix name) ▹ none)
+named parts s = Node f.Name parts
+
+-- a node with its parts as they stand there
+unfoldable pub made : Form → Trees → Names → Tree
+made f.Name parts s = named parts s
+made form parts s = Node form parts
+
+unfoldable mutual
+  -- a tree of a unit as it stands in the program
+  pub renamed : Tree → Names → Tree
+  renamed (Leaf word) s = Leaf word
+  renamed (At line) s = At line
+  renamed (Node form parts) s = made form (all_renamed parts (places (shape form (count parts))) (entered form parts s)) s
+
+  -- the same of parts in turn, at these places
+  pub all_renamed : Trees → List Place → Names → Trees
+  all_renamed none ps s = none
+  all_renamed (tree ▹ rest) [] s = tree ▹ rest
+  all_renamed (tree ▹ rest) (place ∷ ps) s =
+      renamed tree s ▹ all_renamed rest ps (left_part (is_scope place) s (behind tree s))

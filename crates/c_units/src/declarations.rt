@@ -1,9 +1,13 @@
 //! Declarators by their names.
 
 ghost use Rattle.std.specs.Prelude.{◌≡◌, IfOk, option_map};
-ghost use Rattle.c_tree.specs.Scopes.{name_of, params_of};
+ghost use Rattle.c_tree.specs.Forms as form;
+ghost use Rattle.c_tree.specs.Scopes.{name_of, params_of, suffix_params};
+ghost use Rattle.c_tree.specs.StatementView.{trees, param_view, suffix_view};
+ghost use Rattle.c_tree.specs.Tree.{Node, none, ◌▹◌};
 ghost use Rattle.c_tree.specs.View.{declarator_tree, base_tree};
-ghost use Rattle.c_units.specs.Gives.{GivesNamed};
+ghost use Rattle.c_units.specs.Externals.{with_name};
+ghost use Rattle.c_units.specs.Names.{behind, renamed};
 
 use crate::walk::Walk;
 use c_tree::{Base, Declarator, Param, Suffix, SuffixKind};
@@ -12,7 +16,7 @@ use hs_base::{Items, NoMemory};
 /// The name of a declarator.
 #[cycle(declared)]
 pub(crate) fn declared_name(declarator: &Declarator) -> Option<&[u8]>
-    ensures { option_map (λ name. name.now) result ≡ name_of (declarator_tree declarator.entry.now) }
+    ensures { option_map (λ name. name.now) result ≡ name_of (declarator_tree declarator.now) }
 {
     match declarator {
         Declarator::Pointer(_, _, target) => declared_name(target),
@@ -25,7 +29,9 @@ pub(crate) fn declared_name(declarator: &Declarator) -> Option<&[u8]>
 }
 
 /// The parameters of the first of some suffixes, where it is a parameter list.
-fn suffix_params(suffixes: &[Suffix]) -> Option<&[Param]> {
+fn suffix_params(suffixes: &[Suffix]) -> Option<&[Param]>
+    ensures { option_map (λ params. Node form.Params (trees param_view params.now) ▹ none) result ≡ suffix_params (Node form.Suffixes (trees suffix_view suffixes.now) ▹ none) }
+{
     match suffixes {
         [Suffix { kind: SuffixKind::Params(params), .. }, ..] => Some(params),
         _ => None,
@@ -33,7 +39,10 @@ fn suffix_params(suffixes: &[Suffix]) -> Option<&[Param]> {
 }
 
 /// The parameters next to the name of a declarator.
-pub(crate) fn declared_params(declarator: &Declarator) -> Option<&[Param]> {
+#[cycle(params)]
+pub(crate) fn declared_params(declarator: &Declarator) -> Option<&[Param]>
+    ensures { option_map (λ params. Node form.Params (trees param_view params.now) ▹ none) result ≡ params_of (declarator_tree declarator.now) }
+{
     match declarator {
         Declarator::Pointer(_, _, target) => declared_params(target),
         Declarator::Direct(base, suffixes) => match base {
@@ -46,12 +55,14 @@ pub(crate) fn declared_params(declarator: &Declarator) -> Option<&[Param]> {
 
 impl<'a> Walk<'a> {
     /// A declarator with another name.
+    #[cycle(named)]
     pub(crate) fn declarator_as(
         &mut self,
         declarator: &'a Declarator,
         name: Items<u8>,
     ) -> Result<Declarator, NoMemory>
-        ensures { GivesNamed name (declarator_tree declarator.entry.now) self.old self.new result }
+        ensures tree { IfOk result (λ r. declarator_tree r ≡ with_name name (renamed (declarator_tree declarator.now) self.old)) }
+        ensures names { IfOk result (λ _. self.new ≡ behind (declarator_tree declarator.now) self.old) }
     {
         match declarator {
             Declarator::Pointer(line, consts, target) => {
@@ -67,7 +78,11 @@ impl<'a> Walk<'a> {
     }
 
     /// What suffixes stand behind, with another name.
-    fn base_as(&mut self, base: &'a Base, name: Items<u8>) -> Result<Base, NoMemory> {
+    #[cycle(named)]
+    fn base_as(&mut self, base: &'a Base, name: Items<u8>) -> Result<Base, NoMemory>
+        ensures tree { IfOk result (λ r. base_tree r ≡ with_name name (renamed (base_tree base.now) self.old)) }
+        ensures names { IfOk result (λ _. self.new ≡ behind (base_tree base.now) self.old) }
+    {
         match base {
             Base::Nothing => Ok(Base::nothing()),
             Base::Name(_) => Ok(Base::name(name)),

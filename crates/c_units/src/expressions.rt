@@ -1,9 +1,14 @@
 //! Expressions, specs and declarators as they stand in the program.
 
-ghost use Rattle.std.specs.Prelude.{◌≡◌, IfOk};
-ghost use Rattle.c_tree.specs.View.{expr_tree, spec_tree, tag_tree, enumerator_tree, declarator_tree, base_tree, suffix_tree};
-ghost use Rattle.c_tree.specs.StatementView.{trees, expr_view, specs_view, typename_view, tag_view, member_view, suffix_view, param_view};
-ghost use Rattle.c_units.specs.Gives.{Gives, GivesAll, GivesNamed};
+ghost use Rattle.std.specs.Prelude.{◌≡◌, IfOk, option_map};
+ghost use Rattle.c_tree.specs.Forms as form;
+ghost use Rattle.c_tree.specs.Forms.{Form};
+ghost use Rattle.c_tree.specs.Tree.{At, Node, none, ◌▹◌};
+ghost use Rattle.c_tree.specs.View.{expr_tree, spec_tree, tag_tree, enumerator_tree, declarator_tree, base_tree, suffix_tree, name_leaf};
+ghost use Rattle.c_tree.specs.StatementView.{trees, maybe, expr_view, specs_view, typename_view, tag_view, member_view, suffix_view, param_view};
+ghost use Rattle.c_units.specs.declared.mention.Role.TheVariants.{Used, Tagged};
+ghost use Rattle.c_units.specs.Names.{behind, binding_at, binding_of, mention, mention_any, name_by, renamed};
+ghost use Rattle.c_units.specs.Turns.{behind_maybe, each_renamed, in_turn, renamed_maybe};
 
 use crate::declarations::declared_name;
 use crate::mention::Role;
@@ -17,14 +22,19 @@ use hs_base::{Items, Line, NoMemory};
 
 impl<'a> Walk<'a> {
     /// A name in an expression.
-    fn name(&mut self, line: Line, name: &'a [u8]) -> Result<Expr, NoMemory> {
+    fn name(&mut self, line: Line, name: &'a [u8]) -> Result<Expr, NoMemory>
+        ensures tree { IfOk result (λ r. expr_view r ≡ Node form.Name (At line ▹ name_leaf (name_by (binding_of self.old.known name.entry.now) self.old.suffix name.entry.now) ▹ none)) }
+        ensures names { IfOk result (λ _. self.new ≡ mention (binding_of self.old.known name.entry.now) Used name.entry.now line self.old) }
+    {
         let binding = self.binding(name);
         self.mention(binding, Role::Used, name, line)?;
         Ok(Expr::name(line, self.name_by(binding, name)?))
     }
 
     /// String literals.
-    fn strings(&self, list: &[Items<u8>]) -> Result<Items<Items<u8>>, NoMemory> {
+    fn strings(&self, list: &[Items<u8>]) -> Result<Items<Items<u8>>, NoMemory>
+        ensures { IfOk result (λ copies. copies ≡ list.now) }
+    {
         let mut copies = Items::new(self.alloc);
         for bytes in list {
             copies.push(self.copy(bytes.as_slice())?)?;
@@ -35,10 +45,20 @@ impl<'a> Walk<'a> {
     /// An expression.
     #[cycle(walk)]
     pub(crate) fn expr(&mut self, e: &'a Expr) -> Result<Expr, NoMemory>
-        ensures { Gives expr_view (expr_view e.entry.now) self.old self.new result }
+        ensures tree { IfOk result (λ r. expr_view r ≡ renamed (expr_view e.now) self.old) }
+        ensures names { IfOk result (λ _. self.new ≡ behind (expr_view e.now) self.old) }
     {
-        let line = e.line;
-        match &e.kind {
+        self.expr_of(e.line, &e.kind)
+    }
+
+    /// An expression of that kind.
+    #[cycle(walk)]
+    #[tactic(auto, unfolding(c_tree::specs::View::expr_tree, crate::specs::Names::named, crate::specs::Names::mentioned, crate::specs::Names::behind, crate::specs::Names::all_behind, crate::specs::Names::renamed, crate::specs::Names::all_renamed, crate::specs::Names::left, crate::specs::Names::entered, crate::specs::Names::made, c_tree::specs::Grammar::shape, c_tree::specs::Scopes::is_scope), using(crate::proofs::TreeParts::str_is, crate::proofs::TreeParts::call_is, crate::proofs::TreeParts::sizeof_is, crate::proofs::TreeParts::cast_is))]
+    fn expr_of(&mut self, line: Line, kind: &'a ExprKind) -> Result<Expr, NoMemory>
+        ensures tree { IfOk result (λ r. expr_view r ≡ renamed (expr_tree kind.now line) self.old) }
+        ensures names { IfOk result (λ _. self.new ≡ behind (expr_tree kind.now line) self.old) }
+    {
+        match kind {
             ExprKind::Name(name) => self.name(line, name.as_slice()),
             ExprKind::Int(bytes) => Ok(Expr::int(line, self.copy(bytes.as_slice())?)),
             ExprKind::Char(bytes) => Ok(Expr::char(line, self.copy(bytes.as_slice())?)),
@@ -125,7 +145,8 @@ impl<'a> Walk<'a> {
     /// Expressions in turn.
     #[cycle(walk)]
     fn exprs(&mut self, list: &'a [Expr]) -> Result<Vec<Expr>, NoMemory>
-        ensures { GivesAll (λ v. trees expr_view v.items) (trees expr_view list.entry.now) self.old self.new result }
+        ensures trees { IfOk result (λ v. trees expr_view v.items ≡ each_renamed (trees expr_view list.now) self.old) }
+        ensures names { IfOk result (λ _. self.new ≡ in_turn (trees expr_view list.now) self.old) }
     {
         let mut all = Vec::new(self.alloc);
         for e in list {
@@ -136,8 +157,10 @@ impl<'a> Walk<'a> {
 
     /// The name of a type.
     #[cycle(walk)]
+    #[tactic(auto, unfolding(crate::specs::Names::behind, crate::specs::Names::all_behind, crate::specs::Names::renamed, crate::specs::Names::all_renamed, crate::specs::Names::left, crate::specs::Names::entered, crate::specs::Names::made, c_tree::specs::Grammar::shape, c_tree::specs::Scopes::is_scope))]
     fn typename(&mut self, typename: &'a TypeName) -> Result<TypeName, NoMemory>
-        ensures { Gives typename_view (typename_view typename.entry.now) self.old self.new result }
+        ensures tree { IfOk result (λ r. typename_view r ≡ renamed (typename_view typename.now) self.old) }
+        ensures names { IfOk result (λ _. self.new ≡ behind (typename_view typename.now) self.old) }
     {
         let specs = self.specs(&typename.specs)?;
         let declarator = self.declarator(&typename.declarator)?;
@@ -150,8 +173,10 @@ impl<'a> Walk<'a> {
 
     /// Specs.
     #[cycle(walk)]
+    #[tactic(auto, unfolding(crate::specs::Names::behind, crate::specs::Names::all_behind, crate::specs::Names::renamed, crate::specs::Names::all_renamed, crate::specs::Names::left, crate::specs::Names::entered, crate::specs::Names::made, c_tree::specs::Grammar::shape, c_tree::specs::Scopes::is_scope), using(crate::proofs::TreeParts::specs_is))]
     pub(crate) fn specs(&mut self, specs: &'a Specs) -> Result<Specs, NoMemory>
-        ensures { Gives specs_view (specs_view specs.entry.now) self.old self.new result }
+        ensures tree { IfOk result (λ r. specs_view r ≡ renamed (specs_view specs.now) self.old) }
+        ensures names { IfOk result (λ _. self.new ≡ behind (specs_view specs.now) self.old) }
     {
         Ok(Specs {
             line: specs.line,
@@ -162,7 +187,8 @@ impl<'a> Walk<'a> {
     /// The words of specs.
     #[cycle(walk)]
     fn words(&mut self, list: &'a [Spec]) -> Result<Vec<Spec>, NoMemory>
-        ensures { GivesAll (λ v. trees spec_tree v.items) (trees spec_tree list.entry.now) self.old self.new result }
+        ensures trees { IfOk result (λ v. trees spec_tree v.items ≡ each_renamed (trees spec_tree list.now) self.old) }
+        ensures names { IfOk result (λ _. self.new ≡ in_turn (trees spec_tree list.now) self.old) }
     {
         let mut all = Vec::new(self.alloc);
         for word in list {
@@ -173,8 +199,10 @@ impl<'a> Walk<'a> {
 
     /// A word of specs.
     #[cycle(walk)]
+    #[tactic(auto, unfolding(c_tree::specs::View::spec_tree, crate::specs::Names::behind, crate::specs::Names::all_behind, crate::specs::Names::renamed, crate::specs::Names::all_renamed, crate::specs::Names::left, crate::specs::Names::entered, crate::specs::Names::made, c_tree::specs::Grammar::shape, c_tree::specs::Scopes::is_scope))]
     fn spec(&mut self, spec: &'a Spec) -> Result<Spec, NoMemory>
-        ensures { Gives spec_tree (spec_tree spec.entry.now) self.old self.new result }
+        ensures tree { IfOk result (λ r. spec_tree r ≡ renamed (spec_tree spec.now) self.old) }
+        ensures names { IfOk result (λ _. self.new ≡ behind (spec_tree spec.now) self.old) }
     {
         match spec {
             Spec::Static => Ok(Spec::Static),
@@ -194,7 +222,9 @@ impl<'a> Walk<'a> {
     }
 
     /// A name that may be left out.
-    fn maybe_name(&self, name: &Option<Items<u8>>) -> Result<Option<Items<u8>>, NoMemory> {
+    fn maybe_name(&self, name: &Option<Items<u8>>) -> Result<Option<Items<u8>>, NoMemory>
+        ensures { IfOk result (λ copy. copy ≡ name.now) }
+    {
         match name {
             Some(name) => Ok(Some(self.copy(name.as_slice())?)),
             None => Ok(None),
@@ -202,7 +232,9 @@ impl<'a> Walk<'a> {
     }
 
     /// A tag with braces is mentioned at file scope, where it has a name.
-    fn tagged(&mut self, name: &'a Option<Items<u8>>, line: Line) -> Result<(), NoMemory> {
+    fn tagged(&mut self, name: &'a Option<Items<u8>>, line: Line) -> Result<(), NoMemory>
+        ensures { IfOk result (λ _. self.new ≡ mention_any name.now (binding_at self.old) Tagged line self.old) }
+    {
         match name {
             Some(name) => {
                 let binding = self.binding_here();
@@ -214,8 +246,10 @@ impl<'a> Walk<'a> {
 
     /// A tag.
     #[cycle(walk)]
+    #[tactic(auto, unfolding(c_tree::specs::View::tag_tree, crate::specs::Names::behind, crate::specs::Names::all_behind, crate::specs::Names::renamed, crate::specs::Names::all_renamed, crate::specs::Names::left, crate::specs::Names::entered, crate::specs::Names::made, c_tree::specs::Grammar::shape, c_tree::specs::Scopes::is_scope), using(crate::proofs::TreeParts::record_is, crate::proofs::TreeParts::enum_is))]
     fn tag(&mut self, tag: &'a Tag) -> Result<Tag, NoMemory>
-        ensures { Gives tag_view (tag_view tag.entry.now) self.old self.new result }
+        ensures tree { IfOk result (λ r. tag_view r ≡ renamed (tag_view tag.now) self.old) }
+        ensures names { IfOk result (λ _. self.new ≡ behind (tag_view tag.now) self.old) }
     {
         let line = tag.line;
         match &tag.kind {
@@ -239,7 +273,8 @@ impl<'a> Walk<'a> {
     /// The members of a tag.
     #[cycle(walk)]
     fn members(&mut self, list: &'a [Member]) -> Result<Vec<Member>, NoMemory>
-        ensures { GivesAll (λ v. trees member_view v.items) (trees member_view list.entry.now) self.old self.new result }
+        ensures trees { IfOk result (λ v. trees member_view v.items ≡ each_renamed (trees member_view list.now) self.old) }
+        ensures names { IfOk result (λ _. self.new ≡ in_turn (trees member_view list.now) self.old) }
     {
         let mut all = Vec::new(self.alloc);
         for one in list {
@@ -250,8 +285,10 @@ impl<'a> Walk<'a> {
 
     /// Members of one declaration.
     #[cycle(walk)]
+    #[tactic(auto, unfolding(crate::specs::Names::behind, crate::specs::Names::all_behind, crate::specs::Names::renamed, crate::specs::Names::all_renamed, crate::specs::Names::left, crate::specs::Names::entered, crate::specs::Names::made, c_tree::specs::Grammar::shape, c_tree::specs::Scopes::is_scope), using(crate::proofs::TreeParts::member_is))]
     fn member(&mut self, member: &'a Member) -> Result<Member, NoMemory>
-        ensures { Gives member_view (member_view member.entry.now) self.old self.new result }
+        ensures tree { IfOk result (λ r. member_view r ≡ renamed (member_view member.now) self.old) }
+        ensures names { IfOk result (λ _. self.new ≡ behind (member_view member.now) self.old) }
     {
         let specs = self.specs(&member.specs)?;
         let declarators = self.declarators(&member.declarators)?;
@@ -265,7 +302,8 @@ impl<'a> Walk<'a> {
     /// The declarators of members.
     #[cycle(walk)]
     fn declarators(&mut self, list: &'a [Declarator]) -> Result<Vec<Declarator>, NoMemory>
-        ensures { GivesAll (λ v. trees declarator_tree v.items) (trees declarator_tree list.entry.now) self.old self.new result }
+        ensures trees { IfOk result (λ v. trees declarator_tree v.items ≡ each_renamed (trees declarator_tree list.now) self.old) }
+        ensures names { IfOk result (λ _. self.new ≡ in_turn (trees declarator_tree list.now) self.old) }
     {
         let mut all = Vec::new(self.alloc);
         for one in list {
@@ -277,7 +315,8 @@ impl<'a> Walk<'a> {
     /// The enumerators of an enum.
     #[cycle(walk)]
     fn enumerators(&mut self, list: &'a [Enumerator]) -> Result<Vec<Enumerator>, NoMemory>
-        ensures { GivesAll (λ v. trees enumerator_tree v.items) (trees enumerator_tree list.entry.now) self.old self.new result }
+        ensures trees { IfOk result (λ v. trees enumerator_tree v.items ≡ each_renamed (trees enumerator_tree list.now) self.old) }
+        ensures names { IfOk result (λ _. self.new ≡ in_turn (trees enumerator_tree list.now) self.old) }
     {
         let mut all = Vec::new(self.alloc);
         for one in list {
@@ -288,8 +327,10 @@ impl<'a> Walk<'a> {
 
     /// An enumerator, which is declared behind its value.
     #[cycle(walk)]
+    #[tactic(auto, unfolding(crate::specs::Names::behind, crate::specs::Names::all_behind, crate::specs::Names::renamed, crate::specs::Names::all_renamed, crate::specs::Names::left, crate::specs::Names::entered, crate::specs::Names::made, c_tree::specs::Grammar::shape, c_tree::specs::Scopes::is_scope), using(crate::proofs::TreeParts::enumerator_is))]
     fn enumerator(&mut self, one: &'a Enumerator) -> Result<Enumerator, NoMemory>
-        ensures { Gives enumerator_tree (enumerator_tree one.entry.now) self.old self.new result }
+        ensures tree { IfOk result (λ r. enumerator_tree r ≡ renamed (enumerator_tree one.now) self.old) }
+        ensures names { IfOk result (λ _. self.new ≡ behind (enumerator_tree one.now) self.old) }
     {
         let name = one.name.as_slice();
         let binding = self.binding_here();
@@ -301,7 +342,10 @@ impl<'a> Walk<'a> {
 
     /// An expression in a box, which may be left out.
     #[cycle(walk)]
-    fn maybe_boxed(&mut self, e: &'a Option<Box<Expr>>) -> Result<Option<Expr>, NoMemory> {
+    fn maybe_boxed(&mut self, e: &'a Option<Box<Expr>>) -> Result<Option<Expr>, NoMemory>
+        ensures tree { (form : Form) → IfOk result (λ r. maybe form expr_view r ≡ renamed_maybe form (option_map (λ b. expr_view b.value) e.now) self.old) }
+        ensures names { IfOk result (λ _. self.new ≡ behind_maybe (option_map (λ b. expr_view b.value) e.now) self.old) }
+    {
         match e {
             Some(e) => Ok(Some(self.expr(e)?)),
             None => Ok(None),
@@ -310,8 +354,10 @@ impl<'a> Walk<'a> {
 
     /// A declarator.
     #[cycle(walk)]
+    #[tactic(auto, unfolding(c_tree::specs::View::declarator_tree, crate::specs::Names::behind, crate::specs::Names::all_behind, crate::specs::Names::renamed, crate::specs::Names::all_renamed, crate::specs::Names::left, crate::specs::Names::entered, crate::specs::Names::made, c_tree::specs::Grammar::shape, c_tree::specs::Scopes::is_scope), using(crate::proofs::TreeParts::pointer_is, crate::proofs::TreeParts::direct_is))]
     pub(crate) fn declarator(&mut self, declarator: &'a Declarator) -> Result<Declarator, NoMemory>
-        ensures { Gives declarator_tree (declarator_tree declarator.entry.now) self.old self.new result }
+        ensures tree { IfOk result (λ r. declarator_tree r ≡ renamed (declarator_tree declarator.now) self.old) }
+        ensures names { IfOk result (λ _. self.new ≡ behind (declarator_tree declarator.now) self.old) }
     {
         match declarator {
             Declarator::Pointer(line, consts, target) => {
@@ -328,8 +374,10 @@ impl<'a> Walk<'a> {
 
     /// What suffixes stand behind.
     #[cycle(walk)]
+    #[tactic(auto, unfolding(c_tree::specs::View::base_tree, crate::specs::Names::behind, crate::specs::Names::all_behind, crate::specs::Names::renamed, crate::specs::Names::all_renamed, crate::specs::Names::left, crate::specs::Names::entered, crate::specs::Names::made, c_tree::specs::Grammar::shape, c_tree::specs::Scopes::is_scope))]
     fn base(&mut self, base: &'a Base) -> Result<Base, NoMemory>
-        ensures { Gives base_tree (base_tree base.entry.now) self.old self.new result }
+        ensures tree { IfOk result (λ r. base_tree r ≡ renamed (base_tree base.now) self.old) }
+        ensures names { IfOk result (λ _. self.new ≡ behind (base_tree base.now) self.old) }
     {
         match base {
             Base::Nothing => Ok(Base::nothing()),
@@ -344,7 +392,8 @@ impl<'a> Walk<'a> {
     /// The suffixes of a declarator.
     #[cycle(walk)]
     pub(crate) fn suffixes(&mut self, list: &'a [Suffix]) -> Result<Vec<Suffix>, NoMemory>
-        ensures { GivesAll (λ v. trees suffix_view v.items) (trees suffix_view list.entry.now) self.old self.new result }
+        ensures trees { IfOk result (λ v. trees suffix_view v.items ≡ each_renamed (trees suffix_view list.now) self.old) }
+        ensures names { IfOk result (λ _. self.new ≡ in_turn (trees suffix_view list.now) self.old) }
     {
         let mut all = Vec::new(self.alloc);
         for one in list {
@@ -355,8 +404,10 @@ impl<'a> Walk<'a> {
 
     /// A suffix of a declarator. A parameter list is a scope (C99 6.2.1).
     #[cycle(walk)]
+    #[tactic(auto, unfolding(c_tree::specs::View::suffix_tree, crate::specs::Names::behind, crate::specs::Names::all_behind, crate::specs::Names::renamed, crate::specs::Names::all_renamed, crate::specs::Names::left, crate::specs::Names::entered, crate::specs::Names::made, c_tree::specs::Grammar::shape, c_tree::specs::Scopes::is_scope), using(crate::proofs::TreeParts::array_is, crate::proofs::TreeParts::params_is))]
     fn suffix(&mut self, suffix: &'a Suffix) -> Result<Suffix, NoMemory>
-        ensures { Gives suffix_view (suffix_view suffix.entry.now) self.old self.new result }
+        ensures tree { IfOk result (λ r. suffix_view r ≡ renamed (suffix_view suffix.now) self.old) }
+        ensures names { IfOk result (λ _. self.new ≡ behind (suffix_view suffix.now) self.old) }
     {
         let line = suffix.line;
         match &suffix.kind {
@@ -378,7 +429,8 @@ impl<'a> Walk<'a> {
     /// Parameters, each of which is declared behind its declarator.
     #[cycle(walk)]
     pub(crate) fn params(&mut self, list: &'a [Param]) -> Result<Vec<Param>, NoMemory>
-        ensures { GivesAll (λ v. trees param_view v.items) (trees param_view list.entry.now) self.old self.new result }
+        ensures trees { IfOk result (λ v. trees param_view v.items ≡ each_renamed (trees param_view list.now) self.old) }
+        ensures names { IfOk result (λ _. self.new ≡ in_turn (trees param_view list.now) self.old) }
     {
         let mut all = Vec::new(self.alloc);
         for one in list {
@@ -389,8 +441,10 @@ impl<'a> Walk<'a> {
 
     /// A parameter.
     #[cycle(walk)]
+    #[tactic(auto, unfolding(crate::specs::Names::behind, crate::specs::Names::all_behind, crate::specs::Names::renamed, crate::specs::Names::all_renamed, crate::specs::Names::left, crate::specs::Names::entered, crate::specs::Names::made, c_tree::specs::Grammar::shape, c_tree::specs::Scopes::is_scope), using(crate::proofs::TreeParts::param_is))]
     fn param(&mut self, param: &'a Param) -> Result<Param, NoMemory>
-        ensures { Gives param_view (param_view param.entry.now) self.old self.new result }
+        ensures tree { IfOk result (λ r. param_view r ≡ renamed (param_view param.now) self.old) }
+        ensures names { IfOk result (λ _. self.new ≡ behind (param_view param.now) self.old) }
     {
         let specs = self.specs(&param.specs)?;
         let declarator = self.declarator(&param.declarator)?;

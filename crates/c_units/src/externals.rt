@@ -1,8 +1,14 @@
 //! External declarations as they stand in the program.
 
-ghost use Rattle.std.specs.Prelude.{◌≡◌, IfOk};
-ghost use Rattle.c_tree.specs.StatementView.{decl_view};
-ghost use Rattle.c_units.specs.Gives.{GivesExternal};
+ghost use Rattle.std.specs.Prelude.{◌≡◌, ℕ, IfOk, option_map};
+ghost use Rattle.c_tree.specs.Forms as form;
+ghost use Rattle.c_tree.specs.Scopes.{has_typedef, params_of};
+ghost use Rattle.c_tree.specs.StatementView.{trees, body_view, decl_view, entry_view, init_view, maybe, param_view};
+ghost use Rattle.c_tree.specs.Tree.{Node, none, ◌▹◌};
+ghost use Rattle.c_tree.specs.View.{declarator_tree, spec_tree};
+ghost use Rattle.c_units.specs.Externals.{behind_declarator, behind_entries, behind_external, inside_params, renamed_declarator, renamed_entries, renamed_external, role_of};
+ghost use Rattle.c_units.specs.Names.{behind, left_scope, renamed};
+ghost use Rattle.c_units.specs.Turns.{inits_of};
 
 use crate::declarations::{declared_name, declared_params};
 use crate::mention::Role;
@@ -12,7 +18,9 @@ use c_tree::{Decl, Declarator, Init, Param, Spec, Specs, Stmt};
 use hs_base::{Items, Line, NoMemory};
 
 /// Whether `typedef` is one of the words of specs.
-fn has_typedef(specs: &Specs) -> bool {
+fn has_typedef(specs: &Specs) -> bool
+    ensures { result ≡ has_typedef (trees spec_tree specs.now.words.items) }
+{
     for word in &specs.words {
         if let Spec::Typedef = word {
             return true;
@@ -22,7 +30,9 @@ fn has_typedef(specs: &Specs) -> bool {
 }
 
 /// What a declaration without a body says of a name.
-fn role_of(typedef: bool, init: &Option<Init>) -> Role {
+fn role_of(typedef: bool, init: &Option<Init>) -> Role
+    ensures { result ≡ role_of typedef (inits_of init.now) }
+{
     if typedef {
         return Role::Typedef;
     }
@@ -39,7 +49,10 @@ impl<'a> Walk<'a> {
         role: Role,
         line: Line,
         declarator: &'a Declarator,
-    ) -> Result<Declarator, NoMemory> {
+    ) -> Result<Declarator, NoMemory>
+        ensures tree { IfOk result (λ r. declarator_tree r ≡ renamed_declarator role line (declarator_tree declarator.now) self.old) }
+        ensures names { IfOk result (λ _. self.new ≡ behind_declarator role line (declarator_tree declarator.now) self.old) }
+    {
         let Some(name) = declared_name(declarator) else {
             return self.declarator(declarator);
         };
@@ -57,7 +70,10 @@ impl<'a> Walk<'a> {
         line: Line,
         typedef: bool,
         entry: &'a (Declarator, Option<Init>),
-    ) -> Result<(Declarator, Option<Init>), NoMemory> {
+    ) -> Result<(Declarator, Option<Init>), NoMemory>
+        ensures tree { IfOk result (λ r. entry_view r ▹ none ≡ renamed_entries line typedef (entry_view entry.now ▹ none) self.old) }
+        ensures names { IfOk result (λ _. self.new ≡ behind_entries line typedef (entry_view entry.now ▹ none) self.old) }
+    {
         let declarator = self.file_declarator(role_of(typedef, &entry.1), line, &entry.0)?;
         let init = self.maybe_init(&entry.1)?;
         Ok((declarator, init))
@@ -69,7 +85,10 @@ impl<'a> Walk<'a> {
         line: Line,
         typedef: bool,
         list: &'a [(Declarator, Option<Init>)],
-    ) -> Result<Items<(Declarator, Option<Init>)>, NoMemory> {
+    ) -> Result<Items<(Declarator, Option<Init>)>, NoMemory>
+        ensures trees { IfOk result (λ v. trees entry_view v ≡ renamed_entries line typedef (trees entry_view list.now) self.old) }
+        ensures names { IfOk result (λ _. self.new ≡ behind_entries line typedef (trees entry_view list.now) self.old) }
+    {
         let mut all = Items::new(self.alloc);
         for one in list {
             all.push(self.file_entry(line, typedef, one)?)?;
@@ -78,7 +97,9 @@ impl<'a> Walk<'a> {
     }
 
     /// The parameters are declared where the body begins, and mention nothing a second time.
-    fn inside_params(&mut self, params: Option<&'a [Param]>) -> Result<(), NoMemory> {
+    fn inside_params(&mut self, params: Option<&'a [Param]>) -> Result<(), NoMemory>
+        ensures { IfOk result (λ _. self.new ≡ inside_params (option_map (λ list. Node form.Params (trees param_view list.now) ▹ none) params.entry) self.old) }
+    {
         self.enter();
         if let Some(params) = params {
             let mentions = self.take_mentions();
@@ -93,7 +114,10 @@ impl<'a> Walk<'a> {
         &mut self,
         declarator: &'a Declarator,
         body: &'a [Stmt],
-    ) -> Result<Items<Stmt>, NoMemory> {
+    ) -> Result<Items<Stmt>, NoMemory>
+        ensures tree { (end : ℕ) → IfOk result (λ v. body_view v end ≡ renamed (body_view body.now end) (inside_params (params_of (declarator_tree declarator.now)) self.old)) }
+        ensures names { (end : ℕ) → IfOk result (λ _. self.new ≡ left_scope self.old (behind (body_view body.now end) (inside_params (params_of (declarator_tree declarator.now)) self.old))) }
+    {
         let outer = self.outer();
         self.inside_params(declared_params(declarator))?;
         let body = self.body(body)?;
@@ -102,7 +126,10 @@ impl<'a> Walk<'a> {
     }
 
     /// An external declaration.
-    pub(crate) fn external(&mut self, decl: &'a Decl) -> Result<Decl, NoMemory> {
+    pub(crate) fn external(&mut self, decl: &'a Decl) -> Result<Decl, NoMemory>
+        ensures tree { IfOk result (λ r. decl_view r ≡ renamed_external (decl_view decl.now) self.old) }
+        ensures names { IfOk result (λ _. self.new ≡ behind_external (decl_view decl.now) self.old) }
+    {
         match decl {
             Decl::Function {
                 line,

@@ -19,8 +19,10 @@ mod mention;
 mod merge;
 mod name_set;
 mod names;
+mod said;
 mod statements;
 mod statics;
+mod taken;
 mod walk;
 
 pub use error::MergeError;

@@ -1,165 +1,134 @@
 //! The merge of units.
 
-ghost use Rattle.std.specs.Prelude.{◌≡◌, ◌<◌, [], IfOk, length, map};
+ghost use Rattle.std.specs.Prelude.{◌≡◌, ◌<◌, ◌^◌, ◌++◌, ◌∷◌, [], IfOk, length, map};
 ghost use Rattle.c_tree.specs.StatementView.{unit_view};
-ghost use Rattle.c_units.specs.Merge.{Merges};
+ghost use Rattle.c_units.specs.Merge.{Adds, IsConflict, Merges, TakesIn, kept, no_program, spellings_of, with_unit};
 
 use crate::error::MergeError;
-use crate::mention::{Mention, Role};
+use crate::mention::Mention;
 use crate::name_set::NameSet;
-use crate::statics::own_names;
-use crate::walk::Walk;
-use c_tree::{Decl, Declarator, Init, Unit, write_unit};
+use crate::said::{Said, copied, is_plain, spelled, unit_said};
+use crate::taken::Taken;
+use c_tree::{Decl, Unit};
 use hs_base::{Items, NoMemory};
-use itoa::Buffer;
 use std::alloc::Global;
+use std::marker::Model;
 
-/// The names that units have so far: typedef names, names that are defined as something else, others, and tags with braces.
-#[derive(Drop)]
-struct Taken {
-    typedefs: NameSet,
-    defined: NameSet,
-    others: NameSet,
-    tags: NameSet,
-}
-
-impl Taken {
-    /// No names.
-    fn new(alloc: Global) -> Taken {
-        Taken {
-            typedefs: NameSet::new(alloc),
-            defined: NameSet::new(alloc),
-            others: NameSet::new(alloc),
-            tags: NameSet::new(alloc),
-        }
-    }
-
-    /// Whether another unit may not have a name in a role.
-    fn is_taken(&self, role: Role, name: &[u8]) -> bool {
-        match role {
-            Role::Typedef => {
-                self.typedefs.contains(name)
-                    || self.defined.contains(name)
-                    || self.others.contains(name)
-            }
-            Role::Defined => self.typedefs.contains(name) || self.defined.contains(name),
-            Role::Declared | Role::Used => self.typedefs.contains(name),
-            Role::Tagged => self.tags.contains(name),
-        }
-    }
-
-    /// A unit has a name in a role.
-    fn note(&mut self, alloc: Global, role: Role, name: &[u8]) -> Result<(), NoMemory> {
-        match role {
-            Role::Typedef => self.typedefs.note(alloc, name),
-            Role::Defined => self.defined.note(alloc, name),
-            Role::Declared | Role::Used => self.others.note(alloc, name),
-            Role::Tagged => self.tags.note(alloc, name),
-        }
-    }
-
-    /// A unit has some names.
-    fn note_all(&mut self, alloc: Global, mentions: &[Mention]) -> Result<(), NoMemory> {
-        for mention in mentions {
-            self.note(alloc, mention.role, mention.name)?;
-        }
-        Ok(())
-    }
-}
-
-/// An external declaration as it stands in the program, with what it says of the names that units share.
-#[derive(Drop)]
-struct Said<'a> {
-    decl: Decl,
-    mentions: Vec<Mention<'a>>,
-}
-
-/// Whether no name of a declaration has an initializer.
-fn are_plain(names: &[(Declarator, Option<Init>)]) -> bool {
-    for entry in names {
-        if entry.1.is_some() {
-            return false;
-        }
-    }
-    true
-}
-
-/// Whether an external declaration has neither a body nor an initializer.
-fn is_plain(decl: &Decl) -> bool {
-    match decl {
-        Decl::Function { .. } => false,
-        Decl::Names { names, .. } => are_plain(names.as_slice()),
-    }
-}
-
-/// The program so far.
+/// What units give so far.
 #[derive(Drop)]
 struct Program {
     alloc: Global,
+    /// Their external declarations.
     decls: Items<Decl>,
+    /// How those are spelled that may be left out elsewhere.
     spellings: NameSet,
+    /// Their names.
     taken: Taken,
 }
 
+impl Model for Program {
+    ghost use Rattle.c_tree.specs.StatementView.{trees, decl_view};
+    ghost use Rattle.c_units.specs.Merge.{Program as PlainProgram};
+
+    ghost Value = { PlainProgram };
+
+    ghost view = { λ p. record { trees = trees decl_view p.decls; spellings = p.spellings; taken = p.taken } };
+}
+
+/// The conflict at a mention.
+fn conflict(alloc: Global, mention: &Mention<'_>) -> MergeError
+    ensures { IsConflict mention.now result }
+{
+    match mention.name.to_vec(alloc) {
+        Ok(name) => MergeError::Conflict {
+            name: Items::from(name),
+            line: mention.line,
+        },
+        Err(_) => MergeError::NoMemory,
+    }
+}
+
+/// What is left of a unit, and how those of its external declarations are spelled that may be left out elsewhere.
+#[derive(Drop)]
+struct Left<'a> {
+    said: Vec<Said<'a>>,
+    spellings: Vec<Items<u8>>,
+}
+
 impl Program {
-    /// The external declarations of a unit, which has this number among several.
-    fn said<'a>(&self, number: u32, unit: &'a Unit) -> Result<Vec<Said<'a>>, NoMemory> {
-        let mut digits = Buffer::new();
-        let mut suffix = b".".to_vec(self.alloc)?;
-        suffix.extend_from_slice(digits.format(number).as_bytes())?;
-        let own = own_names(self.alloc, unit)?;
-        let mut walk = Walk::new(self.alloc, own, Items::from(suffix));
-        let mut all = Vec::new(self.alloc);
-        for decl in unit.decls.as_slice() {
-            let decl = walk.external(decl)?;
-            let mentions = walk.take_mentions();
-            all.push(Said { decl, mentions })?;
+    /// No units.
+    fn new(alloc: Global) -> Program
+        ensures { result ≡ no_program }
+    {
+        Program {
+            alloc,
+            decls: Items::new(alloc),
+            spellings: NameSet::new(alloc),
+            taken: Taken::new(alloc),
         }
-        Ok(all)
     }
-}
 
-/// How an external declaration is spelled, whatever its lines, and the declaration itself.
-fn spelled(alloc: Global, decl: Decl) -> Result<(Items<u8>, Decl), NoMemory> {
-    let mut decls = Items::new(alloc);
-    decls.push(decl)?;
-    let unit = Unit { decls };
-    let spelling = write_unit(alloc, &unit)?;
-    let mut decls = unit.decls.into_vec();
-    match decls.pop() {
-        Some(decl) => Ok((spelling, decl)),
-        None => Err(NoMemory),
+    /// What is left of a unit: a declaration that an earlier one has in the same words is left out.
+    fn left<'a>(&self, all: Vec<Said<'a>>) -> Result<Left<'a>, NoMemory>
+        ensures said { IfOk result (λ left. left.said.items ≡ kept self.now.spellings all.items) }
+        ensures spellings { IfOk result (λ left. left.spellings.items ≡ spellings_of all.items) }
+    {
+        let mut left = Left {
+            said: Vec::new(self.alloc),
+            spellings: Vec::new(self.alloc),
+        };
+        for one in all {
+            self.sort(&mut left, one)?;
+        }
+        Ok(left)
     }
-}
 
-impl Program {
-    /// Adds a unit with its number.
-    fn add(&mut self, number: u32, unit: &Unit) -> Result<(), MergeError> {
-        let mut spellings = Vec::new(self.alloc);
+    /// The same of one external declaration.
+    fn sort<'a>(&self, left: &mut Left<'a>, one: Said<'a>) -> Result<(), NoMemory>
+        ensures said { IfOk result (λ _. left.new.said.items ≡ left.old.said.items ++ kept self.now.spellings (one ∷ [])) }
+        ensures spellings { IfOk result (λ _. left.new.spellings.items ≡ left.old.spellings.items ++ spellings_of (one ∷ [])) }
+    {
+        if !is_plain(&one.decl) {
+            left.said.push(one)?;
+            return Ok(());
+        }
+        let Said { decl, mentions } = one;
+        let (spelling, decl) = spelled(self.alloc, decl)?;
+        if !self.spellings.contains(spelling.as_slice()) {
+            left.said.push(Said { decl, mentions })?;
+        }
+        left.spellings.push(spelling)?;
+        Ok(())
+    }
+
+    /// Takes in what is left of a unit, and answers what it says of the names that units share.
+    fn take_in<'a>(&mut self, said: Vec<Said<'a>>) -> Result<Vec<Mention<'a>>, MergeError>
+        ensures { TakesIn (λ mentions. mentions.items) said.items self.old self.new result }
+    {
         let mut mentions = Vec::new(self.alloc);
-        for said in self.said(number, unit)? {
-            let Said { decl, mentions: here } = said;
-            let mut decl = decl;
-            if is_plain(&decl) {
-                let (spelling, same) = spelled(self.alloc, decl)?;
-                decl = same;
-                let again = self.spellings.contains(spelling.as_slice());
-                spellings.push(spelling)?;
-                if again {
-                    continue;
-                }
+        for one in said {
+            let Said {
+                decl,
+                mentions: here,
+            } = one;
+            if let Some(mention) = self.taken.first(here.as_slice()) {
+                return Err(conflict(self.alloc, mention));
             }
             for mention in here {
-                if self.taken.is_taken(mention.role, mention.name) {
-                    return Err(MergeError::Conflict {
-                        name: Items::from(mention.name.to_vec(self.alloc)?),
-                        line: mention.line,
-                    });
-                }
                 mentions.push(mention)?;
             }
             self.decls.push(decl)?;
         }
+        Ok(mentions)
+    }
+
+    /// Adds a unit with its number.
+    fn add(&mut self, number: u32, unit: &Unit) -> Result<(), MergeError>
+        ensures { Adds (with_unit number (unit_view unit.now) self.old) self.new result }
+    {
+        let all = unit_said(self.alloc, number, unit)?;
+        let Left { said, spellings } = self.left(all)?;
+        let mentions = self.take_in(said)?;
         for spelling in &spellings {
             self.spellings.note(self.alloc, spelling.as_slice())?;
         }
@@ -175,17 +144,17 @@ impl Program {
 /// [`MergeError::Conflict`] exactly where two units say what may not be said of one name twice, with the first such name and
 /// the line of its later place; [`MergeError::NoMemory`] only for want of memory.
 pub fn merge(alloc: Global, units: &Items<Unit>) -> Result<Unit, MergeError>
-    requires { 0 < length units.now }
+    requires some { 0 < length units.now }
+    requires few { length units.now < 2 ^ 32 }
     ensures { Merges (map unit_view units.now) result }
 {
-    let mut program = Program {
-        alloc,
-        decls: Items::new(alloc),
-        spellings: NameSet::new(alloc),
-        taken: Taken::new(alloc),
-    };
+    let units = units.as_slice();
+    if let [unit] = units {
+        return Ok(copied(alloc, unit)?);
+    }
+    let mut program = Program::new(alloc);
     let mut number: u32 = 0;
-    for unit in units.as_slice() {
+    for unit in units {
         number += 1;
         program.add(number, unit)?;
     }

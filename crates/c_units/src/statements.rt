@@ -1,19 +1,47 @@
 //! Initializers and statements as they stand in the program.
 
-ghost use Rattle.std.specs.Prelude.{◌≡◌, IfOk};
-ghost use Rattle.c_tree.specs.StatementView.{trees, init_view, entry_view, maybe, maybe_expr, names_view, start_view, stmt_view, body_view};
+ghost use Rattle.std.specs.Prelude.{◌≡◌, ℕ, IfOk};
+ghost use Rattle.c_tree.specs.StatementView.{trees, expr_view, init_view, entry_view, maybe, names_view, start_view, stmt_view, stmt_tree, body_view};
 ghost use Rattle.c_tree.specs.Forms as form;
-ghost use Rattle.c_units.specs.Gives.{Gives, GivesAll};
+ghost use Rattle.c_units.specs.Names.{behind, left_scope, renamed};
+ghost use Rattle.c_units.specs.Turns.{each_renamed, in_turn, inner, is_scope_kind};
 
 use crate::declarations::declared_name;
 use crate::names::Binding;
 use crate::walk::Walk;
 use c_tree::{Declarator, Expr, ForStart, Init, InitKind, Stmt, StmtKind};
-use hs_base::{Items, NoMemory};
+use hs_base::{Items, Line, NoMemory};
+
+/// Whether a statement of that kind is a scope (C99 6.8.2 to 6.8.5).
+fn is_scope(kind: &StmtKind) -> bool
+    ensures { result ≡ is_scope_kind kind.now }
+{
+    match kind {
+        StmtKind::Block(_)
+        | StmtKind::Delay(_)
+        | StmtKind::If(_, _, _)
+        | StmtKind::While(_, _)
+        | StmtKind::Do(_, _)
+        | StmtKind::For(_, _, _, _)
+        | StmtKind::Switch(_, _) => true,
+        StmtKind::Empty
+        | StmtKind::Expr(_)
+        | StmtKind::Case(_, _)
+        | StmtKind::Default(_)
+        | StmtKind::Break
+        | StmtKind::Continue
+        | StmtKind::Return(_)
+        | StmtKind::Local(_, _) => false,
+    }
+}
 
 impl<'a> Walk<'a> {
     /// An expression that may be left out.
-    fn maybe_expr(&mut self, e: &'a Option<Expr>) -> Result<Option<Expr>, NoMemory> {
+    #[tactic(auto, unfolding(crate::specs::Names::behind, crate::specs::Names::all_behind, crate::specs::Names::renamed, crate::specs::Names::all_renamed, crate::specs::Names::left, crate::specs::Names::entered, crate::specs::Names::made, c_tree::specs::Grammar::shape, c_tree::specs::Scopes::is_scope))]
+    fn maybe_expr(&mut self, e: &'a Option<Expr>) -> Result<Option<Expr>, NoMemory>
+        ensures tree { IfOk result (λ r. maybe form.MaybeExpr expr_view r ≡ renamed (maybe form.MaybeExpr expr_view e.now) self.old) }
+        ensures names { IfOk result (λ _. self.new ≡ behind (maybe form.MaybeExpr expr_view e.now) self.old) }
+    {
         match e {
             Some(e) => Ok(Some(self.expr(e)?)),
             None => Ok(None),
@@ -22,7 +50,11 @@ impl<'a> Walk<'a> {
 
     /// An initializer.
     #[cycle(inits)]
-    fn init(&mut self, init: &'a Init) -> Result<Init, NoMemory> {
+    #[tactic(auto, unfolding(c_tree::specs::StatementView::init_tree, crate::specs::Names::behind, crate::specs::Names::all_behind, crate::specs::Names::renamed, crate::specs::Names::all_renamed, crate::specs::Names::left, crate::specs::Names::entered, crate::specs::Names::made, c_tree::specs::Grammar::shape, c_tree::specs::Scopes::is_scope), using(crate::proofs::TreeParts::init_list_is))]
+    fn init(&mut self, init: &'a Init) -> Result<Init, NoMemory>
+        ensures tree { IfOk result (λ r. init_view r ≡ renamed (init_view init.now) self.old) }
+        ensures names { IfOk result (λ _. self.new ≡ behind (init_view init.now) self.old) }
+    {
         match &init.kind {
             InitKind::Expr(value) => Ok(Init::expr(init.line, self.expr(value)?)),
             InitKind::List(list, trailing) => {
@@ -33,7 +65,10 @@ impl<'a> Walk<'a> {
 
     /// Initializers in turn.
     #[cycle(inits)]
-    fn inits(&mut self, list: &'a [Init]) -> Result<Vec<Init>, NoMemory> {
+    fn inits(&mut self, list: &'a [Init]) -> Result<Vec<Init>, NoMemory>
+        ensures trees { IfOk result (λ v. trees init_view v.items ≡ each_renamed (trees init_view list.now) self.old) }
+        ensures names { IfOk result (λ _. self.new ≡ in_turn (trees init_view list.now) self.old) }
+    {
         let mut all = Vec::new(self.alloc);
         for one in list {
             all.push(self.init(one)?)?;
@@ -42,7 +77,11 @@ impl<'a> Walk<'a> {
     }
 
     /// An initializer that may be left out.
-    pub(crate) fn maybe_init(&mut self, init: &'a Option<Init>) -> Result<Option<Init>, NoMemory> {
+    #[tactic(auto, unfolding(crate::specs::Names::behind, crate::specs::Names::all_behind, crate::specs::Names::renamed, crate::specs::Names::all_renamed, crate::specs::Names::left, crate::specs::Names::entered, crate::specs::Names::made, c_tree::specs::Grammar::shape, c_tree::specs::Scopes::is_scope))]
+    pub(crate) fn maybe_init(&mut self, init: &'a Option<Init>) -> Result<Option<Init>, NoMemory>
+        ensures tree { IfOk result (λ r. maybe form.MaybeInit init_view r ≡ renamed (maybe form.MaybeInit init_view init.now) self.old) }
+        ensures names { IfOk result (λ _. self.new ≡ behind (maybe form.MaybeInit init_view init.now) self.old) }
+    {
         match init {
             Some(init) => Ok(Some(self.init(init)?)),
             None => Ok(None),
@@ -50,10 +89,14 @@ impl<'a> Walk<'a> {
     }
 
     /// A name of a declaration in an inner scope, which holds before its initializer (C99 6.2.1).
+    #[tactic(auto, unfolding(crate::specs::Names::behind, crate::specs::Names::all_behind, crate::specs::Names::renamed, crate::specs::Names::all_renamed, crate::specs::Names::left, crate::specs::Names::entered, crate::specs::Names::made, c_tree::specs::Grammar::shape, c_tree::specs::Scopes::is_scope), using(crate::proofs::TreeParts::entry_is))]
     fn entry(
         &mut self,
         entry: &'a (Declarator, Option<Init>),
-    ) -> Result<(Declarator, Option<Init>), NoMemory> {
+    ) -> Result<(Declarator, Option<Init>), NoMemory>
+        ensures tree { IfOk result (λ r. entry_view r ≡ renamed (entry_view entry.now) self.old) }
+        ensures names { IfOk result (λ _. self.new ≡ behind (entry_view entry.now) self.old) }
+    {
         let declarator = self.declarator(&entry.0)?;
         self.declare(declared_name(&entry.0), Binding::Inner)?;
         let init = self.maybe_init(&entry.1)?;
@@ -64,7 +107,10 @@ impl<'a> Walk<'a> {
     fn entries(
         &mut self,
         list: &'a [(Declarator, Option<Init>)],
-    ) -> Result<Items<(Declarator, Option<Init>)>, NoMemory> {
+    ) -> Result<Items<(Declarator, Option<Init>)>, NoMemory>
+        ensures trees { IfOk result (λ v. trees entry_view v ≡ each_renamed (trees entry_view list.now) self.old) }
+        ensures names { IfOk result (λ _. self.new ≡ in_turn (trees entry_view list.now) self.old) }
+    {
         let mut all = Items::new(self.alloc);
         for one in list {
             all.push(self.entry(one)?)?;
@@ -73,7 +119,11 @@ impl<'a> Walk<'a> {
     }
 
     /// What stands before the first `;` of a `for`.
-    fn for_start(&mut self, start: &'a ForStart) -> Result<ForStart, NoMemory> {
+    #[tactic(auto, unfolding(crate::specs::Names::behind, crate::specs::Names::all_behind, crate::specs::Names::renamed, crate::specs::Names::all_renamed, crate::specs::Names::left, crate::specs::Names::entered, crate::specs::Names::made, c_tree::specs::Grammar::shape, c_tree::specs::Scopes::is_scope), using(crate::proofs::TreeParts::names_is))]
+    fn for_start(&mut self, start: &'a ForStart) -> Result<ForStart, NoMemory>
+        ensures tree { IfOk result (λ r. start_view r ≡ renamed (start_view start.now) self.old) }
+        ensures names { IfOk result (λ _. self.new ≡ behind (start_view start.now) self.old) }
+    {
         match start {
             ForStart::Names(specs, names) => {
                 let specs = self.specs(specs)?;
@@ -84,29 +134,26 @@ impl<'a> Walk<'a> {
         }
     }
 
-    /// A statement, behind which the names of a scope that it is hold no more (C99 6.8.2 to 6.8.5).
+    /// A statement, behind which the names of a scope that it is hold no more.
     #[cycle(statements)]
-    fn stmt(&mut self, stmt: &'a Stmt) -> Result<Stmt, NoMemory> {
-        match &stmt.kind {
-            StmtKind::Block(_)
-            | StmtKind::Delay(_)
-            | StmtKind::If(_, _, _)
-            | StmtKind::While(_, _)
-            | StmtKind::Do(_, _)
-            | StmtKind::For(_, _, _, _)
-            | StmtKind::Switch(_, _) => {
-                let outer = self.outer();
-                let stmt = self.stmt_inside(stmt)?;
-                self.leave(outer)?;
-                Ok(stmt)
-            }
-            _ => self.stmt_inside(stmt),
-        }
+    #[tactic(auto, using(crate::proofs::ScopeEnds::statement_is))]
+    fn stmt(&mut self, stmt: &'a Stmt) -> Result<Stmt, NoMemory>
+        ensures tree { IfOk result (λ r. stmt_view r ≡ renamed (stmt_view stmt.now) self.old) }
+        ensures names { IfOk result (λ _. self.new ≡ behind (stmt_view stmt.now) self.old) }
+    {
+        let outer = self.outer();
+        let new = self.stmt_of(stmt.line, &stmt.kind)?;
+        self.leave_if(is_scope(&stmt.kind), outer)?;
+        Ok(new)
     }
 
     /// A statement that is a scope of its own.
     #[cycle(statements)]
-    fn branch(&mut self, stmt: &'a Stmt) -> Result<Stmt, NoMemory> {
+    #[tactic(auto, using(crate::proofs::ScopeEnds::tree_back))]
+    fn branch(&mut self, stmt: &'a Stmt) -> Result<Stmt, NoMemory>
+        ensures tree { IfOk result (λ r. stmt_view r ≡ renamed (stmt_view stmt.now) self.old) }
+        ensures names { IfOk result (λ _. self.new ≡ left_scope self.old (behind (stmt_view stmt.now) self.old)) }
+    {
         let outer = self.outer();
         let stmt = self.stmt(stmt)?;
         self.leave(outer)?;
@@ -115,9 +162,12 @@ impl<'a> Walk<'a> {
 
     /// A statement before the end of the scope that it is.
     #[cycle(statements)]
-    fn stmt_inside(&mut self, stmt: &'a Stmt) -> Result<Stmt, NoMemory> {
-        let line = stmt.line;
-        match &stmt.kind {
+    #[tactic(auto, unfolding(c_tree::specs::StatementView::stmt_tree, crate::specs::Names::behind, crate::specs::Names::all_behind, crate::specs::Names::renamed, crate::specs::Names::all_renamed, crate::specs::Names::left, crate::specs::Names::entered, crate::specs::Names::made, c_tree::specs::Grammar::shape, c_tree::specs::Scopes::is_scope), using(crate::proofs::TreeParts::block_is, crate::proofs::TreeParts::delay_is, crate::proofs::TreeParts::if_is, crate::proofs::TreeParts::if_else_is, crate::proofs::TreeParts::names_is))]
+    fn stmt_of(&mut self, line: Line, kind: &'a StmtKind) -> Result<Stmt, NoMemory>
+        ensures tree { IfOk result (λ r. stmt_view r ≡ renamed (stmt_tree kind.now line) self.old) }
+        ensures names { IfOk result (λ _. self.new ≡ inner (stmt_tree kind.now line) self.old) }
+    {
+        match kind {
             StmtKind::Empty => Ok(Stmt::empty(line)),
             StmtKind::Expr(value) => Ok(Stmt::expr(line, self.expr(value)?)),
             StmtKind::Block(items) => Ok(Stmt::block(line, self.items(items)?)),
@@ -175,7 +225,10 @@ impl<'a> Walk<'a> {
 
     /// What stands in a block.
     #[cycle(statements)]
-    fn items(&mut self, list: &'a [Stmt]) -> Result<Vec<Stmt>, NoMemory> {
+    fn items(&mut self, list: &'a [Stmt]) -> Result<Vec<Stmt>, NoMemory>
+        ensures trees { IfOk result (λ v. trees stmt_view v.items ≡ each_renamed (trees stmt_view list.now) self.old) }
+        ensures names { IfOk result (λ _. self.new ≡ in_turn (trees stmt_view list.now) self.old) }
+    {
         let mut all = Vec::new(self.alloc);
         for one in list {
             all.push(self.stmt(one)?)?;
@@ -184,7 +237,10 @@ impl<'a> Walk<'a> {
     }
 
     /// The body of a function, which is a scope.
-    pub(crate) fn body(&mut self, list: &'a [Stmt]) -> Result<Items<Stmt>, NoMemory> {
+    pub(crate) fn body(&mut self, list: &'a [Stmt]) -> Result<Items<Stmt>, NoMemory>
+        ensures trees { (end : ℕ) → IfOk result (λ v. body_view v end ≡ renamed (body_view list.now end) self.old) }
+        ensures names { (end : ℕ) → IfOk result (λ _. self.new ≡ behind (body_view list.now end) self.old) }
+    {
         let outer = self.outer();
         let items = self.items(list)?;
         self.leave(outer)?;

@@ -1,8 +1,11 @@
 //! What a unit has for itself: the objects and functions that it declares `static` (C99 6.2.2).
 
 ghost use Rattle.std.specs.Prelude.{◌≡◌, [], IfOk};
-ghost use Rattle.c_tree.specs.StatementView.{unit_view};
-ghost use Rattle.c_units.specs.Externals.{own_names};
+ghost use Rattle.c_tree.specs.Scopes.{name_of};
+ghost use Rattle.c_tree.specs.StatementView.{trees, decl_view, entry_view, unit_view};
+ghost use Rattle.c_tree.specs.View.{declarator_tree, spec_tree};
+ghost use Rattle.c_units.specs.Externals.{but_main, entry_names, has_static, own_names, static_names};
+ghost use Rattle.c_units.specs.Mentions.{all_noted};
 
 use crate::declarations::declared_name;
 use crate::name_set::NameSet;
@@ -11,7 +14,9 @@ use hs_base::NoMemory;
 use std::alloc::Global;
 
 /// Whether `static` is one of the words of specs.
-fn has_static(specs: &Specs) -> bool {
+fn has_static(specs: &Specs) -> bool
+    ensures { result ≡ has_static (trees spec_tree specs.now.words.items) }
+{
     for word in &specs.words {
         if let Spec::Static = word {
             return true;
@@ -21,10 +26,12 @@ fn has_static(specs: &Specs) -> bool {
 }
 
 /// Notes the name of a declarator, unless it is that of the program's first function.
-fn note(alloc: Global, names: &mut NameSet, declarator: &Declarator) -> Result<(), NoMemory> {
+fn note(alloc: Global, names: &mut NameSet, declarator: &Declarator) -> Result<(), NoMemory>
+    ensures { IfOk result (λ _. names.new ≡ all_noted names.old (but_main (name_of (declarator_tree declarator.now)))) }
+{
     match declared_name(declarator) {
         Some(name) => {
-            if name == b"main" {
+            if name == b"main".as_slice() {
                 Ok(())
             } else {
                 names.note(alloc, name)
@@ -39,7 +46,9 @@ fn note_all(
     alloc: Global,
     names: &mut NameSet,
     list: &[(Declarator, Option<Init>)],
-) -> Result<(), NoMemory> {
+) -> Result<(), NoMemory>
+    ensures { IfOk result (λ _. names.new ≡ all_noted names.old (entry_names (trees entry_view list.now))) }
+{
     for entry in list {
         note(alloc, names, &entry.0)?;
     }
@@ -47,7 +56,9 @@ fn note_all(
 }
 
 /// Notes what an external declaration declares `static`.
-fn note_static(alloc: Global, names: &mut NameSet, decl: &Decl) -> Result<(), NoMemory> {
+fn note_static(alloc: Global, names: &mut NameSet, decl: &Decl) -> Result<(), NoMemory>
+    ensures { IfOk result (λ _. names.new ≡ all_noted names.old (static_names (decl_view decl.now))) }
+{
     match decl {
         Decl::Function {
             specs, declarator, ..

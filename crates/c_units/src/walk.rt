@@ -4,6 +4,7 @@ ghost use Rattle.std.specs.Prelude.{◌≡◌, ◌++◌, ◌∷◌, [], IfOk, So
 ghost use Rattle.c_units.specs.Names.{Names, binding_at, binding_of, declare, mention, name_by};
 ghost use Rattle.c_units.specs.Externals.{binding_as};
 ghost use Rattle.c_units.specs.Sets.{back_to};
+ghost use Rattle.c_units.specs.Turns.{back_if};
 
 use crate::mention::{Mention, Role};
 use crate::name_set::NameSet;
@@ -179,6 +180,16 @@ impl<'a> Walk<'a> {
     {
         self.scope.cut(outer.count)?;
         self.inside = outer.inside;
+        Ok(())
+    }
+
+    /// The same, if it is one.
+    pub(crate) fn leave_if(&mut self, is_scope: bool, outer: Outer) -> Result<(), NoMemory>
+        ensures { IfOk result (λ _. self.new ≡ back_if is_scope outer self.old) }
+    {
+        if is_scope {
+            return self.leave(outer);
+        }
         Ok(())
     }
 }

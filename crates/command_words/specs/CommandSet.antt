@@ -3,6 +3,7 @@ use Rattle.std.specs.Prelude.{true, codes, Some}
 use Rattle.clap.specs.declared.builder.action.ArgAction.TheVariants.{SetTrue}
 use Rattle.clap.specs.Words.{App, Shape, Rule, Text, new_app, new_rule, with_rule, with_subcommand}
 use Rattle.clap.specs.Simple.{on_top}
+use Rattle.clap.specs.Lexer.{usize_max}
 
 -- an argument that each use of its command needs
 abbrev pub needed : Text → Rule
@@ -12,6 +13,10 @@ needed name = record (new_rule name) { required = true }
 abbrev pub file : Rule
 file = needed (codes "FILE")
 
+-- the files of a command, one at least, which may stand among its options
+abbrev pub files : Rule
+files = record file { range = Some (record { start_inclusive = 1; end_inclusive = usize_max }) }
+
 -- an option with a value, at most once
 abbrev pub option : Text → Rule
 option name = record (new_rule name) { long = Some name }
@@ -20,18 +25,22 @@ option name = record (new_rule name) { long = Some name }
 abbrev pub flag : Text → Rule
 flag name = record (new_rule name) { long = Some name; action = Some SetTrue }
 
--- `run FILE [--heap N] [--stack N] [--steps N] [--leaks]`
+-- `run FILE.. [--heap N] [--stack N] [--steps N] [--leaks]`
 abbrev pub run : App
 run =
-    with_rule (with_rule (with_rule (with_rule (with_rule (new_app (codes "run")) file) (option (codes "heap"))) (option (codes "stack"))) (option (codes "steps"))) (flag (codes "leaks"))
+    with_rule (with_rule (with_rule (with_rule (with_rule (new_app (codes "run")) files) (option (codes "heap"))) (option (codes "stack"))) (option (codes "steps"))) (flag (codes "leaks"))
 
--- `mean FILE [--heap N] [--steps N]`
+-- `mean FILE.. [--heap N] [--steps N]`
 abbrev pub mean : App
-mean = with_rule (with_rule (with_rule (new_app (codes "mean")) file) (option (codes "heap"))) (option (codes "steps"))
+mean = with_rule (with_rule (with_rule (new_app (codes "mean")) files) (option (codes "heap"))) (option (codes "steps"))
 
--- a command with a file alone
+-- `print FILE`
+abbrev pub print : App
+print = with_rule (new_app (codes "print")) file
+
+-- a command with files alone
 abbrev pub plain : Text → App
-plain name = with_rule (new_app name) file
+plain name = with_rule (new_app name) files
 
 -- `self N`
 abbrev pub generated : App
@@ -51,7 +60,7 @@ bare shape = record shape {
 abbrev pub program : App
 program = on_top bare (new_app (codes "heapsafe"))
 
--- `run` and `mean`, and `print FILE`, `layout FILE`, `list FILE`, `live FILE`, and `self`
+-- `run` and `mean`, and `print FILE`, `layout FILE..`, `list FILE..`, `live FILE..`, and `self`
 abbrev pub command_set : App
 command_set =
-    with_subcommand (with_subcommand (with_subcommand (with_subcommand (with_subcommand (with_subcommand (with_subcommand program run.top) mean.top) (plain (codes "print")).top) (plain (codes "layout")).top) (plain (codes "list")).top) (plain (codes "live")).top) generated.top
+    with_subcommand (with_subcommand (with_subcommand (with_subcommand (with_subcommand (with_subcommand (with_subcommand program run.top) mean.top) print.top) (plain (codes "layout")).top) (plain (codes "list")).top) (plain (codes "live")).top) generated.top

@@ -1,8 +1,9 @@
 -- What the words of the command line ask for.
-use Rattle.std.specs.Prelude.{◌≡◌, ◌≤◌, ⊤, ℕ, Bool, false, cond, nat_eq, List as Listed, length, Option, Some, None, option_and_then, option_map, Result, Ok, Err, codes}
+use Rattle.std.specs.Prelude.{◌≡◌, ◌≤◌, ⊤, ℕ, Bool, false, cond, nat_eq, nat_le, ◌&&◌, List as Listed, length, map, Option, Some, None, option_and_then, option_map, Result, Ok, Err, codes}
+use Rattle.std.specs.List.{list_all}
 use Rattle.std.specs.Option.{option_map_or}
 use Rattle.std.specs.Str.{bytes_eq}
-use Rattle.clap.specs.Words.{Row, Text, first_of, fault_of, subcommand_of}
+use Rattle.clap.specs.Words.{Row, Text, all_of, first_of, fault_of, subcommand_of}
 use Rattle.command_words.specs.CommandSet.{command_set}
 use Rattle.command_words.specs.Numbers.{is_file, number_in, within}
 use Rattle.command_words.specs.declared.command.Command as code
@@ -23,9 +24,9 @@ pub data Task : Type 0 where
   List : Task
   Live : Task
 
--- a task is done with the text of a file, or a text is made with so many functions and run
+-- a task is done with the program whose units have the texts of these files, or a text is made with so many functions and run
 pub data Command : Type 0 where
-  OnFile : (file : Listed ℕ) → (task : Task) → Command
+  OnFiles : (files : Listed (Listed ℕ)) → (task : Task) → Command
   Generated : (number : ℕ) → Command
 
 -- the value of an option, within its limits, or its default
@@ -53,27 +54,28 @@ functions_in word = within 1 2000 (number_in word)
 abbrev pub flag_in : Text → Listed Row → Bool
 flag_in name rows = option_map_or (λ word. bytes_eq word (codes "true")) (first_of name rows) false
 
--- a task with a file
-abbrev pub with_file : Text → Task → Option Command
-with_file file task = cond (is_file file) (Some (OnFile file task)) None
+-- a task with at most 64 files
+abbrev pub with_files : Listed Text → Task → Option Command
+with_files files task = cond (nat_le (length files) 64 && list_all is_file files) (Some (OnFiles files task)) None
+
+-- a task with the files of a command
+abbrev pub plain_in : Task → Listed Row → Option Command
+plain_in task rows = option_and_then (λ files. with_files files task) (all_of (codes "FILE") rows)
 
 -- what a command asks for, by the values of its arguments
 abbrev pub run_in : Listed Row → Option Command
 run_in rows =
-    option_and_then (λ file. option_and_then (λ heap. option_and_then (λ stack. option_and_then (λ steps. with_file file (Run heap stack steps (flag_in (codes "leaks") rows))) (steps_in (first_of (codes "steps") rows))) (stack_in (first_of (codes "stack") rows))) (heap_in (first_of (codes "heap") rows))) (first_of (codes "FILE") rows)
+    option_and_then (λ heap. option_and_then (λ stack. option_and_then (λ steps. plain_in (Run heap stack steps (flag_in (codes "leaks") rows)) rows) (steps_in (first_of (codes "steps") rows))) (stack_in (first_of (codes "stack") rows))) (heap_in (first_of (codes "heap") rows))
 
 abbrev pub mean_in : Listed Row → Option Command
 mean_in rows =
-    option_and_then (λ file. option_and_then (λ heap. option_and_then (λ steps. with_file file (Mean heap steps)) (steps_in (first_of (codes "steps") rows))) (heap_in (first_of (codes "heap") rows))) (first_of (codes "FILE") rows)
-
-abbrev pub plain_in : Task → Listed Row → Option Command
-plain_in task rows = option_and_then (λ file. with_file file task) (first_of (codes "FILE") rows)
+    option_and_then (λ heap. option_and_then (λ steps. plain_in (Mean heap steps) rows) (steps_in (first_of (codes "steps") rows))) (heap_in (first_of (codes "heap") rows))
 
 abbrev pub self_in : Listed Row → Option Command
 self_in rows =
     option_and_then (λ word. option_map (λ n. Generated n) (functions_in word)) (first_of (codes "N") rows)
 
--- the task of a command with a file alone
+-- the task of a command with files alone
 abbrev pub task_named : Text → Option Task
 task_named name =
     cond (bytes_eq name (codes "print")) (Some Print) (cond (bytes_eq name (codes "layout")) (Some Layout) (cond (bytes_eq name (codes "list")) (Some List) (cond (bytes_eq name (codes "live")) (Some Live) None)))
@@ -97,7 +99,7 @@ task_shown tasks.List = List
 task_shown tasks.Live = Live
 
 abbrev pub command_shown : code.Command → Command
-command_shown (commands.OnFile file task) = OnFile file.now (task_shown task)
+command_shown (commands.OnFiles files task) = OnFiles (map (λ w. w.now) files) (task_shown task)
 command_shown (commands.Generated number) = Generated number
 
 -- the words ask for this, or are not taken; of want of memory nothing is said
@@ -114,10 +116,10 @@ IsLimited _ = ⊤
 
 -- the numbers of a command are within their limits
 abbrev pub HasLimits : Command → Type 0
-HasLimits (OnFile file task) = IsLimited task
+HasLimits (OnFiles files task) = IsLimited task
 HasLimits (Generated number) = (1 ≤ number) × (number ≤ 2000)
 
--- the command does this task with a file
-abbrev pub IsOnFile : code_task.Task → code.Command → Type 0
-IsOnFile wanted (commands.OnFile file task) = task ≡ wanted
-IsOnFile wanted (commands.Generated number) = ⊥
+-- the command does this task with files
+abbrev pub IsOnFiles : code_task.Task → code.Command → Type 0
+IsOnFiles wanted (commands.OnFiles files task) = task ≡ wanted
+IsOnFiles wanted (commands.Generated number) = ⊥

@@ -2,20 +2,24 @@
 
 ghost use Rattle.std.specs.Prelude.{◌≡◌, ⊤, IfOk, MatchOption, map, option_map};
 ghost use Rattle.clap.specs.Words.{first_of, found_of, rows_of};
-ghost use Rattle.command_words.specs.Commands.{command_of, command_shown, task_shown, asked, run_in, mean_in, plain_in, self_in, flag_in, task_named, with_file, HasLimits, IsLimited, IsOnFile, IsRead};
+ghost use Rattle.command_words.specs.Commands.{command_of, command_shown, task_shown, asked, run_in, mean_in, plain_in, self_in, flag_in, task_named, with_files, HasLimits, IsLimited, IsOnFiles, IsRead};
 
 use crate::error::WordsError;
 use crate::set::command_set;
 use crate::values::{functions, heap, is_file, stack, steps};
 use clap::ArgMatches;
 use clap::error::ErrorKind;
+use hs_base::Items;
 use std::alloc::Global;
 
+/// How many files a program may have.
+const MOST_FILES: usize = 64;
+
 /// What the words ask for.
-#[derive(Clone, Copy)]
+#[derive(Drop)]
 pub enum Command<'a> {
-    /// A task is done with the text of this name.
-    OnFile { file: &'a str, task: Task },
+    /// A task is done with the program whose units have the texts of these names, one at least.
+    OnFiles { files: Items<&'a str>, task: Task },
     /// A text is made with so many functions, and run.
     Generated { number: u32 },
 }
@@ -46,16 +50,26 @@ pub enum Task {
     Live,
 }
 
-/// What is done with a file, if the word can be its name.
-fn with_file<'a>(file: &'a str, task: Task) -> Result<Command<'a>, WordsError>
-    ensures read { IsRead (with_file file.entry.now (task_shown task)) result }
-    ensures task { IfOk result (IsOnFile task) }
+/// What is done with some files, if the words can be their names and there are not too many.
+fn with_files<'a>(
+    alloc: Global,
+    names: &[&'a str],
+    task: Task,
+) -> Result<Command<'a>, WordsError>
+    ensures read { IsRead (with_files (map (λ w. w.now) names.now) (task_shown task)) result }
+    ensures task { IfOk result (IsOnFiles task) }
 {
-    if is_file(file) {
-        Ok(Command::OnFile { file, task })
-    } else {
-        Err(WordsError::Usage)
+    if names.len() > MOST_FILES {
+        return Err(WordsError::Usage);
     }
+    let mut files = Items::new(alloc);
+    for name in names {
+        if !is_file(name) {
+            return Err(WordsError::Usage);
+        }
+        files.push(*name)?;
+    }
+    Ok(Command::OnFiles { files, task })
 }
 
 /// The value of an argument, if it has one.
@@ -76,13 +90,10 @@ fn flag(found: &ArgMatches, id: &str) -> bool
 }
 
 /// `run`, by the values of its arguments.
-fn run<'a>(found: &ArgMatches<'a>) -> Result<Command<'a>, WordsError>
+fn run<'a>(alloc: Global, found: &ArgMatches<'a>) -> Result<Command<'a>, WordsError>
     ensures read { IsRead (run_in (rows_of (found_of found.now))) result }
     ensures limits { IfOk result (λ c. HasLimits (command_shown c)) }
 {
-    let Some(file) = value_of(found, "FILE") else {
-        return Err(WordsError::Usage);
-    };
     let Some(heap) = heap(value_of(found, "heap")) else {
         return Err(WordsError::Usage);
     };
@@ -99,38 +110,39 @@ fn run<'a>(found: &ArgMatches<'a>) -> Result<Command<'a>, WordsError>
         steps,
         leaks,
     };
-    with_file(file, task)
+    with_files_of(alloc, found, task)
 }
 
 /// `mean`, by the values of its arguments.
-fn mean<'a>(found: &ArgMatches<'a>) -> Result<Command<'a>, WordsError>
+fn mean<'a>(alloc: Global, found: &ArgMatches<'a>) -> Result<Command<'a>, WordsError>
     ensures read { IsRead (mean_in (rows_of (found_of found.now))) result }
     ensures limits { IfOk result (λ c. HasLimits (command_shown c)) }
 {
-    let Some(file) = value_of(found, "FILE") else {
-        return Err(WordsError::Usage);
-    };
     let Some(heap) = heap(value_of(found, "heap")) else {
         return Err(WordsError::Usage);
     };
     match steps(value_of(found, "steps")) {
-        Some(steps) => with_file(file, Task::Mean { heap, steps }),
+        Some(steps) => with_files_of(alloc, found, Task::Mean { heap, steps }),
         None => Err(WordsError::Usage),
     }
 }
 
-/// A command with a file alone, by the values of its arguments.
-fn plain<'a>(task: Task, found: &ArgMatches<'a>) -> Result<Command<'a>, WordsError>
+/// What is done with the files of a command.
+fn with_files_of<'a>(
+    alloc: Global,
+    found: &ArgMatches<'a>,
+    task: Task,
+) -> Result<Command<'a>, WordsError>
     ensures read { IsRead (plain_in (task_shown task) (rows_of (found_of found.now))) result }
-    ensures task { IfOk result (IsOnFile task) }
+    ensures task { IfOk result (IsOnFiles task) }
 {
-    match value_of(found, "FILE") {
-        Some(file) => with_file(file, task),
+    match found.get_strs("FILE") {
+        Some(names) => with_files(alloc, names, task),
         None => Err(WordsError::Usage),
     }
 }
 
-/// The task of a command with a file alone.
+/// The task of a command with files alone.
 fn task_named(name: &str) -> Option<Task>
     ensures task { option_map task_shown result ≡ task_named name.now }
     ensures limits { MatchOption result ⊤ (λ task. IsLimited (task_shown task)) }
@@ -165,21 +177,25 @@ fn generated<'a>(found: &ArgMatches<'a>) -> Result<Command<'a>, WordsError>
 }
 
 /// What a command asks for.
-fn asked<'a>(name: &str, found: &ArgMatches<'a>) -> Result<Command<'a>, WordsError>
+fn asked<'a>(
+    alloc: Global,
+    name: &str,
+    found: &ArgMatches<'a>,
+) -> Result<Command<'a>, WordsError>
     ensures read { IsRead (asked name.now (rows_of (found_of found.now))) result }
     ensures limits { IfOk result (λ c. HasLimits (command_shown c)) }
 {
     if name == "run" {
-        return run(found);
+        return run(alloc, found);
     }
     if name == "mean" {
-        return mean(found);
+        return mean(alloc, found);
     }
     if name == "self" {
         return generated(found);
     }
     match task_named(name) {
-        Some(task) => plain(task, found),
+        Some(task) => with_files_of(alloc, found, task),
         None => Err(WordsError::Usage),
     }
 }
@@ -198,7 +214,7 @@ pub fn read<'a>(alloc: Global, words: &'a [&'a str]) -> Result<Command<'a>, Word
     let set = command_set(alloc)?;
     match set.try_get_matches_from(words) {
         Ok(matches) => match matches.subcommand() {
-            Some((name, found)) => asked(name, found),
+            Some((name, found)) => asked(alloc, name, found),
             None => Err(WordsError::Usage),
         },
         Err(error) => match error.kind() {

@@ -1,5 +1,6 @@
 //! Why words are not taken.
 
+use hs_base::NoMemory;
 use std::alloc::AllocError;
 use thiserror::Error;
 
@@ -20,6 +21,17 @@ impl From<AllocError> for WordsError {
     ghost from_gives = { λ _ e. e ≡ NoMemory };
 
     fn from(_: AllocError) -> WordsError {
+        WordsError::NoMemory
+    }
+}
+
+impl From<NoMemory> for WordsError {
+    ghost use Rattle.std.specs.Prelude.{◌≡◌};
+    ghost use Rattle.command_words.specs.declared.error.WordsError.TheVariants as error;
+
+    ghost from_gives = { λ _ e. e ≡ error.NoMemory };
+
+    fn from(_: NoMemory) -> WordsError {
         WordsError::NoMemory
     }
 }

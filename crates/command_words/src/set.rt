@@ -2,7 +2,7 @@
 
 ghost use Rattle.std.specs.Prelude.{◌≡◌, codes, false, IfOk};
 ghost use Rattle.clap.specs.Words.{app_of, rule_of};
-ghost use Rattle.command_words.specs.CommandSet.{command_set, flag, needed, option};
+ghost use Rattle.command_words.specs.CommandSet.{command_set, files, flag, needed, option};
 
 use clap::{Arg, ArgAction, Command};
 use std::alloc::{AllocError, Global};
@@ -21,6 +21,14 @@ fn file<'a>(alloc: Global) -> Arg<'a>
     ensures local { result.global ≡ false }
 {
     needed(alloc, "FILE")
+}
+
+/// The argument for files, which may stand among the options.
+fn files<'a>(alloc: Global) -> Arg<'a>
+    ensures rule { rule_of result ≡ files }
+    ensures local { result.global ≡ false }
+{
+    file(alloc).num_args(1..)
 }
 
 /// An option with a value.
@@ -48,7 +56,7 @@ pub(crate) fn command_set<'a>(alloc: Global) -> Result<Command<'a>, AllocError>
     let steps = option(alloc, "steps");
     let leaks = flag(alloc, "leaks");
     let run = Command::new(alloc, "run")
-        .arg(file(alloc))?
+        .arg(files(alloc))?
         .arg(heap)?
         .arg(stack)?
         .arg(steps)?
@@ -56,13 +64,13 @@ pub(crate) fn command_set<'a>(alloc: Global) -> Result<Command<'a>, AllocError>
     let mean_heap = option(alloc, "heap");
     let mean_steps = option(alloc, "steps");
     let mean = Command::new(alloc, "mean")
-        .arg(file(alloc))?
+        .arg(files(alloc))?
         .arg(mean_heap)?
         .arg(mean_steps)?;
     let print = Command::new(alloc, "print").arg(file(alloc))?;
-    let layout = Command::new(alloc, "layout").arg(file(alloc))?;
-    let list = Command::new(alloc, "list").arg(file(alloc))?;
-    let live = Command::new(alloc, "live").arg(file(alloc))?;
+    let layout = Command::new(alloc, "layout").arg(files(alloc))?;
+    let list = Command::new(alloc, "list").arg(files(alloc))?;
+    let live = Command::new(alloc, "live").arg(files(alloc))?;
     let generated = Command::new(alloc, "self").arg(needed(alloc, "N"))?;
     Command::new(alloc, "heapsafe")
         .no_binary_name(true)

@@ -13,6 +13,20 @@ use elab_base::{Declared, Elaborator, Parts, Variable, Walked, fit};
 use hs_base::{Items, NoMemory};
 use std::alloc::Global;
 
+/// A name without the suffix that its unit has given it.
+pub(crate) fn plain_name(name: Items<u8>) -> Items<u8> {
+    let mut name = name.into_vec();
+    let mut length = 0;
+    for byte in &name {
+        if *byte == b'.' {
+            break;
+        }
+        length += 1;
+    }
+    name.truncate(length);
+    Items::from(name)
+}
+
 /// Adds registers without names.
 fn with_registers(registers: Vec<Reg>, count: u32, pointer: bool) -> Result<Vec<Reg>, NoMemory>
     ensures { IfOk result (λ r. r.items ≡ registers.items ++ replicate count (record { name = None; pointer = pointer })) }
@@ -56,7 +70,7 @@ fn function(
     let registers = with_registers(locals, integers, false)?;
     let registers = with_registers(registers, pointers, true)?;
     Ok(Func {
-        name,
+        name: plain_name(name),
         line,
         params,
         regs: Items::from(registers),

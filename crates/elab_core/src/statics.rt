@@ -6,6 +6,7 @@ ghost use Rattle.elaboration.specs.Resolving.{start_by, variable_static, literal
 ghost use Rattle.elab_core.specs.StaticsBy.{pointer_by};
 
 use crate::numbers::static_number;
+use crate::program::plain_name;
 use c_types::Layout;
 use core_tree::{Start, Static};
 use elab_base::{Variable, no_start, trimmed};
@@ -63,7 +64,7 @@ pub(crate) fn variable(
         None => no_start(alloc),
     };
     Ok(Static {
-        name: Some(name),
+        name: Some(plain_name(name)),
         layout,
         start: first,
     })

@@ -27,18 +27,18 @@ mod places;
 mod program;
 mod refusal;
 mod running;
+mod units;
 mod written;
 
-use c_lexer::Token;
-use c_parser::parse;
-use c_pre::{Opened, pre};
+use c_pre::Opened;
 use c_tree::Unit;
 use command_words::{Command, Task, WordsError};
 use generated::run_generated;
 use hs_base::{Limits, Sink, Source, Texts};
 use program::{Way, run_program};
-use refusal::{Refusal, refuse, refuse_text, refuse_tokens};
+use refusal::{Refusal, refuse};
 use std::alloc::Global;
+use units::{merge_units, read_units};
 use written::{core_list, core_live, layouts, print};
 
 /// Does what is asked with a text that has this tree.
@@ -93,80 +93,26 @@ fn with_tree<I: Source, O: Sink, E: Sink>(
     }
 }
 
-/// Does what is asked with a text that has these tokens.
-fn with_tokens<I: Source, O: Sink, E: Sink>(
+/// Reads the files of a program, and does what is asked with the one unit that they are.
+fn with_files<T: Texts, I: Source, O: Sink, E: Sink>(
     alloc: Global,
-    file: &str,
-    task: Task,
-    opened: &[Opened],
-    tokens: &[Token],
-    input: &mut I,
-    out: &mut O,
-    err: &mut E,
-) -> u8
-    requires lexed { All IsLexed tokens.now }
-    requires short { AreWithin most_tokens tokens.now }
-    requires limits { IsLimited (task_shown task) }
-    requires input { I.faults input.old + 1 < 2 ^ 64 }
-    requires out { O.faults out.old + 1 < 2 ^ 64 }
-    requires err { E.faults err.old + 1 < 2 ^ 64 }
-    ensures exact { (left : List ℕ) → I.left input.old ≡ Some left → O.faults out.new ≡ O.faults out.old → E.faults err.new ≡ E.faults err.old → Gives (AnswersTokens file.now opened.now tokens.now (input_of left (I.faults input.old) (I.faults input.new)) (task_shown task)) left (I.left input.new) (O.taken out.old) (O.taken out.new) (E.taken err.old) (E.taken err.new) result }
-    ensures faults { (t : ℕ) → Faults t t (I.faults input.old) (I.faults input.new) (O.faults out.old) (O.faults out.new) (E.faults err.old) (E.faults err.new) result }
-    ensures input_fault { I.faults input.old < I.faults input.new → Says (E.taken err.old) (E.taken err.new) (E.faults err.old) (E.faults err.new) input_fault.err 132 result }
-    ensures output_fault { O.faults out.old < O.faults out.new → Says (E.taken err.old) (E.taken err.new) (E.faults err.old) (E.faults err.new) output_fault.err 133 result }
-    ensures stays { RunsNone (task_shown task) → input.new ≡ input.old }
-    ensures broken { (left : List ℕ) → I.left input.old ≡ Some left → WriteFails (O.faults out.old) (O.faults out.new) (E.faults err.old) (E.faults err.new) → (a : Shown) → AnswersTokens file.now opened.now tokens.now (steady left) (task_shown task) a → SaysMore a → Breaks None a left (I.left input.new) (O.taken out.old) (O.taken out.new) (E.taken err.old) (E.taken err.new) (I.faults input.old) (I.faults input.new) (O.faults out.old) (O.faults out.new) (E.faults err.old) (E.faults err.new) }
-    ensures memory { Wants (MeansNone (task_shown task) → (input.new ≡ input.old) × (out.new ≡ out.old)) (RunsNone (task_shown task) → ⊥) (E.taken err.old) (E.taken err.new) result }
-    ensures cause { HasCause ((I.faults input.old < I.faults input.new) ⊎ WriteFails (O.faults out.old) (O.faults out.new) (E.faults err.old) (E.faults err.new)) (RunsNone (task_shown task) → ⊥) (E.taken err.old) (E.taken err.new) result }
-    ensures refused { Refuses ((input.new ≡ input.old) × (out.new ≡ out.old)) (RunsNone (task_shown task) → ⊥) (E.taken err.old) (E.taken err.new) result }
-{
-    match parse(alloc, tokens) {
-        Ok(unit) => with_tree(alloc, file, task, opened, &unit, input, out, err),
-        Err(error) => refuse_tokens(err, error, opened),
-    }
-}
-
-/// Preprocesses a file, and does what is asked with its tokens.
-fn with_file<T: Texts, I: Source, O: Sink, E: Sink>(
-    alloc: Global,
-    file: &str,
+    files: &[&str],
     task: Task,
     texts: &mut T,
     input: &mut I,
     out: &mut O,
     err: &mut E,
-) -> u8
-    requires limits { IsLimited (task_shown task) }
-    requires texts { T.faults texts.old + 1 < 2 ^ 64 }
-    requires input { I.faults input.old + 1 < 2 ^ 64 }
-    requires out { O.faults out.old + 1 < 2 ^ 64 }
-    requires err { E.faults err.old + 1 < 2 ^ 64 }
-    ensures exact { (told : List ℕ → List ℕ) (left : List ℕ) → T.texts texts.old ≡ Some told → I.left input.old ≡ Some left → T.faults texts.new ≡ T.faults texts.old → O.faults out.new ≡ O.faults out.old → E.faults err.new ≡ E.faults err.old → Gives (AnswersFile file.now told (input_of left (I.faults input.old) (I.faults input.new)) (task_shown task)) left (I.left input.new) (O.taken out.old) (O.taken out.new) (E.taken err.old) (E.taken err.new) result }
-    ensures faults { Faults (T.faults texts.old) (T.faults texts.new) (I.faults input.old) (I.faults input.new) (O.faults out.old) (O.faults out.new) (E.faults err.old) (E.faults err.new) result }
-    ensures input_fault { I.faults input.old < I.faults input.new → Says (E.taken err.old) (E.taken err.new) (E.faults err.old) (E.faults err.new) input_fault.err 132 result }
-    ensures output_fault { O.faults out.old < O.faults out.new → Says (E.taken err.old) (E.taken err.new) (E.faults err.old) (E.faults err.new) output_fault.err 133 result }
-    ensures stays { RunsNone (task_shown task) → input.new ≡ input.old }
-    ensures text_fault { T.faults texts.old < T.faults texts.new → (input.new ≡ input.old) × (out.new ≡ out.old) × SaysUnread file.now (E.taken err.old) (E.taken err.new) (E.faults err.old) (E.faults err.new) result }
-    ensures broken { (told : List ℕ → List ℕ) (left : List ℕ) → T.texts texts.old ≡ Some told → I.left input.old ≡ Some left → WriteFails (O.faults out.old) (O.faults out.new) (E.faults err.old) (E.faults err.new) → (a : Shown) → AnswersFile file.now told (steady left) (task_shown task) a → SaysMore a → Breaks (unread_file (Some (OnFile file.now (task_shown task))) (T.faults texts.old) (T.faults texts.new)) a left (I.left input.new) (O.taken out.old) (O.taken out.new) (E.taken err.old) (E.taken err.new) (I.faults input.old) (I.faults input.new) (O.faults out.old) (O.faults out.new) (E.faults err.old) (E.faults err.new) }
-    ensures memory { Wants (MeansNone (task_shown task) → (input.new ≡ input.old) × (out.new ≡ out.old)) (RunsNone (task_shown task) → ⊥) (E.taken err.old) (E.taken err.new) result }
-    ensures cause { HasCause ((T.faults texts.old < T.faults texts.new) ⊎ (I.faults input.old < I.faults input.new) ⊎ WriteFails (O.faults out.old) (O.faults out.new) (E.faults err.old) (E.faults err.new)) (RunsNone (task_shown task) → ⊥) (E.taken err.old) (E.taken err.new) result }
-    ensures refused { Refuses ((input.new ≡ input.old) × (out.new ≡ out.old)) (RunsNone (task_shown task) → ⊥) (E.taken err.old) (E.taken err.new) result }
-{
-    match pre(alloc, texts, file, 0) {
-        Ok(read) => {
-            with_tokens(
-                alloc,
-                file,
-                task,
-                read.texts.as_slice(),
-                read.tokens.as_slice(),
-                input,
-                out,
-                err,
-            )
-        }
-        Err(error) => refuse_text(err, &error),
-    }
+) -> u8 {
+    let program = match read_units(alloc, files, texts, err) {
+        Ok(program) => program,
+        Err(status) => return status,
+    };
+    let (unit, opened) = match merge_units(alloc, program, err) {
+        Ok(merged) => merged,
+        Err(status) => return status,
+    };
+    let first = files.first().copied().unwrap_or("");
+    with_tree(alloc, first, task, opened.as_slice(), &unit, input, out, err)
 }
 
 /// Does what the words say, and answers the status.
@@ -217,7 +163,9 @@ pub fn heapsafe<T: Texts, I: Source, O: Sink, E: Sink>(
     ensures refused { Refuses ((input.new ≡ input.old) × (out.new ≡ out.old)) (AsksNone (command_of (map (λ w. w.now) words.now)) → ⊥) (E.taken err.old) (E.taken err.new) result }
 {
     match command_words::read(alloc, words) {
-        Ok(Command::OnFile { file, task }) => with_file(alloc, file, task, texts, input, out, err),
+        Ok(Command::OnFiles { files, task }) => {
+            with_files(alloc, files.as_slice(), task, texts, input, out, err)
+        }
         Ok(Command::Generated { number }) => run_generated(alloc, number, out, err),
         Err(WordsError::Usage) => refuse(err, Refusal::Usage),
         Err(WordsError::NoMemory) => refuse(err, Refusal::NoMemory),

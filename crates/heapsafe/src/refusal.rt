@@ -10,6 +10,7 @@ use bad_free_report::{complain, complain_labelled};
 use c_decls::TypeError;
 use c_parser::ParseError;
 use c_pre::{Opened, PreError};
+use c_units::MergeError;
 use hs_base::{Line, Sink};
 
 /// Why nothing is run, or why nothing is written.
@@ -67,6 +68,9 @@ impl<'a> Refusal<'a> {
 
 /// The status where a write to the error stream failed.
 pub(crate) const OUTPUT_FAULT: u8 = 133;
+
+/// The status of units that say what may not be said of one name twice.
+pub(crate) const CONFLICT: u8 = 139;
 
 /// The status of a text with a line that the preprocessor refuses.
 pub(crate) const BAD_LINE: u8 = 138;
@@ -201,5 +205,22 @@ pub(crate) fn refuse_types<E: Sink>(err: &mut E, error: TypeError, opened: &[Ope
             )
         }
         TypeError::NoMemory => refuse(err, Refusal::NoMemory),
+    }
+}
+
+/// Says why units are not merged, and answers the status of that.
+pub(crate) fn refuse_merge<E: Sink>(err: &mut E, error: &MergeError, opened: &[Opened]) -> u8 {
+    match error {
+        MergeError::Conflict { name, line } => {
+            refuse_in(
+                err,
+                opened,
+                *line,
+                b"conflict: ",
+                name.as_slice(),
+                CONFLICT,
+            )
+        }
+        MergeError::NoMemory => refuse(err, Refusal::NoMemory),
     }
 }
