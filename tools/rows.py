@@ -2,7 +2,7 @@
 """rows.py [--quiet]: runs the rows of rows/*.json by ./heapsafe and compares what it writes, says and answers.
 
 A file is a list of groups, each with what it `shows` and its `rows`. A row has its `words`, a list of command lines that all
-answer alike; the `text` of the file a.c, or none; the `input`; the bytes of the output and of the error stream, `out` and `err`;
+answer alike; the `text` of the file a.c, or `files`, texts by their names, or none; the `input`; the bytes of the output and of the error stream, `out` and `err`;
 and the `status`. What a row lacks is empty, or 0. A text or bytes may be a list of parts, and a part [BYTES, COUNT] stands for
 so many times these bytes. With --quiet it says only what differs."""
 
@@ -25,17 +25,22 @@ def content(parts):
     return b"".join(content(it) if isinstance(it, str) else content(it[0]) * it[1] for it in parts)
 
 
+def texts(row):
+    """The files of a row."""
+    return row.get("files", {"a.c": row["text"]} if "text" in row else {})
+
+
 def difference(case):
     """What is wrong with a command line of a row, if anything is."""
     name, words, row = case
     with tempfile.TemporaryDirectory() as folder:
-        if "text" in row:
-            with open(os.path.join(folder, "a.c"), "wb") as file:
-                file.write(content(row["text"]))
+        for path, text in texts(row).items():
+            with open(os.path.join(folder, path), "wb") as file:
+                file.write(content(text))
         ran = subprocess.run([PROGRAM, *words], cwd=folder, input=content(row.get("input", "")), capture_output=True)
     wanted = content(row.get("out", "")), content(row.get("err", "")), row.get("status", 0)
     got = ran.stdout, ran.stderr, ran.returncode
-    return None if got == wanted else f"{name}: {words}: {row.get('text')!r:.300}\n  got    {got!r:.600}\n  wanted {wanted!r:.600}"
+    return None if got == wanted else f"{name}: {words}: {texts(row)!r:.300}\n  got    {got!r:.600}\n  wanted {wanted!r:.600}"
 
 
 def cases(path):

@@ -14,7 +14,10 @@ use Rattle.c_units.specs.declared.mention.Role.TheVariants.{Defined, Used, Tagge
 use Rattle.c_units.specs.declared.walk.Outer.{Outer}
 use Rattle.c_units.specs.Names.{Known, Names, behind, all_behind, left, left_part, left_scope, entered, mention, mention_any, used, tag_name, line_in, declare, binding_at, binding_of}
 use Rattle.c_units.specs.Sets.{back_to, oldest}
-use Rattle.c_units.specs.Turns.{in_turn}
+use Rattle.c_tree.specs.declared.statement.StmtKind.{StmtKind, None', Some'}
+use Rattle.c_tree.specs.declared.statement.StmtKind.TheVariants as k
+use Rattle.c_tree.specs.StatementView.{expr_view, start_view, maybe_expr, stmt_tree, stmt_trees, if_tree}
+use Rattle.c_units.specs.Turns.{in_turn, inner, back_if, is_scope_kind}
 
 -- some declarations in front of others
 abbrev Before : List Known → List Known → Type 0
@@ -127,8 +130,33 @@ pub turns_back : (parts : Trees) (s : Names) (inside : Bool) → back_to (here s
 turns_back parts s inside =
     back_by s (in_turn parts (record s { inside = inside })) (turns_before parts (record s { inside = inside }))
 
-pub parts_back : (form : Form) (parts : Trees) (s : Names) → entered form parts s ≡ s →
-    let x = all_behind parts (places (shape form (count parts))) s in back_to (here s) x ≡ left_scope s x
-parts_back form parts s e =
-    let x = all_behind parts (places (shape form (count parts))) s in
-    back_by s x (parts_before parts (places (shape form (count parts))) s)
+module _ (line : ℕ) (s x : Names) where
+  ends_here : (form : Form) (parts : Trees) → entered form parts s ≡ s → x ≡ inner (Node form parts) s →
+      back_to (here s) x ≡ left_scope s (inner (Node form parts) s)
+  ends_here form parts e h =
+      let ps = places (shape form (count parts)) in
+      let same : inner (Node form parts) s ≡ all_behind parts ps s = ap (λ (y : Names). all_behind parts ps y) e in
+      ap (λ (y : Names). back_to (here s) y) (h ∙ same) ∙ back_by s (all_behind parts ps s) (parts_before parts ps s)
+      ∙ ap (λ (y : Names). left_scope s y) (sym same)
+
+  pub statement_is : (kind : StmtKind) → x ≡ inner (stmt_tree kind line) s →
+      back_if (is_scope_kind kind) (here s) x ≡ behind (stmt_tree kind line) s
+  unfolding behind left entered stmt_tree if_tree
+  statement_is k.Empty h = h
+  statement_is (k.Expr e) h = h
+  statement_is (k.Block' shape items) h = ends_here f.Block (At line ▹ Node f.Items (stmt_trees items) ▹ none) refl h
+  statement_is (k.Delay' shape items) h = ends_here f.Delay (At line ▹ Node f.Items (stmt_trees items) ▹ none) refl h
+  statement_is (k.If' e p at kind None') h = ends_here f.If (At line ▹ expr_view e ▹ stmt_tree kind at ▹ none) refl h
+  statement_is (k.If' e p at kind (Some' q at2 kind2)) h =
+      ends_here f.IfElse (At line ▹ expr_view e ▹ stmt_tree kind at ▹ stmt_tree kind2 at2 ▹ none) refl h
+  statement_is (k.While' e p at kind) h = ends_here f.While (At line ▹ expr_view e ▹ stmt_tree kind at ▹ none) refl h
+  statement_is (k.Do' p at kind e) h = ends_here f.Do (At line ▹ stmt_tree kind at ▹ expr_view e ▹ none) refl h
+  statement_is (k.For' start test step p at kind) h =
+      ends_here f.For (At line ▹ start_view start ▹ maybe_expr test ▹ maybe_expr step ▹ stmt_tree kind at ▹ none) refl h
+  statement_is (k.Switch' e p at kind) h = ends_here f.Switch (At line ▹ expr_view e ▹ stmt_tree kind at ▹ none) refl h
+  statement_is (k.Case' e p at kind) h = h
+  statement_is (k.Default' p at kind) h = h
+  statement_is k.Break h = h
+  statement_is k.Continue h = h
+  statement_is (k.Return e) h = h
+  statement_is (k.Local specs names) h = h

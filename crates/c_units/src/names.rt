@@ -1,6 +1,6 @@
 //! The declarations that hold at a place of a unit.
 
-ghost use Rattle.std.specs.Prelude.{◌≡◌, ◌∷◌, ◌<◌, [], length, IfOk, OnOk, OnErr, if◌then◌else◌, bytes_eq, List, ℕ};
+ghost use Rattle.std.specs.Prelude.{◌≡◌, ◌∷◌, ◌<◌, [], ◌-◌, length, slice_get, IfOk, OnOk, OnErr, if◌then◌else◌, bytes_eq, List, ℕ};
 ghost use Rattle.std.specs.Borrow.{Bor};
 ghost use Rattle.c_units.specs.Names.{binding_of};
 ghost use Rattle.c_units.specs.Sets.{bound_in, oldest, without_latest};
@@ -118,7 +118,9 @@ impl<'a> Scope<'a> {
 }
 
 /// The latest entry.
-fn last<'a>(log: &[Entry<'a>]) -> Option<Entry<'a>> {
+fn last<'a>(log: &[Entry<'a>]) -> Option<Entry<'a>>
+    ensures { result ≡ slice_get log.now (length log.now - 1) }
+{
     log.last().copied()
 }
 
