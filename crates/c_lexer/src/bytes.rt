@@ -26,7 +26,7 @@ pub enum ByteClass {
 
 /// Whether a byte is white space: the space, or one of bytes 9 to 13 (C99 6.4).
 #[tactic(auto, unfolding(crate::specs::Bytes::is_space))]
-pub(crate) fn is_space(byte: u8) -> bool
+pub fn is_space(byte: u8) -> bool
     ensures { result ≡ is_space byte }
 {
     byte == b' ' || matches!(byte, 9..=13)
@@ -56,9 +56,9 @@ pub(crate) fn is_digit(byte: u8) -> bool
     matches!(byte, b'0'..=b'9')
 }
 
-/// Whether a byte goes on with a name.
+/// Whether a byte goes on with a name: a letter, a decimal digit or an underscore (C99 6.4.2.1).
 #[tactic(auto, unfolding(crate::specs::Bytes::is_name_byte))]
-pub(crate) fn is_name_byte(byte: u8) -> bool
+pub fn is_name_byte(byte: u8) -> bool
     ensures { result ≡ is_name_byte byte }
 {
     is_letter(byte) || is_digit(byte)

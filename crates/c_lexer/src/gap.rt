@@ -80,9 +80,9 @@ fn word_end(text: &[u8]) -> Option<usize>
     Some(7 + end)
 }
 
-/// How many bytes an accepted include line has behind its `#`, where one stands there (C99 6.10.2).
+/// How many bytes an accepted include line has behind its `#`, up to and with its `>`, where one stands there (C99 6.10.2).
 #[tactic(auto, unfolding(crate::specs::Gaps::include_end))]
-pub(crate) fn include_end(text: &[u8]) -> Option<usize>
+pub fn include_end(text: &[u8]) -> Option<usize>
     ensures end { result ≡ include_end text.now }
     ensures bound { IfSome result (λ end. end ≤ length text.now) }
 {

@@ -10,7 +10,8 @@
 //! exactly one answer ([`every_text_has_one_answer`]). The forms of the pieces stand in `Names`, `Numbers`, `Literals`,
 //! `Signs` and `Gaps`; `IsToken` says that bytes are a token of a kind.
 //!
-//! [`read_number`] and [`literal_values`] give the values of constants and literals.
+//! [`read_number`] and [`literal_values`] give the values of constants and literals. [`include_end`] says where an accepted
+//! `#include` line ends, and [`is_space`] and [`is_name_byte`] what a byte is.
 #![tactic(auto)]
 
 mod bytes;
@@ -26,6 +27,8 @@ mod sign;
 mod token;
 mod words;
 
+pub use bytes::{is_name_byte, is_space};
+pub use gap::include_end;
 pub use laws::{every_text_has_one_answer, literals_are_characters, written_tokens_are_read_again};
 pub use lexer::lex;
 pub use literal::literal_values;
