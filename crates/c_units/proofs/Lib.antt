@@ -4,3 +4,4 @@ pub mod ListTurns
 pub mod TreeParts
 pub mod ScopeEnds
 pub mod ItemTurns
+pub mod Copied
