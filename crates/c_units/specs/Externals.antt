@@ -149,12 +149,12 @@ pub record Said : Type 0 where
   pub mentions : List Mention
 
 -- the external declarations of a unit in turn
-unfoldable pub said : Trees → Names → List Said
-said none s = []
-said (tree ▹ rest) s =
+unfoldable pub each_said : Trees → Names → List Said
+each_said none s = []
+each_said (tree ▹ rest) s =
     let before = record s { mentions = [] } in
     let after = behind_external tree before in
-    record { tree = renamed_external tree before; mentions = after.mentions } ∷ said rest after
+    record { tree = renamed_external tree before; mentions = after.mentions } ∷ each_said rest after
 
 -- the suffix of the unit of this number: a dot, which no name of a text has, and the number
 abbrev pub suffix_of : ℕ → List ℕ
@@ -167,4 +167,4 @@ unit_names number unit =
 
 -- the external declarations of the unit of this number
 abbrev pub unit_said : ℕ → Trees → List Said
-unit_said number unit = said unit (unit_names number unit)
+unit_said number unit = each_said unit (unit_names number unit)

@@ -2,7 +2,7 @@
 
 ghost use Rattle.std.specs.Prelude.{◌≡◌, IfOk, not};
 ghost use Rattle.c_tree.specs.StatementView.{trees, decl_view, entry_view, unit_view};
-ghost use Rattle.c_units.specs.Externals.{said, suffix_of, unit_said};
+ghost use Rattle.c_units.specs.Externals.{each_said, suffix_of, unit_said};
 ghost use Rattle.c_units.specs.Merge.{are_plain, is_plain, spelling};
 
 use crate::mention::Mention;
@@ -32,8 +32,8 @@ impl<'a> Model for Said<'a> {
 }
 
 /// The external declarations of a unit in turn.
-fn said<'a>(walk: &mut Walk<'a>, unit: &'a Unit) -> Result<Vec<Said<'a>>, NoMemory>
-    ensures { IfOk result (λ all. all.items ≡ said (unit_view unit.now) walk.old) }
+fn each_said<'a>(walk: &mut Walk<'a>, unit: &'a Unit) -> Result<Vec<Said<'a>>, NoMemory>
+    ensures { IfOk result (λ all. all.items ≡ each_said (unit_view unit.now) walk.old) }
 {
     let mut all = Vec::new(walk.alloc);
     for decl in unit.decls.as_slice() {
@@ -65,7 +65,7 @@ pub(crate) fn unit_said<'a>(
 {
     let own = own_names(alloc, unit)?;
     let mut walk = Walk::new(alloc, own, suffix_of(alloc, number)?);
-    said(&mut walk, unit)
+    each_said(&mut walk, unit)
 }
 
 /// A copy of a unit.
