@@ -2,7 +2,7 @@
 
 ghost use Rattle.std.specs.Prelude.{◌≡◌, ◌++◌, None, IfOk, length, map, replicate};
 ghost use Rattle.elaboration.specs.Context.{Context};
-ghost use Rattle.elaboration.specs.Resolving.{variable_static, literal_static, function_of, core_of};
+ghost use Rattle.elaboration.specs.Resolving.{variable_static, literal_static, function_of, core_of, plain_name};
 
 use crate::numbers::Numbers;
 use crate::points::{count, points_of};
@@ -14,7 +14,9 @@ use hs_base::{Items, NoMemory};
 use std::alloc::Global;
 
 /// A name without the suffix that its unit has given it.
-pub(crate) fn plain_name(name: Items<u8>) -> Items<u8> {
+pub(crate) fn plain_name(name: Items<u8>) -> Items<u8>
+    ensures { result ≡ plain_name name }
+{
     let mut name = name.into_vec();
     let mut length = 0;
     for byte in &name {
