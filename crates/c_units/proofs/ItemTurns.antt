@@ -32,13 +32,13 @@ module _ {A : Type 0} (view : A → Tree) where
       let next = one_on xs i x h is in
       let rest : List A = drop (i + 1) xs in (
         joined_more done r (each_renamed (trees view rest) t)
-        ∙ ap (λ (u : Names). joined (trees view done) (view r ▹ each_renamed (trees view rest) u)) known
-        ∙ ap (λ (y : Tree). joined (trees view done) (y ▹ each_renamed (trees view rest) (behind (view x) s))) made
-        ∙ sym (ap (λ (l : List A). joined (trees view done) (each_renamed (trees view l) s)) next)
-        ∙ leads.0,
+            ∙ ap (λ (u : Names). joined (trees view done) (view r ▹ each_renamed (trees view rest) u)) known
+            ∙ ap (λ (y : Tree). joined (trees view done) (y ▹ each_renamed (trees view rest) (behind (view x) s))) made
+            ∙ sym (ap (λ (l : List A). joined (trees view done) (each_renamed (trees view l) s)) next)
+            ∙ leads.0,
         ap (λ (u : Names). in_turn (trees view rest) u) known
-        ∙ sym (ap (λ (l : List A). in_turn (trees view l) s) next)
-        ∙ leads.1,
+            ∙ sym (ap (λ (l : List A). in_turn (trees view l) s) next)
+            ∙ leads.1,
       )
 
   drop_end : (xs : List A) (i : ℕ) → length xs ≤ i → drop i xs ≡ []
@@ -52,7 +52,7 @@ module _ {A : Type 0} (view : A → Tree) where
   leads_end xs i done s first h leads =
       let end = drop_end xs i h in (
         sym (joined_none (trees view done))
-        ∙ sym (ap (λ (l : List A). joined (trees view done) (each_renamed (trees view l) s)) end)
-        ∙ leads.0,
+            ∙ sym (ap (λ (l : List A). joined (trees view done) (each_renamed (trees view l) s)) end)
+            ∙ leads.0,
         sym (ap (λ (l : List A). in_turn (trees view l) s) end) ∙ leads.1,
       )

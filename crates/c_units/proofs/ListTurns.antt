@@ -23,7 +23,7 @@ turn place plain (tree ▹ rest) (suc n) s h =
     let more = turn place plain rest n (behind tree s) (omega (arith, h)) in (
       ap (λ (b : Bool). all_behind rest (replicate n place) (left_part b s (behind tree s))) plain ∙ more.0,
       ap (λ (b : Bool). renamed tree s ▹ all_renamed rest (replicate n place) (left_part b s (behind tree s))) plain
-      ∙ ap (λ (t : Trees). renamed tree s ▹ t) more.1,
+          ∙ ap (λ (t : Trees). renamed tree s ▹ t) more.1,
     )
 
 places_rows : (place : Place) (n : ℕ) → places (rows place n) ≡ replicate n place

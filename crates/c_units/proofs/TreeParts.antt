@@ -181,9 +181,9 @@ module _ (x : Names) where
   pointer_is declarator line consts target h =
       let e = consts_none consts (Part p.AnyDeclarator ∷ []) in (
         ap (λ (k : Declarator). behind (declarator_tree k) x) h
-        ∙ ap (λ (ps : List Place). all_behind (At line ▹ declarator_tree target.value ▹ none) (p.Line ∷ ps) x) e,
+            ∙ ap (λ (ps : List Place). all_behind (At line ▹ declarator_tree target.value ▹ none) (p.Line ∷ ps) x) e,
         ap (λ (k : Declarator). renamed (declarator_tree k) x) h
-        ∙ ap (λ (ps : List Place). Node (f.Pointer consts) (all_renamed (At line ▹ declarator_tree target.value ▹ none) (p.Line ∷ ps) x)) e,
+            ∙ ap (λ (ps : List Place). Node (f.Pointer consts) (all_renamed (At line ▹ declarator_tree target.value ▹ none) (p.Line ∷ ps) x)) e,
       )
 
   pub direct_is : (declarator : Declarator) (base : Base) (suffixes : Vec Suffix Global) → declarator ≡ d.Direct base suffixes →
@@ -284,7 +284,7 @@ module _ (x : Names) where
       let e = name_none (name_of (declarator_tree one.0)) in (
         ap (λ (n : Option (List ℕ)). behind (maybe f.MaybeInit init_view one.1) (declare n Inner (behind (declarator_tree one.0) x))) e,
         ap (λ (n : Option (List ℕ)). Node f.Entry (Node f.Declared (renamed (declarator_tree one.0) x ▹ none) ▹
-          renamed (maybe f.MaybeInit init_view one.1) (declare n Inner (behind (declarator_tree one.0) x)) ▹ none)) e,
+            renamed (maybe f.MaybeInit init_view one.1) (declare n Inner (behind (declarator_tree one.0) x)) ▹ none)) e,
       )
 
   pub names_is : (names : List (Declarator × Option Init)) →

@@ -33,7 +33,13 @@ fn suffix_params(suffixes: &[Suffix]) -> Option<&[Param]>
     ensures { option_map (λ params. Node form.Params (trees param_view params.now) ▹ none) result ≡ suffix_params (Node form.Suffixes (trees suffix_view suffixes.now) ▹ none) }
 {
     match suffixes {
-        [Suffix { kind: SuffixKind::Params(params), .. }, ..] => Some(params),
+        [
+            Suffix {
+                kind: SuffixKind::Params(params),
+                ..
+            },
+            ..
+        ] => Some(params),
         _ => None,
     }
 }

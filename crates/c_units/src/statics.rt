@@ -61,7 +61,9 @@ fn note_static(alloc: Global, names: &mut NameSet, decl: &Decl) -> Result<(), No
 {
     match decl {
         Decl::Function {
-            specs, declarator, ..
+            specs,
+            declarator,
+            ..
         } => {
             if has_static(specs) {
                 note(alloc, names, declarator)
@@ -69,7 +71,11 @@ fn note_static(alloc: Global, names: &mut NameSet, decl: &Decl) -> Result<(), No
                 Ok(())
             }
         }
-        Decl::Names { specs, names: list, .. } => {
+        Decl::Names {
+            specs,
+            names: list,
+            ..
+        } => {
             if has_static(specs) {
                 note_all(alloc, names, list.as_slice())
             } else {
