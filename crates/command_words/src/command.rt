@@ -51,11 +51,7 @@ pub enum Task {
 }
 
 /// What is done with some files, if the words can be their names and there are not too many.
-fn with_files<'a>(
-    alloc: Global,
-    names: &[&'a str],
-    task: Task,
-) -> Result<Command<'a>, WordsError>
+fn with_files<'a>(alloc: Global, names: &[&'a str], task: Task) -> Result<Command<'a>, WordsError>
     ensures read { IsRead (with_files (map (λ w. w.now) names.now) (task_shown task)) result }
     ensures task { IfOk result (IsOnFiles task) }
 {
@@ -177,11 +173,7 @@ fn generated<'a>(found: &ArgMatches<'a>) -> Result<Command<'a>, WordsError>
 }
 
 /// What a command asks for.
-fn asked<'a>(
-    alloc: Global,
-    name: &str,
-    found: &ArgMatches<'a>,
-) -> Result<Command<'a>, WordsError>
+fn asked<'a>(alloc: Global, name: &str, found: &ArgMatches<'a>) -> Result<Command<'a>, WordsError>
     ensures read { IsRead (asked name.now (rows_of (found_of found.now))) result }
     ensures limits { IfOk result (λ c. HasLimits (command_shown c)) }
 {

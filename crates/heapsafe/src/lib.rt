@@ -112,7 +112,16 @@ fn with_files<T: Texts, I: Source, O: Sink, E: Sink>(
         Err(status) => return status,
     };
     let first = files.first().copied().unwrap_or("");
-    with_tree(alloc, first, task, opened.as_slice(), &unit, input, out, err)
+    with_tree(
+        alloc,
+        first,
+        task,
+        opened.as_slice(),
+        &unit,
+        input,
+        out,
+        err,
+    )
 }
 
 /// Does what the words say, and answers the status.

@@ -212,14 +212,7 @@ pub(crate) fn refuse_types<E: Sink>(err: &mut E, error: TypeError, opened: &[Ope
 pub(crate) fn refuse_merge<E: Sink>(err: &mut E, error: &MergeError, opened: &[Opened]) -> u8 {
     match error {
         MergeError::Conflict { name, line } => {
-            refuse_in(
-                err,
-                opened,
-                *line,
-                b"conflict: ",
-                name.as_slice(),
-                CONFLICT,
-            )
+            refuse_in(err, opened, *line, b"conflict: ", name.as_slice(), CONFLICT)
         }
         MergeError::NoMemory => refuse(err, Refusal::NoMemory),
     }
