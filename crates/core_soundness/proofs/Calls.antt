@@ -8,7 +8,6 @@ use Rattle.hs_base.specs.Numbers.{width}
 use Rattle.c_types.specs.TagTable.{TagTable}
 use Rattle.c_types.specs.Types as types
 use Rattle.c_types.specs.Types.{PlainType, PlainTypes, Void, kind_of}
-use Rattle.c_types.specs.declared.types.IntType.{IntType}
 use Rattle.c_types.specs.declared.types.IntType.TheVariants as i
 use Rattle.c_print.specs.Pieces.{pieces_of}
 use Rattle.c_print.specs.declared.piece.Piece.{Piece}
@@ -104,14 +103,8 @@ cond_false false x y v e h = h
 record_again : (s t : PlainType) → is_record s ≡ true → same s t ≡ true → is_record t ≡ true
 unfolding same
 record_again (types.Struct tag) (types.Struct other) r e = refl
-record_again (types.Struct tag) (types.Int ty) r e = cc
-record_again (types.Struct tag) (types.Pointer target) r e = cc
-record_again (types.Struct tag) types.Void r e = cc
-record_again (types.Struct tag) (types.Array element length) r e = cc
-record_again (types.Struct tag) (types.Union other) r e = cc
-record_again (types.Struct tag) (types.Function answer params) r e = cc
 record_again (types.Union tag) (types.Union other) r e = refl
-record_again other t r e = cc
+record_again s t r e = cc
 
 -- a struct or a union that is no assignment is a place
 record_place : (type : PlainType) (e : PlainTyped) → is_record type ≡ true → same type e.type ≡ true → has_no_value e ≡ false → e.is_place ≡ true
@@ -451,12 +444,7 @@ built_in_of line tags o other function h = inl (sym (ok_same _ function h))
 pub call_of : (line : ℕ) (v : World) (tags : TagTable) (name : List ℕ) (o : Option PlainNamed) (function : Callee) → ((type : PlainType) (index : ℕ) → o ≡ Some (n.Function type index) → named_in name v.file ≡ Some (n.Function type index)) → called line tags o ≡ Ok function → CallOf v o function
 call_of line v tags name (Some (n.Function type index)) function k h = (sym (ok_same _ function h), (name, k type index refl))
 call_of line v tags name (Some (n.BuiltIn index)) function k h = built_in_of line tags (slice_get built_ins index) (callee_at (slice_get built_ins index)) function h
-call_of line v tags name (Some (n.Object type index)) function k h = no_function_is line tags (named line (Some (n.Object type index))) function h
-call_of line v tags name (Some (n.Register type index)) function k h = no_function_is line tags (named line (Some (n.Register type index))) function h
-call_of line v tags name (Some (n.Typedef type)) function k h = no_function_is line tags (named line (Some (n.Typedef type))) function h
-call_of line v tags name (Some (n.Constant type c)) function k h = no_function_is line tags (named line (Some (n.Constant type c))) function h
-call_of line v tags name (Some (n.Tag type)) function k h = no_function_is line tags (named line (Some (n.Tag type))) function h
-call_of line v tags name None function k h = no_function_is line tags (named line None) function h
+call_of line v tags name other function k h = no_function_is line tags (named line other) function h
 
 same_length : (a b : ℕ) → not (a == b) ≡ false → a ≡ b
 same_length a b e = eqb-true a b (not_false (a == b) e)

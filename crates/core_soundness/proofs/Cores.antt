@@ -1,5 +1,5 @@
 -- What the walk over a text says of its core.
-use Rattle.std.proofs.Common.{◌≡◌, ◌≤◌, ◌<◌, ◌+◌, ℕ, zero, suc, List, [], ◌∷◌, ◌++◌, length, map, sum_by, Some, None, slice_get, Ok, Err, All, refl, sym, ap, ◌∙◌, subst, arith, mul-one, Bool, true, false, ◌&&◌, cond, is_some, bytes_eq, codes, count_by, Option, unwrap_or}
+use Rattle.std.proofs.Common.{◌≡◌, ◌≤◌, ◌<◌, ◌+◌, ℕ, zero, suc, List, [], ◌∷◌, ◌++◌, length, map, sum_by, Some, None, slice_get, Ok, Err, All, refl, sym, ap, ◌∙◌, subst, arith, mul-one, Bool, true, false, cond, bytes_eq, codes, count_by, Option, unwrap_or}
 use Rattle.std.proofs.lemmas.List.{length-map}
 use Rattle.std.proofs.lemmas.List.Sums.{sum_by-append, sum_by-cons}
 use Rattle.std.proofs.lemmas.Slice.Eq.{bytes_eq-Decides}

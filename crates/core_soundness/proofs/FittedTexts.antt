@@ -15,7 +15,6 @@ use Rattle.c_types.specs.declared.types.IntType.TheVariants as i
 use Rattle.core_tree.specs.Sound.{IsStatic}
 use Rattle.core_tree.specs.declared.program.Core.{Core}
 use Rattle.core_tree.specs.declared.program.Start.{Start}
-use Rattle.core_tree.specs.declared.statements.StmKind.TheVariants.{Enter}
 use Rattle.c_tree.specs.Forms as f
 use Rattle.c_tree.specs.Scopes.{name_of}
 use Rattle.c_tree.specs.Tree.{Tree, Trees, At, Node, none, ◌▹◌, count}
@@ -34,8 +33,8 @@ use Rattle.c_decls.specs.declared.refusal.TypeKind.TheVariants.{Assignment, Decl
 use Rattle.c_decls.specs.declared.typed.Folded.{Folded}
 use Rattle.c_decls.specs.declared.typed.Folded.TheVariants.{Is}
 use Rattle.elaboration.specs.Addressed.{addressed_in}
-use Rattle.elaboration.specs.Context.{Code, Context, asked, emit, anew, Variable, Declared, first_context}
-use Rattle.elaboration.specs.Conversions.{Found, Fixed, Unknown, Nowhere, Inside, code_line, valued, size_or_zero}
+use Rattle.elaboration.specs.Context.{Code, Context, asked, Variable, Declared, first_context}
+use Rattle.elaboration.specs.Conversions.{Found, Fixed, Unknown, Nowhere, Inside, valued, size_or_zero}
 use Rattle.elaboration.specs.Declarations.{Storage, Typedef, storage_of, specs_before, declared_function, no_initializer, variable_number_of, with_new_variable, with_variable, start_of, start_in, started_variable, fill_variable, file_object, file_function, file_value, file_name, name_in, entry, entries, declaration}
 use Rattle.elaboration.specs.Declarators.{layers}
 use Rattle.elaboration.specs.Elaboration.{walked, elaborated}
@@ -202,10 +201,7 @@ module _ (ts : List CompletedTag) (room : ℕ) (slots : List ℕ) where
   expression_fills e line (Array element size) offset low l target c solid q k seat h = by_text_fills e line element size offset low (text e) l target c solid q k seat h
   expression_fills e line (Struct tag) offset low l target c solid q k seat h = whole_fills e line (Struct tag) offset low (offset + l.size) target c h
   expression_fills e line (Union tag) offset low l target c solid q k seat h = whole_fills e line (Union tag) offset low (offset + l.size) target c h
-  expression_fills e line Void offset low l target c solid q k seat h = scalar_fills e line Void offset low l target c tt solid q k seat h
-  expression_fills e line (Int ty) offset low l target c solid q k seat h = scalar_fills e line (Int ty) offset low l target c tt solid q k seat h
-  expression_fills e line (Pointer t) offset low l target c solid q k seat h = scalar_fills e line (Pointer t) offset low l target c tt solid q k seat h
-  expression_fills e line (Function answer params) offset low l target c solid q k seat h = scalar_fills e line (Function answer params) offset low l target c tt solid q k seat h
+  expression_fills e line type offset low l target c solid q k seat h = scalar_fills e line type offset low l target c tt solid q k seat h
 
   -- braces
 
@@ -415,12 +411,7 @@ module _ (name : List ℕ) (type : PlainType) (c : Context) (file : Table) where
       → with_variable line (index_of o) name type d ≡ Ok x → Placed (index_of o) type x
   placed_by line None d x e s h q k = first_placed line d x s h q k
   placed_by line (Some (n.Object t i)) d x e s h q k = again_placed line i t d x e h q k
-  placed_by line (Some (n.Register t i)) d x e s h q k = never (Placed (index_of (Some (n.Register t i))) type x) _ d q
-  placed_by line (Some (n.Function t i)) d x e s h q k = never (Placed (index_of (Some (n.Function t i))) type x) _ d q
-  placed_by line (Some (n.Typedef t)) d x e s h q k = never (Placed (index_of (Some (n.Typedef t))) type x) _ d q
-  placed_by line (Some (n.Constant t i)) d x e s h q k = never (Placed (index_of (Some (n.Constant t i))) type x) _ d q
-  placed_by line (Some (n.BuiltIn i)) d x e s h q k = never (Placed (index_of (Some (n.BuiltIn i))) type x) _ d q
-  placed_by line (Some (n.Tag t)) d x e s h q k = never (Placed (index_of (Some (n.Tag t))) type x) _ d q
+  placed_by line other d x e s h q k = never (Placed (index_of other) type x) _ d q
 
 placed : (line : ℕ) (name : List ℕ) (type : PlainType) (c d x : Context) → length c.scopes.inner ≡ 0 → is_some (layout_in c.tags type) ≡ true → Fitted c
     → (let index = variable_number_of c (named_in name c.scopes.file) in declared_as line name (n.Object type index) c ≡ Ok d → with_variable line index name type d ≡ Ok x → Placed index type x)

@@ -408,13 +408,6 @@ module _ (num : Numbers) where
     there : (l : ℕ) → Placed l whole → Labelled m l 0 (point_in whole l) (depth (point_in whole l))
     there l x = labelled m whole 0 0 out flow l x
 
-    target_of : (Q : ℕ → Type 0) (kind : StmKind) → ((l : ℕ) → Placed l whole → Q l) → Target (λ l. Placed l whole) kind → Target Q kind
-    target_of Q (Jump l) f h = f l h
-    target_of Q (Zero b l) f h = f l h
-    target_of Q (Case b v l) f h = f l h
-    target_of Q (Loop l) f h = f l h
-    target_of Q kind f h = tt
-
     pub inside : EachStatement (body_of num whole) (λ point stm. All (λ next. next < length (body_of num whole)) (edges stm.kind point))
     unfolding numbered
     inside point stm e =
@@ -423,7 +416,7 @@ module _ (num : Numbers) where
         (λ (w : point + 1 < steps whole).
         subst (λ k. All (λ next. next < length (body_of num whole)) (edges k point)) (sym s.is)
         (kind_inside s.kind point (length (body_of num whole))
-        (target_of _ s.kind (λ l x. omega (arith, points l, label_inside front last l x, body_length whole)) s.target) (omega (arith, w, body_length whole))))
+        (target_map (λ l. Placed l whole) _ s.kind (λ l x. omega (arith, points l, label_inside front last l x, body_length whole)) s.target) (omega (arith, w, body_length whole))))
         (λ (w : stm.kind ≡ Return (option_map (atom_by num) a)).
         subst (λ k. All (λ next. next < length (body_of num whole)) (edges k point)) (sym w) (All-nil _))
         (next_inside front last point stm e)
@@ -432,7 +425,7 @@ module _ (num : Numbers) where
     ahead point stm e =
         let s = stands point stm e in
         subst (LeadsOn point) (sym s.is) (kind_ahead m s.kind point (depth point) (depth (suc point)) s.goes
-        (target_of _ s.kind (λ l x. omega (arith, points l, (there l x).stands)) s.target))
+        (target_map (λ l. Placed l whole) _ s.kind (λ l x. omega (arith, points l, (there l x).stands)) s.target))
 
     opened : (point scopes : ℕ) → Opens (body_of num whole) point scopes → scopes ≡ depth point
     opened point scopes start = sym (depth_start m whole 0 0 out flow)
@@ -443,7 +436,7 @@ module _ (num : Numbers) where
         ap (scopes_after stm.kind) had
         ∙ ap (λ k. scopes_after k (depth point)) s.is
         ∙ kind_goes m depth s.kind point (depth point) (depth (suc point)) next s.goes
-        (target_of _ s.kind (λ l x. ap depth (points l) ∙ sym (there l x).scopes) s.target)
+        (target_map (λ l. Placed l whole) _ s.kind (λ l x. ap depth (points l) ∙ sym (there l x).scopes) s.target)
         (ap depth one) (subst (λ k. Contains (edges k point) next) s.is edge)
 
     pub scopes : HasScopes (body_of num whole)
@@ -682,20 +675,11 @@ IsPlain kind = Unit {0}
 
 plain_target : (Q : ℕ → Type 0) (kind : StmKind) → IsPlain kind → Target Q kind
 plain_target Q (Jump l) h = absurd h
-plain_target Q (Zero a l) h = absurd h
-plain_target Q (Case a v l) h = absurd h
-plain_target Q (Loop l) h = absurd h
-plain_target Q kind h = tt
+plain_target Q kind h = search
 
 plain_goes : (m : Marks) (kind : StmKind) (p n : ℕ) → IsPlain kind → Goes m kind p n n
 plain_goes m (Jump l) p n h = absurd h
-plain_goes m (Zero a l) p n h = absurd h
-plain_goes m (Case a v l) p n h = absurd h
-plain_goes m (Loop l) p n h = absurd h
-plain_goes m Enter p n h = absurd h
-plain_goes m Leave p n h = absurd h
-plain_goes m (Return a) p n h = absurd h
-plain_goes m kind p n h = refl
+plain_goes m kind p n h = search
 
 pub plain : (n low high : ℕ) (stm : Stm) → IsPlain stm.kind → Fragment [] n low high (Does stm ∷ []) []
 plain n low high stm h = record {

@@ -33,7 +33,7 @@ use Rattle.c_tree.specs.Places.{Place}
 use Rattle.c_tree.specs.Scopes.{name_of}
 use Rattle.c_tree.specs.Tree.{Tree, Trees, Leaf, At, Node, none, ◌▹◌, count}
 use Rattle.c_tree.specs.Words as w
-use Rattle.c_decls.specs.Expressions.{line_of, string}
+use Rattle.c_decls.specs.Expressions.{line_of}
 use Rattle.c_decls.specs.IntegerTypes.{promoted}
 use Rattle.c_decls.specs.Named as n
 use Rattle.c_decls.specs.PlaceRules.{unconverted}
@@ -41,10 +41,10 @@ use Rattle.c_decls.specs.Refusals.{Checked, refused, then, unless}
 use Rattle.c_decls.specs.ScopeList.{named_in, innermost, tag_name}
 use Rattle.c_decls.specs.TypeNames.{tag_named, with_layers}
 use Rattle.c_decls.specs.Typed.{is_function, has_no_size, Operand, Number, operand, is_void, is_scalar}
-use Rattle.c_decls.specs.declared.refusal.TypeKind.TheVariants.{Assignment, DeclaredTwice, Incomplete, LeftOut, Operands, StrayBreak, CaseTwice, ProgramTooLong, Undeclared, NoMain}
+use Rattle.c_decls.specs.declared.refusal.TypeKind.TheVariants.{Assignment, DeclaredTwice, Incomplete, LeftOut, Operands, StrayBreak, CaseTwice, ProgramTooLong, NoMain}
 use Rattle.elaboration.specs.Addressed.{addressed_in}
 use Rattle.elaboration.specs.Context.{Context, With, Variable, asked, emit, anew, left, entered, here, new_label, with_labels, with_pieces, Walked, Declared, first_context}
-use Rattle.elaboration.specs.Conversions.{Found, Spot, Local, Memory, code_line, atom_in, valued, convert, write, size_or_zero, convert_integer, tested_value, unused}
+use Rattle.elaboration.specs.Conversions.{Found, Spot, Local, Memory, atom_in, valued, convert, write, size_or_zero, convert_integer, tested_value, unused}
 use Rattle.elaboration.specs.Declarations as storages
 use Rattle.elaboration.specs.Declarations.{Storage, Typedef, Outside, storage_of, specs_alone, specs_before, cleared, fill_memory, fill_register, fill_at, fill_local, local_object, local_name, function_number, with_function, declared_function, no_initializer, variable_number_of, with_new_variable, with_variable, start_of, start_in, started_variable, started, fill_variable, file_object, file_function, file_value, file_name, name_in, entry, entries, declaration}
 use Rattle.elaboration.specs.Declarators.{layers, specs}

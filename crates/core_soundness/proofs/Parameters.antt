@@ -65,20 +65,17 @@ reverse_one x ls = reverse-append (x ∷ []) ls
 pub functions_joined : (a b : List Layer) → functions (a ++ b) ≡ functions a + functions b
 functions_joined [] b = omega arith
 functions_joined (FunctionOf line params ∷ ls) b = omega (arith, functions_joined ls b)
-functions_joined (PointerTo line ∷ ls) b = functions_joined ls b
-functions_joined (ArrayOf line length ∷ ls) b = functions_joined ls b
+functions_joined (layer ∷ ls) b = functions_joined ls b
 
 sorts_joined : (a b : List Layer) → function_sorts (a ++ b) ≡ function_sorts a ++ function_sorts b
 sorts_joined [] b = refl
 sorts_joined (FunctionOf line params ∷ ls) b = ap (λ (s : List Sort). param_sorts params ++ s) (sorts_joined ls b) ∙ sym (append_assoc (param_sorts params) (function_sorts ls) (function_sorts b))
-sorts_joined (PointerTo line ∷ ls) b = sorts_joined ls b
-sorts_joined (ArrayOf line length ∷ ls) b = sorts_joined ls b
+sorts_joined (layer ∷ ls) b = sorts_joined ls b
 
 sorts_none : (a : List Layer) → functions a ≡ 0 → function_sorts a ≡ []
 sorts_none [] e = refl
 sorts_none (FunctionOf line params ∷ ls) e = absurd (omega (arith, e))
-sorts_none (PointerTo line ∷ ls) e = sorts_none ls e
-sorts_none (ArrayOf line length ∷ ls) e = sorts_none ls e
+sorts_none (layer ∷ ls) e = sorts_none ls e
 
 pub functions_one : (x : Layer) (ls : List Layer) → functions (x ∷ ls) ≡ functions (x ∷ []) + functions ls
 functions_one (FunctionOf line params) ls = omega arith

@@ -1,6 +1,6 @@
 -- The pointers that the statics of a core hold first.
-use Rattle.std.proofs.Common.{◌≡◌, ◌≤◌, ◌<◌, ◌+◌, ◌*◌, ◌/◌, ◌%◌, ◌==◌, not, ℕ, zero, suc, Bool, true, false, cond, is_some, nat_lt, codes, All, length, map, sum_by, List, [], ◌∷◌, ◌++◌, slice_get, slice_set, option_map, unwrap_or, Option, Some, None, Ok, refl, sym, ap, ◌∙◌, subst, ⊎_elim, arith, bytes_eq, inl, inr}
-use Rattle.std.proofs.lemmas.Bool.{ltb-true, ltb-false, eq-eqb}
+use Rattle.std.proofs.Common.{◌≡◌, ◌≤◌, ◌<◌, ◌+◌, not, ℕ, zero, suc, Bool, true, false, cond, is_some, nat_lt, codes, All, length, map, sum_by, List, [], ◌∷◌, ◌++◌, slice_get, slice_set, option_map, unwrap_or, Option, Some, None, Ok, refl, sym, ap, ◌∙◌, subst, ⊎_elim, arith, bytes_eq, inl, inr}
+use Rattle.std.proofs.lemmas.Bool.{ltb-true, ltb-false}
 use Rattle.std.proofs.lemmas.List.{length-map}
 use Rattle.std.proofs.lemmas.List.Elements.{All-cons, All-nil, All-append, All-head, All-tail}
 use Rattle.std.proofs.lemmas.Option.{slice_get-map}
@@ -31,7 +31,7 @@ use Rattle.c_decls.specs.Typed.{is_function, has_no_size}
 use Rattle.c_decls.specs.declared.built_in.BuiltIn.{BuiltIn}
 use Rattle.c_decls.specs.declared.refusal.TypeKind.TheVariants.{DeclaredTwice, Incomplete, LeftOut, StaticTooLarge, ProgramTooLong, Undeclared, NoMain}
 use Rattle.elaboration.specs.Addressed.{addressed_in}
-use Rattle.elaboration.specs.Context.{Context, Variable, Declared, asked, emit, first_context, file_variable, literal_object}
+use Rattle.elaboration.specs.Context.{Context, Variable, Declared, asked, emit, first_context}
 use Rattle.elaboration.specs.Conversions.{size_or_zero}
 use Rattle.elaboration.specs.Declarations.{Storage, Typedef, storage_of, specs_alone, specs_before, function_number, with_function, declared_function, no_initializer, variable_number_of, with_new_variable, with_variable, start_of, start_in, started_variable, fill_variable, file_object, file_function, file_value, file_name, name_in, entry, entries, declaration}
 use Rattle.elaboration.specs.Declarators.{specs, layers}

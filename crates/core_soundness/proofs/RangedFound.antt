@@ -1,5 +1,5 @@
 -- Expressions keep the numbers of statements in range.
-use Rattle.std.proofs.Common.{◌≡◌, ◌<◌, ◌+◌, ◌&&◌, ◌^◌, not, ℕ, pos, zero, suc, Bool, true, false, cond, length, drop, List, [], ◌∷◌, ◌++◌, slice_get, Option, Some, None, unwrap_or, Ok, refl, sym, subst, arith, option_map, ◌∙◌, ℤ}
+use Rattle.std.proofs.Common.{◌≡◌, ◌<◌, ◌+◌, ◌&&◌, ◌^◌, not, ℕ, pos, zero, suc, Bool, true, false, length, drop, List, [], ◌∷◌, ◌++◌, slice_get, Option, Some, None, unwrap_or, Ok, refl, sym, subst, arith, option_map, ℤ, IfSome}
 use Rattle.std.proofs.lemmas.Int.{ints}
 use Rattle.std.specs.Prelude.{slice_index_or}
 use Rattle.hs_base.specs.declared.ends.IntKind.TheVariants.{I8}
@@ -29,7 +29,7 @@ use Rattle.c_decls.specs.Callees.{named, built_in_named, built_in_value, Callee,
 use Rattle.c_decls.specs.Expressions.{line_of, string, typed, int_constant, char_constant, joined, first_literal, typename}
 use Rattle.c_decls.specs.Named as n
 use Rattle.c_decls.specs.Named.{PlainNamed}
-use Rattle.c_decls.specs.PlaceRules.{element, element_types, dot, arrow, cast, choice, assigned, changed, changed_types, moves, held_place, size, size_answer}
+use Rattle.c_decls.specs.PlaceRules.{element, element_types, dot, arrow, cast, choice, assigned, changed, changed_types, moves, size, size_answer}
 use Rattle.c_decls.specs.Refusals.{Checked, then}
 use Rattle.c_decls.specs.ScopeList.{found as declaration}
 use Rattle.c_decls.specs.TypeNames as names
@@ -41,8 +41,8 @@ use Rattle.c_decls.specs.declared.constant.Constant.{Constant}
 use Rattle.c_decls.specs.declared.refusal.TypeKind.TheVariants.{Operands, StaticTooLarge}
 use Rattle.elaboration.specs.Assignments.{record_assigned, scalar_assigned, old_value, changed_answer, changed_by, one_found, stepped}
 use Rattle.elaboration.specs.Calls.{Argument, atoms_of, atom_at, argument_from, lib_name, result_by, with_format, call_built_in, call_of_built_in, call_named, element_layout, types_of, first_type, rest_types}
-use Rattle.elaboration.specs.Context.{Code, Context, emit, here, new_label, with_labels, integer_by, With, asked, told, Walked, anew}
-use Rattle.elaboration.specs.Conversions.{Found, Spot, Value, Nowhere, found_as, atom_in, valued_from, convert, forget, tested_value, code_line, write, size_or_zero, valued_as, valued, unused}
+use Rattle.elaboration.specs.Context.{Code, Context, emit, here, new_label, with_labels, integer_by, asked, told, Walked, anew}
+use Rattle.elaboration.specs.Conversions.{Found, Spot, Value, found_as, atom_in, valued_from, convert, tested_value, code_line, write, size_or_zero, valued_as, valued, unused}
 use Rattle.elaboration.specs.Expressions.{name_answer, literal_answer, unevaluated, changing, comma_answer, callee, callee_name, parameters, format_argument, is_printf, call_answer, found, arguments, cast_operand}
 use Rattle.elaboration.specs.Operations.{working, Branches, offset_of, operator_of, changed_to}
 use Rattle.elaboration.specs.Reallocates.{reallocates, opened, closed}
@@ -61,7 +61,7 @@ use Rattle.core_soundness.proofs.TagSorts.{typename_leads, kinds_refl, Leads, Ki
 use Rattle.core_soundness.proofs.TypedWhole.{found_whole, assigned_whole, led_cond, called_whole, typed_good, typename_good, CW, Fit}
 use Rattle.core_soundness.proofs.Walks.{grows_read, grows_tested, grows_write}
 use Rattle.core_soundness.proofs.WholeTypes.{whole_stays, nothing, all_stay, extends_refl, made_sized}
-use Rattle.core_soundness.proofs.Choices.{either_way, some_same}
+use Rattle.core_soundness.proofs.Choices.{either_way}
 
 -- expressions keep the numbers of statements in range
 
@@ -71,29 +71,12 @@ E z = In z.0 × SpotIn z.1.spot
 
 -- names and constants
 
+built_in_range : (name : BuiltIn) → IfSome (constant_of name) (λ (c : Constant). IsNumber c.value)
+built_in_range built.Eof = (omega (arith, ints), omega (arith, ints))
+built_in_range name = search (arith, ints)
+
 built_number : (name : BuiltIn) (c : Constant) → constant_of name ≡ Some c → IsNumber c.value
-built_number built.Eof c e = subst (λ (x : Constant). IsNumber x.value) (some_same _ c e) (omega (arith, ints), omega (arith, ints))
-built_number built.ExitSuccess c e = subst (λ (x : Constant). IsNumber x.value) (some_same _ c e) (omega (arith, ints), omega (arith, ints))
-built_number built.ExitFailure c e = subst (λ (x : Constant). IsNumber x.value) (some_same _ c e) (omega (arith, ints), omega (arith, ints))
-built_number built.CharBit c e = subst (λ (x : Constant). IsNumber x.value) (some_same _ c e) (omega (arith, ints), omega (arith, ints))
-built_number built.ScharMin c e = subst (λ (x : Constant). IsNumber x.value) (some_same _ c e) (omega (arith, ints), omega (arith, ints))
-built_number built.ScharMax c e = subst (λ (x : Constant). IsNumber x.value) (some_same _ c e) (omega (arith, ints), omega (arith, ints))
-built_number built.UcharMax c e = subst (λ (x : Constant). IsNumber x.value) (some_same _ c e) (omega (arith, ints), omega (arith, ints))
-built_number built.CharMin c e = subst (λ (x : Constant). IsNumber x.value) (some_same _ c e) (omega (arith, ints), omega (arith, ints))
-built_number built.CharMax c e = subst (λ (x : Constant). IsNumber x.value) (some_same _ c e) (omega (arith, ints), omega (arith, ints))
-built_number built.ShrtMin c e = subst (λ (x : Constant). IsNumber x.value) (some_same _ c e) (omega (arith, ints), omega (arith, ints))
-built_number built.ShrtMax c e = subst (λ (x : Constant). IsNumber x.value) (some_same _ c e) (omega (arith, ints), omega (arith, ints))
-built_number built.UshrtMax c e = subst (λ (x : Constant). IsNumber x.value) (some_same _ c e) (omega (arith, ints), omega (arith, ints))
-built_number built.IntMin c e = subst (λ (x : Constant). IsNumber x.value) (some_same _ c e) (omega (arith, ints), omega (arith, ints))
-built_number built.IntMax c e = subst (λ (x : Constant). IsNumber x.value) (some_same _ c e) (omega (arith, ints), omega (arith, ints))
-built_number built.UintMax c e = subst (λ (x : Constant). IsNumber x.value) (some_same _ c e) (omega (arith, ints), omega (arith, ints))
-built_number built.LongMin c e = subst (λ (x : Constant). IsNumber x.value) (some_same _ c e) (omega (arith, ints), omega (arith, ints))
-built_number built.LongMax c e = subst (λ (x : Constant). IsNumber x.value) (some_same _ c e) (omega (arith, ints), omega (arith, ints))
-built_number built.UlongMax c e = subst (λ (x : Constant). IsNumber x.value) (some_same _ c e) (omega (arith, ints), omega (arith, ints))
-built_number built.LlongMin c e = subst (λ (x : Constant). IsNumber x.value) (some_same _ c e) (omega (arith, ints), omega (arith, ints))
-built_number built.LlongMax c e = subst (λ (x : Constant). IsNumber x.value) (some_same _ c e) (omega (arith, ints), omega (arith, ints))
-built_number built.UllongMax c e = subst (λ (x : Constant). IsNumber x.value) (some_same _ c e) (omega (arith, ints), omega (arith, ints))
-built_number name c e = cc
+built_number name c e = subst (λ (o : Option Constant). IfSome o (λ (x : Constant). IsNumber x.value)) e (built_in_range name)
 
 value_in : (line : ℕ) (name : BuiltIn) (o : Option Constant) (e : PlainTyped) → constant_of name ≡ o → built_in_value line name o ≡ Ok e → SpotIn (built_in_found e e.is_null).spot
 value_in line built.Null o e q h = subst (λ (x : PlainTyped). SpotIn (built_in_found x x.is_null).spot) (ok_same _ e h) tt

@@ -31,7 +31,7 @@ use Rattle.core_tree.specs.declared.statements.Atom.{Atom}
 use Rattle.core_tree.specs.declared.statements.Atom.TheVariants as atom
 use Rattle.core_tree.specs.declared.statements.Stm.{Stm}
 use Rattle.core_tree.specs.declared.statements.StmKind.{StmKind}
-use Rattle.core_tree.specs.declared.statements.StmKind.TheVariants.{Set, Conv, Un, Bin, Cmp, Add, Sub, Off, Diff, Pcmp, Test, Load, Loadp, Store, Storep, Copy, Clear, Zero, Case, Call, Malloc, Calloc, Realloc, Free, Lib, Printf, Return}
+use Rattle.core_tree.specs.declared.statements.StmKind.TheVariants.{Set, Call, Lib, Printf, Return}
 use Rattle.c_decls.specs.Callees.{behind_flags, digits_at, behind_digits, behind_length, is_item, is_format_of, is_format}
 use Rattle.elaboration.specs.Context.{Piece as CodePiece, Does, Here, Context, Walked, local_register, integer_temporary, pointer_temporary, file_variable, literal_object}
 use Rattle.elaboration.specs.Resolving.{Numbers, atom_by, atoms_by, numbered, body_of, register_by, static_by, numbers_of, temporary, pointer_register, function_of, variable_static, literal_static, core_of}
@@ -365,33 +365,11 @@ module _ (c : Context) (w : Walked) where
     kind_resolves : (kind : StmKind) → Fits here kind → IsTyped core func (numbered num kind)
     unfolding numbered
     kind_resolves (Set r a) h = (h.0, register_resolves h.0 r h.1, atom_resolves h.0 a h.2)
-    kind_resolves (Conv k r a) h = (register_resolves Integer r h.0, atom_resolves Integer a h.1)
-    kind_resolves (Un op k r a) h = (register_resolves Integer r h.0, atom_resolves Integer a h.1)
-    kind_resolves (Bin op k r a b) h = (register_resolves Integer r h.0, atom_resolves Integer a h.1, atom_resolves Integer b h.2)
-    kind_resolves (Cmp op r a b) h = (register_resolves Integer r h.0, atom_resolves Integer a h.1, atom_resolves Integer b h.2)
-    kind_resolves (Add r p a s) h = (register_resolves Pointer r h.0, atom_resolves Pointer p h.1, atom_resolves Integer a h.2)
-    kind_resolves (Sub r p a s) h = (register_resolves Pointer r h.0, atom_resolves Pointer p h.1, atom_resolves Integer a h.2)
-    kind_resolves (Off r p k) h = (register_resolves Pointer r h.0, atom_resolves Pointer p h.1)
-    kind_resolves (Diff r p q s) h = (register_resolves Integer r h.0, atom_resolves Pointer p h.1, atom_resolves Pointer q h.2)
-    kind_resolves (Pcmp op r p q) h = (register_resolves Integer r h.0, atom_resolves Pointer p h.1, atom_resolves Pointer q h.2)
-    kind_resolves (Test r p) h = (register_resolves Integer r h.0, atom_resolves Pointer p h.1)
-    kind_resolves (Load k r p) h = (register_resolves Integer r h.0, atom_resolves Pointer p h.1)
-    kind_resolves (Loadp r p) h = (register_resolves Pointer r h.0, atom_resolves Pointer p h.1)
-    kind_resolves (Store k p a) h = (atom_resolves Pointer p h.0, atom_resolves Integer a h.1)
-    kind_resolves (Storep p q) h = (atom_resolves Pointer p h.0, atom_resolves Pointer q h.1)
-    kind_resolves (Copy p q k) h = (atom_resolves Pointer p h.0, atom_resolves Pointer q h.1)
-    kind_resolves (Clear p k) h = atom_resolves Pointer p h
-    kind_resolves (Zero a l) h = atom_resolves Integer a h
-    kind_resolves (Case a v l) h = atom_resolves Integer a h
     kind_resolves (Call f r args) h = calls f r args h
-    kind_resolves (Malloc r k t) h = (register_resolves Pointer r h.0, atom_resolves Integer k h.1)
-    kind_resolves (Calloc r m k t) h = (register_resolves Pointer r h.0, atom_resolves Integer m h.1, atom_resolves Integer k h.2)
-    kind_resolves (Realloc r p k t) h = (register_resolves Pointer r h.0, atom_resolves Pointer p h.1, atom_resolves Integer k h.2)
-    kind_resolves (Free p) h = atom_resolves Pointer p h
     kind_resolves (Lib name r args) h = (result_resolves (lib_gives name) r h.0, all_resolve (lib_takes name) args h.1)
     kind_resolves (Printf r k args) h = (register_resolves Integer r h.0, printed_resolves args (slice_get w.running.formats k) h.1)
     kind_resolves (Return a) h = absurd h
-    kind_resolves other h = tt
+    kind_resolves kind h = search (register_resolves, atom_resolves)
 
     answer_typed : (answer : Option Sort) (a : Option Atom) → FitsAnswer here answer a → IsTyped core func (numbered num (Return a))
     unfolding numbered

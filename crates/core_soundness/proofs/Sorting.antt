@@ -11,7 +11,7 @@ use Rattle.core_tree.specs.declared.statements.Atom.TheVariants as atom
 use Rattle.core_tree.specs.declared.statements.CmpOp.{CmpOp}
 use Rattle.core_tree.specs.declared.statements.CmpOp.TheVariants as cmp
 use Rattle.core_tree.specs.declared.statements.StmKind.{StmKind}
-use Rattle.core_tree.specs.declared.statements.StmKind.TheVariants.{Set, Conv, Un, Bin, Cmp, Add, Sub, Off, Diff, Pcmp, Test, Load, Loadp, Store, Storep, Copy, Clear, Zero, Case, Call, Malloc, Calloc, Realloc, Free, Lib, Printf, Return}
+use Rattle.core_tree.specs.declared.statements.StmKind.TheVariants.{Set, Conv, Un, Bin, Cmp, Add, Sub, Off, Diff, Pcmp, Test, Load, Loadp, Store, Storep, Call, Printf, Return}
 use Rattle.core_tree.specs.declared.statements.UnOp.TheVariants as un
 use Rattle.c_tree.specs.Tree.{Tree}
 use Rattle.c_tree.specs.declared.operator.BinaryOp.{BinaryOp}
@@ -21,13 +21,12 @@ use Rattle.c_tree.specs.declared.operator.UnaryOp.TheVariants as u
 use Rattle.c_decls.specs.Expressions.{line_of}
 use Rattle.c_decls.specs.IntegerTypes.{promoted, common_type}
 use Rattle.c_decls.specs.Named as n
-use Rattle.c_decls.specs.Refusals.{Refusal, Checked, refused, unless}
+use Rattle.c_decls.specs.Refusals.{Refusal, Checked, unless}
 use Rattle.c_decls.specs.ScopeList.{named_in}
 use Rattle.c_decls.specs.TypeNames as names
 use Rattle.c_decls.specs.TypeRules.{result_type, barred, moving, immovable, beside_pointer, sum_types, difference_types, order_types, equal_types, integer_types, binary}
 use Rattle.c_decls.specs.Typed.{PlainTyped, Operand, Number, PointerTo, Neither, operand, held, read, is_scalar, has_no_size, value, int, is_null_constant}
 use Rattle.c_decls.specs.declared.refusal.TypeKind.{TypeKind}
-use Rattle.c_decls.specs.declared.refusal.TypeKind.TheVariants.{PointerAndInteger}
 use Rattle.elaboration.specs.Context.{Piece, Does, Here, Context, told, emit, here, with_labels, integer_by, pointer_by, integer_temporary, pointer_temporary, With}
 use Rattle.elaboration.specs.Conversions.{Found, Spot, Local, Memory, Value, Empty, read_spot, read_value, code_line, valued_from, atom_in, holds_all, convert_integer, convert_to, convert, tested, tested_value, write, unused, size_or_zero}
 use Rattle.elaboration.specs.Operations.{working, Working, Calculates, Shifts, Compares, Branches, convert_both, work, on_integers, before_integer, move_pointer, between_pointers, pointer_beside, beside_integer, combine, change, changed_to, member_address}
@@ -671,6 +670,8 @@ module _ (line : ℕ) (l : 1 ≤ line) (b c : Context) (g : Goes b c) where
 
   pub binary_makes : (op : BinaryOp) (tags : TagTable) (x y typed : PlainTyped) (p q : Atom) → IsBetween op → binary line op tags x y ≡ Ok typed → LeftOf b op (operand x.type) (operand y.type) p → Held (world c) y.type q → Makes b typed (combine line op b.code (operand x.type) (operand y.type) p q c)
   unfolding working
+  binary_makes bin.Or tags x y typed p q i e h k = absurd i
+  binary_makes bin.And tags x y typed p q i e h k = absurd i
   binary_makes bin.Add tags x y typed p q i e h k = sum_makes tags x y typed (operand x.type) (operand y.type) p q refl refl e (left_held bin.Add _ _ p refl h) k
   binary_makes bin.Subtract tags x y typed p q i e h k = difference_makes tags x y typed (operand x.type) (operand y.type) p q refl refl e (left_held bin.Subtract _ _ p refl h) k
   binary_makes bin.Less tags x y typed p q i e h k = order_makes bin.Less x y typed (operand x.type) (operand y.type) p q e (left_held bin.Less _ _ p refl h) k
@@ -679,15 +680,7 @@ module _ (line : ℕ) (l : 1 ≤ line) (b c : Context) (g : Goes b c) where
   binary_makes bin.GreaterEqual tags x y typed p q i e h k = order_makes bin.GreaterEqual x y typed (operand x.type) (operand y.type) p q e (left_held bin.GreaterEqual _ _ p refl h) k
   binary_makes bin.Equal tags x y typed p q i e h k = equal_makes bin.Equal cmp.Eq x y typed (operand x.type) (operand y.type) p q refl e (left_of bin.Equal _ _ p h) k
   binary_makes bin.NotEqual tags x y typed p q i e h k = equal_makes bin.NotEqual cmp.Ne x y typed (operand x.type) (operand y.type) p q refl e (left_of bin.NotEqual _ _ p h) k
-  binary_makes bin.BitOr tags x y typed p q i e h k = integer_makes bin.BitOr x y typed (operand x.type) (operand y.type) p q e (left_held bin.BitOr _ _ p refl h) k
-  binary_makes bin.BitXor tags x y typed p q i e h k = integer_makes bin.BitXor x y typed (operand x.type) (operand y.type) p q e (left_held bin.BitXor _ _ p refl h) k
-  binary_makes bin.BitAnd tags x y typed p q i e h k = integer_makes bin.BitAnd x y typed (operand x.type) (operand y.type) p q e (left_held bin.BitAnd _ _ p refl h) k
-  binary_makes bin.ShiftLeft tags x y typed p q i e h k = integer_makes bin.ShiftLeft x y typed (operand x.type) (operand y.type) p q e (left_held bin.ShiftLeft _ _ p refl h) k
-  binary_makes bin.ShiftRight tags x y typed p q i e h k = integer_makes bin.ShiftRight x y typed (operand x.type) (operand y.type) p q e (left_held bin.ShiftRight _ _ p refl h) k
-  binary_makes bin.Multiply tags x y typed p q i e h k = integer_makes bin.Multiply x y typed (operand x.type) (operand y.type) p q e (left_held bin.Multiply _ _ p refl h) k
-  binary_makes bin.Divide tags x y typed p q i e h k = integer_makes bin.Divide x y typed (operand x.type) (operand y.type) p q e (left_held bin.Divide _ _ p refl h) k
-  binary_makes bin.Remainder tags x y typed p q i e h k = integer_makes bin.Remainder x y typed (operand x.type) (operand y.type) p q e (left_held bin.Remainder _ _ p refl h) k
-  binary_makes other tags x y typed p q i e h k = absurd i
+  binary_makes op tags x y typed p q i e h k = integer_makes op x y typed (operand x.type) (operand y.type) p q e (left_held op _ _ p refl h) k
 
 -- an operator with `=`
 

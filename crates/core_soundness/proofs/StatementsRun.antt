@@ -14,7 +14,7 @@ use Rattle.c_decls.specs.IntegerTypes.{promoted}
 use Rattle.c_decls.specs.PlaceRules.{unconverted, converts}
 use Rattle.c_decls.specs.Refusals.{Checked, then, unless}
 use Rattle.c_decls.specs.ScopeList.{tail}
-use Rattle.c_decls.specs.Typed.{Operand, Number, PointerTo, Neither, operand, is_void, is_scalar}
+use Rattle.c_decls.specs.Typed.{Operand, Number, Neither, operand, is_void, is_scalar}
 use Rattle.c_decls.specs.declared.refusal.TypeKind.TheVariants.{LeftOut, Operands, Assignment, CaseTwice, StrayBreak}
 use Rattle.elaboration.specs.Addressed.{Taken, left_scope, taken}
 use Rattle.elaboration.specs.Context.{Here, Context, entered, left, scoped, emit, here, new_label, with_labels, with_pieces}

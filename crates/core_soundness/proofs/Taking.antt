@@ -1,18 +1,17 @@
 -- The walk over addresses: what it adds, and what it leaves.
-use Rattle.std.proofs.Common.{◌≡◌, ℕ, Bool, true, false, ◌||◌, nat_eq, List, [], ◌∷◌, Option, Some, None, refl, ◌≤◌, sym, ap, ◌∙◌, zero, suc, length, ⊎_elim, ◌++◌, replicate}
+use Rattle.std.proofs.Common.{◌≡◌, ℕ, Bool, true, false, ◌||◌, nat_eq, List, [], ◌∷◌, Option, Some, None, refl, ◌≤◌, sym, ap, ◌∙◌, zero, suc, length, ⊎_elim}
 use Rattle.std.specs.List.{list_any}
 use Rattle.std.specs.Option.{option_or}
 use Rattle.c_tree.specs.Forms as f
 use Rattle.c_tree.specs.Forms.{Form}
-use Rattle.c_tree.specs.Grammar.{shape, Part, key, rows, some, commas, behind_commas, some_commas, here_rows}
-use Rattle.c_tree.specs.Places as p
+use Rattle.c_tree.specs.Grammar.{shape, rows, some, commas, behind_commas, some_commas, here_rows}
 use Rattle.c_tree.specs.Places.{Place}
 use Rattle.c_tree.specs.Scopes.{name_among, is_scope, places}
 use Rattle.c_tree.specs.Tree.{Tree, Trees, Node, none, ◌▹◌, count, Leaf, At}
 use Rattle.c_tree.specs.declared.operator.UnaryOp.TheVariants as u
 use Rattle.c_tree.specs.declared.word.Keyword.TheVariants as k
 use Rattle.c_decls.specs.Named as n
-use Rattle.c_decls.specs.Named.{PlainNamed, Tag}
+use Rattle.c_decls.specs.Named.{PlainNamed}
 use Rattle.c_decls.specs.ScopeList as scopes
 use Rattle.c_decls.specs.ScopeList.{ScopeList, Table, found, named_in, found_from, tail}
 use Rattle.elaboration.specs.Addressed.{Taken, number_of, plain_name, with_number, with_address, with_known, declare, left, left_part, taken, all_taken, left_scope}
@@ -20,7 +19,7 @@ use Rattle.elaboration.specs.Context.{Context, left as left_context}
 use Rattle.core_soundness.specs.Spoken.{is_register}
 use Rattle.core_soundness.specs.Worlds.{World, world, FileFits, TableFits}
 use Rattle.core_soundness.specs.Written.{HasParts, Written, AllWritten}
-use Rattle.core_soundness.proofs.Formed.{NoNodes, Shaped, Formed, AllFormed, behind_stars}
+use Rattle.core_soundness.proofs.Formed.{NoNodes, Shaped, Formed, AllFormed}
 use Rattle.core_soundness.proofs.Scopes.{More, MoreAll, IsNewTag}
 
 -- of which parameters and locals the address was taken stays known behind each tree
@@ -55,17 +54,6 @@ declare_adds false name t k h = known_adds name (Some t.declared) t k h
 
 pub left_adds : (form : Form) (parts : Trees) (before inner : Taken) (k : ℕ) → Has inner.addressed k → Has (left form parts before inner).addressed k
 unfolding left
-left_adds f.Body parts before inner k h = h
-left_adds f.Block parts before inner k h = h
-left_adds f.Delay parts before inner k h = h
-left_adds f.If parts before inner k h = h
-left_adds f.IfElse parts before inner k h = h
-left_adds f.While parts before inner k h = h
-left_adds f.Do parts before inner k h = h
-left_adds f.For parts before inner k h = h
-left_adds f.Switch parts before inner k h = h
-left_adds f.FunctionSuffix parts before inner k h = h
-left_adds f.Specs parts before inner k h = h
 left_adds f.Declared parts before inner k h = declare_adds before.typedef (name_among parts) (record inner { typedef = before.typedef }) k h
 left_adds f.Param parts before inner k h = known_adds (name_among parts) (Some inner.declared) (record inner { typedef = before.typedef }) k h
 left_adds f.Enumerator parts before inner k h = known_adds (name_among parts) None (record inner { typedef = before.typedef }) k h
@@ -491,22 +479,9 @@ address_names (Some name) t = by (number_of t.names name)
 
 pub left_names : (form : Form) (parts : Trees) (before inner : Taken) → declares form ≡ false → SameNames before inner → SameNames before (left form parts before inner)
 unfolding left
-left_names f.Body parts before inner e h = (refl, h.1)
-left_names f.Block parts before inner e h = (refl, h.1)
-left_names f.Delay parts before inner e h = (refl, h.1)
-left_names f.If parts before inner e h = (refl, h.1)
-left_names f.IfElse parts before inner e h = (refl, h.1)
-left_names f.While parts before inner e h = (refl, h.1)
-left_names f.Do parts before inner e h = (refl, h.1)
-left_names f.For parts before inner e h = (refl, h.1)
-left_names f.Switch parts before inner e h = (refl, h.1)
-left_names f.FunctionSuffix parts before inner e h = (refl, h.1)
-left_names f.Declared parts before inner e h = cc
-left_names f.Param parts before inner e h = cc
-left_names f.Enumerator parts before inner e h = cc
 left_names (f.Unary u.Address) (line ▹ e1 ▹ none) before inner e h =
     let a = address_names (plain_name e1) inner in (a.0 ∙ h.0, a.1 ∙ h.1)
-left_names _ parts before inner e h = (h.0, h.1)
+left_names form parts before inner e h = first_of (cc, search)
 
 pub part_names : (scope : Bool) (before inner : Taken) → SameNames before inner → SameNames before (left_part scope before inner)
 part_names true before inner h = (refl, h.1)
@@ -549,11 +524,7 @@ restores _ = true
 left_typedef : (form : Form) (parts : Trees) (before inner : Taken) → restores form ≡ true → (left form parts before inner).typedef ≡ before.typedef
 unfolding left
 left_typedef f.Specs parts before inner e = cc
-left_typedef f.Declared parts before inner e = cc
-left_typedef f.Param parts before inner e = cc
-left_typedef f.Enumerator parts before inner e = cc
-left_typedef (f.Unary u.Address) parts before inner e = cc
-left_typedef _ parts before inner e = refl
+left_typedef form parts before inner e = first_of (cc, search)
 
 pub restored : (form : Form) (parts : Trees) (t : Taken) → restores form ≡ true → (taken (Node form parts) t).typedef ≡ t.typedef
 unfolding taken

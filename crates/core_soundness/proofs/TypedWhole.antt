@@ -403,20 +403,7 @@ module _ (ts : List CompletedTag) (made : AreMade nothing ts) where
 
   built_in_callee_whole : (name : BuiltIn) → CW (built_in_callee name)
   built_in_callee_whole built.Malloc = (tt, (tt, tt))
-  built_in_callee_whole built.Calloc = (tt, (tt, (tt, tt)))
-  built_in_callee_whole built.Realloc = (tt, (tt, (tt, tt)))
-  built_in_callee_whole built.Free = (tt, (tt, tt))
-  built_in_callee_whole built.Exit = (tt, (tt, tt))
-  built_in_callee_whole built.Abort = (tt, tt)
-  built_in_callee_whole built.Memcpy = (tt, (tt, (tt, (tt, tt))))
-  built_in_callee_whole built.Memmove = (tt, (tt, (tt, (tt, tt))))
-  built_in_callee_whole built.Memset = (tt, (tt, (tt, (tt, tt))))
-  built_in_callee_whole built.Strlen = (tt, (tt, tt))
-  built_in_callee_whole built.Strcmp = (tt, (tt, (tt, tt)))
-  built_in_callee_whole built.Getchar = (tt, tt)
-  built_in_callee_whole built.Putchar = (tt, (tt, tt))
-  built_in_callee_whole built.Puts = (tt, (tt, tt))
-  built_in_callee_whole name = tt
+  built_in_callee_whole name = search
 
   at_whole : (o : Option BuiltIn) → CW (callee_at o)
   at_whole None = tt
@@ -429,12 +416,7 @@ module _ (ts : List CompletedTag) (made : AreMade nothing ts) where
   pub called_whole : (line : ℕ) (tags : TagTable) (o : Option PlainNamed) → NamedBy o → Led CW (called line tags o)
   called_whole line tags (Some (n.Function type i)) h = led_ok CW (function_whole type (h (n.Function type i) refl))
   called_whole line tags (Some (n.BuiltIn i)) h = built_in_called_whole line tags (slice_get built_ins i) (callee_at (slice_get built_ins i)) (at_whole (slice_get built_ins i))
-  called_whole line tags (Some (n.Object type i)) h = no_function_whole line tags (named line (Some (n.Object type i)))
-  called_whole line tags (Some (n.Register type i)) h = no_function_whole line tags (named line (Some (n.Register type i)))
-  called_whole line tags (Some (n.Typedef type)) h = no_function_whole line tags (named line (Some (n.Typedef type)))
-  called_whole line tags (Some (n.Constant type x)) h = no_function_whole line tags (named line (Some (n.Constant type x)))
-  called_whole line tags (Some (n.Tag type)) h = no_function_whole line tags (named line (Some (n.Tag type)))
-  called_whole line tags None h = no_function_whole line tags (named line None)
+  called_whole line tags other h = no_function_whole line tags (named line other)
 
   -- the walk
 
