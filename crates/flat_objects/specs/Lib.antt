@@ -16,3 +16,4 @@ pub mod Tries
 pub mod Leaks
 pub mod Ending
 pub mod EndingSteps
+pub mod Calls

@@ -7,11 +7,11 @@ ghost use Rattle.hs_base.specs.Numbers.{low_bits, width};
 ghost use Rattle.byte_marks.specs.Marks.{AreBytes, IsSlotAt};
 ghost use Rattle.object_meaning.specs.Memory.{loaded, loaded_pointer, stored, stored_pointer};
 ghost use Rattle.flat_objects.specs.Memory.{SameFrame};
-ghost use Rattle.flat_objects.specs.Standing.{IsAddressOf};
 ghost use Rattle.flat_objects.specs.Keeping.{KeepsAt, IsKept};
 ghost use Rattle.flat_objects.specs.Reaching.{Reaches};
 ghost use Rattle.flat_objects.specs.Answering.{Allows, AnswersNumber, AnswersAddress, Changes};
 ghost use Rattle.flat_objects.specs.Counting.{IsStorable, StaysTracked};
+ghost use Rattle.flat_objects.specs.Calls.{ForPair};
 
 use crate::finding::Found;
 use crate::forms::touches_slot;
@@ -207,8 +207,8 @@ impl FlatObjects {
         steps: &mut Steps<L>,
     ) -> Result<(), TrapKind>
         requires { IsStorable self.old addr target }
-        ensures changes { (places : ℕ → ℕ) (objects : List Object) (p q : Pointer) → KeepsAt self.old places objects p addr → IsAddressOf places objects q target → Changes places objects result self.old self.new (stored_pointer objects p q) }
-        ensures tracks { (places : ℕ → ℕ) (objects : List Object) (p q : Pointer) → KeepsAt self.old places objects p addr → IsAddressOf places objects q target → StaysTracked self.old self.new places objects (stored_pointer objects p q) }
+        ensures changes { ForPair self.old addr target (λ places objects p q. Changes places objects result self.old self.new (stored_pointer objects p q)) }
+        ensures tracks { ForPair self.old addr target (λ places objects p q. StaysTracked self.old self.new places objects (stored_pointer objects p q)) }
         ensures frame { SameFrame self.old self.new }
         ensures work { steps.new ≤ steps.old + 15 }
     {

@@ -1,11 +1,12 @@
 //! The pointers that count: those inside objects, and those that the caller pins.
 
-ghost use Rattle.std.specs.Prelude.{◌≡◌, ◌+◌, ◌/◌, ◌<◌, ◌≤◌, ◌∷◌, ◌++◌, ℕ, List, length, slice_index, sum};
+ghost use Rattle.std.specs.Prelude.{◌≡◌, ◌+◌, ◌/◌, ◌<◌, ◌≤◌, ℕ, List, length, slice_index, sum};
 ghost use Rattle.byte_memory.specs.Bytes.{put_word, word};
 ghost use Rattle.hs_base.specs.Object.{Object};
 ghost use Rattle.flat_objects.specs.Memory.{SameFrame};
 ghost use Rattle.flat_objects.specs.Keeping.{Keeps};
-ghost use Rattle.flat_objects.specs.Counting.{Frees, IsPinnable, IsUnpinnable, MayPin, MayUnpin, Tracks, one_less, one_more};
+ghost use Rattle.flat_objects.specs.Counting.{IsPinnable, IsUnpinnable, one_less, one_more};
+ghost use Rattle.flat_objects.specs.Calls.{IsPinned, IsUnpinned};
 
 use crate::memory::FlatObjects;
 use byte_memory::Steps;
@@ -63,7 +64,7 @@ impl FlatObjects {
     pub fn pin<L: Ledger>(&mut self, addr: u32, steps: &mut Steps<L>)
         requires { IsPinnable self.old addr }
         ensures keeps { (places : ℕ → ℕ) (objects : List Object) → Keeps self.old places objects → Keeps self.new places objects }
-        ensures tracks { (places : ℕ → ℕ) (objects : List Object) (frees : Frees) (before behind : List Pointer) (p : Pointer) → MayPin self.old places objects frees p addr → frees.pins ≡ before ++ behind → Tracks self.new places objects (record frees { pins = before ++ p ∷ behind }) }
+        ensures tracks { IsPinned self.old self.new addr }
         ensures frame { SameFrame self.old self.new }
         ensures work { steps.new ≤ steps.old + 1 }
     {
@@ -75,7 +76,7 @@ impl FlatObjects {
     pub fn unpin<L: Ledger>(&mut self, addr: u32, steps: &mut Steps<L>)
         requires { IsUnpinnable self.old addr }
         ensures keeps { (places : ℕ → ℕ) (objects : List Object) → Keeps self.old places objects → Keeps self.new places objects }
-        ensures tracks { (places : ℕ → ℕ) (objects : List Object) (frees : Frees) (before behind : List Pointer) (p : Pointer) → MayUnpin self.old places objects frees before behind p addr → Tracks self.new places objects (record frees { pins = before ++ behind }) }
+        ensures tracks { IsUnpinned self.old self.new addr }
         ensures frame { SameFrame self.old self.new }
         ensures work { steps.new ≤ steps.old + 1 }
     {

@@ -4,9 +4,10 @@ ghost use Rattle.std.specs.Prelude.{◌≡◌, ◌+◌, ◌^◌, ◌<◌, ◌≤
 ghost use Rattle.hs_base.specs.Object.{Object};
 ghost use Rattle.hs_base.specs.Place.{Block};
 ghost use Rattle.heap_blocks.specs.Held.{Holds, owner_of};
-ghost use Rattle.flat_objects.specs.Memory.{Range, heap_of, end_of};
+ghost use Rattle.flat_objects.specs.Memory.{Range, heap_of};
 ghost use Rattle.flat_objects.specs.Keeping.{KeepsAt, IsKept};
 ghost use Rattle.flat_objects.specs.Reaching.{IsFound};
+ghost use Rattle.flat_objects.specs.Calls.{IsOwnerIn};
 
 use crate::memory::FlatObjects;
 use byte_memory::Steps;
@@ -28,7 +29,7 @@ impl FlatObjects {
     /// The start of the object whose block holds the byte at an address of a range. The answer is that of one of the ranges.
     #[inline(always)]
     pub(crate) fn owner<L: Ledger>(&self, addr: u32, steps: &mut Steps<L>) -> Option<u32>
-        ensures owner { (range : Range) (held : List Block) → (heap_of self.now range).base ≤ addr → addr < end_of (heap_of self.now range) → Holds (heap_of self.now range) held → result ≡ owner_of (heap_of self.now range) held addr }
+        ensures owner { IsOwnerIn self.now addr result }
         ensures from { (held : Range → List Block) → ((range : Range) → Holds (heap_of self.now range) (held range)) → (range : Range) × (result ≡ owner_of (heap_of self.now range) (held range) addr) }
         ensures work { steps.new ≤ steps.old + 4 }
     {

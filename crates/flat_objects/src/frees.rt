@@ -2,12 +2,12 @@
 //! pointer to a freed object indeterminate).
 
 ghost use Rattle.std.specs.Prelude.{◌≡◌, ◌+◌, ◌-◌, ◌^◌, ◌<◌, ◌≤◌, ℕ, List};
-ghost use Rattle.hs_base.specs.Freeing.{check_numbers, freed_at};
 ghost use Rattle.hs_base.specs.Object.{Object};
 ghost use Rattle.flat_objects.specs.Memory.{SameFrame};
 ghost use Rattle.flat_objects.specs.Keeping.{Keeps};
 ghost use Rattle.flat_objects.specs.Counting.{Frees, Tracks};
-ghost use Rattle.flat_objects.specs.Freeing.{AnswersCheck, AnswersFree, IsFreeable, IsInScope, MayFree, MayLeave, number_of, work_of};
+ghost use Rattle.flat_objects.specs.Freeing.{IsFreeable, IsInScope, MayLeave, work_of};
+ghost use Rattle.flat_objects.specs.Calls.{FreesAt, LeavesInner, LeavesOutermost};
 
 use crate::memory::FlatObjects;
 use byte_memory::Steps;
@@ -42,7 +42,7 @@ impl FlatObjects {
         steps: &mut Steps<L>,
     ) -> Result<(), BadFree>
         requires { IsFreeable self.old addr }
-        ensures answer { (places : ℕ → ℕ) (objects : List Object) (frees : Frees) (birth offset : ℕ) → MayFree self.old places objects frees birth offset addr → AnswersFree self.old self.new places objects frees line result (freed_at objects birth offset) }
+        ensures answer { FreesAt self.old self.new addr line result }
         ensures frame { SameFrame self.old self.new }
         ensures work { steps.new ≤ steps.old + 9 }
     {
@@ -59,8 +59,8 @@ impl FlatObjects {
     /// and 4 for each of its slots.
     pub fn leave<L: Ledger>(&mut self, steps: &mut Steps<L>) -> Result<(), BadFree>
         requires { IsInScope self.old }
-        ensures inner { (places : ℕ → ℕ) (objects : List Object) (frees : Frees) → MayLeave self.old places objects frees → 1 < frees.scopes → (result ≡ Ok tt) × Keeps self.new places objects × Tracks self.new places objects (record frees { scopes = frees.scopes - 1 }) }
-        ensures outermost { (places : ℕ → ℕ) (objects : List Object) (frees : Frees) → MayLeave self.old places objects frees → frees.scopes ≡ 1 → AnswersCheck self.old self.new places objects frees result (check_numbers objects frees.queue (number_of objects frees)) }
+        ensures inner { LeavesInner self.old self.new result }
+        ensures outermost { LeavesOutermost self.old self.new result }
         ensures frame { SameFrame self.old self.new }
         ensures idle { (places : ℕ → ℕ) (objects : List Object) (frees : Frees) → MayLeave self.old places objects frees → 1 < frees.scopes → steps.new ≡ steps.old }
         ensures work { (places : ℕ → ℕ) (objects : List Object) (frees : Frees) → MayLeave self.old places objects frees → frees.scopes ≡ 1 → steps.new ≤ steps.old + work_of objects frees.queue }

@@ -1,12 +1,11 @@
 //! The first pointer inside an object that leads to another, read anew. It is sought once, behind a bad free at the end of a
 //! run: over all objects, and without any memory.
 
-ghost use Rattle.std.specs.Prelude.{◌≡◌, ◌+◌, ◌<◌, ◌≤◌, ℕ, List, option_map, IfSome};
+ghost use Rattle.std.specs.Prelude.{◌≡◌, ◌+◌, ◌<◌, ◌≤◌, ℕ, List, IfSome};
 ghost use Rattle.hs_base.specs.Object.{Object, object_at};
-ghost use Rattle.object_meaning.specs.Holding.{first_of, inside_objects};
-ghost use Rattle.flat_objects.specs.Counting.{AreQueued};
-ghost use Rattle.flat_objects.specs.Holders.{IsIn, IsKeptObject, IsSomeObject, holder_of, older, storage_of};
+ghost use Rattle.flat_objects.specs.Holders.{IsIn, IsKeptObject, IsSomeObject, older, storage_of};
 ghost use Rattle.flat_objects.specs.Searching.{IsFirstSlot, IsHoldingAt, IsKeptSlots, IsSomeSlots};
+ghost use Rattle.flat_objects.specs.Calls.{IsFirstInside};
 
 use crate::memory::FlatObjects;
 use byte_memory::Steps;
@@ -123,7 +122,7 @@ impl FlatObjects {
     /// then by slots; none where only pointers outside of objects lead to it.
     pub fn first_holder<L: Ledger>(&self, target: u32, steps: &mut Steps<L>) -> Option<Holding>
         requires { IsSomeObject self.now target }
-        ensures first { (places : ℕ → ℕ) (objects : List Object) (birth : ℕ) (queue : List ℕ) → IsKeptObject self.now places objects birth target → AreQueued objects queue → option_map (holder_of objects) result ≡ first_of (inside_objects queue birth objects) }
+        ensures first { IsFirstInside self.now target result }
         ensures inside { (places : ℕ → ℕ) (objects : List Object) (birth : ℕ) → IsKeptObject self.now places objects birth target → IfSome result (IsIn objects) }
     {
         let size = Header::read_size(&self.bytes, target - HEADER_SIZE, steps);

@@ -1,16 +1,9 @@
 //! New objects of the heap, and memory locals.
 
-ghost use Rattle.std.specs.Prelude.{◌≡◌, ◌∷◌, ◌++◌, [], ℕ, List, length, slice_get, Some, IfSome, IfNone, option_map};
-ghost use Rattle.hs_base.specs.Object.{Object, Local};
-ghost use Rattle.c_types.specs.declared.layouts.Layout.{Layout};
-ghost use Rattle.adjusters.specs.ObjectSlots.{element_of};
-ghost use Rattle.heap_blocks.specs.Held.{address_of, fit_of};
-ghost use Rattle.object_meaning.specs.Making.{blank, heap_object};
+ghost use Rattle.std.specs.Prelude.{◌≡◌, IfNone};
 ghost use Rattle.flat_objects.specs.Memory as memory;
 ghost use Rattle.flat_objects.specs.Memory.{SameFrame};
-ghost use Rattle.flat_objects.specs.Keeping.{Keeps, blocks_of};
-ghost use Rattle.flat_objects.specs.Adding.{IsAdded, with_place};
-ghost use Rattle.flat_objects.specs.Counting.{Frees, Tracks};
+ghost use Rattle.flat_objects.specs.Calls.{AddsBlock, AddsLocal, PlacesIn, TracksBlock, TracksLocal};
 
 use crate::marking::mark;
 use crate::memory::FlatObjects;
@@ -30,9 +23,9 @@ impl FlatObjects {
         birth: u64,
         steps: &mut Steps<L>,
     ) -> Option<u32>
-        ensures place { (places : ℕ → ℕ) (objects : List Object) → Keeps self.old places objects → result ≡ option_map (address_of self.old.heap) (fit_of self.old.heap (blocks_of self.old places objects memory.Heap) size) }
-        ensures added { (places : ℕ → ℕ) (objects : List Object) (element : Layout) → Keeps self.old places objects → birth ≡ length objects → slice_get self.old.forms layout ≡ Some (element_of element) → IfSome result (IsAdded self.new places objects (heap_object line size element)) }
-        ensures tracks { (places : ℕ → ℕ) (objects : List Object) (element : Layout) (frees : Frees) → Keeps self.old places objects → birth ≡ length objects → slice_get self.old.forms layout ≡ Some (element_of element) → Tracks self.old places objects frees → IfSome result (λ addr. Tracks self.new (with_place places birth addr) (objects ++ heap_object line size element ∷ []) frees) }
+        ensures place { PlacesIn self.old memory.Heap size result }
+        ensures added { AddsBlock self.old self.new size layout line birth result }
+        ensures tracks { TracksBlock self.old self.new size layout line birth result }
         ensures none { IfNone result (self.new ≡ self.old) }
         ensures frame { SameFrame self.old self.new }
     {
@@ -52,9 +45,9 @@ impl FlatObjects {
         birth: u64,
         steps: &mut Steps<L>,
     ) -> Option<u32>
-        ensures place { (places : ℕ → ℕ) (objects : List Object) → Keeps self.old places objects → result ≡ option_map (address_of self.old.locals) (fit_of self.old.locals (blocks_of self.old places objects memory.Locals) size) }
-        ensures added { (places : ℕ → ℕ) (objects : List Object) (element : Layout) (func index : ℕ) → Keeps self.old places objects → birth ≡ length objects → slice_get self.old.forms layout ≡ Some (element_of element) → size ≡ element.size → IfSome result (IsAdded self.new places objects (blank (Local func index) size element.slots)) }
-        ensures tracks { (places : ℕ → ℕ) (objects : List Object) (element : Layout) (func index : ℕ) (frees : Frees) → Keeps self.old places objects → birth ≡ length objects → slice_get self.old.forms layout ≡ Some (element_of element) → size ≡ element.size → Tracks self.old places objects frees → IfSome result (λ addr. Tracks self.new (with_place places birth addr) (objects ++ blank (Local func index) size element.slots ∷ []) frees) }
+        ensures place { PlacesIn self.old memory.Locals size result }
+        ensures added { AddsLocal self.old self.new size layout birth result }
+        ensures tracks { TracksLocal self.old self.new size layout birth result }
         ensures none { IfNone result (self.new ≡ self.old) }
         ensures frame { SameFrame self.old self.new }
     {

@@ -6,11 +6,11 @@ ghost use Rattle.hs_base.specs.Object.{Object};
 ghost use Rattle.object_meaning.specs.Memory.{copied};
 ghost use Rattle.typed_copies.specs.Copying.{IsInside};
 ghost use Rattle.flat_objects.specs.Memory.{SameFrame};
-ghost use Rattle.flat_objects.specs.Standing.{IsAddressOf};
 ghost use Rattle.flat_objects.specs.Keeping.{KeepsAt, IsKept};
 ghost use Rattle.flat_objects.specs.Answering.{Changes};
 ghost use Rattle.flat_objects.specs.Counting.{IsStorable, StaysTracked};
 ghost use Rattle.flat_objects.specs.Ranges.{IsGrowable, IsRangeAt, IsSettable, TriesRange, grown, shared_size};
+ghost use Rattle.flat_objects.specs.Calls.{ForPair, ForStarts};
 
 use crate::memory::FlatObjects;
 use byte_memory::Steps;
@@ -76,8 +76,8 @@ impl FlatObjects {
         steps: &mut Steps<L>,
     ) -> Result<(), TrapKind>
         requires { IsStorable self.old to from }
-        ensures changes { (places : ℕ → ℕ) (objects : List Object) (p q : Pointer) → KeepsAt self.old places objects p to → IsAddressOf places objects q from → Changes places objects result self.old self.new (copied objects p q n) }
-        ensures tracks { (places : ℕ → ℕ) (objects : List Object) (p q : Pointer) → KeepsAt self.old places objects p to → IsAddressOf places objects q from → StaysTracked self.old self.new places objects (copied objects p q n) }
+        ensures changes { ForPair self.old to from (λ places objects p q. Changes places objects result self.old self.new (copied objects p q n)) }
+        ensures tracks { ForPair self.old to from (λ places objects p q. StaysTracked self.old self.new places objects (copied objects p q n)) }
         ensures frame { SameFrame self.old self.new }
         ensures work { steps.new ≤ steps.old + 22 + 3 * n }
     {
@@ -147,11 +147,11 @@ impl FlatObjects {
         steps: &mut Steps<L>,
     ) -> Result<(), TrapKind>
         requires { IsGrowable self.old to from }
-        ensures changes { (places : ℕ → ℕ) (objects : List Object) (new old : ℕ) → KeepsAt self.old places objects (Pointer.At new 0) to → IsAddressOf places objects (Pointer.At old 0) from → Changes places objects result self.old self.new (grown objects new old) }
-        ensures tracks { (places : ℕ → ℕ) (objects : List Object) (new old : ℕ) → KeepsAt self.old places objects (Pointer.At new 0) to → IsAddressOf places objects (Pointer.At old 0) from → StaysTracked self.old self.new places objects (grown objects new old) }
+        ensures changes { ForStarts self.old to from (λ places objects new old. Changes places objects result self.old self.new (grown objects new old)) }
+        ensures tracks { ForStarts self.old to from (λ places objects new old. StaysTracked self.old self.new places objects (grown objects new old)) }
         ensures layout { IfErr result (λ kind. kind ≡ TrapKind.Layout) }
         ensures frame { SameFrame self.old self.new }
-        ensures work { (places : ℕ → ℕ) (objects : List Object) (new old : ℕ) → KeepsAt self.old places objects (Pointer.At new 0) to → IsAddressOf places objects (Pointer.At old 0) from → steps.new ≤ steps.old + 22 + 3 * shared_size objects new old }
+        ensures work { ForStarts self.old to from (λ places objects new old. steps.new ≤ steps.old + 22 + 3 * shared_size objects new old) }
     {
         let dst = self.ranged(to, steps);
         let src = self.ranged(from, steps);
