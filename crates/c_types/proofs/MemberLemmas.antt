@@ -62,6 +62,6 @@ zip_members (m ∷ ms) (p ∷ ps) e =
 
 -- the members of a body, as they stand by all that is known
 pub body_members :
-    (k more : Known) → Extends k more → (b : Body) → IsPlaced k b → map plain_member b.members.items ≡ placed_members more (completed_tag b)
+    (k more : Known) → Extends k more → (b : Body) → IsPlaced k b → map plain_member b.members ≡ placed_members more (completed_tag b)
 body_members k more x b h =
-    rw (← members_stay k more x b.members.items h.sized) (zip_members b.members.items _ h.offsets)
+    rw (← members_stay k more x b.members h.sized) (zip_members b.members _ h.offsets)

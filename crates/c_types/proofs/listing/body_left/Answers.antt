@@ -10,7 +10,7 @@ use Rattle.c_types.proofs.listing.body_left.Goals.{then-not-body-via-then-not-bo
 
 members_left : (c : goal.Joined-then-not-body) → MembersCase (first_known c.args.tags.now c.args.first) c.args.offset c.args.body.now
 members_left c =
-    let why : (c.args.body.now.is_union ≡ false) ⊎ (c.args.body.now.members.items ≡ []) =
+    let why : (c.args.body.now.is_union ≡ false) ⊎ (c.args.body.now.members ≡ []) =
     elim c.then-not-body.branch [
       | then-not-body-via-then-not-body w ↦ inl w.if-not-body.true
       | then-not-body-via-else-not-body+then-is_empty w ↦ inr (no_items _ _ c.as_slice-members.ensures.value (sym w.is_empty.ensures ∙ w.if-is_empty.true))
@@ -25,7 +25,7 @@ returns-then-not-body-clause-slots c = λ slots. rw c.as_slice-members.ensures.v
 
 pub largest_member-requires-clause-sized : goal.largest_member-requires-clause-sized
 largest_member-requires-clause-sized c =
-    rw c.as_slice-members.ensures.value (members_sized c.args.tags.now c.args.first c.args.body.now.members.items c.requires.placed.sized)
+    rw c.as_slice-members.ensures.value (members_sized c.args.tags.now c.args.first c.args.body.now.members c.requires.placed.sized)
 
 pub offset_bounds-members-largest_member : goal.offset_bounds-members-largest_member
 offset_bounds-members-largest_member c =

@@ -16,7 +16,7 @@ pub slots_of-requires-clause-room : goal.slots_of-requires-clause-room
 slots_of-requires-clause-room c =
     let k = known c.args.tags.now.completed in
     let value = c.as_slice-members.ensures.value in
-    let ms = c.args.body.now.members.items in
+    let ms = c.args.body.now.members in
     let within : c.largest_member-largest.result < length ms =
     some_within (IsLargest k ms) ms c.largest_member-largest.result (rw value at c.largest_member-largest.ensures) in
     let at : c.index-members-largest.result ≡ get_or ms c.largest_member-largest.result c.index-members-largest.result = rw value at c.index-members-largest.is in
@@ -32,7 +32,7 @@ pub returns-then-not-is_front_below : goal.returns-then-not-is_front_below
 returns-then-not-is_front_below c =
     let k = known c.args.tags.now.completed in
     let value = c.as_slice-members.ensures.value in
-    let ms = c.args.body.now.members.items in
+    let ms = c.args.body.now.members in
     let some : IsSomeAnd (slice_get ms c.largest_member-largest.result) (IsLargest k ms) = rw value at c.largest_member-largest.ensures in
     let at : c.index-members-largest.result ≡ get_or ms c.largest_member-largest.result c.index-members-largest.result = rw value at c.index-members-largest.is in
     let r = some_and (IsLargest k ms) ms c.largest_member-largest.result c.index-members-largest.result at some in
@@ -62,7 +62,7 @@ pub returns : goal.returns
 returns c =
     let k = known c.args.tags.now.completed in
     let value = c.as_slice-members.ensures.value in
-    let ms = c.args.body.now.members.items in
+    let ms = c.args.body.now.members in
     let some : IsSomeAnd (slice_get ms c.largest_member-largest.result) (IsLargest k ms) = rw value at c.largest_member-largest.ensures in
     let at : c.index-members-largest.result ≡ get_or ms c.largest_member-largest.result c.index-members-largest.result = rw value at c.index-members-largest.is in
     let r = some_and (IsLargest k ms) ms c.largest_member-largest.result c.index-members-largest.result at some in
