@@ -6,5 +6,4 @@ pub mod Functions
 pub mod Texts
 pub mod Loops
 pub mod Scoping
-mod Branches
 mod Parsing

@@ -1,5 +1,5 @@
 -- One step of what is read by recursion on a number that the code counts down.
-use Rattle.std.proofs.Common.{◌≡◌, ℕ, zero, suc, ◌+◌, ◌-◌, ◌<◌, nat_le, if◌then◌else◌, Option, Some, None, Bool, refl, sym, ap, subst, arith, add-one, ◌∙◌}
+use Rattle.std.proofs.Common.{◌≡◌, ℕ, zero, suc, ◌+◌, ◌-◌, ◌<◌, nat_le, if◌then◌else◌, None, Bool, refl, arith, ◌∙◌}
 use Rattle.c_tree.specs.Forms.{Form}
 use Rattle.c_tree.specs.Places.{Place}
 use Rattle.c_tree.specs.Tree.{Tree, Trees}
@@ -32,20 +32,9 @@ expression_step inner room zero state h = absurd (omega (arith, h))
 expression_step inner room (suc zero) state h = absurd (omega (arith, h))
 expression_step inner room (suc (suc n)) state h = let e : suc (suc n) - 2 ≡ n = omega arith in rw e refl
 
--- the next level, behind what is read of the one before it
-pub binary_next : (inner : Place → Reader) (room level line : ℕ) (state : State) (left : Tree × State) → binary_at inner room level state ≡ Some left → line ≡ line_at state → binary_at inner room (level + 1) state ≡ binary_from inner room room (level + 2) line left.0 left.1
-binary_next inner room level line state left h same =
-    rw add-one (ap (λ (r : Option (Tree × State)). r >>= (λ x. binary_from inner room room (level + 2) (line_at state) x.0 x.1)) h ∙ ap (λ (n : ℕ). binary_from inner room room (level + 2) n left.0 left.1) (sym same))
-
--- where a level has no tree, none above it has
-none_above : (inner : Place → Reader) (room level more : ℕ) (state : State) → binary_at inner room level state ≡ None → binary_at inner room (more + level) state ≡ None
-none_above inner room level zero state h = h
-none_above inner room level (suc more) state h = ap (λ (r : Option (Tree × State)). r >>= (λ x. binary_from inner room room (more + level + 2) (line_at state) x.0 x.1)) (none_above inner room level more state h)
-
-pub binary_fails : (inner : Place → Reader) (room level looser line : ℕ) (state : State) (left : Tree × State) → level < looser → binary_at inner room level state ≡ Some left → line ≡ line_at state → binary_from inner room room (level + 2) line left.0 left.1 ≡ None → binary_at inner room looser state ≡ None
-binary_fails inner room level looser line state left less h same fails =
-    let whole : looser - (level + 1) + (level + 1) ≡ looser = omega arith in
-    subst (λ (n : ℕ). binary_at inner room n state ≡ None) whole (none_above inner room (level + 1) (looser - (level + 1)) state (binary_next inner room level line state left h same ∙ fails))
+pub binary_step : (inner : Place → Reader) (room n : ℕ) (state : State) → 0 < n → binary_at inner room n state ≡ binary_at inner room (n - 1) state >>= (λ x. binary_from inner room room (n - 1 + 2) (line_at state) x.0 x.1)
+binary_step inner room zero state h = absurd (omega (arith, h))
+binary_step inner room (suc n) state h = let e : suc n - 1 ≡ n = omega arith in rw e refl
 
 pub binary_from_step : (inner : Place → Reader) (room turns level line : ℕ) (left : Tree) (state : State) → 0 < turns → binary_from inner room turns level line left state ≡ binary_by inner room (binary_from inner room (turns - 1) level line) line left (at_level level (of_mark binary_op (kind_at state))) state
 binary_from_step inner room zero level line left state h = absurd (omega (arith, h))

@@ -2,7 +2,7 @@
 //!
 //! Each function gives what the definition of its form in `specs/Statements.antt` reads; `room` is how deep the tree may be.
 
-ghost use Rattle.std.specs.Prelude.{◌≡◌, ◌<◌, zero, [], ◌∷◌, drop, IfOk, option_map};
+ghost use Rattle.std.specs.Prelude.{◌≡◌, ◌<◌, zero, [], ◌∷◌, drop, IfOk};
 ghost use Rattle.c_tree.specs.Forms as form;
 ghost use Rattle.c_tree.specs.Places.{Statement, Branch, Items as ItemsPlace};
 ghost use Rattle.c_tree.specs.Grammar.{Part, mark, shape};
@@ -16,7 +16,7 @@ ghost use Rattle.grammar_reading.specs.Reading.{fixed, parts_of, scoped, snoc};
 ghost use Rattle.grammar_reading.specs.Rooms.{less, read};
 ghost use Rattle.grammar_reading.specs.Statements as spec;
 ghost use Rattle.c_parser.specs.Ends.{Ends};
-ghost use Rattle.c_parser.specs.Pieces.{else_part, open_at};
+ghost use Rattle.c_parser.specs.Pieces.{open_at};
 
 use crate::expression::expression;
 use crate::levels::{COMMA, CONDITION};
@@ -87,7 +87,6 @@ fn by_keyword(
 }
 
 /// A statement with parts of its own, which is a scope.
-#[inline(never)]
 #[cycle(statements)]
 fn compound(
     alloc: Global,
@@ -139,7 +138,6 @@ fn branch(alloc: Global, reader: &mut Reader, room: usize) -> Result<Stmt, ReadE
 }
 
 /// Ends the scope of what was read in it. For any type, since dropping a statement is long to prove.
-#[inline(never)]
 fn ended<T: Drop>(
     reader: &mut Reader,
     outer: Outer,
@@ -165,7 +163,6 @@ fn block(alloc: Global, reader: &mut Reader, room: usize) -> Result<Stmt, ReadEr
 }
 
 /// The same, whose names still hold.
-#[inline(never)]
 #[cycle(statements)]
 #[tactic(auto, using(crate::proofs::Steps::less_step), unfolding(c_tree::specs::Grammar::shape))]
 fn open_block(alloc: Global, reader: &mut Reader, room: usize) -> Result<Stmt, ReadError>
@@ -181,7 +178,6 @@ fn open_block(alloc: Global, reader: &mut Reader, room: usize) -> Result<Stmt, R
 }
 
 /// `__delay_frees { items }`
-#[inline(never)]
 #[cycle(statements)]
 #[tactic(auto, using(crate::proofs::Steps::less_step), unfolding(c_tree::specs::Grammar::shape))]
 fn delay(alloc: Global, reader: &mut Reader, room: usize) -> Result<Stmt, ReadError>
@@ -198,7 +194,6 @@ fn delay(alloc: Global, reader: &mut Reader, room: usize) -> Result<Stmt, ReadEr
 }
 
 /// `if (test) body`, and the statement behind `else`.
-#[inline(never)]
 #[cycle(statements)]
 #[tactic(auto, using(crate::proofs::Steps::less_step), unfolding(c_tree::specs::Grammar::shape))]
 fn branching(alloc: Global, reader: &mut Reader, room: usize) -> Result<Stmt, ReadError>
@@ -216,9 +211,8 @@ fn branching(alloc: Global, reader: &mut Reader, room: usize) -> Result<Stmt, Re
 }
 
 /// The rest of an `if`, with its `else` where it has one.
-#[inline(never)]
 #[cycle(statements)]
-#[tactic(auto, using(crate::proofs::Branches::else_is, crate::proofs::Branches::else_fails))]
+#[tactic(auto, using(crate::proofs::Steps::less_step))]
 fn otherwise(
     alloc: Global,
     reader: &mut Reader,
@@ -231,29 +225,16 @@ fn otherwise(
     requires some { 0 < room }
     ensures { Reads stmt_view result reader.new (spec.else_by (less room) room (At line ▹ expr_view test ▹ stmt_view body ▹ none) (at_key k.Else reader.old) reader.old) }
 {
-    let other = else_branch(alloc, reader, room)?;
-    let stmt = Stmt::branch(alloc, line, test, body, other)?;
+    if !reader.take_else() {
+        let stmt = Stmt::branch(alloc, line, test, body, None)?;
+        return Ok(stmt);
+    }
+    let other = branch(alloc, reader, room - 1)?;
+    let stmt = Stmt::branch(alloc, line, test, body, Some(other))?;
     Ok(stmt)
 }
 
-/// The statement behind `else`, where there is one.
-#[inline(never)]
-#[cycle(statements)]
-#[tactic(auto, using(crate::proofs::Steps::less_step))]
-fn else_branch(alloc: Global, reader: &mut Reader, room: usize) -> Result<Option<Stmt>, ReadError>
-    requires room { room < 401 }
-    requires some { 0 < room }
-    ensures { Reads (option_map stmt_view) result reader.new (else_part (less room) room (at_key k.Else reader.old) reader.old) }
-{
-    if !reader.take_else() {
-        return Ok(None);
-    }
-    let other = branch(alloc, reader, room - 1)?;
-    Ok(Some(other))
-}
-
 /// `while (test) body`
-#[inline(never)]
 #[cycle(statements)]
 #[tactic(auto, using(crate::proofs::Steps::less_step), unfolding(c_tree::specs::Grammar::shape))]
 fn while_loop(alloc: Global, reader: &mut Reader, room: usize) -> Result<Stmt, ReadError>
@@ -271,7 +252,6 @@ fn while_loop(alloc: Global, reader: &mut Reader, room: usize) -> Result<Stmt, R
 }
 
 /// `do body while (test);`
-#[inline(never)]
 #[cycle(statements)]
 #[tactic(auto, using(crate::proofs::Steps::less_step), unfolding(c_tree::specs::Grammar::shape))]
 fn do_loop(alloc: Global, reader: &mut Reader, room: usize) -> Result<Stmt, ReadError>
@@ -292,7 +272,6 @@ fn do_loop(alloc: Global, reader: &mut Reader, room: usize) -> Result<Stmt, Read
 }
 
 /// `for (start test; step) body`
-#[inline(never)]
 #[cycle(statements)]
 #[tactic(auto, using(crate::proofs::Steps::less_step), unfolding(c_tree::specs::Grammar::shape))]
 fn for_loop(alloc: Global, reader: &mut Reader, room: usize) -> Result<Stmt, ReadError>
@@ -331,7 +310,6 @@ fn for_rest(alloc: Global, reader: &mut Reader, room: usize) -> Result<ForRest, 
 }
 
 /// `; step) body`
-#[inline(never)]
 #[cycle(statements)]
 #[tactic(auto, using(crate::proofs::Steps::less_step), unfolding(c_tree::specs::Grammar::shape))]
 fn for_step(
@@ -363,7 +341,6 @@ fn enclosed_body(alloc: Global, reader: &mut Reader, room: usize) -> Result<Stmt
 }
 
 /// `switch (value) body`
-#[inline(never)]
 #[cycle(statements)]
 #[tactic(auto, using(crate::proofs::Steps::less_step), unfolding(c_tree::specs::Grammar::shape))]
 fn switch(alloc: Global, reader: &mut Reader, room: usize) -> Result<Stmt, ReadError>
@@ -381,7 +358,6 @@ fn switch(alloc: Global, reader: &mut Reader, room: usize) -> Result<Stmt, ReadE
 }
 
 /// `case value: body`
-#[inline(never)]
 #[cycle(statements)]
 #[tactic(auto, using(crate::proofs::Steps::less_step), unfolding(c_tree::specs::Grammar::shape))]
 fn case(alloc: Global, reader: &mut Reader, room: usize) -> Result<Stmt, ReadError>
@@ -399,7 +375,6 @@ fn case(alloc: Global, reader: &mut Reader, room: usize) -> Result<Stmt, ReadErr
 }
 
 /// `default: body`
-#[inline(never)]
 #[cycle(statements)]
 #[tactic(auto, using(crate::proofs::Steps::less_step), unfolding(c_tree::specs::Grammar::shape))]
 fn default_case(alloc: Global, reader: &mut Reader, room: usize) -> Result<Stmt, ReadError>
