@@ -141,8 +141,8 @@ def calls_in_turn(size):
 def doubled(size):
     """Macros that double one another."""
     levels = size.bit_length() - 3
-    text = "".join(f"#define D{number + 1} D{number} D{number}\n" for number in range(levels))
-    return f"#define D0 1,\n{text}int a[] = {{ D{levels} 0 }};\n"
+    text = "".join(f"#define TWICE_{number + 1} TWICE_{number} TWICE_{number}\n" for number in range(levels))
+    return f"#define TWICE_0 1,\n{text}int a[] = {{ TWICE_{levels} 0 }};\n"
 
 
 def long_arguments(size):
