@@ -9,7 +9,7 @@ ghost use Rattle.flat_machine.specs.Advancing.{Advances, Runs, RunsAt};
 
 use crate::call::Call;
 use crate::going::go;
-use crate::operation::Operation;
+use crate::operation::Turn;
 use crate::words::{behind, push_all, push_first_words};
 use byte_memory::Steps;
 use flat_code::Code;
@@ -303,24 +303,24 @@ impl Calls {
         };
     }
 
-    /// Does operations in the running call until one is left to be made by itself, and answers the steps that are left.
+    /// Does turns of the loop in the running call until an operation is left to be made by itself, and answers the steps that are left.
     pub(crate) fn go<L: Ledger>(
         &mut self,
         code: &Code,
-        operations: &[Operation],
+        turns: &[Turn],
         statics: &[u32],
         objects: &mut FlatObjects,
         left: u64,
         steps: &mut Steps<L>,
     ) -> u64
         requires formed { IsWellFormed code.now }
-        requires gathered { AreGathered code.now operations.now }
+        requires gathered { AreGathered code.now turns.now }
         requires runs { Runs code.now statics.now self.old.running.locals self.old.running.words objects.old self.old.running.point left }
         ensures { (kept : Kept) → kept.calls ≡ self.old → RunsAt code.now statics.now self.old.running.locals self.old.running.words objects.old self.old.running.point left kept → Advances code.now kept (record kept { memory = objects.new; calls = self.new; steps = result }) }
     {
         let (point, left) = go(
             code,
-            operations,
+            turns,
             &mut self.words[self.running.base..],
             statics,
             &self.locals[self.running.from..],
