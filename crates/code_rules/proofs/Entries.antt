@@ -40,20 +40,21 @@ item_at (x ∷ xs) (suc k) h = item_at xs k (omega arith)
 pub of_some : (code : Code) (point n f : ℕ) (entry : Entry) → point < length code.instrs → length code.funcs ≤ f + n → slice_get code.funcs f ≡ Some entry → entry.first ≤ point → IsOfFunction code point
 of_some code point zero f entry inside few here from =
     let there = slice_get_within code.funcs f entry here in absurd (omega arith)
-of_some code point (suc n) f entry inside few here from = next (slice_get code.funcs (f + 1)) refl where
-  i : (i : Instr) × (slice_get code.instrs point ≡ Some i)
-  i = item_at code.instrs point inside
+of_some code point (suc n) f entry inside few here from =
+    next (λ other is past. of_some code point n (f + 1) other inside (omega (arith, few)) is past) (slice_get code.funcs (f + 1)) refl where
+      i : (i : Instr) × (slice_get code.instrs point ≡ Some i)
+      i = item_at code.instrs point inside
 
-  next : (o : Option Entry) → slice_get code.funcs (f + 1) ≡ o → IsOfFunction code point
-  next None is =
-      let end : end_of code f ≡ length code.instrs = ap (λ (o : Option Entry). option_map_or (λ (e : Entry). e.first) o (length code.instrs)) is in
-      (f, entry, i.0, record { function = here; from = from; before = omega (arith, end, inside); here = i.1 })
-  next (Some other) is =
-      let end : end_of code f ≡ other.first = ap (λ (o : Option Entry). option_map_or (λ (e : Entry). e.first) o (length code.instrs)) is in
-      ⊎_elim
-      (λ (less : point < other.first). (f, entry, i.0, record { function = here; from = from; before = omega (arith, end, less); here = i.1 }))
-      (λ (past : other.first ≤ point). of_some code point n (f + 1) other inside (omega arith) is past)
-      (cases_lt point other.first)
+      next : ((other : Entry) → slice_get code.funcs (f + 1) ≡ Some other → other.first ≤ point → IsOfFunction code point) → (o : Option Entry) → slice_get code.funcs (f + 1) ≡ o → IsOfFunction code point
+      next behind None is =
+          let end : end_of code f ≡ length code.instrs = ap (λ (o : Option Entry). option_map_or (λ (e : Entry). e.first) o (length code.instrs)) is in
+          (f, entry, i.0, record { function = here; from = from; before = omega (arith, end, inside); here = i.1 })
+      next behind (Some other) is =
+          let end : end_of code f ≡ other.first = ap (λ (o : Option Entry). option_map_or (λ (e : Entry). e.first) o (length code.instrs)) is in
+          ⊎_elim
+          (λ (less : point < other.first). (f, entry, i.0, record { function = here; from = from; before = omega (arith, end, less); here = i.1 }))
+          (λ (past : other.first ≤ point). behind other is past)
+          (cases_lt point other.first)
 
 -- no function stands before the first one
 pub first_before : (code : Code) → EachEntry code (λ f e. e.first < end_of code f) → (first : Entry) → slice_get code.funcs 0 ≡ Some first → (f : ℕ) (entry : Entry) → slice_get code.funcs f ≡ Some entry → first.first ≤ entry.first

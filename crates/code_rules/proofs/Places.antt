@@ -1,6 +1,6 @@
 -- A table of the places of sites, filled site by site.
 use Rattle.std.proofs.Common.{◌≡◌, ◌≢◌, ◌<◌, ◌≤◌, ◌+◌, ℕ, zero, suc, Bool, true, false, cond, List, [], ◌∷◌, ◌++◌, Option, Some, None, length, get_or, set, take, replicate, refl, sym, ap, ◌∙◌, subst, ⊎_elim, add-one, arith}
-use Rattle.std.specs.Prelude.{nat_eq, option_map}
+use Rattle.std.specs.Prelude.{is_some, nat_eq, not, option_map}
 use Rattle.std.specs.List.{slice_get}
 use Rattle.std.proofs.lemmas.Bool.{cases_lt}
 use Rattle.std.proofs.lemmas.Bool.Decides.{eqb_tells}
@@ -67,11 +67,10 @@ module _ (sites : List Site) (count : ℕ) (s : Site) (is : slice_get sites coun
 abbrev Places : Type 0
 Places = List (Option ℕ)
 
-none : Option ℕ
+abbrev none : Option ℕ
 none = None
 
 pub none_yet : (code : Code) (count : ℕ) → count ≡ length code.instrs → ArePlacesUpTo code 0 (replicate count none)
-unfolding none
 none_yet code count same = record {
   long = length-replicate count none ∙ same;
   there = λ point place is. absurd (let no : None ≡ Some place = sym (blank point) ∙ is in cc);
@@ -124,3 +123,13 @@ module _ (code : Code) (count : ℕ) (s : Site) (is : slice_get code.sites count
         (λ h. ap (pins_at code.sites) (elsewhere point h.1)
         ∙ stays code.sites count s is point (get_or places point None) (are.first point within) (are.there point) (λ same. absurd (h.1 same)))
         (eqb_tells s.instr point)
+
+-- What a test for a place says
+
+pub none_of : (o : Option ℕ) (b : Bool) → is_some o ≡ not b → b ≡ true → o ≡ None
+none_of None b e t = refl
+none_of (Some x) b e t = absurd (let none_there : not b ≡ false = ap not t in cc)
+
+pub some_of : (o : Option ℕ) (b : Bool) → is_some o ≡ not b → b ≡ false → o ≢ None
+some_of None b e f = λ none_there. absurd (let there_is : not b ≡ true = ap not f in cc)
+some_of (Some x) b e f = λ none_there. cc
