@@ -2,7 +2,7 @@ use Rattle.std.proofs.Common.{◌≡◌, ◌∙◌, List, ℕ, [], Option, Some,
 use Rattle.clap.specs.Words.{App, HasKind, fault_of, found_of, rows_of, subcommand_of}
 use Rattle.command_words.specs.CommandSet.{command_set}
 use Rattle.command_words.specs.Commands.{Command, IsRead}
-use Rattle.command_words.proofs.Reading.{asks, asks_none, same_pair, set_is_free, set_is_simple}
+use Rattle.command_words.proofs.Reading.{asks, asks_none, asks_nothing, no_pair, same_pair, set_is_free, set_is_simple}
 use Rattle.command_words.proofs.command.read.Goals as goal
 
 pub returns-in-Some-clause-read : goal.returns-in-Some-clause-read
@@ -13,6 +13,14 @@ returns-in-Some-clause-read c =
     let found = sym (same_pair _ _ _ c.in-Some.name.now (rows_of (found_of c.in-Some.found.now)) c.in-Some.ensures.name c.in-Some.ensures.rows)
     ∙ (c.in-Ok.ensures.matches (set_is_simple _ is)).1 ∙ ap (λ (a : App). subcommand_of a words) is in
     subst (λ (o : Option Command). IsRead o c.asked.result) (sym (asks words c.in-Some.name.now (rows_of (found_of c.in-Some.found.now)) none (sym found))) c.asked.ensures.read
+
+pub returns-in-Ok-clause-read : goal.returns-in-Ok-clause-read
+returns-in-Ok-clause-read c =
+    let words : List (List ℕ) = map (λ (w : Bor (List ℕ)). w.now) c.args.words.now in
+    let is = c.in_ok-set.ensures in
+    let found = sym (no_pair _ _ _ c.in-None.ensures.rows)
+    ∙ (c.in-Ok.ensures.matches (set_is_simple _ is)).1 ∙ ap (λ (a : App). subcommand_of a words) is in
+    asks_nothing words (sym found)
 
 pub returns : goal.returns
 returns c =
