@@ -1,5 +1,5 @@
 -- What the words ask for, from what `clap` answers.
-use Rattle.std.proofs.Common.{◌≡◌, ◌≢◌, ◌∙◌, ℕ, zero, List, [], ◌∷◌, Option, Some, None, length, Bool, cond, true, false, refl, sym, ap, ap₂, ⊎_elim}
+use Rattle.std.proofs.Common.{◌≡◌, ◌≢◌, ◌∙◌, List, [], ◌∷◌, Option, Some, None, length, Bool, cond, true, false, refl, ap, ap₂, ⊎_elim}
 use Rattle.std.specs.Prelude.{nat_eq, option_and_then, option_map}
 use Rattle.std.proofs.Math.Dec.{eqb-suc-zero}
 use Rattle.clap.specs.Values.{kind_of}

@@ -15,7 +15,10 @@ use std::alloc::Global;
 #[derive(Clone, Copy)]
 pub enum Command<'a> {
     /// A task is done with the text of this name.
-    OnFile { file: &'a str, task: Task },
+    OnFile {
+        file: &'a str,
+        task: Task,
+    },
     /// The code in the file of this name is run, as a text is by [`Task::Run`].
     Execute {
         file: &'a str,
@@ -25,7 +28,9 @@ pub enum Command<'a> {
         leaks: bool,
     },
     /// A text is made with so many functions, and run.
-    Generated { number: u32 },
+    Generated {
+        number: u32,
+    },
 }
 
 /// What is done with a text.

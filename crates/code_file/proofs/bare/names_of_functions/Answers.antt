@@ -15,6 +15,6 @@ loop-func-preserved c =
     let pushed = c.in_ok-push.ensures.ok in
     record {
       names = pushed
-      ∙ copied_more bare_function c.args.funcs.now c.loop-func.func-index func names more c.loop-func-test.true c.func-item.is c.loop-func.invariant.names c.in_ok-function_names.ensures.names;
+          ∙ copied_more bare_function c.args.funcs.now c.loop-func.func-index func names more c.loop-func-test.true c.func-item.is c.loop-func.invariant.names c.in_ok-function_names.ensures.names;
       short = subst (λ (fs : List Func). All IsShortFunction fs) (sym pushed) (All-push IsShortFunction names more c.loop-func.invariant.short c.in_ok-function_names.ensures.short);
     }

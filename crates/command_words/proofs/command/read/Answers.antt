@@ -1,4 +1,4 @@
-use Rattle.std.proofs.Common.{◌≡◌, ◌∙◌, List, ℕ, [], Option, Some, map, Bor, sym, ap, subst}
+use Rattle.std.proofs.Common.{◌≡◌, ◌∙◌, List, ℕ, [], Option, map, Bor, sym, ap, subst}
 use Rattle.clap.specs.Words.{App, HasKind, fault_of, found_of, rows_of, subcommand_of}
 use Rattle.command_words.specs.CommandSet.{command_set}
 use Rattle.command_words.specs.Commands.{Command, IsRead}
