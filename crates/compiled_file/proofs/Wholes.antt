@@ -69,10 +69,10 @@ module _ (code : Code) (input : List ℕ) (n : ℕ) (limits : Limits) (last : Co
 
   -- nothing is refused
   room : (next : Next CodeState Event Ending) (e : Event) (events : List Event) → make ends.trace ends.now ≡ next → (led ends.trace next).trace ≡ ends.trace ++ e ∷ events → fits limits.stack ends.trace e ≡ false → ⊥
-  room next e events is adds no =
+  room next e events is adds fails =
       let more = grown make begun ends.count many ends.trace ends.now ending ends.run ended in
       let whole = more.1 ∙ ap (λ (s : Next CodeState Event Ending). (led ends.trace s).trace ++ more.0) is ∙ ap (λ (t : List Event). t ++ more.0) adds ∙ append_assoc ends.trace (e ∷ events) more.0 in
-      let refused = refused_at limits.stack ends.trace e (events ++ more.0) ends.is_whole no in
+      let refused = refused_at limits.stack ends.trace e (events ++ more.0) ends.is_whole fails in
       let both : Some e ≡ None = sym refused ∙ ap (λ (t : List Event). (cut limits.stack t).refused) (sym whole) ∙ none in
       (cc)
 
