@@ -76,34 +76,35 @@ pub returns-in-Ok-OnFile-clause-broken : goal.returns-in-Ok-OnFile-clause-broken
 returns-in-Ok-OnFile-clause-broken g c = λ told left k l fails.
     let words : List (List ℕ) = map (λ (w : Bor (List ℕ)). w.now) c.args.words.now in
     let read = subst (λ (command : Command). IsRead (command_of words) (Ok command)) c.in-Ok-OnFile.field-0-is c.in-Ok-OnFile.ensures.read in
-    subst (λ (command : Option Asked). BreaksOff (AsksOne command) (AnswersCommand command told (steady left)) (unread_file command _ _) left _ _ _ _ _ _ _ _ _ _ _) (sym read) (c.with_file.ensures.broken told left k l fails)
+    subst (λ (command : Option Asked). BreaksOff (AsksOne command) (AnswersCommand command told (steady left)) (unread_file command (g.T.Texts.faults c.args.texts.now) (g.T.Texts.faults c.with_file.new.texts)) left (g.I.Source.left c.with_file.new.input) (g.O.Sink.taken c.args.out.now) (g.O.Sink.taken c.with_file.new.out) (g.E.Sink.taken c.args.err.now) (g.E.Sink.taken c.with_file.new.err) (g.I.Source.faults c.args.input.now) (g.I.Source.faults c.with_file.new.input) (g.O.Sink.faults c.args.out.now) (g.O.Sink.faults c.with_file.new.out) (g.E.Sink.faults c.args.err.now) (g.E.Sink.faults c.with_file.new.err)) (sym read) (c.with_file.ensures.broken told left k l fails)
 
 pub returns-in-Ok-Execute-clause-broken : goal.returns-in-Ok-Execute-clause-broken
 returns-in-Ok-Execute-clause-broken g c = λ told left k l fails.
     let words : List (List ℕ) = map (λ (w : Bor (List ℕ)). w.now) c.args.words.now in
     let read = subst (λ (command : Command). IsRead (command_of words) (Ok command)) c.in-Ok-Execute.field-0-is c.in-Ok-Execute.ensures.read in
-    subst (λ (command : Option Asked). BreaksOff (AsksOne command) (AnswersCommand command told (steady left)) (unread_file command _ _) left _ _ _ _ _ _ _ _ _ _ _) (sym read)
+    subst (λ (command : Option Asked). BreaksOff (AsksOne command) (AnswersCommand command told (steady left)) (unread_file command (g.T.Texts.faults c.args.texts.now) (g.T.Texts.faults c.execute_file.new.texts)) left (g.I.Source.left c.execute_file.new.input) (g.O.Sink.taken c.args.out.now) (g.O.Sink.taken c.execute_file.new.out) (g.E.Sink.taken c.args.err.now) (g.E.Sink.taken c.execute_file.new.err) (g.I.Source.faults c.args.input.now) (g.I.Source.faults c.execute_file.new.input) (g.O.Sink.faults c.args.out.now) (g.O.Sink.faults c.execute_file.new.out) (g.E.Sink.faults c.args.err.now) (g.E.Sink.faults c.execute_file.new.err)) (sym read)
     (one_answer _ _ left _ _ _ _ _ _ _ _ _ _ _ _ tt (λ a is more. c.execute_file.ensures.broken told left k l fails a is more))
 
 pub returns-in-Ok-Generated-clause-broken : goal.returns-in-Ok-Generated-clause-broken
 returns-in-Ok-Generated-clause-broken g c = λ told left k l fails.
     let words : List (List ℕ) = map (λ (w : Bor (List ℕ)). w.now) c.args.words.now in
     let read = subst (λ (command : Command). IsRead (command_of words) (Ok command)) c.in-Ok-Generated.field-0-is c.in-Ok-Generated.ensures.read in
-    subst (λ (command : Option Asked). BreaksOff (AsksOne command) (AnswersCommand command told (steady left)) (unread_file command _ _) left _ _ _ _ _ _ _ _ _ _ _) (sym read)
+    subst (λ (command : Option Asked). BreaksOff (AsksOne command) (AnswersCommand command told (steady left)) (unread_file command (g.T.Texts.faults c.args.texts.now) (g.T.Texts.faults c.args.texts.now)) left (g.I.Source.left c.args.input.now) (g.O.Sink.taken c.args.out.now) (g.O.Sink.taken c.run_generated.new.out) (g.E.Sink.taken c.args.err.now) (g.E.Sink.taken c.run_generated.new.err) (g.I.Source.faults c.args.input.now) (g.I.Source.faults c.args.input.now) (g.O.Sink.faults c.args.out.now) (g.O.Sink.faults c.run_generated.new.out) (g.E.Sink.faults c.args.err.now) (g.E.Sink.faults c.run_generated.new.err)) (sym read)
     (one_answer _ _ left _ _ _ _ _ _ _ _ _ _ _ _ tt (λ a is more. broken_left a left _ _ _ _ _ _ _ _ _ _ _ l (c.run_generated.ensures.broken left _ fails a is)))
 
 pub returns-in-Err-Usage-clause-broken : goal.returns-in-Err-Usage-clause-broken
 returns-in-Err-Usage-clause-broken g c = λ told left k l fails.
     let words : List (List ℕ) = map (λ (w : Bor (List ℕ)). w.now) c.args.words.now in
     let read = subst (λ (e : WordsError). IsRead (command_of words) (Err e)) c.in-Err-Usage.field-0-is c.in-Err-Usage.ensures.read in
-    subst (λ (command : Option Asked). BreaksOff (AsksOne command) (AnswersCommand command told (steady left)) (unread_file command _ _) left _ _ _ _ _ _ _ _ _ _ _) (sym read)
+    subst (λ (command : Option Asked). BreaksOff (AsksOne command) (AnswersCommand command told (steady left)) (unread_file command (g.T.Texts.faults c.args.texts.now) (g.T.Texts.faults c.args.texts.now)) left (g.I.Source.left c.args.input.now) (g.O.Sink.taken c.args.out.now) (g.O.Sink.taken c.args.out.now) (g.E.Sink.taken c.args.err.now) (g.E.Sink.taken c.refuse.new.err) (g.I.Source.faults c.args.input.now) (g.I.Source.faults c.args.input.now) (g.O.Sink.faults c.args.out.now) (g.O.Sink.faults c.args.out.now) (g.E.Sink.faults c.args.err.now) (g.E.Sink.faults c.refuse.new.err)) (sym read)
     (one_answer _ _ left _ _ _ _ _ _ _ _ _ _ _ _ tt (λ a is more. broken_own usage a left _ _ _ _ _ _ _ _ _ _ _ _ (inl is) l refl refl refl c.refuse.ensures.says))
 
 pub returns-in-Err-NoMemory-clause-broken : goal.returns-in-Err-NoMemory-clause-broken
 returns-in-Err-NoMemory-clause-broken g c = λ told left k l fails.
     let asked = command_of (map (λ (w : Bor (List ℕ)). w.now) c.args.words.now) in
-    let broke = λ (a : Shown). broken_read asked a left _ _ _ _ _ _ _ _ _ _ _ _ _ refl (broken_own no_memory a left _ _ _ _ _ _ _ _ _ _ _ _ (inr refl) l refl refl refl c.refuse-in-Err-NoMemory.ensures.says) in
-    this_answer (AnswersCommand asked told (steady left)) _ left _ _ _ _ _ _ _ _ _ _ _ (AsksOne asked) no_memory (inr refl) (λ a is more. broke a) (broke no_memory)
+    let texts = g.T.Texts.faults c.args.texts.now in
+    let broke = λ (a : Shown). broken_read asked a left (g.I.Source.left c.args.input.now) (g.O.Sink.taken c.args.out.now) (g.O.Sink.taken c.args.out.now) (g.E.Sink.taken c.args.err.now) (g.E.Sink.taken c.refuse-in-Err-NoMemory.new.err) texts texts (g.I.Source.faults c.args.input.now) (g.I.Source.faults c.args.input.now) (g.O.Sink.faults c.args.out.now) (g.O.Sink.faults c.args.out.now) (g.E.Sink.faults c.args.err.now) (g.E.Sink.faults c.refuse-in-Err-NoMemory.new.err) refl (broken_own no_memory a left _ _ _ _ _ _ _ _ _ _ _ _ (inr refl) l refl refl refl c.refuse-in-Err-NoMemory.ensures.says) in
+    this_answer (AnswersCommand asked told (steady left)) (unread_file asked texts texts) left _ _ _ _ _ _ _ _ _ _ _ (AsksOne asked) no_memory (inr refl) (λ a is more. broke a) (broke no_memory)
 
 pub returns-in-Ok-OnFile-clause-memory : goal.returns-in-Ok-OnFile-clause-memory
 returns-in-Ok-OnFile-clause-memory g c =

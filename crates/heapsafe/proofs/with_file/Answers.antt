@@ -9,7 +9,7 @@ use Rattle.command_words.specs.Commands.{OnFile, task_shown}
 use Rattle.heapsafe.specs.Answer.{AnswersFile, AnswersRead, AnswersTokens, HasOne}
 use Rattle.heapsafe.specs.Program.{input_of, steady}
 use Rattle.heapsafe.specs.Shown.{untokened}
-use Rattle.heapsafe.specs.Saying.{BreaksOff, BreaksOne, Gives}
+use Rattle.heapsafe.specs.Saying.{BreaksOff, BreaksOne, Gives, unread_file}
 use Rattle.heapsafe.proofs.Told.{faults_as, file_is, gives_file, gives_said, untokened_is, untokened_silent}
 use Rattle.heapsafe.proofs.Broken.{broken_said, untokened_said}
 use Rattle.heapsafe.proofs.OneAnswer.{off_as, off_read, untokened_off}
@@ -45,8 +45,8 @@ returns-in-Ok-clause-broken g c = λ told left k l fails.
     let read = c.in-Ok.read in
     let gives = c.in-Ok.ensures.told told k in
     let of_slices =
-    subst (λ (os : List Opened). BreaksOff (HasOne task) (AnswersTokens c.args.file.now os read.tokens (steady left) task) None left _ _ _ _ _ _ _ _ _ _ _) c.as_slice.ensures
-    (subst (λ (ts : List Token). BreaksOff (HasOne task) (AnswersTokens c.args.file.now c.as_slice.result.now ts (steady left) task) None left _ _ _ _ _ _ _ _ _ _ _) c.as_slice-in-Ok.ensures (c.with_tokens.ensures.broken left l fails)) in
+    subst (λ (os : List Opened). BreaksOff (HasOne task) (AnswersTokens c.args.file.now os read.tokens (steady left) task) None left (g.I.Source.left c.with_tokens.new.input) (g.O.Sink.taken c.args.out.now) (g.O.Sink.taken c.with_tokens.new.out) (g.E.Sink.taken c.args.err.now) (g.E.Sink.taken c.with_tokens.new.err) (g.I.Source.faults c.args.input.now) (g.I.Source.faults c.with_tokens.new.input) (g.O.Sink.faults c.args.out.now) (g.O.Sink.faults c.with_tokens.new.out) (g.E.Sink.faults c.args.err.now) (g.E.Sink.faults c.with_tokens.new.err)) c.as_slice.ensures
+    (subst (λ (ts : List Token). BreaksOff (HasOne task) (AnswersTokens c.args.file.now c.as_slice.result.now ts (steady left) task) None left (g.I.Source.left c.with_tokens.new.input) (g.O.Sink.taken c.args.out.now) (g.O.Sink.taken c.with_tokens.new.out) (g.E.Sink.taken c.args.err.now) (g.E.Sink.taken c.with_tokens.new.err) (g.I.Source.faults c.args.input.now) (g.I.Source.faults c.with_tokens.new.input) (g.O.Sink.faults c.args.out.now) (g.O.Sink.faults c.with_tokens.new.out) (g.E.Sink.faults c.args.err.now) (g.E.Sink.faults c.with_tokens.new.err)) c.as_slice-in-Ok.ensures (c.with_tokens.ensures.broken left l fails)) in
     off_read (Some (OnFile c.args.file.now task)) (AnswersFile c.args.file.now told (steady left) task) (HasOne task) left _ _ _ _ _ _ _ _ _ _ _ _ _ c.in-Ok.ensures.cause
     (off_as (AnswersTokens c.args.file.now read.texts read.tokens (steady left) task) None left _ _ _ _ _ _ _ _ _ _ _ (HasOne task) (AnswersFile c.args.file.now told (steady left) task)
     (λ a is. subst (λ r. AnswersRead c.args.file.now r (steady left) task a) (sym gives) is) (λ a is. file_is c.args.file.now told read (steady left) task a gives is) of_slices)
@@ -71,7 +71,7 @@ returns-in-Err-clause-broken g c = λ told left k l fails.
           (untokened_said error c.args.file.now told (steady left) task a _ _ _ _ (c.in-Err.ensures.told told k) c.in-Err.ensures.named c.in-Err.ensures.cause is)
           l refl refl c.refuse_text.ensures.says;
       some = λ several.
-          subst (λ (left' : Option (List ℕ)). BreaksOne (AnswersFile c.args.file.now told (steady left) task) _ left left' _ _ _ _ _ _ _ _ _ _) (sym l)
+          subst (λ (left' : Option (List ℕ)). BreaksOne (AnswersFile c.args.file.now told (steady left) task) (unread_file (Some (OnFile c.args.file.now task)) (g.T.Texts.faults c.args.texts.now) (g.T.Texts.faults c.pre.new.texts)) left left' (g.O.Sink.taken c.args.out.now) (g.O.Sink.taken c.args.out.now) (g.E.Sink.taken c.args.err.now) (g.E.Sink.taken c.refuse_text.new.err) (g.I.Source.faults c.args.input.now) (g.I.Source.faults c.args.input.now) (g.O.Sink.faults c.args.out.now) (g.O.Sink.faults c.args.out.now) (g.E.Sink.faults c.args.err.now) (g.E.Sink.faults c.refuse_text.new.err)) (sym l)
           (untokened_off error c.args.file.now told (steady left) task left _ _ _ _ _ _ _ _ _ _ (c.in-Err.ensures.told told k) c.in-Err.ensures.named c.in-Err.ensures.cause c.refuse_text.ensures.says);
     }
 

@@ -95,10 +95,10 @@ returns-in-Live-clause-broken g c = λ left k fails.
 
 pub returns-in-Compile-clause-broken : goal.returns-in-Compile-clause-broken
 returns-in-Compile-clause-broken g c = λ left k fails.
-    subst (λ (t : Task). BreaksOff (HasOne (task_shown t)) (Does c.args.file.now c.args.opened.now (unit_view c.args.unit.now) (steady left) (task_shown t)) None left _ _ _ _ _ _ _ _ _ _ _) (sym c.in-Compile.is)
+    subst (λ (t : Task). BreaksOff (HasOne (task_shown t)) (Does c.args.file.now c.args.opened.now (unit_view c.args.unit.now) (steady left) (task_shown t)) None left (g.I.Source.left c.args.input.now) (g.O.Sink.taken c.args.out.now) (g.O.Sink.taken c.core_compiled.new.out) (g.E.Sink.taken c.args.err.now) (g.E.Sink.taken c.core_compiled.new.err) (g.I.Source.faults c.args.input.now) (g.I.Source.faults c.args.input.now) (g.O.Sink.faults c.args.out.now) (g.O.Sink.faults c.core_compiled.new.out) (g.E.Sink.faults c.args.err.now) (g.E.Sink.faults c.core_compiled.new.err)) (sym c.in-Compile.is)
     (record {
-      each = λ one. absurd one;
-      some = λ several. subst (λ (l : Option (List ℕ)). BreaksOne (AnswersCompiled c.args.opened.now (core_in (unit_view c.args.unit.now))) None left l _ _ _ _ _ _ _ _ _ _) (sym k) (c.core_compiled.ensures.broken left _ fails);
+      each = λ one a is more. absurd one;
+      some = λ several. subst (λ (l : Option (List ℕ)). BreaksOne (AnswersCompiled c.args.opened.now (core_in (unit_view c.args.unit.now))) None left l (g.O.Sink.taken c.args.out.now) (g.O.Sink.taken c.core_compiled.new.out) (g.E.Sink.taken c.args.err.now) (g.E.Sink.taken c.core_compiled.new.err) (g.I.Source.faults c.args.input.now) (g.I.Source.faults c.args.input.now) (g.O.Sink.faults c.args.out.now) (g.O.Sink.faults c.core_compiled.new.out) (g.E.Sink.faults c.args.err.now) (g.E.Sink.faults c.core_compiled.new.err)) (sym k) (c.core_compiled.ensures.broken left (g.I.Source.faults c.args.input.now) fails);
     })
 
 pub returns-in-Run-clause-memory : goal.returns-in-Run-clause-memory

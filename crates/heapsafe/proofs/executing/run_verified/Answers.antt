@@ -1,4 +1,5 @@
-use Rattle.std.proofs.Common.{◌∙◌, List, [], None, inl, inr, refl, ap, subst, sym}
+use Rattle.std.proofs.Common.{◌∙◌, List, [], None, Some, inl, inr, refl, ap, subst, sym}
+use Rattle.std.specs.Prelude.{nat_lt}
 use Rattle.hs_base.specs.declared.ends.End.{End}
 use Rattle.hs_base.specs.Object.{Object}
 use Rattle.code_meaning.specs.CodeState.{CodeState}
@@ -7,7 +8,7 @@ use Rattle.c_pre.specs.declared.answer.Opened.{Opened}
 use Rattle.flat_machine.specs.Lasting.{LeavesImage}
 use Rattle.flat_machine.specs.Running.{RunAnswers, cut_of}
 use Rattle.flat_objects.specs.Keeping.{Keeps}
-use Rattle.heapsafe.specs.Execution.{AnswersCode}
+use Rattle.heapsafe.specs.Execution.{AnswersCode, code_within}
 use Rattle.heapsafe.specs.Program.{AnswersProgram, Ended, input_of}
 use Rattle.heapsafe.specs.Saying.{Gives, SaysLeaks}
 use Rattle.heapsafe.specs.Shown.{no_memory}
@@ -24,16 +25,16 @@ returns-in-Ok-clause-exact g c = λ left k same_out same_err.
     let asked = c.args.asked in
     let told = c.in-Ok.ensures.told left k in
     let last = meaning code left asked.steps asked.limits.heap in
-    let made = code_makes code left told.put asked.steps asked.limits _ c.in-Ok.end told.is in
-    subst (λ (os : List Opened). Gives (AnswersProgram c.args.file.now os c.args.code.now.names _ _) left _ _ _ _ _ _) c.requires.text
-    (gives_done c.args.file.now c.args.opened.now c.args.code.now.names left told.put _ _ _ _ _ _ _ _ _ _ _ _ told.took
-    (code_events code left told.put asked.steps asked.limits _) (code_ends code left told.put asked.steps asked.limits _) last.state.state.objects same_err asked.leaks c.in-Ok.end
+    let made = code_makes code left told.put asked.steps asked.limits (g.I.Source.left c.run_file.new.input) c.in-Ok.end told.is in
+    subst (λ (os : List Opened). Gives (AnswersProgram c.args.file.now os c.args.code.now.names (nat_lt (g.I.Source.faults c.args.input.now) (g.I.Source.faults c.run_file.new.input)) (code_within asked.limits code left asked.steps asked.leaks)) left (g.I.Source.left c.run_file.new.input) (g.O.Sink.taken c.args.out.now) (g.O.Sink.taken c.run_file.new.out) (g.E.Sink.taken c.args.err.now) (g.E.Sink.taken c.finish_run.new.err) c.finish_run.result) c.requires.text
+    (gives_done c.args.file.now c.args.opened.now c.args.code.now.names left told.put (g.I.Source.left c.run_file.new.input) (g.O.Sink.taken c.args.out.now) (g.O.Sink.taken c.run_file.new.out) (g.E.Sink.taken c.args.err.now) (g.E.Sink.taken c.finish_run.new.err) (g.I.Source.faults c.args.input.now) (g.I.Source.faults c.run_file.new.input) (g.O.Sink.faults c.args.out.now) (g.O.Sink.faults c.run_file.new.out) (g.E.Sink.faults c.args.err.now) (g.E.Sink.faults c.finish_run.new.err) c.finish_run.result told.took
+    (code_events code left told.put asked.steps asked.limits (g.I.Source.left c.run_file.new.input)) (code_ends code left told.put asked.steps asked.limits (g.I.Source.left c.run_file.new.input)) last.state.state.objects same_err asked.leaks c.in-Ok.end
     made c.in-Ok.ensures.faults same_out
     (record {
       none = c.finish_run.ensures.says;
       some = λ status asks is.
           let image = subst (λ (x : End). LeavesImage code left asked.steps asked.limits x c.in-Ok.machine.kept) is (c.in-Ok.ensures.left left k) in
-          let ran = subst (λ (x : End). RunAnswers code left asked.steps asked.limits [] x _ _) is told.is in
+          let ran = subst (λ (x : End). RunAnswers code left asked.steps asked.limits [] x (g.I.Source.left c.run_file.new.input) (Some told.put)) is told.is in
           let whole = exit_whole (cut_of code left asked.steps asked.limits).refused last.ended status ran.end in
           let same = c.whole_runs_are_whole.ensures code left asked.steps asked.limits image.0 whole.1 image.1 whole.0 whole.2 in
           c.finish_run.ensures.leaks status asks is image.2.places last.state.state.objects
@@ -46,15 +47,15 @@ returns-in-Ok-clause-broken g c = λ left k fails a is more.
     let asked = c.args.asked in
     let told = c.in-Ok.ensures.told left k in
     let last = meaning code left asked.steps asked.limits.heap in
-    let made = code_makes code left told.put asked.steps asked.limits _ c.in-Ok.end told.is in
-    broken_done c.args.file.now c.args.opened.now c.args.code.now.names left told.put _ _ _ _ _ _ _ _ _ _ _ _ told.took
-    (code_events code left told.put asked.steps asked.limits _) (code_ends code left told.put asked.steps asked.limits _) last.state.state.objects asked.leaks a c.in-Ok.end
-    (subst (λ (os : List Opened). Ended c.args.file.now os c.args.code.now.names _ a) (sym c.requires.text) is) c.in-Ok.ensures.faults made
+    let made = code_makes code left told.put asked.steps asked.limits (g.I.Source.left c.run_file.new.input) c.in-Ok.end told.is in
+    broken_done c.args.file.now c.args.opened.now c.args.code.now.names left told.put (g.I.Source.left c.run_file.new.input) (g.O.Sink.taken c.args.out.now) (g.O.Sink.taken c.run_file.new.out) (g.E.Sink.taken c.args.err.now) (g.E.Sink.taken c.finish_run.new.err) (g.I.Source.faults c.args.input.now) (g.I.Source.faults c.run_file.new.input) (g.O.Sink.faults c.args.out.now) (g.O.Sink.faults c.run_file.new.out) (g.E.Sink.faults c.args.err.now) (g.E.Sink.faults c.finish_run.new.err) c.finish_run.result told.took
+    (code_events code left told.put asked.steps asked.limits (g.I.Source.left c.run_file.new.input)) (code_ends code left told.put asked.steps asked.limits (g.I.Source.left c.run_file.new.input)) last.state.state.objects asked.leaks a c.in-Ok.end
+    (subst (λ (os : List Opened). Ended c.args.file.now os c.args.code.now.names (code_within asked.limits code left asked.steps asked.leaks) a) (sym c.requires.text) is) c.in-Ok.ensures.faults made
     (record {
       none = c.finish_run.ensures.says;
       some = λ status asks is.
           let image = subst (λ (x : End). LeavesImage code left asked.steps asked.limits x c.in-Ok.machine.kept) is (c.in-Ok.ensures.left left k) in
-          let ran = subst (λ (x : End). RunAnswers code left asked.steps asked.limits [] x _ _) is told.is in
+          let ran = subst (λ (x : End). RunAnswers code left asked.steps asked.limits [] x (g.I.Source.left c.run_file.new.input) (Some told.put)) is told.is in
           let whole = exit_whole (cut_of code left asked.steps asked.limits).refused last.ended status ran.end in
           let same = c.whole_runs_are_whole.ensures code left asked.steps asked.limits image.0 whole.1 image.1 whole.0 whole.2 in
           c.finish_run.ensures.leaks status asks is image.2.places last.state.state.objects

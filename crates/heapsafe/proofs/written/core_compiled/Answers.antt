@@ -1,4 +1,4 @@
-use Rattle.std.proofs.Common.{◌≡◌, [], Some, refl, sym, subst, inr, inl}
+use Rattle.std.proofs.Common.{◌≡◌, [], None, Some, refl, sym, subst, inr, inl}
 use Rattle.c_tree.specs.StatementView.{unit_view}
 use Rattle.c_decls.specs.Refusals.{Checked}
 use Rattle.c_elab.specs.Core.{core_in}
@@ -13,7 +13,7 @@ use Rattle.heapsafe.proofs.written.core_compiled.Goals as goal
 
 pub returns-in-Ok-clause-exact : goal.returns-in-Ok-clause-exact
 returns-in-Ok-clause-exact g c = λ left same_out same_err.
-    subst (λ (w : Checked Core). Gives (AnswersCompiled c.args.opened.now w) left (Some left) _ _ _ _ _) (sym c.in-Ok.ensures.core) (c.write_compiled.ensures.exact left same_out same_err)
+    subst (λ (w : Checked Core). Gives (AnswersCompiled c.args.opened.now w) left (Some left) (g.O.Sink.taken c.args.out.now) (g.O.Sink.taken c.write_compiled.new.out) (g.E.Sink.taken c.args.err.now) (g.E.Sink.taken c.write_compiled.new.err) c.write_compiled.result) (sym c.in-Ok.ensures.core) (c.write_compiled.ensures.exact left same_out same_err)
 
 pub returns-in-Err-clause-exact : goal.returns-in-Err-clause-exact
 returns-in-Err-clause-exact g c = λ left same_out same_err.
@@ -23,7 +23,7 @@ returns-in-Err-clause-exact g c = λ left same_out same_err.
 
 pub returns-in-Ok-clause-broken : goal.returns-in-Ok-clause-broken
 returns-in-Ok-clause-broken g c = λ left i fails.
-    subst (λ (w : Checked Core). BreaksOne (AnswersCompiled c.args.opened.now w) _ left (Some left) _ _ _ _ i i _ _ _ _) (sym c.in-Ok.ensures.core) (c.write_compiled.ensures.broken left i fails)
+    subst (λ (w : Checked Core). BreaksOne (AnswersCompiled c.args.opened.now w) None left (Some left) (g.O.Sink.taken c.args.out.now) (g.O.Sink.taken c.write_compiled.new.out) (g.E.Sink.taken c.args.err.now) (g.E.Sink.taken c.write_compiled.new.err) i i (g.O.Sink.faults c.args.out.now) (g.O.Sink.faults c.write_compiled.new.out) (g.E.Sink.faults c.args.err.now) (g.E.Sink.faults c.write_compiled.new.err)) (sym c.in-Ok.ensures.core) (c.write_compiled.ensures.broken left i fails)
 
 pub returns-in-Err-clause-broken : goal.returns-in-Err-clause-broken
 returns-in-Err-clause-broken g c = λ left i fails. record {
