@@ -44,6 +44,11 @@ def difference(case):
     return None if got == wanted else f"{name}: {words}: {row.get('text')!r:.300}\n  got    {got!r:.600}\n  wanted {wanted!r:.600}"
 
 
+def files():
+    """The files of rows."""
+    return sorted(glob.glob(os.path.join(TOP, "rows", "*.json")))
+
+
 def cases(path):
     """Each command line of a file with its row."""
     with open(path, encoding="utf-8") as file:
@@ -57,7 +62,7 @@ def main():
     if sys.argv[1:] not in ([], ["--quiet"]):
         print("usage: rows.py [--quiet]", file=sys.stderr)
         return 2
-    every = [case for path in sorted(glob.glob(os.path.join(TOP, "rows", "*.json"))) for case in cases(path)]
+    every = [case for path in files() for case in cases(path)]
     subprocess.run([PROGRAM, "--version"], stdout=subprocess.DEVNULL)  # the program is built here, where it is missing
     with ThreadPoolExecutor(os.cpu_count()) as pool:
         wrong = [it for it in pool.map(difference, every) if it]

@@ -7,7 +7,7 @@ use Rattle.code_file.specs.declared.file.CodeError.{CodeError}
 use Rattle.code_file.specs.declared.file.CodeError.TheVariants as error
 use Rattle.code_file.specs.declared.file.CodeFile.{CodeFile}
 use Rattle.code_file.specs.Spelling.{Begins, Reads}
-use Rattle.code_file.specs.CodeFile.{IsFileOf, IsRanged, IsWritable, code_bytes, spelling}
+use Rattle.code_file.specs.CodeFile.{HasBytes, IsFileOf, code_bytes, spelling}
 use Rattle.code_file.specs.Parts.{FitsCode, FitsFile, FitsNames, names_bytes}
 use Rattle.code_file.proofs.Ranges.{file_fits, file_ranged, file_writable}
 use Rattle.code_file.proofs.Reading.{BeginsNone}
@@ -39,21 +39,23 @@ a_file bytes middle behind rest code names first second third = record {
 -- the whole of the bytes
 
 pub no_file : (bytes front rest : List ℕ) (e : CodeError) → front ≡ bytes → Reads FitsFile spelling front rest (Err e) → e ≡ error.Form →
-    (file : CodeFile) → IsWritable file → IsRanged file → spelling file ≡ bytes → ⊥
-no_file bytes front rest e all says is file writable ranged spelled =
+    (file : CodeFile) → HasBytes bytes file → ⊥
+no_file bytes front rest e all says is file has =
     let none : BeginsNone FitsFile spelling front = subst (λ a. Reads FitsFile spelling front rest (Err a)) is says in
-    none file [] (file_fits file writable ranged) (all ∙ sym spelled ∙ sym (append-nil (spelling file)))
+    none file [] (file_fits file has.writable has.ranged) (all ∙ sym has.spelled ∙ sym (append-nil (spelling file)))
 
 pub more_is_left : (bytes front rest : List ℕ) (read : CodeFile) → front ≡ bytes → Begins FitsFile spelling front rest read → rest ≢ [] →
-    (file : CodeFile) → IsWritable file → IsRanged file → spelling file ≡ bytes → ⊥
-more_is_left bytes front rest read all begins more file writable ranged spelled =
-    more (sym (begins.only file [] (file_fits file writable ranged) (all ∙ sym spelled ∙ sym (append-nil (spelling file)))).1)
+    (file : CodeFile) → HasBytes bytes file → ⊥
+more_is_left bytes front rest read all begins more file has =
+    more (sym (begins.only file [] (file_fits file has.writable has.ranged) (all ∙ sym has.spelled ∙ sym (append-nil (spelling file)))).1)
 
 pub nothing_is_left : (bytes front rest : List ℕ) (read : CodeFile) → front ≡ bytes → Begins FitsFile spelling front rest read → rest ≡ [] → IsFileOf bytes read
 nothing_is_left bytes front rest read all begins none = record {
-  writable = file_writable read begins.fits;
-  ranged = file_ranged read begins.fits;
-  spelled = sym (append-nil (spelling read)) ∙ ap (λ (s : List ℕ). spelling read ++ s) (sym none) ∙ sym begins.spelled ∙ all;
-  only = λ file writable ranged spelled.
-      (begins.only file [] (file_fits file writable ranged) (all ∙ sym spelled ∙ sym (append-nil (spelling file)))).0;
+  has = record {
+    writable = file_writable read begins.fits;
+    ranged = file_ranged read begins.fits;
+    spelled = sym (append-nil (spelling read)) ∙ ap (λ (s : List ℕ). spelling read ++ s) (sym none) ∙ sym begins.spelled ∙ all;
+  };
+  only = λ file has.
+      (begins.only file [] (file_fits file has.writable has.ranged) (all ∙ sym has.spelled ∙ sym (append-nil (spelling file)))).0;
 }

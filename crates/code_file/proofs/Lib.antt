@@ -7,3 +7,4 @@ pub mod ListsBeside
 pub mod Functions
 pub mod Ranges
 pub mod Files
+pub mod Copies

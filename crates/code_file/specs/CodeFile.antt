@@ -133,12 +133,30 @@ pub record IsWritable (file : CodeFile) : Type 0 where
 
 -- Ranges
 
+abbrev pub IsRangedInstr : Instr → Type 0
+IsRangedInstr i = IsNumber i.a × IsNumber i.b × IsNumber i.c × IsSigned i.imm
+
+abbrev pub IsRangedEntry : Entry → Type 0
+IsRangedEntry e = IsNumber e.first × IsNumber e.params × All IsNumber e.mems
+
+abbrev pub IsRangedPointer : ℕ × ℕ × ℕ → Type 0
+IsRangedPointer p = IsNumber p.0 × IsNumber p.1 × IsNumber p.2
+
+abbrev pub IsRangedStatic : StaticInit → Type 0
+IsRangedStatic s = IsNumber s.layout × All IsByte s.bytes × All IsRangedPointer s.pointers
+
+abbrev pub IsRangedLayout : Layout → Type 0
+IsRangedLayout l = IsNumber l.size × IsNumber l.align × All IsNumber l.slots
+
+abbrev pub IsRangedSite : Site → Type 0
+IsRangedSite s = IsNumber s.instr × All IsNumber s.pins
+
 pub record IsRangedCode (code : Code) : Type 0 where
-  pub instrs : All (λ (i : Instr). IsNumber i.a × IsNumber i.b × IsNumber i.c × IsSigned i.imm) code.instrs
-  pub funcs : All (λ (e : Entry). IsNumber e.first × IsNumber e.params × All IsNumber e.mems) code.funcs
-  pub statics : All (λ (s : StaticInit). IsNumber s.layout × All IsByte s.bytes × All (λ (p : ℕ × ℕ × ℕ). IsNumber p.0 × IsNumber p.1 × IsNumber p.2) s.pointers) code.statics
-  pub layouts : All (λ (l : Layout). IsNumber l.size × IsNumber l.align × All IsNumber l.slots) code.layouts
-  pub sites : All (λ (s : Site). IsNumber s.instr × All IsNumber s.pins) code.sites
+  pub instrs : All IsRangedInstr code.instrs
+  pub funcs : All IsRangedEntry code.funcs
+  pub statics : All IsRangedStatic code.statics
+  pub layouts : All IsRangedLayout code.layouts
+  pub sites : All IsRangedSite code.sites
   pub lines : All IsNumber code.lines
   pub formats : All (All IsByte) code.formats
 
@@ -156,9 +174,13 @@ pub record IsRanged (file : CodeFile) : Type 0 where
 
 -- What bytes give
 
--- the one file that has these bytes
-pub record IsFileOf (bytes : List ℕ) (file : CodeFile) : Type 0 where
+-- a file that can be written has these bytes
+pub record HasBytes (bytes : List ℕ) (file : CodeFile) : Type 0 where
   pub writable : IsWritable file
   pub ranged : IsRanged file
   pub spelled : spelling file ≡ bytes
-  pub only : (other : CodeFile) → IsWritable other → IsRanged other → spelling other ≡ bytes → other ≡ file
+
+-- and no other file has them
+pub record IsFileOf (bytes : List ℕ) (file : CodeFile) : Type 0 where
+  pub has : HasBytes bytes file
+  pub only : (other : CodeFile) → HasBytes bytes other → other ≡ file

@@ -1,4 +1,5 @@
 pub mod Ops
 pub mod Spelling
 pub mod CodeFile
+pub mod Names
 pub mod Parts

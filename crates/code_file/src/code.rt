@@ -3,7 +3,7 @@
 ghost use Rattle.std.specs.Prelude.{◌≡◌, true, false};
 ghost use Rattle.code_file.specs.Spelling.{Any, byte};
 ghost use Rattle.code_file.specs.Ops.{op_number};
-ghost use Rattle.code_file.specs.CodeFile.{EndsOtherwise, IsShortCode, IsShortEntry, IsShortStatic, code_bytes, entry_bytes, instr_bytes, layout_bytes, pointer_bytes, site_bytes, static_bytes};
+ghost use Rattle.code_file.specs.CodeFile.{EndsOtherwise, IsRangedCode, IsRangedEntry, IsRangedInstr, IsRangedLayout, IsRangedPointer, IsRangedSite, IsRangedStatic, IsShortCode, IsShortEntry, IsShortStatic, code_bytes, entry_bytes, instr_bytes, layout_bytes, pointer_bytes, site_bytes, static_bytes};
 ghost use Rattle.code_file.specs.Parts.{FitsCode, FitsEntry, FitsInstr, FitsLayout, FitsPointer, FitsSite, FitsStatic};
 
 use crate::file::CodeError;
@@ -18,6 +18,8 @@ impl Spelled for Op {
     ghost spelling = { λ op. byte (op_number op) };
 
     ghost is_short = { Any };
+
+    ghost is_ranged = { Any };
 
     fn write(&self, text: &mut Vec<u8>) -> Result<(), NoMemory> {
         op_number(*self).write(text)
@@ -36,6 +38,8 @@ impl Spelled for Instr {
     ghost spelling = { instr_bytes };
 
     ghost is_short = { Any };
+
+    ghost is_ranged = { IsRangedInstr };
 
     fn write(&self, text: &mut Vec<u8>) -> Result<(), NoMemory> {
         self.op.write(text)?;
@@ -62,6 +66,8 @@ impl Spelled for Entry {
     ghost spelling = { entry_bytes };
 
     ghost is_short = { IsShortEntry };
+
+    ghost is_ranged = { IsRangedEntry };
 
     fn write(&self, text: &mut Vec<u8>) -> Result<(), NoMemory> {
         self.first.write(text)?;
@@ -93,6 +99,8 @@ impl Spelled for (u32, u32, u32) {
 
     ghost is_short = { Any };
 
+    ghost is_ranged = { IsRangedPointer };
+
     fn write(&self, text: &mut Vec<u8>) -> Result<(), NoMemory> {
         self.0.write(text)?;
         self.1.write(text)?;
@@ -113,6 +121,8 @@ impl Spelled for StaticInit {
     ghost spelling = { static_bytes };
 
     ghost is_short = { IsShortStatic };
+
+    ghost is_ranged = { IsRangedStatic };
 
     fn write(&self, text: &mut Vec<u8>) -> Result<(), NoMemory> {
         self.layout.write(text)?;
@@ -159,6 +169,8 @@ impl Spelled for Layout {
 
     ghost is_short = { λ (l : Layout). IsShort l.slots };
 
+    ghost is_ranged = { IsRangedLayout };
+
     fn write(&self, text: &mut Vec<u8>) -> Result<(), NoMemory> {
         self.size.write(text)?;
         self.align.write(text)?;
@@ -186,6 +198,8 @@ impl Spelled for Site {
 
     ghost is_short = { λ (s : Site). IsShort s.pins };
 
+    ghost is_ranged = { IsRangedSite };
+
     fn write(&self, text: &mut Vec<u8>) -> Result<(), NoMemory> {
         self.instr.write(text)?;
         self.pins.write(text)
@@ -205,6 +219,8 @@ impl Spelled for Code {
     ghost spelling = { code_bytes };
 
     ghost is_short = { IsShortCode };
+
+    ghost is_ranged = { IsRangedCode };
 
     fn write(&self, text: &mut Vec<u8>) -> Result<(), NoMemory> {
         self.instrs.write(text)?;

@@ -1,12 +1,12 @@
 //! The names of a code file, and how they stand beside its code.
 
-ghost use Rattle.std.specs.Prelude.{◌≡◌, IfSome};
+ghost use Rattle.std.specs.Prelude.{◌≡◌, All, IfSome};
 ghost use Rattle.c_types.specs.Layouts.{no_layout};
 ghost use Rattle.core_tree.specs.declared.program.Mem.{Mem};
 ghost use Rattle.core_tree.specs.declared.program.Reg.{Reg};
 ghost use Rattle.core_tree.specs.declared.program.Static.{Static};
-ghost use Rattle.code_file.specs.Spelling.{IsShort, Reads, list_of};
-ghost use Rattle.code_file.specs.CodeFile.{IsShortFunction, function_names, memory_name, no_start, register_name, static_name};
+ghost use Rattle.code_file.specs.Spelling.{IsByte, IsShort, Reads, list_of};
+ghost use Rattle.code_file.specs.CodeFile.{IsRangedFunction, IsShortFunction, function_names, memory_name, no_start, register_name, static_name};
 ghost use Rattle.code_file.specs.Parts.{FitsFunction, FitsMemoryName, FitsRegister, FitsStaticName, IsShortBeside};
 
 use crate::file::CodeError;
@@ -47,7 +47,7 @@ pub(crate) fn read_list_beside<K, T: Beside<K>>(
 }
 
 /// The layout of what is named.
-fn no_layout(alloc: Global) -> Layout
+pub(crate) fn no_layout(alloc: Global) -> Layout
     ensures { result ≡ no_layout }
 {
     Layout {
@@ -58,7 +58,7 @@ fn no_layout(alloc: Global) -> Layout
 }
 
 /// The start of what is named.
-fn no_start(alloc: Global) -> Start
+pub(crate) fn no_start(alloc: Global) -> Start
     ensures { result ≡ no_start }
 {
     Start {
@@ -71,6 +71,8 @@ impl Spelled for Static {
     ghost spelling = { static_name };
 
     ghost is_short = { λ (s : Static). IfSome s.name IsShort };
+
+    ghost is_ranged = { λ (s : Static). IfSome s.name (All IsByte) };
 
     fn write(&self, text: &mut Vec<u8>) -> Result<(), NoMemory> {
         self.name.write(text)
@@ -96,6 +98,8 @@ impl Spelled for Mem {
 
     ghost is_short = { λ (m : Mem). IsShort m.name };
 
+    ghost is_ranged = { λ (m : Mem). All IsByte m.name };
+
     fn write(&self, text: &mut Vec<u8>) -> Result<(), NoMemory> {
         self.name.write(text)
     }
@@ -118,6 +122,8 @@ impl Spelled for Reg {
 
     ghost is_short = { λ (r : Reg). IfSome r.name IsShort };
 
+    ghost is_ranged = { λ (r : Reg). IfSome r.name (All IsByte) };
+
     fn write(&self, text: &mut Vec<u8>) -> Result<(), NoMemory> {
         self.name.write(text)
     }
@@ -139,6 +145,8 @@ impl Spelled for Func {
     ghost spelling = { function_names };
 
     ghost is_short = { IsShortFunction };
+
+    ghost is_ranged = { IsRangedFunction };
 
     fn write(&self, text: &mut Vec<u8>) -> Result<(), NoMemory> {
         self.name.write(text)?;

@@ -1,6 +1,6 @@
 //! What a code file is made of: parts that are written one behind another, and read from left to right.
 
-ghost use Rattle.std.specs.Prelude.{◌≡◌, ◌++◌, ℕ, List, length, IfOk};
+ghost use Rattle.std.specs.Prelude.{◌≡◌, ◌++◌, ℕ, List, length, All, IfOk};
 ghost use Rattle.code_file.specs.Spelling.{Any, Both, IsByte, IsNumber, IsShortList, IsSigned, Reads, byte, list_of, number, optional, pair, signed, truth};
 
 use crate::file::CodeError;
@@ -15,10 +15,14 @@ pub(crate) trait Spelled {
     /// Its lists are short enough.
     ghost is_short: { Self → Type 0 };
 
+    /// Its numbers are those of their types.
+    ghost is_ranged: { Self → Type 0 };
+
     /// Writes it at the end.
     fn write(&self, text: &mut Vec<u8>) -> Result<(), NoMemory>
         requires { is_short self.now }
-        ensures { IfOk result (λ _. text.new.items ≡ text.old.items ++ spelling self.now) };
+        ensures bytes { IfOk result (λ _. text.new.items ≡ text.old.items ++ spelling self.now) }
+        ensures ranged { IfOk result (λ _. is_ranged self.now) };
 }
 
 /// What can be read.
@@ -35,6 +39,8 @@ impl Spelled for u8 {
     ghost spelling = { byte };
 
     ghost is_short = { Any };
+
+    ghost is_ranged = { IsByte };
 
     fn write(&self, text: &mut Vec<u8>) -> Result<(), NoMemory> {
         text.push(*self)?;
@@ -54,6 +60,8 @@ impl Spelled for bool {
     ghost spelling = { truth };
 
     ghost is_short = { Any };
+
+    ghost is_ranged = { Any };
 
     fn write(&self, text: &mut Vec<u8>) -> Result<(), NoMemory> {
         text.push(u8::from(*self))?;
@@ -96,6 +104,8 @@ impl Spelled for u32 {
 
     ghost is_short = { Any };
 
+    ghost is_ranged = { IsNumber };
+
     fn write(&self, text: &mut Vec<u8>) -> Result<(), NoMemory> {
         text.extend_from_slice(&self.to_le_bytes())?;
         Ok(())
@@ -115,6 +125,8 @@ impl Spelled for i64 {
 
     ghost is_short = { Any };
 
+    ghost is_ranged = { IsSigned };
+
     fn write(&self, text: &mut Vec<u8>) -> Result<(), NoMemory> {
         text.extend_from_slice(&self.to_le_bytes())?;
         Ok(())
@@ -133,6 +145,8 @@ impl<A: Spelled, B: Spelled> Spelled for (A, B) {
     ghost spelling = { pair A.spelling B.spelling };
 
     ghost is_short = { Both A.is_short B.is_short };
+
+    ghost is_ranged = { Both A.is_ranged B.is_ranged };
 
     fn write(&self, text: &mut Vec<u8>) -> Result<(), NoMemory> {
         self.0.write(text)?;
@@ -154,6 +168,8 @@ impl<T: Spelled> Spelled for Items<T> {
     ghost spelling = { list_of T.spelling };
 
     ghost is_short = { IsShortList T.is_short };
+
+    ghost is_ranged = { All T.is_ranged };
 
     fn write(&self, text: &mut Vec<u8>) -> Result<(), NoMemory> {
         (self.len() as u32).write(text)?;
@@ -183,6 +199,8 @@ impl<T: Spelled> Spelled for Option<T> {
     ghost spelling = { optional T.spelling };
 
     ghost is_short = { λ o. IfSome o T.is_short };
+
+    ghost is_ranged = { λ o. IfSome o T.is_ranged };
 
     fn write(&self, text: &mut Vec<u8>) -> Result<(), NoMemory> {
         match self {

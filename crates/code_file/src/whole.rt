@@ -3,7 +3,7 @@
 ghost use Rattle.std.specs.Prelude.{◌≡◌, ◌++◌, IfOk, length, codes};
 ghost use Rattle.code_file.specs.declared.file.CodeError.TheVariants as error;
 ghost use Rattle.code_file.specs.declared.file.CodeFile.{CodeFile};
-ghost use Rattle.code_file.specs.CodeFile.{IsFileOf, IsRanged, IsWritable, spelling};
+ghost use Rattle.code_file.specs.CodeFile.{HasBytes, IsFileOf, IsWritable, spelling};
 ghost use Rattle.code_file.specs.Spelling.{Reads};
 ghost use Rattle.code_file.specs.Parts.{FitsFile, FitsNames, names_bytes};
 
@@ -19,14 +19,14 @@ use std::alloc::Global;
 /// What a code file begins with.
 const MAGIC: &[u8] = b"HSCODE01";
 
-/// The bytes of a code file.
+/// The bytes of a code file. Its numbers are those of their types, so [`read_code`] gives the file back.
 ///
 /// # Errors
 ///
 /// [`NoMemory`], where there is none for the bytes.
 pub fn write_code(alloc: Global, file: &CodeFile) -> Result<Items<u8>, NoMemory>
     requires { IsWritable file.now }
-    ensures { IfOk result (λ bytes. bytes ≡ spelling file.now) }
+    ensures { IfOk result (λ bytes. HasBytes bytes file.now) }
 {
     let mut text = Vec::new(alloc);
     text.extend_from_slice(MAGIC)?;
@@ -76,7 +76,7 @@ fn read_file(reader: &mut Reader) -> Result<CodeFile, CodeError>
 /// [`CodeError::Form`], exactly where no code file has these bytes, and [`CodeError::NoMemory`].
 pub fn read_code(alloc: Global, bytes: &[u8]) -> Result<CodeFile, CodeError>
     ensures file { IfOk result (IsFileOf bytes.now) }
-    ensures form { result ≡ Err error.Form → (file : CodeFile) → IsWritable file → IsRanged file → spelling file ≡ bytes.now → ⊥ }
+    ensures form { result ≡ Err error.Form → (file : CodeFile) → HasBytes bytes.now file → ⊥ }
 {
     let mut reader = Reader::new(alloc, bytes);
     let file = read_file(&mut reader)?;

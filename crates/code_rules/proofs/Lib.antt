@@ -2,6 +2,7 @@ pub mod Marks
 pub mod Loops
 pub mod Entries
 pub mod Told
+pub mod Places
 pub mod PinFacts
 pub mod Depths
 pub mod ScopeFacts

@@ -1,14 +1,15 @@
 -- What the returns of functions give.
-use Rattle.std.specs.Prelude.{◌≡◌, ◌↔◌, ◌<◌, ◌≢◌, ℕ, Bool, true, false, List, [], ◌∷◌, length, Option, Some, None, option_map, slice_get, slice_index_or, All, AllPairs, Contains, MatchOption}
+use Rattle.std.specs.Prelude.{◌≡◌, ◌↔◌, ◌<◌, ◌≢◌, ℕ, take, Bool, true, false, List, [], ◌∷◌, length, Option, Some, None, option_map, slice_get, slice_index_or, All, AllPairs, Contains, MatchOption}
 use Rattle.core_tree.specs.Sorts.{Pointer, Sort}
 use Rattle.flat_code.specs.declared.instructions.Instr.{Instr}
 use Rattle.flat_code.specs.declared.instructions.Op.{Op}
 use Rattle.flat_code.specs.declared.instructions.Op.TheVariants as op
 use Rattle.flat_code.specs.declared.program.Code.{Code}
 use Rattle.flat_code.specs.declared.program.Entry.{Entry}
-use Rattle.flat_code.specs.Sites.{Counts, answered, site_of}
+use Rattle.flat_code.specs.declared.program.Site.{Site}
+use Rattle.flat_code.specs.Sites.{Counts, answered, has_site, site_of}
 use Rattle.flat_code.specs.Table.{chosen, register_sort}
-use Rattle.flat_code.specs.WellFormed.{GivesTo, IsAt, handed_before}
+use Rattle.flat_code.specs.WellFormed.{EachInstr, GivesTo, IsAt, handed_before}
 use Rattle.code_rules.specs.Lively.{marked}
 use Rattle.code_rules.specs.Operands.{sort_told}
 use Rattle.code_rules.specs.Rules.{OfFunction}
@@ -54,6 +55,22 @@ TakesAnswer told entry i o = Unit {0}
 
 -- Sites
 
+-- the pins of the site at a place of the list
+abbrev pub pins_at : List Site → Option ℕ → Option (List ℕ)
+pins_at sites None = None
+pins_at sites (Some place) = option_map (λ (site : Site). site.pins) (slice_get sites place)
+
+-- the places of the first sites of all instructions
+abbrev pub ArePlaces : Code → List (Option ℕ) → Type 0
+ArePlaces code places =
+    (point : ℕ) → point < length code.instrs → pins_at code.sites (slice_index_or places point None) ≡ site_of code.sites point
+
+-- the same of the first sites of the list alone
+pub record ArePlacesUpTo (code : Code) (count : ℕ) (places : List (Option ℕ)) : Type 0 where
+  pub long : length places ≡ length code.instrs
+  pub there : (point place : ℕ) → slice_index_or places point None ≡ Some place → place < length code.sites
+  pub first : (point : ℕ) → point < length code.instrs → pins_at code.sites (slice_index_or places point None) ≡ site_of (take count code.sites) point
+
 -- a register counts at an instruction, by marks of where it is live
 pub record CountsMarked (marks : List Bool) (entry : Entry) (point : ℕ) (i : Instr) (r : ℕ) : Type 0 where
   pub sort : register_sort entry r ≡ Some Pointer
@@ -79,3 +96,7 @@ pub record AreRegisters (entry : Entry) (pins : List ℕ) : Type 0 where
 abbrev pub ListsSite : Code → Entry → ℕ → Bool → Type 0
 ListsSite code entry point true = MatchOption (site_of code.sites point) ⊥ (AreRegisters entry)
 ListsSite code entry point false = site_of code.sites point ≡ None
+
+-- each instruction has its site
+abbrev pub AreListed : Code → Type 0
+AreListed code = EachInstr code (λ f entry point i. ListsSite code entry point (has_site i.op))

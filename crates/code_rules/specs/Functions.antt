@@ -17,10 +17,6 @@ pub record IsFramed (code : Code) (f : ℕ) (entry : Entry) : Type 0 where
 abbrev pub OfEntry : Code → (ℕ → Entry → Type 0) → ℕ → Type 0
 OfEntry code P f = (entry : Entry) → slice_get code.funcs f ≡ Some entry → P f entry
 
--- an instruction is one of the function of a number
-abbrev pub IsOf : Code → ℕ → ℕ → Type 0
-IsOf code point f = (entry : Entry) × (i : Instr) × IsAt code f entry point i
-
 -- an instruction is one of a function
 abbrev pub IsOfFunction : Code → ℕ → Type 0
 IsOfFunction code point = (f : ℕ) × (entry : Entry) × (i : Instr) × IsAt code f entry point i

@@ -93,6 +93,8 @@ pub(crate) struct Alike<'a> {
 impl<'a> Rule for Alike<'a> {
     ghost holds = { λ rule code f entry point i. AnswersAlike code rule.told.now f entry point i };
 
+    ghost suits = { λ _ _. Unit {0} };
+
     fn check(
         &self,
         alloc: Global,
@@ -128,6 +130,8 @@ pub(crate) struct Taken<'a> {
 
 impl<'a> Rule for Taken<'a> {
     ghost holds = { λ rule code f entry point i. TakesAnswer rule.told.now entry i i.op };
+
+    ghost suits = { λ _ _. Unit {0} };
 
     fn check(
         &self,

@@ -42,6 +42,8 @@ pub(crate) struct Inside;
 impl Rule for Inside {
     ghost holds = { λ rule code f entry point i. All (λ next. (entry.first ≤ next) × (next < end_of code f)) (edges i i.op point) };
 
+    ghost suits = { λ _ _. Unit {0} };
+
     fn check(
         &self,
         _alloc: Global,
@@ -65,6 +67,8 @@ pub(crate) struct Ahead;
 
 impl Rule for Ahead {
     ghost holds = { λ rule code f entry point i. LeadsOn point i i.op };
+
+    ghost suits = { λ _ _. Unit {0} };
 
     fn check(
         &self,
@@ -118,6 +122,8 @@ pub(crate) struct Names;
 
 impl Rule for Names {
     ghost holds = { λ rule code f entry point i. NamesWhatIsThere code i i.op };
+
+    ghost suits = { λ _ _. Unit {0} };
 
     fn check(
         &self,

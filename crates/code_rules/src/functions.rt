@@ -3,7 +3,7 @@
 ghost use Rattle.std.specs.Prelude.{◌≡◌, ◌↔◌, ◌<◌, ◌≤◌, ◌+◌, ◌^◌, All, IfOk, IsSome, IsTrue, length, slice_get};
 ghost use Rattle.flat_code.specs.declared.program.Site.{Site};
 ghost use Rattle.flat_code.specs.WellFormed.{EachEntry, HasScopes, end_of};
-ghost use Rattle.code_rules.specs.Functions.{IsFramed, IsOf, IsOfFunction, OfEntry};
+ghost use Rattle.code_rules.specs.Functions.{IsFramed, IsOfFunction, OfEntry};
 ghost use Rattle.code_rules.specs.Scopes.{StaysInside};
 
 use crate::flow::nothing_is_handed_before;
@@ -58,32 +58,20 @@ pub(crate) fn are_framed(code: &Code) -> bool
     true
 }
 
-/// Says whether an instruction is one of the function of a number.
-fn is_of(code: &Code, function: usize, point: usize) -> bool
-    ensures { IsTrue result ↔ IsOf code.now point function }
-{
-    match (code.funcs.get(function), code.instrs.get(point)) {
-        (Some(entry), Some(_)) => {
-            entry.first as usize <= point && point < end_of(code, function)
-        }
-        _ => false,
-    }
-}
-
-/// Says whether an instruction is one of a function.
+/// Says whether an instruction is one of a function: the functions stand side by side, from the first one to the end.
 fn is_of_function(code: &Code, point: usize) -> bool
+    requires { EachEntry code.now (λ f entry. entry.first < end_of code.now f) }
     ensures { IsTrue result ↔ IsOfFunction code.now point }
 {
-    for function in 0..code.funcs.len() {
-        if is_of(code, function, point) {
-            return true;
-        }
+    match code.funcs.get(0) {
+        Some(entry) => entry.first as usize <= point && point < code.instrs.len(),
+        None => false,
     }
-    false
 }
 
 /// Says whether each site is one of an instruction of a function.
 pub(crate) fn sites_inside(code: &Code) -> bool
+    requires { EachEntry code.now (λ f entry. entry.first < end_of code.now f) }
     ensures { IsTrue result ↔ All (λ (site : Site). IsOfFunction code.now site.instr) code.now.sites }
 {
     for site in code.sites.as_slice() {

@@ -249,6 +249,8 @@ pub(crate) struct Operands;
 impl Rule for Operands {
     ghost holds = { λ rule code f entry point i. HasOperands code entry point i };
 
+    ghost suits = { λ _ _. Unit {0} };
+
     fn check(
         &self,
         alloc: Global,
@@ -271,6 +273,8 @@ pub(crate) struct Registers;
 
 impl Rule for Registers {
     ghost holds = { λ rule code f entry point i. HasRegister entry i i.op };
+
+    ghost suits = { λ _ _. Unit {0} };
 
     fn check(
         &self,
@@ -303,6 +307,8 @@ pub(crate) struct Afresh;
 
 impl Rule for Afresh {
     ghost holds = { λ rule code f entry point i. StartsAfresh code entry point i (hands i.op) };
+
+    ghost suits = { λ _ _. Unit {0} };
 
     fn check(
         &self,

@@ -1,18 +1,18 @@
 //! The sites of code, and their pins.
 
-ghost use Rattle.std.specs.Prelude.{◌≡◌, ◌↔◌, ◌<◌, ◌≤◌, ◌≢◌, ◌^◌, ℕ, All, AllPairs, IfOk, IsTrue, Some, length, option_map, true};
+ghost use Rattle.std.specs.Prelude.{◌≡◌, ◌↔◌, ◌<◌, ◌≤◌, ◌≢◌, ◌+◌, ◌^◌, ℕ, All, AllPairs, Contains, IfOk, IsTrue, Some, length, option_map, true};
 ghost use Rattle.core_tree.specs.Sorts.{Pointer};
 ghost use Rattle.flat_code.specs.Table.{register_sort};
 ghost use Rattle.code_rules.specs.Lively.{marked};
 ghost use Rattle.flat_code.specs.Sites.{HasSite, answered, has_site, site_of};
 ghost use Rattle.flat_code.specs.declared.program.Entry.{Entry};
 ghost use Rattle.flat_code.specs.WellFormed.{EachInstr};
-ghost use Rattle.code_rules.specs.Answers.{AreRegisters, ListsSite, PinsAgree, PinsExact};
+ghost use Rattle.code_rules.specs.Answers.{AreListed, ArePlaces, ArePlacesUpTo, AreRegisters, ListsSite, PinsAgree, PinsExact};
 
 use crate::instrs::chosen;
 use crate::live::live_points;
 use crate::rules::{Rule, each_instr};
-use flat_code::{Code, Entry, Instr, Op, Site};
+use flat_code::{Code, Entry, Instr, Op};
 use hs_base::NoMemory;
 use std::alloc::Global;
 
@@ -23,16 +23,41 @@ fn has_site(op: Op) -> bool
     matches!(op, Op::Call | Op::Realloc | Op::Free | Op::Leave)
 }
 
-/// The pins of the first site of an instruction.
-fn site_of(sites: &[Site], point: usize) -> Option<&[u32]>
-    ensures { option_map (λ pins. pins.now) result ≡ site_of sites.now point }
+/// Takes down the place of a site, where it is the first one of its instruction.
+fn put_place(code: &Code, places: &mut [Option<usize>], place: usize)
+    requires place { place < length code.now.sites }
+    requires places { ArePlacesUpTo code.now place places.old }
+    ensures { ArePlacesUpTo code.now (place + 1) places.new }
 {
-    for site in sites {
-        if site.instr as usize == point {
-            return Some(site.pins.as_slice());
-        }
+    let Some(site) = code.sites.get(place) else {
+        return;
+    };
+    let point = site.instr as usize;
+    if point < places.len() && places[point].is_none() {
+        places[point] = Some(place);
     }
-    None
+}
+
+/// Where the first site of each instruction stands in the list of sites.
+fn site_places(alloc: Global, code: &Code) -> Result<Vec<Option<usize>>, NoMemory>
+    ensures { IfOk result (λ places. ArePlaces code.now places.items) }
+{
+    let mut places = vec![in alloc; None; code.instrs.len()]?;
+    for place in 0..code.sites.len() {
+        put_place(code, &mut places, place);
+    }
+    Ok(places)
+}
+
+/// The pins of the first site of an instruction.
+fn site_of<'a>(code: &'a Code, places: &[Option<usize>], point: usize) -> Option<&'a [u32]>
+    requires places { ArePlaces code.now places.now }
+    requires inside { point < length code.now.instrs }
+    ensures { option_map (λ pins. pins.now) result ≡ site_of code.now.sites point }
+{
+    let place = (*places.get(point)?)?;
+    let site = code.sites.get(place)?;
+    Some(site.pins.as_slice())
 }
 
 /// The register that takes the answer of a call.
@@ -74,11 +99,27 @@ fn are_registers(entry: &Entry, pins: &[u32]) -> bool
     ascend(pins) && pins.iter().all(|pin| (*pin as usize) < entry.kinds.len())
 }
 
-/// Each site is listed.
-pub(crate) struct Listed;
+/// Says whether pins that ascend have a register.
+fn has_pin(pins: &[u32], register: u32) -> bool
+    requires { AllPairs (λ one other. one < other) pins.now }
+    ensures { IsTrue result ↔ Contains pins.now register }
+{
+    match pins.binary_search(&register) {
+        Ok(_) => true,
+        Err(_) => false,
+    }
+}
 
-impl Rule for Listed {
+/// Each site is listed.
+#[derive(Drop)]
+pub(crate) struct Listed<'a> {
+    pub(crate) places: &'a [Option<usize>],
+}
+
+impl<'a> Rule for Listed<'a> {
     ghost holds = { λ rule code f entry point i. ListsSite code entry point (has_site i.op) };
+
+    ghost suits = { λ rule code. ArePlaces code rule.places.now };
 
     fn check(
         &self,
@@ -89,7 +130,7 @@ impl Rule for Listed {
         point: usize,
         instr: Instr,
     ) -> Result<bool, NoMemory> {
-        Ok(match site_of(code.sites.as_slice(), point) {
+        Ok(match site_of(code, self.places, point) {
             Some(pins) => has_site(instr.op) && are_registers(entry, pins),
             None => !has_site(instr.op),
         })
@@ -99,12 +140,15 @@ impl Rule for Listed {
 /// The pins of each site have a register exactly where it counts.
 #[derive(Drop)]
 pub(crate) struct Pins<'a> {
+    pub(crate) places: &'a [Option<usize>],
     pub(crate) marks: &'a [bool],
     pub(crate) register: u32,
 }
 
 impl<'a> Rule for Pins<'a> {
     ghost holds = { λ rule code f entry point i. PinsAgree code rule.marks.now rule.register entry point i (has_site i.op) };
+
+    ghost suits = { λ rule code. ArePlaces code rule.places.now × AreListed code };
 
     fn check(
         &self,
@@ -118,10 +162,10 @@ impl<'a> Rule for Pins<'a> {
         if !has_site(instr.op) {
             return Ok(true);
         }
-        Ok(match site_of(code.sites.as_slice(), point) {
+        Ok(match site_of(code, self.places, point) {
             Some(pins) => {
                 let is_live = mark_at(self.marks, point);
-                counts(entry, instr, is_live, self.register) == pins.contains(&self.register)
+                counts(entry, instr, is_live, self.register) == has_pin(pins, self.register)
             }
             None => true,
         })
@@ -139,11 +183,19 @@ fn mark_at(marks: &[bool], point: usize) -> bool
 }
 
 /// Says whether the pins of each site have a register exactly where it counts.
-fn pins_are_exact_of(alloc: Global, code: &Code, register: u32) -> Result<bool, NoMemory>
+fn pins_are_exact_of(
+    alloc: Global,
+    code: &Code,
+    places: &[Option<usize>],
+    register: u32,
+) -> Result<bool, NoMemory>
+    requires places { ArePlaces code.now places.now }
+    requires listed { AreListed code.now }
     ensures { IfOk result (λ b. IsTrue b ↔ EachInstr code.now (λ f entry point i. PinsExact code.now register entry point i (has_site i.op))) }
 {
     let marks = live_points(alloc, code, register)?;
     let rule = Pins {
+        places,
         marks: &marks,
         register,
     };
@@ -151,12 +203,19 @@ fn pins_are_exact_of(alloc: Global, code: &Code, register: u32) -> Result<bool, 
 }
 
 /// The same for all registers below a number.
-fn pins_are_exact(alloc: Global, code: &Code, most: u32) -> Result<bool, NoMemory>
+fn pins_are_exact(
+    alloc: Global,
+    code: &Code,
+    places: &[Option<usize>],
+    most: u32,
+) -> Result<bool, NoMemory>
+    requires places { ArePlaces code.now places.now }
+    requires listed { AreListed code.now }
     ensures { IfOk result (λ b. IsTrue b ↔
         ((r : ℕ) → r < most → EachInstr code.now (λ f entry point i. PinsExact code.now r entry point i (has_site i.op)))) }
 {
     for register in 0..most {
-        if !pins_are_exact_of(alloc, code, register)? {
+        if !pins_are_exact_of(alloc, code, places, register)? {
             return Ok(false);
         }
     }
@@ -189,8 +248,10 @@ pub fn sites_are_right(alloc: Global, code: &Code) -> Result<bool, NoMemory>
     requires { All (λ (e : Entry). length e.kinds < 2 ^ 32) code.now.funcs }
     ensures { IfOk result (λ b. IsTrue b ↔ EachInstr code.now (λ f entry point i. HasSite code.now entry point i (has_site i.op))) }
 {
-    if !each_instr(alloc, code, &Listed)? {
+    let found = site_places(alloc, code)?;
+    let places = found.as_slice();
+    if !each_instr(alloc, code, &Listed { places })? {
         return Ok(false);
     }
-    pins_are_exact(alloc, code, most_registers(code.funcs.as_slice()))
+    pins_are_exact(alloc, code, places, most_registers(code.funcs.as_slice()))
 }

@@ -16,6 +16,9 @@ pub(crate) trait Rule {
     /// An instruction of a function keeps the rule.
     ghost holds: { Self → Code → ℕ → Entry → ℕ → Instr → Type 0 };
 
+    /// What the rule brings with it is of this code.
+    ghost suits: { Self → Code → Type 0 };
+
     /// Says whether an instruction keeps the rule.
     fn check(
         &self,
@@ -26,6 +29,7 @@ pub(crate) trait Rule {
         point: usize,
         instr: Instr,
     ) -> Result<bool, NoMemory>
+        requires suits { suits self.now code.now }
         requires here { IsAt code.now function entry.now point instr }
         requires next { point + 1 < 2 ^ 64 }
         requires following { function + 1 < 2 ^ 64 }
@@ -51,6 +55,7 @@ fn each_of_function<R: Rule>(
     function: usize,
     entry: &Entry,
 ) -> Result<bool, NoMemory>
+    requires suits { R.suits rule.now code.now }
     requires here { slice_get code.now.funcs function ≡ Some entry.now }
     requires next { function + 1 < 2 ^ 64 }
     ensures { IfOk result (λ b. IsTrue b ↔ OfFunction code.now (R.holds rule.now code.now) function entry.now) }
@@ -67,6 +72,7 @@ fn each_of_function<R: Rule>(
 
 /// Says whether each instruction keeps a rule.
 pub(crate) fn each_instr<R: Rule>(alloc: Global, code: &Code, rule: &R) -> Result<bool, NoMemory>
+    requires { R.suits rule.now code.now }
     ensures { IfOk result (λ b. IsTrue b ↔ EachInstr code.now (R.holds rule.now code.now)) }
 {
     for function in 0..code.funcs.len() {

@@ -87,10 +87,10 @@ fn keeps_tables(alloc: Global, code: &Code) -> Result<bool, NoMemory>
     if !sites_ascend(code.sites.as_slice()) {
         return Ok(false);
     }
-    if !sites_inside(code) {
+    if !are_framed(code) {
         return Ok(false);
     }
-    Ok(are_framed(code))
+    Ok(sites_inside(code))
 }
 
 /// Says whether the instructions keep their rules, but for those of answers and sites.

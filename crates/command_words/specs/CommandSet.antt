@@ -20,10 +20,10 @@ option name = record (new_rule name) { long = Some name }
 abbrev pub flag : Text → Rule
 flag name = record (new_rule name) { long = Some name; action = Some SetTrue }
 
--- `run FILE [--heap N] [--stack N] [--steps N] [--leaks]`
-abbrev pub run : App
-run =
-    with_rule (with_rule (with_rule (with_rule (with_rule (new_app (codes "run")) file) (option (codes "heap"))) (option (codes "stack"))) (option (codes "steps"))) (flag (codes "leaks"))
+-- `NAME FILE [--heap N] [--stack N] [--steps N] [--leaks]`
+abbrev pub running : Text → App
+running name =
+    with_rule (with_rule (with_rule (with_rule (with_rule (new_app name) file) (option (codes "heap"))) (option (codes "stack"))) (option (codes "steps"))) (flag (codes "leaks"))
 
 -- `mean FILE [--heap N] [--steps N]`
 abbrev pub mean : App
@@ -51,7 +51,7 @@ bare shape = record shape {
 abbrev pub program : App
 program = on_top bare (new_app (codes "heapsafe"))
 
--- `run` and `mean`, and `print FILE`, `layout FILE`, `list FILE`, `live FILE`, and `self`
-abbrev pub command_set : App
+-- `run` and `mean`, `print FILE`, `layout FILE`, `list FILE` and `live FILE`, `self`, and `compile FILE` and `exec`
+unfoldable pub command_set : App
 command_set =
-    with_subcommand (with_subcommand (with_subcommand (with_subcommand (with_subcommand (with_subcommand (with_subcommand program run.top) mean.top) (plain (codes "print")).top) (plain (codes "layout")).top) (plain (codes "list")).top) (plain (codes "live")).top) generated.top
+    with_subcommand (with_subcommand (with_subcommand (with_subcommand (with_subcommand (with_subcommand (with_subcommand (with_subcommand (with_subcommand program (running (codes "run")).top) mean.top) (plain (codes "print")).top) (plain (codes "layout")).top) (plain (codes "list")).top) (plain (codes "live")).top) generated.top) (plain (codes "compile")).top) (running (codes "exec")).top

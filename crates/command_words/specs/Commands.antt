@@ -5,6 +5,7 @@ use Rattle.std.specs.Str.{bytes_eq}
 use Rattle.clap.specs.Words.{Row, Text, first_of, fault_of, subcommand_of}
 use Rattle.command_words.specs.CommandSet.{command_set}
 use Rattle.command_words.specs.Numbers.{is_file, number_in, within}
+use Rattle.command_words.specs.declared.command.Options.{Options}
 use Rattle.command_words.specs.declared.command.Command as code
 use Rattle.command_words.specs.declared.command.Command.TheVariants as commands
 use Rattle.command_words.specs.declared.command.Task as code_task
@@ -14,7 +15,8 @@ use Rattle.command_words.specs.declared.error.WordsError.TheVariants.{Usage, NoM
 
 -- what is done with a text: it is run on a heap and a stack of so many bytes with at most so many steps, with or without a
 -- list of the blocks that are left, or its meaning is evaluated in such a heap with so many steps; or its canonical spelling is
--- written, the layouts of its structs and unions, its core, or the registers that are live after each point of it
+-- written, the layouts of its structs and unions, its core, the registers that are live after each point of it, or the code file
+-- of its core
 pub data Task : Type 0 where
   Run : (heap stack steps : ℕ) → (leaks : Bool) → Task
   Mean : (heap steps : ℕ) → Task
@@ -22,10 +24,13 @@ pub data Task : Type 0 where
   Layout : Task
   List : Task
   Live : Task
+  Compile : Task
 
--- a task is done with the text of a file, or a text is made with so many functions and run
+-- a task is done with the text of a file, the code in a file is run as a text would be, or a text is made with so many functions
+-- and run
 pub data Command : Type 0 where
   OnFile : (file : Listed ℕ) → (task : Task) → Command
+  Execute : (file : Listed ℕ) → (heap stack steps : ℕ) → (leaks : Bool) → Command
   Generated : (number : ℕ) → Command
 
 -- the value of an option, within its limits, or its default
@@ -57,10 +62,19 @@ flag_in name rows = option_map_or (λ word. bytes_eq word (codes "true")) (first
 abbrev pub with_file : Text → Task → Option Command
 with_file file task = cond (is_file file) (Some (OnFile file task)) None
 
+-- what a command says of a run, by the values of its arguments
+abbrev pub options_in : Listed Row → Option Options
+options_in rows =
+    option_and_then (λ heap. option_and_then (λ stack. option_map (λ steps. let o : Options = record { heap = heap; stack = stack; steps = steps; leaks = flag_in (codes "leaks") rows } in o) (steps_in (first_of (codes "steps") rows))) (stack_in (first_of (codes "stack") rows))) (heap_in (first_of (codes "heap") rows))
+
 -- what a command asks for, by the values of its arguments
 abbrev pub run_in : Listed Row → Option Command
 run_in rows =
-    option_and_then (λ file. option_and_then (λ heap. option_and_then (λ stack. option_and_then (λ steps. with_file file (Run heap stack steps (flag_in (codes "leaks") rows))) (steps_in (first_of (codes "steps") rows))) (stack_in (first_of (codes "stack") rows))) (heap_in (first_of (codes "heap") rows))) (first_of (codes "FILE") rows)
+    option_and_then (λ file. option_and_then (λ (o : Options). with_file file (Run o.heap o.stack o.steps o.leaks)) (options_in rows)) (first_of (codes "FILE") rows)
+
+abbrev pub exec_in : Listed Row → Option Command
+exec_in rows =
+    option_and_then (λ file. option_and_then (λ (o : Options). cond (is_file file) (Some (Execute file o.heap o.stack o.steps o.leaks)) None) (options_in rows)) (first_of (codes "FILE") rows)
 
 abbrev pub mean_in : Listed Row → Option Command
 mean_in rows =
@@ -76,11 +90,11 @@ self_in rows =
 -- the task of a command with a file alone
 abbrev pub task_named : Text → Option Task
 task_named name =
-    cond (bytes_eq name (codes "print")) (Some Print) (cond (bytes_eq name (codes "layout")) (Some Layout) (cond (bytes_eq name (codes "list")) (Some List) (cond (bytes_eq name (codes "live")) (Some Live) None)))
+    cond (bytes_eq name (codes "print")) (Some Print) (cond (bytes_eq name (codes "layout")) (Some Layout) (cond (bytes_eq name (codes "list")) (Some List) (cond (bytes_eq name (codes "live")) (Some Live) (cond (bytes_eq name (codes "compile")) (Some Compile) None))))
 
 abbrev pub asked : Text → Listed Row → Option Command
 asked name rows =
-    cond (bytes_eq name (codes "run")) (run_in rows) (cond (bytes_eq name (codes "mean")) (mean_in rows) (cond (bytes_eq name (codes "self")) (self_in rows) (option_and_then (λ task. plain_in task rows) (task_named name))))
+    cond (bytes_eq name (codes "run")) (run_in rows) (cond (bytes_eq name (codes "mean")) (mean_in rows) (cond (bytes_eq name (codes "exec")) (exec_in rows) (cond (bytes_eq name (codes "self")) (self_in rows) (option_and_then (λ task. plain_in task rows) (task_named name)))))
 
 -- words in which `clap` finds no fault ask for what their command and its values say; all other words are not taken
 abbrev pub command_of : Listed Text → Option Command
@@ -95,9 +109,11 @@ task_shown tasks.Print = Print
 task_shown tasks.Layout = Layout
 task_shown tasks.List = List
 task_shown tasks.Live = Live
+task_shown tasks.Compile = Compile
 
 abbrev pub command_shown : code.Command → Command
 command_shown (commands.OnFile file task) = OnFile file.now (task_shown task)
+command_shown (commands.Execute file heap stack steps leaks) = Execute file.now heap stack steps leaks
 command_shown (commands.Generated number) = Generated number
 
 -- the words ask for this, or are not taken; of want of memory nothing is said
@@ -115,9 +131,11 @@ IsLimited _ = ⊤
 -- the numbers of a command are within their limits
 abbrev pub HasLimits : Command → Type 0
 HasLimits (OnFile file task) = IsLimited task
+HasLimits (Execute file heap stack steps leaks) = IsLimited (Run heap stack steps leaks)
 HasLimits (Generated number) = (1 ≤ number) × (number ≤ 2000)
 
 -- the command does this task with a file
 abbrev pub IsOnFile : code_task.Task → code.Command → Type 0
 IsOnFile wanted (commands.OnFile file task) = task ≡ wanted
+IsOnFile wanted (commands.Execute file heap stack steps leaks) = ⊥
 IsOnFile wanted (commands.Generated number) = ⊥

@@ -1,8 +1,8 @@
 //! What the words of the command line ask for.
 
-ghost use Rattle.std.specs.Prelude.{◌≡◌, ⊤, IfOk, MatchOption, map, option_map};
+ghost use Rattle.std.specs.Prelude.{◌≡◌, ⊤, IfOk, IfSome, MatchOption, map, option_map};
 ghost use Rattle.clap.specs.Words.{first_of, found_of, rows_of};
-ghost use Rattle.command_words.specs.Commands.{command_of, command_shown, task_shown, asked, run_in, mean_in, plain_in, self_in, flag_in, task_named, with_file, HasLimits, IsLimited, IsOnFile, IsRead};
+ghost use Rattle.command_words.specs.Commands.{command_of, command_shown, task_shown, asked, run_in, exec_in, options_in, Run, mean_in, plain_in, self_in, flag_in, task_named, with_file, HasLimits, IsLimited, IsOnFile, IsRead};
 
 use crate::error::WordsError;
 use crate::set::command_set;
@@ -15,9 +15,22 @@ use std::alloc::Global;
 #[derive(Clone, Copy)]
 pub enum Command<'a> {
     /// A task is done with the text of this name.
-    OnFile { file: &'a str, task: Task },
+    OnFile {
+        file: &'a str,
+        task: Task,
+    },
+    /// The code in the file of this name is run, as a text is by [`Task::Run`].
+    Execute {
+        file: &'a str,
+        heap: u32,
+        stack: u32,
+        steps: u64,
+        leaks: bool,
+    },
     /// A text is made with so many functions, and run.
-    Generated { number: u32 },
+    Generated {
+        number: u32,
+    },
 }
 
 /// What is done with a text.
@@ -44,6 +57,17 @@ pub enum Task {
     List,
     /// The registers that are live after each point of its core are written.
     Live,
+    /// The code file of its core is written.
+    Compile,
+}
+
+/// What a command says of a run, but for its file.
+#[derive(Clone, Copy)]
+struct Options {
+    heap: u32,
+    stack: u32,
+    steps: u64,
+    leaks: bool,
 }
 
 /// What is done with a file, if the word can be its name.
@@ -75,6 +99,23 @@ fn flag(found: &ArgMatches, id: &str) -> bool
     }
 }
 
+/// What is said of a run, by the values of a command's arguments.
+fn run_options(found: &ArgMatches) -> Option<Options>
+    ensures value { result ≡ options_in (rows_of (found_of found.now)) }
+    ensures bounds { IfSome result (λ o. IsLimited (Run o.heap o.stack o.steps o.leaks)) }
+{
+    let heap = heap(value_of(found, "heap"))?;
+    let stack = stack(value_of(found, "stack"))?;
+    let steps = steps(value_of(found, "steps"))?;
+    let leaks = flag(found, "leaks");
+    Some(Options {
+        heap,
+        stack,
+        steps,
+        leaks,
+    })
+}
+
 /// `run`, by the values of its arguments.
 fn run<'a>(found: &ArgMatches<'a>) -> Result<Command<'a>, WordsError>
     ensures read { IsRead (run_in (rows_of (found_of found.now))) result }
@@ -83,23 +124,39 @@ fn run<'a>(found: &ArgMatches<'a>) -> Result<Command<'a>, WordsError>
     let Some(file) = value_of(found, "FILE") else {
         return Err(WordsError::Usage);
     };
-    let Some(heap) = heap(value_of(found, "heap")) else {
+    let Some(options) = run_options(found) else {
         return Err(WordsError::Usage);
     };
-    let Some(stack) = stack(value_of(found, "stack")) else {
-        return Err(WordsError::Usage);
-    };
-    let Some(steps) = steps(value_of(found, "steps")) else {
-        return Err(WordsError::Usage);
-    };
-    let leaks = flag(found, "leaks");
     let task = Task::Run {
-        heap,
-        stack,
-        steps,
-        leaks,
+        heap: options.heap,
+        stack: options.stack,
+        steps: options.steps,
+        leaks: options.leaks,
     };
     with_file(file, task)
+}
+
+/// `exec`, by the values of its arguments.
+fn execute<'a>(found: &ArgMatches<'a>) -> Result<Command<'a>, WordsError>
+    ensures read { IsRead (exec_in (rows_of (found_of found.now))) result }
+    ensures limits { IfOk result (λ c. HasLimits (command_shown c)) }
+{
+    let Some(file) = value_of(found, "FILE") else {
+        return Err(WordsError::Usage);
+    };
+    let Some(options) = run_options(found) else {
+        return Err(WordsError::Usage);
+    };
+    if !is_file(file) {
+        return Err(WordsError::Usage);
+    }
+    Ok(Command::Execute {
+        file,
+        heap: options.heap,
+        stack: options.stack,
+        steps: options.steps,
+        leaks: options.leaks,
+    })
 }
 
 /// `mean`, by the values of its arguments.
@@ -147,6 +204,9 @@ fn task_named(name: &str) -> Option<Task>
     if name == "live" {
         return Some(Task::Live);
     }
+    if name == "compile" {
+        return Some(Task::Compile);
+    }
     None
 }
 
@@ -174,6 +234,9 @@ fn asked<'a>(name: &str, found: &ArgMatches<'a>) -> Result<Command<'a>, WordsErr
     }
     if name == "mean" {
         return mean(found);
+    }
+    if name == "exec" {
+        return execute(found);
     }
     if name == "self" {
         return generated(found);

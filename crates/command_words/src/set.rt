@@ -1,8 +1,9 @@
 //! The commands and options, as `clap` builds them.
 
 ghost use Rattle.std.specs.Prelude.{◌≡◌, codes, false, IfOk};
-ghost use Rattle.clap.specs.Words.{app_of, rule_of};
-ghost use Rattle.command_words.specs.CommandSet.{command_set, flag, needed, option};
+ghost use Rattle.clap.specs.Words.{app_of, new_app, rule_of, with_rule, with_subcommand};
+ghost use Rattle.clap.specs.declared.builder.command.Command.TheViews.{out-Command as fields_of};
+ghost use Rattle.command_words.specs.CommandSet.{command_set, flag, mean, needed, option, running};
 
 use clap::{Arg, ArgAction, Command};
 use std::alloc::{AllocError, Global};
@@ -39,42 +40,77 @@ fn flag<'a>(alloc: Global, name: &'a str) -> Arg<'a>
     Arg::new(alloc, name).long(name).action(ArgAction::SetTrue)
 }
 
-/// All commands. (In one function: a part of a command is no value that a clause can speak of.)
-pub(crate) fn command_set<'a>(alloc: Global) -> Result<Command<'a>, AllocError>
-    ensures { IfOk result (λ c. app_of c ≡ command_set) }
+/// A command with a file and what may be said of a run.
+fn running<'a>(alloc: Global, name: &'a str) -> Result<Command<'a>, AllocError>
+    ensures shape { IfOk result (λ c. app_of c ≡ running name.entry.now) }
+    ensures local { IfOk result (λ c. (fields_of c).has_globals ≡ false) }
 {
     let heap = option(alloc, "heap");
     let stack = option(alloc, "stack");
     let steps = option(alloc, "steps");
     let leaks = flag(alloc, "leaks");
-    let run = Command::new(alloc, "run")
+    Command::new(alloc, name)
         .arg(file(alloc))?
         .arg(heap)?
         .arg(stack)?
         .arg(steps)?
-        .arg(leaks)?;
-    let mean_heap = option(alloc, "heap");
-    let mean_steps = option(alloc, "steps");
+        .arg(leaks)
+}
+
+/// Adds a command with a file and what may be said of a run.
+fn add_running<'a>(
+    alloc: Global,
+    program: Command<'a>,
+    name: &'a str,
+) -> Result<Command<'a>, AllocError>
+    ensures { IfOk result (λ c. app_of c ≡ with_subcommand (app_of program.entry) (running name.entry.now).top) }
+{
+    program.subcommand(running(alloc, name)?)
+}
+
+/// Adds `mean FILE [--heap N] [--steps N]`.
+fn add_mean<'a>(alloc: Global, program: Command<'a>) -> Result<Command<'a>, AllocError>
+    ensures { IfOk result (λ c. app_of c ≡ with_subcommand (app_of program.entry) mean.top) }
+{
+    let heap = option(alloc, "heap");
+    let steps = option(alloc, "steps");
     let mean = Command::new(alloc, "mean")
         .arg(file(alloc))?
-        .arg(mean_heap)?
-        .arg(mean_steps)?;
-    let print = Command::new(alloc, "print").arg(file(alloc))?;
-    let layout = Command::new(alloc, "layout").arg(file(alloc))?;
-    let list = Command::new(alloc, "list").arg(file(alloc))?;
-    let live = Command::new(alloc, "live").arg(file(alloc))?;
-    let generated = Command::new(alloc, "self").arg(needed(alloc, "N"))?;
-    Command::new(alloc, "heapsafe")
+        .arg(heap)?
+        .arg(steps)?;
+    program.subcommand(mean)
+}
+
+/// Adds a command with one word, which it needs.
+fn add_plain<'a>(
+    alloc: Global,
+    program: Command<'a>,
+    name: &'a str,
+    word: &'a str,
+) -> Result<Command<'a>, AllocError>
+    ensures { IfOk result (λ c. app_of c ≡ with_subcommand (app_of program.entry) (with_rule (new_app name.entry.now) (needed word.entry.now)).top) }
+{
+    let plain = Command::new(alloc, name).arg(needed(alloc, word))?;
+    program.subcommand(plain)
+}
+
+/// All commands.
+pub(crate) fn command_set<'a>(alloc: Global) -> Result<Command<'a>, AllocError>
+    ensures { IfOk result (λ c. app_of c ≡ command_set) }
+{
+    let program = Command::new(alloc, "heapsafe")
         .no_binary_name(true)
         .disable_help_flag(true)
         .disable_version_flag(true)
         .disable_help_subcommand(true)
-        .subcommand_required(true)
-        .subcommand(run)?
-        .subcommand(mean)?
-        .subcommand(print)?
-        .subcommand(layout)?
-        .subcommand(list)?
-        .subcommand(live)?
-        .subcommand(generated)
+        .subcommand_required(true);
+    let program = add_running(alloc, program, "run")?;
+    let program = add_mean(alloc, program)?;
+    let program = add_plain(alloc, program, "print", "FILE")?;
+    let program = add_plain(alloc, program, "layout", "FILE")?;
+    let program = add_plain(alloc, program, "list", "FILE")?;
+    let program = add_plain(alloc, program, "live", "FILE")?;
+    let program = add_plain(alloc, program, "self", "N")?;
+    let program = add_plain(alloc, program, "compile", "FILE")?;
+    add_running(alloc, program, "exec")
 }

@@ -31,7 +31,7 @@ use Rattle.c_pre.specs.Texts.{preprocessed}
 use Rattle.c_pre.specs.declared.answer.Pre.{Pre}
 use Rattle.c_pre.specs.declared.answer.PreError.{PreError}
 use Rattle.c_pre.specs.declared.answer.PreError.TheVariants as pre
-use Rattle.command_words.specs.Commands.{Command, Generated, OnFile, Task}
+use Rattle.command_words.specs.Commands.{Command, Execute, Generated, OnFile, Task}
 use Rattle.heapsafe.specs.declared.program.Way.{Way}
 use Rattle.heapsafe.specs.Answer.{AnswersFile, AnswersRead, AnswersTokens, AnswersTypes}
 use Rattle.heapsafe.specs.Shown.{Shown, written, no_memory, output_fault, text_fault, untokened}
@@ -51,7 +51,7 @@ no_front taken taken' bytes same = λ t h. ([], bytes, refl, same ∙ h ∙ ap S
 abbrev pub Fronts : Option (List ℕ) → Option (List ℕ) → ℕ → ℕ → List ℕ → Type 0
 Fronts err err' f f' bytes = TakesFront err err' bytes × (f' ≤ f + 1)
 
-says_front : (err err' : Option (List ℕ)) (f f' status result : ℕ) (bytes : List ℕ) → Says err err' f f' bytes status result → Fronts err err' f f' bytes
+pub says_front : (err err' : Option (List ℕ)) (f f' status result : ℕ) (bytes : List ℕ) → Says err err' f f' bytes status result → Fronts err err' f f' bytes
 says_front err err' f f' status result bytes said =
     ⊎_elim (λ h. (all_front err err' bytes h.2, omega (arith, h.0))) (λ h. (h.2, omega (arith, h.0))) said
 
@@ -118,9 +118,10 @@ untokened_said pre.NoMemory file told input task a t t' i p gives below counts i
     (own_line no_memory a i i p p (inr refl) refl refl)
 
 -- no text failed
-unread_none : (asked : Option Command) (t t' : ℕ) → t' ≡ t → unread_file asked t t' ≡ None
+pub unread_none : (asked : Option Command) (t t' : ℕ) → t' ≡ t → unread_file asked t t' ≡ None
 unread_none None t t' same = refl
 unread_none (Some (Generated number)) t t' same = refl
+unread_none (Some (Execute file heap stack steps leaks)) t t' same = ap (λ b. cond b (Some file) None) (le-ltb t t' (omega (arith, same)))
 unread_none (Some (OnFile file task)) t t' same = ap (λ b. cond b (Some file) None) (le-ltb t t' (omega (arith, same)))
 
 pub broken_read : (asked : Option Command) (a : Shown) (left : List ℕ) (left' o o' err err' : Option (List ℕ)) (t t' i i' p p' f f' : ℕ) → t' ≡ t → Breaks None a left left' o o' err err' i i' p p' f f' → Breaks (unread_file asked t t') a left left' o o' err err' i i' p p' f f'
@@ -200,37 +201,37 @@ module _ (file : List ℕ) (opened : List Opened) (core : Core) (left put : List
   }
 
   -- the report of an end
-  abbrev Plain : End → Type 0
+  abbrev pub Plain : End → Type 0
   Plain x = Says err err' f f' (told_report core file opened x) (status_of x) result
 
-  plain_front : (x : End) → Plain x → Fronts err err' f f' (told_report core file opened x)
+  pub plain_front : (x : End) → Plain x → Fronts err err' f f' (told_report core file opened x)
   plain_front x said = says_front err err' f f' (status_of x) result (told_report core file opened x) said
 
   -- neither the input nor the output failed
-  abbrev Steady : Type 0
+  abbrev pub Steady : Type 0
   Steady = (i' ≡ i) × (p' ≡ p)
 
   -- the whole run was made, and its report was not said whole
-  whole : (done : Done) (a : Shown) (kept : List ℕ) (e : Ended file opened core done a) → Steady → left' ≡ Some kept → bytes_in done.events ++ kept ≡ left → Some put ≡ Some (bytes_out done.events) → Fronts err err' f f' (told_report core file opened e.how ++ told_leaks opened e.leaks) → Breaks None a left left' out out' err err' i i' p p' f f'
+  pub whole : (done : Done) (a : Shown) (kept : List ℕ) (e : Ended file opened core done a) → Steady → left' ≡ Some kept → bytes_in done.events ++ kept ≡ left → Some put ≡ Some (bytes_out done.events) → Fronts err err' f f' (told_report core file opened e.how ++ told_leaks opened e.leaks) → Breaks None a left left' out out' err err' i i' p p' f f'
   whole done a kept e steady is_left is_lost written front =
       parted done a done.events [] kept e.how e.leaks (sym (append-nil done.events)) e.is is_left is_lost written
       (told_report core file opened e.how ++ told_leaks opened e.leaks) (inr (inr (steady.0, steady.1, inl (sym (ap (λ (s : Shown). s.err) e.is))))) front (omega (arith, steady.1))
 
   -- the input failed, or the output did, or memory was wanted
-  starved : (done : Done) (a : Shown) (e : Ended file opened core done a) → (i' ≡ i + 1) × (p' ≡ p) → StopsAtIn done.events left [] left' (Some put) → Plain end.InputFault → Breaks None a left left' out out' err err' i i' p p' f f'
+  pub starved : (done : Done) (a : Shown) (e : Ended file opened core done a) → (i' ≡ i + 1) × (p' ≡ p) → StopsAtIn done.events left [] left' (Some put) → Plain end.InputFault → Breaks None a left left' out out' err err' i i' p p' f f'
   starved done a e counts s said =
       parted done a s.before (In s.byte ∷ s.rest) s.left e.how e.leaks s.is e.is s.is_left s.is_read s.is_taken
       (told_report core file opened end.InputFault) (inl (omega (arith, counts.0), refl)) (plain_front end.InputFault said) (omega (arith, counts.1))
 
-  stopped : (done : Done) (a : Shown) (e : Ended file opened core done a) (line : List ℕ) → Stopped done.events left [] left' (Some put) → IsSaid None a i i' p p' line → Fronts err err' f f' line → p' ≤ p + 1 → Breaks None a left left' out out' err err' i i' p p' f f'
+  pub stopped : (done : Done) (a : Shown) (e : Ended file opened core done a) (line : List ℕ) → Stopped done.events left [] left' (Some put) → IsSaid None a i i' p p' line → Fronts err err' f f' line → p' ≤ p + 1 → Breaks None a left left' out out' err err' i i' p p' f f'
   stopped done a e line s is front stops =
       parted done a s.before s.rest s.left e.how e.leaks s.is e.is s.is_left s.is_read s.is_taken line is front stops
 
-  same_end : (x y : End) → Some x ≡ Some y → x ≡ y
+  pub same_end : (x y : End) → Some x ≡ Some y → x ≡ y
   same_end x y e = cc
 
   -- An end that tells of no leaks
-  told_none : (left : Option (List Object)) (x : End) (leaks : List Leak) → IsNoExit x → AreTold left x leaks → leaks ≡ []
+  pub told_none : (left : Option (List Object)) (x : End) (leaks : List Leak) → IsNoExit x → AreTold left x leaks → leaks ≡ []
   told_none None x leaks unlike told = told
   told_none (Some objects) (end.Exit code) leaks unlike told = absurd unlike
   told_none (Some objects) (end.Trap kind line) leaks unlike told = told
@@ -242,7 +243,7 @@ module _ (file : List ℕ) (opened : List Opened) (core : Core) (left put : List
   told_none (Some objects) end.OutputFault leaks unlike told = told
 
   -- what was said is a front of the report of the same end, with no leaks
-  plain_told : (x how : End) (leaks : List Leak) → x ≡ how → leaks ≡ [] → Plain x → Fronts err err' f f' (told_report core file opened how ++ told_leaks opened leaks)
+  pub plain_told : (x how : End) (leaks : List Leak) → x ≡ how → leaks ≡ [] → Plain x → Fronts err err' f f' (told_report core file opened how ++ told_leaks opened leaks)
   plain_told x how leaks same none said =
       subst (λ (ls : List Leak). Fronts err err' f f' (told_report core file opened how ++ told_leaks opened ls)) (sym none)
       (subst (λ (bytes : List ℕ). Fronts err err' f f' bytes) (sym (append-nil (told_report core file opened how)))

@@ -46,7 +46,7 @@ IsNoExit (end.Exit code) = ⊥
 IsNoExit x = Unit {0}
 
 -- every other end tells of no leaks
-none_told : (left : Option (List Object)) (x : End) → IsNoExit x → AreTold left x []
+pub none_told : (left : Option (List Object)) (x : End) → IsNoExit x → AreTold left x []
 none_told None x unlike = refl
 none_told (Some objects) (end.Exit code) unlike = absurd unlike
 none_told (Some objects) (end.Trap kind line) unlike = refl
@@ -89,23 +89,23 @@ module _ (file : List ℕ) (opened : List Opened) (core : Core) (left put : List
   wrote bytes is = λ t h. took t h ∙ ap (λ (b : List ℕ). Some (t ++ b)) (same_some put bytes is)
 
   -- the report of an end was said, and then some leaks
-  abbrev Reported : End → List Leak → Type 0
+  abbrev pub Reported : End → List Leak → Type 0
   Reported x leaks = Says err err' f f' (told_report core file opened x ++ told_leaks opened leaks) (status_of x) result
 
   -- the report of an end was said, and nothing else
-  abbrev Plain : End → Type 0
+  abbrev pub Plain : End → Type 0
   Plain x = Says err err' f f' (told_report core file opened x) (status_of x) result
 
-  plain : (x : End) → Plain x → Reported x []
+  pub plain : (x : End) → Plain x → Reported x []
   plain x said =
       subst (λ (bytes : List ℕ). Says err err' f f' bytes (status_of x) result) (sym (append-nil (told_report core file opened x))) said
 
-  whole : (done : Done) (x : End) (leaks : List Leak) (rest : List ℕ) → i' ≡ i → done.ends ≡ Some x → AreTold done.left x leaks → Some put ≡ Some (bytes_out done.events) → left' ≡ Some rest → bytes_in done.events ++ rest ≡ left → Reported x leaks → Gives (AnswersProgram file opened core (nat_lt i i') done) left left' o o' err err' result
+  pub whole : (done : Done) (x : End) (leaks : List Leak) (rest : List ℕ) → i' ≡ i → done.ends ≡ Some x → AreTold done.left x leaks → Some put ≡ Some (bytes_out done.events) → left' ≡ Some rest → bytes_in done.events ++ rest ≡ left → Reported x leaks → Gives (AnswersProgram file opened core (nat_lt i i') done) left left' o o' err err' result
   whole done x leaks rest stays is are written is_left is_read said =
       gives (AnswersProgram file opened core (nat_lt i i') done) (ended file opened core done.events x leaks) left rest left' o o' err err' f f' result
       (inl (whole_is file opened core done x leaks i i' stays is are)) is_left is_read (wrote (bytes_out done.events) written) same said
 
-  stopped : (done : Done) → i' ≡ i + 1 → StopsAtIn done.events left [] left' (Some put) → Plain end.InputFault → Gives (AnswersProgram file opened core (nat_lt i i') done) left left' o o' err err' result
+  pub stopped : (done : Done) → i' ≡ i + 1 → StopsAtIn done.events left [] left' (Some put) → Plain end.InputFault → Gives (AnswersProgram file opened core (nat_lt i i') done) left left' o o' err err' result
   stopped done more s said =
       gives (AnswersProgram file opened core (nat_lt i i') done) (ended file opened core s.before end.InputFault []) left s.left left' o o' err err' f f' result
       (inl (stopped_is file opened core done s.before s.byte s.rest i i' more s.is)) s.is_left s.is_read (wrote (bytes_out s.before) s.is_taken) same (plain end.InputFault said)

@@ -9,9 +9,12 @@ use Rattle.c_parser.specs.declared.error.ParseError.{ParseError}
 use Rattle.c_parser.specs.declared.error.ParseError.TheVariants as parse
 use Rattle.c_pre.specs.declared.answer.Opened.{Opened}
 use Rattle.core_tree.specs.declared.program.Core.{Core}
+use Rattle.heapsafe.specs.declared.reading.ReadError.{ReadError}
+use Rattle.heapsafe.specs.declared.reading.ReadError.TheVariants.{Fault, TooLong, NoMemory}
+use Rattle.heapsafe.specs.Reading.{ReadCounts}
 use Rattle.flat_machine.specs.Running.{RunCounts}
 use Rattle.heapsafe.specs.Program.{status_of}
-use Rattle.heapsafe.specs.Saying.{HasCause, IsFault, IsRefusal, Refuses, Says, SaysCounts, SaysUnread, TakesAll, TakesLeaks, Wants, WriteFails, unparsed, untyped}
+use Rattle.heapsafe.specs.Saying.{HasCause, IsFault, IsRefusal, Refuses, Says, SaysCounts, SaysUnread, TakesAll, TakesLeaks, Wants, WriteFails, unparsed, unread, untyped}
 use Rattle.c_pre.specs.Answering.{CountsFault, FailsBelow}
 use Rattle.c_pre.specs.declared.answer.Pre.{Pre}
 use Rattle.c_pre.specs.declared.answer.PreError.{PreError}
@@ -45,6 +48,11 @@ untokened_wants (pre.Fault name) is = absurd (omega (arith, is))
 untokened_wants (pre.TooLong name) is = absurd (omega (arith, is))
 untokened_wants pre.NoMemory is = refl
 
+pub unread_wants : (error : ReadError) (file : List ℕ) → (unread error file).status ≡ 134 → unread error file ≡ no_memory
+unread_wants Fault file is = absurd (omega (arith, is))
+unread_wants TooLong file is = absurd (omega (arith, is))
+unread_wants NoMemory file is = refl
+
 pub unparsed_wants : (error : ParseError) (opened : List Opened) → (unparsed error opened).status ≡ 134 → unparsed error opened ≡ no_memory
 unparsed_wants (parse.Syntax line) opened is = absurd (omega (arith, is))
 unparsed_wants parse.NoMemory opened is = refl
@@ -64,6 +72,12 @@ no_fault_0 is = other 0 (λ h. omega (arith, h)) (λ h. omega (arith, h)) (λ h.
 
 pub no_fault_134 : IsFault 134 → ⊥
 no_fault_134 is = other 134 (λ h. omega (arith, h)) (λ h. omega (arith, h)) (λ h. omega (arith, h)) is
+
+pub no_fault_136 : IsFault 136 → ⊥
+no_fault_136 is = other 136 (λ h. omega (arith, h)) (λ h. omega (arith, h)) (λ h. omega (arith, h)) is
+
+pub no_fault_137 : IsFault 137 → ⊥
+no_fault_137 is = other 137 (λ h. omega (arith, h)) (λ h. omega (arith, h)) (λ h. omega (arith, h)) is
 
 pub no_fault_120 : IsFault 120 → ⊥
 no_fault_120 is = other 120 (λ h. omega (arith, h)) (λ h. omega (arith, h)) (λ h. omega (arith, h)) is
@@ -97,6 +111,12 @@ unread_says (pre.Lex kind at) file before after e e' f f' result counts more bel
 unread_says (pre.TooLong name) file before after e e' f f' result counts more below said = absurd (omega (arith, counts, more))
 unread_says pre.NoMemory file before after e e' f f' result counts more below said = absurd (omega (arith, counts, more))
 
+pub unread_cause : (error : ReadError) (file : List ℕ) (before after : ℕ) → ReadCounts {T = List ℕ} before after (Err error) → IsFault (unread error file).status → before < after
+unread_cause Fault file before after counts is = omega (arith, counts)
+unread_cause TooLong file before after counts is =
+    absurd (other 122 (λ h. omega (arith, h)) (λ h. omega (arith, h)) (λ h. omega (arith, h)) is)
+unread_cause NoMemory file before after counts is = absurd (no_fault_134 is)
+
 pub unparsed_no_fault : (error : ParseError) (opened : List Opened) → IsFault (unparsed error opened).status → ⊥
 unparsed_no_fault (parse.Syntax line) opened is = other 124 (λ h. omega (arith, h)) (λ h. omega (arith, h)) (λ h. omega (arith, h)) is
 unparsed_no_fault parse.NoMemory opened is = no_fault_134 is
@@ -109,12 +129,12 @@ untyped_no_fault type.NoMemory opened is = no_fault_134 is
 
 pub refusal_low : (status : ℕ) → IsRefusal status → 120 ≤ status
 refusal_low status is =
-    ⊎_elim (λ h. omega (arith, h)) (λ h. ⊎_elim (λ k. omega (arith, k)) (λ k. omega (arith, k.0)) h) is
+    ⊎_elim (λ h. omega (arith, h)) (λ h. ⊎_elim (λ k. omega (arith, k.0)) (λ k. omega (arith, k.0)) h) is
 
 -- the statuses between are none
 refusal_apart : (status : ℕ) → 126 ≤ status → status ≤ 134 → IsRefusal status → ⊥
 refusal_apart status more less is =
-    ⊎_elim (λ h. omega (arith, h, more)) (λ h. ⊎_elim (λ k. omega (arith, k, less)) (λ k. omega (arith, k.1, more)) h) is
+    ⊎_elim (λ h. omega (arith, h, more)) (λ h. ⊎_elim (λ k. omega (arith, k.0, less)) (λ k. omega (arith, k.1, more)) h) is
 
 -- bytes were said with one of those
 pub never_refused : (Stays Own : Type 0) (e e' : Option (List ℕ)) (f f' status result : ℕ) (bytes : List ℕ) → 126 ≤ status → status ≤ 134 → Says e e' f f' bytes status result → Refuses Stays Own e e' result

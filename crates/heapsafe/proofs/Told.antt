@@ -139,12 +139,9 @@ faults_as t t' i i' o o' e e' result same h = subst (λ n. Faults t n i i' o o' 
 pub says_as : (r s : Shown) → r ≡ s → (err err' : Option (List ℕ)) (f f' result : ℕ) → Says err err' f f' r.err r.status result → Says err err' f f' s.err s.status result
 says_as r s e err err' f f' result h = subst (λ (x : Shown). Says err err' f f' x.err x.status result) e h
 
--- a command with a file is one with that file alone
-abbrev on_file : List ℕ → Task → Option Command
-on_file file task = Some (OnFile file task)
-
-pub one_file : (a b : List ℕ) (t u : Task) → on_file a t ≡ on_file b u → a ≡ b
-one_file a b t u e = cc
+-- words that name a file name no other
+pub one_file : (a b : List ℕ) → Some a ≡ Some b → a ≡ b
+one_file a b e = cc
 
 pub usage_is : (command : Option Command) (told : List ℕ → List ℕ) (input : Input) → None ≡ command → AnswersCommand command told input usage
 usage_is command told input e = subst (λ (c : Option Command). AnswersCommand c told input usage) e refl

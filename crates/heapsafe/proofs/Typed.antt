@@ -10,6 +10,7 @@ use Rattle.heapsafe.specs.declared.program.Way.{Way}
 use Rattle.heapsafe.specs.Shown.{layouts_shown, core_shown, live_shown, no_memory}
 use Rattle.heapsafe.specs.Program.{Input, AnswersWay}
 use Rattle.heapsafe.specs.Answer.{AnswersTypes}
+use Rattle.heapsafe.specs.Execution.{AnswersCompiled}
 use Rattle.heapsafe.specs.Saying.{Gives, untyped}
 use Rattle.heapsafe.proofs.Told.{IsSilent}
 
@@ -29,6 +30,11 @@ pub untyped_program : (error : TypeError) (file : List ℕ) (opened : List Opene
 untyped_program (type.Bad kind line) file opened wanted input way is =
     inl (subst (λ (w : Checked Core). AnswersTypes file opened w input way (untyped (type.Bad kind line) opened)) (sym is) refl)
 untyped_program type.NoMemory file opened wanted input way is = inr refl
+
+pub untyped_compiled : (error : TypeError) (opened : List Opened) (wanted : Checked Core) → Meets {A = Core} (λ core. core) (Err error) wanted → AnswersCompiled opened wanted (untyped error opened) ⊎ (untyped error opened ≡ no_memory)
+untyped_compiled (type.Bad kind line) opened wanted is =
+    inl (subst (λ (w : Checked Core). AnswersCompiled opened w (untyped (type.Bad kind line) opened)) (sym is) refl)
+untyped_compiled type.NoMemory opened wanted is = inr refl
 
 pub untyped_silent : (error : TypeError) (opened : List Opened) → IsSilent (untyped error opened)
 untyped_silent (type.Bad kind line) opened = record { read = refl; out = refl }

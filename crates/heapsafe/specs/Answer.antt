@@ -17,11 +17,12 @@ use Rattle.core_tree.specs.declared.program.Core.{Core}
 use Rattle.flat_codegen.specs.Lasting.{cut_run}
 use Rattle.generated_text.specs.Summary.{summary_line}
 use Rattle.generated_text.specs.Text.{generated}
-use Rattle.command_words.specs.Commands.{Command, OnFile, Generated, Task, Run, Mean, Print, Layout, List as ListCore, Live, command_of}
+use Rattle.command_words.specs.Commands.{Command, OnFile, Execute, Generated, Task, Run, Mean, Print, Layout, List as ListCore, Live, Compile, command_of}
 use Rattle.heapsafe.specs.declared.program.Way.{Way}
 use Rattle.heapsafe.specs.declared.program.Way.TheVariants as way
 use Rattle.heapsafe.specs.Shown.{Shown, usage, untokened, bad_place, bad_syntax, bad_type, written, printed, layouts_shown, core_shown, live_shown}
 use Rattle.heapsafe.specs.Program.{Input, AnswersWay}
+use Rattle.heapsafe.specs.Execution.{AnswersCompiled, AnswersExecution}
 
 -- a text whose types are refused has no core
 abbrev pub AnswersTypes : List ℕ → List Opened → Checked Core → Input → Way → Shown → Type 0
@@ -37,6 +38,7 @@ Does file opened externals input Print a = a ≡ printed externals
 Does file opened externals input Layout a = a ≡ layouts_shown opened (tags_of externals)
 Does file opened externals input ListCore a = a ≡ core_shown opened (core_in externals)
 Does file opened externals input Live a = a ≡ live_shown opened (core_in externals)
+Does file opened externals input Compile a = AnswersCompiled opened (core_in externals) a
 
 -- a text without a tree is refused, by the line of the first external declaration that has none
 pub record AnswersTokens (file : List ℕ) (opened : List Opened) (tokens : List Token) (input : Input) (task : Task) (a : Shown) : Type 0 where
@@ -94,6 +96,8 @@ pub record AnswersGenerated (number : ℕ) (a : Shown) : Type 0 where
 abbrev pub AnswersCommand : Option Command → (List ℕ → List ℕ) → Input → Shown → Type 0
 AnswersCommand None texts input a = a ≡ usage
 AnswersCommand (Some (OnFile file task)) texts input a = AnswersFile file texts input task a
+AnswersCommand (Some (Execute file heap stack steps leaks)) texts input a =
+    AnswersExecution file (texts file) input (record { limits = record { heap = heap; stack = stack }; steps = steps; leaks = leaks }) a
 AnswersCommand (Some (Generated number)) texts input a = AnswersGenerated number a
 
 -- the answer for these words, where each name has this text and the input is this one
@@ -114,6 +118,7 @@ MeansNone _ = ⊤
 -- words that ask for no program of a file
 abbrev pub AsksNone : Option Command → Type 0
 AsksNone (Some (OnFile file task)) = RunsNone task
+AsksNone (Some (Execute file heap stack steps leaks)) = ⊥
 AsksNone _ = ⊤
 
 -- words that ask for no evaluation
@@ -121,7 +126,22 @@ abbrev pub AsksNoMeaning : Option Command → Type 0
 AsksNoMeaning (Some (OnFile file task)) = MeansNone task
 AsksNoMeaning _ = ⊤
 
+-- the file that words name
+abbrev pub file_asked : Option Command → Option (List ℕ)
+file_asked (Some (OnFile file task)) = Some file
+file_asked (Some (Execute file heap stack steps leaks)) = Some file
+file_asked _ = None
+
 -- words that name no file
 abbrev pub AsksNoFile : Option Command → Type 0
-AsksNoFile (Some (OnFile file task)) = ⊥
-AsksNoFile _ = ⊤
+AsksNoFile asked = file_asked asked ≡ None
+
+-- a task that has one answer for each text and input; those of `compile` differ in the numbers of layouts
+abbrev pub HasOne : Task → Type 0
+HasOne Compile = ⊥
+HasOne _ = ⊤
+
+-- words that have one answer
+abbrev pub AsksOne : Option Command → Type 0
+AsksOne (Some (OnFile file task)) = HasOne task
+AsksOne _ = ⊤

@@ -2,15 +2,18 @@
 use Rattle.std.specs.List.{list_all}
 use Rattle.c_pre.specs.Directives.{is_path_byte}
 use Rattle.std.specs.Prelude.{◌≡◌, ◌≢◌, ◌⊎◌, ◌<◌, ◌≤◌, ◌+◌, ℕ, true, nat_lt, cond, List, ◌++◌, Option, Some, None, codes}
-use Rattle.command_words.specs.Commands.{Command, OnFile}
+use Rattle.command_words.specs.Commands.{Command, OnFile, Execute}
 use Rattle.hs_base.specs.Object.{Object}
 use Rattle.hs_base.specs.declared.ends.Leak.{Leak}
 use Rattle.c_pre.specs.declared.answer.Opened.{Opened}
 use Rattle.heapsafe.specs.Leaks.{AreLeaks, leak_lines}
 use Rattle.heapsafe.specs.Places.{told_leaks}
 use Rattle.heapsafe.specs.declared.refusal.Refusal.{Refusal}
-use Rattle.heapsafe.specs.declared.refusal.Refusal.TheVariants.{Usage, TextFault, TextTooLong, NoMemory, OutputFault}
-use Rattle.heapsafe.specs.Shown.{Shown, refusal, input_fault, output_fault, text_fault, no_memory, bad_syntax, bad_type}
+use Rattle.heapsafe.specs.declared.refusal.Refusal.TheVariants.{Usage, TextFault, TextTooLong, BadCode, Unverified, NoMemory, OutputFault}
+use Rattle.heapsafe.specs.Shown.{Shown, refusal, input_fault, output_fault, text_fault, text_too_long, no_memory, bad_syntax, bad_type}
+use Rattle.heapsafe.specs.declared.reading.ReadError.{ReadError}
+use Rattle.heapsafe.specs.declared.reading.ReadError.TheVariants.{Fault, TooLong}
+use Rattle.heapsafe.specs.declared.reading.ReadError.TheVariants as reading
 use Rattle.c_decls.specs.declared.refusal.TypeError.{TypeError}
 use Rattle.c_decls.specs.declared.refusal.TypeError.TheVariants as type
 use Rattle.c_parser.specs.declared.error.ParseError.{ParseError}
@@ -20,6 +23,8 @@ abbrev pub name_of : Refusal → List ℕ
 name_of Usage = codes "heapsafe"
 name_of (TextFault file) = file.now
 name_of (TextTooLong file) = file.now
+name_of (BadCode file) = file.now
+name_of (Unverified file) = file.now
 name_of NoMemory = codes "heapsafe"
 name_of OutputFault = codes "heapsafe"
 
@@ -27,6 +32,8 @@ abbrev pub words_of : Refusal → List ℕ
 words_of Usage = codes "bad command line"
 words_of (TextFault file) = codes "cannot read"
 words_of (TextTooLong file) = codes "text too long"
+words_of (BadCode file) = codes "bad code"
+words_of (Unverified file) = codes "unverified"
 words_of NoMemory = codes "no memory"
 words_of OutputFault = codes "output fault"
 
@@ -35,10 +42,18 @@ status_in Usage = 120
 status_in (TextFault file) = 121
 status_in (TextTooLong file) = 122
 status_in NoMemory = 134
+status_in (BadCode file) = 136
+status_in (Unverified file) = 137
 status_in OutputFault = 133
 
 abbrev pub shown_of : Refusal → Shown
 shown_of r = refusal (name_of r) (words_of r) (status_in r)
+
+-- what is said where a code file was not read
+abbrev pub unread : ReadError → List ℕ → Shown
+unread Fault file = text_fault file
+unread TooLong file = text_too_long file
+unread reading.NoMemory file = no_memory
 
 -- what is said where tokens have no tree
 abbrev pub unparsed : ParseError → List Opened → Shown
@@ -89,9 +104,9 @@ IsFault status = (status ≡ 121) ⊎ (status ≡ 132) ⊎ (status ≡ 133)
 abbrev pub HasCause : Type 0 → Type 0 → Option (List ℕ) → Option (List ℕ) → ℕ → Type 0
 HasCause Fails Own taken taken' result = IsFault result → Fails ⊎ (Own × TakesLeaks taken taken')
 
--- a status of words or of a text that are refused
+-- a status of words, of a text or of a code file that are refused
 abbrev pub IsRefusal : ℕ → Type 0
-IsRefusal status = (status ≡ 120) ⊎ (status ≡ 138) ⊎ ((122 ≤ status) × (status ≤ 125))
+IsRefusal status = (status ≡ 120) ⊎ ((136 ≤ status) × (status ≤ 138)) ⊎ ((122 ≤ status) × (status ≤ 125))
 
 -- with such a status the first of these holds; or it is a program's own, the second holds, and the error stream took no line but
 -- those of leaks
@@ -137,6 +152,7 @@ Faults t t' i i' o o' e e' result =
 -- the file of the words, where a text failed
 abbrev pub unread_file : Option Command → ℕ → ℕ → Option (List ℕ)
 unread_file (Some (OnFile file task)) t t' = cond (nat_lt t t') (Some file) None
+unread_file (Some (Execute file heap stack steps leaks)) t t' = cond (nat_lt t t') (Some file) None
 unread_file asked t t' = None
 
 -- a text is this file, or one that an include can name
@@ -176,3 +192,14 @@ pub record Breaks (unread : Option (List ℕ)) (a : Shown) (left : List ℕ) (le
 -- an answer that is more than the line of want of memory
 abbrev pub SaysMore : Shown → Type 0
 SaysMore a = a.err ≢ no_memory.err
+
+-- it broke off an answer that is as said, or the line of want of memory
+pub record BreaksOne (Is : Shown → Type 0) (unread : Option (List ℕ)) (left : List ℕ) (left' o o' e e' : Option (List ℕ)) (i i' f f' g g' : ℕ) : Type 0 where
+  pub shown : Shown
+  pub is : Is shown ⊎ (shown ≡ no_memory)
+  pub breaks : Breaks unread shown left left' o o' e e' i i' f f' g g'
+
+-- where there is one answer that is as said, it broke off that one; and else one of them
+pub record BreaksOff (One : Type 0) (Is : Shown → Type 0) (unread : Option (List ℕ)) (left : List ℕ) (left' o o' e e' : Option (List ℕ)) (i i' f f' g g' : ℕ) : Type 0 where
+  pub each : One → (a : Shown) → Is a → SaysMore a → Breaks unread a left left' o o' e e' i i' f f' g g'
+  pub some : (One → ⊥) → BreaksOne Is unread left left' o o' e e' i i' f f' g g'

@@ -55,6 +55,13 @@ output_fault = refusal (codes "heapsafe") (codes "output fault") 133
 abbrev pub text_too_long : List ℕ → Shown
 text_too_long file = refusal file (codes "text too long") 122
 
+-- bytes that are those of no code file, and code that is not well formed
+abbrev pub bad_code : List ℕ → Shown
+bad_code file = refusal file (codes "bad code") 136
+
+abbrev pub unverified : List ℕ → Shown
+unverified file = refusal file (codes "unverified") 137
+
 abbrev pub bad_line : PreKind → Place → Shown
 bad_line kind at = refusal_at at (codes "preprocess: " ++ lines.word_of kind) 138
 

@@ -10,20 +10,24 @@ ghost use Rattle.std.specs.Prelude.{◌≡◌, ◌⊎◌, ◌+◌, ◌<◌, ◌^
 ghost use Rattle.c_elab.specs.Core.{IsOfTokens};
 ghost use Rattle.c_lexer.specs.Tokens.{IsLexed};
 ghost use Rattle.core_soundness.specs.Laws.{AreWithin};
-ghost use Rattle.command_words.specs.Commands.{OnFile, Task as AskedTask, command_of, task_shown, IsLimited};
+ghost use Rattle.command_words.specs.Commands.{OnFile, command_of, task_shown, IsLimited};
 ghost use Rattle.c_tree.specs.StatementView.{unit_view};
-ghost use Rattle.heapsafe.specs.Answer.{Answers, AnswersTokens, AnswersFile, AsksNoFile, AsksNoMeaning, AsksNone, Does, MeansNone, RunsNone};
+ghost use Rattle.heapsafe.specs.Answer.{Answers, AnswersTokens, AnswersFile, AsksNoFile, AsksNoMeaning, AsksNone, AsksOne, Does, HasOne, MeansNone, RunsNone, file_asked};
 ghost use Rattle.c_pre.specs.Bounds.{most_tokens};
-ghost use Rattle.heapsafe.specs.Shown.{Shown, input_fault, output_fault};
+ghost use Rattle.c_pre.specs.Texts.{preprocessed};
+ghost use Rattle.heapsafe.specs.Shown.{input_fault, output_fault};
 ghost use Rattle.heapsafe.specs.Program.{input_of, steady};
-ghost use Rattle.heapsafe.specs.Saying.{Breaks, Faults, Gives, HasCause, Refuses, Says, SaysMore, SaysUnread, Wants, WriteFails, unread_file};
+ghost use Rattle.heapsafe.specs.Saying.{BreaksOff, Faults, Gives, HasCause, Refuses, Says, SaysUnread, Wants, WriteFails, unread_file};
 
+mod executing;
 mod generated;
+mod laws;
 mod leaks;
 mod lent;
 mod log;
 mod places;
 mod program;
+mod reading;
 mod refusal;
 mod running;
 mod written;
@@ -33,12 +37,14 @@ use c_parser::parse;
 use c_pre::{Opened, pre};
 use c_tree::Unit;
 use command_words::{Command, Task, WordsError};
+use executing::{Asked, execute_file};
 use generated::run_generated;
 use hs_base::{Limits, Sink, Source, Texts};
+pub use laws::executions_are_runs;
 use program::{Way, run_program};
 use refusal::{Refusal, refuse, refuse_text, refuse_tokens};
 use std::alloc::Global;
-use written::{core_list, core_live, layouts, print};
+use written::{core_compiled, core_list, core_live, layouts, print};
 
 /// Does what is asked with a text that has this tree.
 fn with_tree<I: Source, O: Sink, E: Sink>(
@@ -72,11 +78,11 @@ fn with_tree<I: Source, O: Sink, E: Sink>(
         output_fault.err 133 result }
     ensures stays { RunsNone (task_shown task) → input.new ≡ input.old }
     ensures broken { (left : List ℕ) → I.left input.old ≡ Some left → WriteFails (O.faults out.old)
-        (O.faults out.new) (E.faults err.old) (E.faults err.new) → (a : Shown) →
-        Does file.now opened.now (unit_view unit.now) (steady left) (task_shown task) a →
-        SaysMore a → Breaks None a left (I.left input.new) (O.taken out.old) (O.taken out.new)
-        (E.taken err.old) (E.taken err.new) (I.faults input.old) (I.faults input.new)
-        (O.faults out.old) (O.faults out.new) (E.faults err.old) (E.faults err.new) }
+        (O.faults out.new) (E.faults err.old) (E.faults err.new) → BreaksOff (HasOne (task_shown
+        task)) (Does file.now opened.now (unit_view unit.now) (steady left) (task_shown task)) None
+        left (I.left input.new) (O.taken out.old) (O.taken out.new) (E.taken err.old) (E.taken
+        err.new) (I.faults input.old) (I.faults input.new) (O.faults out.old) (O.faults out.new)
+        (E.faults err.old) (E.faults err.new) }
     ensures memory { Wants (MeansNone (task_shown task) → (input.new ≡ input.old) ×
         (out.new ≡ out.old)) (RunsNone (task_shown task) → ⊥) (E.taken err.old) (E.taken err.new)
         result }
@@ -109,6 +115,7 @@ fn with_tree<I: Source, O: Sink, E: Sink>(
         Task::Layout => layouts(alloc, opened, unit, out, err),
         Task::List => core_list(alloc, opened, unit, out, err),
         Task::Live => core_live(alloc, opened, unit, out, err),
+        Task::Compile => core_compiled(alloc, opened, unit, out, err),
     }
 }
 
@@ -145,11 +152,11 @@ fn with_tokens<I: Source, O: Sink, E: Sink>(
         output_fault.err 133 result }
     ensures stays { RunsNone (task_shown task) → input.new ≡ input.old }
     ensures broken { (left : List ℕ) → I.left input.old ≡ Some left → WriteFails (O.faults out.old)
-        (O.faults out.new) (E.faults err.old) (E.faults err.new) → (a : Shown) →
-        AnswersTokens file.now opened.now tokens.now (steady left) (task_shown task) a →
-        SaysMore a → Breaks None a left (I.left input.new) (O.taken out.old) (O.taken out.new)
-        (E.taken err.old) (E.taken err.new) (I.faults input.old) (I.faults input.new)
-        (O.faults out.old) (O.faults out.new) (E.faults err.old) (E.faults err.new) }
+        (O.faults out.new) (E.faults err.old) (E.faults err.new) → BreaksOff (HasOne (task_shown
+        task)) (AnswersTokens file.now opened.now tokens.now (steady left) (task_shown task)) None
+        left (I.left input.new) (O.taken out.old) (O.taken out.new) (E.taken err.old) (E.taken
+        err.new) (I.faults input.old) (I.faults input.new) (O.faults out.old) (O.faults out.new)
+        (E.faults err.old) (E.faults err.new) }
     ensures memory { Wants (MeansNone (task_shown task) → (input.new ≡ input.old) ×
         (out.new ≡ out.old)) (RunsNone (task_shown task) → ⊥) (E.taken err.old) (E.taken err.new)
         result }
@@ -197,16 +204,15 @@ fn with_file<T: Texts, I: Source, O: Sink, E: Sink>(
         output_fault.err 133 result }
     ensures stays { RunsNone (task_shown task) → input.new ≡ input.old }
     ensures text_fault { T.faults texts.old < T.faults texts.new → (input.new ≡ input.old) ×
-        (out.new ≡ out.old) × SaysUnread file.now (E.taken err.old) (E.taken err.new)
-        (E.faults err.old) (E.faults err.new) result }
+        (out.new ≡ out.old) × SaysUnread file.now (E.taken err.old) (E.taken err.new) (E.faults
+        err.old) (E.faults err.new) result }
     ensures broken { (told : List ℕ → List ℕ) (left : List ℕ) → T.texts texts.old ≡ Some told →
-        I.left input.old ≡ Some left → WriteFails (O.faults out.old) (O.faults out.new)
-        (E.faults err.old) (E.faults err.new) → (a : Shown) →
-        AnswersFile file.now told (steady left) (task_shown task) a → SaysMore a →
-        Breaks (unread_file (Some (OnFile file.now (task_shown task))) (T.faults texts.old)
-        (T.faults texts.new)) a left (I.left input.new) (O.taken out.old) (O.taken out.new)
-        (E.taken err.old) (E.taken err.new) (I.faults input.old) (I.faults input.new)
-        (O.faults out.old) (O.faults out.new) (E.faults err.old) (E.faults err.new) }
+        I.left input.old ≡ Some left → WriteFails (O.faults out.old) (O.faults out.new) (E.faults
+        err.old) (E.faults err.new) → BreaksOff (HasOne (task_shown task)) (AnswersFile file.now
+        told (steady left) (task_shown task)) (unread_file (Some (OnFile file.now (task_shown
+        task))) (T.faults texts.old) (T.faults texts.new)) left (I.left input.new) (O.taken out.old)
+        (O.taken out.new) (E.taken err.old) (E.taken err.new) (I.faults input.old) (I.faults
+        input.new) (O.faults out.old) (O.faults out.new) (E.faults err.old) (E.faults err.new) }
     ensures memory { Wants (MeansNone (task_shown task) → (input.new ≡ input.old) ×
         (out.new ≡ out.old)) (RunsNone (task_shown task) → ⊥) (E.taken err.old) (E.taken err.new)
         result }
@@ -243,6 +249,9 @@ fn with_file<T: Texts, I: Source, O: Sink, E: Sink>(
 /// the object meaning gives, in which an allocation answers null exactly where first fit finds no place. It stops at the first
 /// bad free or escaping local with its line, never touches a freed object, and reports out of stack exactly where the costs of
 /// the active calls would pass the stack.
+///
+/// `compile` writes the code file of a text's core, and `exec` does for such a file what the meaning of its code says; code that is
+/// not well formed it does not run.
 ///
 /// Where texts and input are told and neither texts nor streams failed, what is read and answered, and what each stream took that
 /// tells of it, is by `Answers`, or nothing but the line of want of memory. Where a write to a stream failed, the input lost a
@@ -288,19 +297,18 @@ pub fn heapsafe<T: Texts, I: Source, O: Sink, E: Sink>(
     ensures no_file { AsksNoFile (command_of (map (λ w. w.now) words.now)) →
         (texts.new ≡ texts.old) × (input.new ≡ input.old) }
     ensures stays { AsksNone (command_of (map (λ w. w.now) words.now)) → input.new ≡ input.old }
-    ensures text_fault { (file : List ℕ) (task : AskedTask) →
-        command_of (map (λ w. w.now) words.now) ≡ Some (OnFile file task) →
-        T.faults texts.old < T.faults texts.new → (input.new ≡ input.old) × (out.new ≡ out.old) ×
-        SaysUnread file (E.taken err.old) (E.taken err.new) (E.faults err.old) (E.faults err.new)
-        result }
+    ensures text_fault { (file : List ℕ) → file_asked (command_of (map (λ w. w.now) words.now)) ≡
+        Some file → T.faults texts.old < T.faults texts.new → (input.new ≡ input.old) × (out.new ≡
+        out.old) × SaysUnread file (E.taken err.old) (E.taken err.new) (E.faults err.old) (E.faults
+        err.new) result }
     ensures broken { (told : List ℕ → List ℕ) (left : List ℕ) → T.texts texts.old ≡ Some told →
-        I.left input.old ≡ Some left → WriteFails (O.faults out.old) (O.faults out.new)
-        (E.faults err.old) (E.faults err.new) → (a : Shown) → Answers (map (λ w. w.now) words.now)
-        told (steady left) a → SaysMore a →
-        Breaks (unread_file (command_of (map (λ w. w.now) words.now)) (T.faults texts.old)
-        (T.faults texts.new)) a left (I.left input.new) (O.taken out.old) (O.taken out.new)
-        (E.taken err.old) (E.taken err.new) (I.faults input.old) (I.faults input.new)
-        (O.faults out.old) (O.faults out.new) (E.faults err.old) (E.faults err.new) }
+        I.left input.old ≡ Some left → WriteFails (O.faults out.old) (O.faults out.new) (E.faults
+        err.old) (E.faults err.new) → BreaksOff (AsksOne (command_of (map (λ w. w.now) words.now)))
+        (Answers (map (λ w. w.now) words.now) told (steady left)) (unread_file (command_of (map (λ
+        w. w.now) words.now)) (T.faults texts.old) (T.faults texts.new)) left (I.left input.new)
+        (O.taken out.old) (O.taken out.new) (E.taken err.old) (E.taken err.new) (I.faults input.old)
+        (I.faults input.new) (O.faults out.old) (O.faults out.new) (E.faults err.old) (E.faults
+        err.new) }
     ensures memory { Wants (AsksNoMeaning (command_of (map (λ w. w.now) words.now)) →
         (input.new ≡ input.old) × (out.new ≡ out.old))
         (AsksNone (command_of (map (λ w. w.now) words.now)) → ⊥) (E.taken err.old) (E.taken err.new)
@@ -315,6 +323,22 @@ pub fn heapsafe<T: Texts, I: Source, O: Sink, E: Sink>(
 {
     match command_words::read(alloc, words) {
         Ok(Command::OnFile { file, task }) => with_file(alloc, file, task, texts, input, out, err),
+        Ok(
+            Command::Execute {
+                file,
+                heap,
+                stack,
+                steps,
+                leaks,
+            },
+        ) => {
+            let asked = Asked {
+                limits: Limits { heap, stack },
+                steps,
+                leaks,
+            };
+            execute_file(alloc, file, asked, texts, input, out, err)
+        }
         Ok(Command::Generated { number }) => run_generated(alloc, number, out, err),
         Err(WordsError::Usage) => refuse(err, Refusal::Usage),
         Err(WordsError::NoMemory) => refuse(err, Refusal::NoMemory),

@@ -128,7 +128,7 @@ fn finish_exit<E: Sink>(
 
 /// Reports how a run ended, or, behind an exit and where they are asked for, its leaks; and answers its status or that of a
 /// failed write.
-fn finish_run<E: Sink>(
+pub(crate) fn finish_run<E: Sink>(
     end: &End,
     machine: &Machine,
     leaks: bool,

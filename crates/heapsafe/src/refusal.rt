@@ -21,6 +21,10 @@ pub(crate) enum Refusal<'a> {
     TextFault(&'a [u8]),
     /// The text has more bytes than a text may have.
     TextTooLong(&'a [u8]),
+    /// The bytes are those of no code file.
+    BadCode(&'a [u8]),
+    /// The code of the file is not well formed.
+    Unverified(&'a [u8]),
     /// Memory was wanted and there was none.
     NoMemory,
     /// The output failed.
@@ -33,7 +37,10 @@ impl<'a> Refusal<'a> {
         ensures { result.now ≡ name_of self.now }
     {
         match self {
-            Refusal::TextFault(file) | Refusal::TextTooLong(file) => file,
+            Refusal::TextFault(file)
+            | Refusal::TextTooLong(file)
+            | Refusal::BadCode(file)
+            | Refusal::Unverified(file) => file,
             Refusal::Usage | Refusal::NoMemory | Refusal::OutputFault => b"heapsafe",
         }
     }
@@ -46,6 +53,8 @@ impl<'a> Refusal<'a> {
             Refusal::Usage => b"bad command line",
             Refusal::TextFault(_) => b"cannot read",
             Refusal::TextTooLong(_) => b"text too long",
+            Refusal::BadCode(_) => b"bad code",
+            Refusal::Unverified(_) => b"unverified",
             Refusal::NoMemory => b"no memory",
             Refusal::OutputFault => b"output fault",
         }
@@ -61,6 +70,8 @@ impl<'a> Refusal<'a> {
             Refusal::TextTooLong(_) => 122,
             Refusal::OutputFault => 133,
             Refusal::NoMemory => 134,
+            Refusal::BadCode(_) => 136,
+            Refusal::Unverified(_) => 137,
         }
     }
 }

@@ -1,4 +1,4 @@
-//! Running a core: on a machine, or by the evaluator of its meaning.
+//! Running a core: on a machine, or by the evaluator of its meaning; and running the code of a file.
 //!
 //! What both do is known where the input and the output tell their bytes. The output is lent to them by way of [`Told`], so that
 //! it is known for every output.
@@ -14,6 +14,8 @@ ghost use Rattle.flat_code.specs.WellFormed.{IsWellFormed};
 ghost use Rattle.flat_codegen.specs.Lasting.{LeavesImage, MakesSteps};
 ghost use Rattle.flat_codegen.specs.Running.{RunAnswers};
 ghost use Rattle.flat_machine.specs.Machined.{IsOf, steps_made};
+ghost use Rattle.flat_machine.specs.Lasting as machine_lasts;
+ghost use Rattle.flat_machine.specs.Running as machine_runs;
 ghost use Rattle.flat_machine.specs.Running.{RunCounts};
 ghost use Rattle.flat_objects.specs.Leaks.{KeepsSome};
 ghost use Rattle.meaning_run.specs.Meant.{MeanAnswers, MeanCounts};
@@ -114,6 +116,75 @@ pub(crate) fn run_code<I: Source, O: Sink>(
     let code = compile(alloc, &counted)?;
     let mut machine = Machine::load(alloc, &code, limits)?;
     let (_, end) = execute_lent::<I, O, Brand>(&mut machine, &code, steps, input, out);
+    Ok((end, machine))
+}
+
+/// Does as [`run_file`] says on a machine that was just loaded, with any output, which is handed back.
+fn run_lent<'a, I: Source, O: Sink, K: Lent>(
+    machine: &mut Machine,
+    code: &Code,
+    steps: u64,
+    input: &mut I,
+    out: &'a mut O,
+) -> (&'a mut O, End)
+    requires formed { IsWellFormed code.now }
+    requires bytes { HoldsBytes code.now }
+    requires loaded { IsOf code.now machine.old }
+    requires fresh { machine.old.ended ≡ None }
+    requires steps { steps ≤ 1000000000 }
+    requires input { I.faults input.old + 1 < 2 ^ 64 }
+    requires out { O.faults out.old + 1 < 2 ^ 64 }
+    requires same_loan { out.ghost_name ≡ K.name }
+    requires taken { O.taken out.old ≡ K.taken }
+    ensures same_reference { result.0.ghost_name ≡ out.entry.ghost_name }
+    ensures told { (left : List ℕ) → I.left input.old ≡ Some left → Puts (machine_runs.RunAnswers
+        code.now left steps (record { heap = machine.old.kept.memory.heap.len; stack =
+        machine.old.stack }) [] result.1 (I.left input.new)) (O.taken out.old) (O.taken
+        result.0.now) }
+    ensures kept { KeepsSome machine.new.kept.memory }
+    ensures left { (left : List ℕ) → I.left input.old ≡ Some left → machine_lasts.LeavesImage
+        code.now left steps (record { heap = machine.old.kept.memory.heap.len; stack =
+        machine.old.stack }) result.1 machine.new.kept }
+    ensures faults { RunCounts result.1 (I.faults input.old) (I.faults input.new) (O.faults out.old)
+        (O.faults result.0.now) }
+{
+    let mut told = Told::<O, K>::new(out);
+    let end = machine.run(code, input, &mut told, steps);
+    let Told { sink, .. } = told;
+    (sink, end)
+}
+
+/// Loads code that is well formed and runs it: its end, and the machine behind it, which behind an exit tells its leaks. The image
+/// of the machine agrees with the last state of the code's run. Memory may be wanted before the first instruction alone: then the
+/// input and the output are as before.
+pub(crate) fn run_file<I: Source, O: Sink>(
+    alloc: Global,
+    code: &Code,
+    limits: Limits,
+    steps: u64,
+    input: &mut I,
+    out: &mut O,
+) -> Result<(End, Machine), NoMemory>
+    requires formed { IsWellFormed code.now }
+    requires bytes { HoldsBytes code.now }
+    requires heap { limits.heap ≤ 268435456 }
+    requires stack { limits.stack ≤ 67108864 }
+    requires steps { steps ≤ 1000000000 }
+    requires input { I.faults input.old + 1 < 2 ^ 64 }
+    requires out { O.faults out.old + 1 < 2 ^ 64 }
+    ensures told { IfOk result (λ ran. (left : List ℕ) → I.left input.old ≡ Some left → Puts
+        (machine_runs.RunAnswers code.now left steps limits [] ran.0 (I.left input.new)) (O.taken
+        out.old) (O.taken out.new)) }
+    ensures kept { IfOk result (λ ran. KeepsSome ran.1.kept.memory) }
+    ensures left { IfOk result (λ ran. (left : List ℕ) → I.left input.old ≡ Some left →
+        machine_lasts.LeavesImage code.now left steps limits ran.0 ran.1.kept) }
+    ensures faults { IfOk result (λ ran. RunCounts ran.0 (I.faults input.old) (I.faults input.new)
+        (O.faults out.old) (O.faults out.new)) }
+    ensures input_stays { OnErr result (input.new ≡ input.old) }
+    ensures out_stays { OnErr result (out.new ≡ out.old) }
+{
+    let mut machine = Machine::load(alloc, code, limits)?;
+    let (_, end) = run_lent::<I, O, Brand>(&mut machine, code, steps, input, out);
     Ok((end, machine))
 }
 

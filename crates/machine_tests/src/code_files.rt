@@ -1,6 +1,6 @@
 //! A code file made by hand, read, looked at and written again; and bytes that are those of no code file.
 
-use code_file::{CodeError, read_code, verify, write_code};
+use code_file::{CodeError, has_short_lists, names_of, read_code, verify, write_code};
 use flat_code::{Instr, Op};
 use hs_base::NoMemory;
 use std::alloc::Global;
@@ -217,5 +217,44 @@ fn verified(rt: HostRuntime) -> Result<(), Fail> {
     }
     let file = read_code(alloc, &sample(alloc)?)?;
     assert!(rt; !verify(alloc, &file)?);
+    Ok(())
+}
+
+/// Says whether bytes are refused, or are those that the file is written as which they give; the file is verified too.
+fn is_read_back(alloc: Global, bytes: &[u8]) -> Result<bool, NoMemory> {
+    match read_code(alloc, bytes) {
+        Ok(file) => {
+            verify(alloc, &file)?;
+            Ok(write_code(alloc, &file)?.as_slice() == bytes)
+        }
+        Err(CodeError::Form) => Ok(true),
+        Err(CodeError::NoMemory) => Err(NoMemory),
+    }
+}
+
+#[test]
+fn each_byte_changed(rt: HostRuntime) -> Result<(), Fail> {
+    let alloc = rt.alloc();
+    let mut bytes = walk(alloc, 2, b"\x01\0\0\0\0\0\0\0")?;
+    for place in 0..bytes.len() {
+        for change in [1, 128, 255] {
+            bytes[place] ^= change;
+            assert!(rt; is_read_back(alloc, &bytes)?, "{change} at {place}");
+            bytes[place] ^= change;
+        }
+    }
+    Ok(())
+}
+
+#[test]
+fn names_of_a_core(rt: HostRuntime) -> Result<(), Fail> {
+    let alloc = rt.alloc();
+    let file = read_code(alloc, &sample(alloc)?)?;
+    let names = names_of(alloc, &file.names)?;
+    assert_eq!(rt; names.funcs.get(0).map(|f| f.line), Some(1));
+    assert_eq!(rt; names.funcs.get(0).map(|f| f.regs.len()), Some(2));
+    assert_eq!(rt; names.funcs.get(0).map(|f| f.mems.len()), Some(1));
+    assert_eq!(rt; names.statics.len(), 1);
+    assert!(rt; has_short_lists(&file.code));
     Ok(())
 }

@@ -1,14 +1,15 @@
-use Rattle.std.proofs.Common.{◌∙◌, ℕ, List, Some, Ok, Err, inl, inr, refl, sym, subst, map, Bor, arith}
+use Rattle.std.proofs.Common.{◌∙◌, ap, ℕ, List, Some, Ok, Err, inl, inr, refl, sym, subst, map, Bor, arith}
 use Rattle.command_words.specs.Commands.{Generated, command_of, task_shown, IsRead, Command as Asked}
 use Rattle.command_words.specs.declared.command.Command.{Command}
 use Rattle.command_words.specs.declared.error.WordsError.{WordsError}
-use Rattle.heapsafe.specs.Shown.{usage, no_memory}
+use Rattle.heapsafe.specs.Shown.{Shown, usage, no_memory}
 use Rattle.heapsafe.specs.Program.{input_of, steady}
-use Rattle.heapsafe.specs.Answer.{Answers, AnswersGenerated, AnswersCommand, AsksNoMeaning, AsksNone}
+use Rattle.heapsafe.specs.Answer.{Answers, AnswersGenerated, AnswersCommand, AsksNoMeaning, AsksNone, AsksOne, file_asked}
 use Rattle.heapsafe.proofs.Told.{gives_said, gives_as, gives_left, one_file, usage_is}
-use Rattle.heapsafe.proofs.Broken.{broken_asked, broken_left, broken_own, broken_read}
+use Rattle.heapsafe.proofs.Broken.{broken_left, broken_own, broken_read}
+use Rattle.heapsafe.proofs.OneAnswer.{one_answer, this_answer}
 use Rattle.std.specs.Prelude.{Option}
-use Rattle.heapsafe.specs.Saying.{SaysUnread}
+use Rattle.heapsafe.specs.Saying.{BreaksOff, SaysUnread, unread_file}
 use Rattle.heapsafe.proofs.Statuses.{unwanted, wanted, wants_more, cause_more, caused, no_fault_120, no_fault_134, refused_more}
 use Rattle.heapsafe.proofs.heapsafe.Goals as goal
 
@@ -19,15 +20,32 @@ returns-in-Ok-OnFile-clause-exact g c = λ told left k l same_texts same_out sam
     gives_as _ (command_of words) told _ left _ _ _ _ _ _ (sym read) (c.with_file.ensures.exact told left k l same_texts same_out same_err)
 
 pub returns-in-Ok-OnFile-clause-text_fault : goal.returns-in-Ok-OnFile-clause-text_fault
-returns-in-Ok-OnFile-clause-text_fault g c = λ file task asked more.
+returns-in-Ok-OnFile-clause-text_fault g c = λ file asked more.
     let words : List (List ℕ) = map (λ (w : Bor (List ℕ)). w.now) c.args.words.now in
     let read = subst (λ (command : Command). IsRead (command_of words) (Ok command)) c.in-Ok-OnFile.field-0-is c.in-Ok-OnFile.ensures.read in
-    let same = one_file c.in-Ok-OnFile.file.now file (task_shown c.in-Ok-OnFile.task) task (sym read ∙ asked) in
+    let same = one_file c.in-Ok-OnFile.file.now file (ap file_asked (sym read) ∙ asked) in
     let said = c.with_file.ensures.text_fault more in (
       said.0,
       said.1,
       subst (λ (f : List ℕ). SaysUnread f (g.E.Sink.taken c.args.err.now) (g.E.Sink.taken c.with_file.new.err) (g.E.Sink.faults c.args.err.now) (g.E.Sink.faults c.with_file.new.err) c.with_file.result) same said.2,
     )
+
+pub returns-in-Ok-Execute-clause-text_fault : goal.returns-in-Ok-Execute-clause-text_fault
+returns-in-Ok-Execute-clause-text_fault g c = λ file asked more.
+    let words : List (List ℕ) = map (λ (w : Bor (List ℕ)). w.now) c.args.words.now in
+    let read = subst (λ (command : Command). IsRead (command_of words) (Ok command)) c.in-Ok-Execute.field-0-is c.in-Ok-Execute.ensures.read in
+    let same = one_file c.in-Ok-Execute.file.now file (ap file_asked (sym read) ∙ asked) in
+    let said = c.execute_file.ensures.text_fault more in (
+      said.0,
+      said.1,
+      subst (λ (f : List ℕ). SaysUnread f (g.E.Sink.taken c.args.err.now) (g.E.Sink.taken c.execute_file.new.err) (g.E.Sink.faults c.args.err.now) (g.E.Sink.faults c.execute_file.new.err) c.execute_file.result) same said.2,
+    )
+
+pub returns-in-Ok-Execute-clause-exact : goal.returns-in-Ok-Execute-clause-exact
+returns-in-Ok-Execute-clause-exact g c = λ told left k l same_texts same_out same_err.
+    let words : List (List ℕ) = map (λ (w : Bor (List ℕ)). w.now) c.args.words.now in
+    let read = subst (λ (command : Command). IsRead (command_of words) (Ok command)) c.in-Ok-Execute.field-0-is c.in-Ok-Execute.ensures.read in
+    gives_as _ (command_of words) told _ left _ _ _ _ _ _ (sym read) (c.execute_file.ensures.exact told left k l same_texts same_out same_err)
 
 pub returns-in-Ok-Generated-clause-exact : goal.returns-in-Ok-Generated-clause-exact
 returns-in-Ok-Generated-clause-exact g c = λ told left k l same_texts same_out same_err.
@@ -55,36 +73,50 @@ returns-in-Err-NoMemory-clause-exact g c = λ told left k l same_texts same_out 
     gives_said (Answers words told input) no_memory left _ _ _ _ _ _ _ _ (inr refl) (record { read = refl; out = refl }) l refl same_err c.refuse-in-Err-NoMemory.ensures.says
 
 pub returns-in-Ok-OnFile-clause-broken : goal.returns-in-Ok-OnFile-clause-broken
-returns-in-Ok-OnFile-clause-broken g c = λ told left k l fails a is more.
+returns-in-Ok-OnFile-clause-broken g c = λ told left k l fails.
     let words : List (List ℕ) = map (λ (w : Bor (List ℕ)). w.now) c.args.words.now in
     let read = subst (λ (command : Command). IsRead (command_of words) (Ok command)) c.in-Ok-OnFile.field-0-is c.in-Ok-OnFile.ensures.read in
-    broken_asked _ _ a left _ _ _ _ _ _ _ _ _ _ _ _ _ read
-    (c.with_file.ensures.broken told left k l fails a (subst (λ (command : Option Asked). AnswersCommand command told (steady left) a) read is) more)
+    subst (λ (command : Option Asked). BreaksOff (AsksOne command) (AnswersCommand command told (steady left)) (unread_file command (g.T.Texts.faults c.args.texts.now) (g.T.Texts.faults c.with_file.new.texts)) left (g.I.Source.left c.with_file.new.input) (g.O.Sink.taken c.args.out.now) (g.O.Sink.taken c.with_file.new.out) (g.E.Sink.taken c.args.err.now) (g.E.Sink.taken c.with_file.new.err) (g.I.Source.faults c.args.input.now) (g.I.Source.faults c.with_file.new.input) (g.O.Sink.faults c.args.out.now) (g.O.Sink.faults c.with_file.new.out) (g.E.Sink.faults c.args.err.now) (g.E.Sink.faults c.with_file.new.err)) (sym read) (c.with_file.ensures.broken told left k l fails)
+
+pub returns-in-Ok-Execute-clause-broken : goal.returns-in-Ok-Execute-clause-broken
+returns-in-Ok-Execute-clause-broken g c = λ told left k l fails.
+    let words : List (List ℕ) = map (λ (w : Bor (List ℕ)). w.now) c.args.words.now in
+    let read = subst (λ (command : Command). IsRead (command_of words) (Ok command)) c.in-Ok-Execute.field-0-is c.in-Ok-Execute.ensures.read in
+    subst (λ (command : Option Asked). BreaksOff (AsksOne command) (AnswersCommand command told (steady left)) (unread_file command (g.T.Texts.faults c.args.texts.now) (g.T.Texts.faults c.execute_file.new.texts)) left (g.I.Source.left c.execute_file.new.input) (g.O.Sink.taken c.args.out.now) (g.O.Sink.taken c.execute_file.new.out) (g.E.Sink.taken c.args.err.now) (g.E.Sink.taken c.execute_file.new.err) (g.I.Source.faults c.args.input.now) (g.I.Source.faults c.execute_file.new.input) (g.O.Sink.faults c.args.out.now) (g.O.Sink.faults c.execute_file.new.out) (g.E.Sink.faults c.args.err.now) (g.E.Sink.faults c.execute_file.new.err)) (sym read)
+    (one_answer _ _ left _ _ _ _ _ _ _ _ _ _ _ _ tt (λ a is more. c.execute_file.ensures.broken told left k l fails a is more))
 
 pub returns-in-Ok-Generated-clause-broken : goal.returns-in-Ok-Generated-clause-broken
-returns-in-Ok-Generated-clause-broken g c = λ told left k l fails a is more.
+returns-in-Ok-Generated-clause-broken g c = λ told left k l fails.
     let words : List (List ℕ) = map (λ (w : Bor (List ℕ)). w.now) c.args.words.now in
     let read = subst (λ (command : Command). IsRead (command_of words) (Ok command)) c.in-Ok-Generated.field-0-is c.in-Ok-Generated.ensures.read in
-    broken_read (command_of words) a left _ _ _ _ _ _ _ _ _ _ _ _ _ refl
-    (broken_left a left _ _ _ _ _ _ _ _ _ _ _ l (c.run_generated.ensures.broken left _ fails a (subst (λ (command : Option Asked). AnswersCommand command told (steady left) a) read is)))
+    subst (λ (command : Option Asked). BreaksOff (AsksOne command) (AnswersCommand command told (steady left)) (unread_file command (g.T.Texts.faults c.args.texts.now) (g.T.Texts.faults c.args.texts.now)) left (g.I.Source.left c.args.input.now) (g.O.Sink.taken c.args.out.now) (g.O.Sink.taken c.run_generated.new.out) (g.E.Sink.taken c.args.err.now) (g.E.Sink.taken c.run_generated.new.err) (g.I.Source.faults c.args.input.now) (g.I.Source.faults c.args.input.now) (g.O.Sink.faults c.args.out.now) (g.O.Sink.faults c.run_generated.new.out) (g.E.Sink.faults c.args.err.now) (g.E.Sink.faults c.run_generated.new.err)) (sym read)
+    (one_answer _ _ left _ _ _ _ _ _ _ _ _ _ _ _ tt (λ a is more. broken_left a left _ _ _ _ _ _ _ _ _ _ _ l (c.run_generated.ensures.broken left _ fails a is)))
 
 pub returns-in-Err-Usage-clause-broken : goal.returns-in-Err-Usage-clause-broken
-returns-in-Err-Usage-clause-broken g c = λ told left k l fails a is more.
+returns-in-Err-Usage-clause-broken g c = λ told left k l fails.
     let words : List (List ℕ) = map (λ (w : Bor (List ℕ)). w.now) c.args.words.now in
     let read = subst (λ (e : WordsError). IsRead (command_of words) (Err e)) c.in-Err-Usage.field-0-is c.in-Err-Usage.ensures.read in
-    broken_read (command_of words) a left _ _ _ _ _ _ _ _ _ _ _ _ _ refl
-    (broken_own usage a left _ _ _ _ _ _ _ _ _ _ _ _ (inl (subst (λ (command : Option Asked). AnswersCommand command told (steady left) a) read is)) l refl refl refl c.refuse.ensures.says)
+    subst (λ (command : Option Asked). BreaksOff (AsksOne command) (AnswersCommand command told (steady left)) (unread_file command (g.T.Texts.faults c.args.texts.now) (g.T.Texts.faults c.args.texts.now)) left (g.I.Source.left c.args.input.now) (g.O.Sink.taken c.args.out.now) (g.O.Sink.taken c.args.out.now) (g.E.Sink.taken c.args.err.now) (g.E.Sink.taken c.refuse.new.err) (g.I.Source.faults c.args.input.now) (g.I.Source.faults c.args.input.now) (g.O.Sink.faults c.args.out.now) (g.O.Sink.faults c.args.out.now) (g.E.Sink.faults c.args.err.now) (g.E.Sink.faults c.refuse.new.err)) (sym read)
+    (one_answer _ _ left _ _ _ _ _ _ _ _ _ _ _ _ tt (λ a is more. broken_own usage a left _ _ _ _ _ _ _ _ _ _ _ _ (inl is) l refl refl refl c.refuse.ensures.says))
 
 pub returns-in-Err-NoMemory-clause-broken : goal.returns-in-Err-NoMemory-clause-broken
-returns-in-Err-NoMemory-clause-broken g c = λ told left k l fails a is more.
-    broken_read (command_of (map (λ (w : Bor (List ℕ)). w.now) c.args.words.now)) a left _ _ _ _ _ _ _ _ _ _ _ _ _ refl
-    (broken_own no_memory a left _ _ _ _ _ _ _ _ _ _ _ _ (inr refl) l refl refl refl c.refuse-in-Err-NoMemory.ensures.says)
+returns-in-Err-NoMemory-clause-broken g c = λ told left k l fails.
+    let asked = command_of (map (λ (w : Bor (List ℕ)). w.now) c.args.words.now) in
+    let texts = g.T.Texts.faults c.args.texts.now in
+    let broke = λ (a : Shown). broken_read asked a left (g.I.Source.left c.args.input.now) (g.O.Sink.taken c.args.out.now) (g.O.Sink.taken c.args.out.now) (g.E.Sink.taken c.args.err.now) (g.E.Sink.taken c.refuse-in-Err-NoMemory.new.err) texts texts (g.I.Source.faults c.args.input.now) (g.I.Source.faults c.args.input.now) (g.O.Sink.faults c.args.out.now) (g.O.Sink.faults c.args.out.now) (g.E.Sink.faults c.args.err.now) (g.E.Sink.faults c.refuse-in-Err-NoMemory.new.err) refl (broken_own no_memory a left _ _ _ _ _ _ _ _ _ _ _ _ (inr refl) l refl refl refl c.refuse-in-Err-NoMemory.ensures.says) in
+    this_answer (AnswersCommand asked told (steady left)) (unread_file asked texts texts) left _ _ _ _ _ _ _ _ _ _ _ (AsksOne asked) no_memory (inr refl) (λ a is more. broke a) (broke no_memory)
 
 pub returns-in-Ok-OnFile-clause-memory : goal.returns-in-Ok-OnFile-clause-memory
 returns-in-Ok-OnFile-clause-memory g c =
     let words : List (List ℕ) = map (λ (w : Bor (List ℕ)). w.now) c.args.words.now in
     let read = subst (λ (command : Command). IsRead (command_of words) (Ok command)) c.in-Ok-OnFile.field-0-is c.in-Ok-OnFile.ensures.read in
     wants_more _ _ _ _ _ _ _ (λ stays one. stays (subst AsksNoMeaning read one)) (λ own none. own (subst AsksNone read none)) c.with_file.ensures.memory
+
+pub returns-in-Ok-Execute-clause-memory : goal.returns-in-Ok-Execute-clause-memory
+returns-in-Ok-Execute-clause-memory g c =
+    let words : List (List ℕ) = map (λ (w : Bor (List ℕ)). w.now) c.args.words.now in
+    let read = subst (λ (command : Command). IsRead (command_of words) (Ok command)) c.in-Ok-Execute.field-0-is c.in-Ok-Execute.ensures.read in
+    wants_more _ _ _ _ _ _ _ (λ stays one. stays) (λ own none. absurd (subst AsksNone read none)) c.execute_file.ensures.memory
 
 pub returns-in-Ok-Generated-clause-memory : goal.returns-in-Ok-Generated-clause-memory
 returns-in-Ok-Generated-clause-memory g c = wants_more _ _ _ _ _ _ _ (λ stays one. (refl, stays)) (λ own. absurd own) c.run_generated.ensures.memory
@@ -100,6 +132,12 @@ returns-in-Ok-OnFile-clause-cause g c =
     let words : List (List ℕ) = map (λ (w : Bor (List ℕ)). w.now) c.args.words.now in
     let read = subst (λ (command : Command). IsRead (command_of words) (Ok command)) c.in-Ok-OnFile.field-0-is c.in-Ok-OnFile.ensures.read in
     cause_more _ _ _ _ _ _ _ (λ h. h) (λ own none. own (subst AsksNone read none)) c.with_file.ensures.cause
+
+pub returns-in-Ok-Execute-clause-cause : goal.returns-in-Ok-Execute-clause-cause
+returns-in-Ok-Execute-clause-cause g c =
+    let words : List (List ℕ) = map (λ (w : Bor (List ℕ)). w.now) c.args.words.now in
+    let read = subst (λ (command : Command). IsRead (command_of words) (Ok command)) c.in-Ok-Execute.field-0-is c.in-Ok-Execute.ensures.read in
+    cause_more _ _ _ _ _ _ _ (λ h. h) (λ own none. absurd (subst AsksNone read none)) c.execute_file.ensures.cause
 
 pub returns-in-Ok-Generated-clause-cause : goal.returns-in-Ok-Generated-clause-cause
 returns-in-Ok-Generated-clause-cause g c = cause_more _ _ _ _ _ _ _ (λ h. inr (inr h)) (λ own. absurd own) c.run_generated.ensures.cause
@@ -117,6 +155,12 @@ returns-in-Ok-OnFile-clause-refused g c =
     let words : List (List ℕ) = map (λ (w : Bor (List ℕ)). w.now) c.args.words.now in
     let read = subst (λ (command : Command). IsRead (command_of words) (Ok command)) c.in-Ok-OnFile.field-0-is c.in-Ok-OnFile.ensures.read in
     refused_more _ _ _ _ _ _ _ (λ h. h) (λ own none. own (subst AsksNone read none)) c.with_file.ensures.refused
+
+pub returns-in-Ok-Execute-clause-refused : goal.returns-in-Ok-Execute-clause-refused
+returns-in-Ok-Execute-clause-refused g c =
+    let words : List (List ℕ) = map (λ (w : Bor (List ℕ)). w.now) c.args.words.now in
+    let read = subst (λ (command : Command). IsRead (command_of words) (Ok command)) c.in-Ok-Execute.field-0-is c.in-Ok-Execute.ensures.read in
+    refused_more _ _ _ _ _ _ _ (λ h. h) (λ own none. absurd (subst AsksNone read none)) c.execute_file.ensures.refused
 
 pub returns-in-Ok-Generated-clause-refused : goal.returns-in-Ok-Generated-clause-refused
 returns-in-Ok-Generated-clause-refused g c = refused_more _ _ _ _ _ _ _ (λ h. (refl, h)) (λ own. absurd own) c.run_generated.ensures.refused

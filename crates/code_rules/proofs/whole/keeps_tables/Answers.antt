@@ -1,6 +1,7 @@
 use Rattle.std.proofs.Common.{◌≤◌, ◌<◌, ◌∙◌, List, ℕ, sym, subst}
 use Rattle.std.specs.List.{All, AllPairs}
 use Rattle.flat_code.specs.declared.program.Site.{Site}
+use Rattle.code_rules.proofs.Wholes.{starts_before}
 use Rattle.code_rules.proofs.whole.keeps_tables.Goals as goal
 
 pub returns : goal.returns
@@ -14,8 +15,11 @@ returns c = (
     static_bytes = c.are_static_blocks_small.ensures.0 c.if-not-are_static_blocks_small.false;
     formats = c.in_ok-are_formats.ensures.0 c.if-not-branch.false;
     sites_ascend = subst (λ (l : List Site). AllPairs (λ (one other : Site). one.instr < other.instr) l) c.as_slice-2.ensures (c.sites_ascend.ensures.0 c.if-not-sites_ascend.false);
-    sites_inside = c.sites_inside.ensures.0 c.if-not-sites_inside.false;
-    framed = c.are_framed.ensures.0 yes;
+    sites_inside = c.sites_inside.ensures.0 yes;
+    framed = c.are_framed.ensures.0 c.if-not-are_framed.false;
   },
-  λ keeps. c.are_framed.ensures.1 keeps.framed,
+  λ keeps. c.sites_inside.ensures.1 keeps.sites_inside,
 )
+
+pub sites_inside-requires : goal.sites_inside-requires
+sites_inside-requires c = starts_before c.args.code.now (c.are_framed.ensures.0 c.if-not-are_framed.false)

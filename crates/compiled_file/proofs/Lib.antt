@@ -1,0 +1,3 @@
+pub mod Cuts
+pub mod Wholes
+pub mod Writable

@@ -1,0 +1,2 @@
+pub mod CompiledFile
+pub mod Laws

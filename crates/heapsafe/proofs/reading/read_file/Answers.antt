@@ -1,0 +1,21 @@
+use Rattle.std.proofs.Common.{length, arith, ap, ◌∙◌}
+use Rattle.heapsafe.proofs.Pieces.{not_longer}
+use Rattle.heapsafe.proofs.reading.read_file.Goals as goal
+
+pub returns-then-not-branch-clause-bytes : goal.returns-then-not-branch-clause-bytes
+returns-then-not-branch-clause-bytes g c = λ told h.
+    let all = rw c.if-not-branch.true at (c.in_ok-read_more.ensures.bytes told (c.pieces.invariant.keeps ∙ h) (c.pieces.invariant.told told h)) in
+    let same = c.in_ok-read_more.ensures.done c.if-not-branch.true in
+    (c.from.ensures ∙ all, omega (arith, ap (λ xs. length xs) all, ap (λ xs. length xs) same, c.pieces.bytes.ok.0))
+
+pub pieces-preserved : goal.pieces-preserved
+pieces-preserved g c = record {
+  told = λ told h. rw c.if-not-branch.false at (c.in_ok-read_more.ensures.bytes told (c.pieces.invariant.keeps ∙ h) (c.pieces.invariant.told told h));
+  keeps = c.read_more.ensures.keeps ∙ c.pieces.invariant.keeps;
+  count = c.in_ok-read_more.ensures.cause ∙ c.pieces.invariant.count;
+}
+
+pub returns-clause-bytes : goal.returns-clause-bytes
+returns-clause-bytes g c = λ told h.
+    let long = not_longer (told c.args.name.now) c.pieces.bytes.items (c.pieces.invariant.told told h) in
+    omega (arith, long, c.pieces.bytes.ok.0)
