@@ -19,7 +19,7 @@ use Rattle.c_pre.specs.Lines.{behind_spaces, behind_hash, directive_rest, first_
 use Rattle.c_pre.specs.Texts.{most_bytes}
 use Rattle.c_lexer.specs.Bytes.{is_space}
 use Rattle.std.specs.List.{list_all, prefix_len}
-use Rattle.c_pre.specs.Groups.{is_live, first_line, turned, closed, skipped}
+use Rattle.c_pre.specs.Groups.{is_live, is_read, first_line, turned, closed, skipped}
 use Rattle.c_pre.specs.Directives.{is_name, is_sign, is_among, is_path_byte, path_of, included_name, is_string_kind, names_from, signature_of, with_signature, function_behind, macro_behind, takes_arguments, define_of, include_of, only_name, named_by, alone, directive_by, directive_of}
 use Rattle.c_pre.specs.Macros.{found, with_entry, with_macro, same_macro, defined_by, defined, undefined}
 use Rattle.c_pre.specs.Expansion.{expanded, fresh, most_work}
@@ -337,7 +337,7 @@ hash_short (b ∷ w) low = hash_by (b == 35) w (omega (arith, low))
 line_by_formed : (o : Option (List ℕ)) (line : List ℕ) (here : Here) (p : Progress) → length here.run ≤ most_bytes → OnRest o → Formed p → OnStep (length p.tokens + length here.run + length line) p.work (line_by o line here p)
 line_by_formed None line here p run low f = (text_holds (is_live here.groups) line here p f, tt)
 line_by_formed (Some rest) line here p run low f =
-    pick_step (length p.tokens + length here.run + length line) p.work (is_live here.groups) (directed line rest here p) (passed rest here p) (directed_formed line rest here p run low f) (passed_formed line rest here p f)
+    pick_step (length p.tokens + length here.run + length line) p.work (is_read (first_word rest) here.groups) (directed line rest here p) (passed rest here p) (directed_formed line rest here p run low f) (passed_formed line rest here p f)
 
 pub line_formed : (line : List ℕ) (here : Here) (p : Progress) (s : Step) → length here.run ≤ most_bytes → length line ≤ most_bytes → Formed p → line_read line here p ≡ Ok s → Holds (length p.tokens + length here.run + length line) p.work s.here s.progress × OnName s.include
 unfolding line_read

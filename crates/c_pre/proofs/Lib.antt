@@ -10,6 +10,7 @@ pub mod Left
 pub mod Formed
 pub mod FormedLines
 pub mod Replacing
+pub mod Rows
 pub mod Named
 pub mod Ends
 pub mod Unreplaced

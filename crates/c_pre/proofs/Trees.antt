@@ -4,7 +4,7 @@ use Rattle.std.specs.FinSet as set
 use Rattle.std.specs.List.{list_any, filter, range_with_len}
 use Rattle.std.specs.Cmp.{unsigned_tied}
 use Rattle.std.specs.Ordering.{nat_cmp}
-use Rattle.std.specs.Prelude.{IfOk}
+use Rattle.std.specs.Prelude.{IfOk, IfSome, IsTrue, is_some, Option, Some, None}
 use Rattle.std.proofs.lemmas.Bool.{ltb-true, ltb-false, lt-ltb, le-ltb, eqb-true, eqb-false, eq-eqb, ne_eqb}
 use Rattle.std.proofs.lemmas.Cmp.{nat_cmp_total}
 use Rattle.std.proofs.lemmas.List.Folds.{list_any-append}
@@ -212,3 +212,8 @@ common_parts half left right left_low left_high right_low right_high low high bo
     ∙ (λ i. cond (nat_lt n half) (lo n i) (hi (n - half) i))
     ∙ both_parts (nat_lt n half) (has left_low n) (has right_low n) (has left_high (n - half)) (has right_high (n - half))
     ∙ sym (λ i. l n i && r n i)
+
+-- two sets that have the same numbers, where a test says so
+pub same_numbers : {A : Type 0} (o : Option A) (left right : Tree) (s t : Numbers) → numbers left ≡ s → numbers right ≡ t → IfSome o (λ _. (n : ℕ) → has left n ≡ has right n) → IsTrue (is_some o) → s ≡ t
+same_numbers (Some x) left right s t is are same h = sym is ∙ same_set left right t are same
+same_numbers None left right s t is are same h = cc

@@ -4,7 +4,7 @@ use Rattle.std.proofs.lemmas.List.{length-map}
 use Rattle.c_lexer.specs.declared.token.Token.{Token}
 use Rattle.c_pre.specs.Directives.{is_name}
 use Rattle.c_pre.specs.Expansion.{enough, fresh, macro_for, kept, at_token, scanned, expanded}
-use Rattle.c_pre.specs.Reading.{plain, with_expanded}
+use Rattle.c_pre.specs.Reading.{plain, moved, with_expanded}
 use Rattle.c_pre.specs.declared.answer.Refusal.{Refusal}
 use Rattle.c_pre.specs.Table.{Table}
 use Rattle.c_pre.specs.declared.macros.Defined.{Defined}
@@ -52,3 +52,17 @@ run_unreplaced base p tokens none =
     ap (λ names. let table : Table = record { count = p.macros.count; names = names } in with_expanded base p (expanded table tokens p.work)) none
     ∙ ap (with_expanded base p) (unreplaced p.macros.count tokens p.work)
     ∙ ap (λ (ts : List Token). progressed (record p { tokens = p.tokens ++ ts })) (plain_fresh tokens)
+
+-- tokens that are put behind none, no line further down
+no_further : (n : ℕ) → 0 + n ≡ n
+no_further n = omega arith
+
+one_unmoved : (t : Token) → moved 0 t ≡ t
+one_unmoved t = ap (λ n. let u : Token = record { line = n; kind = t.kind; bytes = t.bytes } in u) (no_further t.line)
+
+unmoved : (tokens : List Token) → map (moved 0) tokens ≡ tokens
+unmoved [] = refl
+unmoved (t ∷ tokens) = λ i. one_unmoved t i ∷ unmoved tokens i
+
+pub taken : (before tokens : List Token) (lines : ℕ) → lines ≡ 0 → before ≡ [] → tokens ≡ before ++ map (moved lines) tokens
+taken before tokens lines none empty = sym (unmoved tokens) ∙ (λ i. sym empty i ++ map (moved (sym none i)) tokens)

@@ -1,5 +1,5 @@
 -- The groups of lines between `#ifdef` or `#ifndef` and `#endif` that are open at a line, the innermost last (C99 6.10.1).
-use Rattle.std.specs.Prelude.{ℕ, ◌-◌, Bool, true, false, not, ◌||◌, bytes_eq, nat_lt, if◌then◌else◌, List, [], ◌∷◌, ◌++◌, length, take, slice_get, slice_set, Option, Some, None, option_map, Result, Ok, Err, codes}
+use Rattle.std.specs.Prelude.{ℕ, ◌-◌, Bool, true, false, not, ◌||◌, ◌&&◌, bytes_eq, nat_lt, if◌then◌else◌, List, [], ◌∷◌, ◌++◌, length, take, slice_get, slice_set, Option, Some, None, option_map, Result, Ok, Err, codes}
 use Rattle.std.specs.List.{list_any}
 use Rattle.c_pre.specs.declared.groups.Group.{Group}
 use Rattle.c_pre.specs.declared.answer.PreKind.{PreKind}
@@ -54,12 +54,18 @@ closed groups = closed_at groups (innermost groups)
 abbrev pub is_word : List ℕ → List (List ℕ) → Bool
 is_word word words = list_any (bytes_eq word) words
 
--- behind a directive of a skipped group, by its first word: groups open and close, and an `#else` of the outermost skipped
--- group ends the skipping, where an `#elif` is refused
+-- an `#else` or `#endif` of the outermost skipped group: it ends the skipping
+unfoldable pub ends_skipping : List ℕ → List Group → Bool
+ends_skipping word groups = is_outermost groups && is_word word (codes "else" ∷ codes "endif" ∷ [])
+
+-- a directive is read, by its first word: where lines are, and where it ends the skipping
+abbrev pub is_read : List ℕ → List Group → Bool
+is_read word groups = is_live groups || ends_skipping word groups
+
+-- behind a directive that is not read, by its first word: groups open and close in the skipped one, where an `#elif` of the
+-- outermost is refused, and an `#else` of any other is nothing
 unfoldable pub skipped : List ℕ → ℕ → List Group → Result (List Group) PreKind
 skipped word line groups =
     if is_word word (codes "if" ∷ codes "ifdef" ∷ codes "ifndef" ∷ []) then Ok (groups ++ opened line false ∷ []) else
     if bytes_eq word (codes "endif") then closed groups else
-    if not (is_outermost groups) then Ok groups else
-    if bytes_eq word (codes "else") then turned groups else
-    if bytes_eq word (codes "elif") then Err Directive else Ok groups
+    if is_outermost groups && bytes_eq word (codes "elif") then Err Directive else Ok groups

@@ -11,6 +11,8 @@ pub mod Held
 pub mod Lines
 pub mod Macros
 pub mod Reading
+pub mod Rows
+pub mod Splitting
 pub mod Steps
 pub mod Table
 pub mod Texts

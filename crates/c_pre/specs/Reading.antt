@@ -11,7 +11,7 @@ use Rattle.c_pre.specs.After.{and_then, at_line}
 use Rattle.c_pre.specs.Comments.{begins_with}
 use Rattle.c_pre.specs.Lines.{behind_spaces, first_word, directive_rest}
 use Rattle.c_pre.specs.Expansion.{expanded}
-use Rattle.c_pre.specs.Groups.{is_live, first_line, opened, turned, closed, skipped}
+use Rattle.c_pre.specs.Groups.{is_live, is_read, first_line, opened, turned, closed, skipped}
 use Rattle.c_pre.specs.Macros.{found, defined, undefined}
 use Rattle.c_pre.specs.Table.{Table}
 use Rattle.c_pre.specs.Directives.{directive_of}
@@ -137,7 +137,7 @@ directed_from line rest here p =
 unfoldable pub directed : List ℕ → List ℕ → Here → Progress → Result Step Refusal
 directed line rest here p = and_then (run_ended here p) (λ q. directed_from line rest here q)
 
--- behind a directive that is skipped
+-- behind a directive that is not read
 unfoldable pub passed : List ℕ → Here → Progress → Result Step Refusal
 passed rest here p =
     with_groups (behind_line here) p (at_line here.line (skipped (first_word rest) here.line here.groups))
@@ -145,7 +145,8 @@ passed rest here p =
 -- behind a line, by what stands behind its `#`, if it is a directive
 abbrev pub line_by : Option (List ℕ) → List ℕ → Here → Progress → Result Step Refusal
 line_by None line here p = Ok (step (with_text line here) p)
-line_by (Some rest) line here p = if is_live here.groups then directed line rest here p else passed rest here p
+line_by (Some rest) line here p =
+    if is_read (first_word rest) here.groups then directed line rest here p else passed rest here p
 
 -- behind a line
 unfoldable pub line_read : List ℕ → Here → Progress → Result Step Refusal

@@ -8,6 +8,7 @@ use crate::hidden::Hidden;
 use crate::marked::Marked;
 use crate::parameters::Parameters;
 use crate::queue::Queue;
+use crate::rest::Rest;
 use hs_base::{Items, Line, NoMemory};
 use std::alloc::Global;
 
@@ -23,26 +24,26 @@ pub(crate) struct Call {
     /// Its arguments that are expanded.
     pub(crate) expanded: Items<Items<Marked>>,
     /// Those behind the one that is being expanded.
-    pub(crate) left: Queue<Queue<Marked>>,
+    pub(crate) left: Queue<Rest>,
     /// What was done before it.
     pub(crate) done: Items<Marked>,
     /// The tokens behind it.
-    pub(crate) rest: Queue<Marked>,
+    pub(crate) rest: Rest,
 }
 
 /// What a call has behind its `(`.
 #[derive(Drop)]
 pub(crate) struct Split {
     /// Its arguments, at least one.
-    pub(crate) args: Queue<Queue<Marked>>,
+    pub(crate) args: Queue<Rest>,
     /// What is hidden from its `)`.
     pub(crate) hidden: Hidden,
     /// The tokens behind that.
-    pub(crate) rest: Queue<Marked>,
+    pub(crate) rest: Rest,
 }
 
 /// Whether the next token is a `(`.
-pub(crate) fn is_open(rest: &Queue<Marked>) -> bool
+pub(crate) fn is_open(rest: &Rest) -> bool
     ensures { result ≡ is_open rest.now }
 {
     match rest.front() {
@@ -51,28 +52,27 @@ pub(crate) fn is_open(rest: &Queue<Marked>) -> bool
     }
 }
 
-/// Splits what stands behind the `(` of a call into its arguments, at commas outside parentheses.
-pub(crate) fn split_call(alloc: Global, rest: Queue<Marked>) -> Result<Option<Split>, NoMemory>
+/// Splits what stands behind the `(` of a call into its arguments, token by token.
+fn split_tokens(alloc: Global, rest: Rest) -> Result<Option<Split>, NoMemory>
     ensures { IfOk result (λ split. split ≡ split_from 0 [] [] rest) }
 {
-    let most = rest.len();
     let mut rest = rest;
     let mut args = Queue::new(alloc);
-    let mut current = Queue::new(alloc);
-    let mut depth = 0usize;
-    while let Some(Marked { token, hidden }) = rest.pop() {
+    let mut current = Vec::new(alloc);
+    let mut depth = 0u64;
+    while let Some(Marked { token, hidden }) = rest.pop(alloc)? {
         let closes = is_sign(b')', &token);
         if closes && depth == 0 {
-            args.push(current)?;
+            args.push(Rest::of(alloc, current)?)?;
             return Ok(Some(Split { args, hidden, rest }));
         }
         if closes {
             depth -= 1;
         } else if is_sign(b'(', &token) {
-            depth += 1;
+            depth = depth.checked_add(1).ok_or(NoMemory)?;
         } else if is_sign(b',', &token) && depth == 0 {
-            args.push(current)?;
-            current = Queue::new(alloc);
+            args.push(Rest::of(alloc, current)?)?;
+            current = Vec::new(alloc);
             continue;
         }
         current.push(Marked { token, hidden })?;
@@ -80,8 +80,19 @@ pub(crate) fn split_call(alloc: Global, rest: Queue<Marked>) -> Result<Option<Sp
     Ok(None)
 }
 
+/// Splits what stands behind the `(` of a call into its arguments, at commas outside parentheses.
+pub(crate) fn split_call(alloc: Global, rest: Rest) -> Result<Option<Split>, NoMemory>
+    ensures { IfOk result (λ split. split ≡ split_from 0 [] [] rest) }
+{
+    let mut rest = rest;
+    match rest.split(alloc)? {
+        Some((args, hidden)) => Ok(Some(Split { args, hidden, rest })),
+        None => split_tokens(alloc, rest),
+    }
+}
+
 /// Whether a macro with these parameters takes these arguments: as many, or one that is empty where it has none.
-pub(crate) fn fits(parameters: &Parameters, args: &Queue<Queue<Marked>>) -> bool
+pub(crate) fn fits(parameters: &Parameters, args: &Queue<Rest>) -> bool
     ensures { result ≡ fits parameters.now args.now }
 {
     if parameters.len() == 0 {

@@ -1,7 +1,7 @@
 //! Groups of lines that are read or skipped (C99 6.10.1).
 
 ghost use Rattle.std.specs.Prelude.{◌≡◌, [], ◌∷◌, ◌++◌, false, OnOk, codes};
-ghost use Rattle.c_pre.specs.Groups.{is_live, is_outermost, turned, closed, skipped, is_word, first_line};
+ghost use Rattle.c_pre.specs.Groups.{is_live, is_outermost, ends_skipping, is_read, turned, closed, skipped, is_word, first_line};
 ghost use Rattle.c_pre.specs.After.{at_line};
 ghost use Rattle.c_pre.specs.Answering.{Leaves};
 
@@ -54,6 +54,14 @@ fn is_group_word(word: &[u8]) -> bool
     words.iter().any(|other| word == *other)
 }
 
+/// Whether a word goes on behind a group or ends it.
+fn is_ending_word(word: &[u8]) -> bool
+    ensures { result ≡ is_word word.now (codes "else" ∷ codes "endif" ∷ []) }
+{
+    let words: [&[u8]; 2] = [b"else", b"endif"];
+    words.iter().any(|other| word == *other)
+}
+
 impl Groups {
     /// No open group.
     pub(crate) fn new(alloc: Global) -> Groups
@@ -82,6 +90,21 @@ impl Groups {
     {
         let count = self.list.len();
         count < 2 || self.list[count - 2].live
+    }
+
+    /// Whether a directive with this first word ends the skipping.
+    #[tactic(auto, unfolding(crate::specs::Groups::ends_skipping))]
+    fn ends_skipping(&self, word: &[u8]) -> bool
+        ensures { result ≡ ends_skipping word.now self.now }
+    {
+        self.is_outermost() && is_ending_word(word)
+    }
+
+    /// Whether a directive with this first word is read: where lines are, and where it ends the skipping.
+    pub(crate) fn is_read(&self, word: &[u8]) -> bool
+        ensures { result ≡ is_read word.now self.now }
+    {
+        self.is_live() || self.ends_skipping(word)
     }
 
     /// The line that opened the outermost group, where one is open.
@@ -139,7 +162,7 @@ impl Groups {
         }
     }
 
-    /// Goes on behind a directive of a skipped group, by its first word.
+    /// Goes on behind a directive that is not read, by its first word.
     #[tactic(auto, unfolding(crate::specs::Groups::skipped))]
     pub(crate) fn pass(&mut self, word: &[u8], line: Line) -> Result<(), Refusal>
         ensures { Leaves (at_line line (skipped word.now line self.old)) self.new result }
@@ -151,13 +174,7 @@ impl Groups {
         if word == b"endif".as_slice() {
             return self.close(line);
         }
-        if !self.is_outermost() {
-            return Ok(());
-        }
-        if word == b"else".as_slice() {
-            return self.turn(line);
-        }
-        if word == b"elif".as_slice() {
+        if self.is_outermost() && word == b"elif".as_slice() {
             return Err(Refusal::Bad {
                 kind: PreKind::Directive,
                 line,

@@ -13,6 +13,9 @@ use std::rc::Rc;
 /// The half of a whole set: a text of 2 to the 20 bytes has fewer than 2 to the 17 definitions, of ten bytes at least.
 const HALF: u32 = 1 << 16;
 
+/// How many parts of two sets are looked at to find that they are the same.
+const MOST_LOOKS: u32 = 256;
+
 /// A set of numbers. Sets that are made of one another share their parts.
 #[cycle(tree)]
 #[derive(Drop)]
@@ -127,6 +130,25 @@ fn is_empty(tree: &Tree) -> bool
     ensures { (n : ℕ) → IsTrue result → has tree.now n ≡ false }
 {
     matches!(tree, Tree::Empty)
+}
+
+/// Whether two sets are the same, where no more than so many of their parts show it, and how many more may be looked at. The
+/// answer none says nothing.
+fn is_same(left: &Tree, right: &Tree, looks: u32) -> Option<u32>
+    ensures { IfSome result (λ _. (n : ℕ) → has left.now n ≡ has right.now n) }
+{
+    let looks = looks.checked_sub(1)?;
+    match (left, right) {
+        (Tree::Empty, Tree::Empty) => Some(looks),
+        (Tree::Range(from, to), Tree::Range(start, end)) if *from == *start && *to == *end => Some(
+            looks,
+        ),
+        (Tree::Parts(left), Tree::Parts(right)) if left.half == right.half => {
+            let looks = is_same(&left.low, &right.low, looks)?;
+            is_same(&left.high, &right.high, looks)
+        }
+        _ => None,
+    }
 }
 
 /// Whether a range lies in a set. The answer no says nothing.
@@ -290,6 +312,18 @@ impl Hidden {
         ensures { result ≡ set.contains self.now number }
     {
         has(&self.tree, number)
+    }
+
+    /// Whether the same macros are hidden, where few parts of the sets show it. The answer no says nothing.
+    pub(crate) fn is_same(&self, other: &Hidden) -> bool
+        ensures { IsTrue result → self.now ≡ other.now }
+    {
+        is_same(&self.tree, &other.tree, MOST_LOOKS).is_some()
+    }
+
+    /// Whether the set has parts.
+    pub(crate) fn has_parts(&self) -> bool {
+        matches!(self.tree, Tree::Parts(_))
     }
 
     /// The same macros.

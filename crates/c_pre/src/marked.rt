@@ -7,7 +7,7 @@ use crate::copies::copied;
 use crate::directive::is_name;
 use crate::hidden::Hidden;
 use crate::macros::{Defined, Macros};
-use crate::queue::Queue;
+use crate::rest::Rest;
 use c_lexer::Token;
 use hs_base::{Items, Line, NoMemory};
 use std::alloc::Global;
@@ -17,6 +17,22 @@ use std::alloc::Global;
 pub(crate) struct Marked {
     pub(crate) token: Token,
     pub(crate) hidden: Hidden,
+}
+
+impl Marked {
+    /// A copy.
+    pub(crate) fn copied(&self, alloc: Global) -> Result<Marked, NoMemory>
+        ensures { IfOk result (λ copy. copy ≡ self.now) }
+    {
+        Ok(Marked {
+            token: Token {
+                line: self.token.line,
+                kind: self.token.kind,
+                bytes: copied(alloc, self.token.bytes.as_slice())?,
+            },
+            hidden: self.hidden.share()?,
+        })
+    }
 }
 
 /// The macro of a token: of a name that is not hidden from it.
@@ -53,15 +69,15 @@ pub(crate) fn put_on(
 }
 
 /// Tokens from which nothing is hidden.
-pub(crate) fn fresh(alloc: Global, tokens: Items<Token>) -> Result<Queue<Marked>, NoMemory>
+pub(crate) fn fresh(alloc: Global, tokens: Items<Token>) -> Result<Rest, NoMemory>
     ensures { IfOk result (λ marked. marked ≡ map fresh tokens) }
 {
-    let mut marked = Queue::new(alloc);
+    let mut marked = Vec::new(alloc);
     for token in tokens.into_vec() {
         marked.push(Marked {
             token,
             hidden: Hidden::new(),
         })?;
     }
-    Ok(marked)
+    Rest::of(alloc, marked)
 }

@@ -83,6 +83,10 @@ fn append(to: &mut Items<Token>, tokens: Items<Token>, lines: Line) -> Result<()
     requires { All (λ token. token.line + lines < 2 ^ 32) tokens }
     ensures { OnOk result (to.new ≡ to.old ++ map (moved lines) tokens) }
 {
+    if lines == 0 && to.is_empty() {
+        *to = tokens;
+        return Ok(());
+    }
     for token in tokens.into_vec() {
         let Token { line, kind, bytes } = token;
         to.push(Token {
@@ -259,11 +263,12 @@ impl Progress {
             here.take_text(line)?;
             return Ok(None);
         };
-        if here.groups.is_live() {
+        let word = first_word(rest);
+        if here.groups.is_read(word) {
             return self.direct(alloc, here, line, rest);
         }
         here.begin_run();
-        here.groups.pass(first_word(rest), here.line)?;
+        here.groups.pass(word, here.line)?;
         Ok(None)
     }
 

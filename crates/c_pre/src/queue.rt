@@ -69,14 +69,11 @@ impl<T: Drop> Queue<T> {
         Ok(())
     }
 
-    /// Puts items in front of the others.
-    pub(crate) fn put_in_front(&mut self, items: Vec<T>) -> Result<(), NoMemory>
-        ensures { OnOk result (self.new ≡ items.items ++ self.old) }
+    /// Adds an item in front.
+    pub(crate) fn push_front(&mut self, item: T) -> Result<(), NoMemory>
+        ensures { OnOk result (self.new ≡ item ∷ self.old) }
     {
-        let mut items = items;
-        while let Some(item) = items.pop() {
-            self.list.push_front(item)?;
-        }
+        self.list.push_front(item)?;
         Ok(())
     }
 }

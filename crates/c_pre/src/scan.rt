@@ -11,8 +11,9 @@ use crate::calls::{Call, Split, fits, is_open, split_call};
 use crate::hidden::Hidden;
 use crate::macros::{Defined, Macro, Macros};
 use crate::marked::{Marked, fresh, macro_for};
+use crate::memo::Memo;
 use crate::parameters::Parameters;
-use crate::queue::Queue;
+use crate::rest::Rest;
 use crate::stack::Stack;
 use crate::substitute::replaced;
 use c_lexer::Token;
@@ -29,7 +30,7 @@ pub(crate) struct Scan {
     /// The tokens that are done, of the innermost call's argument or of the run.
     pub(crate) done: Items<Marked>,
     /// Those that are left of it.
-    pub(crate) rest: Queue<Marked>,
+    pub(crate) rest: Rest,
     /// The calls that wait, the innermost last.
     pub(crate) calls: Stack<Call>,
     /// The work so far.
@@ -57,7 +58,7 @@ impl Scan {
         match found {
             Some(tokens) => {
                 self.work += 1 + tokens.len() as u32;
-                self.rest.put_in_front(tokens.into_vec())?;
+                self.rest.put_in_front(alloc, tokens.into_vec())?;
                 Ok(true)
             }
             None => Err(Refusal::Bad {
@@ -79,6 +80,7 @@ impl Scan {
     fn begin(
         &mut self,
         alloc: Global,
+        memo: &mut Memo,
         token: Marked,
         number: u32,
         split: Split,
@@ -86,12 +88,12 @@ impl Scan {
         ensures { StepsTo (Goes (begun token (function_hides token number split) split self.old)) self.new result }
     {
         let both = token.hidden.intersection(alloc, &split.hidden)?;
-        let hidden = both.with(alloc, number)?;
+        let hidden = memo.with(alloc, &both, number)?;
         let Split { args, rest, .. } = split;
         let mut left = args;
         let first = match left.pop() {
             Some(arg) => arg,
-            None => Queue::new(alloc),
+            None => Rest::new(alloc),
         };
         let done = replace(&mut self.done, Items::new(alloc));
         let Marked { token, .. } = token;
@@ -112,6 +114,7 @@ impl Scan {
     fn at_call(
         &mut self,
         alloc: Global,
+        memo: &mut Memo,
         token: Marked,
         number: u32,
         parameters: &Parameters,
@@ -119,11 +122,11 @@ impl Scan {
         ensures { StepsTo (called token number parameters.now (split_from 0 [] [] (drop 1 self.old.rest)) self.old) self.new result }
     {
         let line = token.token.line;
-        let mut rest = replace(&mut self.rest, Queue::new(alloc));
-        let _ = rest.pop();
+        let mut rest = replace(&mut self.rest, Rest::new(alloc));
+        let _ = rest.pop(alloc)?;
         if let Some(split) = split_call(alloc, rest)? {
             if fits(parameters, &split.args) {
-                return self.begin(alloc, token, number, split);
+                return self.begin(alloc, memo, token, number, split);
             }
         }
         Err(Refusal::Bad {
@@ -133,17 +136,23 @@ impl Scan {
     }
 
     /// At a name of a macro: a function-like one is replaced only before a `(`.
-    fn at_macro(&mut self, alloc: Global, token: Marked, found: &Defined) -> Result<bool, Refusal>
+    fn at_macro(
+        &mut self,
+        alloc: Global,
+        memo: &mut Memo,
+        token: Marked,
+        found: &Defined,
+    ) -> Result<bool, Refusal>
         ensures { StepsTo (at_macro token found.now found.now.it.parameters self.old) self.new result }
     {
         match &found.it.parameters {
             None => {
-                let hidden = token.hidden.with(alloc, found.number)?;
+                let hidden = memo.with(alloc, &token.hidden, found.number)?;
                 self.put_in(alloc, token.token.line, &hidden, &[], &found.it)
             }
             Some(parameters) => {
                 if is_open(&self.rest) {
-                    self.at_call(alloc, token, found.number, parameters)
+                    self.at_call(alloc, memo, token, found.number, parameters)
                 } else {
                     self.keep(token)
                 }
@@ -188,12 +197,12 @@ impl Scan {
 
     /// Makes one step, and says whether there may be more.
     #[tactic(auto, unfolding(crate::specs::Steps::step))]
-    fn step(&mut self, alloc: Global, macros: &Macros) -> Result<bool, Refusal>
+    fn step(&mut self, alloc: Global, macros: &Macros, memo: &mut Memo) -> Result<bool, Refusal>
         ensures { StepsTo (step macros.now self.old) self.new result }
     {
-        match self.rest.pop() {
+        match self.rest.pop(alloc)? {
             Some(token) => match macro_for(macros, &token) {
-                Some(found) => self.at_macro(alloc, token, found),
+                Some(found) => self.at_macro(alloc, memo, token, found),
                 None => self.keep(token),
             },
             None => match self.calls.pop() {
@@ -227,7 +236,8 @@ pub(crate) fn expand(
         calls: Stack::new(alloc),
         work,
     };
-    'steps: while scan.step(alloc, macros)? {}
+    let mut memo = Memo::new(alloc);
+    'steps: while scan.step(alloc, macros, &mut memo)? {}
     let Scan { done, work, .. } = scan;
     Ok(Expanded { tokens: done, work })
 }

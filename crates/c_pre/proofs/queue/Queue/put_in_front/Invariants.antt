@@ -1,8 +1,0 @@
-use Rattle.std.proofs.Common.{◌≡◌, ◌++◌, vec_len}
-use Rattle.c_pre.proofs.queue.Queue.put_in_front.Given as goal
-
-abbrev pub invariant-loop-item : goal.invariant-loop-item
-invariant-loop-item g l = l.items.items ++ l.self-inside.list.items ≡ l.fn.items.items ++ l.fn.self
-
-abbrev pub decreases-loop-item : goal.decreases-loop-item
-decreases-loop-item g l = vec_len l.items
