@@ -1,8 +1,8 @@
 -- The execution of a core's code file is like the run of the core.
-use Rattle.std.proofs.Common.{◌≡◌, ◌≤◌, ℕ, Bool, List, Option, Some, length, refl, sym, ap, ◌∙◌}
+use Rattle.std.proofs.Common.{◌≡◌, ◌≤◌, ℕ, List, Some, length, sym, ap, ◌∙◌}
 use Rattle.hs_base.specs.declared.ends.End.{End}
 use Rattle.hs_base.specs.Cut.{cut, ending_of}
-use Rattle.hs_base.specs.Trace.{Ending, Event, bytes_in, bytes_out}
+use Rattle.hs_base.specs.Trace.{bytes_in, bytes_out}
 use Rattle.c_pre.specs.declared.answer.Opened.{Opened}
 use Rattle.core_tree.specs.declared.program.Core.{Core}
 use Rattle.meaning_run.specs.Meant.{end_in}

@@ -1,9 +1,7 @@
 -- What is answered for the bytes of a file that is executed.
-use Rattle.std.proofs.Common.{◌≡◌, ◌⊎◌, ◌≤◌, ◌<◌, ℕ, List, Some, None, cond, Err, true, false, inl, inr, refl, sym, subst, arith, get_or, length}
-use Rattle.std.specs.Prelude.{MatchBool, nat_lt}
-use Rattle.std.specs.List.{All}
+use Rattle.std.proofs.Common.{◌≡◌, ◌⊎◌, ◌≤◌, ◌<◌, ℕ, List, Some, None, cond, Err, inl, inr, refl, sym, subst, arith, get_or, length}
+use Rattle.std.specs.Prelude.{MatchBool}
 use Rattle.std.proofs.lemmas.Bool.{le-ltb, lt-ltb}
-use Rattle.flat_code.specs.declared.program.StaticInit.{StaticInit}
 use Rattle.flat_code.specs.WellFormed.{IsWellFormed}
 use Rattle.code_soundness.specs.Laws.{HoldsBytes}
 use Rattle.code_file.specs.declared.file.CodeFile.{CodeFile}

@@ -1,5 +1,5 @@
 -- What a failed write broke off, where there is one answer and where there are several.
-use Rattle.std.proofs.Common.{◌≡◌, ◌⊎◌, ◌+◌, ℕ, List, [], Option, Some, None, Err, inl, inr, refl, sym, ap, ◌∙◌, subst, ⊎_elim, arith}
+use Rattle.std.proofs.Common.{◌≡◌, ◌⊎◌, ℕ, List, Option, Some, None, Err, inl, inr, refl, sym, subst, ⊎_elim, arith}
 use Rattle.std.proofs.lemmas.Bool.{lt-ltb}
 use Rattle.std.specs.Prelude.{cond}
 use Rattle.c_pre.specs.Answering.{CountsFault, FailsBelow, Gives as Expects}

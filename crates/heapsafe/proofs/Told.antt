@@ -7,7 +7,7 @@ use Rattle.c_pre.specs.Texts.{preprocessed}
 use Rattle.c_pre.specs.declared.answer.Pre.{Pre}
 use Rattle.c_pre.specs.declared.answer.PreError.{PreError}
 use Rattle.c_pre.specs.declared.answer.PreError.TheVariants as pre
-use Rattle.command_words.specs.Commands.{Command, OnFile, Task}
+use Rattle.command_words.specs.Commands.{Command, Task}
 use Rattle.heapsafe.specs.Shown.{Shown, usage, no_memory, bad_place, untokened}
 use Rattle.heapsafe.specs.Program.{Input}
 use Rattle.heapsafe.specs.Answer.{AnswersTokens, AnswersText, AnswersRead, AnswersFile, AnswersCommand, alone}

@@ -70,27 +70,31 @@ fn run_verified<I: Source, O: Sink, E: Sink>(
     requires input { I.faults input.old + 1 < 2 ^ 64 }
     requires out { O.faults out.old + 1 < 2 ^ 64 }
     requires err { E.faults err.old + 1 < 2 ^ 64 }
-    ensures exact { (left : List ℕ) → I.left input.old ≡ Some left → O.faults out.new ≡ O.faults
-        out.old → E.faults err.new ≡ E.faults err.old → Gives (AnswersCode file.now code.now
-        (input_of left (I.faults input.old) (I.faults input.new)) asked) left (I.left input.new)
-        (O.taken out.old) (O.taken out.new) (E.taken err.old) (E.taken err.new) result }
-    ensures faults { (t : ℕ) → Faults t t (I.faults input.old) (I.faults input.new) (O.faults
-        out.old) (O.faults out.new) (E.faults err.old) (E.faults err.new) result }
-    ensures input_fault { I.faults input.old < I.faults input.new → Says (E.taken err.old) (E.taken
-        err.new) (E.faults err.old) (E.faults err.new) input_fault.err 132 result }
-    ensures output_fault { O.faults out.old < O.faults out.new → Says (E.taken err.old) (E.taken
-        err.new) (E.faults err.old) (E.faults err.new) output_fault.err 133 result }
+    ensures exact { (left : List ℕ) → I.left input.old ≡ Some left →
+        O.faults out.new ≡ O.faults out.old → E.faults err.new ≡ E.faults err.old →
+        Gives
+        (AnswersCode file.now code.now (input_of left (I.faults input.old) (I.faults input.new))
+        asked) left (I.left input.new) (O.taken out.old) (O.taken out.new) (E.taken err.old)
+        (E.taken err.new) result }
+    ensures faults { (t : ℕ) → Faults t t (I.faults input.old) (I.faults input.new)
+        (O.faults out.old) (O.faults out.new) (E.faults err.old) (E.faults err.new) result }
+    ensures input_fault { I.faults input.old < I.faults input.new →
+        Says (E.taken err.old) (E.taken err.new) (E.faults err.old) (E.faults err.new)
+        input_fault.err 132 result }
+    ensures output_fault { O.faults out.old < O.faults out.new →
+        Says (E.taken err.old) (E.taken err.new) (E.faults err.old) (E.faults err.new)
+        output_fault.err 133 result }
     ensures broken { (left : List ℕ) → I.left input.old ≡ Some left → WriteFails (O.faults out.old)
-        (O.faults out.new) (E.faults err.old) (E.faults err.new) → (a : Shown) → AnswersCode
-        file.now code.now (steady left) asked a → SaysMore a → Breaks None a left (I.left input.new)
-        (O.taken out.old) (O.taken out.new) (E.taken err.old) (E.taken err.new) (I.faults input.old)
-        (I.faults input.new) (O.faults out.old) (O.faults out.new) (E.faults err.old) (E.faults
-        err.new) }
+        (O.faults out.new) (E.faults err.old) (E.faults err.new) → (a : Shown) →
+        AnswersCode file.now code.now (steady left) asked a → SaysMore a →
+        Breaks None a left (I.left input.new) (O.taken out.old) (O.taken out.new) (E.taken err.old)
+        (E.taken err.new) (I.faults input.old) (I.faults input.new) (O.faults out.old)
+        (O.faults out.new) (E.faults err.old) (E.faults err.new) }
     ensures memory { Wants ((input.new ≡ input.old) × (out.new ≡ out.old)) ⊤ (E.taken err.old)
         (E.taken err.new) result }
-    ensures cause { HasCause ((I.faults input.old < I.faults input.new) ⊎ WriteFails (O.faults
-        out.old) (O.faults out.new) (E.faults err.old) (E.faults err.new)) ⊤ (E.taken err.old)
-        (E.taken err.new) result }
+    ensures cause { HasCause ((I.faults input.old < I.faults input.new) ⊎
+        WriteFails (O.faults out.old) (O.faults out.new) (E.faults err.old) (E.faults err.new)) ⊤
+        (E.taken err.old) (E.taken err.new) result }
     ensures refused { Refuses ((input.new ≡ input.old) × (out.new ≡ out.old)) ⊤ (E.taken err.old)
         (E.taken err.new) result }
 {
@@ -118,27 +122,31 @@ fn with_code<I: Source, O: Sink, E: Sink>(
     requires input { I.faults input.old + 1 < 2 ^ 64 }
     requires out { O.faults out.old + 1 < 2 ^ 64 }
     requires err { E.faults err.old + 1 < 2 ^ 64 }
-    ensures exact { (left : List ℕ) → I.left input.old ≡ Some left → O.faults out.new ≡ O.faults
-        out.old → E.faults err.new ≡ E.faults err.old → Gives (AnswersVerified file.now code.now
-        (input_of left (I.faults input.old) (I.faults input.new)) asked) left (I.left input.new)
-        (O.taken out.old) (O.taken out.new) (E.taken err.old) (E.taken err.new) result }
-    ensures faults { (t : ℕ) → Faults t t (I.faults input.old) (I.faults input.new) (O.faults
-        out.old) (O.faults out.new) (E.faults err.old) (E.faults err.new) result }
-    ensures input_fault { I.faults input.old < I.faults input.new → Says (E.taken err.old) (E.taken
-        err.new) (E.faults err.old) (E.faults err.new) input_fault.err 132 result }
-    ensures output_fault { O.faults out.old < O.faults out.new → Says (E.taken err.old) (E.taken
-        err.new) (E.faults err.old) (E.faults err.new) output_fault.err 133 result }
+    ensures exact { (left : List ℕ) → I.left input.old ≡ Some left →
+        O.faults out.new ≡ O.faults out.old → E.faults err.new ≡ E.faults err.old →
+        Gives
+        (AnswersVerified file.now code.now (input_of left (I.faults input.old) (I.faults input.new))
+        asked) left (I.left input.new) (O.taken out.old) (O.taken out.new) (E.taken err.old)
+        (E.taken err.new) result }
+    ensures faults { (t : ℕ) → Faults t t (I.faults input.old) (I.faults input.new)
+        (O.faults out.old) (O.faults out.new) (E.faults err.old) (E.faults err.new) result }
+    ensures input_fault { I.faults input.old < I.faults input.new →
+        Says (E.taken err.old) (E.taken err.new) (E.faults err.old) (E.faults err.new)
+        input_fault.err 132 result }
+    ensures output_fault { O.faults out.old < O.faults out.new →
+        Says (E.taken err.old) (E.taken err.new) (E.faults err.old) (E.faults err.new)
+        output_fault.err 133 result }
     ensures broken { (left : List ℕ) → I.left input.old ≡ Some left → WriteFails (O.faults out.old)
-        (O.faults out.new) (E.faults err.old) (E.faults err.new) → (a : Shown) → AnswersVerified
-        file.now code.now (steady left) asked a → SaysMore a → Breaks None a left (I.left input.new)
-        (O.taken out.old) (O.taken out.new) (E.taken err.old) (E.taken err.new) (I.faults input.old)
-        (I.faults input.new) (O.faults out.old) (O.faults out.new) (E.faults err.old) (E.faults
-        err.new) }
+        (O.faults out.new) (E.faults err.old) (E.faults err.new) → (a : Shown) →
+        AnswersVerified file.now code.now (steady left) asked a → SaysMore a →
+        Breaks None a left (I.left input.new) (O.taken out.old) (O.taken out.new) (E.taken err.old)
+        (E.taken err.new) (I.faults input.old) (I.faults input.new) (O.faults out.old)
+        (O.faults out.new) (E.faults err.old) (E.faults err.new) }
     ensures memory { Wants ((input.new ≡ input.old) × (out.new ≡ out.old)) ⊤ (E.taken err.old)
         (E.taken err.new) result }
-    ensures cause { HasCause ((I.faults input.old < I.faults input.new) ⊎ WriteFails (O.faults
-        out.old) (O.faults out.new) (E.faults err.old) (E.faults err.new)) ⊤ (E.taken err.old)
-        (E.taken err.new) result }
+    ensures cause { HasCause ((I.faults input.old < I.faults input.new) ⊎
+        WriteFails (O.faults out.old) (O.faults out.new) (E.faults err.old) (E.faults err.new)) ⊤
+        (E.taken err.old) (E.taken err.new) result }
     ensures refused { Refuses ((input.new ≡ input.old) × (out.new ≡ out.old)) ⊤ (E.taken err.old)
         (E.taken err.new) result }
 {
@@ -166,27 +174,30 @@ fn with_bytes<I: Source, O: Sink, E: Sink>(
     requires input { I.faults input.old + 1 < 2 ^ 64 }
     requires out { O.faults out.old + 1 < 2 ^ 64 }
     requires err { E.faults err.old + 1 < 2 ^ 64 }
-    ensures exact { (left : List ℕ) → I.left input.old ≡ Some left → O.faults out.new ≡ O.faults
-        out.old → E.faults err.new ≡ E.faults err.old → Gives (AnswersBytes file.now bytes (input_of
-        left (I.faults input.old) (I.faults input.new)) asked) left (I.left input.new) (O.taken
-        out.old) (O.taken out.new) (E.taken err.old) (E.taken err.new) result }
-    ensures faults { (t : ℕ) → Faults t t (I.faults input.old) (I.faults input.new) (O.faults
-        out.old) (O.faults out.new) (E.faults err.old) (E.faults err.new) result }
-    ensures input_fault { I.faults input.old < I.faults input.new → Says (E.taken err.old) (E.taken
-        err.new) (E.faults err.old) (E.faults err.new) input_fault.err 132 result }
-    ensures output_fault { O.faults out.old < O.faults out.new → Says (E.taken err.old) (E.taken
-        err.new) (E.faults err.old) (E.faults err.new) output_fault.err 133 result }
+    ensures exact { (left : List ℕ) → I.left input.old ≡ Some left →
+        O.faults out.new ≡ O.faults out.old → E.faults err.new ≡ E.faults err.old →
+        Gives (AnswersBytes file.now bytes (input_of left (I.faults input.old) (I.faults input.new))
+        asked) left (I.left input.new) (O.taken out.old) (O.taken out.new) (E.taken err.old)
+        (E.taken err.new) result }
+    ensures faults { (t : ℕ) → Faults t t (I.faults input.old) (I.faults input.new)
+        (O.faults out.old) (O.faults out.new) (E.faults err.old) (E.faults err.new) result }
+    ensures input_fault { I.faults input.old < I.faults input.new →
+        Says (E.taken err.old) (E.taken err.new) (E.faults err.old) (E.faults err.new)
+        input_fault.err 132 result }
+    ensures output_fault { O.faults out.old < O.faults out.new →
+        Says (E.taken err.old) (E.taken err.new) (E.faults err.old) (E.faults err.new)
+        output_fault.err 133 result }
     ensures broken { (left : List ℕ) → I.left input.old ≡ Some left → WriteFails (O.faults out.old)
-        (O.faults out.new) (E.faults err.old) (E.faults err.new) → (a : Shown) → AnswersBytes
-        file.now bytes (steady left) asked a → SaysMore a → Breaks None a left (I.left input.new)
-        (O.taken out.old) (O.taken out.new) (E.taken err.old) (E.taken err.new) (I.faults input.old)
-        (I.faults input.new) (O.faults out.old) (O.faults out.new) (E.faults err.old) (E.faults
-        err.new) }
+        (O.faults out.new) (E.faults err.old) (E.faults err.new) → (a : Shown) →
+        AnswersBytes file.now bytes (steady left) asked a → SaysMore a →
+        Breaks None a left (I.left input.new) (O.taken out.old) (O.taken out.new) (E.taken err.old)
+        (E.taken err.new) (I.faults input.old) (I.faults input.new) (O.faults out.old)
+        (O.faults out.new) (E.faults err.old) (E.faults err.new) }
     ensures memory { Wants ((input.new ≡ input.old) × (out.new ≡ out.old)) ⊤ (E.taken err.old)
         (E.taken err.new) result }
-    ensures cause { HasCause ((I.faults input.old < I.faults input.new) ⊎ WriteFails (O.faults
-        out.old) (O.faults out.new) (E.faults err.old) (E.faults err.new)) ⊤ (E.taken err.old)
-        (E.taken err.new) result }
+    ensures cause { HasCause ((I.faults input.old < I.faults input.new) ⊎
+        WriteFails (O.faults out.old) (O.faults out.new) (E.faults err.old) (E.faults err.new)) ⊤
+        (E.taken err.old) (E.taken err.new) result }
     ensures refused { Refuses ((input.new ≡ input.old) × (out.new ≡ out.old)) ⊤ (E.taken err.old)
         (E.taken err.new) result }
 {
@@ -213,34 +224,39 @@ pub(crate) fn execute_file<T: Texts, I: Source, O: Sink, E: Sink>(
     requires out { O.faults out.old + 1 < 2 ^ 64 }
     requires err { E.faults err.old + 1 < 2 ^ 64 }
     ensures exact { (told : List ℕ → List ℕ) (left : List ℕ) → T.texts texts.old ≡ Some told →
-        I.left input.old ≡ Some left → T.faults texts.new ≡ T.faults texts.old → O.faults out.new ≡
-        O.faults out.old → E.faults err.new ≡ E.faults err.old → Gives (AnswersExecution file.now
-        (told file.now) (input_of left (I.faults input.old) (I.faults input.new)) asked) left
-        (I.left input.new) (O.taken out.old) (O.taken out.new) (E.taken err.old) (E.taken err.new)
-        result }
-    ensures faults { Faults (T.faults texts.old) (T.faults texts.new) (I.faults input.old) (I.faults
-        input.new) (O.faults out.old) (O.faults out.new) (E.faults err.old) (E.faults err.new)
-        result }
-    ensures input_fault { I.faults input.old < I.faults input.new → Says (E.taken err.old) (E.taken
-        err.new) (E.faults err.old) (E.faults err.new) input_fault.err 132 result }
-    ensures output_fault { O.faults out.old < O.faults out.new → Says (E.taken err.old) (E.taken
-        err.new) (E.faults err.old) (E.faults err.new) output_fault.err 133 result }
+        I.left input.old ≡ Some left → T.faults texts.new ≡ T.faults texts.old →
+        O.faults out.new ≡ O.faults out.old → E.faults err.new ≡ E.faults err.old →
+        Gives (AnswersExecution file.now (told file.now)
+        (input_of left (I.faults input.old) (I.faults input.new)) asked) left (I.left input.new)
+        (O.taken out.old) (O.taken out.new) (E.taken err.old) (E.taken err.new) result }
+    ensures faults { Faults (T.faults texts.old) (T.faults texts.new) (I.faults input.old)
+        (I.faults input.new) (O.faults out.old) (O.faults out.new) (E.faults err.old)
+        (E.faults err.new) result }
+    ensures input_fault { I.faults input.old < I.faults input.new →
+        Says (E.taken err.old) (E.taken err.new) (E.faults err.old) (E.faults err.new)
+        input_fault.err 132 result }
+    ensures output_fault { O.faults out.old < O.faults out.new →
+        Says (E.taken err.old) (E.taken err.new) (E.faults err.old) (E.faults err.new)
+        output_fault.err 133 result }
     ensures text_fault { T.faults texts.old < T.faults texts.new → (input.new ≡ input.old) ×
-        (out.new ≡ out.old) × SaysUnread file.now (E.taken err.old) (E.taken err.new) (E.faults
-        err.old) (E.faults err.new) result }
+        (out.new ≡ out.old) × SaysUnread file.now (E.taken err.old) (E.taken err.new)
+        (E.faults err.old) (E.faults err.new) result }
     ensures broken { (told : List ℕ → List ℕ) (left : List ℕ) → T.texts texts.old ≡ Some told →
-        I.left input.old ≡ Some left → WriteFails (O.faults out.old) (O.faults out.new) (E.faults
-        err.old) (E.faults err.new) → (a : Shown) → AnswersExecution file.now (told file.now)
-        (steady left) asked a → SaysMore a → Breaks (unread_file (Some (Execute file.now
-        asked.limits.heap asked.limits.stack asked.steps asked.leaks)) (T.faults texts.old)
-        (T.faults texts.new)) a left (I.left input.new) (O.taken out.old) (O.taken out.new) (E.taken
-        err.old) (E.taken err.new) (I.faults input.old) (I.faults input.new) (O.faults out.old)
-        (O.faults out.new) (E.faults err.old) (E.faults err.new) }
+        I.left input.old ≡ Some left → WriteFails (O.faults out.old) (O.faults out.new)
+        (E.faults err.old) (E.faults err.new) → (a : Shown) →
+        AnswersExecution file.now (told file.now) (steady left) asked a → SaysMore a →
+        Breaks
+        (unread_file
+        (Some (Execute file.now asked.limits.heap asked.limits.stack asked.steps asked.leaks))
+        (T.faults texts.old) (T.faults texts.new)) a left (I.left input.new) (O.taken out.old)
+        (O.taken out.new) (E.taken err.old) (E.taken err.new) (I.faults input.old)
+        (I.faults input.new) (O.faults out.old) (O.faults out.new) (E.faults err.old)
+        (E.faults err.new) }
     ensures memory { Wants ((input.new ≡ input.old) × (out.new ≡ out.old)) ⊤ (E.taken err.old)
         (E.taken err.new) result }
-    ensures cause { HasCause ((T.faults texts.old < T.faults texts.new) ⊎ (I.faults input.old <
-        I.faults input.new) ⊎ WriteFails (O.faults out.old) (O.faults out.new) (E.faults err.old)
-        (E.faults err.new)) ⊤ (E.taken err.old) (E.taken err.new) result }
+    ensures cause { HasCause ((T.faults texts.old < T.faults texts.new) ⊎
+        (I.faults input.old < I.faults input.new) ⊎ WriteFails (O.faults out.old) (O.faults out.new)
+        (E.faults err.old) (E.faults err.new)) ⊤ (E.taken err.old) (E.taken err.new) result }
     ensures refused { Refuses ((input.new ≡ input.old) × (out.new ≡ out.old)) ⊤ (E.taken err.old)
         (E.taken err.new) result }
 {

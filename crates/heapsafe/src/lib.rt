@@ -78,11 +78,12 @@ fn with_tree<I: Source, O: Sink, E: Sink>(
         output_fault.err 133 result }
     ensures stays { RunsNone (task_shown task) → input.new ≡ input.old }
     ensures broken { (left : List ℕ) → I.left input.old ≡ Some left → WriteFails (O.faults out.old)
-        (O.faults out.new) (E.faults err.old) (E.faults err.new) → BreaksOff (HasOne (task_shown
-        task)) (Does file.now opened.now (unit_view unit.now) (steady left) (task_shown task)) None
-        left (I.left input.new) (O.taken out.old) (O.taken out.new) (E.taken err.old) (E.taken
-        err.new) (I.faults input.old) (I.faults input.new) (O.faults out.old) (O.faults out.new)
-        (E.faults err.old) (E.faults err.new) }
+        (O.faults out.new) (E.faults err.old) (E.faults err.new) →
+        BreaksOff (HasOne (task_shown task)) (Does file.now opened.now (unit_view unit.now)
+        (steady left) (task_shown task)) None left (I.left input.new) (O.taken out.old)
+        (O.taken out.new) (E.taken err.old) (E.taken err.new) (I.faults input.old)
+        (I.faults input.new) (O.faults out.old) (O.faults out.new) (E.faults err.old)
+        (E.faults err.new) }
     ensures memory { Wants (MeansNone (task_shown task) → (input.new ≡ input.old) ×
         (out.new ≡ out.old)) (RunsNone (task_shown task) → ⊥) (E.taken err.old) (E.taken err.new)
         result }
@@ -152,11 +153,12 @@ fn with_tokens<I: Source, O: Sink, E: Sink>(
         output_fault.err 133 result }
     ensures stays { RunsNone (task_shown task) → input.new ≡ input.old }
     ensures broken { (left : List ℕ) → I.left input.old ≡ Some left → WriteFails (O.faults out.old)
-        (O.faults out.new) (E.faults err.old) (E.faults err.new) → BreaksOff (HasOne (task_shown
-        task)) (AnswersTokens file.now opened.now tokens.now (steady left) (task_shown task)) None
-        left (I.left input.new) (O.taken out.old) (O.taken out.new) (E.taken err.old) (E.taken
-        err.new) (I.faults input.old) (I.faults input.new) (O.faults out.old) (O.faults out.new)
-        (E.faults err.old) (E.faults err.new) }
+        (O.faults out.new) (E.faults err.old) (E.faults err.new) →
+        BreaksOff (HasOne (task_shown task)) (AnswersTokens file.now opened.now tokens.now
+        (steady left) (task_shown task)) None left (I.left input.new) (O.taken out.old)
+        (O.taken out.new) (E.taken err.old) (E.taken err.new) (I.faults input.old)
+        (I.faults input.new) (O.faults out.old) (O.faults out.new) (E.faults err.old)
+        (E.faults err.new) }
     ensures memory { Wants (MeansNone (task_shown task) → (input.new ≡ input.old) ×
         (out.new ≡ out.old)) (RunsNone (task_shown task) → ⊥) (E.taken err.old) (E.taken err.new)
         result }
@@ -204,15 +206,16 @@ fn with_file<T: Texts, I: Source, O: Sink, E: Sink>(
         output_fault.err 133 result }
     ensures stays { RunsNone (task_shown task) → input.new ≡ input.old }
     ensures text_fault { T.faults texts.old < T.faults texts.new → (input.new ≡ input.old) ×
-        (out.new ≡ out.old) × SaysUnread file.now (E.taken err.old) (E.taken err.new) (E.faults
-        err.old) (E.faults err.new) result }
+        (out.new ≡ out.old) × SaysUnread file.now (E.taken err.old) (E.taken err.new)
+        (E.faults err.old) (E.faults err.new) result }
     ensures broken { (told : List ℕ → List ℕ) (left : List ℕ) → T.texts texts.old ≡ Some told →
-        I.left input.old ≡ Some left → WriteFails (O.faults out.old) (O.faults out.new) (E.faults
-        err.old) (E.faults err.new) → BreaksOff (HasOne (task_shown task)) (AnswersFile file.now
-        told (steady left) (task_shown task)) (unread_file (Some (OnFile file.now (task_shown
-        task))) (T.faults texts.old) (T.faults texts.new)) left (I.left input.new) (O.taken out.old)
-        (O.taken out.new) (E.taken err.old) (E.taken err.new) (I.faults input.old) (I.faults
-        input.new) (O.faults out.old) (O.faults out.new) (E.faults err.old) (E.faults err.new) }
+        I.left input.old ≡ Some left → WriteFails (O.faults out.old) (O.faults out.new)
+        (E.faults err.old) (E.faults err.new) → BreaksOff (HasOne (task_shown task))
+        (AnswersFile file.now told (steady left) (task_shown task))
+        (unread_file (Some (OnFile file.now (task_shown task))) (T.faults texts.old)
+        (T.faults texts.new)) left (I.left input.new) (O.taken out.old) (O.taken out.new)
+        (E.taken err.old) (E.taken err.new) (I.faults input.old) (I.faults input.new)
+        (O.faults out.old) (O.faults out.new) (E.faults err.old) (E.faults err.new) }
     ensures memory { Wants (MeansNone (task_shown task) → (input.new ≡ input.old) ×
         (out.new ≡ out.old)) (RunsNone (task_shown task) → ⊥) (E.taken err.old) (E.taken err.new)
         result }
@@ -298,17 +301,18 @@ pub fn heapsafe<T: Texts, I: Source, O: Sink, E: Sink>(
         (texts.new ≡ texts.old) × (input.new ≡ input.old) }
     ensures stays { AsksNone (command_of (map (λ w. w.now) words.now)) → input.new ≡ input.old }
     ensures text_fault { (file : List ℕ) → file_asked (command_of (map (λ w. w.now) words.now)) ≡
-        Some file → T.faults texts.old < T.faults texts.new → (input.new ≡ input.old) × (out.new ≡
-        out.old) × SaysUnread file (E.taken err.old) (E.taken err.new) (E.faults err.old) (E.faults
-        err.new) result }
+        Some file → T.faults texts.old < T.faults texts.new → (input.new ≡ input.old) ×
+        (out.new ≡ out.old) × SaysUnread file (E.taken err.old) (E.taken err.new) (E.faults err.old)
+        (E.faults err.new) result }
     ensures broken { (told : List ℕ → List ℕ) (left : List ℕ) → T.texts texts.old ≡ Some told →
-        I.left input.old ≡ Some left → WriteFails (O.faults out.old) (O.faults out.new) (E.faults
-        err.old) (E.faults err.new) → BreaksOff (AsksOne (command_of (map (λ w. w.now) words.now)))
-        (Answers (map (λ w. w.now) words.now) told (steady left)) (unread_file (command_of (map (λ
-        w. w.now) words.now)) (T.faults texts.old) (T.faults texts.new)) left (I.left input.new)
-        (O.taken out.old) (O.taken out.new) (E.taken err.old) (E.taken err.new) (I.faults input.old)
-        (I.faults input.new) (O.faults out.old) (O.faults out.new) (E.faults err.old) (E.faults
-        err.new) }
+        I.left input.old ≡ Some left → WriteFails (O.faults out.old) (O.faults out.new)
+        (E.faults err.old) (E.faults err.new) →
+        BreaksOff (AsksOne (command_of (map (λ w. w.now) words.now)))
+        (Answers (map (λ w. w.now) words.now) told (steady left))
+        (unread_file (command_of (map (λ w. w.now) words.now)) (T.faults texts.old)
+        (T.faults texts.new)) left (I.left input.new) (O.taken out.old) (O.taken out.new)
+        (E.taken err.old) (E.taken err.new) (I.faults input.old) (I.faults input.new)
+        (O.faults out.old) (O.faults out.new) (E.faults err.old) (E.faults err.new) }
     ensures memory { Wants (AsksNoMeaning (command_of (map (λ w. w.now) words.now)) →
         (input.new ≡ input.old) × (out.new ≡ out.old))
         (AsksNone (command_of (map (λ w. w.now) words.now)) → ⊥) (E.taken err.old) (E.taken err.new)

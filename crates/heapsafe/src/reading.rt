@@ -41,9 +41,9 @@ impl From<AllocError> for ReadError {
 /// Reads one piece more of a file, and says whether there was one.
 fn read_more<T: Texts>(texts: &mut T, name: &str, bytes: &mut Vec<u8>) -> Result<bool, ReadError>
     requires { T.faults texts.old + 1 < 2 ^ 64 }
-    ensures bytes { (told : List ℕ → List ℕ) → T.texts texts.old ≡ Some told → IsFront (told
-        name.now) bytes.old.items → IfOk result (λ more. ReadsMore (told name.now) bytes.new.items
-        more) }
+    ensures bytes { (told : List ℕ → List ℕ) → T.texts texts.old ≡ Some told →
+        IsFront (told name.now) bytes.old.items →
+        IfOk result (λ more. ReadsMore (told name.now) bytes.new.items more) }
     ensures done { IfOk result (λ more. more ≡ false → bytes.new.items ≡ bytes.old.items) }
     ensures short { IfErr result (λ e. e ≢ TooLong) }
     ensures longer { IfOk result (λ more. IsTrue more → vec_len bytes.old < vec_len bytes.new) }
@@ -63,8 +63,8 @@ pub(crate) fn read_file<T: Texts>(
     name: &str,
 ) -> Result<Items<u8>, ReadError>
     requires { T.faults texts.old + 1 < 2 ^ 64 }
-    ensures bytes { (told : List ℕ → List ℕ) → T.texts texts.old ≡ Some told → Reads (told name.now)
-        result }
+    ensures bytes { (told : List ℕ → List ℕ) → T.texts texts.old ≡ Some told →
+        Reads (told name.now) result }
     ensures keeps { T.texts texts.new ≡ T.texts texts.old }
     ensures cause { ReadCounts (T.faults texts.old) (T.faults texts.new) result }
 {

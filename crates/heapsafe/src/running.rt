@@ -137,14 +137,15 @@ fn run_lent<'a, I: Source, O: Sink, K: Lent>(
     requires same_loan { out.ghost_name ≡ K.name }
     requires taken { O.taken out.old ≡ K.taken }
     ensures same_reference { result.0.ghost_name ≡ out.entry.ghost_name }
-    ensures told { (left : List ℕ) → I.left input.old ≡ Some left → Puts (machine_runs.RunAnswers
-        code.now left steps (record { heap = machine.old.kept.memory.heap.len; stack =
-        machine.old.stack }) [] result.1 (I.left input.new)) (O.taken out.old) (O.taken
-        result.0.now) }
+    ensures told { (left : List ℕ) → I.left input.old ≡ Some left →
+        Puts (machine_runs.RunAnswers code.now left steps
+        (record { heap = machine.old.kept.memory.heap.len; stack = machine.old.stack }) [] result.1
+        (I.left input.new)) (O.taken out.old) (O.taken result.0.now) }
     ensures kept { KeepsSome machine.new.kept.memory }
-    ensures left { (left : List ℕ) → I.left input.old ≡ Some left → machine_lasts.LeavesImage
-        code.now left steps (record { heap = machine.old.kept.memory.heap.len; stack =
-        machine.old.stack }) result.1 machine.new.kept }
+    ensures left { (left : List ℕ) → I.left input.old ≡ Some left →
+        machine_lasts.LeavesImage code.now left steps
+        (record { heap = machine.old.kept.memory.heap.len; stack = machine.old.stack }) result.1
+        machine.new.kept }
     ensures faults { RunCounts result.1 (I.faults input.old) (I.faults input.new) (O.faults out.old)
         (O.faults result.0.now) }
 {
@@ -172,9 +173,9 @@ pub(crate) fn run_file<I: Source, O: Sink>(
     requires steps { steps ≤ 1000000000 }
     requires input { I.faults input.old + 1 < 2 ^ 64 }
     requires out { O.faults out.old + 1 < 2 ^ 64 }
-    ensures told { IfOk result (λ ran. (left : List ℕ) → I.left input.old ≡ Some left → Puts
-        (machine_runs.RunAnswers code.now left steps limits [] ran.0 (I.left input.new)) (O.taken
-        out.old) (O.taken out.new)) }
+    ensures told { IfOk result (λ ran. (left : List ℕ) → I.left input.old ≡ Some left →
+        Puts (machine_runs.RunAnswers code.now left steps limits [] ran.0 (I.left input.new))
+        (O.taken out.old) (O.taken out.new)) }
     ensures kept { IfOk result (λ ran. KeepsSome ran.1.kept.memory) }
     ensures left { IfOk result (λ ran. (left : List ℕ) → I.left input.old ≡ Some left →
         machine_lasts.LeavesImage code.now left steps limits ran.0 ran.1.kept) }

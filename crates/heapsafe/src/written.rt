@@ -225,13 +225,14 @@ fn write_compiled<O: Sink, E: Sink>(alloc: Global, core: &Core, out: &mut O, err
     requires sound { IsSound core.now }
     requires out { O.faults out.old + 1 < 2 ^ 64 }
     requires err { E.faults err.old + 1 < 2 ^ 64 }
-    ensures exact { (left : List ℕ) → O.faults out.new ≡ O.faults out.old → E.faults err.new ≡
-        E.faults err.old → Gives (AnswersCompiled [] (Ok core.now)) left (Some left) (O.taken
-        out.old) (O.taken out.new) (E.taken err.old) (E.taken err.new) result }
-    ensures faults { (t i : ℕ) → Faults t t i i (O.faults out.old) (O.faults out.new) (E.faults
-        err.old) (E.faults err.new) result }
-    ensures output_fault { O.faults out.old < O.faults out.new → Says (E.taken err.old) (E.taken
-        err.new) (E.faults err.old) (E.faults err.new) output_fault.err 133 result }
+    ensures exact { (left : List ℕ) → O.faults out.new ≡ O.faults out.old →
+        E.faults err.new ≡ E.faults err.old → Gives (AnswersCompiled [] (Ok core.now)) left
+        (Some left) (O.taken out.old) (O.taken out.new) (E.taken err.old) (E.taken err.new) result }
+    ensures faults { (t i : ℕ) → Faults t t i i (O.faults out.old) (O.faults out.new)
+        (E.faults err.old) (E.faults err.new) result }
+    ensures output_fault { O.faults out.old < O.faults out.new →
+        Says (E.taken err.old) (E.taken err.new) (E.faults err.old) (E.faults err.new)
+        output_fault.err 133 result }
     ensures broken { (left : List ℕ) (i : ℕ) → WriteFails (O.faults out.old) (O.faults out.new)
         (E.faults err.old) (E.faults err.new) → BreaksOne (AnswersCompiled [] (Ok core.now)) None
         left (Some left) (O.taken out.old) (O.taken out.new) (E.taken err.old) (E.taken err.new) i i
@@ -258,18 +259,20 @@ pub(crate) fn core_compiled<O: Sink, E: Sink>(
     requires text { IsOfTokens (unit_view unit.now) }
     requires out { O.faults out.old + 1 < 2 ^ 64 }
     requires err { E.faults err.old + 1 < 2 ^ 64 }
-    ensures exact { (left : List ℕ) → O.faults out.new ≡ O.faults out.old → E.faults err.new ≡
-        E.faults err.old → Gives (AnswersCompiled opened.now (core_in (unit_view unit.now))) left
-        (Some left) (O.taken out.old) (O.taken out.new) (E.taken err.old) (E.taken err.new) result }
-    ensures faults { (t i : ℕ) → Faults t t i i (O.faults out.old) (O.faults out.new) (E.faults
-        err.old) (E.faults err.new) result }
-    ensures output_fault { O.faults out.old < O.faults out.new → Says (E.taken err.old) (E.taken
-        err.new) (E.faults err.old) (E.faults err.new) output_fault.err 133 result }
+    ensures exact { (left : List ℕ) → O.faults out.new ≡ O.faults out.old →
+        E.faults err.new ≡ E.faults err.old →
+        Gives (AnswersCompiled opened.now (core_in (unit_view unit.now))) left (Some left)
+        (O.taken out.old) (O.taken out.new) (E.taken err.old) (E.taken err.new) result }
+    ensures faults { (t i : ℕ) → Faults t t i i (O.faults out.old) (O.faults out.new)
+        (E.faults err.old) (E.faults err.new) result }
+    ensures output_fault { O.faults out.old < O.faults out.new →
+        Says (E.taken err.old) (E.taken err.new) (E.faults err.old) (E.faults err.new)
+        output_fault.err 133 result }
     ensures broken { (left : List ℕ) (i : ℕ) → WriteFails (O.faults out.old) (O.faults out.new)
-        (E.faults err.old) (E.faults err.new) → BreaksOne (AnswersCompiled opened.now (core_in
-        (unit_view unit.now))) None left (Some left) (O.taken out.old) (O.taken out.new) (E.taken
-        err.old) (E.taken err.new) i i (O.faults out.old) (O.faults out.new) (E.faults err.old)
-        (E.faults err.new) }
+        (E.faults err.old) (E.faults err.new) →
+        BreaksOne (AnswersCompiled opened.now (core_in (unit_view unit.now))) None left (Some left)
+        (O.taken out.old) (O.taken out.new) (E.taken err.old) (E.taken err.new) i i
+        (O.faults out.old) (O.faults out.new) (E.faults err.old) (E.faults err.new) }
     ensures memory { Wants (out.new ≡ out.old) ⊥ (E.taken err.old) (E.taken err.new) result }
     ensures cause { HasCause (WriteFails (O.faults out.old) (O.faults out.new) (E.faults err.old)
         (E.faults err.new)) ⊥ (E.taken err.old) (E.taken err.new) result }

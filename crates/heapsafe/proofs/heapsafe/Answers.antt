@@ -1,5 +1,5 @@
 use Rattle.std.proofs.Common.{◌∙◌, ap, ℕ, List, Some, Ok, Err, inl, inr, refl, sym, subst, map, Bor, arith}
-use Rattle.command_words.specs.Commands.{Generated, command_of, task_shown, IsRead, Command as Asked}
+use Rattle.command_words.specs.Commands.{Generated, command_of, IsRead, Command as Asked}
 use Rattle.command_words.specs.declared.command.Command.{Command}
 use Rattle.command_words.specs.declared.error.WordsError.{WordsError}
 use Rattle.heapsafe.specs.Shown.{Shown, usage, no_memory}

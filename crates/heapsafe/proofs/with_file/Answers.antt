@@ -1,5 +1,5 @@
-use Rattle.std.proofs.Common.{ℕ, ◌≡◌, List, All, sym, subst, refl, inl, inr, ap, ◌∙◌}
-use Rattle.std.specs.Prelude.{Option, None, Some, length}
+use Rattle.std.proofs.Common.{ℕ, List, All, sym, subst, refl, inl, inr}
+use Rattle.std.specs.Prelude.{Option, None, Some}
 use Rattle.c_lexer.specs.declared.token.Token.{Token}
 use Rattle.c_lexer.specs.Tokens.{IsLexed}
 use Rattle.core_soundness.specs.Laws.{AreWithin}

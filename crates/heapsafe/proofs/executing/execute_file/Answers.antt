@@ -1,13 +1,11 @@
-use Rattle.std.proofs.Common.{◌≡◌, ◌<◌, ℕ, List, Some, None, inl, inr, refl, sym, subst, arith, length}
+use Rattle.std.proofs.Common.{ℕ, List, Some, inl, inr, refl, sym, subst}
 use Rattle.command_words.specs.Commands.{Execute}
 use Rattle.heapsafe.specs.Execution.{AnswersBytes, AnswersExecution}
 use Rattle.heapsafe.specs.Program.{input_of, steady}
-use Rattle.heapsafe.specs.Reading.{most_bytes}
-use Rattle.heapsafe.specs.Saying.{Gives, unread}
-use Rattle.heapsafe.specs.Shown.{Shown, no_memory}
+use Rattle.heapsafe.specs.Saying.{unread}
 use Rattle.heapsafe.proofs.Told.{faults_as, gives_more, gives_said, says_as}
-use Rattle.heapsafe.proofs.Broken.{broken_own, broken_read, broken_said}
-use Rattle.heapsafe.proofs.Bytes.{is_short, short_is, unread_is, unread_line, unread_off, unread_silent}
+use Rattle.heapsafe.proofs.Broken.{broken_read, broken_said}
+use Rattle.heapsafe.proofs.Bytes.{is_short, short_is, unread_is, unread_off, unread_silent}
 use Rattle.heapsafe.proofs.Statuses.{cause_more, caused, unread_cause, unread_wants, wanted}
 use Rattle.heapsafe.proofs.executing.execute_file.Goals as goal
 

@@ -1,7 +1,6 @@
 use Rattle.std.proofs.Common.{◌∙◌, List, [], None, Some, inl, inr, refl, ap, subst, sym}
 use Rattle.std.specs.Prelude.{nat_lt}
 use Rattle.hs_base.specs.declared.ends.End.{End}
-use Rattle.hs_base.specs.Object.{Object}
 use Rattle.code_meaning.specs.CodeState.{CodeState}
 use Rattle.code_meaning.specs.CodeMeaning.{meaning}
 use Rattle.c_pre.specs.declared.answer.Opened.{Opened}
@@ -10,7 +9,7 @@ use Rattle.flat_machine.specs.Running.{RunAnswers, cut_of}
 use Rattle.flat_objects.specs.Keeping.{Keeps}
 use Rattle.heapsafe.specs.Execution.{AnswersCode, code_within}
 use Rattle.heapsafe.specs.Program.{AnswersProgram, Ended, input_of}
-use Rattle.heapsafe.specs.Saying.{Gives, SaysLeaks}
+use Rattle.heapsafe.specs.Saying.{Gives}
 use Rattle.heapsafe.specs.Shown.{no_memory}
 use Rattle.heapsafe.proofs.Told.{gives_said, said_faults}
 use Rattle.heapsafe.proofs.Ended.{counts_said, input_said, output_said, program_faults}

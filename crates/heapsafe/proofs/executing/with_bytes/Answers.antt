@@ -1,4 +1,4 @@
-use Rattle.std.proofs.Common.{◌≡◌, ℕ, List, Err, ap, inl, inr, refl, sym, subst, arith}
+use Rattle.std.proofs.Common.{ℕ, List, Err, ap, inl, inr, refl, sym, subst, arith}
 use Rattle.code_file.specs.declared.file.CodeFile.{CodeFile}
 use Rattle.code_file.specs.CodeFile.{HasBytes, IsFileOf}
 use Rattle.heapsafe.specs.Execution.{AnswersBytes}

@@ -1,5 +1,5 @@
 -- What the machine answers within the limits with which it was loaded.
-use Rattle.std.proofs.Common.{List, [], ℕ, rules, subst}
+use Rattle.std.proofs.Common.{[], rules, subst}
 use Rattle.hs_base.specs.declared.ends.Limits.{Limits}
 use Rattle.flat_machine.specs.Lasting.{LeavesImage}
 use Rattle.flat_machine.specs.Running.{RunAnswers}

@@ -1,4 +1,4 @@
-use Rattle.std.proofs.Common.{◌≡◌, [], None, Some, refl, sym, subst, inr, inl}
+use Rattle.std.proofs.Common.{None, Some, refl, sym, subst, inr, inl}
 use Rattle.c_tree.specs.StatementView.{unit_view}
 use Rattle.c_decls.specs.Refusals.{Checked}
 use Rattle.c_elab.specs.Core.{core_in}

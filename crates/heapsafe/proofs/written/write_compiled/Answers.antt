@@ -1,7 +1,6 @@
-use Rattle.std.proofs.Common.{◌≡◌, ◌∙◌, [], None, Ok, inl, inr, refl, ap, sym, subst}
-use Rattle.core_tree.specs.declared.program.Core.{Core}
-use Rattle.heapsafe.specs.Execution.{AnswersCompiled, IsCompiledTo}
-use Rattle.heapsafe.specs.Shown.{Shown, no_memory, written}
+use Rattle.std.proofs.Common.{◌≡◌, ◌∙◌, [], Ok, inl, inr, refl, ap}
+use Rattle.heapsafe.specs.Execution.{AnswersCompiled}
+use Rattle.heapsafe.specs.Shown.{no_memory, written}
 use Rattle.heapsafe.proofs.Told.{gives_more, gives_said}
 use Rattle.heapsafe.proofs.Broken.{broken_own}
 use Rattle.heapsafe.proofs.Statuses.{caused, no_fault_134, wanted}
