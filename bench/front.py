@@ -145,6 +145,25 @@ def doubled(size):
     return f"#define TWICE_0 1,\n{text}int a[] = {{ TWICE_{levels} 0 }};\n"
 
 
+def doubled_apart(size):
+    """Macros that double one another, with others between."""
+    levels = size.bit_length() - 3
+    text = "".join(f"#define GAP_{number} 0\n#define TWICE_{number + 1} TWICE_{number} TWICE_{number}\n" for number in range(levels))
+    return f"#define TWICE_0 1,\n{text}int a[] = {{ TWICE_{levels} 0 }};\n"
+
+
+def nested_calls(size):
+    """Calls of a macro in one another."""
+    depth = (size - 50) // 3
+    return f"#define F(x) x\nint a[] = {{ {'F(' * depth}1{')' * depth} }};\n"
+
+
+def nested_replacements(size):
+    """Calls in one another in a replacement."""
+    depth = (size - 70) // 3
+    return f"#define F(x) x\n#define G {'F(' * depth}1{')' * depth}\nint a[] = {{ G }};\n"
+
+
 def long_arguments(size):
     """A macro of very many parameters."""
     names = [f"p{number}" for number in range(size // 20)]
@@ -197,6 +216,9 @@ MACROS = [
     replaced_in_turn,
     calls_in_turn,
     doubled,
+    doubled_apart,
+    nested_calls,
+    nested_replacements,
     long_arguments,
     used_often,
     called_often,

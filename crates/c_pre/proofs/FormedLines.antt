@@ -2,7 +2,7 @@
 use Rattle.std.proofs.Common.{◌≡◌, ℕ, ◌+◌, ◌-◌, ◌≤◌, Bool, true, false, cond, ◌||◌, not, bytes_eq, List, [], ◌∷◌, ◌++◌, map, length, ◌==◌, Option, Some, None, option_map, Result, Ok, Err, All, refl, sym, subst, arith, codes, length-append, length-drop, ◌&&◌}
 use Rattle.std.proofs.lemmas.List.{length-map}
 use Rattle.std.specs.Prelude.{is_some, IfSome}
-use Rattle.std.proofs.lemmas.List.Elements.{All-nil, All-cons, All-head, All-tail, All-append, All-push, All-map, All-weaker}
+use Rattle.std.proofs.lemmas.List.Elements.{All-nil, All-cons, All-head, All-tail, All-append, All-map, All-weaker}
 use Rattle.c_lexer.specs.Gaps.{include_end}
 use Rattle.c_lexer.specs.Tokens.{first_place, IsLexed}
 use Rattle.c_lexer.specs.Readers.{pieces_from}
@@ -21,7 +21,7 @@ use Rattle.c_lexer.specs.Bytes.{is_space}
 use Rattle.std.specs.List.{list_all, prefix_len}
 use Rattle.c_pre.specs.Groups.{is_live, is_read, first_line, turned, closed, skipped}
 use Rattle.c_pre.specs.Directives.{is_name, is_sign, is_among, is_path_byte, path_of, included_name, is_string_kind, names_from, signature_of, with_signature, function_behind, macro_behind, takes_arguments, define_of, include_of, only_name, named_by, alone, directive_by, directive_of}
-use Rattle.c_pre.specs.Macros.{found, with_entry, with_macro, same_macro, defined_by, defined, undefined}
+use Rattle.c_pre.specs.Macros.{found, with_entry, same_macro, defined_by, defined}
 use Rattle.c_pre.specs.Expansion.{expanded, fresh, most_work}
 use Rattle.c_pre.specs.Reading.{lexed, rest_lexed, moved, plain, with_expanded, with_run, run_ended, behind_line, at_header, Step, step, with_groups, with_macros, obeyed, of_form, of_tokens, directive_on, directed_from, directed, passed, line_by, line_read, balanced, text_ended}
 use Rattle.c_pre.specs.declared.groups.Group.{Group}

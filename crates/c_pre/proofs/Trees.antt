@@ -1,9 +1,8 @@
 -- What the sets of macros hold.
-use Rattle.std.proofs.Common.{◌≡◌, ◌∙◌, ℕ, zero, suc, ◌+◌, ◌-◌, ◌<◌, ◌≤◌, Bool, true, false, cond, not, ◌&&◌, ◌||◌, nat_lt, nat_eq, List, [], ◌∷◌, ◌++◌, map, Result, Ok, Err, refl, sym, ap, subst, arith}
+use Rattle.std.proofs.Common.{◌≡◌, ◌∙◌, ℕ, zero, suc, ◌+◌, ◌-◌, ◌<◌, ◌≤◌, Bool, true, false, cond, not, ◌&&◌, ◌||◌, nat_lt, nat_eq, List, [], ◌∷◌, map, Result, Ok, Err, refl, sym, ap, subst, arith}
 use Rattle.std.specs.FinSet as set
 use Rattle.std.specs.List.{list_any, filter, range_with_len}
 use Rattle.std.specs.Cmp.{unsigned_tied}
-use Rattle.std.specs.Ordering.{nat_cmp}
 use Rattle.std.specs.Prelude.{IfOk, IfSome, IsTrue, is_some, Option, Some, None}
 use Rattle.std.proofs.lemmas.Bool.{ltb-true, ltb-false, lt-ltb, le-ltb, eqb-true, eqb-false, eq-eqb, ne_eqb}
 use Rattle.std.proofs.lemmas.Cmp.{nat_cmp_total}

@@ -1,6 +1,6 @@
 //! The macros that are hidden from a token, by their numbers.
 
-ghost use Rattle.std.specs.Prelude.{◌≡◌, ℕ, ◌-◌, ◌&&◌, ◌||◌, not, nat_lt, if◌then◌else◌, false, IfOk, IfSome, IsTrue};
+ghost use Rattle.std.specs.Prelude.{◌≡◌, ℕ, ◌≤◌, ◌-◌, ◌&&◌, ◌||◌, not, nat_lt, if◌then◌else◌, false, IfOk, IfSome, IsTrue};
 ghost use Rattle.std.specs.Ordering.{nat_cmp};
 ghost use Rattle.std.specs.FinSet as set;
 ghost use Rattle.c_pre.specs.Trees.{has};
@@ -10,11 +10,11 @@ use std::alloc::Global;
 use std::marker::Model;
 use std::rc::Rc;
 
-/// The half of a whole set: a text of 2 to the 20 bytes has fewer than 2 to the 17 definitions, of ten bytes at least.
+/// The greatest half of a set: a text of 2 to the 20 bytes has fewer than 2 to the 17 definitions, of ten bytes at least.
 const HALF: u32 = 1 << 16;
 
 /// How many parts of two sets are looked at to find that they are the same.
-const MOST_LOOKS: u32 = 256;
+const MOST_LOOKS: u32 = 128;
 
 /// A set of numbers. Sets that are made of one another share their parts.
 #[cycle(tree)]
@@ -77,8 +77,37 @@ fn has(tree: &Tree, number: u32) -> bool
     }
 }
 
-/// The numbers of a set below a half, and the others, less the half. Where a set is in two parts, it is parted there: all
-/// sets are parted at the same numbers.
+/// Whether all numbers of a set are below one. The answer no says nothing.
+fn is_below(tree: &Tree, bound: u32) -> bool
+    ensures { (n : ℕ) → IsTrue result → bound ≤ n → has tree.now n ≡ false }
+{
+    match tree {
+        Tree::Empty => true,
+        Tree::Range(_, to) => *to <= bound,
+        Tree::Parts(halves) => halves.half <= bound && is_below(&halves.high, bound - halves.half),
+    }
+}
+
+/// A power of two to part the numbers below one at: none of them is its double or more, as there are few enough macros.
+fn half_below(to: u32) -> u32 {
+    let mut half = HALF;
+    while half > 1 && half >= to {
+        half /= 2;
+    }
+    half
+}
+
+/// Where a set can be parted: none of its numbers is the double of that or more.
+fn top_half(tree: &Tree) -> u32 {
+    match tree {
+        Tree::Empty => 1,
+        Tree::Range(_, to) => half_below(*to),
+        Tree::Parts(halves) => halves.half,
+    }
+}
+
+/// The numbers of a set below a half, and the others, less the half. Where a set is in two parts, it is parted there, or all its
+/// numbers are below: all sets are parted at powers of two.
 fn split(tree: &Tree, half: u32) -> Result<(Tree, Tree), NoMemory>
     ensures { IfOk result (λ parts. (n : ℕ) → has tree.now n ≡ (if nat_lt n half then has parts.0 n else has parts.1 (n - half))) }
 {
@@ -91,6 +120,8 @@ fn split(tree: &Tree, half: u32) -> Result<(Tree, Tree), NoMemory>
         Tree::Parts(halves) => {
             if halves.half == half {
                 Ok((shared(&halves.low)?, shared(&halves.high)?))
+            } else if is_below(tree, half) {
+                Ok((shared(tree)?, Tree::Empty))
             } else {
                 Err(NoMemory)
             }
@@ -262,7 +293,7 @@ fn union(alloc: Global, left: &Tree, right: &Tree) -> Result<Tree, NoMemory>
     } else if is_within(right, left) {
         shared(left)
     } else {
-        united(alloc, HALF, left, right)
+        united(alloc, top_half(left).max(top_half(right)), left, right)
     }
 }
 
@@ -275,7 +306,7 @@ fn intersection(alloc: Global, left: &Tree, right: &Tree) -> Result<Tree, NoMemo
     } else if is_within(right, left) {
         shared(right)
     } else {
-        common(alloc, HALF, left, right)
+        common(alloc, top_half(left).max(top_half(right)), left, right)
     }
 }
 

@@ -8,6 +8,9 @@ use hs_base::NoMemory;
 use indexmap::IndexMap;
 use std::alloc::Global;
 
+/// How often in turn a set may be another than the last before no more are kept.
+const MOST_MISSES: u32 = 64;
+
 /// A set and the same with one macro more.
 #[derive(Drop)]
 struct Made {
@@ -22,6 +25,8 @@ struct Made {
 #[derive(Drop)]
 pub(crate) struct Memo {
     made: IndexMap<u32, Made>,
+    /// How often in turn the set was another, or too great to be known again.
+    misses: u32,
 }
 
 impl Memo {
@@ -29,6 +34,7 @@ impl Memo {
     pub(crate) fn new(alloc: Global) -> Memo {
         Memo {
             made: IndexMap::new(alloc),
+            misses: 0,
         }
     }
 
@@ -41,10 +47,15 @@ impl Memo {
     ) -> Result<Hidden, NoMemory>
         ensures { IfOk result (λ more. more ≡ set.insert hidden.now number) }
     {
+        if self.misses >= MOST_MISSES {
+            return hidden.with(alloc, number);
+        }
         if let Some(made) = self.made.get(&number) {
             if made.number == number && made.base.is_same(hidden) {
+                self.misses = 0;
                 return made.more.share();
             }
+            self.misses += 1;
         }
         let more = hidden.with(alloc, number)?;
         if more.has_parts() {
