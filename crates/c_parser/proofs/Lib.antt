@@ -6,4 +6,6 @@ pub mod Functions
 pub mod Texts
 pub mod Loops
 pub mod Scoping
+mod Branches
+mod Operations
 mod Parsing

@@ -32,10 +32,6 @@ expression_step inner room zero state h = absurd (omega (arith, h))
 expression_step inner room (suc zero) state h = absurd (omega (arith, h))
 expression_step inner room (suc (suc n)) state h = let e : suc (suc n) - 2 ≡ n = omega arith in rw e refl
 
-pub binary_step : (inner : Place → Reader) (room n : ℕ) (state : State) → 0 < n → binary_at inner room n state ≡ binary_at inner room (n - 1) state >>= (λ x. binary_from inner room room (n - 1 + 2) (line_at state) x.0 x.1)
-binary_step inner room zero state h = absurd (omega (arith, h))
-binary_step inner room (suc n) state h = let e : suc n - 1 ≡ n = omega arith in rw e refl
-
 pub binary_from_step : (inner : Place → Reader) (room turns level line : ℕ) (left : Tree) (state : State) → 0 < turns → binary_from inner room turns level line left state ≡ binary_by inner room (binary_from inner room (turns - 1) level line) line left (at_level level (of_mark binary_op (kind_at state))) state
 binary_from_step inner room zero level line left state h = absurd (omega (arith, h))
 binary_from_step inner room (suc turns) level line left state h = let e : suc turns - 1 ≡ turns = omega arith in rw e refl

@@ -6,12 +6,14 @@ use Rattle.c_tree.specs.declared.word.Keyword.TheVariants as k
 use Rattle.c_tree.specs.declared.word.Sign.TheVariants as s
 use Rattle.c_tree.specs.Forms as f
 use Rattle.c_tree.specs.Places.{Place}
-use Rattle.c_tree.specs.Tree.{Trees, Leaf, Node, none, ◌▹◌}
+use Rattle.c_tree.specs.Places as p
+use Rattle.c_tree.specs.Tree.{Tree, Trees, Leaf, Node, none, ◌▹◌}
+use Rattle.c_tree.specs.Words as w
 use Rattle.grammar_reading.specs.declared.kind.Kind.{Kind}
 use Rattle.grammar_reading.specs.declared.kind.Kind.TheVariants as kinds
 use Rattle.grammar_reading.specs.declared.kind.SpecStart.{SpecStart}
 use Rattle.grammar_reading.specs.declared.kind.SpecStart.TheVariants as starts
-use Rattle.grammar_reading.specs.State.{State, kind_at, word_at, skip}
+use Rattle.grammar_reading.specs.State.{State, kind_at, word_at, past, skip}
 use Rattle.grammar_reading.specs.Reading.{◌>>=◌, Reader, fixed, snoc}
 use Rattle.grammar_reading.specs.Declarators.{is_void_list, function_suffix_at, keep_params, with_key, with_whole, record_at, enum_at}
 use Rattle.grammar_reading.specs.Statements.{if_at}
@@ -58,6 +60,11 @@ module _ (inner : Place → Reader) (room : ℕ) where
   one_word_at tally parts starts.Enum state =
       enum_at inner room state >>= (λ x. Some ((with_whole tally, snoc parts x.0), x.1))
   one_word_at tally parts starts.End state = None
+
+  -- the statement behind `else`, where there is one
+  abbrev pub else_part : Bool → State → Option (Option Tree × State)
+  else_part true state = past (w.Key k.Else) state >>= (λ next. inner p.Branch next >>= (λ x. Some (Some x.0, x.1)))
+  else_part false state = Some (None, state)
 
   -- a statement with parts of its own by its keyword, before it ends as a scope
   abbrev pub open_at : Keyword → Reader

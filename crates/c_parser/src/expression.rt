@@ -108,6 +108,7 @@ fn comma(alloc: Global, reader: &mut Reader, room: usize) -> Result<DeepExpr, Re
 }
 
 /// The expressions behind commas.
+#[inline(never)]
 #[cycle(grammar)]
 #[tactic(auto, using(crate::proofs::Steps::comma_from_step))]
 fn commas(
@@ -136,6 +137,7 @@ fn commas(
 }
 
 /// An expression behind a comma.
+#[inline(never)]
 #[cycle(grammar)]
 #[tactic(auto, using(crate::proofs::Steps::less_step, crate::proofs::Steps::guarded_step), unfolding(c_tree::specs::Grammar::shape))]
 fn grow_comma(
@@ -178,6 +180,7 @@ fn assignment(alloc: Global, reader: &mut Reader, room: usize) -> Result<DeepExp
 }
 
 /// What is assigned.
+#[inline(never)]
 #[cycle(grammar)]
 #[tactic(auto, using(crate::proofs::Steps::less_step, crate::proofs::Steps::guarded_step), unfolding(c_tree::specs::Grammar::shape))]
 fn grow_assignment(
@@ -218,6 +221,7 @@ fn condition(alloc: Global, reader: &mut Reader, room: usize) -> Result<DeepExpr
 }
 
 /// The two values of a condition.
+#[inline(never)]
 #[cycle(grammar)]
 #[tactic(auto, using(crate::proofs::Steps::less_step, crate::proofs::Steps::guarded_step), unfolding(c_tree::specs::Grammar::shape))]
 fn grow_condition(
@@ -242,9 +246,9 @@ fn grow_condition(
     Ok(DeepExpr::cond(alloc, line, left, yes, no)?)
 }
 
-/// Operators between two operands, so many levels looser than a cast.
+/// Operators between two operands, so many levels looser than a cast. A loop over the levels keeps the native stack small.
 #[cycle(grammar)]
-#[tactic(auto, using(crate::proofs::Steps::binary_step))]
+#[tactic(auto, using(crate::proofs::Operations::binary_next))]
 fn operation(
     alloc: Global,
     reader: &mut Reader,
@@ -257,12 +261,12 @@ fn operation(
     ensures value { Reads (λ x. expr_view x.tree) result reader.new (spec.binary_at (less room) room looser reader.old) }
     ensures deep { IfOk result (λ x. x.depth ≤ room) }
 {
-    if looser == 0 {
-        return cast(alloc, reader, room);
-    }
     let line = reader.line();
-    let left = operation(alloc, reader, room, looser - 1)?;
-    operators(alloc, reader, room, looser - 1 + 2, line, left)
+    let mut whole = cast(alloc, reader, room)?;
+    'levels: for level in 0..looser {
+        whole = operators(alloc, reader, room, level + 2, line, whole)?;
+    }
+    Ok(whole)
 }
 
 /// The operators of one level, from left to right.
@@ -295,6 +299,7 @@ fn operators(
 }
 
 /// An operator and its right operand.
+#[inline(never)]
 #[cycle(grammar)]
 #[tactic(auto, using(crate::proofs::Steps::less_step, crate::proofs::Steps::guarded_step), unfolding(c_tree::specs::Grammar::shape))]
 fn grow_operation(

@@ -7,6 +7,9 @@
 //!
 //! The readers of expressions, declarators and specs call one another, and so do those of statements: each such cycle has one
 //! proof. What a reader asks of a token, a name, an operator or a depth is answered outside of them, in `parser_parts`.
+//!
+//! A function that is marked `inline(never)` stands apart, so that those that call it keep little of the native stack while
+//! they call themselves through others: a text at the greatest depth has to be read with 4 MiB of it.
 #![tactic(auto)]
 
 mod declarator;

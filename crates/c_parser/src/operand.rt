@@ -38,6 +38,7 @@ pub fn cast(alloc: Global, reader: &mut Reader, room: usize) -> Result<DeepExpr,
 }
 
 /// A type's name in parentheses, and what is cast.
+#[inline(never)]
 #[cycle(grammar)]
 #[tactic(auto, using(crate::proofs::Steps::less_step, crate::proofs::Steps::guarded_step), unfolding(c_tree::specs::Grammar::shape))]
 fn cast_typename(alloc: Global, reader: &mut Reader, room: usize) -> Result<DeepExpr, ReadError>
@@ -92,6 +93,7 @@ fn prefixed(
 }
 
 /// `++` and its operand.
+#[inline(never)]
 #[cycle(grammar)]
 #[tactic(auto, using(crate::proofs::Steps::less_step, crate::proofs::Steps::guarded_step), unfolding(c_tree::specs::Grammar::shape))]
 fn increment(alloc: Global, reader: &mut Reader, room: usize) -> Result<DeepExpr, ReadError>
@@ -107,6 +109,7 @@ fn increment(alloc: Global, reader: &mut Reader, room: usize) -> Result<DeepExpr
 }
 
 /// `--` and its operand.
+#[inline(never)]
 #[cycle(grammar)]
 #[tactic(auto, using(crate::proofs::Steps::less_step, crate::proofs::Steps::guarded_step), unfolding(c_tree::specs::Grammar::shape))]
 fn decrement(alloc: Global, reader: &mut Reader, room: usize) -> Result<DeepExpr, ReadError>
@@ -122,6 +125,7 @@ fn decrement(alloc: Global, reader: &mut Reader, room: usize) -> Result<DeepExpr
 }
 
 /// An operator and its operand.
+#[inline(never)]
 #[cycle(grammar)]
 #[tactic(auto, using(crate::proofs::Steps::less_step, crate::proofs::Steps::guarded_step), unfolding(c_tree::specs::Grammar::shape))]
 fn operator(
@@ -156,6 +160,7 @@ fn size(alloc: Global, reader: &mut Reader, room: usize) -> Result<DeepExpr, Rea
 }
 
 /// `sizeof` and a type's name in parentheses.
+#[inline(never)]
 #[cycle(grammar)]
 #[tactic(auto, using(crate::proofs::Steps::less_step, crate::proofs::Steps::guarded_step), unfolding(c_tree::specs::Grammar::shape))]
 fn size_of_type(alloc: Global, reader: &mut Reader, room: usize) -> Result<DeepExpr, ReadError>
@@ -173,6 +178,7 @@ fn size_of_type(alloc: Global, reader: &mut Reader, room: usize) -> Result<DeepE
 }
 
 /// `sizeof` and its operand.
+#[inline(never)]
 #[cycle(grammar)]
 #[tactic(auto, using(crate::proofs::Steps::less_step, crate::proofs::Steps::guarded_step), unfolding(c_tree::specs::Grammar::shape))]
 fn size_of_value(alloc: Global, reader: &mut Reader, room: usize) -> Result<DeepExpr, ReadError>
@@ -206,6 +212,7 @@ pub fn primary(alloc: Global, reader: &mut Reader, room: usize) -> Result<DeepEx
 }
 
 /// An expression in parentheses.
+#[inline(never)]
 #[cycle(grammar)]
 #[tactic(auto, using(crate::proofs::Steps::less_step, crate::proofs::Steps::guarded_step), unfolding(c_tree::specs::Grammar::shape))]
 fn parens(alloc: Global, reader: &mut Reader, room: usize) -> Result<DeepExpr, ReadError>
@@ -222,6 +229,7 @@ fn parens(alloc: Global, reader: &mut Reader, room: usize) -> Result<DeepExpr, R
 }
 
 /// A name that is no type.
+#[inline(never)]
 #[tactic(auto, using(parser_parts::proofs::TokenWords::name_words), unfolding(c_tree::specs::Grammar::shape))]
 fn name(alloc: Global, reader: &mut Reader, room: usize) -> Result<DeepExpr, ReadError>
     requires room { room < 401 }
@@ -240,6 +248,7 @@ fn name(alloc: Global, reader: &mut Reader, room: usize) -> Result<DeepExpr, Rea
 }
 
 /// An integer constant.
+#[inline(never)]
 #[tactic(auto, using(parser_parts::proofs::TokenWords::int_words), unfolding(c_tree::specs::Grammar::shape))]
 fn int(alloc: Global, reader: &mut Reader, room: usize) -> Result<DeepExpr, ReadError>
     requires room { room < 401 }
@@ -255,6 +264,7 @@ fn int(alloc: Global, reader: &mut Reader, room: usize) -> Result<DeepExpr, Read
 }
 
 /// A character constant.
+#[inline(never)]
 #[tactic(auto, using(parser_parts::proofs::TokenWords::char_words), unfolding(c_tree::specs::Grammar::shape))]
 fn character(alloc: Global, reader: &mut Reader, room: usize) -> Result<DeepExpr, ReadError>
     requires room { room < 401 }
@@ -270,6 +280,7 @@ fn character(alloc: Global, reader: &mut Reader, room: usize) -> Result<DeepExpr
 }
 
 /// String literals.
+#[inline(never)]
 #[tactic(auto, unfolding(c_tree::specs::Grammar::shape))]
 fn literals(alloc: Global, reader: &mut Reader, room: usize) -> Result<DeepExpr, ReadError>
     requires room { room < 401 }

@@ -20,6 +20,7 @@ use parser_parts::{ReadError, Reader};
 use std::alloc::Global;
 
 /// `;`
+#[inline(never)]
 #[tactic(auto, unfolding(c_tree::specs::Grammar::shape))]
 pub fn empty(reader: &mut Reader, room: usize) -> Result<Stmt, ReadError>
     requires room { room < 401 }
@@ -32,6 +33,7 @@ pub fn empty(reader: &mut Reader, room: usize) -> Result<Stmt, ReadError>
 }
 
 /// `value;`
+#[inline(never)]
 #[tactic(auto, using(crate::proofs::Steps::less_step), unfolding(c_tree::specs::Grammar::shape))]
 pub fn evaluation(alloc: Global, reader: &mut Reader, room: usize) -> Result<Stmt, ReadError>
     requires room { room < 401 }
@@ -45,6 +47,7 @@ pub fn evaluation(alloc: Global, reader: &mut Reader, room: usize) -> Result<Stm
 }
 
 /// `break;`
+#[inline(never)]
 #[tactic(auto, unfolding(c_tree::specs::Grammar::shape))]
 pub fn break_out(reader: &mut Reader, room: usize) -> Result<Stmt, ReadError>
     requires room { room < 401 }
@@ -58,6 +61,7 @@ pub fn break_out(reader: &mut Reader, room: usize) -> Result<Stmt, ReadError>
 }
 
 /// `continue;`
+#[inline(never)]
 #[tactic(auto, unfolding(c_tree::specs::Grammar::shape))]
 pub fn continue_on(reader: &mut Reader, room: usize) -> Result<Stmt, ReadError>
     requires room { room < 401 }
@@ -71,6 +75,7 @@ pub fn continue_on(reader: &mut Reader, room: usize) -> Result<Stmt, ReadError>
 }
 
 /// `return;` or `return value;`
+#[inline(never)]
 #[tactic(auto, using(crate::proofs::Steps::less_step), unfolding(c_tree::specs::Grammar::shape))]
 pub fn return_with(alloc: Global, reader: &mut Reader, room: usize) -> Result<Stmt, ReadError>
     requires room { room < 401 }
@@ -85,6 +90,7 @@ pub fn return_with(alloc: Global, reader: &mut Reader, room: usize) -> Result<St
 }
 
 /// A declaration in a block.
+#[inline(never)]
 #[tactic(auto, using(crate::proofs::Steps::less_step), unfolding(c_tree::specs::Grammar::shape))]
 pub fn local(alloc: Global, reader: &mut Reader, room: usize) -> Result<Stmt, ReadError>
     requires room { room < 401 }
@@ -125,6 +131,7 @@ pub fn maybe_expr(
 }
 
 /// What stands before the first `;` of a `for`, and that `;`.
+#[inline(never)]
 pub fn for_start(alloc: Global, reader: &mut Reader, room: usize) -> Result<ForStart, ReadError>
     requires room { room < 401 }
     ensures { Reads start_view result reader.new (read room ForStartPlace reader.old) }

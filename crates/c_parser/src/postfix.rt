@@ -89,6 +89,7 @@ fn grow_postfix(
 }
 
 /// An index.
+#[inline(never)]
 #[cycle(grammar)]
 #[tactic(auto, using(crate::proofs::Steps::less_step, crate::proofs::Steps::guarded_step), unfolding(c_tree::specs::Grammar::shape))]
 fn index(
@@ -113,6 +114,7 @@ fn index(
 }
 
 /// The arguments of a call.
+#[inline(never)]
 #[cycle(grammar)]
 #[tactic(auto, using(crate::proofs::Steps::less_step, crate::proofs::Steps::guarded_step), unfolding(c_tree::specs::Grammar::shape))]
 fn call(
@@ -137,6 +139,7 @@ fn call(
 }
 
 /// A member.
+#[inline(never)]
 #[tactic(auto, using(crate::proofs::Steps::less_step, crate::proofs::Steps::guarded_step), unfolding(c_tree::specs::Grammar::shape))]
 fn dot(
     alloc: Global,
@@ -159,6 +162,7 @@ fn dot(
 }
 
 /// A member.
+#[inline(never)]
 #[tactic(auto, using(crate::proofs::Steps::less_step, crate::proofs::Steps::guarded_step), unfolding(c_tree::specs::Grammar::shape))]
 fn arrow(
     alloc: Global,
@@ -181,6 +185,7 @@ fn arrow(
 }
 
 /// `++` or `--`.
+#[inline(never)]
 #[tactic(auto, using(crate::proofs::Steps::less_step, crate::proofs::Steps::guarded_step), unfolding(c_tree::specs::Grammar::shape))]
 fn increment_behind(
     alloc: Global,
@@ -202,6 +207,7 @@ fn increment_behind(
 }
 
 /// `++` or `--`.
+#[inline(never)]
 #[tactic(auto, using(crate::proofs::Steps::less_step, crate::proofs::Steps::guarded_step), unfolding(c_tree::specs::Grammar::shape))]
 fn decrement_behind(
     alloc: Global,
@@ -236,6 +242,7 @@ fn arguments(alloc: Global, reader: &mut Reader, room: usize) -> Result<DeepExpr
 }
 
 /// The arguments of a call, at least one.
+#[inline(never)]
 #[cycle(grammar)]
 #[tactic(auto, using(crate::proofs::Steps::commas_step))]
 fn some_arguments(alloc: Global, reader: &mut Reader, room: usize) -> Result<DeepExprs, ReadError>

@@ -2,7 +2,7 @@
 //!
 //! Each function gives what the definition of its form in `specs/Statements.antt` reads; `room` is how deep the tree may be.
 
-ghost use Rattle.std.specs.Prelude.{◌≡◌, ◌<◌, zero, [], ◌∷◌, drop, IfOk};
+ghost use Rattle.std.specs.Prelude.{◌≡◌, ◌<◌, zero, [], ◌∷◌, drop, IfOk, option_map};
 ghost use Rattle.c_tree.specs.Forms as form;
 ghost use Rattle.c_tree.specs.Places.{Statement, Branch, Items as ItemsPlace};
 ghost use Rattle.c_tree.specs.Grammar.{Part, mark, shape};
@@ -16,7 +16,7 @@ ghost use Rattle.grammar_reading.specs.Reading.{fixed, parts_of, scoped, snoc};
 ghost use Rattle.grammar_reading.specs.Rooms.{less, read};
 ghost use Rattle.grammar_reading.specs.Statements as spec;
 ghost use Rattle.c_parser.specs.Ends.{Ends};
-ghost use Rattle.c_parser.specs.Pieces.{open_at};
+ghost use Rattle.c_parser.specs.Pieces.{else_part, open_at};
 
 use crate::expression::expression;
 use crate::levels::{COMMA, CONDITION};
@@ -87,6 +87,7 @@ fn by_keyword(
 }
 
 /// A statement with parts of its own, which is a scope.
+#[inline(never)]
 #[cycle(statements)]
 fn compound(
     alloc: Global,
@@ -138,6 +139,7 @@ fn branch(alloc: Global, reader: &mut Reader, room: usize) -> Result<Stmt, ReadE
 }
 
 /// Ends the scope of what was read in it. For any type, since dropping a statement is long to prove.
+#[inline(never)]
 fn ended<T: Drop>(
     reader: &mut Reader,
     outer: Outer,
@@ -163,6 +165,7 @@ fn block(alloc: Global, reader: &mut Reader, room: usize) -> Result<Stmt, ReadEr
 }
 
 /// The same, whose names still hold.
+#[inline(never)]
 #[cycle(statements)]
 #[tactic(auto, using(crate::proofs::Steps::less_step), unfolding(c_tree::specs::Grammar::shape))]
 fn open_block(alloc: Global, reader: &mut Reader, room: usize) -> Result<Stmt, ReadError>
@@ -178,6 +181,7 @@ fn open_block(alloc: Global, reader: &mut Reader, room: usize) -> Result<Stmt, R
 }
 
 /// `__delay_frees { items }`
+#[inline(never)]
 #[cycle(statements)]
 #[tactic(auto, using(crate::proofs::Steps::less_step), unfolding(c_tree::specs::Grammar::shape))]
 fn delay(alloc: Global, reader: &mut Reader, room: usize) -> Result<Stmt, ReadError>
@@ -194,6 +198,7 @@ fn delay(alloc: Global, reader: &mut Reader, room: usize) -> Result<Stmt, ReadEr
 }
 
 /// `if (test) body`, and the statement behind `else`.
+#[inline(never)]
 #[cycle(statements)]
 #[tactic(auto, using(crate::proofs::Steps::less_step), unfolding(c_tree::specs::Grammar::shape))]
 fn branching(alloc: Global, reader: &mut Reader, room: usize) -> Result<Stmt, ReadError>
@@ -211,8 +216,9 @@ fn branching(alloc: Global, reader: &mut Reader, room: usize) -> Result<Stmt, Re
 }
 
 /// The rest of an `if`, with its `else` where it has one.
+#[inline(never)]
 #[cycle(statements)]
-#[tactic(auto, using(crate::proofs::Steps::less_step))]
+#[tactic(auto, using(crate::proofs::Branches::else_is, crate::proofs::Branches::else_fails))]
 fn otherwise(
     alloc: Global,
     reader: &mut Reader,
@@ -225,16 +231,29 @@ fn otherwise(
     requires some { 0 < room }
     ensures { Reads stmt_view result reader.new (spec.else_by (less room) room (At line ▹ expr_view test ▹ stmt_view body ▹ none) (at_key k.Else reader.old) reader.old) }
 {
-    if !reader.take_else() {
-        let stmt = Stmt::branch(alloc, line, test, body, None)?;
-        return Ok(stmt);
-    }
-    let other = branch(alloc, reader, room - 1)?;
-    let stmt = Stmt::branch(alloc, line, test, body, Some(other))?;
+    let other = else_branch(alloc, reader, room)?;
+    let stmt = Stmt::branch(alloc, line, test, body, other)?;
     Ok(stmt)
 }
 
+/// The statement behind `else`, where there is one.
+#[inline(never)]
+#[cycle(statements)]
+#[tactic(auto, using(crate::proofs::Steps::less_step))]
+fn else_branch(alloc: Global, reader: &mut Reader, room: usize) -> Result<Option<Stmt>, ReadError>
+    requires room { room < 401 }
+    requires some { 0 < room }
+    ensures { Reads (option_map stmt_view) result reader.new (else_part (less room) room (at_key k.Else reader.old) reader.old) }
+{
+    if !reader.take_else() {
+        return Ok(None);
+    }
+    let other = branch(alloc, reader, room - 1)?;
+    Ok(Some(other))
+}
+
 /// `while (test) body`
+#[inline(never)]
 #[cycle(statements)]
 #[tactic(auto, using(crate::proofs::Steps::less_step), unfolding(c_tree::specs::Grammar::shape))]
 fn while_loop(alloc: Global, reader: &mut Reader, room: usize) -> Result<Stmt, ReadError>
@@ -252,6 +271,7 @@ fn while_loop(alloc: Global, reader: &mut Reader, room: usize) -> Result<Stmt, R
 }
 
 /// `do body while (test);`
+#[inline(never)]
 #[cycle(statements)]
 #[tactic(auto, using(crate::proofs::Steps::less_step), unfolding(c_tree::specs::Grammar::shape))]
 fn do_loop(alloc: Global, reader: &mut Reader, room: usize) -> Result<Stmt, ReadError>
@@ -272,6 +292,7 @@ fn do_loop(alloc: Global, reader: &mut Reader, room: usize) -> Result<Stmt, Read
 }
 
 /// `for (start test; step) body`
+#[inline(never)]
 #[cycle(statements)]
 #[tactic(auto, using(crate::proofs::Steps::less_step), unfolding(c_tree::specs::Grammar::shape))]
 fn for_loop(alloc: Global, reader: &mut Reader, room: usize) -> Result<Stmt, ReadError>
@@ -310,6 +331,7 @@ fn for_rest(alloc: Global, reader: &mut Reader, room: usize) -> Result<ForRest, 
 }
 
 /// `; step) body`
+#[inline(never)]
 #[cycle(statements)]
 #[tactic(auto, using(crate::proofs::Steps::less_step), unfolding(c_tree::specs::Grammar::shape))]
 fn for_step(
@@ -341,6 +363,7 @@ fn enclosed_body(alloc: Global, reader: &mut Reader, room: usize) -> Result<Stmt
 }
 
 /// `switch (value) body`
+#[inline(never)]
 #[cycle(statements)]
 #[tactic(auto, using(crate::proofs::Steps::less_step), unfolding(c_tree::specs::Grammar::shape))]
 fn switch(alloc: Global, reader: &mut Reader, room: usize) -> Result<Stmt, ReadError>
@@ -358,6 +381,7 @@ fn switch(alloc: Global, reader: &mut Reader, room: usize) -> Result<Stmt, ReadE
 }
 
 /// `case value: body`
+#[inline(never)]
 #[cycle(statements)]
 #[tactic(auto, using(crate::proofs::Steps::less_step), unfolding(c_tree::specs::Grammar::shape))]
 fn case(alloc: Global, reader: &mut Reader, room: usize) -> Result<Stmt, ReadError>
@@ -375,6 +399,7 @@ fn case(alloc: Global, reader: &mut Reader, room: usize) -> Result<Stmt, ReadErr
 }
 
 /// `default: body`
+#[inline(never)]
 #[cycle(statements)]
 #[tactic(auto, using(crate::proofs::Steps::less_step), unfolding(c_tree::specs::Grammar::shape))]
 fn default_case(alloc: Global, reader: &mut Reader, room: usize) -> Result<Stmt, ReadError>

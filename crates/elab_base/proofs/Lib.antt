@@ -4,3 +4,4 @@ pub mod Signatures
 pub mod CodeSizes
 pub mod DefinedCalls
 pub mod Fitting
+mod Puts

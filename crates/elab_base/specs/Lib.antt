@@ -5,3 +5,4 @@ pub mod PlainFound
 pub mod MaybeNames
 pub mod Idle
 pub mod Calls
+pub mod Sets

@@ -78,7 +78,7 @@ impl Elaborator {
             walked: Vec::new(alloc),
             total: 0,
             params: Scope::new(alloc),
-            running: Running::new(alloc, 0, Vec::new(alloc)),
+            running: Running::new(alloc, 0, Vec::new(alloc))?,
             code: Code::new(alloc),
         })
     }

@@ -82,11 +82,12 @@ fn first_undefined(functions: &[Declared], calls: &[(u32, Line)]) -> Option<Line
 impl Elaborator {
     /// An external declaration begins: no function runs, there is no code, and these of its parameters and locals are
     /// taken the address of.
-    pub fn begin_external(&mut self, line: Line, addressed: Vec<u32>)
-        ensures { self.new ≡ begun line addressed.items self.old }
+    pub fn begin_external(&mut self, line: Line, addressed: Vec<u32>) -> Result<(), NoMemory>
+        ensures { IfOk result (λ _. self.new ≡ begun line addressed.items self.old) }
     {
-        self.running = Running::new(self.alloc, line, addressed);
+        self.running = Running::new(self.alloc, line, addressed)?;
         self.code = Code::new(self.alloc);
+        Ok(())
     }
 
     /// What the file scope declares a name as.
@@ -178,7 +179,7 @@ impl Elaborator {
         }
         let params = params_of(ty)?;
         let name = copied(self.alloc, name)?;
-        let idle = Running::new(self.alloc, 0, Vec::new(self.alloc));
+        let idle = Running::new(self.alloc, 0, Vec::new(self.alloc))?;
         let running = mem::replace(&mut self.running, idle);
         let code = mem::replace(&mut self.code, Code::new(self.alloc));
         self.scopes.leave_all();

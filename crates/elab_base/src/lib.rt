@@ -6,6 +6,7 @@
 #![tactic(auto)]
 
 mod asked;
+mod cases;
 mod code;
 mod conversions;
 mod elaborator;
@@ -14,6 +15,7 @@ mod found;
 mod lengths;
 mod locals;
 mod names;
+mod number_set;
 mod numbers;
 mod params;
 mod pieces;
@@ -25,6 +27,7 @@ mod statics;
 mod switches;
 mod variables;
 
+pub use cases::CaseList;
 pub use code::{Code, Mark};
 pub use elaborator::{Elaborator, Parts};
 pub use found::{Fixed, Found, Spot};

@@ -6,6 +6,8 @@ ghost use Rattle.std.specs.Ordering.{int_eq};
 ghost use Rattle.c_types.specs.Types.{plain};
 ghost use Rattle.elaboration.specs.Context.{Running as PlainRunning, running_at};
 
+use crate::cases::CaseList;
+use crate::number_set::NumberSet;
 use crate::numbers::fit;
 use c_types::CType;
 use core_tree::{Mem, Reg};
@@ -20,12 +22,12 @@ use std::marker::Model;
 pub struct Running {
     line: Line,
     answer: CType,
-    addressed: Vec<u32>,
+    addressed: NumberSet,
     declared: u32,
     locals: Vec<Reg>,
     mems: Vec<Mem>,
     formats: Vec<Items<u8>>,
-    cases: Vec<(i128, u32)>,
+    cases: CaseList,
     otherwise: Option<u32>,
 }
 
@@ -38,22 +40,23 @@ impl Model for Running {
 
     ghost coded = { running_code };
 
-    ghost view = { λ s. record { line = s.line; answer = plain s.answer; addressed = s.addressed.items; declared = s.declared; locals = s.locals.items; mems = s.mems.items; formats = s.formats.items; cases = s.cases.items; otherwise = s.otherwise } };
+    ghost view = { λ s. record { line = s.line; answer = plain s.answer; addressed = s.addressed; declared = s.declared; locals = s.locals.items; mems = s.mems.items; formats = s.formats.items; cases = s.cases; otherwise = s.otherwise } };
 }
 
 /// The cases of a switch, each with its label, and its default.
 #[derive(Drop)]
 pub struct Cases {
-    pub cases: Vec<(i128, u32)>,
+    pub cases: CaseList,
     pub otherwise: Option<u32>,
 }
 
 impl Running {
     /// A function at a line, of which these parameters and locals are taken the address of.
-    pub fn new(alloc: Global, line: Line, addressed: Vec<u32>) -> Running
-        ensures { result ≡ running_at line addressed.items }
+    pub fn new(alloc: Global, line: Line, addressed: Vec<u32>) -> Result<Running, NoMemory>
+        ensures { IfOk result (λ running. running ≡ running_at line addressed.items) }
     {
-        Running {
+        let addressed = NumberSet::new(alloc, addressed)?;
+        Ok(Running {
             line,
             answer: CType::Void,
             addressed,
@@ -61,9 +64,9 @@ impl Running {
             locals: Vec::new(alloc),
             mems: Vec::new(alloc),
             formats: Vec::new(alloc),
-            cases: Vec::new(alloc),
+            cases: CaseList::new(alloc),
             otherwise: None,
-        }
+        })
     }
 
     /// Its line.
@@ -91,8 +94,7 @@ impl Running {
     pub fn is_next_addressed(&self) -> bool
         ensures { result ≡ list_any (λ number. nat_eq number self.now.declared) self.now.addressed }
     {
-        let next = self.declared;
-        self.addressed.iter().any(|number| *number == next)
+        self.addressed.contains(self.declared)
     }
 
     /// One parameter or local more is declared.
@@ -159,19 +161,14 @@ impl Running {
     pub fn has_case(&self, value: i128) -> bool
         ensures { result ≡ list_any (λ x. int_eq x.0 value) self.now.cases }
     {
-        self.cases.iter().any(|case| case.0 == value)
+        self.cases.contains(value)
     }
 
     /// Puts a case at a place among those of the running switch.
     pub fn add_case(&mut self, place: usize, value: i128, label: u32) -> Result<(), NoMemory>
         ensures { IfOk result (λ _. self.new ≡ record self.old { cases = take place self.old.cases ++ ((value, label) ∷ drop place self.old.cases) }) }
     {
-        if place < self.cases.len() {
-            self.cases.insert(place, (value, label))?;
-        } else {
-            self.cases.push((value, label))?;
-        }
-        Ok(())
+        self.cases.insert(place, value, label)
     }
 
     /// Whether the running switch has a default.
@@ -190,9 +187,9 @@ impl Running {
 
     /// Puts other cases in place of those of the running switch, which it gives.
     pub fn swap_cases(&mut self, cases: Cases) -> Cases
-        ensures cases { result.cases.items ≡ self.old.cases }
+        ensures cases { result.cases ≡ self.old.cases }
         ensures otherwise { result.otherwise ≡ self.old.otherwise }
-        ensures with { self.new ≡ record self.old { cases = cases.cases.items; otherwise = cases.otherwise } }
+        ensures with { self.new ≡ record self.old { cases = cases.cases; otherwise = cases.otherwise } }
     {
         let otherwise = self.otherwise;
         self.otherwise = cases.otherwise;

@@ -4,6 +4,7 @@ ghost use Rattle.std.specs.Prelude.{◌≡◌, ◌++◌, Some, None, [], IfOk, l
 ghost use Rattle.elaboration.specs.Context.{with_pieces};
 ghost use Rattle.elaboration.specs.Statements.{has_case, with_case, no_cases};
 
+use crate::cases::CaseList;
 use crate::elaborator::Elaborator;
 use crate::pieces::Pieces;
 use crate::running::{Cases, Running};
@@ -54,11 +55,11 @@ impl Elaborator {
 
     /// A switch begins, which has no cases yet: the cases of the one around it.
     pub fn begin_cases(&mut self) -> Cases
-        ensures cases { result.cases.items ≡ self.old.running.cases }
+        ensures cases { result.cases ≡ self.old.running.cases }
         ensures otherwise { result.otherwise ≡ self.old.running.otherwise }
         ensures with { self.new ≡ no_cases self.old }
     {
-        let none = Vec::new(self.alloc);
+        let none = CaseList::new(self.alloc);
         self.running.swap_cases(Cases {
             cases: none,
             otherwise: None,
@@ -67,9 +68,9 @@ impl Elaborator {
 
     /// Puts other cases in place of those of the running switch, which it gives.
     pub fn swap_cases(&mut self, cases: Cases) -> Cases
-        ensures cases { result.cases.items ≡ self.old.running.cases }
+        ensures cases { result.cases ≡ self.old.running.cases }
         ensures otherwise { result.otherwise ≡ self.old.running.otherwise }
-        ensures with { self.new ≡ record self.old { running = record self.old.running { cases = cases.cases.items; otherwise = cases.otherwise } } }
+        ensures with { self.new ≡ record self.old { running = record self.old.running { cases = cases.cases; otherwise = cases.otherwise } } }
     {
         self.running.swap_cases(cases)
     }

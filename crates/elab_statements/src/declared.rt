@@ -48,9 +48,9 @@ fn file_names(
 ) -> Result<(), TypeError>
     ensures { Meets (λ _. state.new) result (idled (declaration true line (specs_view words.now) (names_view names.now) (begun line [] state.old))) }
 {
-    state.begin_external(line, Vec::new(state.alloc()));
+    state.begin_external(line, Vec::new(state.alloc()))?;
     declaration(state, true, line, words, names)?;
-    state.begin_external(0, Vec::new(state.alloc()));
+    state.begin_external(0, Vec::new(state.alloc()))?;
     Ok(())
 }
 
@@ -68,7 +68,7 @@ pub(crate) fn external(state: &mut Elaborator, decl: &Decl) -> Result<(), TypeEr
             end,
         } => {
             let addressed = addressed_in(state.alloc(), declarator, body.as_slice(), *end)?;
-            state.begin_external(*line, addressed);
+            state.begin_external(*line, addressed)?;
             definition(state, *line, specs, declarator, body.as_slice(), *end)
         }
         Decl::Names { line, specs, names } => file_names(state, *line, specs, names.as_slice()),

@@ -135,9 +135,9 @@ pub(crate) fn switched(
     inner: Cases,
     body: Pieces,
 ) -> Result<(), NoMemory>
-    ensures { IfOk result (λ _. state.new ≡ here end (with_pieces ((state.old.code.pieces ++ dispatch_of line value end inner.cases.items inner.otherwise) ++ body) state.old)) }
+    ensures { IfOk result (λ _. state.new ≡ here end (with_pieces ((state.old.code.pieces ++ dispatch_of line value end inner.cases inner.otherwise) ++ body) state.old)) }
 {
-    let cases = dispatch_cases(state.alloc(), line, value, &inner.cases)?;
+    let cases = dispatch_cases(state.alloc(), line, value, inner.cases.as_slice())?;
     state.append(cases)?;
     let other = inner.otherwise.unwrap_or(end);
     state.emit(line, StmKind::Jump(other))?;

@@ -1,5 +1,6 @@
 -- Nodes that grow by two parts or more, and the end of a parameter list, which takes back what was declared in it.
 use Rattle.std.proofs.Common.{◌≡◌, ◌+◌, ◌-◌, ◌<◌, ℕ, Some, refl, sym, ap, ◌∙◌, subst, arith}
+use Rattle.std.proofs.lemmas.Result.{err_from_is_err_and}
 use Rattle.c_tree.specs.Allowed.{no_words}
 use Rattle.c_tree.specs.declared.word.Sign.{Sign}
 use Rattle.c_tree.specs.Depth.{depth}
@@ -15,6 +16,7 @@ use Rattle.grammar_reading.specs.Reading.{snoc}
 use Rattle.grammar_reading.specs.Rooms.{less, read}
 use Rattle.c_parser.proofs.Grown.{less_is, grown_call, grown_cond, grown_binary}
 use Rattle.c_parser.proofs.Loops.{specs_begin, members_begin}
+use Rattle.c_parser.proofs.Operations.{operand_exit, operators_exit}
 use Rattle.c_parser.proofs.Scoping.{function_ends}
 use Rattle.c_parser.proofs.+grammar.Goals as goal
 
@@ -44,6 +46,17 @@ expression::grow_operation-returns-clause-value t c =
     let right : less c.args.room (Expression (operand_level c.args.op)) c.mark.new.self ≡ Some (expr_view c.in_ok-right.right.tree, c.expression.new.reader) = less_is c.args.room (Expression (operand_level c.args.op)) c.mark.new.self (Some (expr_view c.in_ok-right.right.tree, c.expression.new.reader)) c.requires.some level in
     grown_binary (less c.args.room) c.args.room c.args.line (expr_view c.args.left.tree) fits c.args.op c.args.reader.now c.mark.new.self c.expression.new.reader (expr_view c.in_ok-right.right.tree) sign right
     ∙ ap (λ (tree : Tree). Some (tree, c.expression.new.reader)) (sym c.in_ok-binary.ensures.tree)
+
+pub expression::operation-returns-in_err-whole-clause-value : goal.expression::operation-returns-in_err-whole-clause-value
+expression::operation-returns-in_err-whole-clause-value t c =
+    operand_exit (less c.args.room) c.args.room c.args.looser c.args.reader.now c.cast.new.reader c.from_residual.result _
+    (err_from_is_err_and c.from_residual.result c.from_residual.ensures.1) c.in_err-whole.ensures.value
+
+pub expression::operation-returns-in_err-whole-2-clause-value : goal.expression::operation-returns-in_err-whole-2-clause-value
+expression::operation-returns-in_err-whole-2-clause-value t c =
+    operators_exit (less c.args.room) c.args.room c.levels.level c.args.looser c.line-line.result c.args.reader.now c.operators.new.reader (expr_view c.levels.whole.tree, c.levels.reader)
+    c.from_residual-in_err-whole-2.result _ (err_from_is_err_and c.from_residual-in_err-whole-2.result c.from_residual-in_err-whole-2.ensures.1)
+    c.levels-test.true c.levels.invariant.0 c.line-line.ensures c.in_err-whole-2.ensures.value
 
 pub declarator::function-returns : goal.declarator::function-returns
 declarator::function-returns t c =

@@ -1,6 +1,6 @@
 -- Each call leaves less room, or goes on to a function that is nearer to the tokens. What a loop reads from where it is,
 -- behind what it has read, is what the function reads from where it began.
-use Rattle.std.proofs.Common.{◌≡◌, ◌≤◌, ◌<◌, ◌*◌, ◌+◌, ◌^◌, suc}
+use Rattle.std.proofs.Common.{◌≡◌, ◌≤◌, ◌<◌, ◌*◌, ◌+◌, ◌^◌, suc, Some}
 use Rattle.c_tree.specs.Allowed.{no_words}
 use Rattle.c_tree.specs.declared.word.Sign.TheVariants as s
 use Rattle.c_tree.specs.Forms as f
@@ -9,7 +9,7 @@ use Rattle.c_tree.specs.StatementView.{trees, expr_view, suffix_view, param_view
 use Rattle.c_tree.specs.Tree.{At, none, ◌▹◌}
 use Rattle.c_tree.specs.View.{spec_tree, declarator_tree, enumerator_tree}
 use Rattle.grammar_reading.specs.Declarators.{suffixes_from, param_at, specs_from, member_at, declarator_at, member_names_at, enumerator_at}
-use Rattle.grammar_reading.specs.Expressions.{comma_from, binary_from, postfix_from, argument_at}
+use Rattle.grammar_reading.specs.Expressions.{comma_from, binary_at, binary_from, postfix_from, argument_at}
 use Rattle.grammar_reading.specs.Reading.{commas_from, list_from, goes_on, goes_on_inside}
 use Rattle.grammar_reading.specs.Rooms.{less, read}
 use Rattle.grammar_reading.specs.State.{at_mark, left_at, line_at}
@@ -44,7 +44,7 @@ abbrev pub decreases-expression::grow_condition : goal.decreases-expression::gro
 decreases-expression::grow_condition l = l.room * 1000 + 5
 
 abbrev pub decreases-expression::operation : goal.decreases-expression::operation
-decreases-expression::operation l = l.room * 1000 + 33 + l.looser
+decreases-expression::operation l = l.room * 1000 + 33
 
 abbrev pub decreases-expression::operators : goal.decreases-expression::operators
 decreases-expression::operators l = l.room * 1000 + 6
@@ -211,6 +211,10 @@ invariant-expression::commas-commas l =
 
 abbrev pub decreases-expression::commas-commas : goal.decreases-expression::commas-commas
 decreases-expression::commas-commas l = l.turns
+
+abbrev pub invariant-expression::operation-levels : goal.invariant-expression::operation-levels
+invariant-expression::operation-levels l =
+    (binary_at (less l.room) l.room l.level l.fn.reader ≡ Some (expr_view l.whole.tree, l.reader)) × (l.whole.depth ≤ l.room)
 
 abbrev pub invariant-expression::operators-operators : goal.invariant-expression::operators-operators
 invariant-expression::operators-operators l =

@@ -43,6 +43,9 @@ decreases-branching l = l.room * 20 + 5
 abbrev pub decreases-otherwise : goal.decreases-otherwise
 decreases-otherwise l = l.room * 20 + 4
 
+abbrev pub decreases-else_branch : goal.decreases-else_branch
+decreases-else_branch l = l.room * 20 + 3
+
 abbrev pub decreases-while_loop : goal.decreases-while_loop
 decreases-while_loop l = l.room * 20 + 5
 
