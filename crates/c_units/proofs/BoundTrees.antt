@@ -17,7 +17,7 @@ use Rattle.c_units.specs.declared.mention.Role.TheVariants.{Defined, Used, Tagge
 use Rattle.c_units.specs.Mentions.{is_among}
 use Rattle.c_units.specs.Names.{Known, Names, binding_of, binding_at, name_by, declare, mention, mention_any, used, line_in, tag_name, behind, all_behind, renamed, all_renamed, named, made}
 use Rattle.c_units.specs.Names as n
-use Rattle.c_units.specs.Binding.{Declaration, Inner, External, Constant, Held, Use, Scope, declaration_of, hold, hold_inner, hold_constant, use_of, left_scope, left_part, entered, left, after, after_all}
+use Rattle.c_units.specs.Binding.{Declaration, Inner, External, Constant, Held, Use, Scope, declaration_of, hold, hold_inner, hold_here, use_of, left_scope, left_part, entered, left, after, after_all}
 use Rattle.c_units.specs.KeptBindings.{has_dot, IsWithoutDot, HasNoDots, HaveNoDots, name_as, use_as}
 use Rattle.c_units.proofs.BoundNames.{ArePlain, known_as, held_as, bound_name, bound_same}
 
@@ -26,13 +26,13 @@ abbrev pub Same : Scope → Scope → Type 0
 Same x y = (x.held ≡ y.held) × (x.inside ≡ y.inside) × (x.inner ≡ y.inner)
 
 -- the parts of a name in an expression, and all others, of which nothing is told
-abbrev IsName : Trees → Type 0
+abbrev pub IsName : Trees → Type 0
 IsName parts = (line : ℕ) × (name : List ℕ) × (parts ≡ At line ▹ Leaf (w.Name name) ▹ none)
 
-abbrev IsOther : Trees → Type 0
+abbrev pub IsOther : Trees → Type 0
 IsOther parts = ((x : Names) → named parts x ≡ Node f.Name parts) × ((s : Scope) → use_of parts s ≡ s)
 
-name_parts : (parts : Trees) → IsName parts ⊎ IsOther parts
+pub name_parts : (parts : Trees) → IsName parts ⊎ IsOther parts
 unfolding named
 name_parts none = inr (λ x. refl, λ s. refl)
 name_parts (Leaf word ▹ rest) = inr (λ x. refl, λ s. refl)
@@ -139,10 +139,10 @@ pub hold_plain : (name : Option (List ℕ)) (declaration : Declaration) (s : Sco
 hold_plain None declaration s h g = g
 hold_plain (Some name) declaration s h g = (h, g)
 
-constant_plain : (inside : Bool) (name : Option (List ℕ)) (s : Scope) → IsWithoutDot name → ArePlain s.held →
+here_plain : (inside : Bool) (name : Option (List ℕ)) (s : Scope) → IsWithoutDot name → ArePlain s.held →
     ArePlain (if inside then hold_inner name s else hold name Constant s).held
-constant_plain true name s h g = hold_plain name (Inner s.inner) (record s { inner = suc s.inner }) h g
-constant_plain false name s h g = hold_plain name Constant s h g
+here_plain true name s h g = hold_plain name (Inner s.inner) (record s { inner = suc s.inner }) h g
+here_plain false name s h g = hold_plain name Constant s h g
 
 entered_plain : (form : Form) (s : Scope) → ArePlain s.held → ArePlain (entered form s).held
 unfolding entered
@@ -161,9 +161,9 @@ left_plain f.Do parts s inner d h g = h
 left_plain f.For parts s inner d h g = h
 left_plain f.Switch parts s inner d h g = h
 left_plain f.FunctionSuffix parts s inner d h g = h
-left_plain f.Declared parts s inner d h g = hold_plain (name_among parts) (Inner inner.inner) (record inner { inner = suc inner.inner }) (names_plain parts d) g
-left_plain f.Param parts s inner d h g = hold_plain (name_among parts) (Inner inner.inner) (record inner { inner = suc inner.inner }) (names_plain parts d) g
-left_plain f.Enumerator parts s inner d h g = constant_plain inner.inside (name_among parts) inner (names_plain parts d) g
+left_plain f.Declared parts s inner d h g = here_plain inner.inside (name_among parts) inner (names_plain parts d) g
+left_plain f.Param parts s inner d h g = here_plain inner.inside (name_among parts) inner (names_plain parts d) g
+left_plain f.Enumerator parts s inner d h g = here_plain inner.inside (name_among parts) inner (names_plain parts d) g
 left_plain f.Name parts s inner d h g = subst ArePlain (sym (use_same parts inner).0) g
 left_plain form parts s inner d h g = g
 
@@ -232,16 +232,16 @@ hold_silent : (name : Option (List ℕ)) (declaration : Declaration) (s : Scope)
 hold_silent None declaration s = refl
 hold_silent (Some name) declaration s = refl
 
-constant_silent : (inside : Bool) (name : Option (List ℕ)) (s : Scope) → (if inside then hold_inner name s else hold name Constant s).uses ≡ s.uses
-constant_silent true name s = hold_silent name (Inner s.inner) (record s { inner = suc s.inner })
-constant_silent false name s = hold_silent name Constant s
+here_silent : (inside : Bool) (name : Option (List ℕ)) (s : Scope) → (if inside then hold_inner name s else hold name Constant s).uses ≡ s.uses
+here_silent true name s = hold_silent name (Inner s.inner) (record s { inner = suc s.inner })
+here_silent false name s = hold_silent name Constant s
 
 name_or_silent : (form : Form) → (form ≡ f.Name) ⊎ IsSilent form
 unfolding left made
 name_or_silent f.Name = inl refl
-name_or_silent f.Declared = inr (λ parts s inner. hold_silent (name_among parts) (Inner inner.inner) (record inner { inner = suc inner.inner }), λ parts x. refl)
-name_or_silent f.Param = inr (λ parts s inner. hold_silent (name_among parts) (Inner inner.inner) (record inner { inner = suc inner.inner }), λ parts x. refl)
-name_or_silent f.Enumerator = inr (λ parts s inner. constant_silent inner.inside (name_among parts) inner, λ parts x. refl)
+name_or_silent f.Declared = inr (λ parts s inner. here_silent inner.inside (name_among parts) inner, λ parts x. refl)
+name_or_silent f.Param = inr (λ parts s inner. here_silent inner.inside (name_among parts) inner, λ parts x. refl)
+name_or_silent f.Enumerator = inr (λ parts s inner. here_silent inner.inside (name_among parts) inner, λ parts x. refl)
 name_or_silent form = inr (λ parts s inner. refl, λ parts x. refl)
 
 entered_silent : (form : Form) (s : Scope) → (entered form s).uses ≡ s.uses
@@ -276,15 +276,15 @@ module _ (own : List (List ℕ)) (suffix : List ℕ) where
       subst (λ (k : ℕ). Like (hold_inner name s) (hold name (Inner k) (record t { inner = suc t.inner }))) (sym h.2)
       (hold_like name (Inner s.inner) (record s { inner = suc s.inner }) (record t { inner = suc t.inner }) (λ x. refl) (h.0, h.1, ap suc h.2))
 
-  constant_by : (inside : Bool) (name : Option (List ℕ)) (s t : Scope) → Like s t →
+  here_by : (inside : Bool) (name : Option (List ℕ)) (s t : Scope) → Like s t →
       Like (if inside then hold_inner name s else hold name Constant s) (if inside then hold_inner name t else hold name Constant t)
-  constant_by true name s t h = inner_like name s t h
-  constant_by false name s t h = hold_like name Constant s t (λ x. refl) h
+  here_by true name s t h = inner_like name s t h
+  here_by false name s t h = hold_like name Constant s t (λ x. refl) h
 
-  constant_like : (name : Option (List ℕ)) (s t : Scope) → Like s t → Like (hold_constant name s) (hold_constant name t)
-  constant_like name s t h =
-      subst (λ (x : Bool). Like (hold_constant name s) (if x then hold_inner name t else hold name Constant t)) (sym h.1)
-      (constant_by s.inside name s t h)
+  here_like : (name : Option (List ℕ)) (s t : Scope) → Like s t → Like (hold_here name s) (hold_here name t)
+  here_like name s t h =
+      subst (λ (x : Bool). Like (hold_here name s) (if x then hold_inner name t else hold name Constant t)) (sym h.1)
+      (here_by s.inside name s t h)
 
   use_like : (parts new : Trees) (s t : Scope) → Like s t → Like (use_of parts s) (use_of new t)
   use_like parts new s t h = like_same (use_of parts s) t (use_of new t) (use_same new t) (same_like s (use_of parts s) t (use_same parts s) h)
@@ -308,11 +308,11 @@ module _ (own : List (List ℕ)) (suffix : List ℕ) where
   left_like f.Switch parts new s t inner other e h g = (h.0, h.1, g.2)
   left_like f.FunctionSuffix parts new s t inner other e h g = (h.0, h.1, g.2)
   left_like f.Declared parts new s t inner other e h g =
-      subst (λ (o : Option (List ℕ)). Like (hold_inner (name_among parts) inner) (hold_inner o other)) (sym e) (inner_like (name_among parts) inner other g)
+      subst (λ (o : Option (List ℕ)). Like (hold_here (name_among parts) inner) (hold_here o other)) (sym e) (here_like (name_among parts) inner other g)
   left_like f.Param parts new s t inner other e h g =
-      subst (λ (o : Option (List ℕ)). Like (hold_inner (name_among parts) inner) (hold_inner o other)) (sym e) (inner_like (name_among parts) inner other g)
+      subst (λ (o : Option (List ℕ)). Like (hold_here (name_among parts) inner) (hold_here o other)) (sym e) (here_like (name_among parts) inner other g)
   left_like f.Enumerator parts new s t inner other e h g =
-      subst (λ (o : Option (List ℕ)). Like (hold_constant (name_among parts) inner) (hold_constant o other)) (sym e) (constant_like (name_among parts) inner other g)
+      subst (λ (o : Option (List ℕ)). Like (hold_here (name_among parts) inner) (hold_here o other)) (sym e) (here_like (name_among parts) inner other g)
   left_like f.Name parts new s t inner other e h g = use_like parts new inner other g
   left_like form parts new s t inner other e h g = g
 
@@ -374,15 +374,15 @@ module _ (own : List (List ℕ)) (suffix : List ℕ) where
   knows_shared None x s h = h
   knows_shared (Some name) x s h = (h.0, h.1, ap (λ (l : List Known). record { name = name; binding = b.Shared } ∷ l) h.2, h.3)
 
-  knows_constant_by : (inside : Bool) (name : Option (List ℕ)) (x : Names) (s : Scope) → Knows x s →
+  knows_here_by : (inside : Bool) (name : Option (List ℕ)) (x : Names) (s : Scope) → Knows x s →
       Knows (declare name (if inside then b.Inner else b.Shared) x) (if inside then hold_inner name s else hold name Constant s)
-  knows_constant_by true name x s h = knows_inner name x s h
-  knows_constant_by false name x s h = knows_shared name x s h
+  knows_here_by true name x s h = knows_inner name x s h
+  knows_here_by false name x s h = knows_shared name x s h
 
-  knows_constant : (name : Option (List ℕ)) (x : Names) (s : Scope) → Knows x s → Knows (declare name (binding_at x) x) (hold_constant name s)
-  knows_constant name x s h =
-      subst (λ (y : Bool). Knows (declare name (if y then b.Inner else b.Shared) x) (hold_constant name s)) (sym h.3)
-      (knows_constant_by s.inside name x s h)
+  knows_here : (name : Option (List ℕ)) (x : Names) (s : Scope) → Knows x s → Knows (declare name (binding_at x) x) (hold_here name s)
+  knows_here name x s h =
+      subst (λ (y : Bool). Knows (declare name (if y then b.Inner else b.Shared) x) (hold_here name s)) (sym h.3)
+      (knows_here_by s.inside name x s h)
 
   knows_entered : (form : Form) (parts : Trees) (x : Names) (s : Scope) → Knows x s → Knows (n.entered form parts x) (entered form s)
   unfolding entered n.entered
@@ -404,9 +404,9 @@ module _ (own : List (List ℕ)) (suffix : List ℕ) where
   knows_left f.For parts x y s inner h g = (g.0, g.1, h.2, h.3)
   knows_left f.Switch parts x y s inner h g = (g.0, g.1, h.2, h.3)
   knows_left f.FunctionSuffix parts x y s inner h g = (g.0, g.1, h.2, h.3)
-  knows_left f.Declared parts x y s inner h g = knows_inner (name_among parts) y inner g
-  knows_left f.Param parts x y s inner h g = knows_inner (name_among parts) y inner g
-  knows_left f.Enumerator parts x y s inner h g = knows_constant (name_among parts) y inner g
+  knows_left f.Declared parts x y s inner h g = knows_here (name_among parts) y inner g
+  knows_left f.Param parts x y s inner h g = knows_here (name_among parts) y inner g
+  knows_left f.Enumerator parts x y s inner h g = knows_here (name_among parts) y inner g
   knows_left f.Name parts x y s inner h g =
       knows_same (used (name_among parts) (line_in parts) y) inner (use_of parts inner) (use_same parts inner)
       (knows_used (name_among parts) (line_in parts) y inner g)

@@ -43,8 +43,8 @@ entered_suffix form parts s = refl
 
 left_suffix : (form : Form) (parts : Trees) (before inner : Names) → (left form parts before inner).suffix ≡ inner.suffix
 unfolding left
-left_suffix f.Declared parts before inner = declare_suffix (name_among parts) Inner inner
-left_suffix f.Param parts before inner = declare_suffix (name_among parts) Inner inner
+left_suffix f.Declared parts before inner = declare_suffix (name_among parts) (binding_at inner) inner
+left_suffix f.Param parts before inner = declare_suffix (name_among parts) (binding_at inner) inner
 left_suffix f.Enumerator parts before inner = declare_suffix (name_among parts) (binding_at inner) inner
 left_suffix f.Name parts before inner = used_suffix (name_among parts) (line_in parts) inner
 left_suffix form parts before inner = refl

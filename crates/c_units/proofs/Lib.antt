@@ -17,3 +17,5 @@ pub mod TakenNames
 pub mod SaidTurns
 pub mod FileNames
 pub mod ProgramTurns
+pub mod InnerBindings
+pub mod InnerUses

@@ -236,11 +236,11 @@ module _ (x : Names) where
 
   pub param_is : (p : Param) →
       let c = behind (declarator_tree p.declarator) (behind (specs_view p.specs) x) in
-      Is (param_view p) x (declare (name_of (declarator_tree p.declarator)) Inner c)
+      Is (param_view p) x (declare (name_of (declarator_tree p.declarator)) (binding_at c) c)
       (Node f.Param (At p.line ▹ renamed (specs_view p.specs) x ▹ renamed (declarator_tree p.declarator) (behind (specs_view p.specs) x) ▹ none))
   unfolding behind all_behind renamed all_renamed left entered made shape is_scope name_of name_among leads_to_name
   param_is p =
-      (ap (λ (n : Option (List ℕ)). declare n Inner (behind (declarator_tree p.declarator) (behind (specs_view p.specs) x))) (name_none (name_of (declarator_tree p.declarator))), refl)
+      (ap (λ (n : Option (List ℕ)). let c = behind (declarator_tree p.declarator) (behind (specs_view p.specs) x) in declare n (binding_at c) c) (name_none (name_of (declarator_tree p.declarator))), refl)
 
   abbrev value_tree : ℕ → List ℕ → Option (Box Expr Global) → Tree
   value_tree line name value =
@@ -276,15 +276,16 @@ module _ (x : Names) where
       (turn.0, ap (λ (y : Tree). Node (f.InitList trailing) (At line ▹ y ▹ none)) turn.1)
 
   pub entry_is : (one : Declarator × Option Init) →
-      let c = declare (name_of (declarator_tree one.0)) Inner (behind (declarator_tree one.0) x) in
+      let b = behind (declarator_tree one.0) x in
+      let c = declare (name_of (declarator_tree one.0)) (binding_at b) b in
       Is (entry_view one) x (behind (maybe f.MaybeInit init_view one.1) c)
       (Node f.Entry (Node f.Declared (renamed (declarator_tree one.0) x ▹ none) ▹ renamed (maybe f.MaybeInit init_view one.1) c ▹ none))
   unfolding behind all_behind renamed all_renamed left entered made shape is_scope name_of name_among leads_to_name
   entry_is one =
       let e = name_none (name_of (declarator_tree one.0)) in (
-        ap (λ (n : Option (List ℕ)). behind (maybe f.MaybeInit init_view one.1) (declare n Inner (behind (declarator_tree one.0) x))) e,
+        ap (λ (n : Option (List ℕ)). behind (maybe f.MaybeInit init_view one.1) (declare n (binding_at (behind (declarator_tree one.0) x)) (behind (declarator_tree one.0) x))) e,
         ap (λ (n : Option (List ℕ)). Node f.Entry (Node f.Declared (renamed (declarator_tree one.0) x ▹ none) ▹
-            renamed (maybe f.MaybeInit init_view one.1) (declare n Inner (behind (declarator_tree one.0) x)) ▹ none)) e,
+            renamed (maybe f.MaybeInit init_view one.1) (declare n (binding_at (behind (declarator_tree one.0) x)) (behind (declarator_tree one.0) x)) ▹ none)) e,
       )
 
   pub names_is : (names : List (Declarator × Option Init)) →

@@ -44,13 +44,12 @@ abbrev pub hold : Option (List ℕ) → Declaration → Scope → Scope
 hold None declaration s = s
 hold (Some name) declaration s = record s { held = record { name = name; declaration = declaration } ∷ s.held }
 
--- in an inner scope
+-- in an inner scope, if one is open
 abbrev pub hold_inner : Option (List ℕ) → Scope → Scope
 hold_inner name s = hold name (Inner s.inner) (record s { inner = suc s.inner })
 
--- an enumerator
-abbrev pub hold_constant : Option (List ℕ) → Scope → Scope
-hold_constant name s = if s.inside then hold_inner name s else hold name Constant s
+abbrev pub hold_here : Option (List ℕ) → Scope → Scope
+hold_here name s = if s.inside then hold_inner name s else hold name Constant s
 
 -- the parts of a name in an expression
 abbrev pub use_of : Trees → Scope → Scope
@@ -83,9 +82,9 @@ left f.Do parts before inner = left_scope before inner
 left f.For parts before inner = left_scope before inner
 left f.Switch parts before inner = left_scope before inner
 left f.FunctionSuffix parts before inner = left_scope before inner
-left f.Declared parts before inner = hold_inner (name_among parts) inner
-left f.Param parts before inner = hold_inner (name_among parts) inner
-left f.Enumerator parts before inner = hold_constant (name_among parts) inner
+left f.Declared parts before inner = hold_here (name_among parts) inner
+left f.Param parts before inner = hold_here (name_among parts) inner
+left f.Enumerator parts before inner = hold_here (name_among parts) inner
 left f.Name parts before inner = use_of parts inner
 left form parts before inner = inner
 

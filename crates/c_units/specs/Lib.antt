@@ -8,3 +8,4 @@ pub mod Kept
 pub mod SpecWords
 pub mod Binding
 pub mod KeptBindings
+pub mod MergedBindings

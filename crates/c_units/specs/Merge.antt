@@ -109,12 +109,3 @@ Adds wanted new (Err error.NoMemory) = ⊤
 abbrev pub IsConflict : Mention → MergeError → Type 0
 IsConflict mention (error.Conflict name line) = (name ≡ mention.name) × (line ≡ mention.line)
 IsConflict mention error.NoMemory = ⊤
-
--- external declarations are taken in and their mentions answered, or the first that is taken
-abbrev pub TakesIn : {M : Type 0} → (M → List Mention) → List Said → Program → Program → Result M MergeError → Type 0
-TakesIn view said old new (Ok mentions) =
-    (first_taken old.taken (mentions_of said) ≡ None) × (view mentions ≡ mentions_of said)
-    × (new ≡ record old { trees = joined old.trees (trees_of said) })
-TakesIn view said old new (Err (error.Conflict name line)) =
-    (mention : Mention) × (first_taken old.taken (mentions_of said) ≡ Some mention) × (mention.name ≡ name) × (mention.line ≡ line)
-TakesIn view said old new (Err error.NoMemory) = ⊤

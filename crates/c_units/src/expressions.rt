@@ -12,7 +12,6 @@ ghost use Rattle.c_units.specs.Turns.{behind_maybe, each_renamed, in_turn, renam
 
 use crate::declarations::declared_name;
 use crate::mention::Role;
-use crate::names::Binding;
 use crate::walk::Walk;
 use c_tree::{
     Base, Declarator, Enumerator, Expr, ExprKind, Member, Param, Spec, Specs, Suffix, SuffixKind,
@@ -527,7 +526,8 @@ impl<'a> Walk<'a> {
     {
         let specs = self.specs(&param.specs)?;
         let declarator = self.declarator(&param.declarator)?;
-        self.declare(declared_name(&param.declarator), Binding::Inner)?;
+        let binding = self.binding_here();
+        self.declare(declared_name(&param.declarator), binding)?;
         Ok(Param {
             line: param.line,
             specs,

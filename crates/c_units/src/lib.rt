@@ -28,5 +28,5 @@ mod taken;
 mod walk;
 
 pub use error::MergeError;
-pub use laws::units_keep_their_bindings;
+pub use laws::{merge_keeps_inner_bindings, units_keep_their_bindings};
 pub use program::merge;

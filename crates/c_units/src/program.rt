@@ -1,9 +1,11 @@
 //! The merge of units.
 
-ghost use Rattle.std.specs.Prelude.{◌≡◌, ◌<◌, ◌++◌, ◌∷◌, [], IfOk, length, map};
+ghost use Rattle.std.specs.Prelude.{◌≡◌, ◌<◌, ◌++◌, ◌∷◌, [], IfOk, length, map, option_copied};
 ghost use Rattle.c_tree.specs.StatementView.{unit_view};
 ghost use Rattle.c_units.specs.Kept.{program_view, said_view};
-ghost use Rattle.c_units.specs.Merge.{Adds, IsConflict, Merges, TakesIn, kept, no_program, spellings_of, with_unit};
+ghost use Rattle.c_units.specs.Mentions.{first_taken};
+ghost use Rattle.c_units.specs.Merge.{Adds, IsConflict, Merges, kept, mentions_of, no_program, spellings_of, trees_of, with_unit};
+ghost use Rattle.c_units.specs.Turns.{joined};
 
 use crate::error::MergeError;
 use crate::mention::Mention;
@@ -97,11 +99,29 @@ impl Program {
         Ok(())
     }
 
+    /// The first mention of what is left of a unit that is taken.
+    #[tactic(auto, using(crate::proofs::ProgramTurns::free_next, crate::proofs::ProgramTurns::taken_here, crate::proofs::ProgramTurns::free_end))]
+    fn first_taken<'b, 'a>(&self, said: &'b [Said<'a>]) -> Option<&'b Mention<'a>>
+        ensures { option_copied result ≡
+            first_taken self.now.taken (mentions_of (map said_view said.now)) }
+    {
+        for one in said {
+            if let Some(mention) = self.taken.first(one.mentions.as_slice()) {
+                return Some(mention);
+            }
+        }
+        None
+    }
+
     /// Takes in what is left of a unit, and answers what it says of the names that units share.
-    fn take_in<'a>(&mut self, said: Vec<Said<'a>>) -> Result<Vec<Mention<'a>>, MergeError>
-        ensures {
-            let all = map said_view said.entry.items in
-            TakesIn (λ mentions. mentions.items) all (program_view self.old) (program_view self.new) result }
+    #[tactic(auto, using(crate::proofs::ProgramTurns::mentions_next, crate::proofs::ProgramTurns::trees_next, crate::proofs::ProgramTurns::trees_start))]
+    fn take_in<'a>(&mut self, said: Vec<Said<'a>>) -> Result<Vec<Mention<'a>>, NoMemory>
+        ensures mentions { IfOk result (λ mentions.
+            mentions.items ≡ mentions_of (map said_view said.entry.items)) }
+        ensures program { IfOk result (λ _.
+            let more = trees_of (map said_view said.entry.items) in
+            program_view self.new ≡ record (program_view self.old) {
+            trees = joined (program_view self.old).trees more }) }
     {
         let mut mentions = Vec::new(self.alloc);
         for one in said {
@@ -109,9 +129,6 @@ impl Program {
                 decl,
                 mentions: mut here,
             } = one;
-            if let Some(mention) = self.taken.first(here.as_slice()) {
-                return Err(conflict(self.alloc, mention));
-            }
             mentions.append(&mut here)?;
             self.decls.push(decl)?;
         }
@@ -119,6 +136,7 @@ impl Program {
     }
 
     /// Adds a unit with its number.
+    #[tactic(auto, using(crate::proofs::ProgramTurns::added, crate::proofs::ProgramTurns::refused))]
     fn add(&mut self, number: usize, unit: &Unit) -> Result<(), MergeError>
         ensures {
             let wanted = with_unit number (unit_view unit.now) (program_view self.old) in
@@ -126,6 +144,9 @@ impl Program {
     {
         let all = unit_said(self.alloc, number, unit)?;
         let Left { said, spellings } = self.left(all)?;
+        if let Some(mention) = self.first_taken(said.as_slice()) {
+            return Err(conflict(self.alloc, mention));
+        }
         let mentions = self.take_in(said)?;
         self.spellings.note_all(self.alloc, &spellings)?;
         self.taken.note_all(self.alloc, mentions.as_slice())?;
@@ -139,6 +160,7 @@ impl Program {
 ///
 /// [`MergeError::Conflict`] exactly where two units say what may not be said of one name twice, with the first such name and
 /// the line of its later place; [`MergeError::NoMemory`] only for want of memory.
+#[tactic(auto, using(crate::proofs::ProgramTurns::one_merged, crate::proofs::ProgramTurns::unit_next, crate::proofs::ProgramTurns::unit_end, crate::proofs::ProgramTurns::several_merged, crate::proofs::ProgramTurns::merge_refused))]
 pub fn merge(alloc: Global, units: &Items<Unit>) -> Result<Unit, MergeError>
     requires { 0 < length units.now }
     ensures { Merges (map unit_view units.now) result }

@@ -7,7 +7,6 @@ ghost use Rattle.c_units.specs.Names.{behind, left_scope, renamed};
 ghost use Rattle.c_units.specs.Turns.{each_renamed, in_turn, inner, is_scope_kind};
 
 use crate::declarations::declared_name;
-use crate::names::Binding;
 use crate::walk::Walk;
 use c_tree::{Declarator, Expr, ForStart, Init, InitKind, Stmt, StmtKind};
 use hs_base::{Items, Line, NoMemory};
@@ -99,7 +98,8 @@ impl<'a> Walk<'a> {
         ensures names { IfOk result (λ _. self.new ≡ behind (entry_view entry.now) self.old) }
     {
         let declarator = self.declarator(&entry.0)?;
-        self.declare(declared_name(&entry.0), Binding::Inner)?;
+        let binding = self.binding_here();
+        self.declare(declared_name(&entry.0), binding)?;
         let init = self.maybe_init(&entry.1)?;
         Ok((declarator, init))
     }
