@@ -37,26 +37,26 @@ module _ (spellings : List (List ℕ)) where
   one_kept : (again : Bool) (said : Said) (rest : List Said) (more : Trees) (m r : Scope) → is_again spellings said ≡ again → Outer m → Outer r →
       ((n : Scope) → Outer n → Keeps rest more n (after_external said.tree (begun r))) → Keeps (said ∷ rest) more m r
   one_kept true said rest more m r e h g next =
-      let then_ = next m h in (
-        then_.0, then_.1,
+      let after_it = next m h in (
+        after_it.0, after_it.1,
         ap (λ (b : Bool). inner_uses (each_uses (joined (trees_of (if not b then said ∷ kept spellings rest else kept spellings rest)) more) m)) e
-            ∙ then_.2
-            ∙ sym (ap (λ (us : List (List Use)). inner_uses (left_uses spellings (said ∷ rest) us) ++ inner_uses (each_uses more then_.0)) (uses_first said.tree (trees_of rest) r)
+            ∙ after_it.2
+            ∙ sym (ap (λ (us : List (List Use)). inner_uses (left_uses spellings (said ∷ rest) us) ++ inner_uses (each_uses more after_it.0)) (uses_first said.tree (trees_of rest) r)
             ∙ ap (λ (b : Bool). let r' = after_external said.tree (begun r) in
-              inner_uses (if b then left_uses spellings rest (each_uses (trees_of rest) r') else r'.uses ∷ left_uses spellings rest (each_uses (trees_of rest) r')) ++ inner_uses (each_uses more then_.0)) e),
+              inner_uses (if b then left_uses spellings rest (each_uses (trees_of rest) r') else r'.uses ∷ left_uses spellings rest (each_uses (trees_of rest) r')) ++ inner_uses (each_uses more after_it.0)) e),
       )
   one_kept false said rest more m r e h g next =
       let m' : Scope = after_external said.tree (begun m) in
       let r' : Scope = after_external said.tree (begun r) in
-      let then_ = next m' (external_outer said.tree (begun m) (h.0, h.1)) in
+      let after_it = next m' (external_outer said.tree (begun m) (h.0, h.1)) in
       let alike : Alike r' m' = external_alike said.tree (begun r) (begun m) (begun_alike r m g h) in (
-        then_.0, then_.1,
+        after_it.0, after_it.1,
         ap (λ (b : Bool). inner_uses (each_uses (joined (trees_of (if not b then said ∷ kept spellings rest else kept spellings rest)) more) m)) e
             ∙ ap inner_uses (uses_first said.tree (joined (trees_of (kept spellings rest)) more) m)
-            ∙ ap₂ (λ (us : List (List ℕ × Option ℕ)) (l : List (List (List ℕ × Option ℕ))). us ∷ l) alike.3 then_.2
-            ∙ sym (ap (λ (us : List (List Use)). inner_uses (left_uses spellings (said ∷ rest) us) ++ inner_uses (each_uses more then_.0)) (uses_first said.tree (trees_of rest) r)
+            ∙ ap₂ (λ (us : List (List ℕ × Option ℕ)) (l : List (List (List ℕ × Option ℕ))). us ∷ l) alike.3 after_it.2
+            ∙ sym (ap (λ (us : List (List Use)). inner_uses (left_uses spellings (said ∷ rest) us) ++ inner_uses (each_uses more after_it.0)) (uses_first said.tree (trees_of rest) r)
             ∙ ap (λ (b : Bool).
-              inner_uses (if b then left_uses spellings rest (each_uses (trees_of rest) r') else r'.uses ∷ left_uses spellings rest (each_uses (trees_of rest) r')) ++ inner_uses (each_uses more then_.0)) e),
+              inner_uses (if b then left_uses spellings rest (each_uses (trees_of rest) r') else r'.uses ∷ left_uses spellings rest (each_uses (trees_of rest) r')) ++ inner_uses (each_uses more after_it.0)) e),
       )
 
   none_uses : (r : Scope) → each_uses none r ≡ []
@@ -89,8 +89,17 @@ no_uses m = refl
 outer_first : Outer no_scope
 outer_first = (λ name. refl, refl)
 
-mutual_end : (before : Program) (trees : Trees) → Ok {E = Conflict} before.trees ≡ Ok trees → trees ≡ before.trees
-mutual_end before trees h = cc
+abbrev answered : Trees → Result Trees Conflict
+answered trees = Ok trees
+
+abbrev stopped : Conflict → Result Trees Conflict
+stopped conflict = Err conflict
+
+same_answer : (x y : Trees) → answered x ≡ answered y → y ≡ x
+same_answer x y h = cc
+
+no_answer : (conflict : Conflict) (trees : Trees) → stopped conflict ≡ answered trees → ⊥
+no_answer conflict trees h = cc
 
 units_by : (taken : Option Mention) (number : ℕ) (unit : Code) (units : List Code) (before : Program) (trees : Trees) →
     HaveNoDots (unit_view unit) →
@@ -99,18 +108,19 @@ units_by : (taken : Option Mention) (number : ℕ) (unit : Code) (units : List C
     let next = record { trees = joined before.trees (trees_of left); spellings = all_noted before.spellings (spellings_of said); taken = with_mentions (mentions_of left) before.taken } in
     (with_units (number + 1) (map unit_view units) next ≡ Ok trees → Adds (number + 1) units next trees) →
     followed (unless taken next) (λ next. with_units (number + 1) (map unit_view units) next) ≡ Ok trees → Adds number (unit ∷ units) before trees
-units_by (Some mention) number unit units before trees dots rest h = absurd (cc)
+units_by (Some mention) number unit units before trees dots rest h =
+    absurd (no_answer (record { name = mention.name; line = mention.line }) trees h)
 units_by None number unit units before trees dots rest h =
     let said : List Said = unit_said number (unit_view unit) in
     let left : List Said = kept before.spellings said in
-    let then_ = rest h in (
-      joined (trees_of left) then_.0,
-      then_.1 ∙ joined_assoc before.trees (trees_of left) then_.0,
+    let after_it = rest h in (
+      joined (trees_of left) after_it.0,
+      after_it.1 ∙ joined_assoc before.trees (trees_of left) after_it.0,
       λ m o.
-          let k = unit_kept before.spellings said then_.0 m no_scope o outer_first in
+          let k = unit_kept before.spellings said after_it.0 m no_scope o outer_first in
           k.2
           ∙ ap₂ (λ (us : List (List Use)) (l : List (List (List ℕ × Option ℕ))). inner_uses (left_uses before.spellings said us) ++ l)
-            (units_keep_bindings number unit dots) (then_.2 k.0 k.1)
+            (units_keep_bindings number unit dots) (after_it.2 k.0 k.1)
           ∙ sym (inner_append (left_uses before.spellings said (unit_uses number (unit_view unit)))
             (program_uses (number + 1) (map unit_view units) (all_noted before.spellings (spellings_of said)))),
     )
@@ -118,7 +128,7 @@ units_by None number unit units before trees dots rest h =
 units_added : (units : List Code) (number : ℕ) (before : Program) (trees : Trees) → All HaveNoDots (map unit_view units) →
     with_units number (map unit_view units) before ≡ Ok trees → Adds number units before trees
 units_added [] number before trees dots h =
-    (none, mutual_end before trees h ∙ sym (joined_none before.trees), λ m o. ap inner_uses (no_uses m))
+    (none, same_answer before.trees trees h ∙ sym (joined_none before.trees), λ m o. ap inner_uses (no_uses m))
 units_added (unit ∷ units) number before trees dots h =
     let said = unit_said number (unit_view unit) in
     units_by (first_taken before.taken (mentions_of (kept before.spellings said))) number unit units before trees dots.0

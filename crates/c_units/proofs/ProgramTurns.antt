@@ -28,7 +28,7 @@ spellings_append (x ∷ xs) ys = by (is_plain x.tree) (spellings_append xs ys)
     by false h = h
 
 -- the declarations so far, with one more
-pub left_next : (spellings : List (List ℕ)) (seen : List Kept) (one : Kept) →
+left_next : (spellings : List (List ℕ)) (seen : List Kept) (one : Kept) →
     (kept spellings (map said_view (seen ++ one ∷ [])) ≡ kept spellings (map said_view seen) ++ kept spellings (said_view one ∷ []))
     × (spellings_of (map said_view (seen ++ one ∷ [])) ≡ spellings_of (map said_view seen) ++ spellings_of (said_view one ∷ []))
 left_next spellings seen one = (
@@ -36,26 +36,26 @@ left_next spellings seen one = (
   ap spellings_of (map-append said_view seen (one ∷ [])) ∙ spellings_append (map said_view seen) (said_view one ∷ []),
 )
 
-pub left_start : (spellings : List (List ℕ)) → (kept spellings [] ≡ []) × (spellings_of [] ≡ [])
+left_start : (spellings : List (List ℕ)) → (kept spellings [] ≡ []) × (spellings_of [] ≡ [])
 left_start spellings = (refl, refl)
 
 module _ (spellings : List (List ℕ)) (said : Said) where
   -- with a body or an initializer it is left
-  pub whole_left : is_plain said.tree ≡ false → (kept spellings (said ∷ []) ≡ said ∷ []) × (spellings_of (said ∷ []) ≡ [])
+  whole_left : is_plain said.tree ≡ false → (kept spellings (said ∷ []) ≡ said ∷ []) × (spellings_of (said ∷ []) ≡ [])
   whole_left h = (
     ap (λ (b : Bool). if not (b && is_among spellings (spelling said.tree)) then said ∷ [] else []) h,
     ap (λ (b : Bool). if b then spelling said.tree ∷ [] else []) h,
   )
 
   -- without, it is left where no earlier unit has it
-  pub new_left : is_plain said.tree ≡ true → is_among spellings (spelling said.tree) ≡ false →
+  new_left : is_plain said.tree ≡ true → is_among spellings (spelling said.tree) ≡ false →
       (kept spellings (said ∷ []) ≡ said ∷ []) × (spellings_of (said ∷ []) ≡ spelling said.tree ∷ [])
   new_left h g = (
     ap₂ (λ (b c : Bool). if not (b && c) then said ∷ [] else []) h g,
     ap (λ (b : Bool). if b then spelling said.tree ∷ [] else []) h,
   )
 
-  pub again_left : is_plain said.tree ≡ true → is_among spellings (spelling said.tree) ≡ true →
+  again_left : is_plain said.tree ≡ true → is_among spellings (spelling said.tree) ≡ true →
       (kept spellings (said ∷ []) ≡ []) × (spellings_of (said ∷ []) ≡ spelling said.tree ∷ [])
   again_left h g = (
     ap₂ (λ (b c : Bool). if not (b && c) then said ∷ [] else []) h g,
@@ -200,3 +200,28 @@ pub merge_refused : (xs : List Code) (i number : ℕ) (x : Code) (before new : P
 merge_refused xs i number x before new (e.Conflict name line) several h is whole refused =
     several_merged xs several ∙ sym whole ∙ unit_stops xs i number x before (record { name = name; line = line }) h is refused
 merge_refused xs i number x before new e.NoMemory several h is whole refused = tt
+
+-- the same, each alone
+pub kept_next : (spellings : List (List ℕ)) (seen : List Kept) (one : Kept) →
+    kept spellings (map said_view (seen ++ one ∷ [])) ≡ kept spellings (map said_view seen) ++ kept spellings (said_view one ∷ [])
+kept_next spellings seen one = (left_next spellings seen one).0
+
+pub spellings_next : (seen : List Kept) (one : Kept) →
+    spellings_of (map said_view (seen ++ one ∷ [])) ≡ spellings_of (map said_view seen) ++ spellings_of (said_view one ∷ [])
+spellings_next seen one = (left_next [] seen one).1
+
+module _ (spellings : List (List ℕ)) (said : Said) where
+  pub whole_kept : is_plain said.tree ≡ false → kept spellings (said ∷ []) ≡ said ∷ []
+  whole_kept h = (whole_left spellings said h).0
+
+  pub new_kept : is_plain said.tree ≡ true → is_among spellings (spelling said.tree) ≡ false → kept spellings (said ∷ []) ≡ said ∷ []
+  new_kept h g = (new_left spellings said h g).0
+
+  pub again_kept : is_plain said.tree ≡ true → is_among spellings (spelling said.tree) ≡ true → kept spellings (said ∷ []) ≡ []
+  again_kept h g = (again_left spellings said h g).0
+
+pub whole_spelled : (said : Said) → is_plain said.tree ≡ false → spellings_of (said ∷ []) ≡ []
+whole_spelled said h = (whole_left [] said h).1
+
+pub plain_spelled : (said : Said) → is_plain said.tree ≡ true → spellings_of (said ∷ []) ≡ spelling said.tree ∷ []
+plain_spelled said h = ap (λ (b : Bool). if b then spelling said.tree ∷ [] else []) h

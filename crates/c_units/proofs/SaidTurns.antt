@@ -1,5 +1,5 @@
 -- External declarations that are gone through in turn.
-use Rattle.std.proofs.Common.{◌≡◌, ◌<◌, ◌≤◌, ◌+◌, ℕ, Bool, true, false, List, [], ◌∷◌, ◌++◌, drop, length, get_or, map, Option, Some, None, is_some, append_assoc, append-nil, refl, ap, ap₂, sym, ◌∙◌}
+use Rattle.std.proofs.Common.{◌≡◌, ◌<◌, ◌≤◌, ◌+◌, ℕ, Bool, true, false, List, [], ◌∷◌, ◌++◌, drop, length, get_or, map, option_to_list, Option, Some, None, is_some, append_assoc, append-nil, refl, ap, ap₂, sym, ◌∙◌}
 use Rattle.std.proofs.lemmas.List.{map-append}
 use Rattle.c_tree.specs.declared.tree.Declarator.{Declarator}
 use Rattle.c_tree.specs.declared.statement.Init.{Init}
@@ -11,6 +11,7 @@ use Rattle.c_tree.specs.View.{declarator_tree}
 use Rattle.c_units.specs.declared.said.Said.{Said as Kept}
 use Rattle.c_units.specs.declared.mention.Role.{Role}
 use Rattle.c_units.specs.Names.{Names, behind, renamed}
+use Rattle.c_units.specs.Mentions.{Mention}
 use Rattle.c_units.specs.Externals.{Said, role_of, behind_declarator, renamed_declarator, behind_entries, renamed_entries, behind_external, renamed_external, each_said}
 use Rattle.c_units.specs.Merge.{are_plain}
 use Rattle.c_units.specs.Kept.{said_view}
@@ -160,7 +161,7 @@ said_next xs i x done one s d h is made told known =
     let next : Names = behind_external (decl_view x) (cleared_of s) in
     let more : each_said rest d ≡ each_said rest next = ap (λ (u : Names). each_said rest u) known ∙ cleared rest next in
     let first : Said = record { tree = renamed_external (decl_view x) (cleared_of s); mentions = next.mentions } in
-    let same : said_view one ≡ first = ap₂ (λ (t : Tree) (ms : _). record { tree = t; mentions = ms }) made told in
+    let same : said_view one ≡ first = ap₂ (λ (t : Tree) (ms : List Mention). record { tree = t; mentions = ms }) made told in
     ap (λ (l : List Said). l ++ each_said rest d) (map-append said_view done (one ∷ []))
     ∙ append_assoc (map said_view done) (said_view one ∷ []) (each_said rest d)
     ∙ ap₂ (λ (y : Said) (l : List Said). map said_view done ++ y ∷ l) same more
@@ -184,3 +185,11 @@ pub copy_end : (xs : List Decl) (i : ℕ) (done : List Decl) → length xs ≤ i
     joined (trees decl_view done) (trees decl_view (drop i xs)) ≡ trees decl_view done
 copy_end xs i done h =
     ap (λ (l : List Decl). joined (trees decl_view done) (trees decl_view l)) (drop_end xs i h) ∙ joined_none (trees decl_view done)
+
+-- a declaration that is alone in a list leaves it
+pub alone_leaves : (list rest : List Decl) (one : Decl) (popped : Option Decl) → list ≡ [] ++ one ∷ [] → list ≡ rest ++ option_to_list popped →
+    is_some popped ≡ true → popped ≡ Some one
+alone_leaves list [] one (Some last) h g e = let same : one ∷ [] ≡ last ∷ [] = sym h ∙ g in cc
+alone_leaves list (first ∷ []) one (Some last) h g e = let same : one ∷ [] ≡ first ∷ last ∷ [] = sym h ∙ g in cc
+alone_leaves list (first ∷ second ∷ rest) one (Some last) h g e = let same : one ∷ [] ≡ first ∷ second ∷ (rest ++ last ∷ []) = sym h ∙ g in cc
+alone_leaves list rest one None h g e = cc

@@ -330,3 +330,187 @@ module _ (x : Names) where
       let tree = if_view line (expr_view test) (stmt_view body.value) (option_map (λ b. stmt_view b.value) other) in
       ends_as (stmt_tree kind line) tree (inner tree x) (renamed tree x)
       (ap (λ (k : StmtKind). stmt_tree k line) h ∙ if_else_tree test body other line) (refl, refl)
+
+  pub str_known : (kind : ExprKind) (parts : List (List ℕ)) (line : ℕ) → kind ≡ e.Str parts →
+      behind (expr_tree kind line) x ≡ x
+  str_known kind parts line h0 = (str_is kind parts line h0).0
+
+  pub str_made : (kind : ExprKind) (parts : List (List ℕ)) (line : ℕ) → kind ≡ e.Str parts →
+      renamed (expr_tree kind line) x ≡ (Node f.Str (At line ▹ Node f.Strings (literal_leaves parts) ▹ none))
+  str_made kind parts line h0 = (str_is kind parts line h0).1
+
+  pub call_known : (kind : ExprKind) (callee : Box Expr Global) (arguments : Vec Expr Global) (line : ℕ) → kind ≡ e.Call callee arguments →
+      let c = behind (expr_view callee.value) x in
+      behind (expr_tree kind line) x ≡ (in_turn (trees expr_view arguments.items) c)
+  call_known kind callee arguments line h0 = (call_is kind callee arguments line h0).0
+
+  pub call_made : (kind : ExprKind) (callee : Box Expr Global) (arguments : Vec Expr Global) (line : ℕ) → kind ≡ e.Call callee arguments →
+      let c = behind (expr_view callee.value) x in
+      renamed (expr_tree kind line) x ≡ (Node f.Call (At line ▹ renamed (expr_view callee.value) x ▹ Node f.Arguments (each_renamed (trees expr_view arguments.items) c) ▹ none))
+  call_made kind callee arguments line h0 = (call_is kind callee arguments line h0).1
+
+  pub sizeof_known : (kind : ExprKind) (type : Box TypeName Global) (line : ℕ) → kind ≡ e.SizeofType type →
+      behind (expr_tree kind line) x ≡ (behind (typename_view type.value) x)
+  sizeof_known kind type line h0 = (sizeof_is kind type line h0).0
+
+  pub sizeof_made : (kind : ExprKind) (type : Box TypeName Global) (line : ℕ) → kind ≡ e.SizeofType type →
+      renamed (expr_tree kind line) x ≡ (Node f.SizeofType (At line ▹ renamed (typename_view type.value) x ▹ none))
+  sizeof_made kind type line h0 = (sizeof_is kind type line h0).1
+
+  pub cast_known : (kind : ExprKind) (type : Box TypeName Global) (operand : Box Expr Global) (line : ℕ) → kind ≡ e.Cast type operand →
+      let c = behind (typename_view type.value) x in
+      behind (expr_tree kind line) x ≡ (behind (expr_view operand.value) c)
+  cast_known kind type operand line h0 = (cast_is kind type operand line h0).0
+
+  pub cast_made : (kind : ExprKind) (type : Box TypeName Global) (operand : Box Expr Global) (line : ℕ) → kind ≡ e.Cast type operand →
+      let c = behind (typename_view type.value) x in
+      renamed (expr_tree kind line) x ≡ (Node f.Cast (At line ▹ renamed (typename_view type.value) x ▹ renamed (expr_view operand.value) c ▹ none))
+  cast_made kind type operand line h0 = (cast_is kind type operand line h0).1
+
+  pub specs_known : (specs : Specs) → behind (specs_view specs) x ≡ (in_turn (trees spec_tree specs.words.items) x)
+  specs_known specs = (specs_is specs).0
+
+  pub specs_made : (specs : Specs) → renamed (specs_view specs) x ≡ (Node f.Specs (At specs.line ▹ each_renamed (trees spec_tree specs.words.items) x))
+  specs_made specs = (specs_is specs).1
+
+  pub record_known : (kind : TagKind) (sort : RecordSort) (name : Option (List ℕ)) (members : Vec Member Global) (line : ℕ) → kind ≡ t.RecordBody sort name members →
+      let c = mention_any name (binding_at x) Tagged line x in
+      behind (tag_tree kind line) x ≡ (in_turn (trees member_view members.items) c)
+  record_known kind sort name members line h0 = (record_is kind sort name members line h0).0
+
+  pub record_made : (kind : TagKind) (sort : RecordSort) (name : Option (List ℕ)) (members : Vec Member Global) (line : ℕ) → kind ≡ t.RecordBody sort name members →
+      let c = mention_any name (binding_at x) Tagged line x in
+      renamed (tag_tree kind line) x ≡ (Node (f.RecordBody sort) (At line ▹ maybe_name name ▹ Node f.Members (each_renamed (trees member_view members.items) c) ▹ none))
+  record_made kind sort name members line h0 = (record_is kind sort name members line h0).1
+
+  pub enum_known : (kind : TagKind) (name : Option (List ℕ)) (enumerators : Vec Enumerator Global) (trailing : Bool) (line : ℕ) → kind ≡ t.EnumBody name enumerators trailing →
+      let c = mention_any name (binding_at x) Tagged line x in
+      behind (tag_tree kind line) x ≡ (in_turn (trees enumerator_tree enumerators.items) c)
+  enum_known kind name enumerators trailing line h0 = (enum_is kind name enumerators trailing line h0).0
+
+  pub enum_made : (kind : TagKind) (name : Option (List ℕ)) (enumerators : Vec Enumerator Global) (trailing : Bool) (line : ℕ) → kind ≡ t.EnumBody name enumerators trailing →
+      let c = mention_any name (binding_at x) Tagged line x in
+      renamed (tag_tree kind line) x ≡ (Node (f.EnumBody trailing) (At line ▹ maybe_name name ▹ Node f.Enumerators (each_renamed (trees enumerator_tree enumerators.items) c) ▹ none))
+  enum_made kind name enumerators trailing line h0 = (enum_is kind name enumerators trailing line h0).1
+
+  pub member_known : (m : Member) →
+      let c = behind (specs_view m.specs) x in
+      behind (member_view m) x ≡ (in_turn (trees declarator_tree m.declarators.items) c)
+  member_known m = (member_is m).0
+
+  pub member_made : (m : Member) →
+      let c = behind (specs_view m.specs) x in
+      renamed (member_view m) x ≡ (Node f.Member (At m.line ▹ renamed (specs_view m.specs) x ▹ Node f.MemberNames (each_renamed (trees declarator_tree m.declarators.items) c) ▹ none))
+  member_made m = (member_is m).1
+
+  pub pointer_known : (declarator : Declarator) (line consts : ℕ) (target : Box Declarator Global) → declarator ≡ d.Pointer line consts target →
+      behind (declarator_tree declarator) x ≡ (behind (declarator_tree target.value) x)
+  pointer_known declarator line consts target h0 = (pointer_is declarator line consts target h0).0
+
+  pub pointer_made : (declarator : Declarator) (line consts : ℕ) (target : Box Declarator Global) → declarator ≡ d.Pointer line consts target →
+      renamed (declarator_tree declarator) x ≡ (Node (f.Pointer consts) (At line ▹ renamed (declarator_tree target.value) x ▹ none))
+  pointer_made declarator line consts target h0 = (pointer_is declarator line consts target h0).1
+
+  pub direct_known : (declarator : Declarator) (base : Base) (suffixes : Vec Suffix Global) → declarator ≡ d.Direct base suffixes →
+      let c = behind (base_tree base) x in
+      behind (declarator_tree declarator) x ≡ (in_turn (trees suffix_view suffixes.items) c)
+  direct_known declarator base suffixes h0 = (direct_is declarator base suffixes h0).0
+
+  pub direct_made : (declarator : Declarator) (base : Base) (suffixes : Vec Suffix Global) → declarator ≡ d.Direct base suffixes →
+      let c = behind (base_tree base) x in
+      renamed (declarator_tree declarator) x ≡ (Node f.Direct (renamed (base_tree base) x ▹ Node f.Suffixes (each_renamed (trees suffix_view suffixes.items) c) ▹ none))
+  direct_made declarator base suffixes h0 = (direct_is declarator base suffixes h0).1
+
+  pub params_known : (kind : SuffixKind) (params : Vec Param Global) (line : ℕ) → kind ≡ s.Params params →
+      let c = record x { inside = true } in
+      behind (suffix_tree kind line) x ≡ (left_scope x (in_turn (trees param_view params.items) c))
+  params_known kind params line h0 = (params_is kind params line h0).0
+
+  pub params_made : (kind : SuffixKind) (params : Vec Param Global) (line : ℕ) → kind ≡ s.Params params →
+      let c = record x { inside = true } in
+      renamed (suffix_tree kind line) x ≡ (Node f.FunctionSuffix (At line ▹ Node f.Params (each_renamed (trees param_view params.items) c) ▹ none))
+  params_made kind params line h0 = (params_is kind params line h0).1
+
+  pub array_known : (kind : SuffixKind) (length : Option (Box Expr Global)) (line : ℕ) → kind ≡ s.Array length →
+      behind (suffix_tree kind line) x ≡ (behind_maybe (option_map (λ b. expr_view b.value) length) x)
+  array_known kind length line h0 = (array_is kind length line h0).0
+
+  pub array_made : (kind : SuffixKind) (length : Option (Box Expr Global)) (line : ℕ) → kind ≡ s.Array length →
+      renamed (suffix_tree kind line) x ≡ (Node f.ArraySuffix (At line ▹ renamed_maybe f.MaybeLength (option_map (λ b. expr_view b.value) length) x ▹ none))
+  array_made kind length line h0 = (array_is kind length line h0).1
+
+  pub param_known : (p : Param) →
+      let c = behind (declarator_tree p.declarator) (behind (specs_view p.specs) x) in
+      behind (param_view p) x ≡ (declare (name_of (declarator_tree p.declarator)) (binding_at c) c)
+  param_known p = (param_is p).0
+
+  pub param_made : (p : Param) →
+      let c = behind (declarator_tree p.declarator) (behind (specs_view p.specs) x) in
+      renamed (param_view p) x ≡ (Node f.Param (At p.line ▹ renamed (specs_view p.specs) x ▹ renamed (declarator_tree p.declarator) (behind (specs_view p.specs) x) ▹ none))
+  param_made p = (param_is p).1
+
+  pub enumerator_known : (e : Enumerator) →
+      let one = out-Enumerator e in
+      let c = behind_maybe (option_map (λ b. expr_view b.value) one.value) (mention (binding_at x) Defined one.name one.line x) in
+      behind (enumerator_tree e) x ≡ (declare (Some one.name) (binding_at c) c)
+  enumerator_known e = (enumerator_is e).0
+
+  pub enumerator_made : (e : Enumerator) →
+      let one = out-Enumerator e in
+      let c = behind_maybe (option_map (λ b. expr_view b.value) one.value) (mention (binding_at x) Defined one.name one.line x) in
+      renamed (enumerator_tree e) x ≡ (Node f.Enumerator (At one.line ▹ name_leaf one.name ▹ renamed_maybe f.MaybeValue (option_map (λ b. expr_view b.value) one.value) (mention (binding_at x) Defined one.name one.line x) ▹ none))
+  enumerator_made e = (enumerator_is e).1
+
+  pub init_list_known : (kind : InitKind) (inits : Vec Init Global) (trailing : Bool) (line : ℕ) → kind ≡ i.List inits trailing →
+      behind (init_tree kind line) x ≡ (in_turn (trees init_view inits.items) x)
+  init_list_known kind inits trailing line h0 = (init_list_is kind inits trailing line h0).0
+
+  pub init_list_made : (kind : InitKind) (inits : Vec Init Global) (trailing : Bool) (line : ℕ) → kind ≡ i.List inits trailing →
+      renamed (init_tree kind line) x ≡ (Node (f.InitList trailing) (At line ▹ Node f.Inits (each_renamed (trees init_view inits.items) x) ▹ none))
+  init_list_made kind inits trailing line h0 = (init_list_is kind inits trailing line h0).1
+
+  pub entry_known : (one : Declarator × Option Init) →
+      let b = behind (declarator_tree one.0) x in
+      let c = declare (name_of (declarator_tree one.0)) (binding_at b) b in
+      behind (entry_view one) x ≡ (behind (maybe f.MaybeInit init_view one.1) c)
+  entry_known one = (entry_is one).0
+
+  pub entry_made : (one : Declarator × Option Init) →
+      let b = behind (declarator_tree one.0) x in
+      let c = declare (name_of (declarator_tree one.0)) (binding_at b) b in
+      renamed (entry_view one) x ≡ (Node f.Entry (Node f.Declared (renamed (declarator_tree one.0) x ▹ none) ▹ renamed (maybe f.MaybeInit init_view one.1) c ▹ none))
+  entry_made one = (entry_is one).1
+
+  pub names_known : (names : List (Declarator × Option Init)) →
+      behind (names_view names) x ≡ (in_turn (trees entry_view names) x)
+  names_known names = (names_is names).0
+
+  pub names_made : (names : List (Declarator × Option Init)) →
+      renamed (names_view names) x ≡ (Node f.Names (each_renamed (trees entry_view names) x))
+  names_made names = (names_is names).1
+
+  pub block_ends : (kind : StmtKind) (list : Vec Stmt Global) (line : ℕ) → kind ≡ k.Block list →
+      inner (stmt_tree kind line) x ≡ (in_turn (trees stmt_view list.items) x)
+  block_ends kind list line h0 = (block_is kind list line h0).0
+
+  pub block_made : (kind : StmtKind) (list : Vec Stmt Global) (line : ℕ) → kind ≡ k.Block list →
+      renamed (stmt_tree kind line) x ≡ (Node f.Block (At line ▹ Node f.Items (each_renamed (trees stmt_view list.items) x) ▹ none))
+  block_made kind list line h0 = (block_is kind list line h0).1
+
+  pub delay_ends : (kind : StmtKind) (list : Vec Stmt Global) (line : ℕ) → kind ≡ k.Delay list →
+      inner (stmt_tree kind line) x ≡ (in_turn (trees stmt_view list.items) x)
+  delay_ends kind list line h0 = (delay_is kind list line h0).0
+
+  pub delay_made : (kind : StmtKind) (list : Vec Stmt Global) (line : ℕ) → kind ≡ k.Delay list →
+      renamed (stmt_tree kind line) x ≡ (Node f.Delay (At line ▹ Node f.Items (each_renamed (trees stmt_view list.items) x) ▹ none))
+  delay_made kind list line h0 = (delay_is kind list line h0).1
+
+  pub choice_ends : (kind : StmtKind) (test : Expr) (body : Box Stmt Global) (other : Option (Box Stmt Global)) (line : ℕ) → kind ≡ k.If test body other →
+      let tree = if_view line (expr_view test) (stmt_view body.value) (option_map (λ b. stmt_view b.value) other) in
+      inner (stmt_tree kind line) x ≡ (inner tree x)
+  choice_ends kind test body other line h0 = (choice_is kind test body other line h0).0
+
+  pub choice_made : (kind : StmtKind) (test : Expr) (body : Box Stmt Global) (other : Option (Box Stmt Global)) (line : ℕ) → kind ≡ k.If test body other →
+      let tree = if_view line (expr_view test) (stmt_view body.value) (option_map (λ b. stmt_view b.value) other) in
+      renamed (stmt_tree kind line) x ≡ (renamed tree x)
+  choice_made kind test body other line h0 = (choice_is kind test body other line h0).1

@@ -97,7 +97,7 @@ impl<'a> Walk<'a> {
 
     /// A declarator with another name.
     #[cycle(named)]
-    #[tactic(auto, unfolding(crate::specs::Externals::with_name, crate::specs::Externals::all_with_name, c_tree::specs::Scopes::leads_to_name), using(crate::proofs::TreeParts::pointer_is, crate::proofs::TreeParts::direct_is))]
+    #[tactic(auto, unfolding(crate::specs::Externals::with_name, crate::specs::Externals::all_with_name, c_tree::specs::Scopes::leads_to_name), using(crate::proofs::TreeParts::pointer_known, crate::proofs::TreeParts::pointer_made, crate::proofs::TreeParts::direct_known, crate::proofs::TreeParts::direct_made))]
     pub(crate) fn declarator_as(
         &mut self,
         declarator: &'a Declarator,
@@ -105,7 +105,8 @@ impl<'a> Walk<'a> {
     ) -> Result<Declarator, NoMemory>
         ensures tree { IfOk result (λ r.
             declarator_tree r ≡ with_name name (renamed (declarator_tree declarator.now) self.old)) }
-        ensures names { IfOk result (λ _. self.new ≡ behind (declarator_tree declarator.now) self.old) }
+        ensures names { IfOk result (λ _.
+            self.new ≡ behind (declarator_tree declarator.now) self.old) }
     {
         match declarator {
             Declarator::Pointer(line, consts, target) => {

@@ -22,8 +22,13 @@ use hs_base::{Items, Line, NoMemory};
 impl<'a> Walk<'a> {
     /// A name in an expression.
     fn name(&mut self, line: Line, name: &'a [u8]) -> Result<Expr, NoMemory>
-        ensures tree { IfOk result (λ r. expr_view r ≡ Node form.Name (At line ▹ name_leaf (name_by (binding_of self.old.known name.entry.now) self.old.suffix name.entry.now) ▹ none)) }
-        ensures names { IfOk result (λ _. self.new ≡ mention (binding_of self.old.known name.entry.now) Used name.entry.now line self.old) }
+        ensures tree { IfOk result (λ r.
+            let binding = binding_of self.old.known name.entry.now in
+            expr_view r ≡ Node form.Name (
+            At line ▹ name_leaf (name_by binding self.old.suffix name.entry.now) ▹ none)) }
+        ensures names { IfOk result (λ _.
+            self.new ≡
+            mention (binding_of self.old.known name.entry.now) Used name.entry.now line self.old) }
     {
         let binding = self.binding(name);
         self.mention(binding, Role::Used, name, line)?;
@@ -52,7 +57,7 @@ impl<'a> Walk<'a> {
 
     /// An expression of that kind.
     #[cycle(walk)]
-    #[tactic(auto, unfolding(c_tree::specs::View::expr_tree, crate::specs::Names::named, c_tree::specs::Scopes::name_of, c_tree::specs::Scopes::name_among, crate::specs::Names::behind, crate::specs::Names::all_behind, crate::specs::Names::renamed, crate::specs::Names::all_renamed, crate::specs::Names::left, crate::specs::Names::entered, crate::specs::Names::made, c_tree::specs::Grammar::shape, c_tree::specs::Scopes::is_scope), using(crate::proofs::TreeParts::str_is, crate::proofs::TreeParts::call_is, crate::proofs::TreeParts::sizeof_is, crate::proofs::TreeParts::cast_is))]
+    #[tactic(auto, unfolding(c_tree::specs::View::expr_tree, crate::specs::Names::named, c_tree::specs::Scopes::name_of, c_tree::specs::Scopes::name_among, crate::specs::Names::behind, crate::specs::Names::all_behind, crate::specs::Names::renamed, crate::specs::Names::all_renamed, crate::specs::Names::left, crate::specs::Names::entered, crate::specs::Names::made, c_tree::specs::Grammar::shape, c_tree::specs::Scopes::is_scope), using(crate::proofs::TreeParts::str_known, crate::proofs::TreeParts::str_made, crate::proofs::TreeParts::call_known, crate::proofs::TreeParts::call_made, crate::proofs::TreeParts::sizeof_known, crate::proofs::TreeParts::sizeof_made, crate::proofs::TreeParts::cast_known, crate::proofs::TreeParts::cast_made))]
     fn expr_of(&mut self, line: Line, kind: &'a ExprKind) -> Result<Expr, NoMemory>
         ensures tree { IfOk result (λ r. expr_view r ≡ renamed (expr_tree kind.now line) self.old) }
         ensures names { IfOk result (λ _. self.new ≡ behind (expr_tree kind.now line) self.old) }
@@ -217,7 +222,8 @@ impl<'a> Walk<'a> {
     #[cycle(walk)]
     #[tactic(auto, using(crate::proofs::ItemTurns::item_known, crate::proofs::ItemTurns::item_made, crate::proofs::ItemTurns::end_known, crate::proofs::ItemTurns::end_made))]
     fn exprs(&mut self, list: &'a [Expr]) -> Result<Vec<Expr>, NoMemory>
-        ensures trees { IfOk result (λ v. trees expr_view v.items ≡ each_renamed (trees expr_view list.now) self.old) }
+        ensures trees { IfOk result (λ v.
+            trees expr_view v.items ≡ each_renamed (trees expr_view list.now) self.old) }
         ensures names { IfOk result (λ _. self.new ≡ in_turn (trees expr_view list.now) self.old) }
     {
         let mut all = Vec::new(self.alloc);
@@ -231,7 +237,8 @@ impl<'a> Walk<'a> {
     #[cycle(walk)]
     #[tactic(auto, unfolding(crate::specs::Names::behind, crate::specs::Names::all_behind, crate::specs::Names::renamed, crate::specs::Names::all_renamed, crate::specs::Names::left, crate::specs::Names::entered, crate::specs::Names::made, c_tree::specs::Grammar::shape, c_tree::specs::Scopes::is_scope))]
     fn typename(&mut self, typename: &'a TypeName) -> Result<TypeName, NoMemory>
-        ensures tree { IfOk result (λ r. typename_view r ≡ renamed (typename_view typename.now) self.old) }
+        ensures tree { IfOk result (λ r.
+            typename_view r ≡ renamed (typename_view typename.now) self.old) }
         ensures names { IfOk result (λ _. self.new ≡ behind (typename_view typename.now) self.old) }
     {
         let specs = self.specs(&typename.specs)?;
@@ -245,7 +252,7 @@ impl<'a> Walk<'a> {
 
     /// Specs.
     #[cycle(walk)]
-    #[tactic(auto, unfolding(crate::specs::Names::behind, crate::specs::Names::all_behind, crate::specs::Names::renamed, crate::specs::Names::all_renamed, crate::specs::Names::left, crate::specs::Names::entered, crate::specs::Names::made, c_tree::specs::Grammar::shape, c_tree::specs::Scopes::is_scope), using(crate::proofs::TreeParts::specs_is))]
+    #[tactic(auto, unfolding(crate::specs::Names::behind, crate::specs::Names::all_behind, crate::specs::Names::renamed, crate::specs::Names::all_renamed, crate::specs::Names::left, crate::specs::Names::entered, crate::specs::Names::made, c_tree::specs::Grammar::shape, c_tree::specs::Scopes::is_scope), using(crate::proofs::TreeParts::specs_known, crate::proofs::TreeParts::specs_made))]
     pub(crate) fn specs(&mut self, specs: &'a Specs) -> Result<Specs, NoMemory>
         ensures tree { IfOk result (λ r. specs_view r ≡ renamed (specs_view specs.now) self.old) }
         ensures names { IfOk result (λ _. self.new ≡ behind (specs_view specs.now) self.old) }
@@ -260,7 +267,8 @@ impl<'a> Walk<'a> {
     #[cycle(walk)]
     #[tactic(auto, using(crate::proofs::ItemTurns::item_known, crate::proofs::ItemTurns::item_made, crate::proofs::ItemTurns::end_known, crate::proofs::ItemTurns::end_made))]
     fn words(&mut self, list: &'a [Spec]) -> Result<Vec<Spec>, NoMemory>
-        ensures trees { IfOk result (λ v. trees spec_tree v.items ≡ each_renamed (trees spec_tree list.now) self.old) }
+        ensures trees { IfOk result (λ v.
+            trees spec_tree v.items ≡ each_renamed (trees spec_tree list.now) self.old) }
         ensures names { IfOk result (λ _. self.new ≡ in_turn (trees spec_tree list.now) self.old) }
     {
         let mut all = Vec::new(self.alloc);
@@ -306,7 +314,8 @@ impl<'a> Walk<'a> {
 
     /// A tag with braces is mentioned at file scope, where it has a name.
     fn tagged(&mut self, name: &'a Option<Items<u8>>, line: Line) -> Result<(), NoMemory>
-        ensures { IfOk result (λ _. self.new ≡ mention_any name.now (binding_at self.old) Tagged line self.old) }
+        ensures { IfOk result (λ _.
+            self.new ≡ mention_any name.now (binding_at self.old) Tagged line self.old) }
     {
         match name {
             Some(name) => {
@@ -319,7 +328,7 @@ impl<'a> Walk<'a> {
 
     /// A tag.
     #[cycle(walk)]
-    #[tactic(auto, unfolding(c_tree::specs::View::tag_tree, crate::specs::Names::behind, crate::specs::Names::all_behind, crate::specs::Names::renamed, crate::specs::Names::all_renamed, crate::specs::Names::left, crate::specs::Names::entered, crate::specs::Names::made, c_tree::specs::Grammar::shape, c_tree::specs::Scopes::is_scope), using(crate::proofs::TreeParts::record_is, crate::proofs::TreeParts::enum_is))]
+    #[tactic(auto, unfolding(c_tree::specs::View::tag_tree, crate::specs::Names::behind, crate::specs::Names::all_behind, crate::specs::Names::renamed, crate::specs::Names::all_renamed, crate::specs::Names::left, crate::specs::Names::entered, crate::specs::Names::made, c_tree::specs::Grammar::shape, c_tree::specs::Scopes::is_scope), using(crate::proofs::TreeParts::record_known, crate::proofs::TreeParts::record_made, crate::proofs::TreeParts::enum_known, crate::proofs::TreeParts::enum_made))]
     fn tag(&mut self, tag: &'a Tag) -> Result<Tag, NoMemory>
         ensures tree { IfOk result (λ r. tag_view r ≡ renamed (tag_view tag.now) self.old) }
         ensures names { IfOk result (λ _. self.new ≡ behind (tag_view tag.now) self.old) }
@@ -347,8 +356,10 @@ impl<'a> Walk<'a> {
     #[cycle(walk)]
     #[tactic(auto, using(crate::proofs::ItemTurns::item_known, crate::proofs::ItemTurns::item_made, crate::proofs::ItemTurns::end_known, crate::proofs::ItemTurns::end_made))]
     fn members(&mut self, list: &'a [Member]) -> Result<Vec<Member>, NoMemory>
-        ensures trees { IfOk result (λ v. trees member_view v.items ≡ each_renamed (trees member_view list.now) self.old) }
-        ensures names { IfOk result (λ _. self.new ≡ in_turn (trees member_view list.now) self.old) }
+        ensures trees { IfOk result (λ v.
+            trees member_view v.items ≡ each_renamed (trees member_view list.now) self.old) }
+        ensures names { IfOk result (λ _.
+            self.new ≡ in_turn (trees member_view list.now) self.old) }
     {
         let mut all = Vec::new(self.alloc);
         for one in list {
@@ -359,9 +370,10 @@ impl<'a> Walk<'a> {
 
     /// Members of one declaration.
     #[cycle(walk)]
-    #[tactic(auto, unfolding(crate::specs::Names::behind, crate::specs::Names::all_behind, crate::specs::Names::renamed, crate::specs::Names::all_renamed, crate::specs::Names::left, crate::specs::Names::entered, crate::specs::Names::made, c_tree::specs::Grammar::shape, c_tree::specs::Scopes::is_scope), using(crate::proofs::TreeParts::member_is))]
+    #[tactic(auto, unfolding(crate::specs::Names::behind, crate::specs::Names::all_behind, crate::specs::Names::renamed, crate::specs::Names::all_renamed, crate::specs::Names::left, crate::specs::Names::entered, crate::specs::Names::made, c_tree::specs::Grammar::shape, c_tree::specs::Scopes::is_scope), using(crate::proofs::TreeParts::member_known, crate::proofs::TreeParts::member_made))]
     fn member(&mut self, member: &'a Member) -> Result<Member, NoMemory>
-        ensures tree { IfOk result (λ r. member_view r ≡ renamed (member_view member.now) self.old) }
+        ensures tree { IfOk result (λ r.
+            member_view r ≡ renamed (member_view member.now) self.old) }
         ensures names { IfOk result (λ _. self.new ≡ behind (member_view member.now) self.old) }
     {
         let specs = self.specs(&member.specs)?;
@@ -377,8 +389,11 @@ impl<'a> Walk<'a> {
     #[cycle(walk)]
     #[tactic(auto, using(crate::proofs::ItemTurns::item_known, crate::proofs::ItemTurns::item_made, crate::proofs::ItemTurns::end_known, crate::proofs::ItemTurns::end_made))]
     fn declarators(&mut self, list: &'a [Declarator]) -> Result<Vec<Declarator>, NoMemory>
-        ensures trees { IfOk result (λ v. trees declarator_tree v.items ≡ each_renamed (trees declarator_tree list.now) self.old) }
-        ensures names { IfOk result (λ _. self.new ≡ in_turn (trees declarator_tree list.now) self.old) }
+        ensures trees { IfOk result (λ v.
+            trees declarator_tree v.items ≡
+            each_renamed (trees declarator_tree list.now) self.old) }
+        ensures names { IfOk result (λ _.
+            self.new ≡ in_turn (trees declarator_tree list.now) self.old) }
     {
         let mut all = Vec::new(self.alloc);
         for one in list {
@@ -391,8 +406,11 @@ impl<'a> Walk<'a> {
     #[cycle(walk)]
     #[tactic(auto, using(crate::proofs::ItemTurns::item_known, crate::proofs::ItemTurns::item_made, crate::proofs::ItemTurns::end_known, crate::proofs::ItemTurns::end_made))]
     fn enumerators(&mut self, list: &'a [Enumerator]) -> Result<Vec<Enumerator>, NoMemory>
-        ensures trees { IfOk result (λ v. trees enumerator_tree v.items ≡ each_renamed (trees enumerator_tree list.now) self.old) }
-        ensures names { IfOk result (λ _. self.new ≡ in_turn (trees enumerator_tree list.now) self.old) }
+        ensures trees { IfOk result (λ v.
+            trees enumerator_tree v.items ≡
+            each_renamed (trees enumerator_tree list.now) self.old) }
+        ensures names { IfOk result (λ _.
+            self.new ≡ in_turn (trees enumerator_tree list.now) self.old) }
     {
         let mut all = Vec::new(self.alloc);
         for one in list {
@@ -403,9 +421,10 @@ impl<'a> Walk<'a> {
 
     /// An enumerator, which is declared behind its value.
     #[cycle(walk)]
-    #[tactic(auto, unfolding(crate::specs::Names::behind, crate::specs::Names::all_behind, crate::specs::Names::renamed, crate::specs::Names::all_renamed, crate::specs::Names::left, crate::specs::Names::entered, crate::specs::Names::made, c_tree::specs::Grammar::shape, c_tree::specs::Scopes::is_scope), using(crate::proofs::TreeParts::enumerator_is))]
+    #[tactic(auto, unfolding(crate::specs::Names::behind, crate::specs::Names::all_behind, crate::specs::Names::renamed, crate::specs::Names::all_renamed, crate::specs::Names::left, crate::specs::Names::entered, crate::specs::Names::made, c_tree::specs::Grammar::shape, c_tree::specs::Scopes::is_scope), using(crate::proofs::TreeParts::enumerator_known, crate::proofs::TreeParts::enumerator_made))]
     fn enumerator(&mut self, one: &'a Enumerator) -> Result<Enumerator, NoMemory>
-        ensures tree { IfOk result (λ r. enumerator_tree r ≡ renamed (enumerator_tree one.now) self.old) }
+        ensures tree { IfOk result (λ r.
+            enumerator_tree r ≡ renamed (enumerator_tree one.now) self.old) }
         ensures names { IfOk result (λ _. self.new ≡ behind (enumerator_tree one.now) self.old) }
     {
         let name = one.name.as_slice();
@@ -419,8 +438,11 @@ impl<'a> Walk<'a> {
     /// An expression in a box, which may be left out.
     #[cycle(walk)]
     fn maybe_boxed(&mut self, e: &'a Option<Box<Expr>>) -> Result<Option<Expr>, NoMemory>
-        ensures tree { (form : Form) → IfOk result (λ r. maybe form expr_view r ≡ renamed_maybe form (option_map (λ b. expr_view b.value) e.now) self.old) }
-        ensures names { IfOk result (λ _. self.new ≡ behind_maybe (option_map (λ b. expr_view b.value) e.now) self.old) }
+        ensures tree { (form : Form) → IfOk result (λ r.
+            maybe form expr_view r ≡
+            renamed_maybe form (option_map (λ b. expr_view b.value) e.now) self.old) }
+        ensures names { IfOk result (λ _.
+            self.new ≡ behind_maybe (option_map (λ b. expr_view b.value) e.now) self.old) }
     {
         match e {
             Some(e) => Ok(Some(self.expr(e)?)),
@@ -430,10 +452,12 @@ impl<'a> Walk<'a> {
 
     /// A declarator.
     #[cycle(walk)]
-    #[tactic(auto, unfolding(c_tree::specs::View::declarator_tree, crate::specs::Names::behind, crate::specs::Names::all_behind, crate::specs::Names::renamed, crate::specs::Names::all_renamed, crate::specs::Names::left, crate::specs::Names::entered, crate::specs::Names::made, c_tree::specs::Grammar::shape, c_tree::specs::Scopes::is_scope), using(crate::proofs::TreeParts::pointer_is, crate::proofs::TreeParts::direct_is))]
+    #[tactic(auto, unfolding(c_tree::specs::View::declarator_tree, crate::specs::Names::behind, crate::specs::Names::all_behind, crate::specs::Names::renamed, crate::specs::Names::all_renamed, crate::specs::Names::left, crate::specs::Names::entered, crate::specs::Names::made, c_tree::specs::Grammar::shape, c_tree::specs::Scopes::is_scope), using(crate::proofs::TreeParts::pointer_known, crate::proofs::TreeParts::pointer_made, crate::proofs::TreeParts::direct_known, crate::proofs::TreeParts::direct_made))]
     pub(crate) fn declarator(&mut self, declarator: &'a Declarator) -> Result<Declarator, NoMemory>
-        ensures tree { IfOk result (λ r. declarator_tree r ≡ renamed (declarator_tree declarator.now) self.old) }
-        ensures names { IfOk result (λ _. self.new ≡ behind (declarator_tree declarator.now) self.old) }
+        ensures tree { IfOk result (λ r.
+            declarator_tree r ≡ renamed (declarator_tree declarator.now) self.old) }
+        ensures names { IfOk result (λ _.
+            self.new ≡ behind (declarator_tree declarator.now) self.old) }
     {
         match declarator {
             Declarator::Pointer(line, consts, target) => {
@@ -469,8 +493,10 @@ impl<'a> Walk<'a> {
     #[cycle(walk)]
     #[tactic(auto, using(crate::proofs::ItemTurns::item_known, crate::proofs::ItemTurns::item_made, crate::proofs::ItemTurns::end_known, crate::proofs::ItemTurns::end_made))]
     pub(crate) fn suffixes(&mut self, list: &'a [Suffix]) -> Result<Vec<Suffix>, NoMemory>
-        ensures trees { IfOk result (λ v. trees suffix_view v.items ≡ each_renamed (trees suffix_view list.now) self.old) }
-        ensures names { IfOk result (λ _. self.new ≡ in_turn (trees suffix_view list.now) self.old) }
+        ensures trees { IfOk result (λ v.
+            trees suffix_view v.items ≡ each_renamed (trees suffix_view list.now) self.old) }
+        ensures names { IfOk result (λ _.
+            self.new ≡ in_turn (trees suffix_view list.now) self.old) }
     {
         let mut all = Vec::new(self.alloc);
         for one in list {
@@ -481,9 +507,10 @@ impl<'a> Walk<'a> {
 
     /// A suffix of a declarator. A parameter list is a scope (C99 6.2.1).
     #[cycle(walk)]
-    #[tactic(auto, unfolding(c_tree::specs::View::suffix_tree, crate::specs::Names::behind, crate::specs::Names::all_behind, crate::specs::Names::renamed, crate::specs::Names::all_renamed, crate::specs::Names::left, crate::specs::Names::entered, crate::specs::Names::made, c_tree::specs::Grammar::shape, c_tree::specs::Scopes::is_scope), using(crate::proofs::TreeParts::array_is, crate::proofs::TreeParts::params_is))]
+    #[tactic(auto, unfolding(c_tree::specs::View::suffix_tree, crate::specs::Names::behind, crate::specs::Names::all_behind, crate::specs::Names::renamed, crate::specs::Names::all_renamed, crate::specs::Names::left, crate::specs::Names::entered, crate::specs::Names::made, c_tree::specs::Grammar::shape, c_tree::specs::Scopes::is_scope), using(crate::proofs::TreeParts::array_known, crate::proofs::TreeParts::array_made, crate::proofs::TreeParts::params_known, crate::proofs::TreeParts::params_made))]
     fn suffix(&mut self, suffix: &'a Suffix) -> Result<Suffix, NoMemory>
-        ensures tree { IfOk result (λ r. suffix_view r ≡ renamed (suffix_view suffix.now) self.old) }
+        ensures tree { IfOk result (λ r.
+            suffix_view r ≡ renamed (suffix_view suffix.now) self.old) }
         ensures names { IfOk result (λ _. self.new ≡ behind (suffix_view suffix.now) self.old) }
     {
         let line = suffix.line;
@@ -507,7 +534,8 @@ impl<'a> Walk<'a> {
     #[cycle(walk)]
     #[tactic(auto, using(crate::proofs::ItemTurns::item_known, crate::proofs::ItemTurns::item_made, crate::proofs::ItemTurns::end_known, crate::proofs::ItemTurns::end_made))]
     pub(crate) fn params(&mut self, list: &'a [Param]) -> Result<Vec<Param>, NoMemory>
-        ensures trees { IfOk result (λ v. trees param_view v.items ≡ each_renamed (trees param_view list.now) self.old) }
+        ensures trees { IfOk result (λ v.
+            trees param_view v.items ≡ each_renamed (trees param_view list.now) self.old) }
         ensures names { IfOk result (λ _. self.new ≡ in_turn (trees param_view list.now) self.old) }
     {
         let mut all = Vec::new(self.alloc);
@@ -519,7 +547,7 @@ impl<'a> Walk<'a> {
 
     /// A parameter.
     #[cycle(walk)]
-    #[tactic(auto, unfolding(crate::specs::Names::behind, crate::specs::Names::all_behind, crate::specs::Names::renamed, crate::specs::Names::all_renamed, crate::specs::Names::left, crate::specs::Names::entered, crate::specs::Names::made, c_tree::specs::Grammar::shape, c_tree::specs::Scopes::is_scope), using(crate::proofs::TreeParts::param_is))]
+    #[tactic(auto, unfolding(crate::specs::Names::behind, crate::specs::Names::all_behind, crate::specs::Names::renamed, crate::specs::Names::all_renamed, crate::specs::Names::left, crate::specs::Names::entered, crate::specs::Names::made, c_tree::specs::Grammar::shape, c_tree::specs::Scopes::is_scope), using(crate::proofs::TreeParts::param_known, crate::proofs::TreeParts::param_made))]
     fn param(&mut self, param: &'a Param) -> Result<Param, NoMemory>
         ensures tree { IfOk result (λ r. param_view r ≡ renamed (param_view param.now) self.old) }
         ensures names { IfOk result (λ _. self.new ≡ behind (param_view param.now) self.old) }

@@ -31,15 +31,18 @@ fn role_of(typedef: bool, init: &Option<Init>) -> Role
 
 impl<'a> Walk<'a> {
     /// A declarator at file scope, in an external declaration at this line.
-    #[tactic(auto, using(crate::proofs::FileNames::nameless_is, crate::proofs::FileNames::named_is))]
+    #[tactic(auto, using(crate::proofs::FileNames::nameless_made, crate::proofs::FileNames::nameless_known, crate::proofs::FileNames::named_made, crate::proofs::FileNames::named_known))]
     fn file_declarator(
         &mut self,
         role: Role,
         line: Line,
         declarator: &'a Declarator,
     ) -> Result<Declarator, NoMemory>
-        ensures tree { IfOk result (λ r. declarator_tree r ≡ renamed_declarator role line (declarator_tree declarator.now) self.old) }
-        ensures names { IfOk result (λ _. self.new ≡ behind_declarator role line (declarator_tree declarator.now) self.old) }
+        ensures tree { IfOk result (λ r.
+            declarator_tree r ≡
+            renamed_declarator role line (declarator_tree declarator.now) self.old) }
+        ensures names { IfOk result (λ _.
+            self.new ≡ behind_declarator role line (declarator_tree declarator.now) self.old) }
     {
         let Some(name) = declared_name(declarator) else {
             return self.declarator(declarator);
@@ -60,8 +63,11 @@ impl<'a> Walk<'a> {
         typedef: bool,
         entry: &'a (Declarator, Option<Init>),
     ) -> Result<(Declarator, Option<Init>), NoMemory>
-        ensures tree { IfOk result (λ r. entry_view r ▹ none ≡ renamed_entries line typedef (entry_view entry.now ▹ none) self.old) }
-        ensures names { IfOk result (λ _. self.new ≡ behind_entries line typedef (entry_view entry.now ▹ none) self.old) }
+        ensures tree { IfOk result (λ r.
+            entry_view r ▹ none ≡
+            renamed_entries line typedef (entry_view entry.now ▹ none) self.old) }
+        ensures names { IfOk result (λ _.
+            self.new ≡ behind_entries line typedef (entry_view entry.now ▹ none) self.old) }
     {
         let declarator = self.file_declarator(role_of(typedef, &entry.1), line, &entry.0)?;
         let init = self.maybe_init(&entry.1)?;
@@ -76,8 +82,11 @@ impl<'a> Walk<'a> {
         typedef: bool,
         list: &'a [(Declarator, Option<Init>)],
     ) -> Result<Items<(Declarator, Option<Init>)>, NoMemory>
-        ensures trees { IfOk result (λ v. trees entry_view v ≡ renamed_entries line typedef (trees entry_view list.now) self.old) }
-        ensures names { IfOk result (λ _. self.new ≡ behind_entries line typedef (trees entry_view list.now) self.old) }
+        ensures trees { IfOk result (λ v.
+            trees entry_view v ≡
+            renamed_entries line typedef (trees entry_view list.now) self.old) }
+        ensures names { IfOk result (λ _.
+            self.new ≡ behind_entries line typedef (trees entry_view list.now) self.old) }
     {
         let mut all = Items::new(self.alloc);
         for one in list {
@@ -105,8 +114,12 @@ impl<'a> Walk<'a> {
         declarator: &'a Declarator,
         body: &'a [Stmt],
     ) -> Result<Items<Stmt>, NoMemory>
-        ensures tree { (end : ℕ) → IfOk result (λ v. body_view v end ≡ renamed (body_view body.now end) (inside_params (params_of (declarator_tree declarator.now)) self.old)) }
-        ensures names { (end : ℕ) → IfOk result (λ _. self.new ≡ left_scope self.old (behind (body_view body.now end) (inside_params (params_of (declarator_tree declarator.now)) self.old))) }
+        ensures tree { (end : ℕ) → IfOk result (λ v.
+            let start = inside_params (params_of (declarator_tree declarator.now)) self.old in
+            body_view v end ≡ renamed (body_view body.now end) start) }
+        ensures names { (end : ℕ) → IfOk result (λ _.
+            let start = inside_params (params_of (declarator_tree declarator.now)) self.old in
+            self.new ≡ left_scope self.old (behind (body_view body.now end) start)) }
     {
         let outer = self.outer();
         self.inside_params(declarator)?;
@@ -118,8 +131,10 @@ impl<'a> Walk<'a> {
     /// An external declaration.
     #[tactic(auto, unfolding(crate::specs::Externals::behind_external, crate::specs::Externals::renamed_external, c_tree::specs::Scopes::has_typedef))]
     pub(crate) fn external(&mut self, decl: &'a Decl) -> Result<Decl, NoMemory>
-        ensures tree { IfOk result (λ r. decl_view r ≡ renamed_external (decl_view decl.now) self.old) }
-        ensures names { IfOk result (λ _. self.new ≡ behind_external (decl_view decl.now) self.old) }
+        ensures tree { IfOk result (λ r.
+            decl_view r ≡ renamed_external (decl_view decl.now) self.old) }
+        ensures names { IfOk result (λ _.
+            self.new ≡ behind_external (decl_view decl.now) self.old) }
     {
         match decl {
             Decl::Function {

@@ -9,6 +9,10 @@
 //!
 //! In contracts the merge is `merged` of `specs/Merge.antt`: `Names` says what a name is bound to at a place of a unit,
 //! `Externals` goes over its external declarations, and `Mentions` says what two units may not both say of a name.
+//!
+//! What names are bound to is defined over the tree alone (`Binding`). [`units_keep_their_bindings`] says that a unit keeps its
+//! bindings as its names change, and [`merge_keeps_inner_bindings`] that a merge keeps those in inner scopes, whatever other
+//! units declare.
 #![tactic(auto)]
 
 mod declarations;

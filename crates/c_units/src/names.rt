@@ -80,7 +80,8 @@ impl<'a> Scope<'a> {
 
     /// Declares a name.
     pub(crate) fn declare(&mut self, name: &'a [u8], binding: Binding) -> Result<(), NoMemory>
-        ensures { IfOk result (λ _. self.new ≡ record { name = name.entry.now; binding = binding } ∷ self.old) }
+        ensures { IfOk result (λ _.
+            self.new ≡ record { name = name.entry.now; binding = binding } ∷ self.old) }
     {
         let before = self.binding(name);
         self.log.push(Entry {
@@ -130,7 +131,9 @@ fn bind<'a>(
     name: &'a [u8],
     binding: Binding,
 ) -> Result<(), NoMemory>
-    ensures ok { OnOk result ((other : Bor (List ℕ)) → bound_in bindings.new other ≡ (if bytes_eq name.entry.now other.now then binding else bound_in bindings.old other)) }
+    ensures ok { OnOk result ((other : Bor (List ℕ)) →
+        bound_in bindings.new other ≡
+        (if bytes_eq name.entry.now other.now then binding else bound_in bindings.old other)) }
     ensures err { OnErr result (bindings.new.entries ≡ bindings.old.entries) }
 {
     bindings.insert(name, binding)?;

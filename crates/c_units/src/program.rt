@@ -62,10 +62,13 @@ impl Program {
     }
 
     /// What is left of a unit: a declaration that an earlier one has in the same words is left out.
-    #[tactic(auto, using(crate::proofs::ProgramTurns::left_next, crate::proofs::ProgramTurns::left_start))]
+    #[tactic(auto, using(crate::proofs::ProgramTurns::kept_next, crate::proofs::ProgramTurns::spellings_next))]
     fn left<'a>(&self, all: Vec<Said<'a>>) -> Result<Left<'a>, NoMemory>
-        ensures said { IfOk result (λ left. map said_view left.said.items ≡ kept self.now.spellings (map said_view all.entry.items)) }
-        ensures spellings { IfOk result (λ left. left.spellings.items ≡ spellings_of (map said_view all.entry.items)) }
+        ensures said { IfOk result (λ left.
+            map said_view left.said.items ≡
+            kept self.now.spellings (map said_view all.entry.items)) }
+        ensures spellings { IfOk result (λ left.
+            left.spellings.items ≡ spellings_of (map said_view all.entry.items)) }
     {
         let mut left = Left {
             said: Vec::new(self.alloc),
@@ -78,7 +81,7 @@ impl Program {
     }
 
     /// The same of one external declaration.
-    #[tactic(auto, using(crate::proofs::ProgramTurns::whole_left, crate::proofs::ProgramTurns::new_left, crate::proofs::ProgramTurns::again_left))]
+    #[tactic(auto, using(crate::proofs::ProgramTurns::whole_kept, crate::proofs::ProgramTurns::new_kept, crate::proofs::ProgramTurns::again_kept, crate::proofs::ProgramTurns::whole_spelled, crate::proofs::ProgramTurns::plain_spelled))]
     fn sort<'a>(&self, left: &mut Left<'a>, one: Said<'a>) -> Result<(), NoMemory>
         ensures said { IfOk result (λ _.
             map said_view left.new.said.items ≡

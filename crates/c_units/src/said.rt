@@ -25,7 +25,8 @@ pub(crate) struct Said<'a> {
 /// The external declarations of a unit in turn.
 #[tactic(auto, using(crate::proofs::SaidTurns::said_next, crate::proofs::SaidTurns::said_end))]
 fn each_said<'a>(walk: &mut Walk<'a>, unit: &'a Unit) -> Result<Vec<Said<'a>>, NoMemory>
-    ensures { IfOk result (λ all. map said_view all.items ≡ each_said (unit_view unit.now) walk.old) }
+    ensures { IfOk result (λ all.
+        map said_view all.items ≡ each_said (unit_view unit.now) walk.old) }
 {
     let mut all = Vec::new(walk.alloc);
     let decls = unit.decls.as_slice();
@@ -100,6 +101,7 @@ pub(crate) fn is_plain(decl: &Decl) -> bool
 }
 
 /// How an external declaration is spelled, whatever its lines, and the declaration itself.
+#[tactic(auto, using(crate::proofs::SaidTurns::alone_leaves))]
 pub(crate) fn spelled(alloc: Global, decl: Decl) -> Result<(Items<u8>, Decl), NoMemory>
     ensures { IfOk result (λ r. (r.0 ≡ spelling (decl_view decl)) × (r.1 ≡ decl)) }
 {

@@ -38,8 +38,11 @@ impl<'a> Walk<'a> {
     /// An expression that may be left out.
     #[tactic(auto, unfolding(crate::specs::Names::behind, crate::specs::Names::all_behind, crate::specs::Names::renamed, crate::specs::Names::all_renamed, crate::specs::Names::left, crate::specs::Names::entered, crate::specs::Names::made, c_tree::specs::Grammar::shape, c_tree::specs::Scopes::is_scope))]
     fn maybe_expr(&mut self, e: &'a Option<Expr>) -> Result<Option<Expr>, NoMemory>
-        ensures tree { IfOk result (λ r. maybe form.MaybeExpr expr_view r ≡ renamed (maybe form.MaybeExpr expr_view e.now) self.old) }
-        ensures names { IfOk result (λ _. self.new ≡ behind (maybe form.MaybeExpr expr_view e.now) self.old) }
+        ensures tree { IfOk result (λ r.
+            maybe form.MaybeExpr expr_view r ≡
+            renamed (maybe form.MaybeExpr expr_view e.now) self.old) }
+        ensures names { IfOk result (λ _.
+            self.new ≡ behind (maybe form.MaybeExpr expr_view e.now) self.old) }
     {
         match e {
             Some(e) => Ok(Some(self.expr(e)?)),
@@ -49,7 +52,7 @@ impl<'a> Walk<'a> {
 
     /// An initializer.
     #[cycle(inits)]
-    #[tactic(auto, unfolding(c_tree::specs::StatementView::init_tree, crate::specs::Names::behind, crate::specs::Names::all_behind, crate::specs::Names::renamed, crate::specs::Names::all_renamed, crate::specs::Names::left, crate::specs::Names::entered, crate::specs::Names::made, c_tree::specs::Grammar::shape, c_tree::specs::Scopes::is_scope), using(crate::proofs::TreeParts::init_list_is))]
+    #[tactic(auto, unfolding(c_tree::specs::StatementView::init_tree, crate::specs::Names::behind, crate::specs::Names::all_behind, crate::specs::Names::renamed, crate::specs::Names::all_renamed, crate::specs::Names::left, crate::specs::Names::entered, crate::specs::Names::made, c_tree::specs::Grammar::shape, c_tree::specs::Scopes::is_scope), using(crate::proofs::TreeParts::init_list_known, crate::proofs::TreeParts::init_list_made))]
     fn init(&mut self, init: &'a Init) -> Result<Init, NoMemory>
         ensures tree { IfOk result (λ r. init_view r ≡ renamed (init_view init.now) self.old) }
         ensures names { IfOk result (λ _. self.new ≡ behind (init_view init.now) self.old) }
@@ -66,7 +69,8 @@ impl<'a> Walk<'a> {
     #[cycle(inits)]
     #[tactic(auto, using(crate::proofs::ItemTurns::item_known, crate::proofs::ItemTurns::item_made, crate::proofs::ItemTurns::end_known, crate::proofs::ItemTurns::end_made))]
     fn inits(&mut self, list: &'a [Init]) -> Result<Vec<Init>, NoMemory>
-        ensures trees { IfOk result (λ v. trees init_view v.items ≡ each_renamed (trees init_view list.now) self.old) }
+        ensures trees { IfOk result (λ v.
+            trees init_view v.items ≡ each_renamed (trees init_view list.now) self.old) }
         ensures names { IfOk result (λ _. self.new ≡ in_turn (trees init_view list.now) self.old) }
     {
         let mut all = Vec::new(self.alloc);
@@ -79,8 +83,11 @@ impl<'a> Walk<'a> {
     /// An initializer that may be left out.
     #[tactic(auto, unfolding(crate::specs::Names::behind, crate::specs::Names::all_behind, crate::specs::Names::renamed, crate::specs::Names::all_renamed, crate::specs::Names::left, crate::specs::Names::entered, crate::specs::Names::made, c_tree::specs::Grammar::shape, c_tree::specs::Scopes::is_scope))]
     pub(crate) fn maybe_init(&mut self, init: &'a Option<Init>) -> Result<Option<Init>, NoMemory>
-        ensures tree { IfOk result (λ r. maybe form.MaybeInit init_view r ≡ renamed (maybe form.MaybeInit init_view init.now) self.old) }
-        ensures names { IfOk result (λ _. self.new ≡ behind (maybe form.MaybeInit init_view init.now) self.old) }
+        ensures tree { IfOk result (λ r.
+            maybe form.MaybeInit init_view r ≡
+            renamed (maybe form.MaybeInit init_view init.now) self.old) }
+        ensures names { IfOk result (λ _.
+            self.new ≡ behind (maybe form.MaybeInit init_view init.now) self.old) }
     {
         match init {
             Some(init) => Ok(Some(self.init(init)?)),
@@ -89,7 +96,7 @@ impl<'a> Walk<'a> {
     }
 
     /// A name of a declaration in an inner scope, which holds before its initializer (C99 6.2.1).
-    #[tactic(auto, unfolding(crate::specs::Names::behind, crate::specs::Names::all_behind, crate::specs::Names::renamed, crate::specs::Names::all_renamed, crate::specs::Names::left, crate::specs::Names::entered, crate::specs::Names::made, c_tree::specs::Grammar::shape, c_tree::specs::Scopes::is_scope), using(crate::proofs::TreeParts::entry_is))]
+    #[tactic(auto, unfolding(crate::specs::Names::behind, crate::specs::Names::all_behind, crate::specs::Names::renamed, crate::specs::Names::all_renamed, crate::specs::Names::left, crate::specs::Names::entered, crate::specs::Names::made, c_tree::specs::Grammar::shape, c_tree::specs::Scopes::is_scope), using(crate::proofs::TreeParts::entry_known, crate::proofs::TreeParts::entry_made))]
     fn entry(
         &mut self,
         entry: &'a (Declarator, Option<Init>),
@@ -110,7 +117,8 @@ impl<'a> Walk<'a> {
         &mut self,
         list: &'a [(Declarator, Option<Init>)],
     ) -> Result<Items<(Declarator, Option<Init>)>, NoMemory>
-        ensures trees { IfOk result (λ v. trees entry_view v ≡ each_renamed (trees entry_view list.now) self.old) }
+        ensures trees { IfOk result (λ v.
+            trees entry_view v ≡ each_renamed (trees entry_view list.now) self.old) }
         ensures names { IfOk result (λ _. self.new ≡ in_turn (trees entry_view list.now) self.old) }
     {
         let mut all = Items::new(self.alloc);
@@ -121,7 +129,7 @@ impl<'a> Walk<'a> {
     }
 
     /// What stands before the first `;` of a `for`.
-    #[tactic(auto, unfolding(crate::specs::Names::behind, crate::specs::Names::all_behind, crate::specs::Names::renamed, crate::specs::Names::all_renamed, crate::specs::Names::left, crate::specs::Names::entered, crate::specs::Names::made, c_tree::specs::Grammar::shape, c_tree::specs::Scopes::is_scope), using(crate::proofs::TreeParts::names_is))]
+    #[tactic(auto, unfolding(crate::specs::Names::behind, crate::specs::Names::all_behind, crate::specs::Names::renamed, crate::specs::Names::all_renamed, crate::specs::Names::left, crate::specs::Names::entered, crate::specs::Names::made, c_tree::specs::Grammar::shape, c_tree::specs::Scopes::is_scope), using(crate::proofs::TreeParts::names_known, crate::proofs::TreeParts::names_made))]
     fn for_start(&mut self, start: &'a ForStart) -> Result<ForStart, NoMemory>
         ensures tree { IfOk result (λ r. start_view r ≡ renamed (start_view start.now) self.old) }
         ensures names { IfOk result (λ _. self.new ≡ behind (start_view start.now) self.old) }
@@ -154,7 +162,8 @@ impl<'a> Walk<'a> {
     #[tactic(auto, using(crate::proofs::ScopeEnds::tree_back))]
     fn branch(&mut self, stmt: &'a Stmt) -> Result<Stmt, NoMemory>
         ensures tree { IfOk result (λ r. stmt_view r ≡ renamed (stmt_view stmt.now) self.old) }
-        ensures names { IfOk result (λ _. self.new ≡ left_scope self.old (behind (stmt_view stmt.now) self.old)) }
+        ensures names { IfOk result (λ _.
+            self.new ≡ left_scope self.old (behind (stmt_view stmt.now) self.old)) }
     {
         let outer = self.outer();
         let stmt = self.stmt(stmt)?;
@@ -164,7 +173,7 @@ impl<'a> Walk<'a> {
 
     /// A statement before the end of the scope that it is.
     #[cycle(statements)]
-    #[tactic(auto, unfolding(c_tree::specs::StatementView::stmt_tree, crate::specs::Names::behind, crate::specs::Names::all_behind, crate::specs::Names::renamed, crate::specs::Names::all_renamed, crate::specs::Names::left, crate::specs::Names::entered, crate::specs::Names::made, c_tree::specs::Grammar::shape, c_tree::specs::Scopes::is_scope), using(crate::proofs::TreeParts::block_is, crate::proofs::TreeParts::delay_is, crate::proofs::TreeParts::choice_is, crate::proofs::TreeParts::names_is))]
+    #[tactic(auto, unfolding(c_tree::specs::StatementView::stmt_tree, crate::specs::Names::behind, crate::specs::Names::all_behind, crate::specs::Names::renamed, crate::specs::Names::all_renamed, crate::specs::Names::left, crate::specs::Names::entered, crate::specs::Names::made, c_tree::specs::Grammar::shape, c_tree::specs::Scopes::is_scope), using(crate::proofs::TreeParts::block_ends, crate::proofs::TreeParts::block_made, crate::proofs::TreeParts::delay_ends, crate::proofs::TreeParts::delay_made, crate::proofs::TreeParts::choice_ends, crate::proofs::TreeParts::choice_made, crate::proofs::TreeParts::names_known, crate::proofs::TreeParts::names_made))]
     fn stmt_of(&mut self, line: Line, kind: &'a StmtKind) -> Result<Stmt, NoMemory>
         ensures tree { IfOk result (λ r. stmt_view r ≡ renamed (stmt_tree kind.now line) self.old) }
         ensures names { IfOk result (λ _. self.new ≡ inner (stmt_tree kind.now line) self.old) }
@@ -260,7 +269,8 @@ impl<'a> Walk<'a> {
         test: &'a Option<Expr>,
         step: &'a Option<Expr>,
     ) -> Result<(ForStart, Option<Expr>, Option<Expr>), NoMemory>
-        ensures start { IfOk result (λ r. start_view r.0 ≡ renamed (start_view start.now) self.old) }
+        ensures start { IfOk result (λ r.
+            start_view r.0 ≡ renamed (start_view start.now) self.old) }
         ensures test { IfOk result (λ r.
             let started = behind (start_view start.now) self.old in
             maybe_expr r.1 ≡ renamed (maybe_expr test.now) started) }
@@ -281,7 +291,8 @@ impl<'a> Walk<'a> {
     #[cycle(statements)]
     #[tactic(auto, using(crate::proofs::ItemTurns::item_known, crate::proofs::ItemTurns::item_made, crate::proofs::ItemTurns::end_known, crate::proofs::ItemTurns::end_made))]
     fn items(&mut self, list: &'a [Stmt]) -> Result<Vec<Stmt>, NoMemory>
-        ensures trees { IfOk result (λ v. trees stmt_view v.items ≡ each_renamed (trees stmt_view list.now) self.old) }
+        ensures trees { IfOk result (λ v.
+            trees stmt_view v.items ≡ each_renamed (trees stmt_view list.now) self.old) }
         ensures names { IfOk result (λ _. self.new ≡ in_turn (trees stmt_view list.now) self.old) }
     {
         let mut all = Vec::new(self.alloc);
@@ -294,8 +305,10 @@ impl<'a> Walk<'a> {
     /// The body of a function, which is a scope.
     #[tactic(auto, using(crate::proofs::ScopeEnds::body_known, crate::proofs::ScopeEnds::body_made))]
     pub(crate) fn body(&mut self, list: &'a [Stmt]) -> Result<Items<Stmt>, NoMemory>
-        ensures trees { (end : ℕ) → IfOk result (λ v. body_view v end ≡ renamed (body_view list.now end) self.old) }
-        ensures names { (end : ℕ) → IfOk result (λ _. self.new ≡ behind (body_view list.now end) self.old) }
+        ensures trees { (end : ℕ) → IfOk result (λ v.
+            body_view v end ≡ renamed (body_view list.now end) self.old) }
+        ensures names { (end : ℕ) → IfOk result (λ _.
+            self.new ≡ behind (body_view list.now end) self.old) }
     {
         let outer = self.outer();
         let items = self.items(list)?;

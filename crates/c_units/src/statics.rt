@@ -16,7 +16,8 @@ use std::alloc::Global;
 
 /// Notes the name of a declarator, unless it is that of the program's first function.
 fn note(alloc: Global, names: &mut NameSet, declarator: &Declarator) -> Result<(), NoMemory>
-    ensures { IfOk result (λ _. names.new ≡ all_noted names.old (but_main (name_of (declarator_tree declarator.now)))) }
+    ensures { IfOk result (λ _.
+        names.new ≡ all_noted names.old (but_main (name_of (declarator_tree declarator.now)))) }
 {
     match declared_name(declarator) {
         Some(name) => {
@@ -37,7 +38,8 @@ fn note_all(
     names: &mut NameSet,
     list: &[(Declarator, Option<Init>)],
 ) -> Result<(), NoMemory>
-    ensures { IfOk result (λ _. names.new ≡ all_noted names.old (entry_names (trees entry_view list.now))) }
+    ensures { IfOk result (λ _.
+        names.new ≡ all_noted names.old (entry_names (trees entry_view list.now))) }
 {
     for entry in list {
         note(alloc, names, &entry.0)?;
@@ -48,7 +50,8 @@ fn note_all(
 /// Notes what an external declaration declares `static`.
 #[tactic(auto, unfolding(crate::specs::Externals::static_names, crate::specs::Externals::has_static))]
 fn note_static(alloc: Global, names: &mut NameSet, decl: &Decl) -> Result<(), NoMemory>
-    ensures { IfOk result (λ _. names.new ≡ all_noted names.old (static_names (decl_view decl.now))) }
+    ensures { IfOk result (λ _.
+        names.new ≡ all_noted names.old (static_names (decl_view decl.now))) }
 {
     match decl {
         Decl::Function {

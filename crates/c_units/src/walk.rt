@@ -48,7 +48,8 @@ impl<'a> Model for Walk<'a> {
 impl<'a> Walk<'a> {
     /// Before the first external declaration of a unit.
     pub(crate) fn new(alloc: Global, own: NameSet, suffix: Items<u8>) -> Walk<'a>
-        ensures { result ≡ record { own = own; suffix = suffix; known = []; inside = false; mentions = [] } }
+        ensures { result ≡
+            record { own = own; suffix = suffix; known = []; inside = false; mentions = [] } }
     {
         Walk {
             alloc,
@@ -149,7 +150,8 @@ impl<'a> Walk<'a> {
         name: Option<&'a Items<u8>>,
         binding: Binding,
     ) -> Result<(), NoMemory>
-        ensures { IfOk result (λ _. self.new ≡ declare (option_copied name.entry) binding self.old) }
+        ensures { IfOk result (λ _.
+            self.new ≡ declare (option_copied name.entry) binding self.old) }
     {
         match name {
             Some(name) => self.scope.declare(name.as_slice(), binding),
