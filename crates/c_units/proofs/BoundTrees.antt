@@ -53,7 +53,7 @@ use_same_by : (parts : Trees) (s : Scope) → IsName parts ⊎ IsOther parts →
 use_same_by parts s (inl h) = subst (λ (ps : Trees). Same (use_of ps s) s) (sym h.2) (refl, refl, refl)
 use_same_by parts s (inr h) = subst (λ (y : Scope). Same y s) (sym (h.1 s)) (refl, refl, refl)
 
-use_same : (parts : Trees) (s : Scope) → Same (use_of parts s) s
+pub use_same : (parts : Trees) (s : Scope) → Same (use_of parts s) s
 use_same parts s = use_same_by parts s (name_parts parts)
 
 -- a tree that is a node of this form

@@ -1,5 +1,5 @@
 -- In the merge of several units a name is bound to a declaration in an inner scope exactly where it is in its unit.
-use Rattle.std.proofs.Common.{◌≡◌, ◌+◌, ℕ, Bool, true, false, not, if◌then◌else◌, map, filter, All, List, [], ◌∷◌, ◌++◌, Option, Some, None, Result, Ok, Err, append_assoc, refl, ap, ap₂, sym, subst, ◌∙◌}
+use Rattle.std.proofs.Common.{◌≡◌, ◌+◌, ℕ, suc, Bool, true, false, not, if◌then◌else◌, map, filter, All, List, [], ◌∷◌, ◌++◌, Option, Some, None, Result, Ok, Err, append_assoc, refl, ap, ap₂, sym, subst, ◌∙◌, arith}
 use Rattle.std.proofs.lemmas.List.{map-append}
 use Rattle.c_tree.specs.Tree.{Tree, Trees, none, ◌▹◌}
 use Rattle.c_tree.specs.StatementView.{unit_view}
@@ -105,7 +105,7 @@ units_by : (taken : Option Mention) (number : ℕ) (unit : Code) (units : List C
     HaveNoDots (unit_view unit) →
     let said = unit_said number (unit_view unit) in
     let left = kept before.spellings said in
-    let next = record { trees = joined before.trees (trees_of left); spellings = all_noted before.spellings (spellings_of said); taken = with_mentions (mentions_of left) before.taken } in
+    let next : Program = record { trees = joined before.trees (trees_of left); spellings = all_noted before.spellings (spellings_of said); taken = with_mentions (mentions_of left) before.taken } in
     (with_units (number + 1) (map unit_view units) next ≡ Ok trees → Adds (number + 1) units next trees) →
     followed (unless taken next) (λ next. with_units (number + 1) (map unit_view units) next) ≡ Ok trees → Adds number (unit ∷ units) before trees
 units_by (Some mention) number unit units before trees dots rest h =
@@ -125,14 +125,20 @@ units_by None number unit units before trees dots rest h =
             (program_uses (number + 1) (map unit_view units) (all_noted before.spellings (spellings_of said)))),
     )
 
+first_dots : (unit : Code) (units : List Code) → All HaveNoDots (map unit_view (unit ∷ units)) → HaveNoDots (unit_view unit)
+first_dots unit units h = h 0 none (omega arith)
+
+more_dots : (unit : Code) (units : List Code) → All HaveNoDots (map unit_view (unit ∷ units)) → All HaveNoDots (map unit_view units)
+more_dots unit units h = λ k d below. h (suc k) d (omega (arith, below))
+
 units_added : (units : List Code) (number : ℕ) (before : Program) (trees : Trees) → All HaveNoDots (map unit_view units) →
     with_units number (map unit_view units) before ≡ Ok trees → Adds number units before trees
 units_added [] number before trees dots h =
     (none, same_answer before.trees trees h ∙ sym (joined_none before.trees), λ m o. ap inner_uses (no_uses m))
 units_added (unit ∷ units) number before trees dots h =
     let said = unit_said number (unit_view unit) in
-    units_by (first_taken before.taken (mentions_of (kept before.spellings said))) number unit units before trees dots.0
-    (λ g. units_added units (number + 1) _ trees dots.1 g) h
+    units_by (first_taken before.taken (mentions_of (kept before.spellings said))) number unit units before trees (first_dots unit units dots)
+    (λ g. units_added units (number + 1) _ trees (more_dots unit units dots) g) h
 
 pub merge_keeps_inner : MergeKeepsInner
 merge_keeps_inner first second more trees dots h =
