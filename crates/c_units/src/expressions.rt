@@ -431,6 +431,7 @@ impl<'a> Walk<'a> {
         let binding = self.binding_here();
         self.mention(binding, Role::Defined, name, one.line)?;
         let value = self.maybe_boxed(&one.value)?;
+        let binding = self.binding_here();
         self.declare(Some(&one.name), binding)?;
         Enumerator::new(self.alloc, one.line, self.copy(name)?, value)
     }
@@ -507,7 +508,7 @@ impl<'a> Walk<'a> {
 
     /// A suffix of a declarator. A parameter list is a scope (C99 6.2.1).
     #[cycle(walk)]
-    #[tactic(auto, unfolding(c_tree::specs::View::suffix_tree, crate::specs::Names::behind, crate::specs::Names::all_behind, crate::specs::Names::renamed, crate::specs::Names::all_renamed, crate::specs::Names::left, crate::specs::Names::entered, crate::specs::Names::made, c_tree::specs::Grammar::shape, c_tree::specs::Scopes::is_scope), using(crate::proofs::TreeParts::array_known, crate::proofs::TreeParts::array_made, crate::proofs::TreeParts::params_known, crate::proofs::TreeParts::params_made))]
+    #[tactic(auto, unfolding(c_tree::specs::View::suffix_tree, crate::specs::Names::behind, crate::specs::Names::all_behind, crate::specs::Names::renamed, crate::specs::Names::all_renamed, crate::specs::Names::left, crate::specs::Names::entered, crate::specs::Names::made, c_tree::specs::Grammar::shape, c_tree::specs::Scopes::is_scope), using(crate::proofs::TreeParts::array_known, crate::proofs::TreeParts::array_made, crate::proofs::TreeParts::params_known, crate::proofs::TreeParts::params_made, crate::proofs::ScopeEnds::turns_back))]
     fn suffix(&mut self, suffix: &'a Suffix) -> Result<Suffix, NoMemory>
         ensures tree { IfOk result (λ r.
             suffix_view r ≡ renamed (suffix_view suffix.now) self.old) }
