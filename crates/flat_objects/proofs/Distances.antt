@@ -1,9 +1,11 @@
 -- Addresses that are moved by distances.
-use Rattle.std.proofs.Common.{List, ◌≡◌, ℕ, suc, ◌+◌, ◌^◌, ◌<◌, ◌≤◌, ◌⊎◌, inl, inr, ℤ, pos, negsuc, ◌+ℤ◌, ◌-ℤ◌, neg_ℤ, ◌<ℤ◌, Result, Ok, Err, refl, sym, ap, ◌∙◌, subst, arith, FitsSigned, ⊎_elim}
-use Rattle.std.specs.Prelude.{nat_le}
-use Rattle.std.proofs.lemmas.Int.{ints, fits_signed_from_abs}
+use Rattle.std.proofs.Common.{List, ◌≡◌, ℕ, suc, ◌+◌, ◌^◌, ◌<◌, ◌≤◌, ◌⊎◌, inl, inr, ℤ, pos, negsuc, ◌*ℤ◌, ◌≤ℤ◌, ◌+ℤ◌, ◌-ℤ◌, neg_ℤ, ◌<ℤ◌, Result, Ok, Err, refl, sym, ap, ◌∙◌, subst, arith, FitsSigned, false, ⊎_elim}
+use Rattle.std.specs.Prelude.{nat_le, unsigned_abs}
+use Rattle.std.proofs.lemmas.Int.{ints, fits_signed_from_abs, fits_signed_mul, unsigned_abs-mul}
 use Rattle.std.proofs.lemmas.Bool.{cases_lt, cond-true, cond-false, le-leb, lt-leb}
-use mir.Syntax.{w128}
+use Rattle.std.proofs.Math.Nat.{mul-le-mul}
+use lib.Signed.{lt_z}
+use mir.Syntax.{w64, w128}
 use Rattle.hs_base.specs.declared.ends.TrapKind.{TrapKind}
 use Rattle.hs_base.specs.declared.ends.TrapKind.TheVariants as trap
 use Rattle.hs_base.specs.declared.values.Pointer.{Pointer}
@@ -12,14 +14,13 @@ use Rattle.hs_base.specs.Access.{Trapped}
 use Rattle.hs_base.specs.Object.{Object, object_at}
 use Rattle.object_meaning.specs.Arithmetic.{within_object, moved_by}
 use Rattle.object_meaning.specs.Values.{address}
-use Rattle.flat_objects.specs.declared.finding.Found.{Found}
+use Rattle.flat_objects.specs.declared.finding.Spot.{Spot}
 use Rattle.flat_objects.specs.Memory.{Memory, IsMemory}
 use Rattle.flat_objects.specs.Standing.{IsAt}
 use Rattle.flat_objects.specs.Keeping.{KeepsAt}
-use Rattle.flat_objects.specs.Moving.{IsFar, MovesTo}
+use Rattle.flat_objects.specs.Moving.{IsFar, IsShort, MovesTo}
 use Rattle.flat_objects.specs.Answering.{Traps, AnswersAddress}
-use Rattle.flat_objects.proofs.Owners.{own_inside}
-use Rattle.flat_objects.proofs.Reached.{Finds}
+use Rattle.flat_objects.proofs.Owners.{Spots, own_inside}
 
 -- a place below an object or behind it
 outside : (birth size : ℕ) (n : ℤ) → (n <ℤ pos 0) ⊎ (pos size <ℤ n) → within_object birth size n ≡ Err (Trapped trap.Range)
@@ -50,6 +51,53 @@ far_outside : (size : ℕ) (n : ℤ) → size < 2 ^ 32 → IsFar n → (n <ℤ p
 far_outside size n small (inl h) = inl (omega (arith, ints))
 far_outside size n small (inr h) = inr (omega (arith, ints))
 
+-- the product of two numbers of 32 bits
+
+pub not_less : (a b : ℤ) → lt_z a b ≡ false → b ≤ℤ a
+not_less a b h = grind (arith, ints)
+
+abs_below : (z : ℤ) (m : ℕ) → neg_ℤ (pos m) ≤ℤ z → z ≤ℤ pos m → unsigned_abs z ≤ m
+abs_below (pos n) m low high = omega (arith, ints)
+abs_below (negsuc n) m low high = omega (arith, ints)
+
+short_from_abs : (z : ℤ) → unsigned_abs z ≤ 2 ^ 62 → IsShort z
+short_from_abs (pos n) h = (omega (arith, ints), omega (arith, ints))
+short_from_abs (negsuc n) h = (omega (arith, ints), omega (arith, ints))
+
+module _ (a b : ℤ) (a_low : negsuc 2147483647 ≤ℤ a) (a_high : a ≤ℤ pos 2147483647) (b_low : negsuc 2147483647 ≤ℤ b) (b_high : b ≤ℤ pos 2147483647) where
+  a_abs : unsigned_abs a ≤ 2 ^ 31
+  a_abs = abs_below a (2 ^ 31) (omega (arith, ints)) (omega (arith, ints))
+
+  b_abs : unsigned_abs b ≤ 2 ^ 31
+  b_abs = abs_below b (2 ^ 31) (omega (arith, ints)) (omega (arith, ints))
+
+  pub first_fits : FitsSigned w64 a
+  first_fits = fits_signed_from_abs w64 a (let h = a_abs in omega arith)
+
+  pub second_fits : FitsSigned w64 b
+  second_fits = fits_signed_from_abs w64 b (let h = b_abs in omega arith)
+
+  pub short_fits : FitsSigned w64 (a *ℤ b)
+  short_fits = fits_signed_mul w64 a b (2 ^ 31) (2 ^ 31) a_abs b_abs (omega arith)
+
+  pub short_is : IsShort (a *ℤ b)
+  short_is = short_from_abs (a *ℤ b) (rw (unsigned_abs-mul a b) (mul-le-mul a_abs b_abs))
+
+-- the place of a short distance from an offset
+pub place_fits : (offset : ℕ) (from d : ℤ) → from ≡ pos offset → offset < 2 ^ 32 → IsShort d → FitsSigned w64 (from +ℤ d)
+place_fits offset from d is small short =
+    let low = short.0 in
+    let high = short.1 in
+    let abs : unsigned_abs (from +ℤ d) ≤ 2 ^ 62 + 2 ^ 32 = abs_below (from +ℤ d) (2 ^ 62 + 2 ^ 32) (omega (arith, ints)) (omega (arith, ints)) in
+    fits_signed_from_abs w64 (from +ℤ d) (omega arith)
+
+pub down_fits : (up : ℤ) → IsShort up → FitsSigned w64 (pos 0 -ℤ up)
+down_fits up short =
+    let low = short.0 in
+    let high = short.1 in
+    let abs : unsigned_abs (pos 0 -ℤ up) ≤ 2 ^ 62 = abs_below (pos 0 -ℤ up) (2 ^ 62) (omega (arith, ints)) (omega (arith, ints)) in
+    fits_signed_from_abs w64 (pos 0 -ℤ up) (omega arith)
+
 pub minus_is : (d up n : ℤ) → d ≡ pos 0 -ℤ up → up ≡ n → d ≡ neg_ℤ n
 minus_is d up n e f = omega (arith, ints)
 
@@ -74,17 +122,17 @@ module _ (places : ℕ → ℕ) (objects : List Object) (birth offset start size
       subst (λ (t : TrapKind). Traps t (moved_by objects (pointer.At birth offset) d)) (sym kind_is)
       (outside birth total (pos offset +ℤ d) (subst (λ (n : ℤ). (n <ℤ pos 0) ⊎ (pos total <ℤ n)) place_is (subst (λ (s : ℕ). (place <ℤ pos 0) ⊎ (pos s <ℤ place)) size_is out)))
 
-module _ (memory : Memory) (places : ℕ → ℕ) (objects : List Object) (addr : ℕ) (d : ℤ) (found : Found) (some : addr ≡ 0 → ⊥) (finds : Finds memory addr found) where
-  pub moved_answer : (p : Pointer) (place : ℤ) (result : Result ℕ TrapKind) → KeepsAt memory places objects p addr → place ≡ pos found.offset +ℤ d → MovesTo found.start found.size place result → AnswersAddress places objects result (moved_by objects p d)
+module _ (memory : Memory) (places : ℕ → ℕ) (objects : List Object) (addr : ℕ) (d : ℤ) (spot : Spot) (some : addr ≡ 0 → ⊥) (spots : Spots memory addr spot) where
+  pub moved_answer : (p : Pointer) (place : ℤ) (result : Result ℕ TrapKind) → KeepsAt memory places objects p addr → place ≡ pos spot.offset +ℤ d → MovesTo spot.start spot.size place result → AnswersAddress places objects result (moved_by objects p d)
   moved_answer pointer.Null place result at place_is to = absurd (some at.stands)
   moved_answer (pointer.At birth offset) place result at place_is to =
-      let f = finds places objects birth offset at in
-      place_answer places objects birth offset found.start found.size d place addr at.stands f.start f.size (place_is ∙ ap (λ o. pos o +ℤ d) f.distance) result to
+      let f = spots places objects birth offset at in
+      place_answer places objects birth offset spot.start spot.size d place addr at.stands f.start f.size (place_is ∙ ap (λ o. pos o +ℤ d) f.distance) result to
 
-  pub moved_too_far : (p : Pointer) → KeepsAt memory places objects p addr → found.size < 2 ^ 32 → (FitsSigned w128 (pos found.offset +ℤ d) → ⊥) → Traps trap.Range (moved_by objects p d)
+  pub moved_too_far : (p : Pointer) → KeepsAt memory places objects p addr → spot.size < 2 ^ 32 → (FitsSigned w128 (pos spot.offset +ℤ d) → ⊥) → Traps trap.Range (moved_by objects p d)
   moved_too_far pointer.Null at small unfit = absurd (some at.stands)
   moved_too_far (pointer.At birth offset) at small unfit =
-      let f = finds places objects birth offset at in
+      let f = spots places objects birth offset at in
       let total = (object_at objects birth).size in
-      let far = subst (λ (n : ℤ). IsFar n) (ap (λ o. pos o +ℤ d) f.distance) (too_large (pos found.offset +ℤ d) unfit).0 in
+      let far = subst (λ (n : ℤ). IsFar n) (ap (λ o. pos o +ℤ d) f.distance) (too_large (pos spot.offset +ℤ d) unfit).0 in
       outside birth total (pos offset +ℤ d) (far_outside total (pos offset +ℤ d) (omega (arith, f.size)) far)

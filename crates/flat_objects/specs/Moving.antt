@@ -1,5 +1,5 @@
 -- Addresses that are moved.
-use Rattle.std.specs.Prelude.{◌≡◌, ◌+◌, ◌^◌, ◌≤◌, ◌<ℤ◌, ◌⊎◌, ℕ, ℤ, pos, neg_ℤ, Result, Ok, Err}
+use Rattle.std.specs.Prelude.{◌≡◌, ◌+◌, ◌^◌, ◌≤◌, ◌<ℤ◌, ◌≤ℤ◌, ◌⊎◌, ℕ, ℤ, pos, neg_ℤ, Result, Ok, Err}
 use Rattle.hs_base.specs.declared.ends.TrapKind.{TrapKind}
 use Rattle.hs_base.specs.declared.ends.TrapKind.TheVariants as trap
 
@@ -11,3 +11,7 @@ MovesTo start size place (Err kind) = (kind ≡ trap.Range) × ((place <ℤ pos 
 -- a distance that is far beyond any object, whose size is below 2 to the 32
 abbrev pub IsFar : ℤ → Type 0
 IsFar d = (d <ℤ neg_ℤ (pos (2 ^ 64))) ⊎ (pos (2 ^ 64) <ℤ d)
+
+-- a distance that a number of 64 bits holds with room for any offset
+abbrev pub IsShort : ℤ → Type 0
+IsShort d = (neg_ℤ (pos (2 ^ 62)) ≤ℤ d) × (d ≤ℤ pos (2 ^ 62))

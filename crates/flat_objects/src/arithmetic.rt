@@ -8,7 +8,7 @@ ghost use Rattle.object_meaning.specs.Values.{number};
 ghost use Rattle.flat_objects.specs.Standing.{IsAddressOf};
 ghost use Rattle.flat_objects.specs.Keeping.{KeepsAt, IsKept};
 ghost use Rattle.flat_objects.specs.Answering.{Answers, AnswersAddress, AnswersNumber};
-ghost use Rattle.flat_objects.specs.Moving.{IsFar, MovesTo};
+ghost use Rattle.flat_objects.specs.Moving.{IsFar, IsShort, MovesTo};
 
 use crate::memory::FlatObjects;
 use byte_memory::Steps;
@@ -16,20 +16,17 @@ use core_tree::CmpOp;
 use hs_base::{IntKind, Pointer, TrapKind};
 use std::sync::ledger::Ledger;
 
-/// The product of two numbers where 64 bits are enough for both and for it, as they mostly are: that one is quick.
+/// The product of two numbers where 32 bits are enough for each of them, as they mostly are: that one is quick.
 #[inline(always)]
-fn short_product(one: i128, other: i128) -> Option<i128>
-    ensures { IfSome result (λ product. product ≡ one *ℤ other) }
+fn short_product(one: i128, other: i128) -> Option<i64>
+    ensures { IfSome result (λ product. (product ≡ one *ℤ other) × IsShort product) }
 {
-    let least = i64::MIN as i128;
-    let greatest = i64::MAX as i128;
+    let least = i32::MIN as i128;
+    let greatest = i32::MAX as i128;
     if one < least || greatest < one || other < least || greatest < other {
         return None;
     }
-    match (one as i64).checked_mul(other as i64) {
-        Some(product) => Some(product as i128),
-        None => None,
-    }
+    Some(one as i64 * other as i64)
 }
 
 /// The address of a place in an object of a size, where it is from its start to one past its end.
@@ -97,11 +94,35 @@ impl FlatObjects {
                 Err(TrapKind::Null)
             };
         }
-        let found = self.find(addr, steps);
-        match i128::from(found.offset).checked_add(distance) {
-            Some(place) => address_within(found.start, found.size, place),
+        let spot = self.spot(addr, steps);
+        match i128::from(spot.offset).checked_add(distance) {
+            Some(place) => address_within(spot.start, spot.size, place),
             None => Err(TrapKind::Range),
         }
+    }
+
+    /// An address moved by a distance of bytes that is short, as [`FlatObjects::moved`] moves it.
+    #[inline(always)]
+    fn moved_short<L: Ledger>(
+        &self,
+        addr: u32,
+        distance: i64,
+        steps: &mut Steps<L>,
+    ) -> Result<u32, TrapKind>
+        requires kept { IsKept self.now addr }
+        requires short { IsShort distance }
+        ensures { (places : ℕ → ℕ) (objects : List Object) (p : Pointer) → KeepsAt self.now places objects p addr → AnswersAddress places objects result (moved_by objects p distance) }
+    {
+        if addr == 0 {
+            return if distance == 0 {
+                Ok(0)
+            } else {
+                Err(TrapKind::Null)
+            };
+        }
+        let spot = self.spot(addr, steps);
+        let place = i64::from(spot.offset) + distance;
+        address_within(spot.start, spot.size, i128::from(place))
     }
 
     /// What an address traps with that is moved by a distance that is far beyond any object.
@@ -147,7 +168,7 @@ impl FlatObjects {
         ensures { (places : ℕ → ℕ) (objects : List Object) (p : Pointer) → KeepsAt self.now places objects p addr → AnswersAddress places objects result (moved_by objects p (count *ℤ size)) }
     {
         match short_product(count, size) {
-            Some(distance) => self.moved(addr, distance, steps),
+            Some(distance) => self.moved_short(addr, distance, steps),
             None => self.moved_up_far(addr, count, size, steps),
         }
     }
@@ -185,12 +206,9 @@ impl FlatObjects {
         requires { IsKept self.now addr }
         ensures { (places : ℕ → ℕ) (objects : List Object) (p : Pointer) → KeepsAt self.now places objects p addr → AnswersAddress places objects result (moved_by objects p (neg_ℤ (count *ℤ size))) }
     {
-        let Some(up) = short_product(count, size) else {
-            return self.moved_down_far(addr, count, size, steps);
-        };
-        match 0i128.checked_sub(up) {
-            Some(distance) => self.moved(addr, distance, steps),
-            None => self.moved_far(addr),
+        match short_product(count, size) {
+            Some(up) => self.moved_short(addr, 0 - up, steps),
+            None => self.moved_down_far(addr, count, size, steps),
         }
     }
 
@@ -210,8 +228,8 @@ impl FlatObjects {
         if p == 0 || q == 0 {
             return Err(TrapKind::Null);
         }
-        let one = self.find(p, steps);
-        let other = self.find(q, steps);
+        let one = self.spot(p, steps);
+        let other = self.spot(q, steps);
         if one.start != other.start {
             return Err(TrapKind::Objects);
         }
