@@ -1,4 +1,5 @@
 mod Bits
+mod RunWords
 mod Joins
 mod Following
 mod Filling

@@ -9,6 +9,7 @@
 #![tactic(auto)]
 
 mod row;
+mod runs;
 mod sweeps;
 mod table;
 

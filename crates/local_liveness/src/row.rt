@@ -5,15 +5,17 @@ ghost use Rattle.std.specs.List.{list_any};
 ghost use Rattle.core_tree.specs.Statements.{is_register, reads, writes};
 ghost use Rattle.local_liveness.specs.Rows.{has, Adds, Drops};
 
+use crate::runs::Runs;
 use core_tree::{Atom, StmKind};
 use hs_base::NoMemory;
 use std::alloc::Global;
 use std::marker::Model;
 
-/// A set of registers, one bit a register, in words of 64 bits. A register past the last word is in none.
+/// A set of registers, one bit a register, in words of 64 bits, of which equal ones that stand together take one place.
+/// A register past the last word is in none.
 #[derive(Debug, Drop)]
 pub(crate) struct Row {
-    words: Vec<u64>,
+    words: Runs,
 }
 
 impl Model for Row {
@@ -21,7 +23,7 @@ impl Model for Row {
 
     ghost Value = { List ℕ };
 
-    ghost view = { λ row. row.words.items };
+    ghost view = { λ row. row.words };
 }
 
 impl Row {
@@ -29,79 +31,75 @@ impl Row {
     pub(crate) fn empty(alloc: Global, words: usize) -> Result<Row, NoMemory>
         ensures { IfOk result (λ row. row ≡ replicate words 0) }
     {
-        Ok(Row {
-            words: vec![in alloc; 0; words]?,
-        })
+        let mut runs = Runs::new(alloc);
+        runs.push(words, 0)?;
+        Ok(Row { words: runs })
     }
 
     /// Says whether a register is in the set.
     pub(crate) fn contains(&self, register: u32) -> bool
         ensures { result ≡ has self.now register }
     {
-        let place = (register / 64) as usize;
-        if place >= self.words.len() {
-            return false;
-        }
-        (self.words[place] >> (register % 64)) & 1 == 1
-    }
-
-    fn insert(&mut self, register: u32)
-        ensures { Adds (λ r. register == r) self.old self.new }
-    {
-        let place = (register / 64) as usize;
-        if place < self.words.len() {
-            self.words[place] |= 1 << (register % 64);
+        match self.words.word((register / 64) as usize) {
+            Some(word) => (word >> (register % 64)) & 1 == 1,
+            None => false,
         }
     }
 
-    fn remove(&mut self, register: u32)
-        ensures { Drops (λ r. register == r) self.old self.new }
+    fn insert(&mut self, alloc: Global, register: u32) -> Result<(), NoMemory>
+        ensures { IfOk result (λ _. Adds (λ r. register == r) self.old self.new) }
     {
-        let place = (register / 64) as usize;
-        if place < self.words.len() {
-            self.words[place] &= !(1 << (register % 64));
+        let place = register / 64;
+        if let Some(word) = self.words.word(place as usize) {
+            let word = word | 1 << (register % 64);
+            self.words = self.words.with_word(alloc, place, word)?;
         }
+        Ok(())
     }
 
-    /// Becomes another set of as many words.
-    fn copy_from(&mut self, other: &Row)
-        requires { length self.old ≡ length other.now }
-        ensures { self.new ≡ other.now }
+    fn remove(&mut self, alloc: Global, register: u32) -> Result<(), NoMemory>
+        ensures { IfOk result (λ _. Drops (λ r. register == r) self.old self.new) }
     {
-        self.words.copy_from_slice(&other.words);
+        let place = register / 64;
+        if let Some(word) = self.words.word(place as usize) {
+            let word = word & !(1 << (register % 64));
+            self.words = self.words.with_word(alloc, place, word)?;
+        }
+        Ok(())
     }
 
     /// Adds the registers of another set of as many words. Says whether one of them was missing.
-    pub(crate) fn join(&mut self, other: &Row) -> bool
+    pub(crate) fn join(&mut self, alloc: Global, other: &Row) -> Result<bool, NoMemory>
         requires { length self.old ≡ length other.now }
-        ensures adds { Adds (has other.now) self.old self.new }
-        ensures same { result ≡ false → self.new ≡ self.old }
+        ensures adds { IfOk result (λ _. Adds (has other.now) self.old self.new) }
+        ensures same { IfOk result (λ more. more ≡ false → self.new ≡ self.old) }
     {
-        join(&mut self.words, &other.words)
+        self.words.join(alloc, &other.words)
     }
 
     /// Adds the register that an operand is, if it is one.
-    fn insert_atom(&mut self, atom: Atom)
-        ensures { Adds (λ r. is_register r atom) self.old self.new }
+    fn insert_atom(&mut self, alloc: Global, atom: Atom) -> Result<(), NoMemory>
+        ensures { IfOk result (λ _. Adds (λ r. is_register r atom) self.old self.new) }
     {
         match atom {
-            Atom::Reg(register) => self.insert(register),
-            Atom::Int(_) | Atom::Null | Atom::Static(_) | Atom::Mem(_) => (),
+            Atom::Reg(register) => self.insert(alloc, register),
+            Atom::Int(_) | Atom::Null | Atom::Static(_) | Atom::Mem(_) => Ok(()),
         }
     }
 
     /// Adds the registers among operands.
-    fn insert_all(&mut self, atoms: &[Atom])
-        ensures { Adds (λ r. list_any (is_register r) atoms.now) self.old self.new }
+    fn insert_all(&mut self, alloc: Global, atoms: &[Atom]) -> Result<(), NoMemory>
+        ensures { IfOk result (λ _. Adds (λ r. list_any (is_register r) atoms.now) self.old self.new) }
     {
         for atom in atoms {
-            self.insert_atom(*atom);
+            self.insert_atom(alloc, *atom)?;
         }
+        Ok(())
     }
 
     /// Adds the registers that a statement reads.
-    fn insert_reads(&mut self, kind: &StmKind)
-        ensures { Adds (reads kind.now) self.old self.new }
+    fn insert_reads(&mut self, alloc: Global, kind: &StmKind) -> Result<(), NoMemory>
+        ensures { IfOk result (λ _. Adds (reads kind.now) self.old self.new) }
     {
         match kind {
             StmKind::Set(_, a)
@@ -116,7 +114,7 @@ impl Row {
             | StmKind::Case(a, _, _)
             | StmKind::Malloc(_, a, _)
             | StmKind::Free(a)
-            | StmKind::Return(Some(a)) => self.insert_all(&[*a]),
+            | StmKind::Return(Some(a)) => self.insert_all(alloc, &[*a]),
             StmKind::Bin(_, _, _, a, b)
             | StmKind::Cmp(_, _, a, b)
             | StmKind::Add(_, a, b, _)
@@ -127,52 +125,37 @@ impl Row {
             | StmKind::Storep(a, b)
             | StmKind::Copy(a, b, _)
             | StmKind::Calloc(_, a, b, _)
-            | StmKind::Realloc(_, a, b, _) => self.insert_all(&[*a, *b]),
+            | StmKind::Realloc(_, a, b, _) => self.insert_all(alloc, &[*a, *b]),
             StmKind::Call(_, _, args) | StmKind::Lib(_, _, args) | StmKind::Printf(_, _, args) => {
-                self.insert_all(args.as_slice())
+                self.insert_all(alloc, args.as_slice())
             }
             StmKind::Jump(_)
             | StmKind::Loop(_)
             | StmKind::Enter
             | StmKind::Leave
-            | StmKind::Return(None) => (),
+            | StmKind::Return(None) => Ok(()),
         }
     }
 
     /// Takes out the register that a statement writes.
-    fn remove_written(&mut self, kind: &StmKind)
-        ensures { Drops (writes kind.now) self.old self.new }
+    fn remove_written(&mut self, alloc: Global, kind: &StmKind) -> Result<(), NoMemory>
+        ensures { IfOk result (λ _. Drops (writes kind.now) self.old self.new) }
     {
-        if let Some(register) = kind.written() {
-            self.remove(register);
+        match kind.written() {
+            Some(register) => self.remove(alloc, register),
+            None => Ok(()),
         }
     }
 
     /// Becomes the registers that are live in front of a statement: those that it reads, and those of the set behind it
     /// that it does not write. Both sets have as many words.
-    pub(crate) fn become_front(&mut self, kind: &StmKind, behind: &Row)
+    pub(crate) fn become_front(&mut self, alloc: Global, kind: &StmKind, behind: &Row) -> Result<(), NoMemory>
         requires { length self.old ≡ length behind.now }
-        ensures words { length self.new ≡ length behind.now }
-        ensures bits { (r : ℕ) → r < 64 * length behind.now → has self.new r ≡ (reads kind.now r || (not (writes kind.now r) && has behind.now r)) }
+        ensures words { IfOk result (λ _. length self.new ≡ length behind.now) }
+        ensures bits { IfOk result (λ _. (r : ℕ) → r < 64 * length behind.now → has self.new r ≡ (reads kind.now r || (not (writes kind.now r) && has behind.now r))) }
     {
-        self.copy_from(behind);
-        self.remove_written(kind);
-        self.insert_reads(kind);
+        self.words = behind.words.copy(alloc)?;
+        self.remove_written(alloc, kind)?;
+        self.insert_reads(alloc, kind)
     }
-}
-
-/// Adds the bits of other words, as many as these. Says whether one of them was missing.
-fn join(words: &mut [u64], others: &[u64]) -> bool
-    requires { length words.old ≡ length others.now }
-    ensures adds { Adds (has others.now) words.old words.new }
-    ensures same { result ≡ false → words.new ≡ words.old }
-{
-    let mut more = false;
-    for i in 0..words.len() {
-        let word = words[i];
-        let joined = word | others[i];
-        more |= joined != word;
-        words[i] = joined;
-    }
-    more
 }

@@ -68,6 +68,6 @@ pub fn live_at(alloc: Global, func: &Func) -> Result<LiveTable, NoMemory>
     let words = func.regs.len().div_ceil(64);
     let mut rows = empty_rows(alloc, body.len(), words)?;
     let mut front = Row::empty(alloc, words)?;
-    fill(body, &mut rows, &mut front);
+    fill(alloc, body, &mut rows, &mut front)?;
     Ok(LiveTable { rows })
 }
