@@ -232,15 +232,26 @@ fn is_read_back(alloc: Global, bytes: &[u8]) -> Result<bool, NoMemory> {
     }
 }
 
+/// The same bytes with these bits of one turned over.
+fn turned(alloc: Global, bytes: &[u8], place: usize, bits: u8) -> Result<Vec<u8>, NoMemory> {
+    let mut changed = bytes.to_vec(alloc)?;
+    if let Some(byte) = changed.get_mut(place) {
+        *byte ^= bits;
+    }
+    Ok(changed)
+}
+
 #[test]
 fn each_byte_changed(rt: HostRuntime) -> Result<(), Fail> {
     let alloc = rt.alloc();
-    let mut bytes = walk(alloc, 2, b"\x01\0\0\0\0\0\0\0")?;
+    let bytes = walk(alloc, 2, b"\x01\0\0\0\0\0\0\0")?;
     for place in 0..bytes.len() {
-        for change in [1, 128, 255] {
-            bytes[place] ^= change;
-            assert!(rt; is_read_back(alloc, &bytes)?, "{change} at {place}");
-            bytes[place] ^= change;
+        for bits in [1, 128, 255] {
+            let changed = turned(alloc, bytes.as_slice(), place, bits)?;
+            assert!(rt;
+                is_read_back(alloc, changed.as_slice())?,
+                "{bits} at {place}"
+            );
         }
     }
     Ok(())
