@@ -1,5 +1,5 @@
 #!/usr/bin/env python3
-"""code_files.py [--quiet]: tries `compile` and `exec` by ./heapsafe.
+"""code_files.py [--quiet]: tries `compile` and `exec` by the program that ./heapsafe takes.
 
 Each run of the rows is made by both ways: `exec` of what `compile` writes has to write, answer and say what `run` does, but for the
 name of the file and the source line that a report shows. Then the code file of a small program is changed: each byte in turn, to
@@ -16,7 +16,9 @@ from concurrent.futures import ThreadPoolExecutor
 
 import rows
 
-PROGRAM = rows.PROGRAM
+BUILD = os.path.join(os.path.dirname(os.path.abspath(__file__)), "build.py")
+# the launcher looks at each source before it runs this, which would take most of the time of so many runs
+PROGRAM = subprocess.run([sys.executable, BUILD], stdout=subprocess.PIPE, text=True).stdout.strip() or rows.PROGRAM
 
 # Its code has a site, a static with a pointer, a format, a memory local, a loop and a call.
 SMALL = b"""#include <stdio.h>
@@ -108,7 +110,6 @@ def main():
     if sys.argv[1:] not in ([], ["--quiet"]):
         print("usage: code_files.py [--quiet]", file=sys.stderr)
         return 2
-    subprocess.run([PROGRAM, "--version"], stdout=subprocess.DEVNULL)  # the program is built here, where it is missing
     every = [case for path in rows.files() for case in rows.cases(path) if case[1][:2] == ["run", "a.c"] and "text" in case[2]]
     with tempfile.TemporaryDirectory() as folder:
         with open(os.path.join(folder, "a.c"), "wb") as file:
