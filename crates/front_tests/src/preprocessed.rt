@@ -141,7 +141,7 @@ static BAD_DIRECTIVES: [(&str, &str); 9] = [
     ("#error no\n", "bad directive a.c:1"),
     ("#ifdef\n#endif\n", "bad directive a.c:1"),
     ("#ifdef A B\n#endif\n", "bad directive a.c:1"),
-    ("#ifdef A\n#endif A\n", "| a.c:0 |"),
+    ("#ifdef A\n#endif A\n", "bad directive a.c:2"),
     ("#ifndef A\n#endif A\n", "bad directive a.c:2"),
     ("#define 1\n", "bad directive a.c:1"),
     ("#define int long\n", "bad directive a.c:1"),
