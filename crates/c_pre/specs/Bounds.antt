@@ -2,6 +2,7 @@
 use Rattle.std.specs.Prelude.{◌≡◌, ◌≤◌, ℕ, ◌+◌, ◌*◌, length}
 use Rattle.c_pre.specs.Expansion.{most_work}
 use Rattle.c_pre.specs.Texts.{most_bytes}
+use Rattle.c_pre.specs.declared.answer.Sources.{Sources}
 use Rattle.c_pre.specs.declared.here.Here.{Here}
 use Rattle.c_pre.specs.declared.preprocessor.Source.{Source}
 use Rattle.c_pre.specs.declared.progress.Progress.{Progress}
@@ -52,6 +53,13 @@ pub record Grows (old new : Progress) : Type 0 where
 pub record Adds (old new : Progress) : Type 0 where
   pub few : length new.tokens + old.used + old.work ≤ length old.tokens + new.used + new.work
   pub work : old.work ≤ most_work → new.work ≤ most_work
+
+-- how many bytes and lines there are behind a text that gives so many tokens
+pub record Lengthens (before after : Sources) (tokens : ℕ) : Type 0 where
+  pub few : tokens + before.used ≤ after.used + most_work
+  pub used : before.used ≤ after.used
+  pub most : after.used ≤ most_bytes
+  pub lines : after.lines + 2 * before.used ≤ before.lines + 1 + 2 * after.used
 
 -- the most tokens that a text and all that it includes can give
 abbrev pub most_tokens : ℕ

@@ -1,7 +1,6 @@
 pub mod After
 pub mod Answering
 pub mod Bounds
-pub mod Bytes
 pub mod Comments
 pub mod Directives
 pub mod Expansion

@@ -1,5 +1,6 @@
 -- Texts, and the texts that they include (C99 6.10.2).
 use Rattle.std.specs.Prelude.{ℕ, zero, suc, ◌+◌, ◌==◌, count_by, nat_lt, if◌then◌else◌, List, [], ◌∷◌, ◌++◌, length, Option, Some, None, Result, Ok, Err}
+use Rattle.c_lexer.specs.declared.token.Token.{Token}
 use Rattle.c_lexer.specs.declared.token.LexKind.TheVariants.{OpenComment}
 use Rattle.c_pre.specs.Comments.{blanked, open_comment}
 use Rattle.c_pre.specs.Lines.{lines_of}
@@ -9,6 +10,7 @@ use Rattle.c_pre.specs.Reading.{first_of, line_read, text_ended}
 use Rattle.c_pre.specs.declared.comments.Mode.TheVariants.{Code}
 use Rattle.c_pre.specs.declared.answer.Place.{Place}
 use Rattle.c_pre.specs.declared.answer.Pre.{Pre}
+use Rattle.c_pre.specs.declared.answer.Sources.{Sources}
 use Rattle.c_pre.specs.declared.answer.PreKind.TheVariants as kind
 use Rattle.c_pre.specs.declared.answer.PreError.{PreError}
 use Rattle.c_pre.specs.declared.answer.PreError.TheVariants.{Bad, Lex, TooLong, NoMemory}
@@ -101,15 +103,28 @@ unfoldable pub below : (List ℕ → List ℕ) → ℕ → Including
 below told zero at name p = Err (Bad kind.Depth at)
 below told (suc left) at name p = text_read (below told left) name (told name) p
 
--- before anything is read but so many bytes
-abbrev pub nothing : ℕ → Progress
-nothing used = record { tokens = []; texts = []; lines = 0; used = used; macros = no_macros; work = 0 }
+-- behind these texts, before anything else is read
+abbrev pub behind : Sources → Progress
+behind s = record { tokens = []; texts = s.texts; lines = s.lines; used = s.used; macros = no_macros; work = 0 }
 
--- the tokens and texts of what was read
-abbrev pub answer_of : Result Progress PreError → Result Pre PreError
-answer_of (Ok p) = Ok (record { tokens = p.tokens; texts = p.texts; used = p.used })
+-- the tokens, and the texts that were opened
+abbrev pub with_sources : Result Progress PreError → Result (List Token × Sources) PreError
+with_sources (Ok p) = Ok (p.tokens, record { texts = p.texts; lines = p.lines; used = p.used })
+with_sources (Err e) = Err e
+
+-- the tokens of a text and of those that it includes, at most 16 open one in another, behind these texts, and the texts with
+-- its own; or the first refusal
+abbrev pub preprocessed_behind : Sources → (List ℕ → List ℕ) → List ℕ → Result (List Token × Sources) PreError
+preprocessed_behind before told file = with_sources (text_read (below told 15) file (told file) (behind before))
+
+-- no text, but so many bytes that were read
+abbrev pub no_sources : ℕ → Sources
+no_sources used = record { texts = []; lines = 0; used = used }
+
+abbrev pub answer_of : Result (List Token × Sources) PreError → Result Pre PreError
+answer_of (Ok (tokens, sources)) = Ok (record { tokens = tokens; texts = sources.texts; used = sources.used })
 answer_of (Err e) = Err e
 
--- the tokens of a text and of those that it includes, at most 16 open one in another, or the first refusal
+-- the same of a text alone
 abbrev pub preprocessed : (List ℕ → List ℕ) → List ℕ → ℕ → Result Pre PreError
-preprocessed told file used = answer_of (text_read (below told 15) file (told file) (nothing used))
+preprocessed told file used = answer_of (preprocessed_behind (no_sources used) told file)

@@ -2,10 +2,11 @@
 
 ghost use Rattle.std.specs.Prelude.{◌≡◌, Some};
 ghost use Rattle.c_pre.specs.Words.{word_of};
+ghost use Rattle.c_pre.specs.Texts.{no_sources};
 
 use c_lexer::{LexKind, Token};
 use hs_base::{Items, Line, NoMemory};
-use std::alloc::AllocFailed;
+use std::alloc::{AllocFailed, Global};
 use std::fmt;
 use thiserror::Error;
 
@@ -78,6 +79,27 @@ pub struct Pre {
     pub texts: Items<Opened>,
     /// How many bytes were read so far, with those that were read before the call.
     pub used: u32,
+}
+
+/// The texts that were opened so far, in their order, with the number of their lines. So many bytes were read so far.
+#[derive(Debug, Drop)]
+pub struct Sources {
+    pub texts: Items<Opened>,
+    pub lines: Line,
+    pub used: u32,
+}
+
+impl Sources {
+    /// No texts, behind so many bytes that were read.
+    pub fn new(alloc: Global, used: u32) -> Sources
+        ensures { result ≡ no_sources used }
+    {
+        Sources {
+            texts: Items::new(alloc),
+            lines: 0,
+            used,
+        }
+    }
 }
 
 /// Why a text gives no tokens.

@@ -5,7 +5,8 @@
 //! of those before it, and the number of bytes read: a token's line is counted over all of them. It refuses the first line
 //! that has no form or breaks a rule ([`PreError::Bad`] with its [`PreKind`]) or that the lexer refuses
 //! ([`PreError::Lex`]), each with its place; a text that cannot be read ([`PreError::Fault`]) or passes the most bytes of
-//! all texts ([`PreError::TooLong`]); and it answers [`PreError::NoMemory`] for want of memory.
+//! all texts ([`PreError::TooLong`]); and it answers [`PreError::NoMemory`] for want of memory. [`pre_behind`] does the same
+//! behind other texts, whose lines and bytes are counted first.
 //!
 //! The contract of `pre` is the definition `preprocessed` of `specs/Texts`. A text is read whole and its comments become
 //! spaces (`Comments`); its lines are taken one after another (`Lines`, `Reading`), by what a directive says (`Directives`),
@@ -30,7 +31,6 @@ mod parameters;
 mod preprocessor;
 mod progress;
 mod queue;
-mod reading;
 mod rest;
 mod row;
 mod scan;
@@ -38,6 +38,6 @@ mod stack;
 mod substitute;
 mod text_name;
 
-pub use answer::{Opened, Place, Pre, PreError, PreKind};
+pub use answer::{Opened, Place, Pre, PreError, PreKind, Sources};
 pub use laws::replacement_ends;
-pub use preprocessor::pre;
+pub use preprocessor::{pre, pre_behind};

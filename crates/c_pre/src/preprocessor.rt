@@ -3,22 +3,24 @@
 ghost use Rattle.std.specs.Prelude.{◌≡◌, ℕ, ◌+◌, ◌*◌, ◌<◌, ◌≤◌, ◌^◌, List, Some, length, take, All, IfOk, IfErr, OnOk};
 ghost use Rattle.c_pre.specs.Formed.{IsFormed, Formed};
 ghost use Rattle.c_pre.specs.Lines.{line_length};
-ghost use Rattle.c_pre.specs.Texts.{most_bytes, line_count, refused, with_text, opened, entered, text_read, below, preprocessed};
+ghost use Rattle.c_pre.specs.Texts.{most_bytes, line_count, refused, with_text, opened, entered, text_read, below, preprocessed, preprocessed_behind};
 ghost use Rattle.c_pre.specs.Answering.{Gives, Enters, Comes, CountsFault, FailsAt, FailsBelow};
-ghost use Rattle.c_pre.specs.Bounds.{Adds, Opens, Grows, most_tokens};
+ghost use Rattle.c_pre.specs.Bounds.{Adds, Opens, Grows, Lengthens, most_tokens};
 
-use crate::answer::{Opened, Place, Pre, PreError, PreKind, Refusal};
+use crate::answer::{Opened, Place, Pre, PreError, PreKind, Refusal, Sources};
 use crate::comments::{blanked, open_comment};
 use crate::copies::copied;
 use crate::here::Here;
 use crate::lines::line_length;
 use crate::macros::Macros;
 use crate::progress::Progress;
-use crate::reading::{ReadError, read_bytes};
 use crate::text_name::TextName;
-use c_lexer::LexKind;
-use hs_base::{Items, Line, NoMemory, Texts};
+use c_lexer::{LexKind, Token};
+use hs_base::{Items, Line, NoMemory, ReadError, Texts, read_all};
 use std::alloc::Global;
+
+/// How many bytes all texts of a run may have.
+const MOST_BYTES: u32 = 1_048_576;
 
 /// How many texts may be open, one in another.
 const MOST_DEPTH: u32 = 16;
@@ -109,7 +111,7 @@ impl Progress {
     /// Keeps a text that was read.
     fn add_text(&mut self, alloc: Global, name: &TextName, text: &Items<u8>) -> Result<(), NoMemory>
         requires used { self.old.used + length text.now ≤ most_bytes }
-        requires lines { self.old.lines ≤ 2 * self.old.used }
+        requires lines { self.old.lines ≤ 2 * self.old.used + 63 }
         ensures { OnOk result (self.new ≡ with_text name.now text.now self.old) }
     {
         self.texts.push(Opened {
@@ -134,14 +136,14 @@ impl Progress {
     ) -> Result<Source, PreError>
         requires count { T.faults texts.old + 1 < 2 ^ 64 }
         requires used { self.old.used ≤ most_bytes }
-        requires lines { self.old.lines ≤ 2 * self.old.used }
+        requires lines { self.old.lines ≤ 2 * self.old.used + 63 }
         ensures told { (told : List ℕ → List ℕ) → T.texts texts.old ≡ Some told → Enters (entered name (told name) self.old) (with_text name (told name) self.old) self.new result }
         ensures opens { IfOk result (Opens self.old self.new) }
         ensures named { IfErr result (FailsAt name) }
         ensures keeps { T.texts texts.new ≡ T.texts texts.old }
         ensures cause { CountsFault (T.faults texts.old) (T.faults texts.new) result }
     {
-        let text = match read_bytes(alloc, texts, name.as_str(), self.used) {
+        let text = match read_all(alloc, texts, name.as_str(), MOST_BYTES - self.used) {
             Ok(text) => text,
             Err(ReadError::Fault) => {
                 return Err(PreError::Fault {
@@ -170,7 +172,7 @@ impl Progress {
     ) -> Result<(), PreError>
         requires count { T.faults texts.old + 1 < 2 ^ 64 }
         requires used { self.old.used ≤ most_bytes }
-        requires lines { self.old.lines ≤ 2 * self.old.used }
+        requires lines { self.old.lines ≤ 2 * self.old.used + 63 }
         ensures told { (told : List ℕ → List ℕ) → T.texts texts.old ≡ Some told → Comes (text_read (below told left) name (told name) self.old) self.new result }
         ensures grows { OnOk result (Grows self.old self.new) }
         ensures formed { Formed self.old → OnOk result (Formed self.new) }
@@ -207,14 +209,56 @@ impl Progress {
     }
 }
 
-/// The tokens of a text and of all texts that it includes, with their directives obeyed and their macros replaced. So many
-/// bytes were read before the call, and all texts may have 1,048,576 together.
+/// The tokens of a text and of all texts that it includes, with their directives obeyed and their macros replaced, and the
+/// texts that were opened before and by the call. All of them may have 1,048,576 bytes together. A token's line is counted
+/// over all of them.
 ///
 /// # Errors
 ///
 /// [`PreError::Bad`] and [`PreError::Lex`] at the first line that is refused, [`PreError::Fault`] exactly where the texts
-/// failed, at the file or a text that an include names, [`PreError::TooLong`] exactly where one byte too many was read, and [`PreError::NoMemory`] only for want of
-/// memory.
+/// failed, at the file or a text that an include names, [`PreError::TooLong`] exactly where one byte too many was read, and
+/// [`PreError::NoMemory`] only for want of memory.
+pub fn pre_behind<T: Texts>(
+    alloc: Global,
+    texts: &mut T,
+    file: &str,
+    before: Sources,
+) -> Result<(Items<Token>, Sources), PreError>
+    requires count { T.faults texts.old + 1 < 2 ^ 64 }
+    requires used { before.used ≤ most_bytes }
+    requires lines { before.lines ≤ 2 * before.used + 63 }
+    ensures told { (told : List ℕ → List ℕ) → T.texts texts.old ≡ Some told → Gives (preprocessed_behind before told file.now) result }
+    ensures forms { IfOk result (λ read. All IsFormed read.0) }
+    ensures bounds { IfOk result (λ read. Lengthens before read.1 (length read.0)) }
+    ensures named { IfErr result (FailsBelow file.now) }
+    ensures keeps { T.texts texts.new ≡ T.texts texts.old }
+    ensures cause { CountsFault (T.faults texts.old) (T.faults texts.new) result }
+{
+    let name = TextName::new(alloc, file)?;
+    let mut progress = Progress {
+        tokens: Items::new(alloc),
+        texts: before.texts,
+        lines: before.lines,
+        used: before.used,
+        macros: Macros::new(alloc),
+        work: 0,
+    };
+    progress.read_text(alloc, texts, name, MOST_DEPTH - 1)?;
+    let Progress {
+        tokens,
+        texts,
+        lines,
+        used,
+        ..
+    } = progress;
+    Ok((tokens, Sources { texts, lines, used }))
+}
+
+/// What [`pre_behind`] gives of a text alone, where so many bytes were read before the call.
+///
+/// # Errors
+///
+/// Those of [`pre_behind`].
 pub fn pre<T: Texts>(alloc: Global, texts: &mut T, file: &str, used: u32) -> Result<Pre, PreError>
     requires count { T.faults texts.old + 1 < 2 ^ 64 }
     requires used { used ≤ most_bytes }
@@ -225,22 +269,8 @@ pub fn pre<T: Texts>(alloc: Global, texts: &mut T, file: &str, used: u32) -> Res
     ensures keeps { T.texts texts.new ≡ T.texts texts.old }
     ensures cause { CountsFault (T.faults texts.old) (T.faults texts.new) result }
 {
-    let name = TextName::new(alloc, file)?;
-    let mut progress = Progress {
-        tokens: Items::new(alloc),
-        texts: Items::new(alloc),
-        lines: 0,
-        used,
-        macros: Macros::new(alloc),
-        work: 0,
-    };
-    progress.read_text(alloc, texts, name, MOST_DEPTH - 1)?;
-    let Progress {
-        tokens,
-        texts,
-        used,
-        ..
-    } = progress;
+    let before = Sources::new(alloc, used);
+    let (tokens, Sources { texts, used, .. }) = pre_behind(alloc, texts, file, before)?;
     Ok(Pre {
         tokens,
         texts,

@@ -3,3 +3,4 @@ pub mod Wrapping
 pub mod Quotients
 pub mod NumberBytes
 pub mod Placing
+pub mod Pieces

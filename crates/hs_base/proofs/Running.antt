@@ -1,8 +1,8 @@
 -- Runs, one step after another.
-use Rattle.std.proofs.Common.{◌≡◌, ℕ, zero, suc, ◌+◌, ◌-◌, ◌<◌, ◌≤◌, List, [], ◌∷◌, ◌++◌, Option, Some, None, refl, sym, ap, ◌∙◌, subst, arith, ⊎_elim}
+use Rattle.std.proofs.Common.{◌≡◌, ℕ, zero, suc, ◌+◌, ◌-◌, List, [], ◌++◌, Option, Some, None, refl, sym, ap, ◌∙◌, arith, ⊎_elim}
 use Rattle.std.proofs.lemmas.Bool.{cases_lt}
 use Rattle.std.proofs.lemmas.List.{append-nil, append_assoc}
-use Rattle.hs_base.specs.Runs.{Next, Goes, Stops, Ran, fresh, led, moved, after}
+use Rattle.hs_base.specs.Runs.{Next, Goes, Stops, Ran, led, moved, after}
 
 module _ {S E X : Type 0} (step : List E → S → Next S E X) where
   pub after_zero : (r : Ran S E X) → after step r 0 ≡ r

@@ -12,3 +12,4 @@ pub mod Cost
 pub mod Cut
 pub mod Runs
 pub mod PutAll
+pub mod ReadAll

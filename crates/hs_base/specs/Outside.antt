@@ -28,6 +28,13 @@ TakesByte before after (Ok (Some byte)) =
     (left : List ℕ) → before ≡ Some left → (rest : List ℕ) × (left ≡ byte ∷ rest) × (after ≡ Some rest)
 TakesByte before after (Err e) = after ≡ before
 
+-- what is left begins with these bytes
+abbrev pub BeginsWith : Option (List ℕ) → List ℕ → Type 0
+BeginsWith told bytes = (left : List ℕ) → told ≡ Some left → (rest : List ℕ) × (left ≡ bytes ++ rest)
+
+abbrev pub SkipsBytes : Option (List ℕ) → Option (List ℕ) → ℕ → Type 0
+SkipsBytes before after count = (left : List ℕ) → before ≡ Some left → after ≡ Some (drop count left)
+
 abbrev pub PutsBytes : Option (List ℕ) → Option (List ℕ) → List ℕ → Result ℕ Failed → Type 0
 PutsBytes before after bytes (Ok n) =
     (taken : List ℕ) → before ≡ Some taken → after ≡ Some (taken ++ take n bytes)

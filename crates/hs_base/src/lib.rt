@@ -5,7 +5,7 @@
 //!   output goes to. Each keeps a count of its faults. There are three families of implementations: in memory with
 //!   planned failures ([`MemTexts`], [`MemSource`], [`MemSink`]), in memory without any ([`SureTexts`],
 //!   [`SureSource`], [`SureSink`]), and the real files and streams ([`FileTexts`], [`StdSource`], [`StdSink`]).
-//!   [`put_all`] writes a whole slice to a sink.
+//!   [`put_all`] writes a whole slice to a sink, and [`read_all`] reads a whole text.
 //! - [`End`] says how a run ends, with [`TrapKind`], [`BadFree`], [`Holder`] and the rest of its parts.
 //! - [`IntKind`] is a kind of integer, with its range and its arithmetic.
 //!
@@ -20,6 +20,7 @@ mod numbers;
 mod output;
 mod outside;
 mod plan;
+mod reading;
 mod real;
 mod sure;
 mod values;
@@ -29,6 +30,7 @@ pub use items::{Items, NoMemory};
 pub use memory::{MemSink, MemSource, MemTexts};
 pub use output::put_all;
 pub use outside::{Failed, Sink, Source, Texts};
+pub use reading::{ReadError, read_all};
 pub use real::{FileTexts, StdSink, StdSource};
 pub use sure::{SureSink, SureSource, SureTexts};
 pub use values::{Pointer, Value};

@@ -4,7 +4,7 @@
 //! reached the greatest number of 64 bits stands still there.
 
 ghost use Rattle.std.specs.Prelude.{◌≡◌, ◌⊎◌, ℕ, ◌+◌, ◌<◌, ◌≤◌, ◌^◌, ◌↔◌, List, [], Some, None, IfOk, OnErr, IsErr, min, drop, length, option_copied};
-ghost use Rattle.hs_base.specs.Plan.{IsPlanned};
+ghost use Rattle.hs_base.specs.Plan.{IsPlanned, fetched_of};
 ghost use Rattle.hs_base.specs.Outside.{text_of, text_or_empty, IsPiece, GivesPiece, TakesByte, PutsBytes, CountsFaults};
 
 use crate::items::Items;
@@ -88,12 +88,13 @@ impl Texts for MemTexts {
     }
 }
 
-/// A list of bytes as input.
+/// A list of bytes as input. No bytes are ready before their call where calls are to fail.
 #[derive(Drop)]
 pub struct MemSource {
     bytes: Items<u8>,
     place: usize,
     plan: Plan,
+    ghost inside: { place ≤ length bytes },
 }
 
 impl MemSource {
@@ -113,9 +114,7 @@ impl MemSource {
     pub fn left(&self) -> &[u8]
         ensures { result.now ≡ drop self.now.place self.now.bytes }
     {
-        let bytes = self.bytes.as_slice();
-        let place = self.place.min(bytes.len());
-        &bytes[place..]
+        &self.bytes.as_slice()[self.place..]
     }
 }
 
@@ -123,6 +122,8 @@ impl Source for MemSource {
     ghost left = { λ s. Some (drop s.place s.bytes) };
 
     ghost faults = { λ s. s.plan.faults };
+
+    ghost fetched = { λ s. fetched_of s.plan.fails (drop s.place s.bytes) };
 
     fn next(&mut self) -> Result<Option<u8>, Failed>
         requires count { self.old.plan.faults + 1 < 2 ^ 64 }
@@ -142,6 +143,19 @@ impl Source for MemSource {
         } else {
             Ok(None)
         }
+    }
+
+    fn ready(&self) -> &[u8] {
+        if self.plan.is_empty() {
+            self.left()
+        } else {
+            &[]
+        }
+    }
+
+    fn skip(&mut self, count: usize) {
+        let rest = self.bytes.len() - self.place - count;
+        self.place = self.bytes.len() - rest;
     }
 }
 

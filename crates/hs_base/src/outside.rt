@@ -5,8 +5,8 @@
 //! `Failed`. What an object holds, has left or has taken may be told to contracts or not; what is told before a call is
 //! told after it.
 
-ghost use Rattle.std.specs.Prelude.{◌≡◌, ℕ, ◌+◌, ◌<◌, ◌≤◌, ◌^◌, List, Option, IfOk, length};
-ghost use Rattle.hs_base.specs.Outside.{GivesPiece, TakesByte, PutsBytes, CountsFaults};
+ghost use Rattle.std.specs.Prelude.{◌≡◌, ℕ, ◌+◌, ◌<◌, ◌≤◌, ◌^◌, List, Option, IfOk, drop, length};
+ghost use Rattle.hs_base.specs.Outside.{GivesPiece, TakesByte, BeginsWith, SkipsBytes, PutsBytes, CountsFaults};
 
 use thiserror::Error;
 
@@ -42,11 +42,26 @@ pub trait Source {
     /// How often a call failed.
     ghost faults: { Self → ℕ };
 
+    /// The bytes that are ready.
+    ghost fetched: { Self → List ℕ };
+
     /// The next byte, or `None` exactly at the end. `None` and a failure leave the bytes that are left.
     fn next(&mut self) -> Result<Option<u8>, Failed>
         requires count { faults self.old + 1 < 2 ^ 64 }
         ensures bytes { TakesByte (left self.old) (left self.new) result }
         ensures cause { CountsFaults (faults self.old) (faults self.new) result };
+
+    /// The bytes that were fetched already and are still to be read: the first of those left.
+    fn ready(&self) -> &[u8]
+        ensures value { result.now ≡ fetched self.now }
+        ensures first { BeginsWith (left self.now) result.now };
+
+    /// Reads past so many of the bytes that are ready.
+    fn skip(&mut self, count: usize)
+        requires { count ≤ length (fetched self.old) }
+        ensures left { SkipsBytes (left self.old) (left self.new) count }
+        ensures rest { fetched self.new ≡ drop count (fetched self.old) }
+        ensures faults { faults self.new ≡ faults self.old };
 }
 
 /// Where output is written.

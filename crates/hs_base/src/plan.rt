@@ -1,6 +1,6 @@
 //! Planned failures: the calls, counted from 1, that are to fail.
 
-ghost use Rattle.std.specs.Prelude.{◌≡◌, ◌+◌, ◌<◌, ◌^◌, ◌↔◌, IsTrue};
+ghost use Rattle.std.specs.Prelude.{◌≡◌, ◌+◌, ◌<◌, ◌^◌, ◌↔◌, [], IsTrue};
 ghost use Rattle.hs_base.specs.Plan.{IsPlanned, with_call, with_fault};
 
 use crate::items::Items;
@@ -32,6 +32,13 @@ impl Plan {
             calls: 0,
             faults: 0,
         }
+    }
+
+    /// Whether no call is to fail.
+    pub(crate) fn is_empty(&self) -> bool
+        ensures { IsTrue result ↔ (self.now.fails ≡ []) }
+    {
+        self.fails.is_empty()
     }
 
     /// Counts a call, and says whether it is to fail.

@@ -1,6 +1,6 @@
 //! The real files and streams. This is the trusted edge: nothing is told of what they hold, give or take.
 
-ghost use Rattle.std.specs.Prelude.{◌≡◌, ◌≤◌, ℕ, None, IfOk, length};
+ghost use Rattle.std.specs.Prelude.{◌≡◌, ◌≤◌, ℕ, None, IfOk, take, drop, length};
 
 use crate::outside::{Failed, Sink, Source, Texts};
 use std::fs::File;
@@ -103,6 +103,7 @@ pub struct StdSource<R: Read + Drop> {
     end: usize,
     faults: u64,
     ghost inside: { end ≤ 4096 },
+    ghost order: { next ≤ end },
 }
 
 impl<R: Read + Drop> StdSource<R> {
@@ -125,6 +126,8 @@ impl<R: Read + Drop> Source for StdSource<R> {
 
     ghost faults = { λ s. s.faults };
 
+    ghost fetched = { λ s. drop s.next (take s.end s.chunk) };
+
     fn next(&mut self) -> Result<Option<u8>, Failed> {
         if self.next >= self.end {
             match self.reader.read(&mut self.chunk) {
@@ -145,6 +148,14 @@ impl<R: Read + Drop> Source for StdSource<R> {
         } else {
             Ok(None)
         }
+    }
+
+    fn ready(&self) -> &[u8] {
+        &self.chunk[..self.end][self.next..]
+    }
+
+    fn skip(&mut self, count: usize) {
+        self.next += count;
     }
 }
 

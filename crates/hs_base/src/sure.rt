@@ -1,6 +1,6 @@
 //! Texts, input and output in memory that never fail.
 
-ghost use Rattle.std.specs.Prelude.{◌≡◌, ℕ, Some, None, drop};
+ghost use Rattle.std.specs.Prelude.{◌≡◌, ◌≤◌, ℕ, Some, None, drop, length};
 ghost use Rattle.hs_base.specs.Outside.{text_or_empty};
 
 use crate::items::Items;
@@ -40,6 +40,7 @@ impl Texts for SureTexts {
 pub struct SureSource {
     bytes: Items<u8>,
     place: usize,
+    ghost inside: { place ≤ length bytes },
 }
 
 impl SureSource {
@@ -57,6 +58,8 @@ impl Source for SureSource {
 
     ghost faults = { λ _. 0 };
 
+    ghost fetched = { λ s. drop s.place s.bytes };
+
     fn next(&mut self) -> Result<Option<u8>, Failed> {
         let bytes = self.bytes.as_slice();
         if self.place < bytes.len() {
@@ -66,6 +69,15 @@ impl Source for SureSource {
         } else {
             Ok(None)
         }
+    }
+
+    fn ready(&self) -> &[u8] {
+        &self.bytes.as_slice()[self.place..]
+    }
+
+    fn skip(&mut self, count: usize) {
+        let rest = self.bytes.len() - self.place - count;
+        self.place = self.bytes.len() - rest;
     }
 }
 

@@ -1,6 +1,6 @@
 use Rattle.std.proofs.Common.{◌≡◌, ℕ, ◌+◌, ◌-◌, List, Some, vec_len}
-use Rattle.c_pre.specs.Bytes.{IsFront}
-use Rattle.c_pre.proofs.reading.read_bytes.Given as goal
+use Rattle.hs_base.specs.ReadAll.{IsFront}
+use Rattle.hs_base.proofs.reading.read_all.Given as goal
 
 abbrev pub invariant-pieces : goal.invariant-pieces
 invariant-pieces g l = record {

@@ -4,7 +4,7 @@ use Rattle.std.specs.Prelude.{nat_lt}
 use Rattle.std.proofs.Math.Seq.{take-add}
 use Rattle.std.proofs.lemmas.Bool.{ltb-false}
 use Rattle.std.proofs.lemmas.List.{append-nil, take_all, length-take-le, length-take}
-use Rattle.c_pre.specs.Bytes.{IsFront, ReadsMore}
+use Rattle.hs_base.specs.ReadAll.{IsFront, ReadsMore}
 
 pub more : (text front new part : List ℕ) (n : ℕ) (b : Bool) → nat_lt 0 n ≡ b → IsFront text front → take n part ≡ take n (drop (length front) text) → n ≤ length (drop (length front) text) → ((n ≡ 0) ↔ (length text ≤ length front)) → new ≡ front ++ take n part → ReadsMore text new b
 more text front new part n false none_read is same long end e =

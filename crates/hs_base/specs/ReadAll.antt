@@ -1,15 +1,14 @@
--- Reading the bytes of a text.
+-- What reading a whole text answers, where the text is told.
 use Rattle.std.specs.Prelude.{◌≡◌, ◌<◌, ◌≤◌, ◌+◌, ℕ, List, length, take, Bool, true, false, Result, Ok, Err, ⊤}
-use Rattle.c_pre.specs.Texts.{most_bytes}
-use Rattle.c_pre.specs.declared.reading.ReadError.{ReadError}
-use Rattle.c_pre.specs.declared.reading.ReadError.TheVariants.{Fault, TooLong, NoMemory}
+use Rattle.hs_base.specs.declared.reading.ReadError.{ReadError}
+use Rattle.hs_base.specs.declared.reading.ReadError.TheVariants.{Fault, TooLong, NoMemory}
 
--- what reading a told text answers, behind so many bytes of other texts
+-- all of the text, where it has at most so many bytes
 abbrev pub Reads : List ℕ → ℕ → Result (List ℕ) ReadError → Type 0
-Reads text used (Ok read) = (read ≡ text) × (used + length text ≤ most_bytes)
-Reads text used (Err TooLong) = most_bytes < used + length text
-Reads text used (Err Fault) = ⊤
-Reads text used (Err NoMemory) = ⊤
+Reads text most (Ok read) = (read ≡ text) × (length text ≤ most)
+Reads text most (Err TooLong) = most < length text
+Reads text most (Err Fault) = ⊤
+Reads text most (Err NoMemory) = ⊤
 
 -- these bytes are the first of a text
 abbrev pub IsFront : List ℕ → List ℕ → Type 0

@@ -1,6 +1,6 @@
 use Rattle.std.proofs.Common.{refl}
-use Rattle.c_pre.proofs.Pieces.{more}
-use Rattle.c_pre.proofs.reading.read_more.Goals as goal
+use Rattle.hs_base.proofs.Pieces.{more}
+use Rattle.hs_base.proofs.reading.read_more.Goals as goal
 
 pub returns-clause-bytes : goal.returns-clause-bytes
 returns-clause-bytes g c = λ told h front.

@@ -1,6 +1,6 @@
 use Rattle.std.proofs.Common.{length, arith, ap, ◌∙◌}
-use Rattle.c_pre.proofs.Pieces.{not_longer}
-use Rattle.c_pre.proofs.reading.read_bytes.Goals as goal
+use Rattle.hs_base.proofs.Pieces.{not_longer}
+use Rattle.hs_base.proofs.reading.read_all.Goals as goal
 
 pub returns-then-not-branch-clause-bytes : goal.returns-then-not-branch-clause-bytes
 returns-then-not-branch-clause-bytes g c = λ told h.
